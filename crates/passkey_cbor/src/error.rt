@@ -1,0 +1,78 @@
+//! Why no item was read or made.
+ghost use Rattle.std.specs.Prelude.{◌≡◌};
+ghost use Rattle.passkey_cbor.specs.declared.error.CborError.TheVariants.{OutOfMemory as NoMemory};
+
+use std::alloc::{AllocError, AllocFailed};
+use std::error::Error;
+use std::fmt;
+
+/// Why no item was read or made.
+#[derive(Clone, Copy, Debug, PartialEq, Eq)]
+pub enum CborError {
+    /// No well-formed item of at most 256 levels begins the bytes.
+    DecodeFailed,
+    /// A growth was refused.
+    OutOfMemory,
+    /// A number is outside its range.
+    OutOfRangeIntegerValue,
+}
+
+impl fmt::Display for CborError {
+    fn fmt<W: fmt::Write>(&self, f: &mut fmt::Formatter<W>) -> fmt::Result {
+        f.write_str(match self {
+            CborError::DecodeFailed => "DecodeFailed",
+            CborError::OutOfMemory => "OutOfMemory",
+            CborError::OutOfRangeIntegerValue => "OutOfRangeIntegerValue",
+        })
+    }
+}
+
+impl Error for CborError {}
+
+impl From<AllocError> for CborError {
+    ghost from_gives = { λ _ e. e ≡ NoMemory };
+
+    fn from(_error: AllocError) -> CborError {
+        CborError::OutOfMemory
+    }
+}
+
+impl<T: Drop> From<AllocFailed<T>> for CborError {
+    ghost from_gives = { λ _ e. e ≡ NoMemory };
+
+    fn from(_error: AllocFailed<T>) -> CborError {
+        CborError::OutOfMemory
+    }
+}
+
+impl From<OutOfMemory> for CborError {
+    ghost from_gives = { λ _ e. e ≡ NoMemory };
+
+    fn from(_error: OutOfMemory) -> CborError {
+        CborError::OutOfMemory
+    }
+}
+
+/// A growth was refused: the error of calls that can fail in no other way.
+#[derive(Clone, Copy, Debug, PartialEq, Eq)]
+pub struct OutOfMemory;
+
+impl fmt::Display for OutOfMemory {
+    fn fmt<W: fmt::Write>(&self, f: &mut fmt::Formatter<W>) -> fmt::Result {
+        f.write_str("OutOfMemory")
+    }
+}
+
+impl Error for OutOfMemory {}
+
+impl From<AllocError> for OutOfMemory {
+    fn from(_error: AllocError) -> OutOfMemory {
+        OutOfMemory
+    }
+}
+
+impl<T: Drop> From<AllocFailed<T>> for OutOfMemory {
+    fn from(_error: AllocFailed<T>) -> OutOfMemory {
+        OutOfMemory
+    }
+}

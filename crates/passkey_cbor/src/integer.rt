@@ -1,0 +1,65 @@
+//! Whole numbers.
+ghost use Rattle.std.specs.Prelude.{◌≡◌, pos, negsuc};
+ghost use Rattle.passkey_cbor.specs.Ranges.{IsInteger};
+ghost use Rattle.passkey_cbor.specs.Made.{MadeWhere};
+
+use crate::error::CborError;
+use std::marker::Model;
+
+/// A whole number from -2^64 to 2^64 - 1: what the major types 0 and 1 hold
+/// (RFC 8949, section 3.1).
+#[derive(Clone, Copy, Debug, PartialEq, Eq)]
+pub struct Integer {
+    value: i128,
+}
+
+impl Model for Integer {
+    ghost use Rattle.std.specs.Prelude.{ℤ};
+    ghost use Rattle.passkey_cbor.specs.Ranges.{IsInteger};
+
+    ghost Value = { ℤ };
+
+    ghost view = { λ n. n.value };
+
+    ghost invariant = { λ n. IsInteger n.value };
+
+    ghost inverse = { λ z. record { value = z } };
+}
+
+impl Integer {
+    /// The number, from -2^64 to 2^64 - 1; else `OutOfRangeIntegerValue`.
+    pub fn new(value: i128) -> Result<Integer, CborError>
+        ensures { MadeWhere (IsInteger value) value result }
+    {
+        if value < -(1 << 64) || value >= 1 << 64 {
+            return Err(CborError::OutOfRangeIntegerValue);
+        }
+        Ok(Integer { value })
+    }
+
+    /// The number.
+    pub fn get(&self) -> i128
+        ensures value { result ≡ self.now }
+        ensures range { IsInteger self.now }
+    {
+        self.value
+    }
+
+    /// The number n.
+    pub(crate) fn unsigned(n: u64) -> Integer
+        ensures { result ≡ pos n }
+    {
+        Integer {
+            value: i128::from(n),
+        }
+    }
+
+    /// The number -1 - n.
+    pub(crate) fn negative(n: u64) -> Integer
+        ensures { result ≡ negsuc n }
+    {
+        Integer {
+            value: -1 - i128::from(n),
+        }
+    }
+}

@@ -1,0 +1,15 @@
+//! CBOR (RFC 8949): items, read from bytes in every spelling and written in one.
+#![tactic(auto)]
+
+mod error;
+mod float;
+mod head;
+mod integer;
+mod simple;
+mod value;
+
+pub use error::{CborError, OutOfMemory};
+pub use float::Float;
+pub use integer::Integer;
+pub use simple::Simple;
+pub use value::Value;
