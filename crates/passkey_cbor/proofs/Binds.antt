@@ -1,0 +1,21 @@
+-- Readings one after the other.
+use Rattle.std.proofs.Common.{◌≡◌, List, Option, Some, None, refl, sym, ap}
+use Rattle.passkey_cbor.specs.HeadReading.{◌>>=◌}
+
+pub some_is : {A : Type 0} (x y : A) → Some x ≡ Some y → x ≡ y
+some_is x y e = cc
+
+pub none_is_some : {A : Type 0} (x : A) → None ≡ Some x → ⊥
+none_is_some x e = absurd cc
+
+-- what a whole reading gives came from what its first part gives
+pub bind_some : {A B : Type 0} (o : Option A) (f : A → Option B) (y : B) → (o >>= f) ≡ Some y → (x : A) × (o ≡ Some x) × (f x ≡ Some y)
+bind_some None f y e = absurd (none_is_some y e)
+bind_some (Some x) f y e = (x, refl, e)
+
+-- a reading goes on from what was read
+pub bind_at : {A B : Type 0} (o : Option A) (x : A) (f : A → Option B) → o ≡ Some x → (o >>= f) ≡ f x
+bind_at o x f e = ap (λ q. q >>= f) e
+
+pub bind_none : {A B : Type 0} (o : Option A) (f : A → Option B) → o ≡ None → (o >>= f) ≡ None
+bind_none o f e = ap (λ q. q >>= f) e

@@ -1,0 +1,52 @@
+-- The item that begins the bytes, and reading it: one and the same.
+use Rattle.std.proofs.Common.{◌≡◌, ℕ, ◌+◌, ◌-◌, ◌<◌, ◌≤◌, List, ◌++◌, length, take, drop, Option, Some, None, refl, sym, ap, subst, ◌∙◌, arith}
+use Rattle.std.proofs.lemmas.List.{length-append, length-drop, length-take, take-append-drop, take-take, take_at}
+use Rattle.passkey_cbor.specs.Item.{Item}
+use Rattle.passkey_cbor.specs.Spelling.{Spells}
+use Rattle.passkey_cbor.specs.Front.{max_depth, IsFront, HasNoFront}
+use Rattle.passkey_cbor.specs.Laws.{AtMostOneFront, NoShorterFront}
+use Rattle.passkey_cbor.specs.Reading.{start, item_within}
+use Rattle.passkey_cbor.proofs.Binds.{some_is, none_is_some}
+use Rattle.passkey_cbor.proofs.Numbers.{IsBytes}
+use Rattle.passkey_cbor.proofs.Lists.{Follows}
+use Rattle.passkey_cbor.proofs.Items.{follows_item}
+
+-- what begins the bytes is read
+pub front_again : (bytes : List ℕ) (x : Item) (k : ℕ) → IsFront bytes x k → start (item_within max_depth) bytes ≡ Some (x, drop k bytes)
+front_again bytes x k f =
+    let all : Follows _ (item_within max_depth) = follows_item max_depth in
+    ap (start (item_within max_depth)) (sym (take-append-drop k bytes)) ∙ all.again x (take k bytes) (drop k bytes) (f.shallow, f.spelled)
+
+-- what is read begins the bytes
+pub front_taken : (bytes : List ℕ) (x : Item) (u : List ℕ) (k : ℕ) → IsBytes bytes → k + length u ≡ length bytes → start (item_within max_depth) bytes ≡ Some (x, u) → IsFront bytes x k
+front_taken bytes x u k fits size e =
+    let all : Follows _ (item_within max_depth) = follows_item max_depth in
+    let t = all.takes x bytes u fits e in
+    let long : length t.text ≡ k = omega (arith, size, ap length t.parts, length-append t.text u) in
+    record {
+      within = omega (arith, size);
+      spelled = subst (Spells x) (sym (ap (take k) t.parts ∙ take_at t.text u k long)) t.spelled.1;
+      shallow = t.spelled.0;
+    }
+
+-- where nothing is read, nothing begins the bytes
+pub no_front : (bytes : List ℕ) → start (item_within max_depth) bytes ≡ None → HasNoFront bytes
+no_front bytes e x k f = none_is_some (x, drop k bytes) (sym e ∙ front_again bytes x k f)
+
+pub at_most_one : AtMostOneFront
+at_most_one bytes x y j k f g =
+    let same = some_is (x, drop j bytes) (y, drop k bytes) (sym (front_again bytes x j f) ∙ front_again bytes y k g) in
+    let rests : drop j bytes ≡ drop k bytes = ap (λ (p : Item × List ℕ). p.1) same in
+    (ap (λ (p : Item × List ℕ). p.0) same, omega (arith, f.within, g.within, ap length rests, length-drop j bytes, length-drop k bytes))
+
+-- a front of a beginning of the bytes is one of the bytes
+front_of_longer : (bytes : List ℕ) (j : ℕ) (x : Item) (k : ℕ) → IsFront (take j bytes) x k → (k ≤ j) × IsFront bytes x k
+front_of_longer bytes j x k f =
+    let within : k ≤ j = omega (arith, f.within, length-take j bytes) in
+    (within, record { within = omega (arith, f.within, length-take j bytes); spelled = subst (Spells x) (take-take k j bytes within) f.spelled; shallow = f.shallow })
+
+pub no_shorter : NoShorterFront
+no_shorter bytes x k j f lt y l g =
+    let longer = front_of_longer bytes j y l g in
+    let same = at_most_one bytes x y k l f longer.1 in
+    omega (arith, same.1, longer.0, lt)

@@ -1,0 +1,207 @@
+-- Strings, in one piece or in chunks: read from what spells them, and spelled by what was read.
+use Rattle.std.proofs.Common.{◌≡◌, ℕ, suc, ◌+◌, ◌*◌, ◌<◌, ◌≤◌, Bool, true, false, cond, List, [], ◌∷◌, ◌++◌, length, Option, Some, None, refl, sym, ap, subst, ◌∙◌, append_assoc, arith, inl, inr}
+use Rattle.std.specs.List.{concat}
+use Rattle.std.specs.Str.{IsUtf8, is_utf8}
+use Rattle.std.proofs.lemmas.List.{append-nil}
+use Rattle.std.proofs.lemmas.Str.{IsUtf8-from_is_utf8, is_utf8-from_IsUtf8}
+use Rattle.passkey_cbor.specs.Languages.{Language, Is, Then, Either, Where, Some_of, Each}
+use Rattle.passkey_cbor.specs.Heads.{Heads, indefinite, break}
+use Rattle.passkey_cbor.specs.Spelling.{Definite, Chunks, Strings, IsAny}
+use Rattle.passkey_cbor.specs.HeadSpelling.{LengthHeads, SpellsHead}
+use Rattle.passkey_cbor.specs.HeadReading.{◌>>=◌, Read, take_at as taken_at, head_at}
+use Rattle.passkey_cbor.specs.Reading.{Reader, start, is_break, list_at, may_stand, piece_at, chunk_len, chunk, string_at}
+use Rattle.passkey_cbor.specs.declared.head.Head.{Head}
+use Rattle.passkey_cbor.specs.declared.head.Head.TheVariants as head
+use Rattle.passkey_cbor.proofs.Binds.{some_is, none_is_some, bind_some, bind_at}
+use Rattle.passkey_cbor.proofs.Numbers.{IsBytes, taken_again, taken_is}
+use Rattle.passkey_cbor.proofs.HeadAgain.{head_again}
+use Rattle.passkey_cbor.proofs.HeadTakes.{Took, took_as, head_takes}
+use Rattle.passkey_cbor.proofs.Lists.{Follows, Left, list_at_again, list_takes}
+
+abbrev pub MayStand : Bool → List ℕ → Type 0
+MayStand false = IsAny
+MayStand true = IsUtf8
+
+abbrev pub major_type : Bool → ℕ
+major_type false = 2
+major_type true = 3
+
+abbrev pub string_head : Bool → Option ℕ → Head
+string_head false len = head.Bytes len
+string_head true len = head.Text len
+
+-- a string behind its head
+abbrev pub Content : Bool → Option ℕ → List ℕ → Language
+Content is_text (Some n) s = Where ((n ≡ length s) × MayStand is_text s) (Is s)
+Content is_text None s = Then (Chunks (MayStand is_text) (major_type is_text) s) (Is (break ∷ []))
+
+-- ---- a reading that begins with a head
+
+pub starts : {A : Type 0} (read : Reader A) (h : Head) (front rest t u : List ℕ) → SpellsHead h front → t ≡ front ++ rest → start read (t ++ u) ≡ read h (rest ++ u)
+starts read h front rest t u s e =
+    let regroup : t ++ u ≡ front ++ (rest ++ u) = ap (λ (r : List ℕ). r ++ u) e ∙ append_assoc front rest u in
+    ap (start read) regroup ∙ bind_at (head_at (front ++ (rest ++ u))) (h, rest ++ u) (λ h. read h.0 h.1) (head_again h front (rest ++ u) s)
+
+-- a head was taken, and then what is behind it
+pub took_behind : (P Q : Language) (bytes r u : List ℕ) → Took P bytes r → Took Q r u → Took (Then P Q) bytes u
+took_behind P Q bytes r u one two = record {
+  text = one.text ++ two.text;
+  spelled = record { front = one.text; back = two.text; first = one.spelled; second = two.spelled; whole = refl };
+  parts = one.parts ∙ ap (λ (s : List ℕ). one.text ++ s) two.parts ∙ sym (append_assoc one.text two.text u);
+  rest_fits = two.rest_fits;
+}
+
+-- ---- a piece
+
+may_stand-is : (is_text : Bool) (s : List ℕ) → MayStand is_text s → may_stand is_text s ≡ true
+may_stand-is false s h = refl
+may_stand-is true s h = is_utf8-from_IsUtf8 s h
+
+is-may_stand : (is_text : Bool) (s : List ℕ) → may_stand is_text s ≡ true → MayStand is_text s
+is-may_stand false s e = tt
+is-may_stand true s e = IsUtf8-from_is_utf8 s e
+
+pub piece_again : (is_text : Bool) (s u : List ℕ) → MayStand is_text s → piece_at is_text (length s) (s ++ u) ≡ Some (s, u)
+unfolding piece_at
+piece_again is_text s u h = rw (taken_again s u, may_stand-is is_text s h) refl
+
+piece_takes : (is_text : Bool) (n : ℕ) (bytes s u : List ℕ) → IsBytes bytes → piece_at is_text n bytes ≡ Some (s, u) → Took (Content is_text (Some n) s) bytes u
+unfolding piece_at
+piece_takes is_text n bytes s u fits e =
+    let b = bind_some (taken_at n bytes) (λ t. cond (may_stand is_text t.0) (Some t) None) (s, u) e in
+    by_test b.0 (may_stand is_text b.0.0) refl b.1 b.2 where
+      by_test : (t : List ℕ × List ℕ) (stands : Bool) → may_stand is_text t.0 ≡ stands → taken_at n bytes ≡ Some t → cond stands (Some t) None ≡ Some (s, u) → Took (Content is_text (Some n) s) bytes u
+      by_test t false is f g = absurd (none_is_some (s, u) g)
+      by_test t true is f g =
+          let p = some_is t (s, u) g in
+          let k = taken_is n bytes s u fits (f ∙ g) in
+          record {
+            text = s;
+            spelled = ((sym k.long, is-may_stand is_text s (ap (λ (q : List ℕ × List ℕ). may_stand is_text q.0) (sym p) ∙ is)), refl);
+            parts = k.parts;
+            rest_fits = k.rest_fits;
+          }
+
+-- ---- chunks
+
+chunk_len-again : (is_text : Bool) (n : ℕ) → chunk_len is_text (string_head is_text (Some n)) ≡ Some n
+chunk_len-again false n = refl
+chunk_len-again true n = refl
+
+chunk_len-is : (is_text : Bool) (h : Head) (n : ℕ) → chunk_len is_text h ≡ Some n → h ≡ string_head is_text (Some n)
+chunk_len-is false (head.Bytes len) n e = ap head.Bytes e
+chunk_len-is true (head.Bytes len) n e = absurd (none_is_some n e)
+chunk_len-is false (head.Text len) n e = absurd (none_is_some n e)
+chunk_len-is true (head.Text len) n e = ap head.Text e
+chunk_len-is is_text (head.Unsigned m) n e = absurd (none_is_some n e)
+chunk_len-is is_text (head.Negative m) n e = absurd (none_is_some n e)
+chunk_len-is is_text (head.Array len) n e = absurd (none_is_some n e)
+chunk_len-is is_text (head.Map len) n e = absurd (none_is_some n e)
+chunk_len-is is_text (head.Tag m) n e = absurd (none_is_some n e)
+chunk_len-is is_text (head.Simple m) n e = absurd (none_is_some n e)
+chunk_len-is is_text (head.Float f) n e = absurd (none_is_some n e)
+chunk_len-is is_text head.Break n e = absurd (none_is_some n e)
+
+no_break_head : (is_text : Bool) (len : Option ℕ) → is_break (string_head is_text len) ≡ false
+no_break_head false len = refl
+no_break_head true len = refl
+
+pub spells_string_head : (is_text : Bool) (len : Option ℕ) (t : List ℕ) → LengthHeads (major_type is_text) len t → SpellsHead (string_head is_text len) t
+spells_string_head false len t s = s
+spells_string_head true len t s = s
+
+pub string_head_spells : (is_text : Bool) (len : Option ℕ) (t : List ℕ) → SpellsHead (string_head is_text len) t → LengthHeads (major_type is_text) len t
+string_head_spells false len t s = s
+string_head_spells true len t s = s
+
+abbrev pub AChunk : Bool → List ℕ → Language
+AChunk is_text = Definite (MayStand is_text) (major_type is_text)
+
+chunk_again : (is_text : Bool) (s t u : List ℕ) → AChunk is_text s t → start (chunk is_text) (t ++ u) ≡ Some (s, u)
+chunk_again is_text s t u d =
+    let p = d.1 in
+    let h = string_head is_text (Some (length s)) in
+    starts (chunk is_text) h p.front s t u (spells_string_head is_text (Some (length s)) p.front p.first) (p.whole ∙ ap (λ (r : List ℕ). p.front ++ r) p.second)
+    ∙ bind_at (chunk_len is_text h) (length s) (λ n. piece_at is_text n (s ++ u)) (chunk_len-again is_text (length s))
+    ∙ piece_again is_text s u d.0
+
+-- the head and the length of a chunk that was read
+record ChunkHead (is_text : Bool) (h : Head) (r s u : List ℕ) : Type 0 where
+  len : ℕ
+  head_is : h ≡ string_head is_text (Some len)
+  content : piece_at is_text len r ≡ Some (s, u)
+
+chunk_head : (is_text : Bool) (h : Head) (r s u : List ℕ) → chunk is_text h r ≡ Some (s, u) → ChunkHead is_text h r s u
+chunk_head is_text h r s u e =
+    let n = bind_some (chunk_len is_text h) (λ n. piece_at is_text n r) (s, u) e in
+    record { len = n.0; head_is = chunk_len-is is_text h n.0 n.1; content = n.2 }
+
+-- a chunk is its head and what is behind it
+chunk_spelled : (is_text : Bool) (n : ℕ) (s t : List ℕ) → Then (SpellsHead (string_head is_text (Some n))) (Content is_text (Some n) s) t → AChunk is_text s t
+chunk_spelled is_text n s t p = (
+  p.second.0.1,
+  record {
+    front = p.front;
+    back = p.back;
+    first = subst (λ (k : ℕ). Heads (major_type is_text) k p.front) p.second.0.0 (string_head_spells is_text (Some n) p.front p.first);
+    second = p.second.1;
+    whole = p.whole;
+  },
+)
+
+chunk_takes : (is_text : Bool) (s bytes u : List ℕ) → IsBytes bytes → start (chunk is_text) bytes ≡ Some (s, u) → Took (AChunk is_text s) bytes u
+chunk_takes is_text s bytes u fits e =
+    let b = bind_some (head_at bytes) (λ h. chunk is_text h.0 h.1) (s, u) e in
+    let c = chunk_head is_text b.0.0 b.0.1 s u b.2 in
+    let h = head_takes bytes (string_head is_text (Some c.len)) b.0.1 fits (b.1 ∙ ap (λ (k : Head). Some (k, b.0.1)) c.head_is) in
+    let both = took_behind _ _ bytes b.0.1 u h (piece_takes is_text c.len b.0.1 s u h.rest_fits c.content) in
+    took_as _ (AChunk is_text s) bytes u both (chunk_spelled is_text c.len s both.text both.spelled)
+
+pub follows_chunk : (is_text : Bool) → Follows (AChunk is_text) (chunk is_text)
+follows_chunk is_text = record {
+  again = chunk_again is_text;
+  takes = chunk_takes is_text;
+  no_break = λ h r y e. ap is_break (chunk_head is_text h r y.0 y.1 e).head_is ∙ no_break_head is_text _;
+}
+
+-- ---- a string behind its head
+
+pub string_again : (is_text : Bool) (len : Option ℕ) (s t u : List ℕ) → Content is_text len s t → string_at is_text len (t ++ u) ≡ Some (s, u)
+unfolding string_at
+string_again is_text (Some n) s t u c = rw (c.0.0, c.1) (piece_again is_text s u c.0.1)
+string_again is_text None s t u c =
+    let cs = c.first in
+    bind_at (list_at (chunk is_text) None (t ++ u)) (cs.0, u) (λ cs. Some (concat cs.0, cs.1)) (list_at_again (AChunk is_text) (chunk is_text) (follows_chunk is_text) None cs.0 t u (record { front = c.front; back = c.back; first = cs.1.1; second = c.second; whole = c.whole }))
+    ∙ ap (λ (r : List ℕ). Some (r, u)) cs.1.0
+
+pub string_takes : (is_text : Bool) (len : Option ℕ) (bytes s u : List ℕ) → IsBytes bytes → string_at is_text len bytes ≡ Some (s, u) → Took (Content is_text len s) bytes u
+unfolding string_at
+string_takes is_text (Some n) bytes s u fits e = piece_takes is_text n bytes s u fits e
+string_takes is_text None bytes s u fits e =
+    let cs = bind_some (list_at (chunk is_text) None bytes) (λ cs. Some (concat cs.0, cs.1)) (s, u) e in
+    let p = some_is (concat cs.0.0, cs.0.1) (s, u) cs.2 in
+    let t = list_takes (AChunk is_text) (chunk is_text) (follows_chunk is_text) (suc (length bytes)) None bytes cs.0.0 u fits (cs.1 ∙ ap (λ (q : List ℕ × List ℕ). Some (cs.0.0, q.1)) p) in
+    took_as _ (Content is_text None s) bytes u t (record {
+      front = t.spelled.front;
+      back = t.spelled.back;
+      first = (cs.0.0, (ap (λ (q : List ℕ × List ℕ). q.0) p, t.spelled.first));
+      second = t.spelled.second;
+      whole = t.spelled.whole;
+    })
+
+-- ---- the two spellings of a string are those of its head and what is behind it
+
+pub record Headed (major : ℕ) (Behind : Option ℕ → Language) (t : List ℕ) : Type 0 where
+  pub len : Option ℕ
+  pub parts : Then (LengthHeads major len) (Behind len) t
+
+pub string_headed : (is_text : Bool) (s t : List ℕ) → Strings (MayStand is_text) (major_type is_text) s t → Headed (major_type is_text) (λ len. Content is_text len s) t
+string_headed is_text s t (inl d) =
+    let p = d.1 in
+    record { len = Some (length s); parts = record { front = p.front; back = p.back; first = p.first; second = ((refl, d.0), p.second); whole = p.whole } }
+string_headed is_text s t (inr p) = record { len = None; parts = p }
+
+pub headed_string : (is_text : Bool) (s t : List ℕ) (len : Option ℕ) → Then (LengthHeads (major_type is_text) len) (Content is_text len s) t → Strings (MayStand is_text) (major_type is_text) s t
+headed_string is_text s t (Some n) p =
+    inl (p.second.0.1, record { front = p.front; back = p.back; first = subst (λ (k : ℕ). Heads (major_type is_text) k p.front) p.second.0.0 p.first; second = p.second.1; whole = p.whole })
+headed_string is_text s t None p = inr p
