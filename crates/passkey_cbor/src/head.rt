@@ -1,4 +1,8 @@
 //! Heads.
+ghost use Rattle.std.specs.Prelude.{◌≡◌, ◌<◌, ◌^◌, option_map, IfSome};
+ghost use Rattle.passkey_cbor.specs.Heads.{one, two, four, eight};
+ghost use Rattle.passkey_cbor.specs.HeadReading.{number_at, argument_at, with_argument, without_argument, simple_at, head_behind, head_at};
+ghost use Rattle.passkey_cbor.specs.Reading.{is_break};
 
 use crate::float::Float;
 
@@ -25,4 +29,148 @@ pub(crate) enum Head {
     Float(Float),
     /// The end of what has an indefinite length.
     Break,
+}
+
+impl Head {
+    /// The head that begins the bytes, and the bytes behind it; none where no whole,
+    /// well-formed one begins them.
+    #[tactic(auto, unfolding(crate::specs::HeadReading::head_at))]
+    pub(crate) fn decode(bytes: &[u8]) -> Option<(Head, &[u8])>
+        ensures { option_map (λ r. (r.0, r.1.now)) result ≡ head_at bytes.now }
+    {
+        let (initial, rest) = bytes.split_first()?;
+        Head::behind(*initial / 32, *initial % 32, rest)
+    }
+
+    // The head whose initial byte has this major type and this additional information.
+    #[tactic(auto, unfolding(crate::specs::HeadReading::head_behind))]
+    fn behind(major: u8, info: u8, bytes: &[u8]) -> Option<(Head, &[u8])>
+        ensures { option_map (λ r. (r.0, r.1.now)) result ≡ head_behind major info bytes.now }
+    {
+        if info == 31 {
+            let head = Head::without_argument(major)?;
+            return Some((head, bytes));
+        }
+        if major == 7 {
+            return Head::simple_or_float(info, bytes);
+        }
+        let (argument, rest) = argument(info, bytes)?;
+        let head = Head::with_argument(major, argument)?;
+        Some((head, rest))
+    }
+
+    fn with_argument(major: u8, argument: u64) -> Option<Head>
+        ensures { result ≡ with_argument major argument }
+    {
+        match major {
+            0 => Some(Head::Unsigned(argument)),
+            1 => Some(Head::Negative(argument)),
+            2 => Some(Head::Bytes(Some(argument))),
+            3 => Some(Head::Text(Some(argument))),
+            4 => Some(Head::Array(Some(argument))),
+            5 => Some(Head::Map(Some(argument))),
+            6 => Some(Head::Tag(argument)),
+            _ => None,
+        }
+    }
+
+    fn without_argument(major: u8) -> Option<Head>
+        ensures { result ≡ without_argument major }
+    {
+        match major {
+            2 => Some(Head::Bytes(None)),
+            3 => Some(Head::Text(None)),
+            4 => Some(Head::Array(None)),
+            5 => Some(Head::Map(None)),
+            7 => Some(Head::Break),
+            _ => None,
+        }
+    }
+
+    // A head of major type 7. Simple values below 32 are not well formed in two bytes.
+    #[tactic(auto, unfolding(crate::specs::HeadReading::simple_at))]
+    fn simple_or_float(info: u8, bytes: &[u8]) -> Option<(Head, &[u8])>
+        ensures { option_map (λ r. (r.0, r.1.now)) result ≡ simple_at info bytes.now }
+    {
+        match info {
+            0..=23 => Some((Head::Simple(info), bytes)),
+            24 => {
+                let (value, rest) = one_byte(bytes)?;
+                if value < 32 {
+                    None
+                } else {
+                    Some((Head::Simple(value as u8), rest))
+                }
+            }
+            25 => {
+                let (bits, rest) = two_bytes(bytes)?;
+                Some((Head::Float(Float::of(2, bits)), rest))
+            }
+            26 => {
+                let (bits, rest) = four_bytes(bytes)?;
+                Some((Head::Float(Float::of(4, bits)), rest))
+            }
+            27 => {
+                let (bits, rest) = eight_bytes(bytes)?;
+                Some((Head::Float(Float::of(8, bits)), rest))
+            }
+            _ => None,
+        }
+    }
+
+    pub(crate) fn is_break(&self) -> bool
+        ensures { result ≡ is_break self.now }
+    {
+        matches!(self, Head::Break)
+    }
+}
+
+// The argument that this additional information says.
+#[tactic(auto, unfolding(crate::specs::HeadReading::argument_at))]
+fn argument(info: u8, bytes: &[u8]) -> Option<(u64, &[u8])>
+    ensures { option_map (λ r. (r.0, r.1.now)) result ≡ argument_at info bytes.now }
+{
+    match info {
+        0..=23 => Some((u64::from(info), bytes)),
+        24 => one_byte(bytes),
+        25 => two_bytes(bytes),
+        26 => four_bytes(bytes),
+        27 => eight_bytes(bytes),
+        _ => None,
+    }
+}
+
+#[tactic(auto, unfolding(crate::specs::HeadReading::number_at))]
+fn one_byte(bytes: &[u8]) -> Option<(u64, &[u8])>
+    ensures value { option_map (λ r. (r.0, r.1.now)) result ≡ number_at one bytes.now }
+    ensures below { IfSome result (λ r. r.0 < 2 ^ 8) }
+{
+    let (front, rest) = bytes.split_first_chunk::<1>()?;
+    Some((u64::from(u8::from_be_bytes(*front)), rest))
+}
+
+#[tactic(auto, unfolding(crate::specs::HeadReading::number_at))]
+fn two_bytes(bytes: &[u8]) -> Option<(u64, &[u8])>
+    ensures value { option_map (λ r. (r.0, r.1.now)) result ≡ number_at two bytes.now }
+    ensures below { IfSome result (λ r. r.0 < 2 ^ 16) }
+{
+    let (front, rest) = bytes.split_first_chunk::<2>()?;
+    Some((u64::from(u16::from_be_bytes(*front)), rest))
+}
+
+#[tactic(auto, unfolding(crate::specs::HeadReading::number_at))]
+fn four_bytes(bytes: &[u8]) -> Option<(u64, &[u8])>
+    ensures value { option_map (λ r. (r.0, r.1.now)) result ≡ number_at four bytes.now }
+    ensures below { IfSome result (λ r. r.0 < 2 ^ 32) }
+{
+    let (front, rest) = bytes.split_first_chunk::<4>()?;
+    Some((u64::from(u32::from_be_bytes(*front)), rest))
+}
+
+#[tactic(auto, unfolding(crate::specs::HeadReading::number_at))]
+fn eight_bytes(bytes: &[u8]) -> Option<(u64, &[u8])>
+    ensures { option_map (λ r. (r.0, r.1.now)) result ≡ number_at eight bytes.now }
+{
+    let (front, rest) = bytes.split_first_chunk::<8>()?;
+    Some((u64::from_be_bytes(*front), rest))
 }
