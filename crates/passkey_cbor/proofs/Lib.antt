@@ -6,3 +6,7 @@ pub mod Lists
 pub mod Strings
 pub mod Items
 pub mod Fronts
+pub mod Walks
+pub mod Skipping
+pub mod Measures
+pub mod Behind

@@ -25,7 +25,7 @@ Left P None xs = Then (Each P xs) (Is (break ∷ []))
 
 -- ---- reading what is spelled
 
-head_long : (bytes : List ℕ) (h : Head) (u : List ℕ) → head_at bytes ≡ Some (h, u) → 0 < length bytes
+pub head_long : (bytes : List ℕ) (h : Head) (u : List ℕ) → head_at bytes ≡ Some (h, u) → 0 < length bytes
 unfolding head_at
 head_long [] h u e = absurd (none_is_some (h, u) e)
 head_long (b ∷ bytes) h u e = omega arith

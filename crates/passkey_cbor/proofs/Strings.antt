@@ -65,7 +65,7 @@ pub piece_again : (is_text : Bool) (s u : List ℕ) → MayStand is_text s → p
 unfolding piece_at
 piece_again is_text s u h = rw (taken_again s u, may_stand-is is_text s h) refl
 
-piece_takes : (is_text : Bool) (n : ℕ) (bytes s u : List ℕ) → IsBytes bytes → piece_at is_text n bytes ≡ Some (s, u) → Took (Content is_text (Some n) s) bytes u
+pub piece_takes : (is_text : Bool) (n : ℕ) (bytes s u : List ℕ) → IsBytes bytes → piece_at is_text n bytes ≡ Some (s, u) → Took (Content is_text (Some n) s) bytes u
 unfolding piece_at
 piece_takes is_text n bytes s u fits e =
     let b = bind_some (taken_at n bytes) (λ t. cond (may_stand is_text t.0) (Some t) None) (s, u) e in

@@ -17,3 +17,5 @@ pub mod Laws
 pub mod HeadSpelling
 pub mod HeadReading
 pub mod Reading
+pub mod Walk
+pub mod Steps

@@ -2,7 +2,7 @@
 ghost use Rattle.std.specs.Prelude.{◌≡◌, ◌<◌, ◌^◌, option_map, IfSome};
 ghost use Rattle.passkey_cbor.specs.Heads.{one, two, four, eight};
 ghost use Rattle.passkey_cbor.specs.HeadReading.{number_at, argument_at, with_argument, without_argument, simple_at, head_behind, head_at};
-ghost use Rattle.passkey_cbor.specs.Reading.{is_break};
+ghost use Rattle.passkey_cbor.specs.Reading.{is_break, chunk_len};
 
 use crate::float::Float;
 
@@ -114,6 +114,17 @@ impl Head {
                 let (bits, rest) = eight_bytes(bytes)?;
                 Some((Head::Float(Float::of(8, bits)), rest))
             }
+            _ => None,
+        }
+    }
+
+    /// The length that a chunk of this kind of string has, where the head is a chunk's.
+    pub(crate) fn chunk_len(&self, is_text: bool) -> Option<u64>
+        ensures { result ≡ chunk_len is_text self.now }
+    {
+        match self {
+            Head::Bytes(len) => { if is_text { None } else { *len } }
+            Head::Text(len) => { if is_text { *len } else { None } }
             _ => None,
         }
     }

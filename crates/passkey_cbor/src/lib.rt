@@ -1,12 +1,14 @@
 //! CBOR (RFC 8949): items, read from bytes in every spelling and written in one.
 #![tactic(auto)]
 
+mod cursor;
 mod error;
 mod float;
 mod head;
 mod integer;
 pub mod laws;
 mod simple;
+mod skip;
 mod value;
 
 pub use error::{CborError, OutOfMemory};

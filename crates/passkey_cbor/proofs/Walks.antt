@@ -1,0 +1,152 @@
+-- Going forward in bytes.
+use Rattle.std.proofs.Common.{◌≡◌, ℕ, zero, suc, ◌+◌, ◌-◌, ◌<◌, ◌≤◌, min, Bool, true, false, cond, List, [], ◌∷◌, ◌++◌, length, take, drop, Option, Some, None, refl, sym, ap, subst, ◌∙◌, arith}
+use Rattle.std.specs.Prelude.{option_map, slice_index}
+use Rattle.std.proofs.lemmas.List.{length-append, length-drop, drop-drop, drop_at, take_rest}
+use Rattle.passkey_cbor.specs.HeadReading.{◌>>=◌, Read, head_at}
+use Rattle.passkey_cbor.specs.Reading.{Step, end, element, step_at, is_break, piece_at}
+use Rattle.passkey_cbor.specs.Walk.{Walk, ahead, IsInside, IsPlaced, Passed, Stopped}
+use Rattle.passkey_cbor.specs.Steps.{HeadRead, NoHead, ElementRead, EndRead, PassesOver}
+use Rattle.passkey_cbor.specs.declared.head.Head.{Head}
+use Rattle.passkey_cbor.proofs.Binds.{bind_at, bind_none}
+use Rattle.passkey_cbor.proofs.Numbers.{IsBytes, IsBytes-drop}
+use Rattle.passkey_cbor.proofs.HeadAgain.{head_again}
+use Rattle.passkey_cbor.proofs.HeadTakes.{head_takes}
+use Rattle.passkey_cbor.proofs.Lists.{head_long}
+use Rattle.passkey_cbor.proofs.Strings.{piece_takes}
+
+abbrev pub walk : List ℕ → ℕ → ℕ → Walk
+walk bytes place heads = record { bytes = bytes; place = place; heads = heads }
+
+-- ---- what is left of the bytes is an end of them
+
+pub record IsBehind (bytes : List ℕ) (place : ℕ) (t u : List ℕ) : Type 0 where
+  pub place_is : length bytes - length u ≡ place + length t
+  pub rest_is : drop (length bytes - length u) bytes ≡ u
+  pub shorter : length u ≤ length bytes
+
+pub is_behind : (bytes : List ℕ) (place : ℕ) (t u : List ℕ) → place ≤ length bytes → drop place bytes ≡ t ++ u → IsBehind bytes place t u
+is_behind bytes place t u within e =
+    let long : length bytes - place ≡ length t + length u = sym (length-drop place bytes) ∙ ap length e ∙ length-append t u in
+    let at : length bytes - length u ≡ place + length t = omega arith in
+    record {
+      place_is = at;
+      rest_is = ap (λ (n : ℕ). drop n bytes) at ∙ sym (drop-drop (length t) place bytes) ∙ ap (drop (length t)) e ∙ drop_at t u (length t) refl;
+      shorter = omega arith;
+    }
+
+-- ---- one head
+
+pub record HeadTaken (bytes : List ℕ) (place : ℕ) (h : Head) (u : List ℕ) : Type 0 where
+  pub reads : head_at (drop place bytes) ≡ Some (h, drop (length bytes - length u) bytes)
+  pub further : place < length bytes - length u
+  pub shorter : length u ≤ length bytes
+
+-- what a head leaves of the bytes is an end of them, further on
+pub head_taken : (bytes : List ℕ) (place : ℕ) (h : Head) (u : List ℕ) → IsPlaced bytes place → (let read : Head × List ℕ = (h, u) in Some read) ≡ head_at (take (length bytes - place) (drop place bytes)) → HeadTaken bytes place h u
+head_taken bytes place h u placed e =
+    let reads : head_at (drop place bytes) ≡ Some (h, u) = sym (e ∙ ap head_at (take_rest bytes place)) in
+    let t = head_takes (drop place bytes) h u (IsBytes-drop place bytes placed.fits) reads in
+    let b = is_behind bytes place t.text u placed.within t.parts in
+    let long : 0 < length t.text = omega (arith, head_long (t.text ++ []) h [] (head_again h t.text [] t.spelled), length-append t.text []) in
+    record {
+      reads = reads ∙ ap (λ (r : List ℕ). Some (h, r)) (sym b.rest_is);
+      further = omega (arith, b.place_is, long);
+      shorter = b.shorter;
+    }
+
+pub head_read : (bytes : List ℕ) (place heads counted : ℕ) (h : Head) (u : List ℕ) → counted ≤ heads + 1 → HeadTaken bytes place h u → HeadRead (walk bytes place heads) (walk bytes (length bytes - length u) counted) h
+head_read bytes place heads counted h u one t = record {
+  reads = t.reads;
+  passed = record { same = refl; within = omega arith; forward = omega (arith, t.further); heads = omega (arith, one, t.further) };
+  further = t.further;
+}
+
+-- ---- one step of a list
+
+pub step_end : (w : Walk) (left : Option ℕ) (n : ℕ) → IsInside w → left ≡ Some n → n ≡ 0 → EndRead left w w
+unfolding step_at
+step_end w left n inside is none = record {
+  reads = ap (λ (l : Option ℕ). step_at l (ahead w)) (is ∙ ap Some none);
+  passed = record { same = refl; within = inside; forward = omega arith; heads = omega arith };
+}
+
+step_known : (n : ℕ) (bytes : List ℕ) → step_at (Some (suc n)) bytes ≡ (head_at bytes >>= λ h. Some (element (Some n) h.0 h.1))
+unfolding step_at
+step_known n bytes = refl
+
+step_unknown : (bytes : List ℕ) → step_at None bytes ≡ (head_at bytes >>= λ h. cond (is_break h.0) (Some (end h.1)) (Some (element None h.0 h.1)))
+unfolding step_at
+step_unknown bytes = refl
+
+-- of a list of which some elements are left
+known_is : (left : Option ℕ) (n : ℕ) (bytes : List ℕ) → left ≡ Some n → 0 < n → step_at left bytes ≡ (head_at bytes >>= λ h. Some (element (Some (n - 1)) h.0 h.1))
+known_is left n bytes is some =
+    let one : n ≡ suc (n - 1) = omega arith in
+    ap (λ (l : Option ℕ). step_at l bytes) (is ∙ ap Some one) ∙ step_known (n - 1) bytes
+
+pub element_known : (a b : Walk) (left : Option ℕ) (n : ℕ) (h : Head) → left ≡ Some n → 0 < n → HeadRead a b h → ElementRead left (Some (n - 1)) a b h
+element_known a b left n h is some r = record {
+  reads = known_is left n (ahead a) is some ∙ bind_at (head_at (ahead a)) (h, ahead b) (λ h. Some (element (Some (n - 1)) h.0 h.1)) r.reads;
+  passed = r.passed;
+  further = r.further;
+}
+
+pub no_element_known : (a b : Walk) (left : Option ℕ) (n : ℕ) → left ≡ Some n → 0 < n → NoHead (head_at (ahead a)) a b → NoHead (step_at left (ahead a)) a b
+no_element_known a b left n is some r = record {
+  reads = known_is left n (ahead a) is some ∙ bind_none (head_at (ahead a)) (λ h. Some (element (Some (n - 1)) h.0 h.1)) r.reads;
+  stopped = r.stopped;
+}
+
+-- of a list that a break ends
+unknown_is : (left : Option ℕ) (bytes : List ℕ) → left ≡ None → step_at left bytes ≡ (head_at bytes >>= λ h. cond (is_break h.0) (Some (end h.1)) (Some (element None h.0 h.1)))
+unknown_is left bytes is = ap (λ (l : Option ℕ). step_at l bytes) is ∙ step_unknown bytes
+
+pub element_unknown : (a b : Walk) (left : Option ℕ) (h : Head) → left ≡ None → is_break h ≡ false → HeadRead a b h → ElementRead left left a b h
+element_unknown a b left h is goes_on r = record {
+  reads = unknown_is left (ahead a) is ∙ bind_at (head_at (ahead a)) (h, ahead b) (λ h. cond (is_break h.0) (Some (end h.1)) (Some (element None h.0 h.1))) r.reads ∙ rw (goes_on, is) refl;
+  passed = r.passed;
+  further = r.further;
+}
+
+pub break_unknown : (a b : Walk) (left : Option ℕ) (h : Head) → left ≡ None → is_break h ≡ true → HeadRead a b h → EndRead left a b
+break_unknown a b left h is ends r = record {
+  reads = unknown_is left (ahead a) is ∙ bind_at (head_at (ahead a)) (h, ahead b) (λ h. cond (is_break h.0) (Some (end h.1)) (Some (element None h.0 h.1))) r.reads ∙ rw ends refl;
+  passed = r.passed;
+}
+
+pub no_element_unknown : (a b : Walk) (left : Option ℕ) → left ≡ None → NoHead (head_at (ahead a)) a b → NoHead (step_at left (ahead a)) a b
+no_element_unknown a b left is r = record {
+  reads = unknown_is left (ahead a) is ∙ bind_none (head_at (ahead a)) (λ h. cond (is_break h.0) (Some (end h.1)) (Some (element None h.0 h.1))) r.reads;
+  stopped = r.stopped;
+}
+
+-- ---- so many bytes
+
+pub record PieceTaken (is_text : Bool) (len : ℕ) (bytes : List ℕ) (place : ℕ) (s u : List ℕ) : Type 0 where
+  pub reads : piece_at is_text len (drop place bytes) ≡ Some (s, drop (length bytes - length u) bytes)
+  pub forward : place ≤ length bytes - length u
+  pub shorter : length u ≤ length bytes
+
+pub piece_taken : (is_text : Bool) (len : ℕ) (bytes : List ℕ) (place : ℕ) (s u : List ℕ) → IsPlaced bytes place → (let read : List ℕ × List ℕ = (s, u) in Some read) ≡ piece_at is_text len (take (length bytes - place) (drop place bytes)) → PieceTaken is_text len bytes place s u
+piece_taken is_text len bytes place s u placed e =
+    let reads : piece_at is_text len (drop place bytes) ≡ Some (s, u) = sym (e ∙ ap (piece_at is_text len) (take_rest bytes place)) in
+    let t = piece_takes is_text len (drop place bytes) s u (IsBytes-drop place bytes placed.fits) reads in
+    let b = is_behind bytes place t.text u placed.within t.parts in
+    record {
+      reads = reads ∙ ap (λ (r : List ℕ). Some (s, r)) (sym b.rest_is);
+      forward = omega (arith, b.place_is);
+      shorter = b.shorter;
+    }
+
+pub piece_read : (is_text : Bool) (len : ℕ) (bytes : List ℕ) (place heads : ℕ) (s u : List ℕ) → PieceTaken is_text len bytes place s u → PassesOver (piece_at is_text len (drop place bytes)) (walk bytes place heads) (walk bytes (length bytes - length u) heads)
+piece_read is_text len bytes place heads s u t = record {
+  value = s;
+  reads = t.reads;
+  passed = record { same = refl; within = omega arith; forward = t.forward; heads = omega (arith, t.forward) };
+}
+
+pub no_piece : (is_text : Bool) (len : ℕ) (bytes : List ℕ) (place heads : ℕ) → place ≤ length bytes → None ≡ piece_at is_text len (take (length bytes - place) (drop place bytes)) → NoHead (piece_at is_text len (drop place bytes)) (walk bytes place heads) (walk bytes place heads)
+no_piece is_text len bytes place heads within e = record {
+  reads = sym (e ∙ ap (piece_at is_text len) (take_rest bytes place));
+  stopped = record { same = refl; within = within; heads = omega arith };
+}

@@ -1,0 +1,66 @@
+-- What the calls of a cursor answer, in terms of reading what is ahead.
+use Rattle.std.specs.Prelude.{◌≡◌, ℕ, ◌<◌, List, Bool, true, false, Option, Some, None}
+use Rattle.passkey_cbor.specs.Item.{Item}
+use Rattle.passkey_cbor.specs.HeadReading.{Read, head_at}
+use Rattle.passkey_cbor.specs.Reading.{Reader, Step, end, element, step_at, chunk, pair_by, item_within}
+use Rattle.passkey_cbor.specs.Walk.{Walk, ahead, Passed, Stopped}
+use Rattle.passkey_cbor.specs.declared.head.Head.{Head}
+use Rattle.passkey_cbor.specs.declared.cursor.Next.{Next}
+use Rattle.passkey_cbor.specs.declared.cursor.Next.TheVariants as next
+use Rattle.passkey_cbor.specs.declared.skip.Entry.{Entry}
+use Rattle.passkey_cbor.specs.declared.skip.Entry.TheVariants as entry
+
+-- ---- one head
+
+pub record HeadRead (old new : Walk) (h : Head) : Type 0 where
+  pub reads : head_at (ahead old) ≡ Some (h, ahead new)
+  pub passed : Passed old new
+  pub further : old.place < new.place
+
+pub record NoHead {A : Type 0} (read : Option A) (old new : Walk) : Type 0 where
+  pub reads : read ≡ None
+  pub stopped : Stopped old new
+
+-- the head ahead was read, or none stands there
+abbrev pub ReadsHead : Walk → Walk → Option Head → Type 0
+ReadsHead old new (Some h) = HeadRead old new h
+ReadsHead old new None = NoHead (head_at (ahead old)) old new
+
+-- ---- one step of a list
+
+pub record ElementRead (left after : Option ℕ) (old new : Walk) (h : Head) : Type 0 where
+  pub reads : step_at left (ahead old) ≡ Some (element after h (ahead new))
+  pub passed : Passed old new
+  pub further : old.place < new.place
+
+pub record EndRead (left : Option ℕ) (old new : Walk) : Type 0 where
+  pub reads : step_at left (ahead old) ≡ Some (end (ahead new))
+  pub passed : Passed old new
+
+abbrev pub ReadsStep : Option ℕ → Option ℕ → Walk → Walk → Next → Type 0
+ReadsStep left after old new (next.Element h) = ElementRead left after old new h
+ReadsStep left after old new next.End = EndRead left old new
+ReadsStep left after old new next.Malformed = NoHead (step_at left (ahead old)) old new
+
+-- ---- passing over what is read
+
+pub record PassesOver {A : Type 0} (read : Read A) (old new : Walk) : Type 0 where
+  pub value : A
+  pub reads : read ≡ Some (value, ahead new)
+  pub passed : Passed old new
+
+-- The cursor passed what reading gives, or stopped where it gives nothing.
+abbrev pub Skips : {A : Type 0} → Read A → Walk → Walk → Bool → Type 0
+Skips read old new true = PassesOver read old new
+Skips read old new false = NoHead read old new
+
+-- what the elements of a list are
+abbrev pub Entered : Entry → Type 0
+Entered entry.Item = Item
+Entered entry.Pair = Item × Item
+Entered (entry.Chunk is_text) = List ℕ
+
+abbrev pub entry_by : ℕ → (e : Entry) → Reader (Entered e)
+entry_by levels entry.Item = item_within levels
+entry_by levels entry.Pair = pair_by (item_within levels)
+entry_by levels (entry.Chunk is_text) = chunk is_text

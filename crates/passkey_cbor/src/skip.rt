@@ -1,0 +1,141 @@
+//! Passing over items without making them.
+ghost use Rattle.std.specs.Prelude.{◌≡◌, option_map};
+ghost use Rattle.passkey_cbor.specs.Walk.{ahead, IsInside};
+ghost use Rattle.passkey_cbor.specs.Reading.{start, may_stand, piece_at, string_at, item_within, list_at};
+ghost use Rattle.passkey_cbor.specs.Steps.{Skips, entry_by};
+
+use crate::cursor::{Cursor, Next};
+use crate::head::Head;
+use std::str;
+
+/// What the elements of a list are: the items of an array, the pairs of a map, or the chunks of
+/// a byte string or of a text string.
+#[derive(Clone, Copy)]
+pub(crate) enum Entry {
+    Item,
+    Pair,
+    Chunk(bool),
+}
+
+impl<'a> Cursor<'a> {
+    /// Passes one item of at most so many levels, or stops where none stands.
+    #[cycle(skip)]
+    pub(crate) fn skip_item(&mut self, levels: u16) -> bool
+        requires { IsInside self.old }
+        ensures { Skips (start (item_within levels) (ahead self.old)) self.old self.new result }
+    {
+        match self.head() {
+            None => false,
+            Some(head) => self.skip_behind(head, levels),
+        }
+    }
+
+    // Passes an item whose head was read.
+    #[cycle(skip)]
+    fn skip_behind(&mut self, head: Head, levels: u16) -> bool
+        requires { IsInside self.old }
+        ensures { Skips (item_within levels head (ahead self.old)) self.old self.new result }
+    {
+        match head {
+            Head::Unsigned(_) => true,
+            Head::Negative(_) => true,
+            Head::Simple(_) => true,
+            Head::Float(_) => true,
+            Head::Bytes(len) => self.skip_string(false, len),
+            Head::Text(len) => self.skip_string(true, len),
+            Head::Array(len) => levels > 0 && self.skip_list(Entry::Item, len, levels - 1),
+            Head::Map(len) => levels > 0 && self.skip_list(Entry::Pair, len, levels - 1),
+            Head::Tag(_) => levels > 0 && self.skip_item(levels - 1),
+            Head::Break => false,
+        }
+    }
+
+    // Passes a string whose head was read.
+    #[cycle(skip)]
+    fn skip_string(&mut self, is_text: bool, len: Option<u64>) -> bool
+        requires { IsInside self.old }
+        ensures { Skips (string_at is_text len (ahead self.old)) self.old self.new result }
+    {
+        match len {
+            Some(len) => self.skip_piece(is_text, len),
+            None => self.skip_list(Entry::Chunk(is_text), None, 0),
+        }
+    }
+
+    // Passes the elements of a list whose head was read, and its end.
+    #[cycle(skip)]
+    fn skip_list(&mut self, entry: Entry, len: Option<u64>, levels: u16) -> bool
+        requires { IsInside self.old }
+        ensures { Skips (list_at (entry_by levels entry) len (ahead self.old)) self.old self.new result }
+    {
+        let mut left = len;
+        loop {
+            match self.step(&mut left) {
+                Next::Malformed => return false,
+                Next::End => return true,
+                Next::Element(head) => {
+                    if !self.skip_entry(entry, head, levels) {
+                        return false;
+                    }
+                }
+            }
+        }
+    }
+
+    // Passes an element of a list, whose first head was read.
+    #[cycle(skip)]
+    fn skip_entry(&mut self, entry: Entry, head: Head, levels: u16) -> bool
+        requires { IsInside self.old }
+        ensures { Skips (entry_by levels entry head (ahead self.old)) self.old self.new result }
+    {
+        match entry {
+            Entry::Item => self.skip_behind(head, levels),
+            Entry::Pair => self.skip_behind(head, levels) && self.skip_item(levels),
+            Entry::Chunk(is_text) => match head.chunk_len(is_text) {
+                None => false,
+                Some(len) => self.skip_piece(is_text, len),
+            },
+        }
+    }
+
+    // Passes so many bytes, which are UTF-8 where they are a text.
+    fn skip_piece(&mut self, is_text: bool, len: u64) -> bool
+        ensures { Skips (piece_at is_text len (ahead self.old)) self.old self.new result }
+    {
+        let bytes = self.bytes;
+        match piece(is_text, len, &bytes[self.place..]) {
+            None => false,
+            Some((_, rest)) => {
+                self.place = bytes.len() - rest.len();
+                true
+            }
+        }
+    }
+}
+
+// The first bytes, so many of them, where they may stand in a string of this kind, and the rest.
+#[tactic(auto, unfolding(crate::specs::Reading::piece_at))]
+pub(crate) fn piece(is_text: bool, len: u64, bytes: &[u8]) -> Option<(&[u8], &[u8])>
+    ensures { option_map (λ r. (r.0.now, r.1.now)) result ≡ piece_at is_text len bytes.now }
+{
+    let len = len as usize;
+    if bytes.len() < len {
+        return None;
+    }
+    let (front, rest) = bytes.split_at(len);
+    if !may_stand(is_text, front) {
+        return None;
+    }
+    Some((front, rest))
+}
+
+// Whether these bytes may stand in a string of this kind: in a text, if they are UTF-8.
+fn may_stand(is_text: bool, bytes: &[u8]) -> bool
+    ensures { result ≡ may_stand is_text bytes.now }
+{
+    if is_text {
+        str::from_utf8(bytes).is_ok()
+    } else {
+        true
+    }
+}
