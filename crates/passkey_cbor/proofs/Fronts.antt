@@ -6,8 +6,11 @@ use Rattle.passkey_cbor.specs.Spelling.{Spells}
 use Rattle.passkey_cbor.specs.Front.{max_depth, IsFront, HasNoFront}
 use Rattle.passkey_cbor.specs.Laws.{AtMostOneFront, NoShorterFront}
 use Rattle.passkey_cbor.specs.Reading.{start, item_within}
+use Rattle.passkey_cbor.specs.Walk.{Walk, ahead, IsPlaced}
+use Rattle.passkey_cbor.specs.Steps.{NoHead, PassesOver}
+use Rattle.passkey_cbor.specs.Skipped.{PassesFront, FindsNoFront}
 use Rattle.passkey_cbor.proofs.Binds.{some_is, none_is_some}
-use Rattle.passkey_cbor.proofs.Numbers.{IsBytes}
+use Rattle.passkey_cbor.proofs.Numbers.{IsBytes, IsBytes-drop}
 use Rattle.passkey_cbor.proofs.Lists.{Follows}
 use Rattle.passkey_cbor.proofs.Items.{follows_item}
 
@@ -50,3 +53,27 @@ no_shorter bytes x k j f lt y l g =
     let longer = front_of_longer bytes j y l g in
     let same = at_most_one bytes x y k l f longer.1 in
     omega (arith, same.1, longer.0, lt)
+
+-- ---- passing over the item ahead
+
+pub front_passed : (a b : Walk) → IsPlaced a.bytes a.place → PassesOver (start (item_within max_depth) (ahead a)) a b → PassesFront a b
+front_passed a b placed p =
+    let long : length b.bytes ≡ length a.bytes = ap length p.passed.same in
+    let size : (b.place - a.place) + length (ahead b) ≡ length (ahead a) =
+    omega (arith, long, p.passed.forward, p.passed.within, length-drop a.place a.bytes, length-drop b.place b.bytes) in
+    record {
+      item = p.value;
+      len = b.place - a.place;
+      front = front_taken (ahead a) p.value (ahead b) (b.place - a.place) (IsBytes-drop a.place a.bytes placed.fits) size p.reads;
+      place = omega (arith, p.passed.forward);
+      heads = omega (arith, p.passed.forward, p.passed.heads);
+      bytes = p.passed.same;
+    }
+
+pub front_missed : (a b : Walk) (place : ℕ) → place ≡ a.place → NoHead (start (item_within max_depth) (ahead a)) a b → FindsNoFront a (record b { place = place })
+front_missed a b place back n = record {
+  none = no_front (ahead a) n.reads;
+  place = back;
+  heads = n.stopped.heads;
+  bytes = n.stopped.same;
+}

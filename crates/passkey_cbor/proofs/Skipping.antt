@@ -17,7 +17,7 @@ pub passed_then : (a b c : Walk) → Passed a b → Passed b c → Passed a c
 passed_then a b c p q = record { same = q.same ∙ p.same; within = q.within; forward = omega (arith, p.forward, q.forward); heads = omega (arith, p.heads, q.heads) }
 
 pub stopped_none : (a : Walk) → IsInside a → Stopped a a
-stopped_none a inside = record { same = refl; within = inside; heads = omega arith }
+stopped_none a inside = record { same = refl; within = inside; forward = omega arith; heads = omega arith }
 
 pub stopped_then : (a b c : Walk) → Passed a b → Stopped b c → Stopped a c
 stopped_then a b c p q =
@@ -25,6 +25,7 @@ stopped_then a b c p q =
     record {
       same = q.same ∙ p.same;
       within = q.within;
+      forward = omega (arith, p.forward, q.forward);
       heads = omega (arith, long, p.heads, p.within, p.forward, q.heads, length-drop a.place a.bytes, length-drop b.place b.bytes);
     }
 

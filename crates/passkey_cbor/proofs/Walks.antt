@@ -144,9 +144,3 @@ piece_read is_text len bytes place heads s u t = record {
   reads = t.reads;
   passed = record { same = refl; within = omega arith; forward = t.forward; heads = omega (arith, t.forward) };
 }
-
-pub no_piece : (is_text : Bool) (len : ℕ) (bytes : List ℕ) (place heads : ℕ) → place ≤ length bytes → None ≡ piece_at is_text len (take (length bytes - place) (drop place bytes)) → NoHead (piece_at is_text len (drop place bytes)) (walk bytes place heads) (walk bytes place heads)
-no_piece is_text len bytes place heads within e = record {
-  reads = sym (e ∙ ap (piece_at is_text len) (take_rest bytes place));
-  stopped = record { same = refl; within = within; heads = omega arith };
-}

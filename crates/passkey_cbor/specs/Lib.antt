@@ -19,3 +19,4 @@ pub mod HeadReading
 pub mod Reading
 pub mod Walk
 pub mod Steps
+pub mod Skipped

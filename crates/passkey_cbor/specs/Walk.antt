@@ -29,4 +29,5 @@ pub record Passed (old new : Walk) : Type 0 where
 pub record Stopped (old new : Walk) : Type 0 where
   pub same : new.bytes ≡ old.bytes
   pub within : new.place ≤ length new.bytes
+  pub forward : old.place ≤ new.place
   pub heads : new.heads ≤ old.heads + length (ahead old) + 1

@@ -15,4 +15,5 @@ pub use error::{CborError, OutOfMemory};
 pub use float::Float;
 pub use integer::Integer;
 pub use simple::Simple;
+pub use skip::item_len;
 pub use value::Value;

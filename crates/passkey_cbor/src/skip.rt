@@ -1,10 +1,13 @@
 //! Passing over items without making them.
-ghost use Rattle.std.specs.Prelude.{◌≡◌, option_map};
+ghost use Rattle.std.specs.Prelude.{◌≡◌, option_map, MatchOption};
 ghost use Rattle.passkey_cbor.specs.Walk.{ahead, IsInside};
 ghost use Rattle.passkey_cbor.specs.Reading.{start, may_stand, piece_at, string_at, item_within, list_at};
 ghost use Rattle.passkey_cbor.specs.Steps.{Skips, entry_by};
+ghost use Rattle.passkey_cbor.specs.Skipped.{SkipsFront};
+ghost use Rattle.passkey_cbor.specs.Item.{Item};
+ghost use Rattle.passkey_cbor.specs.Front.{IsFront, HasNoFront};
 
-use crate::cursor::{Cursor, Next};
+use crate::cursor::{Cursor, MAX_DEPTH, Next};
 use crate::head::Head;
 use std::str;
 
@@ -18,6 +21,18 @@ pub(crate) enum Entry {
 }
 
 impl<'a> Cursor<'a> {
+    /// Passes the item at the place, of at most 256 levels, or stays where none stands.
+    pub(crate) fn skip(&mut self) -> bool
+        ensures { SkipsFront self.old self.new result }
+    {
+        let place = self.place;
+        let found = self.skip_item(MAX_DEPTH);
+        if !found {
+            self.go_back(place);
+        }
+        found
+    }
+
     /// Passes one item of at most so many levels, or stops where none stands.
     #[cycle(skip)]
     pub(crate) fn skip_item(&mut self, levels: u16) -> bool
@@ -110,6 +125,19 @@ impl<'a> Cursor<'a> {
                 true
             }
         }
+    }
+}
+
+/// How many bytes the item has that begins the bytes, where it is well formed and at most 256
+/// levels deep; none where no such item begins them. Takes no memory. (RFC 8949, section 3.)
+pub fn item_len(bytes: &[u8]) -> Option<usize>
+    ensures { MatchOption result (HasNoFront bytes.now) (λ len. (x : Item) × IsFront bytes.now x len) }
+{
+    let mut cursor = Cursor::new(bytes);
+    if cursor.skip() {
+        Some(cursor.place())
+    } else {
+        None
     }
 }
 

@@ -1,0 +1,15 @@
+use Rattle.std.proofs.Common.{ap, subst, sym}
+use Rattle.passkey_cbor.specs.Walk.{Walk, IsPlaced}
+use Rattle.passkey_cbor.specs.Skipped.{FindsNoFront}
+use Rattle.passkey_cbor.proofs.Fronts.{front_passed, front_missed}
+use Rattle.passkey_cbor.proofs.cursor.Cursor.skip.Goals as goal
+
+pub returns-then-not-found : goal.returns-then-not-found
+returns-then-not-found c =
+    let missed = front_missed c.args.self.now c.skip_item-found.new.self c.self.inside.place (ap (λ (w : Walk). w.place) c.self.view_is) c.if-not-found.ensures in
+    rw (c.if-not-found.true, c.go_back.ensures) missed
+
+pub returns-else-not-found : goal.returns-else-not-found
+returns-else-not-found c =
+    let placed : IsPlaced c.args.self.now.bytes c.args.self.now.place = subst (λ (w : Walk). IsPlaced w.bytes w.place) c.self.view_is c.self.invariant in
+    rw c.if-not-found.false (front_passed c.args.self.now c.skip_item-found.new.self placed c.if-not-found.ensures)
