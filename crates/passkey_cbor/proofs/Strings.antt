@@ -53,7 +53,7 @@ took_behind P Q bytes r u one two = record {
 
 -- ---- a piece
 
-may_stand-is : (is_text : Bool) (s : List ℕ) → MayStand is_text s → may_stand is_text s ≡ true
+pub may_stand-is : (is_text : Bool) (s : List ℕ) → MayStand is_text s → may_stand is_text s ≡ true
 may_stand-is false s h = refl
 may_stand-is true s h = is_utf8-from_IsUtf8 s h
 

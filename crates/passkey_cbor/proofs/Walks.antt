@@ -1,18 +1,20 @@
 -- Going forward in bytes.
-use Rattle.std.proofs.Common.{◌≡◌, ℕ, zero, suc, ◌+◌, ◌-◌, ◌<◌, ◌≤◌, min, Bool, true, false, cond, List, [], ◌∷◌, ◌++◌, length, take, drop, Option, Some, None, refl, sym, ap, subst, ◌∙◌, arith}
+use Rattle.std.proofs.Common.{◌≡◌, ℕ, zero, suc, ◌+◌, ◌-◌, ◌<◌, ◌≤◌, min, Bool, true, false, cond, List, [], ◌∷◌, ◌++◌, length, take, drop, Option, Some, None, refl, sym, ap, subst, ◌∙◌, arith, inl, inr}
 use Rattle.std.specs.Prelude.{option_map, slice_index}
 use Rattle.std.proofs.lemmas.List.{length-append, length-drop, drop-drop, drop_at, take_rest}
 use Rattle.passkey_cbor.specs.HeadReading.{◌>>=◌, Read, head_at}
-use Rattle.passkey_cbor.specs.Reading.{Step, end, element, step_at, is_break, piece_at}
+use Rattle.passkey_cbor.specs.Reading.{Step, end, element, step_at, is_break, may_stand, piece_at}
 use Rattle.passkey_cbor.specs.Walk.{Walk, ahead, IsInside, IsPlaced, Passed, Stopped}
-use Rattle.passkey_cbor.specs.Steps.{HeadRead, NoHead, ElementRead, EndRead, PassesOver}
+use Rattle.passkey_cbor.specs.Steps.{IsHead, HeadRead, NoHead, ElementRead, EndRead, PieceRead}
+use Rattle.passkey_cbor.specs.HeadSpelling.{SpellsHead}
 use Rattle.passkey_cbor.specs.declared.head.Head.{Head}
+use Rattle.passkey_cbor.specs.declared.head.Head.TheVariants as head
 use Rattle.passkey_cbor.proofs.Binds.{bind_at, bind_none}
 use Rattle.passkey_cbor.proofs.Numbers.{IsBytes, IsBytes-drop}
 use Rattle.passkey_cbor.proofs.HeadAgain.{head_again}
 use Rattle.passkey_cbor.proofs.HeadTakes.{head_takes}
 use Rattle.passkey_cbor.proofs.Lists.{head_long}
-use Rattle.passkey_cbor.proofs.Strings.{piece_takes}
+use Rattle.passkey_cbor.proofs.Strings.{may_stand-is, piece_takes}
 
 abbrev pub walk : List ℕ → ℕ → ℕ → Walk
 walk bytes place heads = record { bytes = bytes; place = place; heads = heads }
@@ -36,9 +38,23 @@ is_behind bytes place t u within e =
 
 -- ---- one head
 
+spelled_head : (h : Head) (t : List ℕ) → SpellsHead h t → IsHead h
+spelled_head (head.Unsigned n) t s = tt
+spelled_head (head.Negative n) t s = tt
+spelled_head (head.Bytes len) t s = tt
+spelled_head (head.Text len) t s = tt
+spelled_head (head.Array len) t s = tt
+spelled_head (head.Map len) t s = tt
+spelled_head (head.Tag n) t s = tt
+spelled_head (head.Simple n) t (inl s) = inl s.0
+spelled_head (head.Simple n) t (inr s) = inr s.0.0
+spelled_head (head.Float f) t s = tt
+spelled_head head.Break t s = tt
+
 pub record HeadTaken (bytes : List ℕ) (place : ℕ) (h : Head) (u : List ℕ) : Type 0 where
   pub reads : head_at (drop place bytes) ≡ Some (h, drop (length bytes - length u) bytes)
   pub further : place < length bytes - length u
+  pub well_formed : IsHead h
   pub shorter : length u ≤ length bytes
 
 -- what a head leaves of the bytes is an end of them, further on
@@ -51,6 +67,7 @@ head_taken bytes place h u placed e =
     record {
       reads = reads ∙ ap (λ (r : List ℕ). Some (h, r)) (sym b.rest_is);
       further = omega (arith, b.place_is, long);
+      well_formed = spelled_head h t.text t.spelled;
       shorter = b.shorter;
     }
 
@@ -59,6 +76,7 @@ head_read bytes place heads counted h u one t = record {
   reads = t.reads;
   passed = record { same = refl; within = omega arith; forward = omega (arith, t.further); heads = omega (arith, one, t.further) };
   further = t.further;
+  well_formed = t.well_formed;
 }
 
 -- ---- one step of a list
@@ -89,6 +107,7 @@ element_known a b left n h is some r = record {
   reads = known_is left n (ahead a) is some ∙ bind_at (head_at (ahead a)) (h, ahead b) (λ h. Some (element (Some (n - 1)) h.0 h.1)) r.reads;
   passed = r.passed;
   further = r.further;
+  well_formed = r.well_formed;
 }
 
 pub no_element_known : (a b : Walk) (left : Option ℕ) (n : ℕ) → left ≡ Some n → 0 < n → NoHead (head_at (ahead a)) a b → NoHead (step_at left (ahead a)) a b
@@ -106,6 +125,7 @@ element_unknown a b left h is goes_on r = record {
   reads = unknown_is left (ahead a) is ∙ bind_at (head_at (ahead a)) (h, ahead b) (λ h. cond (is_break h.0) (Some (end h.1)) (Some (element None h.0 h.1))) r.reads ∙ rw (goes_on, is) refl;
   passed = r.passed;
   further = r.further;
+  well_formed = r.well_formed;
 }
 
 pub break_unknown : (a b : Walk) (left : Option ℕ) (h : Head) → left ≡ None → is_break h ≡ true → HeadRead a b h → EndRead left a b
@@ -125,6 +145,7 @@ no_element_unknown a b left is r = record {
 pub record PieceTaken (is_text : Bool) (len : ℕ) (bytes : List ℕ) (place : ℕ) (s u : List ℕ) : Type 0 where
   pub reads : piece_at is_text len (drop place bytes) ≡ Some (s, drop (length bytes - length u) bytes)
   pub forward : place ≤ length bytes - length u
+  pub stands : may_stand is_text s ≡ true
   pub shorter : length u ≤ length bytes
 
 pub piece_taken : (is_text : Bool) (len : ℕ) (bytes : List ℕ) (place : ℕ) (s u : List ℕ) → IsPlaced bytes place → (let read : List ℕ × List ℕ = (s, u) in Some read) ≡ piece_at is_text len (take (length bytes - place) (drop place bytes)) → PieceTaken is_text len bytes place s u
@@ -135,12 +156,13 @@ piece_taken is_text len bytes place s u placed e =
     record {
       reads = reads ∙ ap (λ (r : List ℕ). Some (s, r)) (sym b.rest_is);
       forward = omega (arith, b.place_is);
+      stands = may_stand-is is_text s t.spelled.0.1;
       shorter = b.shorter;
     }
 
-pub piece_read : (is_text : Bool) (len : ℕ) (bytes : List ℕ) (place heads : ℕ) (s u : List ℕ) → PieceTaken is_text len bytes place s u → PassesOver (piece_at is_text len (drop place bytes)) (walk bytes place heads) (walk bytes (length bytes - length u) heads)
+pub piece_read : (is_text : Bool) (len : ℕ) (bytes : List ℕ) (place heads : ℕ) (s u : List ℕ) → PieceTaken is_text len bytes place s u → PieceRead is_text len (walk bytes place heads) (walk bytes (length bytes - length u) heads) s
 piece_read is_text len bytes place heads s u t = record {
-  value = s;
   reads = t.reads;
   passed = record { same = refl; within = omega arith; forward = t.forward; heads = omega (arith, t.forward) };
+  stands = t.stands;
 }

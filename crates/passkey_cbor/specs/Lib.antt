@@ -20,3 +20,4 @@ pub mod Reading
 pub mod Walk
 pub mod Steps
 pub mod Skipped
+pub mod Building

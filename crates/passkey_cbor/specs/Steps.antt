@@ -1,10 +1,11 @@
 -- What the calls of a cursor answer, in terms of reading what is ahead.
-use Rattle.std.specs.Prelude.{◌≡◌, ℕ, ◌<◌, List, Bool, true, false, Option, Some, None}
+use Rattle.std.specs.Prelude.{◌≡◌, ◌⊎◌, ℕ, ◌<◌, ◌≤◌, List, Bool, true, false, Option, Some, None}
 use Rattle.passkey_cbor.specs.Item.{Item}
 use Rattle.passkey_cbor.specs.HeadReading.{Read, head_at}
-use Rattle.passkey_cbor.specs.Reading.{Reader, Step, end, element, step_at, chunk, pair_by, item_within}
+use Rattle.passkey_cbor.specs.Reading.{Reader, Step, end, element, step_at, may_stand, piece_at, chunk, pair_by, item_within}
 use Rattle.passkey_cbor.specs.Walk.{Walk, ahead, Passed, Stopped}
 use Rattle.passkey_cbor.specs.declared.head.Head.{Head}
+use Rattle.passkey_cbor.specs.declared.head.Head.TheVariants as head
 use Rattle.passkey_cbor.specs.declared.cursor.Next.{Next}
 use Rattle.passkey_cbor.specs.declared.cursor.Next.TheVariants as next
 use Rattle.passkey_cbor.specs.declared.skip.Entry.{Entry}
@@ -12,10 +13,24 @@ use Rattle.passkey_cbor.specs.declared.skip.Entry.TheVariants as entry
 
 -- ---- one head
 
+-- a simple value is none of 24 to 31
+abbrev pub IsHead : Head → Type 0
+IsHead (head.Unsigned n) = Unit {0}
+IsHead (head.Negative n) = Unit {0}
+IsHead (head.Bytes len) = Unit {0}
+IsHead (head.Text len) = Unit {0}
+IsHead (head.Array len) = Unit {0}
+IsHead (head.Map len) = Unit {0}
+IsHead (head.Tag n) = Unit {0}
+IsHead (head.Simple n) = (n < 24) ⊎ (32 ≤ n)
+IsHead (head.Float f) = Unit {0}
+IsHead head.Break = Unit {0}
+
 pub record HeadRead (old new : Walk) (h : Head) : Type 0 where
   pub reads : head_at (ahead old) ≡ Some (h, ahead new)
   pub passed : Passed old new
   pub further : old.place < new.place
+  pub well_formed : IsHead h
 
 pub record NoHead {A : Type 0} (read : Option A) (old new : Walk) : Type 0 where
   pub reads : read ≡ None
@@ -32,6 +47,7 @@ pub record ElementRead (left after : Option ℕ) (old new : Walk) (h : Head) : T
   pub reads : step_at left (ahead old) ≡ Some (element after h (ahead new))
   pub passed : Passed old new
   pub further : old.place < new.place
+  pub well_formed : IsHead h
 
 pub record EndRead (left : Option ℕ) (old new : Walk) : Type 0 where
   pub reads : step_at left (ahead old) ≡ Some (end (ahead new))
@@ -41,6 +57,17 @@ abbrev pub ReadsStep : Option ℕ → Option ℕ → Walk → Walk → Next → 
 ReadsStep left after old new (next.Element h) = ElementRead left after old new h
 ReadsStep left after old new next.End = EndRead left old new
 ReadsStep left after old new next.Malformed = NoHead (step_at left (ahead old)) old new
+
+-- ---- so many bytes
+
+pub record PieceRead (is_text : Bool) (len : ℕ) (old new : Walk) (s : List ℕ) : Type 0 where
+  pub reads : piece_at is_text len (ahead old) ≡ Some (s, ahead new)
+  pub passed : Passed old new
+  pub stands : may_stand is_text s ≡ true
+
+abbrev pub ReadsPiece : Bool → ℕ → Walk → Walk → Option (List ℕ) → Type 0
+ReadsPiece is_text len old new (Some s) = PieceRead is_text len old new s
+ReadsPiece is_text len old new None = NoHead (piece_at is_text len (ahead old)) old new
 
 -- ---- passing over what is read
 

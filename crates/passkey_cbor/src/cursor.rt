@@ -1,10 +1,12 @@
 //! A cursor over lent bytes, which decodes head by head and counts the heads.
-ghost use Rattle.std.specs.Prelude.{◌≡◌, ◌≤◌};
+ghost use Rattle.std.specs.Prelude.{◌≡◌, ◌≤◌, option_map};
 ghost use Rattle.passkey_cbor.specs.Walk.{IsInside};
-ghost use Rattle.passkey_cbor.specs.Steps.{ReadsHead, ReadsStep};
+ghost use Rattle.passkey_cbor.specs.Steps.{ReadsHead, ReadsStep, ReadsPiece};
+ghost use Rattle.passkey_cbor.specs.Reading.{may_stand, piece_at};
 
 use crate::head::Head;
 use std::marker::Model;
+use std::str;
 
 /// How many levels of arrays, maps and tags are read.
 pub(crate) const MAX_DEPTH: u16 = 256;
@@ -106,5 +108,47 @@ impl<'a> Cursor<'a> {
                 }
             },
         }
+    }
+
+    /// So many bytes at the place, and on behind them: a string in one piece, or a chunk of one.
+    /// Where they are a text, they are UTF-8.
+    pub(crate) fn piece(&mut self, is_text: bool, len: u64) -> Option<&'a [u8]>
+        ensures { ReadsPiece is_text len self.old self.new (option_map (λ s. s.now) result) }
+    {
+        let bytes = self.bytes;
+        match piece_of(is_text, len, &bytes[self.place..]) {
+            None => None,
+            Some((piece, rest)) => {
+                self.place = bytes.len() - rest.len();
+                Some(piece)
+            }
+        }
+    }
+}
+
+// The first bytes, so many of them, where they may stand in a string of this kind, and the rest.
+#[tactic(auto, unfolding(crate::specs::Reading::piece_at))]
+fn piece_of(is_text: bool, len: u64, bytes: &[u8]) -> Option<(&[u8], &[u8])>
+    ensures { option_map (λ r. (r.0.now, r.1.now)) result ≡ piece_at is_text len bytes.now }
+{
+    let len = len as usize;
+    if bytes.len() < len {
+        return None;
+    }
+    let (front, rest) = bytes.split_at(len);
+    if !may_stand(is_text, front) {
+        return None;
+    }
+    Some((front, rest))
+}
+
+// Whether these bytes may stand in a string of this kind: in a text, if they are UTF-8.
+fn may_stand(is_text: bool, bytes: &[u8]) -> bool
+    ensures { result ≡ may_stand is_text bytes.now }
+{
+    if is_text {
+        str::from_utf8(bytes).is_ok()
+    } else {
+        true
     }
 }

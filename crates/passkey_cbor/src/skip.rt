@@ -1,7 +1,7 @@
 //! Passing over items without making them.
-ghost use Rattle.std.specs.Prelude.{◌≡◌, option_map, MatchOption};
+ghost use Rattle.std.specs.Prelude.{MatchOption};
 ghost use Rattle.passkey_cbor.specs.Walk.{ahead, IsInside};
-ghost use Rattle.passkey_cbor.specs.Reading.{start, may_stand, piece_at, string_at, item_within, list_at};
+ghost use Rattle.passkey_cbor.specs.Reading.{start, piece_at, string_at, item_within, list_at};
 ghost use Rattle.passkey_cbor.specs.Steps.{Skips, entry_by};
 ghost use Rattle.passkey_cbor.specs.Skipped.{SkipsFront};
 ghost use Rattle.passkey_cbor.specs.Item.{Item};
@@ -9,7 +9,6 @@ ghost use Rattle.passkey_cbor.specs.Front.{IsFront, HasNoFront};
 
 use crate::cursor::{Cursor, MAX_DEPTH, Next};
 use crate::head::Head;
-use std::str;
 
 /// What the elements of a list are: the items of an array, the pairs of a map, or the chunks of
 /// a byte string or of a text string.
@@ -117,14 +116,7 @@ impl<'a> Cursor<'a> {
     fn skip_piece(&mut self, is_text: bool, len: u64) -> bool
         ensures { Skips (piece_at is_text len (ahead self.old)) self.old self.new result }
     {
-        let bytes = self.bytes;
-        match piece(is_text, len, &bytes[self.place..]) {
-            None => false,
-            Some((_, rest)) => {
-                self.place = bytes.len() - rest.len();
-                true
-            }
-        }
+        self.piece(is_text, len).is_some()
     }
 }
 
@@ -138,32 +130,5 @@ pub fn item_len(bytes: &[u8]) -> Option<usize>
         Some(cursor.place())
     } else {
         None
-    }
-}
-
-// The first bytes, so many of them, where they may stand in a string of this kind, and the rest.
-#[tactic(auto, unfolding(crate::specs::Reading::piece_at))]
-pub(crate) fn piece(is_text: bool, len: u64, bytes: &[u8]) -> Option<(&[u8], &[u8])>
-    ensures { option_map (λ r. (r.0.now, r.1.now)) result ≡ piece_at is_text len bytes.now }
-{
-    let len = len as usize;
-    if bytes.len() < len {
-        return None;
-    }
-    let (front, rest) = bytes.split_at(len);
-    if !may_stand(is_text, front) {
-        return None;
-    }
-    Some((front, rest))
-}
-
-// Whether these bytes may stand in a string of this kind: in a text, if they are UTF-8.
-fn may_stand(is_text: bool, bytes: &[u8]) -> bool
-    ensures { result ≡ may_stand is_text bytes.now }
-{
-    if is_text {
-        str::from_utf8(bytes).is_ok()
-    } else {
-        true
     }
 }

@@ -3,7 +3,7 @@ use Rattle.std.specs.Result.{MatchResult, is_ok}
 use Rattle.std.specs.Str.{IsUtf8, is_utf8}
 use Rattle.std.proofs.lemmas.Str.{IsUtf8-from_is_utf8, is_utf8-from_IsUtf8}
 use Rattle.passkey_cbor.specs.Reading.{may_stand}
-use Rattle.passkey_cbor.proofs.skip.may_stand.Goals as goal
+use Rattle.passkey_cbor.proofs.cursor.may_stand.Goals as goal
 
 not_utf8 : (bytes : List ℕ) (b : Bool) → is_utf8 bytes ≡ b → ¬ IsUtf8 bytes → false ≡ b
 not_utf8 bytes false e n = refl

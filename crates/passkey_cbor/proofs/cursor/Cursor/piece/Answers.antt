@@ -1,0 +1,12 @@
+use Rattle.passkey_cbor.proofs.Walks.{piece_taken, piece_read}
+use Rattle.passkey_cbor.proofs.cursor.Cursor.piece.Goals as goal
+
+pub overflow_sub-self : goal.overflow_sub-self
+overflow_sub-self c =
+    let t = piece_taken c.args.is_text c.args.len c.self.inside.bytes.now c.self.inside.place c.in-Some.piece.now c.in-Some.rest.now c.self.invariant c.in-Some.ensures in
+    t.shorter
+
+pub returns-in-Some : goal.returns-in-Some
+returns-in-Some c =
+    let t = piece_taken c.args.is_text c.args.len c.self.inside.bytes.now c.self.inside.place c.in-Some.piece.now c.in-Some.rest.now c.self.invariant c.in-Some.ensures in
+    rw (← c.self.view_is) (piece_read c.args.is_text c.args.len c.self.inside.bytes.now c.self.inside.place c.self.inside.heads c.in-Some.piece.now c.in-Some.rest.now t)
