@@ -5,6 +5,7 @@ mod error;
 mod float;
 mod head;
 mod integer;
+pub mod laws;
 mod simple;
 mod value;
 
