@@ -8,6 +8,7 @@ mod integer;
 pub mod laws;
 mod simple;
 mod value;
+mod write;
 
 pub use error::{CborError, OutOfMemory};
 pub use float::Float;
