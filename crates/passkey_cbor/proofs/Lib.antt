@@ -1,3 +1,4 @@
+pub mod Deepest
 pub mod Views
 pub mod Writing
 pub mod WrittenSpells
