@@ -1,3 +1,4 @@
+pub mod Cloning
 pub mod Deepest
 pub mod Views
 pub mod Writing

@@ -1,6 +1,7 @@
 //! CBOR (RFC 8949): items, read from bytes in every spelling and written in one.
 #![tactic(auto)]
 
+mod clone;
 mod depth;
 mod error;
 mod float;
