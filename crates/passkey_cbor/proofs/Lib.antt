@@ -1,4 +1,5 @@
 pub mod Cloning
+pub mod Comparing
 pub mod Deepest
 pub mod Views
 pub mod Writing

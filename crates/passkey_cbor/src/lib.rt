@@ -3,6 +3,7 @@
 
 mod clone;
 mod depth;
+mod equality;
 mod error;
 mod float;
 mod head;
