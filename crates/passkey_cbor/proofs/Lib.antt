@@ -10,3 +10,9 @@ pub mod Walks
 pub mod Skipping
 pub mod Measures
 pub mod Behind
+pub mod Cloning
+pub mod Comparing
+pub mod Deepest
+pub mod Views
+pub mod Writing
+pub mod WrittenSpells

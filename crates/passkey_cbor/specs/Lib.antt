@@ -13,6 +13,8 @@ pub mod Writable
 pub mod View
 pub mod Grows
 pub mod Reads
+pub mod Same
+pub mod SameItems
 pub mod Laws
 pub mod HeadSpelling
 pub mod HeadReading

@@ -1,7 +1,10 @@
 //! CBOR (RFC 8949): items, read from bytes in every spelling and written in one.
 #![tactic(auto)]
 
+mod clone;
 mod cursor;
+mod depth;
+mod equality;
 mod error;
 mod float;
 mod head;
@@ -10,6 +13,7 @@ pub mod laws;
 mod simple;
 mod skip;
 mod value;
+mod write;
 
 pub use error::{CborError, OutOfMemory};
 pub use float::Float;

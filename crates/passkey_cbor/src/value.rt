@@ -29,3 +29,6 @@ pub enum Value {
     /// A map: major type 5.
     Map(Vec<(Value, Value)>),
 }
+
+#[cfg(test)]
+mod tests;

@@ -1,0 +1,157 @@
+//! Items to bytes.
+ghost use Rattle.std.specs.Prelude.{◌≡◌, ◌<◌, ◌^◌, ◌∷◌, ◌++◌, length, OnOk, IfOk};
+ghost use Rattle.passkey_cbor.specs.FloatParts.{IsFloat};
+ghost use Rattle.passkey_cbor.specs.Ranges.{IsSimple};
+ghost use Rattle.passkey_cbor.specs.Item.{number, array, map, tagged};
+ghost use Rattle.passkey_cbor.specs.View.{item_of, items_view, pairs_view};
+ghost use Rattle.passkey_cbor.specs.Written.{shortest_head, float_head, simple_head, written};
+ghost use Rattle.passkey_cbor.specs.Writable.{IsWritable};
+
+use crate::error::OutOfMemory;
+use crate::float::Float;
+use crate::integer::Integer;
+use crate::simple::Simple;
+use crate::value::Value;
+use std::alloc::{AllocError, Global};
+
+/// Appends an initial byte and what follows it.
+fn push_bytes(out: &mut Vec<u8>, initial: u8, behind: &[u8]) -> Result<(), AllocError>
+    ensures { OnOk result (out.new.items ≡ out.old.items ++ initial ∷ behind.now) }
+{
+    out.push(initial)?;
+    out.extend_from_slice(behind)
+}
+
+/// Appends the shortest head.
+#[tactic(auto, unfolding(crate::specs::Written::shortest_head))]
+fn push_head(out: &mut Vec<u8>, major: u8, argument: u64) -> Result<(), AllocError>
+    requires { major < 8 }
+    ensures { OnOk result (out.new.items ≡ out.old.items ++ shortest_head major argument) }
+{
+    let initial = 32 * major;
+    if argument < 24 {
+        push_bytes(out, initial + argument as u8, &[])
+    } else if argument < 0x100 {
+        push_bytes(out, initial + 24, &(argument as u8).to_be_bytes())
+    } else if argument < 0x1_0000 {
+        push_bytes(out, initial + 25, &(argument as u16).to_be_bytes())
+    } else if argument < 0x1_0000_0000 {
+        push_bytes(out, initial + 26, &(argument as u32).to_be_bytes())
+    } else {
+        push_bytes(out, initial + 27, &argument.to_be_bytes())
+    }
+}
+
+fn push_integer(out: &mut Vec<u8>, n: Integer) -> Result<(), AllocError>
+    ensures written { OnOk result (out.new.items ≡ out.old.items ++ written (number n)) }
+    ensures writable { IsWritable (number n) }
+{
+    let n = n.get();
+    if n >= 0 {
+        push_head(out, 0, n as u64)
+    } else {
+        push_head(out, 1, (-1 - n) as u64)
+    }
+}
+
+#[tactic(auto, unfolding(crate::specs::Written::float_head))]
+fn push_float(out: &mut Vec<u8>, f: Float) -> Result<(), AllocError>
+    ensures written { OnOk result (out.new.items ≡ out.old.items ++ float_head f) }
+    ensures writable { IsFloat f.width f.bits }
+{
+    let bits = f.bits();
+    match f.width() {
+        2 => push_bytes(out, 249, &(bits as u16).to_be_bytes()),
+        4 => push_bytes(out, 250, &(bits as u32).to_be_bytes()),
+        _ => push_bytes(out, 251, &bits.to_be_bytes()),
+    }
+}
+
+fn push_simple(out: &mut Vec<u8>, s: Simple) -> Result<(), AllocError>
+    ensures written { OnOk result (out.new.items ≡ out.old.items ++ simple_head s) }
+    ensures writable { IsSimple s }
+{
+    let n = s.get();
+    if n < 20 {
+        push_bytes(out, 224 + n, &[])
+    } else {
+        push_bytes(out, 248, &[n])
+    }
+}
+
+fn push_string(out: &mut Vec<u8>, major: u8, bytes: &[u8]) -> Result<(), AllocError>
+    requires { major < 8 }
+    ensures written { OnOk result (out.new.items ≡ out.old.items ++ (shortest_head major (length bytes.now) ++ bytes.now)) }
+    ensures writable { length bytes.now < 2 ^ 64 }
+{
+    push_head(out, major, bytes.len() as u64)?;
+    out.extend_from_slice(bytes)
+}
+
+#[cycle(write)]
+fn push_array(out: &mut Vec<u8>, items: &[Value]) -> Result<(), AllocError>
+    ensures written { OnOk result (out.new.items ≡ out.old.items ++ written (array (items_view items.now))) }
+    ensures writable { OnOk result (IsWritable (array (items_view items.now))) }
+{
+    push_head(out, 4, items.len() as u64)?;
+    for item in items {
+        push_value(out, item)?;
+    }
+    Ok(())
+}
+
+#[cycle(write)]
+fn push_map(out: &mut Vec<u8>, pairs: &[(Value, Value)]) -> Result<(), AllocError>
+    ensures written { OnOk result (out.new.items ≡ out.old.items ++ written (map (pairs_view pairs.now))) }
+    ensures writable { OnOk result (IsWritable (map (pairs_view pairs.now))) }
+{
+    push_head(out, 5, pairs.len() as u64)?;
+    for (key, value) in pairs {
+        push_value(out, key)?;
+        push_value(out, value)?;
+    }
+    Ok(())
+}
+
+#[cycle(write)]
+fn push_tag(out: &mut Vec<u8>, tag: u64, value: &Value) -> Result<(), AllocError>
+    ensures written { OnOk result (out.new.items ≡ out.old.items ++ written (tagged tag (item_of value.now))) }
+    ensures writable { OnOk result (IsWritable (tagged tag (item_of value.now))) }
+{
+    push_head(out, 6, tag)?;
+    push_value(out, value)
+}
+
+#[cycle(write)]
+fn push_value(out: &mut Vec<u8>, value: &Value) -> Result<(), AllocError>
+    ensures written { OnOk result (out.new.items ≡ out.old.items ++ written (item_of value.now)) }
+    ensures writable { OnOk result (IsWritable (item_of value.now)) }
+{
+    match value {
+        Value::Integer(n) => push_integer(out, *n),
+        Value::Bytes(bytes) => push_string(out, 2, bytes),
+        Value::Float(f) => push_float(out, *f),
+        Value::Text(text) => push_string(out, 3, text.as_str().as_bytes()),
+        Value::Bool(false) => push_bytes(out, 244, &[]),
+        Value::Bool(true) => push_bytes(out, 245, &[]),
+        Value::Null => push_bytes(out, 246, &[]),
+        Value::Simple(s) => push_simple(out, *s),
+        Value::Tag(tag, inner) => push_tag(out, *tag, inner),
+        Value::Array(items) => push_array(out, items),
+        Value::Map(pairs) => push_map(out, pairs),
+    }
+}
+
+impl Value {
+    /// The item in bytes: the one spelling with shortest heads and definite lengths (RFC 8949,
+    /// section 4.1), where floats keep their width and pairs their order. `OutOfMemory` where
+    /// the bytes found no room.
+    pub fn to_vec(&self, alloc: Global) -> Result<Vec<u8>, OutOfMemory>
+        ensures written { IfOk result (λ bytes. bytes.items ≡ written (item_of self.now)) }
+        ensures writable { OnOk result (IsWritable (item_of self.now)) }
+    {
+        let mut out = Vec::new(alloc);
+        push_value(&mut out, self)?;
+        Ok(out)
+    }
+}
