@@ -1,11 +1,12 @@
 -- Passing over what is behind the head of an item.
 use Rattle.std.proofs.Common.{◌≡◌, ℕ, zero, suc, ◌-◌, ◌<◌, ◌≤◌, Bool, true, false, List, length, drop, Option, Some, None, refl, sym, ap, subst, ◌∙◌, arith}
+use Rattle.std.specs.Prelude.{is_some, option_map}
 use Rattle.std.specs.List.{concat}
 use Rattle.passkey_cbor.specs.Item.{Item, byte_string, text_string, array, map, tagged, items_of, pairs_of}
 use Rattle.passkey_cbor.specs.HeadReading.{◌>>=◌, Read}
 use Rattle.passkey_cbor.specs.Reading.{Reader, start, string_at, list_at, pair_by, item_by, item_within, chunk_len, chunk, piece_at}
 use Rattle.passkey_cbor.specs.Walk.{Walk, ahead, IsInside}
-use Rattle.passkey_cbor.specs.Steps.{NoHead, PassesOver, Skips, entry_by}
+use Rattle.passkey_cbor.specs.Steps.{NoHead, PassesOver, Skips, ReadsPiece, entry_by}
 use Rattle.passkey_cbor.specs.declared.skip.Entry.{Entry}
 use Rattle.passkey_cbor.specs.declared.head.Head.{Head}
 use Rattle.passkey_cbor.specs.declared.head.Head.TheVariants as head
@@ -93,13 +94,10 @@ pair_skipped read h a b c found p s =
 pub no_pair : (read : Reader Item) (h : Head) (a b : Walk) → NoHead (read h (ahead a)) a b → NoHead (pair_by read h (ahead a)) a b
 no_pair read h a b s = skips_stuck (read h (ahead a)) (λ k. start read k.1 >>= λ v. Some ((k.0, v.0), v.1)) a b s
 
--- a chunk whose head was read
-pub chunk_skipped : (is_text : Bool) (n : ℕ) (h : Head) (a b : Walk) (found : Bool) → IsInside a → Some n ≡ chunk_len is_text h → Skips (piece_at is_text n (ahead a)) a b found → Skips (chunk is_text h (ahead a)) a b found
-chunk_skipped is_text n h a b found inside e s =
-    skips_after (piece_at is_text n (ahead a)) (chunk is_text h (ahead a)) a a b found (passed_none a inside) (bind_at (chunk_len is_text h) n (λ n. piece_at is_text n (ahead a)) (sym e)) s
-
-pub no_chunk : (is_text : Bool) (h : Head) (a : Walk) → IsInside a → None ≡ chunk_len is_text h → NoHead (chunk is_text h (ahead a)) a a
-no_chunk is_text h a inside e = none_skipped (chunk is_text h (ahead a)) a inside (bind_none (chunk_len is_text h) (λ n. piece_at is_text n (ahead a)) (sym e))
+-- the bytes of a string or of a chunk
+pub piece_skipped : {B : Type 0} (now : B → List ℕ) (is_text : Bool) (read : Read (List ℕ)) (a b : Walk) (piece : Option B) → ReadsPiece is_text read a b (option_map now piece) → Skips read a b (is_some piece)
+piece_skipped now is_text read a b (Some s) p = record { value = now s; reads = p.reads; passed = p.passed }
+piece_skipped now is_text read a b None p = p
 
 -- a string whose head was read
 pub string_piece : (is_text : Bool) (len : Option ℕ) (n : ℕ) (bytes : List ℕ) → len ≡ Some n → string_at is_text len bytes ≡ piece_at is_text n bytes

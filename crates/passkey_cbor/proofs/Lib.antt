@@ -16,3 +16,6 @@ pub mod Deepest
 pub mod Views
 pub mod Writing
 pub mod WrittenSpells
+pub mod Gathering
+pub mod Chunks
+pub mod FromSlice

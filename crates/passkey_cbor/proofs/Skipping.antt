@@ -72,7 +72,7 @@ goes_start read left a inside = record {
   same = behind_none (list_at read left (ahead a));
 }
 
-list_step : {A : Type 0} (read : Reader A) (fuel : ℕ) (left : Option ℕ) (bytes : List ℕ) → list_by read (suc fuel) left bytes ≡ (step_at left bytes >>= after_step read (list_by read fuel))
+pub list_step : {A : Type 0} (read : Reader A) (fuel : ℕ) (left : Option ℕ) (bytes : List ℕ) → list_by read (suc fuel) left bytes ≡ (step_at left bytes >>= after_step read (list_by read fuel))
 unfolding list_by
 list_step read fuel left bytes = refl
 

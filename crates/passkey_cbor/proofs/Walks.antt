@@ -160,7 +160,7 @@ piece_taken is_text len bytes place s u placed e =
       shorter = b.shorter;
     }
 
-pub piece_read : (is_text : Bool) (len : ℕ) (bytes : List ℕ) (place heads : ℕ) (s u : List ℕ) → PieceTaken is_text len bytes place s u → PieceRead is_text len (walk bytes place heads) (walk bytes (length bytes - length u) heads) s
+pub piece_read : (is_text : Bool) (len : ℕ) (bytes : List ℕ) (place heads : ℕ) (s u : List ℕ) → PieceTaken is_text len bytes place s u → PieceRead is_text (piece_at is_text len (drop place bytes)) (walk bytes place heads) (walk bytes (length bytes - length u) heads) s
 piece_read is_text len bytes place heads s u t = record {
   reads = t.reads;
   passed = record { same = refl; within = omega arith; forward = t.forward; heads = omega (arith, t.forward) };

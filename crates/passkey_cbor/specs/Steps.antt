@@ -2,7 +2,7 @@
 use Rattle.std.specs.Prelude.{◌≡◌, ◌⊎◌, ℕ, ◌<◌, ◌≤◌, List, Bool, true, false, Option, Some, None}
 use Rattle.passkey_cbor.specs.Item.{Item}
 use Rattle.passkey_cbor.specs.HeadReading.{Read, head_at}
-use Rattle.passkey_cbor.specs.Reading.{Reader, Step, end, element, step_at, may_stand, piece_at, chunk, pair_by, item_within}
+use Rattle.passkey_cbor.specs.Reading.{Reader, Step, end, element, step_at, may_stand, chunk, pair_by, item_within}
 use Rattle.passkey_cbor.specs.Walk.{Walk, ahead, Passed, Stopped}
 use Rattle.passkey_cbor.specs.declared.head.Head.{Head}
 use Rattle.passkey_cbor.specs.declared.head.Head.TheVariants as head
@@ -58,16 +58,16 @@ ReadsStep left after old new (next.Element h) = ElementRead left after old new h
 ReadsStep left after old new next.End = EndRead left old new
 ReadsStep left after old new next.Malformed = NoHead (step_at left (ahead old)) old new
 
--- ---- so many bytes
+-- ---- the bytes of a string, or of a chunk
 
-pub record PieceRead (is_text : Bool) (len : ℕ) (old new : Walk) (s : List ℕ) : Type 0 where
-  pub reads : piece_at is_text len (ahead old) ≡ Some (s, ahead new)
+pub record PieceRead (is_text : Bool) (read : Read (List ℕ)) (old new : Walk) (s : List ℕ) : Type 0 where
+  pub reads : read ≡ Some (s, ahead new)
   pub passed : Passed old new
   pub stands : may_stand is_text s ≡ true
 
-abbrev pub ReadsPiece : Bool → ℕ → Walk → Walk → Option (List ℕ) → Type 0
-ReadsPiece is_text len old new (Some s) = PieceRead is_text len old new s
-ReadsPiece is_text len old new None = NoHead (piece_at is_text len (ahead old)) old new
+abbrev pub ReadsPiece : Bool → Read (List ℕ) → Walk → Walk → Option (List ℕ) → Type 0
+ReadsPiece is_text read old new (Some s) = PieceRead is_text read old new s
+ReadsPiece is_text read old new None = NoHead read old new
 
 -- ---- passing over what is read
 

@@ -1,8 +1,8 @@
 //! A cursor over lent bytes, which decodes head by head and counts the heads.
 ghost use Rattle.std.specs.Prelude.{◌≡◌, ◌≤◌, option_map};
-ghost use Rattle.passkey_cbor.specs.Walk.{IsInside};
+ghost use Rattle.passkey_cbor.specs.Walk.{ahead, IsInside};
 ghost use Rattle.passkey_cbor.specs.Steps.{ReadsHead, ReadsStep, ReadsPiece};
-ghost use Rattle.passkey_cbor.specs.Reading.{may_stand, piece_at};
+ghost use Rattle.passkey_cbor.specs.Reading.{may_stand, piece_at, chunk};
 
 use crate::head::Head;
 use std::marker::Model;
@@ -113,7 +113,7 @@ impl<'a> Cursor<'a> {
     /// So many bytes at the place, and on behind them: a string in one piece, or a chunk of one.
     /// Where they are a text, they are UTF-8.
     pub(crate) fn piece(&mut self, is_text: bool, len: u64) -> Option<&'a [u8]>
-        ensures { ReadsPiece is_text len self.old self.new (option_map (λ s. s.now) result) }
+        ensures { ReadsPiece is_text (piece_at is_text len (ahead self.old)) self.old self.new (option_map (λ s. s.now) result) }
     {
         let bytes = self.bytes;
         match piece_of(is_text, len, &bytes[self.place..]) {
@@ -122,6 +122,17 @@ impl<'a> Cursor<'a> {
                 self.place = bytes.len() - rest.len();
                 Some(piece)
             }
+        }
+    }
+
+    /// The bytes of a chunk whose head was read, of a string of this kind, and on behind them.
+    pub(crate) fn chunk(&mut self, is_text: bool, head: Head) -> Option<&'a [u8]>
+        requires { IsInside self.old }
+        ensures { ReadsPiece is_text (chunk is_text head (ahead self.old)) self.old self.new (option_map (λ s. s.now) result) }
+    {
+        match head.chunk_len(is_text) {
+            None => None,
+            Some(len) => self.piece(is_text, len),
         }
     }
 }

@@ -10,6 +10,7 @@ mod float;
 mod head;
 mod integer;
 pub mod laws;
+mod read;
 mod simple;
 mod skip;
 mod value;

@@ -1,7 +1,7 @@
 //! Passing over items without making them.
 ghost use Rattle.std.specs.Prelude.{MatchOption};
 ghost use Rattle.passkey_cbor.specs.Walk.{ahead, IsInside};
-ghost use Rattle.passkey_cbor.specs.Reading.{start, piece_at, string_at, item_within, list_at};
+ghost use Rattle.passkey_cbor.specs.Reading.{start, string_at, item_within, list_at};
 ghost use Rattle.passkey_cbor.specs.Steps.{Skips, entry_by};
 ghost use Rattle.passkey_cbor.specs.Skipped.{SkipsFront};
 ghost use Rattle.passkey_cbor.specs.Item.{Item};
@@ -71,7 +71,7 @@ impl<'a> Cursor<'a> {
         ensures { Skips (string_at is_text len (ahead self.old)) self.old self.new result }
     {
         match len {
-            Some(len) => self.skip_piece(is_text, len),
+            Some(len) => self.piece(is_text, len).is_some(),
             None => self.skip_list(Entry::Chunk(is_text), None, 0),
         }
     }
@@ -105,18 +105,8 @@ impl<'a> Cursor<'a> {
         match entry {
             Entry::Item => self.skip_behind(head, levels),
             Entry::Pair => self.skip_behind(head, levels) && self.skip_item(levels),
-            Entry::Chunk(is_text) => match head.chunk_len(is_text) {
-                None => false,
-                Some(len) => self.skip_piece(is_text, len),
-            },
+            Entry::Chunk(is_text) => self.chunk(is_text, head).is_some(),
         }
-    }
-
-    // Passes so many bytes, which are UTF-8 where they are a text.
-    fn skip_piece(&mut self, is_text: bool, len: u64) -> bool
-        ensures { Skips (piece_at is_text len (ahead self.old)) self.old self.new result }
-    {
-        self.piece(is_text, len).is_some()
     }
 }
 

@@ -10,7 +10,7 @@ use Rattle.passkey_cbor.specs.Steps.{entry_by}
 use Rattle.passkey_cbor.specs.declared.head.Head.TheVariants as head
 use Rattle.passkey_cbor.specs.declared.skip.Entry.TheVariants as entry
 use Rattle.passkey_cbor.proofs.Skipping.{goes_start, goes_end, goes_malformed, goes_stuck, goes_on, goes_further, item_skipped}
-use Rattle.passkey_cbor.proofs.Behind.{string_item, by_flat, by_string, by_array, by_map, by_tag, by_nothing, by_break, flat_skipped, none_skipped, made_skipped, pair_skipped, no_pair, chunk_skipped, no_chunk, string_piece, string_chunks, entry_skipped}
+use Rattle.passkey_cbor.proofs.Behind.{string_item, by_flat, by_string, by_array, by_map, by_tag, by_nothing, by_break, flat_skipped, none_skipped, made_skipped, pair_skipped, no_pair, piece_skipped, string_piece, string_chunks, entry_skipped}
 use Rattle.passkey_cbor.proofs.cursor.Cursor.+skip.Goals as goal
 
 pub skip_behind-returns-in-Unsigned : goal.skip_behind-returns-in-Unsigned
@@ -83,13 +83,9 @@ pub skip_entry-returns-else-skip_behind : goal.skip_entry-returns-else-skip_behi
 skip_entry-returns-else-skip_behind t c =
     rw c.if-skip_behind.false (entry_skipped c.args.levels c.args.entry entry.Pair c.args.head c.args.self.now c.skip_behind-in-Pair.new.self false c.in-Pair.is (no_pair (item_within c.args.levels) c.args.head c.args.self.now c.skip_behind-in-Pair.new.self c.if-skip_behind.ensures))
 
-pub skip_entry-returns-in-None : goal.skip_entry-returns-in-None
-skip_entry-returns-in-None t c =
-    entry_skipped c.args.levels c.args.entry (entry.Chunk c.in-Chunk.is_text) c.args.head c.args.self.now c.args.self.now false c.in-Chunk.is (no_chunk c.in-Chunk.is_text c.args.head c.args.self.now c.requires c.in-None.ensures)
-
-pub skip_entry-returns-in-Some : goal.skip_entry-returns-in-Some
-skip_entry-returns-in-Some t c =
-    entry_skipped c.args.levels c.args.entry (entry.Chunk c.in-Chunk.is_text) c.args.head c.args.self.now c.skip_piece.new.self c.skip_piece.result c.in-Chunk.is (chunk_skipped c.in-Chunk.is_text c.in-Some.len c.args.head c.args.self.now c.skip_piece.new.self c.skip_piece.result c.requires c.in-Some.ensures c.skip_piece.ensures)
+pub skip_entry-returns-in-Chunk : goal.skip_entry-returns-in-Chunk
+skip_entry-returns-in-Chunk t c =
+    entry_skipped c.args.levels c.args.entry (entry.Chunk c.in-Chunk.is_text) c.args.head c.args.self.now c.chunk.new.self c.is_some.result c.in-Chunk.is (rw c.is_some.ensures (piece_skipped _ c.in-Chunk.is_text _ c.args.self.now c.chunk.new.self _ c.chunk.ensures))
 
 pub skip_list-loop-head-init : goal.skip_list-loop-head-init
 skip_list-loop-head-init t c = goes_start (entry_by c.args.levels c.args.entry) c.args.len c.args.self.now c.requires
@@ -111,7 +107,8 @@ skip_list-loop-head-preserved t c =
     goes_on (entry_by c.args.levels c.args.entry) c.args.len c.loop-head.left c.step.new.left c.args.self.now c.loop-head.self c.step.new.self c.skip_entry.new.self c.in-Element.head c.loop-head.invariant c.in-Element.ensures c.if-not-skip_entry.ensures
 
 pub skip_string-returns-in-Some : goal.skip_string-returns-in-Some
-skip_string-returns-in-Some t c = rw (string_piece c.args.is_text c.args.len c.in-Some.len (ahead c.args.self.now) c.in-Some.is) c.skip_piece.ensures
+skip_string-returns-in-Some t c =
+    rw (string_piece c.args.is_text c.args.len c.in-Some.len (ahead c.args.self.now) c.in-Some.is, c.is_some.ensures) (piece_skipped _ c.args.is_text _ c.args.self.now c.piece.new.self _ c.piece.ensures)
 
 pub skip_string-returns-in-None : goal.skip_string-returns-in-None
 skip_string-returns-in-None t c =
