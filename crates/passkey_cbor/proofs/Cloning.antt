@@ -1,5 +1,5 @@
 -- Copying takes memory only where the copied item does.
-use Rattle.std.proofs.Common.{◌≡◌, ℕ, List, [], ◌∷◌, length, Result, Ok, Err, OnErr, refl, false, IsTrue}
+use Rattle.std.proofs.Common.{◌≡◌, List, [], ◌∷◌, length, Result, Ok, Err, OnErr, refl, false, IsTrue}
 use Rattle.passkey_cbor.specs.Item as spec
 use Rattle.passkey_cbor.specs.View.{items_view, pairs_view}
 use Rattle.passkey_cbor.specs.Grows.{Grows}

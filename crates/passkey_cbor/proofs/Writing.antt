@@ -1,28 +1,20 @@
 -- Writing the items of an array and the pairs of a map, one after the other.
-use Rattle.std.proofs.Common.{◌≡◌, ℕ, suc, ◌+◌, ◌<◌, ◌≤◌, ◌^◌, List, [], ◌∷◌, ◌++◌, length, drop, map, get_or, refl, sym, ap, subst, ◌∙◌, arith, append_assoc, append-nil}
-use Rattle.std.proofs.Math.Seq.{drop-cons}
+use Rattle.std.proofs.Common.{◌≡◌, ℕ, suc, ◌<◌, ◌^◌, List, [], ◌∷◌, ◌++◌, length, refl, sym, ap, ◌∙◌, arith, append_assoc}
 use Rattle.passkey_cbor.specs.Item as spec
 use Rattle.passkey_cbor.specs.Item.{Items, Pairs, item, pair, no_items, no_pairs, items_of, pairs_of}
 use Rattle.passkey_cbor.specs.Spelling.{items_len, pairs_len}
-use Rattle.passkey_cbor.specs.View.{item_of, pair_of, items_view, pairs_view}
+use Rattle.passkey_cbor.specs.View.{items_view, pairs_view}
 use Rattle.passkey_cbor.specs.Written.{shortest_head, written, items_written, pairs_written}
 use Rattle.passkey_cbor.specs.Writable.{IsWritable, AreWritable, ArePairsWritable}
 use Rattle.passkey_cbor.specs.declared.value.Value.{Value}
 
-pub items_len-items_view : (vs : List Value) → items_len (items_view vs) ≡ length vs
+items_len-items_view : (vs : List Value) → items_len (items_view vs) ≡ length vs
 items_len-items_view [] = refl
 items_len-items_view (v ∷ vs) = ap suc (items_len-items_view vs)
 
-pub pairs_len-pairs_view : (ps : List (Value × Value)) → pairs_len (pairs_view ps) ≡ length ps
+pairs_len-pairs_view : (ps : List (Value × Value)) → pairs_len (pairs_view ps) ≡ length ps
 pairs_len-pairs_view [] = refl
 pairs_len-pairs_view (p ∷ ps) = ap suc (pairs_len-pairs_view ps)
-
-pub items_view-drop : (vs : List Value) (i : ℕ) (d : Value) → i < length vs → items_view (drop i vs) ≡ item (item_of (get_or vs i d)) (items_view (drop (suc i) vs))
-items_view-drop vs i d lt = ap items_view (drop-cons vs i d lt)
-
-pub pairs_view-drop : (ps : List (Value × Value)) (i : ℕ) (d : Value × Value) → i < length ps
-    → pairs_view (drop i ps) ≡ pair (item_of (get_or ps i d).0) (item_of (get_or ps i d).1) (pairs_view (drop (suc i) ps))
-pairs_view-drop ps i d lt = ap pairs_view (drop-cons ps i d lt)
 
 -- with what is still to be written, the bytes are the whole; and the whole is writable where the rest is
 pub record WritesItems (all rest : Items) (old new : List ℕ) : Type 0 where
