@@ -1,16 +1,16 @@
 -- Passing over what is behind the head of an item.
-use Rattle.std.proofs.Common.{◌≡◌, ℕ, zero, suc, ◌-◌, ◌<◌, ◌≤◌, Bool, true, false, List, length, drop, Option, Some, None, refl, sym, ap, subst, ◌∙◌, arith}
+use Rattle.std.proofs.Common.{◌≡◌, ℕ, zero, suc, ◌-◌, ◌<◌, Bool, true, false, List, Option, Some, None, refl, sym, ap, subst, ◌∙◌, arith}
 use Rattle.std.specs.Prelude.{is_some, option_map}
 use Rattle.std.specs.List.{concat}
 use Rattle.passkey_cbor.specs.Item.{Item, byte_string, text_string, array, map, tagged, items_of, pairs_of}
 use Rattle.passkey_cbor.specs.HeadReading.{◌>>=◌, Read}
-use Rattle.passkey_cbor.specs.Reading.{Reader, start, string_at, list_at, pair_by, item_by, item_within, chunk_len, chunk, piece_at}
+use Rattle.passkey_cbor.specs.Reading.{Reader, start, string_at, list_at, pair_by, item_by, item_within, chunk, piece_at}
 use Rattle.passkey_cbor.specs.Walk.{Walk, ahead, IsInside}
 use Rattle.passkey_cbor.specs.Steps.{NoHead, PassesOver, Skips, ReadsPiece, entry_by}
 use Rattle.passkey_cbor.specs.declared.skip.Entry.{Entry}
 use Rattle.passkey_cbor.specs.declared.head.Head.{Head}
 use Rattle.passkey_cbor.specs.declared.head.Head.TheVariants as head
-use Rattle.passkey_cbor.proofs.Binds.{bind_at, bind_none}
+use Rattle.passkey_cbor.proofs.Binds.{bind_at}
 use Rattle.passkey_cbor.proofs.Strings.{string_head}
 use Rattle.passkey_cbor.proofs.Skipping.{passed_none, stopped_none, skips_after, skips_made, skips_stuck}
 

@@ -1,5 +1,5 @@
 -- Readings one after the other.
-use Rattle.std.proofs.Common.{◌≡◌, List, Option, Some, None, refl, sym, ap}
+use Rattle.std.proofs.Common.{◌≡◌, Option, Some, None, refl, ap}
 use Rattle.passkey_cbor.specs.HeadReading.{◌>>=◌}
 
 pub some_is : {A : Type 0} (x y : A) → Some x ≡ Some y → x ≡ y

@@ -1,13 +1,12 @@
 -- The chunks of a string, joined.
-use Rattle.std.proofs.Common.{◌≡◌, ℕ, ◌<◌, Bool, true, false, List, [], ◌∷◌, ◌++◌, length, Option, Some, None, Result, Ok, Err, refl, sym, ap, subst, ◌∙◌, append_assoc, arith}
+use Rattle.std.proofs.Common.{◌≡◌, ℕ, ◌<◌, Bool, true, false, List, [], ◌∷◌, ◌++◌, length, Option, Some, None, Ok, Err, refl, sym, ap, subst, ◌∙◌, append_assoc, arith}
 use Rattle.std.specs.List.{concat}
 use Rattle.std.proofs.lemmas.List.{append-nil}
 use Rattle.std.proofs.lemmas.Str.{IsUtf8-nil, IsUtf8-append, IsUtf8-from_is_utf8, is_utf8-from_IsUtf8}
-use Rattle.passkey_cbor.specs.HeadReading.{◌>>=◌, Read}
 use Rattle.passkey_cbor.specs.Reading.{chunk, may_stand, step_at, list_at, string_at}
 use Rattle.passkey_cbor.specs.Walk.{Walk, ahead}
 use Rattle.passkey_cbor.specs.Steps.{NoHead, ElementRead, EndRead, PieceRead}
-use Rattle.passkey_cbor.specs.Building.{IsNotEmpty, Went, Makes}
+use Rattle.passkey_cbor.specs.Building.{IsNotEmpty, Makes}
 use Rattle.passkey_cbor.specs.declared.head.Head.{Head}
 use Rattle.passkey_cbor.specs.declared.error.CborError.TheVariants as error
 use Rattle.passkey_cbor.proofs.Binds.{some_is, none_is_some, bind_some}

@@ -1,14 +1,14 @@
 -- Reading the item that begins the bytes: passing over it, going back and making it.
-use Rattle.std.proofs.Common.{◌≡◌, ℕ, ◌+◌, ◌≤◌, List, [], ◌∷◌, drop, length, Result, Ok, Err, refl, sym, ap, subst, ◌∙◌, arith}
-use Rattle.passkey_cbor.specs.Item.{Item, Items, Pairs, byte_string, text_string, array, map, tagged, items_of, pairs_of}
-use Rattle.passkey_cbor.specs.Front.{max_depth, IsFront, HasNoFront}
+use Rattle.std.proofs.Common.{◌≡◌, ℕ, List, [], ◌∷◌, drop, Ok, Err, sym, ap, subst, ◌∙◌, arith}
+use Rattle.passkey_cbor.specs.Item.{Item, byte_string, array, map, items_of, pairs_of}
+use Rattle.passkey_cbor.specs.Front.{max_depth, IsFront}
 use Rattle.passkey_cbor.specs.Reading.{start, item_within}
 use Rattle.passkey_cbor.specs.Walk.{Walk, ahead}
-use Rattle.passkey_cbor.specs.Skipped.{PassesFront, FindsNoFront}
+use Rattle.passkey_cbor.specs.Skipped.{PassesFront}
 use Rattle.passkey_cbor.specs.Building.{IsNotEmpty, Made, Makes}
 use Rattle.passkey_cbor.specs.Grows.{Grows}
 use Rattle.passkey_cbor.specs.View.{item_of}
-use Rattle.passkey_cbor.specs.Reads.{HasGrowingFront, ReadsFront}
+use Rattle.passkey_cbor.specs.Reads.{ReadsFront}
 use Rattle.passkey_cbor.specs.declared.value.Value.{Value}
 use Rattle.passkey_cbor.specs.declared.error.CborError.{CborError}
 use Rattle.passkey_cbor.specs.declared.error.CborError.TheVariants as error

@@ -1,11 +1,11 @@
 -- What spells a head is read as it, whatever follows.
-use Rattle.std.proofs.Common.{◌≡◌, ℕ, ◌+◌, ◌*◌, ◌/◌, ◌%◌, ◌<◌, ◌≤◌, List, [], ◌∷◌, ◌++◌, Option, Some, None, refl, sym, ap, subst, ◌∙◌, arith, inl, inr}
+use Rattle.std.proofs.Common.{◌≡◌, ℕ, ◌+◌, ◌*◌, ◌/◌, ◌%◌, ◌<◌, List, [], ◌∷◌, ◌++◌, Option, Some, None, refl, sym, ap, ◌∙◌, arith, inl, inr}
 use Rattle.std.specs.Int.{w8, to_be_bytes}
 use Rattle.std.proofs.lemmas.Bool.{lt-ltb, le-ltb, ne_eqb}
 use Rattle.passkey_cbor.specs.FloatParts.{FloatParts}
-use Rattle.passkey_cbor.specs.Heads.{Size, one, two, four, eight, width, limit, information, Heads, within, behind, indefinite, FloatOfSize, FloatHeads}
+use Rattle.passkey_cbor.specs.Heads.{Size, one, two, four, eight, width, limit, information, Heads, within, behind, indefinite, FloatOfSize}
 use Rattle.passkey_cbor.specs.HeadSpelling.{SpellsHead}
-use Rattle.passkey_cbor.specs.HeadReading.{◌>>=◌, Read, number_at, size_of, argument_at, with_argument, without_argument, simple_or_float, simple_at, head_behind, head_at}
+use Rattle.passkey_cbor.specs.HeadReading.{◌>>=◌, argument_at, with_argument, without_argument, simple_or_float, simple_at, head_behind, head_at}
 use Rattle.passkey_cbor.specs.declared.head.Head.{Head}
 use Rattle.passkey_cbor.specs.declared.head.Head.TheVariants as head
 use Rattle.passkey_cbor.proofs.Numbers.{number_again}

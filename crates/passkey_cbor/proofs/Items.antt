@@ -1,23 +1,22 @@
 -- Items: read from what spells them, and spelled by what was read.
-use Rattle.std.proofs.Common.{◌≡◌, ◌⊎◌, ℕ, zero, suc, ◌+◌, ◌*◌, ◌<◌, ◌≤◌, max, pos, negsuc, Bool, true, false, cond, List, [], ◌∷◌, ◌++◌, length, Option, Some, None, refl, sym, ap, subst, ◌∙◌, append_assoc, arith, inl, inr}
+use Rattle.std.proofs.Common.{◌≡◌, ◌⊎◌, ℕ, zero, suc, ◌+◌, ◌<◌, ◌≤◌, pos, negsuc, true, false, List, [], ◌∷◌, ◌++◌, length, Option, Some, None, refl, sym, ap, subst, ◌∙◌, append_assoc, arith, inl, inr}
 use Rattle.std.proofs.lemmas.Bool.{cases_eq, cases_lt, lt-ltb, le-ltb, ne_eqb}
 use Rattle.std.proofs.lemmas.List.{append-nil}
 use Rattle.passkey_cbor.specs.Item.{Item, number, byte_string, text_string, array, map, tagged, boolean, null, simple, float, Items, no_items, item, Pairs, no_pairs, pair, elements, members, items_of, pairs_of}
 use Rattle.passkey_cbor.specs.Depth.{depth, items_depth, pairs_depth}
-use Rattle.passkey_cbor.specs.Languages.{Language, Is, Then, Either, Where, Each}
-use Rattle.passkey_cbor.specs.Heads.{Heads, indefinite, break}
+use Rattle.passkey_cbor.specs.Languages.{Language, Is, Then, Where, Each}
+use Rattle.passkey_cbor.specs.Heads.{Heads}
 use Rattle.passkey_cbor.specs.Spelling.{Listed, Spells, SpellsItems, SpellsPairs, items_len, pairs_len}
 use Rattle.passkey_cbor.specs.HeadSpelling.{LengthHeads, SimpleHeads, SpellsHead}
-use Rattle.passkey_cbor.specs.HeadReading.{◌>>=◌, Read, head_at}
+use Rattle.passkey_cbor.specs.HeadReading.{◌>>=◌, head_at}
 use Rattle.passkey_cbor.specs.Reading.{Reader, start, is_break, list_at, string_at, simple_item, pair_by, item_by, item_within}
 use Rattle.passkey_cbor.specs.declared.head.Head.{Head}
 use Rattle.passkey_cbor.specs.declared.head.Head.TheVariants as head
 use Rattle.passkey_cbor.proofs.Binds.{some_is, none_is_some, bind_some, bind_at}
 use Rattle.passkey_cbor.proofs.Numbers.{IsBytes}
-use Rattle.passkey_cbor.proofs.HeadAgain.{head_again}
 use Rattle.passkey_cbor.proofs.HeadTakes.{Took, took_as, head_takes}
 use Rattle.passkey_cbor.proofs.Lists.{Follows, Left, list_at_again, list_takes}
-use Rattle.passkey_cbor.proofs.Strings.{Headed, starts, took_behind, spells_string_head, string_again, string_takes, string_headed, headed_string}
+use Rattle.passkey_cbor.proofs.Strings.{Headed, starts, took_behind, string_again, string_takes, string_headed, headed_string}
 
 -- an item of at most so many levels
 abbrev pub Within : ℕ → Item → Language

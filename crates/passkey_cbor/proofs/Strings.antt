@@ -1,14 +1,13 @@
 -- Strings, in one piece or in chunks: read from what spells them, and spelled by what was read.
-use Rattle.std.proofs.Common.{◌≡◌, ℕ, suc, ◌+◌, ◌*◌, ◌<◌, ◌≤◌, Bool, true, false, cond, List, [], ◌∷◌, ◌++◌, length, Option, Some, None, refl, sym, ap, subst, ◌∙◌, append_assoc, arith, inl, inr}
+use Rattle.std.proofs.Common.{◌≡◌, ℕ, suc, Bool, true, false, cond, List, [], ◌∷◌, ◌++◌, length, Option, Some, None, refl, sym, ap, subst, ◌∙◌, append_assoc, inl, inr}
 use Rattle.std.specs.List.{concat}
-use Rattle.std.specs.Str.{IsUtf8, is_utf8}
-use Rattle.std.proofs.lemmas.List.{append-nil}
+use Rattle.std.specs.Str.{IsUtf8}
 use Rattle.std.proofs.lemmas.Str.{IsUtf8-from_is_utf8, is_utf8-from_IsUtf8}
-use Rattle.passkey_cbor.specs.Languages.{Language, Is, Then, Either, Where, Some_of, Each}
-use Rattle.passkey_cbor.specs.Heads.{Heads, indefinite, break}
+use Rattle.passkey_cbor.specs.Languages.{Language, Is, Then, Where}
+use Rattle.passkey_cbor.specs.Heads.{Heads, break}
 use Rattle.passkey_cbor.specs.Spelling.{Definite, Chunks, Strings, IsAny}
 use Rattle.passkey_cbor.specs.HeadSpelling.{LengthHeads, SpellsHead}
-use Rattle.passkey_cbor.specs.HeadReading.{◌>>=◌, Read, take_at as taken_at, head_at}
+use Rattle.passkey_cbor.specs.HeadReading.{take_at as taken_at, head_at}
 use Rattle.passkey_cbor.specs.Reading.{Reader, start, is_break, list_at, may_stand, piece_at, chunk_len, chunk, string_at}
 use Rattle.passkey_cbor.specs.declared.head.Head.{Head}
 use Rattle.passkey_cbor.specs.declared.head.Head.TheVariants as head
@@ -16,7 +15,7 @@ use Rattle.passkey_cbor.proofs.Binds.{some_is, none_is_some, bind_some, bind_at}
 use Rattle.passkey_cbor.proofs.Numbers.{IsBytes, taken_again, taken_is}
 use Rattle.passkey_cbor.proofs.HeadAgain.{head_again}
 use Rattle.passkey_cbor.proofs.HeadTakes.{Took, took_as, head_takes}
-use Rattle.passkey_cbor.proofs.Lists.{Follows, Left, list_at_again, list_takes}
+use Rattle.passkey_cbor.proofs.Lists.{Follows, list_at_again, list_takes}
 
 abbrev pub MayStand : Bool → List ℕ → Type 0
 MayStand false = IsAny

@@ -1,5 +1,5 @@
 -- What each kind of value stands for.
-use Rattle.std.proofs.Common.{◌≡◌, ℕ, ℤ, List, rules, Vec, Global, Box, String, string_bytes}
+use Rattle.std.proofs.Common.{◌≡◌, ℕ, ℤ, rules, Vec, Global, Box, String, string_bytes}
 use Rattle.passkey_cbor.specs.FloatParts.{FloatParts}
 use Rattle.passkey_cbor.specs.Item as item
 use Rattle.passkey_cbor.specs.View.{item_of, items_view, pairs_view}

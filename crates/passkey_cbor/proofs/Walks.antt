@@ -1,16 +1,15 @@
 -- Going forward in bytes.
-use Rattle.std.proofs.Common.{◌≡◌, ℕ, zero, suc, ◌+◌, ◌-◌, ◌<◌, ◌≤◌, min, Bool, true, false, cond, List, [], ◌∷◌, ◌++◌, length, take, drop, Option, Some, None, refl, sym, ap, subst, ◌∙◌, arith, inl, inr}
-use Rattle.std.specs.Prelude.{option_map, slice_index}
+use Rattle.std.proofs.Common.{◌≡◌, ℕ, suc, ◌+◌, ◌-◌, ◌<◌, ◌≤◌, Bool, true, false, cond, List, [], ◌++◌, length, take, drop, Option, Some, None, refl, sym, ap, ◌∙◌, arith, inl, inr}
 use Rattle.std.proofs.lemmas.List.{length-append, length-drop, drop-drop, drop_at, take_rest}
-use Rattle.passkey_cbor.specs.HeadReading.{◌>>=◌, Read, head_at}
-use Rattle.passkey_cbor.specs.Reading.{Step, end, element, step_at, is_break, may_stand, piece_at}
-use Rattle.passkey_cbor.specs.Walk.{Walk, ahead, IsInside, IsPlaced, Passed, Stopped}
+use Rattle.passkey_cbor.specs.HeadReading.{◌>>=◌, head_at}
+use Rattle.passkey_cbor.specs.Reading.{end, element, step_at, is_break, may_stand, piece_at}
+use Rattle.passkey_cbor.specs.Walk.{Walk, ahead, IsInside, IsPlaced}
 use Rattle.passkey_cbor.specs.Steps.{IsHead, HeadRead, NoHead, ElementRead, EndRead, PieceRead}
 use Rattle.passkey_cbor.specs.HeadSpelling.{SpellsHead}
 use Rattle.passkey_cbor.specs.declared.head.Head.{Head}
 use Rattle.passkey_cbor.specs.declared.head.Head.TheVariants as head
 use Rattle.passkey_cbor.proofs.Binds.{bind_at, bind_none}
-use Rattle.passkey_cbor.proofs.Numbers.{IsBytes, IsBytes-drop}
+use Rattle.passkey_cbor.proofs.Numbers.{IsBytes-drop}
 use Rattle.passkey_cbor.proofs.HeadAgain.{head_again}
 use Rattle.passkey_cbor.proofs.HeadTakes.{head_takes}
 use Rattle.passkey_cbor.proofs.Lists.{head_long}

@@ -1,5 +1,5 @@
 -- The byte lists that spell a decoded head (RFC 8949, section 3).
-use Rattle.std.specs.Prelude.{◌≡◌, ℕ, ◌+◌, ◌*◌, ◌<◌, ◌≤◌, List, [], ◌∷◌, Option, Some, None}
+use Rattle.std.specs.Prelude.{ℕ, ◌+◌, ◌*◌, ◌<◌, ◌≤◌, [], ◌∷◌, Option, Some, None}
 use Rattle.passkey_cbor.specs.Languages.{Language, Is, Either, Where}
 use Rattle.passkey_cbor.specs.Heads.{Heads, indefinite, break, FloatHeads}
 use Rattle.passkey_cbor.specs.declared.head.Head.{Head}

@@ -1,5 +1,5 @@
 -- Reading an item from left to right. Private clauses and proofs cite it; public ones cite the spellings.
-use Rattle.std.specs.Prelude.{ℕ, zero, suc, ◌-◌, pos, negsuc, List, [], ◌∷◌, length, Bool, true, false, nat_lt, ◌==◌, if◌then◌else◌, Option, Some, None}
+use Rattle.std.specs.Prelude.{ℕ, zero, suc, pos, negsuc, List, [], ◌∷◌, length, Bool, true, false, nat_lt, ◌==◌, if◌then◌else◌, Option, Some, None}
 use Rattle.std.specs.List.{concat}
 use Rattle.std.specs.Str.{is_utf8}
 use Rattle.passkey_cbor.specs.Item.{Item, number, byte_string, text_string, array, map, tagged, boolean, null, simple, float, items_of, pairs_of}

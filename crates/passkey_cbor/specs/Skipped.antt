@@ -1,5 +1,5 @@
 -- What passing over the item ahead does.
-use Rattle.std.specs.Prelude.{◌≡◌, ℕ, ◌+◌, ◌≤◌, List, length, Bool, true, false}
+use Rattle.std.specs.Prelude.{◌≡◌, ℕ, ◌+◌, ◌≤◌, length, Bool, true, false}
 use Rattle.passkey_cbor.specs.Item.{Item}
 use Rattle.passkey_cbor.specs.Front.{IsFront, HasNoFront}
 use Rattle.passkey_cbor.specs.Walk.{Walk, ahead}

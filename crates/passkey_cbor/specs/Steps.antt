@@ -2,7 +2,7 @@
 use Rattle.std.specs.Prelude.{◌≡◌, ◌⊎◌, ℕ, ◌<◌, ◌≤◌, List, Bool, true, false, Option, Some, None}
 use Rattle.passkey_cbor.specs.Item.{Item}
 use Rattle.passkey_cbor.specs.HeadReading.{Read, head_at}
-use Rattle.passkey_cbor.specs.Reading.{Reader, Step, end, element, step_at, may_stand, chunk, pair_by, item_within}
+use Rattle.passkey_cbor.specs.Reading.{Reader, end, element, step_at, may_stand, chunk, pair_by, item_within}
 use Rattle.passkey_cbor.specs.Walk.{Walk, ahead, Passed, Stopped}
 use Rattle.passkey_cbor.specs.declared.head.Head.{Head}
 use Rattle.passkey_cbor.specs.declared.head.Head.TheVariants as head

@@ -1,5 +1,5 @@
 -- The item that a value stands for.
-use Rattle.std.specs.Prelude.{List, [], ◌∷◌, map, string_bytes}
+use Rattle.std.specs.Prelude.{List, map, string_bytes}
 use Rattle.passkey_cbor.specs.Item as item
 use Rattle.passkey_cbor.specs.Item.{Item, Items, Pairs, items_of, pairs_of}
 use Rattle.passkey_cbor.specs.declared.value.Value.{Value, fold-Value}

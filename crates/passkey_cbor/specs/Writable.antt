@@ -1,5 +1,5 @@
 -- The items that CBOR can spell: numbers, lengths and tags of at most 64 bits, texts in UTF-8 (RFC 8949, section 3).
-use Rattle.std.specs.Prelude.{ℕ, ◌^◌, ◌<◌, List, length}
+use Rattle.std.specs.Prelude.{◌^◌, ◌<◌, length}
 use Rattle.std.specs.Str.{IsUtf8}
 use Rattle.passkey_cbor.specs.FloatParts.{IsFloat}
 use Rattle.passkey_cbor.specs.Ranges.{IsInteger, IsSimple}

@@ -1,8 +1,7 @@
-use Rattle.std.proofs.Common.{◌≡◌, ℕ, ◌-◌, List, refl, sym, ap, ◌∙◌, false, true, arith}
+use Rattle.std.proofs.Common.{◌-◌, refl, ap, ◌∙◌, false, true, arith}
 use Rattle.std.specs.Prelude.{pos, negsuc, string_bytes}
-use Rattle.std.proofs.Common as std
 use Rattle.std.proofs.lemmas.Result.{err_from_is_err_and}
-use Rattle.passkey_cbor.specs.Item.{Item, number, byte_string, text_string, array, map, tagged, float, items_of, pairs_of}
+use Rattle.passkey_cbor.specs.Item.{number, byte_string, text_string, array, map, tagged, float, items_of, pairs_of}
 use Rattle.passkey_cbor.specs.Walk.{ahead}
 use Rattle.passkey_cbor.specs.Reading.{start, string_at, list_at, pair_by, simple_item, item_by, item_within}
 use Rattle.passkey_cbor.specs.View.{item_of, pair_of}

@@ -1,4 +1,4 @@
-use Rattle.std.proofs.Common.{◌<◌, ℕ, Vec, Global, refl, length, arith}
+use Rattle.std.proofs.Common.{◌<◌, refl, length, arith}
 use Rattle.std.proofs.lemmas.Result.{err_from_is_err_and}
 use Rattle.passkey_cbor.specs.Reading.{chunk}
 use Rattle.passkey_cbor.proofs.Gathering.{gathers_start}

@@ -1,6 +1,5 @@
-use Rattle.std.proofs.Common.{ap, subst, sym}
+use Rattle.std.proofs.Common.{ap, subst}
 use Rattle.passkey_cbor.specs.Walk.{Walk, IsPlaced}
-use Rattle.passkey_cbor.specs.Skipped.{FindsNoFront}
 use Rattle.passkey_cbor.proofs.Fronts.{front_passed, front_missed}
 use Rattle.passkey_cbor.proofs.cursor.Cursor.skip.Goals as goal
 
