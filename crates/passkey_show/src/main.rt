@@ -5,6 +5,8 @@
 mod fault;
 mod kind;
 mod run;
+#[cfg(test)]
+mod tests;
 mod trim;
 mod words;
 
