@@ -11,32 +11,21 @@ mod trim;
 mod words;
 
 use fault::RunFault;
-use std::env;
-use std::io::ErrorKind;
+use std::io::{Read, Write};
 use std::process::ExitCode;
+use std::rt::Env;
 
-// A word that isn't UTF-8 names no kind.
-fn read_words(rt: &HostRuntime) -> Result<Vec<String>, RunFault> {
-    let mut words = Vec::new(rt.alloc());
-    let arguments = match env::args(rt) {
-        Ok(arguments) => arguments,
-        Err(error) if error.kind() == ErrorKind::OutOfMemory => return Err(RunFault::OutOfMemory),
-        Err(_) => return Err(RunFault::UnknownKind),
-    };
-    for word in arguments.skip(1) {
-        words.push(word)?;
-    }
-    Ok(words)
-}
-
-fn show(rt: &HostRuntime) -> Result<(), RunFault> {
-    let words = read_words(rt)?;
-    let word = words::kind_of(&words)?;
-    run::run(rt.alloc(), &mut rt.stdin(), &mut rt.stdout(), word)
+fn show(
+    rt: &(impl Env + AllocGlobal),
+    reader: &mut impl Read,
+    writer: &mut impl Write,
+) -> Result<(), RunFault> {
+    let words = words::read_words(rt)?;
+    run::run(rt.alloc(), reader, writer, words::kind_of(&words)?)
 }
 
 fn main(rt: HostRuntime) -> ExitCode {
-    match show(&rt) {
+    match show(&rt, &mut rt.stdin(), &mut rt.stdout()) {
         Ok(()) => ExitCode::SUCCESS,
         Err(fault) => {
             let _ = eprintln!(rt; "{fault}");

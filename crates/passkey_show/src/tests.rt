@@ -4,6 +4,7 @@ mod appendix_a;
 mod failures;
 mod nesting;
 mod rows;
+mod words;
 
 use crate::fault::RunFault;
 use crate::run::run;

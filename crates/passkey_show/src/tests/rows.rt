@@ -1,6 +1,5 @@
 use super::{assert_fails, assert_shows};
 use crate::fault::RunFault;
-use crate::words::kind_of;
 use passkey_cbor::CborError;
 use std::test::Fail;
 
@@ -181,17 +180,6 @@ fn refuses_each_beginning(rt: HostRuntime) {
             RunFault::Refused(CborError::DecodeFailed),
         );
     }
-}
-
-#[test]
-fn takes_exactly_one_word(rt: HostRuntime) -> Result<(), Fail> {
-    let mut words = Vec::new(rt.alloc());
-    assert_eq!(rt; kind_of(&words), Err(RunFault::UnknownKind));
-    words.push(String::from_str(rt.alloc(), "cbor")?)?;
-    assert_eq!(rt; kind_of(&words), Ok("cbor"));
-    words.push(String::from_str(rt.alloc(), "cbor")?)?;
-    assert_eq!(rt; kind_of(&words), Err(RunFault::UnknownKind));
-    Ok(())
 }
 
 #[test]
