@@ -167,7 +167,7 @@ fn assert_shows_unless_refused(rt: &(impl Abort + AllocGlobal), input: &str, wan
     assert_eq!(rt; digits, want.as_bytes());
 }
 
-// For `rt try --test --fail-alloc 1..`, which refuses each growth in turn.
+// For `rt try --test --fail-alloc N`, which refuses the Nth growth of each test.
 #[test]
 fn indefinite_array(rt: HostRuntime) {
     assert_shows_unless_refused(&rt, "9f1801ff", "8101");
