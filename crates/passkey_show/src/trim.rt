@@ -1,10 +1,11 @@
 //! White space at the ends of a text.
 ghost use Rattle.std.specs.Prelude.{◌≡◌};
-ghost use Rattle.passkey_show.specs.Trimmed.{is_space, trimmed_start, trimmed_end, trimmed};
+ghost use Rattle.passkey_show.specs.Trimmed.{is_space, trimmed_start, trimmed_end, trimmed, IsCore};
 
 /// The text without the tabs, line feeds, carriage returns and spaces at its ends.
 pub fn trim(text: &[u8]) -> &[u8]
-    ensures { result.now ≡ trimmed text.now }
+    ensures value { result.now ≡ trimmed text.now }
+    ensures core { IsCore text.now result.now }
 {
     trim_end(trim_start(text))
 }
