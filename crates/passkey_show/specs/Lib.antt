@@ -1,0 +1,4 @@
+pub mod Kind
+pub mod Trimmed
+pub mod Fault
+pub mod Shows

@@ -1,0 +1,35 @@
+//! `passkey_show KIND` reads a value in hexadecimal from standard input, and writes it to standard
+//! output in its one spelling. Its status is 0, or that of a fault, whose line is on standard error.
+#![tactic(auto)]
+
+mod fault;
+mod kind;
+mod run;
+#[cfg(test)]
+mod tests;
+mod trim;
+mod words;
+
+use fault::RunFault;
+use std::io::{Read, Write};
+use std::process::ExitCode;
+use std::rt::Env;
+
+fn show(
+    rt: &(impl Env + AllocGlobal),
+    reader: &mut impl Read,
+    writer: &mut impl Write,
+) -> Result<(), RunFault> {
+    let words = words::read_words(rt)?;
+    run::run(rt.alloc(), reader, writer, words::kind_of(&words)?)
+}
+
+fn main(rt: HostRuntime) -> ExitCode {
+    match show(&rt, &mut rt.stdin(), &mut rt.stdout()) {
+        Ok(()) => ExitCode::SUCCESS,
+        Err(fault) => {
+            let _ = eprintln!(rt; "{fault}");
+            ExitCode::from(fault.status())
+        }
+    }
+}

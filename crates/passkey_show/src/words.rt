@@ -1,0 +1,35 @@
+//! The words after the program's name.
+ghost use Rattle.std.specs.Prelude.{◌≡◌, ◌≢◌, ◌⊎◌, [], ◌∷◌, IfOk, IfErr, length, map, string_bytes};
+ghost use Rattle.passkey_show.specs.declared.fault.RunFault.TheVariants.{UnknownKind, OutOfMemory};
+
+use crate::fault::RunFault;
+use std::env;
+use std::io::ErrorKind;
+use std::rt::Env;
+
+/// The words after the program's name; or `unknown kind` where one is not UTF-8.
+pub fn read_words(rt: &(impl Env + AllocGlobal)) -> Result<Vec<String>, RunFault>
+    ensures { IfErr result (λ fault. (fault ≡ UnknownKind) ⊎ (fault ≡ OutOfMemory)) }
+{
+    let arguments = match env::args(rt) {
+        Ok(arguments) => arguments,
+        Err(error) if error.kind() == ErrorKind::OutOfMemory => return Err(RunFault::OutOfMemory),
+        Err(_) => return Err(RunFault::UnknownKind),
+    };
+    let mut words = Vec::new(rt.alloc());
+    for word in arguments.skip(1) {
+        words.push(word)?;
+    }
+    Ok(words)
+}
+
+/// The one word, which is to name a kind; or `unknown kind` where there is not exactly one.
+pub fn kind_of(words: &[String]) -> Result<&str, RunFault>
+    ensures one { IfOk result (λ word. map string_bytes words.now ≡ word.now ∷ []) }
+    ensures other { IfErr result (λ fault. (fault ≡ UnknownKind) × (length words.now ≢ 1)) }
+{
+    match words {
+        [word] => Ok(word.as_str()),
+        _ => Err(RunFault::UnknownKind),
+    }
+}
