@@ -5,14 +5,17 @@ use Rattle.std.specs.Str.{bytes_eq}
 use Rattle.passkey_cbor.specs.FloatParts.{FloatParts}
 use Rattle.passkey_cbor.specs.Item.{Item, number, byte_string, text_string, array, map, tagged, boolean, null, simple, float, Items, no_items, item, Pairs, no_pairs, pair}
 
+-- both true, or both false
 abbrev pub boolean_eq : Bool → Bool → Bool
 boolean_eq true b = b
 boolean_eq false true = false
 boolean_eq false false = true
 
+-- the same bits in the same width
 abbrev pub float_eq : FloatParts → FloatParts → Bool
 float_eq f g = f.width == g.width && f.bits == g.bits
 
+-- the same kind with the same parts, in the same order
 abbrev mutual
   pub item_eq : Item → Item → Bool
   item_eq (number z) (number w) = int_eq z w

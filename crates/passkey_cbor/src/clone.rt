@@ -1,6 +1,5 @@
 //! Copies of values.
 ghost use Rattle.std.specs.Prelude.{◌≡◌, map, IfOk, OnErr};
-ghost use Rattle.passkey_cbor.specs.Item.{byte_string, array};
 ghost use Rattle.passkey_cbor.specs.Item as item;
 ghost use Rattle.passkey_cbor.specs.View.{item_of, pair_of, items_view, pairs_view};
 ghost use Rattle.passkey_cbor.specs.Grows.{Grows};
@@ -11,7 +10,7 @@ use std::alloc::Global;
 
 fn copy_bytes(alloc: Global, bytes: &[u8]) -> Result<Vec<u8>, OutOfMemory>
     ensures same { IfOk result (λ v. v.items ≡ bytes.now) }
-    ensures grows { OnErr result (Grows (byte_string bytes.now)) }
+    ensures grows { OnErr result (Grows (item.byte_string bytes.now)) }
 {
     let mut copy = Vec::with_capacity(alloc, bytes.len())?;
     copy.extend_from_slice(bytes)?;
@@ -21,7 +20,7 @@ fn copy_bytes(alloc: Global, bytes: &[u8]) -> Result<Vec<u8>, OutOfMemory>
 #[cycle(clone)]
 fn copy_items(alloc: Global, items: &[Value]) -> Result<Vec<Value>, OutOfMemory>
     ensures same { IfOk result (λ v. map item_of v.items ≡ map item_of items.now) }
-    ensures grows { OnErr result (Grows (array (items_view items.now))) }
+    ensures grows { OnErr result (Grows (item.array (items_view items.now))) }
 {
     let mut copies = Vec::with_capacity(alloc, items.len())?;
     for item in items {
@@ -64,8 +63,8 @@ fn copy(alloc: Global, value: &Value) -> Result<Value, OutOfMemory>
 }
 
 impl Value {
-    /// An equal value. `OutOfMemory` where a growth was refused, which cannot be for a number, a
-    /// float, a simple value, false, true and null, and an empty byte string, array or map.
+    /// An equal value. `OutOfMemory` where a growth was refused, which never happens at a number,
+    /// a float, a boolean, null, another simple value, or an empty byte string, array or map.
     pub fn try_clone(&self, alloc: Global) -> Result<Value, OutOfMemory>
         ensures same { IfOk result (λ v. item_of v ≡ item_of self.now) }
         ensures grows { OnErr result (Grows (item_of self.now)) }

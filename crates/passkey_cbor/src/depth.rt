@@ -13,13 +13,13 @@ fn depth_of(value: &Value) -> usize
         Value::Tag(_, inner) => depth_of(inner).saturating_add(1),
         Value::Array(items) => items_depth_of(items).saturating_add(1),
         Value::Map(pairs) => pairs_depth_of(pairs).saturating_add(1),
-        Value::Integer(_) => 0,
-        Value::Bytes(_) => 0,
-        Value::Float(_) => 0,
-        Value::Text(_) => 0,
-        Value::Bool(_) => 0,
-        Value::Null => 0,
-        Value::Simple(_) => 0,
+        Value::Integer(_)
+        | Value::Bytes(_)
+        | Value::Float(_)
+        | Value::Text(_)
+        | Value::Bool(_)
+        | Value::Null
+        | Value::Simple(_) => 0,
     }
 }
 
@@ -46,8 +46,8 @@ fn pairs_depth_of(pairs: &[(Value, Value)]) -> usize
 }
 
 impl Value {
-    /// How many levels of arrays, maps and tags the value has, a number or a string having none
-    /// (RFC 8949, section 10, on why readers limit it); `usize::MAX` stands for more than that.
+    /// How many levels of arrays, maps and tags there are: none in a number or a string, one in
+    /// an empty array. Readers limit them (RFC 8949, section 10). Above `usize::MAX` it is that.
     pub fn depth(&self) -> usize
         ensures { result ≡ min (depth (item_of self.now)) usize.MAX }
     {
