@@ -1,21 +1,32 @@
 -- The chunks of a string, joined.
 use Rattle.std.proofs.Common.{◌≡◌, ℕ, ◌<◌, Bool, true, false, List, [], ◌∷◌, ◌++◌, length, Option, Some, None, Ok, Err, refl, sym, ap, subst, ◌∙◌, append_assoc, arith}
+use Rattle.std.proofs.Common.{Vec, Global}
 use Rattle.std.specs.List.{concat}
 use Rattle.std.proofs.lemmas.List.{append-nil}
 use Rattle.std.proofs.lemmas.Str.{IsUtf8-nil, IsUtf8-append, IsUtf8-from_is_utf8, is_utf8-from_IsUtf8}
+use Rattle.passkey_cbor.specs.HeadReading.{◌>>=◌, Read}
 use Rattle.passkey_cbor.specs.Reading.{chunk, may_stand, step_at, list_at, string_at}
-use Rattle.passkey_cbor.specs.Walk.{Walk, ahead}
+use Rattle.passkey_cbor.specs.Walk.{Walk, ahead, raised, IsInside}
 use Rattle.passkey_cbor.specs.Steps.{NoHead, ElementRead, EndRead, PieceRead}
-use Rattle.passkey_cbor.specs.Building.{IsNotEmpty, Makes}
+use Rattle.passkey_cbor.specs.Building.{IsNotEmpty, total, some_bytes, Went, Makes}
 use Rattle.passkey_cbor.specs.declared.head.Head.{Head}
 use Rattle.passkey_cbor.specs.declared.error.CborError.TheVariants as error
 use Rattle.passkey_cbor.proofs.Binds.{some_is, none_is_some, bind_some}
 use Rattle.passkey_cbor.proofs.Behind.{string_chunks}
-use Rattle.passkey_cbor.proofs.Gathering.{went_then, went_passed, went_stopped, Gathers, gathers_nothing, gathers_end, gathers_here, gathers_on}
+use Rattle.passkey_cbor.proofs.Shrinking.{list_left, chunk_left}
+use Rattle.passkey_cbor.proofs.Gathering.{went_then, went_passed, went_stopped, passed_heads, makes_one, makes_nothing, Gathers, gathers_start, gathers_nothing, gathers_end, Here, gathers_here, gathers_on}
+
+-- what was copied of the chunks; a chunk makes no item
+abbrev pub no_nodes : List ℕ → ℕ
+no_nodes s = 0
+
+total-no_nodes : (chunks : List (List ℕ)) → total no_nodes chunks ≡ 0
+total-no_nodes [] = refl
+total-no_nodes (c ∷ chunks) = omega (arith, total-no_nodes chunks)
 
 -- What a loop over chunks keeps: those that were copied join to the bytes.
 abbrev pub Joins : Bool → Option ℕ → Walk → Walk → List ℕ → Type 0
-Joins is_text left old now bytes = Gathers (chunk is_text) None left old now (λ chunks. concat chunks ≡ bytes)
+Joins is_text left old now bytes = Gathers (chunk is_text) no_nodes None left old now (λ chunks. concat chunks ≡ bytes)
 
 may_stand-append : (is_text : Bool) (s t : List ℕ) → may_stand is_text s ≡ true → may_stand is_text t ≡ true → may_stand is_text (s ++ t) ≡ true
 may_stand-append false s t p q = refl
@@ -41,53 +52,99 @@ concat-not_empty ((b ∷ c) ∷ chunks) others s some = tt
 
 -- ---- what the loop answers, by what it keeps
 
+pub joins_start : (is_text : Bool) (a : Walk) (bytes : List ℕ) → IsInside a → bytes ≡ [] → Joins is_text None a a bytes
+joins_start is_text a bytes inside none = gathers_start (chunk is_text) no_nodes None a (λ chunks. concat chunks ≡ bytes) inside (sym none)
+
 pub joins_more : (is_text : Bool) (left after : Option ℕ) (a b c d : Walk) (h : Head) (bytes more s : List ℕ) → Joins is_text left a b bytes → ElementRead left after b c h → PieceRead is_text (chunk is_text h (ahead c)) c d s → more ≡ bytes ++ s → Joins is_text after a d more
 joins_more is_text left after a b c d h bytes more s g n p pushed =
-    gathers_on (chunk is_text) None left after a b c d h (λ chunks. concat chunks ≡ bytes) (λ chunks. concat chunks ≡ more) g n (went_passed c d p.passed) (λ before x u done one.
+    gathers_on (chunk is_text) no_nodes None left after a b c d h (λ chunks. concat chunks ≡ bytes) (λ chunks. concat chunks ≡ more) g n (went_passed c d p.passed) (λ before x u done one.
     let same = some_is (s, ahead d) (x, u) (sym p.reads ∙ one) in
     let x_is : s ≡ x = ap (λ (q : List ℕ × List ℕ). q.0) same in
-    (concat-push before x ∙ ap (λ (t : List ℕ). t ++ x) done ∙ ap (λ (t : List ℕ). bytes ++ t) (sym x_is) ∙ sym pushed, ap (λ (q : List ℕ × List ℕ). q.1) same))
+    let rest_is : ahead d ≡ u = ap (λ (q : List ℕ × List ℕ). q.1) same in
+    record {
+      more = concat-push before x ∙ ap (λ (t : List ℕ). t ++ x) done ∙ ap (λ (t : List ℕ). bytes ++ t) (sym x_is) ∙ sym pushed;
+      rest_is = rest_is;
+      nodes = p.passed.nodes;
+      heads = omega (arith, passed_heads c d p.passed, ap length rest_is);
+    })
 
 -- the chunks of a string in chunks
-chunks_of : (is_text : Bool) (bytes s rest : List ℕ) → string_at is_text None bytes ≡ Some (s, rest) → (chunks : List (List ℕ)) × (list_at (chunk is_text) None bytes ≡ Some (chunks, rest)) × (concat chunks ≡ s)
+record ChunksOf (is_text : Bool) (bytes s rest : List ℕ) : Type 0 where
+  chunks : List (List ℕ)
+  reads : list_at (chunk is_text) None bytes ≡ Some (chunks, rest)
+  joined : concat chunks ≡ s
+
+chunks_of : (is_text : Bool) (bytes s rest : List ℕ) → string_at is_text None bytes ≡ Some (s, rest) → ChunksOf is_text bytes s rest
 chunks_of is_text bytes s rest e =
     let cs = bind_some (list_at (chunk is_text) None bytes) (λ cs. Some (concat cs.0, cs.1)) (s, rest) (sym (string_chunks is_text None bytes refl) ∙ e) in
     let p = some_is (concat cs.0.0, cs.0.1) (s, rest) cs.2 in
-    (cs.0.0, cs.1 ∙ ap (λ (q : List ℕ × List ℕ). Some (cs.0.0, q.1)) p, ap (λ (q : List ℕ × List ℕ). q.0) p)
+    record { chunks = cs.0.0; reads = cs.1 ∙ ap (λ (q : List ℕ × List ℕ). Some (cs.0.0, q.1)) p; joined = ap (λ (q : List ℕ × List ℕ). q.0) p }
 
-pub joins_malformed : {V : Type 0} (view : V → List ℕ) (is_text : Bool) (left : Option ℕ) (a b c : Walk) (bytes : List ℕ) → Joins is_text left a b bytes → NoHead (step_at left (ahead b)) b c → Makes view IsNotEmpty (string_at is_text None (ahead a)) a c (Err error.DecodeFailed)
-joins_malformed view is_text left a b c bytes g n = record {
-  went = went_then a b c g.went (went_stopped b c n.stopped);
-  made = λ s rest e.
-      let cs = chunks_of is_text (ahead a) s rest e in
-      gathers_nothing (chunk is_text) None left a b c (λ chunks. concat chunks ≡ bytes) g n cs.0 rest cs.1;
-}
+-- nothing is read, as the chunks show
+no_string : (is_text : Bool) (a b : Walk) → Went a b → ((s rest : List ℕ) → string_at is_text None (ahead a) ≡ Some (s, rest) → ⊥) → Makes some_bytes (string_at is_text None (ahead a)) a b (Err error.DecodeFailed)
+no_string is_text a b went none = record { went = went; made = none; heads = λ s rest e. absurd (none s rest e) }
 
-pub joins_no_chunk : {V : Type 0} (view : V → List ℕ) (is_text : Bool) (left after : Option ℕ) (a b c d : Walk) (h : Head) (bytes : List ℕ) → Joins is_text left a b bytes → ElementRead left after b c h → NoHead (chunk is_text h (ahead c)) c d → Makes view IsNotEmpty (string_at is_text None (ahead a)) a d (Err error.DecodeFailed)
-joins_no_chunk view is_text left after a b c d h bytes g n none = record {
-  went = went_then a b d g.went (went_then b c d (went_passed b c n.passed) (went_stopped c d none.stopped));
-  made = λ s rest e.
-      let cs = chunks_of is_text (ahead a) s rest e in
-      let r = gathers_here (chunk is_text) None left after a b c h (λ chunks. concat chunks ≡ bytes) g n cs.0 rest cs.1 in
-      none_is_some (r.first, r.middle) (sym none.reads ∙ r.one);
-}
+pub joins_malformed : (is_text : Bool) (left : Option ℕ) (a b c : Walk) (bytes : List ℕ) → Joins is_text left a b bytes → NoHead (step_at left (ahead b)) b c → Makes some_bytes (string_at is_text None (ahead a)) a c (Err error.DecodeFailed)
+joins_malformed is_text left a b c bytes g n =
+    no_string is_text a c (went_then a b c g.went (went_stopped b c n.stopped)) (λ s rest e.
+    let cs = chunks_of is_text (ahead a) s rest e in
+    gathers_nothing (chunk is_text) no_nodes None left a b c (λ chunks. concat chunks ≡ bytes) g n cs.chunks rest cs.reads)
 
-pub joins_full : {V : Type 0} (view : V → List ℕ) (is_text : Bool) (left after : Option ℕ) (a b c d : Walk) (h : Head) (bytes s : List ℕ) → Joins is_text left a b bytes → ElementRead left after b c h → PieceRead is_text (chunk is_text h (ahead c)) c d s → 0 < length s → Makes view IsNotEmpty (string_at is_text None (ahead a)) a d (Err error.OutOfMemory)
-joins_full view is_text left after a b c d h bytes s g n p some = record {
+pub joins_no_chunk : (is_text : Bool) (left after : Option ℕ) (a b c d : Walk) (h : Head) (bytes : List ℕ) → Joins is_text left a b bytes → ElementRead left after b c h → NoHead (chunk is_text h (ahead c)) c d → Makes some_bytes (string_at is_text None (ahead a)) a d (Err error.DecodeFailed)
+joins_no_chunk is_text left after a b c d h bytes g n none =
+    no_string is_text a d (went_then a b d g.went (went_then b c d (went_passed b c n.passed) (went_stopped c d none.stopped))) (λ s rest e.
+    let cs = chunks_of is_text (ahead a) s rest e in
+    let r = gathers_here (chunk is_text) no_nodes None left after a b c h (λ chunks. concat chunks ≡ bytes) g n cs.chunks rest cs.reads in
+    none_is_some (r.first, r.middle) (sym none.reads ∙ r.one))
+
+pub joins_full : (is_text : Bool) (left after : Option ℕ) (a b c d : Walk) (h : Head) (bytes s : List ℕ) → Joins is_text left a b bytes → ElementRead left after b c h → PieceRead is_text (chunk is_text h (ahead c)) c d s → 0 < length s → Makes some_bytes (string_at is_text None (ahead a)) a d (Err error.OutOfMemory)
+joins_full is_text left after a b c d h bytes s g n p some = record {
   went = went_then a b d g.went (went_then b c d (went_passed b c n.passed) (went_passed c d p.passed));
   made = λ all rest e.
       let cs = chunks_of is_text (ahead a) all rest e in
-      let r = gathers_here (chunk is_text) None left after a b c h (λ chunks. concat chunks ≡ bytes) g n cs.0 rest cs.1 in
-      let first_is : s ≡ r.first = ap (λ (q : List ℕ × List ℕ). q.0) (some_is (s, ahead d) (r.first, r.middle) (sym p.reads ∙ r.one)) in
-      let long : 0 < length r.first = subst (λ (t : List ℕ). 0 < length t) first_is some in
-      subst IsNotEmpty (ap concat (sym r.whole) ∙ cs.2) (concat-not_empty r.before r.others r.first long);
-}
+      let r = here cs.chunks rest cs.reads in
+      let long : 0 < length r.first = subst (λ (t : List ℕ). 0 < length t) (first_is r.first r.middle r.one) some in
+      (subst IsNotEmpty (ap concat (sym r.whole) ∙ cs.joined) (concat-not_empty r.before r.others r.first long), omega (arith, p.passed.nodes, r.nodes, ap (raised a.nodes) (total-no_nodes r.before)));
+  heads = λ all rest e.
+      let cs = chunks_of is_text (ahead a) all rest e in
+      let r = here cs.chunks rest cs.reads in
+      let rest_is : ahead d ≡ r.middle = ap (λ (q : List ℕ × List ℕ). q.1) (some_is (s, ahead d) (r.first, r.middle) (sym p.reads ∙ r.one)) in
+      omega (arith, r.heads, passed_heads c d p.passed, ap length rest_is, list_left (chunk is_text) (chunk_left is_text) r.fuel after r.middle (r.others, rest) r.reads);
+} where
+  here : (chunks : List (List ℕ)) (rest : List ℕ) → list_at (chunk is_text) None (ahead a) ≡ Some (chunks, rest) → Here (chunk is_text) no_nodes after a c h (λ chunks. concat chunks ≡ bytes) chunks rest
+  here = gathers_here (chunk is_text) no_nodes None left after a b c h (λ chunks. concat chunks ≡ bytes) g n
 
-pub joins_end : {V : Type 0} (view : V → List ℕ) (is_text : Bool) (left : Option ℕ) (a b c : Walk) (v : V) → Joins is_text left a b (view v) → EndRead left b c → Makes view IsNotEmpty (string_at is_text None (ahead a)) a c (Ok v)
-joins_end view is_text left a b c v g n = record {
+  first_is : (x u : List ℕ) → chunk is_text h (ahead c) ≡ Some (x, u) → s ≡ x
+  first_is x u one = ap (λ (q : List ℕ × List ℕ). q.0) (some_is (s, ahead d) (x, u) (sym p.reads ∙ one))
+
+pub joins_end : (is_text : Bool) (left : Option ℕ) (a b c : Walk) (v : Vec ℕ Global) → Joins is_text left a b v.items → EndRead left b c → Makes some_bytes (string_at is_text None (ahead a)) a c (Ok v)
+joins_end is_text left a b c v g n = record {
   went = went_then a b c g.went (went_passed b c n.passed);
   made = λ s rest e.
       let cs = chunks_of is_text (ahead a) s rest e in
-      let m = gathers_end (chunk is_text) None left a b c (λ chunks. concat chunks ≡ view v) g n cs.0 rest cs.1 in
-      (sym m.0 ∙ cs.2, m.1);
+      let k = gathers_end (chunk is_text) no_nodes None left a b c (λ chunks. concat chunks ≡ v.items) g n cs.chunks rest cs.reads in
+      (sym k.done ∙ cs.joined, k.rest_is, k.nodes ∙ ap (raised a.nodes) (total-no_nodes cs.chunks));
+  heads = λ s rest e.
+      let cs = chunks_of is_text (ahead a) s rest e in
+      (gathers_end (chunk is_text) no_nodes None left a b c (λ chunks. concat chunks ≡ v.items) g n cs.chunks rest cs.reads).heads;
 }
+
+-- ---- a string in one piece
+
+pub piece_made : (is_text : Bool) (read : Read (List ℕ)) (a b : Walk) (s : List ℕ) (v : Vec ℕ Global) → PieceRead is_text read a b s → v.items ≡ s → Makes some_bytes read a b (Ok v)
+piece_made is_text read a b s v p e = makes_one some_bytes read s a b v p.passed p.reads e refl
+
+pub no_piece : (is_text : Bool) (read : Read (List ℕ)) (a b : Walk) → NoHead read a b → Makes some_bytes read a b (Err error.DecodeFailed)
+no_piece is_text read a b n = makes_nothing some_bytes read a b _ (went_stopped a b n.stopped) n.reads
+
+pub piece_full : (is_text : Bool) (read : Read (List ℕ)) (a b : Walk) (s : List ℕ) → PieceRead is_text read a b s → 0 < length s → Makes some_bytes read a b (Err error.OutOfMemory)
+piece_full is_text read a b s p some = record {
+  went = went_passed a b p.passed;
+  made = λ t rest e.
+      let same : s ≡ t = ap (λ (q : List ℕ × List ℕ). q.0) (some_is (s, ahead b) (t, rest) (sym p.reads ∙ e)) in
+      (subst IsNotEmpty same (some_byte s some), omega (arith, p.passed.nodes));
+  heads = λ t rest e. omega (arith, passed_heads a b p.passed, ap (λ (q : List ℕ × List ℕ). length q.1) (some_is (s, ahead b) (t, rest) (sym p.reads ∙ e)));
+} where
+  some_byte : (s : List ℕ) → 0 < length s → IsNotEmpty s
+  some_byte [] lt = absurd (omega arith)
+  some_byte (b ∷ s) lt = tt

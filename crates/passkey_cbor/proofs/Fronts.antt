@@ -67,6 +67,7 @@ front_passed a b placed p =
       front = front_taken (ahead a) p.value (ahead b) (b.place - a.place) (IsBytes-drop a.place a.bytes placed.fits) size p.reads;
       place = omega (arith, p.passed.forward);
       heads = omega (arith, p.passed.forward, p.passed.heads);
+      nodes = p.passed.nodes;
       bytes = p.passed.same;
     }
 
@@ -75,5 +76,6 @@ front_missed a b place back n = record {
   none = no_front (ahead a) n.reads;
   place = back;
   heads = n.stopped.heads;
+  nodes = n.stopped.nodes;
   bytes = n.stopped.same;
 }

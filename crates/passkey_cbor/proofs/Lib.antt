@@ -18,4 +18,6 @@ pub mod Writing
 pub mod WrittenSpells
 pub mod Gathering
 pub mod Chunks
-pub mod FromSlice
+pub mod Valuing
+pub mod Shrinking
+pub mod Counted

@@ -15,8 +15,8 @@ use Rattle.passkey_cbor.proofs.HeadTakes.{head_takes}
 use Rattle.passkey_cbor.proofs.Lists.{head_long}
 use Rattle.passkey_cbor.proofs.Strings.{may_stand-is, piece_takes}
 
-abbrev pub walk : List ℕ → ℕ → ℕ → Walk
-walk bytes place heads = record { bytes = bytes; place = place; heads = heads }
+abbrev pub walk : List ℕ → ℕ → ℕ → ℕ → Walk
+walk bytes place heads nodes = record { bytes = bytes; place = place; heads = heads; nodes = nodes }
 
 -- ---- what is left of the bytes is an end of them
 
@@ -70,10 +70,10 @@ head_taken bytes place h u placed e =
       shorter = b.shorter;
     }
 
-pub head_read : (bytes : List ℕ) (place heads counted : ℕ) (h : Head) (u : List ℕ) → counted ≤ heads + 1 → HeadTaken bytes place h u → HeadRead (walk bytes place heads) (walk bytes (length bytes - length u) counted) h
-head_read bytes place heads counted h u one t = record {
+pub head_read : (bytes : List ℕ) (place heads counted nodes : ℕ) (h : Head) (u : List ℕ) → counted ≤ heads + 1 → HeadTaken bytes place h u → HeadRead (walk bytes place heads nodes) (walk bytes (length bytes - length u) counted nodes) h
+head_read bytes place heads counted nodes h u one t = record {
   reads = t.reads;
-  passed = record { same = refl; within = omega arith; forward = omega (arith, t.further); heads = omega (arith, one, t.further) };
+  passed = record { same = refl; within = omega arith; forward = omega (arith, t.further); heads = omega (arith, one, t.further); nodes = refl };
   further = t.further;
   well_formed = t.well_formed;
 }
@@ -84,7 +84,7 @@ pub step_end : (w : Walk) (left : Option ℕ) (n : ℕ) → IsInside w → left 
 unfolding step_at
 step_end w left n inside is none = record {
   reads = ap (λ (l : Option ℕ). step_at l (ahead w)) (is ∙ ap Some none);
-  passed = record { same = refl; within = inside; forward = omega arith; heads = omega arith };
+  passed = record { same = refl; within = inside; forward = omega arith; heads = omega arith; nodes = refl };
 }
 
 step_known : (n : ℕ) (bytes : List ℕ) → step_at (Some (suc n)) bytes ≡ (head_at bytes >>= λ h. Some (element (Some n) h.0 h.1))
@@ -159,9 +159,9 @@ piece_taken is_text len bytes place s u placed e =
       shorter = b.shorter;
     }
 
-pub piece_read : (is_text : Bool) (len : ℕ) (bytes : List ℕ) (place heads : ℕ) (s u : List ℕ) → PieceTaken is_text len bytes place s u → PieceRead is_text (piece_at is_text len (drop place bytes)) (walk bytes place heads) (walk bytes (length bytes - length u) heads) s
-piece_read is_text len bytes place heads s u t = record {
+pub piece_read : (is_text : Bool) (len : ℕ) (bytes : List ℕ) (place heads nodes : ℕ) (s u : List ℕ) → PieceTaken is_text len bytes place s u → PieceRead is_text (piece_at is_text len (drop place bytes)) (walk bytes place heads nodes) (walk bytes (length bytes - length u) heads nodes) s
+piece_read is_text len bytes place heads nodes s u t = record {
   reads = t.reads;
-  passed = record { same = refl; within = omega arith; forward = t.forward; heads = omega (arith, t.forward) };
+  passed = record { same = refl; within = omega arith; forward = t.forward; heads = omega (arith, t.forward); nodes = refl };
   stands = t.stands;
 }

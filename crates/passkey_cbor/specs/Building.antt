@@ -1,7 +1,13 @@
 -- What the calls of a cursor that make values answer, in terms of reading what is ahead.
-use Rattle.std.specs.Prelude.{◌≡◌, ℕ, ◌≤◌, List, [], ◌∷◌, length, Some, Result, Ok, Err}
+use Rattle.std.specs.Prelude.{◌≡◌, ℕ, zero, suc, ◌+◌, ◌-◌, ◌≤◌, List, [], ◌∷◌, length, map, Some, Result, Ok, Err, Vec, String, string_bytes}
+use Rattle.std.specs.Global.{Global}
+use Rattle.passkey_cbor.specs.Item.{Item}
+use Rattle.passkey_cbor.specs.Nodes.{nodes}
+use Rattle.passkey_cbor.specs.Grows.{Grows}
+use Rattle.passkey_cbor.specs.View.{item_of, pair_of}
 use Rattle.passkey_cbor.specs.HeadReading.{Read}
-use Rattle.passkey_cbor.specs.Walk.{Walk, ahead}
+use Rattle.passkey_cbor.specs.Walk.{Walk, ahead, raised}
+use Rattle.passkey_cbor.specs.declared.value.Value.{Value}
 use Rattle.passkey_cbor.specs.declared.error.CborError.{CborError}
 use Rattle.passkey_cbor.specs.declared.error.CborError.TheVariants as error
 
@@ -9,20 +15,57 @@ abbrev pub IsNotEmpty : {A : Type 0} → List A → Type 0
 IsNotEmpty [] = ⊥
 IsNotEmpty (x ∷ xs) = Unit {0}
 
+-- a number for each, added up
+abbrev pub total : {A : Type 0} → (A → ℕ) → List A → ℕ
+total size [] = 0
+total size (x ∷ xs) = size x + total size xs
+
+-- What is made: how a value shows what was read, what of it takes memory, and how many items it makes.
+pub record Making (V X : Type 0) : Type 1 where
+  pub view : V → X
+  pub Takes : X → Type 0
+  pub size : X → ℕ
+
+-- an item
+abbrev pub an_item : Making Value Item
+an_item = record { view = item_of; Takes = Grows; size = nodes }
+
+-- an item, which was counted already
+abbrev pub a_counted_item : Making Value Item
+a_counted_item = record { view = item_of; Takes = Grows; size = λ x. nodes x - 1 }
+
+-- a pair of items
+abbrev pub a_pair : Making (Value × Value) (Item × Item)
+a_pair = record { view = pair_of; Takes = λ m. Unit {0}; size = λ m. nodes m.0 + nodes m.1 }
+
+-- what each shows of a list
+abbrev pub each_of : {V X : Type 0} → Making V X → Making (Vec V Global) (List X)
+each_of m = record { view = λ v. map m.view v.items; Takes = IsNotEmpty; size = total m.size }
+
+-- the bytes of a string
+abbrev pub some_bytes : Making (Vec ℕ Global) (List ℕ)
+some_bytes = record { view = λ v. v.items; Takes = IsNotEmpty; size = λ s. 0 }
+
+-- a text
+abbrev pub a_text : Making (String Global) (List ℕ)
+a_text = record { view = string_bytes; Takes = λ s. Unit {0}; size = λ s. 0 }
+
 -- The cursor is in the same bytes, no further back.
 pub record Went (old new : Walk) : Type 0 where
   pub same : new.bytes ≡ old.bytes
   pub within : new.place ≤ length new.bytes
   pub forward : old.place ≤ new.place
 
--- Where this is what is read, it was made; or memory ran out, which only some of it lets happen.
-abbrev pub Made : {V X : Type 0} → (V → X) → (X → Type 0) → X → List ℕ → Walk → Result V CborError → Type 0
-Made view Grows x rest new (Ok v) = (view v ≡ x) × (ahead new ≡ rest)
-Made view Grows x rest new (Err error.DecodeFailed) = ⊥
-Made view Grows x rest new (Err error.OutOfMemory) = Grows x
-Made view Grows x rest new (Err error.OutOfRangeIntegerValue) = ⊥
+-- Where this is what is read, it was made, and each item in it counted; or memory ran out, which only some of it lets
+-- happen.
+abbrev pub Made : {V X : Type 0} → Making V X → X → List ℕ → Walk → Walk → Result V CborError → Type 0
+Made m x rest old new (Ok v) = (m.view v ≡ x) × (ahead new ≡ rest) × (new.nodes ≡ raised old.nodes (m.size x))
+Made m x rest old new (Err error.DecodeFailed) = ⊥
+Made m x rest old new (Err error.OutOfMemory) = m.Takes x × (new.nodes ≤ old.nodes + m.size x)
+Made m x rest old new (Err error.OutOfRangeIntegerValue) = ⊥
 
--- What reading gives is made, if it gives anything.
-pub record Makes {V X : Type 0} (view : V → X) (Grows : X → Type 0) (read : Read X) (old new : Walk) (result : Result V CborError) : Type 0 where
+-- What reading gives is made, if it gives anything, with at most one head for each byte of it.
+pub record Makes {V X : Type 0} (m : Making V X) (read : Read X) (old new : Walk) (result : Result V CborError) : Type 0 where
   pub went : Went old new
-  pub made : (x : X) (rest : List ℕ) → read ≡ Some (x, rest) → Made view Grows x rest new result
+  pub made : (x : X) (rest : List ℕ) → read ≡ Some (x, rest) → Made m x rest old new result
+  pub heads : (x : X) (rest : List ℕ) → read ≡ Some (x, rest) → new.heads + length rest ≤ old.heads + length (ahead old)

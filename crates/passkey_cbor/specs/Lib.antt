@@ -23,3 +23,4 @@ pub mod Walk
 pub mod Steps
 pub mod Skipped
 pub mod Building
+pub mod Valued

@@ -11,6 +11,7 @@ pub record PassesFront (old new : Walk) : Type 0 where
   pub front : IsFront (ahead old) item len
   pub place : new.place ≡ old.place + len
   pub heads : new.heads ≤ old.heads + len
+  pub nodes : new.nodes ≡ old.nodes
   pub bytes : new.bytes ≡ old.bytes
 
 -- No item stands ahead, and the cursor stays, with at most one head for each byte ahead and one more.
@@ -18,6 +19,7 @@ pub record FindsNoFront (old new : Walk) : Type 0 where
   pub none : HasNoFront (ahead old)
   pub place : new.place ≡ old.place
   pub heads : new.heads ≤ old.heads + length (ahead old) + 1
+  pub nodes : new.nodes ≡ old.nodes
   pub bytes : new.bytes ≡ old.bytes
 
 abbrev pub SkipsFront : Walk → Walk → Bool → Type 0

@@ -1,9 +1,10 @@
 //! A cursor over lent bytes, which decodes head by head and counts the heads.
-ghost use Rattle.std.specs.Prelude.{◌≡◌, ◌≤◌, option_map};
+ghost use Rattle.std.specs.Prelude.{◌≡◌, ◌+◌, ◌≤◌, min, option_map};
 ghost use Rattle.passkey_cbor.specs.Walk.{ahead, IsInside};
 ghost use Rattle.passkey_cbor.specs.Steps.{ReadsHead, ReadsStep, ReadsPiece};
 ghost use Rattle.passkey_cbor.specs.Reading.{may_stand, piece_at, chunk};
 
+use crate::count::Count;
 use crate::head::Head;
 use std::marker::Model;
 use std::str;
@@ -13,10 +14,10 @@ pub(crate) const MAX_DEPTH: u16 = 256;
 
 /// A place in bytes. Each head that is decoded from them is counted, also where none stands.
 #[derive(Drop)]
-pub(crate) struct Cursor<'a> {
-    pub(crate) bytes: &'a [u8],
+pub struct Cursor<'a> {
+    bytes: &'a [u8],
     pub(crate) place: usize,
-    heads: u128,
+    count: Count,
 }
 
 impl<'a> Model for Cursor<'a> {
@@ -24,7 +25,7 @@ impl<'a> Model for Cursor<'a> {
 
     ghost Value = { Walk };
 
-    ghost view = { λ c. record { bytes = c.bytes.now; place = c.place; heads = c.heads } };
+    ghost view = { λ c. record { bytes = c.bytes.now; place = c.place; heads = c.count.heads; nodes = c.count.nodes } };
 
     ghost invariant = { λ c. IsPlaced c.bytes.now c.place };
 }
@@ -39,36 +40,52 @@ pub(crate) enum Next {
 
 impl<'a> Cursor<'a> {
     /// At the start of the bytes, with nothing counted.
-    pub(crate) fn new(bytes: &'a [u8]) -> Cursor<'a>
-        ensures { result ≡ record { bytes = bytes.entry.now; place = 0; heads = 0 } }
+    pub fn new(bytes: &'a [u8]) -> Cursor<'a>
+        ensures { result ≡ record { bytes = bytes.entry.now; place = 0; heads = 0; nodes = 0 } }
     {
         Cursor {
             bytes,
             place: 0,
-            heads: 0,
+            count: Count { heads: 0, nodes: 0 },
         }
     }
 
     /// How many bytes lie before it.
-    pub(crate) fn place(&self) -> usize
+    pub fn place(&self) -> usize
         ensures { result ≡ self.now.place }
     {
         self.place
     }
 
     /// Goes back to an earlier place. What was counted stays.
-    pub(crate) fn go_back(&mut self, to: usize)
+    pub fn go_back(&mut self, to: usize)
         requires { to ≤ self.old.place }
         ensures { self.new ≡ record self.old { place = to } }
     {
         self.place = to;
     }
 
+    /// What was counted so far.
+    pub fn count(&self) -> Count
+        ensures heads { result.heads ≡ self.now.heads }
+        ensures nodes { result.nodes ≡ self.now.nodes }
+    {
+        self.count
+    }
+
+    /// Raises the counts by these, each up to `u128::MAX`.
+    pub fn add(&mut self, count: Count)
+        ensures { self.new ≡ record self.old { heads = min (self.old.heads + count.heads) u128.MAX; nodes = min (self.old.nodes + count.nodes) u128.MAX } }
+    {
+        self.count.heads = self.count.heads.saturating_add(count.heads);
+        self.count.nodes = self.count.nodes.saturating_add(count.nodes);
+    }
+
     /// The head at the place, and on behind it. A head is counted, also where none stands.
     pub(crate) fn head(&mut self) -> Option<Head>
         ensures { ReadsHead self.old self.new result }
     {
-        self.heads = self.heads.saturating_add(1);
+        self.count.heads = self.count.heads.saturating_add(1);
         let bytes = self.bytes;
         match Head::decode(&bytes[self.place..]) {
             None => None,

@@ -8,7 +8,7 @@ use crate::float::Float;
 
 /// A head: the initial byte of an item with its argument (RFC 8949, section 3).
 #[derive(Clone, Copy, Debug, PartialEq, Eq)]
-pub(crate) enum Head {
+pub enum Head {
     /// The number n.
     Unsigned(u64),
     /// The number -1 - n.

@@ -2,6 +2,7 @@
 #![tactic(auto)]
 
 mod clone;
+mod count;
 mod cursor;
 mod depth;
 mod equality;
@@ -16,8 +17,11 @@ mod skip;
 mod value;
 mod write;
 
+pub use count::Count;
+pub use cursor::Cursor;
 pub use error::{CborError, OutOfMemory};
 pub use float::Float;
+pub use head::Head;
 pub use integer::Integer;
 pub use simple::Simple;
 pub use skip::item_len;

@@ -5,11 +5,13 @@ ghost use Rattle.passkey_cbor.specs.Item as item;
 ghost use Rattle.passkey_cbor.specs.Walk.{ahead, IsInside};
 ghost use Rattle.passkey_cbor.specs.Reading.{start, may_stand, piece_at, string_at, chunk, pair_by, simple_item, item_within, list_at};
 ghost use Rattle.passkey_cbor.specs.Steps.{IsHead};
-ghost use Rattle.passkey_cbor.specs.Building.{IsNotEmpty, Makes};
+ghost use Rattle.passkey_cbor.specs.Building.{Makes, an_item, a_counted_item, a_pair, each_of, some_bytes, a_text};
 ghost use Rattle.passkey_cbor.specs.Grows.{Grows};
 ghost use Rattle.passkey_cbor.specs.View.{item_of, pair_of};
 ghost use Rattle.passkey_cbor.specs.Reads.{ReadsFront};
+ghost use Rattle.passkey_cbor.specs.Valued.{ReadsValue};
 
+use crate::count::Count;
 use crate::cursor::{Cursor, MAX_DEPTH, Next};
 use crate::error::CborError;
 use crate::head::Head;
@@ -28,22 +30,37 @@ impl Value {
         ensures { ReadsFront bytes.now result }
     {
         let mut cursor = Cursor::new(bytes);
-        if !cursor.skip() {
-            return Err(CborError::DecodeFailed);
-        }
-        let len = cursor.place();
-        cursor.go_back(0);
-        let value = cursor.build_item(alloc, MAX_DEPTH)?;
-        Ok((value, len))
+        let value = cursor.value(alloc)?;
+        Ok((value, cursor.place()))
     }
 }
 
 impl<'a> Cursor<'a> {
+    /// Makes the item at the place, at most 256 levels deep, and passes it. `DecodeFailed` where no
+    /// such item stands there, and `OutOfMemory` only where one does that takes memory: then the
+    /// cursor stays. Each item that is made counts one node.
+    pub fn value(&mut self, alloc: Global) -> Result<Value, CborError>
+        ensures { ReadsValue self.old self.new result }
+    {
+        let place = self.place;
+        if !self.skip() {
+            return Err(CborError::DecodeFailed);
+        }
+        self.go_back(place);
+        match self.build_item(alloc, MAX_DEPTH) {
+            Ok(value) => Ok(value),
+            Err(error) => {
+                self.go_back(place);
+                Err(error)
+            }
+        }
+    }
+
     // Makes the item at the place, of at most so many levels.
     #[cycle(build)]
     fn build_item(&mut self, alloc: Global, levels: u16) -> Result<Value, CborError>
         requires { IsInside self.old }
-        ensures { Makes item_of Grows (start (item_within levels) (ahead self.old)) self.old self.new result }
+        ensures { Makes an_item (start (item_within levels) (ahead self.old)) self.old self.new result }
     {
         match self.head() {
             None => Err(CborError::DecodeFailed),
@@ -51,12 +68,23 @@ impl<'a> Cursor<'a> {
         }
     }
 
-    // Makes an item whose head was read.
+    // Makes an item whose head was read, and counts it.
     #[cycle(build)]
     fn build_behind(&mut self, alloc: Global, head: Head, levels: u16) -> Result<Value, CborError>
         requires inside { IsInside self.old }
         requires head { IsHead head }
-        ensures { Makes item_of Grows (item_within levels head (ahead self.old)) self.old self.new result }
+        ensures { Makes an_item (item_within levels head (ahead self.old)) self.old self.new result }
+    {
+        self.add(Count { heads: 0, nodes: 1 });
+        self.build_inside(alloc, head, levels)
+    }
+
+    // Makes an item whose head was read, and which was counted.
+    #[cycle(build)]
+    fn build_inside(&mut self, alloc: Global, head: Head, levels: u16) -> Result<Value, CborError>
+        requires inside { IsInside self.old }
+        requires head { IsHead head }
+        ensures { Makes a_counted_item (item_within levels head (ahead self.old)) self.old self.new result }
     {
         match head {
             Head::Unsigned(n) => Ok(Value::Integer(Integer::unsigned(n))),
@@ -97,7 +125,7 @@ impl<'a> Cursor<'a> {
         levels: u16,
     ) -> Result<Vec<Value>, CborError>
         requires { IsInside self.old }
-        ensures { Makes (λ v. map item_of v.items) IsNotEmpty (list_at (item_within levels) len (ahead self.old)) self.old self.new result }
+        ensures { Makes (each_of an_item) (list_at (item_within levels) len (ahead self.old)) self.old self.new result }
     {
         let mut items = Vec::new(alloc);
         let mut left = len;
@@ -119,7 +147,7 @@ impl<'a> Cursor<'a> {
         levels: u16,
     ) -> Result<Vec<(Value, Value)>, CborError>
         requires { IsInside self.old }
-        ensures { Makes (λ v. map pair_of v.items) IsNotEmpty (list_at (pair_by (item_within levels)) len (ahead self.old)) self.old self.new result }
+        ensures { Makes (each_of a_pair) (list_at (pair_by (item_within levels)) len (ahead self.old)) self.old self.new result }
     {
         let mut pairs = Vec::new(alloc);
         let mut left = len;
@@ -142,7 +170,7 @@ impl<'a> Cursor<'a> {
     ) -> Result<(Value, Value), CborError>
         requires inside { IsInside self.old }
         requires head { IsHead head }
-        ensures { Makes pair_of (λ m. Unit {0}) (pair_by (item_within levels) head (ahead self.old)) self.old self.new result }
+        ensures { Makes a_pair (pair_by (item_within levels) head (ahead self.old)) self.old self.new result }
     {
         let key = self.build_behind(alloc, head, levels)?;
         let value = self.build_item(alloc, levels)?;
@@ -152,7 +180,7 @@ impl<'a> Cursor<'a> {
     // Makes a text whose head was read. Its bytes are UTF-8, since its pieces are.
     fn build_text(&mut self, alloc: Global, len: Option<u64>) -> Result<String, CborError>
         requires { IsInside self.old }
-        ensures { Makes string_bytes (λ s. Unit {0}) (string_at true len (ahead self.old)) self.old self.new result }
+        ensures { Makes a_text (string_at true len (ahead self.old)) self.old self.new result }
     {
         let bytes = self.build_bytes(alloc, true, len)?;
         Ok(String::from_utf8(bytes).unwrap())
@@ -166,7 +194,7 @@ impl<'a> Cursor<'a> {
         len: Option<u64>,
     ) -> Result<Vec<u8>, CborError>
         requires { IsInside self.old }
-        ensures made { Makes (λ v. v.items) IsNotEmpty (string_at is_text len (ahead self.old)) self.old self.new result }
+        ensures made { Makes some_bytes (string_at is_text len (ahead self.old)) self.old self.new result }
         ensures stands { IfOk result (λ v. may_stand is_text v.items ≡ true) }
     {
         match len {
@@ -178,7 +206,7 @@ impl<'a> Cursor<'a> {
     // Makes the bytes of a string in one piece.
     fn build_piece(&mut self, alloc: Global, is_text: bool, len: u64) -> Result<Vec<u8>, CborError>
         requires { IsInside self.old }
-        ensures made { Makes (λ v. v.items) IsNotEmpty (piece_at is_text len (ahead self.old)) self.old self.new result }
+        ensures made { Makes some_bytes (piece_at is_text len (ahead self.old)) self.old self.new result }
         ensures stands { IfOk result (λ v. may_stand is_text v.items ≡ true) }
     {
         let mut bytes = Vec::new(alloc);
@@ -192,7 +220,7 @@ impl<'a> Cursor<'a> {
     // Makes the bytes of a string in chunks.
     fn build_chunks(&mut self, alloc: Global, is_text: bool) -> Result<Vec<u8>, CborError>
         requires { IsInside self.old }
-        ensures made { Makes (λ v. v.items) IsNotEmpty (string_at is_text None (ahead self.old)) self.old self.new result }
+        ensures made { Makes some_bytes (string_at is_text None (ahead self.old)) self.old self.new result }
         ensures stands { IfOk result (λ v. may_stand is_text v.items ≡ true) }
     {
         let mut bytes = Vec::new(alloc);

@@ -10,5 +10,5 @@ overflow_sub-self c =
 pub returns-in-Some : goal.returns-in-Some
 returns-in-Some c =
     let t = head_taken c.self.inside.bytes.now c.self.inside.place c.in-Some.head c.in-Some.rest.now c.self.invariant c.in-Some.ensures in
-    let one : c.saturating_add-self-inside.result ≤ c.self.inside.heads + 1 = omega (arith, c.saturating_add-self-inside.ensures) in
-    rw (← c.self.view_is) (head_read c.self.inside.bytes.now c.self.inside.place c.self.inside.heads c.saturating_add-self-inside.result c.in-Some.head c.in-Some.rest.now one t)
+    let one : c.saturating_add-self-inside.result ≤ c.self.inside.count.heads + 1 = omega (arith, c.saturating_add-self-inside.ensures) in
+    rw (← c.self.view_is) (head_read c.self.inside.bytes.now c.self.inside.place c.self.inside.count.heads c.saturating_add-self-inside.result c.self.inside.count.nodes c.in-Some.head c.in-Some.rest.now one t)

@@ -9,4 +9,4 @@ overflow_sub-self c =
 pub returns-in-Some : goal.returns-in-Some
 returns-in-Some c =
     let t = piece_taken c.args.is_text c.args.len c.self.inside.bytes.now c.self.inside.place c.in-Some.piece.now c.in-Some.rest.now c.self.invariant c.in-Some.ensures in
-    rw (← c.self.view_is) (piece_read c.args.is_text c.args.len c.self.inside.bytes.now c.self.inside.place c.self.inside.heads c.in-Some.piece.now c.in-Some.rest.now t)
+    rw (← c.self.view_is) (piece_read c.args.is_text c.args.len c.self.inside.bytes.now c.self.inside.place c.self.inside.count.heads c.self.inside.count.nodes c.in-Some.piece.now c.in-Some.rest.now t)

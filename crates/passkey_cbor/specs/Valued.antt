@@ -1,0 +1,38 @@
+-- What making the value of the item ahead answers.
+use Rattle.std.specs.Prelude.{◌≡◌, ℕ, ◌+◌, ◌*◌, ◌≤◌, Result, Ok, Err}
+use Rattle.passkey_cbor.specs.Item.{Item}
+use Rattle.passkey_cbor.specs.Nodes.{nodes}
+use Rattle.passkey_cbor.specs.Front.{IsFront}
+use Rattle.passkey_cbor.specs.Grows.{Grows}
+use Rattle.passkey_cbor.specs.View.{item_of}
+use Rattle.passkey_cbor.specs.Walk.{Walk, ahead, raised}
+use Rattle.passkey_cbor.specs.Skipped.{FindsNoFront}
+use Rattle.passkey_cbor.specs.declared.value.Value.{Value}
+use Rattle.passkey_cbor.specs.declared.error.CborError.{CborError}
+use Rattle.passkey_cbor.specs.declared.error.CborError.TheVariants as error
+
+-- The cursor passed the item ahead and made it, with at most two heads for each of its bytes; each item in it is counted.
+pub record MakesFront (old new : Walk) (x : Item) : Type 0 where
+  pub len : ℕ
+  pub front : IsFront (ahead old) x len
+  pub place : new.place ≡ old.place + len
+  pub heads : new.heads ≤ old.heads + 2 * len
+  pub nodes : new.nodes ≡ raised old.nodes (nodes x)
+  pub bytes : new.bytes ≡ old.bytes
+
+-- An item that takes memory stands ahead, and there was none; the cursor stays.
+pub record FindsNoMemory (old new : Walk) : Type 0 where
+  pub item : Item
+  pub len : ℕ
+  pub front : IsFront (ahead old) item len
+  pub grows : Grows item
+  pub place : new.place ≡ old.place
+  pub heads : new.heads ≤ old.heads + 2 * len
+  pub nodes : new.nodes ≤ old.nodes + nodes item
+  pub bytes : new.bytes ≡ old.bytes
+
+abbrev pub ReadsValue : Walk → Walk → Result Value CborError → Type 0
+ReadsValue old new (Ok v) = MakesFront old new (item_of v)
+ReadsValue old new (Err error.DecodeFailed) = FindsNoFront old new
+ReadsValue old new (Err error.OutOfMemory) = FindsNoMemory old new
+ReadsValue old new (Err error.OutOfRangeIntegerValue) = ⊥
