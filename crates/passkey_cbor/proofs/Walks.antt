@@ -1,14 +1,16 @@
 -- Going forward in bytes.
 use Rattle.std.proofs.Common.{◌≡◌, ℕ, suc, ◌+◌, ◌-◌, ◌<◌, ◌≤◌, Bool, true, false, cond, List, [], ◌++◌, length, take, drop, Option, Some, None, refl, sym, ap, ◌∙◌, arith, inl, inr}
+use Rattle.std.specs.Prelude.{IfNone}
 use Rattle.std.proofs.lemmas.List.{length-append, length-drop, drop-drop, drop_at, take_rest}
 use Rattle.passkey_cbor.specs.HeadReading.{◌>>=◌, head_at}
 use Rattle.passkey_cbor.specs.Reading.{end, element, step_at, is_break, may_stand, piece_at}
-use Rattle.passkey_cbor.specs.Walk.{Walk, ahead, IsInside, IsPlaced}
-use Rattle.passkey_cbor.specs.Steps.{IsHead, HeadRead, NoHead, ElementRead, EndRead, PieceRead}
+use Rattle.passkey_cbor.specs.Walk.{Walk, ahead, raised, IsInside, IsPlaced}
+use Rattle.passkey_cbor.specs.Found.{PassesHead, FindsNoHead, FindsHead}
+use Rattle.passkey_cbor.specs.Steps.{IsHead, ReadsHead, HeadRead, NoHead, ElementRead, EndRead, PieceRead}
 use Rattle.passkey_cbor.specs.HeadSpelling.{SpellsHead}
 use Rattle.passkey_cbor.specs.declared.head.Head.{Head}
 use Rattle.passkey_cbor.specs.declared.head.Head.TheVariants as head
-use Rattle.passkey_cbor.proofs.Binds.{bind_at, bind_none}
+use Rattle.passkey_cbor.proofs.Binds.{none_is_some, bind_at, bind_none}
 use Rattle.passkey_cbor.proofs.Numbers.{IsBytes-drop}
 use Rattle.passkey_cbor.proofs.HeadAgain.{head_again}
 use Rattle.passkey_cbor.proofs.HeadTakes.{head_takes}
@@ -165,3 +167,32 @@ piece_read is_text len bytes place heads nodes s u t = record {
   passed = record { same = refl; within = omega arith; forward = t.forward; heads = omega (arith, t.forward); nodes = refl };
   stands = t.stands;
 }
+
+-- ---- the head ahead, by its spelling
+
+pub head_passed : (a b : Walk) → IsPlaced a.bytes a.place → b.heads ≡ raised a.heads 1 → (h : Head) → HeadRead a b h → PassesHead a b h
+head_passed a b placed counted h r =
+    let t = head_takes (ahead a) h (ahead b) (IsBytes-drop a.place a.bytes placed.fits) r.reads in
+    let long : length b.bytes ≡ length a.bytes = ap length r.passed.same in
+    record {
+      text = t.text;
+      spelled = t.spelled;
+      parts = t.parts;
+      place = omega (arith, long, ap length t.parts, length-append t.text (ahead b), r.further, r.passed.within, placed.within, length-drop a.place a.bytes, length-drop b.place b.bytes);
+      heads = counted;
+      nodes = r.passed.nodes;
+      bytes = r.passed.same;
+    }
+
+pub head_missed : (a b : Walk) → b.heads ≡ raised a.heads 1 → b.place ≡ a.place → NoHead (head_at (ahead a)) a b → FindsNoHead a b
+head_missed a b counted stays n = record {
+  none = λ h text rest s e. none_is_some (h, rest) (sym n.reads ∙ ap head_at e ∙ head_again h text rest s);
+  place = stays;
+  heads = counted;
+  nodes = n.stopped.nodes;
+  bytes = n.stopped.same;
+}
+
+pub finds_head : (a b : Walk) (found : Option Head) → IsPlaced a.bytes a.place → b.heads ≡ raised a.heads 1 → IfNone found (b.place ≡ a.place) → ReadsHead a b found → FindsHead a b found
+finds_head a b (Some h) placed counted stays r = head_passed a b placed counted h r
+finds_head a b None placed counted stays r = head_missed a b counted stays r

@@ -21,6 +21,7 @@ pub mod HeadReading
 pub mod Reading
 pub mod Walk
 pub mod Steps
+pub mod Found
 pub mod Skipped
 pub mod Building
 pub mod Valued

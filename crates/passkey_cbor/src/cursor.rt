@@ -1,6 +1,7 @@
 //! A cursor over lent bytes, which decodes head by head and counts the heads.
-ghost use Rattle.std.specs.Prelude.{◌≡◌, ◌+◌, ◌≤◌, min, option_map};
-ghost use Rattle.passkey_cbor.specs.Walk.{ahead, IsInside};
+ghost use Rattle.std.specs.Prelude.{◌≡◌, ◌+◌, ◌≤◌, min, option_map, IfNone};
+ghost use Rattle.passkey_cbor.specs.Walk.{ahead, raised, IsInside};
+ghost use Rattle.passkey_cbor.specs.Found.{FindsHead};
 ghost use Rattle.passkey_cbor.specs.Steps.{ReadsHead, ReadsStep, ReadsPiece};
 ghost use Rattle.passkey_cbor.specs.Reading.{may_stand, piece_at, chunk};
 
@@ -81,9 +82,20 @@ impl<'a> Cursor<'a> {
         self.count.nodes = self.count.nodes.saturating_add(count.nodes);
     }
 
-    /// The head at the place, and on behind it. A head is counted, also where none stands.
-    pub(crate) fn head(&mut self) -> Option<Head>
-        ensures { ReadsHead self.old self.new result }
+    /// The head at the place, and on behind it; none where no whole, well-formed head stands there,
+    /// and then the cursor stays. One head is counted either way. (RFC 8949, section 3.)
+    pub fn head(&mut self) -> Option<Head>
+        ensures { FindsHead self.old self.new result }
+    {
+        let _bytes = self.bytes;
+        self.decode()
+    }
+
+    // The head at the place, as reading finds it.
+    pub(crate) fn decode(&mut self) -> Option<Head>
+        ensures reads { ReadsHead self.old self.new result }
+        ensures counted { self.new.heads ≡ raised self.old.heads 1 }
+        ensures stays { IfNone result (self.new.place ≡ self.old.place) }
     {
         self.count.heads = self.count.heads.saturating_add(1);
         let bytes = self.bytes;
@@ -109,12 +121,12 @@ impl<'a> Cursor<'a> {
                     return Next::End;
                 }
                 *left = Some(n - 1);
-                match self.head() {
+                match self.decode() {
                     None => Next::Malformed,
                     Some(head) => Next::Element(head),
                 }
             }
-            None => match self.head() {
+            None => match self.decode() {
                 None => Next::Malformed,
                 Some(head) => {
                     if head.is_break() {

@@ -62,7 +62,7 @@ impl<'a> Cursor<'a> {
         requires { IsInside self.old }
         ensures { Makes an_item (start (item_within levels) (ahead self.old)) self.old self.new result }
     {
-        match self.head() {
+        match self.decode() {
             None => Err(CborError::DecodeFailed),
             Some(head) => self.build_behind(alloc, head, levels),
         }

@@ -21,7 +21,7 @@ pub(crate) enum Entry {
 
 impl<'a> Cursor<'a> {
     /// Passes the item at the place, of at most 256 levels, or stays where none stands.
-    pub(crate) fn skip(&mut self) -> bool
+    pub fn skip(&mut self) -> bool
         ensures { SkipsFront self.old self.new result }
     {
         let place = self.place;
@@ -38,7 +38,7 @@ impl<'a> Cursor<'a> {
         requires { IsInside self.old }
         ensures { Skips (start (item_within levels) (ahead self.old)) self.old self.new result }
     {
-        match self.head() {
+        match self.decode() {
             None => false,
             Some(head) => self.skip_behind(head, levels),
         }

@@ -112,10 +112,10 @@ pub build_behind-returns : goal.build_behind-returns
 build_behind-returns t c = counted_once (item_within c.args.levels c.args.head (ahead c.args.self.now)) c.args.self.now c.add.new.self c.build_inside.new.self c.build_inside.result c.add.ensures (subst (λ (bytes : List ℕ). Makes a_counted_item (item_within c.args.levels c.args.head bytes) c.add.new.self c.build_inside.new.self c.build_inside.result) (ap ahead c.add.ensures) c.build_inside.ensures)
 
 pub build_item-returns-in-None : goal.build_item-returns-in-None
-build_item-returns-in-None t c = makes_nothing an_item _ c.args.self.now c.head.new.self _ (went_stopped c.args.self.now c.head.new.self c.in-None.ensures.stopped) (bind_none (head_at (ahead c.args.self.now)) (λ h. item_within c.args.levels h.0 h.1) c.in-None.ensures.reads)
+build_item-returns-in-None t c = makes_nothing an_item _ c.args.self.now c.decode.new.self _ (went_stopped c.args.self.now c.decode.new.self c.in-None.ensures.reads.stopped) (bind_none (head_at (ahead c.args.self.now)) (λ h. item_within c.args.levels h.0 h.1) c.in-None.ensures.reads.reads)
 
 pub build_item-returns-in-Some : goal.build_item-returns-in-Some
-build_item-returns-in-Some t c = makes_after an_item (item_within c.args.levels c.in-Some.head (ahead c.head.new.self)) _ c.args.self.now c.head.new.self c.build_behind.new.self c.build_behind.result c.in-Some.ensures.passed (bind_at (head_at (ahead c.args.self.now)) (c.in-Some.head, ahead c.head.new.self) (λ h. item_within c.args.levels h.0 h.1) c.in-Some.ensures.reads) c.build_behind.ensures
+build_item-returns-in-Some t c = makes_after an_item (item_within c.args.levels c.in-Some.head (ahead c.decode.new.self)) _ c.args.self.now c.decode.new.self c.build_behind.new.self c.build_behind.result c.in-Some.ensures.reads.passed (bind_at (head_at (ahead c.args.self.now)) (c.in-Some.head, ahead c.decode.new.self) (λ h. item_within c.args.levels h.0 h.1) c.in-Some.ensures.reads.reads) c.build_behind.ensures
 
 pub build_items-loop-items-init : goal.build_items-loop-items-init
 build_items-loop-items-init t c = gathers_start (item_within c.args.levels) an_item.size c.args.len c.args.self.now _ c.requires (rw c.new-items.ensures.items refl)

@@ -1,14 +1,9 @@
-use Rattle.std.proofs.Common.{◌≤◌, ◌+◌, arith}
-use Rattle.passkey_cbor.proofs.Walks.{head_taken, head_read}
+use Rattle.std.proofs.Common.{subst}
+use Rattle.passkey_cbor.specs.Walk.{Walk, IsPlaced}
+use Rattle.passkey_cbor.proofs.Walks.{finds_head}
 use Rattle.passkey_cbor.proofs.cursor.Cursor.head.Goals as goal
 
-pub overflow_sub-self : goal.overflow_sub-self
-overflow_sub-self c =
-    let t = head_taken c.self.inside.bytes.now c.self.inside.place c.in-Some.head c.in-Some.rest.now c.self.invariant c.in-Some.ensures in
-    t.shorter
-
-pub returns-in-Some : goal.returns-in-Some
-returns-in-Some c =
-    let t = head_taken c.self.inside.bytes.now c.self.inside.place c.in-Some.head c.in-Some.rest.now c.self.invariant c.in-Some.ensures in
-    let one : c.saturating_add-self-inside.result ≤ c.self.inside.count.heads + 1 = omega (arith, c.saturating_add-self-inside.ensures) in
-    rw (← c.self.view_is) (head_read c.self.inside.bytes.now c.self.inside.place c.self.inside.count.heads c.saturating_add-self-inside.result c.self.inside.count.nodes c.in-Some.head c.in-Some.rest.now one t)
+pub returns : goal.returns
+returns c =
+    let placed : IsPlaced c.args.self.now.bytes c.args.self.now.place = subst (λ (w : Walk). IsPlaced w.bytes w.place) c.self.view_is c.self.invariant in
+    finds_head c.args.self.now c.decode.new.self c.decode.result placed c.decode.ensures.counted c.decode.ensures.stays c.decode.ensures.reads

@@ -1,0 +1,27 @@
+-- What decoding the head ahead answers (RFC 8949, section 3).
+use Rattle.std.specs.Prelude.{◌≡◌, ℕ, ◌+◌, List, ◌++◌, length, Option, Some, None}
+use Rattle.passkey_cbor.specs.HeadSpelling.{SpellsHead}
+use Rattle.passkey_cbor.specs.Walk.{Walk, ahead, raised}
+use Rattle.passkey_cbor.specs.declared.head.Head.{Head}
+
+-- The cursor passed the head ahead, and counted it.
+pub record PassesHead (old new : Walk) (h : Head) : Type 0 where
+  pub text : List ℕ
+  pub spelled : SpellsHead h text
+  pub parts : ahead old ≡ text ++ ahead new
+  pub place : new.place ≡ old.place + length text
+  pub heads : new.heads ≡ raised old.heads 1
+  pub nodes : new.nodes ≡ old.nodes
+  pub bytes : new.bytes ≡ old.bytes
+
+-- No whole, well-formed head stands ahead; one was counted all the same, and the cursor stays.
+pub record FindsNoHead (old new : Walk) : Type 0 where
+  pub none : (h : Head) (text rest : List ℕ) → SpellsHead h text → ahead old ≡ text ++ rest → ⊥
+  pub place : new.place ≡ old.place
+  pub heads : new.heads ≡ raised old.heads 1
+  pub nodes : new.nodes ≡ old.nodes
+  pub bytes : new.bytes ≡ old.bytes
+
+abbrev pub FindsHead : Walk → Walk → Option Head → Type 0
+FindsHead old new (Some h) = PassesHead old new h
+FindsHead old new None = FindsNoHead old new
