@@ -4,7 +4,7 @@ use Rattle.std.proofs.Common.{Vec, Global}
 use Rattle.std.specs.List.{concat}
 use Rattle.std.proofs.lemmas.List.{append-nil}
 use Rattle.std.proofs.lemmas.Str.{IsUtf8-nil, IsUtf8-append, IsUtf8-from_is_utf8, is_utf8-from_IsUtf8}
-use Rattle.passkey_cbor.specs.HeadReading.{◌>>=◌, Read}
+use Rattle.passkey_cbor.specs.HeadReading.{Read}
 use Rattle.passkey_cbor.specs.Reading.{chunk, may_stand, step_at, list_at, string_at}
 use Rattle.passkey_cbor.specs.Walk.{Walk, ahead, raised, IsInside}
 use Rattle.passkey_cbor.specs.Steps.{NoHead, ElementRead, EndRead, PieceRead}

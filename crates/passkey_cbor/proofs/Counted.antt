@@ -1,15 +1,15 @@
 -- How many items are made.
-use Rattle.std.proofs.Common.{◌≡◌, ◌⊎◌, ℕ, zero, suc, ◌+◌, ◌-◌, ◌<◌, ◌≤◌, min, ◌^◌, List, [], ◌∷◌, length, Some, Result, Ok, Err, refl, sym, ap, subst, ◌∙◌, arith, inl, inr}
+use Rattle.std.proofs.Common.{◌≡◌, ◌⊎◌, ℕ, ◌+◌, ◌-◌, ◌<◌, ◌≤◌, min, ◌^◌, List, [], ◌∷◌, length, Result, Ok, Err, refl, ap, ◌∙◌, arith, inl, inr}
 use Rattle.std.proofs.lemmas.Bool.{cases_eq, cases_lt, lt-ltb, le-ltb, ne_eqb}
 use Rattle.passkey_cbor.specs.Item.{Item, number, byte_string, text_string, array, map, tagged, boolean, null, simple, float, items_of, pairs_of}
 use Rattle.passkey_cbor.specs.Nodes.{nodes, items_nodes, pairs_nodes}
 use Rattle.passkey_cbor.specs.HeadReading.{Read}
 use Rattle.passkey_cbor.specs.Reading.{simple_item}
 use Rattle.passkey_cbor.specs.Walk.{Walk, ahead, raised}
-use Rattle.passkey_cbor.specs.Building.{total, an_item, a_counted_item, a_pair, Went, Made, Makes}
+use Rattle.passkey_cbor.specs.Building.{total, an_item, a_counted_item, a_pair, Made, Makes}
 use Rattle.passkey_cbor.specs.declared.value.Value.{Value}
 use Rattle.passkey_cbor.specs.declared.error.CborError.{CborError}
-use Rattle.passkey_cbor.proofs.Gathering.{went_then, fails_within, raised-raised}
+use Rattle.passkey_cbor.proofs.Gathering.{fails_within, raised-raised}
 
 nodes-pos : (x : Item) → 1 ≤ nodes x
 nodes-pos (number z) = omega arith

@@ -1,16 +1,16 @@
 -- Making values of what is read: one after the other, and the elements of a list.
-use Rattle.std.proofs.Common.{◌≡◌, ℕ, zero, suc, ◌+◌, ◌-◌, ◌<◌, ◌≤◌, min, List, [], ◌∷◌, ◌++◌, length, map, drop, Option, Some, None, Result, Ok, Err, refl, sym, ap, subst, ◌∙◌, append_assoc, arith}
+use Rattle.std.proofs.Common.{◌≡◌, ℕ, zero, suc, ◌+◌, ◌-◌, ◌<◌, ◌≤◌, List, [], ◌∷◌, ◌++◌, length, map, Option, Some, None, Result, Ok, Err, refl, sym, ap, subst, ◌∙◌, append_assoc, arith}
 use Rattle.std.proofs.Common.{Vec, Global}
 use Rattle.std.proofs.lemmas.List.{append-nil, length-drop, map-append}
-use Rattle.passkey_cbor.specs.HeadReading.{◌>>=◌, Read, head_at}
-use Rattle.passkey_cbor.specs.Reading.{Reader, Step, end, element, start, step_at, after_step, list_by, list_at}
+use Rattle.passkey_cbor.specs.HeadReading.{◌>>=◌, Read}
+use Rattle.passkey_cbor.specs.Reading.{Reader, Step, end, element, step_at, after_step, list_by, list_at}
 use Rattle.passkey_cbor.specs.Walk.{Walk, ahead, raised, IsInside, Passed, Stopped}
-use Rattle.passkey_cbor.specs.Steps.{HeadRead, NoHead, ElementRead, EndRead}
+use Rattle.passkey_cbor.specs.Steps.{NoHead, ElementRead, EndRead}
 use Rattle.passkey_cbor.specs.Building.{IsNotEmpty, total, Making, each_of, Went, Made, Makes}
 use Rattle.passkey_cbor.specs.declared.head.Head.{Head}
 use Rattle.passkey_cbor.specs.declared.error.CborError.{CborError}
 use Rattle.passkey_cbor.specs.declared.error.CborError.TheVariants as error
-use Rattle.passkey_cbor.proofs.Binds.{some_is, none_is_some, bind_some, bind_at}
+use Rattle.passkey_cbor.proofs.Binds.{some_is, none_is_some, bind_some}
 use Rattle.passkey_cbor.proofs.Shrinking.{Shrinks, list_left}
 
 -- ---- where the cursor goes

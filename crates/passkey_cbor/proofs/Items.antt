@@ -4,10 +4,11 @@ use Rattle.std.proofs.lemmas.Bool.{cases_eq, cases_lt, lt-ltb, le-ltb, ne_eqb}
 use Rattle.std.proofs.lemmas.List.{append-nil}
 use Rattle.passkey_cbor.specs.Item.{Item, number, byte_string, text_string, array, map, tagged, boolean, null, simple, float, Items, no_items, item, Pairs, no_pairs, pair, elements, members, items_of, pairs_of}
 use Rattle.passkey_cbor.specs.Depth.{depth, items_depth, pairs_depth}
-use Rattle.passkey_cbor.specs.Languages.{Language, Is, Then, Where, Each}
+use Rattle.passkey_cbor.specs.Languages.{Language, Is, Then, Each}
 use Rattle.passkey_cbor.specs.Heads.{Heads}
 use Rattle.passkey_cbor.specs.Spelling.{Listed, Spells, SpellsItems, SpellsPairs, items_len, pairs_len}
 use Rattle.passkey_cbor.specs.HeadSpelling.{LengthHeads, SimpleHeads, SpellsHead}
+use Rattle.passkey_cbor.specs.Inside.{Within, PairWithin, Left}
 use Rattle.passkey_cbor.specs.HeadReading.{◌>>=◌, head_at}
 use Rattle.passkey_cbor.specs.Reading.{Reader, start, is_break, list_at, string_at, simple_item, pair_by, item_by, item_within}
 use Rattle.passkey_cbor.specs.declared.head.Head.{Head}
@@ -15,15 +16,8 @@ use Rattle.passkey_cbor.specs.declared.head.Head.TheVariants as head
 use Rattle.passkey_cbor.proofs.Binds.{some_is, none_is_some, bind_some, bind_at}
 use Rattle.passkey_cbor.proofs.Numbers.{IsBytes}
 use Rattle.passkey_cbor.proofs.HeadTakes.{Took, took_as, head_takes}
-use Rattle.passkey_cbor.proofs.Lists.{Follows, Left, list_at_again, list_takes}
+use Rattle.passkey_cbor.proofs.Lists.{Follows, list_at_again, list_takes}
 use Rattle.passkey_cbor.proofs.Strings.{Headed, starts, took_behind, string_again, string_takes, string_headed, headed_string}
-
--- an item of at most so many levels
-abbrev pub Within : ℕ → Item → Language
-Within levels x = Where (depth x ≤ levels) (Spells x)
-
-abbrev pub PairWithin : ℕ → Item × Item → Language
-PairWithin levels m = Then (Within levels m.0) (Within levels m.1)
 
 -- ---- the items of an array, and the pairs of a map, one after the other
 
@@ -35,11 +29,11 @@ pub pairs_of-members : (ps : Pairs) → pairs_of (members ps) ≡ ps
 pairs_of-members no_pairs = refl
 pairs_of-members (pair k v ps) = ap (pair k v) (pairs_of-members ps)
 
-length-elements : (xs : Items) → items_len xs ≡ length (elements xs)
+pub length-elements : (xs : Items) → items_len xs ≡ length (elements xs)
 length-elements no_items = refl
 length-elements (item x xs) = ap suc (length-elements xs)
 
-length-members : (ps : Pairs) → pairs_len ps ≡ length (members ps)
+pub length-members : (ps : Pairs) → pairs_len ps ≡ length (members ps)
 length-members no_pairs = refl
 length-members (pair k v ps) = ap suc (length-members ps)
 
@@ -51,7 +45,7 @@ pairs_len-pairs_of : (ms : List (Item × Item)) → length ms ≡ pairs_len (pai
 pairs_len-pairs_of [] = refl
 pairs_len-pairs_of (m ∷ ms) = ap suc (pairs_len-pairs_of ms)
 
-each_element : (levels : ℕ) (xs : Items) (t : List ℕ) → items_depth xs ≤ levels → SpellsItems xs t → Each (Within levels) (elements xs) t
+pub each_element : (levels : ℕ) (xs : Items) (t : List ℕ) → items_depth xs ≤ levels → SpellsItems xs t → Each (Within levels) (elements xs) t
 each_element levels no_items t deep s = s
 each_element levels (item x xs) t deep s = record {
   front = s.front;
@@ -61,7 +55,7 @@ each_element levels (item x xs) t deep s = record {
   whole = s.whole;
 }
 
-each_member : (levels : ℕ) (ps : Pairs) (t : List ℕ) → pairs_depth ps ≤ levels → SpellsPairs ps t → Each (PairWithin levels) (members ps) t
+pub each_member : (levels : ℕ) (ps : Pairs) (t : List ℕ) → pairs_depth ps ≤ levels → SpellsPairs ps t → Each (PairWithin levels) (members ps) t
 each_member levels no_pairs t deep s = s
 each_member levels (pair k v ps) t deep s =
     let m = s.first in
@@ -96,7 +90,7 @@ members_spelled levels (m ∷ ms) t s =
 
 -- ---- the two spellings of a list are those of its head and what is behind it
 
-listed_headed : {A : Type 0} (major count : ℕ) (P : A → Language) (xs : List A) (Inside : Language) (t : List ℕ) → count ≡ length xs → ((s : List ℕ) → Inside s → Each P xs s) → Listed major count Inside t → Headed major (λ len. Left P len xs) t
+pub listed_headed : {A : Type 0} (major count : ℕ) (P : A → Language) (xs : List A) (Inside : Language) (t : List ℕ) → count ≡ length xs → ((s : List ℕ) → Inside s → Each P xs s) → Listed major count Inside t → Headed major (λ len. Left P len xs) t
 listed_headed major count P xs Inside t size each (inl p) =
     record { len = Some count; parts = record { front = p.front; back = p.back; first = p.first; second = (size, each p.back p.second); whole = p.whole } }
 listed_headed major count P xs Inside t size each (inr p) =
@@ -154,10 +148,10 @@ follows_pair P read f = record {
 
 -- ---- simple values
 
-low_simple : (n : ℕ) → n < 20 → simple_item n ≡ simple n
+pub low_simple : (n : ℕ) → n < 20 → simple_item n ≡ simple n
 low_simple n lt = rw (lt-ltb n 20 lt) refl
 
-high_simple : (n : ℕ) → 32 ≤ n → simple_item n ≡ simple n
+pub high_simple : (n : ℕ) → 32 ≤ n → simple_item n ≡ simple n
 high_simple n le =
     rw (le-ltb n 20 (omega arith), ne_eqb n 20 (λ (q : n ≡ 20). omega arith), ne_eqb n 21 (λ (q : n ≡ 21). omega arith), le-ltb n 24 (omega arith)) refl
 

@@ -21,3 +21,5 @@ pub mod Chunks
 pub mod Valuing
 pub mod Shrinking
 pub mod Counted
+pub mod Standing
+pub mod More

@@ -1,8 +1,9 @@
 -- Lists of elements: read from what spells them, and spelled by what was read.
 use Rattle.std.proofs.Common.{◌≡◌, ℕ, zero, suc, ◌<◌, ◌≤◌, Bool, true, false, cond, List, [], ◌∷◌, ◌++◌, length, Option, Some, None, refl, sym, ap, subst, ◌∙◌, append_assoc, arith}
 use Rattle.std.proofs.lemmas.List.{length-append}
-use Rattle.passkey_cbor.specs.Languages.{Language, Is, Then, Where, Each}
+use Rattle.passkey_cbor.specs.Languages.{Language, Each}
 use Rattle.passkey_cbor.specs.Heads.{break}
+use Rattle.passkey_cbor.specs.Inside.{Left}
 use Rattle.passkey_cbor.specs.HeadReading.{◌>>=◌, Read, head_at}
 use Rattle.passkey_cbor.specs.Reading.{Reader, start, is_break, Step, end, element, step_at, after_step, list_by, list_at}
 use Rattle.passkey_cbor.specs.declared.head.Head.{Head}
@@ -17,11 +18,6 @@ pub record Follows {A : Type 0} (P : A → Language) (read : Reader A) : Type 0 
   pub again : (x : A) (t u : List ℕ) → P x t → start read (t ++ u) ≡ Some (x, u)
   pub takes : (x : A) (bytes u : List ℕ) → IsBytes bytes → start read bytes ≡ Some (x, u) → Took (P x) bytes u
   pub no_break : (h : Head) (bytes : List ℕ) (y : A × List ℕ) → read h bytes ≡ Some y → is_break h ≡ false
-
--- what is left of a list: as many as there are, or all of them and a break
-abbrev pub Left : {A : Type 0} → (A → Language) → Option ℕ → List A → Language
-Left P (Some n) xs = Where (n ≡ length xs) (Each P xs)
-Left P None xs = Then (Each P xs) (Is (break ∷ []))
 
 -- ---- reading what is spelled
 

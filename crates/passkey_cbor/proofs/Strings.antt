@@ -1,12 +1,12 @@
 -- Strings, in one piece or in chunks: read from what spells them, and spelled by what was read.
-use Rattle.std.proofs.Common.{◌≡◌, ℕ, suc, Bool, true, false, cond, List, [], ◌∷◌, ◌++◌, length, Option, Some, None, refl, sym, ap, subst, ◌∙◌, append_assoc, inl, inr}
+use Rattle.std.proofs.Common.{◌≡◌, ℕ, suc, Bool, true, false, cond, List, ◌++◌, length, Option, Some, None, refl, sym, ap, subst, ◌∙◌, append_assoc, inl, inr}
 use Rattle.std.specs.List.{concat}
-use Rattle.std.specs.Str.{IsUtf8}
 use Rattle.std.proofs.lemmas.Str.{IsUtf8-from_is_utf8, is_utf8-from_IsUtf8}
-use Rattle.passkey_cbor.specs.Languages.{Language, Is, Then, Where}
-use Rattle.passkey_cbor.specs.Heads.{Heads, break}
-use Rattle.passkey_cbor.specs.Spelling.{Definite, Chunks, Strings, IsAny}
+use Rattle.passkey_cbor.specs.Languages.{Language, Then}
+use Rattle.passkey_cbor.specs.Heads.{Heads}
+use Rattle.passkey_cbor.specs.Spelling.{Definite, Strings}
 use Rattle.passkey_cbor.specs.HeadSpelling.{LengthHeads, SpellsHead}
+use Rattle.passkey_cbor.specs.Inside.{MayStand, major_type, Content}
 use Rattle.passkey_cbor.specs.HeadReading.{take_at as taken_at, head_at}
 use Rattle.passkey_cbor.specs.Reading.{Reader, start, is_break, list_at, may_stand, piece_at, chunk_len, chunk, string_at}
 use Rattle.passkey_cbor.specs.declared.head.Head.{Head}
@@ -17,22 +17,9 @@ use Rattle.passkey_cbor.proofs.HeadAgain.{head_again}
 use Rattle.passkey_cbor.proofs.HeadTakes.{Took, took_as, head_takes}
 use Rattle.passkey_cbor.proofs.Lists.{Follows, list_at_again, list_takes}
 
-abbrev pub MayStand : Bool → List ℕ → Type 0
-MayStand false = IsAny
-MayStand true = IsUtf8
-
-abbrev pub major_type : Bool → ℕ
-major_type false = 2
-major_type true = 3
-
 abbrev pub string_head : Bool → Option ℕ → Head
 string_head false len = head.Bytes len
 string_head true len = head.Text len
-
--- a string behind its head
-abbrev pub Content : Bool → Option ℕ → List ℕ → Language
-Content is_text (Some n) s = Where ((n ≡ length s) × MayStand is_text s) (Is s)
-Content is_text None s = Then (Chunks (MayStand is_text) (major_type is_text) s) (Is (break ∷ []))
 
 -- ---- a reading that begins with a head
 

@@ -1,14 +1,14 @@
 -- Making the item ahead: passing over it, going back and making it.
-use Rattle.std.proofs.Common.{◌≡◌, ℕ, ◌+◌, ◌-◌, ◌*◌, ◌≤◌, List, [], ◌∷◌, drop, length, Some, Result, Ok, Err, sym, ap, subst, ◌∙◌, arith}
+use Rattle.std.proofs.Common.{◌≡◌, ℕ, ◌+◌, ◌*◌, ◌≤◌, List, [], ◌∷◌, drop, length, Some, Result, Ok, Err, sym, ap, subst, ◌∙◌, arith}
 use Rattle.std.proofs.lemmas.List.{length-drop}
 use Rattle.passkey_cbor.specs.Item.{Item, byte_string, array, map, items_of, pairs_of}
 use Rattle.passkey_cbor.specs.Nodes.{nodes}
-use Rattle.passkey_cbor.specs.Front.{max_depth, IsFront, HasNoFront}
+use Rattle.passkey_cbor.specs.Front.{max_depth}
 use Rattle.passkey_cbor.specs.Reading.{start, item_within}
 use Rattle.passkey_cbor.specs.Walk.{Walk, ahead, raised}
 use Rattle.passkey_cbor.specs.Skipped.{PassesFront}
 use Rattle.passkey_cbor.specs.Building.{IsNotEmpty, Made, Makes, an_item}
-use Rattle.passkey_cbor.specs.Valued.{MakesFront, FindsNoMemory, ReadsValue}
+use Rattle.passkey_cbor.specs.Valued.{MakesFront, ReadsValue}
 use Rattle.passkey_cbor.specs.Grows.{Grows}
 use Rattle.passkey_cbor.specs.View.{item_of}
 use Rattle.passkey_cbor.specs.declared.value.Value.{Value}

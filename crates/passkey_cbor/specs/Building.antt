@@ -1,5 +1,5 @@
 -- What the calls of a cursor that make values answer, in terms of reading what is ahead.
-use Rattle.std.specs.Prelude.{◌≡◌, ℕ, zero, suc, ◌+◌, ◌-◌, ◌≤◌, List, [], ◌∷◌, length, map, Some, Result, Ok, Err, Vec, String, string_bytes}
+use Rattle.std.specs.Prelude.{◌≡◌, ℕ, ◌+◌, ◌-◌, ◌≤◌, List, [], ◌∷◌, length, map, Some, Result, Ok, Err, Vec, String, string_bytes}
 use Rattle.std.specs.Global.{Global}
 use Rattle.passkey_cbor.specs.Item.{Item}
 use Rattle.passkey_cbor.specs.Nodes.{nodes}

@@ -19,9 +19,11 @@ pub mod Laws
 pub mod HeadSpelling
 pub mod HeadReading
 pub mod Reading
+pub mod Inside
 pub mod Walk
 pub mod Steps
 pub mod Found
 pub mod Skipped
 pub mod Building
 pub mod Valued
+pub mod Stands

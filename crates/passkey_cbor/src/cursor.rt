@@ -1,7 +1,9 @@
 //! A cursor over lent bytes, which decodes head by head and counts the heads.
-ghost use Rattle.std.specs.Prelude.{◌≡◌, ◌+◌, ◌≤◌, min, option_map, IfNone};
+ghost use Rattle.std.specs.Prelude.{◌≡◌, ℕ, ◌+◌, ◌≤◌, min, option_map, IfNone};
 ghost use Rattle.passkey_cbor.specs.Walk.{ahead, raised, IsInside};
 ghost use Rattle.passkey_cbor.specs.Found.{FindsHead};
+ghost use Rattle.passkey_cbor.specs.Item.{Item};
+ghost use Rattle.passkey_cbor.specs.Stands.{Stands, Opens, WalksOn};
 ghost use Rattle.passkey_cbor.specs.Steps.{ReadsHead, ReadsStep, ReadsPiece};
 ghost use Rattle.passkey_cbor.specs.Reading.{may_stand, piece_at, chunk};
 
@@ -85,10 +87,42 @@ impl<'a> Cursor<'a> {
     /// The head at the place, and on behind it; none where no whole, well-formed head stands there,
     /// and then the cursor stays. One head is counted either way. (RFC 8949, section 3.)
     pub fn head(&mut self) -> Option<Head>
-        ensures { FindsHead self.old self.new result }
+        ensures found { FindsHead self.old self.new result }
+
+        // Where an item stands, this is its head, and what follows it in the item lies ahead.
+        ensures opens { (x : Item) (to : ℕ) → Stands x self.old.bytes self.old.place to → Opens x to self.new result }
     {
         let _bytes = self.bytes;
         self.decode()
+    }
+
+    /// Whether elements are left of an array or a map whose head said `left`; each answer of true
+    /// takes one off. Where the head said no length, a break ends them, and is passed; to see it one
+    /// head is counted. Else the cursor stays. (RFC 8949, section 3.2.2.)
+    pub fn more(&mut self, left: &mut Option<u64>) -> bool
+        ensures { WalksOn left.old left.new self.old self.new result }
+    {
+        let place = self.place;
+        let known = *left;
+        match known {
+            Some(n) => {
+                if n == 0 {
+                    return false;
+                }
+                *left = Some(n - 1);
+                true
+            }
+            None => match self.decode() {
+                None => true,
+                Some(head) => {
+                    if head.is_break() {
+                        return false;
+                    }
+                    self.go_back(place);
+                    true
+                }
+            },
+        }
     }
 
     // The head at the place, as reading finds it.

@@ -10,6 +10,8 @@ ghost use Rattle.passkey_cbor.specs.Grows.{Grows};
 ghost use Rattle.passkey_cbor.specs.View.{item_of, pair_of};
 ghost use Rattle.passkey_cbor.specs.Reads.{ReadsFront};
 ghost use Rattle.passkey_cbor.specs.Valued.{ReadsValue};
+ghost use Rattle.passkey_cbor.specs.Stands.{Stands, Values};
+ghost use Rattle.passkey_cbor.specs.Item.{Item};
 
 use crate::count::Count;
 use crate::cursor::{Cursor, MAX_DEPTH, Next};
@@ -40,7 +42,10 @@ impl<'a> Cursor<'a> {
     /// such item stands there, and `OutOfMemory` only where one does that takes memory: then the
     /// cursor stays. Each item that is made counts one node.
     pub fn value(&mut self, alloc: Global) -> Result<Value, CborError>
-        ensures { ReadsValue self.old self.new result }
+        ensures front { ReadsValue self.old self.new result }
+
+        // Where an item stands, it makes that item.
+        ensures values { (x : Item) (to : ℕ) → Stands x self.old.bytes self.old.place to → Values x to self.old self.new result }
     {
         let place = self.place;
         if !self.skip() {

@@ -1,9 +1,10 @@
 //! Passing over items without making them.
-ghost use Rattle.std.specs.Prelude.{MatchOption};
+ghost use Rattle.std.specs.Prelude.{ℕ, MatchOption};
 ghost use Rattle.passkey_cbor.specs.Walk.{ahead, IsInside};
 ghost use Rattle.passkey_cbor.specs.Reading.{start, string_at, item_within, list_at};
 ghost use Rattle.passkey_cbor.specs.Steps.{Skips, entry_by};
 ghost use Rattle.passkey_cbor.specs.Skipped.{SkipsFront};
+ghost use Rattle.passkey_cbor.specs.Stands.{Stands, Passes};
 ghost use Rattle.passkey_cbor.specs.Item.{Item};
 ghost use Rattle.passkey_cbor.specs.Front.{IsFront, HasNoFront};
 
@@ -22,7 +23,10 @@ pub(crate) enum Entry {
 impl<'a> Cursor<'a> {
     /// Passes the item at the place, of at most 256 levels, or stays where none stands.
     pub fn skip(&mut self) -> bool
-        ensures { SkipsFront self.old self.new result }
+        ensures front { SkipsFront self.old self.new result }
+
+        // Where an item stands, it passes that item.
+        ensures passes { (x : Item) (to : ℕ) → Stands x self.old.bytes self.old.place to → Passes to self.old self.new result }
     {
         let place = self.place;
         let found = self.skip_item(MAX_DEPTH);

@@ -1,4 +1,4 @@
-use Rattle.std.proofs.Common.{◌≡◌, ◌-◌, ℕ, List, subst, refl, ap, ◌∙◌, false, true, arith}
+use Rattle.std.proofs.Common.{◌-◌, ℕ, List, subst, refl, ap, ◌∙◌, false, true, arith}
 use Rattle.std.specs.Prelude.{pos, negsuc}
 use Rattle.std.proofs.lemmas.Result.{err_from_is_err_and}
 use Rattle.passkey_cbor.specs.Item.{number, byte_string, text_string, array, map, tagged, float, items_of, pairs_of}

@@ -1,4 +1,4 @@
-use Rattle.std.proofs.Common.{◌<◌, refl, length, arith}
+use Rattle.std.proofs.Common.{◌<◌, length, arith}
 use Rattle.std.proofs.lemmas.Result.{err_from_is_err_and}
 use Rattle.passkey_cbor.proofs.Chunks.{joins_start, may_stand-more, may_stand-nil, joins_more, joins_malformed, joins_no_chunk, joins_full, joins_end}
 use Rattle.passkey_cbor.proofs.cursor.Cursor.build_chunks.Goals as goal
