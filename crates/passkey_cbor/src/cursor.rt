@@ -1,6 +1,6 @@
 //! A cursor over lent bytes, which decodes head by head and counts the heads.
 ghost use Rattle.std.specs.Prelude.{◌≡◌, ℕ, ◌+◌, ◌≤◌, min, option_map, IfNone};
-ghost use Rattle.passkey_cbor.specs.Walk.{ahead, raised, IsInside};
+ghost use Rattle.passkey_cbor.specs.Walk.{ahead, raised, IsInside, IsPlaced};
 ghost use Rattle.passkey_cbor.specs.Found.{FindsHead};
 ghost use Rattle.passkey_cbor.specs.Item.{Item};
 ghost use Rattle.passkey_cbor.specs.Stands.{Stands, Opens, WalksOn};
@@ -92,7 +92,6 @@ impl<'a> Cursor<'a> {
         // Where an item stands, this is its head, and what follows it in the item lies ahead.
         ensures opens { (x : Item) (to : ℕ) → Stands x self.old.bytes self.old.place to → Opens x to self.new result }
     {
-        let _bytes = self.bytes;
         self.decode()
     }
 
@@ -130,6 +129,7 @@ impl<'a> Cursor<'a> {
         ensures reads { ReadsHead self.old self.new result }
         ensures counted { self.new.heads ≡ raised self.old.heads 1 }
         ensures stays { IfNone result (self.new.place ≡ self.old.place) }
+        ensures placed { IsPlaced self.old.bytes self.old.place }
     {
         self.count.heads = self.count.heads.saturating_add(1);
         let bytes = self.bytes;
@@ -226,3 +226,6 @@ fn may_stand(is_text: bool, bytes: &[u8]) -> bool
         true
     }
 }
+
+#[cfg(test)]
+mod tests;

@@ -1,5 +1,3 @@
-use Rattle.std.proofs.Common.{subst}
-use Rattle.passkey_cbor.specs.Walk.{Walk, IsPlaced}
 use Rattle.passkey_cbor.proofs.Walks.{finds_head}
 use Rattle.passkey_cbor.proofs.Standing.{opens}
 use Rattle.passkey_cbor.specs.Found.{FindsHead}
@@ -7,6 +5,5 @@ use Rattle.passkey_cbor.proofs.cursor.Cursor.head.Goals as goal
 
 pub returns : goal.returns
 returns c =
-    let placed : IsPlaced c.args.self.now.bytes c.args.self.now.place = subst (λ (w : Walk). IsPlaced w.bytes w.place) c.self.view_is c.self.invariant in
-    let found : FindsHead c.args.self.now c.decode.new.self c.decode.result = finds_head c.args.self.now c.decode.new.self c.decode.result placed c.decode.ensures.counted c.decode.ensures.stays c.decode.ensures.reads in
+    let found : FindsHead c.args.self.now c.decode.new.self c.decode.result = finds_head c.args.self.now c.decode.new.self c.decode.result c.decode.ensures.placed c.decode.ensures.counted c.decode.ensures.stays c.decode.ensures.reads in
     record { found = found; opens = λ x to l. opens c.args.self.now c.decode.new.self c.decode.result x to found l }
