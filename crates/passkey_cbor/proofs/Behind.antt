@@ -5,13 +5,13 @@ use Rattle.std.specs.List.{concat}
 use Rattle.passkey_cbor.specs.Item.{Item, byte_string, text_string, array, map, tagged, items_of, pairs_of}
 use Rattle.passkey_cbor.specs.HeadReading.{◌>>=◌, Read}
 use Rattle.passkey_cbor.specs.Reading.{Reader, start, string_at, list_at, pair_by, item_by, item_within, chunk, piece_at}
+use Rattle.passkey_cbor.specs.Lent.{string_item, string_head}
 use Rattle.passkey_cbor.specs.Walk.{Walk, ahead, IsInside}
 use Rattle.passkey_cbor.specs.Steps.{NoHead, PassesOver, Skips, ReadsPiece, entry_by}
 use Rattle.passkey_cbor.specs.declared.skip.Entry.{Entry}
 use Rattle.passkey_cbor.specs.declared.head.Head.{Head}
 use Rattle.passkey_cbor.specs.declared.head.Head.TheVariants as head
 use Rattle.passkey_cbor.proofs.Binds.{bind_at}
-use Rattle.passkey_cbor.proofs.Strings.{string_head}
 use Rattle.passkey_cbor.proofs.Skipping.{passed_none, stopped_none, skips_after, skips_made, skips_stuck}
 
 -- the reader of so many levels, by what reads one level deeper
@@ -35,10 +35,6 @@ deeper levels some = let one : levels ≡ suc (levels - 1) = omega arith in ap i
 
 pub by_flat : (levels : ℕ) (h g : Head) (x : Item) (bytes : List ℕ) → h ≡ g → ((inner : Option (Reader Item)) → item_by inner g bytes ≡ Some (x, bytes)) → item_within levels h bytes ≡ Some (x, bytes)
 by_flat levels h g x bytes is flat = ap (λ (k : Head). item_within levels k bytes) is ∙ ap (λ (r : Reader Item). r g bytes) (within_by levels).1 ∙ flat (within_by levels).0
-
-abbrev pub string_item : Bool → List ℕ → Item
-string_item false = byte_string
-string_item true = text_string
 
 by_string_head : (inner : Option (Reader Item)) (is_text : Bool) (len : Option ℕ) (bytes : List ℕ) → item_by inner (string_head is_text len) bytes ≡ (string_at is_text len bytes >>= λ s. Some (string_item is_text s.0, s.1))
 unfolding item_by

@@ -45,7 +45,7 @@ stands_front x bytes from to l =
     }
 
 -- the item that a call finds is the one that stands there
-only_one : (x y : Item) (bytes : List ℕ) (from to len : ℕ) → Stands x bytes from to → IsFront (drop from bytes) y len → (y ≡ x) × (len ≡ to - from)
+pub only_one : (x y : Item) (bytes : List ℕ) (from to len : ℕ) → Stands x bytes from to → IsFront (drop from bytes) y len → (y ≡ x) × (len ≡ to - from)
 only_one x y bytes from to len s f =
     let same = at_most_one (drop from bytes) x y (to - from) len (stands_front x bytes from to s) f in
     (sym same.0, sym same.1)

@@ -9,6 +9,7 @@ use Rattle.passkey_cbor.specs.HeadSpelling.{LengthHeads, SpellsHead}
 use Rattle.passkey_cbor.specs.Inside.{MayStand, major_type, Content}
 use Rattle.passkey_cbor.specs.HeadReading.{take_at as taken_at, head_at}
 use Rattle.passkey_cbor.specs.Reading.{Reader, start, is_break, list_at, may_stand, piece_at, chunk_len, chunk, string_at}
+use Rattle.passkey_cbor.specs.Lent.{string_head}
 use Rattle.passkey_cbor.specs.declared.head.Head.{Head}
 use Rattle.passkey_cbor.specs.declared.head.Head.TheVariants as head
 use Rattle.passkey_cbor.proofs.Binds.{some_is, none_is_some, bind_some, bind_at}
@@ -16,10 +17,6 @@ use Rattle.passkey_cbor.proofs.Numbers.{IsBytes, taken_again, taken_is}
 use Rattle.passkey_cbor.proofs.HeadAgain.{head_again}
 use Rattle.passkey_cbor.proofs.HeadTakes.{Took, took_as, head_takes}
 use Rattle.passkey_cbor.proofs.Lists.{Follows, list_at_again, list_takes}
-
-abbrev pub string_head : Bool → Option ℕ → Head
-string_head false len = head.Bytes len
-string_head true len = head.Text len
 
 -- ---- a reading that begins with a head
 

@@ -92,6 +92,22 @@ string_at is_text None bytes = do
   chunks ← list_at (chunk is_text) None bytes
   Some (concat chunks.0, chunks.1)
 
+-- the length that the head of a string of this kind says
+abbrev pub string_len : Bool → Head → Option (Option ℕ)
+string_len is_text (head.Unsigned n) = None
+string_len is_text (head.Negative n) = None
+string_len is_text (head.Bytes len) = if is_text then None else Some len
+string_len is_text (head.Text len) = if is_text then Some len else None
+string_len is_text (head.Array len) = None
+string_len is_text (head.Map len) = None
+string_len is_text (head.Tag n) = None
+string_len is_text (head.Simple n) = None
+string_len is_text (head.Float f) = None
+string_len is_text head.Break = None
+
+abbrev pub string_by : Bool → Reader (List ℕ)
+string_by is_text h bytes = string_len is_text h >>= λ len. string_at is_text len bytes
+
 -- ---- items
 
 abbrev pub simple_item : ℕ → Item

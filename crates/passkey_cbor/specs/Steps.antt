@@ -1,9 +1,11 @@
 -- What the calls of a cursor answer, in terms of reading what is ahead.
-use Rattle.std.specs.Prelude.{◌≡◌, ◌⊎◌, ℕ, ◌<◌, ◌≤◌, List, Bool, true, false, Option, Some, None}
+use Rattle.std.specs.Prelude.{◌≡◌, ◌⊎◌, ℕ, ◌<◌, ◌≤◌, List, ◌++◌, Bool, true, false, Option, Some, None}
 use Rattle.passkey_cbor.specs.Item.{Item}
 use Rattle.passkey_cbor.specs.HeadReading.{Read, head_at}
-use Rattle.passkey_cbor.specs.Reading.{Reader, end, element, step_at, may_stand, chunk, pair_by, item_within}
+use Rattle.passkey_cbor.specs.Reading.{Reader, start, end, element, step_at, may_stand, chunk, string_at, string_by, pair_by, item_within}
 use Rattle.passkey_cbor.specs.Walk.{Walk, ahead, Passed, Stopped}
+use Rattle.passkey_cbor.specs.Inside.{Content}
+use Rattle.passkey_cbor.specs.Lent.{Region, PassesString}
 use Rattle.passkey_cbor.specs.declared.head.Head.{Head}
 use Rattle.passkey_cbor.specs.declared.head.Head.TheVariants as head
 use Rattle.passkey_cbor.specs.declared.cursor.Next.{Next}
@@ -91,3 +93,21 @@ abbrev pub entry_by : ℕ → (e : Entry) → Reader (Entered e)
 entry_by levels entry.Item = item_within levels
 entry_by levels entry.Pair = pair_by (item_within levels)
 entry_by levels (entry.Chunk is_text) = chunk is_text
+
+-- ---- strings that are lent
+
+-- what stands behind the head of a string
+pub record RegionRead (is_text : Bool) (len : Option ℕ) (old new : Walk) (region : List ℕ) : Type 0 where
+  pub content : List ℕ
+  pub tells : Content is_text len content region
+  pub parts : ahead old ≡ region ++ ahead new
+  pub passed : Passed old new
+
+abbrev pub ReadsRegion : Bool → Option ℕ → Walk → Walk → Option (List ℕ) → Type 0
+ReadsRegion is_text len old new (Some region) = RegionRead is_text len old new region
+ReadsRegion is_text len old new None = NoHead (string_at is_text len (ahead old)) old new
+
+-- a string with its head
+abbrev pub ReadsString : Bool → Walk → Walk → Option Region → Type 0
+ReadsString is_text old new (Some r) = PassesString is_text old new r
+ReadsString is_text old new None = NoHead (start (string_by is_text) (ahead old)) old new

@@ -18,7 +18,7 @@ pub(crate) const MAX_DEPTH: u16 = 256;
 /// A place in bytes. Each head that is decoded from them is counted, also where none stands.
 #[derive(Drop)]
 pub struct Cursor<'a> {
-    bytes: &'a [u8],
+    pub(crate) bytes: &'a [u8],
     pub(crate) place: usize,
     count: Count,
 }

@@ -2,7 +2,7 @@
 ghost use Rattle.std.specs.Prelude.{◌≡◌, ◌<◌, ◌^◌, option_map, IfSome};
 ghost use Rattle.passkey_cbor.specs.Heads.{one, two, four, eight};
 ghost use Rattle.passkey_cbor.specs.HeadReading.{number_at, argument_at, with_argument, without_argument, simple_at, head_behind, head_at};
-ghost use Rattle.passkey_cbor.specs.Reading.{is_break, chunk_len};
+ghost use Rattle.passkey_cbor.specs.Reading.{is_break, chunk_len, string_len};
 
 use crate::float::Float;
 
@@ -125,6 +125,17 @@ impl Head {
         match self {
             Head::Bytes(len) => { if is_text { None } else { *len } }
             Head::Text(len) => { if is_text { *len } else { None } }
+            _ => None,
+        }
+    }
+
+    /// The length that the head of a string of this kind says, where the head is such a one's.
+    pub(crate) fn string_len(&self, is_text: bool) -> Option<Option<u64>>
+        ensures { result ≡ string_len is_text self.now }
+    {
+        match self {
+            Head::Bytes(len) => { if is_text { None } else { Some(*len) } }
+            Head::Text(len) => { if is_text { Some(*len) } else { None } }
             _ => None,
         }
     }

@@ -14,6 +14,7 @@ pub mod laws;
 mod read;
 mod simple;
 mod skip;
+mod token;
 mod value;
 mod write;
 
@@ -25,4 +26,5 @@ pub use head::Head;
 pub use integer::Integer;
 pub use simple::Simple;
 pub use skip::item_len;
+pub use token::{BytesToken, TextToken};
 pub use value::Value;

@@ -70,7 +70,7 @@ impl<'a> Cursor<'a> {
 
     // Passes a string whose head was read.
     #[cycle(skip)]
-    fn skip_string(&mut self, is_text: bool, len: Option<u64>) -> bool
+    pub(crate) fn skip_string(&mut self, is_text: bool, len: Option<u64>) -> bool
         requires { IsInside self.old }
         ensures { Skips (string_at is_text len (ahead self.old)) self.old self.new result }
     {

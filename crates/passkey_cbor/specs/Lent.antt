@@ -1,0 +1,86 @@
+-- Strings that a cursor passed, and lends: in one piece, or in chunks (RFC 8949, section 3.2.3).
+use Rattle.std.specs.Prelude.{◌≡◌, ℕ, ◌+◌, ◌≤◌, List, length, take, Bool, true, false, Option, Some, None, option_map}
+use Rattle.passkey_cbor.specs.Item.{Item, byte_string, text_string}
+use Rattle.passkey_cbor.specs.Languages.{Language, Is, Then}
+use Rattle.passkey_cbor.specs.Front.{IsFront}
+use Rattle.passkey_cbor.specs.HeadSpelling.{SpellsHead}
+use Rattle.passkey_cbor.specs.Inside.{Content}
+use Rattle.passkey_cbor.specs.Stands.{Stands}
+use Rattle.passkey_cbor.specs.Walk.{Walk, ahead}
+use Rattle.passkey_cbor.specs.declared.head.Head.{Head}
+use Rattle.passkey_cbor.specs.declared.head.Head.TheVariants as head
+
+-- byte strings and text strings
+abbrev pub string_item : Bool → List ℕ → Item
+string_item false = byte_string
+string_item true = text_string
+
+abbrev pub string_head : Bool → Option ℕ → Head
+string_head false len = head.Bytes len
+string_head true len = head.Text len
+
+-- What a contract sees of a string that is lent: the length that its head says, and what stands behind the head.
+pub record Region : Type 0 where
+  pub len : Option ℕ
+  pub bytes : List ℕ
+
+-- The region is that of this string.
+abbrev pub Tells : Bool → Region → List ℕ → Type 0
+Tells is_text r s = Content is_text r.len s r.bytes
+
+-- What holds of every region: it is that of a string.
+abbrev pub IsRegion : Bool → Region → Type 0
+IsRegion is_text r = (s : List ℕ) × Tells is_text r s
+
+-- ---- by the bytes ahead
+
+-- The cursor passed the string ahead, and lends what stands behind its head.
+pub record PassesString (is_text : Bool) (old new : Walk) (r : Region) : Type 0 where
+  pub content : List ℕ
+  pub len : ℕ
+  pub front : IsFront (ahead old) (string_item is_text content) len
+  pub headed : Then (SpellsHead (string_head is_text r.len)) (Is r.bytes) (take len (ahead old))
+  pub tells : Tells is_text r content
+  pub place : new.place ≡ old.place + len
+  pub heads : new.heads ≤ old.heads + len
+  pub nodes : new.nodes ≡ old.nodes
+  pub bytes : new.bytes ≡ old.bytes
+
+-- No such string stands ahead, and the cursor stays, with at most one head for each byte ahead and one more.
+pub record FindsNoString (is_text : Bool) (old new : Walk) : Type 0 where
+  pub none : (s : List ℕ) (len : ℕ) → IsFront (ahead old) (string_item is_text s) len → ⊥
+  pub place : new.place ≡ old.place
+  pub heads : new.heads ≤ old.heads + length (ahead old) + 1
+  pub nodes : new.nodes ≡ old.nodes
+  pub bytes : new.bytes ≡ old.bytes
+
+abbrev pub LendsString : Bool → Walk → Walk → Option Region → Type 0
+LendsString is_text old new (Some r) = PassesString is_text old new r
+LendsString is_text old new None = FindsNoString is_text old new
+
+-- ---- by the item that stands there
+
+pub record Lends (is_text : Bool) (s : List ℕ) (to : ℕ) (old new : Walk) (r : Region) : Type 0 where
+  pub tells : Tells is_text r s
+  pub place : new.place ≡ to
+  pub heads : new.heads + old.place ≤ old.heads + to
+  pub nodes : new.nodes ≡ old.nodes
+  pub bytes : new.bytes ≡ old.bytes
+
+pub record LendsNothing (to : ℕ) (old new : Walk) : Type 0 where
+  pub place : new.place ≡ old.place
+  pub heads : new.heads ≤ old.heads + length (ahead old) + 1
+  pub nodes : new.nodes ≡ old.nodes
+  pub bytes : new.bytes ≡ old.bytes
+
+-- Where a string of the kind stands, it is lent; where another item stands, nothing is.
+abbrev pub LendsFrom : Bool → Item → ℕ → Walk → Walk → Option Region → Type 0
+LendsFrom is_text x to old new (Some r) = (s : List ℕ) × ((x ≡ string_item is_text s) × Lends is_text s to old new r)
+LendsFrom is_text x to old new None = ((s : List ℕ) → x ≡ string_item is_text s → ⊥) × LendsNothing to old new
+
+abbrev pub LendsStanding : Bool → Walk → Walk → Option Region → Type 0
+LendsStanding is_text old new found = (x : Item) (to : ℕ) → Stands x old.bytes old.place to → LendsFrom is_text x to old new found
+
+-- The string itself, where its head says its length.
+abbrev pub LentWhole : Region → Option (List ℕ) → Type 0
+LentWhole r lent = lent ≡ option_map (λ n. r.bytes) r.len
