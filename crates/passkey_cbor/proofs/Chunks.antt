@@ -39,7 +39,7 @@ pub may_stand-nil : (is_text : Bool) (u : List ℕ) → u ≡ [] → may_stand i
 may_stand-nil false u e = refl
 may_stand-nil true u e = ap (may_stand true) e ∙ is_utf8-from_IsUtf8 [] IsUtf8-nil
 
-concat-push : (chunks : List (List ℕ)) (s : List ℕ) → concat (chunks ++ s ∷ []) ≡ concat chunks ++ s
+pub concat-push : (chunks : List (List ℕ)) (s : List ℕ) → concat (chunks ++ s ∷ []) ≡ concat chunks ++ s
 concat-push [] s = append-nil s
 concat-push (c ∷ chunks) s = ap (λ (t : List ℕ). c ++ t) (concat-push chunks s) ∙ sym (append_assoc c (concat chunks) s)
 

@@ -61,7 +61,7 @@ region_read is_text len a b region inside fits p is =
     let t = string_takes is_text len (ahead a) p.value (ahead b) fits p.reads in
     let same : length b.bytes ≡ length a.bytes = ap length p.passed.same in
     let long : length t.text ≡ b.place - a.place =
-        omega (arith, same, inside, ap length t.parts, length-append t.text (ahead b), p.passed.forward, p.passed.within, length-drop a.place a.bytes, length-drop b.place b.bytes) in
+    omega (arith, same, inside, ap length t.parts, length-append t.text (ahead b), p.passed.forward, p.passed.within, length-drop a.place a.bytes, length-drop b.place b.bytes) in
     let whole : region ≡ t.text = is ∙ ap (take (b.place - a.place)) t.parts ∙ take_at t.text (ahead b) (b.place - a.place) long in
     record {
       content = p.value;
@@ -76,14 +76,14 @@ string_read is_text len a b c h region inside p further is r =
     let spelled : SpellsHead (string_head is_text len) p.text = subst (λ (g : Head). SpellsHead g p.text) (string_len-is is_text h len is) p.spelled in
     let whole : ahead a ≡ (p.text ++ region) ++ ahead c = p.parts ∙ ap (λ (t : List ℕ). p.text ++ t) r.parts ∙ sym (append_assoc p.text region (ahead c)) in
     let size : length (ahead a) ≡ length p.text + length region + length (ahead c) =
-        omega (arith, ap length whole, length-append (p.text ++ region) (ahead c), length-append p.text region) in
+    omega (arith, ap length whole, length-append (p.text ++ region) (ahead c), length-append p.text region) in
     let taken : take (length p.text + length region) (ahead a) ≡ p.text ++ region =
-        ap (take (length p.text + length region)) whole ∙ take_at (p.text ++ region) (ahead c) (length p.text + length region) (length-append p.text region) in
+    ap (take (length p.text + length region)) whole ∙ take_at (p.text ++ region) (ahead c) (length p.text + length region) (length-append p.text region) in
     let headed : Then (LengthHeads (major_type is_text) len) (Content is_text len r.content) (p.text ++ region) =
-        record { front = p.text; back = region; first = string_head_spells is_text len p.text spelled; second = r.tells; whole = refl } in
+    record { front = p.text; back = region; first = string_head_spells is_text len p.text spelled; second = r.tells; whole = refl } in
     let same : length c.bytes ≡ length a.bytes = ap length (r.passed.same ∙ p.bytes) in
     let place : c.place ≡ a.place + (length p.text + length region) =
-        omega (arith, size, same, inside, r.passed.within, length-drop a.place a.bytes, length-drop c.place c.bytes) in
+    omega (arith, size, same, inside, r.passed.within, length-drop a.place a.bytes, length-drop c.place c.bytes) in
     record {
       content = r.content;
       len = length p.text + length region;

@@ -24,3 +24,4 @@ pub mod Counted
 pub mod Standing
 pub mod More
 pub mod Lending
+pub mod Joining

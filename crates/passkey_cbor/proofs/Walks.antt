@@ -76,6 +76,7 @@ pub head_read : (bytes : List ℕ) (place heads counted nodes : ℕ) (h : Head) 
 head_read bytes place heads counted nodes h u one t = record {
   reads = t.reads;
   passed = record { same = refl; within = omega arith; forward = omega (arith, t.further); heads = omega (arith, one, t.further); nodes = refl };
+  counted = one;
   further = t.further;
   well_formed = t.well_formed;
 }
@@ -87,6 +88,7 @@ unfolding step_at
 step_end w left n inside is none = record {
   reads = ap (λ (l : Option ℕ). step_at l (ahead w)) (is ∙ ap Some none);
   passed = record { same = refl; within = inside; forward = omega arith; heads = omega arith; nodes = refl };
+  counted = omega arith;
 }
 
 step_known : (n : ℕ) (bytes : List ℕ) → step_at (Some (suc n)) bytes ≡ (head_at bytes >>= λ h. Some (element (Some n) h.0 h.1))
@@ -107,6 +109,7 @@ pub element_known : (a b : Walk) (left : Option ℕ) (n : ℕ) (h : Head) → le
 element_known a b left n h is some r = record {
   reads = known_is left n (ahead a) is some ∙ bind_at (head_at (ahead a)) (h, ahead b) (λ h. Some (element (Some (n - 1)) h.0 h.1)) r.reads;
   passed = r.passed;
+  counted = r.counted;
   further = r.further;
   well_formed = r.well_formed;
 }
@@ -125,6 +128,7 @@ pub element_unknown : (a b : Walk) (left : Option ℕ) (h : Head) → left ≡ N
 element_unknown a b left h is goes_on r = record {
   reads = unknown_is left (ahead a) is ∙ bind_at (head_at (ahead a)) (h, ahead b) (λ h. cond (is_break h.0) (Some (end h.1)) (Some (element None h.0 h.1))) r.reads ∙ rw (goes_on, is) refl;
   passed = r.passed;
+  counted = r.counted;
   further = r.further;
   well_formed = r.well_formed;
 }
@@ -133,6 +137,7 @@ pub break_unknown : (a b : Walk) (left : Option ℕ) (h : Head) → left ≡ Non
 break_unknown a b left h is ends r = record {
   reads = unknown_is left (ahead a) is ∙ bind_at (head_at (ahead a)) (h, ahead b) (λ h. cond (is_break h.0) (Some (end h.1)) (Some (element None h.0 h.1))) r.reads ∙ rw ends refl;
   passed = r.passed;
+  counted = r.counted;
 }
 
 pub no_element_unknown : (a b : Walk) (left : Option ℕ) → left ≡ None → NoHead (head_at (ahead a)) a b → NoHead (step_at left (ahead a)) a b
@@ -165,6 +170,7 @@ pub piece_read : (is_text : Bool) (len : ℕ) (bytes : List ℕ) (place heads no
 piece_read is_text len bytes place heads nodes s u t = record {
   reads = t.reads;
   passed = record { same = refl; within = omega arith; forward = t.forward; heads = omega (arith, t.forward); nodes = refl };
+  uncounted = refl;
   stands = t.stands;
 }
 

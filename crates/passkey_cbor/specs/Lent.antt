@@ -1,5 +1,5 @@
 -- Strings that a cursor passed, and lends: in one piece, or in chunks (RFC 8949, section 3.2.3).
-use Rattle.std.specs.Prelude.{◌≡◌, ℕ, ◌+◌, ◌≤◌, List, length, take, Bool, true, false, Option, Some, None, option_map}
+use Rattle.std.specs.Prelude.{◌≡◌, ◌↔◌, ℕ, ◌+◌, ◌≤◌, List, length, take, Bool, true, false, Option, Some, None, option_map, IsTrue}
 use Rattle.passkey_cbor.specs.Item.{Item, byte_string, text_string}
 use Rattle.passkey_cbor.specs.Languages.{Language, Is, Then}
 use Rattle.passkey_cbor.specs.Front.{IsFront}
@@ -84,3 +84,21 @@ LendsStanding is_text old new found = (x : Item) (to : ℕ) → Stands x old.byt
 -- The string itself, where its head says its length.
 abbrev pub LentWhole : Region → Option (List ℕ) → Type 0
 LentWhole r lent = lent ≡ option_map (λ n. r.bytes) r.len
+
+-- ---- looking at a string again
+
+-- how many heads stand in a region: each chunk's, and the break
+abbrev pub heads_in : (is_text : Bool) (len : Option ℕ) (s bytes : List ℕ) → Content is_text len s bytes → ℕ
+heads_in is_text (Some n) s bytes c = 0
+heads_in is_text None s bytes c = length c.first.0 + 1
+
+-- A call that looked at the string again: the cursor stays, and counts at most each head that stands in the region.
+pub record LooksAgain (is_text : Bool) (r : Region) (old new : Walk) : Type 0 where
+  pub heads : (s : List ℕ) (t : Tells is_text r s) → new.heads ≤ old.heads + heads_in is_text r.len s r.bytes t
+  pub place : new.place ≡ old.place
+  pub nodes : new.nodes ≡ old.nodes
+  pub bytes : new.bytes ≡ old.bytes
+
+-- Whether it is the string with these bytes.
+abbrev pub IsNamed : Bool → Region → List ℕ → Bool → Type 0
+IsNamed is_text r name equal = (s : List ℕ) → Tells is_text r s → (IsTrue equal ↔ (s ≡ name))

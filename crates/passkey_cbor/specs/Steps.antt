@@ -1,8 +1,9 @@
 -- What the calls of a cursor answer, in terms of reading what is ahead.
-use Rattle.std.specs.Prelude.{◌≡◌, ◌⊎◌, ℕ, ◌<◌, ◌≤◌, List, ◌++◌, Bool, true, false, Option, Some, None}
+use Rattle.std.specs.Prelude.{◌≡◌, ◌⊎◌, ◌↔◌, ℕ, ◌+◌, ◌<◌, ◌≤◌, List, ◌++◌, length, Bool, true, false, Option, Some, None, IsTrue}
+use Rattle.std.specs.List.{concat}
 use Rattle.passkey_cbor.specs.Item.{Item}
 use Rattle.passkey_cbor.specs.HeadReading.{Read, head_at}
-use Rattle.passkey_cbor.specs.Reading.{Reader, start, end, element, step_at, may_stand, chunk, string_at, string_by, pair_by, item_within}
+use Rattle.passkey_cbor.specs.Reading.{Reader, start, end, element, step_at, may_stand, chunk, list_at, string_at, string_by, pair_by, item_within}
 use Rattle.passkey_cbor.specs.Walk.{Walk, ahead, Passed, Stopped}
 use Rattle.passkey_cbor.specs.Inside.{Content}
 use Rattle.passkey_cbor.specs.Lent.{Region, PassesString}
@@ -31,6 +32,7 @@ IsHead head.Break = Unit {0}
 pub record HeadRead (old new : Walk) (h : Head) : Type 0 where
   pub reads : head_at (ahead old) ≡ Some (h, ahead new)
   pub passed : Passed old new
+  pub counted : new.heads ≤ old.heads + 1
   pub further : old.place < new.place
   pub well_formed : IsHead h
 
@@ -48,12 +50,14 @@ ReadsHead old new None = NoHead (head_at (ahead old)) old new
 pub record ElementRead (left after : Option ℕ) (old new : Walk) (h : Head) : Type 0 where
   pub reads : step_at left (ahead old) ≡ Some (element after h (ahead new))
   pub passed : Passed old new
+  pub counted : new.heads ≤ old.heads + 1
   pub further : old.place < new.place
   pub well_formed : IsHead h
 
 pub record EndRead (left : Option ℕ) (old new : Walk) : Type 0 where
   pub reads : step_at left (ahead old) ≡ Some (end (ahead new))
   pub passed : Passed old new
+  pub counted : new.heads ≤ old.heads + 1
 
 abbrev pub ReadsStep : Option ℕ → Option ℕ → Walk → Walk → Next → Type 0
 ReadsStep left after old new (next.Element h) = ElementRead left after old new h
@@ -65,6 +69,7 @@ ReadsStep left after old new next.Malformed = NoHead (step_at left (ahead old)) 
 pub record PieceRead (is_text : Bool) (read : Read (List ℕ)) (old new : Walk) (s : List ℕ) : Type 0 where
   pub reads : read ≡ Some (s, ahead new)
   pub passed : Passed old new
+  pub uncounted : new.heads ≡ old.heads
   pub stands : may_stand is_text s ≡ true
 
 abbrev pub ReadsPiece : Bool → Read (List ℕ) → Walk → Walk → Option (List ℕ) → Type 0
@@ -106,6 +111,12 @@ pub record RegionRead (is_text : Bool) (len : Option ℕ) (old new : Walk) (regi
 abbrev pub ReadsRegion : Bool → Option ℕ → Walk → Walk → Option (List ℕ) → Type 0
 ReadsRegion is_text len old new (Some region) = RegionRead is_text len old new region
 ReadsRegion is_text len old new None = NoHead (string_at is_text len (ahead old)) old new
+
+-- whether the chunks ahead join to these bytes, with one head for each that was looked at and one for the break
+abbrev pub AreJoined : Bool → List ℕ → Walk → Walk → Bool → Type 0
+AreJoined is_text name old new found =
+    (chunks : List (List ℕ)) (rest : List ℕ) → list_at (chunk is_text) None (ahead old) ≡ Some (chunks, rest)
+    → (IsTrue found ↔ (concat chunks ≡ name)) × (new.heads ≤ old.heads + length chunks + 1)
 
 -- a string with its head
 abbrev pub ReadsString : Bool → Walk → Walk → Option Region → Type 0

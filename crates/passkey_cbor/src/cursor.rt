@@ -84,6 +84,13 @@ impl<'a> Cursor<'a> {
         self.count.nodes = self.count.nodes.saturating_add(count.nodes);
     }
 
+    /// Raises the count of heads alone.
+    pub(crate) fn add_heads(&mut self, heads: u128)
+        ensures { self.new ≡ record self.old { heads = min (self.old.heads + heads) u128.MAX } }
+    {
+        self.count.heads = self.count.heads.saturating_add(heads);
+    }
+
     /// The head at the place, and on behind it; none where no whole, well-formed head stands there,
     /// and then the cursor stays. One head is counted either way. (RFC 8949, section 3.)
     pub fn head(&mut self) -> Option<Head>

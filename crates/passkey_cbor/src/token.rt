@@ -1,10 +1,10 @@
 //! Strings that a cursor passes and lends, in one piece or in chunks.
-ghost use Rattle.std.specs.Prelude.{true, false, option_map};
-ghost use Rattle.passkey_cbor.specs.Lent.{LendsString, LendsStanding, LentWhole};
-ghost use Rattle.passkey_cbor.specs.Steps.{ReadsRegion, ReadsString};
+ghost use Rattle.std.specs.Prelude.{◌≡◌, ◌++◌, ℕ, List, true, false, option_map, MatchOption};
+ghost use Rattle.passkey_cbor.specs.Lent.{LendsString, LendsStanding, LentWhole, LooksAgain, IsNamed};
+ghost use Rattle.passkey_cbor.specs.Steps.{AreJoined, ReadsRegion, ReadsString};
 ghost use Rattle.passkey_cbor.specs.Walk.{IsInside};
 
-use crate::cursor::Cursor;
+use crate::cursor::{Cursor, Next};
 use std::marker::Model;
 use std::str;
 
@@ -119,7 +119,74 @@ impl<'a> Cursor<'a> {
     }
 }
 
+// The bytes behind these, where they begin with them.
+fn behind<'b>(bytes: &'b [u8], front: &[u8]) -> Option<&'b [u8]>
+    ensures { MatchOption result ((rest : List ℕ) → bytes.now ≡ front.now ++ rest → ⊥) (λ rest. bytes.now ≡ front.now ++ rest.now) }
+{
+    if bytes.len() < front.len() {
+        return None;
+    }
+    let (begin, rest) = bytes.split_at(front.len());
+    if begin != front {
+        return None;
+    }
+    Some(rest)
+}
+
+// Whether the chunks ahead, up to their break, join to these bytes.
+fn are_joined(chunks: &mut Cursor<'_>, is_text: bool, bytes: &[u8]) -> bool
+    requires { IsInside chunks.old }
+    ensures { AreJoined is_text bytes.now chunks.old chunks.new result }
+{
+    let mut left = None;
+    let mut rest = bytes;
+    loop {
+        match chunks.step(&mut left) {
+            Next::Malformed => return false,
+            Next::End => return rest.is_empty(),
+            Next::Element(head) => match chunks.chunk(is_text, head) {
+                None => return false,
+                Some(piece) => match behind(rest, piece) {
+                    None => return false,
+                    Some(after) => rest = after,
+                },
+            },
+        }
+    }
+}
+
+// Whether a string is this one, by its region. The heads of chunks are counted at the cursor.
+fn is_named(
+    is_text: bool,
+    len: Option<u64>,
+    region: &[u8],
+    name: &[u8],
+    cursor: &mut Cursor<'_>,
+) -> bool
+    ensures same { IsNamed is_text (record { len = len; bytes = region.now }) name.now result }
+    ensures looks { LooksAgain is_text (record { len = len; bytes = region.now }) cursor.old cursor.new }
+{
+    match len {
+        Some(_) => region == name,
+        None => {
+            let mut chunks = Cursor::new(region);
+            let equal = are_joined(&mut chunks, is_text, name);
+            cursor.add_heads(chunks.count().heads);
+            equal
+        }
+    }
+}
+
 impl<'a> TextToken<'a> {
+    /// Whether it is the text with this name. Where it is in chunks, each head that is decoded again
+    /// is counted at the cursor, which stays: at most one for each chunk, and one for the break.
+    pub fn eq_name(&self, name: &str, cursor: &mut Cursor<'_>) -> bool
+        ensures same { IsNamed true self.now name.now result }
+        ensures looks { LooksAgain true self.now cursor.old cursor.new }
+    {
+        is_named(true, self.len, self.region, name.as_bytes(), cursor)
+    }
+
     /// The text, where its head says its length.
     pub fn lent(&self) -> Option<&'a str>
         ensures { LentWhole self.now (option_map (λ s. s.now) result) }
@@ -132,6 +199,16 @@ impl<'a> TextToken<'a> {
 }
 
 impl<'a> BytesToken<'a> {
+    /// Whether it is the byte string with the bytes of this name. Where it is in chunks, each head
+    /// that is decoded again is counted at the cursor, which stays: at most one for each chunk, and
+    /// one for the break.
+    pub fn eq_name(&self, name: &str, cursor: &mut Cursor<'_>) -> bool
+        ensures same { IsNamed false self.now name.now result }
+        ensures looks { LooksAgain false self.now cursor.old cursor.new }
+    {
+        is_named(false, self.len, self.region, name.as_bytes(), cursor)
+    }
+
     /// The bytes, where the head says their length.
     pub fn lent(&self) -> Option<&'a [u8]>
         ensures { LentWhole self.now (option_map (λ s. s.now) result) }
