@@ -1,5 +1,5 @@
 -- Strings that a cursor passed, and lends: in one piece, or in chunks (RFC 8949, section 3.2.3).
-use Rattle.std.specs.Prelude.{◌≡◌, ◌↔◌, ℕ, ◌+◌, ◌≤◌, List, length, take, Bool, true, false, Option, Some, None, option_map, IsTrue}
+use Rattle.std.specs.Prelude.{◌≡◌, ◌↔◌, ℕ, ◌+◌, ◌<◌, ◌≤◌, List, length, take, Bool, true, false, Option, Some, None, option_map, Result, Ok, Err, IsTrue}
 use Rattle.passkey_cbor.specs.Item.{Item, byte_string, text_string}
 use Rattle.passkey_cbor.specs.Languages.{Language, Is, Then}
 use Rattle.passkey_cbor.specs.Front.{IsFront}
@@ -102,3 +102,8 @@ pub record LooksAgain (is_text : Bool) (r : Region) (old new : Walk) : Type 0 wh
 -- Whether it is the string with these bytes.
 abbrev pub IsNamed : Bool → Region → List ℕ → Bool → Type 0
 IsNamed is_text r name equal = (s : List ℕ) → Tells is_text r s → (IsTrue equal ↔ (s ≡ name))
+
+-- A copy of the string; or memory was refused, which an empty string doesn't take.
+abbrev pub Copies : {T E : Type 0} → (T → List ℕ) → Bool → Region → Result T E → Type 0
+Copies view is_text r (Ok copy) = (s : List ℕ) → Tells is_text r s → view copy ≡ s
+Copies view is_text r (Err e) = (s : List ℕ) → Tells is_text r s → 0 < length s

@@ -1,5 +1,5 @@
 -- What the calls of a cursor answer, in terms of reading what is ahead.
-use Rattle.std.specs.Prelude.{◌≡◌, ◌⊎◌, ◌↔◌, ℕ, ◌+◌, ◌<◌, ◌≤◌, List, ◌++◌, length, Bool, true, false, Option, Some, None, IsTrue}
+use Rattle.std.specs.Prelude.{◌≡◌, ◌⊎◌, ◌↔◌, ℕ, ◌+◌, ◌<◌, ◌≤◌, List, ◌++◌, length, Bool, true, false, Option, Some, None, Result, Ok, Err, IsTrue}
 use Rattle.std.specs.List.{concat}
 use Rattle.passkey_cbor.specs.Item.{Item}
 use Rattle.passkey_cbor.specs.HeadReading.{Read, head_at}
@@ -117,6 +117,20 @@ abbrev pub AreJoined : Bool → List ℕ → Walk → Walk → Bool → Type 0
 AreJoined is_text name old new found =
     (chunks : List (List ℕ)) (rest : List ℕ) → list_at (chunk is_text) None (ahead old) ≡ Some (chunks, rest)
     → (IsTrue found ↔ (concat chunks ≡ name)) × (new.heads ≤ old.heads + length chunks + 1)
+
+-- the chunks ahead, joined, with one head for each that was looked at and one for the break
+pub record ChunksJoined (chunks : List (List ℕ)) (old new : Walk) (bytes : List ℕ) : Type 0 where
+  pub joined : bytes ≡ concat chunks
+  pub heads : new.heads ≤ old.heads + length chunks + 1
+
+-- or memory was refused for one that isn't empty
+pub record ChunksRefused (chunks : List (List ℕ)) (old new : Walk) : Type 0 where
+  pub some : 0 < length (concat chunks)
+  pub heads : new.heads ≤ old.heads + length chunks + 1
+
+abbrev pub Joins : Bool → Walk → Walk → Result (List ℕ) (Unit {0}) → Type 0
+Joins is_text old new (Ok bytes) = (chunks : List (List ℕ)) (rest : List ℕ) → list_at (chunk is_text) None (ahead old) ≡ Some (chunks, rest) → ChunksJoined chunks old new bytes
+Joins is_text old new (Err e) = (chunks : List (List ℕ)) (rest : List ℕ) → list_at (chunk is_text) None (ahead old) ≡ Some (chunks, rest) → ChunksRefused chunks old new
 
 -- a string with its head
 abbrev pub ReadsString : Bool → Walk → Walk → Option Region → Type 0

@@ -1,10 +1,15 @@
 //! Strings that a cursor passes and lends, in one piece or in chunks.
-ghost use Rattle.std.specs.Prelude.{◌≡◌, ◌++◌, ℕ, List, true, false, option_map, MatchOption};
-ghost use Rattle.passkey_cbor.specs.Lent.{LendsString, LendsStanding, LentWhole, LooksAgain, IsNamed};
-ghost use Rattle.passkey_cbor.specs.Steps.{AreJoined, ReadsRegion, ReadsString};
+ghost use Rattle.std.specs.Prelude.{◌≡◌, ◌++◌, ℕ, List, true, false, option_map, IfOk, MatchOption};
+ghost use Rattle.std.specs.Result.{result_map_both};
+ghost use Rattle.std.specs.String.{string_bytes};
+ghost use Rattle.passkey_cbor.specs.Lent.{LendsString, LendsStanding, LentWhole, LooksAgain, IsNamed, Copies, IsRegion};
+ghost use Rattle.passkey_cbor.specs.Steps.{AreJoined, Joins, ReadsRegion, ReadsString};
+ghost use Rattle.passkey_cbor.specs.Reading.{may_stand};
 ghost use Rattle.passkey_cbor.specs.Walk.{IsInside};
 
 use crate::cursor::{Cursor, Next};
+use crate::error::OutOfMemory;
+use std::alloc::Global;
 use std::marker::Model;
 use std::str;
 
@@ -177,6 +182,54 @@ fn is_named(
     }
 }
 
+// The bytes of the chunks ahead, up to their break.
+fn join(chunks: &mut Cursor<'_>, alloc: Global, is_text: bool) -> Result<Vec<u8>, OutOfMemory>
+    requires { IsInside chunks.old }
+    ensures joins { Joins is_text chunks.old chunks.new (result_map_both (λ v. v.items) (λ e. tt) result) }
+    ensures stands { IfOk result (λ v. may_stand is_text v.items ≡ true) }
+{
+    let mut bytes = Vec::new(alloc);
+    let mut left = None;
+    loop {
+        match chunks.step(&mut left) {
+            Next::Malformed => return Ok(bytes),
+            Next::End => return Ok(bytes),
+            Next::Element(head) => match chunks.chunk(is_text, head) {
+                None => return Ok(bytes),
+                Some(piece) => bytes.extend_from_slice(piece)?,
+            },
+        }
+    }
+}
+
+// A copy of a string, by its region. The heads of chunks are counted at the cursor.
+fn copy(
+    alloc: Global,
+    is_text: bool,
+    len: Option<u64>,
+    region: &[u8],
+    cursor: &mut Cursor<'_>,
+) -> Result<Vec<u8>, OutOfMemory>
+    requires { IsRegion is_text (record { len = len; bytes = region.now }) }
+    ensures copies { Copies (λ v. v.items) is_text (record { len = len; bytes = region.now }) result }
+    ensures stands { IfOk result (λ v. may_stand is_text v.items ≡ true) }
+    ensures looks { LooksAgain is_text (record { len = len; bytes = region.now }) cursor.old cursor.new }
+{
+    match len {
+        Some(_) => {
+            let mut bytes = Vec::new(alloc);
+            bytes.extend_from_slice(region)?;
+            Ok(bytes)
+        }
+        None => {
+            let mut chunks = Cursor::new(region);
+            let bytes = join(&mut chunks, alloc, is_text);
+            cursor.add_heads(chunks.count().heads);
+            bytes
+        }
+    }
+}
+
 impl<'a> TextToken<'a> {
     /// Whether it is the text with this name. Where it is in chunks, each head that is decoded again
     /// is counted at the cursor, which stays: at most one for each chunk, and one for the break.
@@ -185,6 +238,17 @@ impl<'a> TextToken<'a> {
         ensures looks { LooksAgain true self.now cursor.old cursor.new }
     {
         is_named(true, self.len, self.region, name.as_bytes(), cursor)
+    }
+
+    /// A copy of the text. `OutOfMemory` where a growth was refused, which cannot be for an empty
+    /// text. Where it is in chunks, each head that is decoded again is counted at the cursor, which
+    /// stays: at most one for each chunk, and one for the break.
+    pub fn copy(&self, alloc: Global, cursor: &mut Cursor<'_>) -> Result<String, OutOfMemory>
+        ensures copies { Copies string_bytes true self.now result }
+        ensures looks { LooksAgain true self.now cursor.old cursor.new }
+    {
+        let bytes = copy(alloc, true, self.len, self.region, cursor)?;
+        Ok(String::from_utf8(bytes).unwrap())
     }
 
     /// The text, where its head says its length.
@@ -207,6 +271,16 @@ impl<'a> BytesToken<'a> {
         ensures looks { LooksAgain false self.now cursor.old cursor.new }
     {
         is_named(false, self.len, self.region, name.as_bytes(), cursor)
+    }
+
+    /// A copy of the bytes. `OutOfMemory` where a growth was refused, which cannot be for no bytes.
+    /// Where they are in chunks, each head that is decoded again is counted at the cursor, which
+    /// stays: at most one for each chunk, and one for the break.
+    pub fn copy(&self, alloc: Global, cursor: &mut Cursor<'_>) -> Result<Vec<u8>, OutOfMemory>
+        ensures copies { Copies (λ v. v.items) false self.now result }
+        ensures looks { LooksAgain false self.now cursor.old cursor.new }
+    {
+        copy(alloc, false, self.len, self.region, cursor)
     }
 
     /// The bytes, where the head says their length.
