@@ -23,3 +23,4 @@ pub mod Shrinking
 pub mod Counted
 pub mod Standing
 pub mod More
+pub mod MapMembers

@@ -27,3 +27,4 @@ pub mod Skipped
 pub mod Building
 pub mod Valued
 pub mod Stands
+pub mod Members

@@ -1,0 +1,31 @@
+//! Taking apart the map that begins the bytes.
+ghost use Rattle.std.specs.Prelude.{MatchOption};
+ghost use Rattle.passkey_cbor.specs.Members.{AllLeft, HasNoMap};
+
+use crate::cursor::Cursor;
+use crate::head::Head;
+use crate::member::Members;
+
+/// The members of the map that begins the bytes; none where no well-formed item of at most 256
+/// levels begins them, or one that is no map. What follows the map is not looked at. Takes no
+/// memory. (RFC 8949, section 3.1, major type 5.)
+pub fn members(bytes: &[u8]) -> Option<Members<'_>>
+    ensures { MatchOption result (HasNoMap bytes.now) (AllLeft bytes.now) }
+{
+    let mut cursor = Cursor::new(bytes);
+    if !cursor.skip() {
+        return None;
+    }
+    cursor.go_back(0);
+    match cursor.head() {
+        None => None,
+        Some(head) => match head {
+            Head::Map(left) => Some(Members {
+                bytes,
+                cursor,
+                left,
+            }),
+            _ => None,
+        },
+    }
+}
