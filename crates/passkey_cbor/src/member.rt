@@ -5,6 +5,7 @@ ghost use Rattle.passkey_cbor.specs.Stands.{Stands};
 ghost use Rattle.passkey_cbor.specs.Members.{Lends};
 
 use crate::cursor::Cursor;
+use std::iter::FusedIterator;
 use std::marker::Model;
 
 /// The members that are left of a map, each as the bytes of its key and of its value, in the
@@ -52,6 +53,8 @@ impl<'a> Iterator for Members<'a> {
         Some((key, value))
     }
 }
+
+impl<'a> FusedIterator for Members<'a> {}
 
 // The bytes of the item at the cursor's place, and on behind it; none where no item stands there.
 fn pass_item<'a>(bytes: &'a [u8], cursor: &mut Cursor<'a>) -> Option<&'a [u8]>
