@@ -15,7 +15,7 @@ pub struct Members<'a> {
     pub(crate) bytes: &'a [u8],
     pub(crate) cursor: Cursor<'a>,
 
-    /// As many as the map's head says that are left; none where they end at a break.
+    /// How many are left, as `Cursor::more` counts them.
     pub(crate) left: Option<u64>,
 }
 
@@ -45,6 +45,7 @@ impl<'a> Iterator for Members<'a> {
     /// member is left, and from then on.
     fn next(&mut self) -> Option<(&'a [u8], &'a [u8])> {
         if !self.cursor.more(&mut self.left) {
+            // Else a call after a break would take what follows the map for a member.
             self.left = Some(0);
             return None;
         }
