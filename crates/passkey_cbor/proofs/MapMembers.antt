@@ -9,7 +9,7 @@ use Rattle.passkey_cbor.specs.Inside.{Within, PairWithin, Inside}
 use Rattle.passkey_cbor.specs.Walk.{Walk}
 use Rattle.passkey_cbor.specs.Skipped.{PassesFront, FindsNoFront}
 use Rattle.passkey_cbor.specs.Stands.{Lies, Stands, StandPairs, Passes, Next, WalksOn}
-use Rattle.passkey_cbor.specs.Members.{MembersLeft, AreLeft, SomeLeft, GivesFirst, NextMember, GivesNext, AllLeft, HasNoMap, LendsItem}
+use Rattle.passkey_cbor.specs.Members.{MembersLeft, AreLeft, SomeLeft, GivesFirst, Ended, NextMember, GivesNext, AllLeft, HasNoMap, LendsItem}
 use Rattle.passkey_cbor.specs.declared.head.Head.{Head}
 use Rattle.passkey_cbor.specs.declared.head.Head.TheVariants as head
 use Rattle.passkey_cbor.proofs.Lists.{spelled_long}
@@ -47,9 +47,9 @@ not_passed to a b p = let found : false ≡ true = p.is_found in absurd cc
 abbrev pub at : List ℕ → ℕ → Option ℕ → MembersLeft
 at bytes place left = record { bytes = bytes; place = place; left = left }
 
-none_is_next : (ms : List (Item × Item)) (to : ℕ) (old new : MembersLeft) → ms ≡ [] → AreLeft [] to new → NextMember ms to old None new
-none_is_next [] to old new e l = l
-none_is_next (m ∷ ms) to old new e l = absurd cc
+none_is_next : (ms : List (Item × Item)) (to : ℕ) (old new : MembersLeft) → ms ≡ [] → Ended to old new → NextMember ms to old None new
+none_is_next [] to old new e n = n
+none_is_next (m ∷ ms) to old new e n = absurd cc
 
 first_is_next : (ms : List (Item × Item)) (to : ℕ) (old new : MembersLeft) (first : Item × Item) (others : List (Item × Item)) (slices : Bor (List ℕ) × Bor (List ℕ)) → ms ≡ first ∷ others → GivesFirst first others to old new slices.0.now slices.1.now → NextMember ms to old (Some slices) new
 first_is_next ms to old new first others slices e g = subst (λ (ms : List (Item × Item)). NextMember ms to old (Some slices) new) (sym e) g
@@ -59,13 +59,14 @@ ends before after a m bytes same some w = record {
   some = some;
   next = λ ms to l.
       let e = w.pairs ms to (rw same l) in
-      none_is_next ms to (at bytes a.place before) (at bytes m.place (Some 0)) e.0 (record {
+      let none : AreLeft [] to (at bytes m.place (Some 0)) = record {
         text = [];
         spelled = (refl, refl);
         parts = ap (λ (p : ℕ). drop p bytes) e.1;
         forward = omega (arith, e.1);
         within = omega (arith, l.within);
-      });
+      } in
+      none_is_next ms to (at bytes a.place before) (at bytes m.place (Some 0)) e.0 (record { place = e.1; after = none; bytes = refl });
 }
 
 -- the first of those that are left, where the cursor stands after `more`

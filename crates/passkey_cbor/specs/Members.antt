@@ -33,9 +33,15 @@ pub record GivesFirst (first : Item × Item) (others : List (Item × Item)) (to 
   pub after : AreLeft others to new
   pub bytes : new.bytes ≡ old.bytes
 
--- What it answers where these are left: none where there are none, then and from then on; else the first.
+-- The map's end was reached, and none are left from then on.
+pub record Ended (to : ℕ) (old new : MembersLeft) : Type 0 where
+  pub place : new.place ≡ to
+  pub after : AreLeft [] to new
+  pub bytes : new.bytes ≡ old.bytes
+
+-- What it answers where these are left: none where there are none, and else the first.
 abbrev pub NextMember : List (Item × Item) → ℕ → MembersLeft → Option (Bor (List ℕ) × Bor (List ℕ)) → MembersLeft → Type 0
-NextMember [] to old None new = AreLeft [] to new
+NextMember [] to old None new = Ended to old new
 NextMember [] to old (Some m) new = ⊥
 NextMember (m ∷ ms) to old None new = ⊥
 NextMember (m ∷ ms) to old (Some slices) new = GivesFirst m ms to old new slices.0.now slices.1.now
