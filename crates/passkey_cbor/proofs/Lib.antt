@@ -25,3 +25,4 @@ pub mod Standing
 pub mod More
 pub mod Lending
 pub mod Joining
+pub mod MapMembers

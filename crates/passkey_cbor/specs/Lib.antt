@@ -28,3 +28,4 @@ pub mod Building
 pub mod Valued
 pub mod Stands
 pub mod Lent
+pub mod Members
