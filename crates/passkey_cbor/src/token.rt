@@ -293,3 +293,6 @@ impl<'a> BytesToken<'a> {
         }
     }
 }
+
+#[cfg(test)]
+mod tests;

@@ -1,0 +1,80 @@
+use super::*;
+use crate::Count;
+use std::test::Fail;
+
+/// The text "rpId" in two chunks.
+const CHUNKED_TEXT: [u8; 8] = [0x7f, 0x62, 0x72, 0x70, 0x62, 0x49, 0x64, 0xff];
+
+/// The bytes of "rpId" in one piece, and in two chunks.
+const BYTES: [u8; 5] = [0x44, 0x72, 0x70, 0x49, 0x64];
+
+const CHUNKED_BYTES: [u8; 8] = [0x5f, 0x42, 0x72, 0x70, 0x42, 0x49, 0x64, 0xff];
+
+#[test]
+fn lends_a_text_in_chunks(rt: HostRuntime) -> Result<(), Fail> {
+    let mut cursor = Cursor::new(&CHUNKED_TEXT);
+    let token = cursor.text().expect(&rt, "a text");
+    assert_eq!(rt; cursor.place(), 8);
+    assert!(rt; cursor.count().heads <= 8);
+    assert_eq!(rt; token.lent(), None);
+    let passed = cursor.count().heads;
+    assert!(rt; token.eq_name("rpId", &mut cursor));
+    assert!(rt; cursor.count().heads <= passed + 3);
+    assert!(rt; !token.eq_name("rpIe", &mut cursor));
+    assert!(rt; !token.eq_name("rp", &mut cursor));
+    assert!(rt; !token.eq_name("rpIds", &mut cursor));
+    assert_eq!(rt; token.copy(rt.alloc(), &mut cursor)?.as_str(), "rpId");
+    assert_eq!(rt; cursor.place(), 8);
+    Ok(())
+}
+
+#[test]
+fn lends_a_text_in_one_piece(rt: HostRuntime) -> Result<(), Fail> {
+    let mut cursor = Cursor::new(&[0x62, 0x69, 0x64, 0x00]);
+    let token = cursor.text().expect(&rt, "a text");
+    assert_eq!(rt; cursor.place(), 3);
+    assert_eq!(rt; token.lent(), Some("id"));
+    assert!(rt; token.eq_name("id", &mut cursor));
+    assert_eq!(rt; token.copy(rt.alloc(), &mut cursor)?.as_str(), "id");
+    let once = Count { heads: 1, nodes: 0 };
+    assert_eq!(rt; cursor.count(), once);
+    Ok(())
+}
+
+#[test]
+fn lends_bytes(rt: HostRuntime) -> Result<(), Fail> {
+    let content: [u8; 4] = [0x72, 0x70, 0x49, 0x64];
+    let mut cursor = Cursor::new(&BYTES);
+    let token = cursor.bytes().expect(&rt, "a byte string");
+    assert_eq!(rt; cursor.place(), 5);
+    assert_eq!(rt; token.lent(), Some(content.as_slice()));
+    let mut other = Cursor::new(&CHUNKED_BYTES);
+    let chunked = other.bytes().expect(&rt, "a byte string");
+    assert_eq!(rt; other.place(), 8);
+    assert_eq!(rt; chunked.lent(), None);
+    assert!(rt; chunked.eq_name("rpId", &mut other));
+    assert_eq!(rt;
+        chunked.copy(rt.alloc(), &mut other)?.as_slice(),
+        content.as_slice()
+    );
+    Ok(())
+}
+
+#[test]
+fn stays_where_another_item_stands(rt: HostRuntime) {
+    let cases: [&[u8]; 5] = [
+        &[],
+        &[0x01],
+        &[0x62, 0x61],
+        &[0x7f, 0x42, 0x61, 0x62, 0xff],
+        &[0x61, 0x80],
+    ];
+    for bytes in cases {
+        let mut cursor = Cursor::new(bytes);
+        assert!(rt; cursor.text().is_none(), "{bytes:?}");
+        assert!(rt; cursor.bytes().is_none(), "{bytes:?}");
+        assert_eq!(rt; cursor.place(), 0);
+    }
+    assert!(rt; Cursor::new(&BYTES).text().is_none());
+    assert!(rt; Cursor::new(&CHUNKED_TEXT).bytes().is_none());
+}
