@@ -2,7 +2,7 @@
 use Rattle.std.proofs.Common.{◌≡◌, ℕ, zero, suc, ◌-◌, ◌<◌, Bool, true, false, List, Option, Some, None, refl, sym, ap, subst, ◌∙◌, arith}
 use Rattle.std.specs.Prelude.{is_some, option_map}
 use Rattle.std.specs.List.{concat}
-use Rattle.passkey_cbor.specs.Item.{Item, byte_string, text_string, array, map, tagged, items_of, pairs_of}
+use Rattle.passkey_cbor.specs.Item.{Item, array, map, tagged, items_of, pairs_of}
 use Rattle.passkey_cbor.specs.HeadReading.{◌>>=◌, Read}
 use Rattle.passkey_cbor.specs.Reading.{Reader, start, string_at, list_at, pair_by, item_by, item_within, chunk, piece_at}
 use Rattle.passkey_cbor.specs.Lent.{string_item, string_head}

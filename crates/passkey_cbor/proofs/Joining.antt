@@ -1,11 +1,11 @@
 -- Whether the chunks of a string join to other bytes.
-use Rattle.std.proofs.Common.{◌≡◌, ◌↔◌, ℕ, ◌+◌, ◌-◌, ◌<◌, ◌≤◌, Bool, true, false, List, [], ◌∷◌, ◌++◌, length, Option, Some, None, Result, Ok, Err, refl, sym, ap, subst, ◌∙◌, append_assoc, arith}
+use Rattle.std.proofs.Common.{◌≡◌, ◌↔◌, ℕ, ◌+◌, ◌<◌, ◌≤◌, Bool, false, List, [], ◌∷◌, ◌++◌, length, Option, Some, None, Result, Ok, Err, refl, sym, ap, subst, ◌∙◌, append_assoc, arith}
 use Rattle.std.specs.Prelude.{IsTrue, ◌==◌}
 use Rattle.std.proofs.lemmas.Bool.{true≢false}
 use Rattle.std.proofs.Math.Dec.{eqb-suc-zero}
 use Rattle.std.specs.List.{concat}
 use Rattle.std.specs.Result.{result_map_both}
-use Rattle.std.proofs.lemmas.List.{append-nil, length-append, take_at}
+use Rattle.std.proofs.lemmas.List.{append-nil, length-append}
 use Rattle.passkey_cbor.specs.Reading.{chunk, step_at, list_at}
 use Rattle.passkey_cbor.specs.Walk.{Walk, ahead, IsInside}
 use Rattle.passkey_cbor.specs.Steps.{NoHead, ElementRead, EndRead, PieceRead, AreJoined, Joins}

@@ -3,17 +3,16 @@ use Rattle.std.proofs.Common.{◌≡◌, ℕ, ◌+◌, ◌-◌, ◌<◌, ◌≤�
 use Rattle.std.proofs.lemmas.List.{length-append, length-drop, take-append-drop, take_at}
 use Rattle.passkey_cbor.specs.Item.{Item}
 use Rattle.passkey_cbor.specs.Depth.{depth}
-use Rattle.passkey_cbor.specs.Languages.{Is, Then}
+use Rattle.passkey_cbor.specs.Languages.{Then}
 use Rattle.passkey_cbor.specs.Spelling.{Spells, Strings}
 use Rattle.passkey_cbor.specs.Front.{max_depth, IsFront}
 use Rattle.passkey_cbor.specs.HeadSpelling.{LengthHeads, SpellsHead}
 use Rattle.passkey_cbor.specs.Inside.{MayStand, major_type, Content}
 use Rattle.passkey_cbor.specs.Reading.{start, string_len, string_at, string_by}
 use Rattle.passkey_cbor.specs.Walk.{Walk, ahead, IsInside}
-use Rattle.passkey_cbor.specs.Steps.{NoHead, PassesOver, RegionRead, ReadsString}
+use Rattle.passkey_cbor.specs.Steps.{PassesOver, RegionRead, ReadsString}
 use Rattle.passkey_cbor.specs.Found.{PassesHead}
-use Rattle.passkey_cbor.specs.Stands.{Stands}
-use Rattle.passkey_cbor.specs.Lent.{Region, string_item, string_head, PassesString, FindsNoString, LendsString, Lends, LendsNothing, LendsFrom, LendsStanding}
+use Rattle.passkey_cbor.specs.Lent.{Region, string_item, string_head, PassesString, LendsString, LendsStanding}
 use Rattle.passkey_cbor.specs.declared.head.Head.{Head}
 use Rattle.passkey_cbor.specs.declared.head.Head.TheVariants as head
 use Rattle.passkey_cbor.proofs.Binds.{some_is, none_is_some}

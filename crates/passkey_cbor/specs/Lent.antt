@@ -1,7 +1,7 @@
 -- Strings that a cursor passed, and lends: in one piece, or in chunks (RFC 8949, section 3.2.3).
 use Rattle.std.specs.Prelude.{◌≡◌, ◌↔◌, ℕ, ◌+◌, ◌<◌, ◌≤◌, List, length, take, Bool, true, false, Option, Some, None, option_map, Result, Ok, Err, IsTrue}
 use Rattle.passkey_cbor.specs.Item.{Item, byte_string, text_string}
-use Rattle.passkey_cbor.specs.Languages.{Language, Is, Then}
+use Rattle.passkey_cbor.specs.Languages.{Is, Then}
 use Rattle.passkey_cbor.specs.Front.{IsFront}
 use Rattle.passkey_cbor.specs.HeadSpelling.{SpellsHead}
 use Rattle.passkey_cbor.specs.Inside.{Content}

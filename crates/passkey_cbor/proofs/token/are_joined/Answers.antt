@@ -1,4 +1,3 @@
-use Rattle.std.proofs.Common.{arith}
 use Rattle.passkey_cbor.proofs.Joining.{compares_start, compares_on, no_step_joined, no_chunk_joined, all_joined, empty_is, other_joined}
 use Rattle.passkey_cbor.proofs.token.are_joined.Goals as goal
 

@@ -1,4 +1,4 @@
-use Rattle.std.proofs.Common.{◌≡◌, ◌∙◌, ℕ, ap, sym, arith}
+use Rattle.std.proofs.Common.{◌∙◌, ℕ, ap, sym, arith}
 use Rattle.passkey_cbor.specs.Walk.{Walk, ahead}
 use Rattle.passkey_cbor.proofs.Joining.{named_in_chunks, looks_at_chunks}
 use Rattle.passkey_cbor.proofs.token.is_named.Goals as goal

@@ -1,5 +1,5 @@
-use Rattle.std.proofs.Common.{◌≡◌, ◌-◌, ℕ, List, take, drop, ap, subst, refl}
-use Rattle.passkey_cbor.specs.Walk.{Walk, ahead, IsPlaced}
+use Rattle.std.proofs.Common.{◌≡◌, ap, subst, refl}
+use Rattle.passkey_cbor.specs.Walk.{Walk, IsPlaced}
 use Rattle.passkey_cbor.proofs.Numbers.{IsBytes-drop}
 use Rattle.passkey_cbor.proofs.Lending.{region_read}
 use Rattle.passkey_cbor.proofs.cursor.Cursor.region.Goals as goal

@@ -1,6 +1,6 @@
-use Rattle.std.proofs.Common.{◌≡◌, ◌∙◌, ℕ, List, Bor, Option, option_map, ap}
+use Rattle.std.proofs.Common.{◌≡◌, ℕ, List, Bor, Option, ap}
 use Rattle.passkey_cbor.specs.Walk.{Walk}
-use Rattle.passkey_cbor.specs.Lent.{Region, LendsString}
+use Rattle.passkey_cbor.specs.Lent.{Region}
 use Rattle.passkey_cbor.proofs.Lending.{string_missed, string_found, lends}
 use Rattle.passkey_cbor.proofs.cursor.Cursor.string.Goals as goal
 
