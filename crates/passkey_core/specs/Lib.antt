@@ -1,1 +1,4 @@
+pub mod Bytes
+pub mod BytesLoan
 pub mod Encoding
+pub mod List

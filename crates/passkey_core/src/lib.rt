@@ -1,6 +1,8 @@
 //! What the messages of passkeys are made of: byte strings, texts, lists and maps.
 #![tactic(auto)]
 
+mod bytes;
 pub mod encoding;
 
+pub use bytes::{Bytes, BytesFault, NotBase64Encoded};
 pub use passkey_cbor::OutOfMemory;
