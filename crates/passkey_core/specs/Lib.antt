@@ -2,3 +2,4 @@ pub mod Bytes
 pub mod BytesLoan
 pub mod Encoding
 pub mod List
+pub mod ListLoan

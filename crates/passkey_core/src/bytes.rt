@@ -177,6 +177,14 @@ impl<'a> IntoIterator for &'a Bytes {
     }
 }
 
+impl Clone for Bytes {
+    ghost is_clone = { λ bytes copy. copy ≡ bytes };
+
+    fn clone(&self) -> Result<Bytes, AllocError> {
+        Ok(Bytes(self.0.clone()?))
+    }
+}
+
 impl PartialEq for Bytes {
     ghost eq = { bytes_eq };
 

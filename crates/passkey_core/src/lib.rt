@@ -3,6 +3,10 @@
 
 mod bytes;
 pub mod encoding;
+mod list;
+mod text;
 
 pub use bytes::{Bytes, BytesFault, NotBase64Encoded};
+pub use list::List;
 pub use passkey_cbor::OutOfMemory;
+pub use text::Text;
