@@ -1,1 +1,3 @@
+mod MapEquality
+mod Maps
 mod SameTables

@@ -3,3 +3,5 @@ pub mod BytesLoan
 pub mod Encoding
 pub mod List
 pub mod ListLoan
+pub mod Map
+pub mod SameMaps

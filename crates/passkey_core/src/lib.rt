@@ -4,9 +4,11 @@
 mod bytes;
 pub mod encoding;
 mod list;
+mod map;
 mod text;
 
 pub use bytes::{Bytes, BytesFault, NotBase64Encoded};
 pub use list::List;
+pub use map::{Key, Map};
 pub use passkey_cbor::OutOfMemory;
 pub use text::Text;
