@@ -1,6 +1,6 @@
 -- A finite map is read as the list of entries that it is made of.
-use Rattle.std.proofs.Common.{◌≡◌, ℕ, ◌+◌, Bool, true, false, cond, List, [], ◌∷◌, length, map, refl, sym, ap, ◌∙◌, Option, Some, None, is_some, arith, ◌↔◌, subst, MatchOption}
-use Rattle.std.specs.Cmp.Lexicographic.{slice_cmp, texts_ties}
+use Rattle.std.proofs.Common.{◌≡◌, ℕ, ◌+◌, Bool, true, false, cond, List, [], ◌∷◌, length, refl, sym, ap, ◌∙◌, Option, Some, None, is_some, arith, ◌↔◌, subst, MatchOption, ◌⊎◌, inl, inr}
+use Rattle.std.specs.Cmp.Lexicographic.{bytes_decides, slice_cmp, texts_ties}
 use Rattle.std.specs.FinMap as fin
 use Rattle.std.specs.Ordering.{eq_by_cmp, nat_cmp}
 use Rattle.std.proofs.lemmas.Cmp.{nat_list_cmp_total}
@@ -36,6 +36,23 @@ module _ {K V : Type 0} (bytes : K → List ℕ) (eq : K → K → Bool) (same :
       fin.len-insert nat_list_cmp_total (map_of bytes es) (bytes e.0) e.1
       ∙ ap (λ found. cond (is_some found) count (count + 1)) absent in
       omega (arith, grown, rest)
+
+module _ {K V : Type 0} (bytes : K → List ℕ) where
+  find_or_key : (q : List ℕ) (es : List (K × V)) → (fin.find (slice_cmp nat_cmp) q (by_bytes bytes es) ≡ None) ⊎ ((k : K) × (bytes k ≡ q))
+  find_or_key q [] = inl refl
+  find_or_key q (e ∷ es) = next (bytes_eq q (bytes e.0)) refl (find_or_key q es)
+    where
+      next : (b : Bool) → bytes_eq q (bytes e.0) ≡ b → (fin.find (slice_cmp nat_cmp) q (by_bytes bytes es) ≡ None) ⊎ ((k : K) × (bytes k ≡ q)) → (fin.find (slice_cmp nat_cmp) q (by_bytes bytes (e ∷ es)) ≡ None) ⊎ ((k : K) × (bytes k ≡ q))
+      next true is rest = inr (e.0, sym ((bytes_decides q (bytes e.0)).0 is))
+      next false is (inl none) = inl (ap (λ b. cond b (Some e.1) (fin.find (slice_cmp nat_cmp) q (by_bytes bytes es))) (sym (texts_ties q (bytes e.0)) ∙ is) ∙ none)
+      next false is (inr found) = inr found
+
+  -- the map has nothing at these bytes, or they are those of a key
+  pub get_or_key : (q : List ℕ) (es : List (K × V)) → (fin.get (map_of bytes es) q ≡ None) ⊎ ((k : K) × (bytes k ≡ q))
+  get_or_key q es = elim (find_or_key q es) [
+    | inl none ↦ inl (fin.get-from_entries nat_list_cmp_total (by_bytes bytes es) q ∙ none)
+    | inr found ↦ inr found
+  ]
 
 pub none_iff_empty : {V : Type 0} (m : ByteMap V) → (fin.len m ≡ 0) ↔ (m ≡ fin.empty)
 none_iff_empty {V} m = (fin.empty_of_len m, λ same. ap fin.len same ∙ fin.len-empty (slice_cmp nat_cmp) V)
@@ -80,3 +97,6 @@ same_found D exact (Some v) (Some w) h = ap Some (exact v w h)
 pub ClonesValues-same : {V : Type 0} (D : V → V → Type 0) → ((v w : V) → D v w → w ≡ v) → (m copy : ByteMap V) → ClonesValues D m copy → copy ≡ m
 ClonesValues-same D exact m copy h = fin.same_map nat_list_cmp_total (fin.slice_cmp-IsAntisymmetric fin.nat_cmp-IsAntisymmetric) copy m
     (λ q. same_found D exact (fin.get m q) (fin.get copy q) (h q))
+
+-- what a map reads as
+pub ruleset readings = (get-map_of, len-map_of)

@@ -1,5 +1,5 @@
 -- What making a `Bytes` from a text answers.
-use Rattle.std.specs.Prelude.{◌≡◌, ℕ, List, Option, Some, None, Result, Ok, Err}
+use Rattle.std.specs.Prelude.{◌≡◌, ℕ, List, Some, None, Result, Ok, Err}
 use Rattle.passkey_core.specs.declared.bytes.BytesFault.{BytesFault}
 use Rattle.passkey_core.specs.declared.bytes.BytesFault.TheVariants.{NotBase64Encoded, OutOfMemory}
 use Rattle.passkey_core.specs.Encoding.{text_bytes}

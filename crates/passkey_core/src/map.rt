@@ -1,5 +1,5 @@
 //! Finite maps.
-ghost use Rattle.std.specs.Prelude.{◌≡◌, ◌↔◌, ℕ, List, length, map, option_map, option_copied, is_some, IfOk, IsTrue};
+ghost use Rattle.std.specs.Prelude.{◌≡◌, ◌↔◌, ℕ, List, length, map, option_map, option_copied, is_some, IfErr, IfOk, IsTrue, OnErr, OnOk};
 ghost use Rattle.std.specs.FinMap as fin;
 ghost use Rattle.std.specs.Str.{bytes_eq};
 ghost use Rattle.passkey_core.specs.Map.{AreEntries, ClonesValues, GivesEntries, LendsEntries, map_of, maps_eq};
@@ -8,7 +8,7 @@ ghost use Rattle.passkey_core.specs.SameMaps.{maps_eq-equivalence, maps_eq-parti
 use crate::bytes::Bytes;
 use crate::text::Text;
 use passkey_cbor::OutOfMemory;
-use std::alloc::{AllocError, Global};
+use std::alloc::{AllocError, AllocFailed, Global};
 use std::collections::HashMap;
 use std::collections::hash_map::{IntoIter, Iter};
 use std::fmt;
@@ -85,6 +85,7 @@ impl<K: Key, V> Map<K, V> {
     }
 
     /// The value at the key, if there is one.
+    #[tactic(auto, using(crate::proofs::Maps::readings))]
     pub fn get(&self, key: &K) -> Option<&V>
         ensures { option_copied result ≡ fin.get self.now (K.key_bytes key.now) }
     {
@@ -92,13 +93,36 @@ impl<K: Key, V> Map<K, V> {
     }
 
     /// Whether there is a value at the key.
+    #[tactic(auto, using(crate::proofs::Maps::readings))]
     pub fn contains_key(&self, key: &K) -> bool
         ensures { result ≡ fin.contains_key self.now (K.key_bytes key.now) }
     {
         self.0.contains_key(key)
     }
 
+    /// Puts the value at the key, and gives back the one that stood there. Where a growth was
+    /// refused the map is as before, and the error holds the key and the value.
+    #[tactic(auto, using(crate::proofs::MapChanges::changes))]
+    pub fn insert(&mut self, key: K, value: V) -> Result<Option<V>, AllocFailed<(K, V)>>
+        ensures before { IfOk result (λ before. before ≡ fin.get self.old (K.key_bytes key)) }
+        ensures ok { OnOk result (self.new ≡ fin.insert self.old (K.key_bytes key) value) }
+        ensures err { OnErr result (self.new ≡ self.old) }
+        ensures value_returned { IfErr result (λ failed. failed.value ≡ (key, value)) }
+    {
+        self.0.insert(key, value)
+    }
+
+    /// Takes out the value at the key, and gives it back if there was one.
+    #[tactic(auto, using(crate::proofs::MapChanges::changes))]
+    pub fn remove(&mut self, key: &K) -> Option<V>
+        ensures before { result ≡ fin.get self.old (K.key_bytes key.now) }
+        ensures after { self.new ≡ fin.remove self.old (K.key_bytes key.now) }
+    {
+        self.0.remove(key)
+    }
+
     /// How many keys have a value.
+    #[tactic(auto, using(crate::proofs::Maps::readings))]
     pub fn len(&self) -> usize
         ensures { result ≡ fin.len self.now }
     {
@@ -174,7 +198,8 @@ impl<K: Key, V: Clone> Clone for Map<K, V> {
     ghost is_clone = { ClonesValues V.is_clone };
 
     fn clone(&self) -> Result<Map<K, V>, AllocError> {
-        Ok(Map(self.0.clone()?))
+        let copy = self.0.clone()?;
+        Ok(Map(copy))
     }
 }
 
@@ -183,6 +208,7 @@ impl<K: Key, V: PartialEq> PartialEq for Map<K, V> {
 
     ghost laws = { maps_eq-partial V.eq V.laws };
 
+    #[tactic(auto, using(crate::proofs::MapEquality::hash_map_eq_as_maps_eq))]
     fn eq(&self, other: &Map<K, V>) -> bool {
         self.0 == other.0
     }

@@ -1,4 +1,5 @@
-ghost use Rattle.std.specs.Prelude.{◌≡◌, IfOk};
+ghost use Rattle.std.specs.Prelude.{◌≡◌, IfOk, OnOk};
+ghost use Rattle.std.specs.FinMap as fin;
 
 use super::*;
 use crate::list::List;
@@ -19,6 +20,26 @@ fn copied(
     ensures { IfOk result (λ copy. copy ≡ map.now) }
 {
     map.try_clone(alloc)
+}
+
+/// A caller's clause speaks of the finite map alone.
+fn put_seven(ages: &mut Map<Text, u32>, name: Text) -> Result<(), OutOfMemory>
+    ensures { OnOk result (ages.new ≡ fin.insert ages.old name 7) }
+{
+    ages.insert(name, 7)?;
+    Ok(())
+}
+
+#[test]
+fn is_changed_in_place(rt: HostRuntime) -> Result<(), Fail> {
+    let mut ages = two_ages(rt.alloc())?;
+    let ada = Text::from_str(rt.alloc(), "Ada")?;
+    put_seven(&mut ages, ada.try_clone(rt.alloc())?)?;
+    assert_eq!(rt; ages.len(), 2);
+    assert_eq!(rt; ages.remove(&ada), Some(7));
+    assert_eq!(rt; ages.remove(&ada), None);
+    assert_eq!(rt; ages.len(), 1);
+    Ok(())
 }
 
 #[test]
