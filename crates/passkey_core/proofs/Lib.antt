@@ -1,0 +1,4 @@
+mod MapChanges
+mod MapEquality
+mod Maps
+mod SameTables

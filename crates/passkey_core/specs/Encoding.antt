@@ -1,0 +1,38 @@
+-- What a text stands for in base64 and base64url (RFC 4648, sections 4 and 5). The decoding is the
+-- definition of the crate `base64`.
+use Rattle.std.specs.Prelude.{ℕ, ◌==◌, true, if◌then◌else◌, List, [], ◌∷◌, reverse, Option, Some, None}
+use Rattle.std.specs.Result.{result_ok}
+use Rattle.base64.specs.declared.engine.general_purpose.GeneralPurpose.{GeneralPurpose}
+use Rattle.base64.specs.declared.engine.general_purpose.TheConstants.{NO_PAD}
+use Rattle.base64.specs.Engines.{url_safe_under, standard_no_pad}
+use Rattle.base64.specs.GeneralPurpose.{decode_of}
+
+-- base64url, unpadded, where the bits of the last symbol past the last whole byte may be set
+abbrev pub url_safe_loose : GeneralPurpose
+url_safe_loose = url_safe_under (record NO_PAD { decode_allow_trailing_bits = true })
+
+-- the list without each `=` that begins it
+abbrev pub after_equals : List ℕ → List ℕ
+after_equals [] = []
+after_equals (x ∷ xs) = if x == 61 then after_equals xs else x ∷ xs
+
+-- the text without each `=` that ends it
+abbrev pub without_equals : List ℕ → List ℕ
+without_equals text = reverse (after_equals (reverse text))
+
+-- the bytes of a text in base64url, padded or not
+abbrev pub base64url_bytes : List ℕ → Option (List ℕ)
+base64url_bytes text = result_ok (decode_of url_safe_loose (without_equals text))
+
+-- the bytes of a text in base64, padded or not, whose last symbol has no bit set past the last byte
+abbrev pub base64_bytes : List ℕ → Option (List ℕ)
+base64_bytes text = result_ok (decode_of standard_no_pad (without_equals text))
+
+-- the first of two that is there
+abbrev pub first_of : {X : Type 0} → Option X → Option X → Option X
+first_of (Some x) other = Some x
+first_of None other = other
+
+-- the bytes of a text: as base64url, else as base64
+abbrev pub text_bytes : List ℕ → Option (List ℕ)
+text_bytes text = first_of (base64url_bytes text) (base64_bytes text)

@@ -1,0 +1,86 @@
+//! Bytes as text: base64 and base64url (RFC 4648, sections 4 and 5), written without padding and
+//! read with or without it.
+ghost use Rattle.std.specs.Prelude.{◌≡◌, IfOk, option_map};
+ghost use Rattle.std.specs.Result.{result_ok};
+ghost use Rattle.std.specs.String.{string_bytes};
+ghost use Rattle.base64.specs.Engines.{standard_no_pad, url_safe_no_pad};
+ghost use Rattle.base64.specs.GeneralPurpose.{SameEngine, decode_of, encode_of};
+ghost use Rattle.passkey_core.specs.Encoding.{base64_bytes, base64url_bytes, url_safe_loose, without_equals};
+
+use base64::engine::general_purpose::{GeneralPurpose, NO_PAD, STANDARD_NO_PAD, URL_SAFE_NO_PAD};
+use base64::{DecodeAllocError, alphabet};
+use passkey_cbor::OutOfMemory;
+use std::alloc::Global;
+
+/// The bytes in base64, without padding (RFC 4648, section 4). `OutOfMemory` where the text's
+/// memory was refused.
+pub fn base64(alloc: Global, bytes: &[u8]) -> Result<String, OutOfMemory>
+    ensures { IfOk result (λ text. string_bytes text ≡ encode_of standard_no_pad bytes.now) }
+{
+    Ok(STANDARD_NO_PAD.encode(alloc, bytes)?)
+}
+
+/// The bytes in base64url, without padding (RFC 4648, section 5). `OutOfMemory` where the text's
+/// memory was refused.
+pub fn base64url(alloc: Global, bytes: &[u8]) -> Result<String, OutOfMemory>
+    ensures { IfOk result (λ text. string_bytes text ≡ encode_of url_safe_no_pad bytes.now) }
+{
+    Ok(URL_SAFE_NO_PAD.encode(alloc, bytes)?)
+}
+
+/// The bytes of a text in base64url (RFC 4648, section 5), or `None` where it is none. Every `=` at
+/// the end is dropped, nothing else is, and the bits of the last symbol past the last whole byte
+/// may be set. `OutOfMemory` where the bytes' memory was refused.
+pub fn try_from_base64url(alloc: Global, text: &str) -> Result<Option<Vec<u8>>, OutOfMemory>
+    ensures { IfOk result (λ found. option_map (λ v. v.items) found ≡ base64url_bytes text.now) }
+{
+    decode(alloc, &url_safe_loose(), without_equals(text.as_bytes()))
+}
+
+/// The bytes of a text in base64 (RFC 4648, section 4), or `None` where it is none. Every `=` at the
+/// end is dropped, nothing else is, and no bit may be set past the last whole byte.
+pub(crate) fn try_from_base64(alloc: Global, text: &str) -> Result<Option<Vec<u8>>, OutOfMemory>
+    ensures { IfOk result (λ found. option_map (λ v. v.items) found ≡ base64_bytes text.now) }
+{
+    decode(alloc, &STANDARD_NO_PAD, without_equals(text.as_bytes()))
+}
+
+fn decode(
+    alloc: Global,
+    engine: &GeneralPurpose,
+    symbols: &[u8],
+) -> Result<Option<Vec<u8>>, OutOfMemory>
+    ensures { IfOk result (λ found. option_map (λ v. v.items) found ≡ result_ok (decode_of engine.now symbols.now)) }
+{
+    match engine.decode(alloc, symbols) {
+        Ok(bytes) => Ok(Some(bytes)),
+        Err(DecodeAllocError::DecodeError(_)) => Ok(None),
+        Err(DecodeAllocError::OutOfMemory) => Err(OutOfMemory),
+    }
+}
+
+/// The engine for base64url that reads a last symbol with any bits.
+fn url_safe_loose() -> GeneralPurpose
+    ensures { SameEngine result url_safe_loose }
+{
+    GeneralPurpose::new(
+        &alphabet::URL_SAFE,
+        NO_PAD.with_decode_allow_trailing_bits(true),
+    )
+}
+
+fn without_equals(text: &[u8]) -> &[u8]
+    ensures { result.now ≡ without_equals text.now }
+{
+    let mut rest = text;
+    while let Some((last, front)) = rest.split_last() {
+        if *last != b'=' {
+            return rest;
+        }
+        rest = front;
+    }
+    rest
+}
+
+#[cfg(test)]
+mod tests;
