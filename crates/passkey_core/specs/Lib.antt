@@ -1,0 +1,2 @@
+pub mod Iana
+pub mod IanaLaws

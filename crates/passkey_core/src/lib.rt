@@ -1,0 +1,4 @@
+//! What passkeys are made of: keys of COSE, as items of CBOR.
+#![tactic(auto)]
+
+pub mod iana;
