@@ -4,3 +4,7 @@ pub mod CoseErrors
 pub mod Label
 pub mod Registered
 pub mod RegisteredSame
+pub mod KeyLabels
+pub mod KeyParams
+pub mod KeyParts
+pub mod Key

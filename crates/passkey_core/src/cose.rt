@@ -1,9 +1,12 @@
 //! Keys of COSE (RFC 9052, section 7).
 
 mod error;
+mod key;
 mod label;
+mod make;
 mod registered;
 
 pub use error::{CoseError, CoseKeyConversionError};
+pub use key::CoseKey;
 pub use label::Label;
 pub use registered::Registered;
