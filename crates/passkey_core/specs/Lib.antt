@@ -8,3 +8,4 @@ pub mod KeyLabels
 pub mod KeyParams
 pub mod KeyParts
 pub mod Key
+pub mod KeyWith

@@ -4,9 +4,14 @@ mod error;
 mod key;
 mod label;
 mod make;
+mod parts;
 mod registered;
+mod setting;
+mod with;
+mod writing;
 
 pub use error::{CoseError, CoseKeyConversionError};
 pub use key::CoseKey;
 pub use label::Label;
 pub use registered::Registered;
+pub use with::RefusedKey;
