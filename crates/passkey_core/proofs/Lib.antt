@@ -1,1 +1,4 @@
 pub mod KeySeparate
+pub mod KeyLists
+pub mod KeyFurther
+pub mod KeyFaulty

@@ -13,11 +13,6 @@ use Rattle.passkey_core.specs.declared.cose.key.CoseKey.{CoseKey}
 use Rattle.passkey_core.specs.declared.cose.with.RefusedKey.{RefusedKey}
 use Rattle.passkey_core.specs.declared.iana.KeyOperation.{KeyOperation}
 
--- a string is to have a byte
-abbrev pub string_fault : List ℕ → Option CoseError
-string_fault [] = Some UnexpectedItem
-string_fault (b ∷ bs) = None
-
 abbrev pub has_repeat : List Item → Bool
 has_repeat [] = false
 has_repeat (x ∷ xs) = list_any (item_eq x) xs || has_repeat xs

@@ -9,3 +9,6 @@ pub mod KeyParams
 pub mod KeyParts
 pub mod Key
 pub mod KeyWith
+pub mod KeyFaults
+pub mod KeyReading
+pub mod KeyChecks

@@ -1,10 +1,12 @@
 //! Keys of COSE (RFC 9052, section 7).
 
+mod checking;
 mod error;
 mod key;
 mod label;
 mod make;
 mod parts;
+mod reading;
 mod registered;
 mod setting;
 mod with;

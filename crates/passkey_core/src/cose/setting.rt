@@ -5,10 +5,11 @@ ghost use Rattle.passkey_cbor.specs.Item.{number};
 ghost use Rattle.passkey_cbor.specs.Same.{item_eq};
 ghost use Rattle.passkey_cbor.specs.View.{item_of};
 ghost use Rattle.passkey_core.specs.Key.{key_parts};
+ghost use Rattle.passkey_core.specs.KeyFaults.{string_fault};
 ghost use Rattle.passkey_core.specs.KeyLabels.{is_common, has_label};
 ghost use Rattle.passkey_core.specs.KeyParams.{param_of, params_of, params_held};
 ghost use Rattle.passkey_core.specs.KeyParts.{op_item};
-ghost use Rattle.passkey_core.specs.KeyWith.{string_fault, has_repeat, key_ops_fault, param_fault, Becomes, BecomesOrRunsOut};
+ghost use Rattle.passkey_core.specs.KeyWith.{has_repeat, key_ops_fault, param_fault, Becomes, BecomesOrRunsOut};
 ghost use Rattle.passkey_core.specs.Label.{label_item};
 ghost use Rattle.passkey_core.specs.Registered.{named_of, named_item};
 
