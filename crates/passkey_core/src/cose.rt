@@ -1,6 +1,7 @@
 //! Keys of COSE (RFC 9052, section 7).
 
 mod checking;
+mod cloning;
 mod error;
 mod key;
 mod label;
@@ -17,3 +18,6 @@ pub use key::CoseKey;
 pub use label::Label;
 pub use registered::Registered;
 pub use with::RefusedKey;
+
+#[cfg(test)]
+mod tests;
