@@ -2,3 +2,4 @@ pub mod KeySeparate
 pub mod KeyLists
 pub mod KeyFurther
 pub mod KeyFaulty
+pub mod KeyEnds

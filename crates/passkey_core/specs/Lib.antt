@@ -12,3 +12,5 @@ pub mod KeyWith
 pub mod KeyFaults
 pub mod KeyReading
 pub mod KeyChecks
+pub mod KeySame
+pub mod KeySameLaws

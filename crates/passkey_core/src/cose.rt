@@ -2,6 +2,7 @@
 
 mod checking;
 mod cloning;
+mod equality;
 mod error;
 mod key;
 mod label;

@@ -10,7 +10,7 @@ use passkey_cbor::Value;
 
 /// A key (RFC 9052, section 7): its type, the common parameters of section 7.1, and further
 /// parameters, whose labels differ from those and from one another.
-#[derive(Debug, Drop, PartialEq, Eq)]
+#[derive(Debug, Drop)]
 pub struct CoseKey {
     pub(crate) kty: Registered<KeyType>,
     pub(crate) key_id: Option<Vec<u8>>,

@@ -61,6 +61,14 @@ fn the_common_parameters_come_first(rt: HostRuntime) -> Result<(), Fail> {
 }
 
 #[test]
+fn a_key_that_was_read_is_the_one_that_was_made(rt: HostRuntime) -> Result<(), Fail> {
+    let made = CoseKey::new(Registered::Assigned(KeyType::EC2));
+    assert!(rt; read(rt.alloc(), &[0xa1, 0x01, 0x02])? == made);
+    assert!(rt; made.try_clone(rt.alloc())? == made);
+    Ok(())
+}
+
+#[test]
 fn bad_members_are_refused(rt: HostRuntime) -> Result<(), Fail> {
     let cases: [(&[u8], CoseError); 12] = [
         (&[0x80], CoseError::UnexpectedItem),
