@@ -1,5 +1,5 @@
 -- A fault is what reading answers.
-use Rattle.std.proofs.Common.{◌≡◌, Result, Ok, Err, refl}
+use Rattle.std.proofs.Common.{Err, refl}
 use Rattle.passkey_core.specs.KeyChecks.{Reads}
 use Rattle.passkey_core.specs.declared.cose.error.CoseError.{CoseError}
 use Rattle.passkey_core.specs.declared.cose.error.CoseError.TheVariants.{DecodeFailed, OutOfMemory, OutOfRangeIntegerValue, DuplicateMapKey, UnexpectedItem}

@@ -3,3 +3,6 @@ pub mod KeyLists
 pub mod KeyFurther
 pub mod KeyFaulty
 pub mod KeyEnds
+pub mod KeyHeld
+pub mod KeySorted
+pub mod KeyRound

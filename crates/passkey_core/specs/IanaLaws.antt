@@ -1,7 +1,6 @@
 -- The numbers of a registry's values tell them apart: proofs that the impls of EnumI64 cite.
-use Rattle.std.proofs.Common.{◌≡◌, ◌↔◌, ℤ, Bool, true, false, List, [], ◌∷◌, Option, Some, None, refl, sym, ap, subst, ◌∙◌}
+use Rattle.std.proofs.Common.{◌≡◌, ◌↔◌, ℤ, Bool, true, false, List, [], ◌∷◌, Some, refl, subst}
 use Rattle.std.specs.Cmp.{signed_Decides}
-use Rattle.std.specs.List.{find}
 use Rattle.std.specs.Ordering.{int_eq}
 use Rattle.passkey_core.specs.declared.iana.Algorithm.{Algorithm}
 use Rattle.passkey_core.specs.declared.iana.KeyType.{KeyType}

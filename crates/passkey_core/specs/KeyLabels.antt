@@ -1,5 +1,5 @@
 -- The members of a key: pairs of a label and a value, as items.
-use Rattle.std.specs.Prelude.{◌≡◌, ℕ, pos, Bool, true, false, not, ◌&&◌, List, [], ◌∷◌}
+use Rattle.std.specs.Prelude.{ℕ, pos, Bool, true, not, ◌&&◌, List, [], ◌∷◌}
 use Rattle.std.specs.List.{list_any}
 use Rattle.passkey_cbor.specs.Item.{Item, number}
 use Rattle.passkey_cbor.specs.Same.{item_eq}

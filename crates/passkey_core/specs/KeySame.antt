@@ -6,7 +6,6 @@ use Rattle.std.specs.Str.{bytes_eq}
 use Rattle.passkey_cbor.specs.Item.{Item}
 use Rattle.passkey_cbor.specs.Same.{item_eq}
 use Rattle.passkey_core.specs.Iana.{algorithm_number, key_type_number, key_operation_number}
-use Rattle.passkey_core.specs.KeyLabels.{Members}
 use Rattle.passkey_core.specs.KeyParts.{KeyParts}
 use Rattle.passkey_core.specs.Registered.{named_eq}
 

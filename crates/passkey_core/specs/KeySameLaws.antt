@@ -1,5 +1,5 @@
 -- The test of keys tells whether they are equal: proofs that the impls of PartialEq and Eq cite.
-use Rattle.std.proofs.Common.{◌≡◌, ◌&&◌, Bool, true, false, List, Option, Some, None, refl, sym, ap, subst}
+use Rattle.std.proofs.Common.{◌≡◌, ◌&&◌, Bool, true, Some, None, refl, sym, ap, subst}
 use Rattle.std.specs.Bool.{Decides}
 use Rattle.std.specs.Cmp.{IsEquivalence, decided}
 use Rattle.std.specs.Cmp.Lexicographic.{pointwise}
@@ -12,14 +12,10 @@ use Rattle.passkey_cbor.specs.Same.{item_eq}
 use Rattle.passkey_cbor.specs.SameItems.{item_Decides}
 use Rattle.passkey_core.specs.Iana.{algorithm_number, key_type_number, key_operation_number}
 use Rattle.passkey_core.specs.IanaLaws.{algorithm_named-number, key_type_named-number, key_operation_named-number}
-use Rattle.passkey_core.specs.KeyLabels.{Members}
 use Rattle.passkey_core.specs.KeyParts.{KeyParts}
 use Rattle.passkey_core.specs.KeySame.{member_eq, strings_eq, names_eq, parts_eq}
-use Rattle.passkey_core.specs.Registered.{Named, named_eq}
+use Rattle.passkey_core.specs.Registered.{named_eq}
 use Rattle.passkey_core.specs.RegisteredSame.{named_Decides}
-use Rattle.passkey_core.specs.declared.iana.Algorithm.{Algorithm}
-use Rattle.passkey_core.specs.declared.iana.KeyOperation.{KeyOperation}
-use Rattle.passkey_core.specs.declared.iana.KeyType.{KeyType}
 
 -- a test of a type's values that tells whether they are equal
 abbrev pub DecidesAll : {T : Type 0} → (T → T → Bool) → Type 0

@@ -1,5 +1,5 @@
 -- What giving a key one more part answers.
-use Rattle.std.specs.Prelude.{◌≡◌, ℕ, Bool, true, false, ◌||◌, if◌then◌else◌, List, [], ◌∷◌, map, Option, Some, None, Result, Ok, Err}
+use Rattle.std.specs.Prelude.{◌≡◌, Bool, false, ◌||◌, if◌then◌else◌, List, [], ◌∷◌, map, Option, Some, None, Result, Ok, Err}
 use Rattle.std.specs.List.{list_any}
 use Rattle.passkey_cbor.specs.Item.{Item}
 use Rattle.passkey_cbor.specs.Same.{item_eq}
@@ -10,7 +10,7 @@ use Rattle.passkey_core.specs.Registered.{Named}
 use Rattle.passkey_core.specs.declared.cose.error.CoseError.{CoseError}
 use Rattle.passkey_core.specs.declared.cose.error.CoseError.TheVariants.{DecodeFailed, OutOfMemory, OutOfRangeIntegerValue, DuplicateMapKey, UnexpectedItem}
 use Rattle.passkey_core.specs.declared.cose.key.CoseKey.{CoseKey}
-use Rattle.passkey_core.specs.declared.cose.with.RefusedKey.{RefusedKey}
+use Rattle.passkey_core.specs.declared.cose.refused.RefusedKey.{RefusedKey}
 use Rattle.passkey_core.specs.declared.iana.KeyOperation.{KeyOperation}
 
 abbrev pub has_repeat : List Item → Bool

@@ -14,3 +14,4 @@ pub mod KeyReading
 pub mod KeyChecks
 pub mod KeySame
 pub mod KeySameLaws
+pub mod KeyLaws

@@ -1,5 +1,5 @@
 -- Values that a registry assigns, and others, by a number or a text.
-use Rattle.std.specs.Prelude.{ℕ, ℤ, List, Option, Some, None, Bool, false, string_bytes}
+use Rattle.std.specs.Prelude.{ℕ, ℤ, List, Bool, false, string_bytes}
 use Rattle.std.specs.Ordering.{int_eq}
 use Rattle.std.specs.Str.{bytes_eq}
 use Rattle.passkey_cbor.specs.Item.{Item, number, text_string}

@@ -1,5 +1,5 @@
 -- The test of a registry's values tells whether they are equal: proofs that the impls of PartialEq and Eq cite.
-use Rattle.std.proofs.Common.{◌≡◌, ◌↔◌, ℤ, Bool, true, false, Option, Some, refl, sym, ap, subst, ◌∙◌}
+use Rattle.std.proofs.Common.{◌≡◌, ◌↔◌, ℤ, true, Option, Some, refl, sym, ap, subst}
 use Rattle.std.specs.Bool.{Decides}
 use Rattle.std.specs.Cmp.{IsEquivalence, decided, signed_Decides}
 use Rattle.std.proofs.lemmas.Bool.{true≢false}

@@ -6,19 +6,20 @@ mod equality;
 mod error;
 mod key;
 mod label;
+pub mod laws;
 mod make;
 mod parts;
 mod reading;
+mod refused;
 mod registered;
-mod setting;
 mod with;
 mod writing;
 
 pub use error::{CoseError, CoseKeyConversionError};
 pub use key::CoseKey;
 pub use label::Label;
+pub use refused::RefusedKey;
 pub use registered::Registered;
-pub use with::RefusedKey;
 
 #[cfg(test)]
 mod tests;

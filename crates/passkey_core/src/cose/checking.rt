@@ -11,7 +11,7 @@ use crate::cose::error::CoseError;
 use passkey_cbor::{Integer, Value};
 
 /// The number, if 64 signed bits hold it.
-pub(crate) fn signed_64(n: Integer) -> Option<i64>
+pub(super) fn signed_64(n: Integer) -> Option<i64>
     ensures { result ≡ (if is_signed_64 n then Some n else None) }
 {
     let n = n.get();
@@ -22,7 +22,7 @@ pub(crate) fn signed_64(n: Integer) -> Option<i64>
 }
 
 /// Whether the item is this number.
-pub(crate) fn is_label_of(label: &Value, n: u8) -> bool
+pub(super) fn is_label_of(label: &Value, n: u8) -> bool
     ensures { result ≡ is_label n (item_of label.now) }
 {
     match label {
@@ -141,7 +141,7 @@ fn check_member(earlier: &[(Value, Value)], member: &(Value, Value)) -> Result<(
 }
 
 /// The fault of the first bad member.
-pub(crate) fn check_members(members: &[(Value, Value)]) -> Result<(), CoseError>
+pub(super) fn check_members(members: &[(Value, Value)]) -> Result<(), CoseError>
     ensures { Checks (first_fault [] (map pair_of members.now)) result }
 {
     for i in 0..members.len() {

@@ -12,11 +12,11 @@ use passkey_cbor::Value;
 /// parameters, whose labels differ from those and from one another.
 #[derive(Debug, Drop)]
 pub struct CoseKey {
-    pub(crate) kty: Registered<KeyType>,
-    pub(crate) key_id: Option<Vec<u8>>,
-    pub(crate) alg: Option<Registered<Algorithm>>,
-    pub(crate) key_ops: Option<Vec<Registered<KeyOperation>>>,
-    pub(crate) base_iv: Option<Vec<u8>>,
-    pub(crate) params: Option<Vec<(Label, Value)>>,
+    pub(super) kty: Registered<KeyType>,
+    pub(super) key_id: Option<Vec<u8>>,
+    pub(super) alg: Option<Registered<Algorithm>>,
+    pub(super) key_ops: Option<Vec<Registered<KeyOperation>>>,
+    pub(super) base_iv: Option<Vec<u8>>,
+    pub(super) params: Option<Vec<(Label, Value)>>,
     ghost separate: { are_separate (params_of (unwrap_or (option_map (λ v. v.items) params) [])) ≡ true },
 }

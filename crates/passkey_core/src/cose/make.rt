@@ -14,7 +14,7 @@ use crate::iana::KeyType;
 use passkey_cbor::{Integer, OutOfMemory, Value};
 use std::alloc::Global;
 
-pub(crate) fn integer(n: i64) -> Value
+pub(super) fn integer(n: i64) -> Value
     ensures { item_of result ≡ number n }
 {
     Value::Integer(Integer::new(i128::from(n)).unwrap())

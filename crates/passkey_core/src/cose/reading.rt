@@ -179,6 +179,8 @@ impl CoseKey {
     /// or, at the end, where the type is not there or the reserved one. `OutOfRangeIntegerValue`
     /// where such a number is outside 64 signed bits. `DuplicateMapKey` where a label stands
     /// twice. `OutOfMemory` where a growth was refused.
+    ///
+    /// The time grows with the square of the number of pairs, and of operations.
     pub fn from_value(alloc: Global, value: &Value) -> Result<CoseKey, CoseError>
         ensures { Reads key_parts (read_key (item_of value.now)) result }
     {

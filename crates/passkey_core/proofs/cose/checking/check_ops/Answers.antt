@@ -1,4 +1,4 @@
-use Rattle.std.proofs.Common.{rules, arith, ◌≡◌, ◌<◌, map, length}
+use Rattle.std.proofs.Common.{rules, ◌<◌, map, length}
 use Rattle.std.proofs.lemmas.List.{length-map}
 use Rattle.passkey_cbor.specs.View.{item_of}
 use Rattle.passkey_cbor.proofs.Views.{item_of-Array}

@@ -1,5 +1,5 @@
-use Rattle.std.proofs.Common.{rules, ◌≡◌, map, Some, sym, ap, ◌∙◌, refl}
-use Rattle.passkey_cbor.specs.Item.{Item, array, items_of}
+use Rattle.std.proofs.Common.{rules, ◌≡◌, map, Some, sym}
+use Rattle.passkey_cbor.specs.Item.{array, items_of}
 use Rattle.passkey_cbor.specs.View.{item_of, pair_of}
 use Rattle.passkey_cbor.proofs.Views.{item_of-Array}
 use Rattle.passkey_core.specs.KeyReading.{under}

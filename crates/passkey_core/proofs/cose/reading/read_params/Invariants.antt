@@ -1,4 +1,4 @@
-use Rattle.std.proofs.Common.{◌≡◌, ◌++◌, [], map, take, drop, None}
+use Rattle.std.proofs.Common.{◌≡◌, ◌++◌, map, take, drop, None}
 use Rattle.passkey_cbor.specs.View.{pair_of}
 use Rattle.passkey_core.specs.KeyFaults.{first_fault}
 use Rattle.passkey_core.specs.KeyParams.{params_of}

@@ -1,4 +1,4 @@
-use Rattle.std.proofs.Common.{rules, sym, ◌∙◌}
+use Rattle.std.proofs.Common.{sym, ◌∙◌}
 use Rattle.passkey_core.specs.Key.{key_parts}
 use Rattle.passkey_core.specs.KeySameLaws.{parts_Decides}
 use Rattle.passkey_core.proofs.cose.equality.CoseKeyPartialEq.eq.Goals as goal

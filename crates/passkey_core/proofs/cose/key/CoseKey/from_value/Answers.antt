@@ -1,5 +1,5 @@
-use Rattle.std.proofs.Common.{rules, ◌≡◌, [], map, Some, None, Err, refl}
-use Rattle.passkey_cbor.specs.View.{item_of, pair_of}
+use Rattle.std.proofs.Common.{rules, ◌≡◌, [], map, Some, None, Err}
+use Rattle.passkey_cbor.specs.View.{pair_of}
 use Rattle.passkey_cbor.proofs.Views.{item_of-Map}
 use Rattle.passkey_core.specs.KeyFaults.{first_fault}
 use Rattle.passkey_core.specs.Key.{key_parts}

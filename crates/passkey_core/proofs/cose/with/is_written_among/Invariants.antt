@@ -3,7 +3,7 @@ use Rattle.std.specs.List.{list_any}
 use Rattle.passkey_cbor.specs.Same.{item_eq}
 use Rattle.passkey_core.specs.KeyParts.{op_item}
 use Rattle.passkey_core.specs.Registered.{named_of}
-use Rattle.passkey_core.proofs.cose.setting.is_written_among.Given as goal
+use Rattle.passkey_core.proofs.cose.with.is_written_among.Given as goal
 
 abbrev pub invariant-loop-other : goal.invariant-loop-other
 invariant-loop-other l =
