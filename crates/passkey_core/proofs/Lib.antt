@@ -2,3 +2,11 @@ mod MapChanges
 mod MapEquality
 mod Maps
 mod SameTables
+pub mod KeySeparate
+pub mod KeyLists
+pub mod KeyFurther
+pub mod KeyFaulty
+pub mod KeyEnds
+pub mod KeyHeld
+pub mod KeySorted
+pub mod KeyRound

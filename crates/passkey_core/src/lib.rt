@@ -1,8 +1,11 @@
-//! What the messages of passkeys are made of: byte strings, texts, lists and maps.
+//! What the messages of passkeys are made of: byte strings, texts, lists, maps, and keys of COSE
+//! (RFC 9052, section 7).
 #![tactic(auto)]
 
 mod bytes;
+pub mod cose;
 pub mod encoding;
+pub mod iana;
 mod list;
 mod map;
 mod text;

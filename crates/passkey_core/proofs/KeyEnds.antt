@@ -1,0 +1,13 @@
+-- The end of comparing two lists.
+use Rattle.std.proofs.Common.{◌≡◌, ℕ, suc, ◌≤◌, ◌==◌, Bool, false, arith, List, [], ◌∷◌, length, map, drop, refl}
+use Rattle.std.specs.Cmp.Lexicographic.{pointwise}
+use Rattle.std.proofs.lemmas.Bool.Decides.{nat_tests}
+use Rattle.std.proofs.lemmas.List.{drop_all}
+
+not_none : (n : ℕ) → (suc n == 0) ≡ false
+not_none n = grind (arith, nat_tests)
+
+-- when the first list is at its end, the rest of the other decides
+pub pointwise-end : {X A : Type 0} (seen : X → A) (E : A → A → Bool) (xs rest : List X) (i : ℕ) → length xs ≤ i → (length rest == 0) ≡ pointwise E (map seen (drop i xs)) (map seen rest)
+pointwise-end seen E xs [] i le = rw (drop_all i xs le) refl
+pointwise-end seen E xs (y ∷ ys) i le = rw (drop_all i xs le) (not_none (length ys))

@@ -1,0 +1,18 @@
+-- The errors of COSE, and what errors of CBOR are among them.
+use Rattle.std.specs.Prelude.{ℕ, List, codes}
+use Rattle.passkey_cbor.specs.declared.error.CborError.{CborError}
+use Rattle.passkey_cbor.specs.declared.error.CborError.TheVariants as cbor
+use Rattle.passkey_core.specs.declared.cose.error.CoseError.{CoseError}
+use Rattle.passkey_core.specs.declared.cose.error.CoseError.TheVariants as cose
+
+abbrev pub cose_error_name : CoseError → List ℕ
+cose_error_name cose.DecodeFailed = codes "DecodeFailed"
+cose_error_name cose.OutOfMemory = codes "OutOfMemory"
+cose_error_name cose.OutOfRangeIntegerValue = codes "OutOfRangeIntegerValue"
+cose_error_name cose.DuplicateMapKey = codes "DuplicateMapKey"
+cose_error_name cose.UnexpectedItem = codes "UnexpectedItem"
+
+abbrev pub cose_error_of : CborError → CoseError
+cose_error_of cbor.DecodeFailed = cose.DecodeFailed
+cose_error_of cbor.OutOfMemory = cose.OutOfMemory
+cose_error_of cbor.OutOfRangeIntegerValue = cose.OutOfRangeIntegerValue
