@@ -1,5 +1,5 @@
-//! The numbers that IANA's registries of COSE assign, as far as passkeys use them (RFC 9053,
-//! RFC 8812, RFC 9864).
+//! The numbers that IANA's registries of COSE assign, as far as passkeys use them (RFC 9053 and
+//! RFC 8812).
 ghost use Rattle.std.specs.Prelude.{◌≡◌, ◌↔◌, ℤ, Option, Some};
 ghost use Rattle.passkey_core.specs.Iana.{algorithm_number, algorithm_named, key_type_number, key_type_named, key_operation_number, key_operation_named};
 ghost use Rattle.passkey_core.specs.IanaLaws.{algorithm_named-number, key_type_named-number, key_operation_named-number};
