@@ -21,7 +21,7 @@ use Rattle.passkey_core.specs.RegisteredSame.{named_Decides}
 abbrev pub DecidesAll : {T : Type 0} → (T → T → Bool) → Type 0
 DecidesAll {T = T} E = (x y : T) → Decides (E x y) (x ≡ y)
 
-option_decides : {T : Type 0} (E : T → T → Bool) → DecidesAll E → DecidesAll (option_eq E)
+pub option_decides : {T : Type 0} (E : T → T → Bool) → DecidesAll E → DecidesAll (option_eq E)
 option_decides E each None None = (λ e. refl, λ e. refl)
 option_decides E each None (Some y) = (λ e. absurd (true≢false (sym e)), λ e. cc)
 option_decides E each (Some x) None = (λ e. absurd (true≢false (sym e)), λ e. cc)

@@ -22,3 +22,13 @@ pub mod KeyChecks
 pub mod KeySame
 pub mod KeySameLaws
 pub mod KeyLaws
+pub mod Flags
+pub mod DataParts
+pub mod DataViews
+pub mod DataWritten
+pub mod DataReading
+pub mod DataAnswers
+pub mod DataBytes
+pub mod Coherent
+pub mod SignedOutputs
+pub mod DataSame

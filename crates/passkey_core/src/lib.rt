@@ -2,15 +2,28 @@
 //! (RFC 9052, section 7).
 #![tactic(auto)]
 
+mod aaguid;
+mod attested;
+mod authenticator_data;
 mod bytes;
 pub mod cose;
 pub mod encoding;
+mod flags;
+pub mod get_assertion;
+mod given_back;
 pub mod iana;
 mod list;
+pub mod make_credential;
 mod map;
+mod signed_outputs;
 mod text;
 
+pub use aaguid::Aaguid;
+pub use attested::{AttestedCredentialData, AttestedCredentialDataIterator};
+pub use authenticator_data::AuthenticatorData;
 pub use bytes::{Bytes, BytesFault, NotBase64Encoded};
+pub use flags::Flags;
+pub use given_back::GivenBack;
 pub use list::List;
 pub use map::{Key, Map};
 pub use passkey_cbor::OutOfMemory;

@@ -1,0 +1,17 @@
+use Rattle.std.proofs.Common.{rules, ◌≡◌, ℕ, List, true, Option, Err, option_map, Bor}
+use Rattle.passkey_core.specs.DataViews.{attested_parts}
+use Rattle.passkey_core.specs.declared.attested.data.AttestedCredentialData.{AttestedCredentialData}
+use Rattle.passkey_core.specs.DataReading.{ReadsAttested, ReadsWhere}
+use Rattle.passkey_core.proofs.DataReadings.{gives_fault, part_stands, part_fails}
+use Rattle.passkey_core.proofs.authenticator_data.reading.read_attested_where.Goals as goal
+
+pub returns-in_err-attested : goal.returns-in_err-attested
+returns-in_err-attested c =
+    let there : c.args.is_there ≡ true = search rules in
+    let told : c.from_residual.result ≡ Err c.in_err-attested.field-0.0 = search rules in
+    rw told (gives_fault (λ (r : AttestedCredentialData × Bor (List ℕ)). (attested_parts r.0, r.1.now)) (λ (r : Option AttestedCredentialData × Bor (List ℕ)). (option_map attested_parts r.0, r.1.now)) (ReadsAttested c.args.bytes.now) (ReadsWhere c.args.is_there ReadsAttested c.args.bytes.now) (part_fails ReadsAttested c.args.is_there c.args.bytes.now there) c.in_err-attested.field-0.0 c.in_err-attested.ensures)
+
+pub returns : goal.returns
+returns c =
+    let there : c.args.is_there ≡ true = search rules in
+    part_stands ReadsAttested c.args.is_there c.args.bytes.now (attested_parts c.in_ok-attested.attested) c.in_ok-attested.rest.now there c.in_ok-attested.ensures

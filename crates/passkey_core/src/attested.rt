@@ -1,0 +1,80 @@
+//! Attested credential data (WebAuthn Level 3, section 6.5.1).
+ghost use Rattle.std.specs.Prelude.{◌≡◌, ◌↔◌, ◌<◌, ◌^◌, length, IsOk, IfOk, IsTrue};
+ghost use Rattle.std.specs.Cmp.{on_per, partial_equiv_from_equiv};
+ghost use Rattle.std.specs.Ordering.{on};
+ghost use Rattle.passkey_core.specs.DataParts.{AttestedParts};
+ghost use Rattle.passkey_core.specs.DataSame.{attested_eq, attested_eq-equivalence};
+ghost use Rattle.passkey_core.specs.DataViews.{attested_parts};
+ghost use Rattle.passkey_core.specs.Key.{key_parts};
+
+use crate::aaguid::Aaguid;
+use crate::cose::CoseKey;
+use passkey_cbor::OutOfMemory;
+use std::alloc::Global;
+use std::num::TryFromIntError;
+
+mod data;
+mod iter;
+
+pub use data::AttestedCredentialData;
+pub use iter::AttestedCredentialDataIterator;
+
+impl AttestedCredentialData {
+    /// Attested credential data of these parts. `TryFromIntError` exactly where the credential id
+    /// has more than 65535 bytes, since its length is written in two.
+    pub fn new(
+        aaguid: Aaguid,
+        credential_id: Vec<u8>,
+        key: CoseKey,
+    ) -> Result<AttestedCredentialData, TryFromIntError>
+        ensures range { IsOk result ↔ (length credential_id.items < 2 ^ 16) }
+        ensures value { IfOk result (λ made. attested_parts made ≡ record { aaguid = aaguid.0; credential_id = credential_id.items; key = key_parts key }) }
+    {
+        u16::try_from(credential_id.len())?;
+        Ok(AttestedCredentialData {
+            aaguid,
+            credential_id,
+            key,
+        })
+    }
+
+    /// The credential's id, of at most 65535 bytes.
+    pub fn credential_id(&self) -> &[u8]
+        ensures value { result.now ≡ (attested_parts self.now).credential_id }
+        ensures fits { length result.now < 2 ^ 16 }
+    {
+        self.credential_id.as_slice()
+    }
+
+    /// Equal data. `OutOfMemory` where a growth was refused.
+    pub fn try_clone(&self, alloc: Global) -> Result<AttestedCredentialData, OutOfMemory>
+        ensures { IfOk result (λ copy. attested_parts copy ≡ attested_parts self.now) }
+    {
+        let credential_id = Vec::from_slice(alloc, &self.credential_id)?;
+        Ok(AttestedCredentialData {
+            aaguid: self.aaguid,
+            credential_id,
+            key: self.key.try_clone(alloc)?,
+        })
+    }
+}
+
+impl PartialEq for AttestedCredentialData {
+    ghost eq = { on attested_parts attested_eq };
+
+    ghost laws = { on_per attested_parts (partial_equiv_from_equiv attested_eq-equivalence) };
+
+    /// Whether the two have the same parts.
+    #[tactic(auto, using(crate::specs::DataSame::attested_Decides))]
+    fn eq(&self, other: &AttestedCredentialData) -> bool
+        ensures value { result ≡ attested_eq (attested_parts self.now) (attested_parts other.now) }
+        ensures same { IsTrue result ↔ (attested_parts self.now ≡ attested_parts other.now) }
+    {
+        self.aaguid.0 == other.aaguid.0
+            && self.credential_id == other.credential_id
+            && self.key == other.key
+    }
+}
+
+#[cfg(test)]
+mod tests;

@@ -1,0 +1,17 @@
+//! The parts of attested credential data.
+ghost use Rattle.std.specs.Prelude.{◌<◌, ◌^◌, length};
+
+use crate::aaguid::Aaguid;
+use crate::cose::CoseKey;
+
+/// The credential that an authenticator made: whose model it is, the credential's id and its
+/// public key (WebAuthn Level 3, section 6.5.1).
+#[derive(Debug, Drop)]
+pub struct AttestedCredentialData {
+    /// The authenticator's make and model.
+    pub aaguid: Aaguid,
+    pub(crate) credential_id: Vec<u8>,
+    /// The credential's public key.
+    pub key: CoseKey,
+    ghost fits: { length credential_id.items < 2 ^ 16 },
+}

@@ -1,0 +1,76 @@
+//! Attested credential data, byte by byte.
+ghost use Rattle.std.specs.Prelude.{◌≡◌, IfOk, OnErr, IfErr};
+ghost use Rattle.passkey_core.specs.DataViews.{attested_parts};
+ghost use Rattle.passkey_core.specs.DataWritten.{attested_written};
+
+use crate::attested::AttestedCredentialData;
+use crate::given_back::GivenBack;
+use passkey_cbor::OutOfMemory;
+use std::alloc::Global;
+use std::iter::FusedIterator;
+use std::marker::Model;
+use std::vec::IntoIter;
+
+/// The bytes that are left of attested credential data as they are written: the AAGUID, the
+/// credential id's length in two bytes, big-endian, the id, and the key (WebAuthn Level 3, section
+/// 6.5.1).
+#[derive(Drop)]
+pub struct AttestedCredentialDataIterator(IntoIter<u8>);
+
+impl Model for AttestedCredentialDataIterator {
+    ghost use Rattle.std.specs.Prelude.{ℕ, List};
+    ghost use Rattle.std.specs.Vec.Iter.{into_iter_items};
+
+    ghost Value = { List ℕ };
+
+    ghost view = { λ left. into_iter_items left.0 };
+}
+
+impl Iterator for AttestedCredentialDataIterator {
+    ghost use Rattle.std.specs.Prelude.{length};
+    ghost use Rattle.std.specs.Iterator.{at_most};
+    ghost use Rattle.passkey_core.specs.DataBytes.{GivesByte};
+
+    type Item = u8;
+
+    ghost next_gives = { GivesByte };
+
+    ghost remaining = { λ left. at_most (length left) };
+
+    /// The next byte; none behind the last one, and from then on. It takes no memory.
+    fn next(&mut self) -> Option<u8> {
+        self.0.next()
+    }
+}
+
+impl FusedIterator for AttestedCredentialDataIterator {}
+
+impl AttestedCredentialData {
+    /// The data in bytes. `OutOfMemory` where a growth was refused.
+    pub(crate) fn to_vec(&self, alloc: Global) -> Result<Vec<u8>, OutOfMemory>
+        ensures { IfOk result (λ bytes. bytes.items ≡ attested_written (attested_parts self.now)) }
+    {
+        let key = self.key.to_vec(alloc)?;
+        let len = self.credential_id.len() as u16;
+        let mut bytes = Vec::from_slice(alloc, &self.aaguid.0)?;
+        bytes.extend_from_slice(&len.to_be_bytes())?;
+        bytes.extend_from_slice(&self.credential_id)?;
+        bytes.extend_from_slice(&key)?;
+        Ok(bytes)
+    }
+
+    /// An iterator over the data in bytes, which takes no more memory. Where a growth was refused,
+    /// the data come back.
+    pub fn try_into_iter(
+        self,
+        alloc: Global,
+    ) -> Result<AttestedCredentialDataIterator, GivenBack<AttestedCredentialData>>
+        ensures gives { IfOk result (λ left. left ≡ attested_written (attested_parts self)) }
+        ensures back { IfErr result (λ e. e.value ≡ self) }
+    {
+        match self.to_vec(alloc) {
+            Ok(bytes) => Ok(AttestedCredentialDataIterator(bytes.into_iter())),
+            Err(OutOfMemory) => Err(GivenBack { value: self }),
+        }
+    }
+}

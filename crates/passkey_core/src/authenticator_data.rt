@@ -1,0 +1,78 @@
+//! Authenticator data (WebAuthn Level 3, section 6.1).
+ghost use Rattle.std.specs.Prelude.{◌≡◌, Some, IfOk, IfErr};
+ghost use Rattle.std.specs.Int.RustNames.{bit_or};
+ghost use Rattle.sha2.specs.Sha256.{sha256};
+ghost use Rattle.passkey_core.specs.DataParts.{DataParts, bare_data};
+ghost use Rattle.passkey_core.specs.DataViews.{attested_parts, data_parts};
+ghost use Rattle.passkey_core.specs.Flags.{attested_flag};
+
+use crate::attested::AttestedCredentialData;
+use crate::flags::Flags;
+use passkey_cbor::Value;
+use sha2::{Digest, Sha256};
+
+mod coherence;
+mod equality;
+mod extensions;
+mod reading;
+mod writing;
+
+/// What an authenticator says of a credential's use: for whom, how, how often, and where it made
+/// the credential, which one (WebAuthn Level 3, section 6.1).
+#[derive(Debug, Drop)]
+pub struct AuthenticatorData {
+    rp_id_hash: [u8; 32],
+    /// How it was used, and which parts follow.
+    pub flags: Flags,
+    /// How often it was used; none is written as 0.
+    pub counter: Option<u32>,
+    /// The credential that was made.
+    pub attested_credential_data: Option<AttestedCredentialData>,
+    /// What extensions answered: a map, whose keys name them.
+    pub extensions: Option<Value>,
+}
+
+impl AuthenticatorData {
+    /// Data for this relying party id, whose hash it has, with the flags BE and BS and no further
+    /// part.
+    pub fn new(rp_id: &str, counter: Option<u32>) -> AuthenticatorData
+        ensures { data_parts result ≡ bare_data (sha256 rp_id.now) 24 counter }
+    {
+        AuthenticatorData {
+            rp_id_hash: Sha256::digest(rp_id),
+            flags: Flags::default(),
+            counter,
+            attested_credential_data: None,
+            extensions: None,
+        }
+    }
+
+    /// The SHA-256 hash of the relying party's id.
+    pub fn rp_id_hash(&self) -> &[u8]
+        ensures { result.now ≡ (data_parts self.now).rp_id_hash }
+    {
+        &self.rp_id_hash
+    }
+
+    /// The data with these flags set as well.
+    pub fn set_flags(mut self, flags: Flags) -> AuthenticatorData
+        ensures { data_parts result ≡ record (data_parts self) { flags = bit_or self.flags.0 flags.0 } }
+    {
+        self.flags |= flags;
+        self
+    }
+
+    /// The data with this attested credential data, and with AT set.
+    pub fn set_attested_credential_data(
+        mut self,
+        attested: AttestedCredentialData,
+    ) -> AuthenticatorData
+        ensures { data_parts result ≡ record (data_parts self) { attested = Some (attested_parts attested); flags = bit_or self.flags.0 attested_flag } }
+    {
+        self.attested_credential_data = Some(attested);
+        self.set_flags(Flags::AT)
+    }
+}
+
+#[cfg(test)]
+mod tests;

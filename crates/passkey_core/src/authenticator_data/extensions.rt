@@ -1,0 +1,69 @@
+//! Giving authenticator data what extensions answer.
+ghost use Rattle.std.specs.Prelude.{◌≡◌, Some, IfOk, IfErr, OnErr, IsSome};
+ghost use Rattle.passkey_cbor.specs.View.{item_of};
+ghost use Rattle.passkey_core.specs.DataViews.{data_parts};
+ghost use Rattle.passkey_core.specs.SignedOutputs.{creation_extensions, assertion_extensions, with_extensions};
+
+use crate::authenticator_data::AuthenticatorData;
+use crate::flags::Flags;
+use crate::given_back::GivenBack;
+use crate::{get_assertion, make_credential};
+use passkey_cbor::{OutOfMemory, Value};
+use std::alloc::Global;
+
+impl AuthenticatorData {
+    fn put_extensions(mut self, extensions: Value) -> AuthenticatorData
+        ensures { data_parts result ≡ with_extensions (data_parts self) (Some (item_of extensions)) }
+    {
+        self.extensions = Some(extensions);
+        self.set_flags(Flags::ED)
+    }
+
+    /// The data with what extensions answer of a credential that was made, in place of what was
+    /// held, and with ED set; as they were where no output is there. Where a growth was refused
+    /// the data come back as they were.
+    pub fn set_make_credential_extensions(
+        self,
+        alloc: Global,
+        outputs: Option<make_credential::SignedExtensionOutputs>,
+    ) -> Result<AuthenticatorData, GivenBack<AuthenticatorData>>
+        ensures put { IfOk result (λ d. data_parts d ≡ with_extensions (data_parts self) (creation_extensions outputs)) }
+        ensures back { IfErr result (λ e. e.value ≡ self) }
+        ensures grows { OnErr result (IsSome (creation_extensions outputs)) }
+    {
+        let Some(outputs) = outputs else {
+            return Ok(self);
+        };
+        let Some(outputs) = outputs.zip_contents() else {
+            return Ok(self);
+        };
+        match outputs.to_value(alloc) {
+            Ok(extensions) => Ok(self.put_extensions(extensions)),
+            Err(OutOfMemory) => Err(GivenBack { value: self }),
+        }
+    }
+
+    /// The data with what extensions answer of a credential's use, in place of what was held, and
+    /// with ED set; as they were where no output is there. Where a growth was refused the data come
+    /// back as they were.
+    pub fn set_assertion_extensions(
+        self,
+        alloc: Global,
+        outputs: Option<get_assertion::SignedExtensionOutputs>,
+    ) -> Result<AuthenticatorData, GivenBack<AuthenticatorData>>
+        ensures put { IfOk result (λ d. data_parts d ≡ with_extensions (data_parts self) (assertion_extensions outputs)) }
+        ensures back { IfErr result (λ e. e.value ≡ self) }
+        ensures grows { OnErr result (IsSome (assertion_extensions outputs)) }
+    {
+        let Some(outputs) = outputs else {
+            return Ok(self);
+        };
+        let Some(outputs) = outputs.zip_contents() else {
+            return Ok(self);
+        };
+        match outputs.to_value(alloc) {
+            Ok(extensions) => Ok(self.put_extensions(extensions)),
+            Err(OutOfMemory) => Err(GivenBack { value: self }),
+        }
+    }
+}

@@ -1,0 +1,161 @@
+//! Bytes to authenticator data.
+ghost use Rattle.std.specs.Prelude.{◌≡◌, ◌<◌, ◌^◌, Ok, length, option_map, IfOk};
+ghost use Rattle.std.specs.Result.{result_map_both};
+ghost use Rattle.passkey_cbor.specs.View.{item_of};
+ghost use Rattle.passkey_core.specs.DataAnswers.{Gives};
+ghost use Rattle.passkey_core.specs.DataReading.{bytes_at, fixed_at, ids_at, read_map, Reads, ReadsAttested, ReadsWhere, ReadsData};
+ghost use Rattle.passkey_core.specs.DataViews.{attested_parts, data_parts};
+ghost use Rattle.passkey_core.specs.Flags.{has_flag, attested_flag, extensions_flag};
+ghost use Rattle.passkey_core.specs.Key.{key_parts};
+ghost use Rattle.passkey_core.specs.KeyReading.{read_key};
+
+use crate::aaguid::Aaguid;
+use crate::attested::AttestedCredentialData;
+use crate::authenticator_data::AuthenticatorData;
+use crate::cose::{CoseError, CoseKey};
+use crate::flags::Flags;
+use passkey_cbor::Value;
+use std::alloc::Global;
+
+/// A part that begins the bytes, and the bytes behind it.
+type Begun<'a, T> = Result<(T, &'a [u8]), CoseError>;
+
+fn chunk_at<const N: usize>(bytes: &[u8]) -> Begun<'_, [u8; N]>
+    ensures { result_map_both (λ r. (r.0, r.1.now)) (λ e. e) result ≡ bytes_at N bytes.now }
+{
+    match bytes.split_first_chunk::<N>() {
+        Some((chunk, rest)) => Ok((*chunk, rest)),
+        None => Err(CoseError::DecodeFailed),
+    }
+}
+
+fn slice_at(bytes: &[u8], n: usize) -> Begun<'_, &[u8]>
+    ensures { result_map_both (λ r. (r.0.now, r.1.now)) (λ e. e) result ≡ bytes_at n bytes.now }
+{
+    match bytes.split_at_checked(n) {
+        Some(parts) => Ok(parts),
+        None => Err(CoseError::DecodeFailed),
+    }
+}
+
+/// The hash, the flags and the counter.
+#[tactic(auto, unfolding(crate::specs::DataReading::fixed_at))]
+fn read_fixed(bytes: &[u8]) -> Begun<'_, AuthenticatorData>
+    ensures { result_map_both (λ r. (data_parts r.0, r.1.now)) (λ e. e) result ≡ fixed_at bytes.now }
+{
+    let (rp_id_hash, rest) = chunk_at::<32>(bytes)?;
+    let (flags, rest) = chunk_at::<1>(rest)?;
+    let (counter, rest) = chunk_at::<4>(rest)?;
+    let Ok(flags) = Flags::try_from(flags[0]) else {
+        return Err(CoseError::OutOfRangeIntegerValue);
+    };
+    let fixed = AuthenticatorData {
+        rp_id_hash,
+        flags,
+        counter: Some(u32::from_be_bytes(counter)),
+        attested_credential_data: None,
+        extensions: None,
+    };
+    Ok((fixed, rest))
+}
+
+/// The AAGUID and the credential id.
+#[tactic(auto, unfolding(crate::specs::DataReading::ids_at))]
+fn read_ids(bytes: &[u8]) -> Begun<'_, (Aaguid, &[u8])>
+    ensures value { result_map_both (λ r. ((r.0.0.0, r.0.1.now), r.1.now)) (λ e. e) result ≡ ids_at bytes.now }
+    ensures fits { IfOk result (λ r. length r.0.1.now < 2 ^ 16) }
+{
+    let (aaguid, rest) = chunk_at::<16>(bytes)?;
+    let (len, rest) = chunk_at::<2>(rest)?;
+    let (id, rest) = slice_at(rest, usize::from(u16::from_be_bytes(len)))?;
+    Ok(((Aaguid(aaguid), id), rest))
+}
+
+fn read_item(alloc: Global, bytes: &[u8]) -> Begun<'_, Value>
+    ensures { Gives (λ r. (item_of r.0, r.1.now)) (Reads Ok bytes.now) result }
+{
+    let (value, len) = Value::from_slice(alloc, bytes)?;
+    Ok((value, &bytes[len..]))
+}
+
+fn read_key(alloc: Global, bytes: &[u8]) -> Begun<'_, CoseKey>
+    ensures { Gives (λ r. (key_parts r.0, r.1.now)) (Reads read_key bytes.now) result }
+{
+    let (value, rest) = read_item(alloc, bytes)?;
+    Ok((CoseKey::from_value(alloc, &value)?, rest))
+}
+
+fn read_extensions(alloc: Global, bytes: &[u8]) -> Begun<'_, Value>
+    ensures { Gives (λ r. (item_of r.0, r.1.now)) (Reads read_map bytes.now) result }
+{
+    let (value, rest) = read_item(alloc, bytes)?;
+    match value {
+        Value::Map(_) => Ok((value, rest)),
+        _ => Err(CoseError::UnexpectedItem),
+    }
+}
+
+fn read_attested(alloc: Global, bytes: &[u8]) -> Begun<'_, AttestedCredentialData>
+    ensures { Gives (λ r. (attested_parts r.0, r.1.now)) (ReadsAttested bytes.now) result }
+{
+    let ((aaguid, id), rest) = read_ids(bytes)?;
+    let (key, rest) = read_key(alloc, rest)?;
+    let attested = AttestedCredentialData {
+        aaguid,
+        credential_id: Vec::from_slice(alloc, id)?,
+        key,
+    };
+    Ok((attested, rest))
+}
+
+fn read_attested_where(
+    alloc: Global,
+    is_there: bool,
+    bytes: &[u8],
+) -> Begun<'_, Option<AttestedCredentialData>>
+    ensures { Gives (λ r. (option_map attested_parts r.0, r.1.now)) (ReadsWhere is_there ReadsAttested bytes.now) result }
+{
+    if !is_there {
+        return Ok((None, bytes));
+    }
+    let (attested, rest) = read_attested(alloc, bytes)?;
+    Ok((Some(attested), rest))
+}
+
+fn read_extensions_where(alloc: Global, is_there: bool, bytes: &[u8]) -> Begun<'_, Option<Value>>
+    ensures { Gives (λ r. (option_map item_of r.0, r.1.now)) (ReadsWhere is_there (Reads read_map) bytes.now) result }
+{
+    if !is_there {
+        return Ok((None, bytes));
+    }
+    let (extensions, rest) = read_extensions(alloc, bytes)?;
+    Ok((Some(extensions), rest))
+}
+
+impl AuthenticatorData {
+    /// The data that the bytes begin with (WebAuthn Level 3, section 6.1): 32 bytes of hash, one
+    /// of flags, a counter of 4 bytes, big-endian; where AT is set attested credential data, which
+    /// is 16 bytes of AAGUID, a length of 2 bytes, big-endian, a credential id of that length, and a
+    /// key; and where ED is set a map. Bytes behind the last part are passed over.
+    ///
+    /// `DecodeFailed` where fewer than 37 bytes are there, the attested credential data are cut off,
+    /// or no item of CBOR stands where a key or the extensions are to be;
+    /// `OutOfRangeIntegerValue` where bit 1 or 5 of the flags is set; the fault of
+    /// `CoseKey::from_value` where the item is no key; `UnexpectedItem` where the extensions are no
+    /// map. The first fault is answered: the length's, the flags', and then from the first byte to
+    /// the last. `OutOfMemory` where a growth was refused.
+    pub fn from_slice(alloc: Global, bytes: &[u8]) -> Result<AuthenticatorData, CoseError>
+        ensures { Gives data_parts (ReadsData bytes.now) result }
+    {
+        let (fixed, rest) = read_fixed(bytes)?;
+        let has_attested = bitflags::Flags::contains(&fixed.flags, Flags::AT);
+        let has_extensions = bitflags::Flags::contains(&fixed.flags, Flags::ED);
+        let (attested, rest) = read_attested_where(alloc, has_attested, rest)?;
+        let (extensions, _) = read_extensions_where(alloc, has_extensions, rest)?;
+        Ok(AuthenticatorData {
+            attested_credential_data: attested,
+            extensions,
+            ..fixed
+        })
+    }
+}

@@ -1,0 +1,67 @@
+//! Authenticator data to bytes.
+ghost use Rattle.std.specs.Prelude.{◌≡◌, ◌++◌, [], unwrap_or, option_map, IfOk, OnOk};
+ghost use Rattle.passkey_cbor.specs.View.{item_of};
+ghost use Rattle.passkey_cbor.specs.Written.{written};
+ghost use Rattle.passkey_core.specs.DataViews.{attested_parts, data_parts};
+ghost use Rattle.passkey_core.specs.DataWritten.{attested_written, flags_written, data_written};
+
+use crate::attested::AttestedCredentialData;
+use crate::authenticator_data::AuthenticatorData;
+use crate::flags::Flags;
+use passkey_cbor::{OutOfMemory, Value};
+use std::alloc::Global;
+
+fn push_attested(
+    alloc: Global,
+    out: &mut Vec<u8>,
+    attested: &Option<AttestedCredentialData>,
+) -> Result<(), OutOfMemory>
+    ensures { OnOk result (out.new.items ≡ out.old.items ++ unwrap_or (option_map attested_written (option_map attested_parts attested.now)) []) }
+{
+    if let Some(attested) = attested {
+        out.extend_from_slice(&attested.to_vec(alloc)?)?;
+    }
+    Ok(())
+}
+
+fn push_extensions(
+    alloc: Global,
+    out: &mut Vec<u8>,
+    extensions: &Option<Value>,
+) -> Result<(), OutOfMemory>
+    ensures { OnOk result (out.new.items ≡ out.old.items ++ unwrap_or (option_map written (option_map item_of extensions.now)) []) }
+{
+    if let Some(extensions) = extensions {
+        out.extend_from_slice(&extensions.to_vec(alloc)?)?;
+    }
+    Ok(())
+}
+
+impl AuthenticatorData {
+    /// The flags as they are written: AT is set where attested credential data is held.
+    fn written_flags(&self) -> Flags
+        ensures { result.0 ≡ flags_written (data_parts self.now).flags (data_parts self.now).attested }
+    {
+        match self.attested_credential_data {
+            Some(_) => self.flags | Flags::AT,
+            None => self.flags,
+        }
+    }
+
+    /// The data in bytes (WebAuthn Level 3, section 6.1): the hash, the flags, with AT set where
+    /// attested credential data is held, the counter in 4 bytes, big-endian, 0 where there is none,
+    /// the attested credential data and the extensions, each where it is held. `OutOfMemory` where a
+    /// growth was refused.
+    ///
+    /// Data that aren't coherent are written so as well, though then the bytes may not be read back.
+    pub fn to_vec(&self, alloc: Global) -> Result<Vec<u8>, OutOfMemory>
+        ensures { IfOk result (λ bytes. bytes.items ≡ data_written (data_parts self.now)) }
+    {
+        let mut out = Vec::from_slice(alloc, &self.rp_id_hash)?;
+        out.push(u8::from(self.written_flags()))?;
+        out.extend_from_slice(&self.counter.unwrap_or(0).to_be_bytes())?;
+        push_attested(alloc, &mut out, &self.attested_credential_data)?;
+        push_extensions(alloc, &mut out, &self.extensions)?;
+        Ok(out)
+    }
+}

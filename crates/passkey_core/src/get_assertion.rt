@@ -1,0 +1,41 @@
+//! What is said of a credential's use (CTAP 2.1, section 6.2).
+ghost use Rattle.std.specs.Prelude.{◌≡◌, IfOk};
+ghost use Rattle.passkey_cbor.specs.View.{item_of};
+ghost use Rattle.passkey_core.specs.SignedOutputs.{assertion_item, has_assertion_member, where_some};
+
+use crate::bytes::Bytes;
+use crate::signed_outputs::{bytes_value, push_output};
+use passkey_cbor::{OutOfMemory, Value};
+use std::alloc::Global;
+
+/// What extensions answer in the authenticator data of a credential's use (WebAuthn Level 3,
+/// section 9.2).
+#[derive(Debug, Drop)]
+pub struct SignedExtensionOutputs {
+    /// `hmac-secret`: the encrypted secrets.
+    pub hmac_secret: Option<Bytes>,
+}
+
+impl SignedExtensionOutputs {
+    /// The outputs themselves, exactly where one is there.
+    pub fn zip_contents(self) -> Option<SignedExtensionOutputs>
+        ensures { result ≡ where_some (has_assertion_member self) self }
+    {
+        if self.hmac_secret.is_some() {
+            Some(self)
+        } else {
+            None
+        }
+    }
+
+    /// The outputs as a map: `hmac-secret`, where it is there. `OutOfMemory` where a growth was
+    /// refused.
+    pub fn to_value(&self, alloc: Global) -> Result<Value, OutOfMemory>
+        ensures { IfOk result (λ v. item_of v ≡ assertion_item self.now) }
+    {
+        let mut outputs = Vec::new(alloc);
+        let secrets = bytes_value(alloc, &self.hmac_secret)?;
+        push_output(alloc, &mut outputs, "hmac-secret", secrets)?;
+        Ok(Value::Map(outputs))
+    }
+}

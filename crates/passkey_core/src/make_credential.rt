@@ -1,0 +1,45 @@
+//! What is said of a credential that was made (CTAP 2.1, section 6.1).
+ghost use Rattle.std.specs.Prelude.{◌≡◌, IfOk};
+ghost use Rattle.passkey_cbor.specs.View.{item_of};
+ghost use Rattle.passkey_core.specs.SignedOutputs.{creation_item, has_creation_member, where_some};
+
+use crate::bytes::Bytes;
+use crate::signed_outputs::{bytes_value, push_output};
+use passkey_cbor::{OutOfMemory, Value};
+use std::alloc::Global;
+
+/// What extensions answer in the authenticator data of a credential that was made (WebAuthn
+/// Level 3, section 9.2).
+#[derive(Debug, Drop)]
+pub struct SignedExtensionOutputs {
+    /// `hmac-secret`: whether secrets are derived for the credential.
+    pub hmac_secret: Option<bool>,
+    /// `hmac-secret-mc`: the encrypted secrets.
+    pub hmac_secret_mc: Option<Bytes>,
+}
+
+impl SignedExtensionOutputs {
+    /// The outputs themselves, exactly where one is there.
+    pub fn zip_contents(self) -> Option<SignedExtensionOutputs>
+        ensures { result ≡ where_some (has_creation_member self) self }
+    {
+        if self.hmac_secret.is_some() || self.hmac_secret_mc.is_some() {
+            Some(self)
+        } else {
+            None
+        }
+    }
+
+    /// The outputs as a map: `hmac-secret`, `hmac-secret-mc`, each where it is there. `OutOfMemory`
+    /// where a growth was refused.
+    pub fn to_value(&self, alloc: Global) -> Result<Value, OutOfMemory>
+        ensures { IfOk result (λ v. item_of v ≡ creation_item self.now) }
+    {
+        let mut outputs = Vec::new(alloc);
+        let secret = self.hmac_secret.map(Value::Bool);
+        push_output(alloc, &mut outputs, "hmac-secret", secret)?;
+        let secrets = bytes_value(alloc, &self.hmac_secret_mc)?;
+        push_output(alloc, &mut outputs, "hmac-secret-mc", secrets)?;
+        Ok(Value::Map(outputs))
+    }
+}

@@ -1,0 +1,37 @@
+//! What extensions answer, as the members of a map.
+ghost use Rattle.std.specs.Prelude.{◌≡◌, ◌++◌, map, option_map, IfOk, OnOk};
+ghost use Rattle.passkey_cbor.specs.Item.{byte_string};
+ghost use Rattle.passkey_cbor.specs.View.{item_of, pair_of};
+ghost use Rattle.passkey_core.specs.SignedOutputs.{named};
+
+use crate::bytes::Bytes;
+use passkey_cbor::{OutOfMemory, Value};
+use std::alloc::Global;
+
+/// The bytes as an item, where they are there.
+pub(crate) fn bytes_value(
+    alloc: Global,
+    bytes: &Option<Bytes>,
+) -> Result<Option<Value>, OutOfMemory>
+    ensures { IfOk result (λ v. option_map item_of v ≡ option_map byte_string bytes.now) }
+{
+    match bytes {
+        Some(bytes) => Ok(Some(Value::Bytes(Vec::from_slice(alloc, bytes.as_slice())?))),
+        None => Ok(None),
+    }
+}
+
+/// Puts the member of this name behind the others, where there is one.
+pub(crate) fn push_output(
+    alloc: Global,
+    outputs: &mut Vec<(Value, Value)>,
+    name: &str,
+    output: Option<Value>,
+) -> Result<(), OutOfMemory>
+    ensures { OnOk result (map pair_of outputs.new.items ≡ map pair_of outputs.old.items ++ named name.now (option_map item_of output)) }
+{
+    if let Some(output) = output {
+        outputs.push((Value::Text(String::from_str(alloc, name)?), output))?;
+    }
+    Ok(())
+}
