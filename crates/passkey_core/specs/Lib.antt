@@ -1,6 +1,8 @@
 pub mod Bytes
 pub mod BytesLoan
 pub mod Encoding
+pub mod Flags
+pub mod Command
 pub mod List
 pub mod ListLoan
 pub mod Map
