@@ -6,7 +6,8 @@ use Rattle.passkey_cbor.specs.Front.{max_depth}
 use Rattle.passkey_cbor.specs.Item.{Item, number, map}
 use Rattle.passkey_cbor.specs.Same.{item_eq}
 use Rattle.passkey_core.specs.DataParts.{AttestedParts, DataParts}
-use Rattle.passkey_core.specs.Flags.{reserved_flags, attested_flag, extensions_flag, has_flag}
+use Rattle.passkey_core.specs.DataFlags.{attested_flag, extensions_flag, has_flag}
+use Rattle.passkey_core.specs.Flags.{reserved_flags}
 use Rattle.passkey_core.specs.Iana.{key_type_number}
 use Rattle.passkey_core.specs.KeyParts.{KeyParts, key_item}
 use Rattle.passkey_core.specs.Registered.{Named, named_item}

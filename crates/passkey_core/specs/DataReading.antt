@@ -6,7 +6,8 @@ use Rattle.std.specs.Result.{result_map_both}
 use Rattle.passkey_cbor.specs.Front.{IsFront, HasNoFront}
 use Rattle.passkey_cbor.specs.Item.{Item, map}
 use Rattle.passkey_core.specs.DataParts.{AttestedParts, DataParts, bare_data}
-use Rattle.passkey_core.specs.Flags.{reserved_flags, attested_flag, extensions_flag, has_flag}
+use Rattle.passkey_core.specs.DataFlags.{attested_flag, extensions_flag, has_flag}
+use Rattle.passkey_core.specs.Flags.{reserved_flags}
 use Rattle.passkey_core.specs.KeyParts.{KeyParts}
 use Rattle.passkey_core.specs.KeyReading.{read_key}
 use Rattle.passkey_core.specs.declared.cose.error.CoseError.{CoseError}

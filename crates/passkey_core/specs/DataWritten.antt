@@ -4,7 +4,7 @@ use Rattle.std.specs.Int.{w16, w32, to_be_bytes}
 use Rattle.std.specs.Int.RustNames.{bit_or}
 use Rattle.passkey_cbor.specs.Written.{written}
 use Rattle.passkey_core.specs.DataParts.{AttestedParts, DataParts}
-use Rattle.passkey_core.specs.Flags.{attested_flag}
+use Rattle.passkey_core.specs.DataFlags.{attested_flag}
 use Rattle.passkey_core.specs.KeyParts.{key_item}
 
 -- the AAGUID, the length of the credential id, the id and the key

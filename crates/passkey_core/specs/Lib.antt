@@ -1,6 +1,8 @@
 pub mod Bytes
 pub mod BytesLoan
 pub mod Encoding
+pub mod Flags
+pub mod Command
 pub mod List
 pub mod ListLoan
 pub mod Map
@@ -22,7 +24,7 @@ pub mod KeyChecks
 pub mod KeySame
 pub mod KeySameLaws
 pub mod KeyLaws
-pub mod Flags
+pub mod DataFlags
 pub mod DataParts
 pub mod DataViews
 pub mod DataWritten

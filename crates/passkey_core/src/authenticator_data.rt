@@ -4,7 +4,7 @@ ghost use Rattle.std.specs.Int.RustNames.{bit_or};
 ghost use Rattle.sha2.specs.Sha256.{sha256};
 ghost use Rattle.passkey_core.specs.DataParts.{DataParts, bare_data};
 ghost use Rattle.passkey_core.specs.DataViews.{attested_parts, data_parts};
-ghost use Rattle.passkey_core.specs.Flags.{attested_flag};
+ghost use Rattle.passkey_core.specs.DataFlags.{attested_flag};
 
 use crate::attested::AttestedCredentialData;
 use crate::flags::Flags;

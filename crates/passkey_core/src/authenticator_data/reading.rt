@@ -5,7 +5,7 @@ ghost use Rattle.passkey_cbor.specs.View.{item_of};
 ghost use Rattle.passkey_core.specs.DataAnswers.{Gives};
 ghost use Rattle.passkey_core.specs.DataReading.{bytes_at, fixed_at, ids_at, read_map, Reads, ReadsAttested, ReadsWhere, ReadsData};
 ghost use Rattle.passkey_core.specs.DataViews.{attested_parts, data_parts};
-ghost use Rattle.passkey_core.specs.Flags.{has_flag, attested_flag, extensions_flag};
+ghost use Rattle.passkey_core.specs.DataFlags.{has_flag, attested_flag, extensions_flag};
 ghost use Rattle.passkey_core.specs.Key.{key_parts};
 ghost use Rattle.passkey_core.specs.KeyReading.{read_key};
 

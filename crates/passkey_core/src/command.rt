@@ -1,0 +1,34 @@
+//! The commands that an authenticator is sent.
+ghost use Rattle.std.specs.Prelude.{◌≡◌};
+ghost use Rattle.passkey_core.specs.Command.{command_byte};
+
+/// A command to an authenticator, by its byte (CTAP 2.1, section 6).
+#[derive(Drop)]
+pub enum Ctap2Command {
+    /// To make a credential.
+    MakeCredential = 1,
+    /// To sign by a credential.
+    GetAssertion = 2,
+    /// To tell what the authenticator can do.
+    GetInfo = 4,
+}
+
+impl From<Ctap2Command> for u8 {
+    ghost from_gives = { λ command byte. byte ≡ command_byte command };
+
+    fn from(command: Ctap2Command) -> u8 {
+        command as u8
+    }
+}
+
+#[cfg(test)]
+mod tests {
+    use super::*;
+
+    #[test]
+    fn each_command_has_its_byte(rt: HostRuntime) {
+        assert_eq!(rt; u8::from(Ctap2Command::MakeCredential), 1);
+        assert_eq!(rt; u8::from(Ctap2Command::GetAssertion), 2);
+        assert_eq!(rt; u8::from(Ctap2Command::GetInfo), 4);
+    }
+}
