@@ -33,4 +33,5 @@ pub mod DataAnswers
 pub mod DataBytes
 pub mod Coherent
 pub mod SignedOutputs
+pub mod SignedPut
 pub mod DataSame

@@ -1,7 +1,7 @@
 //! What is said of a credential that was made (CTAP 2.1, section 6.1).
-ghost use Rattle.std.specs.Prelude.{◌≡◌, IfOk};
+ghost use Rattle.std.specs.Prelude.{◌≡◌, IfOk, IsSome, OnErr, option_map};
 ghost use Rattle.passkey_cbor.specs.View.{item_of};
-ghost use Rattle.passkey_core.specs.SignedOutputs.{creation_item, has_creation_member, where_some};
+ghost use Rattle.passkey_core.specs.SignedOutputs.{creation_item, has_creation_member, where_some, creation_extensions};
 
 use crate::bytes::Bytes;
 use crate::signed_outputs::{bytes_value, push_output};
@@ -41,5 +41,22 @@ impl SignedExtensionOutputs {
         let secrets = bytes_value(alloc, &self.hmac_secret_mc)?;
         push_output(alloc, &mut outputs, "hmac-secret-mc", secrets)?;
         Ok(Value::Map(outputs))
+    }
+}
+
+/// The outputs as extensions, where one is there. `OutOfMemory` where a growth was refused.
+pub(crate) fn to_extensions(
+    alloc: Global,
+    outputs: Option<SignedExtensionOutputs>,
+) -> Result<Option<Value>, OutOfMemory>
+    ensures value { IfOk result (λ v. option_map item_of v ≡ creation_extensions outputs) }
+    ensures grows { OnErr result (IsSome (creation_extensions outputs)) }
+{
+    let Some(outputs) = outputs else {
+        return Ok(None);
+    };
+    match outputs.zip_contents() {
+        Some(outputs) => Ok(Some(outputs.to_value(alloc)?)),
+        None => Ok(None),
     }
 }

@@ -1,8 +1,8 @@
 //! Giving authenticator data what extensions answer.
-ghost use Rattle.std.specs.Prelude.{◌≡◌, Some, IfOk, IfErr, OnErr, IsSome};
-ghost use Rattle.passkey_cbor.specs.View.{item_of};
+ghost use Rattle.std.specs.Prelude.{◌≡◌, IfOk, IfErr, OnErr, IsSome};
 ghost use Rattle.passkey_core.specs.DataViews.{data_parts};
 ghost use Rattle.passkey_core.specs.SignedOutputs.{creation_extensions, assertion_extensions, with_extensions};
+ghost use Rattle.passkey_core.specs.SignedPut.{Puts};
 
 use crate::authenticator_data::AuthenticatorData;
 use crate::flags::Flags;
@@ -12,11 +12,22 @@ use passkey_cbor::{OutOfMemory, Value};
 use std::alloc::Global;
 
 impl AuthenticatorData {
-    fn put_extensions(mut self, extensions: Value) -> AuthenticatorData
-        ensures { data_parts result ≡ with_extensions (data_parts self) (Some (item_of extensions)) }
+    /// The data with these extensions, as they were where there are none, or as they were and given
+    /// back where memory ran out.
+    fn put_extensions(
+        mut self,
+        extensions: Result<Option<Value>, OutOfMemory>,
+    ) -> Result<AuthenticatorData, GivenBack<AuthenticatorData>>
+        ensures { Puts self extensions result }
     {
-        self.extensions = Some(extensions);
-        self.set_flags(Flags::ED)
+        match extensions {
+            Ok(Some(extensions)) => {
+                self.extensions = Some(extensions);
+                Ok(self.set_flags(Flags::ED))
+            }
+            Ok(None) => Ok(self),
+            Err(OutOfMemory) => Err(GivenBack { value: self }),
+        }
     }
 
     /// The data with what extensions answer of a credential that was made, in place of what was
@@ -31,16 +42,7 @@ impl AuthenticatorData {
         ensures back { IfErr result (λ e. e.value ≡ self) }
         ensures grows { OnErr result (IsSome (creation_extensions outputs)) }
     {
-        let Some(outputs) = outputs else {
-            return Ok(self);
-        };
-        let Some(outputs) = outputs.zip_contents() else {
-            return Ok(self);
-        };
-        match outputs.to_value(alloc) {
-            Ok(extensions) => Ok(self.put_extensions(extensions)),
-            Err(OutOfMemory) => Err(GivenBack { value: self }),
-        }
+        self.put_extensions(make_credential::to_extensions(alloc, outputs))
     }
 
     /// The data with what extensions answer of a credential's use, in place of what was held, and
@@ -55,15 +57,6 @@ impl AuthenticatorData {
         ensures back { IfErr result (λ e. e.value ≡ self) }
         ensures grows { OnErr result (IsSome (assertion_extensions outputs)) }
     {
-        let Some(outputs) = outputs else {
-            return Ok(self);
-        };
-        let Some(outputs) = outputs.zip_contents() else {
-            return Ok(self);
-        };
-        match outputs.to_value(alloc) {
-            Ok(extensions) => Ok(self.put_extensions(extensions)),
-            Err(OutOfMemory) => Err(GivenBack { value: self }),
-        }
+        self.put_extensions(get_assertion::to_extensions(alloc, outputs))
     }
 }
