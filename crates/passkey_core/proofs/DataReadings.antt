@@ -1,20 +1,65 @@
 -- Readings of authenticator data, put together.
-use Rattle.std.proofs.Common.{◌≡◌, List, ℕ, Bool, true, Option, Some, Result, Ok, Err, refl}
+use Rattle.std.proofs.Common.{◌≡◌, List, ℕ, nat_lt, length, take, drop, ◌==◌, Bool, true, false, if◌then◌else◌, ◌||◌, Option, Some, Result, Ok, Err, refl, sym, ap, subst, ◌∙◌}
+use Rattle.std.specs.Int.RustNames.{bit_and}
+use Rattle.passkey_cbor.specs.Item.{Item}
+use Rattle.passkey_core.specs.DataParts.{AttestedParts, DataParts}
+use Rattle.passkey_core.specs.Flags.{reserved_flags}
+use Rattle.passkey_core.specs.DataFlags.{has_flag, attested_flag, extensions_flag}
 use Rattle.passkey_core.specs.DataAnswers.{Gives}
-use Rattle.passkey_core.specs.DataReading.{Begun, ReadsWhere}
+use Rattle.passkey_core.specs.DataReading.{Begun, ◌>>=◌, bytes_at, known_only, fixed_at, names_parts, has_parts, read_map, Reads, ReadsAttested, ReadsWhere, ReadsData}
 use Rattle.passkey_core.specs.declared.cose.error.CoseError.{CoseError}
 use Rattle.passkey_core.specs.declared.cose.error.CoseError.TheVariants.{DecodeFailed, OutOfMemory, OutOfRangeIntegerValue, DuplicateMapKey, UnexpectedItem}
 
 -- a fault of one reading that is a fault of another
-pub gives_fault : {A B C D : Type 0} (seen : A → B) (told : C → D) (reads : Result B CoseError → Type 0) (answers : Result D CoseError → Type 0) → ((e : CoseError) → reads (Err e) → answers (Err e)) → (e : CoseError) → Gives seen reads (Err e) → Gives told answers (Err e)
-gives_fault seen told reads answers next DecodeFailed h = next DecodeFailed h
-gives_fault seen told reads answers next OutOfMemory h = h
-gives_fault seen told reads answers next OutOfRangeIntegerValue h = next OutOfRangeIntegerValue h
-gives_fault seen told reads answers next DuplicateMapKey h = next DuplicateMapKey h
-gives_fault seen told reads answers next UnexpectedItem h = next UnexpectedItem h
+pub gives_fault : {A B C D : Type 0} (memory : Type 0) (other : Type 0) (seen : A → B) (told : C → D) (reads : Result B CoseError → Type 0) (answers : Result D CoseError → Type 0) → (memory → other) → ((e : CoseError) → reads (Err e) → answers (Err e)) → (e : CoseError) → Gives memory seen reads (Err e) → Gives other told answers (Err e)
+gives_fault memory other seen told reads answers grows next DecodeFailed h = next DecodeFailed h
+gives_fault memory other seen told reads answers grows next OutOfMemory h = grows h
+gives_fault memory other seen told reads answers grows next OutOfRangeIntegerValue h = next OutOfRangeIntegerValue h
+gives_fault memory other seen told reads answers grows next DuplicateMapKey h = next DuplicateMapKey h
+gives_fault memory other seen told reads answers grows next UnexpectedItem h = next UnexpectedItem h
 
 pub part_stands : {X : Type 0} (part : List ℕ → Begun X → Type 0) (is_there : Bool) (bytes : List ℕ) (x : X) (rest : List ℕ) → is_there ≡ true → part bytes (Ok (x, rest)) → ReadsWhere is_there part bytes (Ok (Some x, rest))
 part_stands part is_there bytes x rest there h = rw there (record { begun = Ok (x, rest); begins = h; goes_on = refl })
 
 pub part_fails : {X : Type 0} (part : List ℕ → Begun X → Type 0) (is_there : Bool) (bytes : List ℕ) → is_there ≡ true → (e : CoseError) → part bytes (Err e) → ReadsWhere is_there part bytes (Err e)
 part_fails part is_there bytes there e h = rw there (record { begun = Err e; begins = h; goes_on = refl })
+
+-- each fault that a result can be has this property
+abbrev FaultsAre : {X : Type 0} → (CoseError → Type 0) → Result X CoseError → Type 0
+FaultsAre P (Ok x) = Unit {0}
+FaultsAre P (Err e) = P e
+
+at_fault : {Y : Type 0} (P : CoseError → Type 0) → P DecodeFailed → (n : ℕ) (bytes : List ℕ) (next : List ℕ × List ℕ → Result Y CoseError) → ((p : List ℕ × List ℕ) → FaultsAre P (next p)) → FaultsAre P (bytes_at n bytes >>= next)
+at_fault P cut n bytes next h =
+    elim (nat_lt (length bytes) n) as (λ (b : Bool). FaultsAre P ((if b then Err DecodeFailed else Ok (take n bytes, drop n bytes)) >>= next)) [
+      | true ↦ cut
+      | false ↦ h (take n bytes, drop n bytes)
+    ]
+
+known_fault : (P : CoseError → Type 0) → P OutOfRangeIntegerValue → (d : DataParts) (rest : List ℕ) → FaultsAre P (known_only d rest)
+known_fault P range d rest =
+    elim (bit_and d.flags reserved_flags == 0) as (λ (b : Bool). FaultsAre P (if b then Ok (let p : DataParts × List ℕ = (d, rest) in p) else Err OutOfRangeIntegerValue)) [
+      | true ↦ tt
+      | false ↦ range
+    ]
+
+-- the parts of fixed length are cut off or have a reserved flag
+pub fixed_fault : (P : CoseError → Type 0) → P DecodeFailed → P OutOfRangeIntegerValue → (bytes : List ℕ) → FaultsAre P (fixed_at bytes)
+unfolding fixed_at
+fixed_fault P cut range bytes = at_fault P cut 32 bytes _ (λ hash. at_fault P cut 1 hash.1 _ (λ flags. at_fault P cut 4 flags.1 _ (λ counter. known_fault P range _ counter.1)))
+
+or_right : (a b : Bool) → b ≡ true → (a || b) ≡ true
+or_right true b e = refl
+or_right false b e = e
+
+pub fixed_fails : {A : Type 0} (memory : Type 0) (seen : A → DataParts) (bytes : List ℕ) (e : CoseError) → fixed_at bytes ≡ Err e → Gives memory seen (ReadsData bytes) (Err e)
+fixed_fails memory seen bytes e h =
+    let wanted : FaultsAre (λ f. fixed_at bytes ≡ Err f → Gives memory seen (ReadsData bytes) (Err f)) (fixed_at bytes) = fixed_fault (λ f. fixed_at bytes ≡ Err f → Gives memory seen (ReadsData bytes) (Err f)) (λ g. record { begun = Err DecodeFailed; begins = sym g; goes_on = refl }) (λ g. record { begun = Err OutOfRangeIntegerValue; begins = sym g; goes_on = refl }) bytes in
+    (subst (λ (r : Begun DataParts). FaultsAre (λ f. fixed_at bytes ≡ Err f → Gives memory seen (ReadsData bytes) (Err f)) r) h wanted) h
+
+pub extensions_fail : {A B : Type 0} (seen : A → DataParts) (told : B → Option Item × List ℕ) (bytes : List ℕ) (fixed : DataParts) (rest : List ℕ) (attested : Option AttestedParts) (behind : List ℕ) (e : CoseError) → Ok (fixed, rest) ≡ fixed_at bytes → ReadsWhere (has_flag attested_flag fixed.flags) ReadsAttested rest (Ok (attested, behind)) → Gives (has_flag extensions_flag fixed.flags ≡ true) told (ReadsWhere (has_flag extensions_flag fixed.flags) (Reads read_map) behind) (Err e) → Gives (has_parts bytes ≡ true) seen (ReadsData bytes) (Err e)
+extensions_fail seen told bytes fixed rest attested behind e is_fixed is_attested h =
+    gives_fault (has_flag extensions_flag fixed.flags ≡ true) (has_parts bytes ≡ true) told seen (ReadsWhere (has_flag extensions_flag fixed.flags) (Reads read_map) behind) (ReadsData bytes)
+    (λ flagged. sym (ap names_parts is_fixed) ∙ or_right (has_flag attested_flag fixed.flags) (has_flag extensions_flag fixed.flags) flagged)
+    (λ f g. record { begun = Ok (fixed, rest); begins = is_fixed; goes_on = record { begun = Ok (attested, behind); begins = is_attested; goes_on = record { begun = Err f; begins = g; goes_on = refl } } })
+    e h

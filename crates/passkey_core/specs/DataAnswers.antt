@@ -3,11 +3,11 @@ use Rattle.std.specs.Prelude.{List, Result, Ok, Err}
 use Rattle.passkey_core.specs.declared.cose.error.CoseError.{CoseError}
 use Rattle.passkey_core.specs.declared.cose.error.CoseError.TheVariants.{DecodeFailed, OutOfMemory, OutOfRangeIntegerValue, DuplicateMapKey, UnexpectedItem}
 
--- the answer, as contracts see it; or memory ran out
-abbrev pub Gives : {A B : Type 0} → (A → B) → (Result B CoseError → Type 0) → Result A CoseError → Type 0
-Gives seen answers (Ok x) = answers (Ok (seen x))
-Gives seen answers (Err OutOfMemory) = Unit {0}
-Gives seen answers (Err DecodeFailed) = answers (Err DecodeFailed)
-Gives seen answers (Err OutOfRangeIntegerValue) = answers (Err OutOfRangeIntegerValue)
-Gives seen answers (Err DuplicateMapKey) = answers (Err DuplicateMapKey)
-Gives seen answers (Err UnexpectedItem) = answers (Err UnexpectedItem)
+-- the answer, as contracts see it; or memory ran out, which only this lets happen
+abbrev pub Gives : {A B : Type 0} → Type 0 → (A → B) → (Result B CoseError → Type 0) → Result A CoseError → Type 0
+Gives memory seen answers (Ok x) = answers (Ok (seen x))
+Gives memory seen answers (Err OutOfMemory) = memory
+Gives memory seen answers (Err DecodeFailed) = answers (Err DecodeFailed)
+Gives memory seen answers (Err OutOfRangeIntegerValue) = answers (Err OutOfRangeIntegerValue)
+Gives memory seen answers (Err DuplicateMapKey) = answers (Err DuplicateMapKey)
+Gives memory seen answers (Err UnexpectedItem) = answers (Err UnexpectedItem)

@@ -1,5 +1,5 @@
 -- What bytes are read as authenticator data (WebAuthn Level 3, sections 6.1 and 6.5.1).
-use Rattle.std.specs.Prelude.{◌≡◌, ◌⊎◌, ℕ, ◌==◌, nat_lt, List, length, take, drop, slice_index, Bool, true, false, if◌then◌else◌, Option, Some, None, Result, Ok, Err}
+use Rattle.std.specs.Prelude.{◌≡◌, ◌⊎◌, ℕ, ◌==◌, nat_lt, List, length, take, drop, slice_index, Bool, true, false, ◌||◌, if◌then◌else◌, Option, Some, None, Result, Ok, Err}
 use Rattle.std.specs.Int.{w16, w32, from_be_bytes}
 use Rattle.std.specs.Int.RustNames.{bit_and}
 use Rattle.std.specs.Result.{result_map_both}
@@ -36,6 +36,14 @@ fixed_at bytes = do
   flags ← bytes_at 1 hash.1
   counter ← bytes_at 4 flags.1
   known_only (bare_data hash.0 (slice_index flags.0 0) (Some (from_be_bytes w32 counter.0))) counter.1
+
+-- whether the flags name a part behind
+abbrev pub names_parts : Begun DataParts → Bool
+names_parts (Ok fixed) = has_flag attested_flag fixed.0.flags || has_flag extensions_flag fixed.0.flags
+names_parts (Err e) = false
+
+abbrev pub has_parts : List ℕ → Bool
+has_parts bytes = names_parts (fixed_at bytes)
 
 -- the AAGUID of 16 bytes, and behind its length of 2 bytes, big-endian, the credential id
 unfoldable pub ids_at : List ℕ → Begun (List ℕ × List ℕ)

@@ -1,9 +1,9 @@
 //! Bytes to authenticator data.
-ghost use Rattle.std.specs.Prelude.{◌≡◌, ◌<◌, ◌^◌, Ok, length, option_map, IfOk};
+ghost use Rattle.std.specs.Prelude.{◌≡◌, ◌<◌, ◌^◌, ⊤, true, Ok, length, option_map, IfOk};
 ghost use Rattle.std.specs.Result.{result_map_both};
 ghost use Rattle.passkey_cbor.specs.View.{item_of};
 ghost use Rattle.passkey_core.specs.DataAnswers.{Gives};
-ghost use Rattle.passkey_core.specs.DataReading.{bytes_at, fixed_at, ids_at, read_map, Reads, ReadsAttested, ReadsWhere, ReadsData};
+ghost use Rattle.passkey_core.specs.DataReading.{bytes_at, fixed_at, ids_at, has_parts, read_map, Reads, ReadsAttested, ReadsWhere, ReadsData};
 ghost use Rattle.passkey_core.specs.DataViews.{attested_parts, data_parts};
 ghost use Rattle.passkey_core.specs.DataFlags.{has_flag, attested_flag, extensions_flag};
 ghost use Rattle.passkey_core.specs.Key.{key_parts};
@@ -72,21 +72,21 @@ fn read_ids(bytes: &[u8]) -> Begun<'_, (Aaguid, &[u8])>
 }
 
 fn read_item(alloc: Global, bytes: &[u8]) -> Begun<'_, Value>
-    ensures { Gives (λ r. (item_of r.0, r.1.now)) (Reads Ok bytes.now) result }
+    ensures { Gives ⊤ (λ r. (item_of r.0, r.1.now)) (Reads Ok bytes.now) result }
 {
     let (value, len) = Value::from_slice(alloc, bytes)?;
     Ok((value, &bytes[len..]))
 }
 
 fn read_key(alloc: Global, bytes: &[u8]) -> Begun<'_, CoseKey>
-    ensures { Gives (λ r. (key_parts r.0, r.1.now)) (Reads read_key bytes.now) result }
+    ensures { Gives ⊤ (λ r. (key_parts r.0, r.1.now)) (Reads read_key bytes.now) result }
 {
     let (value, rest) = read_item(alloc, bytes)?;
     Ok((CoseKey::from_value(alloc, &value)?, rest))
 }
 
 fn read_extensions(alloc: Global, bytes: &[u8]) -> Begun<'_, Value>
-    ensures { Gives (λ r. (item_of r.0, r.1.now)) (Reads read_map bytes.now) result }
+    ensures { Gives ⊤ (λ r. (item_of r.0, r.1.now)) (Reads read_map bytes.now) result }
 {
     let (value, rest) = read_item(alloc, bytes)?;
     match value {
@@ -96,7 +96,7 @@ fn read_extensions(alloc: Global, bytes: &[u8]) -> Begun<'_, Value>
 }
 
 fn read_attested(alloc: Global, bytes: &[u8]) -> Begun<'_, AttestedCredentialData>
-    ensures { Gives (λ r. (attested_parts r.0, r.1.now)) (ReadsAttested bytes.now) result }
+    ensures { Gives ⊤ (λ r. (attested_parts r.0, r.1.now)) (ReadsAttested bytes.now) result }
 {
     let ((aaguid, id), rest) = read_ids(bytes)?;
     let (key, rest) = read_key(alloc, rest)?;
@@ -113,7 +113,7 @@ fn read_attested_where(
     is_there: bool,
     bytes: &[u8],
 ) -> Begun<'_, Option<AttestedCredentialData>>
-    ensures { Gives (λ r. (option_map attested_parts r.0, r.1.now)) (ReadsWhere is_there ReadsAttested bytes.now) result }
+    ensures { Gives (is_there ≡ true) (λ r. (option_map attested_parts r.0, r.1.now)) (ReadsWhere is_there ReadsAttested bytes.now) result }
 {
     if !is_there {
         return Ok((None, bytes));
@@ -123,7 +123,7 @@ fn read_attested_where(
 }
 
 fn read_extensions_where(alloc: Global, is_there: bool, bytes: &[u8]) -> Begun<'_, Option<Value>>
-    ensures { Gives (λ r. (option_map item_of r.0, r.1.now)) (ReadsWhere is_there (Reads read_map) bytes.now) result }
+    ensures { Gives (is_there ≡ true) (λ r. (option_map item_of r.0, r.1.now)) (ReadsWhere is_there (Reads read_map) bytes.now) result }
 {
     if !is_there {
         return Ok((None, bytes));
@@ -143,9 +143,10 @@ impl AuthenticatorData {
     /// `OutOfRangeIntegerValue` where bit 1 or 5 of the flags is set; the fault of
     /// `CoseKey::from_value` where the item is no key; `UnexpectedItem` where the extensions are no
     /// map. The first fault is answered: the length's, the flags', and then from the first byte to
-    /// the last. `OutOfMemory` where a growth was refused.
+    /// the last. `OutOfMemory` where a growth was refused, which cannot be where neither AT nor ED is
+    /// set.
     pub fn from_slice(alloc: Global, bytes: &[u8]) -> Result<AuthenticatorData, CoseError>
-        ensures { Gives data_parts (ReadsData bytes.now) result }
+        ensures { Gives (has_parts bytes.now ≡ true) data_parts (ReadsData bytes.now) result }
     {
         let (fixed, rest) = read_fixed(bytes)?;
         let has_attested = bitflags::Flags::contains(&fixed.flags, Flags::AT);

@@ -1,4 +1,5 @@
 use Rattle.std.proofs.Common.{rules, ◌≡◌, ℕ, List, true, Option, Err, option_map, Bor}
+use Rattle.std.specs.Prelude.{⊤}
 use Rattle.passkey_cbor.specs.View.{item_of}
 use Rattle.passkey_cbor.specs.declared.value.Value.{Value}
 use Rattle.passkey_core.specs.DataReading.{read_map, Reads, ReadsWhere}
@@ -9,7 +10,7 @@ pub returns-in_err-extensions : goal.returns-in_err-extensions
 returns-in_err-extensions c =
     let there : c.args.is_there ≡ true = search rules in
     let told : c.from_residual.result ≡ Err c.in_err-extensions.field-0.0 = search rules in
-    rw told (gives_fault (λ (r : Value × Bor (List ℕ)). (item_of r.0, r.1.now)) (λ (r : Option Value × Bor (List ℕ)). (option_map item_of r.0, r.1.now)) (Reads read_map c.args.bytes.now) (ReadsWhere c.args.is_there (Reads read_map) c.args.bytes.now) (part_fails (Reads read_map) c.args.is_there c.args.bytes.now there) c.in_err-extensions.field-0.0 c.in_err-extensions.ensures)
+    rw told (gives_fault ⊤ (c.args.is_there ≡ true) (λ (r : Value × Bor (List ℕ)). (item_of r.0, r.1.now)) (λ (r : Option Value × Bor (List ℕ)). (option_map item_of r.0, r.1.now)) (Reads read_map c.args.bytes.now) (ReadsWhere c.args.is_there (Reads read_map) c.args.bytes.now) (λ _. there) (part_fails (Reads read_map) c.args.is_there c.args.bytes.now there) c.in_err-extensions.field-0.0 c.in_err-extensions.ensures)
 
 pub returns : goal.returns
 returns c =
