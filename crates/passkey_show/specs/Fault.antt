@@ -1,7 +1,8 @@
 -- What the program says of a fault: its status, and its line on standard error.
 use Rattle.std.specs.Prelude.{ℕ, List, codes}
-use Rattle.passkey_cbor.specs.declared.error.CborError.{CborError}
-use Rattle.passkey_cbor.specs.declared.error.CborError.TheVariants as cbor
+use Rattle.passkey_core.specs.CoseErrors.{cose_error_name}
+use Rattle.passkey_core.specs.declared.cose.error.CoseError.{CoseError}
+use Rattle.passkey_core.specs.declared.cose.error.CoseError.TheVariants as error
 use Rattle.passkey_show.specs.declared.fault.RunFault.{RunFault}
 use Rattle.passkey_show.specs.declared.fault.RunFault.TheVariants.{Refused, BadHex, UnknownKind, OutOfMemory, InputFailed, OutputFailed}
 
@@ -13,14 +14,9 @@ status_of OutOfMemory = 3
 status_of InputFailed = 4
 status_of OutputFailed = 4
 
-abbrev pub name_of : CborError → List ℕ
-name_of cbor.DecodeFailed = codes "DecodeFailed"
-name_of cbor.OutOfMemory = codes "OutOfMemory"
-name_of cbor.OutOfRangeIntegerValue = codes "OutOfRangeIntegerValue"
-
 -- the line, without its line feed
 abbrev pub line_of : RunFault → List ℕ
-line_of (Refused refusal) = name_of refusal
+line_of (Refused refusal) = cose_error_name refusal
 line_of BadHex = codes "BadHex"
 line_of UnknownKind = codes "unknown kind"
 line_of OutOfMemory = codes "OutOfMemory"
@@ -28,7 +24,6 @@ line_of InputFailed = codes "input failed"
 line_of OutputFailed = codes "output failed"
 
 -- what a fault of the library is for the program: memory that ran out is no refusal
-abbrev pub fault_of : CborError → RunFault
-fault_of cbor.DecodeFailed = Refused cbor.DecodeFailed
-fault_of cbor.OutOfMemory = OutOfMemory
-fault_of cbor.OutOfRangeIntegerValue = Refused cbor.OutOfRangeIntegerValue
+abbrev pub fault_of : CoseError → RunFault
+fault_of error.OutOfMemory = OutOfMemory
+fault_of refusal = Refused refusal

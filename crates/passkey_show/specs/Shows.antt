@@ -5,11 +5,14 @@ use Rattle.hex.specs.Hex.{decode_of, encode_lower}
 use Rattle.passkey_cbor.specs.Item.{Item}
 use Rattle.passkey_cbor.specs.Front.{IsFront, HasNoFront}
 use Rattle.passkey_cbor.specs.Written.{written}
-use Rattle.passkey_cbor.specs.declared.error.CborError.{CborError}
-use Rattle.passkey_cbor.specs.declared.error.CborError.TheVariants as cbor
+use Rattle.passkey_core.specs.DataParts.{DataParts}
+use Rattle.passkey_core.specs.DataReading.{ReadsData}
+use Rattle.passkey_core.specs.DataWritten.{data_written}
+use Rattle.passkey_core.specs.declared.cose.error.CoseError.{CoseError}
+use Rattle.passkey_core.specs.declared.cose.error.CoseError.TheVariants as error
 use Rattle.passkey_show.specs.Trimmed.{trimmed}
 use Rattle.passkey_show.specs.declared.kind.Kind.{Kind}
-use Rattle.passkey_show.specs.declared.kind.Kind.TheVariants.{Cbor}
+use Rattle.passkey_show.specs.declared.kind.Kind.TheVariants.{Cbor, Auth}
 use Rattle.passkey_show.specs.declared.fault.RunFault.{RunFault}
 use Rattle.passkey_show.specs.declared.fault.RunFault.TheVariants.{Refused, BadHex, UnknownKind, OutOfMemory, InputFailed, OutputFailed}
 
@@ -20,15 +23,23 @@ pub record RewritesFront (bytes spelling : List ℕ) : Type 0 where
   pub begins : IsFront bytes front len
   pub rewritten : spelling ≡ written front
 
+-- The authenticator data that the bytes are read as, written.
+pub record RewritesData (bytes spelling : List ℕ) : Type 0 where
+  pub parts : DataParts
+  pub reads : ReadsData bytes (Ok parts)
+  pub rewritten : spelling ≡ data_written parts
+
 -- what a kind makes of the decoded bytes
 abbrev pub Rewrites : Kind → List ℕ → List ℕ → Type 0
 Rewrites Cbor bytes spelling = RewritesFront bytes spelling
+Rewrites Auth bytes spelling = RewritesData bytes spelling
 
 -- why a kind refuses the decoded bytes
-abbrev pub Refuses : Kind → List ℕ → CborError → Type 0
-Refuses Cbor bytes cbor.DecodeFailed = HasNoFront bytes
-Refuses Cbor bytes cbor.OutOfMemory = ⊥
-Refuses Cbor bytes cbor.OutOfRangeIntegerValue = ⊥
+abbrev pub Refuses : Kind → List ℕ → CoseError → Type 0
+Refuses Cbor bytes error.DecodeFailed = HasNoFront bytes
+Refuses Cbor bytes _ = ⊥
+Refuses Auth bytes error.OutOfMemory = ⊥
+Refuses Auth bytes refusal = ReadsData bytes (Err refusal)
 
 -- why nothing is made of the decoded bytes; memory can run out at any
 abbrev pub IsRefusal : Kind → List ℕ → RunFault → Type 0
@@ -48,7 +59,7 @@ pub record IsOutput (kind : Kind) (input output : List ℕ) : Type 0 where
   pub shown : output ≡ encode_lower spelling ++ 10 ∷ []
 
 -- The kind refuses the input's bytes.
-pub record IsRefused (kind : Kind) (input : List ℕ) (refusal : CborError) : Type 0 where
+pub record IsRefused (kind : Kind) (input : List ℕ) (refusal : CoseError) : Type 0 where
   pub bytes : List ℕ
   pub decoded : decode_of (trimmed input) ≡ Ok bytes
   pub refused : Refuses kind bytes refusal

@@ -1,9 +1,11 @@
 //! Why a run did not write its output.
 ghost use Rattle.std.specs.Prelude.{◌≡◌, Some};
-ghost use Rattle.passkey_show.specs.Fault.{status_of, line_of, name_of, fault_of};
+ghost use Rattle.passkey_core.specs.CoseErrors.{cose_error_of};
+ghost use Rattle.passkey_show.specs.Fault.{status_of, line_of, fault_of};
 ghost use Rattle.passkey_show.specs.declared.fault.RunFault.TheVariants.{OutOfMemory as NoMemory};
 
 use passkey_cbor::CborError;
+use passkey_core::cose::CoseError;
 use std::alloc::{AllocError, AllocFailed};
 use std::error::Error;
 use std::fmt;
@@ -12,7 +14,7 @@ use std::fmt;
 #[derive(Clone, Copy, Debug, PartialEq, Eq)]
 pub enum RunFault {
     /// The decoded bytes are refused: the line is the refusal's name, the status 1.
-    Refused(CborError),
+    Refused(CoseError),
     /// The input is no hexadecimal: `BadHex`, 1.
     BadHex,
     /// There is not exactly one word, or no kind of that name: `unknown kind`, 2.
@@ -37,29 +39,6 @@ impl RunFault {
             RunFault::InputFailed | RunFault::OutputFailed => 4,
         }
     }
-
-    fn line(&self) -> &'static str
-        ensures { result.now ≡ line_of self.now }
-    {
-        match self {
-            RunFault::Refused(refusal) => refusal_name(*refusal),
-            RunFault::BadHex => "BadHex",
-            RunFault::UnknownKind => "unknown kind",
-            RunFault::OutOfMemory => "OutOfMemory",
-            RunFault::InputFailed => "input failed",
-            RunFault::OutputFailed => "output failed",
-        }
-    }
-}
-
-fn refusal_name(refusal: CborError) -> &'static str
-    ensures { result.now ≡ name_of refusal }
-{
-    match refusal {
-        CborError::DecodeFailed => "DecodeFailed",
-        CborError::OutOfMemory => "OutOfMemory",
-        CborError::OutOfRangeIntegerValue => "OutOfRangeIntegerValue",
-    }
 }
 
 /// The line on standard error, without its line feed.
@@ -67,21 +46,36 @@ impl fmt::Display for RunFault {
     ghost output = { λ fault. Some (line_of fault) };
 
     fn fmt<W: fmt::Write>(&self, f: &mut fmt::Formatter<W>) -> fmt::Result {
-        f.write_str(self.line())
+        match self {
+            RunFault::Refused(refusal) => refusal.fmt(f),
+            RunFault::BadHex => f.write_str("BadHex"),
+            RunFault::UnknownKind => f.write_str("unknown kind"),
+            RunFault::OutOfMemory => f.write_str("OutOfMemory"),
+            RunFault::InputFailed => f.write_str("input failed"),
+            RunFault::OutputFailed => f.write_str("output failed"),
+        }
     }
 }
 
 impl Error for RunFault {}
 
 /// Memory that ran out is no refusal.
-impl From<CborError> for RunFault {
+impl From<CoseError> for RunFault {
     ghost from_gives = { λ error fault. fault ≡ fault_of error };
 
-    fn from(error: CborError) -> RunFault {
+    fn from(error: CoseError) -> RunFault {
         match error {
-            CborError::OutOfMemory => RunFault::OutOfMemory,
+            CoseError::OutOfMemory => RunFault::OutOfMemory,
             refusal => RunFault::Refused(refusal),
         }
+    }
+}
+
+impl From<CborError> for RunFault {
+    ghost from_gives = { λ error fault. fault ≡ fault_of (cose_error_of error) };
+
+    fn from(error: CborError) -> RunFault {
+        RunFault::from(CoseError::from(error))
     }
 }
 

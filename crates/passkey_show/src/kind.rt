@@ -7,6 +7,8 @@ ghost use Rattle.passkey_show.specs.Kind.{kind_named};
 pub enum Kind {
     /// A CBOR item.
     Cbor,
+    /// Authenticator data.
+    Auth,
 }
 
 impl Kind {
@@ -16,6 +18,7 @@ impl Kind {
     {
         match name {
             "cbor" => Some(Kind::Cbor),
+            "auth" => Some(Kind::Auth),
             _ => None,
         }
     }

@@ -11,6 +11,7 @@ use crate::kind::Kind;
 use crate::trim::trim;
 use hex::FromHexError;
 use passkey_cbor::Value;
+use passkey_core::AuthenticatorData;
 use std::alloc::Global;
 use std::io::{Read, Write};
 
@@ -65,6 +66,10 @@ fn rewrite(alloc: Global, kind: Kind, bytes: &[u8]) -> Result<Vec<u8>, RunFault>
         Kind::Cbor => {
             let (front, _) = Value::from_slice(alloc, bytes)?;
             Ok(front.to_vec(alloc)?)
+        }
+        Kind::Auth => {
+            let data = AuthenticatorData::from_slice(alloc, bytes)?;
+            Ok(data.to_vec(alloc)?)
         }
     }
 }

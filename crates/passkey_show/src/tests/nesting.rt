@@ -1,6 +1,6 @@
 use super::{assert_fails, assert_shows};
 use crate::fault::RunFault;
-use passkey_cbor::CborError;
+use passkey_core::cose::CoseError;
 use std::alloc::{AllocError, Global};
 use std::test::Fail;
 
@@ -59,7 +59,7 @@ fn refuses_257_levels(rt: HostRuntime) -> Result<(), Fail> {
             assert_fails(
                 &rt,
                 deeper.as_bytes(),
-                RunFault::Refused(CborError::DecodeFailed),
+                RunFault::Refused(CoseError::DecodeFailed),
             );
         }
     }

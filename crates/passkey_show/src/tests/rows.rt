@@ -1,6 +1,6 @@
 use super::{assert_fails, assert_shows};
 use crate::fault::RunFault;
-use passkey_cbor::CborError;
+use passkey_core::cose::CoseError;
 use std::test::Fail;
 
 // An array of every kind of item in each of its spellings, and what is written of it.
@@ -155,7 +155,7 @@ fn refuses_rows(rt: HostRuntime) {
         assert_fails(
             &rt,
             input.as_bytes(),
-            RunFault::Refused(CborError::DecodeFailed),
+            RunFault::Refused(CoseError::DecodeFailed),
         );
     }
 }
@@ -177,7 +177,7 @@ fn refuses_each_beginning(rt: HostRuntime) {
         assert_fails(
             &rt,
             &text[..len],
-            RunFault::Refused(CborError::DecodeFailed),
+            RunFault::Refused(CoseError::DecodeFailed),
         );
     }
 }
@@ -186,7 +186,7 @@ fn refuses_each_beginning(rt: HostRuntime) {
 fn each_fault_has_its_line_and_status(rt: HostRuntime) -> Result<(), Fail> {
     for (fault, line, status) in [
         (
-            RunFault::Refused(CborError::DecodeFailed),
+            RunFault::Refused(CoseError::DecodeFailed),
             "DecodeFailed",
             1,
         ),
