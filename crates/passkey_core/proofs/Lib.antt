@@ -10,3 +10,5 @@ pub mod KeyEnds
 pub mod KeyHeld
 pub mod KeySorted
 pub mod KeyRound
+pub mod StatusTable
+pub mod StatusAlone

@@ -11,6 +11,8 @@ mod flags;
 pub mod iana;
 mod list;
 mod map;
+mod salts;
+mod status;
 mod text;
 
 pub use aaguid::Aaguid;
@@ -20,4 +22,8 @@ pub use flags::Flags;
 pub use list::List;
 pub use map::{Key, Map};
 pub use passkey_cbor::OutOfMemory;
+pub use salts::{HmacSecretSaltOrOutput, TryFromSliceError};
+pub use status::{
+    CodeOutOfRange, Ctap2Error, ExtensionError, StatusCode, UnknownSpecError, VendorError,
+};
 pub use text::Text;
