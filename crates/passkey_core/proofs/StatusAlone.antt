@@ -1,5 +1,5 @@
 -- Each byte has exactly one status: looked up at every byte.
-use Rattle.std.proofs.Common.{arith, ◌≡◌, ◌==◌, ◌<◌, ◌∙◌, ℕ, Bool, true, false, List, [], ◌∷◌, ◌++◌, length, Option, Some, None, option_map, if◌then◌else◌, refl, sym, ap, append_assoc}
+use Rattle.std.proofs.Common.{arith, ◌≡◌, ◌==◌, ◌<◌, ◌∙◌, ℕ, Bool, true, false, List, [], ◌∷◌, ◌++◌, length, Some, None, option_map, if◌then◌else◌, refl, sym, ap, append_assoc}
 use Rattle.std.specs.Cmp.{unsigned_Decides}
 use Rattle.std.specs.Option.{option_to_list}
 use Rattle.base64.proofs.Tables.{all_below_at}
@@ -7,7 +7,7 @@ use Rattle.passkey_core.specs.declared.status.ctap2_error.Ctap2Error.{Ctap2Error
 use Rattle.passkey_core.specs.declared.status.StatusCode.{StatusCode}
 use Rattle.passkey_core.specs.declared.status.StatusCode.TheVariants as status
 use Rattle.passkey_core.specs.StatusBytes.{is_in, unassigned, extension, vendor}
-use Rattle.passkey_core.specs.Statuses.{ctap2_error, code_in, statuses, status_byte, IsStatus}
+use Rattle.passkey_core.specs.Statuses.{ctap2_error, code_in, statuses, IsStatus}
 use Rattle.passkey_core.proofs.StatusTable.{ctap2_error_has}
 
 abbrev has_one : ℕ → Bool

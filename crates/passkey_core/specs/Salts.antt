@@ -1,5 +1,5 @@
 -- The salts of the extension hmac-secret, or what it makes of them: one of 32 bytes, or two (CTAP 2.1, section 12.5).
-use Rattle.std.specs.Prelude.{◌≡◌, ℕ, ◌==◌, ◌⊎◌, if◌then◌else◌, List, [], ◌++◌, length, drop, Option, Some, None, Result, Ok, Err}
+use Rattle.std.specs.Prelude.{◌≡◌, ℕ, ◌==◌, ◌⊎◌, if◌then◌else◌, List, ◌++◌, length, drop, Option, Some, None, Result, Ok, Err}
 use Rattle.passkey_core.specs.declared.salts.TryFromSliceError.{TryFromSliceError}
 
 -- one salt, or two one behind the other

@@ -1,6 +1,5 @@
 -- The status bytes of CTAP 2.1, section 8.2.
-use Rattle.std.specs.Prelude.{◌≡◌, ℕ, nat_eq, nat_le, Bool, ◌&&◌, if◌then◌else◌, List, [], ◌∷◌, ◌++◌, Option, Some, None, option_map, Result, Ok, Err}
-use Rattle.std.specs.List.{list_any}
+use Rattle.std.specs.Prelude.{◌≡◌, ℕ, nat_eq, if◌then◌else◌, List, [], ◌∷◌, ◌++◌, Option, Some, None, option_map, Result, Ok, Err}
 use Rattle.std.specs.Option.{option_to_list}
 use Rattle.passkey_core.specs.Table.{numbered}
 use Rattle.passkey_core.specs.declared.cose.error.CoseKeyConversionError.{CoseKeyConversionError}

@@ -1,5 +1,5 @@
 //! The salts of the extension hmac-secret (CTAP 2.1, section 12.5).
-ghost use Rattle.std.specs.Prelude.{◌≡◌, option_map, take};
+ghost use Rattle.std.specs.Prelude.{◌≡◌, Some, codes, option_map, take};
 ghost use Rattle.passkey_core.specs.Salts.{AreSalts, JoinsSalts, ReadsSalt, ReadsSalts, salts_of, second_salt};
 
 use std::error::Error;
@@ -138,6 +138,8 @@ impl TryFrom<&[u8]> for HmacSecretSaltOrOutput {
 pub struct TryFromSliceError;
 
 impl fmt::Display for TryFromSliceError {
+    ghost output = { λ _. Some (codes "TryFromSliceError") };
+
     fn fmt<W: fmt::Write>(&self, f: &mut fmt::Formatter<W>) -> fmt::Result {
         f.write_str("TryFromSliceError")
     }

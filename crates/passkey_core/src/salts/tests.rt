@@ -1,5 +1,15 @@
+ghost use Rattle.std.specs.Prelude.{◌≡◌, IfOk};
+
 use super::*;
+use std::alloc::AllocError;
 use std::test::Fail;
+
+/// A copy is equal.
+fn copied(salts: &HmacSecretSaltOrOutput) -> Result<HmacSecretSaltOrOutput, AllocError>
+    ensures { IfOk result (λ copy. copy ≡ salts.now) }
+{
+    salts.clone()
+}
 
 const FIRST: [u8; 32] = [1; 32];
 
@@ -34,7 +44,7 @@ fn two_salts_stand_one_behind_the_other(rt: HostRuntime) -> Result<(), Fail> {
     let read = HmacSecretSaltOrOutput::try_from(both.as_slice())
         .ok()
         .expect(&rt, "64 bytes");
-    let copy = made.clone()?;
+    let copy = copied(&made)?;
     for salts in [made, from, tried, read, copy] {
         assert_eq!(rt; salts.as_slice(), both.as_slice());
         assert_eq!(rt; salts.first(), FIRST.as_slice());
@@ -44,16 +54,20 @@ fn two_salts_stand_one_behind_the_other(rt: HostRuntime) -> Result<(), Fail> {
 }
 
 #[test]
-fn other_lengths_are_refused(rt: HostRuntime) {
+fn other_lengths_are_refused(rt: HostRuntime) -> Result<(), Fail> {
     let bytes = [0; 65];
     for len in [0, 31, 33, 63, 65] {
         let read = HmacSecretSaltOrOutput::try_from(&bytes[..len]);
         assert_eq!(rt; read.err(), Some(TryFromSliceError));
     }
+    let mut text = String::new(rt.alloc());
+    write!(text, "{TryFromSliceError}")?;
+    assert_eq!(rt; text.as_str(), "TryFromSliceError");
     for len in [0, 31, 33, 64] {
         let first = HmacSecretSaltOrOutput::try_new(&bytes[..len], None);
         assert_eq!(rt; first.err(), Some(TryFromSliceError));
         let second = HmacSecretSaltOrOutput::try_new(&FIRST, Some(&bytes[..len]));
         assert_eq!(rt; second.err(), Some(TryFromSliceError));
     }
+    Ok(())
 }

@@ -1,6 +1,6 @@
 //! The statuses that CTAP 2.1 names.
 ghost use Rattle.std.specs.Prelude.{◌≡◌, ◌↔◌, IsTrue, Some, nat_eq};
-ghost use Rattle.std.specs.Cmp.{partial_equiv_from_equiv, partial_order_from_own_ties};
+ghost use Rattle.std.specs.Cmp.{partial_equiv_from_equiv, partial_order_from_own_ties, unsigned_ties};
 ghost use Rattle.std.specs.Cmp.Rules.{comparing};
 ghost use Rattle.std.specs.Ordering.{as_partial_cmp, nat_cmp, on};
 ghost use Rattle.std.proofs.Common.{rules};
@@ -209,7 +209,7 @@ impl Ord for Ctap2Error {
 
     ghost matches_partial_cmp = { Prim.search (comparing, rules) };
 
-    ghost matches_eq = { Prim.search (comparing, rules) };
+    ghost matches_eq = { λ a b. unsigned_ties (ctap2_error_byte a) (ctap2_error_byte b) };
 
     fn cmp(&self, other: &Ctap2Error) -> Ordering {
         u8::from(*self).cmp(&u8::from(*other))
@@ -219,7 +219,7 @@ impl Ord for Ctap2Error {
 impl PartialOrd for Ctap2Error {
     ghost partial_cmp = { as_partial_cmp (on ctap2_error_byte nat_cmp) };
 
-    ghost laws = { partial_order_from_own_ties (Prim.search (comparing, rules)) (Prim.search (comparing, rules)) };
+    ghost laws = { partial_order_from_own_ties (Prim.search (comparing, rules)) (λ a b. unsigned_ties (ctap2_error_byte a) (ctap2_error_byte b)) };
 
     fn partial_cmp(&self, other: &Ctap2Error) -> Option<Ordering> {
         Some(self.cmp(other))
