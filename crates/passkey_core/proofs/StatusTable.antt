@@ -1,5 +1,5 @@
 -- The bytes of the named statuses tell them apart: proofs that the clauses on Ctap2Error cite.
-use Rattle.std.proofs.Common.{◌≡◌, ℕ, nat_eq, Some, refl}
+use Rattle.std.proofs.Common.{◌≡◌, ◌∙◌, ℕ, nat_eq, Some, refl, sym, ap}
 use Rattle.std.specs.Cmp.{unsigned_Decides}
 use Rattle.passkey_core.specs.declared.status.ctap2_error.Ctap2Error.{Ctap2Error}
 use Rattle.passkey_core.specs.declared.status.ctap2_error.Ctap2Error.TheVariants as error
@@ -56,3 +56,8 @@ ctap2_error_own error.Other = refl
 
 pub ctap2_error_has : (byte : ℕ) (e : Ctap2Error) → ctap2_error byte ≡ Some e → ctap2_error_byte e ≡ byte
 ctap2_error_has = numbered_has nat_eq unsigned_Decides ctap2_error_byte ctap2_errors
+
+pub ctap2_errors_apart : (a b : Ctap2Error) → ctap2_error_byte a ≡ ctap2_error_byte b → a ≡ b
+ctap2_errors_apart a b e =
+    let found : Some a ≡ Some b = sym (ctap2_error_own a) ∙ ap ctap2_error e ∙ ctap2_error_own b in
+    cc

@@ -193,7 +193,11 @@ impl PartialEq for Ctap2Error {
 
     ghost laws = { Prim.search (comparing, rules) };
 
-    fn eq(&self, other: &Ctap2Error) -> bool {
+    #[tactic(auto, using(crate::proofs::StatusTable::ctap2_errors_apart))]
+    fn eq(&self, other: &Ctap2Error) -> bool
+        ensures value { result ≡ on ctap2_error_byte nat_eq self.now other.now }
+        ensures same { IsTrue result ↔ (self.now ≡ other.now) }
+    {
         u8::from(*self) == u8::from(*other)
     }
 }
