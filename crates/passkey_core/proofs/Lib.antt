@@ -12,3 +12,5 @@ pub mod KeySorted
 pub mod KeyRound
 pub mod DataReadings
 pub mod KeyDepth
+pub mod StatusTable
+pub mod StatusAlone

@@ -1,17 +1,13 @@
 -- The numbers that IANA's registries of COSE assign; negsuc n is -1 - n.
 use Rattle.std.specs.Prelude.{ℤ, pos, negsuc, List, [], ◌∷◌, Option}
-use Rattle.std.specs.List.{find}
 use Rattle.std.specs.Ordering.{int_eq}
+use Rattle.passkey_core.specs.Table.{numbered}
 use Rattle.passkey_core.specs.declared.iana.Algorithm.{Algorithm}
 use Rattle.passkey_core.specs.declared.iana.KeyType.{KeyType}
 use Rattle.passkey_core.specs.declared.iana.KeyOperation.{KeyOperation}
 use Rattle.passkey_core.specs.declared.iana.Algorithm.TheVariants as algorithm
 use Rattle.passkey_core.specs.declared.iana.KeyType.TheVariants as key_type
 use Rattle.passkey_core.specs.declared.iana.KeyOperation.TheVariants as key_operation
-
--- the value in the list that has this number
-abbrev pub numbered : {T : Type 0} → (T → ℤ) → List T → ℤ → Option T
-numbered number values z = find (λ a. int_eq (number a) z) values
 
 abbrev pub algorithm_number : Algorithm → ℤ
 algorithm_number algorithm.RS1 = negsuc 65534
@@ -35,7 +31,7 @@ abbrev pub algorithms : List Algorithm
 algorithms = algorithm.RS1 ∷ algorithm.RS512 ∷ algorithm.RS384 ∷ algorithm.RS256 ∷ algorithm.ML_DSA_87 ∷ algorithm.ML_DSA_65 ∷ algorithm.ML_DSA_44 ∷ algorithm.ES256K ∷ algorithm.PS512 ∷ algorithm.PS384 ∷ algorithm.PS256 ∷ algorithm.ES512 ∷ algorithm.ES384 ∷ algorithm.ECDH_ES_HKDF_256 ∷ algorithm.EdDSA ∷ algorithm.ES256 ∷ []
 
 abbrev pub algorithm_named : ℤ → Option Algorithm
-algorithm_named = numbered algorithm_number algorithms
+algorithm_named = numbered int_eq algorithm_number algorithms
 
 abbrev pub key_type_number : KeyType → ℤ
 key_type_number key_type.Reserved = pos 0
@@ -48,7 +44,7 @@ abbrev pub key_types : List KeyType
 key_types = key_type.Reserved ∷ key_type.OKP ∷ key_type.EC2 ∷ key_type.RSA ∷ key_type.Symmetric ∷ []
 
 abbrev pub key_type_named : ℤ → Option KeyType
-key_type_named = numbered key_type_number key_types
+key_type_named = numbered int_eq key_type_number key_types
 
 abbrev pub key_operation_number : KeyOperation → ℤ
 key_operation_number key_operation.Sign = pos 1
@@ -66,4 +62,4 @@ abbrev pub key_operations : List KeyOperation
 key_operations = key_operation.Sign ∷ key_operation.Verify ∷ key_operation.Encrypt ∷ key_operation.Decrypt ∷ key_operation.WrapKey ∷ key_operation.UnwrapKey ∷ key_operation.DeriveKey ∷ key_operation.DeriveBits ∷ key_operation.MacCreate ∷ key_operation.MacVerify ∷ []
 
 abbrev pub key_operation_named : ℤ → Option KeyOperation
-key_operation_named = numbered key_operation_number key_operations
+key_operation_named = numbered int_eq key_operation_number key_operations

@@ -7,9 +7,15 @@ pub mod List
 pub mod ListLoan
 pub mod Map
 pub mod SameMaps
+pub mod Table
+pub mod TableLaws
 pub mod Iana
 pub mod IanaLaws
 pub mod CoseErrors
+pub mod StatusBytes
+pub mod Statuses
+pub mod SaltsHeld
+pub mod Salts
 pub mod Label
 pub mod Registered
 pub mod RegisteredSame

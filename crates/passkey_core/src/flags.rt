@@ -76,7 +76,7 @@ impl bitflags::Flags for Flags {
     }
 
     fn bits(&self) -> u8 {
-        self.0
+        u8::from(*self)
     }
 
     fn from_bits_retain(bits: u8) -> Flags {

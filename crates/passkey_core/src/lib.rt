@@ -1,5 +1,6 @@
-//! What the messages of passkeys are made of: byte strings, texts, lists, maps, and keys of COSE
-//! (RFC 9052, section 7).
+//! What the messages of passkeys are made of: byte strings, texts, lists, maps, keys of COSE
+//! (RFC 9052, section 7), authenticator data and attested credential data (WebAuthn Level 3, sections
+//! 6.1 and 6.5.1), and the status codes and commands of CTAP2.
 #![tactic(auto)]
 
 mod aaguid;
@@ -16,7 +17,9 @@ pub mod iana;
 mod list;
 pub mod make_credential;
 mod map;
+mod salts;
 mod signed_outputs;
+mod status;
 mod text;
 
 pub use aaguid::Aaguid;
@@ -29,4 +32,8 @@ pub use given_back::GivenBack;
 pub use list::List;
 pub use map::{Key, Map};
 pub use passkey_cbor::OutOfMemory;
+pub use salts::{HmacSecretSaltOrOutput, TryFromSliceError};
+pub use status::{
+    CodeOutOfRange, Ctap2Error, ExtensionError, StatusCode, UnknownSpecError, VendorError,
+};
 pub use text::Text;
