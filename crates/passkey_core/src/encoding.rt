@@ -1,6 +1,6 @@
 //! Bytes as text: base64 and base64url (RFC 4648, sections 4 and 5), written without padding and
 //! read with or without it.
-ghost use Rattle.std.specs.Prelude.{◌≡◌, IfOk, option_map};
+ghost use Rattle.std.specs.Prelude.{◌≡◌, ◌<◌, length, IfOk, OnErr, option_map};
 ghost use Rattle.std.specs.Result.{result_ok};
 ghost use Rattle.std.specs.String.{string_bytes};
 ghost use Rattle.base64.specs.Engines.{standard_no_pad, url_safe_no_pad};
@@ -12,20 +12,36 @@ use base64::{DecodeAllocError, alphabet};
 use passkey_cbor::OutOfMemory;
 use std::alloc::Global;
 
-/// The bytes in base64, without padding (RFC 4648, section 4). `OutOfMemory` where the text's
-/// memory was refused.
-pub fn base64(alloc: Global, bytes: &[u8]) -> Result<String, OutOfMemory>
-    ensures { IfOk result (λ text. string_bytes text ≡ encode_of standard_no_pad bytes.now) }
+fn encode(
+    alloc: Global,
+    engine: &GeneralPurpose,
+    bytes: &[u8],
+) -> Result<String, OutOfMemory>
+    ensures same { IfOk result (λ text. string_bytes text ≡ encode_of engine.now bytes.now) }
+    ensures grows { OnErr result (0 < length bytes.now) }
 {
-    Ok(STANDARD_NO_PAD.encode(alloc, bytes)?)
+    if bytes.is_empty() {
+        return Ok(String::new(alloc));
+    }
+    Ok(engine.encode(alloc, bytes)?)
+}
+
+/// The bytes in base64, without padding (RFC 4648, section 4). `OutOfMemory` where the text's
+/// memory was refused, which cannot be where there are no bytes.
+pub fn base64(alloc: Global, bytes: &[u8]) -> Result<String, OutOfMemory>
+    ensures same { IfOk result (λ text. string_bytes text ≡ encode_of standard_no_pad bytes.now) }
+    ensures grows { OnErr result (0 < length bytes.now) }
+{
+    encode(alloc, &STANDARD_NO_PAD, bytes)
 }
 
 /// The bytes in base64url, without padding (RFC 4648, section 5). `OutOfMemory` where the text's
-/// memory was refused.
+/// memory was refused, which cannot be where there are no bytes.
 pub fn base64url(alloc: Global, bytes: &[u8]) -> Result<String, OutOfMemory>
-    ensures { IfOk result (λ text. string_bytes text ≡ encode_of url_safe_no_pad bytes.now) }
+    ensures same { IfOk result (λ text. string_bytes text ≡ encode_of url_safe_no_pad bytes.now) }
+    ensures grows { OnErr result (0 < length bytes.now) }
 {
-    Ok(URL_SAFE_NO_PAD.encode(alloc, bytes)?)
+    encode(alloc, &URL_SAFE_NO_PAD, bytes)
 }
 
 /// The bytes of a text in base64url (RFC 4648, section 5), or `None` where it is none. Every `=` at

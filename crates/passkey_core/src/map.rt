@@ -145,11 +145,16 @@ impl<K: Key, V> Map<K, V> {
 }
 
 impl<K: Key, V: Clone> Map<K, V> {
-    /// A map of copies of the keys and the values. `OutOfMemory` where a growth was refused.
-    pub fn try_clone(&self, _alloc: Global) -> Result<Map<K, V>, OutOfMemory>
+    /// A map of copies of the keys and the values. `OutOfMemory` where a growth was refused, which
+    /// cannot be for the empty map.
+    pub fn try_clone(&self, alloc: Global) -> Result<Map<K, V>, OutOfMemory>
         ensures clones { IfOk result (ClonesValues V.is_clone self.now) }
         ensures same { ((x y : V) → V.is_clone x y → y ≡ x) → IfOk result (λ copy. copy ≡ self.now) }
+        ensures grows { OnErr result (¬ (self.now ≡ fin.empty)) }
     {
+        if self.is_empty() {
+            return Ok(Map::empty(alloc));
+        }
         Ok(self.clone()?)
     }
 }
