@@ -1,5 +1,5 @@
 -- A fault is what reading answers.
-use Rattle.std.proofs.Common.{◌≡◌, Err, false, Option, Some, None, refl}
+use Rattle.std.proofs.Common.{◌≡◌, Err, false, refl}
 use Rattle.passkey_core.specs.CoseErrors.{is_memory}
 use Rattle.passkey_core.specs.KeyChecks.{Reads}
 use Rattle.passkey_core.specs.declared.cose.error.CoseError.{CoseError}

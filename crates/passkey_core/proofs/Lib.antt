@@ -2,6 +2,7 @@ mod MapChanges
 mod MapEquality
 mod Maps
 mod SameTables
+mod Decodable
 pub mod KeySeparate
 pub mod KeyLists
 pub mod KeyFurther
