@@ -1,13 +1,12 @@
-use Rattle.std.proofs.Common.{rules, ◌≡◌, ◌<◌, ◌==◌, [], ◌∷◌, List, ℕ, Bool, true, false, is_ok, length, arith, Some, None, Result, Ok, Err, refl, sym, ap, ◌∙◌}
+use Rattle.std.proofs.Common.{rules, ◌≡◌, ◌<◌, [], List, ℕ, true, false, is_ok, length, Some, None, Result, Ok, Err, refl, sym, ap, ◌∙◌}
 use Rattle.std.proofs.lemmas.Bool.{true≢false}
-use Rattle.std.proofs.lemmas.Bool.Decides.{nat_tests}
-use Rattle.std.proofs.lemmas.List.{nil_from_length}
 use Rattle.std.specs.Option.{IsSomeAnd}
 use Rattle.std.specs.Result.{result_ok}
 use Rattle.base64.specs.GeneralPurpose.{decode_of, decoded_of}
 use Rattle.base64.specs.declared.engine.general_purpose.GeneralPurpose.{GeneralPurpose}
 use Rattle.base64.proofs.Streams.{decoded_of-nil}
 use Rattle.passkey_core.proofs.Decodable.{some_bytes}
+use Rattle.passkey_core.proofs.Emptiness.{empty_list, filled_list}
 use Rattle.passkey_core.proofs.encoding.decode.Goals as goal
 
 nothing_decoded : (e : GeneralPurpose) → result_ok (decode_of e []) ≡ Some []
@@ -22,14 +21,9 @@ some_decoded : (e : GeneralPurpose) (s : List ℕ) (r : Result (List ℕ) _) →
 some_decoded e s (Ok b) some is good = some_bytes e s b some is
 some_decoded e s (Err x) some is good = absurd (true≢false (sym good))
 
-filled : (symbols : List ℕ) (b : Bool) → b ≡ (length symbols == 0) → b ≡ false → 0 < length symbols
-filled [] b is some = absurd (true≢false (sym is ∙ some))
-filled (x ∷ xs) b is some = omega arith
-
 pub returns-then-is_empty-clause-same : goal.returns-then-is_empty-clause-same
 returns-then-is_empty-clause-same c =
-    let none : length c.args.symbols.now ≡ 0 = grind (arith, nat_tests) in
-    let empty : c.args.symbols.now ≡ [] = nil_from_length c.args.symbols.now none in
+    let empty : c.args.symbols.now ≡ [] = empty_list c.args.symbols.now c.is_empty.result c.is_empty.ensures c.if-is_empty.true in
     ap Some c.new.ensures.items ∙ sym (ap (λ s. result_ok (decode_of c.args.engine.now s)) empty ∙ nothing_decoded c.args.engine.now)
 
 pub returns-then-not-is_decodable-clause-same : goal.returns-then-not-is_decodable-clause-same
@@ -40,5 +34,5 @@ returns-then-not-is_decodable-clause-same c =
 pub returns-else-not-is_decodable-clause-grows : goal.returns-else-not-is_decodable-clause-grows
 returns-else-not-is_decodable-clause-grows c =
     let good : is_ok (decode_of c.args.engine.now c.args.symbols.now) ≡ true = search rules in
-    let some : 0 < length c.args.symbols.now = filled c.args.symbols.now c.is_empty.result c.is_empty.ensures c.if-is_empty.false in
+    let some : 0 < length c.args.symbols.now = filled_list c.args.symbols.now c.is_empty.result c.is_empty.ensures c.if-is_empty.false in
     some_decoded c.args.engine.now c.args.symbols.now (decode_of c.args.engine.now c.args.symbols.now) some refl good
