@@ -1,11 +1,8 @@
 -- The end of comparing two lists.
-use Rattle.std.proofs.Common.{◌≡◌, ℕ, suc, ◌≤◌, ◌==◌, Bool, false, arith, List, [], ◌∷◌, length, map, drop, refl}
+use Rattle.std.proofs.Common.{◌≡◌, ℕ, ◌≤◌, ◌==◌, Bool, List, [], ◌∷◌, length, map, drop, refl}
 use Rattle.std.specs.Cmp.Lexicographic.{pointwise}
-use Rattle.std.proofs.lemmas.Bool.Decides.{nat_tests}
 use Rattle.std.proofs.lemmas.List.{drop_all}
-
-not_none : (n : ℕ) → (suc n == 0) ≡ false
-not_none n = grind (arith, nat_tests)
+use Rattle.passkey_core.proofs.Emptiness.{not_none}
 
 -- when the first list is at its end, the rest of the other decides
 pub pointwise-end : {X A : Type 0} (seen : X → A) (E : A → A → Bool) (xs rest : List X) (i : ℕ) → length xs ≤ i → (length rest == 0) ≡ pointwise E (map seen (drop i xs)) (map seen rest)

@@ -1,5 +1,5 @@
 -- What was read of a member that isn't bad is written as its item.
-use Rattle.std.proofs.Common.{◌≡◌, ℕ, ℤ, pos, Bool, true, false, ◌∷◌, ◌++◌, List, [], map, Option, Some, None, option_map, unwrap_or, Ok, if◌then◌else◌, refl, ap, subst, ◌∙◌}
+use Rattle.std.proofs.Common.{◌≡◌, ◌<◌, ℕ, ℤ, pos, arith, length, IsSome, Bool, true, false, ◌∷◌, ◌++◌, List, [], map, Option, Some, None, option_map, unwrap_or, Ok, if◌then◌else◌, refl, ap, subst, ◌∙◌}
 use Rattle.std.specs.List.{filter_map, find, cons_option}
 use Rattle.std.specs.Option.{option_and_then}
 use Rattle.passkey_cbor.specs.Item.{Item, number, byte_string, text_string, array, no_items, item, elements, items_of}
@@ -99,6 +99,14 @@ array_written i e = cc
 pub all_ops_written : (o : Option Item) → AreGoodOps o → ops_item (unwrap_or (option_map ops_in o) []) ≡ o
 all_ops_written None e = refl
 all_ops_written (Some i) e = array_written i e
+
+some_names : (names : List (Named KeyOperation)) (i : Item) → ops_item names ≡ Some i → 0 < length names
+some_names [] i e = cc
+some_names (n ∷ ns) i e = omega arith
+
+pub some_ops : (o : Option Item) → AreGoodOps o → IsSome o → 0 < length (unwrap_or (option_map ops_in o) [])
+some_ops None e some = cc
+some_ops (Some i) e some = some_names (ops_in i) i (array_written i e)
 
 -- ---- the type
 

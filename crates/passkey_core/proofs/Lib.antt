@@ -2,6 +2,8 @@ mod MapChanges
 mod MapEquality
 mod Maps
 mod SameTables
+mod Emptiness
+mod Decodable
 pub mod KeySeparate
 pub mod KeyLists
 pub mod KeyFurther

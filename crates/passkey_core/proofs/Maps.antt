@@ -98,5 +98,10 @@ pub ClonesValues-same : {V : Type 0} (D : V → V → Type 0) → ((v w : V) →
 ClonesValues-same D exact m copy h = fin.same_map nat_list_cmp_total (fin.slice_cmp-IsAntisymmetric fin.nat_cmp-IsAntisymmetric) copy m
     (λ q. same_found D exact (fin.get m q) (fin.get copy q) (h q))
 
+pub ClonesValues-empty : {V : Type 0} (D : V → V → Type 0) (m copy : ByteMap V) → m ≡ fin.empty → copy ≡ fin.empty → ClonesValues D m copy
+ClonesValues-empty {V} D m copy none same q =
+    let P : Option V → Type 0 = λ found. MatchOption found (fin.get copy q ≡ None) (λ v. IsSomeAnd (fin.get copy q) (D v)) in
+    subst P (sym (ap (λ n. fin.get n q) none ∙ fin.get-empty (slice_cmp nat_cmp) q)) (ap (λ n. fin.get n q) same ∙ fin.get-empty (slice_cmp nat_cmp) q)
+
 -- what a map reads as
 pub ruleset readings = (get-map_of, len-map_of)

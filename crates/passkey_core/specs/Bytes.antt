@@ -1,11 +1,20 @@
 -- What making a `Bytes` from a text answers.
-use Rattle.std.specs.Prelude.{◌≡◌, ℕ, List, Some, None, Result, Ok, Err}
+use Rattle.std.specs.Prelude.{◌<◌, ℕ, Bool, true, false, List, length, Option, Some, None, Result, Ok, Err}
 use Rattle.passkey_core.specs.declared.bytes.BytesFault.{BytesFault}
 use Rattle.passkey_core.specs.declared.bytes.BytesFault.TheVariants.{NotBase64Encoded, OutOfMemory}
 use Rattle.passkey_core.specs.Encoding.{text_bytes}
+use Rattle.passkey_core.specs.Memory.{Answers}
 
--- the bytes of the text; or the text has none; or memory was refused
+-- whether the fault says that memory was refused
+abbrev pub is_memory : BytesFault → Bool
+is_memory OutOfMemory = true
+is_memory (NotBase64Encoded _) = false
+
+abbrev pub bytes_or_fault : Option (List ℕ) → Result (List ℕ) BytesFault
+bytes_or_fault (Some bytes) = Ok bytes
+bytes_or_fault None = Err (NotBase64Encoded record {})
+
+-- the bytes of the text; or the text has none; or memory was refused, which only some bytes let
+-- happen
 abbrev pub ReadsText : List ℕ → Result (List ℕ) BytesFault → Type 0
-ReadsText text (Ok bytes) = text_bytes text ≡ Some bytes
-ReadsText text (Err (NotBase64Encoded _)) = text_bytes text ≡ None
-ReadsText text (Err OutOfMemory) = Unit {0}
+ReadsText text = Answers is_memory (λ bytes. 0 < length bytes) (λ bytes. bytes) (bytes_or_fault (text_bytes text))

@@ -1,6 +1,6 @@
 -- What a text stands for in base64 and base64url (RFC 4648, sections 4 and 5). The decoding is the
 -- definition of the crate `base64`.
-use Rattle.std.specs.Prelude.{ℕ, ◌==◌, true, if◌then◌else◌, List, [], ◌∷◌, reverse, Option, Some, None}
+use Rattle.std.specs.Prelude.{ℕ, ◌==◌, ◌≡◌, true, if◌then◌else◌, List, [], ◌∷◌, reverse, slice_index, Option, Some, None, Ok}
 use Rattle.std.specs.Result.{result_ok}
 use Rattle.base64.specs.declared.engine.general_purpose.GeneralPurpose.{GeneralPurpose}
 use Rattle.base64.specs.declared.engine.general_purpose.TheConstants.{NO_PAD}
@@ -19,6 +19,15 @@ after_equals (x ∷ xs) = if x == 61 then after_equals xs else x ∷ xs
 -- the text without each `=` that ends it
 abbrev pub without_equals : List ℕ → List ℕ
 without_equals text = reverse (after_equals (reverse text))
+
+-- the text "AA" is a byte of value zero to the engine
+abbrev pub ReadsZeros : GeneralPurpose → Type 0
+ReadsZeros engine = decode_of engine (65 ∷ 65 ∷ []) ≡ Ok (0 ∷ [])
+
+-- the first four symbols, and "AA" behind them
+abbrev pub window : List ℕ → List ℕ
+window symbols =
+    slice_index symbols 0 ∷ slice_index symbols 1 ∷ slice_index symbols 2 ∷ slice_index symbols 3 ∷ 65 ∷ 65 ∷ []
 
 -- the bytes of a text in base64url, padded or not
 abbrev pub base64url_bytes : List ℕ → Option (List ℕ)

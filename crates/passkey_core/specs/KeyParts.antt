@@ -1,10 +1,11 @@
 -- What a key is (RFC 9052, section 7).
-use Rattle.std.specs.Prelude.{ℕ, ℤ, pos, negsuc, List, [], ◌∷◌, ◌++◌, map, Option, Some, None, option_map}
+use Rattle.std.specs.Prelude.{ℕ, ℤ, pos, negsuc, ◌<◌, ◌⊎◌, List, [], ◌∷◌, ◌++◌, length, map, Option, Some, None, IsSome, option_map}
+use Rattle.std.specs.Option.{IsSomeAnd}
 use Rattle.passkey_cbor.specs.Item as item
 use Rattle.passkey_cbor.specs.Item.{Item, number, byte_string, array, items_of, pairs_of}
 use Rattle.passkey_core.specs.Iana.{algorithm_number, key_type_number, key_operation_number}
 use Rattle.passkey_core.specs.KeyLabels.{Members}
-use Rattle.passkey_core.specs.Registered.{Named, assigned, named_item}
+use Rattle.passkey_core.specs.Registered.{Named, assigned, named_item, IsText}
 use Rattle.passkey_core.specs.declared.iana.Algorithm.{Algorithm}
 use Rattle.passkey_core.specs.declared.iana.KeyOperation.{KeyOperation}
 use Rattle.passkey_core.specs.declared.iana.KeyType.{KeyType}
@@ -57,3 +58,13 @@ key_members k =
 -- the map that the key is written as
 abbrev pub key_item : KeyParts → Item
 key_item k = item.map (pairs_of (key_members k))
+
+-- the keys that take memory to hold: those with a text for the type or the algorithm, a name, operations, a Base IV or further parameters
+abbrev pub TakesMemory : KeyParts → Type 0
+TakesMemory k =
+    IsText k.kty
+    ⊎ IsSome k.key_id
+    ⊎ IsSomeAnd k.alg IsText
+    ⊎ (0 < length k.key_ops)
+    ⊎ IsSome k.base_iv
+    ⊎ (0 < length k.params)

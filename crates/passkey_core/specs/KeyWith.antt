@@ -3,12 +3,14 @@ use Rattle.std.specs.Prelude.{◌≡◌, Bool, false, ◌||◌, if◌then◌else
 use Rattle.std.specs.List.{list_any}
 use Rattle.passkey_cbor.specs.Item.{Item}
 use Rattle.passkey_cbor.specs.Same.{item_eq}
+use Rattle.passkey_core.specs.CoseErrors.{is_memory}
 use Rattle.passkey_core.specs.Key.{key_parts}
 use Rattle.passkey_core.specs.KeyLabels.{Members, is_common, has_label}
 use Rattle.passkey_core.specs.KeyParts.{KeyParts, op_item}
+use Rattle.passkey_core.specs.Memory.{Fails, unless}
 use Rattle.passkey_core.specs.Registered.{Named}
 use Rattle.passkey_core.specs.declared.cose.error.CoseError.{CoseError}
-use Rattle.passkey_core.specs.declared.cose.error.CoseError.TheVariants.{DecodeFailed, OutOfMemory, OutOfRangeIntegerValue, DuplicateMapKey, UnexpectedItem}
+use Rattle.passkey_core.specs.declared.cose.error.CoseError.TheVariants.{DuplicateMapKey, UnexpectedItem}
 use Rattle.passkey_core.specs.declared.cose.key.CoseKey.{CoseKey}
 use Rattle.passkey_core.specs.declared.cose.refused.RefusedKey.{RefusedKey}
 use Rattle.passkey_core.specs.declared.iana.KeyOperation.{KeyOperation}
@@ -31,14 +33,7 @@ abbrev pub Becomes : KeyParts → Option CoseError → KeyParts → Result CoseK
 Becomes before fault after (Ok key) = (fault ≡ None) × (key_parts key ≡ after)
 Becomes before fault after (Err refused) = (fault ≡ Some refused.error) × (key_parts refused.key ≡ before)
 
--- memory may run out where there is no fault
-abbrev pub IsRefusedBy : Option CoseError → CoseError → Type 0
-IsRefusedBy fault OutOfMemory = fault ≡ None
-IsRefusedBy fault DecodeFailed = fault ≡ Some DecodeFailed
-IsRefusedBy fault OutOfRangeIntegerValue = fault ≡ Some OutOfRangeIntegerValue
-IsRefusedBy fault DuplicateMapKey = fault ≡ Some DuplicateMapKey
-IsRefusedBy fault UnexpectedItem = fault ≡ Some UnexpectedItem
-
+-- the same; or memory ran out, where there is no fault
 abbrev pub BecomesOrRunsOut : KeyParts → Option CoseError → KeyParts → Result CoseKey RefusedKey → Type 0
 BecomesOrRunsOut before fault after (Ok key) = (fault ≡ None) × (key_parts key ≡ after)
-BecomesOrRunsOut before fault after (Err refused) = IsRefusedBy fault refused.error × (key_parts refused.key ≡ before)
+BecomesOrRunsOut before fault after (Err refused) = Fails is_memory (λ _. Unit {0}) (unless fault after) refused.error × (key_parts refused.key ≡ before)

@@ -1,3 +1,4 @@
+pub mod Memory
 pub mod Bytes
 pub mod BytesLoan
 pub mod Encoding

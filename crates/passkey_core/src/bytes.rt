@@ -1,5 +1,5 @@
 //! Byte strings.
-ghost use Rattle.std.specs.Prelude.{◌≡◌, ◌↔◌, ◌<◌, ◌^◌, List, [], length, IfOk, IsTrue};
+ghost use Rattle.std.specs.Prelude.{◌≡◌, ◌↔◌, ◌<◌, ◌^◌, List, [], length, IfOk, IsTrue, OnErr};
 ghost use Rattle.std.specs.Borrow.{sem};
 ghost use Rattle.std.specs.Cmp.{partial_equiv_from_equiv};
 ghost use Rattle.std.specs.Cmp.Rules.{hashing};
@@ -47,11 +47,14 @@ impl Bytes {
         Bytes(Vec::new(alloc))
     }
 
-    /// A copy of the bytes. `OutOfMemory` where its memory was refused.
+    /// A copy of the bytes. `OutOfMemory` where its memory was refused, which cannot be for none.
     pub fn from_slice(alloc: Global, bytes: &[u8]) -> Result<Bytes, OutOfMemory>
-        ensures { IfOk result (λ made. made ≡ bytes.now) }
+        ensures same { IfOk result (λ made. made ≡ bytes.now) }
+        ensures grows { OnErr result (0 < length bytes.now) }
     {
-        Ok(Bytes(Vec::from_slice(alloc, bytes)?))
+        let mut copy = Vec::with_capacity(alloc, bytes.len())?;
+        copy.extend_from_slice(bytes)?;
+        Ok(Bytes(copy))
     }
 
     /// The bytes that the iterator gives before its end, in their order. `OutOfMemory` where a
@@ -86,9 +89,10 @@ impl Bytes {
     }
 
     /// The bytes in base64url, without padding (RFC 4648, section 5). `OutOfMemory` where the
-    /// text's memory was refused.
+    /// text's memory was refused, which cannot be where there are no bytes.
     pub fn to_base64url(&self, alloc: Global) -> Result<String, OutOfMemory>
-        ensures { IfOk result (λ text. string_bytes text ≡ encode_of url_safe_no_pad self.now) }
+        ensures grows { OnErr result (0 < length self.now) }
+        ensures same { IfOk result (λ text. string_bytes text ≡ encode_of url_safe_no_pad self.now) }
     {
         encoding::base64url(alloc, self.as_slice())
     }
@@ -129,9 +133,10 @@ impl Bytes {
         self.0.is_empty()
     }
 
-    /// A copy. `OutOfMemory` where its memory was refused.
+    /// A copy. `OutOfMemory` where its memory was refused, which cannot be where there are no bytes.
     pub fn try_clone(&self, alloc: Global) -> Result<Bytes, OutOfMemory>
-        ensures { IfOk result (λ copy. copy ≡ self.now) }
+        ensures same { IfOk result (λ copy. copy ≡ self.now) }
+        ensures grows { OnErr result (0 < length self.now) }
     {
         Bytes::from_slice(alloc, self.as_slice())
     }

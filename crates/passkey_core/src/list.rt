@@ -1,5 +1,5 @@
 //! Lists.
-ghost use Rattle.std.specs.Prelude.{◌≡◌, ◌↔◌, ◌∷◌, ◌++◌, [], length, IfOk, IsTrue};
+ghost use Rattle.std.specs.Prelude.{◌≡◌, ◌↔◌, ◌<◌, ◌∷◌, ◌++◌, [], length, IfOk, IsTrue, OnErr};
 ghost use Rattle.std.specs.Borrow.{sem};
 ghost use Rattle.std.specs.Cmp.Lexicographic.{lists_equiv, lists_per, pointwise};
 ghost use Rattle.std.specs.Fmt.{debug_list};
@@ -75,11 +75,16 @@ impl<T> List<T> {
 }
 
 impl<T: Clone> List<T> {
-    /// A list of copies of the items. `OutOfMemory` where a growth was refused.
+    /// A list of copies of the items. `OutOfMemory` where a growth was refused, which cannot be for
+    /// the empty list.
     pub fn try_clone(&self, alloc: Global) -> Result<List<T>, OutOfMemory>
         ensures clones { IfOk result (λ copy. AllZip T.is_clone self.now copy) }
         ensures same { ((x y : T) → T.is_clone x y → y ≡ x) → IfOk result (λ copy. copy ≡ self.now) }
+        ensures grows { OnErr result (0 < length self.now) }
     {
+        if self.is_empty() {
+            return Ok(List::empty(alloc));
+        }
         Ok(List(Vec::from_clones(alloc, self.as_slice())?))
     }
 }

@@ -1,5 +1,5 @@
 //! Finite maps.
-ghost use Rattle.std.specs.Prelude.{◌≡◌, ◌↔◌, ℕ, List, length, map, option_map, option_copied, is_some, IfErr, IfOk, IsTrue, OnErr, OnOk};
+ghost use Rattle.std.specs.Prelude.{◌≡◌, ◌↔◌, ℕ, List, None, length, map, option_map, option_copied, is_some, IfErr, IfOk, IsTrue, OnErr, OnOk};
 ghost use Rattle.std.specs.FinMap as fin;
 ghost use Rattle.std.specs.Str.{bytes_eq};
 ghost use Rattle.passkey_core.specs.Map.{AreEntries, ClonesValues, GivesEntries, LendsEntries, map_of, maps_eq};
@@ -101,13 +101,15 @@ impl<K: Key, V> Map<K, V> {
     }
 
     /// Puts the value at the key, and gives back the one that stood there. Where a growth was
-    /// refused the map is as before, and the error holds the key and the value.
+    /// refused, which only a new key lets happen, the map is as before, and the error holds the key
+    /// and the value.
     #[tactic(auto, using(crate::proofs::MapChanges::changes))]
     pub fn insert(&mut self, key: K, value: V) -> Result<Option<V>, AllocFailed<(K, V)>>
         ensures before { IfOk result (λ before. before ≡ fin.get self.old (K.key_bytes key)) }
         ensures ok { OnOk result (self.new ≡ fin.insert self.old (K.key_bytes key) value) }
         ensures err { OnErr result (self.new ≡ self.old) }
         ensures value_returned { IfErr result (λ failed. failed.value ≡ (key, value)) }
+        ensures absent { OnErr result (fin.get self.old (K.key_bytes key) ≡ None) }
     {
         self.0.insert(key, value)
     }
@@ -145,11 +147,16 @@ impl<K: Key, V> Map<K, V> {
 }
 
 impl<K: Key, V: Clone> Map<K, V> {
-    /// A map of copies of the keys and the values. `OutOfMemory` where a growth was refused.
-    pub fn try_clone(&self, _alloc: Global) -> Result<Map<K, V>, OutOfMemory>
+    /// A map of copies of the keys and the values. `OutOfMemory` where a growth was refused, which
+    /// cannot be for the empty map.
+    pub fn try_clone(&self, alloc: Global) -> Result<Map<K, V>, OutOfMemory>
         ensures clones { IfOk result (ClonesValues V.is_clone self.now) }
         ensures same { ((x y : V) → V.is_clone x y → y ≡ x) → IfOk result (λ copy. copy ≡ self.now) }
+        ensures grows { OnErr result (¬ (self.now ≡ fin.empty)) }
     {
+        if self.is_empty() {
+            return Ok(Map::empty(alloc));
+        }
         Ok(self.clone()?)
     }
 }

@@ -1,5 +1,5 @@
 //! Texts.
-ghost use Rattle.std.specs.Prelude.{◌≡◌, ◌↔◌, [], Some, length, IfOk, IsTrue};
+ghost use Rattle.std.specs.Prelude.{◌≡◌, ◌↔◌, ◌<◌, [], Some, length, IfOk, IsTrue, OnErr};
 ghost use Rattle.std.specs.Cmp.{partial_equiv_from_equiv};
 ghost use Rattle.std.specs.Cmp.Rules.{hashing};
 ghost use Rattle.std.proofs.Common.{rules};
@@ -36,11 +36,15 @@ impl Text {
         Text(String::new(alloc))
     }
 
-    /// A copy of the text. `OutOfMemory` where its memory was refused.
+    /// A copy of the text. `OutOfMemory` where its memory was refused, which cannot be for the empty
+    /// text.
     pub fn from_str(alloc: Global, text: &str) -> Result<Text, OutOfMemory>
-        ensures { IfOk result (λ made. made ≡ text.now) }
+        ensures same { IfOk result (λ made. made ≡ text.now) }
+        ensures grows { OnErr result (0 < length text.now) }
     {
-        Ok(Text(String::from_str(alloc, text)?))
+        let mut copy = String::with_capacity(alloc, text.len())?;
+        copy.push_str(text)?;
+        Ok(Text(copy))
     }
 
     /// The text.
@@ -65,9 +69,10 @@ impl Text {
         self.0.is_empty()
     }
 
-    /// A copy. `OutOfMemory` where its memory was refused.
+    /// A copy. `OutOfMemory` where its memory was refused, which cannot be for the empty text.
     pub fn try_clone(&self, alloc: Global) -> Result<Text, OutOfMemory>
-        ensures { IfOk result (λ copy. copy ≡ self.now) }
+        ensures same { IfOk result (λ copy. copy ≡ self.now) }
+        ensures grows { OnErr result (0 < length self.now) }
     {
         Text::from_str(alloc, self.as_str())
     }

@@ -1,8 +1,9 @@
 //! Copies of keys.
-ghost use Rattle.std.specs.Prelude.{◌≡◌, map, option_map, IfOk};
+ghost use Rattle.std.specs.Prelude.{◌≡◌, ◌<◌, length, map, IsSome, IsSomeAnd, option_map, IfOk, OnErr};
 ghost use Rattle.passkey_core.specs.Key.{key_parts};
 ghost use Rattle.passkey_core.specs.KeyParams.{params_of};
-ghost use Rattle.passkey_core.specs.Registered.{named_of};
+ghost use Rattle.passkey_core.specs.KeyParts.{TakesMemory};
+ghost use Rattle.passkey_core.specs.Registered.{named_of, IsText};
 
 use crate::cose::key::CoseKey;
 use crate::cose::label::Label;
@@ -12,7 +13,8 @@ use passkey_cbor::{OutOfMemory, Value};
 use std::alloc::Global;
 
 fn copy_bytes(alloc: Global, bytes: &Option<Vec<u8>>) -> Result<Option<Vec<u8>>, OutOfMemory>
-    ensures { IfOk result (λ o. option_map (λ v. v.items) o ≡ option_map (λ v. v.items) bytes.now) }
+    ensures same { IfOk result (λ o. option_map (λ v. v.items) o ≡ option_map (λ v. v.items) bytes.now) }
+    ensures grows { OnErr result (IsSome bytes.now) }
 {
     match bytes {
         Some(bytes) => Ok(Some(Vec::from_slice(alloc, bytes)?)),
@@ -24,7 +26,8 @@ fn copy_alg(
     alloc: Global,
     alg: &Option<Registered<Algorithm>>,
 ) -> Result<Option<Registered<Algorithm>>, OutOfMemory>
-    ensures { IfOk result (λ o. option_map named_of o ≡ option_map named_of alg.now) }
+    ensures same { IfOk result (λ o. option_map named_of o ≡ option_map named_of alg.now) }
+    ensures grows { OnErr result (IsSomeAnd (option_map named_of alg.now) IsText) }
 {
     match alg {
         Some(alg) => Ok(Some(alg.try_clone(alloc)?)),
@@ -36,7 +39,8 @@ fn copy_ops(
     alloc: Global,
     ops: &[Registered<KeyOperation>],
 ) -> Result<Vec<Registered<KeyOperation>>, OutOfMemory>
-    ensures { IfOk result (λ v. map named_of v.items ≡ map named_of ops.now) }
+    ensures same { IfOk result (λ v. map named_of v.items ≡ map named_of ops.now) }
+    ensures grows { OnErr result (0 < length ops.now) }
 {
     let mut copies = Vec::with_capacity(alloc, ops.len())?;
     for op in ops {
@@ -46,7 +50,8 @@ fn copy_ops(
 }
 
 fn copy_params(alloc: Global, params: &[(Label, Value)]) -> Result<Vec<(Label, Value)>, OutOfMemory>
-    ensures { IfOk result (λ v. params_of v.items ≡ params_of params.now) }
+    ensures same { IfOk result (λ v. params_of v.items ≡ params_of params.now) }
+    ensures grows { OnErr result (0 < length params.now) }
 {
     let mut copies = Vec::with_capacity(alloc, params.len())?;
     for (label, value) in params {
@@ -56,9 +61,11 @@ fn copy_params(alloc: Global, params: &[(Label, Value)]) -> Result<Vec<(Label, V
 }
 
 impl CoseKey {
-    /// An equal key. `OutOfMemory` where a growth was refused.
+    /// An equal key. `OutOfMemory` where a growth was refused, which cannot be for a key whose type
+    /// and algorithm are numbers, and which has no other part.
     pub fn try_clone(&self, alloc: Global) -> Result<CoseKey, OutOfMemory>
-        ensures { IfOk result (λ k. key_parts k ≡ key_parts self.now) }
+        ensures same { IfOk result (λ k. key_parts k ≡ key_parts self.now) }
+        ensures grows { OnErr result (TakesMemory (key_parts self.now)) }
     {
         let key_ops = copy_ops(alloc, self.key_ops())?;
         let params = copy_params(alloc, self.params())?;

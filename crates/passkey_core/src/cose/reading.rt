@@ -1,5 +1,5 @@
 //! Items to keys.
-ghost use Rattle.std.specs.Prelude.{◌≡◌, [], map, None, option_map, unwrap_or, IfOk};
+ghost use Rattle.std.specs.Prelude.{◌≡◌, ◌<◌, [], length, map, None, IsSome, IsSomeAnd, option_map, unwrap_or, IfOk, OnErr};
 ghost use Rattle.std.specs.List.{filter_map};
 ghost use Rattle.std.specs.Option.{option_and_then};
 ghost use Rattle.passkey_cbor.specs.View.{item_of, pair_of};
@@ -9,9 +9,10 @@ ghost use Rattle.passkey_core.specs.KeyChecks.{Reads};
 ghost use Rattle.passkey_core.specs.KeyFaults.{name_fault, first_fault};
 ghost use Rattle.passkey_core.specs.KeyLabels.{is_common};
 ghost use Rattle.passkey_core.specs.KeyParams.{params_of};
-ghost use Rattle.passkey_core.specs.KeyReading.{name_in, bytes_in, ops_in, under, further, key_type, judged, read_key};
+ghost use Rattle.passkey_core.specs.KeyParts.{TakesMemory};
+ghost use Rattle.passkey_core.specs.KeyReading.{name_in, bytes_in, ops_in, under, further, key_from, key_type, judged, read_key};
 ghost use Rattle.passkey_core.specs.Label.{label_item};
-ghost use Rattle.passkey_core.specs.Registered.{named_of};
+ghost use Rattle.passkey_core.specs.Registered.{named_of, IsText};
 
 use crate::cose::checking::{check_members, is_label_of, signed_64};
 use crate::cose::error::CoseError;
@@ -36,7 +37,8 @@ fn value_under(members: &[(Value, Value)], label: u8) -> Option<&Value>
 
 /// The value of a registry, where the item is one.
 fn read_name<T: EnumI64>(alloc: Global, name: &Value) -> Result<Option<Registered<T>>, OutOfMemory>
-    ensures { IfOk result (λ o. option_map named_of o ≡ name_in T.named (item_of name.now)) }
+    ensures same { IfOk result (λ o. option_map named_of o ≡ name_in T.named (item_of name.now)) }
+    ensures grows { OnErr result (IsSomeAnd (name_in T.named (item_of name.now)) IsText) }
 {
     match name {
         Value::Integer(n) => match signed_64(*n) {
@@ -56,7 +58,8 @@ fn read_name_under<T: EnumI64>(
     members: &[(Value, Value)],
     label: u8,
 ) -> Result<Option<Registered<T>>, OutOfMemory>
-    ensures { IfOk result (λ o. option_map named_of o ≡ option_and_then (name_in T.named) (under label (map pair_of members.now))) }
+    ensures same { IfOk result (λ o. option_map named_of o ≡ option_and_then (name_in T.named) (under label (map pair_of members.now))) }
+    ensures grows { OnErr result (IsSomeAnd (option_and_then (name_in T.named) (under label (map pair_of members.now))) IsText) }
 {
     match value_under(members, label) {
         Some(name) => read_name(alloc, name),
@@ -69,7 +72,8 @@ fn read_bytes_under(
     members: &[(Value, Value)],
     label: u8,
 ) -> Result<Option<Vec<u8>>, OutOfMemory>
-    ensures { IfOk result (λ o. option_map (λ v. v.items) o ≡ option_and_then bytes_in (under label (map pair_of members.now))) }
+    ensures same { IfOk result (λ o. option_map (λ v. v.items) o ≡ option_and_then bytes_in (under label (map pair_of members.now))) }
+    ensures grows { OnErr result (IsSome (option_and_then bytes_in (under label (map pair_of members.now)))) }
 {
     match value_under(members, label) {
         Some(Value::Bytes(bytes)) => Ok(Some(Vec::from_slice(alloc, bytes)?)),
@@ -94,7 +98,8 @@ fn read_ops_under(
     members: &[(Value, Value)],
     label: u8,
 ) -> Result<Option<Vec<Registered<KeyOperation>>>, OutOfMemory>
-    ensures { IfOk result (λ o. map named_of (unwrap_or (option_map (λ v. v.items) o) []) ≡ unwrap_or (option_map ops_in (under label (map pair_of members.now))) []) }
+    ensures same { IfOk result (λ o. map named_of (unwrap_or (option_map (λ v. v.items) o) []) ≡ unwrap_or (option_map ops_in (under label (map pair_of members.now))) []) }
+    ensures grows { OnErr result (IsSome (under label (map pair_of members.now))) }
 {
     match value_under(members, label) {
         Some(Value::Array(ops)) => Ok(Some(read_ops(alloc, ops)?)),
@@ -128,7 +133,8 @@ fn read_params(
     members: &[(Value, Value)],
 ) -> Result<Vec<(Label, Value)>, OutOfMemory>
     requires { first_fault [] (map pair_of members.now) ≡ None }
-    ensures { IfOk result (λ ps. params_of ps.items ≡ further (map pair_of members.now)) }
+    ensures same { IfOk result (λ ps. params_of ps.items ≡ further (map pair_of members.now)) }
+    ensures grows { OnErr result (0 < length (further (map pair_of members.now))) }
 {
     let mut params = Vec::new(alloc);
     for (label, value) in members {
@@ -140,7 +146,7 @@ fn read_params(
 }
 
 fn read_kty(alloc: Global, members: &[(Value, Value)]) -> Result<Registered<KeyType>, CoseError>
-    ensures { Reads named_of (key_type (option_and_then (name_in key_type_named) (under 1 (map pair_of members.now)))) result }
+    ensures { Reads IsText named_of (key_type (option_and_then (name_in key_type_named) (under 1 (map pair_of members.now)))) result }
 {
     match read_name_under(alloc, members, 1)? {
         None | Some(Registered::Assigned(KeyType::Reserved)) => Err(CoseError::UnexpectedItem),
@@ -148,11 +154,16 @@ fn read_kty(alloc: Global, members: &[(Value, Value)]) -> Result<Registered<KeyT
     }
 }
 
-fn read_members(alloc: Global, members: &[(Value, Value)]) -> Result<CoseKey, CoseError>
+/// The key of this type with the members' other parts.
+fn read_parts(
+    alloc: Global,
+    members: &[(Value, Value)],
+    kty: Registered<KeyType>,
+) -> Result<CoseKey, OutOfMemory>
     requires { first_fault [] (map pair_of members.now) ≡ None }
-    ensures { Reads key_parts (judged (map pair_of members.now) None) result }
+    ensures same { IfOk result (λ k. key_parts k ≡ key_from (map pair_of members.now) (named_of kty)) }
+    ensures grows { OnErr result (TakesMemory (key_from (map pair_of members.now) (named_of kty))) }
 {
-    let kty = read_kty(alloc, members)?;
     let key_id = read_bytes_under(alloc, members, 2)?;
     let alg = read_name_under(alloc, members, 3)?;
     let key_ops = read_ops_under(alloc, members, 4)?;
@@ -168,6 +179,14 @@ fn read_members(alloc: Global, members: &[(Value, Value)]) -> Result<CoseKey, Co
     })
 }
 
+fn read_members(alloc: Global, members: &[(Value, Value)]) -> Result<CoseKey, CoseError>
+    requires { first_fault [] (map pair_of members.now) ≡ None }
+    ensures { Reads TakesMemory key_parts (judged (map pair_of members.now) None) result }
+{
+    let kty = read_kty(alloc, members)?;
+    Ok(read_parts(alloc, members, kty)?)
+}
+
 impl CoseKey {
     /// The key that the item is (RFC 9052, section 7): a map, whose pairs are judged in their
     /// order, and each pair by its label, then by whether the label stood before, then by its
@@ -178,11 +197,12 @@ impl CoseKey {
     /// string, or an empty one; the operations (4) are no array, or an empty one, or two are one;
     /// or, at the end, where the type is not there or the reserved one. `OutOfRangeIntegerValue`
     /// where such a number is outside 64 signed bits. `DuplicateMapKey` where a label stands
-    /// twice. `OutOfMemory` where a growth was refused.
+    /// twice. `OutOfMemory` where none of these is so, the key takes memory and a growth was refused;
+    /// a key takes none whose type and algorithm are numbers, and which has no other part.
     ///
     /// The time grows with the square of the number of pairs, and of operations.
     pub fn from_value(alloc: Global, value: &Value) -> Result<CoseKey, CoseError>
-        ensures { Reads key_parts (read_key (item_of value.now)) result }
+        ensures { Reads TakesMemory key_parts (read_key (item_of value.now)) result }
     {
         match value {
             Value::Map(members) => {

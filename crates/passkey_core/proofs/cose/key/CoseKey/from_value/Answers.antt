@@ -1,8 +1,10 @@
-use Rattle.std.proofs.Common.{rules, ◌≡◌, [], map, Some, None, Err}
+use Rattle.std.proofs.Common.{rules, ◌≡◌, false, [], map, Some, None, Err}
 use Rattle.passkey_cbor.specs.View.{pair_of}
 use Rattle.passkey_cbor.proofs.Views.{item_of-Map}
+use Rattle.passkey_core.specs.CoseErrors.{is_memory}
 use Rattle.passkey_core.specs.KeyFaults.{first_fault}
 use Rattle.passkey_core.specs.Key.{key_parts}
+use Rattle.passkey_core.specs.KeyParts.{TakesMemory}
 use Rattle.passkey_core.proofs.KeyFaulty.{reads_fault}
 use Rattle.passkey_core.proofs.KeyLists.{read_key-map}
 use Rattle.passkey_core.proofs.cose.key.CoseKey.from_value.Goals as goal
@@ -10,8 +12,9 @@ use Rattle.passkey_core.proofs.cose.key.CoseKey.from_value.Goals as goal
 pub returns-in_err-check_members-in-Map : goal.returns-in_err-check_members-in-Map
 returns-in_err-check_members-in-Map c =
     let bad : first_fault [] (map pair_of c.in-Map.members.items) ≡ Some c.in_err-check_members-in-Map.field-0.0 = search rules in
+    let fault : is_memory c.in_err-check_members-in-Map.field-0.0 ≡ false = search rules in
     let told : c.from_residual.result ≡ Err c.in_err-check_members-in-Map.field-0.0 = search rules in
-    rw (c.in-Map.is, item_of-Map c.in-Map.members, read_key-map (map pair_of c.in-Map.members.items), bad, told) (reads_fault key_parts c.in_err-check_members-in-Map.field-0.0)
+    rw (c.in-Map.is, item_of-Map c.in-Map.members, read_key-map (map pair_of c.in-Map.members.items), bad, told) (reads_fault TakesMemory key_parts c.in_err-check_members-in-Map.field-0.0 fault)
 
 pub returns-in_ok-check_members-in-Map : goal.returns-in_ok-check_members-in-Map
 returns-in_ok-check_members-in-Map c =
