@@ -1,5 +1,5 @@
 -- What the calls of a cursor answer, in terms of reading what is ahead.
-use Rattle.std.specs.Prelude.{◌≡◌, ◌⊎◌, ◌↔◌, ℕ, ◌+◌, ◌<◌, ◌≤◌, List, ◌++◌, length, Bool, true, false, Option, Some, None, Result, Ok, Err, IsTrue}
+use Rattle.std.specs.Prelude.{◌≡◌, ◌⊎◌, ℕ, ◌+◌, ◌<◌, ◌≤◌, List, ◌++◌, length, Bool, true, false, Option, Some, None, Result, Ok, Err}
 use Rattle.std.specs.List.{concat}
 use Rattle.passkey_cbor.specs.Item.{Item}
 use Rattle.passkey_cbor.specs.HeadReading.{Read, head_at}
@@ -7,6 +7,7 @@ use Rattle.passkey_cbor.specs.Reading.{Reader, start, end, element, step_at, may
 use Rattle.passkey_cbor.specs.Walk.{Walk, ahead, Passed, Stopped}
 use Rattle.passkey_cbor.specs.Inside.{Content}
 use Rattle.passkey_cbor.specs.Lent.{Region, PassesString}
+use Rattle.passkey_cbor.specs.Names.{place_of}
 use Rattle.passkey_cbor.specs.declared.head.Head.{Head}
 use Rattle.passkey_cbor.specs.declared.head.Head.TheVariants as head
 use Rattle.passkey_cbor.specs.declared.cursor.Next.{Next}
@@ -112,11 +113,11 @@ abbrev pub ReadsRegion : Bool → Option ℕ → Walk → Walk → Option (List 
 ReadsRegion is_text len old new (Some region) = RegionRead is_text len old new region
 ReadsRegion is_text len old new None = NoHead (string_at is_text len (ahead old)) old new
 
--- whether the chunks ahead join to these bytes, with one head for each that was looked at and one for the break
-abbrev pub AreJoined : Bool → List ℕ → Walk → Walk → Bool → Type 0
-AreJoined is_text name old new found =
+-- the place of the first of the names that the chunks ahead join to, with one head for each that was looked at and one for the break
+abbrev pub AreSought : Bool → List (List ℕ) → Walk → Walk → Option ℕ → Type 0
+AreSought is_text names old new place =
     (chunks : List (List ℕ)) (rest : List ℕ) → list_at (chunk is_text) None (ahead old) ≡ Some (chunks, rest)
-    → (IsTrue found ↔ (concat chunks ≡ name)) × (new.heads ≤ old.heads + length chunks + 1)
+    → (place ≡ place_of (concat chunks) names) × (new.heads ≤ old.heads + length chunks + 1)
 
 -- the chunks ahead, joined, with one head for each that was looked at and one for the break
 pub record ChunksJoined (chunks : List (List ℕ)) (old new : Walk) (bytes : List ℕ) : Type 0 where

@@ -11,13 +11,13 @@ loop-bytes-init c = record {
 }
 
 pub returns-in-Malformed-clause-joins : goal.returns-in-Malformed-clause-joins
-returns-in-Malformed-clause-joins c = no_step_collected c.args.is_text c.loop-bytes.left c.args.chunks.now c.loop-bytes.chunks c.step.new.self c.loop-bytes.bytes.items c.loop-bytes.invariant.joins c.in-Malformed.ensures
+returns-in-Malformed-clause-joins c = λ chunks rest e. absurd (no_step_collected c.args.is_text c.loop-bytes.left c.args.chunks.now c.loop-bytes.chunks c.step.new.self c.loop-bytes.bytes.items c.loop-bytes.invariant.joins c.in-Malformed.ensures chunks rest e)
 
 pub returns-in-End-clause-joins : goal.returns-in-End-clause-joins
 returns-in-End-clause-joins c = all_collected c.args.is_text c.loop-bytes.left c.args.chunks.now c.loop-bytes.chunks c.step.new.self c.loop-bytes.bytes.items c.loop-bytes.invariant.joins c.in-End.ensures
 
 pub returns-in-None-clause-joins : goal.returns-in-None-clause-joins
-returns-in-None-clause-joins c = no_chunk_collected c.args.is_text c.loop-bytes.left c.step.new.left c.args.chunks.now c.loop-bytes.chunks c.step.new.self c.chunk.new.self c.in-Element.head c.loop-bytes.bytes.items c.loop-bytes.invariant.joins c.in-Element.ensures c.in-None.ensures
+returns-in-None-clause-joins c = λ chunks rest e. absurd (no_chunk_collected c.args.is_text c.loop-bytes.left c.step.new.left c.args.chunks.now c.loop-bytes.chunks c.step.new.self c.chunk.new.self c.in-Element.head c.loop-bytes.bytes.items c.loop-bytes.invariant.joins c.in-Element.ensures c.in-None.ensures chunks rest e)
 
 pub loop-bytes-preserved : goal.loop-bytes-preserved
 loop-bytes-preserved c = record {
