@@ -4,7 +4,7 @@ ghost use Rattle.std.specs.List.{position};
 ghost use Rattle.std.specs.Str.{bytes_eq};
 ghost use Rattle.passkey_cbor.specs.Lent.{LooksAgain};
 ghost use Rattle.passkey_cbor.specs.Names.{NoneBegins, IsNameOf};
-ghost use Rattle.passkey_cbor.specs.Steps.{AreSought};
+ghost use Rattle.passkey_cbor.specs.Steps.{AreSought, CountsChunks};
 ghost use Rattle.passkey_cbor.specs.Walk.{IsInside};
 
 use crate::cursor::{Cursor, Next};
@@ -60,7 +60,8 @@ fn place_of(names: &[&str], bytes: &[u8]) -> Option<usize>
 // joined so far is how one of the names begins, so it takes no memory.
 fn place_of_joined(chunks: &mut Cursor<'_>, is_text: bool, names: &[&str]) -> Option<usize>
     requires { IsInside chunks.old }
-    ensures { AreSought is_text (map (λ n. n.now) names.now) chunks.old chunks.new result }
+    ensures place { AreSought is_text (map (λ n. n.now) names.now) chunks.old result }
+    ensures counted { CountsChunks is_text chunks.old chunks.new }
 {
     let mut left = None;
     let mut joined: &[u8] = &[];

@@ -1,14 +1,13 @@
 //! Strings that a cursor passes and lends, in one piece or in chunks.
 ghost use Rattle.std.specs.Prelude.{◌≡◌, true, false, map, option_map, IfOk};
-ghost use Rattle.std.specs.Result.{result_map_both};
 ghost use Rattle.std.specs.String.{string_bytes};
 ghost use Rattle.passkey_cbor.specs.Lent.{LendsString, LendsStanding, LentWhole, LooksAgain, IsNamed, Copies, IsRegion};
 ghost use Rattle.passkey_cbor.specs.Names.{IsNameOf};
-ghost use Rattle.passkey_cbor.specs.Steps.{Joins, ReadsRegion, ReadsString};
+ghost use Rattle.passkey_cbor.specs.Steps.{ReadsRegion, ReadsString};
 ghost use Rattle.passkey_cbor.specs.Reading.{may_stand};
 ghost use Rattle.passkey_cbor.specs.Walk.{IsInside};
 
-use crate::cursor::{Cursor, Next};
+use crate::cursor::Cursor;
 use crate::error::OutOfMemory;
 use crate::names::name_of;
 use std::alloc::Global;
@@ -126,26 +125,6 @@ impl<'a> Cursor<'a> {
     }
 }
 
-// The bytes of the chunks ahead, up to their break.
-fn join(chunks: &mut Cursor<'_>, alloc: Global, is_text: bool) -> Result<Vec<u8>, OutOfMemory>
-    requires { IsInside chunks.old }
-    ensures joins { Joins is_text chunks.old chunks.new (result_map_both (λ v. v.items) (λ e. tt) result) }
-    ensures stands { IfOk result (λ v. may_stand is_text v.items ≡ true) }
-{
-    let mut bytes = Vec::new(alloc);
-    let mut left = None;
-    loop {
-        match chunks.step(&mut left) {
-            Next::Malformed => return Ok(bytes),
-            Next::End => return Ok(bytes),
-            Next::Element(head) => match chunks.chunk(is_text, head) {
-                None => return Ok(bytes),
-                Some(piece) => bytes.extend_from_slice(piece)?,
-            },
-        }
-    }
-}
-
 // A copy of a string, by its region. The heads of chunks are counted at the cursor.
 fn copy(
     alloc: Global,
@@ -167,9 +146,12 @@ fn copy(
         }
         None => {
             let mut chunks = Cursor::new(region);
-            let bytes = join(&mut chunks, alloc, is_text);
+            let bytes = chunks.build_chunks(alloc, is_text);
             cursor.add_heads(chunks.count().heads);
-            bytes
+            match bytes {
+                Ok(bytes) => Ok(bytes),
+                Err(_) => Err(OutOfMemory),
+            }
         }
     }
 }
