@@ -94,7 +94,8 @@ fn finds_the_first_name(rt: HostRuntime) {
         let token = cursor.text().expect(&rt, "a text");
         let passed = cursor.count().heads;
         assert_eq!(rt; token.name_of(&names, &mut cursor), place, "{spelled:?}");
-        assert!(rt; cursor.count().heads <= passed + heads, "{spelled:?}");
+        let counted = cursor.count().heads.saturating_sub(passed);
+        assert!(rt; counted <= heads, "{spelled:?}");
         assert_eq!(rt; cursor.place(), spelled.len());
         assert_eq!(rt; token.name_of(&no_names, &mut cursor), None);
     }
@@ -112,7 +113,7 @@ fn finds_the_first_name_of_bytes(rt: HostRuntime) {
     let chunked = other.bytes().expect(&rt, "a byte string");
     let passed = other.count().heads;
     assert_eq!(rt; chunked.name_of(&names, &mut other), Some(2));
-    assert!(rt; other.count().heads <= passed + 3);
+    assert!(rt; other.count().heads.saturating_sub(passed) <= 3);
     assert_eq!(rt; chunked.name_of(&["rp", "rpIds"], &mut other), None);
     assert_eq!(rt; other.place(), 8);
 }
