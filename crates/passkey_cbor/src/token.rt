@@ -150,6 +150,7 @@ fn copy(
             cursor.add_heads(chunks.count().heads);
             match bytes {
                 Ok(bytes) => Ok(bytes),
+                // The chunks of a token are well formed.
                 Err(_) => Err(OutOfMemory),
             }
         }
