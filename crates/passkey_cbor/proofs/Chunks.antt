@@ -1,13 +1,13 @@
 -- The chunks of a string, joined.
-use Rattle.std.proofs.Common.{◌≡◌, ℕ, ◌<◌, Bool, true, false, List, [], ◌∷◌, ◌++◌, length, Option, Some, None, Ok, Err, refl, sym, ap, subst, ◌∙◌, append_assoc, arith}
+use Rattle.std.proofs.Common.{◌≡◌, ℕ, ◌+◌, ◌<◌, ◌≤◌, Bool, true, false, List, [], ◌∷◌, ◌++◌, length, Option, Some, None, Ok, Err, refl, sym, ap, subst, ◌∙◌, append_assoc, arith}
 use Rattle.std.proofs.Common.{Vec, Global}
 use Rattle.std.specs.List.{concat}
-use Rattle.std.proofs.lemmas.List.{append-nil}
+use Rattle.std.proofs.lemmas.List.{append-nil, length-append}
 use Rattle.std.proofs.lemmas.Str.{IsUtf8-nil, IsUtf8-append, IsUtf8-from_is_utf8, is_utf8-from_IsUtf8}
 use Rattle.passkey_cbor.specs.HeadReading.{Read}
 use Rattle.passkey_cbor.specs.Reading.{chunk, may_stand, step_at, list_at, string_at}
 use Rattle.passkey_cbor.specs.Walk.{Walk, ahead, raised, IsInside}
-use Rattle.passkey_cbor.specs.Steps.{NoHead, ElementRead, EndRead, PieceRead}
+use Rattle.passkey_cbor.specs.Steps.{NoHead, ElementRead, EndRead, PieceRead, CountsChunks}
 use Rattle.passkey_cbor.specs.Building.{IsNotEmpty, total, some_bytes, Went, Makes}
 use Rattle.passkey_cbor.specs.declared.head.Head.{Head}
 use Rattle.passkey_cbor.specs.declared.error.CborError.TheVariants as error
@@ -24,9 +24,14 @@ total-no_nodes : (chunks : List (List ℕ)) → total no_nodes chunks ≡ 0
 total-no_nodes [] = refl
 total-no_nodes (c ∷ chunks) = omega (arith, total-no_nodes chunks)
 
--- What a loop over chunks keeps: those that were copied join to the bytes.
-abbrev pub Joins : Bool → Option ℕ → Walk → Walk → List ℕ → Type 0
-Joins is_text left old now bytes = Gathers (chunk is_text) no_nodes None left old now (λ chunks. concat chunks ≡ bytes)
+-- Those so far join to the bytes, and each counted at most one head.
+pub record Collected (old now : Walk) (bytes : List ℕ) (chunks : List (List ℕ)) : Type 0 where
+  pub joined : concat chunks ≡ bytes
+  pub heads : now.heads ≤ old.heads + length chunks
+
+-- What a loop over chunks keeps.
+abbrev pub Collects : Bool → Option ℕ → Walk → Walk → List ℕ → Type 0
+Collects is_text left old now bytes = Gathers (chunk is_text) no_nodes None left old now (Collected old now bytes)
 
 may_stand-append : (is_text : Bool) (s t : List ℕ) → may_stand is_text s ≡ true → may_stand is_text t ≡ true → may_stand is_text (s ++ t) ≡ true
 may_stand-append false s t p q = refl
@@ -52,29 +57,32 @@ concat-not_empty ((b ∷ c) ∷ chunks) others s some = tt
 
 -- ---- what the loop answers, by what it keeps
 
-pub joins_start : (is_text : Bool) (a : Walk) (bytes : List ℕ) → IsInside a → bytes ≡ [] → Joins is_text None a a bytes
-joins_start is_text a bytes inside none = gathers_start (chunk is_text) no_nodes None a (λ chunks. concat chunks ≡ bytes) inside (sym none)
+pub collects_start : (is_text : Bool) (a : Walk) (bytes : List ℕ) → IsInside a → bytes ≡ [] → Collects is_text None a a bytes
+collects_start is_text a bytes inside none = gathers_start (chunk is_text) no_nodes None a (Collected a a bytes) inside (record { joined = sym none; heads = omega arith })
 
-pub joins_more : (is_text : Bool) (left after : Option ℕ) (a b c d : Walk) (h : Head) (bytes more s : List ℕ) → Joins is_text left a b bytes → ElementRead left after b c h → PieceRead is_text (chunk is_text h (ahead c)) c d s → more ≡ bytes ++ s → Joins is_text after a d more
-joins_more is_text left after a b c d h bytes more s g n p pushed =
-    gathers_on (chunk is_text) no_nodes None left after a b c d h (λ chunks. concat chunks ≡ bytes) (λ chunks. concat chunks ≡ more) g n (went_passed c d p.passed) (λ before x u done one.
+pub collects_on : (is_text : Bool) (left after : Option ℕ) (a b c d : Walk) (h : Head) (bytes more s : List ℕ) → Collects is_text left a b bytes → ElementRead left after b c h → PieceRead is_text (chunk is_text h (ahead c)) c d s → more ≡ bytes ++ s → Collects is_text after a d more
+collects_on is_text left after a b c d h bytes more s g n p pushed =
+    gathers_on (chunk is_text) no_nodes None left after a b c d h (Collected a b bytes) (Collected a d more) g n (went_passed c d p.passed) (λ before x u done one.
     let same = some_is (s, ahead d) (x, u) (sym p.reads ∙ one) in
     let x_is : s ≡ x = ap (λ (q : List ℕ × List ℕ). q.0) same in
     let rest_is : ahead d ≡ u = ap (λ (q : List ℕ × List ℕ). q.1) same in
     record {
-      more = concat-push before x ∙ ap (λ (t : List ℕ). t ++ x) done ∙ ap (λ (t : List ℕ). bytes ++ t) (sym x_is) ∙ sym pushed;
+      more = record {
+        joined = concat-push before x ∙ ap (λ (t : List ℕ). t ++ x) done.joined ∙ ap (λ (t : List ℕ). bytes ++ t) (sym x_is) ∙ sym pushed;
+        heads = omega (arith, done.heads, n.counted, p.uncounted, length-append before (x ∷ []));
+      };
       rest_is = rest_is;
       nodes = p.passed.nodes;
       heads = omega (arith, passed_heads c d p.passed, ap length rest_is);
     })
 
 -- the chunks of a string in chunks
-record ChunksOf (is_text : Bool) (bytes s rest : List ℕ) : Type 0 where
-  chunks : List (List ℕ)
-  reads : list_at (chunk is_text) None bytes ≡ Some (chunks, rest)
-  joined : concat chunks ≡ s
+pub record ChunksOf (is_text : Bool) (bytes s rest : List ℕ) : Type 0 where
+  pub chunks : List (List ℕ)
+  pub reads : list_at (chunk is_text) None bytes ≡ Some (chunks, rest)
+  pub joined : concat chunks ≡ s
 
-chunks_of : (is_text : Bool) (bytes s rest : List ℕ) → string_at is_text None bytes ≡ Some (s, rest) → ChunksOf is_text bytes s rest
+pub chunks_of : (is_text : Bool) (bytes s rest : List ℕ) → string_at is_text None bytes ≡ Some (s, rest) → ChunksOf is_text bytes s rest
 chunks_of is_text bytes s rest e =
     let cs = bind_some (list_at (chunk is_text) None bytes) (λ cs. Some (concat cs.0, cs.1)) (s, rest) (sym (string_chunks is_text None bytes refl) ∙ e) in
     let p = some_is (concat cs.0.0, cs.0.1) (s, rest) cs.2 in
@@ -84,21 +92,21 @@ chunks_of is_text bytes s rest e =
 no_string : (is_text : Bool) (a b : Walk) → Went a b → ((s rest : List ℕ) → string_at is_text None (ahead a) ≡ Some (s, rest) → ⊥) → Makes some_bytes (string_at is_text None (ahead a)) a b (Err error.DecodeFailed)
 no_string is_text a b went none = record { went = went; made = none; heads = λ s rest e. absurd (none s rest e) }
 
-pub joins_malformed : (is_text : Bool) (left : Option ℕ) (a b c : Walk) (bytes : List ℕ) → Joins is_text left a b bytes → NoHead (step_at left (ahead b)) b c → Makes some_bytes (string_at is_text None (ahead a)) a c (Err error.DecodeFailed)
-joins_malformed is_text left a b c bytes g n =
+pub collects_malformed : (is_text : Bool) (left : Option ℕ) (a b c : Walk) (bytes : List ℕ) → Collects is_text left a b bytes → NoHead (step_at left (ahead b)) b c → Makes some_bytes (string_at is_text None (ahead a)) a c (Err error.DecodeFailed)
+collects_malformed is_text left a b c bytes g n =
     no_string is_text a c (went_then a b c g.went (went_stopped b c n.stopped)) (λ s rest e.
     let cs = chunks_of is_text (ahead a) s rest e in
-    gathers_nothing (chunk is_text) no_nodes None left a b c (λ chunks. concat chunks ≡ bytes) g n cs.chunks rest cs.reads)
+    gathers_nothing (chunk is_text) no_nodes None left a b c (Collected a b bytes) g n cs.chunks rest cs.reads)
 
-pub joins_no_chunk : (is_text : Bool) (left after : Option ℕ) (a b c d : Walk) (h : Head) (bytes : List ℕ) → Joins is_text left a b bytes → ElementRead left after b c h → NoHead (chunk is_text h (ahead c)) c d → Makes some_bytes (string_at is_text None (ahead a)) a d (Err error.DecodeFailed)
-joins_no_chunk is_text left after a b c d h bytes g n none =
+pub collects_no_chunk : (is_text : Bool) (left after : Option ℕ) (a b c d : Walk) (h : Head) (bytes : List ℕ) → Collects is_text left a b bytes → ElementRead left after b c h → NoHead (chunk is_text h (ahead c)) c d → Makes some_bytes (string_at is_text None (ahead a)) a d (Err error.DecodeFailed)
+collects_no_chunk is_text left after a b c d h bytes g n none =
     no_string is_text a d (went_then a b d g.went (went_then b c d (went_passed b c n.passed) (went_stopped c d none.stopped))) (λ s rest e.
     let cs = chunks_of is_text (ahead a) s rest e in
-    let r = gathers_here (chunk is_text) no_nodes None left after a b c h (λ chunks. concat chunks ≡ bytes) g n cs.chunks rest cs.reads in
+    let r = gathers_here (chunk is_text) no_nodes None left after a b c h (Collected a b bytes) g n cs.chunks rest cs.reads in
     none_is_some (r.first, r.middle) (sym none.reads ∙ r.one))
 
-pub joins_full : (is_text : Bool) (left after : Option ℕ) (a b c d : Walk) (h : Head) (bytes s : List ℕ) → Joins is_text left a b bytes → ElementRead left after b c h → PieceRead is_text (chunk is_text h (ahead c)) c d s → 0 < length s → Makes some_bytes (string_at is_text None (ahead a)) a d (Err error.OutOfMemory)
-joins_full is_text left after a b c d h bytes s g n p some = record {
+pub collects_full : (is_text : Bool) (left after : Option ℕ) (a b c d : Walk) (h : Head) (bytes s : List ℕ) → Collects is_text left a b bytes → ElementRead left after b c h → PieceRead is_text (chunk is_text h (ahead c)) c d s → 0 < length s → Makes some_bytes (string_at is_text None (ahead a)) a d (Err error.OutOfMemory)
+collects_full is_text left after a b c d h bytes s g n p some = record {
   went = went_then a b d g.went (went_then b c d (went_passed b c n.passed) (went_passed c d p.passed));
   made = λ all rest e.
       let cs = chunks_of is_text (ahead a) all rest e in
@@ -111,22 +119,49 @@ joins_full is_text left after a b c d h bytes s g n p some = record {
       let rest_is : ahead d ≡ r.middle = ap (λ (q : List ℕ × List ℕ). q.1) (some_is (s, ahead d) (r.first, r.middle) (sym p.reads ∙ r.one)) in
       omega (arith, r.heads, passed_heads c d p.passed, ap length rest_is, list_left (chunk is_text) (chunk_left is_text) r.fuel after r.middle (r.others, rest) r.reads);
 } where
-  here : (chunks : List (List ℕ)) (rest : List ℕ) → list_at (chunk is_text) None (ahead a) ≡ Some (chunks, rest) → Here (chunk is_text) no_nodes after a c h (λ chunks. concat chunks ≡ bytes) chunks rest
-  here = gathers_here (chunk is_text) no_nodes None left after a b c h (λ chunks. concat chunks ≡ bytes) g n
+  here : (chunks : List (List ℕ)) (rest : List ℕ) → list_at (chunk is_text) None (ahead a) ≡ Some (chunks, rest) → Here (chunk is_text) no_nodes after a c h (Collected a b bytes) chunks rest
+  here = gathers_here (chunk is_text) no_nodes None left after a b c h (Collected a b bytes) g n
 
   first_is : (x u : List ℕ) → chunk is_text h (ahead c) ≡ Some (x, u) → s ≡ x
   first_is x u one = ap (λ (q : List ℕ × List ℕ). q.0) (some_is (s, ahead d) (x, u) (sym p.reads ∙ one))
 
-pub joins_end : (is_text : Bool) (left : Option ℕ) (a b c : Walk) (v : Vec ℕ Global) → Joins is_text left a b v.items → EndRead left b c → Makes some_bytes (string_at is_text None (ahead a)) a c (Ok v)
-joins_end is_text left a b c v g n = record {
+pub collects_end : (is_text : Bool) (left : Option ℕ) (a b c : Walk) (v : Vec ℕ Global) → Collects is_text left a b v.items → EndRead left b c → Makes some_bytes (string_at is_text None (ahead a)) a c (Ok v)
+collects_end is_text left a b c v g n = record {
   went = went_then a b c g.went (went_passed b c n.passed);
   made = λ s rest e.
       let cs = chunks_of is_text (ahead a) s rest e in
-      let k = gathers_end (chunk is_text) no_nodes None left a b c (λ chunks. concat chunks ≡ v.items) g n cs.chunks rest cs.reads in
-      (sym k.done ∙ cs.joined, k.rest_is, k.nodes ∙ ap (raised a.nodes) (total-no_nodes cs.chunks));
+      let k = gathers_end (chunk is_text) no_nodes None left a b c (Collected a b v.items) g n cs.chunks rest cs.reads in
+      (sym k.done.joined ∙ cs.joined, k.rest_is, k.nodes ∙ ap (raised a.nodes) (total-no_nodes cs.chunks));
   heads = λ s rest e.
       let cs = chunks_of is_text (ahead a) s rest e in
-      (gathers_end (chunk is_text) no_nodes None left a b c (λ chunks. concat chunks ≡ v.items) g n cs.chunks rest cs.reads).heads;
+      (gathers_end (chunk is_text) no_nodes None left a b c (Collected a b v.items) g n cs.chunks rest cs.reads).heads;
+}
+
+-- ---- how many heads the loop counted, by what it keeps
+
+pub counts_no_step : (is_text : Bool) (left : Option ℕ) (a b c : Walk) (bytes : List ℕ) → Collects is_text left a b bytes → NoHead (step_at left (ahead b)) b c → 0 < c.heads → CountsChunks is_text a c
+counts_no_step is_text left a b c bytes g n some = record { some = some; heads = λ chunks rest e. absurd (gathers_nothing (chunk is_text) no_nodes None left a b c (Collected a b bytes) g n chunks rest e) }
+
+pub counts_no_chunk : (is_text : Bool) (left after : Option ℕ) (a b c d : Walk) (h : Head) (bytes : List ℕ) → Collects is_text left a b bytes → ElementRead left after b c h → NoHead (chunk is_text h (ahead c)) c d → 0 < d.heads → CountsChunks is_text a d
+counts_no_chunk is_text left after a b c d h bytes g n none some = record {
+  some = some;
+  heads = λ chunks rest e.
+      let r = gathers_here (chunk is_text) no_nodes None left after a b c h (Collected a b bytes) g n chunks rest e in
+      absurd (none_is_some (r.first, r.middle) (sym none.reads ∙ r.one));
+}
+
+pub counts_here : (is_text : Bool) (left after : Option ℕ) (a b c d : Walk) (h : Head) (bytes s : List ℕ) → Collects is_text left a b bytes → ElementRead left after b c h → PieceRead is_text (chunk is_text h (ahead c)) c d s → 0 < d.heads → CountsChunks is_text a d
+counts_here is_text left after a b c d h bytes s g n p some = record {
+  some = some;
+  heads = λ chunks rest e.
+      let r = gathers_here (chunk is_text) no_nodes None left after a b c h (Collected a b bytes) g n chunks rest e in
+      omega (arith, r.done.heads, n.counted, p.uncounted, ap length r.whole, length-append r.before (r.first ∷ r.others));
+}
+
+pub counts_end : (is_text : Bool) (left : Option ℕ) (a b c : Walk) (bytes : List ℕ) → Collects is_text left a b bytes → EndRead left b c → 0 < c.heads → CountsChunks is_text a c
+counts_end is_text left a b c bytes g n some = record {
+  some = some;
+  heads = λ chunks rest e. omega (arith, (gathers_end (chunk is_text) no_nodes None left a b c (Collected a b bytes) g n chunks rest e).done.heads, n.counted);
 }
 
 -- ---- a string in one piece

@@ -24,5 +24,6 @@ pub mod Counted
 pub mod Standing
 pub mod More
 pub mod Lending
+pub mod Naming
 pub mod Joining
 pub mod MapMembers

@@ -6,7 +6,7 @@ use Rattle.passkey_cbor.specs.Front.{IsFront}
 use Rattle.passkey_cbor.specs.HeadSpelling.{SpellsHead}
 use Rattle.passkey_cbor.specs.Inside.{Content}
 use Rattle.passkey_cbor.specs.Stands.{Stands}
-use Rattle.passkey_cbor.specs.Walk.{Walk, ahead}
+use Rattle.passkey_cbor.specs.Walk.{Walk, ahead, raised}
 use Rattle.passkey_cbor.specs.declared.head.Head.{Head}
 use Rattle.passkey_cbor.specs.declared.head.Head.TheVariants as head
 
@@ -92,8 +92,14 @@ abbrev pub heads_in : (is_text : Bool) (len : Option ℕ) (s bytes : List ℕ) �
 heads_in is_text (Some n) s bytes c = 0
 heads_in is_text None s bytes c = length c.first.0 + 1
 
+-- how many are looked at, whatever is asked: one of a string in chunks
+abbrev pub least_heads : Option ℕ → ℕ
+least_heads (Some n) = 0
+least_heads None = 1
+
 -- A call that looked at the string again: the cursor stays, and counts at most each head that stands in the region.
 pub record LooksAgain (is_text : Bool) (r : Region) (old new : Walk) : Type 0 where
+  pub least : raised old.heads (least_heads r.len) ≤ new.heads
   pub heads : (s : List ℕ) (t : Tells is_text r s) → new.heads ≤ old.heads + heads_in is_text r.len s r.bytes t
   pub place : new.place ≡ old.place
   pub nodes : new.nodes ≡ old.nodes

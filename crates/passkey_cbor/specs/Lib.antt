@@ -28,4 +28,5 @@ pub mod Building
 pub mod Valued
 pub mod Stands
 pub mod Lent
+pub mod Names
 pub mod Members

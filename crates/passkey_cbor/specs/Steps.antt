@@ -1,12 +1,12 @@
 -- What the calls of a cursor answer, in terms of reading what is ahead.
-use Rattle.std.specs.Prelude.{◌≡◌, ◌⊎◌, ◌↔◌, ℕ, ◌+◌, ◌<◌, ◌≤◌, List, ◌++◌, length, Bool, true, false, Option, Some, None, Result, Ok, Err, IsTrue}
-use Rattle.std.specs.List.{concat}
+use Rattle.std.specs.Prelude.{◌≡◌, ◌⊎◌, ℕ, ◌+◌, ◌<◌, ◌≤◌, List, ◌++◌, length, Bool, true, false, Option, Some, None}
 use Rattle.passkey_cbor.specs.Item.{Item}
 use Rattle.passkey_cbor.specs.HeadReading.{Read, head_at}
 use Rattle.passkey_cbor.specs.Reading.{Reader, start, end, element, step_at, may_stand, chunk, list_at, string_at, string_by, pair_by, item_within}
 use Rattle.passkey_cbor.specs.Walk.{Walk, ahead, Passed, Stopped}
 use Rattle.passkey_cbor.specs.Inside.{Content}
 use Rattle.passkey_cbor.specs.Lent.{Region, PassesString}
+use Rattle.passkey_cbor.specs.Names.{place_of}
 use Rattle.passkey_cbor.specs.declared.head.Head.{Head}
 use Rattle.passkey_cbor.specs.declared.head.Head.TheVariants as head
 use Rattle.passkey_cbor.specs.declared.cursor.Next.{Next}
@@ -112,25 +112,14 @@ abbrev pub ReadsRegion : Bool → Option ℕ → Walk → Walk → Option (List 
 ReadsRegion is_text len old new (Some region) = RegionRead is_text len old new region
 ReadsRegion is_text len old new None = NoHead (string_at is_text len (ahead old)) old new
 
--- whether the chunks ahead join to these bytes, with one head for each that was looked at and one for the break
-abbrev pub AreJoined : Bool → List ℕ → Walk → Walk → Bool → Type 0
-AreJoined is_text name old new found =
-    (chunks : List (List ℕ)) (rest : List ℕ) → list_at (chunk is_text) None (ahead old) ≡ Some (chunks, rest)
-    → (IsTrue found ↔ (concat chunks ≡ name)) × (new.heads ≤ old.heads + length chunks + 1)
+-- the place of the first of the names that the chunks ahead join to
+abbrev pub AreSought : Bool → List (List ℕ) → Walk → Option ℕ → Type 0
+AreSought is_text names old place = (s rest : List ℕ) → string_at is_text None (ahead old) ≡ Some (s, rest) → place ≡ place_of s names
 
--- the chunks ahead, joined, with one head for each that was looked at and one for the break
-pub record ChunksJoined (chunks : List (List ℕ)) (old new : Walk) (bytes : List ℕ) : Type 0 where
-  pub joined : bytes ≡ concat chunks
-  pub heads : new.heads ≤ old.heads + length chunks + 1
-
--- or memory was refused for one that isn't empty
-pub record ChunksRefused (chunks : List (List ℕ)) (old new : Walk) : Type 0 where
-  pub some : 0 < length (concat chunks)
-  pub heads : new.heads ≤ old.heads + length chunks + 1
-
-abbrev pub Joins : Bool → Walk → Walk → Result (List ℕ) (Unit {0}) → Type 0
-Joins is_text old new (Ok bytes) = (chunks : List (List ℕ)) (rest : List ℕ) → list_at (chunk is_text) None (ahead old) ≡ Some (chunks, rest) → ChunksJoined chunks old new bytes
-Joins is_text old new (Err e) = (chunks : List (List ℕ)) (rest : List ℕ) → list_at (chunk is_text) None (ahead old) ≡ Some (chunks, rest) → ChunksRefused chunks old new
+-- The chunks ahead were looked at: one head or more, at most one for each and one for the break.
+pub record CountsChunks (is_text : Bool) (old new : Walk) : Type 0 where
+  pub some : 0 < new.heads
+  pub heads : (chunks : List (List ℕ)) (rest : List ℕ) → list_at (chunk is_text) None (ahead old) ≡ Some (chunks, rest) → new.heads ≤ old.heads + length chunks + 1
 
 -- a string with its head
 abbrev pub ReadsString : Bool → Walk → Walk → Option Region → Type 0

@@ -1,5 +1,5 @@
 //! A cursor over lent bytes, which decodes head by head and counts the heads.
-ghost use Rattle.std.specs.Prelude.{◌≡◌, ℕ, ◌+◌, ◌≤◌, min, option_map, IfNone};
+ghost use Rattle.std.specs.Prelude.{◌≡◌, ℕ, ◌+◌, ◌≤◌, min, None, option_map, IfNone};
 ghost use Rattle.passkey_cbor.specs.Walk.{ahead, raised, IsInside, IsPlaced};
 ghost use Rattle.passkey_cbor.specs.Found.{FindsHead};
 ghost use Rattle.passkey_cbor.specs.Item.{Item};
@@ -153,7 +153,10 @@ impl<'a> Cursor<'a> {
     /// all of them up to a break.
     pub(crate) fn step(&mut self, left: &mut Option<u64>) -> Next
         requires { IsInside self.old }
-        ensures { ReadsStep left.old left.new self.old self.new result }
+        ensures reads { ReadsStep left.old left.new self.old self.new result }
+
+        // Where none says how many are left, one head is counted.
+        ensures counted { left.old ≡ None → (left.new ≡ None) × (self.new.heads ≡ raised self.old.heads 1) }
     {
         let known = *left;
         match known {
@@ -183,7 +186,8 @@ impl<'a> Cursor<'a> {
     /// So many bytes at the place, and on behind them: a string in one piece, or a chunk of one.
     /// Where they are a text, they are UTF-8.
     pub(crate) fn piece(&mut self, is_text: bool, len: u64) -> Option<&'a [u8]>
-        ensures { ReadsPiece is_text (piece_at is_text len (ahead self.old)) self.old self.new (option_map (λ s. s.now) result) }
+        ensures reads { ReadsPiece is_text (piece_at is_text len (ahead self.old)) self.old self.new (option_map (λ s. s.now) result) }
+        ensures uncounted { self.new.heads ≡ self.old.heads }
     {
         let bytes = self.bytes;
         match piece_of(is_text, len, &bytes[self.place..]) {
@@ -198,7 +202,8 @@ impl<'a> Cursor<'a> {
     /// The bytes of a chunk whose head was read, of a string of this kind, and on behind them.
     pub(crate) fn chunk(&mut self, is_text: bool, head: Head) -> Option<&'a [u8]>
         requires { IsInside self.old }
-        ensures { ReadsPiece is_text (chunk is_text head (ahead self.old)) self.old self.new (option_map (λ s. s.now) result) }
+        ensures reads { ReadsPiece is_text (chunk is_text head (ahead self.old)) self.old self.new (option_map (λ s. s.now) result) }
+        ensures uncounted { self.new.heads ≡ self.old.heads }
     {
         match head.chunk_len(is_text) {
             None => None,

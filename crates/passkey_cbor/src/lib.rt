@@ -13,6 +13,7 @@ mod integer;
 pub mod laws;
 mod map;
 mod member;
+mod names;
 mod read;
 mod simple;
 mod skip;

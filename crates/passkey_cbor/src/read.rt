@@ -4,7 +4,7 @@ ghost use Rattle.std.specs.Str.{IsUtf8};
 ghost use Rattle.passkey_cbor.specs.Item as item;
 ghost use Rattle.passkey_cbor.specs.Walk.{ahead, IsInside};
 ghost use Rattle.passkey_cbor.specs.Reading.{start, may_stand, piece_at, string_at, chunk, pair_by, simple_item, item_within, list_at};
-ghost use Rattle.passkey_cbor.specs.Steps.{IsHead};
+ghost use Rattle.passkey_cbor.specs.Steps.{IsHead, CountsChunks};
 ghost use Rattle.passkey_cbor.specs.Building.{Makes, an_item, a_counted_item, a_pair, each_of, some_bytes, a_text};
 ghost use Rattle.passkey_cbor.specs.Grows.{Grows};
 ghost use Rattle.passkey_cbor.specs.View.{item_of, pair_of};
@@ -222,11 +222,16 @@ impl<'a> Cursor<'a> {
         Ok(bytes)
     }
 
-    // Makes the bytes of a string in chunks.
-    fn build_chunks(&mut self, alloc: Global, is_text: bool) -> Result<Vec<u8>, CborError>
+    /// Makes the bytes of a string in chunks.
+    pub(crate) fn build_chunks(
+        &mut self,
+        alloc: Global,
+        is_text: bool,
+    ) -> Result<Vec<u8>, CborError>
         requires { IsInside self.old }
         ensures made { Makes some_bytes (string_at is_text None (ahead self.old)) self.old self.new result }
         ensures stands { IfOk result (λ v. may_stand is_text v.items ≡ true) }
+        ensures counted { CountsChunks is_text self.old self.new }
     {
         let mut bytes = Vec::new(alloc);
         let mut left = None;

@@ -1,14 +1,15 @@
 //! Strings that a cursor passes and lends, in one piece or in chunks.
-ghost use Rattle.std.specs.Prelude.{◌≡◌, ◌++◌, ℕ, List, true, false, option_map, IfOk, MatchOption};
-ghost use Rattle.std.specs.Result.{result_map_both};
+ghost use Rattle.std.specs.Prelude.{◌≡◌, true, false, map, option_map, IfOk};
 ghost use Rattle.std.specs.String.{string_bytes};
 ghost use Rattle.passkey_cbor.specs.Lent.{LendsString, LendsStanding, LentWhole, LooksAgain, IsNamed, Copies, IsRegion};
-ghost use Rattle.passkey_cbor.specs.Steps.{AreJoined, Joins, ReadsRegion, ReadsString};
+ghost use Rattle.passkey_cbor.specs.Names.{IsNameOf};
+ghost use Rattle.passkey_cbor.specs.Steps.{ReadsRegion, ReadsString};
 ghost use Rattle.passkey_cbor.specs.Reading.{may_stand};
 ghost use Rattle.passkey_cbor.specs.Walk.{IsInside};
 
-use crate::cursor::{Cursor, Next};
+use crate::cursor::Cursor;
 use crate::error::OutOfMemory;
+use crate::names::name_of;
 use std::alloc::Global;
 use std::marker::Model;
 use std::str;
@@ -124,84 +125,6 @@ impl<'a> Cursor<'a> {
     }
 }
 
-// The bytes behind these, where they begin with them.
-fn behind<'b>(bytes: &'b [u8], front: &[u8]) -> Option<&'b [u8]>
-    ensures { MatchOption result ((rest : List ℕ) → bytes.now ≡ front.now ++ rest → ⊥) (λ rest. bytes.now ≡ front.now ++ rest.now) }
-{
-    if bytes.len() < front.len() {
-        return None;
-    }
-    let (begin, rest) = bytes.split_at(front.len());
-    if begin != front {
-        return None;
-    }
-    Some(rest)
-}
-
-// Whether the chunks ahead, up to their break, join to these bytes.
-fn are_joined(chunks: &mut Cursor<'_>, is_text: bool, bytes: &[u8]) -> bool
-    requires { IsInside chunks.old }
-    ensures { AreJoined is_text bytes.now chunks.old chunks.new result }
-{
-    let mut left = None;
-    let mut rest = bytes;
-    loop {
-        match chunks.step(&mut left) {
-            Next::Malformed => return false,
-            Next::End => return rest.is_empty(),
-            Next::Element(head) => match chunks.chunk(is_text, head) {
-                None => return false,
-                Some(piece) => match behind(rest, piece) {
-                    None => return false,
-                    Some(after) => rest = after,
-                },
-            },
-        }
-    }
-}
-
-// Whether a string is this one, by its region. The heads of chunks are counted at the cursor.
-fn is_named(
-    is_text: bool,
-    len: Option<u64>,
-    region: &[u8],
-    name: &[u8],
-    cursor: &mut Cursor<'_>,
-) -> bool
-    ensures same { IsNamed is_text (record { len = len; bytes = region.now }) name.now result }
-    ensures looks { LooksAgain is_text (record { len = len; bytes = region.now }) cursor.old cursor.new }
-{
-    match len {
-        Some(_) => region == name,
-        None => {
-            let mut chunks = Cursor::new(region);
-            let equal = are_joined(&mut chunks, is_text, name);
-            cursor.add_heads(chunks.count().heads);
-            equal
-        }
-    }
-}
-
-// The bytes of the chunks ahead, up to their break.
-fn join(chunks: &mut Cursor<'_>, alloc: Global, is_text: bool) -> Result<Vec<u8>, OutOfMemory>
-    requires { IsInside chunks.old }
-    ensures joins { Joins is_text chunks.old chunks.new (result_map_both (λ v. v.items) (λ e. tt) result) }
-    ensures stands { IfOk result (λ v. may_stand is_text v.items ≡ true) }
-{
-    let mut bytes = Vec::new(alloc);
-    let mut left = None;
-    loop {
-        match chunks.step(&mut left) {
-            Next::Malformed => return Ok(bytes),
-            Next::End => return Ok(bytes),
-            Next::Element(head) => match chunks.chunk(is_text, head) {
-                None => return Ok(bytes),
-                Some(piece) => bytes.extend_from_slice(piece)?,
-            },
-        }
-    }
-}
-
 // A copy of a string, by its region. The heads of chunks are counted at the cursor.
 fn copy(
     alloc: Global,
@@ -223,9 +146,13 @@ fn copy(
         }
         None => {
             let mut chunks = Cursor::new(region);
-            let bytes = join(&mut chunks, alloc, is_text);
+            let bytes = chunks.build_chunks(alloc, is_text);
             cursor.add_heads(chunks.count().heads);
-            bytes
+            match bytes {
+                Ok(bytes) => Ok(bytes),
+                // The chunks of a token are well formed.
+                Err(_) => Err(OutOfMemory),
+            }
         }
     }
 }
@@ -237,7 +164,17 @@ impl<'a> TextToken<'a> {
         ensures same { IsNamed true self.now name.now result }
         ensures looks { LooksAgain true self.now cursor.old cursor.new }
     {
-        is_named(true, self.len, self.region, name.as_bytes(), cursor)
+        name_of(true, self.len, self.region, &[name], cursor).is_some()
+    }
+
+    /// The place of the first of the names that it is; none where it is none of them. All
+    /// are looked for in one walk. Where it is in chunks, each head that is decoded again is counted
+    /// at the cursor, which stays: at most one for each chunk, and one for the break.
+    pub fn name_of(&self, names: &[&str], cursor: &mut Cursor<'_>) -> Option<usize>
+        ensures name { IsNameOf true self.now (map (λ n. n.now) names.now) result }
+        ensures looks { LooksAgain true self.now cursor.old cursor.new }
+    {
+        name_of(true, self.len, self.region, names, cursor)
     }
 
     /// A copy of the text. `OutOfMemory` where a growth was refused, which cannot be for an empty
@@ -270,7 +207,17 @@ impl<'a> BytesToken<'a> {
         ensures same { IsNamed false self.now name.now result }
         ensures looks { LooksAgain false self.now cursor.old cursor.new }
     {
-        is_named(false, self.len, self.region, name.as_bytes(), cursor)
+        name_of(false, self.len, self.region, &[name], cursor).is_some()
+    }
+
+    /// The place of the first of the names whose bytes it has; none where it is none of them. All
+    /// are looked for in one walk. Where it is in chunks, each head that is decoded again is counted
+    /// at the cursor, which stays: at most one for each chunk, and one for the break.
+    pub fn name_of(&self, names: &[&str], cursor: &mut Cursor<'_>) -> Option<usize>
+        ensures name { IsNameOf false self.now (map (λ n. n.now) names.now) result }
+        ensures looks { LooksAgain false self.now cursor.old cursor.new }
+    {
+        name_of(false, self.len, self.region, names, cursor)
     }
 
     /// A copy of the bytes. `OutOfMemory` where a growth was refused, which cannot be for no bytes.

@@ -1,9 +1,9 @@
-use Rattle.std.proofs.Common.{◌≡◌, ◌∙◌, ℕ, List, ap, sym, arith, length, subst, ◌++◌}
+use Rattle.std.proofs.Common.{◌≡◌, ◌∙◌, ℕ, ◌+◌, ◌-◌, ◌^◌, min, List, ap, sym, arith, length, subst, ◌++◌}
 use Rattle.passkey_cbor.specs.Inside.{MayStand}
 use Rattle.std.proofs.lemmas.Result.{err_from_is_err_and}
 use Rattle.passkey_cbor.specs.Walk.{Walk, ahead}
 use Rattle.passkey_cbor.proofs.Strings.{may_stand-is}
-use Rattle.passkey_cbor.proofs.Joining.{copies_chunks, looks_by_joining, whole_region}
+use Rattle.passkey_cbor.proofs.Joining.{copies_chunks, looks_at_chunks, whole_region}
 use Rattle.passkey_cbor.proofs.token.copy.Goals as goal
 
 pub returns-in_err-extend_from_slice-in-Some-clause-copies :
@@ -18,8 +18,14 @@ returns-in_ok-extend_from_slice-in-Some-clause-stands c =
     let whole : c.extend_from_slice.new.self.items ≡ c.args.region.now = c.in_ok-extend_from_slice-in-Some.ensures.items ∙ ap (λ (t : List ℕ). t ++ c.args.region.now) c.new-bytes.ensures.items in
     may_stand-is c.args.is_text _ (subst (MayStand c.args.is_text) (sym whole) (whole_region c.args.is_text c.args.len _ c.args.region.now c.requires.0 c.in-Some.is c.requires.1).1)
 
-pub returns-in-None-clause-copies : goal.returns-in-None-clause-copies
-returns-in-None-clause-copies c = copies_chunks (λ v. v.items) c.args.is_text c.args.len c.args.region.now c.new-chunks.result c.join-bytes.new.chunks c.join-bytes.result c.in-None.is (ap ahead c.new-chunks.ensures) c.join-bytes.ensures.joins
+pub returns-in-Ok-clause-copies : goal.returns-in-Ok-clause-copies
+returns-in-Ok-clause-copies c = copies_chunks c.args.is_text c.args.len c.args.region.now c.new-chunks.result c.build_chunks-bytes.new.self _ c.in-None.is (ap ahead c.new-chunks.ensures) c.in-Ok.ensures.made
 
-pub returns-in-None-clause-looks : goal.returns-in-None-clause-looks
-returns-in-None-clause-looks c = looks_by_joining c.args.is_text c.args.len c.args.region.now c.new-chunks.result c.join-bytes.new.chunks c.args.cursor.now c.add_heads.new.self _ c.in-None.is (ap ahead c.new-chunks.ensures) (ap (λ (w : Walk). w.heads) c.new-chunks.ensures) c.join-bytes.ensures.joins (omega (arith, ap (λ (w : Walk). w.heads) c.add_heads.ensures, c.count.ensures.heads)) (c.add_heads.ensures ∙ ap (λ (h : ℕ). record c.args.cursor.now { heads = h }) (sym (ap (λ (w : Walk). w.heads) c.add_heads.ensures)))
+pub returns-in-Ok-clause-looks : goal.returns-in-Ok-clause-looks
+returns-in-Ok-clause-looks c = looks_at_chunks c.args.is_text c.args.len c.args.region.now c.new-chunks.result c.build_chunks-bytes.new.self c.args.cursor.now c.add_heads.new.self c.in-None.is (ap ahead c.new-chunks.ensures) (ap (λ (w : Walk). w.heads) c.new-chunks.ensures) c.build_chunks-bytes.ensures.counted (c.add_heads.ensures ∙ ap (λ (h : ℕ). record c.args.cursor.now { heads = min (c.args.cursor.now.heads + h) (2 ^ 128 - 1) }) c.count.ensures.heads)
+
+pub returns-in-Err-clause-copies : goal.returns-in-Err-clause-copies
+returns-in-Err-clause-copies c = copies_chunks c.args.is_text c.args.len c.args.region.now c.new-chunks.result c.build_chunks-bytes.new.self _ c.in-None.is (ap ahead c.new-chunks.ensures) c.in-Err.ensures.made
+
+pub returns-in-Err-clause-looks : goal.returns-in-Err-clause-looks
+returns-in-Err-clause-looks c = looks_at_chunks c.args.is_text c.args.len c.args.region.now c.new-chunks.result c.build_chunks-bytes.new.self c.args.cursor.now c.add_heads.new.self c.in-None.is (ap ahead c.new-chunks.ensures) (ap (λ (w : Walk). w.heads) c.new-chunks.ensures) c.build_chunks-bytes.ensures.counted (c.add_heads.ensures ∙ ap (λ (h : ℕ). record c.args.cursor.now { heads = min (c.args.cursor.now.heads + h) (2 ^ 128 - 1) }) c.count.ensures.heads)

@@ -121,47 +121,47 @@ pub build_items-loop-items-init : goal.build_items-loop-items-init
 build_items-loop-items-init t c = gathers_start (item_within c.args.levels) an_item.size c.args.len c.args.self.now _ c.requires (rw c.new-items.ensures.items refl)
 
 pub build_items-returns-in-Malformed : goal.build_items-returns-in-Malformed
-build_items-returns-in-Malformed t c = gathers_malformed an_item (item_within c.args.levels) c.args.len c.loop-items.left c.args.self.now c.loop-items.self c.step.new.self _ c.loop-items.invariant c.in-Malformed.ensures
+build_items-returns-in-Malformed t c = gathers_malformed an_item (item_within c.args.levels) c.args.len c.loop-items.left c.args.self.now c.loop-items.self c.step.new.self _ c.loop-items.invariant c.in-Malformed.ensures.reads
 
 pub build_items-returns-in-End : goal.build_items-returns-in-End
-build_items-returns-in-End t c = gathers_made an_item (item_within c.args.levels) c.args.len c.loop-items.left c.args.self.now c.loop-items.self c.step.new.self c.loop-items.items c.loop-items.invariant c.in-End.ensures
+build_items-returns-in-End t c = gathers_made an_item (item_within c.args.levels) c.args.len c.loop-items.left c.args.self.now c.loop-items.self c.step.new.self c.loop-items.items c.loop-items.invariant c.in-End.ensures.reads
 
 pub build_items-returns-in_err-build_behind-in-Element : goal.build_items-returns-in_err-build_behind-in-Element
 build_items-returns-in_err-build_behind-in-Element t c =
     let p = err_from_is_err_and c.from_residual.result c.from_residual.ensures.1 in
-    rw (p.1, p.2) (gathers_fails an_item (item_within c.args.levels) c.args.len c.loop-items.left c.step.new.left c.args.self.now c.loop-items.self c.step.new.self c.build_behind.new.self c.in-Element.head _ c.in_err-build_behind-in-Element.field-0.0 (item_left c.args.levels) c.loop-items.invariant c.in-Element.ensures c.in_err-build_behind-in-Element.ensures)
+    rw (p.1, p.2) (gathers_fails an_item (item_within c.args.levels) c.args.len c.loop-items.left c.step.new.left c.args.self.now c.loop-items.self c.step.new.self c.build_behind.new.self c.in-Element.head _ c.in_err-build_behind-in-Element.field-0.0 (item_left c.args.levels) c.loop-items.invariant c.in-Element.ensures.reads c.in_err-build_behind-in-Element.ensures)
 
 pub build_items-loop-items-preserved : goal.build_items-loop-items-preserved
 build_items-loop-items-preserved t c =
-    gathers_pushed an_item (item_within c.args.levels) c.args.len c.loop-items.left c.step.new.left c.args.self.now c.loop-items.self c.step.new.self c.build_behind.new.self c.in-Element.head c.loop-items.items.items _ c.in_ok-build_behind-in-Element.field-0 c.loop-items.invariant c.in-Element.ensures c.in_ok-build_behind-in-Element.ensures c.in_ok-push-in-Element.ensures.items
+    gathers_pushed an_item (item_within c.args.levels) c.args.len c.loop-items.left c.step.new.left c.args.self.now c.loop-items.self c.step.new.self c.build_behind.new.self c.in-Element.head c.loop-items.items.items _ c.in_ok-build_behind-in-Element.field-0 c.loop-items.invariant c.in-Element.ensures.reads c.in_ok-build_behind-in-Element.ensures c.in_ok-push-in-Element.ensures.items
 
 pub build_items-returns-in_err-push-in-Element : goal.build_items-returns-in_err-push-in-Element
 build_items-returns-in_err-push-in-Element t c =
     let p = err_from_is_err_and c.from_residual-in_err-push-in-Element.result c.from_residual-in_err-push-in-Element.ensures.1 in
-    rw (p.1, p.2) (gathers_full an_item (item_within c.args.levels) c.args.len c.loop-items.left c.step.new.left c.args.self.now c.loop-items.self c.step.new.self c.build_behind.new.self c.in-Element.head _ c.in_ok-build_behind-in-Element.field-0 (item_left c.args.levels) c.loop-items.invariant c.in-Element.ensures c.in_ok-build_behind-in-Element.ensures)
+    rw (p.1, p.2) (gathers_full an_item (item_within c.args.levels) c.args.len c.loop-items.left c.step.new.left c.args.self.now c.loop-items.self c.step.new.self c.build_behind.new.self c.in-Element.head _ c.in_ok-build_behind-in-Element.field-0 (item_left c.args.levels) c.loop-items.invariant c.in-Element.ensures.reads c.in_ok-build_behind-in-Element.ensures)
 
 pub build_pairs-loop-pairs-init : goal.build_pairs-loop-pairs-init
 build_pairs-loop-pairs-init t c = gathers_start (pair_by (item_within c.args.levels)) a_pair.size c.args.len c.args.self.now _ c.requires (rw c.new-pairs.ensures.items refl)
 
 pub build_pairs-returns-in-Malformed : goal.build_pairs-returns-in-Malformed
-build_pairs-returns-in-Malformed t c = gathers_malformed a_pair (pair_by (item_within c.args.levels)) c.args.len c.loop-pairs.left c.args.self.now c.loop-pairs.self c.step.new.self _ c.loop-pairs.invariant c.in-Malformed.ensures
+build_pairs-returns-in-Malformed t c = gathers_malformed a_pair (pair_by (item_within c.args.levels)) c.args.len c.loop-pairs.left c.args.self.now c.loop-pairs.self c.step.new.self _ c.loop-pairs.invariant c.in-Malformed.ensures.reads
 
 pub build_pairs-returns-in-End : goal.build_pairs-returns-in-End
-build_pairs-returns-in-End t c = gathers_made a_pair (pair_by (item_within c.args.levels)) c.args.len c.loop-pairs.left c.args.self.now c.loop-pairs.self c.step.new.self c.loop-pairs.pairs c.loop-pairs.invariant c.in-End.ensures
+build_pairs-returns-in-End t c = gathers_made a_pair (pair_by (item_within c.args.levels)) c.args.len c.loop-pairs.left c.args.self.now c.loop-pairs.self c.step.new.self c.loop-pairs.pairs c.loop-pairs.invariant c.in-End.ensures.reads
 
 pub build_pairs-returns-in_err-build_pair-in-Element : goal.build_pairs-returns-in_err-build_pair-in-Element
 build_pairs-returns-in_err-build_pair-in-Element t c =
     let p = err_from_is_err_and c.from_residual.result c.from_residual.ensures.1 in
-    rw (p.1, p.2) (gathers_fails a_pair (pair_by (item_within c.args.levels)) c.args.len c.loop-pairs.left c.step.new.left c.args.self.now c.loop-pairs.self c.step.new.self c.build_pair.new.self c.in-Element.head _ c.in_err-build_pair-in-Element.field-0.0 (pair_left (item_within c.args.levels) (item_left c.args.levels)) c.loop-pairs.invariant c.in-Element.ensures c.in_err-build_pair-in-Element.ensures)
+    rw (p.1, p.2) (gathers_fails a_pair (pair_by (item_within c.args.levels)) c.args.len c.loop-pairs.left c.step.new.left c.args.self.now c.loop-pairs.self c.step.new.self c.build_pair.new.self c.in-Element.head _ c.in_err-build_pair-in-Element.field-0.0 (pair_left (item_within c.args.levels) (item_left c.args.levels)) c.loop-pairs.invariant c.in-Element.ensures.reads c.in_err-build_pair-in-Element.ensures)
 
 pub build_pairs-loop-pairs-preserved : goal.build_pairs-loop-pairs-preserved
 build_pairs-loop-pairs-preserved t c =
-    gathers_pushed a_pair (pair_by (item_within c.args.levels)) c.args.len c.loop-pairs.left c.step.new.left c.args.self.now c.loop-pairs.self c.step.new.self c.build_pair.new.self c.in-Element.head c.loop-pairs.pairs.items _ c.in_ok-build_pair-in-Element.field-0 c.loop-pairs.invariant c.in-Element.ensures c.in_ok-build_pair-in-Element.ensures c.in_ok-push-in-Element.ensures.items
+    gathers_pushed a_pair (pair_by (item_within c.args.levels)) c.args.len c.loop-pairs.left c.step.new.left c.args.self.now c.loop-pairs.self c.step.new.self c.build_pair.new.self c.in-Element.head c.loop-pairs.pairs.items _ c.in_ok-build_pair-in-Element.field-0 c.loop-pairs.invariant c.in-Element.ensures.reads c.in_ok-build_pair-in-Element.ensures c.in_ok-push-in-Element.ensures.items
 
 pub build_pairs-returns-in_err-push-in-Element : goal.build_pairs-returns-in_err-push-in-Element
 build_pairs-returns-in_err-push-in-Element t c =
     let p = err_from_is_err_and c.from_residual-in_err-push-in-Element.result c.from_residual-in_err-push-in-Element.ensures.1 in
-    rw (p.1, p.2) (gathers_full a_pair (pair_by (item_within c.args.levels)) c.args.len c.loop-pairs.left c.step.new.left c.args.self.now c.loop-pairs.self c.step.new.self c.build_pair.new.self c.in-Element.head _ c.in_ok-build_pair-in-Element.field-0 (pair_left (item_within c.args.levels) (item_left c.args.levels)) c.loop-pairs.invariant c.in-Element.ensures c.in_ok-build_pair-in-Element.ensures)
+    rw (p.1, p.2) (gathers_full a_pair (pair_by (item_within c.args.levels)) c.args.len c.loop-pairs.left c.step.new.left c.args.self.now c.loop-pairs.self c.step.new.self c.build_pair.new.self c.in-Element.head _ c.in_ok-build_pair-in-Element.field-0 (pair_left (item_within c.args.levels) (item_left c.args.levels)) c.loop-pairs.invariant c.in-Element.ensures.reads c.in_ok-build_pair-in-Element.ensures)
 
 pub build_pair-returns-in_err-key : goal.build_pair-returns-in_err-key
 build_pair-returns-in_err-key t c =

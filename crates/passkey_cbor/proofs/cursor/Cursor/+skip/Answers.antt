@@ -85,30 +85,30 @@ skip_entry-returns-else-skip_behind t c =
 
 pub skip_entry-returns-in-Chunk : goal.skip_entry-returns-in-Chunk
 skip_entry-returns-in-Chunk t c =
-    entry_skipped c.args.levels c.args.entry (entry.Chunk c.in-Chunk.is_text) c.args.head c.args.self.now c.chunk.new.self c.is_some.result c.in-Chunk.is (rw c.is_some.ensures (piece_skipped _ c.in-Chunk.is_text _ c.args.self.now c.chunk.new.self _ c.chunk.ensures))
+    entry_skipped c.args.levels c.args.entry (entry.Chunk c.in-Chunk.is_text) c.args.head c.args.self.now c.chunk.new.self c.is_some.result c.in-Chunk.is (rw c.is_some.ensures (piece_skipped _ c.in-Chunk.is_text _ c.args.self.now c.chunk.new.self _ c.chunk.ensures.reads))
 
 pub skip_list-loop-head-init : goal.skip_list-loop-head-init
 skip_list-loop-head-init t c = goes_start (entry_by c.args.levels c.args.entry) c.args.len c.args.self.now c.requires
 
 pub skip_list-returns-in-Malformed : goal.skip_list-returns-in-Malformed
 skip_list-returns-in-Malformed t c =
-    goes_malformed (entry_by c.args.levels c.args.entry) c.args.len c.loop-head.left c.args.self.now c.loop-head.self c.step.new.self c.loop-head.invariant c.in-Malformed.ensures
+    goes_malformed (entry_by c.args.levels c.args.entry) c.args.len c.loop-head.left c.args.self.now c.loop-head.self c.step.new.self c.loop-head.invariant c.in-Malformed.ensures.reads
 
 pub skip_list-returns-in-End : goal.skip_list-returns-in-End
 skip_list-returns-in-End t c =
-    goes_end (entry_by c.args.levels c.args.entry) c.args.len c.loop-head.left c.args.self.now c.loop-head.self c.step.new.self c.loop-head.invariant c.in-End.ensures
+    goes_end (entry_by c.args.levels c.args.entry) c.args.len c.loop-head.left c.args.self.now c.loop-head.self c.step.new.self c.loop-head.invariant c.in-End.ensures.reads
 
 pub skip_list-returns-then-not-skip_entry : goal.skip_list-returns-then-not-skip_entry
 skip_list-returns-then-not-skip_entry t c =
-    goes_stuck (entry_by c.args.levels c.args.entry) c.args.len c.loop-head.left c.step.new.left c.args.self.now c.loop-head.self c.step.new.self c.skip_entry.new.self c.in-Element.head c.loop-head.invariant c.in-Element.ensures c.if-not-skip_entry.ensures
+    goes_stuck (entry_by c.args.levels c.args.entry) c.args.len c.loop-head.left c.step.new.left c.args.self.now c.loop-head.self c.step.new.self c.skip_entry.new.self c.in-Element.head c.loop-head.invariant c.in-Element.ensures.reads c.if-not-skip_entry.ensures
 
 pub skip_list-loop-head-preserved : goal.skip_list-loop-head-preserved
 skip_list-loop-head-preserved t c =
-    goes_on (entry_by c.args.levels c.args.entry) c.args.len c.loop-head.left c.step.new.left c.args.self.now c.loop-head.self c.step.new.self c.skip_entry.new.self c.in-Element.head c.loop-head.invariant c.in-Element.ensures c.if-not-skip_entry.ensures
+    goes_on (entry_by c.args.levels c.args.entry) c.args.len c.loop-head.left c.step.new.left c.args.self.now c.loop-head.self c.step.new.self c.skip_entry.new.self c.in-Element.head c.loop-head.invariant c.in-Element.ensures.reads c.if-not-skip_entry.ensures
 
 pub skip_string-returns-in-Some : goal.skip_string-returns-in-Some
 skip_string-returns-in-Some t c =
-    rw (string_piece c.args.is_text c.args.len c.in-Some.len (ahead c.args.self.now) c.in-Some.is, c.is_some.ensures) (piece_skipped _ c.args.is_text _ c.args.self.now c.piece.new.self _ c.piece.ensures)
+    rw (string_piece c.args.is_text c.args.len c.in-Some.len (ahead c.args.self.now) c.in-Some.is, c.is_some.ensures) (piece_skipped _ c.args.is_text _ c.args.self.now c.piece.new.self _ c.piece.ensures.reads)
 
 pub skip_string-returns-in-None : goal.skip_string-returns-in-None
 skip_string-returns-in-None t c =

@@ -1,11 +1,12 @@
-use Rattle.std.proofs.Common.{◌≡◌, ◌-◌, true, length}
+use Rattle.std.proofs.Common.{◌≡◌, ◌-◌, true, length, None}
 use Rattle.passkey_cbor.specs.Reading.{may_stand}
-use Rattle.passkey_cbor.proofs.Chunks.{Joins}
+use Rattle.passkey_cbor.proofs.Chunks.{Collects}
 use Rattle.passkey_cbor.proofs.cursor.Cursor.build_chunks.Given as goal
 
 abbrev pub invariant-loop-bytes : goal.invariant-loop-bytes
 invariant-loop-bytes l = record {
-  joins : Joins l.is_text l.left l.fn.self l.self l.bytes.items;
+  unknown : l.left ≡ None;
+  collects : Collects l.is_text l.left l.fn.self l.self l.bytes.items;
   stands : may_stand l.is_text l.bytes.items ≡ true;
 }
 

@@ -2,7 +2,7 @@ use Rattle.std.proofs.Common.{◌≡◌, ◌∙◌, true, Bool, not, take, lengt
 use Rattle.std.proofs.lemmas.List.{take_at}
 use Rattle.std.proofs.lemmas.Slice.Eq.{bytes_eq-Decides}
 use Rattle.std.specs.Str.{bytes_eq}
-use Rattle.passkey_cbor.proofs.token.behind.Goals as goal
+use Rattle.passkey_cbor.proofs.names.behind.Goals as goal
 
 not_both : (b : Bool) → true ≡ not b → b ≡ true → ⊥
 not_both b e f = absurd cc

@@ -1,0 +1,104 @@
+//! Which of some names a string is.
+ghost use Rattle.std.specs.Prelude.{◌≡◌, ◌++◌, ℕ, List, map, MatchOption};
+ghost use Rattle.std.specs.List.{position};
+ghost use Rattle.std.specs.Str.{bytes_eq};
+ghost use Rattle.passkey_cbor.specs.Lent.{LooksAgain};
+ghost use Rattle.passkey_cbor.specs.Names.{NoneBegins, IsNameOf};
+ghost use Rattle.passkey_cbor.specs.Steps.{AreSought, CountsChunks};
+ghost use Rattle.passkey_cbor.specs.Walk.{IsInside};
+
+use crate::cursor::{Cursor, Next};
+
+// The bytes behind these, where they begin with them.
+fn behind<'b>(bytes: &'b [u8], front: &[u8]) -> Option<&'b [u8]>
+    ensures { MatchOption result ((rest : List ℕ) → bytes.now ≡ front.now ++ rest → ⊥) (λ rest. bytes.now ≡ front.now ++ rest.now) }
+{
+    if bytes.len() < front.len() {
+        return None;
+    }
+    let (begin, rest) = bytes.split_at(front.len());
+    if begin != front {
+        return None;
+    }
+    Some(rest)
+}
+
+// How the name begins, where it begins with these bytes and then those.
+fn begin_of<'n>(name: &'n [u8], front: &[u8], more: &[u8]) -> Option<&'n [u8]>
+    ensures { MatchOption result ((rest : List ℕ) → name.now ≡ (front.now ++ more.now) ++ rest → ⊥) (λ s. s.now ≡ front.now ++ more.now) }
+{
+    match behind(name, front) {
+        None => None,
+        Some(others) => match behind(others, more) {
+            None => None,
+            Some(_) => Some(&name[..front.len() + more.len()]),
+        },
+    }
+}
+
+// What was joined so far and one more piece, as one of the names begins; none where none does.
+fn longer<'n>(names: &[&'n str], joined: &[u8], piece: &[u8]) -> Option<&'n [u8]>
+    ensures { MatchOption result (NoneBegins (joined.now ++ piece.now) (map (λ n. n.now) names.now)) (λ s. s.now ≡ joined.now ++ piece.now) }
+{
+    for name in names {
+        let begin = begin_of(name.as_bytes(), joined, piece);
+        if begin.is_some() {
+            return begin;
+        }
+    }
+    None
+}
+
+// The place of the first of the names that is these bytes.
+fn place_of(names: &[&str], bytes: &[u8]) -> Option<usize>
+    ensures { result ≡ position (λ n. bytes_eq n.now bytes.now) names.now }
+{
+    names.iter().position(|name| name.as_bytes() == bytes)
+}
+
+// The place of the first of the names that the chunks ahead, up to their break, join to. What was
+// joined so far is how one of the names begins, so it takes no memory.
+fn place_of_joined(chunks: &mut Cursor<'_>, is_text: bool, names: &[&str]) -> Option<usize>
+    requires { IsInside chunks.old }
+    ensures place { AreSought is_text (map (λ n. n.now) names.now) chunks.old result }
+    ensures counted { CountsChunks is_text chunks.old chunks.new }
+{
+    let mut left = None;
+    let mut joined: &[u8] = &[];
+    loop {
+        match chunks.step(&mut left) {
+            Next::Malformed => return None,
+            Next::End => return place_of(names, joined),
+            Next::Element(head) => match chunks.chunk(is_text, head) {
+                None => return None,
+                Some(piece) => match longer(names, joined, piece) {
+                    None => return None,
+                    Some(more) => joined = more,
+                },
+            },
+        }
+    }
+}
+
+/// The place of the first of the names that a string is, by its region. The heads of chunks are
+/// counted at the cursor.
+pub(crate) fn name_of(
+    is_text: bool,
+    len: Option<u64>,
+    region: &[u8],
+    names: &[&str],
+    cursor: &mut Cursor<'_>,
+) -> Option<usize>
+    ensures name { IsNameOf is_text (record { len = len; bytes = region.now }) (map (λ n. n.now) names.now) result }
+    ensures looks { LooksAgain is_text (record { len = len; bytes = region.now }) cursor.old cursor.new }
+{
+    match len {
+        Some(_) => place_of(names, region),
+        None => {
+            let mut chunks = Cursor::new(region);
+            let place = place_of_joined(&mut chunks, is_text, names);
+            cursor.add_heads(chunks.count().heads);
+            place
+        }
+    }
+}
