@@ -24,38 +24,38 @@ part_stands part is_there bytes x rest there h = rw there (record { begun = Ok (
 pub part_fails : {X : Type 0} (part : List ℕ → Begun X → Type 0) (is_there : Bool) (bytes : List ℕ) → is_there ≡ true → (e : CoseError) → part bytes (Err e) → ReadsWhere is_there part bytes (Err e)
 part_fails part is_there bytes there e h = rw there (record { begun = Err e; begins = h; goes_on = refl })
 
--- each fault that a result can be has this property
-abbrev FaultsAre : {X : Type 0} → (CoseError → Type 0) → Result X CoseError → Type 0
-FaultsAre P (Ok x) = Unit {0}
-FaultsAre P (Err e) = P e
-
-at_fault : {Y : Type 0} (P : CoseError → Type 0) → P DecodeFailed → (n : ℕ) (bytes : List ℕ) (next : List ℕ × List ℕ → Result Y CoseError) → ((p : List ℕ × List ℕ) → FaultsAre P (next p)) → FaultsAre P (bytes_at n bytes >>= next)
-at_fault P cut n bytes next h =
-    elim (nat_lt (length bytes) n) as (λ (b : Bool). FaultsAre P ((if b then Err DecodeFailed else Ok (take n bytes, drop n bytes)) >>= next)) [
+at_shape : {Y : Type 0} (Q : Result Y CoseError → Type 0) → Q (Err DecodeFailed) → (n : ℕ) (bytes : List ℕ) (next : List ℕ × List ℕ → Result Y CoseError) → ((p : List ℕ × List ℕ) → Q (next p)) → Q (bytes_at n bytes >>= next)
+at_shape Q cut n bytes next h =
+    elim (nat_lt (length bytes) n) as (λ (b : Bool). Q ((if b then Err DecodeFailed else Ok (take n bytes, drop n bytes)) >>= next)) [
       | true ↦ cut
       | false ↦ h (take n bytes, drop n bytes)
     ]
 
-known_fault : (P : CoseError → Type 0) → P OutOfRangeIntegerValue → (d : DataParts) (rest : List ℕ) → FaultsAre P (known_only d rest)
-known_fault P range d rest =
-    elim (bit_and d.flags reserved_flags == 0) as (λ (b : Bool). FaultsAre P (if b then Ok (let p : DataParts × List ℕ = (d, rest) in p) else Err OutOfRangeIntegerValue)) [
-      | true ↦ tt
-      | false ↦ range
-    ]
+known_shape : (Q : Begun DataParts → Type 0) → Q (Err OutOfRangeIntegerValue) → ((d : DataParts) (rest : List ℕ) → (bit_and d.flags reserved_flags == 0) ≡ true → Q (Ok (d, rest))) → (d : DataParts) (rest : List ℕ) → Q (known_only d rest)
+known_shape Q range known d rest =
+    (elim (bit_and d.flags reserved_flags == 0) as (λ (b : Bool). (bit_and d.flags reserved_flags == 0) ≡ b → Q (if b then Ok (let p : DataParts × List ℕ = (d, rest) in p) else Err OutOfRangeIntegerValue)) [
+      | true ↦ λ e. known d rest e
+      | false ↦ λ e. range
+    ]) refl
 
--- the parts of fixed length are cut off or have a reserved flag
-pub fixed_fault : (P : CoseError → Type 0) → P DecodeFailed → P OutOfRangeIntegerValue → (bytes : List ℕ) → FaultsAre P (fixed_at bytes)
+-- the parts of fixed length are cut off, or have a reserved flag, or have known flags alone
+pub fixed_shape : (Q : Begun DataParts → Type 0) → Q (Err DecodeFailed) → Q (Err OutOfRangeIntegerValue) → ((d : DataParts) (rest : List ℕ) → (bit_and d.flags reserved_flags == 0) ≡ true → Q (Ok (d, rest))) → (bytes : List ℕ) → Q (fixed_at bytes)
 unfolding fixed_at
-fixed_fault P cut range bytes = at_fault P cut 32 bytes _ (λ hash. at_fault P cut 1 hash.1 _ (λ flags. at_fault P cut 4 flags.1 _ (λ counter. known_fault P range _ counter.1)))
+fixed_shape Q cut range known bytes = at_shape Q cut 32 bytes _ (λ hash. at_shape Q cut 1 hash.1 _ (λ flags. at_shape Q cut 4 flags.1 _ (λ counter. known_shape Q range known _ counter.1)))
 
 or_right : (a b : Bool) → b ≡ true → (a || b) ≡ true
 or_right true b e = refl
 or_right false b e = e
 
+-- a fault of the parts of fixed length is the answer
+abbrev FailsAs : {A : Type 0} → Type 0 → (A → DataParts) → List ℕ → Begun DataParts → Type 0
+FailsAs memory seen bytes (Ok p) = Unit {0}
+FailsAs memory seen bytes (Err e) = fixed_at bytes ≡ Err e → Gives memory seen (ReadsData bytes) (Err e)
+
 pub fixed_fails : {A : Type 0} (memory : Type 0) (seen : A → DataParts) (bytes : List ℕ) (e : CoseError) → fixed_at bytes ≡ Err e → Gives memory seen (ReadsData bytes) (Err e)
 fixed_fails memory seen bytes e h =
-    let wanted : FaultsAre (λ f. fixed_at bytes ≡ Err f → Gives memory seen (ReadsData bytes) (Err f)) (fixed_at bytes) = fixed_fault (λ f. fixed_at bytes ≡ Err f → Gives memory seen (ReadsData bytes) (Err f)) (λ g. record { begun = Err DecodeFailed; begins = sym g; goes_on = refl }) (λ g. record { begun = Err OutOfRangeIntegerValue; begins = sym g; goes_on = refl }) bytes in
-    (subst (λ (r : Begun DataParts). FaultsAre (λ f. fixed_at bytes ≡ Err f → Gives memory seen (ReadsData bytes) (Err f)) r) h wanted) h
+    let wanted : FailsAs memory seen bytes (fixed_at bytes) = fixed_shape (FailsAs memory seen bytes) (λ g. record { begun = Err DecodeFailed; begins = sym g; goes_on = refl }) (λ g. record { begun = Err OutOfRangeIntegerValue; begins = sym g; goes_on = refl }) (λ d rest known. tt) bytes in
+    (subst (FailsAs memory seen bytes) h wanted) h
 
 pub extensions_fail : {A B : Type 0} (seen : A → DataParts) (told : B → Option Item × List ℕ) (bytes : List ℕ) (fixed : DataParts) (rest : List ℕ) (attested : Option AttestedParts) (behind : List ℕ) (e : CoseError) → Ok (fixed, rest) ≡ fixed_at bytes → ReadsWhere (has_flag attested_flag fixed.flags) ReadsAttested rest (Ok (attested, behind)) → Gives (has_flag extensions_flag fixed.flags ≡ true) told (ReadsWhere (has_flag extensions_flag fixed.flags) (Reads read_map) behind) (Err e) → Gives (has_parts bytes ≡ true) seen (ReadsData bytes) (Err e)
 extensions_fail seen told bytes fixed rest attested behind e is_fixed is_attested h =

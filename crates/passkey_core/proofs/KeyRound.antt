@@ -19,14 +19,14 @@ use Rattle.passkey_core.proofs.KeyHeld.{names_written, strings_written, all_ops_
 use Rattle.passkey_core.proofs.KeyLists.{read_key-map}
 use Rattle.passkey_core.proofs.KeySorted.{sorted, under_1, under_2, under_3, under_4, under_5, further_sorted, sorted_good}
 
-sorted_of : Members → Members
+pub sorted_of : Members → Members
 sorted_of ms = sorted (under 1 ms) (under 2 ms) (under 3 ms) (under 4 ms) (under 5 ms) ms
 
 type_of : Members → Option (Named KeyType)
 type_of ms = option_and_then (name_in key_type_named) (under 1 ms)
 
 -- the members that are written of a key that was read
-written_members : (ms : Members) (kty : Named KeyType) → first_fault [] ms ≡ None → type_of ms ≡ Some kty → key_members (key_from ms kty) ≡ sorted_of ms
+pub written_members : (ms : Members) (kty : Named KeyType) → first_fault [] ms ≡ None → type_of ms ≡ Some kty → key_members (key_from ms kty) ≡ sorted_of ms
 unfolding sorted_of type_of
 written_members ms kty good named =
     let types : option_map (named_item key_type_number) (Some kty) ≡ under 1 ms = ap (option_map (named_item key_type_number)) (sym named) ∙ names_written key_type_number key_type_named key_type_named-number (under 1 ms) (under_good 1 [] ms good) in

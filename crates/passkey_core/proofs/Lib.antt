@@ -16,3 +16,5 @@ pub mod DataReadings
 pub mod KeyDepth
 pub mod StatusTable
 pub mod StatusAlone
+pub mod DataOne
+pub mod DataCoherent

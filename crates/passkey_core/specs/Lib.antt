@@ -42,3 +42,4 @@ pub mod Coherent
 pub mod SignedOutputs
 pub mod SignedPut
 pub mod DataSame
+pub mod DataLaws

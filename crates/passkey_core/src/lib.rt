@@ -14,6 +14,7 @@ mod flags;
 pub mod get_assertion;
 mod given_back;
 pub mod iana;
+pub mod laws;
 mod list;
 pub mod make_credential;
 mod map;
