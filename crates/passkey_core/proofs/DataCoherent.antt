@@ -1,6 +1,8 @@
 -- Authenticator data that were read are coherent.
 use Rattle.std.proofs.Common.{◌≡◌, ◌∙◌, ◌⊎◌, inl, inr, ℕ, ℤ, pos, negsuc, zero, suc, ◌≤◌, nat_le, ◌==◌, max, List, [], ◌∷◌, ◌++◌, length, drop, take, Bool, true, false, not, ◌&&◌, if◌then◌else◌, Option, Some, None, option_map, Result, Ok, Err, refl, sym, ap, subst, arith}
+use Rattle.std.specs.List.{find}
 use Rattle.std.specs.Option.{option_and_then}
+use Rattle.std.specs.Cmp.{signed_Decides}
 use Rattle.std.specs.Result.{result_map_both}
 use Rattle.std.specs.Int.RustNames.{bit_and}
 use Rattle.std.proofs.lemmas.Bool.{and_from, le-leb}
@@ -25,7 +27,7 @@ use Rattle.passkey_core.specs.declared.iana.KeyType.TheVariants.{Reserved, OKP, 
 use Rattle.passkey_core.proofs.DataReadings.{fixed_shape}
 use Rattle.passkey_core.proofs.KeyDepth.{members_depth-append}
 use Rattle.passkey_core.proofs.KeyHeld.{key_type_is}
-use Rattle.passkey_core.proofs.KeyRound.{sorted_of, written_members}
+use Rattle.passkey_core.proofs.KeyRound.{sorted_of, type_of, written_members}
 
 -- ---- a key that was read is no deeper than its item
 
@@ -33,7 +35,7 @@ under_shallow : (n : ℕ) (ms : Members) → pairs_depth (pairs_of (member n (un
 under_shallow n [] = omega arith
 under_shallow n (m ∷ ms) =
     let rest = under_shallow n ms in
-    elim (is_label n m.0) as (λ (b : Bool). pairs_depth (pairs_of (member n (option_map (λ (l : Item × Item). l.1) (if b then Some m else _)))) ≤ max (max (depth m.0) (depth m.1)) (pairs_depth (pairs_of ms))) [
+    elim (is_label n m.0) as (λ (b : Bool). pairs_depth (pairs_of (member n (option_map (λ (l : Item × Item). l.1) (if b then Some m else find (λ (l : Item × Item). is_label n l.0) ms)))) ≤ max (max (depth m.0) (depth m.1)) (pairs_depth (pairs_of ms))) [
       | true ↦ omega arith
       | false ↦ omega arith
     ]
@@ -86,9 +88,11 @@ other_kept None z e = cc
 other_kept (Some i) z e = other_unnamed i z e
 
 other_unreserved : (z : ℤ) → key_type_named z ≡ None → is_reserved (other z) ≡ false
-other_unreserved (pos zero) e = cc
-other_unreserved (pos (suc n)) e = refl
-other_unreserved (negsuc n) e = refl
+other_unreserved z e =
+    (elim (is_reserved (other z)) as (λ (b : Bool). is_reserved (other z) ≡ b → is_reserved (other z) ≡ false) [
+      | true ↦ λ h. (let same : pos 0 ≡ z = (signed_Decides (pos 0) z).0 h in let named : key_type_named (pos 0) ≡ None = subst (λ (w : ℤ). key_type_named w ≡ None) (sym same) e in cc)
+      | false ↦ λ h. h
+    ]) refl
 
 unreserved : (o : Option Item) (kty : Named KeyType) → key_type (option_and_then (name_in key_type_named) o) ≡ Ok kty → is_reserved kty ≡ false
 unreserved o (assigned Reserved) e =
@@ -105,10 +109,12 @@ unreserved o (text s) e = refl
 -- ---- a key that was read is readable
 
 typed_readable : (ms : Members) (kty : Named KeyType) → first_fault [] ms ≡ None → key_type (option_and_then (name_in key_type_named) (under 1 ms)) ≡ Ok kty → suc (pairs_depth (pairs_of ms)) ≤ max_depth → is_key_readable (key_from ms kty) ≡ true
+unfolding type_of
 typed_readable ms kty good e shallow =
     let written : key_members (key_from ms kty) ≡ sorted_of ms = written_members ms kty good (key_type_is (option_and_then (name_in key_type_named) (under 1 ms)) kty e) in
     let less = sorted_shallow ms in
-    let fits : suc (pairs_depth (pairs_of (key_members (key_from ms kty)))) ≤ max_depth = rw written (omega (arith, less, shallow)) in
+    let sorted_fits : suc (pairs_depth (pairs_of (sorted_of ms))) ≤ max_depth = omega (arith, less, shallow) in
+    let fits : suc (pairs_depth (pairs_of (key_members (key_from ms kty)))) ≤ max_depth = subst (λ (ns : Members). suc (pairs_depth (pairs_of ns)) ≤ max_depth) (sym written) sorted_fits in
     and_from (not (is_reserved kty)) (is_shallow (key_item (key_from ms kty))) (ap not (unreserved (under 1 ms) kty e)) (le-leb _ _ fits)
 
 good_readable : (ms : Members) (k : KeyParts) → first_fault [] ms ≡ None → judged ms None ≡ Ok k → suc (pairs_depth (pairs_of ms)) ≤ max_depth → is_key_readable k ≡ true
@@ -150,31 +156,52 @@ went first next y (Err e) b g = cc
 then_went : {X Y : Type 0} (first : Begun X → Type 0) (next : X → List ℕ → Result Y CoseError → Type 0) (y : Y) → Then first next (Ok y) → Went first next y
 then_went first next y p = went first next y p.begun p.begins p.goes_on
 
+-- what was found, where something was
+found_or : {X Y : Type 0} → X → Result (X × Y) CoseError → X
+found_or x (Ok p) = p.0
+found_or x (Err e) = x
+
 judged_ok : {X : Type 0} (bytes : List ℕ) (len : ℕ) (x : X) (rest : List ℕ) (r : Result X CoseError) → Ok (x, rest) ≡ result_map_both (λ (y : X). (let p : X × List ℕ = (y, drop len bytes) in p)) (λ e. e) r → r ≡ Ok x
-judged_ok bytes len x rest (Ok y) e = cc
+unfolding found_or
+judged_ok bytes len x rest (Ok y) e = ap Ok (sym (ap (found_or x) e))
 judged_ok bytes len x rest (Err f) e = cc
 
 reads_readable : {X : Type 0} (read : Item → Result X CoseError) (is_readable : X → Bool) → ((i : Item) (x : X) → read i ≡ Ok x → depth i ≤ max_depth → is_readable x ≡ true) → (bytes : List ℕ) (x : X) (rest : List ℕ) → Reads read bytes (Ok (x, rest)) → is_readable x ≡ true
 reads_readable read is_readable each bytes x rest (inl p) = each p.item x (judged_ok bytes p.len x rest (read p.item) p.judged) p.front.shallow
 reads_readable read is_readable each bytes x rest (inr p) = cc
 
+abbrev Same : {X : Type 0} → Begun X → Begun X → Type 0
+Same a b = a ≡ b
+
+whole_readable : (ids : List ℕ × List ℕ) (key : KeyParts) (behind : List ℕ) (a : AttestedParts) (rest : List ℕ) → Same (Ok (a, rest)) (Ok (record { aaguid = ids.0; credential_id = ids.1; key = key }, behind)) → is_key_readable key ≡ true → is_key_readable a.key ≡ true
+unfolding found_or
+whole_readable ids key behind a rest e readable =
+    let same : a ≡ record { aaguid = ids.0; credential_id = ids.1; key = key } = ap (found_or a) e in
+    subst (λ (b : AttestedParts). is_key_readable b.key ≡ true) (sym same) readable
+
 attested_readable : (bytes : List ℕ) (a : AttestedParts) (rest : List ℕ) → ReadsAttested bytes (Ok (a, rest)) → is_key_readable a.key ≡ true
 attested_readable bytes a rest h =
     let ids = then_went (λ ids. ids ≡ ids_at bytes) _ (a, rest) h in
     let key = then_went (Reads read_key ids.rest) _ (a, rest) ids.goes_on in
-    let whole : Ok (a, rest) ≡ Ok (record { aaguid = ids.part.0; credential_id = ids.part.1; key = key.part }, key.rest) = key.goes_on in
-    let same : a ≡ record { aaguid = ids.part.0; credential_id = ids.part.1; key = key.part } = cc in
-    subst (λ (b : AttestedParts). is_key_readable b.key ≡ true) (sym same) (reads_readable read_key is_key_readable key_readable ids.rest key.part key.rest key.begins)
+    whole_readable ids.part key.part key.rest a rest key.goes_on (reads_readable read_key is_key_readable key_readable ids.rest key.part key.rest key.begins)
+
+some_agrees : {X : Type 0} (is_readable : X → Bool) (x : X) (behind : List ℕ) (o : Option X) (rest : List ℕ) → Same (Ok (o, rest)) (Ok (Some x, behind)) → is_readable x ≡ true → agrees is_readable true o ≡ true
+unfolding found_or
+some_agrees {X = X} is_readable x behind o rest e readable =
+    let same : o ≡ Some x = ap (found_or o) e in
+    subst (λ (p : Option X). agrees is_readable true p ≡ true) (sym same) readable
+
+none_agrees : {X : Type 0} (is_readable : X → Bool) (behind : List ℕ) (o : Option X) (rest : List ℕ) → Same (Ok (o, rest)) (Ok (None, behind)) → agrees is_readable false o ≡ true
+unfolding found_or
+none_agrees {X = X} is_readable behind o rest e =
+    let same : o ≡ None = ap (found_or o) e in
+    subst (λ (p : Option X). agrees is_readable false p ≡ true) (sym same) refl
 
 where_agrees : {X : Type 0} (is_readable : X → Bool) (flagged : Bool) (part : List ℕ → Begun X → Type 0) (bytes : List ℕ) → ((x : X) (rest : List ℕ) → part bytes (Ok (x, rest)) → is_readable x ≡ true) → (o : Option X) (rest : List ℕ) → ReadsWhere flagged part bytes (Ok (o, rest)) → agrees is_readable flagged o ≡ true
 where_agrees is_readable true part bytes each o rest h =
     let w = then_went (part bytes) _ (o, rest) h in
-    let whole : Ok (o, rest) ≡ Ok (Some w.part, w.rest) = w.goes_on in
-    let same : o ≡ Some w.part = cc in
-    subst (λ p. agrees is_readable true p ≡ true) (sym same) (each w.part w.rest w.begins)
-where_agrees is_readable false part bytes each o rest h =
-    let same : o ≡ None = cc in
-    subst (λ p. agrees is_readable false p ≡ true) (sym same) refl
+    some_agrees is_readable w.part w.rest o rest w.goes_on (each w.part w.rest w.begins)
+where_agrees is_readable false part bytes each o rest h = none_agrees is_readable bytes o rest h
 
 -- ---- all of it
 
@@ -187,14 +214,20 @@ fixed_known bytes d rest e =
     let wanted : IsKnown (fixed_at bytes) = fixed_shape IsKnown tt tt (λ c r known. known) bytes in
     subst IsKnown (sym e) wanted
 
+ok_same : {c d : DataParts} → (let r : Result DataParts CoseError = Ok c in r) ≡ Ok d → c ≡ d
+ok_same e = cc
+
+all_agree : (bytes : List ℕ) (fixed : DataParts) (rest : List ℕ) (attested : Option AttestedParts) (behind : List ℕ) (extensions : Option Item) (last : List ℕ) → Ok (fixed, rest) ≡ fixed_at bytes → ReadsWhere (has_flag attested_flag fixed.flags) ReadsAttested rest (Ok (attested, behind)) → ReadsWhere (has_flag extensions_flag fixed.flags) (Reads read_map) behind (Ok (extensions, last)) → is_coherent (record fixed { attested = attested; extensions = extensions }) ≡ true
+all_agree bytes fixed rest attested behind extensions last is_fixed is_attested are_extensions =
+    let known = fixed_known bytes fixed rest is_fixed in
+    let attested_agrees = where_agrees (λ (a : AttestedParts). is_key_readable a.key) (has_flag attested_flag fixed.flags) ReadsAttested rest (attested_readable rest) attested behind is_attested in
+    let extensions_agree = where_agrees are_extensions_readable (has_flag extensions_flag fixed.flags) (Reads read_map) behind (reads_readable read_map are_extensions_readable map_readable behind) extensions last are_extensions in
+    and_from (bit_and fixed.flags reserved_flags == 0 && agrees (λ (a : AttestedParts). is_key_readable a.key) (has_flag attested_flag fixed.flags) attested) (agrees are_extensions_readable (has_flag extensions_flag fixed.flags) extensions) (and_from (bit_and fixed.flags reserved_flags == 0) (agrees (λ (a : AttestedParts). is_key_readable a.key) (has_flag attested_flag fixed.flags) attested) known attested_agrees) extensions_agree
+
 pub read_is_coherent : ReadIsCoherent
 read_is_coherent bytes d h =
     let fixed = then_went (λ fixed. fixed ≡ fixed_at bytes) _ d h in
     let attested = then_went (ReadsWhere (has_flag attested_flag fixed.part.flags) ReadsAttested fixed.rest) _ d fixed.goes_on in
     let extensions = then_went (ReadsWhere (has_flag extensions_flag fixed.part.flags) (Reads read_map) attested.rest) _ d attested.goes_on in
-    let whole : Ok d ≡ Ok (record fixed.part { attested = attested.part; extensions = extensions.part }) = extensions.goes_on in
-    let same : d ≡ record fixed.part { attested = attested.part; extensions = extensions.part } = cc in
-    let known = fixed_known bytes fixed.part fixed.rest fixed.begins in
-    let attested_agrees = where_agrees (λ (a : AttestedParts). is_key_readable a.key) (has_flag attested_flag fixed.part.flags) ReadsAttested fixed.rest (attested_readable fixed.rest) attested.part attested.rest attested.begins in
-    let extensions_agree = where_agrees are_extensions_readable (has_flag extensions_flag fixed.part.flags) (Reads read_map) attested.rest (λ x rest p. reads_readable read_map are_extensions_readable map_readable attested.rest x rest p) extensions.part extensions.rest extensions.begins in
-    subst (λ (e : DataParts). is_coherent e ≡ true) (sym same) (and_from _ _ known (and_from _ _ attested_agrees extensions_agree))
+    let same : record fixed.part { attested = attested.part; extensions = extensions.part } ≡ d = ok_same (sym extensions.goes_on) in
+    subst (λ (e : DataParts). is_coherent e ≡ true) same (all_agree bytes fixed.part fixed.rest attested.part attested.rest extensions.part extensions.rest fixed.begins attested.begins extensions.begins)

@@ -19,10 +19,10 @@ use Rattle.passkey_core.proofs.KeyHeld.{names_written, strings_written, all_ops_
 use Rattle.passkey_core.proofs.KeyLists.{read_key-map}
 use Rattle.passkey_core.proofs.KeySorted.{sorted, under_1, under_2, under_3, under_4, under_5, further_sorted, sorted_good}
 
-pub sorted_of : Members → Members
+unfoldable pub sorted_of : Members → Members
 sorted_of ms = sorted (under 1 ms) (under 2 ms) (under 3 ms) (under 4 ms) (under 5 ms) ms
 
-type_of : Members → Option (Named KeyType)
+unfoldable pub type_of : Members → Option (Named KeyType)
 type_of ms = option_and_then (name_in key_type_named) (under 1 ms)
 
 -- the members that are written of a key that was read

@@ -9,7 +9,6 @@ pub fn one_reading()
 }
 
 /// What is read of bytes is coherent.
-#[tactic(auto, using(crate::proofs::DataCoherent::read_is_coherent))]
 pub fn read_data_is_coherent()
     ensures { ReadIsCoherent }
 {}
