@@ -12,11 +12,7 @@ use base64::{DecodeAllocError, alphabet};
 use passkey_cbor::OutOfMemory;
 use std::alloc::Global;
 
-fn encode(
-    alloc: Global,
-    engine: &GeneralPurpose,
-    bytes: &[u8],
-) -> Result<String, OutOfMemory>
+fn encode(alloc: Global, engine: &GeneralPurpose, bytes: &[u8]) -> Result<String, OutOfMemory>
     ensures same { IfOk result (λ text. string_bytes text ≡ encode_of engine.now bytes.now) }
     ensures grows { OnErr result (0 < length bytes.now) }
 {
@@ -46,7 +42,8 @@ pub fn base64url(alloc: Global, bytes: &[u8]) -> Result<String, OutOfMemory>
 
 /// The bytes of a text in base64url (RFC 4648, section 5), or `None` where it is none. Every `=` at
 /// the end is dropped, nothing else is, and the bits of the last symbol past the last whole byte
-/// may be set. `OutOfMemory` where the bytes' memory was refused.
+/// may be set. `OutOfMemory` where the bytes' memory was refused, which cannot be where the text is
+/// none, or stands for no bytes.
 pub fn try_from_base64url(alloc: Global, text: &str) -> Result<Option<Vec<u8>>, OutOfMemory>
     ensures same { IfOk result (λ found. option_map (λ v. v.items) found ≡ base64url_bytes text.now) }
     ensures grows { OnErr result (IsSomeAnd (base64url_bytes text.now) (λ bytes. 0 < length bytes)) }
@@ -69,9 +66,7 @@ fn is_group(engine: &GeneralPurpose, symbols: &[u8]) -> bool
     requires { 4 < length symbols.now }
     ensures { result ≡ is_ok (decode_of engine.now (window symbols.now)) }
 {
-    let window = [
-        symbols[0], symbols[1], symbols[2], symbols[3], b'A', b'A',
-    ];
+    let window = [symbols[0], symbols[1], symbols[2], symbols[3], b'A', b'A'];
     engine.decode_slice_unchecked(&window, &mut [0; 6]).is_ok()
 }
 
