@@ -14,7 +14,6 @@ abbrev pub bytes_or_fault : Option (List ℕ) → Result (List ℕ) BytesFault
 bytes_or_fault (Some bytes) = Ok bytes
 bytes_or_fault None = Err (NotBase64Encoded record {})
 
--- the bytes of the text; or the text has none; or memory was refused, which only some bytes let
--- happen
+-- the bytes of the text; or the fault; or memory was refused, where the text has bytes
 abbrev pub ReadsText : List ℕ → Result (List ℕ) BytesFault → Type 0
 ReadsText text = Answers is_memory (λ bytes. 0 < length bytes) (λ bytes. bytes) (bytes_or_fault (text_bytes text))

@@ -75,7 +75,8 @@ impl Bytes {
     /// those that `encoding::try_from_base64url` finds, or where it finds none those of the text as
     /// base64 whose last symbol has no bit set past the last byte. `NotBase64Encoded` where the text
     /// is neither: a length of 4k + 1 symbols without the `=` at the end, a symbol of no or the
-    /// other alphabet, or white space. `OutOfMemory` where a growth was refused.
+    /// other alphabet, or white space. `OutOfMemory` where a growth was refused, which cannot be
+    /// where the text is neither, or stands for no bytes.
     pub fn try_from(alloc: Global, text: &str) -> Result<Bytes, BytesFault>
         ensures { ReadsText text.now result }
     {
@@ -91,8 +92,8 @@ impl Bytes {
     /// The bytes in base64url, without padding (RFC 4648, section 5). `OutOfMemory` where the
     /// text's memory was refused, which cannot be where there are no bytes.
     pub fn to_base64url(&self, alloc: Global) -> Result<String, OutOfMemory>
-        ensures grows { OnErr result (0 < length self.now) }
         ensures same { IfOk result (λ text. string_bytes text ≡ encode_of url_safe_no_pad self.now) }
+        ensures grows { OnErr result (0 < length self.now) }
     {
         encoding::base64url(alloc, self.as_slice())
     }

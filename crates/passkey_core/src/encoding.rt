@@ -46,7 +46,8 @@ pub fn base64url(alloc: Global, bytes: &[u8]) -> Result<String, OutOfMemory>
 
 /// The bytes of a text in base64url (RFC 4648, section 5), or `None` where it is none. Every `=` at
 /// the end is dropped, nothing else is, and the bits of the last symbol past the last whole byte
-/// may be set. `OutOfMemory` where the bytes' memory was refused.
+/// may be set. `OutOfMemory` where the bytes' memory was refused, which cannot be where the text is
+/// none, or stands for no bytes.
 pub fn try_from_base64url(alloc: Global, text: &str) -> Result<Option<Vec<u8>>, OutOfMemory>
     ensures same { IfOk result (λ found. option_map (λ v. v.items) found ≡ base64url_bytes text.now) }
     ensures grows { OnErr result (IsSomeAnd (base64url_bytes text.now) (λ bytes. 0 < length bytes)) }
