@@ -48,16 +48,18 @@ fn each_byte_is_in_its_class(rt: HostRuntime) -> Result<(), Fail> {
 
 #[test]
 fn the_classes_have_their_sizes(rt: HostRuntime) {
-    let mut known = 0;
-    let mut unassigned = 0;
-    let mut extension = 0;
-    let mut vendor = 0;
-    for byte in 0..=255u8 {
-        known += u32::from(Ctap2Error::try_from(byte).is_ok());
-        unassigned += u32::from(UnknownSpecError::try_from(byte).is_ok());
-        extension += u32::from(ExtensionError::try_from(byte).is_ok());
-        vendor += u32::from(VendorError::try_from(byte).is_ok());
-    }
+    let known = (0..=255u8)
+        .filter(|byte| Ctap2Error::try_from(*byte).is_ok())
+        .count();
+    let unassigned = (0..=255u8)
+        .filter(|byte| UnknownSpecError::try_from(*byte).is_ok())
+        .count();
+    let extension = (0..=255u8)
+        .filter(|byte| ExtensionError::try_from(*byte).is_ok())
+        .count();
+    let vendor = (0..=255u8)
+        .filter(|byte| VendorError::try_from(*byte).is_ok())
+        .count();
     assert_eq!(rt; (known, unassigned, extension, vendor), (46, 178, 16, 16));
 }
 
