@@ -12,11 +12,7 @@ use base64::{DecodeAllocError, alphabet};
 use passkey_cbor::OutOfMemory;
 use std::alloc::Global;
 
-fn encode(
-    alloc: Global,
-    engine: &GeneralPurpose,
-    bytes: &[u8],
-) -> Result<String, OutOfMemory>
+fn encode(alloc: Global, engine: &GeneralPurpose, bytes: &[u8]) -> Result<String, OutOfMemory>
     ensures same { IfOk result (λ text. string_bytes text ≡ encode_of engine.now bytes.now) }
     ensures grows { OnErr result (0 < length bytes.now) }
 {
@@ -70,9 +66,7 @@ fn is_group(engine: &GeneralPurpose, symbols: &[u8]) -> bool
     requires { 4 < length symbols.now }
     ensures { result ≡ is_ok (decode_of engine.now (window symbols.now)) }
 {
-    let window = [
-        symbols[0], symbols[1], symbols[2], symbols[3], b'A', b'A',
-    ];
+    let window = [symbols[0], symbols[1], symbols[2], symbols[3], b'A', b'A'];
     engine.decode_slice_unchecked(&window, &mut [0; 6]).is_ok()
 }
 
