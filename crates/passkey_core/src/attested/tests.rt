@@ -1,6 +1,6 @@
 use super::*;
-use crate::iana::KeyType;
 use crate::cose::Registered;
+use crate::iana::KeyType;
 use std::test::Fail;
 
 fn zeros(alloc: Global, len: usize) -> Result<Vec<u8>, Fail> {

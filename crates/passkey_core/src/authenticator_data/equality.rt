@@ -10,9 +10,7 @@ use crate::authenticator_data::AuthenticatorData;
 fn have_equal_fixed_parts(a: &AuthenticatorData, b: &AuthenticatorData) -> bool
     ensures { result ≡ fixed_eq (data_parts a.now) (data_parts b.now) }
 {
-    a.rp_id_hash == b.rp_id_hash
-        && u8::from(a.flags) == u8::from(b.flags)
-        && a.counter == b.counter
+    a.rp_id_hash == b.rp_id_hash && u8::from(a.flags) == u8::from(b.flags) && a.counter == b.counter
 }
 
 fn have_equal_parts_behind(a: &AuthenticatorData, b: &AuthenticatorData) -> bool

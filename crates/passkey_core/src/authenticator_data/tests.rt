@@ -87,12 +87,22 @@ fn reads_extensions(rt: HostRuntime) -> Result<(), Fail> {
 #[test]
 fn reads_attested_credential_data(rt: HostRuntime) -> Result<(), Fail> {
     let id = [0, 2, 0x0c, 0x98];
-    let parts: [&[u8]; 6] = [HASH, &[0xc5, 0, 0, 0, 1], &ZEROS[..16], &id, POINT, CRED_PROTECT];
+    let parts: [&[u8]; 6] = [
+        HASH,
+        &[0xc5, 0, 0, 0, 1],
+        &ZEROS[..16],
+        &id,
+        POINT,
+        CRED_PROTECT,
+    ];
     let bytes = joined(rt.alloc(), &parts)?;
     let data = AuthenticatorData::from_slice(rt.alloc(), &bytes)?;
     assert!(rt; data.flags == Flags::UP | Flags::UV | Flags::AT | Flags::ED);
     assert_eq!(rt; data.counter, Some(1));
-    let attested = data.attested_credential_data.as_ref().expect(&rt, "it is there");
+    let attested = data
+        .attested_credential_data
+        .as_ref()
+        .expect(&rt, "it is there");
     assert!(rt; attested.aaguid == Aaguid::new_empty());
     assert_eq!(rt; attested.credential_id(), &id[2..]);
     assert!(rt; attested.key == point(rt.alloc())?);
@@ -105,12 +115,22 @@ fn reads_attested_credential_data(rt: HostRuntime) -> Result<(), Fail> {
 #[test]
 fn passes_over_what_no_flag_names(rt: HostRuntime) -> Result<(), Fail> {
     let id = [0, 2, 0x0c, 0x98];
-    let parts: [&[u8]; 6] = [HASH, &[0x45, 0, 0, 0, 1], &ZEROS[..16], &id, POINT, CRED_PROTECT];
+    let parts: [&[u8]; 6] = [
+        HASH,
+        &[0x45, 0, 0, 0, 1],
+        &ZEROS[..16],
+        &id,
+        POINT,
+        CRED_PROTECT,
+    ];
     let bytes = joined(rt.alloc(), &parts)?;
     let data = AuthenticatorData::from_slice(rt.alloc(), &bytes)?;
     assert!(rt; data.attested_credential_data.is_some());
     assert!(rt; data.extensions.is_none());
-    assert_eq!(rt; data.to_vec(rt.alloc())?.as_slice(), &bytes[..bytes.len() - 14]);
+    assert_eq!(rt;
+        data.to_vec(rt.alloc())?.as_slice(),
+        &bytes[..bytes.len() - 14]
+    );
     Ok(())
 }
 
@@ -187,7 +207,9 @@ fn extensions_of_a_creation_are_put(rt: HostRuntime) -> Result<(), Fail> {
     };
     let data = AuthenticatorData::new("abc", None);
     let data = data.set_make_credential_extensions(rt.alloc(), Some(outputs))?;
-    let secret = [0xa1, 0x6b, 0x68, 0x6d, 0x61, 0x63, 0x2d, 0x73, 0x65, 0x63, 0x72, 0x65, 0x74, 0xf5];
+    let secret = [
+        0xa1, 0x6b, 0x68, 0x6d, 0x61, 0x63, 0x2d, 0x73, 0x65, 0x63, 0x72, 0x65, 0x74, 0xf5,
+    ];
     let written = joined(rt.alloc(), &[ABC, &[0x98, 0, 0, 0, 0], &secret])?;
     assert_eq!(rt; data.to_vec(rt.alloc())?, written);
     assert!(rt; data.is_coherent());
