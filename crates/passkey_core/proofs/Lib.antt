@@ -18,3 +18,5 @@ pub mod StatusTable
 pub mod StatusAlone
 pub mod DataOne
 pub mod DataCoherent
+pub mod KeyBack
+pub mod DataBack

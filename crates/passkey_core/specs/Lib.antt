@@ -42,4 +42,6 @@ pub mod Coherent
 pub mod SignedOutputs
 pub mod SignedPut
 pub mod DataSame
+pub mod DataNormal
 pub mod DataLaws
+pub mod KeyNormal

@@ -1,5 +1,5 @@
 //! Laws of authenticator data, each the contract of a function without effect.
-ghost use Rattle.passkey_core.specs.DataLaws.{OneReading, ReadIsCoherent};
+ghost use Rattle.passkey_core.specs.DataLaws.{OneReading, ReadIsCoherent, WrittenDataAreReadBack};
 
 /// Bytes are read as one thing: as these data, or with this fault (WebAuthn Level 3, section 6.1).
 pub fn one_reading()
@@ -12,3 +12,11 @@ pub fn one_reading()
 pub fn read_data_is_coherent()
     ensures { ReadIsCoherent }
 {}
+
+/// What is written of coherent data is read as the data, whatever bytes follow, with 0 for an absent
+/// counter, and with the value that a registry assigns to a number of the key.
+pub fn written_data_are_read_back()
+    ensures { WrittenDataAreReadBack }
+{
+    passkey_cbor::laws::written_is_front();
+}

@@ -2,6 +2,7 @@
 ghost use Rattle.std.specs.Prelude.{◌≡◌, ◌++◌, map, option_map, string_bytes, IfOk, OnOk};
 ghost use Rattle.passkey_cbor.specs.Item.{byte_string, text_string};
 ghost use Rattle.passkey_cbor.specs.View.{item_of, pair_of};
+ghost use Rattle.passkey_cbor.specs.Writable.{IsWritable};
 ghost use Rattle.passkey_cbor.specs.Written.{written};
 ghost use Rattle.passkey_core.specs.Iana.{algorithm_number};
 ghost use Rattle.passkey_core.specs.Key.{key_parts};
@@ -132,9 +133,11 @@ impl CoseKey {
         Ok(Value::Map(member_values(alloc, self)?))
     }
 
-    /// The map that the key is, in bytes. `OutOfMemory` where a growth was refused.
+    /// The map that the key is, in bytes, which CBOR can spell. `OutOfMemory` where a growth was
+    /// refused.
     pub fn to_vec(&self, alloc: Global) -> Result<Vec<u8>, OutOfMemory>
-        ensures { IfOk result (λ bytes. bytes.items ≡ written (key_item (key_parts self.now))) }
+        ensures written { IfOk result (λ bytes. bytes.items ≡ written (key_item (key_parts self.now))) }
+        ensures writable { OnOk result (IsWritable (key_item (key_parts self.now))) }
     {
         self.to_value(alloc)?.to_vec(alloc)
     }

@@ -1,0 +1,36 @@
+-- What authenticator data are read back as.
+use Rattle.std.specs.Prelude.{◌≡◌, ◌<◌, ◌^◌, length, Option, Some, None, option_map, unwrap_or}
+use Rattle.passkey_cbor.specs.Writable.{IsWritable}
+use Rattle.passkey_core.specs.DataParts.{AttestedParts, DataParts}
+use Rattle.passkey_core.specs.KeyNormal.{normal_key, IsKey}
+use Rattle.passkey_core.specs.KeyParts.{key_item}
+
+abbrev pub normal_attested : AttestedParts → AttestedParts
+normal_attested a = record a { key = normal_key a.key }
+
+-- no counter is read as 0
+abbrev pub normal_data : DataParts → DataParts
+normal_data d = record d { counter = Some (unwrap_or d.counter 0); attested = option_map normal_attested d.attested }
+
+-- CBOR can spell the key
+abbrev pub HasWritableKey : AttestedParts → Type 0
+HasWritableKey a = IsWritable (key_item a.key)
+
+-- The parts have the sizes that they are written in, and CBOR can spell the key.
+pub record IsAttested (a : AttestedParts) : Type 0 where
+  pub aaguid : length a.aaguid ≡ 16
+  pub credential_id : length a.credential_id < 2 ^ 16
+  pub key : IsKey a.key
+  pub writable : HasWritableKey a
+
+-- what holds of what is there
+abbrev pub Where : {X : Type 0} → (X → Type 0) → Option X → Type 0
+Where Holds None = Unit {0}
+Where Holds (Some x) = Holds x
+
+-- The parts have the sizes that they are written in, and CBOR can spell the key and the extensions.
+pub record IsData (d : DataParts) : Type 0 where
+  pub rp_id_hash : length d.rp_id_hash ≡ 32
+  pub counter : unwrap_or d.counter 0 < 2 ^ 32
+  pub attested : Where IsAttested d.attested
+  pub extensions : Where IsWritable d.extensions
