@@ -1,5 +1,5 @@
 -- What is written of coherent authenticator data is read back.
-use Rattle.std.proofs.Common.{◌≡◌, ◌∙◌, ◌⊎◌, inl, inr, ℕ, ◌+◌, ◌<◌, ◌≤◌, ◌^◌, nat_lt, nat_le, ◌==◌, List, [], ◌∷◌, ◌++◌, length, take, drop, slice_index, Bool, true, false, not, ◌&&◌, if◌then◌else◌, Option, Some, None, option_map, unwrap_or, Result, Ok, Err, refl, sym, ap, subst, arith}
+use Rattle.std.proofs.Common.{◌≡◌, ◌∙◌, inl, ℕ, ◌<◌, ◌^◌, nat_lt, ◌==◌, List, [], ◌∷◌, ◌++◌, length, take, drop, Bool, true, false, not, ◌&&◌, Option, Some, None, option_map, unwrap_or, Result, Ok, refl, sym, ap, subst, arith}
 use Rattle.std.specs.Int.{w16, w32, from_be_bytes, to_be_bytes}
 use Rattle.std.specs.Int.Bits.{or_add_and}
 use Rattle.std.specs.Int.RustNames.{bit_and, bit_or}
@@ -9,18 +9,16 @@ use Rattle.std.proofs.lemmas.Bool.Decides.{Decides-eqb}
 use Rattle.std.proofs.lemmas.List.{append_assoc, length-append}
 use Rattle.std.proofs.lemmas.Nat.{from_be_bytes-to_be_bytes_2, from_be_bytes-to_be_bytes_4}
 use Rattle.std.proofs.Math.Seq.{take-append_seam, drop-append_seam}
-use Rattle.passkey_cbor.specs.Depth.{depth}
-use Rattle.passkey_cbor.specs.Front.{max_depth, IsFront}
 use Rattle.passkey_cbor.specs.Heads.{two, four}
 use Rattle.passkey_cbor.specs.Item.{Item, map}
 use Rattle.passkey_cbor.specs.Laws.{WrittenIsFront}
 use Rattle.passkey_cbor.specs.Writable.{IsWritable}
 use Rattle.passkey_cbor.specs.Written.{written}
 use Rattle.passkey_cbor.proofs.Numbers.{length-to_be_bytes}
-use Rattle.passkey_core.specs.Coherent.{is_shallow, is_reserved, is_key_readable, is_map, are_extensions_readable, agrees, is_coherent}
+use Rattle.passkey_core.specs.Coherent.{is_shallow, is_reserved, is_key_readable, is_map, are_extensions_readable, agrees}
 use Rattle.passkey_core.specs.DataFlags.{has_flag, attested_flag, extensions_flag}
 use Rattle.passkey_core.specs.DataLaws.{WrittenDataAreReadBack}
-use Rattle.passkey_core.specs.DataNormal.{normal_attested, normal_data, IsAttested, Where, IsData}
+use Rattle.passkey_core.specs.DataNormal.{normal_attested, normal_data, IsAttested, Where}
 use Rattle.passkey_core.specs.DataParts.{AttestedParts, DataParts, bare_data}
 use Rattle.passkey_core.specs.DataReading.{Begun, ◌>>=◌, bytes_at, known_only, fixed_at, ids_at, read_map, Reads, ReadsAttested, ReadsWhere, ReadsData}
 use Rattle.passkey_core.specs.DataWritten.{attested_written, flags_written, data_written}
@@ -29,7 +27,6 @@ use Rattle.passkey_core.specs.KeyNormal.{normal_key}
 use Rattle.passkey_core.specs.KeyParts.{key_item}
 use Rattle.passkey_core.specs.KeyReading.{read_key}
 use Rattle.passkey_core.specs.declared.cose.error.CoseError.{CoseError}
-use Rattle.passkey_core.specs.declared.cose.error.CoseError.TheVariants.{DecodeFailed}
 use Rattle.passkey_core.proofs.KeyBack.{key_back}
 
 -- ---- parts of a fixed length

@@ -1,5 +1,5 @@
 -- Authenticator data that were read are coherent.
-use Rattle.std.proofs.Common.{◌≡◌, ◌∙◌, ◌⊎◌, inl, inr, ℕ, ℤ, pos, negsuc, zero, suc, ◌≤◌, nat_le, ◌==◌, max, List, [], ◌∷◌, ◌++◌, length, drop, take, Bool, true, false, not, ◌&&◌, if◌then◌else◌, Option, Some, None, option_map, Result, Ok, Err, refl, sym, ap, subst, arith}
+use Rattle.std.proofs.Common.{◌≡◌, inl, inr, ℕ, ℤ, pos, suc, ◌≤◌, ◌==◌, max, List, [], ◌∷◌, ◌++◌, drop, Bool, true, false, not, ◌&&◌, if◌then◌else◌, Option, Some, None, option_map, Result, Ok, Err, refl, sym, ap, subst, arith}
 use Rattle.std.specs.List.{find}
 use Rattle.std.specs.Option.{option_and_then}
 use Rattle.std.specs.Cmp.{signed_Decides}
@@ -13,9 +13,9 @@ use Rattle.passkey_core.specs.Coherent.{is_shallow, is_reserved, is_key_readable
 use Rattle.passkey_core.specs.DataFlags.{has_flag, attested_flag, extensions_flag}
 use Rattle.passkey_core.specs.DataLaws.{ReadIsCoherent}
 use Rattle.passkey_core.specs.DataParts.{AttestedParts, DataParts}
-use Rattle.passkey_core.specs.DataReading.{Begun, fixed_at, ids_at, read_map, IsReadBy, Reads, Behind, Then, ReadsAttested, ReadsWhere, ReadsData}
+use Rattle.passkey_core.specs.DataReading.{Begun, fixed_at, ids_at, read_map, Reads, Behind, Then, ReadsAttested, ReadsWhere}
 use Rattle.passkey_core.specs.Flags.{reserved_flags}
-use Rattle.passkey_core.specs.Iana.{key_type_number, key_type_named}
+use Rattle.passkey_core.specs.Iana.{key_type_named}
 use Rattle.passkey_core.specs.KeyFaults.{is_signed_64, first_fault}
 use Rattle.passkey_core.specs.KeyLabels.{Members, is_label, is_common}
 use Rattle.passkey_core.specs.KeyParts.{KeyParts, member, key_members, key_item}

@@ -1,16 +1,15 @@
 -- What is written of a key is read as it, but for numbers that the registries assign.
-use Rattle.std.proofs.Common.{◌≡◌, ◌∙◌, ℕ, ℤ, pos, negsuc, ◌<◌, arith, length, Bool, true, false, not, ◌&&◌, if◌then◌else◌, List, [], ◌∷◌, ◌++◌, map, Option, Some, None, option_map, unwrap_or, Result, Ok, Err, refl, sym, ap, subst}
-use Rattle.std.specs.Cmp.{signed_Decides}
+use Rattle.std.proofs.Common.{◌≡◌, ◌∙◌, ℕ, ℤ, pos, ◌<◌, arith, length, Bool, true, false, not, ◌&&◌, if◌then◌else◌, List, [], ◌∷◌, ◌++◌, map, Option, Some, None, option_map, unwrap_or, Ok, refl, sym, ap, subst}
 use Rattle.std.specs.List.{filter_map, cons_option}
 use Rattle.std.specs.Option.{option_and_then}
 use Rattle.std.specs.Result.{result_map_both}
 use Rattle.std.proofs.lemmas.Bool.{true≢false, and_parts, not-true}
 use Rattle.std.proofs.lemmas.List.{append_assoc}
-use Rattle.passkey_cbor.specs.Item.{Item, number, byte_string, array, items_of}
+use Rattle.passkey_cbor.specs.Item.{Item, number, byte_string}
 use Rattle.passkey_core.specs.Coherent.{is_reserved}
 use Rattle.passkey_core.specs.Iana.{algorithm_number, algorithm_named, key_type_number, key_type_named, key_operation_number, key_operation_named}
 use Rattle.passkey_core.specs.IanaLaws.{algorithm_named-number, key_type_named-number, key_operation_named-number}
-use Rattle.passkey_core.specs.KeyFaults.{is_signed_64, name_fault, op_fault, first_op_fault, first_fault}
+use Rattle.passkey_core.specs.KeyFaults.{is_signed_64, name_fault, op_fault, first_op_fault}
 use Rattle.passkey_core.specs.KeyLabels.{Members, is_common, has_label, are_separate}
 use Rattle.passkey_core.specs.KeyNormal.{normal_named, normal_key, IsKey}
 use Rattle.passkey_core.specs.KeyParts.{KeyParts, member, op_item, ops_item, key_members, key_item}
@@ -149,5 +148,5 @@ key_back k valid typed =
     let others : further ms ≡ k.params = ap further same ∙ further_sorted a b c d e k.params ∙ further_own k.params valid.separate in
     let made : Named KeyType → KeyParts = λ kty. record { kty = kty; key_id = k.key_id; alg = option_map (normal_named algorithm_named) k.alg; key_ops = map (normal_named key_operation_named) k.key_ops; base_iv = k.base_iv; params = k.params } in
     let read : judged ms None ≡ result_map_both made (λ (f : CoseError). f) (key_type (Some (normal_named key_type_named k.kty))) =
-        λ i. result_map_both (λ (kty : Named KeyType). (let l : KeyParts = record { kty = kty; key_id = ids i; alg = algs i; key_ops = ops i; base_iv = ivs i; params = others i } in l)) (λ (f : CoseError). f) (key_type (types i)) in
+    λ i. result_map_both (λ (kty : Named KeyType). (let l : KeyParts = record { kty = kty; key_id = ids i; alg = algs i; key_ops = ops i; base_iv = ivs i; params = others i } in l)) (λ (f : CoseError). f) (key_type (types i)) in
     read_key-map ms ∙ ap (judged ms) valid.good ∙ read ∙ ap (result_map_both made (λ (f : CoseError). f)) (type_back k.kty typed)

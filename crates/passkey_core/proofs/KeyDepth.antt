@@ -1,10 +1,10 @@
 -- How deep the item is that a key is written as.
-use Rattle.std.proofs.Common.{◌≡◌, ◌∙◌, ℕ, ℤ, suc, ◌≤◌, max, length, List, [], ◌∷◌, ◌++◌, map, Option, Some, None, option_map, refl, sym, ap, arith}
+use Rattle.std.proofs.Common.{◌≡◌, ℕ, ℤ, suc, ◌≤◌, max, length, List, [], ◌∷◌, ◌++◌, map, Option, Some, None, option_map, refl, ap, arith}
 use Rattle.passkey_cbor.specs.Depth.{depth, items_depth, pairs_depth}
 use Rattle.passkey_cbor.specs.Item.{Item, byte_string, items_of, pairs_of}
 use Rattle.passkey_core.specs.Iana.{algorithm_number, key_type_number}
 use Rattle.passkey_core.specs.KeyLabels.{Members}
-use Rattle.passkey_core.specs.KeyParts.{KeyParts, member, op_item, ops_item, key_members, key_item}
+use Rattle.passkey_core.specs.KeyParts.{KeyParts, member, op_item, ops_item, key_item}
 use Rattle.passkey_core.specs.Registered.{Named, assigned, other, text, named_item}
 use Rattle.passkey_core.specs.declared.iana.KeyOperation.{KeyOperation}
 

@@ -3,7 +3,7 @@ use Rattle.passkey_cbor.specs.View.{item_of}
 use Rattle.passkey_cbor.specs.declared.value.Value.{Value}
 use Rattle.passkey_core.specs.DataAnswers.{Gives}
 use Rattle.passkey_core.specs.DataFlags.{has_flag, attested_flag, extensions_flag}
-use Rattle.passkey_core.specs.DataReading.{fixed_at, has_parts, read_map, Reads, ReadsAttested, ReadsWhere, ReadsData}
+use Rattle.passkey_core.specs.DataReading.{fixed_at, has_parts, read_map, Reads, ReadsAttested, ReadsWhere}
 use Rattle.passkey_core.specs.DataViews.{attested_parts, data_parts}
 use Rattle.passkey_core.proofs.DataReadings.{fixed_fails, extensions_fail}
 use Rattle.passkey_core.proofs.authenticator_data.AuthenticatorData.from_slice.Goals as goal
