@@ -86,16 +86,17 @@ fn reads_extensions(rt: HostRuntime) -> Result<(), Fail> {
 
 #[test]
 fn reads_attested_credential_data(rt: HostRuntime) -> Result<(), Fail> {
-    let id = [0, 2, 0x0c, 0x98];
-    let parts: [&[u8]; 6] = [
-        HASH,
-        &[0xc5, 0, 0, 0, 1],
-        &ZEROS[..16],
-        &id,
-        POINT,
-        CRED_PROTECT,
-    ];
-    let bytes = joined(rt.alloc(), &parts)?;
+    let bytes = joined(
+        rt.alloc(),
+        &[
+            HASH,
+            &[0xc5, 0, 0, 0, 1],
+            &ZEROS[..16],
+            &[0, 2, 0x0c, 0x98],
+            POINT,
+            CRED_PROTECT,
+        ],
+    )?;
     let data = AuthenticatorData::from_slice(rt.alloc(), &bytes)?;
     assert!(rt; data.flags == Flags::UP | Flags::UV | Flags::AT | Flags::ED);
     assert_eq!(rt; data.counter, Some(1));
@@ -104,7 +105,7 @@ fn reads_attested_credential_data(rt: HostRuntime) -> Result<(), Fail> {
         .as_ref()
         .expect(&rt, "it is there");
     assert!(rt; attested.aaguid == Aaguid::new_empty());
-    assert_eq!(rt; attested.credential_id(), &id[2..]);
+    assert_eq!(rt; attested.credential_id(), [0x0c, 0x98].as_slice());
     assert!(rt; attested.key == point(rt.alloc())?);
     assert!(rt; data.extensions == Some(cred_protect(rt.alloc())?));
     assert!(rt; data.is_coherent());
@@ -114,22 +115,23 @@ fn reads_attested_credential_data(rt: HostRuntime) -> Result<(), Fail> {
 
 #[test]
 fn passes_over_what_no_flag_names(rt: HostRuntime) -> Result<(), Fail> {
-    let id = [0, 2, 0x0c, 0x98];
-    let parts: [&[u8]; 6] = [
-        HASH,
-        &[0x45, 0, 0, 0, 1],
-        &ZEROS[..16],
-        &id,
-        POINT,
-        CRED_PROTECT,
-    ];
-    let bytes = joined(rt.alloc(), &parts)?;
+    let bytes = joined(
+        rt.alloc(),
+        &[
+            HASH,
+            &[0x45, 0, 0, 0, 1],
+            &ZEROS[..16],
+            &[0, 2, 0x0c, 0x98],
+            POINT,
+            CRED_PROTECT,
+        ],
+    )?;
     let data = AuthenticatorData::from_slice(rt.alloc(), &bytes)?;
     assert!(rt; data.attested_credential_data.is_some());
     assert!(rt; data.extensions.is_none());
     assert_eq!(rt;
         data.to_vec(rt.alloc())?.as_slice(),
-        &bytes[..bytes.len() - 14]
+        &bytes[..bytes.len().saturating_sub(14)]
     );
     Ok(())
 }
@@ -152,8 +154,10 @@ fn answers_the_first_fault(rt: HostRuntime) -> Result<(), Fail> {
         (0xc0, &ZEROS[..18], cut),
     ];
     for (flags, behind, want) in cases {
-        let head = [flags, 0, 0, 0, 0];
-        let bytes = joined(rt.alloc(), &[&ZEROS[..32], &head, behind])?;
+        let mut bytes = joined(rt.alloc(), &[&ZEROS[..32]])?;
+        bytes.push(flags)?;
+        bytes.extend_from_slice(&[0; 4])?;
+        bytes.extend_from_slice(behind)?;
         assert_eq!(rt; fault(rt.alloc(), &bytes), Some(want));
     }
     for len in 0..37 {
@@ -175,8 +179,11 @@ fn answers_the_fault_of_the_key(rt: HostRuntime) -> Result<(), Fail> {
         (&[0xa1, 0x01, 0x02, 0x00], CoseError::UnexpectedItem),
     ];
     for (key, want) in cases {
-        let head = [0xc0, 0, 0, 0, 0];
-        let bytes = joined(rt.alloc(), &[&ZEROS[..32], &head, &ZEROS[..18], key])?;
+        let mut bytes = joined(
+            rt.alloc(),
+            &[&ZEROS[..32], &[0xc0, 0, 0, 0, 0], &ZEROS[..18]],
+        )?;
+        bytes.extend_from_slice(key)?;
         assert_eq!(rt; fault(rt.alloc(), &bytes), Some(want));
     }
     Ok(())
