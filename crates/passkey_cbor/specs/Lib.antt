@@ -1,3 +1,4 @@
+pub mod Memory
 pub mod FloatParts
 pub mod Ranges
 pub mod Made

@@ -1,9 +1,9 @@
 -- What is written of coherent authenticator data is read back.
-use Rattle.std.proofs.Common.{◌≡◌, ◌∙◌, inl, ℕ, ◌<◌, ◌^◌, nat_lt, ◌==◌, List, [], ◌∷◌, ◌++◌, length, take, drop, Bool, true, false, not, ◌&&◌, Option, Some, None, option_map, unwrap_or, Result, Ok, refl, sym, ap, subst, arith}
 use Rattle.std.specs.Int.{w16, w32, from_be_bytes, to_be_bytes}
 use Rattle.std.specs.Int.Bits.{or_add_and}
 use Rattle.std.specs.Int.RustNames.{bit_and, bit_or}
 use Rattle.std.specs.Result.{result_map_both}
+use Rattle.std.proofs.Common.{◌≡◌, ◌∙◌, inl, ℕ, ◌<◌, ◌^◌, nat_lt, ◌==◌, List, [], ◌∷◌, ◌++◌, length, take, drop, Bool, true, false, not, ◌&&◌, Option, Some, None, option_map, unwrap_or, Result, Ok, refl, sym, ap, subst, arith}
 use Rattle.std.proofs.lemmas.Bool.{true≢false, and_parts, not-true, leb-true}
 use Rattle.std.proofs.lemmas.Bool.Decides.{Decides-eqb}
 use Rattle.std.proofs.lemmas.List.{append_assoc, length-append}
@@ -15,7 +15,13 @@ use Rattle.passkey_cbor.specs.Laws.{WrittenIsFront}
 use Rattle.passkey_cbor.specs.Writable.{IsWritable}
 use Rattle.passkey_cbor.specs.Written.{written}
 use Rattle.passkey_cbor.proofs.Numbers.{length-to_be_bytes}
-use Rattle.passkey_core.specs.Coherent.{is_shallow, is_reserved, is_key_readable, is_map, are_extensions_readable, agrees}
+use Rattle.passkey_cose.specs.KeyLaws.{WrittenIsReadBack}
+use Rattle.passkey_cose.specs.KeyReadable.{is_shallow, is_reserved, is_key_readable}
+use Rattle.passkey_cose.specs.KeyNormal.{normal_key}
+use Rattle.passkey_cose.specs.KeyParts.{key_item}
+use Rattle.passkey_cose.specs.KeyReading.{read_key}
+use Rattle.passkey_cose.specs.declared.error.CoseError.{CoseError}
+use Rattle.passkey_core.specs.Coherent.{is_map, are_extensions_readable, agrees}
 use Rattle.passkey_core.specs.DataFlags.{has_flag, attested_flag, extensions_flag}
 use Rattle.passkey_core.specs.DataLaws.{WrittenDataAreReadBack}
 use Rattle.passkey_core.specs.DataNormal.{normal_attested, normal_data, IsAttested, Where}
@@ -23,11 +29,6 @@ use Rattle.passkey_core.specs.DataParts.{AttestedParts, DataParts, bare_data}
 use Rattle.passkey_core.specs.DataReading.{Begun, ◌>>=◌, bytes_at, known_only, fixed_at, ids_at, read_map, Reads, ReadsAttested, ReadsWhere, ReadsData}
 use Rattle.passkey_core.specs.DataWritten.{attested_written, flags_written, data_written}
 use Rattle.passkey_core.specs.Flags.{reserved_flags}
-use Rattle.passkey_core.specs.KeyNormal.{normal_key}
-use Rattle.passkey_core.specs.KeyParts.{key_item}
-use Rattle.passkey_core.specs.KeyReading.{read_key}
-use Rattle.passkey_core.specs.declared.cose.error.CoseError.{CoseError}
-use Rattle.passkey_core.proofs.KeyBack.{key_back}
 
 -- ---- parts of a fixed length
 
@@ -68,10 +69,10 @@ item_back {X = X} law read i x rest writable shallow e =
     let judged : result_map_both (λ (y : X). (let p : X × List ℕ = (y, drop (length (written i)) (written i ++ rest)) in p)) (λ (f : CoseError). f) (read i) ≡ Ok (x, rest) = ap (result_map_both (λ (y : X). (let p : X × List ℕ = (y, drop (length (written i)) (written i ++ rest)) in p)) (λ (f : CoseError). f)) e ∙ ap (λ (bytes : List ℕ). (let r : Begun X = Ok (x, bytes) in r)) ends in
     inl (record { item = i; len = length (written i); front = law i rest writable (leb-true _ _ shallow); judged = sym judged })
 
-attested_back : WrittenIsFront → (a : AttestedParts) (rest : List ℕ) → IsAttested a → is_key_readable a.key ≡ true → ReadsAttested (attested_written a ++ rest) (Ok (normal_attested a, rest))
-attested_back law a rest valid readable =
+attested_back : WrittenIsFront → WrittenIsReadBack → (a : AttestedParts) (rest : List ℕ) → IsAttested a → is_key_readable a.key ≡ true → ReadsAttested (attested_written a ++ rest) (Ok (normal_attested a, rest))
+attested_back law keys a rest valid readable =
     let parts = and_parts (not (is_reserved a.key.kty)) (is_shallow (key_item a.key)) readable in
-    let key : read_key (key_item a.key) ≡ Ok (normal_key a.key) = key_back a.key valid.key (not-true (is_reserved a.key.kty) parts.0) in
+    let key : read_key (key_item a.key) ≡ Ok (normal_key a.key) = keys a.key valid.key (not-true (is_reserved a.key.kty) parts.0) in
     let flat : attested_written a ++ rest ≡ a.aaguid ++ (to_be_bytes w16 (length a.credential_id) ++ (a.credential_id ++ (written (key_item a.key) ++ rest))) = simp append_assoc in
     let ids = ids_back a.aaguid a.credential_id (written (key_item a.key) ++ rest) valid.aaguid valid.credential_id in
     let whole : ReadsAttested (a.aaguid ++ (to_be_bytes w16 (length a.credential_id) ++ (a.credential_id ++ (written (key_item a.key) ++ rest)))) (Ok (normal_attested a, rest)) = record {
@@ -118,8 +119,8 @@ flags_back : (is_readable : AttestedParts → Bool) (flags : ℕ) (o : Option At
 flags_back is_readable flags None e = refl
 flags_back is_readable flags (Some a) e = flag_held flags (and_parts (has_flag attested_flag flags) (is_readable a) e).0
 
-pub data_back : WrittenIsFront → WrittenDataAreReadBack
-data_back law d rest valid coherent =
+pub data_back : WrittenIsFront → WrittenIsReadBack → WrittenDataAreReadBack
+data_back law keys d rest valid coherent =
     let attested = d.attested in
     let extensions = d.extensions in
     let key_of : AttestedParts → Bool = λ a. is_key_readable a.key in
@@ -136,7 +137,7 @@ data_back law d rest valid coherent =
       begins = sym fixed;
       goes_on = record {
         begun = Ok (option_map normal_attested attested, behind);
-        begins = where_back IsAttested key_of attested_written normal_attested ReadsAttested (attested_back law) (has_flag attested_flag d.flags) attested behind valid.attested known.1;
+        begins = where_back IsAttested key_of attested_written normal_attested ReadsAttested (attested_back law keys) (has_flag attested_flag d.flags) attested behind valid.attested known.1;
         goes_on = record {
           begun = Ok (option_map (λ x. x) extensions, rest);
           begins = where_back IsWritable are_extensions_readable written (λ x. x) (Reads read_map) (extensions_back law) (has_flag extensions_flag d.flags) extensions rest valid.extensions front.1;

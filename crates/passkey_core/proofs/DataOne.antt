@@ -1,13 +1,13 @@
 -- Bytes are read as authenticator data in one way.
-use Rattle.std.proofs.Common.{◌≡◌, ◌∙◌, inl, inr, List, ℕ, drop, Bool, true, false, Some, None, Result, Ok, Err, sym, subst}
 use Rattle.std.specs.Result.{result_map_both}
+use Rattle.std.proofs.Common.{◌≡◌, ◌∙◌, inl, inr, List, ℕ, drop, Bool, true, false, Some, None, Result, Ok, Err, sym, subst}
 use Rattle.passkey_cbor.specs.Item.{Item}
 use Rattle.passkey_cbor.specs.Laws.{AtMostOneFront}
+use Rattle.passkey_cose.specs.KeyReading.{read_key}
+use Rattle.passkey_cose.specs.declared.error.CoseError.{CoseError}
 use Rattle.passkey_core.specs.DataLaws.{OneReading}
 use Rattle.passkey_core.specs.DataFlags.{has_flag, attested_flag, extensions_flag}
 use Rattle.passkey_core.specs.DataReading.{Begun, fixed_at, ids_at, read_map, IsReadBy, Reads, Behind, Then, ReadsAttested, ReadsWhere}
-use Rattle.passkey_core.specs.KeyReading.{read_key}
-use Rattle.passkey_core.specs.declared.cose.error.CoseError.{CoseError}
 
 -- at most one answer is right
 abbrev HasOne : {X : Type 0} → (X → Type 0) → Type 0

@@ -1,14 +1,14 @@
 -- Readings of authenticator data, put together.
-use Rattle.std.proofs.Common.{◌≡◌, List, ℕ, nat_lt, length, take, drop, ◌==◌, Bool, true, false, if◌then◌else◌, ◌||◌, Option, Some, Result, Ok, Err, refl, sym, ap, subst, ◌∙◌}
 use Rattle.std.specs.Int.RustNames.{bit_and}
+use Rattle.std.proofs.Common.{◌≡◌, List, ℕ, nat_lt, length, take, drop, ◌==◌, Bool, true, false, if◌then◌else◌, ◌||◌, Option, Some, Result, Ok, Err, refl, sym, ap, subst, ◌∙◌}
 use Rattle.passkey_cbor.specs.Item.{Item}
+use Rattle.passkey_cose.specs.declared.error.CoseError.{CoseError}
+use Rattle.passkey_cose.specs.declared.error.CoseError.TheVariants.{DecodeFailed, OutOfMemory, OutOfRangeIntegerValue, DuplicateMapKey, UnexpectedItem}
 use Rattle.passkey_core.specs.DataParts.{AttestedParts, DataParts}
 use Rattle.passkey_core.specs.Flags.{reserved_flags}
 use Rattle.passkey_core.specs.DataFlags.{has_flag, attested_flag, extensions_flag}
 use Rattle.passkey_core.specs.DataAnswers.{Gives}
 use Rattle.passkey_core.specs.DataReading.{Begun, ◌>>=◌, bytes_at, known_only, fixed_at, names_parts, has_parts, read_map, Reads, ReadsAttested, ReadsWhere, ReadsData}
-use Rattle.passkey_core.specs.declared.cose.error.CoseError.{CoseError}
-use Rattle.passkey_core.specs.declared.cose.error.CoseError.TheVariants.{DecodeFailed, OutOfMemory, OutOfRangeIntegerValue, DuplicateMapKey, UnexpectedItem}
 
 -- a fault of one reading that is a fault of another
 pub gives_fault : {A B C D : Type 0} (memory : Type 0) (other : Type 0) (seen : A → B) (told : C → D) (reads : Result B CoseError → Type 0) (answers : Result D CoseError → Type 0) → (memory → other) → ((e : CoseError) → reads (Err e) → answers (Err e)) → (e : CoseError) → Gives memory seen reads (Err e) → Gives other told answers (Err e)

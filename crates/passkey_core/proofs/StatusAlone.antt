@@ -1,8 +1,9 @@
 -- Each byte has exactly one status: looked up at every byte.
-use Rattle.std.proofs.Common.{arith, ◌≡◌, ◌==◌, ◌<◌, ◌∙◌, ℕ, Bool, true, false, List, [], ◌∷◌, ◌++◌, length, Some, None, option_map, if◌then◌else◌, refl, sym, ap, append_assoc}
 use Rattle.std.specs.Cmp.{unsigned_Decides}
 use Rattle.std.specs.Option.{option_to_list}
-use Rattle.base64.proofs.Tables.{all_below_at}
+use Rattle.std.proofs.Common.{arith, ◌≡◌, ◌==◌, ◌<◌, ◌∙◌, ℕ, Bool, true, false, List, [], ◌∷◌, ◌++◌, length, Some, None, option_map, if◌then◌else◌, refl, sym, ap, append_assoc, zero, suc, ◌&&◌, subst}
+use Rattle.std.proofs.lemmas.Bool.{and_parts}
+use Rattle.std.proofs.lemmas.Bool.Decides.{nat_tests}
 use Rattle.passkey_core.specs.declared.status.ctap2_error.Ctap2Error.{Ctap2Error}
 use Rattle.passkey_core.specs.declared.status.StatusCode.{StatusCode}
 use Rattle.passkey_core.specs.declared.status.StatusCode.TheVariants as status
@@ -10,11 +11,25 @@ use Rattle.passkey_core.specs.StatusBytes.{is_in, unassigned, extension, vendor}
 use Rattle.passkey_core.specs.Statuses.{ctap2_error, code_in, statuses, IsStatus}
 use Rattle.passkey_core.proofs.StatusTable.{ctap2_error_has}
 
+-- a test at every number below this one
+abbrev holds_below : (ℕ → Bool) → ℕ → Bool
+holds_below p zero = true
+holds_below p (suc n) = p n && holds_below p n
+
+holds_at : (p : ℕ → Bool) (n k : ℕ) → holds_below p n ≡ true → k < n → p k ≡ true
+holds_at p zero k h small = absurd (omega (arith, small))
+holds_at p (suc n) k h small =
+    let parts = and_parts (p n) (holds_below p n) h in
+    (elim (k == n) as (λ (b : Bool). (k == n) ≡ b → p k ≡ true) [
+      | true ↦ λ e. subst (λ (m : ℕ). p m ≡ true) (sym ((unsigned_Decides k n).0 e)) parts.0
+      | false ↦ λ e. holds_at p n k parts.1 (grind (arith, nat_tests, e, small))
+    ]) refl
+
 abbrev has_one : ℕ → Bool
 has_one byte = length (statuses byte) == 1
 
 one : (byte : ℕ) → byte < 256 → length (statuses byte) ≡ 1
-one byte small = (unsigned_Decides (length (statuses byte)) 1).0 (all_below_at has_one 256 byte refl small)
+one byte small = (unsigned_Decides (length (statuses byte)) 1).0 (holds_at has_one 256 byte refl small)
 
 -- what stands in a list of one is all of it
 alone : (before : List StatusCode) (x : StatusCode) (after : List StatusCode) → length (before ++ x ∷ after) ≡ 1 → before ++ x ∷ after ≡ x ∷ []

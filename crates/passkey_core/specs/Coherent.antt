@@ -1,27 +1,11 @@
 -- Authenticator data that are read back as they were written.
-use Rattle.std.specs.Prelude.{pos, nat_le, ◌==◌, Bool, true, false, not, ◌&&◌, Option, Some, None}
+use Rattle.std.specs.Prelude.{◌==◌, Bool, true, false, not, ◌&&◌, Option, Some, None}
 use Rattle.std.specs.Int.RustNames.{bit_and}
-use Rattle.passkey_cbor.specs.Depth.{depth}
-use Rattle.passkey_cbor.specs.Front.{max_depth}
-use Rattle.passkey_cbor.specs.Item.{Item, number, map}
-use Rattle.passkey_cbor.specs.Same.{item_eq}
-use Rattle.passkey_core.specs.DataParts.{AttestedParts, DataParts}
+use Rattle.passkey_cbor.specs.Item.{Item, map}
+use Rattle.passkey_cose.specs.KeyReadable.{is_shallow, is_key_readable}
 use Rattle.passkey_core.specs.DataFlags.{attested_flag, extensions_flag, has_flag}
+use Rattle.passkey_core.specs.DataParts.{AttestedParts, DataParts}
 use Rattle.passkey_core.specs.Flags.{reserved_flags}
-use Rattle.passkey_core.specs.Iana.{key_type_number}
-use Rattle.passkey_core.specs.KeyParts.{KeyParts, key_item}
-use Rattle.passkey_core.specs.Registered.{Named, named_item}
-use Rattle.passkey_core.specs.declared.iana.KeyType.{KeyType}
-
-abbrev pub is_shallow : Item → Bool
-is_shallow x = nat_le (depth x) max_depth
-
--- the reserved type is the one that is written as 0
-abbrev pub is_reserved : Named KeyType → Bool
-is_reserved kty = item_eq (number (pos 0)) (named_item key_type_number kty)
-
-abbrev pub is_key_readable : KeyParts → Bool
-is_key_readable k = not (is_reserved k.kty) && is_shallow (key_item k)
 
 abbrev pub is_map : Item → Bool
 is_map (map ps) = true

@@ -1,7 +1,7 @@
 -- What a reading answers that may run out of memory.
 use Rattle.std.specs.Prelude.{Result, Ok, Err}
-use Rattle.passkey_core.specs.declared.cose.error.CoseError.{CoseError}
-use Rattle.passkey_core.specs.declared.cose.error.CoseError.TheVariants.{DecodeFailed, OutOfMemory, OutOfRangeIntegerValue, DuplicateMapKey, UnexpectedItem}
+use Rattle.passkey_cose.specs.declared.error.CoseError.{CoseError}
+use Rattle.passkey_cose.specs.declared.error.CoseError.TheVariants.{DecodeFailed, OutOfMemory, OutOfRangeIntegerValue, DuplicateMapKey, UnexpectedItem}
 
 -- the answer, as contracts see it; or memory ran out, which only this lets happen
 abbrev pub Gives : {A B : Type 0} → Type 0 → (A → B) → (Result B CoseError → Type 0) → Result A CoseError → Type 0

@@ -1,11 +1,11 @@
 -- Laws of authenticator data.
 use Rattle.std.specs.Prelude.{◌≡◌, ℕ, List, ◌++◌, true, Result, Ok}
+use Rattle.passkey_cose.specs.declared.error.CoseError.{CoseError}
 use Rattle.passkey_core.specs.Coherent.{is_coherent}
 use Rattle.passkey_core.specs.DataNormal.{normal_data, IsData}
 use Rattle.passkey_core.specs.DataParts.{DataParts}
 use Rattle.passkey_core.specs.DataReading.{ReadsData}
 use Rattle.passkey_core.specs.DataWritten.{data_written}
-use Rattle.passkey_core.specs.declared.cose.error.CoseError.{CoseError}
 
 -- Bytes are read as one thing: these data, or this fault.
 abbrev pub OneReading : Type 0

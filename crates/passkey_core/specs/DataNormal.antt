@@ -1,9 +1,9 @@
 -- What authenticator data are read back as.
 use Rattle.std.specs.Prelude.{◌≡◌, ◌<◌, ◌^◌, length, Option, Some, None, option_map, unwrap_or}
 use Rattle.passkey_cbor.specs.Writable.{IsWritable}
+use Rattle.passkey_cose.specs.KeyNormal.{normal_key, IsKey}
+use Rattle.passkey_cose.specs.KeyParts.{key_item}
 use Rattle.passkey_core.specs.DataParts.{AttestedParts, DataParts}
-use Rattle.passkey_core.specs.KeyNormal.{normal_key, IsKey}
-use Rattle.passkey_core.specs.KeyParts.{key_item}
 
 abbrev pub normal_attested : AttestedParts → AttestedParts
 normal_attested a = record a { key = normal_key a.key }

@@ -1,7 +1,7 @@
 -- What authenticator data and attested credential data are (WebAuthn Level 3, sections 6.1 and 6.5.1).
 use Rattle.std.specs.Prelude.{ℕ, List, Option, None}
 use Rattle.passkey_cbor.specs.Item.{Item}
-use Rattle.passkey_core.specs.KeyParts.{KeyParts}
+use Rattle.passkey_cose.specs.KeyParts.{KeyParts}
 
 -- the AAGUID has 16 bytes, the credential id up to 65535
 pub record AttestedParts : Type 0 where

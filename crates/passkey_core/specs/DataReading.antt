@@ -5,13 +5,13 @@ use Rattle.std.specs.Int.RustNames.{bit_and}
 use Rattle.std.specs.Result.{result_map_both}
 use Rattle.passkey_cbor.specs.Front.{IsFront, HasNoFront}
 use Rattle.passkey_cbor.specs.Item.{Item, map}
+use Rattle.passkey_cose.specs.KeyParts.{KeyParts}
+use Rattle.passkey_cose.specs.KeyReading.{read_key}
+use Rattle.passkey_cose.specs.declared.error.CoseError.{CoseError}
+use Rattle.passkey_cose.specs.declared.error.CoseError.TheVariants.{DecodeFailed, OutOfRangeIntegerValue, UnexpectedItem}
 use Rattle.passkey_core.specs.DataParts.{AttestedParts, DataParts, bare_data}
 use Rattle.passkey_core.specs.DataFlags.{attested_flag, extensions_flag, has_flag}
 use Rattle.passkey_core.specs.Flags.{reserved_flags}
-use Rattle.passkey_core.specs.KeyParts.{KeyParts}
-use Rattle.passkey_core.specs.KeyReading.{read_key}
-use Rattle.passkey_core.specs.declared.cose.error.CoseError.{CoseError}
-use Rattle.passkey_core.specs.declared.cose.error.CoseError.TheVariants.{DecodeFailed, OutOfRangeIntegerValue, UnexpectedItem}
 
 -- a part that begins the bytes, and the bytes behind it; or why none does
 abbrev pub Begun : Type 0 → Type 0

@@ -1,17 +1,17 @@
 -- Whether two authenticator data are equal, as a test, and that the test tells it: proofs that the impls of PartialEq cite.
-use Rattle.std.proofs.Common.{◌≡◌, ◌&&◌, Bool, true, refl, subst}
 use Rattle.std.specs.Cmp.{IsEquivalence, decided}
 use Rattle.std.specs.Option.{option_eq}
 use Rattle.std.specs.Str.{bytes_eq}
+use Rattle.std.specs.Prelude.{nat_eq}
+use Rattle.std.proofs.Common.{◌≡◌, ◌&&◌, Bool, true, refl, subst}
 use Rattle.std.proofs.lemmas.Bool.{and_parts, and_from}
 use Rattle.std.proofs.lemmas.Bool.Decides.{Decides-eqb}
 use Rattle.std.proofs.lemmas.Slice.Eq.{bytes_eq-Decides}
-use Rattle.std.specs.Prelude.{nat_eq}
 use Rattle.passkey_cbor.specs.Same.{item_eq}
 use Rattle.passkey_cbor.specs.SameItems.{item_Decides}
+use Rattle.passkey_cose.specs.KeySame.{parts_eq}
+use Rattle.passkey_cose.specs.KeySameLaws.{DecidesAll, option_decides, parts_Decides}
 use Rattle.passkey_core.specs.DataParts.{AttestedParts, DataParts}
-use Rattle.passkey_core.specs.KeySame.{parts_eq}
-use Rattle.passkey_core.specs.KeySameLaws.{DecidesAll, option_decides, parts_Decides}
 
 abbrev pub attested_eq : AttestedParts → AttestedParts → Bool
 attested_eq a b = (bytes_eq a.aaguid b.aaguid && bytes_eq a.credential_id b.credential_id) && parts_eq a.key b.key

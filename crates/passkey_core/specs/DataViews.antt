@@ -1,8 +1,8 @@
 -- Authenticator data as contracts see it.
 use Rattle.std.specs.Prelude.{option_map}
 use Rattle.passkey_cbor.specs.View.{item_of}
+use Rattle.passkey_cose.specs.Key.{key_parts}
 use Rattle.passkey_core.specs.DataParts.{AttestedParts, DataParts}
-use Rattle.passkey_core.specs.Key.{key_parts}
 use Rattle.passkey_core.specs.declared.attested.data.AttestedCredentialData.{AttestedCredentialData}
 use Rattle.passkey_core.specs.declared.authenticator_data.AuthenticatorData.{AuthenticatorData}
 

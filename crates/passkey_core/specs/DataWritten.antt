@@ -3,9 +3,9 @@ use Rattle.std.specs.Prelude.{ℕ, List, [], ◌∷◌, ◌++◌, length, Option
 use Rattle.std.specs.Int.{w16, w32, to_be_bytes}
 use Rattle.std.specs.Int.RustNames.{bit_or}
 use Rattle.passkey_cbor.specs.Written.{written}
+use Rattle.passkey_cose.specs.KeyParts.{key_item}
 use Rattle.passkey_core.specs.DataParts.{AttestedParts, DataParts}
 use Rattle.passkey_core.specs.DataFlags.{attested_flag}
-use Rattle.passkey_core.specs.KeyParts.{key_item}
 
 -- the AAGUID, the length of the credential id, the id and the key
 abbrev pub attested_written : AttestedParts → List ℕ

@@ -3,9 +3,9 @@ use Rattle.std.specs.Prelude.{ℕ, List, [], ◌∷◌, ◌++◌, codes, if◌th
 use Rattle.std.specs.Int.RustNames.{bit_or}
 use Rattle.passkey_cbor.specs.Item as item
 use Rattle.passkey_cbor.specs.Item.{Item, boolean, byte_string, text_string, pairs_of}
+use Rattle.passkey_cose.specs.KeyLabels.{Members}
 use Rattle.passkey_core.specs.DataParts.{DataParts}
 use Rattle.passkey_core.specs.DataFlags.{extensions_flag}
-use Rattle.passkey_core.specs.KeyLabels.{Members}
 use Rattle.passkey_core.specs.declared.get_assertion.SignedExtensionOutputs as assertion
 use Rattle.passkey_core.specs.declared.make_credential.SignedExtensionOutputs as creation
 

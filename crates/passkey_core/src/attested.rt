@@ -2,14 +2,14 @@
 ghost use Rattle.std.specs.Prelude.{◌≡◌, ◌↔◌, ◌<◌, ◌^◌, length, IsOk, IfOk, IsTrue};
 ghost use Rattle.std.specs.Cmp.{on_per, partial_equiv_from_equiv};
 ghost use Rattle.std.specs.Ordering.{on};
+ghost use Rattle.passkey_cose.specs.Key.{key_parts};
 ghost use Rattle.passkey_core.specs.DataParts.{AttestedParts};
 ghost use Rattle.passkey_core.specs.DataSame.{attested_eq, attested_eq-equivalence};
 ghost use Rattle.passkey_core.specs.DataViews.{attested_parts};
-ghost use Rattle.passkey_core.specs.Key.{key_parts};
 
 use crate::aaguid::Aaguid;
-use crate::cose::CoseKey;
 use passkey_cbor::OutOfMemory;
+use passkey_cose::CoseKey;
 use std::alloc::Global;
 use std::num::TryFromIntError;
 

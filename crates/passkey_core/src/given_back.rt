@@ -1,8 +1,8 @@
 //! Values that come back where memory ran out.
 ghost use Rattle.std.specs.Prelude.{◌≡◌, Some, codes};
 
-use crate::cose::CoseError;
 use passkey_cbor::OutOfMemory;
+use passkey_cose::CoseError;
 use std::error::Error;
 use std::fmt;
 

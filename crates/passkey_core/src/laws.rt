@@ -11,7 +11,9 @@ pub fn one_reading()
 /// What is read of bytes is coherent.
 pub fn read_data_is_coherent()
     ensures { ReadIsCoherent }
-{}
+{
+    passkey_cose::laws::read_key_is_readable();
+}
 
 /// What is written of coherent data is read as the data, whatever bytes follow, with 0 for an absent
 /// counter, and with the value that a registry assigns to a number of the key.
@@ -19,4 +21,5 @@ pub fn written_data_are_read_back()
     ensures { WrittenDataAreReadBack }
 {
     passkey_cbor::laws::written_is_front();
+    passkey_cose::laws::written_key_is_read_back();
 }

@@ -6,35 +6,27 @@
 mod aaguid;
 mod attested;
 mod authenticator_data;
-mod bytes;
 mod command;
-pub mod cose;
-pub mod encoding;
 mod flags;
 pub mod get_assertion;
 mod given_back;
-pub mod iana;
 pub mod laws;
-mod list;
 pub mod make_credential;
-mod map;
 mod salts;
 mod signed_outputs;
 mod status;
-mod text;
 
 pub use aaguid::Aaguid;
 pub use attested::{AttestedCredentialData, AttestedCredentialDataIterator};
 pub use authenticator_data::AuthenticatorData;
-pub use bytes::{Bytes, BytesFault, NotBase64Encoded};
 pub use command::Ctap2Command;
 pub use flags::Flags;
 pub use given_back::GivenBack;
-pub use list::List;
-pub use map::{Key, Map};
+pub use passkey_bytes::{Bytes, BytesFault, Key, List, Map, NotBase64Encoded, Text, encoding};
 pub use passkey_cbor::OutOfMemory;
+pub use passkey_cose as cose;
+pub use passkey_cose::iana;
 pub use salts::{HmacSecretSaltOrOutput, TryFromSliceError};
 pub use status::{
     CodeOutOfRange, Ctap2Error, ExtensionError, StatusCode, UnknownSpecError, VendorError,
 };
-pub use text::Text;

@@ -3,8 +3,8 @@ ghost use Rattle.std.specs.Prelude.{◌≡◌, IfOk, IsSome, OnErr, option_map};
 ghost use Rattle.passkey_cbor.specs.View.{item_of};
 ghost use Rattle.passkey_core.specs.SignedOutputs.{creation_item, has_creation_member, where_some, creation_extensions};
 
-use crate::bytes::Bytes;
 use crate::signed_outputs::{bytes_value, push_output};
+use passkey_bytes::Bytes;
 use passkey_cbor::{OutOfMemory, Value};
 use std::alloc::Global;
 

@@ -4,7 +4,7 @@ ghost use Rattle.passkey_cbor.specs.Item.{byte_string};
 ghost use Rattle.passkey_cbor.specs.View.{item_of, pair_of};
 ghost use Rattle.passkey_core.specs.SignedOutputs.{named};
 
-use crate::bytes::Bytes;
+use passkey_bytes::Bytes;
 use passkey_cbor::{OutOfMemory, Value};
 use std::alloc::Global;
 

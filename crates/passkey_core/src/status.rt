@@ -6,9 +6,9 @@ ghost use Rattle.passkey_core.specs.Statuses.{IsStatus, ctap2_error_of};
 mod classes;
 mod ctap2_error;
 
-use crate::cose::CoseKeyConversionError;
 pub use classes::{ExtensionError, UnknownSpecError, VendorError};
 pub use ctap2_error::Ctap2Error;
+use passkey_cose::CoseKeyConversionError;
 use std::fmt;
 
 /// How a command ended, by its byte: each byte is in exactly one of the classes (CTAP 2.1,

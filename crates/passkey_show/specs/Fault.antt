@@ -1,8 +1,8 @@
 -- What the program says of a fault: its status, and its line on standard error.
 use Rattle.std.specs.Prelude.{ℕ, List, codes}
-use Rattle.passkey_core.specs.CoseErrors.{cose_error_name}
-use Rattle.passkey_core.specs.declared.cose.error.CoseError.{CoseError}
-use Rattle.passkey_core.specs.declared.cose.error.CoseError.TheVariants as error
+use Rattle.passkey_cose.specs.CoseErrors.{cose_error_name}
+use Rattle.passkey_cose.specs.declared.error.CoseError.{CoseError}
+use Rattle.passkey_cose.specs.declared.error.CoseError.TheVariants as error
 use Rattle.passkey_show.specs.declared.fault.RunFault.{RunFault}
 use Rattle.passkey_show.specs.declared.fault.RunFault.TheVariants.{Refused, BadHex, UnknownKind, OutOfMemory, InputFailed, OutputFailed}
 

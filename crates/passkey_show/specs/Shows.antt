@@ -5,11 +5,11 @@ use Rattle.hex.specs.Hex.{decode_of, encode_lower}
 use Rattle.passkey_cbor.specs.Item.{Item}
 use Rattle.passkey_cbor.specs.Front.{IsFront, HasNoFront}
 use Rattle.passkey_cbor.specs.Written.{written}
+use Rattle.passkey_cose.specs.declared.error.CoseError.{CoseError}
+use Rattle.passkey_cose.specs.declared.error.CoseError.TheVariants as error
 use Rattle.passkey_core.specs.DataParts.{DataParts}
 use Rattle.passkey_core.specs.DataReading.{ReadsData}
 use Rattle.passkey_core.specs.DataWritten.{data_written}
-use Rattle.passkey_core.specs.declared.cose.error.CoseError.{CoseError}
-use Rattle.passkey_core.specs.declared.cose.error.CoseError.TheVariants as error
 use Rattle.passkey_show.specs.Trimmed.{trimmed}
 use Rattle.passkey_show.specs.declared.kind.Kind.{Kind}
 use Rattle.passkey_show.specs.declared.kind.Kind.TheVariants.{Cbor, Auth}

@@ -1,6 +1,6 @@
 //! Why a run did not write its output.
 ghost use Rattle.std.specs.Prelude.{◌≡◌, Some};
-ghost use Rattle.passkey_core.specs.CoseErrors.{cose_error_of};
+ghost use Rattle.passkey_cose.specs.CoseErrors.{cose_error_of};
 ghost use Rattle.passkey_show.specs.Fault.{status_of, line_of, fault_of};
 ghost use Rattle.passkey_show.specs.declared.fault.RunFault.TheVariants.{OutOfMemory as NoMemory};
 

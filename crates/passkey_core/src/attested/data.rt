@@ -2,7 +2,7 @@
 ghost use Rattle.std.specs.Prelude.{◌<◌, ◌^◌, length};
 
 use crate::aaguid::Aaguid;
-use crate::cose::CoseKey;
+use passkey_cose::CoseKey;
 
 /// The credential that an authenticator made: whose model it is, the credential's id and its
 /// public key (WebAuthn Level 3, section 6.5.1).

@@ -1,9 +1,9 @@
 //! Attested credential data, byte by byte.
 ghost use Rattle.std.specs.Prelude.{◌≡◌, IfOk, IfErr, OnOk};
 ghost use Rattle.passkey_cbor.specs.Writable.{IsWritable};
+ghost use Rattle.passkey_cose.specs.KeyParts.{key_item};
 ghost use Rattle.passkey_core.specs.DataViews.{attested_parts};
 ghost use Rattle.passkey_core.specs.DataWritten.{attested_written};
-ghost use Rattle.passkey_core.specs.KeyParts.{key_item};
 
 use crate::attested::AttestedCredentialData;
 use crate::given_back::GivenBack;

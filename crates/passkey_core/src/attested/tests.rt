@@ -1,6 +1,6 @@
 use super::*;
-use crate::cose::Registered;
-use crate::iana::KeyType;
+use passkey_cose::Registered;
+use passkey_cose::iana::KeyType;
 use std::test::Fail;
 
 fn zeros(alloc: Global, len: usize) -> Result<Vec<u8>, Fail> {

@@ -3,65 +3,24 @@ ghost use Rattle.std.specs.Prelude.{◌≡◌, min, map, option_map};
 ghost use Rattle.passkey_cbor.specs.Depth.{depth, pairs_depth};
 ghost use Rattle.passkey_cbor.specs.Item.{pairs_of};
 ghost use Rattle.passkey_cbor.specs.View.{item_of};
-ghost use Rattle.passkey_core.specs.Coherent.{is_reserved, is_key_readable, are_extensions_readable, agrees, is_coherent};
+ghost use Rattle.passkey_cose.specs.KeyReadable.{is_key_readable};
+ghost use Rattle.passkey_cose.specs.Key.{key_parts};
+ghost use Rattle.passkey_cose.specs.KeyParams.{params_of};
+ghost use Rattle.passkey_cose.specs.KeyParts.{member, ops_item, key_item};
+ghost use Rattle.passkey_cose.specs.Registered.{named_of};
+ghost use Rattle.passkey_core.specs.Coherent.{are_extensions_readable, agrees, is_coherent};
 ghost use Rattle.passkey_core.specs.DataParts.{AttestedParts};
 ghost use Rattle.passkey_core.specs.DataViews.{attested_parts, data_parts};
-ghost use Rattle.passkey_core.specs.Key.{key_parts};
-ghost use Rattle.passkey_core.specs.KeyParams.{params_of};
-ghost use Rattle.passkey_core.specs.KeyParts.{member, ops_item, key_item};
-ghost use Rattle.passkey_core.specs.Registered.{named_of};
 
 use crate::attested::AttestedCredentialData;
 use crate::authenticator_data::AuthenticatorData;
-use crate::cose::{CoseKey, Label, Registered};
 use crate::flags::Flags;
-use crate::iana::{KeyOperation, KeyType};
 use passkey_cbor::Value;
+use passkey_cose::iana::{KeyOperation, KeyType};
+use passkey_cose::{CoseKey, Label, Registered};
 
 /// How many levels of items are read.
 const MAX_DEPTH: usize = 256;
-
-fn params_depth(params: &[(Label, Value)]) -> usize
-    ensures { result ≡ min (pairs_depth (pairs_of (params_of params.now))) usize.MAX }
-{
-    let mut deepest = 0;
-    for (_label, value) in params {
-        deepest = value.depth().max(deepest);
-    }
-    deepest
-}
-
-fn ops_depth(ops: &[Registered<KeyOperation>]) -> usize
-    ensures { result ≡ pairs_depth (pairs_of (member 4 (ops_item (map named_of ops.now)))) }
-{
-    match ops {
-        [] => 0,
-        _ => 1,
-    }
-}
-
-fn key_depth(key: &CoseKey) -> usize
-    ensures { result ≡ min (depth (key_item (key_parts key.now))) usize.MAX }
-{
-    params_depth(key.params())
-        .max(ops_depth(key.key_ops()))
-        .saturating_add(1)
-}
-
-fn is_reserved(kty: &Registered<KeyType>) -> bool
-    ensures { result ≡ is_reserved (named_of kty.now) }
-{
-    match kty {
-        Registered::Assigned(KeyType::Reserved) | Registered::Other(0) => true,
-        _ => false,
-    }
-}
-
-fn is_key_readable(key: &CoseKey) -> bool
-    ensures { result ≡ is_key_readable (key_parts key.now) }
-{
-    !is_reserved(key.kty()) && key_depth(key) <= MAX_DEPTH
-}
 
 fn are_extensions_readable(extensions: &Value) -> bool
     ensures { result ≡ are_extensions_readable (item_of extensions.now) }
@@ -76,7 +35,7 @@ fn attested_agrees(flagged: bool, attested: &Option<AttestedCredentialData>) -> 
     ensures { result ≡ agrees (λ (a : AttestedParts). is_key_readable a.key) flagged (option_map attested_parts attested.now) }
 {
     match attested {
-        Some(attested) => flagged && is_key_readable(&attested.key),
+        Some(attested) => flagged && attested.key.is_readable(),
         None => !flagged,
     }
 }

@@ -2,19 +2,19 @@
 ghost use Rattle.std.specs.Prelude.{◌≡◌, ◌<◌, ◌^◌, ⊤, true, Ok, length, option_map, IfOk};
 ghost use Rattle.std.specs.Result.{result_map_both};
 ghost use Rattle.passkey_cbor.specs.View.{item_of};
+ghost use Rattle.passkey_cose.specs.Key.{key_parts};
+ghost use Rattle.passkey_cose.specs.KeyReading.{read_key};
 ghost use Rattle.passkey_core.specs.DataAnswers.{Gives};
 ghost use Rattle.passkey_core.specs.DataReading.{bytes_at, fixed_at, ids_at, has_parts, read_map, Reads, ReadsAttested, ReadsWhere, ReadsData};
 ghost use Rattle.passkey_core.specs.DataViews.{attested_parts, data_parts};
 ghost use Rattle.passkey_core.specs.DataFlags.{has_flag, attested_flag, extensions_flag};
-ghost use Rattle.passkey_core.specs.Key.{key_parts};
-ghost use Rattle.passkey_core.specs.KeyReading.{read_key};
 
 use crate::aaguid::Aaguid;
 use crate::attested::AttestedCredentialData;
 use crate::authenticator_data::AuthenticatorData;
-use crate::cose::{CoseError, CoseKey};
 use crate::flags::Flags;
 use passkey_cbor::Value;
+use passkey_cose::{CoseError, CoseKey};
 use std::alloc::Global;
 
 /// A part that begins the bytes, and the bytes behind it.

@@ -1,10 +1,10 @@
 // The bytes here were put together by hand, from WebAuthn Level 3, section 6.1.
 use super::*;
-use crate::bytes::Bytes;
-use crate::cose::{CoseError, CoseKey, Registered};
-use crate::iana::Algorithm;
 use crate::{Aaguid, get_assertion, make_credential};
+use passkey_bytes::Bytes;
 use passkey_cbor::Integer;
+use passkey_cose::iana::Algorithm;
+use passkey_cose::{CoseError, CoseKey, Registered};
 use std::alloc::{AllocError, Global};
 use std::test::Fail;
 

@@ -7,7 +7,7 @@ ghost use Rattle.std.proofs.Common.{rules};
 ghost use Rattle.passkey_core.specs.Statuses.{Converts, ctap2_error, ctap2_error_byte, ctap2_error_of};
 
 use super::CodeOutOfRange;
-use crate::cose::CoseKeyConversionError;
+use passkey_cose::CoseKeyConversionError;
 use std::cmp::Ordering;
 
 /// A status that CTAP 2.1 names, by its byte (section 8.2). Their order is that of the bytes.

@@ -1,5 +1,5 @@
-use Rattle.std.proofs.Common.{rules, ◌≡◌, ℕ, List, true, Option, Err, option_map, Bor}
 use Rattle.std.specs.Prelude.{⊤}
+use Rattle.std.proofs.Common.{rules, ◌≡◌, ℕ, List, true, Option, Err, option_map, Bor}
 use Rattle.passkey_cbor.specs.View.{item_of}
 use Rattle.passkey_cbor.specs.declared.value.Value.{Value}
 use Rattle.passkey_core.specs.DataReading.{read_map, Reads, ReadsWhere}

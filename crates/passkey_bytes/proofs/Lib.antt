@@ -1,0 +1,5 @@
+mod MapChanges
+mod MapEquality
+mod Maps
+mod SameTables
+mod Decodable

@@ -1,7 +1,0 @@
-use Rattle.std.proofs.Common.{◌≡◌, [], map, take, drop}
-use Rattle.passkey_cbor.specs.View.{item_of}
-use Rattle.passkey_core.specs.KeyFaults.{first_op_fault}
-use Rattle.passkey_core.proofs.cose.checking.check_each_op.Given as goal
-
-abbrev pub invariant-loop-i : goal.invariant-loop-i
-invariant-loop-i l = first_op_fault (map item_of (take l.i l.ops)) (map item_of (drop l.i l.ops)) ≡ first_op_fault [] (map item_of l.ops)

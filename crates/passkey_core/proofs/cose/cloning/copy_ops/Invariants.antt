@@ -1,6 +1,0 @@
-use Rattle.std.proofs.Common.{◌≡◌, map, take}
-use Rattle.passkey_core.specs.Registered.{named_of}
-use Rattle.passkey_core.proofs.cose.cloning.copy_ops.Given as goal
-
-abbrev pub invariant-loop-op : goal.invariant-loop-op
-invariant-loop-op l = map named_of l.copies.items ≡ map named_of (take l.op-index l.ops)

@@ -1,6 +1,0 @@
-use Rattle.std.proofs.Common.{◌≡◌, take}
-use Rattle.passkey_core.specs.KeyParams.{params_of}
-use Rattle.passkey_core.proofs.cose.cloning.copy_params.Given as goal
-
-abbrev pub invariant-loop-label : goal.invariant-loop-label
-invariant-loop-label l = params_of l.copies.items ≡ params_of (take l.label-index l.params)

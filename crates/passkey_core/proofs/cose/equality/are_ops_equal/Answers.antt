@@ -1,9 +1,0 @@
-use Rattle.std.proofs.Common.{◌∙◌, arith}
-use Rattle.passkey_core.specs.Iana.{key_operation_number}
-use Rattle.passkey_core.specs.Registered.{named_of, named_eq}
-use Rattle.passkey_core.proofs.KeyEnds.{pointwise-end}
-use Rattle.passkey_core.proofs.cose.equality.are_ops_equal.Goals as goal
-
-pub returns : goal.returns
-returns c =
-    c.is_empty.ensures ∙ pointwise-end named_of (named_eq key_operation_number) c.args.a.now c.loop-op.rest.now c.loop-op.op-index (omega arith) ∙ c.loop-op.invariant

@@ -1,8 +1,0 @@
-use Rattle.std.proofs.Common.{◌≡◌, map, take}
-use Rattle.passkey_cbor.specs.View.{item_of}
-use Rattle.passkey_core.specs.KeyParts.{op_item}
-use Rattle.passkey_core.specs.Registered.{named_of}
-use Rattle.passkey_core.proofs.cose.writing.op_values.Given as goal
-
-abbrev pub invariant-loop-op : goal.invariant-loop-op
-invariant-loop-op l = map item_of l.values.items ≡ map op_item (map named_of (take l.op-index l.ops))

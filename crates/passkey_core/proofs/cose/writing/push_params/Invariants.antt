@@ -1,7 +1,0 @@
-use Rattle.std.proofs.Common.{◌≡◌, ◌++◌, map, take}
-use Rattle.passkey_cbor.specs.View.{pair_of}
-use Rattle.passkey_core.specs.KeyParams.{params_of}
-use Rattle.passkey_core.proofs.cose.writing.push_params.Given as goal
-
-abbrev pub invariant-loop-label : goal.invariant-loop-label
-invariant-loop-label l = map pair_of l.pairs.items ≡ map pair_of l.fn.pairs.items ++ params_of (take l.label-index l.params)

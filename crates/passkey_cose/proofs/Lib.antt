@@ -1,0 +1,11 @@
+pub mod KeySeparate
+pub mod KeyLists
+pub mod KeyFurther
+pub mod KeyFaulty
+pub mod KeyEnds
+pub mod KeyHeld
+pub mod KeySorted
+pub mod KeyRound
+pub mod KeyDepth
+pub mod KeyBack
+pub mod KeyReadable

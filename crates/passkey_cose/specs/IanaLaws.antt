@@ -1,0 +1,58 @@
+-- The numbers of a registry's values tell them apart: proofs that the impls of EnumI64 cite.
+use Rattle.std.specs.Cmp.{signed_Decides}
+use Rattle.std.specs.Ordering.{int_eq}
+use Rattle.std.proofs.Common.{◌≡◌, ◌↔◌, ℤ, Some, refl}
+use Rattle.passkey_cose.specs.TableLaws.{numbered_as}
+use Rattle.passkey_cose.specs.declared.iana.Algorithm.{Algorithm}
+use Rattle.passkey_cose.specs.declared.iana.KeyType.{KeyType}
+use Rattle.passkey_cose.specs.declared.iana.KeyOperation.{KeyOperation}
+use Rattle.passkey_cose.specs.declared.iana.Algorithm.TheVariants as algorithm
+use Rattle.passkey_cose.specs.declared.iana.KeyType.TheVariants as key_type
+use Rattle.passkey_cose.specs.declared.iana.KeyOperation.TheVariants as key_operation
+use Rattle.passkey_cose.specs.Iana.{algorithms, algorithm_number, algorithm_named, key_types, key_type_number, key_type_named, key_operations, key_operation_number, key_operation_named}
+
+algorithm_own : (a : Algorithm) → algorithm_named (algorithm_number a) ≡ Some a
+algorithm_own algorithm.RS1 = refl
+algorithm_own algorithm.RS512 = refl
+algorithm_own algorithm.RS384 = refl
+algorithm_own algorithm.RS256 = refl
+algorithm_own algorithm.ML_DSA_87 = refl
+algorithm_own algorithm.ML_DSA_65 = refl
+algorithm_own algorithm.ML_DSA_44 = refl
+algorithm_own algorithm.ES256K = refl
+algorithm_own algorithm.PS512 = refl
+algorithm_own algorithm.PS384 = refl
+algorithm_own algorithm.PS256 = refl
+algorithm_own algorithm.ES512 = refl
+algorithm_own algorithm.ES384 = refl
+algorithm_own algorithm.ECDH_ES_HKDF_256 = refl
+algorithm_own algorithm.EdDSA = refl
+algorithm_own algorithm.ES256 = refl
+
+pub algorithm_named-number : (z : ℤ) (a : Algorithm) → (algorithm_named z ≡ Some a ↔ algorithm_number a ≡ z)
+algorithm_named-number = numbered_as int_eq signed_Decides algorithm_number algorithms algorithm_own
+
+key_type_own : (a : KeyType) → key_type_named (key_type_number a) ≡ Some a
+key_type_own key_type.Reserved = refl
+key_type_own key_type.OKP = refl
+key_type_own key_type.EC2 = refl
+key_type_own key_type.RSA = refl
+key_type_own key_type.Symmetric = refl
+
+pub key_type_named-number : (z : ℤ) (a : KeyType) → (key_type_named z ≡ Some a ↔ key_type_number a ≡ z)
+key_type_named-number = numbered_as int_eq signed_Decides key_type_number key_types key_type_own
+
+key_operation_own : (a : KeyOperation) → key_operation_named (key_operation_number a) ≡ Some a
+key_operation_own key_operation.Sign = refl
+key_operation_own key_operation.Verify = refl
+key_operation_own key_operation.Encrypt = refl
+key_operation_own key_operation.Decrypt = refl
+key_operation_own key_operation.WrapKey = refl
+key_operation_own key_operation.UnwrapKey = refl
+key_operation_own key_operation.DeriveKey = refl
+key_operation_own key_operation.DeriveBits = refl
+key_operation_own key_operation.MacCreate = refl
+key_operation_own key_operation.MacVerify = refl
+
+pub key_operation_named-number : (z : ℤ) (a : KeyOperation) → (key_operation_named z ≡ Some a ↔ key_operation_number a ≡ z)
+key_operation_named-number = numbered_as int_eq signed_Decides key_operation_number key_operations key_operation_own

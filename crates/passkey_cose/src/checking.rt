@@ -1,0 +1,151 @@
+//! What is bad of the members of a map that is read as a key.
+ghost use Rattle.std.specs.Prelude.{◌≡◌, if◌then◌else◌, [], map, Some, None};
+ghost use Rattle.std.specs.List.{list_any};
+ghost use Rattle.passkey_cbor.specs.Same.{item_eq};
+ghost use Rattle.passkey_cbor.specs.View.{item_of, pair_of};
+ghost use Rattle.passkey_cose.specs.KeyChecks.{Checks};
+ghost use Rattle.passkey_cose.specs.KeyFaults.{is_signed_64, name_fault, bytes_fault, op_fault, first_op_fault, ops_fault, value_fault, member_fault, first_fault};
+ghost use Rattle.passkey_cose.specs.KeyLabels.{is_label, has_label};
+
+use crate::error::CoseError;
+use passkey_cbor::{Integer, Value};
+
+/// The number, if 64 signed bits hold it.
+pub(super) fn signed_64(n: Integer) -> Option<i64>
+    ensures { result ≡ (if is_signed_64 n then Some n else None) }
+{
+    let n = n.get();
+    if n < -(1 << 63) || n >= 1 << 63 {
+        return None;
+    }
+    Some(n as i64)
+}
+
+/// Whether the item is this number.
+pub(super) fn is_label_of(label: &Value, n: u8) -> bool
+    ensures { result ≡ is_label n (item_of label.now) }
+{
+    match label {
+        Value::Integer(m) => m.get() == i128::from(n),
+        _ => false,
+    }
+}
+
+fn check_name(name: &Value) -> Result<(), CoseError>
+    ensures { Checks (name_fault (item_of name.now)) result }
+{
+    match name {
+        Value::Integer(n) => {
+            if signed_64(*n).is_none() {
+                return Err(CoseError::OutOfRangeIntegerValue);
+            }
+            Ok(())
+        }
+        Value::Text(_) => Ok(()),
+        _ => Err(CoseError::UnexpectedItem),
+    }
+}
+
+fn check_bytes(value: &Value) -> Result<(), CoseError>
+    ensures { Checks (bytes_fault (item_of value.now)) result }
+{
+    match value {
+        Value::Bytes(bytes) => {
+            if bytes.is_empty() {
+                return Err(CoseError::UnexpectedItem);
+            }
+            Ok(())
+        }
+        _ => Err(CoseError::UnexpectedItem),
+    }
+}
+
+fn stands_in(op: &Value, ops: &[Value]) -> bool
+    ensures { result ≡ list_any (item_eq (item_of op.now)) (map item_of ops.now) }
+{
+    for other in ops {
+        if op == other {
+            return true;
+        }
+    }
+    false
+}
+
+fn check_op(earlier: &[Value], op: &Value) -> Result<(), CoseError>
+    ensures { Checks (op_fault (map item_of earlier.now) (item_of op.now)) result }
+{
+    check_name(op)?;
+    if stands_in(op, earlier) {
+        return Err(CoseError::UnexpectedItem);
+    }
+    Ok(())
+}
+
+fn check_each_op(ops: &[Value]) -> Result<(), CoseError>
+    ensures { Checks (first_op_fault [] (map item_of ops.now)) result }
+{
+    for i in 0..ops.len() {
+        check_op(&ops[..i], &ops[i])?;
+    }
+    Ok(())
+}
+
+fn check_ops(value: &Value) -> Result<(), CoseError>
+    ensures { Checks (ops_fault (item_of value.now)) result }
+{
+    match value {
+        Value::Array(ops) => {
+            if ops.is_empty() {
+                return Err(CoseError::UnexpectedItem);
+            }
+            check_each_op(ops)
+        }
+        _ => Err(CoseError::UnexpectedItem),
+    }
+}
+
+fn check_value(label: &Value, value: &Value) -> Result<(), CoseError>
+    ensures { Checks (value_fault (item_of label.now) (item_of value.now)) result }
+{
+    if is_label_of(label, 1) || is_label_of(label, 3) {
+        check_name(value)
+    } else if is_label_of(label, 2) || is_label_of(label, 5) {
+        check_bytes(value)
+    } else if is_label_of(label, 4) {
+        check_ops(value)
+    } else {
+        Ok(())
+    }
+}
+
+fn is_taken(label: &Value, members: &[(Value, Value)]) -> bool
+    ensures { result ≡ has_label (map pair_of members.now) (item_of label.now) }
+{
+    for (other, _) in members {
+        if label == other {
+            return true;
+        }
+    }
+    false
+}
+
+fn check_member(earlier: &[(Value, Value)], member: &(Value, Value)) -> Result<(), CoseError>
+    ensures { Checks (member_fault (map pair_of earlier.now) (pair_of member.now)) result }
+{
+    let (label, value) = member;
+    check_name(label)?;
+    if is_taken(label, earlier) {
+        return Err(CoseError::DuplicateMapKey);
+    }
+    check_value(label, value)
+}
+
+/// The fault of the first bad member.
+pub(super) fn check_members(members: &[(Value, Value)]) -> Result<(), CoseError>
+    ensures { Checks (first_fault [] (map pair_of members.now)) result }
+{
+    for i in 0..members.len() {
+        check_member(&members[..i], &members[i])?;
+    }
+    Ok(())
+}

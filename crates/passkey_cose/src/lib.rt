@@ -1,0 +1,29 @@
+//! Keys of COSE (RFC 9052, section 7), and the values that IANA's registries of COSE assign.
+#![tactic(auto)]
+
+mod checking;
+mod cloning;
+mod equality;
+mod error;
+pub mod iana;
+mod key;
+mod label;
+pub mod laws;
+mod make;
+mod parts;
+mod readable;
+mod reading;
+mod refused;
+mod registered;
+mod with;
+mod writing;
+
+pub use error::{CoseError, CoseKeyConversionError};
+pub use key::CoseKey;
+pub use label::Label;
+pub use passkey_cbor::OutOfMemory;
+pub use refused::RefusedKey;
+pub use registered::Registered;
+
+#[cfg(test)]
+mod tests;

@@ -1,0 +1,89 @@
+//! Keys made of their parts.
+ghost use Rattle.std.specs.Prelude.{◌≡◌, IfOk};
+ghost use Rattle.passkey_cbor.specs.Item.{number};
+ghost use Rattle.passkey_cbor.specs.View.{item_of};
+ghost use Rattle.passkey_cose.specs.Key.{key_parts};
+ghost use Rattle.passkey_cose.specs.KeyParams.{params_of};
+ghost use Rattle.passkey_cose.specs.KeyParts.{new_key, ec2_members, ec2_key};
+ghost use Rattle.passkey_cose.specs.Registered.{named_of};
+
+use crate::iana::KeyType;
+use crate::key::CoseKey;
+use crate::label::Label;
+use crate::registered::Registered;
+use passkey_cbor::{Integer, OutOfMemory, Value};
+use std::alloc::Global;
+
+pub(super) fn integer(n: i64) -> Value
+    ensures { item_of result ≡ number n }
+{
+    Value::Integer(Integer::new(i128::from(n)).unwrap())
+}
+
+fn ec2_params(
+    alloc: Global,
+    curve: i64,
+    x: Vec<u8>,
+    y: Vec<u8>,
+) -> Result<Vec<(Label, Value)>, OutOfMemory>
+    ensures { IfOk result (λ ps. params_of ps.items ≡ ec2_members curve x.items y.items) }
+{
+    let mut params = Vec::with_capacity(alloc, 3)?;
+    params.push((Label::Int(-1), integer(curve)))?;
+    params.push((Label::Int(-2), Value::Bytes(x)))?;
+    params.push((Label::Int(-3), Value::Bytes(y)))?;
+    Ok(params)
+}
+
+impl CoseKey {
+    /// A key of this type, with no other part.
+    pub fn new(kty: Registered<KeyType>) -> CoseKey
+        ensures { key_parts result ≡ new_key (named_of kty) }
+    {
+        CoseKey {
+            kty,
+            key_id: None,
+            alg: None,
+            key_ops: None,
+            base_iv: None,
+            params: None,
+        }
+    }
+
+    /// A point of the elliptic curve with this number, by its coordinates (RFC 9053, section
+    /// 7.1.1). `OutOfMemory` where a growth was refused.
+    pub fn new_ec2_pub_key(
+        alloc: Global,
+        curve: i64,
+        x: Vec<u8>,
+        y: Vec<u8>,
+    ) -> Result<CoseKey, OutOfMemory>
+        ensures { IfOk result (λ k. key_parts k ≡ ec2_key curve x.items y.items) }
+    {
+        let params = ec2_params(alloc, curve, x, y)?;
+        Ok(CoseKey {
+            kty: Registered::Assigned(KeyType::EC2),
+            key_id: None,
+            alg: None,
+            key_ops: None,
+            base_iv: None,
+            params: Some(params),
+        })
+    }
+}
+
+impl Default for CoseKey {
+    ghost use Rattle.std.specs.Prelude.{◌≡◌};
+    ghost use Rattle.passkey_cose.specs.Key.{key_parts};
+    ghost use Rattle.passkey_cose.specs.KeyParams.{params_of};
+    ghost use Rattle.passkey_cose.specs.KeyParts.{new_key};
+    ghost use Rattle.passkey_cose.specs.Registered.{assigned};
+    ghost use Rattle.passkey_cose.specs.declared.iana.KeyType.TheVariants.{Reserved};
+
+    ghost is_default = { λ k. key_parts k ≡ new_key (assigned Reserved) };
+
+    /// A key of the reserved type, which no key has, with no other part.
+    fn default() -> CoseKey {
+        CoseKey::new(Registered::Assigned(KeyType::Reserved))
+    }
+}

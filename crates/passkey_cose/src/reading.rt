@@ -1,0 +1,215 @@
+//! Items to keys.
+ghost use Rattle.std.specs.Prelude.{◌≡◌, ◌<◌, [], length, map, None, IsSome, IsSomeAnd, option_map, unwrap_or, IfOk, OnErr};
+ghost use Rattle.std.specs.List.{filter_map};
+ghost use Rattle.std.specs.Option.{option_and_then};
+ghost use Rattle.passkey_cbor.specs.View.{item_of, pair_of};
+ghost use Rattle.passkey_cose.specs.Iana.{key_type_named, key_operation_named};
+ghost use Rattle.passkey_cose.specs.Key.{key_parts};
+ghost use Rattle.passkey_cose.specs.KeyChecks.{Reads};
+ghost use Rattle.passkey_cose.specs.KeyFaults.{name_fault, first_fault};
+ghost use Rattle.passkey_cose.specs.KeyLabels.{is_common};
+ghost use Rattle.passkey_cose.specs.KeyParams.{params_of};
+ghost use Rattle.passkey_cose.specs.KeyParts.{TakesMemory};
+ghost use Rattle.passkey_cose.specs.KeyReading.{name_in, bytes_in, ops_in, under, further, key_from, key_type, judged, read_key};
+ghost use Rattle.passkey_cose.specs.Label.{label_item};
+ghost use Rattle.passkey_cose.specs.Registered.{named_of, IsText};
+
+use crate::checking::{check_members, is_label_of, signed_64};
+use crate::error::CoseError;
+use crate::iana::{EnumI64, KeyOperation, KeyType};
+use crate::key::CoseKey;
+use crate::label::Label;
+use crate::registered::Registered;
+use passkey_cbor::{OutOfMemory, Value};
+use std::alloc::Global;
+
+/// The value under this label.
+fn value_under(members: &[(Value, Value)], label: u8) -> Option<&Value>
+    ensures { option_map (λ v. item_of v.now) result ≡ under label (map pair_of members.now) }
+{
+    for (other, value) in members {
+        if is_label_of(other, label) {
+            return Some(value);
+        }
+    }
+    None
+}
+
+/// The value of a registry, where the item is one.
+fn read_name<T: EnumI64>(alloc: Global, name: &Value) -> Result<Option<Registered<T>>, OutOfMemory>
+    ensures same { IfOk result (λ o. option_map named_of o ≡ name_in T.named (item_of name.now)) }
+    ensures grows { OnErr result (IsSomeAnd (name_in T.named (item_of name.now)) IsText) }
+{
+    match name {
+        Value::Integer(n) => match signed_64(*n) {
+            Some(n) => match T::from_i64(n) {
+                Some(value) => Ok(Some(Registered::Assigned(value))),
+                None => Ok(Some(Registered::Other(n))),
+            },
+            None => Ok(None),
+        },
+        Value::Text(text) => Ok(Some(Registered::Text(String::from_str(alloc, text.as_str())?))),
+        _ => Ok(None),
+    }
+}
+
+fn read_name_under<T: EnumI64>(
+    alloc: Global,
+    members: &[(Value, Value)],
+    label: u8,
+) -> Result<Option<Registered<T>>, OutOfMemory>
+    ensures same { IfOk result (λ o. option_map named_of o ≡ option_and_then (name_in T.named) (under label (map pair_of members.now))) }
+    ensures grows { OnErr result (IsSomeAnd (option_and_then (name_in T.named) (under label (map pair_of members.now))) IsText) }
+{
+    match value_under(members, label) {
+        Some(name) => read_name(alloc, name),
+        None => Ok(None),
+    }
+}
+
+fn read_bytes_under(
+    alloc: Global,
+    members: &[(Value, Value)],
+    label: u8,
+) -> Result<Option<Vec<u8>>, OutOfMemory>
+    ensures same { IfOk result (λ o. option_map (λ v. v.items) o ≡ option_and_then bytes_in (under label (map pair_of members.now))) }
+    ensures grows { OnErr result (IsSome (option_and_then bytes_in (under label (map pair_of members.now)))) }
+{
+    match value_under(members, label) {
+        Some(Value::Bytes(bytes)) => Ok(Some(Vec::from_slice(alloc, bytes)?)),
+        _ => Ok(None),
+    }
+}
+
+fn read_ops(alloc: Global, ops: &[Value]) -> Result<Vec<Registered<KeyOperation>>, OutOfMemory>
+    ensures { IfOk result (λ v. map named_of v.items ≡ filter_map (name_in key_operation_named) (map item_of ops.now)) }
+{
+    let mut names = Vec::with_capacity(alloc, ops.len())?;
+    for op in ops {
+        if let Some(name) = read_name(alloc, op)? {
+            names.push(name)?;
+        }
+    }
+    Ok(names)
+}
+
+fn read_ops_under(
+    alloc: Global,
+    members: &[(Value, Value)],
+    label: u8,
+) -> Result<Option<Vec<Registered<KeyOperation>>>, OutOfMemory>
+    ensures same { IfOk result (λ o. map named_of (unwrap_or (option_map (λ v. v.items) o) []) ≡ unwrap_or (option_map ops_in (under label (map pair_of members.now))) []) }
+    ensures grows { OnErr result (IsSome (under label (map pair_of members.now))) }
+{
+    match value_under(members, label) {
+        Some(Value::Array(ops)) => Ok(Some(read_ops(alloc, ops)?)),
+        _ => Ok(None),
+    }
+}
+
+fn is_common_label_of(label: &Value) -> bool
+    ensures { result ≡ is_common (item_of label.now) }
+{
+    is_label_of(label, 1)
+        || is_label_of(label, 2)
+        || is_label_of(label, 3)
+        || is_label_of(label, 4)
+        || is_label_of(label, 5)
+}
+
+fn read_label(alloc: Global, label: &Value) -> Result<Label, OutOfMemory>
+    requires { name_fault (item_of label.now) ≡ None }
+    ensures { IfOk result (λ l. label_item l ≡ item_of label.now) }
+{
+    match label {
+        Value::Integer(n) => Ok(Label::Int(signed_64(*n).unwrap())),
+        Value::Text(text) => Ok(Label::Text(String::from_str(alloc, text.as_str())?)),
+        _ => unreachable!(),
+    }
+}
+
+fn read_params(
+    alloc: Global,
+    members: &[(Value, Value)],
+) -> Result<Vec<(Label, Value)>, OutOfMemory>
+    requires { first_fault [] (map pair_of members.now) ≡ None }
+    ensures same { IfOk result (λ ps. params_of ps.items ≡ further (map pair_of members.now)) }
+    ensures grows { OnErr result (0 < length (further (map pair_of members.now))) }
+{
+    let mut params = Vec::new(alloc);
+    for (label, value) in members {
+        if !is_common_label_of(label) {
+            params.push((read_label(alloc, label)?, value.try_clone(alloc)?))?;
+        }
+    }
+    Ok(params)
+}
+
+fn read_kty(alloc: Global, members: &[(Value, Value)]) -> Result<Registered<KeyType>, CoseError>
+    ensures { Reads IsText named_of (key_type (option_and_then (name_in key_type_named) (under 1 (map pair_of members.now)))) result }
+{
+    match read_name_under(alloc, members, 1)? {
+        None | Some(Registered::Assigned(KeyType::Reserved)) => Err(CoseError::UnexpectedItem),
+        Some(kty) => Ok(kty),
+    }
+}
+
+/// The key of this type with the members' other parts.
+fn read_parts(
+    alloc: Global,
+    members: &[(Value, Value)],
+    kty: Registered<KeyType>,
+) -> Result<CoseKey, OutOfMemory>
+    requires { first_fault [] (map pair_of members.now) ≡ None }
+    ensures same { IfOk result (λ k. key_parts k ≡ key_from (map pair_of members.now) (named_of kty)) }
+    ensures grows { OnErr result (TakesMemory (key_from (map pair_of members.now) (named_of kty))) }
+{
+    let key_id = read_bytes_under(alloc, members, 2)?;
+    let alg = read_name_under(alloc, members, 3)?;
+    let key_ops = read_ops_under(alloc, members, 4)?;
+    let base_iv = read_bytes_under(alloc, members, 5)?;
+    let params = read_params(alloc, members)?;
+    Ok(CoseKey {
+        kty,
+        key_id,
+        alg,
+        key_ops,
+        base_iv,
+        params: Some(params),
+    })
+}
+
+fn read_members(alloc: Global, members: &[(Value, Value)]) -> Result<CoseKey, CoseError>
+    requires { first_fault [] (map pair_of members.now) ≡ None }
+    ensures { Reads TakesMemory key_parts (judged (map pair_of members.now) None) result }
+{
+    let kty = read_kty(alloc, members)?;
+    Ok(read_parts(alloc, members, kty)?)
+}
+
+impl CoseKey {
+    /// The key that the item is (RFC 9052, section 7): a map, whose pairs are judged in their
+    /// order, and each pair by its label, then by whether the label stood before, then by its
+    /// value.
+    ///
+    /// `UnexpectedItem` where the item is no map; a label is neither a number nor a text; so is
+    /// the type (1), the algorithm (3) or an operation; the name (2) or the Base IV (5) is no byte
+    /// string, or an empty one; the operations (4) are no array, or an empty one, or two are one;
+    /// or, at the end, where the type is not there or the reserved one. `OutOfRangeIntegerValue`
+    /// where such a number is outside 64 signed bits. `DuplicateMapKey` where a label stands
+    /// twice. `OutOfMemory` where none of these is so, the key takes memory and a growth was refused;
+    /// a key takes none whose type and algorithm are numbers, and which has no other part.
+    ///
+    /// The time grows with the square of the number of pairs, and of operations.
+    pub fn from_value(alloc: Global, value: &Value) -> Result<CoseKey, CoseError>
+        ensures { Reads TakesMemory key_parts (read_key (item_of value.now)) result }
+    {
+        match value {
+            Value::Map(members) => {
+                check_members(members)?;
+                read_members(alloc, members)
+            }
+            _ => Err(CoseError::UnexpectedItem),
+        }
+    }
+}

@@ -1,0 +1,65 @@
+//! Values of registries.
+ghost use Rattle.std.specs.Prelude.{◌≡◌, ◌↔◌, IsTrue, IfOk, OnErr};
+ghost use Rattle.std.specs.Cmp.{on_equiv, on_per, partial_equiv_from_equiv};
+ghost use Rattle.std.specs.Ordering.{on};
+ghost use Rattle.passkey_cose.specs.Registered.{named_of, named_eq, IsText};
+ghost use Rattle.passkey_cose.specs.RegisteredSame.{named_eq-equivalence};
+
+use crate::iana::EnumI64;
+use passkey_cbor::OutOfMemory;
+use std::alloc::Global;
+
+/// A value that a registry assigns, or one that it doesn't, by a number or a text.
+#[derive(Debug, Drop)]
+pub enum Registered<T> {
+    /// A value of the registry.
+    Assigned(T),
+    /// A number.
+    Other(i64),
+    /// A text.
+    Text(String),
+}
+
+impl<T: EnumI64> Registered<T> {
+    /// An equal value. `OutOfMemory` where a growth was refused, which only a text lets happen.
+    pub fn try_clone(&self, alloc: Global) -> Result<Registered<T>, OutOfMemory>
+        ensures same { IfOk result (λ r. named_of r ≡ named_of self.now) }
+        ensures grows { OnErr result (IsText (named_of self.now)) }
+    {
+        match self {
+            Registered::Assigned(value) => Ok(Registered::Assigned(*value)),
+            Registered::Other(n) => Ok(Registered::Other(*n)),
+            Registered::Text(text) => Ok(Registered::Text(String::from_str(alloc, text.as_str())?)),
+        }
+    }
+}
+
+fn equal<T: EnumI64>(a: &Registered<T>, b: &Registered<T>) -> bool
+    ensures { result ≡ named_eq T.number_of (named_of a.now) (named_of b.now) }
+{
+    match (a, b) {
+        (Registered::Assigned(a), Registered::Assigned(b)) => a.to_i64() == b.to_i64(),
+        (Registered::Other(a), Registered::Other(b)) => a == b,
+        (Registered::Text(a), Registered::Text(b)) => a.as_str() == b.as_str(),
+        _ => false,
+    }
+}
+
+impl<T: EnumI64> PartialEq for Registered<T> {
+    ghost eq = { on named_of (named_eq T.number_of) };
+
+    ghost laws = { on_per named_of (partial_equiv_from_equiv (named_eq-equivalence T.numbers_name)) };
+
+    /// Whether the two are one value of the registry, one other number, or one text.
+    #[tactic(auto, using(crate::specs::RegisteredSame::named_Decides))]
+    fn eq(&self, other: &Registered<T>) -> bool
+        ensures value { result ≡ named_eq T.number_of (named_of self.now) (named_of other.now) }
+        ensures same { IsTrue result ↔ (named_of self.now ≡ named_of other.now) }
+    {
+        equal(self, other)
+    }
+}
+
+impl<T: EnumI64> Eq for Registered<T> {
+    ghost laws = { on_equiv named_of (named_eq-equivalence T.numbers_name) };
+}

@@ -1,0 +1,187 @@
+//! Giving a key one more part.
+ghost use Rattle.std.specs.Prelude.{◌≡◌, ◌||◌, [], ◌∷◌, ◌++◌, Some, map, OnOk, OnErr};
+ghost use Rattle.std.specs.List.{list_any};
+ghost use Rattle.passkey_cbor.specs.Item.{number};
+ghost use Rattle.passkey_cbor.specs.Same.{item_eq};
+ghost use Rattle.passkey_cbor.specs.View.{item_of};
+ghost use Rattle.passkey_cose.specs.Key.{key_parts};
+ghost use Rattle.passkey_cose.specs.KeyFaults.{string_fault};
+ghost use Rattle.passkey_cose.specs.KeyLabels.{is_common, has_label};
+ghost use Rattle.passkey_cose.specs.KeyParams.{param_of, params_of, params_held};
+ghost use Rattle.passkey_cose.specs.KeyParts.{op_item};
+ghost use Rattle.passkey_cose.specs.KeyWith.{has_repeat, key_ops_fault, param_fault, Becomes, BecomesOrRunsOut};
+ghost use Rattle.passkey_cose.specs.Label.{label_item};
+ghost use Rattle.passkey_cose.specs.Registered.{named_of, named_item};
+
+use crate::error::CoseError;
+use crate::iana::{Algorithm, EnumI64, KeyOperation};
+use crate::key::CoseKey;
+use crate::label::Label;
+use crate::refused::RefusedKey;
+use crate::registered::Registered;
+use passkey_cbor::Value;
+use std::alloc::{AllocError, Global};
+
+fn is_number<T: EnumI64>(value: &Registered<T>, n: i64) -> bool
+    ensures { result ≡ item_eq (number n) (named_item T.number_of (named_of value.now)) }
+{
+    match value {
+        Registered::Assigned(value) => n == value.to_i64(),
+        Registered::Other(m) => n == *m,
+        Registered::Text(_) => false,
+    }
+}
+
+/// Whether the two are written as one item.
+fn are_written_alike<T: EnumI64>(a: &Registered<T>, b: &Registered<T>) -> bool
+    ensures { result ≡ item_eq (named_item T.number_of (named_of a.now)) (named_item T.number_of (named_of b.now)) }
+{
+    match (a, b) {
+        (Registered::Assigned(a), _) => is_number(b, a.to_i64()),
+        (Registered::Other(n), _) => is_number(b, *n),
+        (Registered::Text(a), Registered::Text(b)) => a.as_str() == b.as_str(),
+        (Registered::Text(_), _) => false,
+    }
+}
+
+fn is_written_among(op: &Registered<KeyOperation>, ops: &[Registered<KeyOperation>]) -> bool
+    ensures { result ≡ list_any (item_eq (op_item (named_of op.now))) (map op_item (map named_of ops.now)) }
+{
+    for other in ops {
+        if are_written_alike(op, other) {
+            return true;
+        }
+    }
+    false
+}
+
+fn has_repeats(ops: &[Registered<KeyOperation>]) -> bool
+    ensures { result ≡ has_repeat (map op_item (map named_of ops.now)) }
+{
+    let mut rest = ops;
+    while let Some((op, behind)) = rest.split_first() {
+        if is_written_among(op, behind) {
+            return true;
+        }
+        rest = behind;
+    }
+    false
+}
+
+fn is_common_label(label: &Label) -> bool
+    ensures { result ≡ is_common (label_item label.now) }
+{
+    match label {
+        Label::Int(n) => *n == 1 || *n == 2 || *n == 3 || *n == 4 || *n == 5,
+        Label::Text(_) => false,
+    }
+}
+
+fn stands_among(label: &Label, params: &[(Label, Value)]) -> bool
+    ensures { result ≡ has_label (params_of params.now) (label_item label.now) }
+{
+    for (other, _) in params {
+        if label == other {
+            return true;
+        }
+    }
+    false
+}
+
+fn push_param(
+    alloc: Global,
+    params: &mut Option<Vec<(Label, Value)>>,
+    label: Label,
+    value: Value,
+) -> Result<(), AllocError>
+    ensures ok { OnOk result (params_held params.new ≡ params_held params.old ++ param_of (label, value) ∷ []) }
+    ensures err { OnErr result (params_held params.new ≡ params_held params.old) }
+{
+    match params {
+        Some(params) => params.push((label, value))?,
+        None => {
+            let mut first = Vec::with_capacity(alloc, 1)?;
+            first.push((label, value))?;
+            *params = Some(first);
+        }
+    }
+    Ok(())
+}
+
+impl CoseKey {
+    /// The key for this one algorithm.
+    pub fn with_algorithm(mut self, alg: Registered<Algorithm>) -> CoseKey
+        ensures { key_parts result ≡ record (key_parts self) { alg = Some (named_of alg) } }
+    {
+        self.alg = Some(alg);
+        self
+    }
+
+    /// The key under this name. `UnexpectedItem` where the name is empty.
+    pub fn with_key_id(mut self, id: Vec<u8>) -> Result<CoseKey, RefusedKey>
+        ensures { Becomes (key_parts self) (string_fault id.items) (record (key_parts self) { key_id = Some id.items }) result }
+    {
+        if id.is_empty() {
+            return Err(RefusedKey {
+                key: self,
+                error: CoseError::UnexpectedItem,
+            });
+        }
+        self.key_id = Some(id);
+        Ok(self)
+    }
+
+    /// The key with this Base IV. `UnexpectedItem` where it is empty.
+    pub fn with_base_iv(mut self, iv: Vec<u8>) -> Result<CoseKey, RefusedKey>
+        ensures { Becomes (key_parts self) (string_fault iv.items) (record (key_parts self) { base_iv = Some iv.items }) result }
+    {
+        if iv.is_empty() {
+            return Err(RefusedKey {
+                key: self,
+                error: CoseError::UnexpectedItem,
+            });
+        }
+        self.base_iv = Some(iv);
+        Ok(self)
+    }
+
+    /// The key for these uses. `UnexpectedItem` where there are none, and where one is written as
+    /// another one is.
+    pub fn with_key_ops(mut self, ops: Vec<Registered<KeyOperation>>) -> Result<CoseKey, RefusedKey>
+        ensures { Becomes (key_parts self) (key_ops_fault (map named_of ops.items)) (record (key_parts self) { key_ops = map named_of ops.items }) result }
+    {
+        if ops.is_empty() || has_repeats(&ops) {
+            return Err(RefusedKey {
+                key: self,
+                error: CoseError::UnexpectedItem,
+            });
+        }
+        self.key_ops = Some(ops);
+        Ok(self)
+    }
+
+    /// The key with this further parameter, behind the others. `DuplicateMapKey` where the label
+    /// is one of 1 to 5, or stands in the key; else `OutOfMemory` where a growth was refused.
+    pub fn with_param(
+        mut self,
+        alloc: Global,
+        label: Label,
+        value: Value,
+    ) -> Result<CoseKey, RefusedKey>
+        ensures { let fault = param_fault (key_parts self).params (label_item label) in let params = (key_parts self).params ++ param_of (label, value) ∷ [] in BecomesOrRunsOut (key_parts self) fault (record (key_parts self) { params = params }) result }
+    {
+        if is_common_label(&label) || stands_among(&label, self.params()) {
+            return Err(RefusedKey {
+                key: self,
+                error: CoseError::DuplicateMapKey,
+            });
+        }
+        if push_param(alloc, &mut self.params, label, value).is_err() {
+            return Err(RefusedKey {
+                key: self,
+                error: CoseError::OutOfMemory,
+            });
+        }
+        Ok(self)
+    }
+}

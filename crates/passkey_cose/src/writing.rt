@@ -1,0 +1,144 @@
+//! Keys to items.
+ghost use Rattle.std.specs.Prelude.{◌≡◌, ◌++◌, map, option_map, string_bytes, IfOk, OnOk};
+ghost use Rattle.passkey_cbor.specs.Item.{byte_string, text_string};
+ghost use Rattle.passkey_cbor.specs.View.{item_of, pair_of};
+ghost use Rattle.passkey_cbor.specs.Writable.{IsWritable};
+ghost use Rattle.passkey_cbor.specs.Written.{written};
+ghost use Rattle.passkey_cose.specs.Iana.{algorithm_number};
+ghost use Rattle.passkey_cose.specs.Key.{key_parts};
+ghost use Rattle.passkey_cose.specs.KeyParams.{params_of};
+ghost use Rattle.passkey_cose.specs.KeyParts.{member, key_members, op_item, ops_item, key_item};
+ghost use Rattle.passkey_cose.specs.Label.{label_item};
+ghost use Rattle.passkey_cose.specs.Registered.{named_of, named_item};
+
+use crate::iana::{Algorithm, EnumI64, KeyOperation};
+use crate::key::CoseKey;
+use crate::label::Label;
+use crate::make::integer;
+use crate::registered::Registered;
+use passkey_cbor::{OutOfMemory, Value};
+use std::alloc::Global;
+
+fn text_value(alloc: Global, text: &String) -> Result<Value, OutOfMemory>
+    ensures { IfOk result (λ v. item_of v ≡ text_string (string_bytes text.now)) }
+{
+    Ok(Value::Text(String::from_str(alloc, text.as_str())?))
+}
+
+fn label_value(alloc: Global, label: &Label) -> Result<Value, OutOfMemory>
+    ensures { IfOk result (λ v. item_of v ≡ label_item label.now) }
+{
+    match label {
+        Label::Int(n) => Ok(integer(*n)),
+        Label::Text(text) => text_value(alloc, text),
+    }
+}
+
+fn name_value<T: EnumI64>(alloc: Global, name: &Registered<T>) -> Result<Value, OutOfMemory>
+    ensures { IfOk result (λ v. item_of v ≡ named_item T.number_of (named_of name.now)) }
+{
+    match name {
+        Registered::Assigned(value) => Ok(integer(value.to_i64())),
+        Registered::Other(n) => Ok(integer(*n)),
+        Registered::Text(text) => text_value(alloc, text),
+    }
+}
+
+fn alg_value(
+    alloc: Global,
+    alg: &Option<Registered<Algorithm>>,
+) -> Result<Option<Value>, OutOfMemory>
+    ensures { IfOk result (λ v. option_map item_of v ≡ option_map (named_item algorithm_number) (option_map named_of alg.now)) }
+{
+    match alg {
+        Some(alg) => Ok(Some(name_value(alloc, alg)?)),
+        None => Ok(None),
+    }
+}
+
+fn string_value(alloc: Global, bytes: &Option<Vec<u8>>) -> Result<Option<Value>, OutOfMemory>
+    ensures { IfOk result (λ v. option_map item_of v ≡ option_map byte_string (option_map (λ s. s.items) bytes.now)) }
+{
+    match bytes {
+        Some(bytes) => Ok(Some(Value::Bytes(Vec::from_slice(alloc, bytes)?))),
+        None => Ok(None),
+    }
+}
+
+fn op_values(alloc: Global, ops: &[Registered<KeyOperation>]) -> Result<Vec<Value>, OutOfMemory>
+    ensures { IfOk result (λ v. map item_of v.items ≡ map op_item (map named_of ops.now)) }
+{
+    let mut values = Vec::with_capacity(alloc, ops.len())?;
+    for op in ops {
+        values.push(name_value(alloc, op)?)?;
+    }
+    Ok(values)
+}
+
+fn ops_value(alloc: Global, ops: &[Registered<KeyOperation>]) -> Result<Option<Value>, OutOfMemory>
+    ensures { IfOk result (λ v. option_map item_of v ≡ ops_item (map named_of ops.now)) }
+{
+    if ops.is_empty() {
+        return Ok(None);
+    }
+    Ok(Some(Value::Array(op_values(alloc, ops)?)))
+}
+
+fn push_member(
+    pairs: &mut Vec<(Value, Value)>,
+    label: u8,
+    value: Option<Value>,
+) -> Result<(), OutOfMemory>
+    ensures { OnOk result (map pair_of pairs.new.items ≡ map pair_of pairs.old.items ++ member label (option_map item_of value)) }
+{
+    if let Some(value) = value {
+        pairs.push((integer(i64::from(label)), value))?;
+    }
+    Ok(())
+}
+
+fn push_params(
+    alloc: Global,
+    pairs: &mut Vec<(Value, Value)>,
+    params: &[(Label, Value)],
+) -> Result<(), OutOfMemory>
+    ensures { OnOk result (map pair_of pairs.new.items ≡ map pair_of pairs.old.items ++ params_of params.now) }
+{
+    for (label, value) in params {
+        pairs.push((label_value(alloc, label)?, value.try_clone(alloc)?))?;
+    }
+    Ok(())
+}
+
+fn member_values(alloc: Global, key: &CoseKey) -> Result<Vec<(Value, Value)>, OutOfMemory>
+    ensures { IfOk result (λ v. map pair_of v.items ≡ key_members (key_parts key.now)) }
+{
+    let mut pairs = Vec::new(alloc);
+    push_member(&mut pairs, 1, Some(name_value(alloc, &key.kty)?))?;
+    push_member(&mut pairs, 2, string_value(alloc, &key.key_id)?)?;
+    push_member(&mut pairs, 3, alg_value(alloc, &key.alg)?)?;
+    push_member(&mut pairs, 4, ops_value(alloc, key.key_ops())?)?;
+    push_member(&mut pairs, 5, string_value(alloc, &key.base_iv)?)?;
+    push_params(alloc, &mut pairs, key.params())?;
+    Ok(pairs)
+}
+
+impl CoseKey {
+    /// The key as a map: its type, name, algorithm, operations and Base IV under 1 to 5, each
+    /// where it is there, and then the further parameters in their order (RFC 9052, section 7).
+    /// `OutOfMemory` where a growth was refused.
+    pub fn to_value(&self, alloc: Global) -> Result<Value, OutOfMemory>
+        ensures { IfOk result (λ v. item_of v ≡ key_item (key_parts self.now)) }
+    {
+        Ok(Value::Map(member_values(alloc, self)?))
+    }
+
+    /// The map that the key is, in bytes, which CBOR can spell. `OutOfMemory` where a growth was
+    /// refused.
+    pub fn to_vec(&self, alloc: Global) -> Result<Vec<u8>, OutOfMemory>
+        ensures written { IfOk result (λ bytes. bytes.items ≡ written (key_item (key_parts self.now))) }
+        ensures writable { OnOk result (IsWritable (key_item (key_parts self.now))) }
+    {
+        self.to_value(alloc)?.to_vec(alloc)
+    }
+}
