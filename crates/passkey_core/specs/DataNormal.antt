@@ -12,23 +12,19 @@ normal_attested a = record a { key = normal_key a.key }
 abbrev pub normal_data : DataParts → DataParts
 normal_data d = record d { counter = Some (unwrap_or d.counter 0); attested = option_map normal_attested d.attested }
 
--- CBOR can spell the key
-abbrev pub HasWritableKey : AttestedParts → Type 0
-HasWritableKey a = IsWritable (key_item a.key)
-
--- The parts have the sizes that they are written in, and CBOR can spell the key.
+-- The parts have the sizes that they are written in, no member of the key is bad, and CBOR can spell it.
 pub record IsAttested (a : AttestedParts) : Type 0 where
   pub aaguid : length a.aaguid ≡ 16
   pub credential_id : length a.credential_id < 2 ^ 16
   pub key : IsKey a.key
-  pub writable : HasWritableKey a
+  pub writable : IsWritable (key_item a.key)
 
 -- what holds of what is there
 abbrev pub Where : {X : Type 0} → (X → Type 0) → Option X → Type 0
 Where Holds None = Unit {0}
 Where Holds (Some x) = Holds x
 
--- The parts have the sizes that they are written in, and CBOR can spell the key and the extensions.
+-- The parts have the sizes that they are written in, the key is one that is read, and CBOR can spell it and the extensions.
 pub record IsData (d : DataParts) : Type 0 where
   pub rp_id_hash : length d.rp_id_hash ≡ 32
   pub counter : unwrap_or d.counter 0 < 2 ^ 32

@@ -1,9 +1,9 @@
 //! Attested credential data (WebAuthn Level 3, section 6.5.1).
-ghost use Rattle.std.specs.Prelude.{◌≡◌, ◌↔◌, ◌<◌, ◌^◌, length, IsOk, IfOk, IsTrue};
+ghost use Rattle.std.specs.Prelude.{◌≡◌, ◌↔◌, ◌<◌, ◌^◌, ◌⊎◌, length, IsOk, IfOk, IsTrue, OnErr};
 ghost use Rattle.std.specs.Cmp.{on_per, partial_equiv_from_equiv};
 ghost use Rattle.std.specs.Ordering.{on};
 ghost use Rattle.passkey_cose.specs.Key.{key_parts};
-ghost use Rattle.passkey_core.specs.DataParts.{AttestedParts};
+ghost use Rattle.passkey_cose.specs.KeyParts.{TakesMemory};
 ghost use Rattle.passkey_core.specs.DataSame.{attested_eq, attested_eq-equivalence};
 ghost use Rattle.passkey_core.specs.DataViews.{attested_parts};
 
@@ -46,11 +46,14 @@ impl AttestedCredentialData {
         self.credential_id.as_slice()
     }
 
-    /// Equal data. `OutOfMemory` where a growth was refused.
+    /// Equal data. `OutOfMemory` where a growth was refused, which cannot be where the id is empty
+    /// and the key takes no memory.
     pub fn try_clone(&self, alloc: Global) -> Result<AttestedCredentialData, OutOfMemory>
-        ensures { IfOk result (λ copy. attested_parts copy ≡ attested_parts self.now) }
+        ensures same { IfOk result (λ copy. attested_parts copy ≡ attested_parts self.now) }
+        ensures grows { OnErr result ((0 < length (attested_parts self.now).credential_id) ⊎ TakesMemory (attested_parts self.now).key) }
     {
-        let credential_id = Vec::from_slice(alloc, &self.credential_id)?;
+        let mut credential_id = Vec::new(alloc);
+        credential_id.extend_from_slice(&self.credential_id)?;
         Ok(AttestedCredentialData {
             aaguid: self.aaguid,
             credential_id,

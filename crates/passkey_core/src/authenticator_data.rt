@@ -1,8 +1,8 @@
 //! Authenticator data (WebAuthn Level 3, section 6.1).
-ghost use Rattle.std.specs.Prelude.{◌≡◌, Some, IfOk, IfErr};
+ghost use Rattle.std.specs.Prelude.{◌≡◌, Some};
 ghost use Rattle.std.specs.Int.RustNames.{bit_or};
 ghost use Rattle.sha2.specs.Sha256.{sha256};
-ghost use Rattle.passkey_core.specs.DataParts.{DataParts, bare_data};
+ghost use Rattle.passkey_core.specs.DataParts.{bare_data};
 ghost use Rattle.passkey_core.specs.DataViews.{attested_parts, data_parts};
 ghost use Rattle.passkey_core.specs.DataFlags.{attested_flag};
 

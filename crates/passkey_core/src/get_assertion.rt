@@ -1,5 +1,5 @@
 //! What is said of a credential's use (CTAP 2.1, section 6.2).
-ghost use Rattle.std.specs.Prelude.{◌≡◌, IfOk, IsSome, OnErr, option_map};
+ghost use Rattle.std.specs.Prelude.{◌≡◌, IfOk, IsSome, IsTrue, OnErr, option_map};
 ghost use Rattle.passkey_cbor.specs.View.{item_of};
 ghost use Rattle.passkey_core.specs.SignedOutputs.{assertion_item, has_assertion_member, where_some, assertion_extensions};
 
@@ -29,9 +29,10 @@ impl SignedExtensionOutputs {
     }
 
     /// The outputs as a map: `hmac-secret`, where it is there. `OutOfMemory` where a growth was
-    /// refused.
+    /// refused, which cannot be where it isn't.
     pub fn to_value(&self, alloc: Global) -> Result<Value, OutOfMemory>
-        ensures { IfOk result (λ v. item_of v ≡ assertion_item self.now) }
+        ensures value { IfOk result (λ v. item_of v ≡ assertion_item self.now) }
+        ensures grows { OnErr result (IsTrue (has_assertion_member self.now)) }
     {
         let mut outputs = Vec::new(alloc);
         let secrets = bytes_value(alloc, &self.hmac_secret)?;

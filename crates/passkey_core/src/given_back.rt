@@ -1,5 +1,5 @@
 //! Values that come back where memory ran out.
-ghost use Rattle.std.specs.Prelude.{◌≡◌, Some, codes};
+ghost use Rattle.std.specs.Prelude.{Some, codes};
 
 use passkey_cbor::OutOfMemory;
 use passkey_cose::CoseError;

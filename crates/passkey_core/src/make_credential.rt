@@ -1,5 +1,5 @@
 //! What is said of a credential that was made (CTAP 2.1, section 6.1).
-ghost use Rattle.std.specs.Prelude.{◌≡◌, IfOk, IsSome, OnErr, option_map};
+ghost use Rattle.std.specs.Prelude.{◌≡◌, IfOk, IsSome, IsTrue, OnErr, option_map};
 ghost use Rattle.passkey_cbor.specs.View.{item_of};
 ghost use Rattle.passkey_core.specs.SignedOutputs.{creation_item, has_creation_member, where_some, creation_extensions};
 
@@ -31,9 +31,10 @@ impl SignedExtensionOutputs {
     }
 
     /// The outputs as a map: `hmac-secret`, `hmac-secret-mc`, each where it is there. `OutOfMemory`
-    /// where a growth was refused.
+    /// where a growth was refused, which cannot be where none is there.
     pub fn to_value(&self, alloc: Global) -> Result<Value, OutOfMemory>
-        ensures { IfOk result (λ v. item_of v ≡ creation_item self.now) }
+        ensures value { IfOk result (λ v. item_of v ≡ creation_item self.now) }
+        ensures grows { OnErr result (IsTrue (has_creation_member self.now)) }
     {
         let mut outputs = Vec::new(alloc);
         let secret = self.hmac_secret.map(Value::Bool);

@@ -1,5 +1,5 @@
 //! What extensions answer, as the members of a map.
-ghost use Rattle.std.specs.Prelude.{◌≡◌, ◌++◌, map, option_map, IfOk, OnOk};
+ghost use Rattle.std.specs.Prelude.{◌≡◌, ◌++◌, map, option_map, IfOk, OnOk, IsSome, OnErr};
 ghost use Rattle.passkey_cbor.specs.Item.{byte_string};
 ghost use Rattle.passkey_cbor.specs.View.{item_of, pair_of};
 ghost use Rattle.passkey_core.specs.SignedOutputs.{named};
@@ -13,7 +13,8 @@ pub(crate) fn bytes_value(
     alloc: Global,
     bytes: &Option<Bytes>,
 ) -> Result<Option<Value>, OutOfMemory>
-    ensures { IfOk result (λ v. option_map item_of v ≡ option_map byte_string bytes.now) }
+    ensures same { IfOk result (λ v. option_map item_of v ≡ option_map byte_string bytes.now) }
+    ensures grows { OnErr result (IsSome bytes.now) }
 {
     match bytes {
         Some(bytes) => Ok(Some(Value::Bytes(Vec::from_slice(alloc, bytes.as_slice())?))),
@@ -28,7 +29,8 @@ pub(crate) fn push_output(
     name: &str,
     output: Option<Value>,
 ) -> Result<(), OutOfMemory>
-    ensures { OnOk result (map pair_of outputs.new.items ≡ map pair_of outputs.old.items ++ named name.now (option_map item_of output)) }
+    ensures pushed { OnOk result (map pair_of outputs.new.items ≡ map pair_of outputs.old.items ++ named name.now (option_map item_of output)) }
+    ensures grows { OnErr result (IsSome output) }
 {
     if let Some(output) = output {
         outputs.push((Value::Text(String::from_str(alloc, name)?), output))?;

@@ -2,17 +2,15 @@
 use Rattle.std.specs.List.{filter_map, cons_option}
 use Rattle.std.specs.Option.{option_and_then}
 use Rattle.std.specs.Result.{result_map_both}
-use Rattle.std.proofs.Common.{◌≡◌, ◌∙◌, ℕ, ℤ, pos, ◌<◌, arith, length, Bool, true, false, not, ◌&&◌, if◌then◌else◌, List, [], ◌∷◌, ◌++◌, map, Option, Some, None, option_map, unwrap_or, Ok, refl, sym, ap, subst}
-use Rattle.std.proofs.lemmas.Bool.{true≢false, and_parts, not-true}
-use Rattle.std.proofs.lemmas.List.{append_assoc}
+use Rattle.std.proofs.Common.{◌≡◌, ◌∙◌, ℕ, ℤ, pos, ◌<◌, arith, length, Bool, true, false, if◌then◌else◌, List, [], ◌∷◌, ◌++◌, map, Option, Some, None, option_map, unwrap_or, Ok, refl, sym, ap, subst}
+use Rattle.std.proofs.lemmas.Bool.{true≢false}
 use Rattle.passkey_cbor.specs.Item.{Item, number, byte_string}
 use Rattle.passkey_cose.specs.KeyReadable.{is_reserved}
 use Rattle.passkey_cose.specs.Iana.{algorithm_number, algorithm_named, key_type_number, key_type_named, key_operation_number, key_operation_named}
 use Rattle.passkey_cose.specs.IanaLaws.{algorithm_named-number, key_type_named-number, key_operation_named-number}
 use Rattle.passkey_cose.specs.KeyFaults.{is_signed_64, name_fault, op_fault, first_op_fault}
-use Rattle.passkey_cose.specs.KeyLabels.{Members, is_common, has_label, are_separate}
 use Rattle.passkey_cose.specs.KeyNormal.{normal_named, normal_key, IsKey}
-use Rattle.passkey_cose.specs.KeyParts.{KeyParts, member, op_item, ops_item, key_members, key_item}
+use Rattle.passkey_cose.specs.KeyParts.{KeyParts, op_item, ops_item, key_members, key_item}
 use Rattle.passkey_cose.specs.KeyReading.{assigned_or_other, name_in, bytes_in, ops_in, under, further, key_type, judged, read_key}
 use Rattle.passkey_cose.specs.Registered.{Named, assigned, other, text, named_item}
 use Rattle.passkey_cose.specs.RegisteredSame.{NumbersName}
@@ -24,30 +22,8 @@ use Rattle.passkey_cose.specs.declared.iana.KeyType.TheVariants.{Reserved, OKP, 
 use Rattle.passkey_cose.proofs.KeyFurther.{none_either}
 use Rattle.passkey_cose.proofs.KeyHeld.{IsGoodName, AreGoodOps, under_good}
 use Rattle.passkey_cose.proofs.KeyLists.{ops_fault-array, ops_in-array, read_key-map}
+use Rattle.passkey_cose.proofs.KeyMembers.{further_own, members_of, members_sorted}
 use Rattle.passkey_cose.proofs.KeySorted.{sorted, under_1, under_2, under_3, under_4, under_5, further_sorted}
-
--- ---- the members, sorted
-
-further_own : (ms : Members) → are_separate ms ≡ true → further ms ≡ ms
-further_own [] e = refl
-further_own (m ∷ ms) e =
-    let parts = and_parts (not (is_common m.0) && not (has_label ms m.0)) (are_separate ms) e in
-    let heads = and_parts (not (is_common m.0)) (not (has_label ms m.0)) parts.0 in
-    rw (not-true (is_common m.0) heads.0) (ap (λ (ns : Members). m ∷ ns) (further_own ms parts.1))
-
-members_of : KeyParts → Members
-members_of k = sorted (Some (named_item key_type_number k.kty)) (option_map byte_string k.key_id) (option_map (named_item algorithm_number) k.alg) (ops_item k.key_ops) (option_map byte_string k.base_iv) k.params
-
-members_sorted : (k : KeyParts) → are_separate k.params ≡ true → key_members k ≡ members_of k
-unfolding members_of
-members_sorted k e =
-    let types = member 1 (Some (named_item key_type_number k.kty)) in
-    let ids = member 2 (option_map byte_string k.key_id) in
-    let algs = member 3 (option_map (named_item algorithm_number) k.alg) in
-    let ops = member 4 (ops_item k.key_ops) in
-    let ivs = member 5 (option_map byte_string k.base_iv) in
-    let flat : key_members k ≡ types ++ ids ++ algs ++ ops ++ ivs ++ further k.params = ap (λ (ps : Members). types ++ ids ++ algs ++ ops ++ ivs ++ ps) (sym (further_own k.params e)) in
-    flat ∙ simp append_assoc
 
 -- ---- names
 

@@ -67,6 +67,12 @@ unfolding sorted_of
 sorted_first ms good =
     sorted_good (under 1 ms) (under 2 ms) (under 3 ms) (under 4 ms) (under 5 ms) ms (under_good 1 [] ms good) (under_good 2 [] ms good) (under_good 3 [] ms good) (under_good 4 [] ms good) (under_good 5 [] ms good) good (further_separate [] ms good refl)
 
+-- none of the members that are written of a key that was read is bad
+pub read_good : (ms : Members) (kty : Named KeyType) → first_fault [] ms ≡ None → key_type (option_and_then (name_in key_type_named) (under 1 ms)) ≡ Ok kty → first_fault [] (key_members (key_from ms kty)) ≡ None
+unfolding type_of
+read_good ms kty good e =
+    ap (first_fault []) (written_members ms kty good (key_type_is (type_of ms) kty e)) ∙ sorted_first ms good
+
 typed : (ms : Members) (kty : Named KeyType) → first_fault [] ms ≡ None → key_type (type_of ms) ≡ Ok kty → read_key (key_item (key_from ms kty)) ≡ judged ms None
 typed ms kty good e =
     let written = written_members ms kty good (key_type_is (type_of ms) kty e) in

@@ -27,7 +27,7 @@ pub record IsUncommon (label : Item) : Type 0 where
   pub not_4 : is_label 4 label ≡ false
   pub not_5 : is_label 5 label ≡ false
 
-uncommon : (label : Item) → is_common label ≡ false → IsUncommon label
+pub uncommon : (label : Item) → is_common label ≡ false → IsUncommon label
 uncommon label e =
     let p = or_parts (is_label 1 label) (is_label 2 label || (is_label 3 label || (is_label 4 label || (is_label 5 label || false)))) e in
     let q = or_parts (is_label 2 label) (is_label 3 label || (is_label 4 label || (is_label 5 label || false))) p.1 in
@@ -86,10 +86,10 @@ further_sorted a b c d e ms = further_skip 1 a _ refl ∙ further_skip 2 b _ ref
 
 -- ---- none is bad
 
-has_label-split : (xs ys : Members) (label : Item) → has_label xs label ≡ false → has_label ys label ≡ false → has_label (xs ++ ys) label ≡ false
+pub has_label-split : (xs ys : Members) (label : Item) → has_label xs label ≡ false → has_label ys label ≡ false → has_label (xs ++ ys) label ≡ false
 has_label-split xs ys label x y = list_any-append (λ (m : Item × Item). item_eq label m.0) xs ys ∙ or_from (has_label xs label) (has_label ys label) x y
 
-has_label-member : (k : ℕ) (o : Option Item) (label : Item) → is_label k label ≡ false → has_label (member k o) label ≡ false
+pub has_label-member : (k : ℕ) (o : Option Item) (label : Item) → is_label k label ≡ false → has_label (member k o) label ≡ false
 has_label-member k None label e = refl
 has_label-member k (Some i) label e = or_from (is_label k label) false e refl
 
@@ -97,7 +97,7 @@ fault_member : (earlier : Members) (k : ℕ) (o : Option Item) (rest : Members) 
 fault_member earlier k None rest name new good h = rw append-nil at h
 fault_member earlier k (Some i) rest name new good h = rw (name, new, good) h
 
-uncommon_value : (label value : Item) → IsUncommon label → value_fault label value ≡ None
+pub uncommon_value : (label value : Item) → IsUncommon label → value_fault label value ≡ None
 uncommon_value label value u = rw (u.not_1, u.not_3, u.not_2, u.not_5, u.not_4) refl
 
 -- members with a name each, and none that stands before

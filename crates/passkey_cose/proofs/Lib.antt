@@ -7,5 +7,7 @@ pub mod KeyHeld
 pub mod KeySorted
 pub mod KeyRound
 pub mod KeyDepth
+pub mod KeyMembers
+pub mod KeyGood
 pub mod KeyBack
 pub mod KeyReadable

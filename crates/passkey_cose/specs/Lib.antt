@@ -9,9 +9,11 @@ pub mod RegisteredSame
 pub mod KeyLabels
 pub mod KeyParams
 pub mod KeyParts
+pub mod KeyFields
 pub mod Key
 pub mod KeyWith
 pub mod KeyFaults
+pub mod KeyNames
 pub mod KeyReading
 pub mod KeyChecks
 pub mod KeySame

@@ -1,7 +1,10 @@
 //! Keys.
-ghost use Rattle.std.specs.Prelude.{◌≡◌, true, [], option_map, unwrap_or};
+ghost use Rattle.std.specs.Prelude.{◌≡◌, true, [], None};
+ghost use Rattle.passkey_cose.specs.KeyFaults.{first_fault};
+ghost use Rattle.passkey_cose.specs.KeyFields.{parts_held};
 ghost use Rattle.passkey_cose.specs.KeyLabels.{are_separate};
-ghost use Rattle.passkey_cose.specs.KeyParams.{params_of};
+ghost use Rattle.passkey_cose.specs.KeyParams.{params_held};
+ghost use Rattle.passkey_cose.specs.KeyParts.{key_members};
 
 use crate::iana::{Algorithm, KeyOperation, KeyType};
 use crate::label::Label;
@@ -9,7 +12,8 @@ use crate::registered::Registered;
 use passkey_cbor::Value;
 
 /// A key (RFC 9052, section 7): its type, the common parameters of section 7.1, and further
-/// parameters, whose labels differ from those and from one another.
+/// parameters, whose labels differ from those and from one another. No member that it is written
+/// with is one that is refused when it is read.
 #[derive(Debug, Drop)]
 pub struct CoseKey {
     pub(super) kty: Registered<KeyType>,
@@ -18,5 +22,6 @@ pub struct CoseKey {
     pub(super) key_ops: Option<Vec<Registered<KeyOperation>>>,
     pub(super) base_iv: Option<Vec<u8>>,
     pub(super) params: Option<Vec<(Label, Value)>>,
-    ghost separate: { are_separate (params_of (unwrap_or (option_map (λ v. v.items) params) [])) ≡ true },
+    ghost separate: { are_separate (params_held params) ≡ true },
+    ghost good: { first_fault [] (key_members (parts_held kty key_id alg key_ops base_iv params)) ≡ None },
 }

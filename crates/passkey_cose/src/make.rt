@@ -10,6 +10,7 @@ ghost use Rattle.passkey_cose.specs.Registered.{named_of};
 use crate::iana::KeyType;
 use crate::key::CoseKey;
 use crate::label::Label;
+use crate::names::value_is_name;
 use crate::registered::Registered;
 use passkey_cbor::{Integer, OutOfMemory, Value};
 use std::alloc::Global;
@@ -40,6 +41,7 @@ impl CoseKey {
     pub fn new(kty: Registered<KeyType>) -> CoseKey
         ensures { key_parts result ≡ new_key (named_of kty) }
     {
+        value_is_name(&kty);
         CoseKey {
             kty,
             key_id: None,

@@ -1,5 +1,5 @@
 //! Items to keys.
-ghost use Rattle.std.specs.Prelude.{◌≡◌, ◌<◌, [], length, map, None, IsSome, IsSomeAnd, option_map, unwrap_or, IfOk, OnErr};
+ghost use Rattle.std.specs.Prelude.{◌≡◌, ◌<◌, [], length, map, None, IsSome, IsSomeAnd, option_map, unwrap_or, IfOk, OnErr, Ok};
 ghost use Rattle.std.specs.List.{filter_map};
 ghost use Rattle.std.specs.Option.{option_and_then};
 ghost use Rattle.passkey_cbor.specs.View.{item_of, pair_of};
@@ -160,7 +160,8 @@ fn read_parts(
     members: &[(Value, Value)],
     kty: Registered<KeyType>,
 ) -> Result<CoseKey, OutOfMemory>
-    requires { first_fault [] (map pair_of members.now) ≡ None }
+    requires good { first_fault [] (map pair_of members.now) ≡ None }
+    requires typed { key_type (option_and_then (name_in key_type_named) (under 1 (map pair_of members.now))) ≡ Ok (named_of kty) }
     ensures same { IfOk result (λ k. key_parts k ≡ key_from (map pair_of members.now) (named_of kty)) }
     ensures grows { OnErr result (TakesMemory (key_from (map pair_of members.now) (named_of kty))) }
 {

@@ -185,3 +185,12 @@ fn errors_are_printed_by_name(rt: HostRuntime) -> Result<(), Fail> {
     assert_eq!(rt; printed.as_str(), "UnsupportedAlgorithm");
     Ok(())
 }
+
+#[test]
+fn a_key_tells_whether_it_is_read_back(rt: HostRuntime) -> Result<(), Fail> {
+    assert!(rt; point(rt.alloc())?.is_readable());
+    assert!(rt; CoseKey::new(Registered::Other(99)).is_readable());
+    assert!(rt; !CoseKey::new(Registered::Other(0)).is_readable());
+    assert!(rt; !CoseKey::default().is_readable());
+    Ok(())
+}

@@ -3,7 +3,6 @@ ghost use Rattle.std.specs.Prelude.{◌≡◌, ◌||◌, [], ◌∷◌, ◌++◌
 ghost use Rattle.std.specs.List.{list_any};
 ghost use Rattle.passkey_cbor.specs.Item.{number};
 ghost use Rattle.passkey_cbor.specs.Same.{item_eq};
-ghost use Rattle.passkey_cbor.specs.View.{item_of};
 ghost use Rattle.passkey_cose.specs.Key.{key_parts};
 ghost use Rattle.passkey_cose.specs.KeyFaults.{string_fault};
 ghost use Rattle.passkey_cose.specs.KeyLabels.{is_common, has_label};
@@ -17,6 +16,7 @@ use crate::error::CoseError;
 use crate::iana::{Algorithm, EnumI64, KeyOperation};
 use crate::key::CoseKey;
 use crate::label::Label;
+use crate::names::{label_is_name, ops_are_names, value_is_name};
 use crate::refused::RefusedKey;
 use crate::registered::Registered;
 use passkey_cbor::Value;
@@ -113,6 +113,7 @@ impl CoseKey {
     pub fn with_algorithm(mut self, alg: Registered<Algorithm>) -> CoseKey
         ensures { key_parts result ≡ record (key_parts self) { alg = Some (named_of alg) } }
     {
+        value_is_name(&alg);
         self.alg = Some(alg);
         self
     }
@@ -156,6 +157,7 @@ impl CoseKey {
                 error: CoseError::UnexpectedItem,
             });
         }
+        ops_are_names(&ops);
         self.key_ops = Some(ops);
         Ok(self)
     }
@@ -176,6 +178,7 @@ impl CoseKey {
                 error: CoseError::DuplicateMapKey,
             });
         }
+        label_is_name(&label);
         if push_param(alloc, &mut self.params, label, value).is_err() {
             return Err(RefusedKey {
                 key: self,

@@ -6,6 +6,7 @@ ghost use Rattle.passkey_cbor.specs.Writable.{IsWritable};
 ghost use Rattle.passkey_cbor.specs.Written.{written};
 ghost use Rattle.passkey_cose.specs.Iana.{algorithm_number};
 ghost use Rattle.passkey_cose.specs.Key.{key_parts};
+ghost use Rattle.passkey_cose.specs.KeyNormal.{IsKey};
 ghost use Rattle.passkey_cose.specs.KeyParams.{params_of};
 ghost use Rattle.passkey_cose.specs.KeyParts.{member, key_members, op_item, ops_item, key_item};
 ghost use Rattle.passkey_cose.specs.Label.{label_item};
@@ -133,11 +134,12 @@ impl CoseKey {
         Ok(Value::Map(member_values(alloc, self)?))
     }
 
-    /// The map that the key is, in bytes, which CBOR can spell. `OutOfMemory` where a growth was
-    /// refused.
+    /// The map that the key is, in bytes, which CBOR can spell; no member of it is one that
+    /// `from_value` refuses. `OutOfMemory` where a growth was refused.
     pub fn to_vec(&self, alloc: Global) -> Result<Vec<u8>, OutOfMemory>
         ensures written { IfOk result (λ bytes. bytes.items ≡ written (key_item (key_parts self.now))) }
         ensures writable { OnOk result (IsWritable (key_item (key_parts self.now))) }
+        ensures valid { IsKey (key_parts self.now) }
     {
         self.to_value(alloc)?.to_vec(alloc)
     }

@@ -1,7 +1,6 @@
 //! Attested credential data, byte by byte.
 ghost use Rattle.std.specs.Prelude.{◌≡◌, IfOk, IfErr, OnOk};
-ghost use Rattle.passkey_cbor.specs.Writable.{IsWritable};
-ghost use Rattle.passkey_cose.specs.KeyParts.{key_item};
+ghost use Rattle.passkey_core.specs.DataNormal.{IsAttested};
 ghost use Rattle.passkey_core.specs.DataViews.{attested_parts};
 ghost use Rattle.passkey_core.specs.DataWritten.{attested_written};
 
@@ -51,7 +50,7 @@ impl AttestedCredentialData {
     /// The data in bytes. `OutOfMemory` where a growth was refused.
     pub(crate) fn to_vec(&self, alloc: Global) -> Result<Vec<u8>, OutOfMemory>
         ensures written { IfOk result (λ bytes. bytes.items ≡ attested_written (attested_parts self.now)) }
-        ensures writable { OnOk result (IsWritable (key_item (attested_parts self.now).key)) }
+        ensures valid { OnOk result (IsAttested (attested_parts self.now)) }
     {
         let key = self.key.to_vec(alloc)?;
         let len = self.credential_id.len() as u16;

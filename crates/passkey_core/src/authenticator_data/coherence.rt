@@ -1,13 +1,7 @@
 //! Whether authenticator data are read back as they were written.
-ghost use Rattle.std.specs.Prelude.{◌≡◌, min, map, option_map};
-ghost use Rattle.passkey_cbor.specs.Depth.{depth, pairs_depth};
-ghost use Rattle.passkey_cbor.specs.Item.{pairs_of};
+ghost use Rattle.std.specs.Prelude.{◌≡◌, option_map};
 ghost use Rattle.passkey_cbor.specs.View.{item_of};
 ghost use Rattle.passkey_cose.specs.KeyReadable.{is_key_readable};
-ghost use Rattle.passkey_cose.specs.Key.{key_parts};
-ghost use Rattle.passkey_cose.specs.KeyParams.{params_of};
-ghost use Rattle.passkey_cose.specs.KeyParts.{member, ops_item, key_item};
-ghost use Rattle.passkey_cose.specs.Registered.{named_of};
 ghost use Rattle.passkey_core.specs.Coherent.{are_extensions_readable, agrees, is_coherent};
 ghost use Rattle.passkey_core.specs.DataParts.{AttestedParts};
 ghost use Rattle.passkey_core.specs.DataViews.{attested_parts, data_parts};
@@ -16,8 +10,6 @@ use crate::attested::AttestedCredentialData;
 use crate::authenticator_data::AuthenticatorData;
 use crate::flags::Flags;
 use passkey_cbor::Value;
-use passkey_cose::iana::{KeyOperation, KeyType};
-use passkey_cose::{CoseKey, Label, Registered};
 
 /// How many levels of items are read.
 const MAX_DEPTH: usize = 256;

@@ -7,7 +7,6 @@ ghost use Rattle.passkey_cose.specs.KeyReading.{read_key};
 ghost use Rattle.passkey_core.specs.DataAnswers.{Gives};
 ghost use Rattle.passkey_core.specs.DataReading.{bytes_at, fixed_at, ids_at, has_parts, read_map, Reads, ReadsAttested, ReadsWhere, ReadsData};
 ghost use Rattle.passkey_core.specs.DataViews.{attested_parts, data_parts};
-ghost use Rattle.passkey_core.specs.DataFlags.{has_flag, attested_flag, extensions_flag};
 
 use crate::aaguid::Aaguid;
 use crate::attested::AttestedCredentialData;

@@ -3,7 +3,7 @@ ghost use Rattle.std.specs.Prelude.{◌≡◌, ◌++◌, [], unwrap_or, option_m
 ghost use Rattle.passkey_cbor.specs.View.{item_of};
 ghost use Rattle.passkey_cbor.specs.Writable.{IsWritable};
 ghost use Rattle.passkey_cbor.specs.Written.{written};
-ghost use Rattle.passkey_core.specs.DataNormal.{Where, HasWritableKey};
+ghost use Rattle.passkey_core.specs.DataNormal.{Where, IsAttested, IsData};
 ghost use Rattle.passkey_core.specs.DataViews.{attested_parts, data_parts};
 ghost use Rattle.passkey_core.specs.DataWritten.{attested_written, flags_written, data_written};
 
@@ -19,7 +19,7 @@ fn push_attested(
     attested: &Option<AttestedCredentialData>,
 ) -> Result<(), OutOfMemory>
     ensures written { OnOk result (out.new.items ≡ out.old.items ++ unwrap_or (option_map attested_written (option_map attested_parts attested.now)) []) }
-    ensures writable { OnOk result (Where HasWritableKey (option_map attested_parts attested.now)) }
+    ensures valid { OnOk result (Where IsAttested (option_map attested_parts attested.now)) }
 {
     if let Some(attested) = attested {
         out.extend_from_slice(&attested.to_vec(alloc)?)?;
@@ -55,13 +55,13 @@ impl AuthenticatorData {
     /// The data in bytes (WebAuthn Level 3, section 6.1): the hash, the flags, with AT set where
     /// attested credential data is held, the counter in 4 bytes, big-endian, 0 where there is none,
     /// the attested credential data and the extensions, each where it is held. `OutOfMemory` where a
-    /// growth was refused. CBOR can spell the key and the extensions of what is written.
+    /// growth was refused. CBOR can spell the key and the extensions of what is written, and no
+    /// member of the key is one that is refused when it is read.
     ///
     /// Data that aren't coherent are written so as well, though then the bytes may not be read back.
     pub fn to_vec(&self, alloc: Global) -> Result<Vec<u8>, OutOfMemory>
         ensures written { IfOk result (λ bytes. bytes.items ≡ data_written (data_parts self.now)) }
-        ensures attested { OnOk result (Where HasWritableKey (data_parts self.now).attested) }
-        ensures extensions { OnOk result (Where IsWritable (data_parts self.now).extensions) }
+        ensures valid { OnOk result (IsData (data_parts self.now)) }
     {
         let mut out = Vec::from_slice(alloc, &self.rp_id_hash)?;
         out.push(u8::from(self.written_flags()))?;
