@@ -5,7 +5,7 @@ ghost use Rattle.passkey_show.specs.Fault.{status_of, line_of, fault_of};
 ghost use Rattle.passkey_show.specs.declared.fault.RunFault.TheVariants.{OutOfMemory as NoMemory};
 
 use passkey_cbor::CborError;
-use passkey_core::cose::CoseError;
+use passkey_cose::CoseError;
 use std::alloc::{AllocError, AllocFailed};
 use std::error::Error;
 use std::fmt;
