@@ -26,7 +26,7 @@ use Rattle.passkey_core.specs.DataFlags.{has_flag, attested_flag, extensions_fla
 use Rattle.passkey_core.specs.DataLaws.{WrittenDataAreReadBack}
 use Rattle.passkey_core.specs.DataNormal.{normal_attested, normal_data, IsAttested, Where}
 use Rattle.passkey_core.specs.DataParts.{AttestedParts, DataParts, bare_data}
-use Rattle.passkey_core.specs.DataReading.{Begun, ◌>>=◌, bytes_at, known_only, fixed_at, ids_at, read_map, Reads, ReadsAttested, ReadsWhere, ReadsData}
+use Rattle.passkey_core.specs.DataReading.{Begun, ◌>>=◌, bytes_at, known_only, fixed_at, ids_at, read_map, ReadsItem, ReadsAttested, ReadsWhere, ReadsData}
 use Rattle.passkey_core.specs.DataWritten.{attested_written, flags_written, data_written}
 use Rattle.passkey_core.specs.Flags.{reserved_flags}
 
@@ -63,7 +63,7 @@ ids_back aaguid id rest sized fits =
 
 -- ---- items
 
-item_back : {X : Type 0} → WrittenIsFront → (read : Item → Result X CoseError) (i : Item) (x : X) (rest : List ℕ) → IsWritable i → is_shallow i ≡ true → read i ≡ Ok x → Reads read (written i ++ rest) (Ok (x, rest))
+item_back : {X : Type 0} → WrittenIsFront → (read : Item → Result X CoseError) (i : Item) (x : X) (rest : List ℕ) → IsWritable i → is_shallow i ≡ true → read i ≡ Ok x → ReadsItem read (written i ++ rest) (Ok (x, rest))
 item_back {X = X} law read i x rest writable shallow e =
     let ends : drop (length (written i)) (written i ++ rest) ≡ rest = drop-append_seam (written i) rest in
     let judged : result_map_both (λ (y : X). (let p : X × List ℕ = (y, drop (length (written i)) (written i ++ rest)) in p)) (λ (f : CoseError). f) (read i) ≡ Ok (x, rest) = ap (result_map_both (λ (y : X). (let p : X × List ℕ = (y, drop (length (written i)) (written i ++ rest)) in p)) (λ (f : CoseError). f)) e ∙ ap (λ (bytes : List ℕ). (let r : Begun X = Ok (x, bytes) in r)) ends in
@@ -90,7 +90,7 @@ map_kept : (i : Item) → is_map i ≡ true → read_map i ≡ Ok i
 map_kept (map ps) e = refl
 map_kept i e = absurd (true≢false (sym e))
 
-extensions_back : WrittenIsFront → (x : Item) (rest : List ℕ) → IsWritable x → are_extensions_readable x ≡ true → Reads read_map (written x ++ rest) (Ok (x, rest))
+extensions_back : WrittenIsFront → (x : Item) (rest : List ℕ) → IsWritable x → are_extensions_readable x ≡ true → ReadsItem read_map (written x ++ rest) (Ok (x, rest))
 extensions_back law x rest writable readable =
     let parts = and_parts (is_map x) (is_shallow x) readable in
     item_back law read_map x x rest writable parts.1 (map_kept x parts.0)
@@ -140,7 +140,7 @@ data_back law keys d rest valid coherent =
         begins = where_back IsAttested key_of attested_written normal_attested ReadsAttested (attested_back law keys) (has_flag attested_flag d.flags) attested behind valid.attested known.1;
         goes_on = record {
           begun = Ok (option_map (λ x. x) extensions, rest);
-          begins = where_back IsWritable are_extensions_readable written (λ x. x) (Reads read_map) (extensions_back law) (has_flag extensions_flag d.flags) extensions rest valid.extensions front.1;
+          begins = where_back IsWritable are_extensions_readable written (λ x. x) (ReadsItem read_map) (extensions_back law) (has_flag extensions_flag d.flags) extensions rest valid.extensions front.1;
           goes_on = ap (λ (x : Option Item). (let r : Result DataParts CoseError = Ok (record (normal_data d) { extensions = x }) in r)) (sym (kept extensions));
         };
       };

@@ -15,7 +15,7 @@ use Rattle.passkey_core.specs.Coherent.{are_extensions_readable, agrees, is_cohe
 use Rattle.passkey_core.specs.DataFlags.{has_flag, attested_flag, extensions_flag}
 use Rattle.passkey_core.specs.DataLaws.{ReadIsCoherent}
 use Rattle.passkey_core.specs.DataParts.{AttestedParts, DataParts}
-use Rattle.passkey_core.specs.DataReading.{Begun, fixed_at, ids_at, read_map, Reads, Behind, Then, ReadsAttested, ReadsWhere}
+use Rattle.passkey_core.specs.DataReading.{Begun, fixed_at, ids_at, read_map, ReadsItem, Behind, Then, ReadsAttested, ReadsWhere}
 use Rattle.passkey_core.specs.Flags.{reserved_flags}
 use Rattle.passkey_core.proofs.DataReadings.{fixed_shape}
 
@@ -50,7 +50,7 @@ unfolding found_or
 judged_ok bytes len x rest (Ok y) e = ap Ok (sym (ap (found_or x) e))
 judged_ok bytes len x rest (Err f) e = cc
 
-reads_readable : {X : Type 0} (read : Item → Result X CoseError) (is_readable : X → Bool) → ((i : Item) (x : X) → read i ≡ Ok x → depth i ≤ max_depth → is_readable x ≡ true) → (bytes : List ℕ) (x : X) (rest : List ℕ) → Reads read bytes (Ok (x, rest)) → is_readable x ≡ true
+reads_readable : {X : Type 0} (read : Item → Result X CoseError) (is_readable : X → Bool) → ((i : Item) (x : X) → read i ≡ Ok x → depth i ≤ max_depth → is_readable x ≡ true) → (bytes : List ℕ) (x : X) (rest : List ℕ) → ReadsItem read bytes (Ok (x, rest)) → is_readable x ≡ true
 reads_readable read is_readable each bytes x rest (inl p) = each p.item x (judged_ok bytes p.len x rest (read p.item) p.judged) p.front.shallow
 reads_readable read is_readable each bytes x rest (inr p) = cc
 
@@ -66,7 +66,7 @@ whole_readable ids key behind a rest e readable =
 attested_readable : ReadIsReadable → (bytes : List ℕ) (a : AttestedParts) (rest : List ℕ) → ReadsAttested bytes (Ok (a, rest)) → is_key_readable a.key ≡ true
 attested_readable law bytes a rest h =
     let ids = then_went (λ ids. ids ≡ ids_at bytes) _ (a, rest) h in
-    let key = then_went (Reads read_key ids.rest) _ (a, rest) ids.goes_on in
+    let key = then_went (ReadsItem read_key ids.rest) _ (a, rest) ids.goes_on in
     whole_readable ids.part key.part key.rest a rest key.goes_on (reads_readable read_key is_key_readable law ids.rest key.part key.rest key.begins)
 
 some_agrees : {X : Type 0} (is_readable : X → Bool) (x : X) (behind : List ℕ) (o : Option X) (rest : List ℕ) → Same (Ok (o, rest)) (Ok (Some x, behind)) → is_readable x ≡ true → agrees is_readable true o ≡ true
@@ -101,17 +101,17 @@ fixed_known bytes d rest e =
 ok_same : {c d : DataParts} → (let r : Result DataParts CoseError = Ok c in r) ≡ Ok d → c ≡ d
 ok_same e = cc
 
-all_agree : ReadIsReadable → (bytes : List ℕ) (fixed : DataParts) (rest : List ℕ) (attested : Option AttestedParts) (behind : List ℕ) (extensions : Option Item) (last : List ℕ) → Ok (fixed, rest) ≡ fixed_at bytes → ReadsWhere (has_flag attested_flag fixed.flags) ReadsAttested rest (Ok (attested, behind)) → ReadsWhere (has_flag extensions_flag fixed.flags) (Reads read_map) behind (Ok (extensions, last)) → is_coherent (record fixed { attested = attested; extensions = extensions }) ≡ true
+all_agree : ReadIsReadable → (bytes : List ℕ) (fixed : DataParts) (rest : List ℕ) (attested : Option AttestedParts) (behind : List ℕ) (extensions : Option Item) (last : List ℕ) → Ok (fixed, rest) ≡ fixed_at bytes → ReadsWhere (has_flag attested_flag fixed.flags) ReadsAttested rest (Ok (attested, behind)) → ReadsWhere (has_flag extensions_flag fixed.flags) (ReadsItem read_map) behind (Ok (extensions, last)) → is_coherent (record fixed { attested = attested; extensions = extensions }) ≡ true
 all_agree law bytes fixed rest attested behind extensions last is_fixed is_attested are_extensions =
     let known = fixed_known bytes fixed rest is_fixed in
     let attested_agrees = where_agrees (λ (a : AttestedParts). is_key_readable a.key) (has_flag attested_flag fixed.flags) ReadsAttested rest (attested_readable law rest) attested behind is_attested in
-    let extensions_agree = where_agrees are_extensions_readable (has_flag extensions_flag fixed.flags) (Reads read_map) behind (reads_readable read_map are_extensions_readable map_readable behind) extensions last are_extensions in
+    let extensions_agree = where_agrees are_extensions_readable (has_flag extensions_flag fixed.flags) (ReadsItem read_map) behind (reads_readable read_map are_extensions_readable map_readable behind) extensions last are_extensions in
     and_from (bit_and fixed.flags reserved_flags == 0 && agrees (λ (a : AttestedParts). is_key_readable a.key) (has_flag attested_flag fixed.flags) attested) (agrees are_extensions_readable (has_flag extensions_flag fixed.flags) extensions) (and_from (bit_and fixed.flags reserved_flags == 0) (agrees (λ (a : AttestedParts). is_key_readable a.key) (has_flag attested_flag fixed.flags) attested) known attested_agrees) extensions_agree
 
 pub read_is_coherent : ReadIsReadable → ReadIsCoherent
 read_is_coherent law bytes d h =
     let fixed = then_went (λ fixed. fixed ≡ fixed_at bytes) _ d h in
     let attested = then_went (ReadsWhere (has_flag attested_flag fixed.part.flags) ReadsAttested fixed.rest) _ d fixed.goes_on in
-    let extensions = then_went (ReadsWhere (has_flag extensions_flag fixed.part.flags) (Reads read_map) attested.rest) _ d attested.goes_on in
+    let extensions = then_went (ReadsWhere (has_flag extensions_flag fixed.part.flags) (ReadsItem read_map) attested.rest) _ d attested.goes_on in
     let same : record fixed.part { attested = attested.part; extensions = extensions.part } ≡ d = ok_same (sym extensions.goes_on) in
     subst (λ (e : DataParts). is_coherent e ≡ true) same (all_agree law bytes fixed.part fixed.rest attested.part attested.rest extensions.part extensions.rest fixed.begins attested.begins extensions.begins)

@@ -7,7 +7,7 @@ use Rattle.passkey_cose.specs.KeyReading.{read_key}
 use Rattle.passkey_cose.specs.declared.error.CoseError.{CoseError}
 use Rattle.passkey_core.specs.DataLaws.{OneReading}
 use Rattle.passkey_core.specs.DataFlags.{has_flag, attested_flag, extensions_flag}
-use Rattle.passkey_core.specs.DataReading.{Begun, fixed_at, ids_at, read_map, IsReadBy, Reads, Behind, Then, ReadsAttested, ReadsWhere}
+use Rattle.passkey_core.specs.DataReading.{Begun, fixed_at, ids_at, read_map, IsReadBy, ReadsItem, Behind, Then, ReadsAttested, ReadsWhere}
 
 -- at most one answer is right
 abbrev HasOne : {X : Type 0} → (X → Type 0) → Type 0
@@ -31,7 +31,7 @@ front_one {X = X} law read bytes a b p q =
     let shared : result_map_both (λ (x : X). (let r : X × List ℕ = (x, drop p.len bytes) in r)) (λ e. e) (read p.item) ≡ result_map_both (λ (x : X). (let r : X × List ℕ = (x, drop q.len bytes) in r)) (λ e. e) (read q.item) = λ i. result_map_both (λ (x : X). (let r : X × List ℕ = (x, drop (same.1 i) bytes) in r)) (λ e. e) (read (same.0 i)) in
     p.judged ∙ shared ∙ sym q.judged
 
-reads_one : {X : Type 0} → AtMostOneFront → (read : Item → Result X CoseError) (bytes : List ℕ) → HasOne (Reads read bytes)
+reads_one : {X : Type 0} → AtMostOneFront → (read : Item → Result X CoseError) (bytes : List ℕ) → HasOne (ReadsItem read bytes)
 reads_one law read bytes a b (inl p) (inl q) = front_one law read bytes a b p q
 reads_one law read bytes a b (inl p) (inr q) = absurd (q.0 p.item p.len p.front)
 reads_one law read bytes a b (inr p) (inl q) = absurd (p.0 q.item q.len q.front)
@@ -44,10 +44,10 @@ where_one false part bytes one = is_one (Ok (None, bytes))
 attested_one : AtMostOneFront → (bytes : List ℕ) → HasOne (ReadsAttested bytes)
 attested_one law bytes =
     then_one (λ ids. ids ≡ ids_at bytes) _ (is_one (ids_at bytes)) (λ ids rest.
-    then_one (Reads read_key rest) _ (reads_one law read_key rest) (λ key after. is_one (Ok (record { aaguid = ids.0; credential_id = ids.1; key = key }, after))))
+    then_one (ReadsItem read_key rest) _ (reads_one law read_key rest) (λ key after. is_one (Ok (record { aaguid = ids.0; credential_id = ids.1; key = key }, after))))
 
 pub one_reading : AtMostOneFront → OneReading
 one_reading law bytes =
     then_one (λ fixed. fixed ≡ fixed_at bytes) _ (is_one (fixed_at bytes)) (λ fixed rest.
     then_one (ReadsWhere (has_flag attested_flag fixed.flags) ReadsAttested rest) _ (where_one (has_flag attested_flag fixed.flags) ReadsAttested rest (attested_one law rest)) (λ attested behind.
-    then_one (ReadsWhere (has_flag extensions_flag fixed.flags) (Reads read_map) behind) _ (where_one (has_flag extensions_flag fixed.flags) (Reads read_map) behind (reads_one law read_map behind)) (λ extensions last. is_one (Ok (record fixed { attested = attested; extensions = extensions })))))
+    then_one (ReadsWhere (has_flag extensions_flag fixed.flags) (ReadsItem read_map) behind) _ (where_one (has_flag extensions_flag fixed.flags) (ReadsItem read_map) behind (reads_one law read_map behind)) (λ extensions last. is_one (Ok (record fixed { attested = attested; extensions = extensions })))))

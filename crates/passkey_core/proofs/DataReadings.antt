@@ -8,7 +8,7 @@ use Rattle.passkey_core.specs.DataParts.{AttestedParts, DataParts}
 use Rattle.passkey_core.specs.Flags.{reserved_flags}
 use Rattle.passkey_core.specs.DataFlags.{has_flag, attested_flag, extensions_flag}
 use Rattle.passkey_core.specs.DataAnswers.{Gives}
-use Rattle.passkey_core.specs.DataReading.{Begun, ◌>>=◌, bytes_at, known_only, fixed_at, names_parts, has_parts, read_map, Reads, ReadsAttested, ReadsWhere, ReadsData}
+use Rattle.passkey_core.specs.DataReading.{Begun, ◌>>=◌, bytes_at, known_only, fixed_at, names_parts, has_parts, read_map, ReadsItem, ReadsAttested, ReadsWhere, ReadsData}
 
 -- a fault of one reading that is a fault of another
 pub gives_fault : {A B C D : Type 0} (memory : Type 0) (other : Type 0) (seen : A → B) (told : C → D) (reads : Result B CoseError → Type 0) (answers : Result D CoseError → Type 0) → (memory → other) → ((e : CoseError) → reads (Err e) → answers (Err e)) → (e : CoseError) → Gives memory seen reads (Err e) → Gives other told answers (Err e)
@@ -57,9 +57,9 @@ fixed_fails memory seen bytes e h =
     let wanted : FailsAs memory seen bytes (fixed_at bytes) = fixed_shape (FailsAs memory seen bytes) (λ g. record { begun = Err DecodeFailed; begins = sym g; goes_on = refl }) (λ g. record { begun = Err OutOfRangeIntegerValue; begins = sym g; goes_on = refl }) (λ d rest known. tt) bytes in
     (subst (FailsAs memory seen bytes) h wanted) h
 
-pub extensions_fail : {A B : Type 0} (seen : A → DataParts) (told : B → Option Item × List ℕ) (bytes : List ℕ) (fixed : DataParts) (rest : List ℕ) (attested : Option AttestedParts) (behind : List ℕ) (e : CoseError) → Ok (fixed, rest) ≡ fixed_at bytes → ReadsWhere (has_flag attested_flag fixed.flags) ReadsAttested rest (Ok (attested, behind)) → Gives (has_flag extensions_flag fixed.flags ≡ true) told (ReadsWhere (has_flag extensions_flag fixed.flags) (Reads read_map) behind) (Err e) → Gives (has_parts bytes ≡ true) seen (ReadsData bytes) (Err e)
+pub extensions_fail : {A B : Type 0} (seen : A → DataParts) (told : B → Option Item × List ℕ) (bytes : List ℕ) (fixed : DataParts) (rest : List ℕ) (attested : Option AttestedParts) (behind : List ℕ) (e : CoseError) → Ok (fixed, rest) ≡ fixed_at bytes → ReadsWhere (has_flag attested_flag fixed.flags) ReadsAttested rest (Ok (attested, behind)) → Gives (has_flag extensions_flag fixed.flags ≡ true) told (ReadsWhere (has_flag extensions_flag fixed.flags) (ReadsItem read_map) behind) (Err e) → Gives (has_parts bytes ≡ true) seen (ReadsData bytes) (Err e)
 extensions_fail seen told bytes fixed rest attested behind e is_fixed is_attested h =
-    gives_fault (has_flag extensions_flag fixed.flags ≡ true) (has_parts bytes ≡ true) told seen (ReadsWhere (has_flag extensions_flag fixed.flags) (Reads read_map) behind) (ReadsData bytes)
+    gives_fault (has_flag extensions_flag fixed.flags ≡ true) (has_parts bytes ≡ true) told seen (ReadsWhere (has_flag extensions_flag fixed.flags) (ReadsItem read_map) behind) (ReadsData bytes)
     (λ flagged. sym (ap names_parts is_fixed) ∙ or_right (has_flag attested_flag fixed.flags) (has_flag extensions_flag fixed.flags) flagged)
     (λ f g. record { begun = Ok (fixed, rest); begins = is_fixed; goes_on = record { begun = Ok (attested, behind); begins = is_attested; goes_on = record { begun = Err f; begins = g; goes_on = refl } } })
     e h

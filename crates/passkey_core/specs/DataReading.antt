@@ -66,8 +66,8 @@ pub record IsReadBy {X : Type 0} (read : Item → Result X CoseError) (bytes : L
   pub judged : begun ≡ result_map_both (λ (x : X). (let p : X × List ℕ = (x, drop len bytes) in p)) (λ e. e) (read item)
 
 -- the item that begins the bytes is judged, or none does
-abbrev pub Reads : {X : Type 0} → (Item → Result X CoseError) → List ℕ → Begun X → Type 0
-Reads read bytes begun = IsReadBy read bytes begun ⊎ (HasNoFront bytes × (begun ≡ Err DecodeFailed))
+abbrev pub ReadsItem : {X : Type 0} → (Item → Result X CoseError) → List ℕ → Begun X → Type 0
+ReadsItem read bytes begun = IsReadBy read bytes begun ⊎ (HasNoFront bytes × (begun ≡ Err DecodeFailed))
 
 -- what is answered behind a first part; the first part's fault is the answer
 abbrev pub Behind : {X Y : Type 0} → (X → List ℕ → Result Y CoseError → Type 0) → Begun X → Result Y CoseError → Type 0
@@ -83,7 +83,7 @@ pub record Then {X Y : Type 0} (first : Begun X → Type 0) (next : X → List �
 abbrev pub ReadsAttested : List ℕ → Begun AttestedParts → Type 0
 ReadsAttested bytes =
     Then (λ ids. ids ≡ ids_at bytes) (λ (ids : List ℕ × List ℕ) rest.
-    Then (Reads read_key rest) (λ (key : KeyParts) after begun.
+    Then (ReadsItem read_key rest) (λ (key : KeyParts) after begun.
     begun ≡ Ok (record { aaguid = ids.0; credential_id = ids.1; key = key }, after)))
 
 -- a part stands there only where its flag is set
@@ -96,5 +96,5 @@ abbrev pub ReadsData : List ℕ → Result DataParts CoseError → Type 0
 ReadsData bytes =
     Then (λ fixed. fixed ≡ fixed_at bytes) (λ fixed rest.
     Then (ReadsWhere (has_flag attested_flag fixed.flags) ReadsAttested rest) (λ attested behind.
-    Then (ReadsWhere (has_flag extensions_flag fixed.flags) (Reads read_map) behind) (λ extensions last answer.
+    Then (ReadsWhere (has_flag extensions_flag fixed.flags) (ReadsItem read_map) behind) (λ extensions last answer.
     answer ≡ Ok (record fixed { attested = attested; extensions = extensions }))))

@@ -5,7 +5,7 @@ ghost use Rattle.passkey_cbor.specs.View.{item_of};
 ghost use Rattle.passkey_cose.specs.Key.{key_parts};
 ghost use Rattle.passkey_cose.specs.KeyReading.{read_key};
 ghost use Rattle.passkey_core.specs.DataAnswers.{Gives};
-ghost use Rattle.passkey_core.specs.DataReading.{bytes_at, fixed_at, ids_at, has_parts, read_map, Reads, ReadsAttested, ReadsWhere, ReadsData};
+ghost use Rattle.passkey_core.specs.DataReading.{bytes_at, fixed_at, ids_at, has_parts, read_map, ReadsItem, ReadsAttested, ReadsWhere, ReadsData};
 ghost use Rattle.passkey_core.specs.DataViews.{attested_parts, data_parts};
 
 use crate::aaguid::Aaguid;
@@ -71,21 +71,21 @@ fn read_ids(bytes: &[u8]) -> Begun<'_, (Aaguid, &[u8])>
 }
 
 fn read_item(alloc: Global, bytes: &[u8]) -> Begun<'_, Value>
-    ensures { Gives ⊤ (λ r. (item_of r.0, r.1.now)) (Reads Ok bytes.now) result }
+    ensures { Gives ⊤ (λ r. (item_of r.0, r.1.now)) (ReadsItem Ok bytes.now) result }
 {
     let (value, len) = Value::from_slice(alloc, bytes)?;
     Ok((value, &bytes[len..]))
 }
 
 fn read_key(alloc: Global, bytes: &[u8]) -> Begun<'_, CoseKey>
-    ensures { Gives ⊤ (λ r. (key_parts r.0, r.1.now)) (Reads read_key bytes.now) result }
+    ensures { Gives ⊤ (λ r. (key_parts r.0, r.1.now)) (ReadsItem read_key bytes.now) result }
 {
     let (value, rest) = read_item(alloc, bytes)?;
     Ok((CoseKey::from_value(alloc, &value)?, rest))
 }
 
 fn read_extensions(alloc: Global, bytes: &[u8]) -> Begun<'_, Value>
-    ensures { Gives ⊤ (λ r. (item_of r.0, r.1.now)) (Reads read_map bytes.now) result }
+    ensures { Gives ⊤ (λ r. (item_of r.0, r.1.now)) (ReadsItem read_map bytes.now) result }
 {
     let (value, rest) = read_item(alloc, bytes)?;
     match value {
@@ -122,7 +122,7 @@ fn read_attested_where(
 }
 
 fn read_extensions_where(alloc: Global, is_there: bool, bytes: &[u8]) -> Begun<'_, Option<Value>>
-    ensures { Gives (is_there ≡ true) (λ r. (option_map item_of r.0, r.1.now)) (ReadsWhere is_there (Reads read_map) bytes.now) result }
+    ensures { Gives (is_there ≡ true) (λ r. (option_map item_of r.0, r.1.now)) (ReadsWhere is_there (ReadsItem read_map) bytes.now) result }
 {
     if !is_there {
         return Ok((None, bytes));
