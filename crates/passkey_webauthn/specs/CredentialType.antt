@@ -1,0 +1,12 @@
+-- The names of the types of credentials (WebAuthn Level 3, section 5.8.2).
+use Rattle.std.specs.Prelude.{ℕ, List, [], ◌∷◌, Option, codes}
+use Rattle.passkey_webauthn.specs.Names.{named_in}
+use Rattle.passkey_webauthn.specs.declared.credential_type.PublicKeyCredentialType.{PublicKeyCredentialType}
+use Rattle.passkey_webauthn.specs.declared.credential_type.PublicKeyCredentialType.TheVariants as kind
+
+abbrev pub credential_type_name : PublicKeyCredentialType → List ℕ
+credential_type_name kind.PublicKey = codes "public-key"
+credential_type_name kind.Unknown = codes "unknown"
+
+abbrev pub credential_type_named : List ℕ → Option PublicKeyCredentialType
+credential_type_named = named_in credential_type_name (kind.PublicKey ∷ kind.Unknown ∷ [])

@@ -1,0 +1,4 @@
+pub mod Names
+pub mod CredentialType
+pub mod Transport
+pub mod NameLaws

@@ -1,0 +1,21 @@
+-- The names of the ways to an authenticator (WebAuthn Level 3, section 5.8.4).
+use Rattle.std.specs.Prelude.{ℕ, List, [], ◌∷◌, if◌then◌else◌, Option, Some, None, codes}
+use Rattle.std.specs.Option.{option_or}
+use Rattle.std.specs.Str.{bytes_eq}
+use Rattle.passkey_webauthn.specs.Names.{named_in}
+use Rattle.passkey_webauthn.specs.declared.transport.AuthenticatorTransport.{AuthenticatorTransport}
+use Rattle.passkey_webauthn.specs.declared.transport.AuthenticatorTransport.TheVariants as transport
+
+abbrev pub transport_name : AuthenticatorTransport → List ℕ
+transport_name transport.Usb = codes "usb"
+transport_name transport.Nfc = codes "nfc"
+transport_name transport.Ble = codes "ble"
+transport_name transport.Hybrid = codes "hybrid"
+transport_name transport.Internal = codes "internal"
+
+abbrev pub transports : List AuthenticatorTransport
+transports = transport.Usb ∷ transport.Nfc ∷ transport.Ble ∷ transport.Hybrid ∷ transport.Internal ∷ []
+
+-- hybrid has an earlier name too
+abbrev pub transport_named : List ℕ → Option AuthenticatorTransport
+transport_named name = option_or (named_in transport_name transports name) (if bytes_eq (codes "cable") name then Some transport.Hybrid else None)

@@ -1,0 +1,49 @@
+//! Types of credentials.
+ghost use Rattle.passkey_webauthn.specs.CredentialType.{credential_type_name, credential_type_named};
+ghost use Rattle.passkey_webauthn.specs.NameLaws.{credential_type_own};
+
+use crate::names::EnumNames;
+
+/// The type of a credential (WebAuthn Level 3, section 5.8.2).
+#[derive(Clone, Copy, Debug, PartialEq, Eq)]
+pub enum PublicKeyCredentialType {
+    /// A pair of keys.
+    PublicKey,
+    /// A type that isn't known here.
+    Unknown,
+}
+
+impl EnumNames for PublicKeyCredentialType {
+    ghost name_of = { credential_type_name };
+
+    ghost named = { credential_type_named };
+
+    ghost name_is_own = { credential_type_own };
+
+    fn from_name(name: &str) -> Option<PublicKeyCredentialType> {
+        match name {
+            "public-key" => Some(PublicKeyCredentialType::PublicKey),
+            "unknown" => Some(PublicKeyCredentialType::Unknown),
+            _ => None,
+        }
+    }
+
+    fn name(self) -> &'static str {
+        match self {
+            PublicKeyCredentialType::PublicKey => "public-key",
+            PublicKeyCredentialType::Unknown => "unknown",
+        }
+    }
+}
+
+impl Default for PublicKeyCredentialType {
+    ghost use Rattle.std.specs.Prelude.{◌≡◌};
+    ghost use Rattle.passkey_webauthn.specs.declared.credential_type.PublicKeyCredentialType.TheVariants.{Unknown};
+
+    ghost is_default = { λ kind. kind ≡ Unknown };
+
+    /// A type that isn't known here.
+    fn default() -> PublicKeyCredentialType {
+        PublicKeyCredentialType::Unknown
+    }
+}

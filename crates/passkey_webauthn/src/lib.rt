@@ -1,0 +1,19 @@
+//! The types of WebAuthn Level 3 that browsers and relying parties exchange.
+#![tactic(auto)]
+
+mod credential_type;
+mod descriptor;
+mod names;
+mod parameters;
+mod rp;
+mod transport;
+mod user;
+
+pub use credential_type::PublicKeyCredentialType;
+pub use descriptor::PublicKeyCredentialDescriptor;
+pub use names::EnumNames;
+pub use parameters::PublicKeyCredentialParameters;
+pub use passkey_cbor::OutOfMemory;
+pub use rp::PublicKeyCredentialRpEntity;
+pub use transport::AuthenticatorTransport;
+pub use user::PublicKeyCredentialUserEntity;
