@@ -47,3 +47,6 @@ impl Default for PublicKeyCredentialType {
         PublicKeyCredentialType::Unknown
     }
 }
+
+#[cfg(test)]
+mod tests;

@@ -37,3 +37,6 @@ impl PublicKeyCredentialDescriptor {
         })
     }
 }
+
+#[cfg(test)]
+mod tests;

@@ -11,3 +11,6 @@ pub struct PublicKeyCredentialParameters {
     /// The algorithm of its key.
     pub alg: Algorithm,
 }
+
+#[cfg(test)]
+mod tests;

@@ -32,3 +32,6 @@ impl PublicKeyCredentialRpEntity {
         })
     }
 }
+
+#[cfg(test)]
+mod tests;

@@ -48,3 +48,6 @@ impl EnumNames for AuthenticatorTransport {
         }
     }
 }
+
+#[cfg(test)]
+mod tests;

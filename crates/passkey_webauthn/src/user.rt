@@ -30,3 +30,6 @@ impl PublicKeyCredentialUserEntity {
         })
     }
 }
+
+#[cfg(test)]
+mod tests;
