@@ -1,0 +1,35 @@
+-- Lists of values, read of arrays.
+use Rattle.std.specs.List.{filter_map}
+use Rattle.std.proofs.Common.{◌≡◌, ◌<◌, arith, ◌∙◌, List, [], ◌∷◌, ◌++◌, length, map, Option, Some, None, option_map, Result, Ok, Err, refl, ap, true}
+use Rattle.std.proofs.lemmas.List.{append_assoc}
+use Rattle.passkey_cbor.specs.Item.{Item, array, items_of}
+use Rattle.passkey_cose.proofs.KeyLists.{elements-items_of}
+use Rattle.passkey_kinds.specs.Kind.{Kind, AnswersAs, MayGrow, each, list, accepted}
+use Rattle.passkey_kinds.specs.declared.refusal.Refusal.{Refusal}
+use Rattle.passkey_kinds.specs.declared.refusal.Refusal.TheVariants.{Refused, OutOfMemory}
+
+-- the same answer, where as much is wanted and memory may be refused too
+pub answers_from : {A M : Type 0} {wanted given : Option M} {takes may : Type 0} (view : A → M) (result : Result A Refusal) → given ≡ wanted → (takes → may) → AnswersAs view wanted takes result → AnswersAs view given may result
+answers_from view (Ok x) e f h = e ∙ h
+answers_from view (Err Refused) e f h = e ∙ h
+answers_from view (Err OutOfMemory) e f h = f h
+
+pub list_array : {M : Type 0} (kind : Kind M) (xs : List Item) → list kind (array (items_of xs)) ≡ each kind xs
+list_array kind xs = ap (each kind) (elements-items_of xs)
+
+pub accepted_array : {M : Type 0} (kind : Kind M) (xs : List Item) → accepted kind (array (items_of xs)) ≡ Some (filter_map kind xs)
+accepted_array kind xs = ap (λ ys. Some (filter_map kind ys)) (elements-items_of xs)
+
+pub grows_array : {X : Type 0} (seen : X → Item) (xs : List X) → 0 < length xs → MayGrow true (array (items_of (map seen xs)))
+grows_array seen [] h = absurd (omega arith)
+grows_array seen (x ∷ xs) h = (refl, tt)
+
+-- the values read so far, before those of the rest
+pub each_more : {M : Type 0} (read : List M) (x : M) (rest : Option (List M)) → option_map (λ xs. read ++ xs) (option_map (λ xs. x ∷ xs) rest) ≡ option_map (λ xs. (read ++ x ∷ []) ++ xs) rest
+each_more read x None = refl
+each_more read x (Some xs) = ap Some (simp append_assoc)
+
+-- a list of what contracts see as it is
+pub map_same : {X : Type 0} (xs : List X) → map (λ x. x) xs ≡ xs
+map_same [] = refl
+map_same (x ∷ xs) = ap (λ ys. x ∷ ys) (map_same xs)

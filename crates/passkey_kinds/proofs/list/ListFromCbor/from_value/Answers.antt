@@ -1,0 +1,13 @@
+use Rattle.std.proofs.Common.{◌<◌, length, List, map, subst}
+use Rattle.passkey_cbor.specs.View.{item_of}
+use Rattle.passkey_cbor.specs.declared.value.Value.{Value}
+use Rattle.passkey_cbor.proofs.Views.{item_of-Array}
+use Rattle.passkey_kinds.specs.Kind.{AnswersAs, each}
+use Rattle.passkey_kinds.proofs.Lists.{answers_from, list_array, grows_array}
+use Rattle.passkey_kinds.proofs.list.ListFromCbor.from_value.Goals as goal
+
+pub returns-in-Array : goal.returns-in-Array
+returns-in-Array g c =
+    let elements = c.in-Array.elements in
+    let read = subst (λ (vs : List Value). AnswersAs (λ xs. map g.T.FromCbor.view xs) (each g.T.FromCbor.kind (map item_of vs)) (0 < length vs) c.read_each.result) c.deref.ensures.value c.read_each.ensures in
+    rw (c.in-Array.is, item_of-Array elements) (answers_from (λ xs. map g.T.FromCbor.view xs) c.read_each.result (list_array g.T.FromCbor.kind (map item_of elements.items)) (grows_array item_of elements.items) read)

@@ -1,0 +1,14 @@
+use Rattle.std.specs.List.{filter_map}
+use Rattle.std.proofs.Common.{◌<◌, length, List, map, Some, subst}
+use Rattle.passkey_cbor.specs.View.{item_of}
+use Rattle.passkey_cbor.specs.declared.value.Value.{Value}
+use Rattle.passkey_cbor.proofs.Views.{item_of-Array}
+use Rattle.passkey_kinds.specs.Kind.{AnswersAs}
+use Rattle.passkey_kinds.proofs.Lists.{answers_from, accepted_array, grows_array}
+use Rattle.passkey_kinds.proofs.list.TolerantListFromCbor.from_value.Goals as goal
+
+pub returns-in-Array : goal.returns-in-Array
+returns-in-Array g c =
+    let elements = c.in-Array.elements in
+    let read = subst (λ (vs : List Value). AnswersAs (λ l. map g.T.FromCbor.view l.0) (Some (filter_map g.T.FromCbor.kind (map item_of vs))) (0 < length vs) c.read_accepted.result) c.deref.ensures.value c.read_accepted.ensures in
+    rw (c.in-Array.is, item_of-Array elements) (answers_from (λ l. map g.T.FromCbor.view l.0) c.read_accepted.result (accepted_array g.T.FromCbor.kind (map item_of elements.items)) (grows_array item_of elements.items) read)

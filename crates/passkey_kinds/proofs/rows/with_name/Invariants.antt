@@ -1,0 +1,11 @@
+use Rattle.std.specs.List.{find}
+use Rattle.std.specs.Str.{bytes_eq}
+use Rattle.std.proofs.Common.{◌≡◌, map, drop}
+use Rattle.passkey_kinds.specs.Rows.{entry_of}
+use Rattle.passkey_kinds.specs.Table.{Entry}
+use Rattle.passkey_kinds.proofs.rows.with_name.Given as goal
+
+abbrev pub invariant-loop-row : goal.invariant-loop-row
+invariant-loop-row l =
+    find (λ (e : Entry). bytes_eq e.name l.name) (map entry_of (drop l.row-index l.rows))
+    ≡ find (λ (e : Entry). bytes_eq e.name l.name) (map entry_of l.rows)

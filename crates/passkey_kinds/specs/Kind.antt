@@ -1,0 +1,94 @@
+-- What items mean: a kind accepts some items, and gives each of them a value.
+use Rattle.std.specs.Prelude.{◌≡◌, ℕ, pos, nat_lt, Bool, true, false, IsTrue, if◌then◌else◌, is_some, List, [], ◌∷◌, Option, Some, None, option_map, Result, Ok, Err}
+use Rattle.std.specs.List.{filter_map}
+use Rattle.std.specs.Option.{option_and_then}
+use Rattle.std.specs.Str.{trim}
+use Rattle.passkey_bytes.specs.Encoding.{text_bytes}
+use Rattle.passkey_cbor.specs.Grows.{Grows}
+use Rattle.passkey_cbor.specs.Item.{Item, number, text_string, byte_string, array, map, tagged, boolean, null, simple, float, elements}
+use Rattle.passkey_kinds.specs.declared.refusal.Refusal.{Refusal}
+use Rattle.passkey_kinds.specs.declared.refusal.Refusal.TheVariants.{Refused, OutOfMemory}
+
+abbrev pub Kind : Type 0 → Type 0
+Kind M = Item → Option M
+
+-- What a reader answers: what is wanted, as contracts see it, or that nothing is; or memory was
+-- refused, where it may be.
+abbrev pub AnswersAs : {A M : Type 0} → (A → M) → Option M → Type 0 → Result A Refusal → Type 0
+AnswersAs view wanted takes (Ok x) = wanted ≡ Some (view x)
+AnswersAs view wanted takes (Err Refused) = wanted ≡ None
+AnswersAs view wanted takes (Err OutOfMemory) = takes
+
+-- such an item lets memory be refused, where the kind takes some
+abbrev pub MayGrow : Bool → Item → Type 0
+MayGrow takes i = IsTrue takes × Grows i
+
+-- the same, at an item
+abbrev pub Answers : {A M : Type 0} → (A → M) → Kind M → Bool → Item → Result A Refusal → Type 0
+Answers view kind takes i = AnswersAs view (kind i) (MayGrow takes i)
+
+-- What a slot holds after a reader.
+abbrev pub ReadsInto : {A M : Type 0} → (A → M) → Kind M → Bool → Item → Option A → Result (Unit {0}) Refusal → Type 0
+ReadsInto view kind takes i slot (Ok x) = (kind i ≡ option_map view slot) × (is_some (kind i) ≡ true)
+ReadsInto view kind takes i slot (Err Refused) = is_some (kind i) ≡ false
+ReadsInto view kind takes i slot (Err OutOfMemory) = MayGrow takes i
+
+abbrev pub truth : Kind Bool
+truth (boolean b) = Some b
+truth _ = None
+
+-- whole numbers below a limit
+abbrev pub below : ℕ → Kind ℕ
+below limit (number (pos n)) = if nat_lt n limit then Some n else None
+below limit _ = None
+
+abbrev pub text : Kind (List ℕ)
+text (text_string s) = Some s
+text _ = None
+
+-- one of some names
+abbrev pub one_named : {T : Type 0} → (List ℕ → Option T) → Kind T
+one_named named (text_string s) = named s
+one_named named _ = None
+
+-- any item, kept
+abbrev pub kept : Kind Item
+kept i = Some i
+
+-- null is nothing
+abbrev pub optional : {M : Type 0} → Kind M → Kind (Option M)
+optional kind null = Some None
+optional kind (number z) = option_map Some (kind (number z))
+optional kind (byte_string s) = option_map Some (kind (byte_string s))
+optional kind (text_string s) = option_map Some (kind (text_string s))
+optional kind (array xs) = option_map Some (kind (array xs))
+optional kind (map ps) = option_map Some (kind (map ps))
+optional kind (tagged t x) = option_map Some (kind (tagged t x))
+optional kind (boolean b) = option_map Some (kind (boolean b))
+optional kind (simple n) = option_map Some (kind (simple n))
+optional kind (float f) = option_map Some (kind (float f))
+
+-- each element's value, where the kind accepts each
+abbrev pub each : {M : Type 0} → Kind M → List Item → Option (List M)
+each kind [] = Some []
+each kind (i ∷ is) = option_and_then (λ x. option_map (λ xs. x ∷ xs) (each kind is)) (kind i)
+
+-- a byte string; numbers of one byte; or a text in base64url or base64 between white space
+abbrev pub bytes : Kind (List ℕ)
+bytes (byte_string s) = Some s
+bytes (array xs) = each (below 256) (elements xs)
+bytes (text_string s) = text_bytes (trim s)
+bytes _ = None
+
+abbrev pub list : {M : Type 0} → Kind M → Kind (List M)
+list kind (array xs) = each kind (elements xs)
+list kind _ = None
+
+-- the values of the elements that the kind accepts, in their order
+abbrev pub accepted : {M : Type 0} → Kind M → Kind (List M)
+accepted kind (array xs) = Some (filter_map kind (elements xs))
+accepted kind _ = None
+
+-- the value, or nothing where the kind refuses
+abbrev pub tolerated : {M : Type 0} → Kind M → Kind (Option M)
+tolerated kind i = Some (kind i)

@@ -1,0 +1,90 @@
+-- What reading a record answers, and what its steps do.
+use Rattle.std.specs.Prelude.{◌≡◌, ℕ, ◌<◌, ◌==◌, nat_lt, ◌⊎◌, Bool, true, false, not, ◌&&◌, if◌then◌else◌, List, [], ◌∷◌, ◌++◌, slice_get, get_or, take, drop, option_map, Option, Some, None, is_some, Result, Ok, Err}
+use Rattle.std.specs.List.{find}
+use Rattle.passkey_cbor.specs.Item as item
+use Rattle.passkey_cbor.specs.Item.{Item, members}
+use Rattle.passkey_kinds.specs.Kind.{MayGrow}
+use Rattle.passkey_kinds.specs.Table.{Entry, Row, Table, Naming, row, unknown, wrong, named, Members, found, accepts_at, bad_member, first_bad, Values}
+use Rattle.passkey_kinds.specs.declared.fault.Fault.{Fault}
+use Rattle.passkey_kinds.specs.declared.fault.Fault.TheVariants as fault
+use Rattle.passkey_kinds.specs.declared.refusal.Refusal.{Refusal}
+use Rattle.passkey_kinds.specs.declared.refusal.Refusal.TheVariants as refusal
+use Rattle.passkey_kinds.specs.declared.rows.Named.{Named}
+use Rattle.passkey_kinds.specs.declared.rows.Named.TheVariants as code
+
+-- whether reading the kind of row n may take memory
+abbrev pub takes_at : List Row → ℕ → Bool
+takes_at [] n = false
+takes_at (r ∷ rs) n = if r.entry.number == n then r.takes else takes_at rs n
+
+abbrev pub MayGrowBy : Table → Naming → Item → Type 0
+MayGrowBy table (row n) i = MayGrow (takes_at table.rows n) i
+MayGrowBy table unknown i = ⊥
+MayGrowBy table wrong i = ⊥
+
+-- a member lets memory be refused
+abbrev pub MayGrowIn : Table → Members → Type 0
+MayGrowIn table [] = ⊥
+MayGrowIn table (m ∷ ms) = MayGrowBy table (named table m.0) m.1 ⊎ MayGrowIn table ms
+
+abbrev pub MayGrowAt : Table → Item → Type 0
+MayGrowAt table (item.map ps) = MayGrowIn table (members ps)
+MayGrowAt table _ = ⊥
+
+-- What a reader of a record answers: what is wanted, as contracts see it, or its fault; or memory
+-- was refused, where it may be.
+abbrev pub Reads : {A M : Type 0} → (A → M) → Type 0 → Result M Fault → Result A Fault → Type 0
+Reads view takes wanted (Ok x) = wanted ≡ Ok (view x)
+Reads view takes wanted (Err fault.OutOfMemory) = takes
+Reads view takes wanted (Err fault.DecodeFailed) = wanted ≡ Err fault.DecodeFailed
+Reads view takes wanted (Err fault.NotAMap) = wanted ≡ Err fault.NotAMap
+Reads view takes wanted (Err fault.BadKey) = wanted ≡ Err fault.BadKey
+Reads view takes wanted (Err (fault.Repeated n)) = wanted ≡ Err (fault.Repeated n)
+Reads view takes wanted (Err (fault.Refused n)) = wanted ≡ Err (fault.Refused n)
+Reads view takes wanted (Err (fault.Missing n)) = wanted ≡ Err (fault.Missing n)
+
+-- what the code says of a key
+abbrev pub naming_of : Named → Naming
+naming_of (code.Row n) = row n
+naming_of code.Unknown = unknown
+naming_of code.Wrong = wrong
+
+-- one more value, under row n
+abbrev pub with_row : ℕ → Item → (ℕ → Option Item) → ℕ → Option Item
+with_row n i f m = if m == n then Some i else f m
+
+-- What putting an item under row n into slots does: they hold what they held, and the item too.
+abbrev pub Puts : {V : Type 0} → Values V → List Row → ℕ → Item → V → V → Result (Unit {0}) Refusal → Type 0
+Puts values rows n i old new (Ok x) = (accepts_at rows n i ≡ true) × ((f : ℕ → Option Item) → f n ≡ None → values f ≡ old → values (with_row n i f) ≡ new)
+Puts values rows n i old new (Err refusal.Refused) = accepts_at rows n i ≡ false
+Puts values rows n i old new (Err refusal.OutOfMemory) = MayGrow (takes_at rows n) i
+
+-- Slots and marks that hold what the earlier members gave.
+pub record Holds {V : Type 0} (table : Table) (values : Values V) (earlier : Members) (held : V) (marks : List Bool) : Type 0 where
+  pub filled : values (found table earlier) ≡ held
+  pub marked : (n : ℕ) → n < 256 → slice_get marks n ≡ Some (is_some (found table earlier n))
+
+-- What one more member does.
+abbrev pub Steps : {V : Type 0} → Table → Values V → Members → Item × Item → V → List Bool → Result (Unit {0}) Fault → Type 0
+Steps table values earlier m held marks (Ok x) = (bad_member table earlier m ≡ None) × Holds table values (earlier ++ m ∷ []) held marks
+Steps table values earlier m held marks (Err fault.OutOfMemory) = MayGrowBy table (named table m.0) m.1
+Steps table values earlier m held marks (Err fault.DecodeFailed) = ⊥
+Steps table values earlier m held marks (Err fault.NotAMap) = ⊥
+Steps table values earlier m held marks (Err fault.BadKey) = bad_member table earlier m ≡ Some fault.BadKey
+Steps table values earlier m held marks (Err (fault.Repeated n)) = bad_member table earlier m ≡ Some (fault.Repeated n)
+Steps table values earlier m held marks (Err (fault.Refused n)) = bad_member table earlier m ≡ Some (fault.Refused n)
+Steps table values earlier m held marks (Err (fault.Missing n)) = ⊥
+
+-- each number has one byte
+abbrev pub are_small : List Entry → Bool
+are_small [] = true
+are_small (e ∷ es) = nat_lt e.number 256 && are_small es
+
+-- the number of the first required row that has no mark
+abbrev pub first_unmarked : List Entry → List Bool → Option ℕ
+first_unmarked rows marks = option_map (λ (e : Entry). e.number) (find (λ (e : Entry). e.is_required && not (get_or marks e.number false)) rows)
+
+-- The members before the i-th are good, and slots and marks hold them.
+pub record ReadSoFar {V : Type 0} (table : Table) (values : Values V) (ms : Members) (i : ℕ) (held : V) (marks : List Bool) : Type 0 where
+  pub good : first_bad table [] ms ≡ first_bad table (take i ms) (drop i ms)
+  pub holds : Holds table values (take i ms) held marks

@@ -1,0 +1,142 @@
+-- Records as tables of members.
+use Rattle.std.specs.Prelude.{ℕ, ◌==◌, Bool, true, false, ◌&&◌, if◌then◌else◌, List, [], ◌∷◌, ◌++◌, map, Option, Some, None, is_some, is_none, option_map, Result, Ok, Err}
+use Rattle.std.specs.List.{find}
+use Rattle.std.specs.Option.{option_or}
+use Rattle.std.specs.Result.{result_ok}
+use Rattle.std.specs.Str.{bytes_eq}
+use Rattle.passkey_cbor.specs.Item as item
+use Rattle.passkey_cbor.specs.Item.{Item, number, text_string, byte_string, members}
+use Rattle.passkey_kinds.specs.Kind.{Kind, below}
+use Rattle.passkey_kinds.specs.declared.fault.Fault.{Fault}
+use Rattle.passkey_kinds.specs.declared.fault.Fault.TheVariants.{NotAMap, BadKey, Repeated, Refused, Missing}
+
+-- what a table says of a member, but for its kind
+pub record Entry : Type 0 where
+  pub number : ℕ
+  pub name : List ℕ
+  pub is_required : Bool
+
+pub record Row : Type 0 where
+  pub entry : Entry
+  pub accepts : Item → Bool
+  pub takes : Bool
+
+-- members have numbers and names, or names alone
+pub record Table : Type 0 where
+  pub is_numbered : Bool
+  pub rows : List Row
+
+abbrev pub entries : Table → List Entry
+entries table = map (λ r. r.entry) table.rows
+
+-- a row of this kind, which takes memory or doesn't
+abbrev pub required : {M : Type 0} → ℕ → List ℕ → Kind M → Bool → Row
+required n name kind takes = record { entry = record { number = n; name = name; is_required = true }; accepts = λ i. is_some (kind i); takes = takes }
+
+abbrev pub default : {M : Type 0} → ℕ → List ℕ → Kind M → Bool → Row
+default n name kind takes = record { entry = record { number = n; name = name; is_required = false }; accepts = λ i. is_some (kind i); takes = takes }
+
+-- What a key names: a row by its number, or nothing that the table knows; or it is no key.
+pub data Naming : Type 0 where
+  row : ℕ → Naming
+  unknown : Naming
+  wrong : Naming
+
+abbrev pub row_or_unknown : Option Entry → Naming
+row_or_unknown (Some e) = row e.number
+row_or_unknown None = unknown
+
+abbrev pub row_named : List Entry → List ℕ → Naming
+row_named rows name = row_or_unknown (find (λ e. bytes_eq e.name name) rows)
+
+-- a number of one byte names a row where members have numbers
+abbrev pub number_names : Bool → Option ℕ → List Entry → Naming
+number_names true (Some n) rows = row_or_unknown (find (λ e. e.number == n) rows)
+number_names true None rows = wrong
+number_names false n rows = wrong
+
+abbrev pub names : Bool → List Entry → Item → Naming
+names is_numbered rows (number z) = number_names is_numbered (below 256 (number z)) rows
+names is_numbered rows (text_string name) = row_named rows name
+names is_numbered rows (byte_string name) = row_named rows name
+names is_numbered rows _ = wrong
+
+abbrev pub Members : Type 0
+Members = List (Item × Item)
+
+abbrev pub named : Table → Item → Naming
+named table key = names table.is_numbered (entries table) key
+
+abbrev pub is_row : ℕ → Naming → Bool
+is_row n (row m) = n == m
+is_row n unknown = false
+is_row n wrong = false
+
+-- the value that stands under row n
+abbrev pub found : Table → Members → ℕ → Option Item
+found table [] n = None
+found table (m ∷ ms) n = if is_row n (named table m.0) then Some m.1 else found table ms n
+
+-- whether the kind of row n accepts the item
+abbrev pub accepts_at : List Row → ℕ → Item → Bool
+accepts_at [] n i = false
+accepts_at (r ∷ rs) n i = if r.entry.number == n then r.accepts i else accepts_at rs n i
+
+-- what is bad of a member with such a key, behind the earlier members
+abbrev pub bad_by : Table → Members → Naming → Item → Option Fault
+bad_by table earlier wrong value = Some BadKey
+bad_by table earlier unknown value = None
+bad_by table earlier (row n) value =
+    if is_some (found table earlier n) then Some (Repeated n)
+    else (if accepts_at table.rows n value then None else Some (Refused n))
+
+abbrev pub bad_member : Table → Members → Item × Item → Option Fault
+bad_member table earlier m = bad_by table earlier (named table m.0) m.1
+
+-- the fault of the first bad member, of those behind the earlier ones
+abbrev pub first_bad : Table → Members → Members → Option Fault
+first_bad table earlier [] = None
+first_bad table earlier (m ∷ ms) = option_or (bad_member table earlier m) (first_bad table (earlier ++ m ∷ []) ms)
+
+-- the number of the first required row in the table's order that no key names
+abbrev pub first_missing : Table → Members → Option ℕ
+first_missing table ms = option_map (λ (e : Entry). e.number) (find (λ (e : Entry). e.is_required && is_none (found table ms e.number)) (entries table))
+
+-- the values that a record's kinds give of what stands under each row
+abbrev pub Values : Type 0 → Type 0
+Values V = (ℕ → Option Item) → V
+
+infixl 10 ◌>>=◌
+abbrev pub ◌>>=◌ : {X Y : Type 0} → Option X → (X → Option Y) → Option Y
+None >>= f = None
+(Some x) >>= f = f x
+
+-- the value of the kind, of what stands under the row
+abbrev pub given : {M : Type 0} → Kind M → ℕ → (ℕ → Option Item) → Option M
+given kind n m = m n >>= kind
+
+-- the record of the values, with its defaults; nothing where a required value isn't there
+abbrev pub Build : Type 0 → Type 0 → Type 0
+Build V M = V → Option M
+
+-- no table whose required rows are those that the record wants comes to the last case
+abbrev pub built : {M : Type 0} → Option ℕ → Option M → Result M Fault
+built (Some n) made = Err (Missing n)
+built None (Some x) = Ok x
+built None None = Err NotAMap
+
+abbrev pub judged : {V M : Type 0} → Table → Values V → Build V M → Members → Option Fault → Result M Fault
+judged table values build ms (Some f) = Err f
+judged table values build ms None = built (first_missing table ms) (build (values (found table ms)))
+
+abbrev pub read_members : {V M : Type 0} → Table → Values V → Build V M → Members → Result M Fault
+read_members table values build ms = judged table values build ms (first_bad table [] ms)
+
+-- the record that an item is, or the first fault
+abbrev pub read_item : {V M : Type 0} → Table → Values V → Build V M → Item → Result M Fault
+read_item table values build (item.map ps) = read_members table values build (members ps)
+read_item table values build _ = Err NotAMap
+
+-- a record as a kind
+abbrev pub record_kind : {V M : Type 0} → Table → Values V → Build V M → Kind M
+record_kind table values build i = result_ok (read_item table values build i)

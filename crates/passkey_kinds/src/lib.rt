@@ -1,0 +1,22 @@
+//! How the members of CTAP2's messages are read from items and written as items.
+#![tactic(auto)]
+
+mod bytes;
+mod descriptor;
+mod fault;
+mod from_cbor;
+mod list;
+mod names;
+mod record;
+mod refusal;
+mod rows;
+mod tolerated;
+
+pub use fault::Fault;
+pub use from_cbor::{FromCbor, read_into};
+pub use list::TolerantList;
+pub use passkey_cbor::OutOfMemory;
+pub use record::Slots;
+pub use refusal::Refusal;
+pub use rows::Row;
+pub use tolerated::Tolerated;
