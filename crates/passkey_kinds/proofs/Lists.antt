@@ -29,7 +29,11 @@ pub each_more : {M : Type 0} (read : List M) (x : M) (rest : Option (List M)) �
 each_more read x None = refl
 each_more read x (Some xs) = ap Some (simp append_assoc)
 
--- a list of what contracts see as it is
+-- an option and a list of what contracts see as it is
+pub option_same : {X : Type 0} (o : Option X) → option_map (λ x. x) o ≡ o
+option_same None = refl
+option_same (Some x) = refl
+
 pub map_same : {X : Type 0} (xs : List X) → map (λ x. x) xs ≡ xs
 map_same [] = refl
 map_same (x ∷ xs) = ap (λ ys. x ∷ ys) (map_same xs)

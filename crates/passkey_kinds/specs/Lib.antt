@@ -4,3 +4,9 @@ pub mod Reading
 pub mod Rows
 pub mod Descriptor
 pub mod DescriptorHeld
+pub mod MakeRp
+pub mod MakeRpHeld
+pub mod MakeUser
+pub mod MakeUserHeld
+pub mod MakeOptions
+pub mod MakeOptionsHeld

@@ -47,21 +47,9 @@ impl Slots for DescriptorSlots {
 
     fn rows() -> &'static [Row] {
         &[
-            Row {
-                number: 1,
-                name: "type",
-                is_required: true,
-            },
-            Row {
-                number: 2,
-                name: "id",
-                is_required: true,
-            },
-            Row {
-                number: 3,
-                name: "transports",
-                is_required: false,
-            },
+            Row::Required(1, "type"),
+            Row::Required(2, "id"),
+            Row::Optional(3, "transports"),
         ]
     }
 

@@ -6,6 +6,7 @@ mod descriptor;
 mod fault;
 mod from_cbor;
 mod list;
+pub mod make_credential;
 mod names;
 mod record;
 mod refusal;

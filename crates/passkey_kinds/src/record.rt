@@ -89,8 +89,8 @@ fn first_missing(rows: &[Row], seen: &[bool; 256]) -> Option<u8>
     ensures { result ≡ first_unmarked (map entry_of rows.now) seen.now }
 {
     for row in rows {
-        if row.is_required && !seen[usize::from(row.number)] {
-            return Some(row.number);
+        if row.is_required() && !seen[usize::from(row.number())] {
+            return Some(row.number());
         }
     }
     None

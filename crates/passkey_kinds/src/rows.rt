@@ -9,15 +9,41 @@ ghost use Rattle.passkey_kinds.specs.Table.{names, number_names, row_named, row_
 
 use passkey_cbor::Value;
 
-/// A member that a table knows.
+/// A member that a table knows, by its number and its name; where members have names alone the
+/// number is the place in the table.
 #[derive(Clone, Copy)]
-pub struct Row {
-    /// The member's number; where members have names alone, its place in the table.
-    pub number: u8,
-    /// The member's name.
-    pub name: &'static str,
-    /// Whether it has to be there.
-    pub is_required: bool,
+pub enum Row {
+    /// It has to be there.
+    Required(u8, &'static str),
+    /// It may lack.
+    Optional(u8, &'static str),
+}
+
+impl Row {
+    pub(crate) fn number(&self) -> u8
+        ensures { result ≡ (entry_of self.now).number }
+    {
+        match self {
+            Row::Required(number, _) | Row::Optional(number, _) => *number,
+        }
+    }
+
+    fn name(&self) -> &'static str
+        ensures { result.now ≡ (entry_of self.now).name }
+    {
+        match self {
+            Row::Required(_, name) | Row::Optional(_, name) => name,
+        }
+    }
+
+    pub(crate) fn is_required(&self) -> bool
+        ensures { result ≡ (entry_of self.now).is_required }
+    {
+        match self {
+            Row::Required(..) => true,
+            Row::Optional(..) => false,
+        }
+    }
 }
 
 /// What a key names.
@@ -35,8 +61,8 @@ fn with_number(rows: &[Row], number: u8) -> Named
     ensures { naming_of result ≡ row_or_unknown (find (λ e. e.number == number) (map entry_of rows.now)) }
 {
     for row in rows {
-        if row.number == number {
-            return Named::Row(row.number);
+        if row.number() == number {
+            return Named::Row(number);
         }
     }
     Named::Unknown
@@ -46,8 +72,8 @@ fn with_name(rows: &[Row], name: &[u8]) -> Named
     ensures { naming_of result ≡ row_named (map entry_of rows.now) name.now }
 {
     for row in rows {
-        if row.name.as_bytes() == name {
-            return Named::Row(row.number);
+        if row.name().as_bytes() == name {
+            return Named::Row(row.number());
         }
     }
     Named::Unknown

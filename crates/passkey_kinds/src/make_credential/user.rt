@@ -1,0 +1,108 @@
+//! Users, as CTAP2 names them.
+ghost use Rattle.std.specs.Prelude.{true};
+ghost use Rattle.passkey_kinds.specs.MakeUser.{UserValues, user_table, user_values, user_of, user};
+ghost use Rattle.passkey_kinds.specs.MakeUserHeld.{user_held};
+ghost use Rattle.passkey_kinds.specs.declared.make_credential.user.PublicKeyCredentialUserEntity.{PublicKeyCredentialUserEntity as UserEntity};
+
+use crate::from_cbor::{FromCbor, read_into};
+use crate::record::{Slots, read_nested};
+use crate::refusal::Refusal;
+use crate::rows::Row;
+use passkey_bytes::{Bytes, Text};
+use passkey_cbor::Value;
+use std::alloc::Global;
+
+/// Whose credential it is (CTAP 2.1, section 6.1).
+#[derive(Debug, Drop, PartialEq, Eq)]
+pub struct PublicKeyCredentialUserEntity {
+    /// The user's handle, which tells accounts of a relying party apart.
+    pub id: Bytes,
+    /// A name that tells accounts apart, as an address of electronic mail.
+    pub name: Option<Text>,
+    /// A name that the user chose, to be displayed.
+    pub display_name: Option<Text>,
+    /// Where an image of the account is found: `icon`.
+    pub icon_url: Option<Text>,
+}
+
+#[derive(Drop)]
+struct UserSlots {
+    id: Option<Bytes>,
+    name: Option<Option<Text>>,
+    display_name: Option<Option<Text>>,
+    icon_url: Option<Option<Text>>,
+}
+
+impl Slots for UserSlots {
+    type Of = PublicKeyCredentialUserEntity;
+
+    ghost Held = { UserValues };
+
+    ghost held = { user_held };
+
+    ghost Meaning = { UserEntity };
+
+    ghost view = { λ user. user };
+
+    ghost table = { user_table };
+
+    ghost values = { user_values };
+
+    ghost build = { user_of };
+
+    fn is_numbered() -> bool {
+        false
+    }
+
+    fn rows() -> &'static [Row] {
+        &[
+            Row::Required(1, "id"),
+            Row::Optional(2, "name"),
+            Row::Optional(3, "displayName"),
+            Row::Optional(4, "icon"),
+        ]
+    }
+
+    fn empty() -> UserSlots {
+        UserSlots {
+            id: None,
+            name: None,
+            display_name: None,
+            icon_url: None,
+        }
+    }
+
+    fn put(&mut self, alloc: Global, number: u8, value: &Value) -> Result<(), Refusal> {
+        match number {
+            1 => read_into(&mut self.id, alloc, value),
+            2 => read_into(&mut self.name, alloc, value),
+            3 => read_into(&mut self.display_name, alloc, value),
+            4 => read_into(&mut self.icon_url, alloc, value),
+            _ => Err(Refusal::Refused),
+        }
+    }
+
+    #[tactic(auto, using(crate::proofs::Lists::option_same))]
+    fn finish(self) -> Option<PublicKeyCredentialUserEntity> {
+        Some(PublicKeyCredentialUserEntity {
+            id: self.id?,
+            name: self.name.unwrap_or(None),
+            display_name: self.display_name.unwrap_or(None),
+            icon_url: self.icon_url.unwrap_or(None),
+        })
+    }
+}
+
+impl FromCbor for PublicKeyCredentialUserEntity {
+    ghost Meaning = { UserEntity };
+
+    ghost view = { λ user. user };
+
+    ghost kind = { user };
+
+    ghost takes = { true };
+
+    fn from_value(alloc: Global, value: &Value) -> Result<PublicKeyCredentialUserEntity, Refusal> {
+        read_nested::<UserSlots>(alloc, value)
+    }
+}
