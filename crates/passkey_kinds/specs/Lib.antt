@@ -1,3 +1,4 @@
+pub mod Names
 pub mod Kind
 pub mod Table
 pub mod Reading

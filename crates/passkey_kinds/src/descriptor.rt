@@ -18,7 +18,7 @@ use passkey_webauthn::{
 use std::alloc::Global;
 
 #[derive(Drop)]
-struct DescriptorSlots {
+pub(crate) struct DescriptorSlots {
     ty: Option<Tolerated<PublicKeyCredentialType>>,
     id: Option<Bytes>,
     transports: Option<Tolerated<TolerantList<AuthenticatorTransport>>>,

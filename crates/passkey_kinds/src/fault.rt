@@ -1,4 +1,9 @@
 //! Why no message was read.
+ghost use Rattle.std.specs.Prelude.{Some};
+ghost use Rattle.passkey_kinds.specs.Names.{fault_name};
+
+use std::error::Error;
+use std::fmt;
 
 /// Why no message was read. A member is told by its number in the message.
 #[derive(Clone, Copy, Debug, PartialEq, Eq)]
@@ -19,3 +24,21 @@ pub enum Fault {
     /// This member is required, and isn't there.
     Missing(u8),
 }
+
+impl fmt::Display for Fault {
+    ghost output = { λ e. Some (fault_name e) };
+
+    fn fmt<W: fmt::Write>(&self, f: &mut fmt::Formatter<W>) -> fmt::Result {
+        match self {
+            Fault::DecodeFailed => f.write_str("DecodeFailed"),
+            Fault::OutOfMemory => f.write_str("OutOfMemory"),
+            Fault::NotAMap => f.write_str("NotAMap"),
+            Fault::BadKey => f.write_str("BadKey"),
+            Fault::Repeated(number) => write!(f, "Repeated({number})"),
+            Fault::Refused(number) => write!(f, "Refused({number})"),
+            Fault::Missing(number) => write!(f, "Missing({number})"),
+        }
+    }
+}
+
+impl Error for Fault {}

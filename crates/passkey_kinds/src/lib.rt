@@ -17,7 +17,10 @@ pub use fault::Fault;
 pub use from_cbor::{FromCbor, read_into};
 pub use list::TolerantList;
 pub use passkey_cbor::OutOfMemory;
-pub use record::Slots;
+pub use record::{Slots, read_nested, read_record};
 pub use refusal::Refusal;
 pub use rows::Row;
 pub use tolerated::Tolerated;
+
+#[cfg(test)]
+mod tests;

@@ -1,9 +1,12 @@
 //! Why no value was read of an item.
-ghost use Rattle.std.specs.Prelude.{◌≡◌};
+ghost use Rattle.std.specs.Prelude.{◌≡◌, Some};
+ghost use Rattle.passkey_kinds.specs.Names.{refusal_name};
 ghost use Rattle.passkey_kinds.specs.declared.refusal.Refusal.TheVariants.{OutOfMemory as NoMemory};
 
 use passkey_cbor::OutOfMemory;
 use std::alloc::{AllocError, AllocFailed};
+use std::error::Error;
+use std::fmt;
 
 /// Why no value was read of an item.
 #[derive(Clone, Copy, Debug, PartialEq, Eq)]
@@ -13,6 +16,19 @@ pub enum Refusal {
     /// A growth was refused.
     OutOfMemory,
 }
+
+impl fmt::Display for Refusal {
+    ghost output = { λ e. Some (refusal_name e) };
+
+    fn fmt<W: fmt::Write>(&self, f: &mut fmt::Formatter<W>) -> fmt::Result {
+        f.write_str(match self {
+            Refusal::Refused => "Refused",
+            Refusal::OutOfMemory => "OutOfMemory",
+        })
+    }
+}
+
+impl Error for Refusal {}
 
 impl From<AllocError> for Refusal {
     ghost from_gives = { λ _ e. e ≡ NoMemory };
