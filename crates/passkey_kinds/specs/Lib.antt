@@ -4,3 +4,4 @@ pub mod Reading
 pub mod Rows
 pub mod Descriptor
 pub mod DescriptorHeld
+pub mod TableLaws
