@@ -11,3 +11,4 @@ pub mod MakeUser
 pub mod MakeUserHeld
 pub mod MakeOptions
 pub mod MakeOptionsHeld
+pub mod TableLaws

@@ -5,6 +5,7 @@ mod bytes;
 mod descriptor;
 mod fault;
 mod from_cbor;
+pub mod laws;
 mod list;
 pub mod make_credential;
 mod names;
