@@ -12,3 +12,6 @@ pub mod MakeUserHeld
 pub mod MakeOptions
 pub mod MakeOptionsHeld
 pub mod TableLaws
+pub mod Tree
+pub mod Trees
+pub mod Written

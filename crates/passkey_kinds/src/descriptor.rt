@@ -3,15 +3,18 @@ ghost use Rattle.std.specs.Prelude.{true};
 ghost use Rattle.passkey_kinds.specs.Descriptor.{DescriptorValues, descriptor_table, descriptor_values, descriptor_of, descriptor};
 ghost use Rattle.passkey_kinds.specs.DescriptorHeld.{descriptor_held};
 ghost use Rattle.passkey_webauthn.specs.declared.descriptor.PublicKeyCredentialDescriptor.{PublicKeyCredentialDescriptor as Descriptor};
+ghost use Rattle.passkey_kinds.specs.Trees.{descriptor_tree};
 
 use crate::from_cbor::{FromCbor, read_into};
 use crate::list::TolerantList;
 use crate::record::{Slots, read_nested};
 use crate::refusal::Refusal;
 use crate::rows::Row;
+use crate::to_cbor::ToCbor;
 use crate::tolerated::Tolerated;
+use crate::written::Written;
 use passkey_bytes::Bytes;
-use passkey_cbor::Value;
+use passkey_cbor::{OutOfMemory, Value};
 use passkey_webauthn::{
     AuthenticatorTransport, PublicKeyCredentialDescriptor, PublicKeyCredentialType,
 };
@@ -96,5 +99,17 @@ impl FromCbor for PublicKeyCredentialDescriptor {
 
     fn from_value(alloc: Global, value: &Value) -> Result<PublicKeyCredentialDescriptor, Refusal> {
         read_nested::<DescriptorSlots>(alloc, value)
+    }
+}
+
+impl ToCbor for PublicKeyCredentialDescriptor {
+    ghost tree = { descriptor_tree };
+
+    fn to_value(&self, alloc: Global) -> Result<Value, OutOfMemory> {
+        let mut members = Written::new(alloc);
+        members.put(alloc, "type", &self.ty)?;
+        members.put(alloc, "id", &self.id)?;
+        members.put_some(alloc, "transports", &self.transports)?;
+        Ok(members.into_value())
     }
 }

@@ -12,7 +12,9 @@ mod names;
 mod record;
 mod refusal;
 mod rows;
+mod to_cbor;
 mod tolerated;
+mod written;
 
 pub use fault::Fault;
 pub use from_cbor::{FromCbor, read_into};
@@ -21,7 +23,9 @@ pub use passkey_cbor::OutOfMemory;
 pub use record::{Slots, read_nested, read_record};
 pub use refusal::Refusal;
 pub use rows::Row;
+pub use to_cbor::ToCbor;
 pub use tolerated::Tolerated;
+pub use written::Written;
 
 #[cfg(test)]
 mod tests;

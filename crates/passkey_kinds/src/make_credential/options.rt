@@ -3,12 +3,15 @@ ghost use Rattle.std.specs.Prelude.{◌≡◌, true, false};
 ghost use Rattle.passkey_kinds.specs.MakeOptions.{OptionsValues, options_table, options_values, options_of, options, options_default};
 ghost use Rattle.passkey_kinds.specs.MakeOptionsHeld.{options_held};
 ghost use Rattle.passkey_kinds.specs.declared.make_credential.options.Options.{Options as Made};
+ghost use Rattle.passkey_kinds.specs.Trees.{options_tree};
 
 use crate::from_cbor::{FromCbor, read_into};
 use crate::record::{Slots, read_nested};
 use crate::refusal::Refusal;
 use crate::rows::Row;
-use passkey_cbor::Value;
+use crate::to_cbor::ToCbor;
+use crate::written::Written;
+use passkey_cbor::{OutOfMemory, Value};
 use std::alloc::Global;
 
 /// How a credential is to be made (CTAP 2.1, section 6.1).
@@ -109,5 +112,17 @@ impl FromCbor for Options {
 
     fn from_value(alloc: Global, value: &Value) -> Result<Options, Refusal> {
         read_nested::<OptionsSlots>(alloc, value)
+    }
+}
+
+impl ToCbor for Options {
+    ghost tree = { options_tree };
+
+    fn to_value(&self, alloc: Global) -> Result<Value, OutOfMemory> {
+        let mut members = Written::new(alloc);
+        members.put(alloc, "rk", &self.rk)?;
+        members.put_true(alloc, "up", self.up)?;
+        members.put(alloc, "uv", &self.uv)?;
+        Ok(members.into_value())
     }
 }

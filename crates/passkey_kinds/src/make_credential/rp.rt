@@ -3,13 +3,16 @@ ghost use Rattle.std.specs.Prelude.{true};
 ghost use Rattle.passkey_kinds.specs.MakeRp.{RpValues, rp_table, rp_values, rp_of, rp};
 ghost use Rattle.passkey_kinds.specs.MakeRpHeld.{rp_held};
 ghost use Rattle.passkey_kinds.specs.declared.make_credential.rp.PublicKeyCredentialRpEntity.{PublicKeyCredentialRpEntity as RpEntity};
+ghost use Rattle.passkey_kinds.specs.Trees.{rp_tree};
 
 use crate::from_cbor::{FromCbor, read_into};
 use crate::record::{Slots, read_nested};
 use crate::refusal::Refusal;
 use crate::rows::Row;
+use crate::to_cbor::ToCbor;
+use crate::written::Written;
 use passkey_bytes::Text;
-use passkey_cbor::Value;
+use passkey_cbor::{OutOfMemory, Value};
 use std::alloc::Global;
 
 /// Whom a credential is for (CTAP 2.1, section 6.1).
@@ -87,5 +90,16 @@ impl FromCbor for PublicKeyCredentialRpEntity {
 
     fn from_value(alloc: Global, value: &Value) -> Result<PublicKeyCredentialRpEntity, Refusal> {
         read_nested::<RpSlots>(alloc, value)
+    }
+}
+
+impl ToCbor for PublicKeyCredentialRpEntity {
+    ghost tree = { rp_tree };
+
+    fn to_value(&self, alloc: Global) -> Result<Value, OutOfMemory> {
+        let mut members = Written::new(alloc);
+        members.put(alloc, "id", &self.id)?;
+        members.put_some(alloc, "name", &self.name)?;
+        Ok(members.into_value())
     }
 }

@@ -3,13 +3,16 @@ ghost use Rattle.std.specs.Prelude.{true};
 ghost use Rattle.passkey_kinds.specs.MakeUser.{UserValues, user_table, user_values, user_of, user};
 ghost use Rattle.passkey_kinds.specs.MakeUserHeld.{user_held};
 ghost use Rattle.passkey_kinds.specs.declared.make_credential.user.PublicKeyCredentialUserEntity.{PublicKeyCredentialUserEntity as UserEntity};
+ghost use Rattle.passkey_kinds.specs.Trees.{user_tree};
 
 use crate::from_cbor::{FromCbor, read_into};
 use crate::record::{Slots, read_nested};
 use crate::refusal::Refusal;
 use crate::rows::Row;
+use crate::to_cbor::ToCbor;
+use crate::written::Written;
 use passkey_bytes::{Bytes, Text};
-use passkey_cbor::Value;
+use passkey_cbor::{OutOfMemory, Value};
 use std::alloc::Global;
 
 /// Whose credential it is (CTAP 2.1, section 6.1).
@@ -104,5 +107,18 @@ impl FromCbor for PublicKeyCredentialUserEntity {
 
     fn from_value(alloc: Global, value: &Value) -> Result<PublicKeyCredentialUserEntity, Refusal> {
         read_nested::<UserSlots>(alloc, value)
+    }
+}
+
+impl ToCbor for PublicKeyCredentialUserEntity {
+    ghost tree = { user_tree };
+
+    fn to_value(&self, alloc: Global) -> Result<Value, OutOfMemory> {
+        let mut members = Written::new(alloc);
+        members.put(alloc, "id", &self.id)?;
+        members.put_some(alloc, "name", &self.name)?;
+        members.put_some(alloc, "displayName", &self.display_name)?;
+        members.put_some(alloc, "icon", &self.icon_url)?;
+        Ok(members.into_value())
     }
 }

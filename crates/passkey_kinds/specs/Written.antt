@@ -1,0 +1,8 @@
+-- The members that are written so far.
+use Rattle.std.specs.Prelude.{map}
+use Rattle.passkey_cbor.specs.View.{pair_of}
+use Rattle.passkey_kinds.specs.Table.{Members}
+use Rattle.passkey_kinds.specs.declared.written.Written.{Written}
+
+abbrev pub members_of : Written → Members
+members_of w = map pair_of w.members.items

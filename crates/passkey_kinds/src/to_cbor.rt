@@ -1,0 +1,108 @@
+//! Values that are written as items.
+ghost use Rattle.std.specs.Prelude.{◌≡◌, IfOk};
+ghost use Rattle.passkey_cbor.specs.Item.{Item, boolean, byte_string, text_string};
+ghost use Rattle.passkey_cbor.specs.View.{item_of};
+ghost use Rattle.passkey_kinds.specs.Tree.{number_tree, option_tree};
+ghost use Rattle.passkey_kinds.specs.Trees.{credential_type_tree, transport_tree};
+
+use passkey_bytes::{Bytes, Text};
+use passkey_cbor::{Integer, OutOfMemory, Value};
+use passkey_webauthn::{AuthenticatorTransport, EnumNames, PublicKeyCredentialType};
+use std::alloc::Global;
+
+/// A type whose values are written as items.
+pub trait ToCbor {
+    /// The item that each value is written as.
+    ghost tree: { Self → Item };
+
+    /// The item that the value is written as. `OutOfMemory` where a growth was refused.
+    fn to_value(&self, alloc: Global) -> Result<Value, OutOfMemory>
+        ensures { IfOk result (λ v. item_of v ≡ tree self.now) };
+}
+
+impl ToCbor for bool {
+    ghost tree = { boolean };
+
+    fn to_value(&self, _alloc: Global) -> Result<Value, OutOfMemory> {
+        Ok(Value::Bool(*self))
+    }
+}
+
+pub(crate) fn number(n: u32) -> Value
+    ensures { item_of result ≡ number_tree n }
+{
+    Value::Integer(Integer::new(i128::from(n)).unwrap())
+}
+
+impl ToCbor for u8 {
+    ghost tree = { number_tree };
+
+    fn to_value(&self, _alloc: Global) -> Result<Value, OutOfMemory> {
+        Ok(number(u32::from(*self)))
+    }
+}
+
+impl ToCbor for u32 {
+    ghost tree = { number_tree };
+
+    fn to_value(&self, _alloc: Global) -> Result<Value, OutOfMemory> {
+        Ok(number(*self))
+    }
+}
+
+pub(crate) fn text(alloc: Global, text: &str) -> Result<Value, OutOfMemory>
+    ensures { IfOk result (λ v. item_of v ≡ text_string text.now) }
+{
+    Ok(Value::Text(String::from_str(alloc, text)?))
+}
+
+impl ToCbor for Text {
+    ghost tree = { text_string };
+
+    fn to_value(&self, alloc: Global) -> Result<Value, OutOfMemory> {
+        text(alloc, self.as_str())
+    }
+}
+
+impl ToCbor for Bytes {
+    ghost tree = { byte_string };
+
+    fn to_value(&self, alloc: Global) -> Result<Value, OutOfMemory> {
+        Ok(Value::Bytes(Vec::from_slice(alloc, self.as_slice())?))
+    }
+}
+
+impl ToCbor for Value {
+    ghost tree = { item_of };
+
+    fn to_value(&self, alloc: Global) -> Result<Value, OutOfMemory> {
+        self.try_clone(alloc)
+    }
+}
+
+impl<T: ToCbor> ToCbor for Option<T> {
+    ghost tree = { λ o. option_tree T.tree o };
+
+    fn to_value(&self, alloc: Global) -> Result<Value, OutOfMemory> {
+        match self {
+            Some(value) => value.to_value(alloc),
+            None => Ok(Value::Null),
+        }
+    }
+}
+
+impl ToCbor for PublicKeyCredentialType {
+    ghost tree = { credential_type_tree };
+
+    fn to_value(&self, alloc: Global) -> Result<Value, OutOfMemory> {
+        text(alloc, self.name())
+    }
+}
+
+impl ToCbor for AuthenticatorTransport {
+    ghost tree = { transport_tree };
+
+    fn to_value(&self, alloc: Global) -> Result<Value, OutOfMemory> {
+        text(alloc, self.name())
+    }
+}
