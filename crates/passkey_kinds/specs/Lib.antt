@@ -15,3 +15,5 @@ pub mod TableLaws
 pub mod Tree
 pub mod Trees
 pub mod Written
+pub mod User
+pub mod UserHeld

@@ -1,6 +1,6 @@
 -- What values are written as.
 use Rattle.std.specs.Prelude.{ℕ, pos, Bool, true, false, List, [], ◌∷◌, map as each, Option, Some, None}
-use Rattle.passkey_cbor.specs.Item.{Item, number, byte_string, text_string, array, map, boolean, null, items_of, pairs_of}
+use Rattle.passkey_cbor.specs.Item.{Item, number, array, map, boolean, null, items_of, pairs_of}
 use Rattle.passkey_kinds.specs.Table.{Members}
 
 abbrev pub number_tree : ℕ → Item

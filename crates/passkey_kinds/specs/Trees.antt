@@ -1,5 +1,5 @@
 -- What the records are written as (CTAP 2.1, section 6; WebAuthn Level 3, section 5).
-use Rattle.std.specs.Prelude.{[], ◌++◌, List, codes}
+use Rattle.std.specs.Prelude.{[], ◌++◌, codes}
 use Rattle.passkey_cbor.specs.Item.{Item, boolean, byte_string, text_string}
 use Rattle.passkey_kinds.specs.Tree.{list_tree, map_tree, always, where_some, where_true}
 use Rattle.passkey_kinds.specs.declared.make_credential.options.Options.{Options}
@@ -9,6 +9,7 @@ use Rattle.passkey_webauthn.specs.CredentialType.{credential_type_name}
 use Rattle.passkey_webauthn.specs.Transport.{transport_name}
 use Rattle.passkey_webauthn.specs.declared.credential_type.PublicKeyCredentialType.{PublicKeyCredentialType}
 use Rattle.passkey_webauthn.specs.declared.descriptor.PublicKeyCredentialDescriptor.{PublicKeyCredentialDescriptor}
+use Rattle.passkey_webauthn.specs.declared.user.PublicKeyCredentialUserEntity as webauthn
 use Rattle.passkey_webauthn.specs.declared.transport.AuthenticatorTransport.{AuthenticatorTransport}
 
 abbrev pub credential_type_tree : PublicKeyCredentialType → Item
@@ -37,6 +38,13 @@ user_tree u = map_tree (
     ++ where_some (text_string (codes "name")) text_string u.name
     ++ where_some (text_string (codes "displayName")) text_string u.display_name
     ++ where_some (text_string (codes "icon")) text_string u.icon_url)
+
+abbrev pub webauthn_user_tree : webauthn.PublicKeyCredentialUserEntity → Item
+webauthn_user_tree u = map_tree (
+    []
+    ++ always (text_string (codes "id")) byte_string u.id
+    ++ always (text_string (codes "displayName")) text_string u.display_name
+    ++ always (text_string (codes "name")) text_string u.name)
 
 -- that the user is to be there is the default, and is written where it is so
 abbrev pub options_tree : Options → Item

@@ -14,6 +14,7 @@ mod refusal;
 mod rows;
 mod to_cbor;
 mod tolerated;
+mod user;
 mod written;
 
 pub use fault::Fault;

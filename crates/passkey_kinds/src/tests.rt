@@ -7,6 +7,7 @@ use std::test::Fail;
 mod faults;
 mod kinds;
 mod records;
+mod writing;
 
 /// The value that the item stands for; none where it stands for none.
 fn read<T: FromCbor>(alloc: Global, bytes: &[u8]) -> Result<Option<T>, Fail> {

@@ -91,11 +91,17 @@ impl<T: ToCbor> ToCbor for Option<T> {
     }
 }
 
+fn written_name<T: EnumNames>(alloc: Global, value: T) -> Result<Value, OutOfMemory>
+    ensures { IfOk result (λ v. item_of v ≡ text_string (T.name_of value)) }
+{
+    text(alloc, value.name())
+}
+
 impl ToCbor for PublicKeyCredentialType {
     ghost tree = { credential_type_tree };
 
     fn to_value(&self, alloc: Global) -> Result<Value, OutOfMemory> {
-        text(alloc, self.name())
+        written_name(alloc, *self)
     }
 }
 
@@ -103,6 +109,6 @@ impl ToCbor for AuthenticatorTransport {
     ghost tree = { transport_tree };
 
     fn to_value(&self, alloc: Global) -> Result<Value, OutOfMemory> {
-        text(alloc, self.name())
+        written_name(alloc, *self)
     }
 }

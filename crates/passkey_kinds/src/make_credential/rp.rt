@@ -1,5 +1,6 @@
 //! Relying parties, as CTAP2 names them.
-ghost use Rattle.std.specs.Prelude.{true};
+ghost use Rattle.std.specs.Prelude.{◌≡◌, ◌<◌, ◌⊎◌, length, true, IfOk, OnErr};
+ghost use Rattle.std.specs.Option.{IsSomeAnd};
 ghost use Rattle.passkey_kinds.specs.MakeRp.{RpValues, rp_table, rp_values, rp_of, rp};
 ghost use Rattle.passkey_kinds.specs.MakeRpHeld.{rp_held};
 ghost use Rattle.passkey_kinds.specs.declared.make_credential.rp.PublicKeyCredentialRpEntity.{PublicKeyCredentialRpEntity as RpEntity};
@@ -22,6 +23,24 @@ pub struct PublicKeyCredentialRpEntity {
     pub id: Text,
     /// A name for people to read.
     pub name: Option<Text>,
+}
+
+impl PublicKeyCredentialRpEntity {
+    /// An equal value. `OutOfMemory` where a growth was refused, which cannot be where both texts are
+    /// empty or not there.
+    pub fn try_clone(&self, alloc: Global) -> Result<PublicKeyCredentialRpEntity, OutOfMemory>
+        ensures same { IfOk result (λ copy. copy ≡ self.now) }
+        ensures grows { OnErr result ((0 < length self.now.id) ⊎ IsSomeAnd self.now.name (λ name. 0 < length name)) }
+    {
+        let name = match &self.name {
+            Some(name) => Some(name.try_clone(alloc)?),
+            None => None,
+        };
+        Ok(PublicKeyCredentialRpEntity {
+            id: self.id.try_clone(alloc)?,
+            name,
+        })
+    }
 }
 
 #[derive(Drop)]

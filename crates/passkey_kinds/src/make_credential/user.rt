@@ -1,5 +1,6 @@
 //! Users, as CTAP2 names them.
-ghost use Rattle.std.specs.Prelude.{true};
+ghost use Rattle.std.specs.Prelude.{◌≡◌, ◌<◌, ◌⊎◌, length, true, IfOk, OnErr};
+ghost use Rattle.std.specs.Option.{IsSomeAnd};
 ghost use Rattle.passkey_kinds.specs.MakeUser.{UserValues, user_table, user_values, user_of, user};
 ghost use Rattle.passkey_kinds.specs.MakeUserHeld.{user_held};
 ghost use Rattle.passkey_kinds.specs.declared.make_credential.user.PublicKeyCredentialUserEntity.{PublicKeyCredentialUserEntity as UserEntity};
@@ -26,6 +27,32 @@ pub struct PublicKeyCredentialUserEntity {
     pub display_name: Option<Text>,
     /// Where an image of the account is found: `icon`.
     pub icon_url: Option<Text>,
+}
+
+fn copied(alloc: Global, text: &Option<Text>) -> Result<Option<Text>, OutOfMemory>
+    ensures same { IfOk result (λ copy. copy ≡ text.now) }
+    ensures grows { OnErr result (IsSomeAnd text.now (λ t. 0 < length t)) }
+{
+    match text {
+        Some(text) => Ok(Some(text.try_clone(alloc)?)),
+        None => Ok(None),
+    }
+}
+
+impl PublicKeyCredentialUserEntity {
+    /// An equal value. `OutOfMemory` where a growth was refused, which cannot be where the id and the
+    /// texts are empty or not there.
+    pub fn try_clone(&self, alloc: Global) -> Result<PublicKeyCredentialUserEntity, OutOfMemory>
+        ensures same { IfOk result (λ copy. copy ≡ self.now) }
+        ensures grows { OnErr result ((0 < length self.now.id) ⊎ IsSomeAnd self.now.name (λ t. 0 < length t) ⊎ IsSomeAnd self.now.display_name (λ t. 0 < length t) ⊎ IsSomeAnd self.now.icon_url (λ t. 0 < length t)) }
+    {
+        Ok(PublicKeyCredentialUserEntity {
+            id: self.id.try_clone(alloc)?,
+            name: copied(alloc, &self.name)?,
+            display_name: copied(alloc, &self.display_name)?,
+            icon_url: copied(alloc, &self.icon_url)?,
+        })
+    }
 }
 
 #[derive(Drop)]

@@ -1,0 +1,135 @@
+use super::read;
+use crate::make_credential::{Options, PublicKeyCredentialRpEntity, PublicKeyCredentialUserEntity};
+use crate::{Fault, ToCbor};
+use passkey_bytes::{Bytes, List, Text};
+use passkey_cbor::Value;
+use passkey_webauthn as webauthn;
+use passkey_webauthn::{
+    AuthenticatorTransport, PublicKeyCredentialDescriptor, PublicKeyCredentialType,
+};
+use std::alloc::Global;
+use std::test::Fail;
+
+/// Whether the value is written as these bytes.
+fn is_written<T: ToCbor>(alloc: Global, value: &T, bytes: &[u8]) -> Result<bool, Fail> {
+    let written = value.to_value(alloc)?.to_vec(alloc)?;
+    Ok(written.as_slice() == bytes)
+}
+
+#[test]
+fn single_values_are_written(rt: HostRuntime) -> Result<(), Fail> {
+    assert!(rt; is_written(rt.alloc(), &true, &[0xf5])?);
+    assert!(rt; is_written(rt.alloc(), &255u8, &[0x18, 0xff])?);
+    assert!(rt; is_written(rt.alloc(), &0x0001_0000u32, &[0x1a, 0x00, 0x01, 0x00, 0x00])?);
+    assert!(rt; is_written(rt.alloc(), &Text::from_str(rt.alloc(), "a")?, &[0x61, 0x61])?);
+    assert!(rt;
+        is_written(
+            rt.alloc(),
+            &Bytes::from_slice(rt.alloc(), &[7])?,
+            &[0x41, 0x07]
+        )?
+    );
+    assert!(rt; is_written(rt.alloc(), &Value::Null, &[0xf6])?);
+    assert!(rt; is_written(rt.alloc(), &Some(5u8), &[0x05])?);
+    let none: Option<u8> = None;
+    assert!(rt; is_written(rt.alloc(), &none, &[0xf6])?);
+    let list = List::from(vec![in rt.alloc(); 1u8, 2]?);
+    assert!(rt; is_written(rt.alloc(), &list, &[0x82, 0x01, 0x02])?);
+    let unknown = [0x67, 0x75, 0x6e, 0x6b, 0x6e, 0x6f, 0x77, 0x6e];
+    assert!(rt; is_written(rt.alloc(), &PublicKeyCredentialType::Unknown, &unknown)?);
+    let ble = [0x63, 0x62, 0x6c, 0x65];
+    assert!(rt; is_written(rt.alloc(), &AuthenticatorTransport::Ble, &ble)?);
+    Ok(())
+}
+
+#[test]
+fn descriptors_are_written(rt: HostRuntime) -> Result<(), Fail> {
+    let mut descriptor = PublicKeyCredentialDescriptor {
+        ty: PublicKeyCredentialType::PublicKey,
+        id: Bytes::from_slice(rt.alloc(), &[7])?,
+        transports: None,
+    };
+    let alone = [
+        0xa2, 0x64, 0x74, 0x79, 0x70, 0x65, 0x6a, 0x70, 0x75, 0x62, 0x6c, 0x69, 0x63, 0x2d, 0x6b,
+        0x65, 0x79, 0x62, 0x69, 0x64, 0x41, 0x07,
+    ];
+    assert!(rt; is_written(rt.alloc(), &descriptor, &alone)?);
+    let transports = vec![in rt.alloc(); AuthenticatorTransport::Usb]?;
+    descriptor.transports = Some(List::from(transports));
+    let whole = [
+        0xa3, 0x64, 0x74, 0x79, 0x70, 0x65, 0x6a, 0x70, 0x75, 0x62, 0x6c, 0x69, 0x63, 0x2d, 0x6b,
+        0x65, 0x79, 0x62, 0x69, 0x64, 0x41, 0x07, 0x6a, 0x74, 0x72, 0x61, 0x6e, 0x73, 0x70, 0x6f,
+        0x72, 0x74, 0x73, 0x81, 0x63, 0x75, 0x73, 0x62,
+    ];
+    assert!(rt; is_written(rt.alloc(), &descriptor, &whole)?);
+    assert!(rt; read(rt.alloc(), &whole)? == Some(descriptor));
+    Ok(())
+}
+
+#[test]
+fn relying_parties_and_users_are_written(rt: HostRuntime) -> Result<(), Fail> {
+    let rp = PublicKeyCredentialRpEntity {
+        id: Text::from_str(rt.alloc(), "a")?,
+        name: Some(Text::from_str(rt.alloc(), "b")?),
+    };
+    let bytes = [
+        0xa2, 0x62, 0x69, 0x64, 0x61, 0x61, 0x64, 0x6e, 0x61, 0x6d, 0x65, 0x61, 0x62,
+    ];
+    assert!(rt; is_written(rt.alloc(), &rp, &bytes)?);
+    assert!(rt; rp.try_clone(rt.alloc())? == rp);
+    let user = PublicKeyCredentialUserEntity {
+        id: Bytes::empty(rt.alloc()),
+        name: None,
+        display_name: Some(Text::empty(rt.alloc())),
+        icon_url: Some(Text::from_str(rt.alloc(), "i")?),
+    };
+    let bytes = [
+        0xa3, 0x62, 0x69, 0x64, 0x40, 0x6b, 0x64, 0x69, 0x73, 0x70, 0x6c, 0x61, 0x79, 0x4e, 0x61,
+        0x6d, 0x65, 0x60, 0x64, 0x69, 0x63, 0x6f, 0x6e, 0x61, 0x69,
+    ];
+    assert!(rt; is_written(rt.alloc(), &user, &bytes)?);
+    assert!(rt; user.try_clone(rt.alloc())? == user);
+    Ok(())
+}
+
+#[test]
+fn users_of_webauthn_are_read_and_written(rt: HostRuntime) -> Result<(), Fail> {
+    // id, name, displayName: each empty
+    let item = [
+        0xa3, 0x62, 0x69, 0x64, 0x40, 0x64, 0x6e, 0x61, 0x6d, 0x65, 0x60, 0x6b, 0x64, 0x69, 0x73,
+        0x70, 0x6c, 0x61, 0x79, 0x4e, 0x61, 0x6d, 0x65, 0x60,
+    ];
+    let Some(user) = read::<webauthn::PublicKeyCredentialUserEntity>(rt.alloc(), &item)? else {
+        return Err(Fault::NotAMap)?;
+    };
+    let bytes = [
+        0xa3, 0x62, 0x69, 0x64, 0x40, 0x6b, 0x64, 0x69, 0x73, 0x70, 0x6c, 0x61, 0x79, 0x4e, 0x61,
+        0x6d, 0x65, 0x60, 0x64, 0x6e, 0x61, 0x6d, 0x65, 0x60,
+    ];
+    assert!(rt; is_written(rt.alloc(), &user, &bytes)?);
+    // no name
+    let item = [
+        0xa2, 0x62, 0x69, 0x64, 0x40, 0x6b, 0x64, 0x69, 0x73, 0x70, 0x6c, 0x61, 0x79, 0x4e, 0x61,
+        0x6d, 0x65, 0x60,
+    ];
+    assert!(rt; read::<webauthn::PublicKeyCredentialUserEntity>(rt.alloc(), &item)?.is_none());
+    Ok(())
+}
+
+#[test]
+fn the_default_is_written_where_it_is_true(rt: HostRuntime) -> Result<(), Fail> {
+    let options = Options {
+        rk: true,
+        up: false,
+        uv: false,
+    };
+    let bytes = [0xa2, 0x62, 0x72, 0x6b, 0xf5, 0x62, 0x75, 0x76, 0xf4];
+    assert!(rt; is_written(rt.alloc(), &options, &bytes)?);
+    let back = read::<Options>(rt.alloc(), &bytes)?;
+    assert_eq!(rt; back.map(|options| options.up), Some(true));
+    let bytes = [
+        0xa3, 0x62, 0x72, 0x6b, 0xf4, 0x62, 0x75, 0x70, 0xf5, 0x62, 0x75, 0x76, 0xf4,
+    ];
+    assert!(rt; is_written(rt.alloc(), &Options::default(), &bytes)?);
+    Ok(())
+}
