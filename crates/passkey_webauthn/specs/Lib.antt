@@ -2,3 +2,4 @@ pub mod Names
 pub mod CredentialType
 pub mod Transport
 pub mod NameLaws
+pub mod NumberText

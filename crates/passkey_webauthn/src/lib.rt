@@ -4,6 +4,7 @@
 mod credential_type;
 mod descriptor;
 mod names;
+mod number_text;
 mod parameters;
 mod rp;
 mod transport;
@@ -12,6 +13,7 @@ mod user;
 pub use credential_type::PublicKeyCredentialType;
 pub use descriptor::PublicKeyCredentialDescriptor;
 pub use names::EnumNames;
+pub use number_text::whole_part;
 pub use parameters::PublicKeyCredentialParameters;
 pub use passkey_cbor::OutOfMemory;
 pub use rp::PublicKeyCredentialRpEntity;

@@ -1,0 +1,32 @@
+-- Texts of numbers: an optional sign, digits, and optionally a point and digits, with at least one digit.
+use Rattle.std.specs.Prelude.{ℕ, ◌==◌, Bool, ◌&&◌, List, ◌++◌, length, nat_lt, ℤ, Option, Some, None, if◌then◌else◌, option_and_then}
+use Rattle.std.specs.List.{before_first, after_first, list_all}
+use Rattle.std.specs.Char.{is_ascii_digit}
+use Rattle.std.specs.Str.Parse.{without_leading_sign, signed_digits_value}
+use Rattle.passkey_cose.specs.KeyFaults.{is_signed_64}
+
+-- `.`
+abbrev pub is_point : ℕ → Bool
+is_point c = c == 46
+
+-- what stands before the first point, and behind it
+abbrev pub before_point : List ℕ → List ℕ
+before_point text = before_first is_point text
+
+abbrev pub after_point : List ℕ → List ℕ
+after_point text = after_first is_point text
+
+-- both together, without a sign in front
+abbrev pub digits : List ℕ → List ℕ
+digits text = without_leading_sign (before_point text) ++ after_point text
+
+abbrev pub is_number_text : List ℕ → Bool
+is_number_text text = list_all is_ascii_digit (digits text) && nat_lt 0 (length (digits text))
+
+-- the number that a number text writes, cut towards zero
+abbrev pub whole_of : List ℕ → Option ℤ
+whole_of text = if is_number_text text then Some (signed_digits_value 10 (before_point text)) else None
+
+-- the same, where it fits in 64 bits with its sign
+abbrev pub whole_64 : List ℕ → Option ℤ
+whole_64 text = option_and_then (λ v. if is_signed_64 v then Some v else None) (whole_of text)
