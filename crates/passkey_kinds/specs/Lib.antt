@@ -17,3 +17,6 @@ pub mod Trees
 pub mod Written
 pub mod User
 pub mod UserHeld
+pub mod Algorithm
+pub mod Parameters
+pub mod ParametersHeld

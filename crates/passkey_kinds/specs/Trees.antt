@@ -1,6 +1,7 @@
 -- What the records are written as (CTAP 2.1, section 6; WebAuthn Level 3, section 5).
 use Rattle.std.specs.Prelude.{[], ◌++◌, codes}
 use Rattle.passkey_cbor.specs.Item.{Item, boolean, byte_string, text_string}
+use Rattle.passkey_kinds.specs.Algorithm.{algorithm_tree}
 use Rattle.passkey_kinds.specs.Tree.{list_tree, map_tree, always, where_some, where_true}
 use Rattle.passkey_kinds.specs.declared.make_credential.options.Options.{Options}
 use Rattle.passkey_kinds.specs.declared.make_credential.rp.PublicKeyCredentialRpEntity.{PublicKeyCredentialRpEntity}
@@ -10,6 +11,7 @@ use Rattle.passkey_webauthn.specs.Transport.{transport_name}
 use Rattle.passkey_webauthn.specs.declared.credential_type.PublicKeyCredentialType.{PublicKeyCredentialType}
 use Rattle.passkey_webauthn.specs.declared.descriptor.PublicKeyCredentialDescriptor.{PublicKeyCredentialDescriptor}
 use Rattle.passkey_webauthn.specs.declared.user.PublicKeyCredentialUserEntity as webauthn
+use Rattle.passkey_webauthn.specs.declared.parameters.PublicKeyCredentialParameters.{PublicKeyCredentialParameters}
 use Rattle.passkey_webauthn.specs.declared.transport.AuthenticatorTransport.{AuthenticatorTransport}
 
 abbrev pub credential_type_tree : PublicKeyCredentialType → Item
@@ -24,6 +26,12 @@ descriptor_tree d = map_tree (
     ++ always (text_string (codes "type")) credential_type_tree d.ty
     ++ always (text_string (codes "id")) byte_string d.id
     ++ where_some (text_string (codes "transports")) (list_tree transport_tree) d.transports)
+
+abbrev pub parameters_tree : PublicKeyCredentialParameters → Item
+parameters_tree p = map_tree (
+    []
+    ++ always (text_string (codes "type")) credential_type_tree p.ty
+    ++ always (text_string (codes "alg")) algorithm_tree p.alg)
 
 abbrev pub rp_tree : PublicKeyCredentialRpEntity → Item
 rp_tree r = map_tree (

@@ -1,6 +1,7 @@
 //! How the members of CTAP2's messages are read from items and written as items.
 #![tactic(auto)]
 
+mod algorithm;
 mod bytes;
 mod descriptor;
 mod fault;
@@ -9,6 +10,7 @@ pub mod laws;
 mod list;
 pub mod make_credential;
 mod names;
+mod parameters;
 mod record;
 mod refusal;
 mod rows;

@@ -2,6 +2,7 @@ use super::read;
 use crate::{TolerantList, Tolerated};
 use passkey_bytes::{Bytes, List, Text};
 use passkey_cbor::Value;
+use passkey_cose::iana::Algorithm;
 use passkey_webauthn::{AuthenticatorTransport, PublicKeyCredentialType};
 use std::alloc::Global;
 use std::test::Fail;
@@ -130,5 +131,42 @@ fn names_are_read_of_texts_alone(rt: HostRuntime) -> Result<(), Fail> {
     assert_eq!(rt; bytes, None);
     let other = read::<PublicKeyCredentialType>(rt.alloc(), &[0x60])?;
     assert_eq!(rt; other, None);
+    Ok(())
+}
+
+#[test]
+fn algorithms_are_numbers_or_texts_of_one(rt: HostRuntime) -> Result<(), Fail> {
+    assert_eq!(rt;
+        read::<Algorithm>(rt.alloc(), &[0x26])?,
+        Some(Algorithm::ES256)
+    );
+    assert_eq!(rt;
+        read::<Algorithm>(rt.alloc(), &[0x27])?,
+        Some(Algorithm::EdDSA)
+    );
+    assert_eq!(rt;
+        read::<Algorithm>(rt.alloc(), &[0x38, 0x31])?,
+        Some(Algorithm::ML_DSA_87)
+    );
+    assert_eq!(rt;
+        read::<Algorithm>(rt.alloc(), &[0x39, 0xff, 0xfe])?,
+        Some(Algorithm::RS1)
+    );
+    // -65537, 0, and "-7", "-7.9", "-7e0"
+    assert_eq!(rt;
+        read::<Algorithm>(rt.alloc(), &[0x3a, 0x00, 0x01, 0x00, 0x00])?,
+        None
+    );
+    assert_eq!(rt; read::<Algorithm>(rt.alloc(), &[0x00])?, None);
+    let text = read::<Algorithm>(rt.alloc(), &[0x62, 0x2d, 0x37])?;
+    assert_eq!(rt; text, Some(Algorithm::ES256));
+    let cut = read::<Algorithm>(rt.alloc(), &[0x64, 0x2d, 0x37, 0x2e, 0x39])?;
+    assert_eq!(rt; cut, Some(Algorithm::ES256));
+    let exponent = read::<Algorithm>(rt.alloc(), &[0x64, 0x2d, 0x37, 0x65, 0x30])?;
+    assert_eq!(rt; exponent, None);
+    // the least number that CBOR has, and -7 as a float of 2 bytes
+    let least = [0x3b, 0xff, 0xff, 0xff, 0xff, 0xff, 0xff, 0xff, 0xff];
+    assert_eq!(rt; read::<Algorithm>(rt.alloc(), &least)?, None);
+    assert_eq!(rt; read::<Algorithm>(rt.alloc(), &[0xf9, 0xc7, 0x00])?, None);
     Ok(())
 }

@@ -53,8 +53,9 @@ fn unknown_transports_and_types_are_passed_over(rt: HostRuntime) -> Result<(), F
     let Some(read) = descriptor(rt.alloc(), &item)? else {
         return Err(Fault::NotAMap)?;
     };
-    assert_eq!(rt; read.ty, PublicKeyCredentialType::Unknown);
-    let Some(transports) = read.transports else {
+    let PublicKeyCredentialDescriptor { ty, transports, .. } = read;
+    assert_eq!(rt; ty, PublicKeyCredentialType::Unknown);
+    let Some(transports) = transports else {
         return Err(Fault::NotAMap)?;
     };
     let want = [AuthenticatorTransport::Usb, AuthenticatorTransport::Nfc];

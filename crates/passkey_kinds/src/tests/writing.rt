@@ -3,9 +3,11 @@ use crate::make_credential::{Options, PublicKeyCredentialRpEntity, PublicKeyCred
 use crate::{Fault, ToCbor};
 use passkey_bytes::{Bytes, List, Text};
 use passkey_cbor::Value;
+use passkey_cose::iana::Algorithm;
 use passkey_webauthn as webauthn;
 use passkey_webauthn::{
-    AuthenticatorTransport, PublicKeyCredentialDescriptor, PublicKeyCredentialType,
+    AuthenticatorTransport, PublicKeyCredentialDescriptor, PublicKeyCredentialParameters,
+    PublicKeyCredentialType,
 };
 use std::alloc::Global;
 use std::test::Fail;
@@ -131,5 +133,41 @@ fn the_default_is_written_where_it_is_true(rt: HostRuntime) -> Result<(), Fail> 
         0xa3, 0x62, 0x72, 0x6b, 0xf4, 0x62, 0x75, 0x70, 0xf5, 0x62, 0x75, 0x76, 0xf4,
     ];
     assert!(rt; is_written(rt.alloc(), &Options::default(), &bytes)?);
+    Ok(())
+}
+
+#[test]
+fn parameters_are_read_and_written(rt: HostRuntime) -> Result<(), Fail> {
+    // alg: -7, type: "public-key"
+    let item = [
+        0xa2, 0x63, 0x61, 0x6c, 0x67, 0x26, 0x64, 0x74, 0x79, 0x70, 0x65, 0x6a, 0x70, 0x75, 0x62,
+        0x6c, 0x69, 0x63, 0x2d, 0x6b, 0x65, 0x79,
+    ];
+    let parameters = PublicKeyCredentialParameters {
+        ty: PublicKeyCredentialType::PublicKey,
+        alg: Algorithm::ES256,
+    };
+    assert_eq!(rt; read(rt.alloc(), &item)?, Some(parameters));
+    let bytes = [
+        0xa2, 0x64, 0x74, 0x79, 0x70, 0x65, 0x6a, 0x70, 0x75, 0x62, 0x6c, 0x69, 0x63, 0x2d, 0x6b,
+        0x65, 0x79, 0x63, 0x61, 0x6c, 0x67, 0x26,
+    ];
+    assert!(rt; is_written(rt.alloc(), &parameters, &bytes)?);
+    // type: a number; no type; no algorithm
+    let item = [
+        0xa2, 0x63, 0x61, 0x6c, 0x67, 0x26, 0x64, 0x74, 0x79, 0x70, 0x65, 0x00,
+    ];
+    let other = read::<PublicKeyCredentialParameters>(rt.alloc(), &item)?;
+    assert_eq!(rt; other.map(|p| p.ty), Some(PublicKeyCredentialType::Unknown));
+    let item = [0xa1, 0x63, 0x61, 0x6c, 0x67, 0x26];
+    assert_eq!(rt;
+        read::<PublicKeyCredentialParameters>(rt.alloc(), &item)?,
+        None
+    );
+    let item = [0xa1, 0x64, 0x74, 0x79, 0x70, 0x65, 0x00];
+    assert_eq!(rt;
+        read::<PublicKeyCredentialParameters>(rt.alloc(), &item)?,
+        None
+    );
     Ok(())
 }

@@ -1,0 +1,57 @@
+//! Algorithms, read of items and written.
+ghost use Rattle.std.specs.Prelude.{◌≡◌, false, IfOk};
+ghost use Rattle.std.specs.Option.{option_and_then};
+ghost use Rattle.passkey_cbor.specs.View.{item_of};
+ghost use Rattle.passkey_cose.specs.Iana.{algorithm_named};
+ghost use Rattle.passkey_cose.specs.declared.iana.Algorithm.{Algorithm as Named};
+ghost use Rattle.passkey_kinds.specs.Algorithm.{signed_64, algorithm, algorithm_tree};
+ghost use Rattle.passkey_kinds.specs.Kind.{AnswersAs};
+
+use crate::from_cbor::FromCbor;
+use crate::refusal::Refusal;
+use crate::to_cbor::ToCbor;
+use passkey_cbor::{Integer, OutOfMemory, Value};
+use passkey_cose::iana::{Algorithm, EnumI64};
+use passkey_webauthn::whole_part;
+use std::alloc::Global;
+
+fn signed_64(n: Integer) -> Option<i64>
+    ensures { result ≡ signed_64 n }
+{
+    i64::try_from(n.get()).ok()
+}
+
+fn named(number: Option<i64>) -> Result<Algorithm, Refusal>
+    ensures { AnswersAs (λ a. a) (option_and_then algorithm_named number) ⊥ result }
+{
+    match number {
+        Some(number) => Algorithm::from_i64(number).ok_or(Refusal::Refused),
+        None => Err(Refusal::Refused),
+    }
+}
+
+impl FromCbor for Algorithm {
+    ghost Meaning = { Named };
+
+    ghost view = { λ a. a };
+
+    ghost kind = { algorithm };
+
+    ghost takes = { false };
+
+    fn from_value(_alloc: Global, value: &Value) -> Result<Algorithm, Refusal> {
+        match value {
+            Value::Integer(n) => named(signed_64(*n)),
+            Value::Text(text) => named(whole_part(text.as_str())),
+            _ => Err(Refusal::Refused),
+        }
+    }
+}
+
+impl ToCbor for Algorithm {
+    ghost tree = { algorithm_tree };
+
+    fn to_value(&self, _alloc: Global) -> Result<Value, OutOfMemory> {
+        Ok(Value::Integer(Integer::new(i128::from(self.to_i64())).unwrap()))
+    }
+}
