@@ -4,7 +4,8 @@ ghost use Rattle.passkey_webauthn.specs.Transport.{transport_name, transport_nam
 
 use crate::names::EnumNames;
 
-/// How a client can reach an authenticator (WebAuthn Level 3, section 5.8.4).
+/// How a client can reach an authenticator (WebAuthn Level 3, section 5.8.4). Other names that the
+/// specification has, as `smart-card`, are none here.
 #[derive(Clone, Copy, Debug, PartialEq, Eq)]
 pub enum AuthenticatorTransport {
     /// Over a removable USB device.
