@@ -10,6 +10,7 @@ use Rattle.passkey_kinds.specs.Table.{Entry, Row, Table, Naming, row, unknown, e
 use Rattle.passkey_kinds.specs.declared.refusal.Refusal.{Refusal}
 use Rattle.passkey_kinds.specs.declared.refusal.Refusal.TheVariants as refusal
 use Rattle.passkey_kinds.specs.declared.fault.Fault.TheVariants.{Repeated, Refused}
+use Rattle.passkey_kinds.proofs.Unknown.{found_pushed}
 
 none_of : {X : Type 0} (o : Option X) → is_some o ≡ false → o ≡ None
 none_of None e = refl
@@ -48,10 +49,6 @@ found_push table key value n naming (m ∷ ms) e k =
       | false ↦ λ h. λ u. λ r. rw r refl
     ]) refl refl rest
 
-found_same : (table : Table) (key value : Item) → named table key ≡ unknown → (earlier : Members) (k : ℕ) → found table (earlier ++ (key, value) ∷ []) k ≡ found table earlier k
-found_same table key value naming [] k = ap (λ (m : Naming). if is_row k m then Some value else None) naming
-found_same table key value naming (m ∷ ms) k = ap (λ (o : Option Item). if is_row k (named table m.0) then Some m.1 else o) (found_same table key value naming ms k)
-
 -- ---- slots and marks
 
 module _ {V : Type 0} (table : Table) (values : Values V) (earlier : Members) (key value : Item) (held : V) (marks : List Bool) (h : Holds table values earlier held marks) where
@@ -60,7 +57,7 @@ module _ {V : Type 0} (table : Table) (values : Values V) (earlier : Members) (k
 
   pub stays : named table key ≡ unknown → Holds table values (earlier ++ (key, value) ∷ []) held marks
   stays naming =
-      let same : (k : ℕ) → found table (earlier ++ (key, value) ∷ []) k ≡ found table earlier k = found_same table key value naming earlier in
+      let same : (k : ℕ) → found table (earlier ++ (key, value) ∷ []) k ≡ found table earlier k = found_pushed table earlier key value naming in
       record {
         filled = ap values (λ i k. same k i) ∙ h.filled;
         marked = λ n small. h.marked n small ∙ ap (λ (o : Option Item). Some (is_some o)) (sym (same n));
