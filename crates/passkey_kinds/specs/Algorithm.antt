@@ -1,15 +1,11 @@
 -- Algorithms, by their numbers (RFC 9053, section 2; IANA's registry of COSE algorithms).
-use Rattle.std.specs.Prelude.{ℤ, if◌then◌else◌, Option, Some, None}
+use Rattle.std.specs.Prelude.{Option, None}
 use Rattle.std.specs.Option.{option_and_then}
 use Rattle.passkey_cbor.specs.Item.{Item, number, text_string}
 use Rattle.passkey_cose.specs.Iana.{algorithm_number, algorithm_named}
-use Rattle.passkey_cose.specs.KeyFaults.{is_signed_64}
 use Rattle.passkey_cose.specs.declared.iana.Algorithm.{Algorithm}
 use Rattle.passkey_kinds.specs.Kind.{Kind}
-use Rattle.passkey_webauthn.specs.NumberText.{whole_64}
-
-abbrev pub signed_64 : ℤ → Option ℤ
-signed_64 z = if is_signed_64 z then Some z else None
+use Rattle.passkey_webauthn.specs.NumberText.{signed_64, whole_64}
 
 -- a number, or a text of one, cut to its whole part
 abbrev pub algorithm : Kind Algorithm

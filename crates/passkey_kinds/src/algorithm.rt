@@ -4,8 +4,9 @@ ghost use Rattle.std.specs.Option.{option_and_then};
 ghost use Rattle.passkey_cbor.specs.View.{item_of};
 ghost use Rattle.passkey_cose.specs.Iana.{algorithm_named};
 ghost use Rattle.passkey_cose.specs.declared.iana.Algorithm.{Algorithm as Named};
-ghost use Rattle.passkey_kinds.specs.Algorithm.{signed_64, algorithm, algorithm_tree};
+ghost use Rattle.passkey_kinds.specs.Algorithm.{algorithm, algorithm_tree};
 ghost use Rattle.passkey_kinds.specs.Kind.{AnswersAs};
+ghost use Rattle.passkey_webauthn.specs.NumberText.{signed_64};
 
 use crate::from_cbor::FromCbor;
 use crate::refusal::Refusal;

@@ -27,6 +27,10 @@ is_number_text text = list_all is_ascii_digit (digits text) && nat_lt 0 (length 
 abbrev pub whole_of : List ℕ → Option ℤ
 whole_of text = if is_number_text text then Some (signed_digits_value 10 (before_point text)) else None
 
--- the same, where it fits in 64 bits with its sign
+-- a number that fits in 64 bits with its sign
+abbrev pub signed_64 : ℤ → Option ℤ
+signed_64 z = if is_signed_64 z then Some z else None
+
+-- the same, where it fits
 abbrev pub whole_64 : List ℕ → Option ℤ
-whole_64 text = option_and_then (λ v. if is_signed_64 v then Some v else None) (whole_of text)
+whole_64 text = option_and_then signed_64 (whole_of text)
