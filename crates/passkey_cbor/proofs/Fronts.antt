@@ -1,16 +1,18 @@
 -- The item that begins the bytes, and reading it: one and the same.
-use Rattle.std.proofs.Common.{◌≡◌, ℕ, ◌+◌, ◌-◌, ◌≤◌, List, length, take, drop, Some, None, sym, ap, subst, ◌∙◌, arith}
-use Rattle.std.proofs.lemmas.List.{length-append, length-drop, length-take, take-append-drop, take-take, take_at}
+use Rattle.std.proofs.Common.{◌≡◌, ℕ, ◌+◌, ◌-◌, ◌≤◌, List, length, take, drop, Option, Some, None, refl, sym, ap, subst, ◌∙◌, arith}
+use Rattle.std.proofs.lemmas.List.{length-append, length-drop, length-take, take-append-drop, take-take, take_at, drop_at}
+use Rattle.passkey_cbor.specs.Bytes.{IsBytes}
 use Rattle.passkey_cbor.specs.Item.{Item}
 use Rattle.passkey_cbor.specs.Spelling.{Spells}
 use Rattle.passkey_cbor.specs.Front.{max_depth, IsFront, HasNoFront}
-use Rattle.passkey_cbor.specs.Laws.{AtMostOneFront, NoShorterFront}
+use Rattle.passkey_cbor.specs.FrontAt.{front_at, IsFrontOf}
+use Rattle.passkey_cbor.specs.Laws.{AtMostOneFront, NoShorterFront, FrontIsGiven, GivenIsFront}
 use Rattle.passkey_cbor.specs.Reading.{start, item_within}
 use Rattle.passkey_cbor.specs.Walk.{Walk, ahead, IsPlaced}
 use Rattle.passkey_cbor.specs.Steps.{NoHead, PassesOver}
 use Rattle.passkey_cbor.specs.Skipped.{PassesFront, FindsNoFront}
 use Rattle.passkey_cbor.proofs.Binds.{some_is, none_is_some}
-use Rattle.passkey_cbor.proofs.Numbers.{IsBytes, IsBytes-drop}
+use Rattle.passkey_cbor.proofs.Numbers.{IsBytes-drop}
 use Rattle.passkey_cbor.proofs.Lists.{Follows}
 use Rattle.passkey_cbor.proofs.Items.{follows_item}
 
@@ -35,6 +37,25 @@ front_taken bytes x u k fits size e =
 -- where nothing is read, nothing begins the bytes
 pub no_front : (bytes : List ℕ) → start (item_within max_depth) bytes ≡ None → HasNoFront bytes
 no_front bytes e x k f = none_is_some (x, drop k bytes) (sym e ∙ front_again bytes x k f)
+
+pub front_given : FrontIsGiven
+unfolding front_at
+front_given = front_again
+
+pub given_front : GivenIsFront
+unfolding front_at
+given_front bytes fits = by_reading (start (item_within max_depth) bytes) refl where
+  by_reading : (o : Option (Item × List ℕ)) → start (item_within max_depth) bytes ≡ o → IsFrontOf bytes o
+  by_reading None e = no_front bytes e
+  by_reading (Some r) e =
+      let all : Follows _ (item_within max_depth) = follows_item max_depth in
+      let t = all.takes r.0 bytes r.1 fits e in
+      let size : length t.text + length r.1 ≡ length bytes = omega (arith, ap length t.parts, length-append t.text r.1) in
+      record {
+        len = length t.text;
+        front = front_taken bytes r.0 r.1 (length t.text) fits size e;
+        behind = sym (ap (drop (length t.text)) t.parts ∙ drop_at t.text r.1 (length t.text) refl);
+      }
 
 pub at_most_one : AtMostOneFront
 at_most_one bytes x y j k f g =

@@ -2,13 +2,14 @@
 use Rattle.std.proofs.Common.{◌≡◌, ◌⊎◌, ℕ, zero, suc, ◌+◌, ◌*◌, ◌/◌, ◌%◌, ◌<◌, ◌≤◌, List, [], ◌∷◌, ◌++◌, Some, None, refl, sym, ap, subst, ◌∙◌, arith, inl, inr}
 use Rattle.std.specs.Int.{to_be_bytes}
 use Rattle.std.proofs.lemmas.Bool.{cases_eq, cases_lt, lt-ltb, le-ltb, ne_eqb}
+use Rattle.passkey_cbor.specs.Bytes.{IsBytes}
 use Rattle.passkey_cbor.specs.Heads.{Size, one, two, four, eight, width, limit, information, Heads, within, behind, indefinite}
 use Rattle.passkey_cbor.specs.HeadSpelling.{SpellsHead}
 use Rattle.passkey_cbor.specs.HeadReading.{◌>>=◌, number_at, size_of, argument_at, with_argument, without_argument, simple_or_float, simple_at, head_behind, head_at}
 use Rattle.passkey_cbor.specs.declared.head.Head.{Head}
 use Rattle.passkey_cbor.specs.declared.head.Head.TheVariants as head
 use Rattle.passkey_cbor.proofs.Binds.{some_is, none_is_some, bind_some}
-use Rattle.passkey_cbor.proofs.Numbers.{IsBytes, IsBytes-tail, number_is}
+use Rattle.passkey_cbor.proofs.Numbers.{IsBytes-tail, number_is}
 
 -- A text of the language was taken from the bytes, and this is left.
 pub record Took (P : List ℕ → Type 0) (bytes u : List ℕ) : Type 0 where

@@ -2,6 +2,7 @@
 use Rattle.std.proofs.Common.{◌≡◌, ◌⊎◌, ℕ, zero, suc, ◌+◌, ◌<◌, ◌≤◌, pos, negsuc, true, false, List, [], ◌∷◌, ◌++◌, length, Option, Some, None, refl, sym, ap, subst, ◌∙◌, append_assoc, arith, inl, inr}
 use Rattle.std.proofs.lemmas.Bool.{cases_eq, cases_lt, lt-ltb, le-ltb, ne_eqb}
 use Rattle.std.proofs.lemmas.List.{append-nil}
+use Rattle.passkey_cbor.specs.Bytes.{IsBytes}
 use Rattle.passkey_cbor.specs.Item.{Item, number, byte_string, text_string, array, map, tagged, boolean, null, simple, float, Items, no_items, item, Pairs, no_pairs, pair, elements, members, items_of, pairs_of}
 use Rattle.passkey_cbor.specs.Depth.{depth, items_depth, pairs_depth}
 use Rattle.passkey_cbor.specs.Languages.{Language, Is, Then, Each}
@@ -14,7 +15,6 @@ use Rattle.passkey_cbor.specs.Reading.{Reader, start, is_break, list_at, string_
 use Rattle.passkey_cbor.specs.declared.head.Head.{Head}
 use Rattle.passkey_cbor.specs.declared.head.Head.TheVariants as head
 use Rattle.passkey_cbor.proofs.Binds.{some_is, none_is_some, bind_some, bind_at}
-use Rattle.passkey_cbor.proofs.Numbers.{IsBytes}
 use Rattle.passkey_cbor.proofs.HeadTakes.{Took, took_as, head_takes}
 use Rattle.passkey_cbor.proofs.Lists.{Follows, list_at_again, list_takes}
 use Rattle.passkey_cbor.proofs.Strings.{Headed, starts, took_behind, string_again, string_takes, string_headed, headed_string}
@@ -177,7 +177,7 @@ simple_spelled n t (inl s) = by_20 (cases_lt n 20) where
   by_20 (inl lt) = subst (λ (x : Item). Spells x t) (sym (low_simple n lt)) (inl (lt, s.1))
   by_20 (inr le) = by_21 le (cases_eq n 20)
 
-simple_depth : (n : ℕ) → depth (simple_item n) ≡ 0
+pub simple_depth : (n : ℕ) → depth (simple_item n) ≡ 0
 simple_depth n = by_20 (cases_lt n 20) where
   by_24 : 22 ≤ n → (n < 24) ⊎ (24 ≤ n) → depth (simple_item n) ≡ 0
   by_24 le (inl lt) = rw (le-ltb n 20 (omega arith), ne_eqb n 20 (λ (q : n ≡ 20). omega arith), ne_eqb n 21 (λ (q : n ≡ 21). omega arith), lt-ltb n 24 lt) refl

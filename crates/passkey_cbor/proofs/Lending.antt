@@ -1,6 +1,7 @@
 -- Strings that are passed and lent.
 use Rattle.std.proofs.Common.{◌≡◌, ℕ, ◌+◌, ◌-◌, ◌<◌, ◌≤◌, Bool, true, false, List, ◌++◌, length, take, drop, Option, Some, None, option_map, is_some, refl, sym, ap, subst, ◌∙◌, append_assoc, arith}
 use Rattle.std.proofs.lemmas.List.{length-append, length-drop, take-append-drop, take_at}
+use Rattle.passkey_cbor.specs.Bytes.{IsBytes}
 use Rattle.passkey_cbor.specs.Item.{Item}
 use Rattle.passkey_cbor.specs.Depth.{depth}
 use Rattle.passkey_cbor.specs.Languages.{Then}
@@ -16,7 +17,6 @@ use Rattle.passkey_cbor.specs.Lent.{Region, string_item, string_head, PassesStri
 use Rattle.passkey_cbor.specs.declared.head.Head.{Head}
 use Rattle.passkey_cbor.specs.declared.head.Head.TheVariants as head
 use Rattle.passkey_cbor.proofs.Binds.{some_is, none_is_some}
-use Rattle.passkey_cbor.proofs.Numbers.{IsBytes}
 use Rattle.passkey_cbor.proofs.Strings.{starts, spells_string_head, string_head_spells, string_again, string_takes, string_headed, headed_string}
 use Rattle.passkey_cbor.proofs.Standing.{stands_front, only_one}
 

@@ -28,3 +28,4 @@ pub mod Naming
 pub mod Joining
 pub mod MapMembers
 pub mod Emptiness
+pub mod Reach

@@ -2,6 +2,7 @@
 use Rattle.std.proofs.Common.{◌≡◌, ℕ, suc, Bool, true, false, cond, List, ◌++◌, length, Option, Some, None, refl, sym, ap, subst, ◌∙◌, append_assoc, inl, inr}
 use Rattle.std.specs.List.{concat}
 use Rattle.std.proofs.lemmas.Str.{IsUtf8-from_is_utf8, is_utf8-from_IsUtf8}
+use Rattle.passkey_cbor.specs.Bytes.{IsBytes}
 use Rattle.passkey_cbor.specs.Languages.{Language, Then}
 use Rattle.passkey_cbor.specs.Heads.{Heads}
 use Rattle.passkey_cbor.specs.Spelling.{Definite, Strings}
@@ -13,7 +14,7 @@ use Rattle.passkey_cbor.specs.Lent.{string_head}
 use Rattle.passkey_cbor.specs.declared.head.Head.{Head}
 use Rattle.passkey_cbor.specs.declared.head.Head.TheVariants as head
 use Rattle.passkey_cbor.proofs.Binds.{some_is, none_is_some, bind_some, bind_at}
-use Rattle.passkey_cbor.proofs.Numbers.{IsBytes, taken_again, taken_is}
+use Rattle.passkey_cbor.proofs.Numbers.{taken_again, taken_is}
 use Rattle.passkey_cbor.proofs.HeadAgain.{head_again}
 use Rattle.passkey_cbor.proofs.HeadTakes.{Took, took_as, head_takes}
 use Rattle.passkey_cbor.proofs.Lists.{Follows, list_at_again, list_takes}

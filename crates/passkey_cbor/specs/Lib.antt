@@ -6,6 +6,7 @@ pub mod Item
 pub mod Depth
 pub mod Nodes
 pub mod Languages
+pub mod Bytes
 pub mod Heads
 pub mod Spelling
 pub mod Front
@@ -20,6 +21,7 @@ pub mod Laws
 pub mod HeadSpelling
 pub mod HeadReading
 pub mod Reading
+pub mod FrontAt
 pub mod Inside
 pub mod Walk
 pub mod Steps

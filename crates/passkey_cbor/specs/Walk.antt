@@ -1,5 +1,6 @@
 -- Where a cursor stands in its bytes, and what it has counted.
-use Rattle.std.specs.Prelude.{◌≡◌, ℕ, zero, suc, ◌+◌, ◌-◌, ◌^◌, ◌<◌, ◌≤◌, min, List, length, drop, slice_index}
+use Rattle.std.specs.Prelude.{◌≡◌, ℕ, zero, suc, ◌+◌, ◌-◌, ◌^◌, ◌≤◌, min, List, length, drop}
+use Rattle.passkey_cbor.specs.Bytes.{IsBytes}
 
 pub record Walk : Type 0 where
   pub bytes : List ℕ
@@ -19,7 +20,7 @@ raised n (suc k) = min (n + suc k) (2 ^ 128 - 1)
 -- What holds of every cursor: its place is in the bytes, and these are bytes.
 pub record IsPlaced (bytes : List ℕ) (place : ℕ) : Type 0 where
   pub within : place ≤ length bytes
-  pub fits : (i : ℕ) → slice_index bytes i < 256
+  pub fits : IsBytes bytes
 
 abbrev pub IsInside : Walk → Type 0
 IsInside w = w.place ≤ length w.bytes

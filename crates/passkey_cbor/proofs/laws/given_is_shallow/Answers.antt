@@ -1,0 +1,5 @@
+use Rattle.passkey_cbor.proofs.Reach.{given_shallow}
+use Rattle.passkey_cbor.proofs.laws.given_is_shallow.Goals as goal
+
+pub returns : goal.returns
+returns c = given_shallow
