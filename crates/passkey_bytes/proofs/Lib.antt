@@ -3,3 +3,4 @@ mod MapEquality
 mod Maps
 mod SameTables
 mod Decodable
+pub mod Placed

@@ -9,6 +9,7 @@ use Rattle.std.proofs.Common.{◌≡◌, ℕ, Bool, true, false, cond, List, ref
 use Rattle.std.proofs.lemmas.Cmp.{nat_list_cmp_total, nat_list_eq_equiv}
 use Rattle.passkey_bytes.specs.Map.{map_of}
 use Rattle.passkey_bytes.proofs.Maps.{get-map_of, get_or_key}
+use Rattle.passkey_bytes.proofs.Placed.{same_bytes}
 
 module _ {K V : Type 0} (bytes : K → List ℕ) (eq : K → K → Bool) (same : (a b : K) → eq a b ≡ bytes_eq (bytes a) (bytes b)) (key : K) (value : Option V) (old new : List (K × V)) (changed : (q : K) → lookup (eq q) new ≡ cond (eq key q) value (lookup (eq q) old)) where
   abbrev IsChanged : List ℕ → Type 0
@@ -39,9 +40,6 @@ module _ {K V : Type 0} (bytes : K → List ℕ) (eq : K → K → Bool) (same :
       | inl before ↦ elsewhere q (bytes_eq q (bytes key)) refl none before
     ]
   ]
-
-same_bytes : fin.IsAntisymmetric (slice_cmp nat_cmp)
-same_bytes = fin.slice_cmp-IsAntisymmetric fin.nat_cmp-IsAntisymmetric
 
 module _ {K V : Type 0} (bytes : K → List ℕ) (eq : K → K → Bool) (same : (a b : K) → eq a b ≡ bytes_eq (bytes a) (bytes b)) (key : K) (old new : List (K × V)) where
   pub map_of-insert : (v : V) → ((q : K) → lookup (eq q) new ≡ cond (eq key q) (Some v) (lookup (eq q) old)) → map_of bytes new ≡ fin.insert (map_of bytes old) (bytes key) v

@@ -1,7 +1,7 @@
 -- Finite maps from byte strings, and the entries that one is made of.
 use Rattle.std.specs.Prelude.{◌≡◌, ◌<◌, ◌^◌, ◌&&◌, ℕ, Bool, List, map, length, None, MatchOption}
 use Rattle.std.specs.FinMap as fin
-use Rattle.std.specs.List.{IsDistinct, list_all}
+use Rattle.std.specs.List.{IsDistinct, fold, list_all}
 use Rattle.std.specs.Map.{keys_of}
 use Rattle.std.specs.Map.Iter.{GivesInOrder, ShowsInOrder, deref_pair}
 use Rattle.std.specs.Option.{IsSomeAnd, option_eq}
@@ -19,6 +19,10 @@ by_bytes bytes es = map (λ e. (bytes e.0, e.1)) es
 -- the map of these entries, in whatever order they stand
 abbrev pub map_of : {K V : Type 0} → (K → List ℕ) → List (K × V) → ByteMap V
 map_of bytes es = fin.from_entries (by_bytes bytes es)
+
+-- the entries put into a map in their order: of equal keys the last stands
+abbrev pub put_each : {V : Type 0} → ByteMap V → List (List ℕ × V) → ByteMap V
+put_each m es = fold (λ n e. fin.insert n e.0 e.1) m es
 
 -- no two of the entries have the same key, and they are those of the map, in some order
 abbrev pub AreEntries : {K V : Type 0} → (K → List ℕ) → (K → K → Bool) → ByteMap V → List (K × V) → Type 0
