@@ -8,7 +8,7 @@ use Rattle.passkey_core.specs.DataParts.{AttestedParts, DataParts}
 use Rattle.passkey_core.specs.Flags.{reserved_flags}
 use Rattle.passkey_core.specs.DataFlags.{has_flag, attested_flag, extensions_flag}
 use Rattle.passkey_core.specs.DataAnswers.{Gives}
-use Rattle.passkey_core.specs.DataReading.{Begun, ◌>>=◌, bytes_at, known_only, fixed_at, names_parts, has_parts, read_map, ReadsItem, ReadsAttested, ReadsWhere, ReadsData}
+use Rattle.passkey_core.specs.DataReading.{Begun, ◌>>=◌, bytes_at, known_only, fixed_at, names_parts, has_parts, read_map, ReadsItem, Behind, Then, ReadsAttested, ReadsWhere, ReadsData}
 
 -- a fault of one reading that is a fault of another
 pub gives_fault : {A B C D : Type 0} (memory : Type 0) (other : Type 0) (seen : A → B) (told : C → D) (reads : Result B CoseError → Type 0) (answers : Result D CoseError → Type 0) → (memory → other) → ((e : CoseError) → reads (Err e) → answers (Err e)) → (e : CoseError) → Gives memory seen reads (Err e) → Gives other told answers (Err e)
@@ -23,6 +23,20 @@ part_stands part is_there bytes x rest there h = rw there (record { begun = Ok (
 
 pub part_fails : {X : Type 0} (part : List ℕ → Begun X → Type 0) (is_there : Bool) (bytes : List ℕ) → is_there ≡ true → (e : CoseError) → part bytes (Err e) → ReadsWhere is_there part bytes (Err e)
 part_fails part is_there bytes there e h = rw there (record { begun = Err e; begins = h; goes_on = refl })
+
+-- the first part of a reading that finds something, and what goes on behind it
+pub record Went {X Y : Type 0} (first : Begun X → Type 0) (next : X → List ℕ → Result Y CoseError → Type 0) (y : Y) : Type 0 where
+  pub part : X
+  pub rest : List ℕ
+  pub begins : first (Ok (part, rest))
+  pub goes_on : next part rest (Ok y)
+
+went : {X Y : Type 0} (first : Begun X → Type 0) (next : X → List ℕ → Result Y CoseError → Type 0) (y : Y) (begun : Begun X) → first begun → Behind next begun (Ok y) → Went first next y
+went first next y (Ok p) b g = record { part = p.0; rest = p.1; begins = b; goes_on = g }
+went first next y (Err e) b g = cc
+
+pub then_went : {X Y : Type 0} (first : Begun X → Type 0) (next : X → List ℕ → Result Y CoseError → Type 0) (y : Y) → Then first next (Ok y) → Went first next y
+then_went first next y p = went first next y p.begun p.begins p.goes_on
 
 at_shape : {Y : Type 0} (Q : Result Y CoseError → Type 0) → Q (Err DecodeFailed) → (n : ℕ) (bytes : List ℕ) (next : List ℕ × List ℕ → Result Y CoseError) → ((p : List ℕ × List ℕ) → Q (next p)) → Q (bytes_at n bytes >>= next)
 at_shape Q cut n bytes next h =

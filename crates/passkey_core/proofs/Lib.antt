@@ -4,3 +4,4 @@ pub mod StatusAlone
 pub mod DataOne
 pub mod DataCoherent
 pub mod DataBack
+pub mod DataGiven

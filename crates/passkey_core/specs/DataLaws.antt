@@ -1,15 +1,29 @@
 -- Laws of authenticator data.
 use Rattle.std.specs.Prelude.{◌≡◌, ℕ, List, ◌++◌, true, Result, Ok}
+use Rattle.passkey_cbor.specs.Bytes.{IsBytes}
 use Rattle.passkey_cose.specs.declared.error.CoseError.{CoseError}
 use Rattle.passkey_core.specs.Coherent.{is_coherent}
 use Rattle.passkey_core.specs.DataNormal.{normal_data, IsData}
 use Rattle.passkey_core.specs.DataParts.{DataParts}
+use Rattle.passkey_core.specs.DataRead.{read_data}
 use Rattle.passkey_core.specs.DataReading.{ReadsData}
 use Rattle.passkey_core.specs.DataWritten.{data_written}
 
 -- Bytes are read as one thing: these data, or this fault.
 abbrev pub OneReading : Type 0
 OneReading = (bytes : List ℕ) (a b : Result DataParts CoseError) → ReadsData bytes a → ReadsData bytes b → a ≡ b
+
+-- What read_data gives of bytes, data or a fault, is what they are read as.
+abbrev pub GivenIsRead : Type 0
+GivenIsRead = (bytes : List ℕ) → IsBytes bytes → ReadsData bytes (read_data bytes)
+
+-- Data that are read are what read_data gives.
+abbrev pub ReadIsGiven : Type 0
+ReadIsGiven = (bytes : List ℕ) (d : DataParts) → ReadsData bytes (Ok d) → read_data bytes ≡ Ok d
+
+-- What read_data gives is coherent.
+abbrev pub GivenIsCoherent : Type 0
+GivenIsCoherent = (bytes : List ℕ) (d : DataParts) → read_data bytes ≡ Ok d → is_coherent d ≡ true
 
 -- What is read is coherent.
 abbrev pub ReadIsCoherent : Type 0

@@ -16,4 +16,5 @@ pub mod SignedOutputs
 pub mod SignedPut
 pub mod DataSame
 pub mod DataNormal
+pub mod DataRead
 pub mod DataLaws

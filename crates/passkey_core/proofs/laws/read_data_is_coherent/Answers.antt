@@ -1,5 +1,4 @@
-use Rattle.passkey_core.proofs.DataCoherent.{read_is_coherent}
 use Rattle.passkey_core.proofs.laws.read_data_is_coherent.Goals as goal
 
 pub returns : goal.returns
-returns c = read_is_coherent c.read_key_is_readable.ensures
+returns c = λ bytes d h. c.given_data_are_coherent.ensures bytes d (c.read_is_given.ensures bytes d h)

@@ -1,0 +1,5 @@
+use Rattle.passkey_core.proofs.DataGiven.{given_is_read}
+use Rattle.passkey_core.proofs.laws.given_is_read.Goals as goal
+
+pub returns : goal.returns
+returns c = given_is_read c.given_is_front.ensures
