@@ -3,3 +3,4 @@ pub mod CredentialType
 pub mod Transport
 pub mod NameLaws
 pub mod NumberText
+pub mod Parameters

@@ -1,5 +1,5 @@
 //! Naming credentials.
-ghost use Rattle.std.specs.Prelude.{◌≡◌, ◌<◌, ◌⊎◌, length, IfOk, OnErr};
+ghost use Rattle.std.specs.Prelude.{◌≡◌, ◌≢◌, ◌↔◌, ◌<◌, ◌⊎◌, length, IfOk, IsTrue, OnErr};
 ghost use Rattle.std.specs.Option.{IsSomeAnd};
 
 use crate::credential_type::PublicKeyCredentialType;
@@ -20,6 +20,16 @@ pub struct PublicKeyCredentialDescriptor {
 }
 
 impl PublicKeyCredentialDescriptor {
+    /// Whether the type of the credential is known here.
+    pub fn is_known(&self) -> bool
+        ensures { IsTrue result ↔ (self.now.ty ≢ PublicKeyCredentialType.Unknown) }
+    {
+        match self.ty {
+            PublicKeyCredentialType::PublicKey => true,
+            PublicKeyCredentialType::Unknown => false,
+        }
+    }
+
     /// An equal value. `OutOfMemory` where a growth was refused, which cannot be where the id is empty
     /// and no transport is there.
     pub fn try_clone(&self, alloc: Global) -> Result<PublicKeyCredentialDescriptor, OutOfMemory>

@@ -1,6 +1,12 @@
 //! Which keys a relying party can use.
+ghost use Rattle.std.specs.Prelude.{◌≡◌, IfOk};
+ghost use Rattle.passkey_webauthn.specs.Parameters.{default_parameters, public_keys_of};
+
 use crate::credential_type::PublicKeyCredentialType;
+use passkey_bytes::List;
+use passkey_cbor::OutOfMemory;
 use passkey_cose::iana::Algorithm;
+use std::alloc::Global;
 
 /// A type of credential and an algorithm that a relying party can use (WebAuthn Level 3, section
 /// 5.3).
@@ -10,6 +16,33 @@ pub struct PublicKeyCredentialParameters {
     pub ty: PublicKeyCredentialType,
     /// The algorithm of its key.
     pub alg: Algorithm,
+}
+
+impl PublicKeyCredentialParameters {
+    /// What stands for a list that a relying party leaves empty: public keys of ES256, then of RS256
+    /// (WebAuthn Level 3, section 5.1.3). `OutOfMemory` where a growth was refused.
+    pub fn default_algorithms(
+        alloc: Global,
+    ) -> Result<List<PublicKeyCredentialParameters>, OutOfMemory>
+        ensures { IfOk result (λ parameters. parameters ≡ default_parameters) }
+    {
+        Ok(List::from(vec![in alloc;
+            PublicKeyCredentialParameters::from(Algorithm::ES256),
+            PublicKeyCredentialParameters::from(Algorithm::RS256),
+        ]?))
+    }
+}
+
+impl From<Algorithm> for PublicKeyCredentialParameters {
+    ghost from_gives = { λ algorithm parameters. parameters ≡ public_keys_of algorithm };
+
+    /// Public keys of the algorithm.
+    fn from(algorithm: Algorithm) -> PublicKeyCredentialParameters {
+        PublicKeyCredentialParameters {
+            ty: PublicKeyCredentialType::PublicKey,
+            alg: algorithm,
+        }
+    }
 }
 
 #[cfg(test)]

@@ -38,6 +38,8 @@ fn a_copy_is_equal(rt: HostRuntime) -> Result<(), Fail> {
     );
     let empty = descriptor(alloc, PublicKeyCredentialType::Unknown, &[], None)?;
     assert!(rt; empty.try_clone(alloc)? == empty);
+    assert!(rt; named.is_known());
+    assert!(rt; !empty.is_known());
     Ok(())
 }
 

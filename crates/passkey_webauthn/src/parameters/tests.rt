@@ -23,6 +23,15 @@ fn equality_is_of_both_fields(rt: HostRuntime) {
 }
 
 #[test]
+fn defaults_are_es256_and_rs256(rt: HostRuntime) -> Result<(), Fail> {
+    let rs256 = PublicKeyCredentialParameters::from(Algorithm::RS256);
+    assert_eq!(rt; rs256.ty, PublicKeyCredentialType::PublicKey);
+    let defaults = PublicKeyCredentialParameters::default_algorithms(rt.alloc())?;
+    assert!(rt; defaults.as_slice() == [SIGNED, rs256].as_slice());
+    Ok(())
+}
+
+#[test]
 fn prints_its_fields(rt: HostRuntime) -> Result<(), Fail> {
     assert_eq!(rt;
         format!(in rt.alloc(); "{SIGNED:?}")?.as_str(),

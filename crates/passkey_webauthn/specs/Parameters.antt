@@ -1,0 +1,14 @@
+-- Which keys a relying party can use (WebAuthn Level 3, section 5.3).
+use Rattle.std.specs.Prelude.{List, [], ◌∷◌}
+use Rattle.passkey_cose.specs.declared.iana.Algorithm.{Algorithm}
+use Rattle.passkey_cose.specs.declared.iana.Algorithm.TheVariants.{ES256, RS256}
+use Rattle.passkey_webauthn.specs.declared.credential_type.PublicKeyCredentialType.TheVariants.{PublicKey}
+use Rattle.passkey_webauthn.specs.declared.parameters.PublicKeyCredentialParameters.{PublicKeyCredentialParameters}
+
+-- public keys of the algorithm
+abbrev pub public_keys_of : Algorithm → PublicKeyCredentialParameters
+public_keys_of algorithm = record { ty = PublicKey; alg = algorithm }
+
+-- what stands for an empty list of parameters
+abbrev pub default_parameters : List PublicKeyCredentialParameters
+default_parameters = public_keys_of ES256 ∷ public_keys_of RS256 ∷ []
