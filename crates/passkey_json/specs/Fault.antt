@@ -1,0 +1,33 @@
+-- The faults of records, and what a reader answers.
+use Rattle.std.specs.Prelude.{◌≡◌, ℕ, List, Result, Ok, Err}
+use Rattle.passkey_json.specs.declared.json_fault.JsonFault.{JsonFault}
+use Rattle.passkey_json.specs.declared.json_fault.JsonFault.TheVariants as json_fault
+use Rattle.passkey_json.specs.declared.refusal.Refusal.{Refusal}
+use Rattle.passkey_json.specs.declared.refusal.Refusal.TheVariants as refusal
+
+-- what is wrong with a JSON value, by the name of the member that it is wrong in
+pub data Fault : Type 0 where
+  no_object : Fault
+  missing : List ℕ → Fault
+  refused : List ℕ → Fault
+  float : List ℕ → Fault
+  repeated : List ℕ → Fault
+
+-- What a reader answers: what is wanted, the value or the fault; or memory was refused.
+abbrev pub Gives : {A : Type 0} → Result A Fault → Result A JsonFault → Type 0
+Gives wanted (Ok x) = wanted ≡ Ok x
+Gives wanted (Err json_fault.OutOfMemory) = Unit {0}
+Gives wanted (Err json_fault.NotAnObject) = wanted ≡ Err no_object
+Gives wanted (Err (json_fault.Missing name)) = wanted ≡ Err (missing name.now)
+Gives wanted (Err (json_fault.Refused name)) = wanted ≡ Err (refused name.now)
+Gives wanted (Err (json_fault.Float name)) = wanted ≡ Err (float name.now)
+Gives wanted (Err (json_fault.Repeated name)) = wanted ≡ Err (repeated name.now)
+
+-- what a record's fault is where the record stands inside another
+abbrev pub refusal_of : JsonFault → Refusal
+refusal_of json_fault.OutOfMemory = refusal.OutOfMemory
+refusal_of json_fault.NotAnObject = refusal.Refused
+refusal_of (json_fault.Missing name) = refusal.Refused
+refusal_of (json_fault.Refused name) = refusal.Refused
+refusal_of (json_fault.Float name) = refusal.Refused
+refusal_of (json_fault.Repeated name) = refusal.Refused

@@ -1,0 +1,30 @@
+-- What objects and members hold, and what their steps answer.
+use Rattle.std.specs.Prelude.{◌≡◌, Result, Ok, Err, option_map}
+use Rattle.passkey_json.specs.Fault.{Fault, Gives}
+use Rattle.passkey_json.specs.Members.{Object, Member}
+use Rattle.passkey_json.specs.declared.json_fault.JsonFault.{JsonFault}
+use Rattle.passkey_json.specs.declared.json_fault.JsonFault.TheVariants as json_fault
+use Rattle.passkey_json.specs.declared.member.Member.{Member as MemberHeld}
+use Rattle.passkey_json.specs.declared.object.Object.{Object as ObjectHeld}
+use Rattle.passkey_json.specs.declared.refusal.Refusal.{Refusal}
+use Rattle.passkey_json.specs.declared.refusal.Refusal.TheVariants as refusal
+use Rattle.serde_json.specs.Find.{get}
+use Rattle.serde_json.specs.View.{view}
+
+-- what stands at each name of the object
+abbrev pub names_of : ObjectHeld → Object
+names_of o name = get name (view o.value.now)
+
+abbrev pub found : MemberHeld → Member
+found m = record { name = m.name.now; value = option_map (λ v. view v.now) m.value }
+
+-- The same as `Gives`, through what is seen of a value.
+abbrev pub GivesAs : {A M : Type 0} → (A → M) → Result M Fault → Result A JsonFault → Type 0
+GivesAs seen wanted (Ok x) = wanted ≡ Ok (seen x)
+GivesAs seen wanted (Err e) = Gives wanted (Err e)
+
+-- the value, or the default where it was refused
+abbrev pub IsUnlessRefused : {A : Type 0} → A → Result A Refusal → Result A JsonFault → Type 0
+IsUnlessRefused default (Ok x) result = result ≡ Ok x
+IsUnlessRefused default (Err refusal.Refused) result = result ≡ Ok default
+IsUnlessRefused default (Err refusal.OutOfMemory) result = result ≡ Err json_fault.OutOfMemory

@@ -1,0 +1,89 @@
+-- Reading an object member by member, in the order of a table.
+use Rattle.std.specs.Prelude.{ℕ, List, Option, Some, None, Result, Ok, Err, option_map, option_and_then, unwrap_or, if◌then◌else◌, is_some}
+use Rattle.std.specs.Option.{ok_or}
+use Rattle.std.specs.Result.{result_ok}
+use Rattle.passkey_json.specs.Fault.{Fault, no_object, missing, refused, float, repeated}
+use Rattle.passkey_json.specs.Kind.{Kind, accepted}
+use Rattle.serde_json.specs.Data.{Data}
+use Rattle.serde_json.specs.Find.{get, as_object}
+use Rattle.serde_json.specs.Written.{has_float}
+
+-- the answer that follows from a value, or the fault
+infixl 10 ◌>>=◌
+abbrev pub ◌>>=◌ : {A B : Type 0} → Result A Fault → (A → Result B Fault) → Result B Fault
+(Ok x) >>= f = f x
+(Err e) >>= f = Err e
+
+-- what stands at each name
+abbrev pub Object : Type 0
+Object = List ℕ → Option Data
+
+abbrev pub object_of : Data → Result Object Fault
+object_of d = if is_some (as_object d) then Ok (λ name. get name d) else Err no_object
+
+-- what reading members answers of what is an object
+abbrev pub in_object : {A : Type 0} → (Object → Result A Fault) → Data → Result A Fault
+in_object members d = object_of d >>= members
+
+-- a record inside another, where any fault refuses it
+abbrev pub record_kind : {A : Type 0} → (Object → Result A Fault) → Kind A
+record_kind members d = result_ok (in_object members d)
+
+-- a member's name, and what stands there
+pub record Member : Type 0 where
+  pub name : List ℕ
+  pub value : Option Data
+
+abbrev pub under : List ℕ → Option Data → Member
+under name value = record { name = name; value = value }
+
+abbrev pub member : List ℕ → Object → Member
+member name object = under name (object name)
+
+abbrev pub one_of : List ℕ → Option Data → Option Data → Result Member Fault
+one_of name (Some d) (Some e) = Err (repeated name)
+one_of name (Some d) None = Ok (under name (Some d))
+one_of name None found = Ok (under name found)
+
+-- a member with another name, of which one may stand
+abbrev pub aliased : List ℕ → List ℕ → Object → Result Member Fault
+aliased name other object = one_of name (object name) (object other)
+
+-- a value that is refused, for a float or for something else
+abbrev pub fault_of : List ℕ → Data → Fault
+fault_of name d = if has_float d then float name else refused name
+
+abbrev pub judged : {A : Type 0} → Kind A → List ℕ → Data → Result A Fault
+judged kind name d = ok_or (kind d) (fault_of name d)
+
+abbrev pub must : {A : Type 0} → Kind A → List ℕ → Option Data → Result A Fault
+must kind name (Some d) = judged kind name d
+must kind name None = Err (missing name)
+
+abbrev pub may : {A : Type 0} → Kind A → A → List ℕ → Option Data → Result A Fault
+may kind default name (Some d) = judged kind name d
+may kind default name None = Ok default
+
+-- the value, which must be there
+unfoldable pub required : {A : Type 0} → Kind A → Member → Result A Fault
+required kind m = must kind m.name m.value
+
+-- the value, or a default where none is there
+unfoldable pub or_default : {A : Type 0} → A → Kind A → Member → Result A Fault
+or_default default kind m = may kind default m.name m.value
+
+-- some value, where one is there
+unfoldable pub given : {A : Type 0} → Kind A → Member → Result (Option A) Fault
+given kind m = may (λ d. option_map Some (kind d)) None m.name m.value
+
+-- the value, or a default where none is there or it is refused
+unfoldable pub tolerated : {A : Type 0} → A → Kind A → Member → Result A Fault
+tolerated default kind m = Ok (unwrap_or (option_and_then kind m.value) default)
+
+-- the value, which must be there, or a default where it is refused
+unfoldable pub required_tolerated : {A : Type 0} → A → Kind A → Member → Result A Fault
+required_tolerated default kind m = must (λ d. Some (unwrap_or (kind d) default)) m.name m.value
+
+-- the accepted elements of a list, where one is there
+unfoldable pub accepted_list : {A : Type 0} → Kind A → Member → Result (Option (List A)) Fault
+accepted_list kind m = Ok (option_and_then (accepted kind) m.value)

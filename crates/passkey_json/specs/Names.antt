@@ -1,0 +1,23 @@
+-- What the faults are called.
+use Rattle.std.specs.Prelude.{ℕ, List, ◌++◌, Option, Some, option_map, codes}
+use Rattle.std.specs.Fmt.{debug_str}
+use Rattle.passkey_json.specs.declared.json_fault.JsonFault.{JsonFault}
+use Rattle.passkey_json.specs.declared.json_fault.JsonFault.TheVariants as fault
+use Rattle.passkey_json.specs.declared.refusal.Refusal.{Refusal}
+use Rattle.passkey_json.specs.declared.refusal.Refusal.TheVariants as refusal
+
+abbrev pub refusal_name : Refusal → List ℕ
+refusal_name refusal.Refused = codes "Refused"
+refusal_name refusal.OutOfMemory = codes "OutOfMemory"
+
+-- a word, and a member's name as a debug text has it, where there is such a text
+abbrev pub with_name : List ℕ → List ℕ → Option (List ℕ)
+with_name word name = option_map (λ quoted. word ++ codes "(" ++ quoted ++ codes ")") (debug_str name)
+
+abbrev pub json_fault_name : JsonFault → Option (List ℕ)
+json_fault_name fault.OutOfMemory = Some (codes "OutOfMemory")
+json_fault_name fault.NotAnObject = Some (codes "NotAnObject")
+json_fault_name (fault.Missing name) = with_name (codes "Missing") name.now
+json_fault_name (fault.Refused name) = with_name (codes "Refused") name.now
+json_fault_name (fault.Float name) = with_name (codes "Float") name.now
+json_fault_name (fault.Repeated name) = with_name (codes "Repeated") name.now

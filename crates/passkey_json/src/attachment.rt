@@ -1,0 +1,66 @@
+//! How an authenticator is attached to the client, read of JSON values and written.
+ghost use Rattle.std.specs.Prelude.{false};
+ghost use Rattle.passkey_json.specs.Kind.{one_named};
+ghost use Rattle.passkey_json.specs.Attachment.{attachment_name, attachment_named, attachment_own};
+ghost use Rattle.serde_json.specs.Data.{string};
+
+use crate::bytes_form::BytesForm;
+use crate::from_json::FromJson;
+use crate::names::{read_name, written_name};
+use crate::refusal::Refusal;
+use crate::to_json::ToJson;
+use passkey_cbor::OutOfMemory;
+use passkey_webauthn::EnumNames;
+use serde_json::Value;
+use std::alloc::Global;
+
+/// How an authenticator is attached to the client (WebAuthn Level 3, section 5.4.5).
+#[derive(Clone, Copy, Debug, PartialEq, Eq)]
+pub enum AuthenticatorAttachment {
+    /// It is part of the client's device.
+    Platform,
+    /// It can be taken from one device to another.
+    CrossPlatform,
+}
+
+impl EnumNames for AuthenticatorAttachment {
+    ghost name_of = { attachment_name };
+
+    ghost named = { attachment_named };
+
+    ghost name_is_own = { attachment_own };
+
+    fn from_name(name: &str) -> Option<AuthenticatorAttachment> {
+        match name {
+            "platform" => Some(AuthenticatorAttachment::Platform),
+            "cross-platform" => Some(AuthenticatorAttachment::CrossPlatform),
+            _ => None,
+        }
+    }
+
+    fn name(self) -> &'static str {
+        match self {
+            AuthenticatorAttachment::Platform => "platform",
+            AuthenticatorAttachment::CrossPlatform => "cross-platform",
+        }
+    }
+}
+
+impl FromJson for AuthenticatorAttachment {
+    ghost kind = { one_named attachment_named };
+
+    ghost takes = { false };
+
+    fn from_value(_alloc: Global, value: &Value) -> Result<AuthenticatorAttachment, Refusal> {
+        read_name(value)
+    }
+}
+
+impl ToJson for AuthenticatorAttachment {
+    ghost json = { λ _ x. string (attachment_name x) };
+
+    #[tactic(auto, using(crate::specs::Attachment::attachment_own))]
+    fn to_json(&self, alloc: Global, _form: BytesForm) -> Result<Value, OutOfMemory> {
+        written_name(alloc, *self)
+    }
+}

@@ -1,0 +1,71 @@
+//! Byte strings, read of JSON values and written.
+ghost use Rattle.std.specs.Prelude.{◌≡◌, false, true, IfOk, OnOk};
+ghost use Rattle.passkey_json.specs.Kind.{bytes as byte_string};
+ghost use Rattle.passkey_json.specs.Written.{ReadsBack, bytes_json};
+ghost use Rattle.passkey_json.specs.declared.bytes_form.BytesForm.TheVariants.{Numbers, Base64Url};
+ghost use Rattle.serde_json.specs.View.{view};
+ghost use Rattle.serde_json.specs.Written.{has_float};
+
+use crate::bytes_form::BytesForm;
+use crate::elements::Elements;
+use crate::from_json::FromJson;
+use crate::refusal::Refusal;
+use crate::to_json::ToJson;
+use passkey_bytes::encoding::base64url;
+use passkey_bytes::{Bytes, BytesFault, List};
+use passkey_cbor::OutOfMemory;
+use serde_json::Value;
+use std::alloc::Global;
+
+impl FromJson for Bytes {
+    ghost kind = { byte_string };
+
+    ghost takes = { true };
+
+    fn from_value(alloc: Global, value: &Value) -> Result<Bytes, Refusal> {
+        match value {
+            Value::String(text) => match Bytes::try_from(alloc, text.as_str().trim()) {
+                Ok(bytes) => Ok(bytes),
+                Err(BytesFault::NotBase64Encoded(_)) => Err(Refusal::Refused),
+                Err(BytesFault::OutOfMemory) => Err(Refusal::OutOfMemory),
+            },
+            Value::Array(_) => {
+                let numbers = <List<u8> as FromJson>::from_value(alloc, value)?;
+                Ok(Bytes::from(Vec::from(numbers)))
+            }
+            _ => Err(Refusal::Refused),
+        }
+    }
+}
+
+/// The array of the bytes' numbers.
+fn numbers(alloc: Global, bytes: &[u8]) -> Result<Value, OutOfMemory>
+    ensures written { IfOk result (λ v. view v ≡ bytes_json Numbers bytes.now) }
+    ensures reads_back { OnOk result (ReadsBack byte_string bytes.now (bytes_json Numbers bytes.now)) }
+    ensures without_floats { IfOk result (λ v. has_float (view v) ≡ false) }
+{
+    let mut elements = Elements::new(alloc);
+    for byte in bytes {
+        elements.push(alloc, BytesForm::Numbers, byte)?;
+    }
+    Ok(elements.into_value())
+}
+
+/// The bytes' text in base64url.
+fn text(alloc: Global, bytes: &[u8]) -> Result<Value, OutOfMemory>
+    ensures written { IfOk result (λ v. view v ≡ bytes_json Base64Url bytes.now) }
+    ensures reads_back { OnOk result (ReadsBack byte_string bytes.now (bytes_json Base64Url bytes.now)) }
+{
+    Ok(Value::String(base64url(alloc, bytes)?))
+}
+
+impl ToJson for Bytes {
+    ghost json = { bytes_json };
+
+    fn to_json(&self, alloc: Global, form: BytesForm) -> Result<Value, OutOfMemory> {
+        match form {
+            BytesForm::Numbers => numbers(alloc, self.as_slice()),
+            BytesForm::Base64Url => text(alloc, self.as_slice()),
+        }
+    }
+}

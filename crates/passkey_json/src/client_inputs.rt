@@ -1,0 +1,90 @@
+//! What a relying party asks of extensions, read of JSON objects and written.
+ghost use Rattle.std.specs.Prelude.{◌≡◌, true};
+ghost use Rattle.passkey_json.specs.ClientInputs.{client_inputs_in, client_inputs_json, no_inputs, where_any};
+ghost use Rattle.passkey_json.specs.Members.{record_kind};
+
+use crate::bytes_form::BytesForm;
+use crate::from_json::FromJson;
+use crate::json_fault::JsonFault;
+use crate::json_record::{JsonRecord, read_nested};
+use crate::object::Object;
+use crate::prf_inputs::AuthenticationExtensionsPrfInputs;
+use crate::refusal::Refusal;
+use crate::to_json::ToJson;
+use crate::written::Written;
+use passkey_cbor::OutOfMemory;
+use serde_json::Value;
+use std::alloc::Global;
+
+/// What a relying party asks of extensions (WebAuthn Level 3, section 9.3).
+#[derive(Debug, Drop)]
+pub struct AuthenticationExtensionsClientInputs {
+    /// Whether properties of the new credential are asked for.
+    pub cred_props: Option<bool>,
+    /// What is asked of prf.
+    pub prf: Option<AuthenticationExtensionsPrfInputs>,
+    /// The same, with salts that are hashes already.
+    pub prf_already_hashed: Option<AuthenticationExtensionsPrfInputs>,
+}
+
+impl AuthenticationExtensionsClientInputs {
+    /// Nothing is asked of any extension.
+    pub fn empty() -> AuthenticationExtensionsClientInputs
+        ensures { result ≡ no_inputs }
+    {
+        AuthenticationExtensionsClientInputs {
+            cred_props: None,
+            prf: None,
+            prf_already_hashed: None,
+        }
+    }
+
+    /// The inputs themselves, exactly where one is there.
+    pub fn zip_contents(self) -> Option<AuthenticationExtensionsClientInputs>
+        ensures { result ≡ where_any self }
+    {
+        if self.cred_props.is_some() || self.prf.is_some() || self.prf_already_hashed.is_some() {
+            Some(self)
+        } else {
+            None
+        }
+    }
+}
+
+impl JsonRecord for AuthenticationExtensionsClientInputs {
+    ghost members = { client_inputs_in };
+
+    #[tactic(auto, unfolding(crate::specs::ClientInputs::client_inputs_in, crate::specs::Members::or_default))]
+    fn from_object(object: &Object<'_>) -> Result<AuthenticationExtensionsClientInputs, JsonFault> {
+        Ok(AuthenticationExtensionsClientInputs {
+            cred_props: object.member("credProps").or_default(None)?,
+            prf: object.member("prf").or_default(None)?,
+            prf_already_hashed: object.member("prfAlreadyHashed").or_default(None)?,
+        })
+    }
+}
+
+impl FromJson for AuthenticationExtensionsClientInputs {
+    ghost kind = { record_kind client_inputs_in };
+
+    ghost takes = { true };
+
+    fn from_value(
+        alloc: Global,
+        value: &Value,
+    ) -> Result<AuthenticationExtensionsClientInputs, Refusal> {
+        read_nested(alloc, value)
+    }
+}
+
+impl ToJson for AuthenticationExtensionsClientInputs {
+    ghost json = { client_inputs_json };
+
+    fn to_json(&self, alloc: Global, form: BytesForm) -> Result<Value, OutOfMemory> {
+        let mut members = Written::new(alloc);
+        members.put_some(alloc, form, "credProps", &self.cred_props)?;
+        members.put_some(alloc, form, "prf", &self.prf)?;
+        members.put_some(alloc, form, "prfAlreadyHashed", &self.prf_already_hashed)?;
+        Ok(members.into_value())
+    }
+}

@@ -1,0 +1,77 @@
+//! What extensions answer a relying party, read of JSON objects and written.
+ghost use Rattle.std.specs.Prelude.{◌≡◌, true};
+ghost use Rattle.passkey_json.specs.Members.{record_kind};
+ghost use Rattle.passkey_json.specs.ClientOutputs.{client_outputs_in, client_outputs_json, no_outputs};
+
+use crate::bytes_form::BytesForm;
+use crate::credential_properties::CredentialPropertiesOutput;
+use crate::from_json::FromJson;
+use crate::json_fault::JsonFault;
+use crate::json_record::{JsonRecord, read_nested};
+use crate::object::Object;
+use crate::refusal::Refusal;
+use crate::to_json::ToJson;
+use crate::written::Written;
+use passkey_cbor::OutOfMemory;
+use passkey_webauthn::AuthenticationExtensionsPrfOutputs;
+use serde_json::Value;
+use std::alloc::Global;
+
+/// What extensions answer a relying party (WebAuthn Level 3, section 9.4).
+#[derive(Debug, Drop)]
+pub struct AuthenticationExtensionsClientOutputs {
+    /// What credProps answers.
+    pub cred_props: Option<CredentialPropertiesOutput>,
+    /// What prf answers.
+    pub prf: Option<AuthenticationExtensionsPrfOutputs>,
+}
+
+impl AuthenticationExtensionsClientOutputs {
+    /// No answer of any extension.
+    pub fn empty() -> AuthenticationExtensionsClientOutputs
+        ensures { result ≡ no_outputs }
+    {
+        AuthenticationExtensionsClientOutputs {
+            cred_props: None,
+            prf: None,
+        }
+    }
+}
+
+impl JsonRecord for AuthenticationExtensionsClientOutputs {
+    ghost members = { client_outputs_in };
+
+    #[tactic(auto, unfolding(crate::specs::ClientOutputs::client_outputs_in, crate::specs::Members::or_default))]
+    fn from_object(
+        object: &Object<'_>,
+    ) -> Result<AuthenticationExtensionsClientOutputs, JsonFault> {
+        Ok(AuthenticationExtensionsClientOutputs {
+            cred_props: object.member("credProps").or_default(None)?,
+            prf: object.member("prf").or_default(None)?,
+        })
+    }
+}
+
+impl FromJson for AuthenticationExtensionsClientOutputs {
+    ghost kind = { record_kind client_outputs_in };
+
+    ghost takes = { true };
+
+    fn from_value(
+        alloc: Global,
+        value: &Value,
+    ) -> Result<AuthenticationExtensionsClientOutputs, Refusal> {
+        read_nested(alloc, value)
+    }
+}
+
+impl ToJson for AuthenticationExtensionsClientOutputs {
+    ghost json = { client_outputs_json };
+
+    fn to_json(&self, alloc: Global, form: BytesForm) -> Result<Value, OutOfMemory> {
+        let mut members = Written::new(alloc);
+        members.put_some(alloc, form, "credProps", &self.cred_props)?;
+        members.put_some(alloc, form, "prf", &self.prf)?;
+        Ok(members.into_value())
+    }
+}

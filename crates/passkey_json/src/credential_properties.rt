@@ -1,0 +1,55 @@
+//! Properties of a credential, read of JSON objects and written.
+ghost use Rattle.std.specs.Prelude.{true};
+ghost use Rattle.passkey_json.specs.Members.{record_kind};
+ghost use Rattle.passkey_json.specs.CredentialProperties.{credential_properties_in, credential_properties_json};
+
+use crate::bytes_form::BytesForm;
+use crate::from_json::FromJson;
+use crate::json_fault::JsonFault;
+use crate::json_record::{JsonRecord, read_nested};
+use crate::object::Object;
+use crate::refusal::Refusal;
+use crate::to_json::ToJson;
+use crate::written::Written;
+use passkey_cbor::OutOfMemory;
+use serde_json::Value;
+use std::alloc::Global;
+
+/// What the extension credProps answers (WebAuthn Level 3, section 10.1.3).
+#[derive(Debug, Drop)]
+pub struct CredentialPropertiesOutput {
+    /// Whether the new credential can be found by an authenticator without its id, as far as the
+    /// client knows.
+    pub discoverable: Option<bool>,
+}
+
+impl JsonRecord for CredentialPropertiesOutput {
+    ghost members = { credential_properties_in };
+
+    #[tactic(auto, unfolding(crate::specs::CredentialProperties::credential_properties_in, crate::specs::Members::or_default))]
+    fn from_object(object: &Object<'_>) -> Result<CredentialPropertiesOutput, JsonFault> {
+        Ok(CredentialPropertiesOutput {
+            discoverable: object.member("rk").or_default(None)?,
+        })
+    }
+}
+
+impl FromJson for CredentialPropertiesOutput {
+    ghost kind = { record_kind credential_properties_in };
+
+    ghost takes = { true };
+
+    fn from_value(alloc: Global, value: &Value) -> Result<CredentialPropertiesOutput, Refusal> {
+        read_nested(alloc, value)
+    }
+}
+
+impl ToJson for CredentialPropertiesOutput {
+    ghost json = { credential_properties_json };
+
+    fn to_json(&self, alloc: Global, form: BytesForm) -> Result<Value, OutOfMemory> {
+        let mut members = Written::new(alloc);
+        members.put_some(alloc, form, "rk", &self.discoverable)?;
+        Ok(members.into_value())
+    }
+}

@@ -1,0 +1,54 @@
+//! Descriptors of credentials, read of JSON objects and written.
+ghost use Rattle.std.specs.Prelude.{true};
+ghost use Rattle.passkey_json.specs.Descriptor.{descriptor_in, descriptor_json};
+ghost use Rattle.passkey_json.specs.Members.{record_kind};
+
+use crate::bytes_form::BytesForm;
+use crate::from_json::FromJson;
+use crate::json_fault::JsonFault;
+use crate::json_record::{JsonRecord, read_nested};
+use crate::object::Object;
+use crate::refusal::Refusal;
+use crate::to_json::ToJson;
+use crate::written::Written;
+use passkey_cbor::OutOfMemory;
+use passkey_webauthn::{PublicKeyCredentialDescriptor, PublicKeyCredentialType};
+use serde_json::Value;
+use std::alloc::Global;
+
+impl JsonRecord for PublicKeyCredentialDescriptor {
+    ghost members = { descriptor_in };
+
+    #[tactic(auto, unfolding(crate::specs::Descriptor::descriptor_in, crate::specs::Members::required, crate::specs::Members::required_tolerated, crate::specs::Members::accepted_list))]
+    fn from_object(object: &Object<'_>) -> Result<PublicKeyCredentialDescriptor, JsonFault> {
+        Ok(PublicKeyCredentialDescriptor {
+            ty: object
+                .member("type")
+                .required_tolerated(PublicKeyCredentialType::Unknown)?,
+            id: object.member("id").required()?,
+            transports: object.member("transports").accepted_list()?,
+        })
+    }
+}
+
+impl FromJson for PublicKeyCredentialDescriptor {
+    ghost kind = { record_kind descriptor_in };
+
+    ghost takes = { true };
+
+    fn from_value(alloc: Global, value: &Value) -> Result<PublicKeyCredentialDescriptor, Refusal> {
+        read_nested(alloc, value)
+    }
+}
+
+impl ToJson for PublicKeyCredentialDescriptor {
+    ghost json = { descriptor_json };
+
+    fn to_json(&self, alloc: Global, form: BytesForm) -> Result<Value, OutOfMemory> {
+        let mut members = Written::new(alloc);
+        members.put(alloc, form, "type", &self.ty)?;
+        members.put(alloc, form, "id", &self.id)?;
+        members.put_some(alloc, form, "transports", &self.transports)?;
+        Ok(members.into_value())
+    }
+}

@@ -1,0 +1,13 @@
+//! Elements of an array that is written.
+ghost use Rattle.std.specs.Prelude.{◌≡◌, false, map};
+ghost use Rattle.serde_json.specs.View.{items_of, view};
+ghost use Rattle.serde_json.specs.Written.{items_have_float};
+
+use serde_json::Value;
+
+/// The elements that are written of a list. None holds a float.
+#[derive(Drop)]
+pub struct Elements {
+    pub(super) values: Vec<Value>,
+    ghost without_floats: { items_have_float (items_of (map view values.items)) ≡ false },
+}

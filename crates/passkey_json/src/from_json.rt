@@ -1,0 +1,108 @@
+//! Values that are read of JSON values.
+ghost use Rattle.std.specs.Prelude.{◌≡◌, Bool, true, false, Option};
+ghost use Rattle.passkey_json.specs.Kind.{Answers, truth, text, whole, numeral, byte, word, optional};
+ghost use Rattle.serde_json.specs.Data.{Data};
+ghost use Rattle.serde_json.specs.View.{view};
+
+use crate::refusal::Refusal;
+use passkey_bytes::Text;
+use passkey_webauthn::whole_part;
+use serde_json::Value;
+use std::alloc::Global;
+
+/// A type whose values are read of JSON values.
+pub trait FromJson: Drop {
+    /// What each JSON value stands for, where it stands for a value.
+    ghost kind: { Data → Option Self };
+
+    /// Whether reading may take memory.
+    ghost takes: { Bool };
+
+    /// The value that the JSON value stands for. `Refused` exactly where it stands for none;
+    /// `OutOfMemory` where a growth was refused, which only a kind lets happen that takes memory.
+    fn from_value(alloc: Global, value: &Value) -> Result<Self, Refusal>
+        ensures { Answers kind takes (view value.now) result };
+}
+
+/// The number that the JSON value is or, as a text, writes.
+pub(crate) fn numeral(value: &Value) -> Option<i64>
+    ensures { result ≡ numeral (view value.now) }
+{
+    match value {
+        Value::String(text) => whole_part(text.as_str()),
+        _ => value.as_i64(),
+    }
+}
+
+impl FromJson for bool {
+    ghost kind = { truth };
+
+    ghost takes = { false };
+
+    fn from_value(_alloc: Global, value: &Value) -> Result<bool, Refusal> {
+        value.as_bool().ok_or(Refusal::Refused)
+    }
+}
+
+impl FromJson for Text {
+    ghost kind = { text };
+
+    ghost takes = { true };
+
+    fn from_value(alloc: Global, value: &Value) -> Result<Text, Refusal> {
+        match value {
+            Value::String(text) => Ok(Text::from_str(alloc, text.as_str())?),
+            _ => Err(Refusal::Refused),
+        }
+    }
+}
+
+impl FromJson for u8 {
+    ghost kind = { byte };
+
+    ghost takes = { false };
+
+    fn from_value(_alloc: Global, value: &Value) -> Result<u8, Refusal> {
+        match value.as_i64() {
+            Some(n) => u8::try_from(n).or(Err(Refusal::Refused)),
+            None => Err(Refusal::Refused),
+        }
+    }
+}
+
+impl FromJson for u32 {
+    ghost kind = { word };
+
+    ghost takes = { false };
+
+    #[tactic(auto, unfolding(crate::specs::Kind::word))]
+    fn from_value(_alloc: Global, value: &Value) -> Result<u32, Refusal> {
+        match numeral(value) {
+            Some(n) => u32::try_from(n).or(Err(Refusal::Refused)),
+            None => Err(Refusal::Refused),
+        }
+    }
+}
+
+impl FromJson for i64 {
+    ghost kind = { whole };
+
+    ghost takes = { false };
+
+    fn from_value(_alloc: Global, value: &Value) -> Result<i64, Refusal> {
+        value.as_i64().ok_or(Refusal::Refused)
+    }
+}
+
+impl<T: FromJson> FromJson for Option<T> {
+    ghost kind = { optional T.kind };
+
+    ghost takes = { T.takes };
+
+    fn from_value(alloc: Global, value: &Value) -> Result<Option<T>, Refusal> {
+        match value {
+            Value::Null => Ok(None),
+            _ => Ok(Some(T::from_value(alloc, value)?)),
+        }
+    }
+}

@@ -1,0 +1,60 @@
+//! Why no record was read of a JSON value.
+ghost use Rattle.std.specs.Prelude.{◌≡◌};
+ghost use Rattle.passkey_json.specs.Names.{json_fault_name};
+ghost use Rattle.passkey_json.specs.declared.json_fault.JsonFault.TheVariants.{OutOfMemory as NoMemory};
+
+use passkey_cbor::OutOfMemory;
+use std::alloc::AllocError;
+use std::error::Error;
+use std::fmt;
+
+/// Why no record was read of a JSON value. A member is told by its name in the record that was
+/// asked for, however deep within it the fault lies.
+#[derive(Clone, Copy, Debug, PartialEq, Eq)]
+pub enum JsonFault {
+    /// A growth was refused.
+    OutOfMemory,
+    /// The JSON value is no object.
+    NotAnObject,
+    /// This member is required, and isn't there.
+    Missing(&'static str),
+    /// This member's value isn't one of its kind, and holds no float.
+    Refused(&'static str),
+    /// This member's value isn't one of its kind, and holds a number that is no whole one of 64 bits.
+    Float(&'static str),
+    /// This member has two names, and stands under both.
+    Repeated(&'static str),
+}
+
+impl fmt::Display for JsonFault {
+    ghost output = { json_fault_name };
+
+    fn fmt<W: fmt::Write>(&self, f: &mut fmt::Formatter<W>) -> fmt::Result {
+        match self {
+            JsonFault::OutOfMemory => f.write_str("OutOfMemory"),
+            JsonFault::NotAnObject => f.write_str("NotAnObject"),
+            JsonFault::Missing(name) => write!(f, "Missing({name:?})"),
+            JsonFault::Refused(name) => write!(f, "Refused({name:?})"),
+            JsonFault::Float(name) => write!(f, "Float({name:?})"),
+            JsonFault::Repeated(name) => write!(f, "Repeated({name:?})"),
+        }
+    }
+}
+
+impl Error for JsonFault {}
+
+impl From<AllocError> for JsonFault {
+    ghost from_gives = { λ _ e. e ≡ NoMemory };
+
+    fn from(_error: AllocError) -> JsonFault {
+        JsonFault::OutOfMemory
+    }
+}
+
+impl From<OutOfMemory> for JsonFault {
+    ghost from_gives = { λ _ e. e ≡ NoMemory };
+
+    fn from(_error: OutOfMemory) -> JsonFault {
+        JsonFault::OutOfMemory
+    }
+}

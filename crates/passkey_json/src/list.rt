@@ -1,0 +1,70 @@
+//! Lists of values.
+ghost use Rattle.std.specs.Prelude.{◌≡◌, true};
+ghost use Rattle.passkey_json.specs.Kind.{list, accepted};
+
+use crate::from_json::FromJson;
+use crate::refusal::Refusal;
+use passkey_bytes::List;
+use serde_json::Value;
+use std::alloc::Global;
+use std::marker::Model;
+
+impl<T: FromJson> FromJson for List<T> {
+    ghost kind = { list T.kind };
+
+    ghost takes = { true };
+
+    fn from_value(alloc: Global, value: &Value) -> Result<List<T>, Refusal> {
+        let Value::Array(elements) = value else {
+            return Err(Refusal::Refused);
+        };
+        let mut read = Vec::new(alloc);
+        for element in elements {
+            read.push(T::from_value(alloc, element)?)?;
+        }
+        Ok(List::from(read))
+    }
+}
+
+/// The values of those elements of an array that stand for one, in their order. Want of memory
+/// isn't tolerated. A contract sees it as that list.
+#[derive(Drop)]
+pub struct TolerantList<T>(pub List<T>);
+
+impl<T> Model for TolerantList<T> {
+    ghost use Rattle.std.specs.Prelude.{List as Items};
+
+    ghost Value = { Items T };
+
+    ghost view = { λ l. l.0 };
+}
+
+impl<T> TolerantList<T> {
+    /// The values.
+    pub fn into_list(self) -> List<T>
+        ensures { result ≡ self }
+    {
+        self.0
+    }
+}
+
+impl<T: FromJson> FromJson for TolerantList<T> {
+    ghost kind = { accepted T.kind };
+
+    ghost takes = { true };
+
+    fn from_value(alloc: Global, value: &Value) -> Result<TolerantList<T>, Refusal> {
+        let Value::Array(elements) = value else {
+            return Err(Refusal::Refused);
+        };
+        let mut read = Vec::new(alloc);
+        for element in elements {
+            match T::from_value(alloc, element) {
+                Ok(accepted) => read.push(accepted)?,
+                Err(Refusal::Refused) => {}
+                Err(Refusal::OutOfMemory) => return Err(Refusal::OutOfMemory),
+            }
+        }
+        Ok(TolerantList(List::from(read)))
+    }
+}

@@ -1,0 +1,55 @@
+//! Maps from texts, read of JSON objects and written.
+ghost use Rattle.std.specs.Prelude.{true};
+ghost use Rattle.passkey_json.specs.Kind.{Answers};
+ghost use Rattle.passkey_json.specs.MapKind.{map_from_texts, map_json};
+ghost use Rattle.serde_json.specs.Data.{object};
+ghost use Rattle.serde_json.specs.View.{members_view};
+
+use crate::bytes_form::BytesForm;
+use crate::from_json::FromJson;
+use crate::refusal::Refusal;
+use crate::to_json::ToJson;
+use crate::written::Written;
+use passkey_bytes::{Map, Text};
+use passkey_cbor::OutOfMemory;
+use serde_json::{Map as Members, Value};
+use std::alloc::Global;
+
+fn read_members<T: FromJson>(
+    alloc: Global,
+    members: &Members<String, Value>,
+) -> Result<Map<Text, T>, Refusal>
+    ensures { Answers (map_from_texts T.kind) true (object (members_view members.now.entries)) result }
+{
+    let mut read = Map::empty(alloc);
+    for (name, member) in members.iter() {
+        let value = T::from_value(alloc, member)?;
+        read.insert(Text::from_str(alloc, name.as_str())?, value)?;
+    }
+    Ok(read)
+}
+
+impl<T: FromJson> FromJson for Map<Text, T> {
+    ghost kind = { map_from_texts T.kind };
+
+    ghost takes = { true };
+
+    fn from_value(alloc: Global, value: &Value) -> Result<Map<Text, T>, Refusal> {
+        match value {
+            Value::Object(members) => read_members(alloc, members),
+            _ => Err(Refusal::Refused),
+        }
+    }
+}
+
+impl<T: ToJson> ToJson for Map<Text, T> {
+    ghost json = { λ form. map_json (T.json form) };
+
+    fn to_json(&self, alloc: Global, form: BytesForm) -> Result<Value, OutOfMemory> {
+        let mut members = Written::new(alloc);
+        for (name, member) in self {
+            members.put(alloc, form, name.as_str(), member)?;
+        }
+        Ok(members.into_value())
+    }
+}

@@ -1,0 +1,134 @@
+//! Members of objects, each read in one of a few ways.
+ghost use Rattle.std.specs.Prelude.{◌≡◌, Err, option_map};
+ghost use Rattle.passkey_json.specs.Fault.{Gives};
+ghost use Rattle.passkey_json.specs.Held.{GivesAs, IsUnlessRefused, found};
+ghost use Rattle.passkey_json.specs.Members.{under, fault_of, judged, required, or_default, given, tolerated, required_tolerated, accepted_list};
+ghost use Rattle.serde_json.specs.View.{view};
+
+use crate::floats::holds_float;
+use crate::from_json::FromJson;
+use crate::json_fault::JsonFault;
+use crate::list::TolerantList;
+use crate::refusal::Refusal;
+use passkey_bytes::List;
+use serde_json::Value;
+use std::alloc::Global;
+
+/// The fault of a value that is refused.
+fn fault_of(name: &'static str, value: &Value) -> JsonFault
+    ensures { Gives {A = Unit {0}} (Err (fault_of name.now (view value.now))) (Err result) }
+{
+    if holds_float(value) {
+        JsonFault::Float(name)
+    } else {
+        JsonFault::Refused(name)
+    }
+}
+
+/// The value that a JSON value stands for, or the fault.
+fn judged<T: FromJson>(alloc: Global, name: &'static str, value: &Value) -> Result<T, JsonFault>
+    ensures { Gives (judged T.kind name.now (view value.now)) result }
+{
+    match T::from_value(alloc, value) {
+        Ok(read) => Ok(read),
+        Err(Refusal::Refused) => Err(fault_of(name, value)),
+        Err(Refusal::OutOfMemory) => Err(JsonFault::OutOfMemory),
+    }
+}
+
+fn unless_refused<T: Drop>(read: Result<T, Refusal>, default: T) -> Result<T, JsonFault>
+    ensures { IsUnlessRefused default read result }
+{
+    match read {
+        Ok(read) => Ok(read),
+        Err(Refusal::Refused) => Ok(default),
+        Err(Refusal::OutOfMemory) => Err(JsonFault::OutOfMemory),
+    }
+}
+
+/// A member of an object, which may be absent.
+#[derive(Clone, Copy)]
+pub struct Member<'a> {
+    alloc: Global,
+    name: &'static str,
+    value: Option<&'a Value>,
+}
+
+impl<'a> Member<'a> {
+    pub(crate) fn new(alloc: Global, name: &'static str, value: Option<&'a Value>) -> Member<'a>
+        ensures { found result ≡ under name.now (option_map (λ v. view v.now) value.entry) }
+    {
+        Member { alloc, name, value }
+    }
+
+    /// The value, which must be there.
+    #[tactic(auto, unfolding(crate::specs::Members::required))]
+    pub fn required<T: FromJson>(self) -> Result<T, JsonFault>
+        ensures { Gives (required T.kind (found self.entry)) result }
+    {
+        match self.value {
+            Some(value) => judged(self.alloc, self.name, value),
+            None => Err(JsonFault::Missing(self.name)),
+        }
+    }
+
+    /// The value, or a default where none is there.
+    #[tactic(auto, unfolding(crate::specs::Members::or_default))]
+    pub fn or_default<T: FromJson>(self, default: T) -> Result<T, JsonFault>
+        ensures { Gives (or_default default T.kind (found self.entry)) result }
+    {
+        match self.value {
+            Some(value) => judged(self.alloc, self.name, value),
+            None => Ok(default),
+        }
+    }
+
+    /// Some value, where one is there.
+    #[tactic(auto, unfolding(crate::specs::Members::given))]
+    pub fn given<T: FromJson>(self) -> Result<Option<T>, JsonFault>
+        ensures { Gives (given T.kind (found self.entry)) result }
+    {
+        match self.value {
+            Some(value) => Ok(Some(judged(self.alloc, self.name, value)?)),
+            None => Ok(None),
+        }
+    }
+
+    /// The value, or a default where none is there or it is refused. Want of memory isn't tolerated.
+    #[tactic(auto, unfolding(crate::specs::Members::tolerated))]
+    pub fn tolerated<T: FromJson>(self, default: T) -> Result<T, JsonFault>
+        ensures { Gives (tolerated default T.kind (found self.entry)) result }
+    {
+        let Some(value) = self.value else {
+            return Ok(default);
+        };
+        unless_refused(T::from_value(self.alloc, value), default)
+    }
+
+    /// The value, which must be there, or a default where it is refused. Want of memory isn't
+    /// tolerated.
+    #[tactic(auto, unfolding(crate::specs::Members::required_tolerated, crate::specs::Members::tolerated))]
+    pub fn required_tolerated<T: FromJson>(self, default: T) -> Result<T, JsonFault>
+        ensures { Gives (required_tolerated default T.kind (found self.entry)) result }
+    {
+        if self.value.is_none() {
+            return Err(JsonFault::Missing(self.name));
+        }
+        self.tolerated(default)
+    }
+
+    /// The accepted elements of a list; nothing where none is there. Want of memory isn't tolerated.
+    #[tactic(auto, unfolding(crate::specs::Members::accepted_list))]
+    pub fn accepted_list<T: FromJson>(self) -> Result<Option<List<T>>, JsonFault>
+        ensures { Gives (accepted_list T.kind (found self.entry)) result }
+    {
+        let Some(value) = self.value else {
+            return Ok(None);
+        };
+        match <TolerantList<T> as FromJson>::from_value(self.alloc, value) {
+            Ok(accepted) => Ok(Some(accepted.into_list())),
+            Err(Refusal::Refused) => Ok(None),
+            Err(Refusal::OutOfMemory) => Err(JsonFault::OutOfMemory),
+        }
+    }
+}

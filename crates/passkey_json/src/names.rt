@@ -1,0 +1,71 @@
+//! Names of enumerations, read of JSON values and written.
+ghost use Rattle.std.specs.Prelude.{◌≡◌, false, IfOk};
+ghost use Rattle.passkey_json.specs.Kind.{Answers, one_named};
+ghost use Rattle.passkey_webauthn.specs.CredentialType.{credential_type_name, credential_type_named};
+ghost use Rattle.passkey_webauthn.specs.Transport.{transport_name, transport_named};
+ghost use Rattle.serde_json.specs.Data.{string};
+ghost use Rattle.serde_json.specs.View.{view};
+
+use crate::bytes_form::BytesForm;
+use crate::from_json::FromJson;
+use crate::refusal::Refusal;
+use crate::to_json::ToJson;
+use passkey_cbor::OutOfMemory;
+use passkey_webauthn::{AuthenticatorTransport, EnumNames, PublicKeyCredentialType};
+use serde_json::Value;
+use std::alloc::Global;
+
+/// The value that a text names. `Refused` where the JSON value isn't a text that names one.
+pub fn read_name<T: EnumNames>(value: &Value) -> Result<T, Refusal>
+    ensures { Answers (one_named T.named) false (view value.now) result }
+{
+    match value {
+        Value::String(name) => T::from_name(name.as_str()).ok_or(Refusal::Refused),
+        _ => Err(Refusal::Refused),
+    }
+}
+
+impl FromJson for PublicKeyCredentialType {
+    ghost kind = { one_named credential_type_named };
+
+    ghost takes = { false };
+
+    fn from_value(_alloc: Global, value: &Value) -> Result<PublicKeyCredentialType, Refusal> {
+        read_name(value)
+    }
+}
+
+impl FromJson for AuthenticatorTransport {
+    ghost kind = { one_named transport_named };
+
+    ghost takes = { false };
+
+    fn from_value(_alloc: Global, value: &Value) -> Result<AuthenticatorTransport, Refusal> {
+        read_name(value)
+    }
+}
+
+/// The text that names the value. `OutOfMemory` where a growth was refused.
+pub fn written_name<T: EnumNames>(alloc: Global, value: T) -> Result<Value, OutOfMemory>
+    ensures { IfOk result (λ v. view v ≡ string (T.name_of value)) }
+{
+    Ok(Value::try_from_str(alloc, value.name())?)
+}
+
+impl ToJson for PublicKeyCredentialType {
+    ghost json = { λ _ t. string (credential_type_name t) };
+
+    #[tactic(auto, using(passkey_webauthn::specs::NameLaws::credential_type_own))]
+    fn to_json(&self, alloc: Global, _form: BytesForm) -> Result<Value, OutOfMemory> {
+        written_name(alloc, *self)
+    }
+}
+
+impl ToJson for AuthenticatorTransport {
+    ghost json = { λ _ t. string (transport_name t) };
+
+    #[tactic(auto, using(passkey_webauthn::specs::NameLaws::transport_own))]
+    fn to_json(&self, alloc: Global, _form: BytesForm) -> Result<Value, OutOfMemory> {
+        written_name(alloc, *self)
+    }
+}

@@ -1,0 +1,52 @@
+//! Keys that a relying party can use, read of JSON objects and written.
+ghost use Rattle.std.specs.Prelude.{true};
+ghost use Rattle.passkey_json.specs.Members.{record_kind};
+ghost use Rattle.passkey_json.specs.Parameters.{parameters_in, parameters_json};
+
+use crate::bytes_form::BytesForm;
+use crate::from_json::FromJson;
+use crate::json_fault::JsonFault;
+use crate::json_record::{JsonRecord, read_nested};
+use crate::object::Object;
+use crate::refusal::Refusal;
+use crate::to_json::ToJson;
+use crate::written::Written;
+use passkey_cbor::OutOfMemory;
+use passkey_webauthn::{PublicKeyCredentialParameters, PublicKeyCredentialType};
+use serde_json::Value;
+use std::alloc::Global;
+
+impl JsonRecord for PublicKeyCredentialParameters {
+    ghost members = { parameters_in };
+
+    #[tactic(auto, unfolding(crate::specs::Parameters::parameters_in, crate::specs::Members::required, crate::specs::Members::required_tolerated))]
+    fn from_object(object: &Object<'_>) -> Result<PublicKeyCredentialParameters, JsonFault> {
+        Ok(PublicKeyCredentialParameters {
+            ty: object
+                .member("type")
+                .required_tolerated(PublicKeyCredentialType::Unknown)?,
+            alg: object.member("alg").required()?,
+        })
+    }
+}
+
+impl FromJson for PublicKeyCredentialParameters {
+    ghost kind = { record_kind parameters_in };
+
+    ghost takes = { true };
+
+    fn from_value(alloc: Global, value: &Value) -> Result<PublicKeyCredentialParameters, Refusal> {
+        read_nested(alloc, value)
+    }
+}
+
+impl ToJson for PublicKeyCredentialParameters {
+    ghost json = { parameters_json };
+
+    fn to_json(&self, alloc: Global, form: BytesForm) -> Result<Value, OutOfMemory> {
+        let mut members = Written::new(alloc);
+        members.put(alloc, form, "type", &self.ty)?;
+        members.put(alloc, form, "alg", &self.alg)?;
+        Ok(members.into_value())
+    }
+}

@@ -1,0 +1,107 @@
+//! What a relying party asks of the extension prf, read of JSON objects and written.
+ghost use Rattle.std.specs.Prelude.{◌≡◌, ◌<◌, ◌⊎◌, length, true, IfOk, OnErr};
+ghost use Rattle.std.specs.FinMap as fin;
+ghost use Rattle.std.specs.Option.{IsSomeAnd};
+ghost use Rattle.passkey_json.specs.Members.{record_kind};
+ghost use Rattle.passkey_json.specs.PrfInputs.{prf_inputs_in, prf_inputs_json, no_prf_inputs};
+
+use crate::bytes_form::BytesForm;
+use crate::from_json::FromJson;
+use crate::json_fault::JsonFault;
+use crate::json_record::{JsonRecord, read_nested};
+use crate::object::Object;
+use crate::refusal::Refusal;
+use crate::to_json::ToJson;
+use crate::written::Written;
+use passkey_bytes::{Map, Text};
+use passkey_cbor::OutOfMemory;
+use passkey_webauthn::AuthenticationExtensionsPrfValues;
+use serde_json::Value;
+use std::alloc::Global;
+
+/// What a relying party asks of the extension prf (WebAuthn Level 3, section 10.1.4).
+#[derive(Debug, Drop)]
+pub struct AuthenticationExtensionsPrfInputs {
+    /// Salts for whichever credential is used.
+    pub eval: Option<AuthenticationExtensionsPrfValues>,
+    /// Salts for single credentials, by their ids in base64url.
+    pub eval_by_credential: Option<Map<Text, AuthenticationExtensionsPrfValues>>,
+}
+
+impl AuthenticationExtensionsPrfInputs {
+    /// No salts.
+    pub fn empty() -> AuthenticationExtensionsPrfInputs
+        ensures { result ≡ no_prf_inputs }
+    {
+        AuthenticationExtensionsPrfInputs {
+            eval: None,
+            eval_by_credential: None,
+        }
+    }
+
+    /// An equal value. `OutOfMemory` where a growth was refused, which cannot be where no credential
+    /// has salts of its own and the others are empty or not there.
+    pub fn try_clone(&self, alloc: Global) -> Result<AuthenticationExtensionsPrfInputs, OutOfMemory>
+        ensures same { IfOk result (λ copy. copy ≡ self.now) }
+        ensures grows { OnErr result (IsSomeAnd self.now.eval (λ values. IsSomeAnd values.second (λ bytes. 0 < length bytes) ⊎ (0 < length values.first)) ⊎ IsSomeAnd self.now.eval_by_credential (λ salts. ¬ (salts ≡ fin.empty))) }
+    {
+        let eval = match &self.eval {
+            Some(values) => Some(values.try_clone(alloc)?),
+            None => None,
+        };
+        let eval_by_credential = match &self.eval_by_credential {
+            Some(salts) => Some(copied(alloc, salts)?),
+            None => None,
+        };
+        Ok(AuthenticationExtensionsPrfInputs {
+            eval,
+            eval_by_credential,
+        })
+    }
+}
+
+fn copied(
+    alloc: Global,
+    salts: &Map<Text, AuthenticationExtensionsPrfValues>,
+) -> Result<Map<Text, AuthenticationExtensionsPrfValues>, OutOfMemory>
+    ensures same { IfOk result (λ copy. copy ≡ salts.now) }
+    ensures grows { OnErr result (¬ (salts.now ≡ fin.empty)) }
+{
+    salts.try_clone(alloc)
+}
+
+impl JsonRecord for AuthenticationExtensionsPrfInputs {
+    ghost members = { prf_inputs_in };
+
+    #[tactic(auto, unfolding(crate::specs::PrfInputs::prf_inputs_in, crate::specs::Members::or_default))]
+    fn from_object(object: &Object<'_>) -> Result<AuthenticationExtensionsPrfInputs, JsonFault> {
+        Ok(AuthenticationExtensionsPrfInputs {
+            eval: object.member("eval").or_default(None)?,
+            eval_by_credential: object.member("evalByCredential").or_default(None)?,
+        })
+    }
+}
+
+impl FromJson for AuthenticationExtensionsPrfInputs {
+    ghost kind = { record_kind prf_inputs_in };
+
+    ghost takes = { true };
+
+    fn from_value(
+        alloc: Global,
+        value: &Value,
+    ) -> Result<AuthenticationExtensionsPrfInputs, Refusal> {
+        read_nested(alloc, value)
+    }
+}
+
+impl ToJson for AuthenticationExtensionsPrfInputs {
+    ghost json = { prf_inputs_json };
+
+    fn to_json(&self, alloc: Global, form: BytesForm) -> Result<Value, OutOfMemory> {
+        let mut members = Written::new(alloc);
+        members.put_some(alloc, form, "eval", &self.eval)?;
+        members.put_some(alloc, form, "evalByCredential", &self.eval_by_credential)?;
+        Ok(members.into_value())
+    }
+}

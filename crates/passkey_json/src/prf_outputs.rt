@@ -1,0 +1,53 @@
+//! What the extension prf answers, read of JSON objects and written.
+ghost use Rattle.std.specs.Prelude.{true};
+ghost use Rattle.passkey_json.specs.Members.{record_kind};
+ghost use Rattle.passkey_json.specs.PrfOutputs.{prf_outputs_in, prf_outputs_json};
+
+use crate::bytes_form::BytesForm;
+use crate::from_json::FromJson;
+use crate::json_fault::JsonFault;
+use crate::json_record::{JsonRecord, read_nested};
+use crate::object::Object;
+use crate::refusal::Refusal;
+use crate::to_json::ToJson;
+use crate::written::Written;
+use passkey_cbor::OutOfMemory;
+use passkey_webauthn::AuthenticationExtensionsPrfOutputs;
+use serde_json::Value;
+use std::alloc::Global;
+
+impl JsonRecord for AuthenticationExtensionsPrfOutputs {
+    ghost members = { prf_outputs_in };
+
+    #[tactic(auto, unfolding(crate::specs::PrfOutputs::prf_outputs_in, crate::specs::Members::or_default))]
+    fn from_object(object: &Object<'_>) -> Result<AuthenticationExtensionsPrfOutputs, JsonFault> {
+        Ok(AuthenticationExtensionsPrfOutputs {
+            enabled: object.member("enabled").or_default(None)?,
+            results: object.member("results").or_default(None)?,
+        })
+    }
+}
+
+impl FromJson for AuthenticationExtensionsPrfOutputs {
+    ghost kind = { record_kind prf_outputs_in };
+
+    ghost takes = { true };
+
+    fn from_value(
+        alloc: Global,
+        value: &Value,
+    ) -> Result<AuthenticationExtensionsPrfOutputs, Refusal> {
+        read_nested(alloc, value)
+    }
+}
+
+impl ToJson for AuthenticationExtensionsPrfOutputs {
+    ghost json = { prf_outputs_json };
+
+    fn to_json(&self, alloc: Global, form: BytesForm) -> Result<Value, OutOfMemory> {
+        let mut members = Written::new(alloc);
+        members.put_some(alloc, form, "enabled", &self.enabled)?;
+        members.put_some(alloc, form, "results", &self.results)?;
+        Ok(members.into_value())
+    }
+}

@@ -1,0 +1,53 @@
+//! Salts of the extension prf, read of JSON objects and written.
+ghost use Rattle.std.specs.Prelude.{true};
+ghost use Rattle.passkey_json.specs.Members.{record_kind};
+ghost use Rattle.passkey_json.specs.PrfValues.{prf_values_in, prf_values_json};
+
+use crate::bytes_form::BytesForm;
+use crate::from_json::FromJson;
+use crate::json_fault::JsonFault;
+use crate::json_record::{JsonRecord, read_nested};
+use crate::object::Object;
+use crate::refusal::Refusal;
+use crate::to_json::ToJson;
+use crate::written::Written;
+use passkey_cbor::OutOfMemory;
+use passkey_webauthn::AuthenticationExtensionsPrfValues;
+use serde_json::Value;
+use std::alloc::Global;
+
+impl JsonRecord for AuthenticationExtensionsPrfValues {
+    ghost members = { prf_values_in };
+
+    #[tactic(auto, unfolding(crate::specs::PrfValues::prf_values_in, crate::specs::Members::required, crate::specs::Members::or_default))]
+    fn from_object(object: &Object<'_>) -> Result<AuthenticationExtensionsPrfValues, JsonFault> {
+        Ok(AuthenticationExtensionsPrfValues {
+            first: object.member("first").required()?,
+            second: object.member("second").or_default(None)?,
+        })
+    }
+}
+
+impl FromJson for AuthenticationExtensionsPrfValues {
+    ghost kind = { record_kind prf_values_in };
+
+    ghost takes = { true };
+
+    fn from_value(
+        alloc: Global,
+        value: &Value,
+    ) -> Result<AuthenticationExtensionsPrfValues, Refusal> {
+        read_nested(alloc, value)
+    }
+}
+
+impl ToJson for AuthenticationExtensionsPrfValues {
+    ghost json = { prf_values_json };
+
+    fn to_json(&self, alloc: Global, form: BytesForm) -> Result<Value, OutOfMemory> {
+        let mut members = Written::new(alloc);
+        members.put(alloc, form, "first", &self.first)?;
+        members.put_some(alloc, form, "second", &self.second)?;
+        Ok(members.into_value())
+    }
+}

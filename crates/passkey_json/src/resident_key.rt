@@ -1,0 +1,70 @@
+//! Whether a new credential is to be found without its id, read of JSON values and written.
+ghost use Rattle.std.specs.Prelude.{false};
+ghost use Rattle.passkey_json.specs.Kind.{one_named};
+ghost use Rattle.passkey_json.specs.ResidentKey.{resident_key_name, resident_key_named, resident_key_own};
+ghost use Rattle.serde_json.specs.Data.{string};
+
+use crate::bytes_form::BytesForm;
+use crate::from_json::FromJson;
+use crate::names::{read_name, written_name};
+use crate::refusal::Refusal;
+use crate::to_json::ToJson;
+use passkey_cbor::OutOfMemory;
+use passkey_webauthn::EnumNames;
+use serde_json::Value;
+use std::alloc::Global;
+
+/// Whether a new credential is to be found without its id (WebAuthn Level 3, section 5.4.6).
+#[derive(Clone, Copy, Debug, PartialEq, Eq)]
+pub enum ResidentKeyRequirement {
+    /// Rather not.
+    Discouraged,
+    /// Where the authenticator can.
+    Preferred,
+    /// Nothing else will do.
+    Required,
+}
+
+impl EnumNames for ResidentKeyRequirement {
+    ghost name_of = { resident_key_name };
+
+    ghost named = { resident_key_named };
+
+    ghost name_is_own = { resident_key_own };
+
+    fn from_name(name: &str) -> Option<ResidentKeyRequirement> {
+        match name {
+            "discouraged" => Some(ResidentKeyRequirement::Discouraged),
+            "preferred" => Some(ResidentKeyRequirement::Preferred),
+            "required" => Some(ResidentKeyRequirement::Required),
+            _ => None,
+        }
+    }
+
+    fn name(self) -> &'static str {
+        match self {
+            ResidentKeyRequirement::Discouraged => "discouraged",
+            ResidentKeyRequirement::Preferred => "preferred",
+            ResidentKeyRequirement::Required => "required",
+        }
+    }
+}
+
+impl FromJson for ResidentKeyRequirement {
+    ghost kind = { one_named resident_key_named };
+
+    ghost takes = { false };
+
+    fn from_value(_alloc: Global, value: &Value) -> Result<ResidentKeyRequirement, Refusal> {
+        read_name(value)
+    }
+}
+
+impl ToJson for ResidentKeyRequirement {
+    ghost json = { λ _ x. string (resident_key_name x) };
+
+    #[tactic(auto, using(crate::specs::ResidentKey::resident_key_own))]
+    fn to_json(&self, alloc: Global, _form: BytesForm) -> Result<Value, OutOfMemory> {
+        written_name(alloc, *self)
+    }
+}

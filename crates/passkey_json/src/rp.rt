@@ -1,0 +1,50 @@
+//! Relying parties, read of JSON objects and written.
+ghost use Rattle.std.specs.Prelude.{true};
+ghost use Rattle.passkey_json.specs.Members.{record_kind};
+ghost use Rattle.passkey_json.specs.Rp.{rp_in, rp_json};
+
+use crate::bytes_form::BytesForm;
+use crate::from_json::FromJson;
+use crate::json_fault::JsonFault;
+use crate::json_record::{JsonRecord, read_nested};
+use crate::object::Object;
+use crate::refusal::Refusal;
+use crate::to_json::ToJson;
+use crate::written::Written;
+use passkey_cbor::OutOfMemory;
+use passkey_webauthn::PublicKeyCredentialRpEntity;
+use serde_json::Value;
+use std::alloc::Global;
+
+impl JsonRecord for PublicKeyCredentialRpEntity {
+    ghost members = { rp_in };
+
+    #[tactic(auto, unfolding(crate::specs::Rp::rp_in, crate::specs::Members::required, crate::specs::Members::or_default))]
+    fn from_object(object: &Object<'_>) -> Result<PublicKeyCredentialRpEntity, JsonFault> {
+        Ok(PublicKeyCredentialRpEntity {
+            id: object.member("id").or_default(None)?,
+            name: object.member("name").required()?,
+        })
+    }
+}
+
+impl FromJson for PublicKeyCredentialRpEntity {
+    ghost kind = { record_kind rp_in };
+
+    ghost takes = { true };
+
+    fn from_value(alloc: Global, value: &Value) -> Result<PublicKeyCredentialRpEntity, Refusal> {
+        read_nested(alloc, value)
+    }
+}
+
+impl ToJson for PublicKeyCredentialRpEntity {
+    ghost json = { rp_json };
+
+    fn to_json(&self, alloc: Global, form: BytesForm) -> Result<Value, OutOfMemory> {
+        let mut members = Written::new(alloc);
+        members.put_some(alloc, form, "id", &self.id)?;
+        members.put(alloc, form, "name", &self.name)?;
+        Ok(members.into_value())
+    }
+}

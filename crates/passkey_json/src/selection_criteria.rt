@@ -1,0 +1,100 @@
+//! What a relying party asks of an authenticator, read of JSON objects and written.
+ghost use Rattle.std.specs.Prelude.{◌≡◌, true};
+ghost use Rattle.passkey_json.specs.Members.{record_kind};
+ghost use Rattle.passkey_json.specs.SelectionCriteria.{selection_criteria_in, selection_criteria_json, any_authenticator};
+
+use crate::attachment::AuthenticatorAttachment;
+use crate::bytes_form::BytesForm;
+use crate::from_json::FromJson;
+use crate::json_fault::JsonFault;
+use crate::json_record::{JsonRecord, read_nested};
+use crate::object::Object;
+use crate::refusal::Refusal;
+use crate::resident_key::ResidentKeyRequirement;
+use crate::to_json::ToJson;
+use crate::truth_text::TruthText;
+use crate::user_verification::UserVerificationRequirement;
+use crate::written::Written;
+use passkey_cbor::OutOfMemory;
+use serde_json::Value;
+use std::alloc::Global;
+
+/// What a relying party asks of the authenticator that makes a credential (WebAuthn Level 3, section
+/// 5.4.4).
+#[derive(Debug, Drop)]
+pub struct AuthenticatorSelectionCriteria {
+    /// How the authenticator is to be attached; any way where there is none.
+    pub authenticator_attachment: Option<AuthenticatorAttachment>,
+    /// Whether the credential is to be found without its id.
+    pub resident_key: Option<ResidentKeyRequirement>,
+    /// The same, as Level 1 asks it.
+    pub require_resident_key: bool,
+    /// Whether the user is to be verified.
+    pub user_verification: UserVerificationRequirement,
+}
+
+impl Default for AuthenticatorSelectionCriteria {
+    ghost is_default = { λ x. x ≡ any_authenticator };
+
+    /// Any authenticator, which verifies its user where it can.
+    fn default() -> AuthenticatorSelectionCriteria {
+        AuthenticatorSelectionCriteria {
+            authenticator_attachment: None,
+            resident_key: None,
+            require_resident_key: false,
+            user_verification: UserVerificationRequirement::Preferred,
+        }
+    }
+}
+
+impl JsonRecord for AuthenticatorSelectionCriteria {
+    ghost members = { selection_criteria_in };
+
+    #[tactic(auto, unfolding(crate::specs::SelectionCriteria::selection_criteria_in, crate::specs::Members::or_default, crate::specs::Members::tolerated))]
+    fn from_object(object: &Object<'_>) -> Result<AuthenticatorSelectionCriteria, JsonFault> {
+        Ok(AuthenticatorSelectionCriteria {
+            authenticator_attachment: object.member("authenticatorAttachment").tolerated(None)?,
+            resident_key: object.member("residentKey").tolerated(None)?,
+            require_resident_key: object
+                .member("requireResidentKey")
+                .or_default(TruthText(false))?
+                .get(),
+            user_verification: object
+                .member("userVerification")
+                .tolerated(UserVerificationRequirement::Preferred)?,
+        })
+    }
+}
+
+impl FromJson for AuthenticatorSelectionCriteria {
+    ghost kind = { record_kind selection_criteria_in };
+
+    ghost takes = { true };
+
+    fn from_value(alloc: Global, value: &Value) -> Result<AuthenticatorSelectionCriteria, Refusal> {
+        read_nested(alloc, value)
+    }
+}
+
+impl ToJson for AuthenticatorSelectionCriteria {
+    ghost json = { selection_criteria_json };
+
+    fn to_json(&self, alloc: Global, form: BytesForm) -> Result<Value, OutOfMemory> {
+        let mut members = Written::new(alloc);
+        members.put_some(
+            alloc,
+            form,
+            "authenticatorAttachment",
+            &self.authenticator_attachment,
+        )?;
+        members.put_some(alloc, form, "residentKey", &self.resident_key)?;
+        members.put(
+            alloc,
+            form,
+            "requireResidentKey",
+            &TruthText(self.require_resident_key),
+        )?;
+        members.put(alloc, form, "userVerification", &self.user_verification)?;
+        Ok(members.into_value())
+    }
+}

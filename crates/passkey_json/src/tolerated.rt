@@ -1,0 +1,36 @@
+//! Values that may be refused.
+ghost use Rattle.std.specs.Prelude.{◌≡◌};
+ghost use Rattle.passkey_json.specs.Kind.{tolerated};
+
+use crate::from_json::FromJson;
+use crate::refusal::Refusal;
+use serde_json::Value;
+use std::alloc::Global;
+use std::marker::Model;
+
+/// A value, or nothing where a JSON value stood for none. Want of memory isn't tolerated. A
+/// contract sees it as that option.
+#[derive(Drop)]
+pub struct Tolerated<T>(pub Option<T>);
+
+impl<T> Model for Tolerated<T> {
+    ghost use Rattle.std.specs.Prelude.{Option};
+
+    ghost Value = { Option T };
+
+    ghost view = { λ t. t.0 };
+}
+
+impl<T: FromJson> FromJson for Tolerated<T> {
+    ghost kind = { tolerated T.kind };
+
+    ghost takes = { T.takes };
+
+    fn from_value(alloc: Global, value: &Value) -> Result<Tolerated<T>, Refusal> {
+        match T::from_value(alloc, value) {
+            Ok(read) => Ok(Tolerated(Some(read))),
+            Err(Refusal::Refused) => Ok(Tolerated(None)),
+            Err(Refusal::OutOfMemory) => Err(Refusal::OutOfMemory),
+        }
+    }
+}

@@ -1,0 +1,70 @@
+//! Truths that may be texts.
+ghost use Rattle.std.specs.Prelude.{◌≡◌, false};
+ghost use Rattle.passkey_json.specs.Kind.{truth_named, truth_text};
+ghost use Rattle.serde_json.specs.Data.{boolean};
+
+use crate::bytes_form::BytesForm;
+use crate::from_json::FromJson;
+use crate::refusal::Refusal;
+use crate::to_json::ToJson;
+use passkey_cbor::OutOfMemory;
+use serde_json::Value;
+use std::alloc::Global;
+use std::marker::Model;
+
+/// A truth that is also read of its name, `true` or `false`. A contract sees it as that truth.
+#[derive(Drop)]
+pub struct TruthText(pub bool);
+
+impl Model for TruthText {
+    ghost use Rattle.std.specs.Prelude.{Bool};
+
+    ghost Value = { Bool };
+
+    ghost view = { λ t. t.0 };
+}
+
+impl TruthText {
+    /// The truth.
+    pub fn get(self) -> bool
+        ensures { result ≡ self }
+    {
+        self.0
+    }
+}
+
+fn truth_named(name: &str) -> Option<bool>
+    ensures { result ≡ truth_named name.now }
+{
+    match name {
+        "true" => Some(true),
+        "false" => Some(false),
+        _ => None,
+    }
+}
+
+impl FromJson for TruthText {
+    ghost kind = { truth_text };
+
+    ghost takes = { false };
+
+    fn from_value(_alloc: Global, value: &Value) -> Result<TruthText, Refusal> {
+        let truth = match value {
+            Value::Bool(truth) => Some(*truth),
+            Value::String(name) => truth_named(name.as_str()),
+            _ => None,
+        };
+        match truth {
+            Some(truth) => Ok(TruthText(truth)),
+            None => Err(Refusal::Refused),
+        }
+    }
+}
+
+impl ToJson for TruthText {
+    ghost json = { λ _ b. boolean b };
+
+    fn to_json(&self, _alloc: Global, _form: BytesForm) -> Result<Value, OutOfMemory> {
+        Ok(Value::Bool(self.0))
+    }
+}

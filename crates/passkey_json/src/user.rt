@@ -1,0 +1,52 @@
+//! Users, read of JSON objects and written.
+ghost use Rattle.std.specs.Prelude.{true};
+ghost use Rattle.passkey_json.specs.Members.{record_kind};
+ghost use Rattle.passkey_json.specs.User.{user_in, user_json};
+
+use crate::bytes_form::BytesForm;
+use crate::from_json::FromJson;
+use crate::json_fault::JsonFault;
+use crate::json_record::{JsonRecord, read_nested};
+use crate::object::Object;
+use crate::refusal::Refusal;
+use crate::to_json::ToJson;
+use crate::written::Written;
+use passkey_cbor::OutOfMemory;
+use passkey_webauthn::PublicKeyCredentialUserEntity;
+use serde_json::Value;
+use std::alloc::Global;
+
+impl JsonRecord for PublicKeyCredentialUserEntity {
+    ghost members = { user_in };
+
+    #[tactic(auto, unfolding(crate::specs::User::user_in, crate::specs::Members::required))]
+    fn from_object(object: &Object<'_>) -> Result<PublicKeyCredentialUserEntity, JsonFault> {
+        Ok(PublicKeyCredentialUserEntity {
+            id: object.member("id").required()?,
+            display_name: object.member("displayName").required()?,
+            name: object.member("name").required()?,
+        })
+    }
+}
+
+impl FromJson for PublicKeyCredentialUserEntity {
+    ghost kind = { record_kind user_in };
+
+    ghost takes = { true };
+
+    fn from_value(alloc: Global, value: &Value) -> Result<PublicKeyCredentialUserEntity, Refusal> {
+        read_nested(alloc, value)
+    }
+}
+
+impl ToJson for PublicKeyCredentialUserEntity {
+    ghost json = { user_json };
+
+    fn to_json(&self, alloc: Global, form: BytesForm) -> Result<Value, OutOfMemory> {
+        let mut members = Written::new(alloc);
+        members.put(alloc, form, "id", &self.id)?;
+        members.put(alloc, form, "displayName", &self.display_name)?;
+        members.put(alloc, form, "name", &self.name)?;
+        Ok(members.into_value())
+    }
+}

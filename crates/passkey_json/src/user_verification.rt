@@ -1,0 +1,81 @@
+//! Whether the user is to be verified, read of JSON values and written.
+ghost use Rattle.std.specs.Prelude.{false};
+ghost use Rattle.passkey_json.specs.Kind.{one_named};
+ghost use Rattle.passkey_json.specs.UserVerification.{user_verification_name, user_verification_named, user_verification_own};
+ghost use Rattle.serde_json.specs.Data.{string};
+
+use crate::bytes_form::BytesForm;
+use crate::from_json::FromJson;
+use crate::names::{read_name, written_name};
+use crate::refusal::Refusal;
+use crate::to_json::ToJson;
+use passkey_cbor::OutOfMemory;
+use passkey_webauthn::EnumNames;
+use serde_json::Value;
+use std::alloc::Global;
+
+/// Whether the user is to be verified (WebAuthn Level 3, section 5.8.6).
+#[derive(Clone, Copy, Debug, PartialEq, Eq)]
+pub enum UserVerificationRequirement {
+    /// Nothing else will do.
+    Required,
+    /// Where the authenticator can.
+    Preferred,
+    /// Rather not.
+    Discouraged,
+}
+
+impl EnumNames for UserVerificationRequirement {
+    ghost name_of = { user_verification_name };
+
+    ghost named = { user_verification_named };
+
+    ghost name_is_own = { user_verification_own };
+
+    fn from_name(name: &str) -> Option<UserVerificationRequirement> {
+        match name {
+            "required" => Some(UserVerificationRequirement::Required),
+            "preferred" => Some(UserVerificationRequirement::Preferred),
+            "discouraged" => Some(UserVerificationRequirement::Discouraged),
+            _ => None,
+        }
+    }
+
+    fn name(self) -> &'static str {
+        match self {
+            UserVerificationRequirement::Required => "required",
+            UserVerificationRequirement::Preferred => "preferred",
+            UserVerificationRequirement::Discouraged => "discouraged",
+        }
+    }
+}
+
+impl FromJson for UserVerificationRequirement {
+    ghost kind = { one_named user_verification_named };
+
+    ghost takes = { false };
+
+    fn from_value(_alloc: Global, value: &Value) -> Result<UserVerificationRequirement, Refusal> {
+        read_name(value)
+    }
+}
+
+impl ToJson for UserVerificationRequirement {
+    ghost json = { λ _ x. string (user_verification_name x) };
+
+    #[tactic(auto, using(crate::specs::UserVerification::user_verification_own))]
+    fn to_json(&self, alloc: Global, _form: BytesForm) -> Result<Value, OutOfMemory> {
+        written_name(alloc, *self)
+    }
+}
+
+impl Default for UserVerificationRequirement {
+    ghost use Rattle.std.specs.Prelude.{◌≡◌};
+    ghost use Rattle.passkey_json.specs.declared.user_verification.UserVerificationRequirement.TheVariants.{Preferred};
+
+    ghost is_default = { λ x. x ≡ Preferred };
+
+    fn default() -> UserVerificationRequirement {
+        UserVerificationRequirement::Preferred
+    }
+}

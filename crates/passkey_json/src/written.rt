@@ -1,0 +1,96 @@
+//! Lists and objects that are written.
+ghost use Rattle.std.specs.Prelude.{◌≡◌, false, OnOk, Some, option_map};
+ghost use Rattle.passkey_json.specs.Written.{ReadsBack, ReadsBackIf, list_json, put_if, so_far};
+ghost use Rattle.serde_json.specs.Data.{no_members, object, put};
+ghost use Rattle.serde_json.specs.View.{members_view, view};
+ghost use Rattle.serde_json.specs.Written.{has_float, members_have_float};
+
+use crate::bytes_form::BytesForm;
+use crate::elements::Elements;
+use crate::to_json::ToJson;
+use passkey_bytes::List;
+use passkey_cbor::OutOfMemory;
+use serde_json::{Map, Value};
+use std::alloc::Global;
+
+mod held;
+
+pub use held::Written;
+
+impl<T: ToJson> ToJson for List<T> {
+    ghost json = { λ form. list_json (T.json form) };
+
+    fn to_json(&self, alloc: Global, form: BytesForm) -> Result<Value, OutOfMemory> {
+        let mut elements = Elements::new(alloc);
+        for element in self.as_slice() {
+            elements.push(alloc, form, element)?;
+        }
+        Ok(elements.into_value())
+    }
+}
+
+/// One more member of an object.
+#[tactic(auto, using(crate::proofs::FloatFree::entry_free))]
+fn put_member(
+    alloc: Global,
+    members: &mut Map<String, Value>,
+    name: &str,
+    value: Value,
+) -> Result<(), OutOfMemory>
+    ensures written { OnOk result (members_view members.new.entries ≡ put name.now (view value) (members_view members.old.entries)) }
+    ensures without_floats { has_float (view value) ≡ false → members_have_float (members_view members.old.entries) ≡ false → members_have_float (members_view members.new.entries) ≡ false }
+{
+    members.insert(String::from_str(alloc, name)?, value)?;
+    Ok(())
+}
+
+impl Written {
+    /// No members. It takes no memory.
+    pub fn new(alloc: Global) -> Written
+        ensures { so_far result ≡ no_members }
+    {
+        Written {
+            members: Map::new(alloc),
+        }
+    }
+
+    /// A member of this name. `OutOfMemory` where a growth was refused.
+    pub fn put<T: ToJson>(
+        &mut self,
+        alloc: Global,
+        form: BytesForm,
+        name: &str,
+        member: &T,
+    ) -> Result<(), OutOfMemory>
+        ensures written { OnOk result (so_far self.new ≡ put_if name.now (Some (T.json form member.now)) (so_far self.old)) }
+        ensures reads_back { OnOk result (ReadsBack T.kind member.now (T.json form member.now)) }
+    {
+        let value = member.to_json(alloc, form)?;
+        put_member(alloc, &mut self.members, name, value)
+    }
+
+    /// A member of this name, where there is one. `OutOfMemory` where a growth was refused.
+    pub fn put_some<T: ToJson>(
+        &mut self,
+        alloc: Global,
+        form: BytesForm,
+        name: &str,
+        member: &Option<T>,
+    ) -> Result<(), OutOfMemory>
+        ensures written { OnOk result (so_far self.new ≡ put_if name.now (option_map (T.json form) member.now) (so_far self.old)) }
+        ensures reads_back { OnOk result (ReadsBackIf T.kind (T.json form) member.now) }
+    {
+        if let Some(member) = member {
+            self.put(alloc, form, name, member)?;
+        }
+        Ok(())
+    }
+
+    /// The object of the members.
+    pub fn into_value(self) -> Value
+        ensures value { view result ≡ object (so_far self) }
+        ensures without_floats { has_float (view result) ≡ false }
+    {
+        Value::Object(self.members)
+    }
+}

@@ -1,0 +1,13 @@
+//! Members that are written.
+ghost use Rattle.std.specs.Prelude.{◌≡◌, false};
+ghost use Rattle.serde_json.specs.View.{members_view};
+ghost use Rattle.serde_json.specs.Written.{members_have_float};
+
+use serde_json::{Map, Value};
+
+/// The members that are written of a record. None holds a float.
+#[derive(Drop)]
+pub struct Written {
+    pub(super) members: Map<String, Value>,
+    ghost without_floats: { members_have_float (members_view members.entries) ≡ false },
+}
