@@ -1,0 +1,3 @@
+pub mod HmacSecret
+pub mod Extensions
+pub mod Passkey

@@ -1,0 +1,43 @@
+//! What extensions store with a passkey.
+ghost use Rattle.std.specs.Prelude.{◌≡◌, IfOk, IsSome, OnErr};
+ghost use Rattle.passkey_stored.specs.Extensions.{no_extensions};
+
+use crate::hmac_secret::StoredHmacSecret;
+use passkey_cbor::OutOfMemory;
+use std::alloc::Global;
+
+/// What extensions store with a passkey.
+#[derive(Debug, Drop, PartialEq)]
+pub struct CredentialExtensions {
+    /// The secrets of the extension hmac-secret.
+    pub hmac_secret: Option<StoredHmacSecret>,
+}
+
+impl CredentialExtensions {
+    /// Nothing is stored.
+    pub fn empty() -> CredentialExtensions
+        ensures { result ≡ no_extensions }
+    {
+        CredentialExtensions { hmac_secret: None }
+    }
+
+    /// An equal value. `OutOfMemory` where a growth was refused, which cannot be where no secrets
+    /// are there.
+    pub fn try_clone(&self, alloc: Global) -> Result<CredentialExtensions, OutOfMemory>
+        ensures same { IfOk result (λ copy. copy ≡ self.now) }
+        ensures grows { OnErr result (IsSome self.now.hmac_secret) }
+    {
+        let hmac_secret = match &self.hmac_secret {
+            Some(secret) => Some(secret.try_clone(alloc)?),
+            None => None,
+        };
+        Ok(CredentialExtensions { hmac_secret })
+    }
+
+    /// Forgets what is stored: nothing is there then. The memory isn't overwritten.
+    pub fn zeroize(&mut self)
+        ensures { self.new ≡ no_extensions }
+    {
+        self.hmac_secret = None;
+    }
+}

@@ -1,0 +1,146 @@
+//! Passkeys.
+ghost use Rattle.std.specs.Prelude.{◌≡◌, ◌<◌, Some, length, IfOk, OnErr};
+ghost use Rattle.std.specs.Option.{IsSomeAnd};
+ghost use Rattle.passkey_stored.specs.Passkey.{StoresMemory, fresh, key_type_name, named, passkey_parts, printed};
+ghost use Rattle.rand_core.specs.Stream.{fill_bytes};
+
+use crate::builder::PasskeyBuilder;
+use crate::extensions::CredentialExtensions;
+use passkey_bytes::{Bytes, Text};
+use passkey_cbor::OutOfMemory;
+use passkey_cose::iana::KeyType;
+use passkey_cose::{CoseKey, Registered};
+use passkey_webauthn::{PublicKeyCredentialDescriptor, PublicKeyCredentialType};
+use rand_core::Rng;
+use std::alloc::Global;
+use std::fmt;
+
+/// A passkey as its authenticator stores it: a public key credential source (WebAuthn Level 3,
+/// section 4). Of its fields the key's type and the counter alone are printed.
+#[derive(Drop, PartialEq)]
+pub struct Passkey {
+    /// The private key.
+    pub key: CoseKey,
+    /// The credential's id.
+    pub credential_id: Bytes,
+    /// The id of the relying party that the passkey is for.
+    pub rp_id: Text,
+    /// The relying party's id of the user, where it is stored.
+    pub user_handle: Option<Bytes>,
+    /// The user's name, where it is stored.
+    pub username: Option<Text>,
+    /// What the user is called, where it is stored.
+    pub user_display_name: Option<Text>,
+    /// How often the passkey was used, where that is counted.
+    pub counter: Option<u32>,
+    /// What extensions store with the passkey.
+    pub extensions: CredentialExtensions,
+}
+
+fn copied_bytes(alloc: Global, bytes: &Option<Bytes>) -> Result<Option<Bytes>, OutOfMemory>
+    ensures same { IfOk result (λ copy. copy ≡ bytes.now) }
+    ensures grows { OnErr result (IsSomeAnd bytes.now (λ b. 0 < length b)) }
+{
+    match bytes {
+        Some(bytes) => Ok(Some(bytes.try_clone(alloc)?)),
+        None => Ok(None),
+    }
+}
+
+fn copied_text(alloc: Global, text: &Option<Text>) -> Result<Option<Text>, OutOfMemory>
+    ensures same { IfOk result (λ copy. copy ≡ text.now) }
+    ensures grows { OnErr result (IsSomeAnd text.now (λ t. 0 < length t)) }
+{
+    match text {
+        Some(text) => Ok(Some(text.try_clone(alloc)?)),
+        None => Ok(None),
+    }
+}
+
+impl Passkey {
+    /// A builder of passkeys for a relying party, with this key. The credential's id is the next 16
+    /// bytes of the generator; nothing else is set. `OutOfMemory` where the id's memory was refused.
+    pub fn mock<R: Rng + Drop>(
+        alloc: Global,
+        rp_id: Text,
+        key: CoseKey,
+        rng: R,
+    ) -> Result<PasskeyBuilder<R>, OutOfMemory>
+        ensures built { IfOk result (λ b. b.passkey ≡ fresh key rp_id (fill_bytes 16 (R.stream rng)).0) }
+        ensures drawn { IfOk result (λ b. R.stream b.rng ≡ (fill_bytes 16 (R.stream rng)).1) }
+    {
+        PasskeyBuilder::new(alloc, rp_id, key, rng)
+    }
+
+    /// The descriptor by which relying parties name the passkey's credential (WebAuthn Level 3,
+    /// section 5.8.3); no transports. `OutOfMemory` where a growth was refused, which cannot be where
+    /// the credential's id is empty.
+    pub fn descriptor(&self, alloc: Global) -> Result<PublicKeyCredentialDescriptor, OutOfMemory>
+        ensures named { IfOk result (λ descriptor. descriptor ≡ named self.now) }
+        ensures grows { OnErr result (0 < length self.now.credential_id) }
+    {
+        Ok(PublicKeyCredentialDescriptor {
+            ty: PublicKeyCredentialType::PublicKey,
+            id: self.credential_id.try_clone(alloc)?,
+            transports: None,
+        })
+    }
+
+    /// The same descriptor, of the passkey's own id.
+    pub fn into_descriptor(self) -> PublicKeyCredentialDescriptor
+        ensures { result ≡ named self }
+    {
+        PublicKeyCredentialDescriptor {
+            ty: PublicKeyCredentialType::PublicKey,
+            id: self.credential_id,
+            transports: None,
+        }
+    }
+
+    /// An equal passkey. `OutOfMemory` where a growth was refused, which cannot be where no part of
+    /// the passkey takes memory.
+    pub fn try_clone(&self, alloc: Global) -> Result<Passkey, OutOfMemory>
+        ensures same { IfOk result (λ copy. passkey_parts copy ≡ passkey_parts self.now) }
+        ensures grows { OnErr result (StoresMemory (passkey_parts self.now)) }
+    {
+        Ok(Passkey {
+            key: self.key.try_clone(alloc)?,
+            credential_id: self.credential_id.try_clone(alloc)?,
+            rp_id: self.rp_id.try_clone(alloc)?,
+            user_handle: copied_bytes(alloc, &self.user_handle)?,
+            username: copied_text(alloc, &self.username)?,
+            user_display_name: copied_text(alloc, &self.user_display_name)?,
+            counter: self.counter,
+            extensions: self.extensions.try_clone(alloc)?,
+        })
+    }
+}
+
+fn key_type_name(kty: KeyType) -> &'static str
+    ensures { result.now ≡ key_type_name kty }
+{
+    match kty {
+        KeyType::Reserved => "Reserved",
+        KeyType::OKP => "OKP",
+        KeyType::EC2 => "EC2",
+        KeyType::RSA => "RSA",
+        KeyType::Symmetric => "Symmetric",
+    }
+}
+
+impl fmt::Debug for Passkey {
+    ghost debug_output = { λ passkey. Some (printed (passkey_parts passkey)) };
+
+    fn fmt<W: fmt::Write>(&self, f: &mut fmt::Formatter<W>) -> fmt::Result {
+        f.write_str("Passkey { key_type: ")?;
+        match self.key.kty() {
+            Registered::Assigned(kty) => write!(f, "Assigned({})", key_type_name(*kty))?,
+            Registered::Other(number) => write!(f, "Other({number})")?,
+            Registered::Text(_) => f.write_str("Text")?,
+        }
+        match self.counter {
+            Some(counter) => write!(f, ", counter: Some({counter}) }}"),
+            None => f.write_str(", counter: None }"),
+        }
+    }
+}
