@@ -1,0 +1,2 @@
+pub mod UrlKind
+pub mod WellKnown

@@ -1,0 +1,85 @@
+//! The document that tells which origins may use a relying party's id.
+ghost use Rattle.std.specs.Prelude.{◌≡◌, IfOk, codes};
+ghost use Rattle.passkey_json.specs.Kind.{list};
+ghost use Rattle.passkey_json.specs.Members.{in_object, judged};
+ghost use Rattle.passkey_well_known.specs.UrlKind.{url};
+ghost use Rattle.passkey_well_known.specs.WellKnown.{GivesUrls, urls_json, well_known_in, well_known_json};
+ghost use Rattle.serde_json.specs.View.{view};
+
+use crate::url_list::{UrlFault, read_urls};
+use passkey_cbor::OutOfMemory;
+use passkey_json::{BytesForm, JsonFault, holds_float};
+use serde_json::{Map, Value};
+use std::alloc::Global;
+use url::Url;
+
+/// Which origins may use a relying party's id (WebAuthn Level 3, section 5.11).
+#[derive(Debug, Drop)]
+pub struct WellKnown {
+    /// The origins, as the document lists them.
+    pub origins: Vec<Url>,
+}
+
+/// The URLs of the member `origins`.
+fn origins_of(alloc: Global, value: &Value) -> Result<Vec<Url>, JsonFault>
+    ensures { GivesUrls (λ urls. urls.items) (judged (list url) (codes "origins") (view value.now)) result }
+{
+    match read_urls(alloc, value) {
+        Ok(urls) => Ok(urls),
+        Err(UrlFault::OutOfMemory) => Err(JsonFault::OutOfMemory),
+        Err(UrlFault::Refused | UrlFault::TooLong) => {
+            if holds_float(value) {
+                Err(JsonFault::Float("origins"))
+            } else {
+                Err(JsonFault::Refused("origins"))
+            }
+        }
+    }
+}
+
+impl WellKnown {
+    /// The document that the JSON value stands for: an object whose member `origins` is a list of
+    /// texts, each of which the URL Standard reads as a URL. Other members are passed over.
+    /// `NotAnObject` where it is no object, `Missing` where there is no such member; where that is
+    /// no such list, `Float` where it holds a float and else `Refused`. `Refused` also where a URL
+    /// has 4 GB or more. `OutOfMemory` where a growth was refused.
+    #[tactic(auto, unfolding(crate::specs::WellKnown::well_known_in, passkey_json::specs::Members::required))]
+    pub fn from_json(alloc: Global, value: &Value) -> Result<WellKnown, JsonFault>
+        ensures { GivesUrls (λ document. document.origins.items) (in_object well_known_in (view value.now)) result }
+    {
+        if !value.is_object() {
+            return Err(JsonFault::NotAnObject);
+        }
+        let Some(origins) = value.get("origins") else {
+            return Err(JsonFault::Missing("origins"));
+        };
+        match origins_of(alloc, origins) {
+            Ok(origins) => Ok(WellKnown { origins }),
+            Err(fault) => Err(fault),
+        }
+    }
+
+    /// The object whose member `origins` is the list of the URLs' texts, in either form of bytes.
+    /// `OutOfMemory` where a growth was refused.
+    pub fn to_json(&self, alloc: Global, _form: BytesForm) -> Result<Value, OutOfMemory>
+        ensures { IfOk result (λ v. view v ≡ well_known_json self.now.origins.items) }
+    {
+        let mut document = Map::new(alloc);
+        document.insert(
+            String::from_str(alloc, "origins")?,
+            texts_of(alloc, self.origins.as_slice())?,
+        )?;
+        Ok(Value::Object(document))
+    }
+}
+
+/// The list of the URLs' texts.
+fn texts_of(alloc: Global, urls: &[Url]) -> Result<Value, OutOfMemory>
+    ensures { IfOk result (λ v. view v ≡ urls_json urls.now) }
+{
+    let mut texts = Vec::new(alloc);
+    for url in urls {
+        texts.push(Value::try_from_str(alloc, url.as_str())?)?;
+    }
+    Ok(Value::Array(texts))
+}
