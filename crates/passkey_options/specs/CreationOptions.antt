@@ -1,0 +1,64 @@
+-- What a relying party asks for where a credential is made (WebAuthn Level 3, section 5.4).
+use Rattle.std.specs.Prelude.{List, [], ◌∷◌, None, Result, Ok, codes}
+use Rattle.passkey_json.specs.ClientInputs.{client_inputs_in, client_inputs_json}
+use Rattle.passkey_json.specs.Descriptor.{descriptor_in, descriptor_json}
+use Rattle.passkey_json.specs.Fault.{Fault}
+use Rattle.passkey_json.specs.Kind.{bytes, word, optional, one_named, accepted}
+use Rattle.passkey_json.specs.Members.{◌>>=◌, Object, member, record_kind, required, given, or_default, tolerated, accepted_list}
+use Rattle.passkey_json.specs.Parameters.{parameters_in, parameters_json}
+use Rattle.passkey_json.specs.Rp.{rp_in, rp_json}
+use Rattle.passkey_json.specs.SelectionCriteria.{selection_criteria_in, selection_criteria_json}
+use Rattle.passkey_json.specs.User.{user_in, user_json}
+use Rattle.passkey_json.specs.Written.{Row, written, row, row_if, list_json, bytes_json, natural_json}
+use Rattle.passkey_json.specs.declared.bytes_form.BytesForm.{BytesForm}
+use Rattle.passkey_options.specs.AttestationConveyance.{conveyance_name, conveyance_named}
+use Rattle.passkey_options.specs.AttestationFormat.{format_name, format_named}
+use Rattle.passkey_options.specs.Hints.{hint_name, hint_named}
+use Rattle.passkey_options.specs.declared.attestation_conveyance.AttestationConveyancePreference.TheVariants.{None as NoAttestation}
+use Rattle.passkey_options.specs.declared.creation_options.PublicKeyCredentialCreationOptions.{PublicKeyCredentialCreationOptions}
+use Rattle.serde_json.specs.Data.{Data, string}
+
+unfoldable pub creation_options_in : Object → Result PublicKeyCredentialCreationOptions Fault
+creation_options_in object = do
+  rp ← required (record_kind rp_in) (member (codes "rp") object)
+  user ← required (record_kind user_in) (member (codes "user") object)
+  challenge ← required bytes (member (codes "challenge") object)
+  pub_key_cred_params ← required (accepted (record_kind parameters_in)) (member (codes "pubKeyCredParams") object)
+  timeout ← given word (member (codes "timeout") object)
+  exclude_credentials ← accepted_list (record_kind descriptor_in) (member (codes "excludeCredentials") object)
+  authenticator_selection ← or_default None (optional (record_kind selection_criteria_in)) (member (codes "authenticatorSelection") object)
+  hints ← accepted_list (one_named hint_named) (member (codes "hints") object)
+  attestation ← tolerated NoAttestation (one_named conveyance_named) (member (codes "attestation") object)
+  attestation_formats ← accepted_list (one_named format_named) (member (codes "attestationFormats") object)
+  extensions ← or_default None (optional (record_kind client_inputs_in)) (member (codes "extensions") object)
+  Ok (record {
+    rp = rp;
+    user = user;
+    challenge = challenge;
+    pub_key_cred_params = pub_key_cred_params;
+    timeout = timeout;
+    exclude_credentials = exclude_credentials;
+    authenticator_selection = authenticator_selection;
+    hints = hints;
+    attestation = attestation;
+    attestation_formats = attestation_formats;
+    extensions = extensions;
+  })
+
+abbrev pub creation_options_rows : BytesForm → PublicKeyCredentialCreationOptions → List Row
+creation_options_rows form x =
+    row (codes "rp") (rp_json form x.rp)
+    ∷ row (codes "user") (user_json form x.user)
+    ∷ row (codes "challenge") (bytes_json form x.challenge)
+    ∷ row (codes "pubKeyCredParams") (list_json (parameters_json form) x.pub_key_cred_params)
+    ∷ row_if (codes "timeout") natural_json x.timeout
+    ∷ row_if (codes "excludeCredentials") (list_json (descriptor_json form)) x.exclude_credentials
+    ∷ row_if (codes "authenticatorSelection") (selection_criteria_json form) x.authenticator_selection
+    ∷ row_if (codes "hints") (list_json (λ h. string (hint_name h))) x.hints
+    ∷ row (codes "attestation") (string (conveyance_name x.attestation))
+    ∷ row_if (codes "attestationFormats") (list_json (λ f. string (format_name f))) x.attestation_formats
+    ∷ row_if (codes "extensions") (client_inputs_json form) x.extensions
+    ∷ []
+
+abbrev pub creation_options_json : BytesForm → PublicKeyCredentialCreationOptions → Data
+creation_options_json form x = written (creation_options_rows form x)

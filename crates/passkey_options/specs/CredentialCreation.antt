@@ -1,0 +1,22 @@
+-- What a page asks of the browser where a credential is made (WebAuthn Level 3, section 5.1.1).
+use Rattle.std.specs.Prelude.{List, [], ◌∷◌, Result, Ok, codes}
+use Rattle.passkey_json.specs.Fault.{Fault}
+use Rattle.passkey_json.specs.Members.{◌>>=◌, Object, member, record_kind, required}
+use Rattle.passkey_json.specs.Written.{Row, written, row}
+use Rattle.passkey_json.specs.declared.bytes_form.BytesForm.{BytesForm}
+use Rattle.passkey_options.specs.CreationOptions.{creation_options_in, creation_options_json}
+use Rattle.passkey_options.specs.declared.credential_creation.CredentialCreationOptions.{CredentialCreationOptions}
+use Rattle.serde_json.specs.Data.{Data}
+
+unfoldable pub credential_creation_in : Object → Result CredentialCreationOptions Fault
+credential_creation_in object = do
+  public_key ← required (record_kind creation_options_in) (member (codes "publicKey") object)
+  Ok (record { public_key = public_key })
+
+abbrev pub credential_creation_rows : BytesForm → CredentialCreationOptions → List Row
+credential_creation_rows form x =
+    row (codes "publicKey") (creation_options_json form x.public_key)
+    ∷ []
+
+abbrev pub credential_creation_json : BytesForm → CredentialCreationOptions → Data
+credential_creation_json form x = written (credential_creation_rows form x)

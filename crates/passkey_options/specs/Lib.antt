@@ -1,0 +1,7 @@
+pub mod Hints
+pub mod AttestationConveyance
+pub mod AttestationFormat
+pub mod RequestOptions
+pub mod CredentialRequest
+pub mod CreationOptions
+pub mod CredentialCreation

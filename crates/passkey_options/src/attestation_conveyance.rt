@@ -1,0 +1,84 @@
+//! Which attestation a relying party wants, read of JSON values and written.
+ghost use Rattle.std.specs.Prelude.{false};
+ghost use Rattle.passkey_json.specs.Kind.{one_named};
+ghost use Rattle.passkey_options.specs.AttestationConveyance.{conveyance_name, conveyance_named, conveyance_own};
+ghost use Rattle.serde_json.specs.Data.{string};
+
+use passkey_cbor::OutOfMemory;
+use passkey_json::{BytesForm, FromJson, Refusal, ToJson, read_name, written_name};
+use passkey_webauthn::EnumNames;
+use serde_json::Value;
+use std::alloc::Global;
+
+/// Which attestation a relying party wants (WebAuthn Level 3, section 5.4.7).
+#[derive(Clone, Copy, Debug, PartialEq, Eq)]
+pub enum AttestationConveyancePreference {
+    /// No attestation.
+    None,
+    /// One that can be verified, which may be another one that the client puts in its place.
+    Indirect,
+    /// The authenticator's own.
+    Direct,
+    /// One that tells which authenticator it is, within an enterprise.
+    Enterprise,
+}
+
+impl EnumNames for AttestationConveyancePreference {
+    ghost name_of = { conveyance_name };
+
+    ghost named = { conveyance_named };
+
+    ghost name_is_own = { conveyance_own };
+
+    fn from_name(name: &str) -> Option<AttestationConveyancePreference> {
+        match name {
+            "none" => Some(AttestationConveyancePreference::None),
+            "indirect" => Some(AttestationConveyancePreference::Indirect),
+            "direct" => Some(AttestationConveyancePreference::Direct),
+            "enterprise" => Some(AttestationConveyancePreference::Enterprise),
+            _ => None,
+        }
+    }
+
+    fn name(self) -> &'static str {
+        match self {
+            AttestationConveyancePreference::None => "none",
+            AttestationConveyancePreference::Indirect => "indirect",
+            AttestationConveyancePreference::Direct => "direct",
+            AttestationConveyancePreference::Enterprise => "enterprise",
+        }
+    }
+}
+
+impl FromJson for AttestationConveyancePreference {
+    ghost kind = { one_named conveyance_named };
+
+    ghost takes = { false };
+
+    fn from_value(
+        _alloc: Global,
+        value: &Value,
+    ) -> Result<AttestationConveyancePreference, Refusal> {
+        read_name(value)
+    }
+}
+
+impl ToJson for AttestationConveyancePreference {
+    ghost json = { λ _ x. string (conveyance_name x) };
+
+    #[tactic(auto, using(crate::specs::AttestationConveyance::conveyance_own))]
+    fn to_json(&self, alloc: Global, _form: BytesForm) -> Result<Value, OutOfMemory> {
+        written_name(alloc, *self)
+    }
+}
+
+impl Default for AttestationConveyancePreference {
+    ghost use Rattle.std.specs.Prelude.{◌≡◌};
+    ghost use Rattle.passkey_options.specs.declared.attestation_conveyance.AttestationConveyancePreference.TheVariants.{None as NoAttestation};
+
+    ghost is_default = { λ x. x ≡ NoAttestation };
+
+    fn default() -> AttestationConveyancePreference {
+        AttestationConveyancePreference::None
+    }
+}

@@ -1,0 +1,96 @@
+//! Formats of attestation statements, read of JSON values and written.
+ghost use Rattle.std.specs.Prelude.{false};
+ghost use Rattle.passkey_json.specs.Kind.{one_named};
+ghost use Rattle.passkey_options.specs.AttestationFormat.{format_name, format_named, format_own};
+ghost use Rattle.serde_json.specs.Data.{string};
+
+use passkey_cbor::OutOfMemory;
+use passkey_json::{BytesForm, FromJson, Refusal, ToJson, read_name, written_name};
+use passkey_webauthn::EnumNames;
+use serde_json::Value;
+use std::alloc::Global;
+
+/// A format of attestation statements (WebAuthn Level 3, section 8.1).
+#[derive(Clone, Copy, Debug, PartialEq, Eq)]
+pub enum AttestationStatementFormatIdentifiers {
+    /// The one that was made for WebAuthn (section 8.2).
+    Packed,
+    /// That of a trusted platform module (section 8.3).
+    Tpm,
+    /// That of a key store of Android (section 8.4).
+    AndroidKey,
+    /// That of SafetyNet of Android (section 8.5).
+    AndroidSafetynet,
+    /// That of FIDO U2F (section 8.6).
+    FidoU2f,
+    /// That of Apple's anonymous attestation (section 8.8).
+    Apple,
+    /// No statement (section 8.7).
+    None,
+}
+
+impl EnumNames for AttestationStatementFormatIdentifiers {
+    ghost name_of = { format_name };
+
+    ghost named = { format_named };
+
+    ghost name_is_own = { format_own };
+
+    fn from_name(name: &str) -> Option<AttestationStatementFormatIdentifiers> {
+        match name {
+            "packed" => Some(AttestationStatementFormatIdentifiers::Packed),
+            "tpm" => Some(AttestationStatementFormatIdentifiers::Tpm),
+            "android-key" => Some(AttestationStatementFormatIdentifiers::AndroidKey),
+            "android-safetynet" => Some(AttestationStatementFormatIdentifiers::AndroidSafetynet),
+            "fido-u2f" => Some(AttestationStatementFormatIdentifiers::FidoU2f),
+            "apple" => Some(AttestationStatementFormatIdentifiers::Apple),
+            "none" => Some(AttestationStatementFormatIdentifiers::None),
+            _ => None,
+        }
+    }
+
+    fn name(self) -> &'static str {
+        match self {
+            AttestationStatementFormatIdentifiers::Packed => "packed",
+            AttestationStatementFormatIdentifiers::Tpm => "tpm",
+            AttestationStatementFormatIdentifiers::AndroidKey => "android-key",
+            AttestationStatementFormatIdentifiers::AndroidSafetynet => "android-safetynet",
+            AttestationStatementFormatIdentifiers::FidoU2f => "fido-u2f",
+            AttestationStatementFormatIdentifiers::Apple => "apple",
+            AttestationStatementFormatIdentifiers::None => "none",
+        }
+    }
+}
+
+impl FromJson for AttestationStatementFormatIdentifiers {
+    ghost kind = { one_named format_named };
+
+    ghost takes = { false };
+
+    fn from_value(
+        _alloc: Global,
+        value: &Value,
+    ) -> Result<AttestationStatementFormatIdentifiers, Refusal> {
+        read_name(value)
+    }
+}
+
+impl ToJson for AttestationStatementFormatIdentifiers {
+    ghost json = { λ _ x. string (format_name x) };
+
+    #[tactic(auto, using(crate::specs::AttestationFormat::format_own))]
+    fn to_json(&self, alloc: Global, _form: BytesForm) -> Result<Value, OutOfMemory> {
+        written_name(alloc, *self)
+    }
+}
+
+impl Default for AttestationStatementFormatIdentifiers {
+    ghost use Rattle.std.specs.Prelude.{◌≡◌};
+    ghost use Rattle.passkey_options.specs.declared.attestation_format.AttestationStatementFormatIdentifiers.TheVariants.{None as NoStatement};
+
+    ghost is_default = { λ x. x ≡ NoStatement };
+
+    fn default() -> AttestationStatementFormatIdentifiers {
+        AttestationStatementFormatIdentifiers::None
+    }
+}

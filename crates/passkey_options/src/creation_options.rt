@@ -1,0 +1,111 @@
+//! What a relying party asks for where a credential is made, read of JSON objects and written.
+ghost use Rattle.std.specs.Prelude.{true};
+ghost use Rattle.passkey_json.specs.Members.{record_kind};
+ghost use Rattle.passkey_options.specs.CreationOptions.{creation_options_in, creation_options_json};
+
+use crate::attestation_conveyance::AttestationConveyancePreference;
+use crate::attestation_format::AttestationStatementFormatIdentifiers;
+use crate::hints::PublicKeyCredentialHints;
+use passkey_bytes::{Bytes, List};
+use passkey_cbor::OutOfMemory;
+use passkey_json::{
+    AuthenticationExtensionsClientInputs, AuthenticatorSelectionCriteria, BytesForm, FromJson,
+    JsonFault, JsonRecord, Object, Refusal, ToJson, TolerantList, Written, read_nested,
+};
+use passkey_webauthn::{
+    PublicKeyCredentialDescriptor, PublicKeyCredentialParameters, PublicKeyCredentialRpEntity,
+    PublicKeyCredentialUserEntity,
+};
+use serde_json::Value;
+use std::alloc::Global;
+
+/// What a relying party asks for where a credential is made (WebAuthn Level 3, section 5.4).
+#[derive(Debug, Drop)]
+pub struct PublicKeyCredentialCreationOptions {
+    /// The relying party.
+    pub rp: PublicKeyCredentialRpEntity,
+    /// Whose credential it will be.
+    pub user: PublicKeyCredentialUserEntity,
+    /// What the authenticator is to sign, so that no answer serves twice.
+    pub challenge: Bytes,
+    /// The keys that the relying party can use, the best first.
+    pub pub_key_cred_params: List<PublicKeyCredentialParameters>,
+    /// How long the client is to wait, in milliseconds.
+    pub timeout: Option<u32>,
+    /// Credentials that the user has already; no authenticator that holds one of them will do.
+    pub exclude_credentials: Option<List<PublicKeyCredentialDescriptor>>,
+    /// Which authenticators will do; any where nothing is there.
+    pub authenticator_selection: Option<AuthenticatorSelectionCriteria>,
+    /// Which authenticators the user will probably take, the likeliest first.
+    pub hints: Option<List<PublicKeyCredentialHints>>,
+    /// Which attestation is wanted.
+    pub attestation: AttestationConveyancePreference,
+    /// The formats of its statement, the best first.
+    pub attestation_formats: Option<List<AttestationStatementFormatIdentifiers>>,
+    /// What is asked of extensions.
+    pub extensions: Option<AuthenticationExtensionsClientInputs>,
+}
+
+impl JsonRecord for PublicKeyCredentialCreationOptions {
+    ghost members = { creation_options_in };
+
+    #[tactic(auto, unfolding(crate::specs::CreationOptions::creation_options_in, passkey_json::specs::Members::required, passkey_json::specs::Members::given, passkey_json::specs::Members::or_default, passkey_json::specs::Members::tolerated, passkey_json::specs::Members::accepted_list))]
+    fn from_object(object: &Object<'_>) -> Result<PublicKeyCredentialCreationOptions, JsonFault> {
+        Ok(PublicKeyCredentialCreationOptions {
+            rp: object.member("rp").required()?,
+            user: object.member("user").required()?,
+            challenge: object.member("challenge").required()?,
+            pub_key_cred_params: object
+                .member("pubKeyCredParams")
+                .required::<TolerantList<PublicKeyCredentialParameters>>()?
+                .into_list(),
+            timeout: object.member("timeout").given()?,
+            exclude_credentials: object.member("excludeCredentials").accepted_list()?,
+            authenticator_selection: object.member("authenticatorSelection").or_default(None)?,
+            hints: object.member("hints").accepted_list()?,
+            attestation: object
+                .member("attestation")
+                .tolerated(AttestationConveyancePreference::None)?,
+            attestation_formats: object.member("attestationFormats").accepted_list()?,
+            extensions: object.member("extensions").or_default(None)?,
+        })
+    }
+}
+
+impl FromJson for PublicKeyCredentialCreationOptions {
+    ghost kind = { record_kind creation_options_in };
+
+    ghost takes = { true };
+
+    fn from_value(
+        alloc: Global,
+        value: &Value,
+    ) -> Result<PublicKeyCredentialCreationOptions, Refusal> {
+        read_nested(alloc, value)
+    }
+}
+
+impl ToJson for PublicKeyCredentialCreationOptions {
+    ghost json = { creation_options_json };
+
+    fn to_json(&self, alloc: Global, form: BytesForm) -> Result<Value, OutOfMemory> {
+        let mut members = Written::new(alloc);
+        members.put(alloc, form, "rp", &self.rp)?;
+        members.put(alloc, form, "user", &self.user)?;
+        members.put(alloc, form, "challenge", &self.challenge)?;
+        members.put(alloc, form, "pubKeyCredParams", &self.pub_key_cred_params)?;
+        members.put_some(alloc, form, "timeout", &self.timeout)?;
+        members.put_some(alloc, form, "excludeCredentials", &self.exclude_credentials)?;
+        members.put_some(
+            alloc,
+            form,
+            "authenticatorSelection",
+            &self.authenticator_selection,
+        )?;
+        members.put_some(alloc, form, "hints", &self.hints)?;
+        members.put(alloc, form, "attestation", &self.attestation)?;
+        members.put_some(alloc, form, "attestationFormats", &self.attestation_formats)?;
+        members.put_some(alloc, form, "extensions", &self.extensions)?;
+        Ok(members.into_value())
+    }
+}

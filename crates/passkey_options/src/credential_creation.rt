@@ -1,0 +1,50 @@
+//! What a page asks of the browser where a credential is made, read of JSON objects and written.
+ghost use Rattle.std.specs.Prelude.{true};
+ghost use Rattle.passkey_json.specs.Members.{record_kind};
+ghost use Rattle.passkey_options.specs.CredentialCreation.{credential_creation_in, credential_creation_json};
+
+use crate::creation_options::PublicKeyCredentialCreationOptions;
+use passkey_cbor::OutOfMemory;
+use passkey_json::{
+    BytesForm, FromJson, JsonFault, JsonRecord, Object, Refusal, ToJson, Written, read_nested,
+};
+use serde_json::Value;
+use std::alloc::Global;
+
+/// What a page asks of the browser where a credential is made (WebAuthn Level 3, section 5.1.1).
+#[derive(Debug, Drop)]
+pub struct CredentialCreationOptions {
+    /// What the relying party asks for.
+    pub public_key: PublicKeyCredentialCreationOptions,
+}
+
+impl JsonRecord for CredentialCreationOptions {
+    ghost members = { credential_creation_in };
+
+    #[tactic(auto, unfolding(crate::specs::CredentialCreation::credential_creation_in, passkey_json::specs::Members::required))]
+    fn from_object(object: &Object<'_>) -> Result<CredentialCreationOptions, JsonFault> {
+        Ok(CredentialCreationOptions {
+            public_key: object.member("publicKey").required()?,
+        })
+    }
+}
+
+impl FromJson for CredentialCreationOptions {
+    ghost kind = { record_kind credential_creation_in };
+
+    ghost takes = { true };
+
+    fn from_value(alloc: Global, value: &Value) -> Result<CredentialCreationOptions, Refusal> {
+        read_nested(alloc, value)
+    }
+}
+
+impl ToJson for CredentialCreationOptions {
+    ghost json = { credential_creation_json };
+
+    fn to_json(&self, alloc: Global, form: BytesForm) -> Result<Value, OutOfMemory> {
+        let mut members = Written::new(alloc);
+        members.put(alloc, form, "publicKey", &self.public_key)?;
+        Ok(members.into_value())
+    }
+}

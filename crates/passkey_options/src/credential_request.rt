@@ -1,0 +1,50 @@
+//! What a page asks of the browser where a user signs in, read of JSON objects and written.
+ghost use Rattle.std.specs.Prelude.{true};
+ghost use Rattle.passkey_json.specs.Members.{record_kind};
+ghost use Rattle.passkey_options.specs.CredentialRequest.{credential_request_in, credential_request_json};
+
+use crate::request_options::PublicKeyCredentialRequestOptions;
+use passkey_cbor::OutOfMemory;
+use passkey_json::{
+    BytesForm, FromJson, JsonFault, JsonRecord, Object, Refusal, ToJson, Written, read_nested,
+};
+use serde_json::Value;
+use std::alloc::Global;
+
+/// What a page asks of the browser where a user signs in (WebAuthn Level 3, section 5.1.2).
+#[derive(Debug, Drop)]
+pub struct CredentialRequestOptions {
+    /// What the relying party asks for.
+    pub public_key: PublicKeyCredentialRequestOptions,
+}
+
+impl JsonRecord for CredentialRequestOptions {
+    ghost members = { credential_request_in };
+
+    #[tactic(auto, unfolding(crate::specs::CredentialRequest::credential_request_in, passkey_json::specs::Members::required))]
+    fn from_object(object: &Object<'_>) -> Result<CredentialRequestOptions, JsonFault> {
+        Ok(CredentialRequestOptions {
+            public_key: object.member("publicKey").required()?,
+        })
+    }
+}
+
+impl FromJson for CredentialRequestOptions {
+    ghost kind = { record_kind credential_request_in };
+
+    ghost takes = { true };
+
+    fn from_value(alloc: Global, value: &Value) -> Result<CredentialRequestOptions, Refusal> {
+        read_nested(alloc, value)
+    }
+}
+
+impl ToJson for CredentialRequestOptions {
+    ghost json = { credential_request_json };
+
+    fn to_json(&self, alloc: Global, form: BytesForm) -> Result<Value, OutOfMemory> {
+        let mut members = Written::new(alloc);
+        members.put(alloc, form, "publicKey", &self.public_key)?;
+        Ok(members.into_value())
+    }
+}

@@ -1,0 +1,66 @@
+//! Which authenticator a user will probably take, read of JSON values and written.
+ghost use Rattle.std.specs.Prelude.{false};
+ghost use Rattle.passkey_json.specs.Kind.{one_named};
+ghost use Rattle.passkey_options.specs.Hints.{hint_name, hint_named, hint_own};
+ghost use Rattle.serde_json.specs.Data.{string};
+
+use passkey_cbor::OutOfMemory;
+use passkey_json::{BytesForm, FromJson, Refusal, ToJson, read_name, written_name};
+use passkey_webauthn::EnumNames;
+use serde_json::Value;
+use std::alloc::Global;
+
+/// Which authenticator a user will probably take (WebAuthn Level 3, section 5.8.8).
+#[derive(Clone, Copy, Debug, PartialEq, Eq)]
+pub enum PublicKeyCredentialHints {
+    /// A security key of its own.
+    SecurityKey,
+    /// One that is part of the client's device.
+    ClientDevice,
+    /// One of general use, such as that of a telephone.
+    Hybrid,
+}
+
+impl EnumNames for PublicKeyCredentialHints {
+    ghost name_of = { hint_name };
+
+    ghost named = { hint_named };
+
+    ghost name_is_own = { hint_own };
+
+    fn from_name(name: &str) -> Option<PublicKeyCredentialHints> {
+        match name {
+            "security-key" => Some(PublicKeyCredentialHints::SecurityKey),
+            "client-device" => Some(PublicKeyCredentialHints::ClientDevice),
+            "hybrid" => Some(PublicKeyCredentialHints::Hybrid),
+            _ => None,
+        }
+    }
+
+    fn name(self) -> &'static str {
+        match self {
+            PublicKeyCredentialHints::SecurityKey => "security-key",
+            PublicKeyCredentialHints::ClientDevice => "client-device",
+            PublicKeyCredentialHints::Hybrid => "hybrid",
+        }
+    }
+}
+
+impl FromJson for PublicKeyCredentialHints {
+    ghost kind = { one_named hint_named };
+
+    ghost takes = { false };
+
+    fn from_value(_alloc: Global, value: &Value) -> Result<PublicKeyCredentialHints, Refusal> {
+        read_name(value)
+    }
+}
+
+impl ToJson for PublicKeyCredentialHints {
+    ghost json = { λ _ x. string (hint_name x) };
+
+    #[tactic(auto, using(crate::specs::Hints::hint_own))]
+    fn to_json(&self, alloc: Global, _form: BytesForm) -> Result<Value, OutOfMemory> {
+        written_name(alloc, *self)
+    }
+}

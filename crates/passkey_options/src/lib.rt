@@ -1,0 +1,22 @@
+//! The options of WebAuthn that a relying party hands to a browser, read from JSON values and written
+//! as JSON values.
+#![tactic(auto)]
+
+mod attestation_conveyance;
+mod attestation_format;
+mod creation_options;
+mod credential_creation;
+mod credential_request;
+mod hints;
+mod request_options;
+
+pub use attestation_conveyance::AttestationConveyancePreference;
+pub use attestation_format::AttestationStatementFormatIdentifiers;
+pub use creation_options::PublicKeyCredentialCreationOptions;
+pub use credential_creation::CredentialCreationOptions;
+pub use credential_request::CredentialRequestOptions;
+pub use hints::PublicKeyCredentialHints;
+pub use request_options::PublicKeyCredentialRequestOptions;
+
+#[cfg(test)]
+mod tests;

@@ -1,0 +1,97 @@
+//! What a relying party asks for where a user signs in, read of JSON objects and written.
+ghost use Rattle.std.specs.Prelude.{true};
+ghost use Rattle.passkey_json.specs.Members.{record_kind};
+ghost use Rattle.passkey_options.specs.RequestOptions.{request_options_in, request_options_json};
+
+use crate::attestation_conveyance::AttestationConveyancePreference;
+use crate::attestation_format::AttestationStatementFormatIdentifiers;
+use crate::hints::PublicKeyCredentialHints;
+use passkey_bytes::{Bytes, List, Text};
+use passkey_cbor::OutOfMemory;
+use passkey_json::{
+    AuthenticationExtensionsClientInputs, BytesForm, FromJson, JsonFault, JsonRecord, Object,
+    Refusal, ToJson, UserVerificationRequirement, Written, read_nested,
+};
+use passkey_webauthn::PublicKeyCredentialDescriptor;
+use serde_json::Value;
+use std::alloc::Global;
+
+/// What a relying party asks for where a user signs in (WebAuthn Level 3, section 5.5).
+#[derive(Debug, Drop)]
+pub struct PublicKeyCredentialRequestOptions {
+    /// What the authenticator is to sign, so that no answer serves twice.
+    pub challenge: Bytes,
+    /// How long the client is to wait, in milliseconds.
+    pub timeout: Option<u32>,
+    /// The relying party's id; the client's own one where there is none.
+    pub rp_id: Option<Text>,
+    /// The credentials that will do; any where there is no list or an empty one. It is also read of
+    /// `allowList`.
+    pub allow_credentials: Option<List<PublicKeyCredentialDescriptor>>,
+    /// Whether the user is to be verified.
+    pub user_verification: UserVerificationRequirement,
+    /// Which authenticators the user will probably take, the likeliest first.
+    pub hints: Option<List<PublicKeyCredentialHints>>,
+    /// Which attestation is wanted.
+    pub attestation: AttestationConveyancePreference,
+    /// The formats of its statement, the best first.
+    pub attestation_formats: Option<List<AttestationStatementFormatIdentifiers>>,
+    /// What is asked of extensions.
+    pub extensions: Option<AuthenticationExtensionsClientInputs>,
+}
+
+impl JsonRecord for PublicKeyCredentialRequestOptions {
+    ghost members = { request_options_in };
+
+    #[tactic(auto, unfolding(crate::specs::RequestOptions::request_options_in, passkey_json::specs::Members::required, passkey_json::specs::Members::given, passkey_json::specs::Members::or_default, passkey_json::specs::Members::tolerated, passkey_json::specs::Members::accepted_list))]
+    fn from_object(object: &Object<'_>) -> Result<PublicKeyCredentialRequestOptions, JsonFault> {
+        Ok(PublicKeyCredentialRequestOptions {
+            challenge: object.member("challenge").required()?,
+            timeout: object.member("timeout").given()?,
+            rp_id: object.member("rpId").or_default(None)?,
+            allow_credentials: object
+                .aliased("allowCredentials", "allowList")?
+                .accepted_list()?,
+            user_verification: object
+                .member("userVerification")
+                .tolerated(UserVerificationRequirement::Preferred)?,
+            hints: object.member("hints").accepted_list()?,
+            attestation: object
+                .member("attestation")
+                .tolerated(AttestationConveyancePreference::None)?,
+            attestation_formats: object.member("attestationFormats").accepted_list()?,
+            extensions: object.member("extensions").tolerated(None)?,
+        })
+    }
+}
+
+impl FromJson for PublicKeyCredentialRequestOptions {
+    ghost kind = { record_kind request_options_in };
+
+    ghost takes = { true };
+
+    fn from_value(
+        alloc: Global,
+        value: &Value,
+    ) -> Result<PublicKeyCredentialRequestOptions, Refusal> {
+        read_nested(alloc, value)
+    }
+}
+
+impl ToJson for PublicKeyCredentialRequestOptions {
+    ghost json = { request_options_json };
+
+    fn to_json(&self, alloc: Global, form: BytesForm) -> Result<Value, OutOfMemory> {
+        let mut members = Written::new(alloc);
+        members.put(alloc, form, "challenge", &self.challenge)?;
+        members.put_some(alloc, form, "timeout", &self.timeout)?;
+        members.put_some(alloc, form, "rpId", &self.rp_id)?;
+        members.put_some(alloc, form, "allowCredentials", &self.allow_credentials)?;
+        members.put(alloc, form, "userVerification", &self.user_verification)?;
+        members.put_some(alloc, form, "hints", &self.hints)?;
+        members.put(alloc, form, "attestation", &self.attestation)?;
+        members.put_some(alloc, form, "attestationFormats", &self.attestation_formats)?;
+        members.put_some(alloc, form, "extensions", &self.extensions)?;
+        Ok(members.into_value())
+    }
+}
