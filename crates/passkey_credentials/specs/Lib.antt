@@ -1,0 +1,3 @@
+pub mod AttestationResponse
+pub mod AssertionResponse
+pub mod Credential

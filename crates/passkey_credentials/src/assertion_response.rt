@@ -1,0 +1,67 @@
+//! What an authenticator answers to a sign-in, read of JSON objects and written.
+ghost use Rattle.std.specs.Prelude.{true};
+ghost use Rattle.passkey_credentials.specs.AssertionResponse.{assertion_response_in, assertion_response_json};
+ghost use Rattle.passkey_json.specs.Members.{record_kind};
+
+use passkey_bytes::Bytes;
+use passkey_cbor::OutOfMemory;
+use passkey_json::{
+    BytesForm, FromJson, JsonFault, JsonRecord, Object, Refusal, ToJson, Written, read_nested,
+};
+use serde_json::Value;
+use std::alloc::Global;
+
+/// What an authenticator answers to a sign-in (WebAuthn Level 3, section 5.2.2; the members of its
+/// JSON in section 5.1).
+#[derive(Debug, Drop)]
+pub struct AuthenticatorAssertionResponse {
+    /// The client data, as the JSON text that was hashed for the authenticator.
+    pub client_data_json: Bytes,
+    /// The authenticator data.
+    pub authenticator_data: Bytes,
+    /// The signature over the authenticator data and the hash of the client data.
+    pub signature: Bytes,
+    /// The user's handle, where the authenticator gives it.
+    pub user_handle: Option<Bytes>,
+    /// An attestation object, in CBOR, where the authenticator gives one at a sign-in.
+    pub attestation_object: Option<Bytes>,
+}
+
+impl JsonRecord for AuthenticatorAssertionResponse {
+    ghost members = { assertion_response_in };
+
+    #[tactic(auto, unfolding(crate::specs::AssertionResponse::assertion_response_in, passkey_json::specs::Members::required, passkey_json::specs::Members::or_default))]
+    fn from_object(object: &Object<'_>) -> Result<AuthenticatorAssertionResponse, JsonFault> {
+        Ok(AuthenticatorAssertionResponse {
+            client_data_json: object.member("clientDataJSON").required()?,
+            authenticator_data: object.member("authenticatorData").required()?,
+            signature: object.member("signature").required()?,
+            user_handle: object.member("userHandle").or_default(None)?,
+            attestation_object: object.member("attestationObject").or_default(None)?,
+        })
+    }
+}
+
+impl FromJson for AuthenticatorAssertionResponse {
+    ghost kind = { record_kind assertion_response_in };
+
+    ghost takes = { true };
+
+    fn from_value(alloc: Global, value: &Value) -> Result<AuthenticatorAssertionResponse, Refusal> {
+        read_nested(alloc, value)
+    }
+}
+
+impl ToJson for AuthenticatorAssertionResponse {
+    ghost json = { assertion_response_json };
+
+    fn to_json(&self, alloc: Global, form: BytesForm) -> Result<Value, OutOfMemory> {
+        let mut members = Written::new(alloc);
+        members.put(alloc, form, "clientDataJSON", &self.client_data_json)?;
+        members.put(alloc, form, "authenticatorData", &self.authenticator_data)?;
+        members.put(alloc, form, "signature", &self.signature)?;
+        members.put_some(alloc, form, "userHandle", &self.user_handle)?;
+        members.put_some(alloc, form, "attestationObject", &self.attestation_object)?;
+        Ok(members.into_value())
+    }
+}

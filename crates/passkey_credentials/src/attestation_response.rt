@@ -1,0 +1,107 @@
+//! What an authenticator answers when it makes a credential, read of JSON objects and written.
+ghost use Rattle.std.specs.Prelude.{◌≡◌, ◌<◌, ◌⊎◌, true, length, IfOk, OnErr};
+ghost use Rattle.std.specs.Option.{IsSomeAnd};
+ghost use Rattle.passkey_credentials.specs.AttestationResponse.{attestation_response_in, attestation_response_json};
+ghost use Rattle.passkey_json.specs.Members.{record_kind};
+
+use passkey_bytes::{Bytes, List};
+use passkey_cbor::OutOfMemory;
+use passkey_json::{
+    BytesForm, FromJson, JsonFault, JsonRecord, Object, Refusal, ToJson, Written, read_nested,
+};
+use passkey_webauthn::AuthenticatorTransport;
+use serde_json::Value;
+use std::alloc::Global;
+
+/// What an authenticator answers when it makes a credential (WebAuthn Level 3, section 5.2.1; the
+/// members of its JSON in section 5.1).
+#[derive(Debug, Drop)]
+pub struct AuthenticatorAttestationResponse {
+    /// The client data, as the JSON text that was hashed for the authenticator.
+    pub client_data_json: Bytes,
+    /// The authenticator data, which is in the attestation object too.
+    pub authenticator_data: Bytes,
+    /// The new key as a DER SubjectPublicKeyInfo, where the client knows keys of its algorithm.
+    pub public_key: Option<Bytes>,
+    /// The number of the key's algorithm (COSE).
+    pub public_key_algorithm: i64,
+    /// The attestation object, in CBOR.
+    pub attestation_object: Bytes,
+    /// How the authenticator can be reached, as far as is known.
+    pub transports: Option<List<AuthenticatorTransport>>,
+}
+
+impl AuthenticatorAttestationResponse {
+    /// An equal value. `OutOfMemory` where a growth was refused, which cannot be where all byte
+    /// strings are empty or not there and no transport is there.
+    pub fn try_clone(&self, alloc: Global) -> Result<AuthenticatorAttestationResponse, OutOfMemory>
+        ensures same { IfOk result (λ copy. copy ≡ self.now) }
+        ensures grows { OnErr result ((0 < length self.now.client_data_json) ⊎ (0 < length self.now.authenticator_data) ⊎ (0 < length self.now.attestation_object) ⊎ IsSomeAnd self.now.public_key (λ key. 0 < length key) ⊎ IsSomeAnd self.now.transports (λ ts. 0 < length ts)) }
+    {
+        let public_key = match &self.public_key {
+            Some(key) => Some(key.try_clone(alloc)?),
+            None => None,
+        };
+        let transports = match &self.transports {
+            Some(transports) => Some(transports.try_clone(alloc)?),
+            None => None,
+        };
+        Ok(AuthenticatorAttestationResponse {
+            client_data_json: self.client_data_json.try_clone(alloc)?,
+            authenticator_data: self.authenticator_data.try_clone(alloc)?,
+            public_key,
+            public_key_algorithm: self.public_key_algorithm,
+            attestation_object: self.attestation_object.try_clone(alloc)?,
+            transports,
+        })
+    }
+}
+
+impl JsonRecord for AuthenticatorAttestationResponse {
+    ghost members = { attestation_response_in };
+
+    #[tactic(auto, unfolding(crate::specs::AttestationResponse::attestation_response_in, passkey_json::specs::Members::required, passkey_json::specs::Members::or_default))]
+    fn from_object(object: &Object<'_>) -> Result<AuthenticatorAttestationResponse, JsonFault> {
+        Ok(AuthenticatorAttestationResponse {
+            client_data_json: object.member("clientDataJSON").required()?,
+            authenticator_data: object.member("authenticatorData").required()?,
+            public_key: object.member("publicKey").or_default(None)?,
+            public_key_algorithm: object.member("publicKeyAlgorithm").required()?,
+            attestation_object: object.member("attestationObject").required()?,
+            transports: object.member("transports").or_default(None)?,
+        })
+    }
+}
+
+impl FromJson for AuthenticatorAttestationResponse {
+    ghost kind = { record_kind attestation_response_in };
+
+    ghost takes = { true };
+
+    fn from_value(
+        alloc: Global,
+        value: &Value,
+    ) -> Result<AuthenticatorAttestationResponse, Refusal> {
+        read_nested(alloc, value)
+    }
+}
+
+impl ToJson for AuthenticatorAttestationResponse {
+    ghost json = { attestation_response_json };
+
+    fn to_json(&self, alloc: Global, form: BytesForm) -> Result<Value, OutOfMemory> {
+        let mut members = Written::new(alloc);
+        members.put(alloc, form, "clientDataJSON", &self.client_data_json)?;
+        members.put(alloc, form, "authenticatorData", &self.authenticator_data)?;
+        members.put_some(alloc, form, "publicKey", &self.public_key)?;
+        members.put(
+            alloc,
+            form,
+            "publicKeyAlgorithm",
+            &self.public_key_algorithm,
+        )?;
+        members.put(alloc, form, "attestationObject", &self.attestation_object)?;
+        members.put_some(alloc, form, "transports", &self.transports)?;
+        Ok(members.into_value())
+    }
+}

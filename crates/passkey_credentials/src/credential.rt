@@ -1,0 +1,94 @@
+//! Credentials that a client hands back, read of JSON objects and written.
+ghost use Rattle.std.specs.Prelude.{true};
+ghost use Rattle.passkey_credentials.specs.Credential.{credential_in, credential_json};
+ghost use Rattle.passkey_json.specs.Members.{record_kind};
+
+use crate::assertion_response::AuthenticatorAssertionResponse;
+use crate::attestation_response::AuthenticatorAttestationResponse;
+use crate::response::AuthenticatorResponse;
+use passkey_bytes::{Bytes, Text};
+use passkey_cbor::OutOfMemory;
+use passkey_json::{
+    AuthenticationExtensionsClientOutputs, AuthenticatorAttachment, BytesForm, FromJson, JsonFault,
+    JsonRecord, Object, Refusal, ToJson, Written, read_nested,
+};
+use passkey_webauthn::PublicKeyCredentialType;
+use serde_json::Value;
+use std::alloc::Global;
+
+/// A credential that a client hands back, with what its authenticator answered (WebAuthn Level 3,
+/// section 5.1).
+#[derive(Debug, Drop)]
+pub struct PublicKeyCredential<R: AuthenticatorResponse> {
+    /// The credential's id in base64url, which isn't looked at.
+    pub id: Text,
+    /// The credential's id.
+    pub raw_id: Bytes,
+    /// The type of the credential.
+    pub ty: PublicKeyCredentialType,
+    /// What the authenticator answered.
+    pub response: R,
+    /// How the authenticator was attached, where the client tells it.
+    pub authenticator_attachment: Option<AuthenticatorAttachment>,
+    /// What extensions answered.
+    pub client_extension_results: AuthenticationExtensionsClientOutputs,
+}
+
+/// A credential that was made (WebAuthn Level 3, section 5.1.3).
+pub type CreatedPublicKeyCredential = PublicKeyCredential<AuthenticatorAttestationResponse>;
+
+/// A credential that signed in (WebAuthn Level 3, section 5.1.4).
+pub type AuthenticatedPublicKeyCredential = PublicKeyCredential<AuthenticatorAssertionResponse>;
+
+impl<R: AuthenticatorResponse> JsonRecord for PublicKeyCredential<R> {
+    ghost members = { credential_in R.FromJson.kind };
+
+    #[tactic(auto, unfolding(crate::specs::Credential::credential_in, passkey_json::specs::Members::required, passkey_json::specs::Members::tolerated, passkey_json::specs::Members::or_default))]
+    fn from_object(object: &Object<'_>) -> Result<PublicKeyCredential<R>, JsonFault> {
+        Ok(PublicKeyCredential {
+            id: object.member("id").required()?,
+            raw_id: object.member("rawId").required()?,
+            ty: object.member("type").required()?,
+            response: object.member("response").required()?,
+            authenticator_attachment: object.member("authenticatorAttachment").tolerated(None)?,
+            client_extension_results: object
+                .member("clientExtensionResults")
+                .or_default(AuthenticationExtensionsClientOutputs::empty())?,
+        })
+    }
+}
+
+impl<R: AuthenticatorResponse> FromJson for PublicKeyCredential<R> {
+    ghost kind = { record_kind (credential_in R.FromJson.kind) };
+
+    ghost takes = { true };
+
+    fn from_value(alloc: Global, value: &Value) -> Result<PublicKeyCredential<R>, Refusal> {
+        read_nested(alloc, value)
+    }
+}
+
+impl<R: AuthenticatorResponse> ToJson for PublicKeyCredential<R> {
+    ghost json = { credential_json R.ToJson.json };
+
+    fn to_json(&self, alloc: Global, form: BytesForm) -> Result<Value, OutOfMemory> {
+        let mut members = Written::new(alloc);
+        members.put(alloc, form, "id", &self.id)?;
+        members.put(alloc, form, "rawId", &self.raw_id)?;
+        members.put(alloc, form, "type", &self.ty)?;
+        members.put(alloc, form, "response", &self.response)?;
+        members.put_some(
+            alloc,
+            form,
+            "authenticatorAttachment",
+            &self.authenticator_attachment,
+        )?;
+        members.put(
+            alloc,
+            form,
+            "clientExtensionResults",
+            &self.client_extension_results,
+        )?;
+        Ok(members.into_value())
+    }
+}

@@ -1,0 +1,19 @@
+//! What a browser hands back to a relying party: credentials that were made, and credentials that
+//! signed in (WebAuthn Level 3, sections 5.1 and 5.2), read of JSON values and written.
+#![tactic(auto)]
+
+mod assertion_response;
+mod attestation_response;
+mod credential;
+mod response;
+
+pub use assertion_response::AuthenticatorAssertionResponse;
+pub use attestation_response::AuthenticatorAttestationResponse;
+pub use credential::{
+    AuthenticatedPublicKeyCredential, CreatedPublicKeyCredential, PublicKeyCredential,
+};
+pub use passkey_cbor::OutOfMemory;
+pub use response::AuthenticatorResponse;
+
+#[cfg(test)]
+mod tests;
