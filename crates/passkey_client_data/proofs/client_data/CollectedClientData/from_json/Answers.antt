@@ -1,0 +1,24 @@
+use Rattle.std.proofs.Common.{◌≡◌, ◌∙◌, Ok, Err, refl, sym, ap, subst}
+use Rattle.passkey_client_data.proofs.FaultsPassed.{fault_passed}
+use Rattle.passkey_client_data.proofs.client_data.CollectedClientData.from_json.Goals as goal
+use Rattle.passkey_client_data.specs.ClientData.{client_data_in, fixed_members_in, held}
+use Rattle.passkey_json.specs.Fault.{Gives}
+use Rattle.passkey_json.specs.Members.{in_object}
+use Rattle.serde_json.proofs.Views.{view-Object}
+use Rattle.serde_json.specs.Data.{Data, object}
+use Rattle.serde_json.specs.View.{view, members_view}
+
+pub returns-in_err-ty : goal.returns-in_err-ty
+unfolding client_data_in
+returns-in_err-ty g c =
+    let seen : view c.args.value.now ≡ object (members_view c.in-Object.members.entries) = ap view c.in-Object.is ∙ view-Object c.in-Object.members in
+    let fixed = subst (λ (d : Data). Gives (in_object fixed_members_in d) (Err c.in_err-ty.field-0.0)) seen c.in_err-ty.ensures in
+    rw seen (fault_passed held _ c.in_err-ty.field-0.0 _ _ fixed c.from_residual.ensures.1)
+
+pub returns : goal.returns
+unfolding client_data_in
+returns g c =
+    let seen : view c.args.value.now ≡ object (members_view c.in-Object.members.entries) = ap view c.in-Object.is ∙ view-Object c.in-Object.members in
+    let fixed = subst (λ (d : Data). in_object fixed_members_in d ≡ Ok c.in_ok-ty.field-0) seen c.in_ok-ty.ensures in
+    let free = sym c.known_holds_float.ensures ∙ c.if-known_holds_float.false in
+    rw (seen, fixed, free, c.in_ok-extra_data.ensures, c.in_ok-unknown_keys.ensures) refl

@@ -1,0 +1,55 @@
+-- Client data (WebAuthn Level 3, section 5.8.1), read of an object.
+use Rattle.std.specs.Prelude.{ℕ, Bool, List, Option, None, Result, Ok, Err, codes}
+use Rattle.passkey_client_data.specs.ClientDataType.{client_data_type_named}
+use Rattle.passkey_client_data.specs.ExtraData.{is_unknown}
+use Rattle.passkey_client_data.specs.MemberLists.{members_where, without_floats}
+use Rattle.passkey_client_data.specs.declared.client_data.CollectedClientData.{CollectedClientData}
+use Rattle.passkey_client_data.specs.declared.client_data_type.ClientDataType.{ClientDataType}
+use Rattle.passkey_client_data.specs.declared.fixed_members.FixedMembers.{FixedMembers}
+use Rattle.passkey_json.specs.Fault.{Fault, no_object}
+use Rattle.passkey_json.specs.Kind.{one_named, optional, text, truth}
+use Rattle.passkey_json.specs.Members.{◌>>=◌, Object, member, required, or_default}
+use Rattle.serde_json.specs.Data.{Data, null, boolean, number, string, array, object, Members}
+use Rattle.serde_json.specs.Find.{get_member}
+use Rattle.serde_json.specs.View.{members_view}
+
+-- the members that all client data has
+unfoldable pub fixed_members_in : Object → Result FixedMembers Fault
+fixed_members_in names = do
+  ty ← required (one_named client_data_type_named) (member (codes "type") names)
+  challenge ← required text (member (codes "challenge") names)
+  origin ← required text (member (codes "origin") names)
+  cross_origin ← or_default None (optional truth) (member (codes "crossOrigin") names)
+  Ok (record { ty = ty; challenge = challenge; origin = origin; cross_origin = cross_origin })
+
+-- what client data holds: beside the fixed members a value of its user's, and the members that neither knows
+pub record ClientData (E : Type 0) : Type 0 where
+  pub ty : ClientDataType
+  pub challenge : List ℕ
+  pub origin : List ℕ
+  pub cross_origin : Option Bool
+  pub extra_data : E
+  pub unknown_keys : Members
+
+abbrev pub held : {E : Type 0} → CollectedClientData E → ClientData E
+held x = record { ty = x.ty; challenge = x.challenge; origin = x.origin; cross_origin = x.cross_origin; extra_data = x.extra_data; unknown_keys = members_view x.unknown_keys.entries }
+
+module _ {E : Type 0} (has : List ℕ → Bool) (reads : Members → Result E Fault) where
+  -- The fixed members first; then the value, whose members hold no float; then the unknown members,
+  -- which hold none either.
+  unfoldable pub client_data_in : Members → Result (ClientData E) Fault
+  client_data_in ms = do
+    fixed ← fixed_members_in (λ name. get_member name ms)
+    extra_members ← without_floats (codes "extra_data") (members_where has ms)
+    extra_data ← reads ms
+    unknown_keys ← without_floats (codes "unknown_keys") (members_where (is_unknown has) ms)
+    Ok (record { ty = fixed.ty; challenge = fixed.challenge; origin = fixed.origin; cross_origin = fixed.cross_origin; extra_data = extra_data; unknown_keys = unknown_keys })
+
+  -- client data is an object
+  abbrev pub client_data : Data → Result (ClientData E) Fault
+  client_data null = Err no_object
+  client_data (boolean b) = Err no_object
+  client_data (number n) = Err no_object
+  client_data (string s) = Err no_object
+  client_data (array ds) = Err no_object
+  client_data (object ms) = client_data_in ms

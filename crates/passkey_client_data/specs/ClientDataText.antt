@@ -1,0 +1,45 @@
+-- The text that client data is written as (WebAuthn Level 3, section 5.8.1.1).
+use Rattle.std.specs.Prelude.{ℕ, List, [], ◌∷◌, ◌++◌, false, unwrap_or, Result, Ok, codes}
+use Rattle.passkey_client_data.specs.ClientData.{ClientData}
+use Rattle.passkey_client_data.specs.ClientDataType.{client_data_type_name}
+use Rattle.passkey_client_data.specs.MemberLists.{joined, without_floats}
+use Rattle.passkey_json.specs.Fault.{Fault}
+use Rattle.passkey_json.specs.Members.{◌>>=◌}
+use Rattle.serde_json.specs.Data.{Data, boolean, string, object, Members, no_members, member}
+use Rattle.serde_json.specs.Written.{compact_text}
+
+module _ {E : Type 0} where
+  -- the fixed members, and then these
+  abbrev pub with_fixed : ClientData E → Members → Members
+  with_fixed x ms =
+      member (codes "type") (string (client_data_type_name x.ty))
+      (member (codes "challenge") (string x.challenge)
+      (member (codes "origin") (string x.origin)
+      (member (codes "crossOrigin") (boolean (unwrap_or x.cross_origin false))
+      ms)))
+
+  -- the object of the fixed members, those of the value and the unknown ones, in this order, with no space
+  unfoldable pub client_data_text : (E → Members) → ClientData E → Result (List ℕ) Fault
+  client_data_text written x = do
+    extra_members ← without_floats (codes "extra_data") (written x.extra_data)
+    unknown_keys ← without_floats (codes "unknown_keys") x.unknown_keys
+    Ok (compact_text (object (with_fixed x (joined extra_members unknown_keys))))
+
+-- ---- for private clauses
+
+-- the text of a member behind others
+abbrev pub member_text : List ℕ → Data → List ℕ
+member_text name d = 44 ∷ (compact_text (string name) ++ 58 ∷ compact_text d)
+
+-- the text of members behind others
+abbrev pub later_text : Members → List ℕ
+later_text no_members = []
+later_text (member name d ms) = member_text name d ++ later_text ms
+
+-- the text of the fixed members, with the opening bracket
+abbrev pub fixed_text : {E : Type 0} → ClientData E → List ℕ
+fixed_text x =
+    codes "{\"type\":" ++ compact_text (string (client_data_type_name x.ty))
+    ++ member_text (codes "challenge") (string x.challenge)
+    ++ member_text (codes "origin") (string x.origin)
+    ++ member_text (codes "crossOrigin") (boolean (unwrap_or x.cross_origin false))

@@ -1,0 +1,18 @@
+-- Members of client data that a type of its user's knows.
+use Rattle.std.specs.Prelude.{ℕ, Bool, true, ◌&&◌, ◌||◌, not, List, codes}
+use Rattle.std.specs.Str.{bytes_eq}
+use Rattle.passkey_client_data.specs.MemberLists.{has_name}
+use Rattle.serde_json.specs.Data.{Members, no_members, member}
+
+-- the names of the members that all client data has
+abbrev pub is_fixed : List ℕ → Bool
+is_fixed name = bytes_eq name (codes "type") || bytes_eq name (codes "challenge") || bytes_eq name (codes "origin") || bytes_eq name (codes "crossOrigin")
+
+-- names that neither all client data nor the type has
+abbrev pub is_unknown : (List ℕ → Bool) → List ℕ → Bool
+is_unknown has name = not (is_fixed name) && not (has name)
+
+-- each name is one of the type's and none of all client data, and no name stands twice
+abbrev pub are_extra : (List ℕ → Bool) → Members → Bool
+are_extra has no_members = true
+are_extra has (member name d ms) = has name && not (is_fixed name) && not (has_name name ms) && are_extra has ms

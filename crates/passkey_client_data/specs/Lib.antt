@@ -1,0 +1,5 @@
+pub mod ClientDataType
+pub mod MemberLists
+pub mod ExtraData
+pub mod ClientData
+pub mod ClientDataText

@@ -1,0 +1,83 @@
+//! Client data, read of JSON objects.
+ghost use Rattle.std.specs.Prelude.{◌≡◌, IfOk};
+ghost use Rattle.passkey_client_data.specs.ClientData.{client_data, held};
+ghost use Rattle.passkey_json.specs.Held.{GivesAs};
+ghost use Rattle.serde_json.specs.View.{view};
+
+use crate::client_data_type::ClientDataType;
+use crate::extra_data::ClientDataExtra;
+use crate::fixed_members::FixedMembers;
+use crate::unknown_members::{known_holds_float, unknown_members};
+use indexmap::IndexMap;
+use passkey_bytes::Text;
+use passkey_cbor::OutOfMemory;
+use passkey_json::{JsonFault, JsonRecord};
+use serde_json::Value;
+use std::alloc::Global;
+
+/// What an authenticator signs of a client's part (WebAuthn Level 3, section 5.8.1). `E` is what its
+/// user knows of further members.
+#[derive(Debug, Drop)]
+pub struct CollectedClientData<E = ()> {
+    /// What the client data is for.
+    pub ty: ClientDataType,
+    /// The relying party's challenge, in base64url, which isn't looked at.
+    pub challenge: Text,
+    /// The origin that asked.
+    pub origin: Text,
+    /// Whether a page of another origin held the one that asked.
+    pub cross_origin: Option<bool>,
+    /// What the further members stand for that `E` knows.
+    pub extra_data: E,
+    /// The members that neither `E` nor all client data has.
+    pub unknown_keys: IndexMap<String, Value>,
+}
+
+impl<E: ClientDataExtra> CollectedClientData<E> {
+    /// The client data that the JSON value stands for. `NotAnObject` where it is no object; else the
+    /// first fault of `type`, `challenge`, `origin` and `crossOrigin`, in this order; then
+    /// `Float("extra_data")` where a float stands in a member that `E` knows; then the fault that `E`
+    /// tells; then `Float("unknown_keys")` where a float stands in a member that is unknown. Unknown
+    /// members are held in the order of their names. `OutOfMemory` where a growth was refused.
+    #[tactic(auto, unfolding(crate::specs::ClientData::client_data_in))]
+    pub fn from_json(alloc: Global, value: &Value) -> Result<CollectedClientData<E>, JsonFault>
+        ensures { GivesAs held (client_data E.has E.reads (view value.now)) result }
+    {
+        let Value::Object(members) = value else {
+            return Err(JsonFault::NotAnObject);
+        };
+        let FixedMembers {
+            ty,
+            challenge,
+            origin,
+            cross_origin,
+        } = FixedMembers::from_json(alloc, value)?;
+        if known_holds_float::<E>(members) {
+            return Err(JsonFault::Float("extra_data"));
+        }
+        let extra_data = E::from_object(alloc, members)?;
+        let unknown_keys = unknown_members::<E>(alloc, members)?;
+        Ok(CollectedClientData {
+            ty,
+            challenge,
+            origin,
+            cross_origin,
+            extra_data,
+            unknown_keys,
+        })
+    }
+
+    /// A copy that holds the same. `OutOfMemory` where a growth was refused.
+    pub fn try_clone(&self, alloc: Global) -> Result<CollectedClientData<E>, OutOfMemory>
+        ensures { IfOk result (λ copy. held copy ≡ held self.now) }
+    {
+        Ok(CollectedClientData {
+            ty: self.ty,
+            challenge: self.challenge.try_clone(alloc)?,
+            origin: self.origin.try_clone(alloc)?,
+            cross_origin: self.cross_origin,
+            extra_data: self.extra_data.try_clone(alloc)?,
+            unknown_keys: self.unknown_keys.clone()?,
+        })
+    }
+}

@@ -1,0 +1,160 @@
+//! Client data, written as JSON text.
+ghost use Rattle.std.specs.Prelude.{◌≡◌, ◌++◌, false, IfOk, OnOk};
+ghost use Rattle.std.specs.String.{string_bytes};
+ghost use Rattle.passkey_client_data.specs.ClientData.{held};
+ghost use Rattle.passkey_client_data.specs.ClientDataText.{client_data_text, member_text, later_text, fixed_text};
+ghost use Rattle.passkey_json.specs.Fault.{Gives};
+ghost use Rattle.serde_json.specs.Data.{boolean, string};
+ghost use Rattle.serde_json.specs.View.{view, members_view};
+ghost use Rattle.serde_json.specs.Written.{has_float, members_have_float, compact_text};
+
+use crate::client_data::CollectedClientData;
+use crate::extra_data::ClientDataExtra;
+use indexmap::IndexMap;
+use passkey_bytes::Text;
+use passkey_cbor::OutOfMemory;
+use passkey_json::{JsonFault, holds_float};
+use passkey_webauthn::EnumNames;
+use serde_json::Value;
+use std::alloc::Global;
+
+fn extra_holds_float(members: &[(String, Value)]) -> bool
+    ensures { result ≡ members_have_float (members_view members.now) }
+{
+    for (_name, value) in members {
+        if holds_float(value) {
+            return true;
+        }
+    }
+    false
+}
+
+fn unknown_holds_float(members: &IndexMap<String, Value>) -> bool
+    ensures { result ≡ members_have_float (members_view members.now.entries) }
+{
+    for (_name, value) in members.iter() {
+        if holds_float(value) {
+            return true;
+        }
+    }
+    false
+}
+
+/// Writes the value behind the text.
+fn put_value(alloc: Global, text: &mut String, value: &Value) -> Result<(), OutOfMemory>
+    ensures { has_float (view value.now) ≡ false → OnOk result (string_bytes text.new ≡ string_bytes text.old ++ compact_text (view value.now)) }
+{
+    let value = value.to_string(alloc)?;
+    text.push_str(value.as_str())?;
+    Ok(())
+}
+
+/// Writes a text behind the text.
+fn put_string(alloc: Global, text: &mut String, value: &str) -> Result<(), OutOfMemory>
+    ensures { OnOk result (string_bytes text.new ≡ string_bytes text.old ++ compact_text (string value.now)) }
+{
+    put_value(alloc, text, &Value::try_from_str(alloc, value)?)
+}
+
+/// Writes a member behind those before it.
+fn put_member(
+    alloc: Global,
+    text: &mut String,
+    name: &str,
+    value: &Value,
+) -> Result<(), OutOfMemory>
+    ensures { has_float (view value.now) ≡ false → OnOk result (string_bytes text.new ≡ string_bytes text.old ++ member_text name.now (view value.now)) }
+{
+    text.push_str(",")?;
+    put_string(alloc, text, name)?;
+    text.push_str(":")?;
+    put_value(alloc, text, value)
+}
+
+/// Writes a member that is a text behind those before it.
+fn put_string_member(
+    alloc: Global,
+    text: &mut String,
+    name: &str,
+    member: &str,
+) -> Result<(), OutOfMemory>
+    ensures { OnOk result (string_bytes text.new ≡ string_bytes text.old ++ member_text name.now (string member.now)) }
+{
+    put_member(alloc, text, name, &Value::try_from_str(alloc, member)?)
+}
+
+/// Writes a member that is a truth behind those before it.
+fn put_truth_member(
+    alloc: Global,
+    text: &mut String,
+    name: &str,
+    member: bool,
+) -> Result<(), OutOfMemory>
+    ensures { OnOk result (string_bytes text.new ≡ string_bytes text.old ++ member_text name.now (boolean member)) }
+{
+    put_member(alloc, text, name, &Value::Bool(member))
+}
+
+fn put_extra(
+    alloc: Global,
+    text: &mut String,
+    members: &[(String, Value)],
+) -> Result<(), OutOfMemory>
+    ensures { members_have_float (members_view members.now) ≡ false → OnOk result (string_bytes text.new ≡ string_bytes text.old ++ later_text (members_view members.now)) }
+{
+    for (name, value) in members {
+        put_member(alloc, text, name.as_str(), value)?;
+    }
+    Ok(())
+}
+
+fn put_unknown(
+    alloc: Global,
+    text: &mut String,
+    members: &IndexMap<String, Value>,
+) -> Result<(), OutOfMemory>
+    ensures { members_have_float (members_view members.now.entries) ≡ false → OnOk result (string_bytes text.new ≡ string_bytes text.old ++ later_text (members_view members.now.entries)) }
+{
+    for (name, value) in members.iter() {
+        put_member(alloc, text, name.as_str(), value)?;
+    }
+    Ok(())
+}
+
+impl<E: ClientDataExtra> CollectedClientData<E> {
+    /// The text of the members that all client data has.
+    fn fixed_text(&self, alloc: Global) -> Result<String, OutOfMemory>
+        ensures { IfOk result (λ text. string_bytes text ≡ fixed_text (held self.now)) }
+    {
+        let mut text = String::from_str(alloc, "{\"type\":")?;
+        put_string(alloc, &mut text, self.ty.name())?;
+        put_string_member(alloc, &mut text, "challenge", self.challenge.as_str())?;
+        put_string_member(alloc, &mut text, "origin", self.origin.as_str())?;
+        let cross_origin = self.cross_origin.unwrap_or(false);
+        put_truth_member(alloc, &mut text, "crossOrigin", cross_origin)?;
+        Ok(text)
+    }
+
+    /// The client data as JSON text with no space: `type`, `challenge`, `origin`, `crossOrigin` (true
+    /// where it holds true, else false), the members of `extra_data` in their order, and
+    /// `unknown_keys` in theirs (WebAuthn Level 3, section 5.8.1.1, has the first four so).
+    /// `Float("extra_data")` where a float stands in one of the former members, else
+    /// `Float("unknown_keys")` where one stands in the latter. `OutOfMemory` where a growth was refused.
+    #[tactic(auto, unfolding(crate::specs::ClientDataText::client_data_text))]
+    pub fn to_text(&self, alloc: Global) -> Result<Text, JsonFault>
+        ensures { Gives (client_data_text E.written (held self.now)) result }
+    {
+        let extra = self.extra_data.members(alloc)?;
+        if extra_holds_float(&extra) {
+            return Err(JsonFault::Float("extra_data"));
+        }
+        if unknown_holds_float(&self.unknown_keys) {
+            return Err(JsonFault::Float("unknown_keys"));
+        }
+        let mut text = self.fixed_text(alloc)?;
+        put_extra(alloc, &mut text, &extra)?;
+        put_unknown(alloc, &mut text, &self.unknown_keys)?;
+        text.push_str("}")?;
+        Ok(Text::from(text))
+    }
+}

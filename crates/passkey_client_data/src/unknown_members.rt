@@ -1,0 +1,90 @@
+//! Members of client data that a type knows, and those that nothing knows.
+ghost use Rattle.std.specs.Prelude.{◌≡◌, IfOk, OnOk, codes};
+ghost use Rattle.passkey_client_data.specs.ExtraData.{is_fixed, is_unknown};
+ghost use Rattle.passkey_client_data.specs.MemberLists.{added, members_where, without_floats};
+ghost use Rattle.passkey_json.specs.Held.{GivesAs};
+ghost use Rattle.serde_json.specs.View.{view, members_view};
+ghost use Rattle.serde_json.specs.Written.{members_have_float};
+
+use crate::extra_data::ClientDataExtra;
+use indexmap::IndexMap;
+use passkey_cbor::OutOfMemory;
+use passkey_json::{JsonFault, holds_float};
+use serde_json::{Map, Value};
+use std::alloc::Global;
+
+fn is_fixed(name: &str) -> bool
+    ensures { result ≡ is_fixed name.now }
+{
+    name == "type" || name == "challenge" || name == "origin" || name == "crossOrigin"
+}
+
+fn is_unknown<E: ClientDataExtra>(name: &str) -> bool
+    ensures { result ≡ is_unknown E.has name.now }
+{
+    !is_fixed(name) && !E::is_member(name)
+}
+
+/// Whether a float stands in a member that the type knows.
+pub(crate) fn known_holds_float<E: ClientDataExtra>(members: &Map<String, Value>) -> bool
+    ensures { result ≡ members_have_float (members_where E.has (members_view members.now.entries)) }
+{
+    for (name, value) in members.iter() {
+        if E::is_member(name.as_str()) && holds_float(value) {
+            return true;
+        }
+    }
+    false
+}
+
+fn unknown_holds_float<E: ClientDataExtra>(members: &Map<String, Value>) -> bool
+    ensures { result ≡ members_have_float (members_where (is_unknown E.has) (members_view members.now.entries)) }
+{
+    for (name, value) in members.iter() {
+        if is_unknown::<E>(name.as_str()) && holds_float(value) {
+            return true;
+        }
+    }
+    false
+}
+
+fn put_copy(
+    alloc: Global,
+    copies: &mut IndexMap<String, Value>,
+    name: &str,
+    value: &Value,
+) -> Result<(), OutOfMemory>
+    ensures { OnOk result (members_view copies.new.entries ≡ added name.now (view value.now) (members_view copies.old.entries)) }
+{
+    let copy = value.clone()?;
+    copies.insert(String::from_str(alloc, name)?, copy)?;
+    Ok(())
+}
+
+fn copy_unknown<E: ClientDataExtra>(
+    alloc: Global,
+    members: &Map<String, Value>,
+) -> Result<IndexMap<String, Value>, OutOfMemory>
+    ensures { IfOk result (λ copies. members_view copies.entries ≡ members_where (is_unknown E.has) (members_view members.now.entries)) }
+{
+    let mut copies = IndexMap::new(alloc);
+    for (name, value) in members.iter() {
+        if is_unknown::<E>(name.as_str()) {
+            put_copy(alloc, &mut copies, name.as_str(), value)?;
+        }
+    }
+    Ok(copies)
+}
+
+/// Copies of the members that neither all client data nor the type has, in their order.
+pub(crate) fn unknown_members<E: ClientDataExtra>(
+    alloc: Global,
+    members: &Map<String, Value>,
+) -> Result<IndexMap<String, Value>, JsonFault>
+    ensures { GivesAs (λ copies. members_view copies.entries) (without_floats (codes "unknown_keys") (members_where (is_unknown E.has) (members_view members.now.entries))) result }
+{
+    if unknown_holds_float::<E>(members) {
+        return Err(JsonFault::Float("unknown_keys"));
+    }
+    Ok(copy_unknown::<E>(alloc, members)?)
+}
