@@ -1,8 +1,9 @@
 -- Lists of values, read of arrays.
 use Rattle.std.specs.List.{filter_map}
-use Rattle.std.proofs.Common.{◌≡◌, ◌<◌, arith, ◌∙◌, List, [], ◌∷◌, ◌++◌, length, map, Option, Some, None, option_map, Result, Ok, Err, refl, ap, true}
+use Rattle.std.proofs.Common.{◌≡◌, ◌<◌, arith, ◌∙◌, List, [], ◌∷◌, ◌++◌, length, map, Option, Some, None, option_map, unwrap_or, Result, Ok, Err, refl, sym, ap, true}
 use Rattle.std.proofs.lemmas.List.{append_assoc}
 use Rattle.passkey_cbor.specs.Item.{Item, array, items_of}
+use Rattle.passkey_core.specs.DataNormal.{Where}
 use Rattle.passkey_cose.proofs.KeyLists.{elements-items_of}
 use Rattle.passkey_kinds.specs.Kind.{Kind, AnswersAs, MayGrow, each, list, accepted}
 use Rattle.passkey_kinds.specs.declared.refusal.Refusal.{Refusal}
@@ -37,3 +38,20 @@ option_same (Some x) = refl
 pub map_same : {X : Type 0} (xs : List X) → map (λ x. x) xs ≡ xs
 map_same [] = refl
 map_same (x ∷ xs) = ap (λ ys. x ∷ ys) (map_same xs)
+
+-- a value or its default, and the same of an option
+pub unwrap_same : {X : Type 0} (default : X) {y : X} (o : Option X) → y ≡ unwrap_or o default → y ≡ unwrap_or (option_map (λ x. x) o) default
+unwrap_same {X} default o e = e ∙ sym (ap (λ (p : Option X). unwrap_or p default) (option_same o))
+
+pub unwrap_option_same : {X : Type 0} {y : Option X} (o : Option (Option X)) → y ≡ unwrap_or o None → y ≡ unwrap_or (option_map (λ p. option_map (λ x. x) p) o) None
+unwrap_option_same None e = e
+unwrap_option_same (Some p) e = e ∙ sym (option_same p)
+
+-- an option of what contracts see of what is there
+pub option_twice : {X Y Z : Type 0} (f : Y → Z) (g : X → Y) (o : Option X) → option_map f (option_map g o) ≡ option_map (λ x. f (g x)) o
+option_twice f g None = refl
+option_twice f g (Some x) = refl
+
+pub where_twice : {X Y : Type 0} (P : Y → Type 0) (g : X → Y) (o : Option X) → Where (λ x. P (g x)) o → Where P (option_map g o)
+where_twice P g None h = h
+where_twice P g (Some x) h = h

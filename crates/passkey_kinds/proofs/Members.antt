@@ -39,7 +39,7 @@ neither : {X : Type 0} (b : Bool) (x : X) (o : Option X) → (if b then Some x e
 neither true x o e = cc
 neither false x o e = (refl, e)
 
-found_push : (table : Table) (key value : Item) (n : ℕ) → named table key ≡ row n → (earlier : Members) → found table earlier n ≡ None → (k : ℕ) → found table (earlier ++ (key, value) ∷ []) k ≡ with_row n value (found table earlier) k
+pub found_push : (table : Table) (key value : Item) (n : ℕ) → named table key ≡ row n → (earlier : Members) → found table earlier n ≡ None → (k : ℕ) → found table (earlier ++ (key, value) ∷ []) k ≡ with_row n value (found table earlier) k
 found_push table key value n naming [] e k = ap (λ (m : Naming). if is_row k m then Some value else None) naming
 found_push table key value n naming (m ∷ ms) e k =
     let parts = neither (is_row n (named table m.0)) m.1 (found table ms n) e in

@@ -1,5 +1,5 @@
 -- Algorithms, by their numbers (RFC 9053, section 2; IANA's registry of COSE algorithms).
-use Rattle.std.specs.Prelude.{Option, None}
+use Rattle.std.specs.Prelude.{None}
 use Rattle.std.specs.Option.{option_and_then}
 use Rattle.passkey_cbor.specs.Item.{Item, number, text_string}
 use Rattle.passkey_cose.specs.Iana.{algorithm_number, algorithm_named}

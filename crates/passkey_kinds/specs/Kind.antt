@@ -1,5 +1,5 @@
 -- What items mean: a kind accepts some items, and gives each of them a value.
-use Rattle.std.specs.Prelude.{◌≡◌, ℕ, pos, nat_lt, Bool, true, false, IsTrue, if◌then◌else◌, is_some, List, [], ◌∷◌, Option, Some, None, option_map, Result, Ok, Err}
+use Rattle.std.specs.Prelude.{◌≡◌, ◌==◌, ℕ, pos, nat_lt, length, Bool, true, false, IsTrue, if◌then◌else◌, is_some, List, [], ◌∷◌, Option, Some, None, option_map, Result, Ok, Err}
 use Rattle.std.specs.List.{filter_map}
 use Rattle.std.specs.Option.{option_and_then}
 use Rattle.std.specs.Str.{trim}
@@ -68,8 +68,8 @@ optional kind (boolean b) = option_map Some (kind (boolean b))
 optional kind (simple n) = option_map Some (kind (simple n))
 optional kind (float f) = option_map Some (kind (float f))
 
--- each element's value, where the kind accepts each
-abbrev pub each : {M : Type 0} → Kind M → List Item → Option (List M)
+-- the value of each element, where each has one
+abbrev pub each : {X M : Type 0} → (X → Option M) → List X → Option (List M)
 each kind [] = Some []
 each kind (i ∷ is) = option_and_then (λ x. option_map (λ xs. x ∷ xs) (each kind is)) (kind i)
 
@@ -79,6 +79,12 @@ bytes (byte_string s) = Some s
 bytes (array xs) = each (below 256) (elements xs)
 bytes (text_string s) = text_bytes (trim s)
 bytes _ = None
+
+-- a byte string or numbers of one byte, exactly so many
+abbrev pub sized_bytes : ℕ → Kind (List ℕ)
+sized_bytes n (byte_string s) = if length s == n then Some s else None
+sized_bytes n (array xs) = if length (elements xs) == n then each (below 256) (elements xs) else None
+sized_bytes n _ = None
 
 abbrev pub list : {M : Type 0} → Kind M → Kind (List M)
 list kind (array xs) = each kind (elements xs)

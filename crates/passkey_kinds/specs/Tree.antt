@@ -1,6 +1,8 @@
--- What values are written as.
-use Rattle.std.specs.Prelude.{ℕ, pos, Bool, true, false, List, [], ◌∷◌, map as each, Option, Some, None}
-use Rattle.passkey_cbor.specs.Item.{Item, number, array, map, boolean, null, items_of, pairs_of}
+-- What values are written as; a record's members are laid one behind the other.
+use Rattle.std.specs.Prelude.{ℕ, pos, Bool, true, if◌then◌else◌, List, [], ◌∷◌, ◌++◌, map as each, Option, Some, None, option_map}
+use Rattle.std.specs.FinMap as fin
+use Rattle.passkey_bytes.specs.Map.{ByteMap}
+use Rattle.passkey_cbor.specs.Item.{Item, number, byte_string, array, map, boolean, null, items_of, pairs_of}
 use Rattle.passkey_kinds.specs.Table.{Members}
 
 abbrev pub number_tree : ℕ → Item
@@ -14,19 +16,42 @@ option_tree tree (Some x) = tree x
 abbrev pub list_tree : {A : Type 0} → (A → Item) → List A → Item
 list_tree tree xs = array (items_of (each tree xs))
 
+-- bytes as an array of their numbers
+abbrev pub numbers_tree : List ℕ → Item
+numbers_tree bytes = list_tree number_tree bytes
+
 abbrev pub map_tree : Members → Item
 map_tree ms = map (pairs_of ms)
 
--- a member that is always written
-abbrev pub always : {A : Type 0} → Item → (A → Item) → A → Members
-always key tree x = (let m : Item × Item = (key, tree x) in m) ∷ []
+-- a member of a map from byte strings
+abbrev pub entry_tree : {A : Type 0} → (A → Item) → List ℕ × A → Item × Item
+entry_tree tree e = (byte_string e.0, tree e.1)
 
--- a member that is written where it is there
-abbrev pub where_some : {A : Type 0} → Item → (A → Item) → Option A → Members
-where_some key tree None = []
-where_some key tree (Some x) = (let m : Item × Item = (key, tree x) in m) ∷ []
+-- a map from byte strings, in the order of the keys' bytes
+abbrev pub byte_map_tree : {A : Type 0} → (A → Item) → ByteMap A → Item
+byte_map_tree tree m = map_tree (each (entry_tree tree) (fin.entries m))
 
--- a member that is written where it is true
-abbrev pub where_true : Item → Bool → Members
-where_true key true = (let m : Item × Item = (key, boolean true) in m) ∷ []
-where_true key false = []
+-- A key, and what is written under it, if anything.
+abbrev pub Place : Type 0
+Place = Item × Option Item
+
+abbrev pub always : {A : Type 0} → Item → (A → Item) → A → Place
+always key tree x = (key, Some (tree x))
+
+abbrev pub where_some : {A : Type 0} → Item → (A → Item) → Option A → Place
+where_some key tree o = (key, option_map tree o)
+
+abbrev pub where_true : Item → Bool → Place
+where_true key b = (key, if b then Some (boolean true) else None)
+
+abbrev pub under : Item → Option Item → Members
+under key None = []
+under key (Some x) = (let m : Item × Item = (key, x) in m) ∷ []
+
+-- the members of the places, behind others
+abbrev pub laid : Members → List Place → Members
+laid ms [] = ms
+laid ms (p ∷ ps) = laid (ms ++ under p.0 p.1) ps
+
+abbrev pub record_tree : List Place → Item
+record_tree ps = map_tree (laid [] ps)

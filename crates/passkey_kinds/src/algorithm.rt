@@ -7,6 +7,7 @@ ghost use Rattle.passkey_cose.specs.declared.iana.Algorithm.{Algorithm as Named}
 ghost use Rattle.passkey_kinds.specs.Algorithm.{algorithm, algorithm_tree};
 ghost use Rattle.passkey_kinds.specs.Kind.{AnswersAs};
 ghost use Rattle.passkey_webauthn.specs.NumberText.{signed_64};
+ghost use Rattle.passkey_kinds.specs.ReadBack.{Any};
 
 use crate::from_cbor::FromCbor;
 use crate::refusal::Refusal;
@@ -51,6 +52,8 @@ impl FromCbor for Algorithm {
 
 impl ToCbor for Algorithm {
     ghost tree = { algorithm_tree };
+
+    ghost fits = { Any };
 
     fn to_value(&self, _alloc: Global) -> Result<Value, OutOfMemory> {
         Ok(Value::Integer(Integer::new(i128::from(self.to_i64())).unwrap()))

@@ -4,6 +4,7 @@ ghost use Rattle.passkey_kinds.specs.Descriptor.{DescriptorValues, descriptor_ta
 ghost use Rattle.passkey_kinds.specs.DescriptorHeld.{descriptor_held};
 ghost use Rattle.passkey_webauthn.specs.declared.descriptor.PublicKeyCredentialDescriptor.{PublicKeyCredentialDescriptor as Descriptor};
 ghost use Rattle.passkey_kinds.specs.Trees.{descriptor_tree};
+ghost use Rattle.passkey_kinds.specs.ReadBack.{Any};
 
 use crate::from_cbor::{FromCbor, read_into};
 use crate::list::TolerantList;
@@ -104,6 +105,8 @@ impl FromCbor for PublicKeyCredentialDescriptor {
 
 impl ToCbor for PublicKeyCredentialDescriptor {
     ghost tree = { descriptor_tree };
+
+    ghost fits = { Any };
 
     fn to_value(&self, alloc: Global) -> Result<Value, OutOfMemory> {
         let mut members = Written::new(alloc);

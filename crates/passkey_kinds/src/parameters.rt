@@ -4,6 +4,7 @@ ghost use Rattle.passkey_kinds.specs.Parameters.{ParametersValues, parameters_ta
 ghost use Rattle.passkey_kinds.specs.ParametersHeld.{parameters_held};
 ghost use Rattle.passkey_kinds.specs.Trees.{parameters_tree};
 ghost use Rattle.passkey_webauthn.specs.declared.parameters.PublicKeyCredentialParameters.{PublicKeyCredentialParameters as Parameters};
+ghost use Rattle.passkey_kinds.specs.ReadBack.{Any};
 
 use crate::from_cbor::{FromCbor, read_into};
 use crate::record::{Slots, read_nested};
@@ -88,6 +89,8 @@ impl FromCbor for PublicKeyCredentialParameters {
 
 impl ToCbor for PublicKeyCredentialParameters {
     ghost tree = { parameters_tree };
+
+    ghost fits = { Any };
 
     fn to_value(&self, alloc: Global) -> Result<Value, OutOfMemory> {
         let mut members = Written::new(alloc);

@@ -1,11 +1,13 @@
 // The items here were spelled by hand, from RFC 8949.
-use crate::{FromCbor, Refusal};
+use crate::{FromCbor, Refusal, ToCbor};
 use passkey_cbor::Value;
 use std::alloc::Global;
 use std::test::Fail;
 
+mod data;
 mod faults;
 mod kinds;
+mod maps;
 mod records;
 mod writing;
 
@@ -17,4 +19,10 @@ fn read<T: FromCbor>(alloc: Global, bytes: &[u8]) -> Result<Option<T>, Fail> {
         Err(Refusal::Refused) => Ok(None),
         Err(Refusal::OutOfMemory) => Err(Refusal::OutOfMemory)?,
     }
+}
+
+/// Whether the value is written as these bytes.
+fn is_written<T: ToCbor>(alloc: Global, value: &T, bytes: &[u8]) -> Result<bool, Fail> {
+    let written = value.to_value(alloc)?.to_vec(alloc)?;
+    Ok(written.as_slice() == bytes)
 }

@@ -1,7 +1,9 @@
 //! Values that are written as items.
-ghost use Rattle.std.specs.Prelude.{◌≡◌, IfOk};
+ghost use Rattle.std.specs.Prelude.{◌≡◌, ◌<◌, ◌^◌, ℕ, IfOk, OnOk};
 ghost use Rattle.passkey_cbor.specs.Item.{Item, boolean, byte_string, text_string};
 ghost use Rattle.passkey_cbor.specs.View.{item_of};
+ghost use Rattle.passkey_core.specs.DataNormal.{Where};
+ghost use Rattle.passkey_kinds.specs.ReadBack.{Any};
 ghost use Rattle.passkey_kinds.specs.Tree.{number_tree, option_tree};
 ghost use Rattle.passkey_kinds.specs.Trees.{credential_type_tree, transport_tree};
 
@@ -15,13 +17,19 @@ pub trait ToCbor {
     /// The item that each value is written as.
     ghost tree: { Self → Item };
 
+    /// What holds of each value that is written.
+    ghost fits: { Self → Type 0 };
+
     /// The item that the value is written as. `OutOfMemory` where a growth was refused.
     fn to_value(&self, alloc: Global) -> Result<Value, OutOfMemory>
-        ensures { IfOk result (λ v. item_of v ≡ tree self.now) };
+        ensures tree { IfOk result (λ v. item_of v ≡ tree self.now) }
+        ensures fits { OnOk result (fits self.now) };
 }
 
 impl ToCbor for bool {
     ghost tree = { boolean };
+
+    ghost fits = { Any };
 
     fn to_value(&self, _alloc: Global) -> Result<Value, OutOfMemory> {
         Ok(Value::Bool(*self))
@@ -37,6 +45,8 @@ pub(crate) fn number(n: u32) -> Value
 impl ToCbor for u8 {
     ghost tree = { number_tree };
 
+    ghost fits = { λ n. n < 2 ^ 8 };
+
     fn to_value(&self, _alloc: Global) -> Result<Value, OutOfMemory> {
         Ok(number(u32::from(*self)))
     }
@@ -44,6 +54,8 @@ impl ToCbor for u8 {
 
 impl ToCbor for u32 {
     ghost tree = { number_tree };
+
+    ghost fits = { λ n. n < 2 ^ 32 };
 
     fn to_value(&self, _alloc: Global) -> Result<Value, OutOfMemory> {
         Ok(number(*self))
@@ -56,8 +68,20 @@ pub(crate) fn text(alloc: Global, text: &str) -> Result<Value, OutOfMemory>
     Ok(Value::Text(String::from_str(alloc, text)?))
 }
 
+impl<'a> ToCbor for &'a str {
+    ghost tree = { λ s. text_string s.now };
+
+    ghost fits = { Any };
+
+    fn to_value(&self, alloc: Global) -> Result<Value, OutOfMemory> {
+        text(alloc, self)
+    }
+}
+
 impl ToCbor for Text {
     ghost tree = { text_string };
+
+    ghost fits = { Any };
 
     fn to_value(&self, alloc: Global) -> Result<Value, OutOfMemory> {
         text(alloc, self.as_str())
@@ -67,6 +91,8 @@ impl ToCbor for Text {
 impl ToCbor for Bytes {
     ghost tree = { byte_string };
 
+    ghost fits = { Any };
+
     fn to_value(&self, alloc: Global) -> Result<Value, OutOfMemory> {
         Ok(Value::Bytes(Vec::from_slice(alloc, self.as_slice())?))
     }
@@ -75,6 +101,8 @@ impl ToCbor for Bytes {
 impl ToCbor for Value {
     ghost tree = { item_of };
 
+    ghost fits = { Any };
+
     fn to_value(&self, alloc: Global) -> Result<Value, OutOfMemory> {
         self.try_clone(alloc)
     }
@@ -82,6 +110,8 @@ impl ToCbor for Value {
 
 impl<T: ToCbor> ToCbor for Option<T> {
     ghost tree = { λ o. option_tree T.tree o };
+
+    ghost fits = { λ o. Where T.fits o };
 
     fn to_value(&self, alloc: Global) -> Result<Value, OutOfMemory> {
         match self {
@@ -100,6 +130,8 @@ fn written_name<T: EnumNames>(alloc: Global, value: T) -> Result<Value, OutOfMem
 impl ToCbor for PublicKeyCredentialType {
     ghost tree = { credential_type_tree };
 
+    ghost fits = { Any };
+
     fn to_value(&self, alloc: Global) -> Result<Value, OutOfMemory> {
         written_name(alloc, *self)
     }
@@ -107,6 +139,8 @@ impl ToCbor for PublicKeyCredentialType {
 
 impl ToCbor for AuthenticatorTransport {
     ghost tree = { transport_tree };
+
+    ghost fits = { Any };
 
     fn to_value(&self, alloc: Global) -> Result<Value, OutOfMemory> {
         written_name(alloc, *self)

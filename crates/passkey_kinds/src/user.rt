@@ -4,6 +4,7 @@ ghost use Rattle.passkey_kinds.specs.Trees.{webauthn_user_tree};
 ghost use Rattle.passkey_kinds.specs.User.{UserValues, user_table, user_values, user_of, user};
 ghost use Rattle.passkey_kinds.specs.UserHeld.{user_held};
 ghost use Rattle.passkey_webauthn.specs.declared.user.PublicKeyCredentialUserEntity.{PublicKeyCredentialUserEntity as UserEntity};
+ghost use Rattle.passkey_kinds.specs.ReadBack.{Any};
 
 use crate::from_cbor::{FromCbor, read_into};
 use crate::record::{Slots, read_nested};
@@ -95,6 +96,8 @@ impl FromCbor for PublicKeyCredentialUserEntity {
 
 impl ToCbor for PublicKeyCredentialUserEntity {
     ghost tree = { webauthn_user_tree };
+
+    ghost fits = { Any };
 
     fn to_value(&self, alloc: Global) -> Result<Value, OutOfMemory> {
         let mut members = Written::new(alloc);

@@ -1,17 +1,20 @@
 //! Lists and maps that are written.
-ghost use Rattle.std.specs.Prelude.{◌≡◌, ◌++◌, [], map, IfOk, OnOk};
-ghost use Rattle.passkey_cbor.specs.Item.{Item, text_string};
+ghost use Rattle.std.specs.Prelude.{◌≡◌, ◌++◌, [], true, None, if◌then◌else◌, Some, map, option_map, IfOk, OnOk};
+ghost use Rattle.std.specs.List.{All};
+ghost use Rattle.passkey_cbor.specs.Item.{Item, boolean};
 ghost use Rattle.passkey_cbor.specs.View.{item_of};
-ghost use Rattle.passkey_kinds.specs.Tree.{list_tree, map_tree, always, where_some, where_true};
+ghost use Rattle.passkey_core.specs.DataNormal.{Where};
+ghost use Rattle.passkey_kinds.specs.Tree.{list_tree, map_tree, under};
 ghost use Rattle.passkey_kinds.specs.Written.{members_of};
 
-use crate::to_cbor::{ToCbor, text};
+use crate::to_cbor::ToCbor;
 use passkey_bytes::List;
 use passkey_cbor::{OutOfMemory, Value};
 use std::alloc::Global;
 
-fn write_each<T: ToCbor>(alloc: Global, list: &[T]) -> Result<Vec<Value>, OutOfMemory>
-    ensures { IfOk result (λ vs. map item_of vs.items ≡ map T.tree list.now) }
+pub(crate) fn write_each<T: ToCbor>(alloc: Global, list: &[T]) -> Result<Vec<Value>, OutOfMemory>
+    ensures trees { IfOk result (λ vs. map item_of vs.items ≡ map T.tree list.now) }
+    ensures fits { OnOk result (All T.fits list.now) }
 {
     let mut values = Vec::with_capacity(alloc, list.len())?;
     for value in list {
@@ -22,6 +25,8 @@ fn write_each<T: ToCbor>(alloc: Global, list: &[T]) -> Result<Vec<Value>, OutOfM
 
 impl<T: ToCbor> ToCbor for List<T> {
     ghost tree = { λ xs. list_tree T.tree xs };
+
+    ghost fits = { λ xs. All T.fits xs };
 
     fn to_value(&self, alloc: Global) -> Result<Value, OutOfMemory> {
         Ok(Value::Array(write_each(alloc, self.as_slice())?))
@@ -44,23 +49,31 @@ impl Written {
         }
     }
 
-    /// A member under this key, behind the others. `OutOfMemory` where a growth was refused.
-    pub fn put<T: ToCbor>(&mut self, alloc: Global, key: &str, value: &T) -> Result<(), OutOfMemory>
-        ensures { OnOk result (members_of self.new ≡ members_of self.old ++ always (text_string key.now) T.tree value.now) }
+    /// A member under this key, a name or a number, behind the others. `OutOfMemory` where a growth
+    /// was refused.
+    pub fn put<K: ToCbor + Drop, T: ToCbor>(
+        &mut self,
+        alloc: Global,
+        key: K,
+        value: &T,
+    ) -> Result<(), OutOfMemory>
+        ensures put { OnOk result (members_of self.new ≡ members_of self.old ++ under (K.tree key) (Some (T.tree value.now))) }
+        ensures fits { OnOk result (T.fits value.now) }
     {
-        let member = (text(alloc, key)?, value.to_value(alloc)?);
+        let member = (key.to_value(alloc)?, value.to_value(alloc)?);
         self.members.push(member)?;
         Ok(())
     }
 
     /// A member under this key, where there is one. `OutOfMemory` where a growth was refused.
-    pub fn put_some<T: ToCbor>(
+    pub fn put_some<K: ToCbor + Drop, T: ToCbor>(
         &mut self,
         alloc: Global,
-        key: &str,
+        key: K,
         value: &Option<T>,
     ) -> Result<(), OutOfMemory>
-        ensures { OnOk result (members_of self.new ≡ members_of self.old ++ where_some (text_string key.now) T.tree value.now) }
+        ensures put { OnOk result (members_of self.new ≡ members_of self.old ++ under (K.tree key) (option_map T.tree value.now)) }
+        ensures fits { OnOk result (Where T.fits value.now) }
     {
         if let Some(value) = value {
             self.put(alloc, key, value)?;
@@ -69,8 +82,13 @@ impl Written {
     }
 
     /// A member under this key, where it is true. `OutOfMemory` where a growth was refused.
-    pub fn put_true(&mut self, alloc: Global, key: &str, value: bool) -> Result<(), OutOfMemory>
-        ensures { OnOk result (members_of self.new ≡ members_of self.old ++ where_true (text_string key.now) value) }
+    pub fn put_true<K: ToCbor + Drop>(
+        &mut self,
+        alloc: Global,
+        key: K,
+        value: bool,
+    ) -> Result<(), OutOfMemory>
+        ensures { OnOk result (members_of self.new ≡ members_of self.old ++ under (K.tree key) (if value then Some (boolean true) else None)) }
     {
         if value {
             self.put(alloc, key, &true)?;

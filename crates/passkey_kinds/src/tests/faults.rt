@@ -1,4 +1,4 @@
-use crate::{Fault, Refusal};
+use crate::{Fault, Refusal, WriteFault};
 use passkey_cbor::OutOfMemory;
 use std::alloc::{AllocError, Global};
 use std::test::Fail;
@@ -41,5 +41,17 @@ fn refusals_are_printed_by_name(rt: HostRuntime) -> Result<(), Fail> {
     let memory = Refusal::from(OutOfMemory);
     assert_eq!(rt; format!(in rt.alloc(); "{memory}")?.as_str(), "OutOfMemory");
     assert_eq!(rt; Refusal::from(AllocError), Refusal::OutOfMemory);
+    Ok(())
+}
+
+#[test]
+fn write_faults_are_printed_by_name(rt: HostRuntime) -> Result<(), Fail> {
+    let large = WriteFault::NumberTooLarge;
+    assert_eq!(rt;
+        format!(in rt.alloc(); "{large}")?.as_str(),
+        "NumberTooLarge"
+    );
+    let memory = WriteFault::from(OutOfMemory);
+    assert_eq!(rt; format!(in rt.alloc(); "{memory}")?.as_str(), "OutOfMemory");
     Ok(())
 }

@@ -5,6 +5,7 @@ use passkey_cbor::Value;
 use passkey_cose::iana::Algorithm;
 use passkey_webauthn::{AuthenticatorTransport, PublicKeyCredentialType};
 use std::alloc::Global;
+use std::num::NonZeroU128;
 use std::test::Fail;
 
 /// Whether the item stands for these bytes.
@@ -168,5 +169,19 @@ fn algorithms_are_numbers_or_texts_of_one(rt: HostRuntime) -> Result<(), Fail> {
     let least = [0x3b, 0xff, 0xff, 0xff, 0xff, 0xff, 0xff, 0xff, 0xff];
     assert_eq!(rt; read::<Algorithm>(rt.alloc(), &least)?, None);
     assert_eq!(rt; read::<Algorithm>(rt.alloc(), &[0xf9, 0xc7, 0x00])?, None);
+    Ok(())
+}
+
+#[test]
+fn sizes_are_not_0(rt: HostRuntime) -> Result<(), Fail> {
+    assert_eq!(rt; read(rt.alloc(), &[0x01])?, NonZeroU128::new(1));
+    let most = [0x1b, 0xff, 0xff, 0xff, 0xff, 0xff, 0xff, 0xff, 0xff];
+    assert_eq!(rt;
+        read(rt.alloc(), &most)?,
+        NonZeroU128::new(0xffff_ffff_ffff_ffff)
+    );
+    assert_eq!(rt; read::<NonZeroU128>(rt.alloc(), &[0x00])?, None);
+    assert_eq!(rt; read::<NonZeroU128>(rt.alloc(), &[0x20])?, None);
+    assert_eq!(rt; read::<NonZeroU128>(rt.alloc(), &[0xf6])?, None);
     Ok(())
 }

@@ -1,6 +1,5 @@
 use super::read;
 use crate::descriptor::DescriptorSlots;
-use crate::make_credential::{Options, PublicKeyCredentialRpEntity, PublicKeyCredentialUserEntity};
 use crate::{Fault, read_record};
 use passkey_cbor::Value;
 use passkey_webauthn::{
@@ -90,62 +89,6 @@ fn the_first_fault_is_told(rt: HostRuntime) -> Result<(), Fail> {
     assert_eq!(rt;
         fault(rt.alloc(), &[0xa2, 0x60, 0x00, 0x81, 0x00, 0x00])?,
         Some(Fault::BadKey)
-    );
-    Ok(())
-}
-
-#[test]
-fn relying_parties_are_read(rt: HostRuntime) -> Result<(), Fail> {
-    let item = [0xa2, 0x62, 0x69, 0x64, 0x61, 0x61, 0x61, 0x78, 0x00];
-    let Some(rp) = read::<PublicKeyCredentialRpEntity>(rt.alloc(), &item)? else {
-        return Err(Fault::NotAMap)?;
-    };
-    assert_eq!(rt; rp.id.as_str(), "a");
-    assert!(rt; rp.name.is_none());
-    // name: a number
-    let item = [
-        0xa2, 0x62, 0x69, 0x64, 0x61, 0x61, 0x64, 0x6e, 0x61, 0x6d, 0x65, 0x00,
-    ];
-    assert!(rt; read::<PublicKeyCredentialRpEntity>(rt.alloc(), &item)?.is_none());
-    Ok(())
-}
-
-#[test]
-fn users_are_read(rt: HostRuntime) -> Result<(), Fail> {
-    // icon: "i", displayName: null, id: no bytes
-    let item = [
-        0xa3, 0x64, 0x69, 0x63, 0x6f, 0x6e, 0x61, 0x69, 0x6b, 0x64, 0x69, 0x73, 0x70, 0x6c, 0x61,
-        0x79, 0x4e, 0x61, 0x6d, 0x65, 0xf6, 0x62, 0x69, 0x64, 0x40,
-    ];
-    let Some(user) = read::<PublicKeyCredentialUserEntity>(rt.alloc(), &item)? else {
-        return Err(Fault::NotAMap)?;
-    };
-    assert!(rt; user.id.is_empty());
-    assert!(rt; user.name.is_none());
-    assert!(rt; user.display_name.is_none());
-    assert_eq!(rt; user.icon_url.map(|icon| icon.as_str() == "i"), Some(true));
-    Ok(())
-}
-
-#[test]
-fn options_have_defaults(rt: HostRuntime) -> Result<(), Fail> {
-    assert_eq!(rt;
-        read::<Options>(rt.alloc(), &[0xa0])?,
-        Some(Options::default())
-    );
-    let item = [0xa2, 0x62, 0x75, 0x70, 0xf4, 0x62, 0x72, 0x6b, 0xf5];
-    let read_options = read::<Options>(rt.alloc(), &item)?;
-    assert_eq!(rt;
-        read_options,
-        Some(Options {
-            rk: true,
-            up: false,
-            uv: false
-        })
-    );
-    assert_eq!(rt;
-        read::<Options>(rt.alloc(), &[0xa1, 0x62, 0x75, 0x76, 0xf6])?,
-        None
     );
     Ok(())
 }

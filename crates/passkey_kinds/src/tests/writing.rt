@@ -1,6 +1,5 @@
-use super::read;
-use crate::make_credential::{Options, PublicKeyCredentialRpEntity, PublicKeyCredentialUserEntity};
-use crate::{Fault, ToCbor};
+use super::{is_written, read};
+use crate::Fault;
 use passkey_bytes::{Bytes, List, Text};
 use passkey_cbor::Value;
 use passkey_cose::iana::Algorithm;
@@ -9,14 +8,7 @@ use passkey_webauthn::{
     AuthenticatorTransport, PublicKeyCredentialDescriptor, PublicKeyCredentialParameters,
     PublicKeyCredentialType,
 };
-use std::alloc::Global;
 use std::test::Fail;
-
-/// Whether the value is written as these bytes.
-fn is_written<T: ToCbor>(alloc: Global, value: &T, bytes: &[u8]) -> Result<bool, Fail> {
-    let written = value.to_value(alloc)?.to_vec(alloc)?;
-    Ok(written.as_slice() == bytes)
-}
 
 #[test]
 fn single_values_are_written(rt: HostRuntime) -> Result<(), Fail> {
@@ -69,32 +61,6 @@ fn descriptors_are_written(rt: HostRuntime) -> Result<(), Fail> {
 }
 
 #[test]
-fn relying_parties_and_users_are_written(rt: HostRuntime) -> Result<(), Fail> {
-    let rp = PublicKeyCredentialRpEntity {
-        id: Text::from_str(rt.alloc(), "a")?,
-        name: Some(Text::from_str(rt.alloc(), "b")?),
-    };
-    let bytes = [
-        0xa2, 0x62, 0x69, 0x64, 0x61, 0x61, 0x64, 0x6e, 0x61, 0x6d, 0x65, 0x61, 0x62,
-    ];
-    assert!(rt; is_written(rt.alloc(), &rp, &bytes)?);
-    assert!(rt; rp.try_clone(rt.alloc())? == rp);
-    let user = PublicKeyCredentialUserEntity {
-        id: Bytes::empty(rt.alloc()),
-        name: None,
-        display_name: Some(Text::empty(rt.alloc())),
-        icon_url: Some(Text::from_str(rt.alloc(), "i")?),
-    };
-    let bytes = [
-        0xa3, 0x62, 0x69, 0x64, 0x40, 0x6b, 0x64, 0x69, 0x73, 0x70, 0x6c, 0x61, 0x79, 0x4e, 0x61,
-        0x6d, 0x65, 0x60, 0x64, 0x69, 0x63, 0x6f, 0x6e, 0x61, 0x69,
-    ];
-    assert!(rt; is_written(rt.alloc(), &user, &bytes)?);
-    assert!(rt; user.try_clone(rt.alloc())? == user);
-    Ok(())
-}
-
-#[test]
 fn users_of_webauthn_are_read_and_written(rt: HostRuntime) -> Result<(), Fail> {
     // id, name, displayName: each empty
     let item = [
@@ -115,24 +81,6 @@ fn users_of_webauthn_are_read_and_written(rt: HostRuntime) -> Result<(), Fail> {
         0x6d, 0x65, 0x60,
     ];
     assert!(rt; read::<webauthn::PublicKeyCredentialUserEntity>(rt.alloc(), &item)?.is_none());
-    Ok(())
-}
-
-#[test]
-fn the_default_is_written_where_it_is_true(rt: HostRuntime) -> Result<(), Fail> {
-    let options = Options {
-        rk: true,
-        up: false,
-        uv: false,
-    };
-    let bytes = [0xa2, 0x62, 0x72, 0x6b, 0xf5, 0x62, 0x75, 0x76, 0xf4];
-    assert!(rt; is_written(rt.alloc(), &options, &bytes)?);
-    let back = read::<Options>(rt.alloc(), &bytes)?;
-    assert_eq!(rt; back.map(|options| options.up), Some(true));
-    let bytes = [
-        0xa3, 0x62, 0x72, 0x6b, 0xf4, 0x62, 0x75, 0x70, 0xf5, 0x62, 0x75, 0x76, 0xf4,
-    ];
-    assert!(rt; is_written(rt.alloc(), &Options::default(), &bytes)?);
     Ok(())
 }
 

@@ -1,0 +1,153 @@
+-- Kinds whose values are read back from what they are written as.
+use Rattle.std.specs.List.{All, filter_map}
+use Rattle.std.specs.Option.{option_and_then}
+use Rattle.std.specs.Prelude.{ℤ}
+use Rattle.std.proofs.Common.{◌≡◌, ◌∙◌, sym, ◌<◌, ◌^◌, lt-ltb, List, [], ◌∷◌, map, Option, Some, None, option_map, refl, ap}
+use Rattle.std.proofs.lemmas.List.Elements.{All-head, All-tail}
+use Rattle.passkey_cbor.specs.Item.{Item, number, byte_string, text_string, array, map as item_map, tagged, boolean, null, simple, float}
+use Rattle.passkey_cbor.specs.View.{item_of}
+use Rattle.passkey_core.specs.DataNormal.{Where}
+use Rattle.passkey_cose.specs.Iana.{algorithm_number, algorithm_named}
+use Rattle.passkey_cose.specs.IanaLaws.{algorithm_named-number}
+use Rattle.passkey_cose.specs.declared.iana.Algorithm.{Algorithm}
+use Rattle.passkey_cose.specs.declared.iana.Algorithm.TheVariants as algorithm
+use Rattle.passkey_kinds.specs.Algorithm.{algorithm as an_algorithm, algorithm_tree}
+use Rattle.passkey_kinds.specs.Kind.{Kind, truth, below, text, one_named, kept, optional, each, bytes, list, accepted, tolerated}
+use Rattle.passkey_kinds.specs.ReadBack.{IsReadBack, Any, IsByte}
+use Rattle.passkey_kinds.specs.Tree.{number_tree, option_tree, list_tree}
+use Rattle.passkey_kinds.specs.Trees.{credential_type_tree, transport_tree}
+use Rattle.passkey_kinds.proofs.Back.{Falls, option_place, falls_as}
+use Rattle.passkey_kinds.proofs.Lists.{list_array, accepted_array, option_same, map_same}
+use Rattle.passkey_webauthn.specs.CredentialType.{credential_type_named}
+use Rattle.passkey_webauthn.specs.NameLaws.{credential_type_own, transport_own}
+use Rattle.passkey_webauthn.specs.NumberText.{signed_64}
+use Rattle.passkey_webauthn.specs.Transport.{transport_named}
+
+pub truth_back : IsReadBack truth boolean Any (λ b. b)
+truth_back = record { back = λ b h. refl }
+
+pub byte_back : IsReadBack (below (2 ^ 8)) number_tree IsByte (λ n. n)
+byte_back = record { back = λ n h. rw (lt-ltb n (2 ^ 8) h) refl }
+
+pub word_back : IsReadBack (below (2 ^ 32)) number_tree (λ n. n < 2 ^ 32) (λ n. n)
+word_back = record { back = λ n h. rw (lt-ltb n (2 ^ 32) h) refl }
+
+pub text_back : IsReadBack text text_string Any (λ t. t)
+text_back = record { back = λ t h. refl }
+
+pub bytes_back : IsReadBack bytes byte_string Any (λ b. b)
+bytes_back = record { back = λ b h. refl }
+
+pub item_back : IsReadBack kept item_of Any item_of
+item_back = record { back = λ v h. refl }
+
+pub kept_back : IsReadBack kept (λ i. i) Any (λ i. i)
+kept_back = record { back = λ i h. refl }
+
+pub credential_type_back : IsReadBack (one_named credential_type_named) credential_type_tree Any (λ t. t)
+credential_type_back = record { back = λ t h. credential_type_own t }
+
+pub transport_back : IsReadBack (one_named transport_named) transport_tree Any (λ t. t)
+transport_back = record { back = λ t h. transport_own t }
+
+pub algorithm_back : IsReadBack an_algorithm algorithm_tree Any (λ a. a)
+algorithm_back = record { back = λ a h. ap (λ (o : Option ℤ). option_and_then algorithm_named o) (is_signed a) ∙ (algorithm_named-number (algorithm_number a) a).1 refl } where
+  is_signed : (a : Algorithm) → signed_64 (algorithm_number a) ≡ Some (algorithm_number a)
+  is_signed algorithm.RS1 = refl
+  is_signed algorithm.RS512 = refl
+  is_signed algorithm.RS384 = refl
+  is_signed algorithm.RS256 = refl
+  is_signed algorithm.ML_DSA_87 = refl
+  is_signed algorithm.ML_DSA_65 = refl
+  is_signed algorithm.ML_DSA_44 = refl
+  is_signed algorithm.ES256K = refl
+  is_signed algorithm.PS512 = refl
+  is_signed algorithm.PS384 = refl
+  is_signed algorithm.PS256 = refl
+  is_signed algorithm.ES512 = refl
+  is_signed algorithm.ES384 = refl
+  is_signed algorithm.ECDH_ES_HKDF_256 = refl
+  is_signed algorithm.EdDSA = refl
+  is_signed algorithm.ES256 = refl
+
+-- ---- options, lists and what may be refused
+
+map-map : {A B C : Type 0} (f : B → C) (g : A → B) (xs : List A) → map f (map g xs) ≡ map (λ x. f (g x)) xs
+map-map f g [] = refl
+map-map f g (x ∷ xs) = ap (λ ys. f (g x) ∷ ys) (map-map f g xs)
+
+-- null is not read, so what is read is not null
+optional_some : {M : Type 0} (kind : Kind M) (i : Item) (y : M) → kind null ≡ None → kind i ≡ Some y → optional kind i ≡ Some (Some y)
+optional_some kind null y none h = absurd cc
+optional_some kind (number z) y none h = ap (option_map Some) h
+optional_some kind (byte_string s) y none h = ap (option_map Some) h
+optional_some kind (text_string s) y none h = ap (option_map Some) h
+optional_some kind (array xs) y none h = ap (option_map Some) h
+optional_some kind (item_map ps) y none h = ap (option_map Some) h
+optional_some kind (tagged t x) y none h = ap (option_map Some) h
+optional_some kind (boolean b) y none h = ap (option_map Some) h
+optional_some kind (simple n) y none h = ap (option_map Some) h
+optional_some kind (float f) y none h = ap (option_map Some) h
+
+-- each of a list, where each alone is read back
+module _ {A X M : Type 0} (kind : X → Option M) (tree : A → X) (Fits : A → Type 0) (normal : A → M) (back : (x : A) → Fits x → kind (tree x) ≡ Some (normal x)) where
+  pub each_back : (xs : List A) → All Fits xs → each kind (map tree xs) ≡ Some (map normal xs)
+  each_back [] h = refl
+  each_back (x ∷ xs) h = rw (back x (All-head Fits x xs h), each_back xs (All-tail Fits x xs h)) refl
+
+module _ {A M : Type 0} {kind : Kind M} {tree : A → Item} {Fits : A → Type 0} {normal : A → M} (r : IsReadBack kind tree Fits normal) where
+  pub optional_back : kind null ≡ None → IsReadBack (optional kind) tree Fits (λ x. Some (normal x))
+  optional_back none = record { back = λ x h. optional_some kind (tree x) (normal x) none (r.back x h) }
+
+  pub tolerated_back : IsReadBack (tolerated kind) tree Fits (λ x. Some (normal x))
+  tolerated_back = record { back = λ x h. ap Some (r.back x h) }
+
+  filtered_back : (xs : List A) → All Fits xs → filter_map kind (map tree xs) ≡ map normal xs
+  filtered_back [] h = refl
+  filtered_back (x ∷ xs) h = rw (r.back x (All-head Fits x xs h), filtered_back xs (All-tail Fits x xs h)) refl
+
+  pub list_back : IsReadBack (list kind) (list_tree tree) (All Fits) (map normal)
+  list_back = record { back = λ xs h. list_array kind (map tree xs) ∙ each_back kind tree Fits normal r.back xs h }
+
+  pub accepted_back : IsReadBack (accepted kind) (list_tree tree) (All Fits) (map normal)
+  accepted_back = record { back = λ xs h. accepted_array kind (map tree xs) ∙ ap Some (filtered_back xs h) }
+
+-- the same of a view of the normal form
+pub seen_list_back : {A M : Type 0} {kind : Kind M} {tree : A → Item} {Fits : A → Type 0} {view : A → M} {normal : A → A} → IsReadBack kind tree Fits (λ x. view (normal x)) → IsReadBack (list kind) (list_tree tree) (All Fits) (λ xs. map view (map normal xs))
+seen_list_back {view = view} {normal = normal} r = record { back = λ xs h. (list_back r).back xs h ∙ ap Some (sym (map-map view normal xs)) }
+
+-- null or the value
+pub or_null_back : {A M : Type 0} {kind : Kind M} {tree : A → Item} {Fits : A → Type 0} {normal : A → M} → IsReadBack kind tree Fits normal → kind null ≡ None → IsReadBack (optional kind) (option_tree tree) (Where Fits) (option_map normal)
+or_null_back {A} {M} {kind} {tree} {Fits} {normal} r none = record { back = there } where
+  there : (o : Option A) → Where Fits o → optional kind (option_tree tree o) ≡ Some (option_map normal o)
+  there None h = refl
+  there (Some x) h = optional_some kind (tree x) (normal x) none (r.back x h)
+
+-- ---- places, where each value is read as itself
+
+pub anything : {A : Type 0} (o : Option A) → Where Any o
+anything None = tt
+anything (Some x) = tt
+
+pub all_of_anything : {A : Type 0} (o : Option (List A)) → Where (All Any) o
+all_of_anything None = tt
+all_of_anything (Some xs) = λ k d less. tt
+
+module _ {M : Type 0} {kind : Kind M} {tree : M → Item} {Fits : M → Type 0} (r : IsReadBack kind tree Fits (λ x. x)) where
+  -- a member that may lack, or be null
+  pub optional_place : kind null ≡ None → (o : Option M) → Where Fits o → Falls (optional kind) None (option_map tree o) o
+  optional_place none o h = falls_as (option_same o) (option_place (optional_back r none) o h)
+
+  -- a member that is nothing where it is refused
+  pub tolerated_place : (o : Option M) → Where Fits o → Falls (tolerated kind) None (option_map tree o) o
+  tolerated_place o h = falls_as (option_same o) (option_place (tolerated_back r) o h)
+
+  pub accepted_same : IsReadBack (accepted kind) (list_tree tree) (All Fits) (λ xs. xs)
+  accepted_same = record { back = λ xs h. (accepted_back r).back xs h ∙ ap Some (map_same xs) }
+
+  pub accepted_place : (o : Option (List M)) → Where (All Fits) o → Falls (tolerated (accepted kind)) None (option_map (list_tree tree) o) o
+  accepted_place o h = falls_as (option_same o) (option_place (tolerated_back accepted_same) o h)
+
+-- a list whose elements are read back as they were
+pub list_same : {M : Type 0} {kind : Kind M} {tree : M → Item} {Fits : M → Type 0} → IsReadBack kind tree Fits (λ x. x) → IsReadBack (list kind) (list_tree tree) (All Fits) (λ xs. xs)
+list_same r = record { back = λ xs h. (list_back r).back xs h ∙ ap Some (map_same xs) }

@@ -1,0 +1,32 @@
+-- Maps from byte strings are read back from what they are written as.
+use Rattle.std.specs.FinMap as fin
+use Rattle.std.specs.List.{All}
+use Rattle.std.proofs.Common.{◌≡◌, ◌∙◌, ℕ, List, map, Some, option_map, refl, sym, ap}
+use Rattle.passkey_bytes.specs.Map.{ByteMap, put_each}
+use Rattle.passkey_bytes.proofs.Placed.{put_each-seen}
+use Rattle.passkey_cbor.specs.Item.{Item}
+use Rattle.passkey_kinds.specs.Kind.{Kind}
+use Rattle.passkey_kinds.specs.MapKind.{entry, map_from_bytes, map_values}
+use Rattle.passkey_kinds.specs.ReadBack.{IsReadBack}
+use Rattle.passkey_kinds.specs.Tree.{entry_tree, byte_map_tree}
+use Rattle.passkey_kinds.proofs.LeafBack.{each_back}
+use Rattle.passkey_kinds.proofs.Maps.{map_from_bytes-map, map_values-map_values}
+
+module _ {A M : Type 0} {kind : Kind M} {tree : A → Item} {Fits : A → Type 0} {normal : A → M} (r : IsReadBack kind tree Fits normal) where
+  abbrev normal_entry : List ℕ × A → List ℕ × M
+  normal_entry e = (e.0, normal e.1)
+
+  entry_back : (e : List ℕ × A) → Fits e.1 → entry kind (entry_tree tree e) ≡ Some (normal_entry e)
+  entry_back e h = rw (r.back e.1 h) refl
+
+  pub map_back : IsReadBack (map_from_bytes kind) (byte_map_tree tree) (λ m. All (λ e. Fits e.1) (fin.entries m)) (map_values normal)
+  map_back = record {
+    back = λ m h.
+        map_from_bytes-map kind (map (entry_tree tree) (fin.entries m))
+        ∙ ap (option_map (put_each fin.empty)) (each_back (entry kind) (entry_tree tree) (λ e. Fits e.1) normal_entry entry_back (fin.entries m) h)
+        ∙ ap Some (put_each-seen normal m);
+  }
+
+-- the same of a view of the normal form
+pub seen_map_back : {A M : Type 0} {kind : Kind M} {tree : A → Item} {Fits : A → Type 0} (view : A → M) (normal : A → A) → IsReadBack kind tree Fits (λ x. view (normal x)) → IsReadBack (map_from_bytes kind) (byte_map_tree tree) (λ m. All (λ e. Fits e.1) (fin.entries m)) (λ m. map_values view (map_values normal m))
+seen_map_back view normal r = record { back = λ m h. (map_back r).back m h ∙ ap Some (sym (map_values-map_values view normal m)) }

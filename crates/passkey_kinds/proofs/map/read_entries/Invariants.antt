@@ -1,0 +1,10 @@
+use Rattle.std.specs.FinMap as fin
+use Rattle.std.proofs.Common.{◌≡◌, map, drop}
+use Rattle.passkey_cbor.specs.View.{pair_of}
+use Rattle.passkey_kinds.specs.MapKind.{map_values, with_members}
+use Rattle.passkey_kinds.proofs.map.read_entries.Given as goal
+
+abbrev pub invariant-loop-key : goal.invariant-loop-key
+invariant-loop-key g l =
+    with_members g.T.FromCbor.kind fin.empty (map pair_of l.pairs)
+    ≡ with_members g.T.FromCbor.kind (map_values g.T.FromCbor.view l.read) (map pair_of (drop l.key-index l.pairs))

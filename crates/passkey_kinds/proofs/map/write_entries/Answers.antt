@@ -1,0 +1,26 @@
+use Rattle.std.specs.Map.Iter.{deref_pair}
+use Rattle.std.proofs.Common.{◌∙◌, ℕ, List, map, ap}
+use Rattle.std.proofs.lemmas.List.{map_push}
+use Rattle.std.proofs.lemmas.Map.Iter.{rest_more}
+use Rattle.passkey_cbor.specs.Item.{byte_string}
+use Rattle.passkey_cbor.specs.View.{pair_of}
+use Rattle.passkey_cbor.specs.declared.value.Value.{Value}
+use Rattle.passkey_cbor.specs.declared.value.Value.TheVariants.{Bytes}
+use Rattle.passkey_cbor.proofs.Views.{item_of-Bytes}
+use Rattle.passkey_kinds.specs.Tree.{entry_tree}
+use Rattle.passkey_kinds.proofs.WrittenLists.{fits_next, written_next}
+use Rattle.passkey_kinds.proofs.map.write_entries.Goals as goal
+
+pub loop-key-preserved : goal.loop-key-preserved
+loop-key-preserved g c =
+    let xs = map deref_pair c.args.entries.now.entries in
+    let left = map deref_pair c.loop-key.key-iterator in
+    let rest = map deref_pair c.next.new.self in
+    let entry : List ℕ × g.row.T.Denot = (c.in-Some.key.now.now, c.in-Some.value.now.now) in
+    let member : Value × Value = (Bytes c.in_ok-from_slice.field-0, c.in_ok-to_value.field-0) in
+    let next = ap (map deref_pair) (rest_more deref_pair c.loop-key.key-iterator c.next.new.self c.next.result (c.in-Some.key, c.in-Some.value) c.in-Some.is c.next.ensures.steps) in
+    let key = item_of-Bytes c.in_ok-from_slice.field-0 ∙ ap byte_string c.in_ok-from_slice.ensures.items in
+    record {
+      items = rw (c.in_ok-push.ensures.items, map_push pair_of c.loop-key.pairs.items member) (written_next (entry_tree g.T.ToCbor.tree) xs left rest entry (pair_of member) (map pair_of c.loop-key.pairs.items) next (λ i. (key i, c.in_ok-to_value.ensures.tree i)) c.loop-key.invariant.items);
+      fits = fits_next (λ e. g.T.ToCbor.fits e.1) xs left rest entry next c.in_ok-to_value.ensures.fits c.loop-key.invariant.fits;
+    }

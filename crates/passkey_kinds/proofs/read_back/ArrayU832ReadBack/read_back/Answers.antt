@@ -1,0 +1,5 @@
+use Rattle.passkey_kinds.proofs.SizedBack.{numbers_back}
+use Rattle.passkey_kinds.proofs.read_back.ArrayU832ReadBack.read_back.Goals as goal
+
+pub returns-clause-back : goal.returns-clause-back
+returns-clause-back c = numbers_back 32

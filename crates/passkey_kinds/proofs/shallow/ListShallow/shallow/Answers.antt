@@ -1,0 +1,5 @@
+use Rattle.passkey_kinds.proofs.Levels.{list_within}
+use Rattle.passkey_kinds.proofs.shallow.ListShallow.shallow.Goals as goal
+
+pub returns : goal.returns
+returns g c = list_within g.T.ToCbor.tree g.T.Shallow.levels c.shallow.ensures

@@ -1,0 +1,30 @@
+-- Authenticator data and AAGUIDs (WebAuthn Level 3, sections 6.1 and 6.5.1).
+use Rattle.std.specs.Prelude.{ℕ, ◌==◌, if◌then◌else◌, List, length, Some, None}
+use Rattle.std.specs.Result.{result_ok}
+use Rattle.passkey_cbor.specs.Item.{Item, byte_string}
+use Rattle.passkey_core.specs.DataParts.{DataParts}
+use Rattle.passkey_core.specs.DataRead.{read_data}
+use Rattle.passkey_core.specs.DataViews.{data_parts}
+use Rattle.passkey_core.specs.DataWritten.{data_written}
+use Rattle.passkey_core.specs.declared.aaguid.Aaguid.{Aaguid}
+use Rattle.passkey_core.specs.declared.authenticator_data.AuthenticatorData.{AuthenticatorData}
+use Rattle.passkey_kinds.specs.Kind.{Kind}
+
+-- a byte string that is read as them; each fault refuses it
+abbrev pub authenticator_data : Kind DataParts
+authenticator_data (byte_string s) = result_ok (read_data s)
+authenticator_data _ = None
+
+abbrev pub auth_data_tree : DataParts → Item
+auth_data_tree d = byte_string (data_written d)
+
+abbrev pub data_tree : AuthenticatorData → Item
+data_tree d = auth_data_tree (data_parts d)
+
+-- a byte string of 16 bytes
+abbrev pub aaguid : Kind (List ℕ)
+aaguid (byte_string s) = if length s == 16 then Some s else None
+aaguid _ = None
+
+abbrev pub aaguid_tree : Aaguid → Item
+aaguid_tree a = byte_string a.0

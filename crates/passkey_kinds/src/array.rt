@@ -1,0 +1,55 @@
+//! Arrays of bytes, read of items and written as arrays of their numbers.
+ghost use Rattle.std.specs.Prelude.{◌==◌, ◌≡◌, ℕ, List, length, map, if◌then◌else◌, false, None};
+ghost use Rattle.passkey_cbor.specs.View.{item_of};
+ghost use Rattle.passkey_kinds.specs.Kind.{AnswersAs, each, below, sized_bytes};
+ghost use Rattle.passkey_kinds.specs.ReadBack.{AreBytes};
+ghost use Rattle.passkey_kinds.specs.Tree.{numbers_tree};
+
+use crate::from_cbor::FromCbor;
+use crate::refusal::Refusal;
+use crate::to_cbor::ToCbor;
+use crate::written::write_each;
+use passkey_cbor::{OutOfMemory, Value};
+use std::alloc::Global;
+
+/// The bytes of 32 numbers. `Refused` exactly where there are more or fewer, or one isn't a byte.
+fn read_numbers(alloc: Global, elements: &[Value]) -> Result<[u8; 32], Refusal>
+    ensures { AnswersAs (λ b. b) (if length elements.now == 32 then each (below 256) (map item_of elements.now) else None) ⊥ result }
+{
+    if elements.len() != 32 {
+        return Err(Refusal::Refused);
+    }
+    let mut bytes = [0; 32];
+    for (i, element) in elements.iter().enumerate() {
+        bytes[i] = u8::from_value(alloc, element)?;
+    }
+    Ok(bytes)
+}
+
+impl FromCbor for [u8; 32] {
+    ghost Meaning = { List ℕ };
+
+    ghost view = { λ b. b };
+
+    ghost kind = { sized_bytes 32 };
+
+    ghost takes = { false };
+
+    fn from_value(alloc: Global, value: &Value) -> Result<[u8; 32], Refusal> {
+        match value {
+            Value::Bytes(bytes) => <[u8; 32]>::try_from(bytes.as_slice()).or(Err(Refusal::Refused)),
+            Value::Array(elements) => read_numbers(alloc, elements),
+            _ => Err(Refusal::Refused),
+        }
+    }
+}
+
+impl ToCbor for [u8; 32] {
+    ghost tree = { numbers_tree };
+
+    ghost fits = { AreBytes 32 };
+
+    fn to_value(&self, alloc: Global) -> Result<Value, OutOfMemory> {
+        Ok(Value::Array(write_each(alloc, self.as_slice())?))
+    }
+}

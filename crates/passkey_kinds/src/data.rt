@@ -1,0 +1,93 @@
+//! Authenticator data and AAGUIDs, read of byte strings and written as them.
+ghost use Rattle.std.specs.Prelude.{◌≡◌, ℕ, true, false, length, List};
+ghost use Rattle.passkey_cbor.specs.Item.{byte_string};
+ghost use Rattle.passkey_core.specs.DataNormal.{IsData};
+ghost use Rattle.passkey_core.specs.DataParts.{DataParts};
+ghost use Rattle.passkey_core.specs.DataViews.{data_parts};
+ghost use Rattle.passkey_kinds.specs.Data.{authenticator_data, data_tree, aaguid, aaguid_tree};
+ghost use Rattle.passkey_kinds.specs.Kind.{Answers};
+
+use crate::from_cbor::FromCbor;
+use crate::refusal::Refusal;
+use crate::to_cbor::ToCbor;
+use passkey_cbor::{OutOfMemory, Value};
+use passkey_core::{Aaguid, AuthenticatorData, laws};
+use passkey_cose::CoseError;
+use std::alloc::Global;
+
+/// The authenticator data of a byte string.
+fn read_data(alloc: Global, bytes: &[u8]) -> Result<AuthenticatorData, Refusal>
+    ensures { Answers data_parts authenticator_data true (byte_string bytes.now) result }
+{
+    laws::given_is_read();
+    laws::one_reading();
+    match AuthenticatorData::from_slice(alloc, bytes) {
+        Ok(data) => Ok(data),
+        Err(CoseError::OutOfMemory) => Err(Refusal::OutOfMemory),
+        Err(_) => Err(Refusal::Refused),
+    }
+}
+
+impl FromCbor for AuthenticatorData {
+    ghost Meaning = { DataParts };
+
+    ghost view = { data_parts };
+
+    ghost kind = { authenticator_data };
+
+    ghost takes = { true };
+
+    fn from_value(alloc: Global, value: &Value) -> Result<AuthenticatorData, Refusal> {
+        match value {
+            Value::Bytes(bytes) => read_data(alloc, bytes),
+            _ => Err(Refusal::Refused),
+        }
+    }
+}
+
+impl ToCbor for AuthenticatorData {
+    ghost tree = { data_tree };
+
+    ghost fits = { λ d. IsData (data_parts d) };
+
+    fn to_value(&self, alloc: Global) -> Result<Value, OutOfMemory> {
+        Ok(Value::Bytes(self.to_vec(alloc)?))
+    }
+}
+
+/// The AAGUID of a byte string.
+fn read_aaguid(bytes: &[u8]) -> Result<Aaguid, Refusal>
+    ensures { Answers (λ a. a.0) aaguid false (byte_string bytes.now) result }
+{
+    match <[u8; 16]>::try_from(bytes) {
+        Ok(bytes) => Ok(Aaguid(bytes)),
+        Err(_) => Err(Refusal::Refused),
+    }
+}
+
+impl FromCbor for Aaguid {
+    ghost Meaning = { List ℕ };
+
+    ghost view = { λ a. a.0 };
+
+    ghost kind = { aaguid };
+
+    ghost takes = { false };
+
+    fn from_value(_alloc: Global, value: &Value) -> Result<Aaguid, Refusal> {
+        match value {
+            Value::Bytes(bytes) => read_aaguid(bytes),
+            _ => Err(Refusal::Refused),
+        }
+    }
+}
+
+impl ToCbor for Aaguid {
+    ghost tree = { aaguid_tree };
+
+    ghost fits = { λ a. length a.0 ≡ 16 };
+
+    fn to_value(&self, alloc: Global) -> Result<Value, OutOfMemory> {
+        Ok(Value::Bytes(Vec::from_slice(alloc, &self.0)?))
+    }
+}

@@ -1,0 +1,88 @@
+//! Maps from byte strings.
+ghost use Rattle.std.specs.Prelude.{◌≡◌, ◌<◌, length, map, true, IfOk, OnOk};
+ghost use Rattle.std.specs.FinMap as fin;
+ghost use Rattle.std.specs.List.{All};
+ghost use Rattle.std.specs.Map.Iter.{deref_pair};
+ghost use Rattle.passkey_bytes.specs.Map.{ByteMap};
+ghost use Rattle.passkey_cbor.specs.View.{pair_of};
+ghost use Rattle.passkey_kinds.specs.Kind.{AnswersAs};
+ghost use Rattle.passkey_kinds.specs.MapKind.{map_from_bytes, map_values, with_members};
+ghost use Rattle.passkey_kinds.specs.Tree.{byte_map_tree, entry_tree};
+
+use crate::from_cbor::FromCbor;
+use crate::refusal::Refusal;
+use crate::to_cbor::ToCbor;
+use passkey_bytes::{Bytes, Map};
+use passkey_cbor::{OutOfMemory, Value};
+use std::alloc::Global;
+use std::collections::BTreeMap;
+
+fn read_entries<T: FromCbor>(
+    alloc: Global,
+    pairs: &[(Value, Value)],
+) -> Result<Map<Bytes, T>, Refusal>
+    ensures { AnswersAs (λ m. map_values T.view m) (with_members T.kind fin.empty (map pair_of pairs.now)) (0 < length pairs.now) result }
+{
+    let mut read = Map::empty(alloc);
+    for (key, value) in pairs {
+        read.insert(Bytes::from_value(alloc, key)?, T::from_value(alloc, value)?)?;
+    }
+    Ok(read)
+}
+
+impl<T: FromCbor> FromCbor for Map<Bytes, T> {
+    ghost Meaning = { ByteMap T.Meaning };
+
+    ghost view = { λ m. map_values T.view m };
+
+    ghost kind = { map_from_bytes T.kind };
+
+    ghost takes = { true };
+
+    fn from_value(alloc: Global, value: &Value) -> Result<Map<Bytes, T>, Refusal> {
+        match value {
+            Value::Map(pairs) => read_entries(alloc, pairs),
+            _ => Err(Refusal::Refused),
+        }
+    }
+}
+
+/// The entries in the order of their keys' bytes.
+fn in_order<'a, T>(
+    alloc: Global,
+    entries: &'a Map<Bytes, T>,
+) -> Result<BTreeMap<&'a [u8], &'a T>, OutOfMemory>
+    ensures { IfOk result (λ sorted. map deref_pair sorted.entries ≡ fin.entries entries.now) }
+{
+    let mut sorted = BTreeMap::new(alloc);
+    for (key, value) in entries {
+        sorted.insert(key.as_slice(), value)?;
+    }
+    Ok(sorted)
+}
+
+fn write_entries<T: ToCbor>(
+    alloc: Global,
+    entries: &BTreeMap<&[u8], &T>,
+) -> Result<Vec<(Value, Value)>, OutOfMemory>
+    ensures trees { IfOk result (λ pairs. map pair_of pairs.items ≡ map (entry_tree T.tree) (map deref_pair entries.now.entries)) }
+    ensures fits { OnOk result (All (λ e. T.fits e.1) (map deref_pair entries.now.entries)) }
+{
+    let mut pairs = Vec::with_capacity(alloc, entries.len())?;
+    for (key, value) in entries {
+        let key = Value::Bytes(Vec::from_slice(alloc, key)?);
+        pairs.push((key, value.to_value(alloc)?))?;
+    }
+    Ok(pairs)
+}
+
+impl<T: ToCbor> ToCbor for Map<Bytes, T> {
+    ghost tree = { λ m. byte_map_tree T.tree m };
+
+    ghost fits = { λ m. All (λ e. T.fits e.1) (fin.entries m) };
+
+    fn to_value(&self, alloc: Global) -> Result<Value, OutOfMemory> {
+        let entries = in_order(alloc, self)?;
+        Ok(Value::Map(write_entries(alloc, &entries)?))
+    }
+}

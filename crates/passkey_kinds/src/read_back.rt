@@ -1,0 +1,129 @@
+//! What is written is read back.
+ghost use Rattle.std.specs.Prelude.{◌≡◌, None};
+ghost use Rattle.passkey_cbor.specs.Item.{null};
+ghost use Rattle.passkey_kinds.specs.ReadBack.{IsReadBack};
+
+use crate::from_cbor::FromCbor;
+use crate::to_cbor::ToCbor;
+use passkey_bytes::{Bytes, List, Map, Text};
+use passkey_cose::iana::Algorithm;
+use passkey_webauthn as webauthn;
+use passkey_webauthn::{
+    AuthenticatorTransport, PublicKeyCredentialDescriptor, PublicKeyCredentialParameters,
+    PublicKeyCredentialType,
+};
+
+/// A type whose values are read back from what they are written as, and which null is no value of.
+pub trait ReadBack: FromCbor + ToCbor {
+    /// The value whose view is read of what a value is written as.
+    ghost normal: { Self → Self };
+
+    /// What is written of a value is read as its normal form.
+    fn read_back()
+        ensures back { IsReadBack Self.kind Self.tree Self.fits (λ x. Self.view (normal x)) }
+        ensures not_null { Self.kind null ≡ None };
+}
+
+impl ReadBack for bool {
+    ghost normal = { λ b. b };
+
+    #[tactic(auto, using(crate::proofs::LeafBack::truth_back))]
+    fn read_back() {}
+}
+
+impl ReadBack for u8 {
+    ghost normal = { λ n. n };
+
+    #[tactic(auto, using(crate::proofs::LeafBack::byte_back))]
+    fn read_back() {}
+}
+
+impl ReadBack for u32 {
+    ghost normal = { λ n. n };
+
+    #[tactic(auto, using(crate::proofs::LeafBack::word_back))]
+    fn read_back() {}
+}
+
+impl ReadBack for Text {
+    ghost normal = { λ t. t };
+
+    #[tactic(auto, using(crate::proofs::LeafBack::text_back))]
+    fn read_back() {}
+}
+
+impl ReadBack for Bytes {
+    ghost normal = { λ b. b };
+
+    #[tactic(auto, using(crate::proofs::LeafBack::bytes_back))]
+    fn read_back() {}
+}
+
+impl ReadBack for Algorithm {
+    ghost normal = { λ a. a };
+
+    #[tactic(auto, using(crate::proofs::LeafBack::algorithm_back))]
+    fn read_back() {}
+}
+
+impl ReadBack for PublicKeyCredentialType {
+    ghost normal = { λ t. t };
+
+    #[tactic(auto, using(crate::proofs::LeafBack::credential_type_back))]
+    fn read_back() {}
+}
+
+impl ReadBack for AuthenticatorTransport {
+    ghost normal = { λ t. t };
+
+    #[tactic(auto, using(crate::proofs::LeafBack::transport_back))]
+    fn read_back() {}
+}
+
+impl<T: ReadBack> ReadBack for List<T> {
+    ghost use Rattle.std.specs.Prelude.{map};
+
+    ghost normal = { λ xs. map T.normal xs };
+
+    fn read_back() {
+        T::read_back();
+    }
+}
+
+impl<T: ReadBack> ReadBack for Map<Bytes, T> {
+    ghost use Rattle.passkey_kinds.specs.MapKind.{map_values};
+
+    ghost normal = { λ m. map_values T.normal m };
+
+    fn read_back() {
+        T::read_back();
+    }
+}
+
+impl ReadBack for PublicKeyCredentialDescriptor {
+    ghost normal = { λ d. d };
+
+    #[tactic(auto, using(crate::proofs::RecordBack::descriptor_back))]
+    fn read_back() {}
+}
+
+impl ReadBack for PublicKeyCredentialParameters {
+    ghost normal = { λ p. p };
+
+    #[tactic(auto, using(crate::proofs::RecordBack::parameters_back))]
+    fn read_back() {}
+}
+
+impl ReadBack for webauthn::PublicKeyCredentialUserEntity {
+    ghost normal = { λ u. u };
+
+    #[tactic(auto, using(crate::proofs::RecordBack::user_back))]
+    fn read_back() {}
+}
+
+impl ReadBack for [u8; 32] {
+    ghost normal = { λ b. b };
+
+    #[tactic(auto, using(crate::proofs::SizedBack::numbers_back))]
+    fn read_back() {}
+}

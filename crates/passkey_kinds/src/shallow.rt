@@ -1,0 +1,107 @@
+//! How many levels values are written with.
+ghost use Rattle.std.specs.Prelude.{ℕ, suc, ◌≤◌};
+ghost use Rattle.passkey_cbor.specs.Depth.{depth};
+
+use crate::to_cbor::ToCbor;
+use passkey_bytes::{Bytes, List, Text};
+use passkey_cose::iana::Algorithm;
+use passkey_webauthn as webauthn;
+use passkey_webauthn::{
+    AuthenticatorTransport, PublicKeyCredentialDescriptor, PublicKeyCredentialParameters,
+    PublicKeyCredentialType,
+};
+
+/// A type whose values are all written with few levels of arrays and maps.
+pub trait Shallow: ToCbor {
+    /// The most levels that a value is written with.
+    ghost levels: { ℕ };
+
+    /// No value is written with more levels.
+    fn shallow()
+        ensures { (x : Self) → depth (Self.tree x) ≤ levels };
+}
+
+impl Shallow for bool {
+    ghost levels = { 0 };
+
+    fn shallow() {}
+}
+
+impl Shallow for u8 {
+    ghost levels = { 0 };
+
+    fn shallow() {}
+}
+
+impl Shallow for u32 {
+    ghost levels = { 0 };
+
+    fn shallow() {}
+}
+
+impl Shallow for Text {
+    ghost levels = { 0 };
+
+    fn shallow() {}
+}
+
+impl Shallow for Bytes {
+    ghost levels = { 0 };
+
+    fn shallow() {}
+}
+
+impl Shallow for Algorithm {
+    ghost levels = { 0 };
+
+    fn shallow() {}
+}
+
+impl Shallow for PublicKeyCredentialType {
+    ghost levels = { 0 };
+
+    fn shallow() {}
+}
+
+impl Shallow for AuthenticatorTransport {
+    ghost levels = { 0 };
+
+    fn shallow() {}
+}
+
+impl<T: Shallow> Shallow for List<T> {
+    ghost levels = { suc T.levels };
+
+    #[tactic(auto, using(crate::proofs::Levels::list_within))]
+    fn shallow() {
+        T::shallow();
+    }
+}
+
+impl Shallow for PublicKeyCredentialDescriptor {
+    ghost levels = { 2 };
+
+    #[tactic(auto, using(crate::proofs::RecordLevels::descriptor_levels))]
+    fn shallow() {}
+}
+
+impl Shallow for PublicKeyCredentialParameters {
+    ghost levels = { 1 };
+
+    #[tactic(auto, using(crate::proofs::RecordLevels::parameters_levels))]
+    fn shallow() {}
+}
+
+impl Shallow for webauthn::PublicKeyCredentialUserEntity {
+    ghost levels = { 1 };
+
+    #[tactic(auto, using(crate::proofs::RecordLevels::user_levels))]
+    fn shallow() {}
+}
+
+impl Shallow for [u8; 32] {
+    ghost levels = { 1 };
+
+    #[tactic(auto, using(crate::proofs::RecordLevels::numbers_levels))]
+    fn shallow() {}
+}

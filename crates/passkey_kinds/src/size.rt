@@ -1,0 +1,34 @@
+//! Sizes, read of items. They have more values than CBOR can spell, so that none are written here.
+ghost use Rattle.std.specs.Prelude.{◌≡◌, ℕ, false, option_map};
+ghost use Rattle.std.specs.Int.NonZero.{non_zero_u128_get};
+ghost use Rattle.passkey_cbor.specs.Item.{number};
+ghost use Rattle.passkey_kinds.specs.Size.{size};
+
+use crate::from_cbor::FromCbor;
+use crate::refusal::Refusal;
+use passkey_cbor::{Integer, Value};
+use std::alloc::Global;
+use std::num::NonZeroU128;
+
+fn positive(n: Integer) -> Option<NonZeroU128>
+    ensures { option_map non_zero_u128_get result ≡ size (number n) }
+{
+    NonZeroU128::new(u128::try_from(n.get()).ok()?)
+}
+
+impl FromCbor for NonZeroU128 {
+    ghost Meaning = { ℕ };
+
+    ghost view = { non_zero_u128_get };
+
+    ghost kind = { size };
+
+    ghost takes = { false };
+
+    fn from_value(_alloc: Global, value: &Value) -> Result<NonZeroU128, Refusal> {
+        match value {
+            Value::Integer(n) => positive(*n).ok_or(Refusal::Refused),
+            _ => Err(Refusal::Refused),
+        }
+    }
+}

@@ -1,0 +1,38 @@
+//! Why no message was written.
+ghost use Rattle.std.specs.Prelude.{◌≡◌, Some};
+ghost use Rattle.passkey_kinds.specs.Names.{write_fault_name};
+ghost use Rattle.passkey_kinds.specs.declared.write_fault.WriteFault.TheVariants.{OutOfMemory as NoMemory};
+
+use passkey_cbor::OutOfMemory;
+use std::error::Error;
+use std::fmt;
+
+/// Why no message was written.
+#[derive(Clone, Copy, Debug, PartialEq, Eq)]
+pub enum WriteFault {
+    /// A growth was refused.
+    OutOfMemory,
+    /// CBOR can't spell the number: it is 2^64 or more (RFC 8949, section 3.1).
+    NumberTooLarge,
+}
+
+impl fmt::Display for WriteFault {
+    ghost output = { λ e. Some (write_fault_name e) };
+
+    fn fmt<W: fmt::Write>(&self, f: &mut fmt::Formatter<W>) -> fmt::Result {
+        f.write_str(match self {
+            WriteFault::OutOfMemory => "OutOfMemory",
+            WriteFault::NumberTooLarge => "NumberTooLarge",
+        })
+    }
+}
+
+impl Error for WriteFault {}
+
+impl From<OutOfMemory> for WriteFault {
+    ghost from_gives = { λ _ e. e ≡ NoMemory };
+
+    fn from(_error: OutOfMemory) -> WriteFault {
+        WriteFault::OutOfMemory
+    }
+}
