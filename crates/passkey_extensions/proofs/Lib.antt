@@ -1,0 +1,4 @@
+pub mod ExtensionBack
+pub mod ExtensionLevels
+pub mod Keys
+pub mod HmacInputLaws

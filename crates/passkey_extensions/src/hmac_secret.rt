@@ -1,0 +1,199 @@
+//! Inputs of the extension hmac-secret.
+ghost use Rattle.std.specs.Prelude.{◌≡◌, ◌<◌, ◌⊎◌, length, true, nat_le, IfOk, IfErr, OnErr, OnOk};
+ghost use Rattle.passkey_cbor.specs.Depth.{depth};
+ghost use Rattle.passkey_cbor.specs.Grows.{Grows};
+ghost use Rattle.passkey_cbor.specs.View.{item_of};
+ghost use Rattle.passkey_cbor.specs.Writable.{IsWritable};
+ghost use Rattle.passkey_cbor.specs.Written.{written};
+ghost use Rattle.passkey_extensions.specs.HmacInput.{HmacInputParts, HmacInputValues, hmac_input_table, hmac_input_values, hmac_input_of, hmac_input, read_hmac_input};
+ghost use Rattle.passkey_extensions.specs.HmacInputHeld.{hmac_input_held};
+ghost use Rattle.passkey_extensions.specs.HmacInputView.{hmac_input_parts};
+ghost use Rattle.passkey_extensions.specs.ExtensionTrees.{HmacInputFits, hmac_input_tree, is_hmac_input_coherent};
+ghost use Rattle.passkey_kinds.specs.Message.{ReadsMessage};
+ghost use Rattle.passkey_kinds.specs.Reading.{MayGrowAt, Reads};
+ghost use Rattle.passkey_kinds.specs.declared.write_fault.WriteFault.TheVariants.{OutOfMemory as NoMemory};
+
+use passkey_bytes::Bytes;
+use passkey_cbor::{OutOfMemory, Value};
+use passkey_kinds::{
+    Fault, FromCbor, ReadBack, Refusal, Row, Slots, ToCbor, WriteFault, Written, read_into,
+    read_message, read_nested, read_record, write_message,
+};
+use std::alloc::Global;
+
+/// The salts of which the extension hmac-secret is to make secrets (CTAP 2.1, section 12.5).
+#[derive(Debug, Drop, PartialEq)]
+pub struct HmacGetSecretInput {
+    /// The platform's public key, by which both sides agree on a secret of their own.
+    pub key_agreement: Value,
+    /// One salt or two, encrypted.
+    pub salt_enc: Bytes,
+    /// The authentication code of the encrypted salts.
+    pub salt_auth: Bytes,
+    /// Which protocol of PIN and user verification both sides agreed by.
+    pub pin_uv_auth_protocol: Option<u8>,
+}
+
+impl HmacGetSecretInput {
+    /// An equal value. `OutOfMemory` where a growth was refused, which cannot be where the byte
+    /// strings are empty and the key takes no memory.
+    pub fn try_clone(&self, alloc: Global) -> Result<HmacGetSecretInput, OutOfMemory>
+        ensures same { IfOk result (λ copy. hmac_input_parts copy ≡ hmac_input_parts self.now) }
+        ensures grows { OnErr result (Grows (item_of self.now.key_agreement) ⊎ (0 < length self.now.salt_enc) ⊎ (0 < length self.now.salt_auth)) }
+    {
+        Ok(HmacGetSecretInput {
+            key_agreement: self.key_agreement.try_clone(alloc)?,
+            salt_enc: self.salt_enc.try_clone(alloc)?,
+            salt_auth: self.salt_auth.try_clone(alloc)?,
+            pin_uv_auth_protocol: self.pin_uv_auth_protocol,
+        })
+    }
+
+    /// The inputs that begin the bytes, and how many bytes they have. `DecodeFailed` exactly where no
+    /// well-formed item of at most 256 levels begins them; else the fault that `from_value` tells of
+    /// the item; `OutOfMemory` where a growth was refused.
+    pub fn from_slice(alloc: Global, bytes: &[u8]) -> Result<(HmacGetSecretInput, usize), Fault>
+        ensures { ReadsMessage hmac_input_parts read_hmac_input bytes.now result }
+    {
+        read_message::<HmacInputSlots>(alloc, bytes)
+    }
+
+    /// The inputs that the item is. Else `NotAMap`, or the first fault of its members in their order
+    /// (`BadKey`, `Repeated`, `Refused`), or the first required one that lacks (`Missing`);
+    /// `OutOfMemory` where a growth was refused. Unknown members are passed over.
+    pub fn from_value(alloc: Global, value: &Value) -> Result<HmacGetSecretInput, Fault>
+        ensures { Reads hmac_input_parts (MayGrowAt hmac_input_table (item_of value.now)) (read_hmac_input (item_of value.now)) result }
+    {
+        read_record::<HmacInputSlots>(alloc, value)
+    }
+
+    /// The inputs' bytes: members by their numbers in the table's order, the protocol where it is
+    /// there. `OutOfMemory` where a growth was refused.
+    pub fn to_vec(&self, alloc: Global) -> Result<Vec<u8>, WriteFault>
+        ensures written { IfOk result (λ bytes. bytes.items ≡ written (hmac_input_tree (hmac_input_parts self.now))) }
+        ensures writable { OnOk result (IsWritable (hmac_input_tree (hmac_input_parts self.now))) }
+        ensures fits { OnOk result (HmacInputFits (hmac_input_parts self.now)) }
+        ensures memory { IfErr result (λ e. e ≡ NoMemory) }
+    {
+        write_message(alloc, self)
+    }
+
+    /// Whether what `to_vec` writes is read back: it has at most 256 levels. It takes no memory.
+    pub fn is_coherent(&self) -> bool
+        ensures { result ≡ is_hmac_input_coherent (hmac_input_parts self.now) }
+    {
+        self.is_within(256)
+    }
+
+    /// Whether they are written with at most so many levels.
+    #[tactic(auto, using(crate::proofs::ExtensionLevels::input_within))]
+    pub(crate) fn is_within(&self, levels: usize) -> bool
+        ensures { result ≡ nat_le (depth (hmac_input_tree (hmac_input_parts self.now))) levels }
+    {
+        self.key_agreement.depth() < levels
+    }
+}
+
+#[derive(Drop)]
+pub(crate) struct HmacInputSlots {
+    key_agreement: Option<Value>,
+    salt_enc: Option<Bytes>,
+    salt_auth: Option<Bytes>,
+    pin_uv_auth_protocol: Option<Option<u8>>,
+}
+
+impl Slots for HmacInputSlots {
+    type Of = HmacGetSecretInput;
+
+    ghost Held = { HmacInputValues };
+
+    ghost held = { hmac_input_held };
+
+    ghost Meaning = { HmacInputParts };
+
+    ghost view = { hmac_input_parts };
+
+    ghost table = { hmac_input_table };
+
+    ghost values = { hmac_input_values };
+
+    ghost build = { hmac_input_of };
+
+    fn is_numbered() -> bool {
+        true
+    }
+
+    fn rows() -> &'static [Row] {
+        &[
+            Row::Required(1, "keyAgreement"),
+            Row::Required(2, "saltEnc"),
+            Row::Required(3, "saltAuth"),
+            Row::Optional(4, "pinUvAuthProtocol"),
+        ]
+    }
+
+    fn empty() -> HmacInputSlots {
+        HmacInputSlots {
+            key_agreement: None,
+            salt_enc: None,
+            salt_auth: None,
+            pin_uv_auth_protocol: None,
+        }
+    }
+
+    fn put(&mut self, alloc: Global, number: u8, value: &Value) -> Result<(), Refusal> {
+        match number {
+            1 => read_into(&mut self.key_agreement, alloc, value),
+            2 => read_into(&mut self.salt_enc, alloc, value),
+            3 => read_into(&mut self.salt_auth, alloc, value),
+            4 => read_into(&mut self.pin_uv_auth_protocol, alloc, value),
+            _ => Err(Refusal::Refused),
+        }
+    }
+
+    #[tactic(auto, using(passkey_kinds::proofs::Lists::option_same))]
+    fn finish(self) -> Option<HmacGetSecretInput> {
+        Some(HmacGetSecretInput {
+            key_agreement: self.key_agreement?,
+            salt_enc: self.salt_enc?,
+            salt_auth: self.salt_auth?,
+            pin_uv_auth_protocol: self.pin_uv_auth_protocol.unwrap_or(None),
+        })
+    }
+}
+
+impl FromCbor for HmacGetSecretInput {
+    ghost Meaning = { HmacInputParts };
+
+    ghost view = { hmac_input_parts };
+
+    ghost kind = { hmac_input };
+
+    ghost takes = { true };
+
+    fn from_value(alloc: Global, value: &Value) -> Result<HmacGetSecretInput, Refusal> {
+        read_nested::<HmacInputSlots>(alloc, value)
+    }
+}
+
+impl ToCbor for HmacGetSecretInput {
+    ghost tree = { λ h. hmac_input_tree (hmac_input_parts h) };
+
+    ghost fits = { λ h. HmacInputFits (hmac_input_parts h) };
+
+    fn to_value(&self, alloc: Global) -> Result<Value, OutOfMemory> {
+        let mut members = Written::new(alloc);
+        members.put(alloc, 1_u8, &self.key_agreement)?;
+        members.put(alloc, 2_u8, &self.salt_enc)?;
+        members.put(alloc, 3_u8, &self.salt_auth)?;
+        members.put_some(alloc, 4_u8, &self.pin_uv_auth_protocol)?;
+        Ok(members.into_value())
+    }
+}
+
+impl ReadBack for HmacGetSecretInput {
+    ghost normal = { λ h. h };
+
+    #[tactic(auto, using(crate::proofs::ExtensionBack::hmac_input_back))]
+    fn read_back() {}
+}

@@ -1,0 +1,17 @@
+//! Laws of the extensions' records, each the contract of a function without effect.
+ghost use Rattle.passkey_extensions.specs.ExtensionTrees.{hmac_input_tree, HmacInputFits, is_hmac_input_coherent};
+ghost use Rattle.passkey_extensions.specs.HmacInput.{read_hmac_input};
+ghost use Rattle.passkey_kinds.specs.MessageLaws.{WrittenIsReadBack, ReadIsCoherent};
+
+/// What is written of coherent inputs of the extension hmac-secret, whatever bytes follow, is read
+/// back as the inputs.
+pub fn written_hmac_input_is_read_back()
+    ensures { WrittenIsReadBack read_hmac_input hmac_input_tree HmacInputFits is_hmac_input_coherent (λ h. h) }
+{
+    passkey_cbor::laws::written_is_front();
+}
+
+/// Inputs of the extension hmac-secret that were read of bytes are coherent.
+pub fn read_hmac_input_is_coherent()
+    ensures { ReadIsCoherent read_hmac_input is_hmac_input_coherent }
+{}

@@ -1,0 +1,129 @@
+//! What extensions answer unsigned where a credential is made.
+ghost use Rattle.std.specs.Prelude.{◌≡◌, true, is_some, None};
+ghost use Rattle.passkey_core.specs.SignedOutputs.{where_some};
+ghost use Rattle.passkey_extensions.specs.MakeUnsigned.{UnsignedValues, unsigned_table, unsigned_values, unsigned_of, unsigned};
+ghost use Rattle.passkey_extensions.specs.MakeUnsignedHeld.{unsigned_held};
+ghost use Rattle.passkey_extensions.specs.declared.make_credential.unsigned.UnsignedExtensionOutputs.{UnsignedExtensionOutputs as UnsignedOutputs};
+ghost use Rattle.passkey_extensions.specs.ExtensionTrees.{MadeFits, made_tree};
+
+use crate::AuthenticatorPrfMakeOutputs;
+use passkey_cbor::{OutOfMemory, Value};
+use passkey_kinds::{
+    FromCbor, ReadBack, Refusal, Row, Shallow, Slots, ToCbor, Written, read_into, read_nested,
+};
+use std::alloc::Global;
+
+/// What extensions answer beside the authenticator data of a credential that was made (WebAuthn
+/// Level 3, section 9).
+#[derive(Debug, Drop)]
+pub struct UnsignedExtensionOutputs {
+    /// What `prf` answers.
+    pub prf: Option<AuthenticatorPrfMakeOutputs>,
+}
+
+impl Default for UnsignedExtensionOutputs {
+    ghost is_default = { λ outputs. outputs.prf ≡ None };
+
+    /// No extension answers.
+    fn default() -> UnsignedExtensionOutputs {
+        UnsignedExtensionOutputs { prf: None }
+    }
+}
+
+impl UnsignedExtensionOutputs {
+    /// The outputs themselves, exactly where one is there.
+    pub fn zip_contents(self) -> Option<UnsignedExtensionOutputs>
+        ensures { result ≡ where_some (is_some self.prf) self }
+    {
+        if self.prf.is_some() { Some(self) } else { None }
+    }
+}
+
+#[derive(Drop)]
+struct UnsignedSlots {
+    prf: Option<Option<AuthenticatorPrfMakeOutputs>>,
+}
+
+impl Slots for UnsignedSlots {
+    type Of = UnsignedExtensionOutputs;
+
+    ghost Held = { UnsignedValues };
+
+    ghost held = { unsigned_held };
+
+    ghost Meaning = { UnsignedOutputs };
+
+    ghost view = { λ outputs. outputs };
+
+    ghost table = { unsigned_table };
+
+    ghost values = { unsigned_values };
+
+    ghost build = { unsigned_of };
+
+    fn is_numbered() -> bool {
+        false
+    }
+
+    fn rows() -> &'static [Row] {
+        &[Row::Optional(1, "prf")]
+    }
+
+    fn empty() -> UnsignedSlots {
+        UnsignedSlots { prf: None }
+    }
+
+    fn put(&mut self, alloc: Global, number: u8, value: &Value) -> Result<(), Refusal> {
+        match number {
+            1 => read_into(&mut self.prf, alloc, value),
+            _ => Err(Refusal::Refused),
+        }
+    }
+
+    #[tactic(auto, using(passkey_kinds::proofs::Lists::option_same))]
+    fn finish(self) -> Option<UnsignedExtensionOutputs> {
+        Some(UnsignedExtensionOutputs {
+            prf: self.prf.unwrap_or(None),
+        })
+    }
+}
+
+impl FromCbor for UnsignedExtensionOutputs {
+    ghost Meaning = { UnsignedOutputs };
+
+    ghost view = { λ outputs. outputs };
+
+    ghost kind = { unsigned };
+
+    ghost takes = { true };
+
+    fn from_value(alloc: Global, value: &Value) -> Result<UnsignedExtensionOutputs, Refusal> {
+        read_nested::<UnsignedSlots>(alloc, value)
+    }
+}
+
+impl ToCbor for UnsignedExtensionOutputs {
+    ghost tree = { made_tree };
+
+    ghost fits = { MadeFits };
+
+    fn to_value(&self, alloc: Global) -> Result<Value, OutOfMemory> {
+        let mut members = Written::new(alloc);
+        members.put(alloc, "prf", &self.prf)?;
+        Ok(members.into_value())
+    }
+}
+
+impl ReadBack for UnsignedExtensionOutputs {
+    ghost normal = { λ o. o };
+
+    #[tactic(auto, using(crate::proofs::ExtensionBack::made_back))]
+    fn read_back() {}
+}
+
+impl Shallow for UnsignedExtensionOutputs {
+    ghost levels = { 4 };
+
+    #[tactic(auto, using(crate::proofs::ExtensionLevels::made_levels))]
+    fn shallow() {}
+}

@@ -1,0 +1,164 @@
+//! Inputs of the extension prf.
+ghost use Rattle.std.specs.Prelude.{◌≡◌, true, IfOk, OnErr};
+ghost use Rattle.std.specs.FinMap as fin;
+ghost use Rattle.std.specs.Option.{IsSomeAnd};
+ghost use Rattle.passkey_extensions.specs.PrfInputs.{PrfInputsValues, prf_inputs_table, prf_inputs_values, prf_inputs_of, prf_inputs};
+ghost use Rattle.passkey_extensions.specs.PrfInputsHeld.{prf_inputs_held};
+ghost use Rattle.passkey_extensions.specs.declared.prf_inputs.AuthenticatorPrfInputs.{AuthenticatorPrfInputs as PrfInputs};
+ghost use Rattle.passkey_extensions.specs.ExtensionTrees.{PrfInputsFit, prf_inputs_tree};
+
+use crate::prf_values::AuthenticatorPrfValues;
+use passkey_bytes::{Bytes, Map};
+use passkey_cbor::{OutOfMemory, Value};
+use passkey_kinds::{
+    FromCbor, ReadBack, Refusal, Row, Shallow, Slots, ToCbor, Written, read_into, read_nested,
+};
+use std::alloc::Global;
+
+/// Of which salts the extension prf is to make secrets (WebAuthn Level 3, section 10.1.4).
+#[derive(Debug, Drop, PartialEq, Eq)]
+pub struct AuthenticatorPrfInputs {
+    /// The salts for a credential that has none of its own.
+    pub eval: Option<AuthenticatorPrfValues>,
+    /// The salts for each credential, by its id.
+    pub eval_by_credential: Option<Map<Bytes, AuthenticatorPrfValues>>,
+}
+
+fn copied(values: &Option<AuthenticatorPrfValues>) -> Option<AuthenticatorPrfValues>
+    ensures { result ≡ values.now }
+{
+    match values {
+        Some(values) => Some(AuthenticatorPrfValues {
+            first: values.first,
+            second: values.second,
+        }),
+        None => None,
+    }
+}
+
+fn copied_map(
+    alloc: Global,
+    salts: &Map<Bytes, AuthenticatorPrfValues>,
+) -> Result<Map<Bytes, AuthenticatorPrfValues>, OutOfMemory>
+    ensures same { IfOk result (λ copy. copy ≡ salts.now) }
+    ensures grows { OnErr result (¬ (salts.now ≡ fin.empty)) }
+{
+    salts.try_clone(alloc)
+}
+
+impl AuthenticatorPrfInputs {
+    /// An equal value. `OutOfMemory` where a growth was refused, which cannot be where no
+    /// credential has salts of its own.
+    pub fn try_clone(&self, alloc: Global) -> Result<AuthenticatorPrfInputs, OutOfMemory>
+        ensures same { IfOk result (λ copy. copy ≡ self.now) }
+        ensures grows { OnErr result (IsSomeAnd self.now.eval_by_credential (λ salts. ¬ (salts ≡ fin.empty))) }
+    {
+        let eval_by_credential = match &self.eval_by_credential {
+            Some(salts) => Some(copied_map(alloc, salts)?),
+            None => None,
+        };
+        Ok(AuthenticatorPrfInputs {
+            eval: copied(&self.eval),
+            eval_by_credential,
+        })
+    }
+}
+
+#[derive(Drop)]
+struct PrfInputsSlots {
+    eval: Option<Option<AuthenticatorPrfValues>>,
+    eval_by_credential: Option<Option<Map<Bytes, AuthenticatorPrfValues>>>,
+}
+
+impl Slots for PrfInputsSlots {
+    type Of = AuthenticatorPrfInputs;
+
+    ghost Held = { PrfInputsValues };
+
+    ghost held = { prf_inputs_held };
+
+    ghost Meaning = { PrfInputs };
+
+    ghost view = { λ inputs. inputs };
+
+    ghost table = { prf_inputs_table };
+
+    ghost values = { prf_inputs_values };
+
+    ghost build = { prf_inputs_of };
+
+    fn is_numbered() -> bool {
+        false
+    }
+
+    fn rows() -> &'static [Row] {
+        &[
+            Row::Optional(1, "eval"),
+            Row::Optional(2, "eval_by_credential"),
+        ]
+    }
+
+    fn empty() -> PrfInputsSlots {
+        PrfInputsSlots {
+            eval: None,
+            eval_by_credential: None,
+        }
+    }
+
+    fn put(&mut self, alloc: Global, number: u8, value: &Value) -> Result<(), Refusal> {
+        match number {
+            1 => read_into(&mut self.eval, alloc, value),
+            2 => read_into(&mut self.eval_by_credential, alloc, value),
+            _ => Err(Refusal::Refused),
+        }
+    }
+
+    #[tactic(auto, using(passkey_kinds::proofs::Maps::map_values_same))]
+    fn finish(self) -> Option<AuthenticatorPrfInputs> {
+        Some(AuthenticatorPrfInputs {
+            eval: self.eval.unwrap_or(None),
+            eval_by_credential: self.eval_by_credential.unwrap_or(None),
+        })
+    }
+}
+
+impl FromCbor for AuthenticatorPrfInputs {
+    ghost Meaning = { PrfInputs };
+
+    ghost view = { λ inputs. inputs };
+
+    ghost kind = { prf_inputs };
+
+    ghost takes = { true };
+
+    fn from_value(alloc: Global, value: &Value) -> Result<AuthenticatorPrfInputs, Refusal> {
+        read_nested::<PrfInputsSlots>(alloc, value)
+    }
+}
+
+impl ToCbor for AuthenticatorPrfInputs {
+    ghost tree = { prf_inputs_tree };
+
+    ghost fits = { PrfInputsFit };
+
+    fn to_value(&self, alloc: Global) -> Result<Value, OutOfMemory> {
+        let mut members = Written::new(alloc);
+        members.put_some(alloc, "eval", &self.eval)?;
+        members.put_some(alloc, "eval_by_credential", &self.eval_by_credential)?;
+        Ok(members.into_value())
+    }
+}
+
+impl ReadBack for AuthenticatorPrfInputs {
+    ghost normal = { λ i. i };
+
+    #[tactic(auto, using(crate::proofs::ExtensionBack::prf_inputs_back))]
+    fn read_back() {}
+}
+
+impl Shallow for AuthenticatorPrfInputs {
+    ghost levels = { 4 };
+
+    #[tactic(auto, using(crate::proofs::ExtensionLevels::prf_inputs_levels))]
+    fn shallow() {}
+}

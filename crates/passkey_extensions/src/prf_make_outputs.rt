@@ -1,0 +1,141 @@
+//! What the extension prf answers where a credential is made.
+ghost use Rattle.std.specs.Prelude.{true, ◌≡◌, is_some, IfOk, OnErr};
+ghost use Rattle.passkey_extensions.specs.PrfMakeOutputs.{PrfMakeValues, prf_make_table, prf_make_values, prf_make_of, prf_make};
+ghost use Rattle.passkey_extensions.specs.PrfMakeOutputsHeld.{prf_make_held};
+ghost use Rattle.passkey_extensions.specs.declared.prf_make_outputs.AuthenticatorPrfMakeOutputs.{AuthenticatorPrfMakeOutputs as PrfMakeOutputs};
+ghost use Rattle.passkey_extensions.specs.ExtensionTrees.{PrfMakeFits, prf_make_tree};
+ghost use Rattle.passkey_extensions.specs.PrfWebauthn.{webauthn_made};
+
+use crate::prf_values::AuthenticatorPrfValues;
+use passkey_cbor::{OutOfMemory, Value};
+use passkey_kinds::{
+    FromCbor, ReadBack, Refusal, Row, Shallow, Slots, ToCbor, Written, read_into, read_nested,
+};
+use passkey_webauthn::AuthenticationExtensionsPrfOutputs;
+use std::alloc::Global;
+
+/// What the extension prf answers where a credential is made (WebAuthn Level 3, section 10.1.4).
+#[derive(Clone, Debug, Drop)]
+pub struct AuthenticatorPrfMakeOutputs {
+    /// Whether secrets are derived for the credential.
+    pub enabled: bool,
+    /// What was made of the salts.
+    pub results: Option<AuthenticatorPrfValues>,
+}
+
+impl AuthenticatorPrfMakeOutputs {
+    /// The outputs as a relying party sees them, with `enabled`. `OutOfMemory` where a growth was
+    /// refused, which cannot be where there are no results.
+    pub fn to_webauthn(
+        &self,
+        alloc: Global,
+    ) -> Result<AuthenticationExtensionsPrfOutputs, OutOfMemory>
+        ensures same { IfOk result (λ outputs. outputs ≡ webauthn_made self.now) }
+        ensures grows { OnErr result (is_some self.now.results ≡ true) }
+    {
+        let results = match &self.results {
+            Some(values) => Some(values.to_webauthn(alloc)?),
+            None => None,
+        };
+        Ok(AuthenticationExtensionsPrfOutputs {
+            enabled: Some(self.enabled),
+            results,
+        })
+    }
+}
+
+#[derive(Drop)]
+struct PrfMakeSlots {
+    enabled: Option<bool>,
+    results: Option<Option<AuthenticatorPrfValues>>,
+}
+
+impl Slots for PrfMakeSlots {
+    type Of = AuthenticatorPrfMakeOutputs;
+
+    ghost Held = { PrfMakeValues };
+
+    ghost held = { prf_make_held };
+
+    ghost Meaning = { PrfMakeOutputs };
+
+    ghost view = { λ outputs. outputs };
+
+    ghost table = { prf_make_table };
+
+    ghost values = { prf_make_values };
+
+    ghost build = { prf_make_of };
+
+    fn is_numbered() -> bool {
+        false
+    }
+
+    fn rows() -> &'static [Row] {
+        &[Row::Required(1, "enabled"), Row::Optional(2, "results")]
+    }
+
+    fn empty() -> PrfMakeSlots {
+        PrfMakeSlots {
+            enabled: None,
+            results: None,
+        }
+    }
+
+    fn put(&mut self, alloc: Global, number: u8, value: &Value) -> Result<(), Refusal> {
+        match number {
+            1 => read_into(&mut self.enabled, alloc, value),
+            2 => read_into(&mut self.results, alloc, value),
+            _ => Err(Refusal::Refused),
+        }
+    }
+
+    #[tactic(auto, using(passkey_kinds::proofs::Lists::option_same))]
+    fn finish(self) -> Option<AuthenticatorPrfMakeOutputs> {
+        Some(AuthenticatorPrfMakeOutputs {
+            enabled: self.enabled?,
+            results: self.results.unwrap_or(None),
+        })
+    }
+}
+
+impl FromCbor for AuthenticatorPrfMakeOutputs {
+    ghost Meaning = { PrfMakeOutputs };
+
+    ghost view = { λ outputs. outputs };
+
+    ghost kind = { prf_make };
+
+    ghost takes = { true };
+
+    fn from_value(alloc: Global, value: &Value) -> Result<AuthenticatorPrfMakeOutputs, Refusal> {
+        read_nested::<PrfMakeSlots>(alloc, value)
+    }
+}
+
+impl ToCbor for AuthenticatorPrfMakeOutputs {
+    ghost tree = { prf_make_tree };
+
+    ghost fits = { PrfMakeFits };
+
+    fn to_value(&self, alloc: Global) -> Result<Value, OutOfMemory> {
+        let mut members = Written::new(alloc);
+        members.put(alloc, "enabled", &self.enabled)?;
+        members.put_some(alloc, "results", &self.results)?;
+        Ok(members.into_value())
+    }
+}
+
+impl ReadBack for AuthenticatorPrfMakeOutputs {
+    ghost normal = { λ o. o };
+
+    #[tactic(auto, using(crate::proofs::ExtensionBack::prf_make_back))]
+    fn read_back() {}
+}
+
+impl Shallow for AuthenticatorPrfMakeOutputs {
+    ghost levels = { 3 };
+
+    #[tactic(auto, using(crate::proofs::ExtensionLevels::prf_make_levels))]
+    fn shallow() {}
+}

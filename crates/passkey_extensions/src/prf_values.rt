@@ -1,0 +1,140 @@
+//! Salts and outputs of the extension prf.
+ghost use Rattle.std.specs.Prelude.{true, ◌≡◌, IfOk};
+ghost use Rattle.passkey_extensions.specs.PrfValues.{PrfSlotValues, prf_values_table, prf_values_values, prf_values_of, prf_values};
+ghost use Rattle.passkey_extensions.specs.PrfValuesHeld.{prf_values_held};
+ghost use Rattle.passkey_extensions.specs.declared.prf_values.AuthenticatorPrfValues.{AuthenticatorPrfValues as PrfValues};
+ghost use Rattle.passkey_extensions.specs.ExtensionTrees.{PrfValuesFit, prf_values_tree};
+ghost use Rattle.passkey_extensions.specs.PrfWebauthn.{webauthn_values};
+
+use passkey_bytes::Bytes;
+use passkey_cbor::{OutOfMemory, Value};
+use passkey_kinds::{
+    FromCbor, ReadBack, Refusal, Row, Shallow, Slots, ToCbor, Written, read_into, read_nested,
+};
+use passkey_webauthn::AuthenticationExtensionsPrfValues;
+use std::alloc::Global;
+
+/// One or two salts of the extension prf, or what it makes of them (WebAuthn Level 3, section
+/// 10.1.4).
+#[derive(Clone, Debug, Drop, PartialEq, Eq)]
+pub struct AuthenticatorPrfValues {
+    /// The first salt, or what is made of it.
+    pub first: [u8; 32],
+    /// The second salt, or what is made of it.
+    pub second: Option<[u8; 32]>,
+}
+
+impl AuthenticatorPrfValues {
+    /// The values as a relying party sees them. `OutOfMemory` where a growth was refused.
+    pub fn to_webauthn(
+        &self,
+        alloc: Global,
+    ) -> Result<AuthenticationExtensionsPrfValues, OutOfMemory>
+        ensures { IfOk result (λ values. values ≡ webauthn_values self.now) }
+    {
+        let second = match &self.second {
+            Some(bytes) => Some(Bytes::from_slice(alloc, bytes.as_slice())?),
+            None => None,
+        };
+        Ok(AuthenticationExtensionsPrfValues {
+            first: Bytes::from_slice(alloc, self.first.as_slice())?,
+            second,
+        })
+    }
+}
+
+#[derive(Drop)]
+struct PrfValuesSlots {
+    first: Option<[u8; 32]>,
+    second: Option<Option<[u8; 32]>>,
+}
+
+impl Slots for PrfValuesSlots {
+    type Of = AuthenticatorPrfValues;
+
+    ghost Held = { PrfSlotValues };
+
+    ghost held = { prf_values_held };
+
+    ghost Meaning = { PrfValues };
+
+    ghost view = { λ values. values };
+
+    ghost table = { prf_values_table };
+
+    ghost values = { prf_values_values };
+
+    ghost build = { prf_values_of };
+
+    fn is_numbered() -> bool {
+        false
+    }
+
+    fn rows() -> &'static [Row] {
+        &[Row::Required(1, "first"), Row::Optional(2, "second")]
+    }
+
+    fn empty() -> PrfValuesSlots {
+        PrfValuesSlots {
+            first: None,
+            second: None,
+        }
+    }
+
+    fn put(&mut self, alloc: Global, number: u8, value: &Value) -> Result<(), Refusal> {
+        match number {
+            1 => read_into(&mut self.first, alloc, value),
+            2 => read_into(&mut self.second, alloc, value),
+            _ => Err(Refusal::Refused),
+        }
+    }
+
+    #[tactic(auto, using(passkey_kinds::proofs::Lists::option_same))]
+    fn finish(self) -> Option<AuthenticatorPrfValues> {
+        Some(AuthenticatorPrfValues {
+            first: self.first?,
+            second: self.second.unwrap_or(None),
+        })
+    }
+}
+
+impl FromCbor for AuthenticatorPrfValues {
+    ghost Meaning = { PrfValues };
+
+    ghost view = { λ values. values };
+
+    ghost kind = { prf_values };
+
+    ghost takes = { true };
+
+    fn from_value(alloc: Global, value: &Value) -> Result<AuthenticatorPrfValues, Refusal> {
+        read_nested::<PrfValuesSlots>(alloc, value)
+    }
+}
+
+impl ToCbor for AuthenticatorPrfValues {
+    ghost tree = { prf_values_tree };
+
+    ghost fits = { PrfValuesFit };
+
+    fn to_value(&self, alloc: Global) -> Result<Value, OutOfMemory> {
+        let mut members = Written::new(alloc);
+        members.put(alloc, "first", &self.first)?;
+        members.put_some(alloc, "second", &self.second)?;
+        Ok(members.into_value())
+    }
+}
+
+impl ReadBack for AuthenticatorPrfValues {
+    ghost normal = { λ v. v };
+
+    #[tactic(auto, using(crate::proofs::ExtensionBack::prf_values_back))]
+    fn read_back() {}
+}
+
+impl Shallow for AuthenticatorPrfValues {
+    ghost levels = { 2 };
+
+    #[tactic(auto, using(crate::proofs::ExtensionLevels::prf_values_levels))]
+    fn shallow() {}
+}
