@@ -1,0 +1,4 @@
+pub mod MakeBack
+pub mod MakeLevels
+pub mod MakeRequests
+pub mod MakeResponses

@@ -1,0 +1,5 @@
+use Rattle.passkey_make_credential.proofs.MakeRequests.{make_request_coherent}
+use Rattle.passkey_make_credential.proofs.laws.read_make_request_is_coherent.Goals as goal
+
+pub returns : goal.returns
+returns c = make_request_coherent

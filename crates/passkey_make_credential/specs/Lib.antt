@@ -1,0 +1,13 @@
+pub mod MakeRp
+pub mod MakeRpHeld
+pub mod MakeUser
+pub mod MakeUserHeld
+pub mod MakeOptions
+pub mod MakeOptionsHeld
+pub mod MakeRequest
+pub mod MakeRequestView
+pub mod MakeRequestHeld
+pub mod MakeResponse
+pub mod MakeResponseView
+pub mod MakeResponseHeld
+pub mod Entities

@@ -1,0 +1,127 @@
+-- What an authenticator answers to a request to make a credential (CTAP 2.1, section 6.1).
+use Rattle.std.specs.Prelude.{ℕ, nat_le, Bool, true, false, ◌&&◌, List, [], ◌∷◌, Option, Some, None, codes, unwrap_or, Result}
+use Rattle.passkey_cbor.specs.Depth.{depth}
+use Rattle.passkey_cbor.specs.Front.{max_depth}
+use Rattle.passkey_cbor.specs.Item.{Item, boolean, byte_string, text_string, map, no_pairs}
+use Rattle.passkey_core.specs.Coherent.{is_coherent}
+use Rattle.passkey_core.specs.DataNormal.{IsData, Where, normal_data}
+use Rattle.passkey_core.specs.DataParts.{DataParts}
+use Rattle.passkey_kinds.specs.Data.{auth_data_tree}
+use Rattle.passkey_kinds.specs.Data.{authenticator_data}
+use Rattle.passkey_extensions.specs.ExtensionTrees.{made_tree, MadeFits}
+use Rattle.passkey_kinds.specs.Kind.{bytes, kept, optional, text, truth}
+use Rattle.passkey_extensions.specs.MakeUnsigned.{unsigned}
+use Rattle.passkey_kinds.specs.Table.{Table, Values, Build, required, default, given, read_item, ◌>>=◌}
+use Rattle.passkey_kinds.specs.Tree.{Place, number_tree, always, where_some, record_tree}
+use Rattle.passkey_kinds.specs.declared.fault.Fault.{Fault}
+use Rattle.passkey_extensions.specs.declared.make_credential.unsigned.UnsignedExtensionOutputs.{UnsignedExtensionOutputs}
+
+-- what contracts see of a response
+pub record MakeResponseParts : Type 0 where
+  pub fmt : List ℕ
+  pub auth_data : DataParts
+  pub att_stmt : Item
+  pub ep_att : Option Bool
+  pub large_blob_key : Option (List ℕ)
+  pub unsigned_extension_outputs : Option UnsignedExtensionOutputs
+
+abbrev pub make_response_table : Table
+make_response_table = record {
+  is_numbered = true;
+  rows = required 1 (codes "fmt") text true
+      ∷ required 2 (codes "authData") authenticator_data true
+      ∷ required 3 (codes "attStmt") kept true
+      ∷ default 4 (codes "epAtt") (optional truth) false
+      ∷ default 5 (codes "largeBlobKey") (optional bytes) true
+      ∷ default 6 (codes "unsignedExtensionOutputs") (optional unsigned) true
+      ∷ [];
+}
+
+pub record MakeResponseValues : Type 0 where
+  pub fmt : Option (List ℕ)
+  pub auth_data : Option DataParts
+  pub att_stmt : Option Item
+  pub ep_att : Option (Option Bool)
+  pub large_blob_key : Option (Option (List ℕ))
+  pub unsigned_extension_outputs : Option (Option UnsignedExtensionOutputs)
+
+abbrev pub make_response_values : Values MakeResponseValues
+make_response_values m = record {
+  fmt = given text 1 m;
+  auth_data = given authenticator_data 2 m;
+  att_stmt = given kept 3 m;
+  ep_att = given (optional truth) 4 m;
+  large_blob_key = given (optional bytes) 5 m;
+  unsigned_extension_outputs = given (optional unsigned) 6 m;
+}
+
+abbrev pub make_response_of : Build MakeResponseValues MakeResponseParts
+make_response_of v = do
+  fmt ← v.fmt
+  auth_data ← v.auth_data
+  att_stmt ← v.att_stmt
+  Some (record {
+    fmt = fmt;
+    auth_data = auth_data;
+    att_stmt = att_stmt;
+    ep_att = unwrap_or v.ep_att None;
+    large_blob_key = unwrap_or v.large_blob_key None;
+    unsigned_extension_outputs = unwrap_or v.unsigned_extension_outputs None;
+  })
+
+-- the response that an item is, or its first fault
+abbrev pub read_make_response : Item → Result MakeResponseParts Fault
+read_make_response = read_item make_response_table make_response_values make_response_of
+
+-- ---- what a response is written as
+
+abbrev pub make_response_places : MakeResponseParts → List Place
+make_response_places r =
+    always (number_tree 1) text_string r.fmt
+    ∷ always (number_tree 2) auth_data_tree r.auth_data
+    ∷ always (number_tree 3) (λ i. i) r.att_stmt
+    ∷ where_some (number_tree 4) boolean r.ep_att
+    ∷ where_some (number_tree 5) byte_string r.large_blob_key
+    ∷ where_some (number_tree 6) made_tree r.unsigned_extension_outputs
+    ∷ []
+
+abbrev pub make_response_tree : MakeResponseParts → Item
+make_response_tree r = record_tree (make_response_places r)
+
+-- what holds of each response
+abbrev pub MakeResponseFits : MakeResponseParts → Type 0
+MakeResponseFits r = IsData r.auth_data × Where MadeFits r.unsigned_extension_outputs
+
+-- the authenticator data are read back, and what is written has at most as many levels as are read
+abbrev pub is_make_response_coherent : MakeResponseParts → Bool
+is_make_response_coherent r = is_coherent r.auth_data && nat_le (depth (make_response_tree r)) max_depth
+
+-- what is read of what is written
+abbrev pub normal_make_response : MakeResponseParts → MakeResponseParts
+normal_make_response r = record r { auth_data = normal_data r.auth_data }
+
+-- ---- the same for a relying party, without attestation (WebAuthn Level 3, section 6.5.4)
+
+abbrev pub no_statement : Item
+no_statement = map no_pairs
+
+abbrev pub attestation_places : DataParts → List Place
+attestation_places d =
+    always (text_string (codes "fmt")) text_string (codes "none")
+    ∷ always (text_string (codes "attStmt")) (λ i. i) no_statement
+    ∷ always (text_string (codes "authData")) auth_data_tree d
+    ∷ []
+
+abbrev pub attestation_tree : DataParts → Item
+attestation_tree d = record_tree (attestation_places d)
+
+-- a response of these data and no attestation
+abbrev pub unattested : DataParts → MakeResponseParts
+unattested d = record {
+  fmt = codes "none";
+  auth_data = d;
+  att_stmt = no_statement;
+  ep_att = None;
+  large_blob_key = None;
+  unsigned_extension_outputs = None;
+}

@@ -1,0 +1,212 @@
+//! Requests to make a credential.
+ghost use Rattle.std.specs.Prelude.{◌≡◌, IfOk, IfErr, OnOk};
+ghost use Rattle.passkey_cbor.specs.View.{item_of};
+ghost use Rattle.passkey_cbor.specs.Writable.{IsWritable};
+ghost use Rattle.passkey_cbor.specs.Written.{written};
+ghost use Rattle.passkey_make_credential.specs.MakeRequest.{MakeRequestParts, MakeRequestValues, make_request_table, make_request_values, make_request_of, read_make_request, make_request_tree, MakeRequestFits, is_make_request_coherent};
+ghost use Rattle.passkey_make_credential.specs.MakeRequestHeld.{make_request_held};
+ghost use Rattle.passkey_make_credential.specs.MakeRequestView.{make_request_parts};
+ghost use Rattle.passkey_kinds.specs.Message.{ReadsMessage};
+ghost use Rattle.passkey_kinds.specs.Reading.{MayGrowAt, Reads};
+ghost use Rattle.passkey_kinds.specs.declared.write_fault.WriteFault.TheVariants.{OutOfMemory as NoMemory};
+
+use crate::{Options, PublicKeyCredentialRpEntity};
+use passkey_bytes::{Bytes, List};
+use passkey_cbor::{OutOfMemory, Value};
+use passkey_extensions::make_credential::ExtensionInputs;
+use passkey_kinds::{
+    Fault, Refusal, Row, Slots, ToCbor, TolerantList, Tolerated, WriteFault, Written, list_of,
+    read_into, read_message, read_record, write_message,
+};
+use passkey_webauthn::{
+    PublicKeyCredentialDescriptor, PublicKeyCredentialParameters, PublicKeyCredentialUserEntity,
+};
+use std::alloc::Global;
+
+/// A request to make a credential (CTAP 2.1, section 6.1).
+#[derive(Debug, Drop, PartialEq)]
+pub struct Request {
+    /// 0x01: the hash of the client data, which the attestation signs.
+    pub client_data_hash: Bytes,
+    /// 0x02: whom the credential is for.
+    pub rp: PublicKeyCredentialRpEntity,
+    /// 0x03: whose the credential is.
+    pub user: PublicKeyCredentialUserEntity,
+    /// 0x04: which keys the relying party can use, the best first.
+    pub pub_key_cred_params: List<PublicKeyCredentialParameters>,
+    /// 0x05: credentials of which the authenticator must hold none.
+    pub exclude_list: Option<List<PublicKeyCredentialDescriptor>>,
+    /// 0x06: what extensions are given.
+    pub extensions: Option<ExtensionInputs>,
+    /// 0x07: how the credential is to be made.
+    pub options: Options,
+    /// 0x08: the authentication code by a PIN or a user verification.
+    pub pin_auth: Option<Bytes>,
+    /// 0x09: which protocol the code was made by.
+    pub pin_protocol: Option<u8>,
+}
+
+#[derive(Drop)]
+struct RequestSlots {
+    client_data_hash: Option<Bytes>,
+    rp: Option<PublicKeyCredentialRpEntity>,
+    user: Option<PublicKeyCredentialUserEntity>,
+    pub_key_cred_params: Option<TolerantList<PublicKeyCredentialParameters>>,
+    exclude_list: Option<Tolerated<TolerantList<PublicKeyCredentialDescriptor>>>,
+    extensions: Option<Option<ExtensionInputs>>,
+    options: Option<Options>,
+    pin_auth: Option<Option<Bytes>>,
+    pin_protocol: Option<Option<u8>>,
+}
+
+impl Slots for RequestSlots {
+    type Of = Request;
+
+    ghost Held = { MakeRequestValues };
+
+    ghost held = { make_request_held };
+
+    ghost Meaning = { MakeRequestParts };
+
+    ghost view = { make_request_parts };
+
+    ghost table = { make_request_table };
+
+    ghost values = { make_request_values };
+
+    ghost build = { make_request_of };
+
+    fn is_numbered() -> bool {
+        true
+    }
+
+    fn rows() -> &'static [Row] {
+        &[
+            Row::Required(1, "clientDataHash"),
+            Row::Required(2, "rp"),
+            Row::Required(3, "user"),
+            Row::Required(4, "pubKeyCredParams"),
+            Row::Optional(5, "excludeList"),
+            Row::Optional(6, "extensions"),
+            Row::Optional(7, "options"),
+            Row::Optional(8, "pinAuth"),
+            Row::Optional(9, "pinProtocol"),
+        ]
+    }
+
+    fn empty() -> RequestSlots {
+        RequestSlots {
+            client_data_hash: None,
+            rp: None,
+            user: None,
+            pub_key_cred_params: None,
+            exclude_list: None,
+            extensions: None,
+            options: None,
+            pin_auth: None,
+            pin_protocol: None,
+        }
+    }
+
+    fn put(&mut self, alloc: Global, number: u8, value: &Value) -> Result<(), Refusal> {
+        match number {
+            1 => read_into(&mut self.client_data_hash, alloc, value),
+            2 => read_into(&mut self.rp, alloc, value),
+            3 => read_into(&mut self.user, alloc, value),
+            4 => read_into(&mut self.pub_key_cred_params, alloc, value),
+            5 => read_into(&mut self.exclude_list, alloc, value),
+            6 => read_into(&mut self.extensions, alloc, value),
+            7 => read_into(&mut self.options, alloc, value),
+            8 => read_into(&mut self.pin_auth, alloc, value),
+            9 => read_into(&mut self.pin_protocol, alloc, value),
+            _ => Err(Refusal::Refused),
+        }
+    }
+
+    fn finish(self) -> Option<Request> {
+        let RequestSlots {
+            client_data_hash,
+            rp,
+            user,
+            pub_key_cred_params,
+            exclude_list,
+            extensions,
+            options,
+            pin_auth,
+            pin_protocol,
+        } = self;
+        Some(Request {
+            client_data_hash: client_data_hash?,
+            rp: rp?,
+            user: user?,
+            pub_key_cred_params: pub_key_cred_params?.0,
+            exclude_list: list_of(exclude_list),
+            extensions: extensions.unwrap_or(None),
+            options: options.unwrap_or_default(),
+            pin_auth: pin_auth.unwrap_or(None),
+            pin_protocol: pin_protocol.unwrap_or(None),
+        })
+    }
+}
+
+impl ToCbor for Request {
+    ghost tree = { λ r. make_request_tree (make_request_parts r) };
+
+    ghost fits = { λ r. MakeRequestFits (make_request_parts r) };
+
+    fn to_value(&self, alloc: Global) -> Result<Value, OutOfMemory> {
+        let mut members = Written::new(alloc);
+        members.put(alloc, 1_u8, &self.client_data_hash)?;
+        members.put(alloc, 2_u8, &self.rp)?;
+        members.put(alloc, 3_u8, &self.user)?;
+        members.put(alloc, 4_u8, &self.pub_key_cred_params)?;
+        members.put_some(alloc, 5_u8, &self.exclude_list)?;
+        members.put_some(alloc, 6_u8, &self.extensions)?;
+        members.put(alloc, 7_u8, &self.options)?;
+        members.put_some(alloc, 8_u8, &self.pin_auth)?;
+        members.put_some(alloc, 9_u8, &self.pin_protocol)?;
+        Ok(members.into_value())
+    }
+}
+
+impl Request {
+    /// The request that begins the bytes, and how many bytes it has. `DecodeFailed` exactly where no
+    /// well-formed item of at most 256 levels begins them; else the fault that `from_value` tells of
+    /// the item; `OutOfMemory` where a growth was refused.
+    pub fn from_slice(alloc: Global, bytes: &[u8]) -> Result<(Request, usize), Fault>
+        ensures { ReadsMessage make_request_parts read_make_request bytes.now result }
+    {
+        read_message::<RequestSlots>(alloc, bytes)
+    }
+
+    /// The request that the item is. Else `NotAMap`, or the first fault of its members in their
+    /// order (`BadKey`, `Repeated`, `Refused`), or the first required one that lacks (`Missing`);
+    /// `OutOfMemory` where a growth was refused. Unknown members, parameters and descriptors that
+    /// are refused, and an exclude list that is no list are passed over.
+    pub fn from_value(alloc: Global, value: &Value) -> Result<Request, Fault>
+        ensures { Reads make_request_parts (MayGrowAt make_request_table (item_of value.now)) (read_make_request (item_of value.now)) result }
+    {
+        read_record::<RequestSlots>(alloc, value)
+    }
+
+    /// The request's bytes: members by their numbers in the table's order, each where it is there,
+    /// the options always. `OutOfMemory` where a growth was refused.
+    pub fn to_vec(&self, alloc: Global) -> Result<Vec<u8>, WriteFault>
+        ensures written { IfOk result (λ bytes. bytes.items ≡ written (make_request_tree (make_request_parts self.now))) }
+        ensures writable { OnOk result (IsWritable (make_request_tree (make_request_parts self.now))) }
+        ensures fits { OnOk result (MakeRequestFits (make_request_parts self.now)) }
+        ensures memory { IfErr result (λ e. e ≡ NoMemory) }
+    {
+        write_message(alloc, self)
+    }
+
+    /// Whether what `to_vec` writes is read back: it has at most 256 levels. It takes no memory.
+    pub fn is_coherent(&self) -> bool
+        ensures { result ≡ is_make_request_coherent (make_request_parts self.now) }
+    {
+        match &self.extensions {
+            Some(extensions) => extensions.fits_in_message(),
+            None => true,
+        }
+    }
+}

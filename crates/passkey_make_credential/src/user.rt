@@ -1,0 +1,210 @@
+//! Users, as CTAP2 names them.
+ghost use Rattle.std.specs.Prelude.{◌≡◌, ◌<◌, ◌⊎◌, length, true, IfOk, OnErr, None, IfErr, codes};
+ghost use Rattle.std.specs.Result.{result_ok};
+ghost use Rattle.std.specs.Option.{IsSomeAnd};
+ghost use Rattle.passkey_make_credential.specs.MakeUser.{user_tree, UserValues, user_table, user_values, user_of, user};
+ghost use Rattle.passkey_make_credential.specs.MakeUserHeld.{user_held};
+ghost use Rattle.passkey_make_credential.specs.declared.user.PublicKeyCredentialUserEntity.{PublicKeyCredentialUserEntity as UserEntity};
+ghost use Rattle.passkey_kinds.specs.ReadBack.{Any};
+ghost use Rattle.passkey_make_credential.specs.Entities.{user_of_webauthn, webauthn_of_user};
+
+use passkey_bytes::{Bytes, Text};
+use passkey_cbor::{OutOfMemory, Value};
+use passkey_kinds::{
+    FromCbor, ReadBack, Refusal, Row, Shallow, Slots, ToCbor, Written, read_into, read_nested,
+};
+use passkey_webauthn as webauthn;
+use std::alloc::Global;
+
+/// Whose credential it is (CTAP 2.1, section 6.1).
+#[derive(Debug, Drop, PartialEq, Eq)]
+pub struct PublicKeyCredentialUserEntity {
+    /// The user's handle, which tells accounts of a relying party apart.
+    pub id: Bytes,
+    /// A name that tells accounts apart, as an address of electronic mail.
+    pub name: Option<Text>,
+    /// A name that the user chose, to be displayed.
+    pub display_name: Option<Text>,
+    /// Where an image of the account is found: `icon`.
+    pub icon_url: Option<Text>,
+}
+
+fn copied(alloc: Global, text: &Option<Text>) -> Result<Option<Text>, OutOfMemory>
+    ensures same { IfOk result (λ copy. copy ≡ text.now) }
+    ensures grows { OnErr result (IsSomeAnd text.now (λ t. 0 < length t)) }
+{
+    match text {
+        Some(text) => Ok(Some(text.try_clone(alloc)?)),
+        None => Ok(None),
+    }
+}
+
+impl PublicKeyCredentialUserEntity {
+    /// An equal value. `OutOfMemory` where a growth was refused, which cannot be where the id and the
+    /// texts are empty or not there.
+    pub fn try_clone(&self, alloc: Global) -> Result<PublicKeyCredentialUserEntity, OutOfMemory>
+        ensures same { IfOk result (λ copy. copy ≡ self.now) }
+        ensures grows { OnErr result ((0 < length self.now.id) ⊎ IsSomeAnd self.now.name (λ t. 0 < length t) ⊎ IsSomeAnd self.now.display_name (λ t. 0 < length t) ⊎ IsSomeAnd self.now.icon_url (λ t. 0 < length t)) }
+    {
+        Ok(PublicKeyCredentialUserEntity {
+            id: self.id.try_clone(alloc)?,
+            name: copied(alloc, &self.name)?,
+            display_name: copied(alloc, &self.display_name)?,
+            icon_url: copied(alloc, &self.icon_url)?,
+        })
+    }
+}
+
+impl From<webauthn::PublicKeyCredentialUserEntity> for PublicKeyCredentialUserEntity {
+    ghost from_gives = { λ theirs user. user ≡ user_of_webauthn theirs };
+
+    /// The user with both names and no icon.
+    fn from(theirs: webauthn::PublicKeyCredentialUserEntity) -> PublicKeyCredentialUserEntity {
+        PublicKeyCredentialUserEntity {
+            id: theirs.id,
+            name: Some(theirs.name),
+            display_name: Some(theirs.display_name),
+            icon_url: None,
+        }
+    }
+}
+
+impl TryFrom<PublicKeyCredentialUserEntity> for webauthn::PublicKeyCredentialUserEntity {
+    type Error = &'static str;
+
+    ghost try_from_gives = { λ user result. (result_ok result ≡ webauthn_of_user user) × IfErr result (λ text. text.now ≡ codes "PublicKeyCredentialUserEntity is missing one or more required fields: name, display_name") };
+
+    /// The user with both names, without the icon; a text that says so exactly where one of the
+    /// names isn't there.
+    fn try_from(
+        user: PublicKeyCredentialUserEntity,
+    ) -> Result<webauthn::PublicKeyCredentialUserEntity, &'static str> {
+        let PublicKeyCredentialUserEntity {
+            id,
+            name,
+            display_name,
+            ..
+        } = user;
+        match (name, display_name) {
+            (Some(name), Some(display_name)) => Ok(webauthn::PublicKeyCredentialUserEntity {
+                id,
+                display_name,
+                name,
+            }),
+            _ => Err(
+                "PublicKeyCredentialUserEntity is missing one or more required fields: name, display_name",
+            ),
+        }
+    }
+}
+
+#[derive(Drop)]
+struct UserSlots {
+    id: Option<Bytes>,
+    name: Option<Option<Text>>,
+    display_name: Option<Option<Text>>,
+    icon_url: Option<Option<Text>>,
+}
+
+impl Slots for UserSlots {
+    type Of = PublicKeyCredentialUserEntity;
+
+    ghost Held = { UserValues };
+
+    ghost held = { user_held };
+
+    ghost Meaning = { UserEntity };
+
+    ghost view = { λ user. user };
+
+    ghost table = { user_table };
+
+    ghost values = { user_values };
+
+    ghost build = { user_of };
+
+    fn is_numbered() -> bool {
+        false
+    }
+
+    fn rows() -> &'static [Row] {
+        &[
+            Row::Required(1, "id"),
+            Row::Optional(2, "name"),
+            Row::Optional(3, "displayName"),
+            Row::Optional(4, "icon"),
+        ]
+    }
+
+    fn empty() -> UserSlots {
+        UserSlots {
+            id: None,
+            name: None,
+            display_name: None,
+            icon_url: None,
+        }
+    }
+
+    fn put(&mut self, alloc: Global, number: u8, value: &Value) -> Result<(), Refusal> {
+        match number {
+            1 => read_into(&mut self.id, alloc, value),
+            2 => read_into(&mut self.name, alloc, value),
+            3 => read_into(&mut self.display_name, alloc, value),
+            4 => read_into(&mut self.icon_url, alloc, value),
+            _ => Err(Refusal::Refused),
+        }
+    }
+
+    #[tactic(auto, using(passkey_kinds::proofs::Lists::option_same))]
+    fn finish(self) -> Option<PublicKeyCredentialUserEntity> {
+        Some(PublicKeyCredentialUserEntity {
+            id: self.id?,
+            name: self.name.unwrap_or(None),
+            display_name: self.display_name.unwrap_or(None),
+            icon_url: self.icon_url.unwrap_or(None),
+        })
+    }
+}
+
+impl FromCbor for PublicKeyCredentialUserEntity {
+    ghost Meaning = { UserEntity };
+
+    ghost view = { λ user. user };
+
+    ghost kind = { user };
+
+    ghost takes = { true };
+
+    fn from_value(alloc: Global, value: &Value) -> Result<PublicKeyCredentialUserEntity, Refusal> {
+        read_nested::<UserSlots>(alloc, value)
+    }
+}
+
+impl ToCbor for PublicKeyCredentialUserEntity {
+    ghost tree = { user_tree };
+
+    ghost fits = { Any };
+
+    fn to_value(&self, alloc: Global) -> Result<Value, OutOfMemory> {
+        let mut members = Written::new(alloc);
+        members.put(alloc, "id", &self.id)?;
+        members.put_some(alloc, "name", &self.name)?;
+        members.put_some(alloc, "displayName", &self.display_name)?;
+        members.put_some(alloc, "icon", &self.icon_url)?;
+        Ok(members.into_value())
+    }
+}
+
+impl ReadBack for PublicKeyCredentialUserEntity {
+    ghost normal = { λ u. u };
+
+    #[tactic(auto, using(crate::proofs::MakeBack::made_user_back))]
+    fn read_back() {}
+}
+
+impl Shallow for PublicKeyCredentialUserEntity {
+    ghost levels = { 1 };
+
+    #[tactic(auto, using(crate::proofs::MakeLevels::made_user_levels))]
+    fn shallow() {}
+}
