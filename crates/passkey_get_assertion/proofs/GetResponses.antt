@@ -1,0 +1,113 @@
+-- Responses to requests to use a credential: reading back what is written, and its levels.
+use Rattle.std.proofs.Common.{◌≡◌, ℕ, ◌≤◌, nat_le, arith, le-leb, leb-true, Bool, true, false, ◌&&◌, List, [], ◌∷◌, Option, Some, None, Ok, refl, sym, ap}
+use Rattle.std.proofs.lemmas.Bool.{and_parts, and_from}
+use Rattle.passkey_cbor.specs.Depth.{depth}
+use Rattle.passkey_cbor.specs.Front.{max_depth}
+use Rattle.passkey_cbor.specs.Item.{Item, boolean, byte_string, members}
+use Rattle.passkey_cbor.specs.Laws.{WrittenIsFront}
+use Rattle.passkey_core.specs.Coherent.{is_coherent}
+use Rattle.passkey_core.specs.DataLaws.{GivenIsCoherent, ReadIsGiven, WrittenDataAreReadBack}
+use Rattle.passkey_core.specs.DataParts.{DataParts}
+use Rattle.passkey_get_assertion.specs.GetResponse.{GetResponseParts, get_response_table, get_response_values, get_response_of, read_get_response, get_response_places, get_response_tree, GetResponseFits, is_get_response_coherent, normal_get_response}
+use Rattle.passkey_make_credential.specs.MakeUser.{user_tree}
+use Rattle.passkey_make_credential.specs.declared.user.PublicKeyCredentialUserEntity.{PublicKeyCredentialUserEntity}
+use Rattle.passkey_kinds.proofs.DataBack.{auth_data_back, auth_data_coherent}
+use Rattle.passkey_make_credential.proofs.MakeBack.{made_user_back}
+use Rattle.passkey_make_credential.proofs.MakeLevels.{made_user_levels}
+use Rattle.passkey_extensions.specs.ExtensionTrees.{used_tree}
+use Rattle.passkey_extensions.specs.declared.get_assertion.unsigned.UnsignedExtensionOutputs.{UnsignedExtensionOutputs}
+use Rattle.passkey_extensions.proofs.ExtensionBack.{used_back}
+use Rattle.passkey_extensions.proofs.ExtensionLevels.{used_levels}
+use Rattle.passkey_kinds.specs.Data.{authenticator_data}
+use Rattle.passkey_kinds.specs.MessageLaws.{WrittenIsReadBack, ReadIsCoherent}
+use Rattle.passkey_kinds.specs.Table.{◌>>=◌, found}
+use Rattle.passkey_kinds.specs.Tree.{number_tree}
+use Rattle.passkey_kinds.specs.Trees.{descriptor_tree}
+use Rattle.passkey_kinds.proofs.Back.{required_place, reads_back}
+use Rattle.passkey_kinds.proofs.Deep.{built_from, given_by}
+use Rattle.passkey_kinds.proofs.LeafBack.{truth_back, byte_back, bytes_back, anything, optional_place}
+use Rattle.passkey_kinds.proofs.Levels.{record_within, option_within}
+use Rattle.passkey_kinds.proofs.RecordBack.{descriptor_back}
+use Rattle.passkey_kinds.proofs.RecordLevels.{descriptor_levels, flat}
+use Rattle.passkey_webauthn.specs.declared.descriptor.PublicKeyCredentialDescriptor.{PublicKeyCredentialDescriptor}
+
+-- ---- a response has few levels
+
+response_levels : (r : GetResponseParts) → depth (get_response_tree r) ≤ 256
+response_levels r =
+    record_within 255 (get_response_places r)
+    (option_within descriptor_tree 255 (number_tree 1) (omega arith) credentials r.credential, (flat 255, (flat 255, (option_within user_tree 255 (number_tree 4) (omega arith) users r.user, (option_within number_tree 255 (number_tree 5) (omega arith) (λ n. omega arith) r.number_of_credentials, (option_within boolean 255 (number_tree 6) (omega arith) (λ b. omega arith) r.user_selected, (option_within byte_string 255 (number_tree 7) (omega arith) (λ b. omega arith) r.large_blob_key, (option_within used_tree 255 (number_tree 8) (omega arith) outputs r.unsigned_extension_outputs, tt))))))))
+  where
+    credentials : (d : PublicKeyCredentialDescriptor) → depth (descriptor_tree d) ≤ 255
+    credentials d = omega (arith, descriptor_levels d)
+
+    users : (u : PublicKeyCredentialUserEntity) → depth (user_tree u) ≤ 255
+    users u = omega (arith, made_user_levels u)
+
+    outputs : (o : UnsignedExtensionOutputs) → depth (used_tree o) ≤ 255
+    outputs o = omega (arith, used_levels o)
+
+has_few_levels : (r : GetResponseParts) → nat_le (depth (get_response_tree r)) max_depth ≡ true
+has_few_levels r = le-leb (depth (get_response_tree r)) 256 (response_levels r)
+
+and_true : (a b : Bool) → b ≡ true → a ≡ a && b
+and_true a b h = rw h (sym (and_same a)) where
+  and_same : (a : Bool) → a && true ≡ a
+  and_same true = refl
+  and_same false = refl
+
+-- the authenticator data decide
+pub data_decide : (r : GetResponseParts) → is_coherent r.auth_data ≡ is_get_response_coherent r
+data_decide r = and_true (is_coherent r.auth_data) (nat_le (depth (get_response_tree r)) max_depth) (has_few_levels r)
+
+-- ---- what is written is read back
+
+response_back : WrittenDataAreReadBack → ReadIsGiven → (r : GetResponseParts) → GetResponseFits r → is_coherent r.auth_data ≡ true → read_get_response (get_response_tree r) ≡ Ok (normal_get_response r)
+response_back written given r fits coherent =
+    let credential = optional_place descriptor_back refl r.credential (anything r.credential) in
+    let auth_data = required_place (auth_data_back written given) r.auth_data (fits.auth_data, coherent) in
+    let signature = required_place bytes_back r.signature tt in
+    let user = optional_place made_user_back refl r.user (anything r.user) in
+    let number = optional_place byte_back refl r.number_of_credentials fits.number_of_credentials in
+    let selected = optional_place truth_back refl r.user_selected (anything r.user_selected) in
+    let large_blob_key = optional_place bytes_back refl r.large_blob_key (anything r.large_blob_key) in
+    let outputs = optional_place used_back refl r.unsigned_extension_outputs fits.unsigned_extension_outputs in
+    reads_back get_response_table get_response_values get_response_of (1 ∷ 2 ∷ 3 ∷ 4 ∷ 5 ∷ 6 ∷ 7 ∷ 8 ∷ []) (get_response_places r) (normal_get_response r) refl
+    (credential.accepted, (auth_data.accepted, (signature.accepted, (user.accepted, (number.accepted, (selected.accepted, (large_blob_key.accepted, (outputs.accepted, tt)))))))) refl
+    (λ i. do
+      d ← auth_data.value i
+      s ← signature.value i
+      Some (record {
+        credential = credential.value i;
+        auth_data = d;
+        signature = s;
+        user = user.value i;
+        number_of_credentials = number.value i;
+        user_selected = selected.value i;
+        large_blob_key = large_blob_key.value i;
+        unsigned_extension_outputs = outputs.value i;
+      }))
+
+pub get_response_returns : WrittenIsFront → WrittenDataAreReadBack → ReadIsGiven → WrittenIsReadBack read_get_response get_response_tree GetResponseFits is_get_response_coherent normal_get_response
+get_response_returns law written given r rest fits writable coherent =
+    let parts = and_parts (is_coherent r.auth_data) (nat_le (depth (get_response_tree r)) max_depth) coherent in
+    (law (get_response_tree r) rest writable (leb-true (depth (get_response_tree r)) max_depth parts.1), response_back written given r fits parts.0)
+
+-- ---- what is read is coherent
+
+same_response : (x y : GetResponseParts) → Some x ≡ Some y → x ≡ y
+same_response x y e = cc
+
+built_data : (c : Option (Option PublicKeyCredentialDescriptor)) (d : Option DataParts) (s : Option (List ℕ)) (u : Option (Option PublicKeyCredentialUserEntity)) (n : Option (Option ℕ)) (t : Option (Option Bool)) (k : Option (Option (List ℕ))) (o : Option (Option UnsignedExtensionOutputs)) (r : GetResponseParts) → get_response_of (record { credential = c; auth_data = d; signature = s; user = u; number_of_credentials = n; user_selected = t; large_blob_key = k; unsigned_extension_outputs = o }) ≡ Some r → d ≡ Some r.auth_data
+built_data c None s u n t k o r h = absurd cc
+built_data c (Some d) None u n t k o r h = absurd cc
+built_data c (Some d) (Some s) u n t k o r h = ap (λ (p : GetResponseParts). Some p.auth_data) (same_response _ r h)
+
+pub get_response_coherent : GivenIsCoherent → ReadIsCoherent read_get_response is_get_response_coherent
+get_response_coherent law bytes r begins =
+    let b = built_from get_response_table get_response_values get_response_of begins.item r begins.holds in
+    let f : ℕ → Option Item = found get_response_table (members b.pairs) in
+    let v = get_response_values f in
+    let stands = built_data v.credential v.auth_data v.signature v.user v.number_of_credentials v.user_selected v.large_blob_key v.unsigned_extension_outputs r b.made in
+    let auth_data = given_by authenticator_data (f 2) r.auth_data stands in
+    and_from (is_coherent r.auth_data) (nat_le (depth (get_response_tree r)) max_depth) (auth_data_coherent law auth_data.item r.auth_data auth_data.read) (has_few_levels r)

@@ -1,0 +1,7 @@
+use Rattle.std.proofs.Common.{◌∙◌}
+use Rattle.passkey_get_assertion.specs.GetResponseView.{get_response_parts}
+use Rattle.passkey_get_assertion.proofs.GetResponses.{data_decide}
+use Rattle.passkey_get_assertion.proofs.response.Response.is_coherent.Goals as goal
+
+pub returns : goal.returns
+returns c = c.is_coherent.ensures ∙ data_decide (get_response_parts c.args.self.now)

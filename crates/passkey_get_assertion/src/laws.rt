@@ -1,0 +1,34 @@
+//! Laws of the messages of using a credential, each the contract of a function without effect.
+ghost use Rattle.passkey_get_assertion.specs.GetRequest.{read_get_request, get_request_tree, GetRequestFits, is_get_request_coherent};
+ghost use Rattle.passkey_get_assertion.specs.GetResponse.{read_get_response, get_response_tree, GetResponseFits, is_get_response_coherent, normal_get_response};
+ghost use Rattle.passkey_kinds.specs.MessageLaws.{WrittenIsReadBack, ReadIsCoherent};
+
+/// What is written of a coherent request to use a credential, whatever bytes follow, is read as the
+/// request.
+pub fn written_get_request_is_read_back()
+    ensures { WrittenIsReadBack read_get_request get_request_tree GetRequestFits is_get_request_coherent (λ r. r) }
+{
+    passkey_cbor::laws::written_is_front();
+}
+
+/// Requests to use a credential that were read of bytes are coherent.
+pub fn read_get_request_is_coherent()
+    ensures { ReadIsCoherent read_get_request is_get_request_coherent }
+{}
+
+/// What is written of a coherent response to a request to use a credential, whatever bytes follow,
+/// is read as the response with its authenticator data's normal form.
+pub fn written_get_response_is_read_back()
+    ensures { WrittenIsReadBack read_get_response get_response_tree GetResponseFits is_get_response_coherent normal_get_response }
+{
+    passkey_cbor::laws::written_is_front();
+    passkey_core::laws::written_data_are_read_back();
+    passkey_core::laws::read_is_given();
+}
+
+/// Responses to requests to use a credential that were read of bytes are coherent.
+pub fn read_get_response_is_coherent()
+    ensures { ReadIsCoherent read_get_response is_get_response_coherent }
+{
+    passkey_core::laws::given_data_are_coherent();
+}

@@ -1,0 +1,126 @@
+//! How a credential is to be used.
+ghost use Rattle.std.specs.Prelude.{◌≡◌, true, false};
+ghost use Rattle.passkey_get_assertion.specs.GetOptions.{options_tree, OptionsValues, options_table, options_values, options_of, options, options_default};
+ghost use Rattle.passkey_get_assertion.specs.GetOptionsHeld.{options_held};
+ghost use Rattle.passkey_get_assertion.specs.declared.options.Options.{Options as Asked};
+ghost use Rattle.passkey_kinds.specs.ReadBack.{Any};
+
+use passkey_cbor::{OutOfMemory, Value};
+use passkey_kinds::{
+    FromCbor, ReadBack, Refusal, Row, Shallow, Slots, ToCbor, Written, read_into, read_nested,
+};
+use std::alloc::Global;
+
+/// How a credential is to be used (CTAP 2.1, section 6.2).
+#[derive(Clone, Debug, Drop, PartialEq, Eq)]
+pub struct Options {
+    /// Whether the user is to be there.
+    pub up: bool,
+    /// Whether the user is to be verified.
+    pub uv: bool,
+}
+
+impl Default for Options {
+    ghost is_default = { λ options. options ≡ options_default };
+
+    /// The user is to be there, and nothing else.
+    fn default() -> Options {
+        Options {
+            up: true,
+            uv: false,
+        }
+    }
+}
+
+#[derive(Drop)]
+struct OptionsSlots {
+    up: Option<bool>,
+    uv: Option<bool>,
+}
+
+impl Slots for OptionsSlots {
+    type Of = Options;
+
+    ghost Held = { OptionsValues };
+
+    ghost held = { options_held };
+
+    ghost Meaning = { Asked };
+
+    ghost view = { λ options. options };
+
+    ghost table = { options_table };
+
+    ghost values = { options_values };
+
+    ghost build = { options_of };
+
+    fn is_numbered() -> bool {
+        false
+    }
+
+    fn rows() -> &'static [Row] {
+        &[Row::Optional(1, "up"), Row::Optional(2, "uv")]
+    }
+
+    fn empty() -> OptionsSlots {
+        OptionsSlots { up: None, uv: None }
+    }
+
+    fn put(&mut self, alloc: Global, number: u8, value: &Value) -> Result<(), Refusal> {
+        match number {
+            1 => read_into(&mut self.up, alloc, value),
+            2 => read_into(&mut self.uv, alloc, value),
+            _ => Err(Refusal::Refused),
+        }
+    }
+
+    #[tactic(auto, using(passkey_kinds::proofs::Lists::option_same))]
+    fn finish(self) -> Option<Options> {
+        Some(Options {
+            up: self.up.unwrap_or(true),
+            uv: self.uv.unwrap_or(false),
+        })
+    }
+}
+
+impl FromCbor for Options {
+    ghost Meaning = { Asked };
+
+    ghost view = { λ options. options };
+
+    ghost kind = { options };
+
+    ghost takes = { true };
+
+    fn from_value(alloc: Global, value: &Value) -> Result<Options, Refusal> {
+        read_nested::<OptionsSlots>(alloc, value)
+    }
+}
+
+impl ToCbor for Options {
+    ghost tree = { options_tree };
+
+    ghost fits = { Any };
+
+    fn to_value(&self, alloc: Global) -> Result<Value, OutOfMemory> {
+        let mut members = Written::new(alloc);
+        members.put(alloc, "up", &self.up)?;
+        members.put(alloc, "uv", &self.uv)?;
+        Ok(members.into_value())
+    }
+}
+
+impl ReadBack for Options {
+    ghost normal = { λ o. o };
+
+    #[tactic(auto, using(crate::proofs::GetBack::options_back))]
+    fn read_back() {}
+}
+
+impl Shallow for Options {
+    ghost levels = { 1 };
+
+    #[tactic(auto, using(crate::proofs::GetBack::options_levels))]
+    fn shallow() {}
+}

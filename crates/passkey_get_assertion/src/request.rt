@@ -1,0 +1,193 @@
+//! Requests to use a credential.
+ghost use Rattle.std.specs.Prelude.{◌≡◌, IfOk, IfErr, OnOk};
+ghost use Rattle.passkey_cbor.specs.View.{item_of};
+ghost use Rattle.passkey_cbor.specs.Writable.{IsWritable};
+ghost use Rattle.passkey_cbor.specs.Written.{written};
+ghost use Rattle.passkey_get_assertion.specs.GetRequest.{GetRequestParts, GetRequestValues, get_request_table, get_request_values, get_request_of, read_get_request, get_request_tree, GetRequestFits, is_get_request_coherent};
+ghost use Rattle.passkey_get_assertion.specs.GetRequestHeld.{get_request_held};
+ghost use Rattle.passkey_get_assertion.specs.GetRequestView.{get_request_parts};
+ghost use Rattle.passkey_kinds.specs.Message.{ReadsMessage};
+ghost use Rattle.passkey_kinds.specs.Reading.{MayGrowAt, Reads};
+ghost use Rattle.passkey_kinds.specs.declared.write_fault.WriteFault.TheVariants.{OutOfMemory as NoMemory};
+
+use crate::Options;
+use passkey_bytes::{Bytes, List, Text};
+use passkey_cbor::{OutOfMemory, Value};
+use passkey_extensions::get_assertion::ExtensionInputs;
+use passkey_kinds::{
+    Fault, Refusal, Row, Slots, ToCbor, TolerantList, Tolerated, WriteFault, Written, list_of,
+    read_into, read_message, read_record, write_message,
+};
+use passkey_webauthn::PublicKeyCredentialDescriptor;
+use std::alloc::Global;
+
+/// A request to use a credential (CTAP 2.1, section 6.2).
+#[derive(Debug, Drop)]
+pub struct Request {
+    /// 0x01: whom the credential is for.
+    pub rp_id: Text,
+    /// 0x02: the hash of the client data, which the signature is of.
+    pub client_data_hash: Bytes,
+    /// 0x03: the credentials that may be used; where none is given, those that the authenticator
+    /// finds without their ids.
+    pub allow_list: Option<List<PublicKeyCredentialDescriptor>>,
+    /// 0x04: what extensions are given.
+    pub extensions: Option<ExtensionInputs>,
+    /// 0x05: how the credential is to be used.
+    pub options: Options,
+    /// 0x06: the authentication code by a PIN or a user verification.
+    pub pin_auth: Option<Bytes>,
+    /// 0x07: which protocol the code was made by.
+    pub pin_protocol: Option<u8>,
+}
+
+#[derive(Drop)]
+struct RequestSlots {
+    rp_id: Option<Text>,
+    client_data_hash: Option<Bytes>,
+    allow_list: Option<Tolerated<TolerantList<PublicKeyCredentialDescriptor>>>,
+    extensions: Option<Tolerated<ExtensionInputs>>,
+    options: Option<Options>,
+    pin_auth: Option<Option<Bytes>>,
+    pin_protocol: Option<Option<u8>>,
+}
+
+impl Slots for RequestSlots {
+    type Of = Request;
+
+    ghost Held = { GetRequestValues };
+
+    ghost held = { get_request_held };
+
+    ghost Meaning = { GetRequestParts };
+
+    ghost view = { get_request_parts };
+
+    ghost table = { get_request_table };
+
+    ghost values = { get_request_values };
+
+    ghost build = { get_request_of };
+
+    fn is_numbered() -> bool {
+        true
+    }
+
+    fn rows() -> &'static [Row] {
+        &[
+            Row::Required(1, "rpId"),
+            Row::Required(2, "clientDataHash"),
+            Row::Optional(3, "allowList"),
+            Row::Optional(4, "extensions"),
+            Row::Optional(5, "options"),
+            Row::Optional(6, "pinAuth"),
+            Row::Optional(7, "pinProtocol"),
+        ]
+    }
+
+    fn empty() -> RequestSlots {
+        RequestSlots {
+            rp_id: None,
+            client_data_hash: None,
+            allow_list: None,
+            extensions: None,
+            options: None,
+            pin_auth: None,
+            pin_protocol: None,
+        }
+    }
+
+    fn put(&mut self, alloc: Global, number: u8, value: &Value) -> Result<(), Refusal> {
+        match number {
+            1 => read_into(&mut self.rp_id, alloc, value),
+            2 => read_into(&mut self.client_data_hash, alloc, value),
+            3 => read_into(&mut self.allow_list, alloc, value),
+            4 => read_into(&mut self.extensions, alloc, value),
+            5 => read_into(&mut self.options, alloc, value),
+            6 => read_into(&mut self.pin_auth, alloc, value),
+            7 => read_into(&mut self.pin_protocol, alloc, value),
+            _ => Err(Refusal::Refused),
+        }
+    }
+
+    fn finish(self) -> Option<Request> {
+        let RequestSlots {
+            rp_id,
+            client_data_hash,
+            allow_list,
+            extensions,
+            options,
+            pin_auth,
+            pin_protocol,
+        } = self;
+        Some(Request {
+            rp_id: rp_id?,
+            client_data_hash: client_data_hash?,
+            allow_list: list_of(allow_list),
+            extensions: extensions.unwrap_or(Tolerated(None)).0,
+            options: options.unwrap_or_default(),
+            pin_auth: pin_auth.unwrap_or(None),
+            pin_protocol: pin_protocol.unwrap_or(None),
+        })
+    }
+}
+
+impl ToCbor for Request {
+    ghost tree = { λ r. get_request_tree (get_request_parts r) };
+
+    ghost fits = { λ r. GetRequestFits (get_request_parts r) };
+
+    fn to_value(&self, alloc: Global) -> Result<Value, OutOfMemory> {
+        let mut members = Written::new(alloc);
+        members.put(alloc, 1_u8, &self.rp_id)?;
+        members.put(alloc, 2_u8, &self.client_data_hash)?;
+        members.put_some(alloc, 3_u8, &self.allow_list)?;
+        members.put_some(alloc, 4_u8, &self.extensions)?;
+        members.put(alloc, 5_u8, &self.options)?;
+        members.put_some(alloc, 6_u8, &self.pin_auth)?;
+        members.put_some(alloc, 7_u8, &self.pin_protocol)?;
+        Ok(members.into_value())
+    }
+}
+
+impl Request {
+    /// The request that begins the bytes, and how many bytes it has. `DecodeFailed` exactly where no
+    /// well-formed item of at most 256 levels begins them; else the fault that `from_value` tells of
+    /// the item; `OutOfMemory` where a growth was refused.
+    pub fn from_slice(alloc: Global, bytes: &[u8]) -> Result<(Request, usize), Fault>
+        ensures { ReadsMessage get_request_parts read_get_request bytes.now result }
+    {
+        read_message::<RequestSlots>(alloc, bytes)
+    }
+
+    /// The request that the item is. Else `NotAMap`, or the first fault of its members in their
+    /// order (`BadKey`, `Repeated`, `Refused`), or the first required one that lacks (`Missing`);
+    /// `OutOfMemory` where a growth was refused. Unknown members, descriptors and extensions that
+    /// are refused, and an allow list that is no list are passed over.
+    pub fn from_value(alloc: Global, value: &Value) -> Result<Request, Fault>
+        ensures { Reads get_request_parts (MayGrowAt get_request_table (item_of value.now)) (read_get_request (item_of value.now)) result }
+    {
+        read_record::<RequestSlots>(alloc, value)
+    }
+
+    /// The request's bytes: members by their numbers in the table's order, each where it is there,
+    /// the options always. `OutOfMemory` where a growth was refused.
+    pub fn to_vec(&self, alloc: Global) -> Result<Vec<u8>, WriteFault>
+        ensures written { IfOk result (λ bytes. bytes.items ≡ written (get_request_tree (get_request_parts self.now))) }
+        ensures writable { OnOk result (IsWritable (get_request_tree (get_request_parts self.now))) }
+        ensures fits { OnOk result (GetRequestFits (get_request_parts self.now)) }
+        ensures memory { IfErr result (λ e. e ≡ NoMemory) }
+    {
+        write_message(alloc, self)
+    }
+
+    /// Whether what `to_vec` writes is read back: it has at most 256 levels. It takes no memory.
+    pub fn is_coherent(&self) -> bool
+        ensures { result ≡ is_get_request_coherent (get_request_parts self.now) }
+    {
+        match &self.extensions {
+            Some(extensions) => extensions.fits_in_message(),
+            None => true,
+        }
+    }
+}

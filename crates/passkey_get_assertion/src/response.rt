@@ -1,0 +1,189 @@
+//! Responses to requests to use a credential.
+ghost use Rattle.std.specs.Prelude.{◌≡◌, IfOk, IfErr, OnOk};
+ghost use Rattle.passkey_cbor.specs.View.{item_of};
+ghost use Rattle.passkey_cbor.specs.Writable.{IsWritable};
+ghost use Rattle.passkey_cbor.specs.Written.{written};
+ghost use Rattle.passkey_get_assertion.specs.GetResponse.{GetResponseParts, GetResponseValues, get_response_table, get_response_values, get_response_of, read_get_response, get_response_tree, GetResponseFits, is_get_response_coherent};
+ghost use Rattle.passkey_get_assertion.specs.GetResponseHeld.{get_response_held};
+ghost use Rattle.passkey_get_assertion.specs.GetResponseView.{get_response_parts};
+ghost use Rattle.passkey_kinds.specs.Message.{ReadsMessage};
+ghost use Rattle.passkey_kinds.specs.Reading.{MayGrowAt, Reads};
+ghost use Rattle.passkey_kinds.specs.declared.write_fault.WriteFault.TheVariants.{OutOfMemory as NoMemory};
+
+use passkey_bytes::Bytes;
+use passkey_cbor::{OutOfMemory, Value};
+use passkey_core::AuthenticatorData;
+use passkey_extensions::get_assertion::UnsignedExtensionOutputs;
+use passkey_kinds::{
+    Fault, Refusal, Row, Slots, ToCbor, WriteFault, Written, read_into, read_message, read_record,
+    write_message,
+};
+use passkey_make_credential::PublicKeyCredentialUserEntity;
+use passkey_webauthn::PublicKeyCredentialDescriptor;
+use std::alloc::Global;
+
+/// What an authenticator answers to a request to use a credential (CTAP 2.1, section 6.2).
+#[derive(Drop)]
+pub struct Response {
+    /// 0x01: which credential was used; it may lack where one was allowed.
+    pub credential: Option<PublicKeyCredentialDescriptor>,
+    /// 0x02: what the authenticator says of the credential's use.
+    pub auth_data: AuthenticatorData,
+    /// 0x03: the signature of the authenticator data and the hash of the client data.
+    pub signature: Bytes,
+    /// 0x04: whose the credential is.
+    pub user: Option<PublicKeyCredentialUserEntity>,
+    /// 0x05: how many credentials there are for the relying party.
+    pub number_of_credentials: Option<u8>,
+    /// 0x06: whether the user chose the credential.
+    pub user_selected: Option<bool>,
+    /// 0x07: the key of the credential's large blob.
+    pub large_blob_key: Option<Bytes>,
+    /// 0x08: what extensions answer beside the authenticator data.
+    pub unsigned_extension_outputs: Option<UnsignedExtensionOutputs>,
+}
+
+#[derive(Drop)]
+struct ResponseSlots {
+    credential: Option<Option<PublicKeyCredentialDescriptor>>,
+    auth_data: Option<AuthenticatorData>,
+    signature: Option<Bytes>,
+    user: Option<Option<PublicKeyCredentialUserEntity>>,
+    number_of_credentials: Option<Option<u8>>,
+    user_selected: Option<Option<bool>>,
+    large_blob_key: Option<Option<Bytes>>,
+    unsigned_extension_outputs: Option<Option<UnsignedExtensionOutputs>>,
+}
+
+impl Slots for ResponseSlots {
+    type Of = Response;
+
+    ghost Held = { GetResponseValues };
+
+    ghost held = { get_response_held };
+
+    ghost Meaning = { GetResponseParts };
+
+    ghost view = { get_response_parts };
+
+    ghost table = { get_response_table };
+
+    ghost values = { get_response_values };
+
+    ghost build = { get_response_of };
+
+    fn is_numbered() -> bool {
+        true
+    }
+
+    fn rows() -> &'static [Row] {
+        &[
+            Row::Optional(1, "credential"),
+            Row::Required(2, "authData"),
+            Row::Required(3, "signature"),
+            Row::Optional(4, "user"),
+            Row::Optional(5, "numberOfCredentials"),
+            Row::Optional(6, "userSelected"),
+            Row::Optional(7, "largeBlobKey"),
+            Row::Optional(8, "unsignedExtensionOutputs"),
+        ]
+    }
+
+    fn empty() -> ResponseSlots {
+        ResponseSlots {
+            credential: None,
+            auth_data: None,
+            signature: None,
+            user: None,
+            number_of_credentials: None,
+            user_selected: None,
+            large_blob_key: None,
+            unsigned_extension_outputs: None,
+        }
+    }
+
+    fn put(&mut self, alloc: Global, number: u8, value: &Value) -> Result<(), Refusal> {
+        match number {
+            1 => read_into(&mut self.credential, alloc, value),
+            2 => read_into(&mut self.auth_data, alloc, value),
+            3 => read_into(&mut self.signature, alloc, value),
+            4 => read_into(&mut self.user, alloc, value),
+            5 => read_into(&mut self.number_of_credentials, alloc, value),
+            6 => read_into(&mut self.user_selected, alloc, value),
+            7 => read_into(&mut self.large_blob_key, alloc, value),
+            8 => read_into(&mut self.unsigned_extension_outputs, alloc, value),
+            _ => Err(Refusal::Refused),
+        }
+    }
+
+    fn finish(self) -> Option<Response> {
+        Some(Response {
+            credential: self.credential.unwrap_or(None),
+            auth_data: self.auth_data?,
+            signature: self.signature?,
+            user: self.user.unwrap_or(None),
+            number_of_credentials: self.number_of_credentials.unwrap_or(None),
+            user_selected: self.user_selected.unwrap_or(None),
+            large_blob_key: self.large_blob_key.unwrap_or(None),
+            unsigned_extension_outputs: self.unsigned_extension_outputs.unwrap_or(None),
+        })
+    }
+}
+
+impl ToCbor for Response {
+    ghost tree = { λ r. get_response_tree (get_response_parts r) };
+
+    ghost fits = { λ r. GetResponseFits (get_response_parts r) };
+
+    fn to_value(&self, alloc: Global) -> Result<Value, OutOfMemory> {
+        let mut members = Written::new(alloc);
+        members.put_some(alloc, 1_u8, &self.credential)?;
+        members.put(alloc, 2_u8, &self.auth_data)?;
+        members.put(alloc, 3_u8, &self.signature)?;
+        members.put_some(alloc, 4_u8, &self.user)?;
+        members.put_some(alloc, 5_u8, &self.number_of_credentials)?;
+        members.put_some(alloc, 6_u8, &self.user_selected)?;
+        members.put_some(alloc, 7_u8, &self.large_blob_key)?;
+        members.put_some(alloc, 8_u8, &self.unsigned_extension_outputs)?;
+        Ok(members.into_value())
+    }
+}
+
+impl Response {
+    /// The response that begins the bytes, and how many bytes it has. `DecodeFailed` exactly where no
+    /// well-formed item of at most 256 levels begins them; else the fault that `from_value` tells of
+    /// the item; `OutOfMemory` where a growth was refused.
+    pub fn from_slice(alloc: Global, bytes: &[u8]) -> Result<(Response, usize), Fault>
+        ensures { ReadsMessage get_response_parts read_get_response bytes.now result }
+    {
+        read_message::<ResponseSlots>(alloc, bytes)
+    }
+
+    /// The response that the item is. Else `NotAMap`, or the first fault of its members in their
+    /// order (`BadKey`, `Repeated`, `Refused`), or the first required one that lacks (`Missing`);
+    /// `OutOfMemory` where a growth was refused. Unknown members are passed over.
+    pub fn from_value(alloc: Global, value: &Value) -> Result<Response, Fault>
+        ensures { Reads get_response_parts (MayGrowAt get_response_table (item_of value.now)) (read_get_response (item_of value.now)) result }
+    {
+        read_record::<ResponseSlots>(alloc, value)
+    }
+
+    /// The response's bytes: members by their numbers in the table's order, each where it is there.
+    /// `OutOfMemory` where a growth was refused.
+    pub fn to_vec(&self, alloc: Global) -> Result<Vec<u8>, WriteFault>
+        ensures written { IfOk result (λ bytes. bytes.items ≡ written (get_response_tree (get_response_parts self.now))) }
+        ensures writable { OnOk result (IsWritable (get_response_tree (get_response_parts self.now))) }
+        ensures fits { OnOk result (GetResponseFits (get_response_parts self.now)) }
+        ensures memory { IfErr result (λ e. e ≡ NoMemory) }
+    {
+        write_message(alloc, self)
+    }
+
+    /// Whether what `to_vec` writes is read back: the authenticator data are coherent. All else is
+    /// written with few levels. It takes no memory.
+    pub fn is_coherent(&self) -> bool
+        ensures { result ≡ is_get_response_coherent (get_response_parts self.now) }
+    {
+        self.auth_data.is_coherent()
+    }
+}
