@@ -1,0 +1,3 @@
+pub mod GetInfoBack
+pub mod GetInfoLevels
+pub mod GetInfos

@@ -1,0 +1,47 @@
+-- Versions and extensions that an authenticator tells of, by their names (CTAP 2.1, section 6.4).
+use Rattle.std.specs.Prelude.{ℕ, List, [], ◌∷◌, Some, codes, unwrap_or}
+use Rattle.passkey_cbor.specs.Item.{Item, text_string}
+use Rattle.passkey_kinds.specs.Kind.{Kind, one_named}
+use Rattle.passkey_get_info.specs.declared.extension.Extension.{Extension}
+use Rattle.passkey_get_info.specs.declared.extension.Extension.TheVariants as extensions
+use Rattle.passkey_get_info.specs.declared.version.Version.{Version}
+use Rattle.passkey_get_info.specs.declared.version.Version.TheVariants as versions
+use Rattle.passkey_webauthn.specs.Names.{named_in}
+
+abbrev pub version_name : Version → List ℕ
+version_name versions.FIDO_2_0 = codes "FIDO_2_0"
+version_name versions.FIDO_2_1 = codes "FIDO_2_1"
+version_name (versions.Unknown name) = name
+
+-- each name is a version's
+abbrev pub version_named : List ℕ → Version
+version_named name = unwrap_or (named_in version_name (versions.FIDO_2_0 ∷ versions.FIDO_2_1 ∷ []) name) (versions.Unknown name)
+
+abbrev pub version : Kind Version
+version = one_named (λ name. Some (version_named name))
+
+abbrev pub version_tree : Version → Item
+version_tree v = text_string (version_name v)
+
+-- an unknown version of a known name is the known one
+abbrev pub normal_version : Version → Version
+normal_version v = version_named (version_name v)
+
+abbrev pub extension_name : Extension → List ℕ
+extension_name extensions.HmacSecret = codes "hmac-secret"
+extension_name extensions.HmacSecretMakeCredential = codes "hmac-secret-mc"
+extension_name extensions.Prf = codes "prf"
+extension_name (extensions.Unknown name) = name
+
+-- each name is an extension's
+abbrev pub extension_named : List ℕ → Extension
+extension_named name = unwrap_or (named_in extension_name (extensions.HmacSecret ∷ extensions.HmacSecretMakeCredential ∷ extensions.Prf ∷ []) name) (extensions.Unknown name)
+
+abbrev pub extension : Kind Extension
+extension = one_named (λ name. Some (extension_named name))
+
+abbrev pub extension_tree : Extension → Item
+extension_tree e = text_string (extension_name e)
+
+abbrev pub normal_extension : Extension → Extension
+normal_extension e = extension_named (extension_name e)

@@ -1,0 +1,18 @@
+//! Laws of the messages of what an authenticator tells of itself, each the contract of a function without effect.
+ghost use Rattle.passkey_get_info.specs.GetInfo.{read_get_info};
+ghost use Rattle.passkey_get_info.specs.GetInfoTree.{get_info_tree, GetInfoFits, is_get_info_coherent, normal_get_info};
+ghost use Rattle.passkey_kinds.specs.MessageLaws.{WrittenIsReadBack, ReadIsCoherent};
+
+/// What is written of what an authenticator tells of itself, where that is coherent, is read as the
+/// response with the known variants of unknown versions and extensions of known names, whatever
+/// bytes follow.
+pub fn written_get_info_is_read_back()
+    ensures { WrittenIsReadBack read_get_info get_info_tree GetInfoFits is_get_info_coherent normal_get_info }
+{
+    passkey_cbor::laws::written_is_front();
+}
+
+/// What was read of bytes of what an authenticator tells of itself is coherent.
+pub fn read_get_info_is_coherent()
+    ensures { ReadIsCoherent read_get_info is_get_info_coherent }
+{}

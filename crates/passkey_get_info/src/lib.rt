@@ -1,0 +1,17 @@
+//! What an authenticator tells of itself (CTAP 2.1, section 6.4).
+#![tactic(auto)]
+
+mod extension;
+pub mod laws;
+mod options;
+mod response;
+mod version;
+mod writing;
+
+pub use extension::Extension;
+pub use options::Options;
+pub use response::Response;
+pub use version::Version;
+
+#[cfg(test)]
+mod tests;

@@ -1,0 +1,299 @@
+//! What an authenticator can do.
+ghost use Rattle.std.specs.Prelude.{◌≡◌, true};
+ghost use Rattle.passkey_get_info.specs.GetInfoOptions.{OptionsValues, options_table, options_values, options_of, options, options_default, options_tree};
+ghost use Rattle.passkey_get_info.specs.GetInfoOptionsHeld.{options_held};
+ghost use Rattle.passkey_kinds.specs.ReadBack.{Any};
+ghost use Rattle.passkey_get_info.specs.declared.options.Options.{Options as Told};
+
+use passkey_cbor::{OutOfMemory, Value};
+use passkey_kinds::{
+    FromCbor, ReadBack, Refusal, Row, Shallow, Slots, ToCbor, Written, read_into, read_nested,
+};
+use std::alloc::Global;
+
+/// What an authenticator can do, and how it is set up (CTAP 2.1, section 6.4). An option that is
+/// nothing is one that the authenticator doesn't have.
+#[derive(Debug, Drop, PartialEq, Eq)]
+pub struct Options {
+    /// `plat`: whether it is part of the platform, and can't be removed and used on another one.
+    pub plat: bool,
+    /// `rk`: whether it can keep credentials, so that they are found without their ids.
+    pub rk: bool,
+    /// `clientPin`: whether a PIN is set, where it can take one.
+    pub client_pin: Option<bool>,
+    /// `up`: whether it can test that the user is there.
+    pub up: bool,
+    /// `uv`: whether its own verification of the user is set up, where it has one.
+    pub uv: Option<bool>,
+    /// `pinUvAuthToken`: whether it gives tokens of permissions for a PIN or a user verification.
+    pub pin_uv_auth_token: Option<bool>,
+    /// `noMcGaPermissionsWithClientPin`: whether a token for a PIN lacks the permissions to make and to use credentials.
+    pub no_mc_ga_permissions_with_client_pin: Option<bool>,
+    /// `largeBlobs`: whether it keeps large blobs.
+    pub large_blobs: Option<bool>,
+    /// `ep`: whether enterprise attestation is enabled, where it has one.
+    pub ep: Option<bool>,
+    /// `bioEnroll`: whether a biometric template is enrolled, where it can enroll some.
+    pub bio_enroll: Option<bool>,
+    /// `userVerificationMgmtPreview`: the same by the command of `FIDO_2_1_PRE`.
+    pub user_verification_mgmt_preview: Option<bool>,
+    /// `uvBioEnroll`: whether a user verification can give the permission to enroll.
+    pub uv_bio_enroll: Option<bool>,
+    /// `authnrCfg`: whether it can be configured.
+    pub authnr_cfg: Option<bool>,
+    /// `uvAcfg`: whether a user verification can give the permission to configure it.
+    pub uv_acfg: Option<bool>,
+    /// `credMgmt`: whether its credentials can be managed.
+    pub cred_mgmt: Option<bool>,
+    /// `credentialMgmtPreview`: the same by the command of `FIDO_2_1_PRE`.
+    pub credential_mgmt_preview: Option<bool>,
+    /// `setMinPINLength`: whether the least length of a PIN can be set.
+    pub set_min_pin_length: Option<bool>,
+    /// `makeCredUvNotRqd`: whether credentials that are not kept can be made without verifying the user.
+    pub make_cred_uv_not_rqd: Option<bool>,
+    /// `alwaysUv`: whether it always verifies the user, where that can be chosen.
+    pub always_uv: Option<bool>,
+}
+
+impl Default for Options {
+    ghost is_default = { λ options. options ≡ options_default };
+
+    /// It can test that the user is there, and nothing else.
+    fn default() -> Options {
+        Options {
+            plat: false,
+            rk: false,
+            client_pin: None,
+            up: true,
+            uv: None,
+            pin_uv_auth_token: None,
+            no_mc_ga_permissions_with_client_pin: None,
+            large_blobs: None,
+            ep: None,
+            bio_enroll: None,
+            user_verification_mgmt_preview: None,
+            uv_bio_enroll: None,
+            authnr_cfg: None,
+            uv_acfg: None,
+            cred_mgmt: None,
+            credential_mgmt_preview: None,
+            set_min_pin_length: None,
+            make_cred_uv_not_rqd: None,
+            always_uv: None,
+        }
+    }
+}
+
+#[derive(Drop)]
+struct OptionsSlots {
+    plat: Option<bool>,
+    rk: Option<bool>,
+    client_pin: Option<Option<bool>>,
+    up: Option<bool>,
+    uv: Option<Option<bool>>,
+    pin_uv_auth_token: Option<Option<bool>>,
+    no_mc_ga_permissions_with_client_pin: Option<Option<bool>>,
+    large_blobs: Option<Option<bool>>,
+    ep: Option<Option<bool>>,
+    bio_enroll: Option<Option<bool>>,
+    user_verification_mgmt_preview: Option<Option<bool>>,
+    uv_bio_enroll: Option<Option<bool>>,
+    authnr_cfg: Option<Option<bool>>,
+    uv_acfg: Option<Option<bool>>,
+    cred_mgmt: Option<Option<bool>>,
+    credential_mgmt_preview: Option<Option<bool>>,
+    set_min_pin_length: Option<Option<bool>>,
+    make_cred_uv_not_rqd: Option<Option<bool>>,
+    always_uv: Option<Option<bool>>,
+}
+
+impl Slots for OptionsSlots {
+    type Of = Options;
+
+    ghost Held = { OptionsValues };
+
+    ghost held = { options_held };
+
+    ghost Meaning = { Told };
+
+    ghost view = { λ options. options };
+
+    ghost table = { options_table };
+
+    ghost values = { options_values };
+
+    ghost build = { options_of };
+
+    fn is_numbered() -> bool {
+        false
+    }
+
+    fn rows() -> &'static [Row] {
+        &[
+            Row::Optional(1, "plat"),
+            Row::Optional(2, "rk"),
+            Row::Optional(3, "clientPin"),
+            Row::Optional(4, "up"),
+            Row::Optional(5, "uv"),
+            Row::Optional(6, "pinUvAuthToken"),
+            Row::Optional(7, "noMcGaPermissionsWithClientPin"),
+            Row::Optional(8, "largeBlobs"),
+            Row::Optional(9, "ep"),
+            Row::Optional(10, "bioEnroll"),
+            Row::Optional(11, "userVerificationMgmtPreview"),
+            Row::Optional(12, "uvBioEnroll"),
+            Row::Optional(13, "authnrCfg"),
+            Row::Optional(14, "uvAcfg"),
+            Row::Optional(15, "credMgmt"),
+            Row::Optional(16, "credentialMgmtPreview"),
+            Row::Optional(17, "setMinPINLength"),
+            Row::Optional(18, "makeCredUvNotRqd"),
+            Row::Optional(19, "alwaysUv"),
+        ]
+    }
+
+    fn empty() -> OptionsSlots {
+        OptionsSlots {
+            plat: None,
+            rk: None,
+            client_pin: None,
+            up: None,
+            uv: None,
+            pin_uv_auth_token: None,
+            no_mc_ga_permissions_with_client_pin: None,
+            large_blobs: None,
+            ep: None,
+            bio_enroll: None,
+            user_verification_mgmt_preview: None,
+            uv_bio_enroll: None,
+            authnr_cfg: None,
+            uv_acfg: None,
+            cred_mgmt: None,
+            credential_mgmt_preview: None,
+            set_min_pin_length: None,
+            make_cred_uv_not_rqd: None,
+            always_uv: None,
+        }
+    }
+
+    fn put(&mut self, alloc: Global, number: u8, value: &Value) -> Result<(), Refusal> {
+        match number {
+            1 => read_into(&mut self.plat, alloc, value),
+            2 => read_into(&mut self.rk, alloc, value),
+            3 => read_into(&mut self.client_pin, alloc, value),
+            4 => read_into(&mut self.up, alloc, value),
+            5 => read_into(&mut self.uv, alloc, value),
+            6 => read_into(&mut self.pin_uv_auth_token, alloc, value),
+            7 => read_into(&mut self.no_mc_ga_permissions_with_client_pin, alloc, value),
+            8 => read_into(&mut self.large_blobs, alloc, value),
+            9 => read_into(&mut self.ep, alloc, value),
+            10 => read_into(&mut self.bio_enroll, alloc, value),
+            11 => read_into(&mut self.user_verification_mgmt_preview, alloc, value),
+            12 => read_into(&mut self.uv_bio_enroll, alloc, value),
+            13 => read_into(&mut self.authnr_cfg, alloc, value),
+            14 => read_into(&mut self.uv_acfg, alloc, value),
+            15 => read_into(&mut self.cred_mgmt, alloc, value),
+            16 => read_into(&mut self.credential_mgmt_preview, alloc, value),
+            17 => read_into(&mut self.set_min_pin_length, alloc, value),
+            18 => read_into(&mut self.make_cred_uv_not_rqd, alloc, value),
+            19 => read_into(&mut self.always_uv, alloc, value),
+            _ => Err(Refusal::Refused),
+        }
+    }
+
+    fn finish(self) -> Option<Options> {
+        Some(Options {
+            plat: self.plat.unwrap_or(false),
+            rk: self.rk.unwrap_or(false),
+            client_pin: self.client_pin.unwrap_or(None),
+            up: self.up.unwrap_or(true),
+            uv: self.uv.unwrap_or(None),
+            pin_uv_auth_token: self.pin_uv_auth_token.unwrap_or(None),
+            no_mc_ga_permissions_with_client_pin: self
+                .no_mc_ga_permissions_with_client_pin
+                .unwrap_or(None),
+            large_blobs: self.large_blobs.unwrap_or(None),
+            ep: self.ep.unwrap_or(None),
+            bio_enroll: self.bio_enroll.unwrap_or(None),
+            user_verification_mgmt_preview: self.user_verification_mgmt_preview.unwrap_or(None),
+            uv_bio_enroll: self.uv_bio_enroll.unwrap_or(None),
+            authnr_cfg: self.authnr_cfg.unwrap_or(None),
+            uv_acfg: self.uv_acfg.unwrap_or(None),
+            cred_mgmt: self.cred_mgmt.unwrap_or(None),
+            credential_mgmt_preview: self.credential_mgmt_preview.unwrap_or(None),
+            set_min_pin_length: self.set_min_pin_length.unwrap_or(None),
+            make_cred_uv_not_rqd: self.make_cred_uv_not_rqd.unwrap_or(None),
+            always_uv: self.always_uv.unwrap_or(None),
+        })
+    }
+}
+
+impl FromCbor for Options {
+    ghost Meaning = { Told };
+
+    ghost view = { λ options. options };
+
+    ghost kind = { options };
+
+    ghost takes = { true };
+
+    fn from_value(alloc: Global, value: &Value) -> Result<Options, Refusal> {
+        read_nested::<OptionsSlots>(alloc, value)
+    }
+}
+
+impl ToCbor for Options {
+    ghost tree = { options_tree };
+
+    ghost fits = { Any };
+
+    fn to_value(&self, alloc: Global) -> Result<Value, OutOfMemory> {
+        let mut members = Written::new(alloc);
+        members.put(alloc, "plat", &self.plat)?;
+        members.put(alloc, "rk", &self.rk)?;
+        members.put_some(alloc, "clientPin", &self.client_pin)?;
+        members.put(alloc, "up", &self.up)?;
+        members.put_some(alloc, "uv", &self.uv)?;
+        members.put_some(alloc, "pinUvAuthToken", &self.pin_uv_auth_token)?;
+        members.put_some(
+            alloc,
+            "noMcGaPermissionsWithClientPin",
+            &self.no_mc_ga_permissions_with_client_pin,
+        )?;
+        members.put_some(alloc, "largeBlobs", &self.large_blobs)?;
+        members.put_some(alloc, "ep", &self.ep)?;
+        members.put_some(alloc, "bioEnroll", &self.bio_enroll)?;
+        members.put_some(
+            alloc,
+            "userVerificationMgmtPreview",
+            &self.user_verification_mgmt_preview,
+        )?;
+        members.put_some(alloc, "uvBioEnroll", &self.uv_bio_enroll)?;
+        members.put_some(alloc, "authnrCfg", &self.authnr_cfg)?;
+        members.put_some(alloc, "uvAcfg", &self.uv_acfg)?;
+        members.put_some(alloc, "credMgmt", &self.cred_mgmt)?;
+        members.put_some(
+            alloc,
+            "credentialMgmtPreview",
+            &self.credential_mgmt_preview,
+        )?;
+        members.put_some(alloc, "setMinPINLength", &self.set_min_pin_length)?;
+        members.put_some(alloc, "makeCredUvNotRqd", &self.make_cred_uv_not_rqd)?;
+        members.put_some(alloc, "alwaysUv", &self.always_uv)?;
+        Ok(members.into_value())
+    }
+}
+
+impl ReadBack for Options {
+    ghost normal = { λ o. o };
+
+    #[tactic(auto, using(crate::proofs::GetInfoBack::options_back))]
+    fn read_back() {}
+}
+
+impl Shallow for Options {
+    ghost levels = { 1 };
+
+    #[tactic(auto, using(crate::proofs::GetInfoLevels::options_levels))]
+    fn shallow() {}
+}

@@ -1,0 +1,83 @@
+//! Versions of CTAP.
+ghost use Rattle.std.specs.Prelude.{◌≡◌, true, IfOk};
+ghost use Rattle.passkey_get_info.specs.GetInfoNames.{version_name, version_named, version, version_tree, normal_version};
+ghost use Rattle.passkey_kinds.specs.ReadBack.{Any};
+ghost use Rattle.passkey_get_info.specs.declared.version.Version.{Version as Told};
+
+use passkey_bytes::Text;
+use passkey_cbor::{OutOfMemory, Value};
+use passkey_kinds::{FromCbor, ReadBack, Refusal, Shallow, ToCbor};
+use std::alloc::Global;
+
+/// A version of CTAP that an authenticator supports (CTAP 2.1, section 6.4).
+#[derive(Debug, Drop, PartialEq, Eq)]
+pub enum Version {
+    /// CTAP 2.0.
+    FIDO_2_0,
+    /// CTAP 2.1.
+    FIDO_2_1,
+    /// One of another name. Where it holds one of the names above, it is read back as that version.
+    Unknown(Text),
+}
+
+impl Version {
+    fn from_name(alloc: Global, name: &str) -> Result<Version, OutOfMemory>
+        ensures { IfOk result (λ v. v ≡ version_named name.now) }
+    {
+        match name {
+            "FIDO_2_0" => Ok(Version::FIDO_2_0),
+            "FIDO_2_1" => Ok(Version::FIDO_2_1),
+            _ => Ok(Version::Unknown(Text::from_str(alloc, name)?)),
+        }
+    }
+
+    fn name(&self) -> &str
+        ensures { result.now ≡ version_name self.now }
+    {
+        match self {
+            Version::FIDO_2_0 => "FIDO_2_0",
+            Version::FIDO_2_1 => "FIDO_2_1",
+            Version::Unknown(name) => name.as_str(),
+        }
+    }
+}
+
+impl FromCbor for Version {
+    ghost Meaning = { Told };
+
+    ghost view = { λ v. v };
+
+    ghost kind = { version };
+
+    ghost takes = { true };
+
+    fn from_value(alloc: Global, value: &Value) -> Result<Version, Refusal> {
+        match value {
+            Value::Text(name) => Ok(Version::from_name(alloc, name.as_str())?),
+            _ => Err(Refusal::Refused),
+        }
+    }
+}
+
+impl ToCbor for Version {
+    ghost tree = { version_tree };
+
+    ghost fits = { Any };
+
+    fn to_value(&self, alloc: Global) -> Result<Value, OutOfMemory> {
+        self.name().to_value(alloc)
+    }
+}
+
+impl ReadBack for Version {
+    ghost normal = { normal_version };
+
+    #[tactic(auto, using(crate::proofs::GetInfoBack::version_back))]
+    fn read_back() {}
+}
+
+impl Shallow for Version {
+    ghost levels = { 0 };
+
+    fn shallow() {}
+}
