@@ -1,0 +1,6 @@
+//! What the extensions hmac-secret and prf are given, and what they answer (CTAP 2.1, section 12.5;
+//! WebAuthn Level 3, section 10.1.4).
+pub use passkey_extensions::{
+    AuthenticatorPrfGetOutputs, AuthenticatorPrfInputs, AuthenticatorPrfMakeOutputs,
+    AuthenticatorPrfValues, HmacGetSecretInput,
+};

@@ -1,0 +1,12 @@
+//! What a platform and an authenticator tell each other (CTAP 2.1).
+pub mod extensions;
+pub mod get_assertion;
+pub mod get_info;
+pub mod make_credential;
+
+pub use passkey_core::{
+    Aaguid, AttestedCredentialData, AttestedCredentialDataIterator, AuthenticatorData,
+    CodeOutOfRange, Ctap2Command, Ctap2Error, ExtensionError, Flags, GivenBack, StatusCode,
+    UnknownSpecError, VendorError,
+};
+pub use passkey_ctap2::{Fault, FromCbor, Refusal, ToCbor, TolerantList, Tolerated, WriteFault, laws};

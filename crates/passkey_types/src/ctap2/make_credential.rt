@@ -1,0 +1,6 @@
+//! Making a credential (CTAP 2.1, section 6.1).
+pub use passkey_ctap2::make_credential::{
+    ExtensionInputs, MissingRpId, Options, PublicKeyCredentialRpEntity,
+    PublicKeyCredentialUserEntity, Request, Response, SignedExtensionOutputs,
+    UnsignedExtensionOutputs,
+};
