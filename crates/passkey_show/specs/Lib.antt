@@ -1,4 +1,5 @@
 pub mod Kind
 pub mod Trimmed
 pub mod Fault
+pub mod ShowsJson
 pub mod Shows

@@ -1,11 +1,13 @@
 //! Why a run did not write its output.
-ghost use Rattle.std.specs.Prelude.{◌≡◌, Some};
+ghost use Rattle.std.specs.Prelude.{◌≡◌};
 ghost use Rattle.passkey_cose.specs.CoseErrors.{cose_error_of};
-ghost use Rattle.passkey_show.specs.Fault.{status_of, line_of, fault_of};
+ghost use Rattle.passkey_show.specs.Fault.{status_of, line_of, fault_of, json_fault_of, message_fault_of};
 ghost use Rattle.passkey_show.specs.declared.fault.RunFault.TheVariants.{OutOfMemory as NoMemory};
 
 use passkey_cbor::CborError;
-use passkey_cose::CoseError;
+use passkey_types::cose::CoseError;
+use passkey_types::ctap2::Fault;
+use passkey_types::webauthn::JsonFault;
 use std::alloc::{AllocError, AllocFailed};
 use std::error::Error;
 use std::fmt;
@@ -15,8 +17,16 @@ use std::fmt;
 pub enum RunFault {
     /// The decoded bytes are refused: the line is the refusal's name, the status 1.
     Refused(CoseError),
+    /// The decoded bytes are no message of the kind: the line is the fault's name with the member's
+    /// number, if it has one (`Repeated(1)`), the status 1.
+    MessageRefused(Fault),
+    /// The JSON value is none of the kind: the line is the fault's name with the member's, if it has
+    /// one (`Missing("challenge")`), the status 1.
+    JsonRefused(JsonFault),
     /// The input is no hexadecimal: `BadHex`, 1.
     BadHex,
+    /// The input is no JSON text: `BadJson`, 1.
+    BadJson,
     /// There is not exactly one word, or no kind of that name: `unknown kind`, 2.
     UnknownKind,
     /// A growth was refused: `OutOfMemory`, 3.
@@ -33,7 +43,11 @@ impl RunFault {
         ensures { result ≡ status_of self.now }
     {
         match self {
-            RunFault::Refused(_) | RunFault::BadHex => 1,
+            RunFault::Refused(_)
+            | RunFault::MessageRefused(_)
+            | RunFault::JsonRefused(_)
+            | RunFault::BadHex
+            | RunFault::BadJson => 1,
             RunFault::UnknownKind => 2,
             RunFault::OutOfMemory => 3,
             RunFault::InputFailed | RunFault::OutputFailed => 4,
@@ -43,12 +57,15 @@ impl RunFault {
 
 /// The line on standard error, without its line feed.
 impl fmt::Display for RunFault {
-    ghost output = { λ fault. Some (line_of fault) };
+    ghost output = { line_of };
 
     fn fmt<W: fmt::Write>(&self, f: &mut fmt::Formatter<W>) -> fmt::Result {
         match self {
             RunFault::Refused(refusal) => refusal.fmt(f),
+            RunFault::MessageRefused(fault) => fault.fmt(f),
+            RunFault::JsonRefused(fault) => fault.fmt(f),
             RunFault::BadHex => f.write_str("BadHex"),
+            RunFault::BadJson => f.write_str("BadJson"),
             RunFault::UnknownKind => f.write_str("unknown kind"),
             RunFault::OutOfMemory => f.write_str("OutOfMemory"),
             RunFault::InputFailed => f.write_str("input failed"),
@@ -76,6 +93,28 @@ impl From<CborError> for RunFault {
 
     fn from(error: CborError) -> RunFault {
         RunFault::from(CoseError::from(error))
+    }
+}
+
+impl From<Fault> for RunFault {
+    ghost from_gives = { λ error fault. fault ≡ message_fault_of error };
+
+    fn from(error: Fault) -> RunFault {
+        match error {
+            Fault::OutOfMemory => RunFault::OutOfMemory,
+            refusal => RunFault::MessageRefused(refusal),
+        }
+    }
+}
+
+impl From<JsonFault> for RunFault {
+    ghost from_gives = { λ error fault. fault ≡ json_fault_of error };
+
+    fn from(error: JsonFault) -> RunFault {
+        match error {
+            JsonFault::OutOfMemory => RunFault::OutOfMemory,
+            refusal => RunFault::JsonRefused(refusal),
+        }
     }
 }
 

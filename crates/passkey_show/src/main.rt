@@ -4,6 +4,9 @@
 
 mod fault;
 mod kind;
+mod message;
+mod rewrite_bytes;
+mod rewrite_json;
 mod run;
 #[cfg(test)]
 mod tests;

@@ -1,17 +1,14 @@
-//! One run: the input is read to its end, trimmed, decoded, rewritten, and written out.
-ghost use Rattle.std.specs.Prelude.{◌≡◌, ◌↔◌, ◌⊎◌, IfOk, IfErr, OnOk, OnErr, IfSome, IsNone, IsErr, IsErrOf, string_bytes};
+//! One run: the input is read to its end, rewritten, and written out.
+ghost use Rattle.std.specs.Prelude.{◌≡◌, ◌↔◌, ◌⊎◌, IfOk, IfErr, OnOk, OnErr, IfSome, IsNone, IsErrOf, string_bytes};
 ghost use Rattle.std.specs.Io.KnownBytes.{Appends, IsAtEnd};
-ghost use Rattle.hex.specs.Hex.{decode_of};
 ghost use Rattle.passkey_show.specs.Kind.{kind_named};
-ghost use Rattle.passkey_show.specs.Shows.{Rewrites, IsRefusal, IsOutput, HasNoOutput, AppendsBeginning, Shows};
-ghost use Rattle.passkey_show.specs.declared.fault.RunFault.TheVariants.{BadHex, OutOfMemory, InputFailed, OutputFailed};
+ghost use Rattle.passkey_show.specs.Shows.{AppendsBeginning, HasNoOutput, IsOutput, Shows};
+ghost use Rattle.passkey_show.specs.declared.fault.RunFault.TheVariants.{OutOfMemory, InputFailed, OutputFailed};
 
 use crate::fault::RunFault;
 use crate::kind::Kind;
-use crate::trim::trim;
-use hex::FromHexError;
-use passkey_cbor::Value;
-use passkey_core::AuthenticatorData;
+use crate::rewrite_bytes::rewrite_hex;
+use crate::rewrite_json::rewrite_json;
 use std::alloc::Global;
 use std::io::{Read, Write};
 
@@ -32,17 +29,6 @@ fn read_all<R: Read>(alloc: Global, reader: &mut R) -> Result<Vec<u8>, RunFault>
     Err(RunFault::InputFailed)
 }
 
-fn decode(alloc: Global, text: &[u8]) -> Result<Vec<u8>, RunFault>
-    ensures ok { IfOk result (λ bytes. decode_of text.now ≡ Ok bytes.items) }
-    ensures err { IfErr result (λ fault. (fault ≡ OutOfMemory) ⊎ ((fault ≡ BadHex) × IsErr (decode_of text.now))) }
-{
-    match hex::decode(alloc, text) {
-        Ok(bytes) => Ok(bytes),
-        Err(FromHexError::OutOfMemory) => Err(RunFault::OutOfMemory),
-        Err(_) => Err(RunFault::BadHex),
-    }
-}
-
 fn write_all<W: Write>(writer: &mut W, bytes: &[u8]) -> Result<(), RunFault>
     ensures ok { OnOk result (Appends (W.contents writer.old) (W.contents writer.new) bytes.now) }
     ensures err { IfErr result (λ fault. fault ≡ OutputFailed) }
@@ -58,36 +44,22 @@ fn write_all<W: Write>(writer: &mut W, bytes: &[u8]) -> Result<(), RunFault>
     Ok(())
 }
 
-fn rewrite(alloc: Global, kind: Kind, bytes: &[u8]) -> Result<Vec<u8>, RunFault>
-    ensures ok { IfOk result (λ spelling. Rewrites kind bytes.now spelling.items) }
-    ensures err { IfErr result (IsRefusal kind bytes.now) }
-{
-    match kind {
-        Kind::Cbor => {
-            let (front, _) = Value::from_slice(alloc, bytes)?;
-            Ok(front.to_vec(alloc)?)
-        }
-        Kind::Auth => {
-            let data = AuthenticatorData::from_slice(alloc, bytes)?;
-            Ok(data.to_vec(alloc)?)
-        }
-    }
-}
-
 fn output(alloc: Global, kind: Kind, input: &[u8]) -> Result<String, RunFault>
     ensures ok { IfOk result (λ text. IsOutput kind input.now (string_bytes text)) }
     ensures err { IfErr result (HasNoOutput kind input.now) }
 {
-    let bytes = decode(alloc, trim(input))?;
-    let spelling = rewrite(alloc, kind, bytes.as_slice())?;
-    let mut text = hex::encode(alloc, spelling.as_slice())?;
+    let mut text = match kind {
+        Kind::Bytes(kind) => rewrite_hex(alloc, kind, input)?,
+        Kind::Json(kind) => rewrite_json(alloc, kind, input)?,
+    };
     text.push('\n')?;
     Ok(text)
 }
 
-/// Reads the input to its end, and writes what the kind makes of it in lower-case hexadecimal, with a
-/// line feed. The input is hexadecimal in either case, with tabs, line feeds, carriage returns and
-/// spaces at its ends. A word that names no kind is answered before anything is read.
+/// Reads the input to its end, and writes what the kind makes of it, with a line feed: of bytes, which
+/// the input tells in hexadecimal of either case with tabs, line feeds, carriage returns and spaces at
+/// its ends, lower-case hexadecimal; of a JSON text compact JSON text with bytes in base64url. A word
+/// that names no kind is answered before anything is read.
 pub fn run<R: Read, W: Write>(
     alloc: Global,
     reader: &mut R,

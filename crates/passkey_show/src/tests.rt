@@ -3,6 +3,8 @@
 mod appendix_a;
 mod auth;
 mod failures;
+mod json;
+mod messages;
 mod nesting;
 mod rows;
 mod words;

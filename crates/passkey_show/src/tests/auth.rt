@@ -1,7 +1,7 @@
 // Authenticator data, put together by hand from WebAuthn Level 3, section 6.1.
 use super::{assert_fails_as, assert_shows_as};
 use crate::fault::RunFault;
-use passkey_cose::CoseError;
+use passkey_types::cose::CoseError;
 use std::test::Fail;
 
 const HASH: &str = "74a6ea9213c99c2f74b22492b320cf40262a94c1a950a0397f29250b60841ef0";

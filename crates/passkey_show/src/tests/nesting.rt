@@ -1,6 +1,6 @@
 use super::{assert_fails, assert_shows};
 use crate::fault::RunFault;
-use passkey_cose::CoseError;
+use passkey_types::cose::CoseError;
 use std::alloc::{AllocError, Global};
 use std::test::Fail;
 

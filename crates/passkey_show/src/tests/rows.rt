@@ -1,6 +1,6 @@
 use super::{assert_fails, assert_shows};
 use crate::fault::RunFault;
-use passkey_cose::CoseError;
+use passkey_types::cose::CoseError;
 use std::test::Fail;
 
 // An array of every kind of item in each of its spellings, and what is written of it.

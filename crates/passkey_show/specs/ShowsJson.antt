@@ -1,0 +1,71 @@
+-- What is made of an input in JSON.
+use Rattle.std.specs.Prelude.{◌≡◌, ℕ, List, false, Some, None, Result, Ok, Err, ⊤}
+use Rattle.std.specs.Str.{IsUtf8}
+use Rattle.passkey_client_data.specs.ClientData.{client_data}
+use Rattle.passkey_client_data.specs.ClientDataText.{client_data_text}
+use Rattle.passkey_credentials.specs.AssertionResponse.{assertion_response_in, assertion_response_json}
+use Rattle.passkey_credentials.specs.AttestationResponse.{attestation_response_in, attestation_response_json}
+use Rattle.passkey_credentials.specs.Credential.{credential_in, credential_json}
+use Rattle.passkey_json.specs.Fault.{Fault, Gives}
+use Rattle.passkey_json.specs.Members.{◌>>=◌, Object, in_object, record_kind}
+use Rattle.passkey_json.specs.declared.bytes_form.BytesForm.{BytesForm}
+use Rattle.passkey_json.specs.declared.bytes_form.BytesForm.TheVariants.{Base64Url}
+use Rattle.passkey_json.specs.declared.json_fault.JsonFault.{JsonFault}
+use Rattle.passkey_json.specs.declared.json_fault.JsonFault.TheVariants as json
+use Rattle.passkey_options.specs.CredentialCreation.{credential_creation_in, credential_creation_json}
+use Rattle.passkey_options.specs.CredentialRequest.{credential_request_in, credential_request_json}
+use Rattle.passkey_show.specs.declared.fault.RunFault.{RunFault}
+use Rattle.passkey_show.specs.declared.fault.RunFault.TheVariants.{JsonRefused, BadJson, OutOfMemory}
+use Rattle.passkey_show.specs.declared.kind.JsonKind.{JsonKind}
+use Rattle.passkey_show.specs.declared.kind.JsonKind.TheVariants.{Creation, Request, Created, Authenticated, ClientData}
+use Rattle.serde_json.specs.Data.{Data, no_members}
+use Rattle.serde_json.specs.Read.{read}
+use Rattle.serde_json.specs.Written.{compact_text}
+
+-- the compact text of the record that the value is, with bytes in base64url
+abbrev pub record_rewritten : {A : Type 0} → (Object → Result A Fault) → (BytesForm → A → Data) → Data → Result (List ℕ) Fault
+record_rewritten members json d = in_object members d >>= λ x. Ok (compact_text (json Base64Url x))
+
+-- the text of the client data that the value is, none of whose members is known beside those that all have
+abbrev pub client_data_rewritten : Data → Result (List ℕ) Fault
+client_data_rewritten d = client_data {E = Unit {0}} (λ _. false) (λ _. Ok tt) d >>= client_data_text (λ _. no_members)
+
+-- what a kind makes of a JSON value
+abbrev pub json_rewritten : JsonKind → Data → Result (List ℕ) Fault
+json_rewritten Creation = record_rewritten credential_creation_in credential_creation_json
+json_rewritten Request = record_rewritten credential_request_in credential_request_json
+json_rewritten Created = record_rewritten (credential_in (record_kind attestation_response_in)) (credential_json attestation_response_json)
+json_rewritten Authenticated = record_rewritten (credential_in (record_kind assertion_response_in)) (credential_json assertion_response_json)
+json_rewritten ClientData = client_data_rewritten
+
+-- the bytes are a text in UTF-8, which reads as the JSON value
+abbrev pub IsJson : List ℕ → Data → Type 0
+IsJson input d = IsUtf8 input × (read input ≡ Some d)
+
+-- if the bytes are a text in UTF-8, it reads as no JSON value
+abbrev pub HasNoJson : List ℕ → Type 0
+HasNoJson input = IsUtf8 input → read input ≡ None
+
+-- The input is a JSON value, of which this text is made.
+pub record RewritesJson (rewritten : Data → Result (List ℕ) Fault) (input text : List ℕ) : Type 0 where
+  pub value : Data
+  pub reads : IsJson input value
+  pub made : rewritten value ≡ Ok text
+
+-- The input is a JSON value, of which nothing is made for this fault.
+pub record IsRefusedJson (rewritten : Data → Result (List ℕ) Fault) (input : List ℕ) (fault : JsonFault) : Type 0 where
+  pub value : Data
+  pub reads : IsJson input value
+  pub told : Gives (rewritten value) (Err fault)
+
+-- memory that ran out is no such fault
+abbrev pub RefusesJson : (Data → Result (List ℕ) Fault) → List ℕ → JsonFault → Type 0
+RefusesJson rewritten input json.OutOfMemory = ⊥
+RefusesJson rewritten input fault = IsRefusedJson rewritten input fault
+
+-- why nothing is made of the input; memory can run out at any
+abbrev pub IsJsonRefusal : (Data → Result (List ℕ) Fault) → List ℕ → RunFault → Type 0
+IsJsonRefusal rewritten input (JsonRefused fault) = RefusesJson rewritten input fault
+IsJsonRefusal rewritten input BadJson = HasNoJson input
+IsJsonRefusal rewritten input OutOfMemory = ⊤
+IsJsonRefusal rewritten input _ = ⊥

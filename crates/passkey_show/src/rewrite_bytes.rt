@@ -1,0 +1,72 @@
+//! Bytes that the input tells in hexadecimal, rewritten.
+ghost use Rattle.std.specs.Prelude.{◌≡◌, ◌⊎◌, IfOk, IfErr, IsErr, string_bytes};
+ghost use Rattle.hex.specs.Hex.{decode_of};
+ghost use Rattle.passkey_show.specs.Shows.{HasNoHex, IsMessageRefusal, IsRefusal, Rewrites, RewritesHex, RewritesMessage};
+ghost use Rattle.passkey_show.specs.declared.fault.RunFault.TheVariants.{BadHex, OutOfMemory};
+
+use crate::fault::RunFault;
+use crate::kind::BytesKind;
+use crate::message::Message;
+use crate::trim::trim;
+use hex::FromHexError;
+use passkey_cbor::Value;
+use passkey_types::ctap2::extensions::HmacGetSecretInput;
+use passkey_types::ctap2::{AuthenticatorData, WriteFault, get_assertion, get_info, make_credential};
+use std::alloc::Global;
+
+fn decode(alloc: Global, text: &[u8]) -> Result<Vec<u8>, RunFault>
+    ensures ok { IfOk result (λ bytes. decode_of text.now ≡ Ok bytes.items) }
+    ensures err { IfErr result (λ fault. (fault ≡ OutOfMemory) ⊎ ((fault ≡ BadHex) × IsErr (decode_of text.now))) }
+{
+    match hex::decode(alloc, text) {
+        Ok(bytes) => Ok(bytes),
+        Err(FromHexError::OutOfMemory) => Err(RunFault::OutOfMemory),
+        Err(_) => Err(RunFault::BadHex),
+    }
+}
+
+fn rewrite_message<M: Message>(alloc: Global, bytes: &[u8]) -> Result<Vec<u8>, RunFault>
+    ensures ok { IfOk result (λ spelling. RewritesMessage M.read M.tree bytes.now spelling.items) }
+    ensures err { IfErr result (IsMessageRefusal M.read bytes.now) }
+{
+    let (message, _len) = M::read_bytes(alloc, bytes)?;
+    M::read_is_coherent();
+    match message.to_bytes(alloc) {
+        Ok(spelling) => Ok(spelling),
+        Err(WriteFault::OutOfMemory) => Err(RunFault::OutOfMemory),
+        Err(WriteFault::NumberTooLarge) => unreachable!(),
+    }
+}
+
+fn rewrite(alloc: Global, kind: BytesKind, bytes: &[u8]) -> Result<Vec<u8>, RunFault>
+    ensures ok { IfOk result (λ spelling. Rewrites kind bytes.now spelling.items) }
+    ensures err { IfErr result (IsRefusal kind bytes.now) }
+{
+    match kind {
+        BytesKind::Cbor => {
+            let (front, _) = Value::from_slice(alloc, bytes)?;
+            Ok(front.to_vec(alloc)?)
+        }
+        BytesKind::Auth => {
+            let data = AuthenticatorData::from_slice(alloc, bytes)?;
+            Ok(data.to_vec(alloc)?)
+        }
+        BytesKind::MakeRequest => rewrite_message::<make_credential::Request>(alloc, bytes),
+        BytesKind::MakeResponse => rewrite_message::<make_credential::Response>(alloc, bytes),
+        BytesKind::GetRequest => rewrite_message::<get_assertion::Request>(alloc, bytes),
+        BytesKind::GetResponse => rewrite_message::<get_assertion::Response>(alloc, bytes),
+        BytesKind::Info => rewrite_message::<get_info::Response>(alloc, bytes),
+        BytesKind::HmacInput => rewrite_message::<HmacGetSecretInput>(alloc, bytes),
+    }
+}
+
+/// What the kind makes of the bytes that the input tells in hexadecimal of either case, with tabs, line
+/// feeds, carriage returns and spaces at its ends; in lower-case hexadecimal.
+pub fn rewrite_hex(alloc: Global, kind: BytesKind, input: &[u8]) -> Result<String, RunFault>
+    ensures ok { IfOk result (λ text. RewritesHex kind input.now (string_bytes text)) }
+    ensures err { IfErr result (HasNoHex kind input.now) }
+{
+    let bytes = decode(alloc, trim(input))?;
+    let spelling = rewrite(alloc, kind, bytes.as_slice())?;
+    Ok(hex::encode(alloc, spelling.as_slice())?)
+}
