@@ -11,7 +11,9 @@ use crate::trim::trim;
 use hex::FromHexError;
 use passkey_cbor::Value;
 use passkey_types::ctap2::extensions::HmacGetSecretInput;
-use passkey_types::ctap2::{AuthenticatorData, WriteFault, get_assertion, get_info, make_credential};
+use passkey_types::ctap2::{
+    AuthenticatorData, WriteFault, get_assertion, get_info, make_credential,
+};
 use std::alloc::Global;
 
 fn decode(alloc: Global, text: &[u8]) -> Result<Vec<u8>, RunFault>

@@ -74,7 +74,10 @@ fn refused_json_is_told_by_its_fault(rt: HostRuntime) -> Result<(), Fail> {
     for input in ["{", "", "\u{0}"] {
         assert_fails_as(&rt, "request", input.as_bytes(), RunFault::BadJson);
     }
-    let text = format!(in rt.alloc(); "{}", RunFault::JsonRefused(JsonFault::Missing("challenge")))?;
+    let text = format!(in rt.alloc();
+        "{}",
+        RunFault::JsonRefused(JsonFault::Missing("challenge"))
+    )?;
     assert_eq!(rt; text.as_str(), r#"Missing("challenge")"#);
     Ok(())
 }
