@@ -40,7 +40,7 @@ impl Value {
 impl<'a> Cursor<'a> {
     /// Makes the item at the place, at most 256 levels deep, and passes it. `DecodeFailed` where no
     /// such item stands there, and `OutOfMemory` only where one does that takes memory: then the
-    /// cursor stays. Each item that is made counts one node.
+    /// cursor stays. Each item that is made counts one node. (RFC 8949, section 3.)
     pub fn value(&mut self, alloc: Global) -> Result<Value, CborError>
         ensures front { ReadsValue self.old self.new result }
 

@@ -21,7 +21,8 @@ pub(crate) enum Entry {
 }
 
 impl<'a> Cursor<'a> {
-    /// Passes the item at the place, of at most 256 levels, or stays where none stands.
+    /// Passes the item at the place, of at most 256 levels, and answers true; false where none
+    /// stands there, and then the cursor stays. (RFC 8949, section 3.)
     pub fn skip(&mut self) -> bool
         ensures front { SkipsFront self.old self.new result }
 

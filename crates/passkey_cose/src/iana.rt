@@ -1,5 +1,6 @@
-//! The numbers that IANA's registries of COSE assign, as far as passkeys use them (RFC 9053 and
-//! RFC 8812).
+//! The numbers that IANA's registries "COSE Algorithms" and "COSE Key Types" assign, as far as
+//! passkeys use them, most of them by RFC 9053 and RFC 8812; and those of key operations (RFC 9052,
+//! section 7.1).
 ghost use Rattle.std.specs.Prelude.{◌≡◌, ◌↔◌, ℤ, Option, Some};
 ghost use Rattle.passkey_cose.specs.Iana.{algorithm_number, algorithm_named, key_type_number, key_type_named, key_operation_number, key_operation_named};
 ghost use Rattle.passkey_cose.specs.IanaLaws.{algorithm_named-number, key_type_named-number, key_operation_named-number};
@@ -21,7 +22,7 @@ pub trait EnumI64: Copy {
     ghost numbers_name: { (z : ℤ) (a : Self) → (named z ≡ Some a ↔ number_of a ≡ z) };
 }
 
-/// An algorithm: a signature, or a key agreement.
+/// An algorithm: a signature, or a key agreement (IANA's registry "COSE Algorithms").
 #[derive(Clone, Copy, Debug, PartialEq, Eq)]
 pub enum Algorithm {
     /// RSASSA-PKCS1-v1_5 with SHA-1.
@@ -109,7 +110,7 @@ impl EnumI64 for Algorithm {
     }
 }
 
-/// A kind of key.
+/// A kind of key (IANA's registry "COSE Key Types").
 #[derive(Clone, Copy, Debug, PartialEq, Eq)]
 pub enum KeyType {
     /// No key has it.

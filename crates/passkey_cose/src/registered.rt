@@ -9,7 +9,8 @@ use crate::iana::EnumI64;
 use passkey_cbor::OutOfMemory;
 use std::alloc::Global;
 
-/// A value that a registry assigns, or one that it doesn't, by a number or a text.
+/// A value that a registry assigns, or one that it doesn't, by a number or a text (RFC 9052,
+/// section 7.1).
 #[derive(Debug, Drop)]
 pub enum Registered<T> {
     /// A value of the registry.

@@ -109,7 +109,7 @@ fn push_param(
 }
 
 impl CoseKey {
-    /// The key for this one algorithm.
+    /// The key for this one algorithm: label 3 (RFC 9052, section 7.1).
     pub fn with_algorithm(mut self, alg: Registered<Algorithm>) -> CoseKey
         ensures { key_parts result ≡ record (key_parts self) { alg = Some (named_of alg) } }
     {
@@ -118,7 +118,8 @@ impl CoseKey {
         self
     }
 
-    /// The key under this name. `UnexpectedItem` where the name is empty.
+    /// The key under this name: label 2 (RFC 9052, section 7.1). `UnexpectedItem` where the name is
+    /// empty.
     pub fn with_key_id(mut self, id: Vec<u8>) -> Result<CoseKey, RefusedKey>
         ensures { Becomes (key_parts self) (string_fault id.items) (record (key_parts self) { key_id = Some id.items }) result }
     {
@@ -132,7 +133,8 @@ impl CoseKey {
         Ok(self)
     }
 
-    /// The key with this Base IV. `UnexpectedItem` where it is empty.
+    /// The key with this Base IV: label 5 (RFC 9052, section 7.1). `UnexpectedItem` where it is
+    /// empty.
     pub fn with_base_iv(mut self, iv: Vec<u8>) -> Result<CoseKey, RefusedKey>
         ensures { Becomes (key_parts self) (string_fault iv.items) (record (key_parts self) { base_iv = Some iv.items }) result }
     {
@@ -146,8 +148,8 @@ impl CoseKey {
         Ok(self)
     }
 
-    /// The key for these uses. `UnexpectedItem` where there are none, and where one is written as
-    /// another one is.
+    /// The key for these uses: label 4 (RFC 9052, section 7.1). `UnexpectedItem` where there are
+    /// none, and where one is written as another one is.
     pub fn with_key_ops(mut self, ops: Vec<Registered<KeyOperation>>) -> Result<CoseKey, RefusedKey>
         ensures { Becomes (key_parts self) (key_ops_fault (map named_of ops.items)) (record (key_parts self) { key_ops = map named_of ops.items }) result }
     {
@@ -162,8 +164,9 @@ impl CoseKey {
         Ok(self)
     }
 
-    /// The key with this further parameter, behind the others. `DuplicateMapKey` where the label
-    /// is one of 1 to 5, or stands in the key; else `OutOfMemory` where a growth was refused.
+    /// The key with this further parameter under its label, behind the others (RFC 9052, section
+    /// 7). `DuplicateMapKey` where the label is one of 1 to 5 (section 7.1), or stands in the key;
+    /// else `OutOfMemory` where a growth was refused.
     pub fn with_param(
         mut self,
         alloc: Global,

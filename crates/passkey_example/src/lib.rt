@@ -6,6 +6,7 @@ use passkey_types::ctap2::get_info::Response;
 use std::alloc::Global;
 
 /// Whether an authenticator that tells this of itself can verify its user by itself.
+/// `OutOfMemory` where a growth was refused; another fault where no such message begins the bytes.
 pub fn verifies_users(alloc: Global, told: &[u8]) -> Result<bool, Fault> {
     let (info, _len) = Response::from_slice(alloc, told)?;
     match info.options {

@@ -24,13 +24,13 @@ use std::alloc::Global;
 /// The salts of which the extension hmac-secret is to make secrets (CTAP 2.1, section 12.5).
 #[derive(Debug, Drop, PartialEq)]
 pub struct HmacGetSecretInput {
-    /// The platform's public key, by which both sides agree on a secret of their own.
+    /// 0x01: the platform's public key, by which both sides agree on a secret of their own.
     pub key_agreement: Value,
-    /// One salt or two, encrypted.
+    /// 0x02: one salt or two, encrypted.
     pub salt_enc: Bytes,
-    /// The authentication code of the encrypted salts.
+    /// 0x03: the authentication code of the encrypted salts.
     pub salt_auth: Bytes,
-    /// Which protocol of PIN and user verification both sides agreed by.
+    /// 0x04: which protocol of PIN and user verification both sides agreed by.
     pub pin_uv_auth_protocol: Option<u8>,
 }
 

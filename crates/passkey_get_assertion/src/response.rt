@@ -23,7 +23,7 @@ use passkey_webauthn::PublicKeyCredentialDescriptor;
 use std::alloc::Global;
 
 /// What an authenticator answers to a request to use a credential (CTAP 2.1, section 6.2).
-#[derive(Drop)]
+#[derive(Debug, Drop)]
 pub struct Response {
     /// 0x01: which credential was used; it may lack where one was allowed.
     pub credential: Option<PublicKeyCredentialDescriptor>,

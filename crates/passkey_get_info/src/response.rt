@@ -20,7 +20,7 @@ use std::alloc::Global;
 use std::num::NonZeroU128;
 
 /// What an authenticator tells of itself (CTAP 2.1, section 6.4). What is nothing, it doesn't tell.
-#[derive(Drop, PartialEq, Eq)]
+#[derive(Debug, Drop, PartialEq, Eq)]
 pub struct Response {
     /// 0x01: the versions of CTAP that it supports.
     pub versions: List<Version>,

@@ -34,7 +34,8 @@ pub trait JsonRecord: Drop {
     }
 }
 
-/// The record inside another, where any fault but want of memory refuses it.
+/// The record inside another. `Refused` where the value has another fault than want of memory, as
+/// `from_json` tells them; `OutOfMemory` where a growth was refused.
 pub fn read_nested<R: JsonRecord>(alloc: Global, value: &Value) -> Result<R, Refusal>
     ensures { Answers (record_kind R.members) true (view value.now) result }
 {

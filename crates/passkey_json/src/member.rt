@@ -61,7 +61,8 @@ impl<'a> Member<'a> {
         Member { alloc, name, value }
     }
 
-    /// The value, which must be there.
+    /// The value, which must be there: `Missing` where it isn't. Where it isn't one of its kind,
+    /// `Float` if it holds a float and else `Refused`; `OutOfMemory` where a growth was refused.
     #[tactic(auto, unfolding(crate::specs::Members::required))]
     pub fn required<T: FromJson>(self) -> Result<T, JsonFault>
         ensures { Gives (required T.kind (found self.entry)) result }
@@ -72,7 +73,8 @@ impl<'a> Member<'a> {
         }
     }
 
-    /// The value, or a default where none is there.
+    /// The value, or a default where none is there. Where it isn't one of its kind, `Float` if it
+    /// holds a float and else `Refused`; `OutOfMemory` where a growth was refused.
     #[tactic(auto, unfolding(crate::specs::Members::or_default))]
     pub fn or_default<T: FromJson>(self, default: T) -> Result<T, JsonFault>
         ensures { Gives (or_default default T.kind (found self.entry)) result }
@@ -83,7 +85,8 @@ impl<'a> Member<'a> {
         }
     }
 
-    /// Some value, where one is there.
+    /// Some value, where one is there. Where it isn't one of its kind, `Float` if it holds a float
+    /// and else `Refused`; `OutOfMemory` where a growth was refused.
     #[tactic(auto, unfolding(crate::specs::Members::given))]
     pub fn given<T: FromJson>(self) -> Result<Option<T>, JsonFault>
         ensures { Gives (given T.kind (found self.entry)) result }
@@ -94,7 +97,8 @@ impl<'a> Member<'a> {
         }
     }
 
-    /// The value, or a default where none is there or it is refused. Want of memory isn't tolerated.
+    /// The value, or a default where none is there or it is refused. Want of memory isn't
+    /// tolerated: `OutOfMemory` where a growth was refused, and no other fault.
     #[tactic(auto, unfolding(crate::specs::Members::tolerated))]
     pub fn tolerated<T: FromJson>(self, default: T) -> Result<T, JsonFault>
         ensures { Gives (tolerated default T.kind (found self.entry)) result }
@@ -105,8 +109,9 @@ impl<'a> Member<'a> {
         unless_refused(T::from_value(self.alloc, value), default)
     }
 
-    /// The value, which must be there, or a default where it is refused. Want of memory isn't
-    /// tolerated.
+    /// The value, which must be there, or a default where it is refused. `Missing` where it isn't
+    /// there. Want of memory isn't tolerated: `OutOfMemory` where a growth was refused. There is no
+    /// other fault.
     #[tactic(auto, unfolding(crate::specs::Members::required_tolerated, crate::specs::Members::tolerated))]
     pub fn required_tolerated<T: FromJson>(self, default: T) -> Result<T, JsonFault>
         ensures { Gives (required_tolerated default T.kind (found self.entry)) result }
@@ -117,7 +122,9 @@ impl<'a> Member<'a> {
         self.tolerated(default)
     }
 
-    /// The accepted elements of a list; nothing where none is there. Want of memory isn't tolerated.
+    /// The accepted elements of a list, in their order; nothing where no value is there, or one
+    /// that is no array. Want of memory isn't tolerated: `OutOfMemory` where a growth was refused,
+    /// and no other fault.
     #[tactic(auto, unfolding(crate::specs::Members::accepted_list))]
     pub fn accepted_list<T: FromJson>(self) -> Result<Option<List<T>>, JsonFault>
         ensures { Gives (accepted_list T.kind (found self.entry)) result }

@@ -127,7 +127,8 @@ impl<T: FromCbor> FromCbor for Option<T> {
     }
 }
 
-/// Reads the item into the slot.
+/// Reads the item into the slot. `Refused` where it stands for no value of the type; `OutOfMemory`
+/// where a growth was refused, which only an item lets happen that takes memory.
 pub fn read_into<T: FromCbor>(
     slot: &mut Option<T>,
     alloc: Global,

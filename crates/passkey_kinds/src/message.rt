@@ -13,9 +13,9 @@ use crate::write_fault::WriteFault;
 use passkey_cbor::{CborError, Value};
 use std::alloc::Global;
 
-/// The message that begins the bytes, and how many bytes it has. `DecodeFailed` exactly where no
-/// well-formed item of at most 256 levels begins them; else the item's first fault, as `read_record`
-/// tells it; `OutOfMemory` where a growth was refused.
+/// The message, a map, that begins the bytes, and how many bytes it has (CTAP 2.1, sections 6 and
+/// 8). `DecodeFailed` exactly where no well-formed item of at most 256 levels begins them; else the
+/// item's first fault, as `read_record` tells it; `OutOfMemory` where a growth was refused.
 pub fn read_message<S: Slots>(alloc: Global, bytes: &[u8]) -> Result<(S::Of, usize), Fault>
     ensures { ReadsMessage S.view (read_item S.table S.values S.build) bytes.now result }
 {

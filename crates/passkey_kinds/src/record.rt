@@ -47,7 +47,9 @@ pub trait Slots: Drop {
     fn empty() -> Self
         ensures { held result ≡ values (λ _. None) };
 
-    /// Reads the value into the slot of the row with this number.
+    /// Reads the value into the slot of the row with this number. `Refused` where it isn't one of
+    /// the row's kind, or no row has the number; `OutOfMemory` where a growth was refused, which
+    /// only an item lets happen that takes memory.
     fn put(&mut self, alloc: Global, number: u8, value: &Value) -> Result<(), Refusal>
         ensures { Puts values table.rows number (item_of value.now) (held self.old) (held self.new) result };
 
@@ -120,8 +122,10 @@ fn read_pairs<S: Slots>(alloc: Global, pairs: &[(Value, Value)]) -> Result<S::Of
     }
 }
 
-/// Reads a record: the first fault of its members in the order of the pairs, else the first
-/// required member in the table's order that isn't there, else the record.
+/// Reads a record of a map (CTAP 2.1, sections 6 and 8). `NotAMap` where the item is none; else the
+/// first fault of its members in the order of the pairs (`BadKey`, `Repeated`, `Refused`), else
+/// `Missing` for the first required member in the table's order that isn't there, else the record.
+/// `OutOfMemory` where a growth was refused, which only a member lets happen that takes memory.
 pub fn read_record<S: Slots>(alloc: Global, value: &Value) -> Result<S::Of, Fault>
     ensures { Reads S.view (MayGrowAt S.table (item_of value.now)) (read_item S.table S.values S.build (item_of value.now)) result }
 {
@@ -131,7 +135,9 @@ pub fn read_record<S: Slots>(alloc: Global, value: &Value) -> Result<S::Of, Faul
     }
 }
 
-/// Reads a record that stands in another one, where each fault refuses it.
+/// Reads a record that stands in another one. `Refused` where it has another fault than want of
+/// memory, as `read_record` tells them; `OutOfMemory` where a growth was refused, which only an
+/// item lets happen that takes memory.
 pub fn read_nested<S: Slots>(alloc: Global, value: &Value) -> Result<S::Of, Refusal>
     ensures { Answers S.view (record_kind S.table S.values S.build) true (item_of value.now) result }
 {

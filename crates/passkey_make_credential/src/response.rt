@@ -26,7 +26,7 @@ use std::alloc::Global;
 const MAX_DEPTH: usize = 256;
 
 /// What an authenticator answers to a request to make a credential (CTAP 2.1, section 6.1).
-#[derive(Drop)]
+#[derive(Debug, Drop)]
 pub struct Response {
     /// 0x01: which format the attestation statement has.
     pub fmt: Text,

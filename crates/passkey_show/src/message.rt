@@ -41,11 +41,14 @@ pub trait Message: Drop {
     /// Whether a message can be written, and is read back.
     ghost is_coherent: { Parts → Bool };
 
-    /// The message that begins the bytes, and how many bytes it has.
+    /// The message that begins the bytes, and how many bytes it has. `DecodeFailed` exactly where
+    /// no well-formed item of at most 256 levels begins them; else the item's first fault;
+    /// `OutOfMemory` where a growth was refused.
     fn read_bytes(alloc: Global, bytes: &[u8]) -> Result<(Self, usize), Fault>
         ensures { ReadsMessage parts read bytes.now result };
 
-    /// The message's bytes.
+    /// The message's bytes. `OutOfMemory` where a growth was refused, and no other fault where the
+    /// message is coherent.
     fn to_bytes(&self, alloc: Global) -> Result<Vec<u8>, WriteFault>
         ensures written { IfOk result (λ bytes. bytes.items ≡ written (tree (parts self.now))) }
         ensures memory { is_coherent (parts self.now) ≡ true → IfErr result (λ e. e ≡ NoMemory) };

@@ -62,8 +62,10 @@ fn rewrite(alloc: Global, kind: BytesKind, bytes: &[u8]) -> Result<Vec<u8>, RunF
     }
 }
 
-/// What the kind makes of the bytes that the input tells in hexadecimal of either case, with tabs, line
-/// feeds, carriage returns and spaces at its ends; in lower-case hexadecimal.
+/// What the kind makes of the bytes that the input tells in hexadecimal of either case, with tabs,
+/// line feeds, carriage returns and spaces at its ends; in lower-case hexadecimal. `BadHex` where
+/// the input is no hexadecimal; where the kind refuses the bytes, `MessageRefused` if it is one of
+/// messages and else `Refused`; `OutOfMemory` where a growth was refused.
 pub fn rewrite_hex(alloc: Global, kind: BytesKind, input: &[u8]) -> Result<String, RunFault>
     ensures ok { IfOk result (λ text. RewritesHex kind input.now (string_bytes text)) }
     ensures err { IfErr result (HasNoHex kind input.now) }

@@ -56,10 +56,13 @@ fn output(alloc: Global, kind: Kind, input: &[u8]) -> Result<String, RunFault>
     Ok(text)
 }
 
-/// Reads the input to its end, and writes what the kind makes of it, with a line feed: of bytes, which
-/// the input tells in hexadecimal of either case with tabs, line feeds, carriage returns and spaces at
-/// its ends, lower-case hexadecimal; of a JSON text compact JSON text with bytes in base64url. A word
-/// that names no kind is answered before anything is read.
+/// Reads the input to its end, and writes what the kind makes of it, with a line feed: of bytes,
+/// which the input tells in hexadecimal of either case with tabs, line feeds, carriage returns and
+/// spaces at its ends, lower-case hexadecimal; of a JSON text compact JSON text with bytes in
+/// base64url. `UnknownKind` exactly where the word names no kind: then nothing is read.
+/// `InputFailed` where a read failed, or the input has no end; `OutOfMemory` where a growth was
+/// refused; else a fault of `rewrite_hex` or `rewrite_json`. At all of these nothing is written.
+/// `OutputFailed` where a write failed or took no byte: then not all of the output is written.
 pub fn run<R: Read, W: Write>(
     alloc: Global,
     reader: &mut R,

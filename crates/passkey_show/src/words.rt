@@ -7,7 +7,8 @@ use std::env;
 use std::io::ErrorKind;
 use std::rt::Env;
 
-/// The words after the program's name; or `unknown kind` where one is not UTF-8.
+/// The words after the program's name; or `unknown kind` where one is not UTF-8, and `OutOfMemory`
+/// where a growth was refused.
 pub fn read_words(rt: &(impl Env + AllocGlobal)) -> Result<Vec<String>, RunFault>
     ensures { IfErr result (λ fault. (fault ≡ UnknownKind) ⊎ (fault ≡ OutOfMemory)) }
 {

@@ -9,6 +9,7 @@ pub use passkey_core::{
     CodeOutOfRange, Ctap2Command, Ctap2Error, ExtensionError, Flags, GivenBack, StatusCode,
     UnknownSpecError, VendorError,
 };
+pub use passkey_cose::{CoseError, CoseKeyConversionError, RefusedKey};
 pub use passkey_ctap2::{
     Fault, FromCbor, Refusal, ToCbor, TolerantList, Tolerated, WriteFault, laws,
 };

@@ -1,5 +1,6 @@
 //! The messages of passkeys: what a relying party, a browser and an authenticator tell each other
-//! (WebAuthn Level 3; CTAP 2.1). Everything that users name stands here.
+//! (WebAuthn Level 3; CTAP 2.1). Everything that users name stands here, down to the items of CBOR
+//! and the keys of COSE.
 #![tactic(auto)]
 
 pub mod cose;
@@ -7,6 +8,7 @@ pub mod ctap2;
 pub mod webauthn;
 
 pub use passkey_bytes::{
-    Bytes, BytesFault, List, Map, NotBase64Encoded, OutOfMemory, Text, encoding,
+    Bytes, BytesFault, Key, List, Map, NotBase64Encoded, OutOfMemory, Text, encoding,
 };
+pub use passkey_cbor as cbor;
 pub use passkey_stored::{CredentialExtensions, Passkey, PasskeyBuilder, StoredHmacSecret};

@@ -1,5 +1,5 @@
 use super::*;
-use crate::{Integer, Value};
+use crate::{Integer, Value, item_len};
 use std::alloc::Global;
 use std::test::Fail;
 
@@ -53,6 +53,13 @@ fn stays_where_no_item_stands(rt: HostRuntime) {
     assert!(rt; !cursor.skip());
     assert_eq!(rt; cursor.place(), 0);
     assert!(rt; cursor.count().heads <= 3);
+}
+
+#[test]
+fn tells_how_long_an_item_is(rt: HostRuntime) {
+    assert_eq!(rt; item_len(&[0x9f, 0x18, 0x01, 0xff, 0x00]), Some(4));
+    assert_eq!(rt; item_len(&[0x9f, 0x18, 0x01]), None);
+    assert_eq!(rt; item_len(&[]), None);
 }
 
 #[test]

@@ -74,6 +74,7 @@ fn refused_json_is_told_by_its_fault(rt: HostRuntime) -> Result<(), Fail> {
     for input in ["{", "", "\u{0}"] {
         assert_fails_as(&rt, "request", input.as_bytes(), RunFault::BadJson);
     }
+    assert_fails_as(&rt, "request", &[0x22, 0xff, 0x22], RunFault::BadJson);
     let text = format!(in rt.alloc();
         "{}",
         RunFault::JsonRefused(JsonFault::Missing("challenge"))

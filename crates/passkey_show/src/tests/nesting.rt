@@ -1,6 +1,7 @@
-use super::{assert_fails, assert_shows};
+use super::{assert_fails, assert_fails_as, assert_shows};
 use crate::fault::RunFault;
 use passkey_types::cose::CoseError;
+use passkey_types::webauthn::JsonFault;
 use std::alloc::{AllocError, Global};
 use std::test::Fail;
 
@@ -63,5 +64,15 @@ fn refuses_257_levels(rt: HostRuntime) -> Result<(), Fail> {
             );
         }
     }
+    Ok(())
+}
+
+#[test]
+fn json_has_at_most_127_levels(rt: HostRuntime) -> Result<(), Fail> {
+    let deepest = nested(rt.alloc(), "[", "]", 127, "")?;
+    let no_object = RunFault::JsonRefused(JsonFault::NotAnObject);
+    assert_fails_as(&rt, "request", deepest.as_bytes(), no_object);
+    let deeper = nested(rt.alloc(), "[", "]", 128, "")?;
+    assert_fails_as(&rt, "request", deeper.as_bytes(), RunFault::BadJson);
     Ok(())
 }
