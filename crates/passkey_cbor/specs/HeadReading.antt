@@ -1,4 +1,4 @@
--- Reading a head from left to right. Private clauses and proofs cite it; public ones cite the spellings.
+-- Reading a head from left to right, as `item_within` does. Public clauses speak of heads by their spellings.
 use Rattle.std.specs.Prelude.{ℕ, zero, suc, ◌/◌, ◌%◌, List, [], ◌∷◌, length, take, drop, nat_lt, ◌==◌, if◌then◌else◌, Option, Some, None}
 use Rattle.std.specs.Int.{byte_len, from_be_bytes}
 use Rattle.passkey_cbor.specs.Heads.{Size, one, two, four, eight, width}

@@ -1,4 +1,4 @@
--- Reading an item from left to right. Private clauses and proofs cite it; public ones cite the spellings.
+-- Reading an item from left to right. Public clauses speak of items by their spellings, but for what a law gives as a function (FrontAt) and what follows a head in an item (Inside).
 use Rattle.std.specs.Prelude.{ℕ, zero, suc, pos, negsuc, List, [], ◌∷◌, length, Bool, true, false, nat_lt, ◌==◌, if◌then◌else◌, Option, Some, None}
 use Rattle.std.specs.List.{concat}
 use Rattle.std.specs.Str.{is_utf8}

@@ -26,10 +26,11 @@ Err e >>= next = Err e
 abbrev pub bytes_at : ℕ → List ℕ → Begun (List ℕ)
 bytes_at n bytes = if nat_lt (length bytes) n then Err DecodeFailed else Ok (take n bytes, drop n bytes)
 
--- 32 bytes of hash, a byte of flags, whose bits 1 and 5 are not set, and a counter of 4 bytes, big-endian
+-- data whose flags have bits 1 and 5 not set
 abbrev pub known_only : DataParts → List ℕ → Begun DataParts
 known_only d rest = if bit_and d.flags reserved_flags == 0 then Ok (d, rest) else Err OutOfRangeIntegerValue
 
+-- 32 bytes of hash, a byte of flags, and a counter of 4 bytes, big-endian
 unfoldable pub fixed_at : List ℕ → Begun DataParts
 fixed_at bytes = do
   hash ← bytes_at 32 bytes

@@ -14,7 +14,7 @@ use std::alloc::Global;
 pub struct SignedExtensionOutputs {
     /// `hmac-secret`: whether secrets are derived for the credential.
     pub hmac_secret: Option<bool>,
-    /// `hmac-secret-mc`: the encrypted secrets.
+    /// `hmac-secret-mc` (CTAP 2.2): the encrypted secrets.
     pub hmac_secret_mc: Option<Bytes>,
 }
 

@@ -39,7 +39,7 @@ pub struct Response {
     pub user_selected: Option<bool>,
     /// 0x07: the key of the credential's large blob.
     pub large_blob_key: Option<Bytes>,
-    /// 0x08: what extensions answer beside the authenticator data.
+    /// 0x08: what extensions answer beside the authenticator data (CTAP 2.2).
     pub unsigned_extension_outputs: Option<UnsignedExtensionOutputs>,
 }
 

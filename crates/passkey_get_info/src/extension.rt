@@ -14,7 +14,7 @@ use std::alloc::Global;
 pub enum Extension {
     /// `hmac-secret`: secrets of a credential (CTAP 2.1, section 12.5).
     HmacSecret,
-    /// `hmac-secret-mc`: the same where the credential is made.
+    /// `hmac-secret-mc` (CTAP 2.2): the same where the credential is made.
     HmacSecretMakeCredential,
     /// `prf`: the same by the names of WebAuthn (WebAuthn Level 3, section 10.1.4).
     Prf,

@@ -19,7 +19,8 @@ use passkey_webauthn::{AuthenticatorTransport, PublicKeyCredentialParameters};
 use std::alloc::Global;
 use std::num::NonZeroU128;
 
-/// What an authenticator tells of itself (CTAP 2.1, section 6.4). What is nothing, it doesn't tell.
+/// What an authenticator tells of itself (CTAP 2.1, section 6.4; the members from 0x16 on are of CTAP
+/// 2.2). What is nothing, it doesn't tell.
 #[derive(Debug, Drop, PartialEq, Eq)]
 pub struct Response {
     /// 0x01: the versions of CTAP that it supports.

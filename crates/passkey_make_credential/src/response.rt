@@ -38,7 +38,7 @@ pub struct Response {
     pub ep_att: Option<bool>,
     /// 0x05: the key of the credential's large blob.
     pub large_blob_key: Option<Bytes>,
-    /// 0x06: what extensions answer beside the authenticator data.
+    /// 0x06: what extensions answer beside the authenticator data (CTAP 2.2).
     pub unsigned_extension_outputs: Option<UnsignedExtensionOutputs>,
 }
 

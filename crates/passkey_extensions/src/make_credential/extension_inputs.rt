@@ -19,7 +19,7 @@ use std::alloc::Global;
 pub struct ExtensionInputs {
     /// `hmac-secret`: whether secrets are to be derived for the credential.
     pub hmac_secret: Option<bool>,
-    /// `hmac-secret-mc`: the salts of the first secrets.
+    /// `hmac-secret-mc` (CTAP 2.2): the salts of the first secrets.
     pub hmac_secret_mc: Option<HmacGetSecretInput>,
     /// `prf`: the salts, as they are.
     pub prf: Option<AuthenticatorPrfInputs>,
