@@ -13,6 +13,7 @@ pub mod LeafBack
 pub mod SizedBack
 pub mod MapBack
 pub mod RecordBack
+pub mod SignedBack
 pub mod WrittenLists
 pub mod Levels
 pub mod Messages

@@ -2,7 +2,7 @@
 use Rattle.std.specs.FinMap as fin
 use Rattle.std.specs.List.{All}
 use Rattle.std.proofs.Common.{◌≡◌, ◌∙◌, ℕ, List, map, Some, option_map, refl, sym, ap}
-use Rattle.passkey_bytes.specs.Map.{ByteMap, put_each}
+use Rattle.passkey_bytes.specs.Map.{put_each}
 use Rattle.passkey_bytes.proofs.Placed.{put_each-seen}
 use Rattle.passkey_cbor.specs.Item.{Item}
 use Rattle.passkey_kinds.specs.Kind.{Kind}

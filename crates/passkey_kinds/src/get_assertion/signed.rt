@@ -7,6 +7,7 @@ ghost use Rattle.passkey_core.specs.SignedOutputs.{assertion_item};
 ghost use Rattle.passkey_kinds.specs.ReadBack.{Any};
 
 use crate::from_cbor::{FromCbor, read_into};
+use crate::read_back::ReadBack;
 use crate::record::{Slots, read_nested};
 use crate::refusal::Refusal;
 use crate::rows::Row;
@@ -87,4 +88,11 @@ impl ToCbor for SignedExtensionOutputs {
     fn to_value(&self, alloc: Global) -> Result<Value, OutOfMemory> {
         self.to_value(alloc)
     }
+}
+
+impl ReadBack for SignedExtensionOutputs {
+    ghost normal = { λ outputs. outputs };
+
+    #[tactic(auto, using(crate::proofs::SignedBack::assertion_back))]
+    fn read_back() {}
 }

@@ -1,0 +1,50 @@
+-- The signed outputs of extensions are read back.
+use Rattle.std.proofs.Common.{◌≡◌, ◌∙◌, ℕ, Bool, List, [], ◌∷◌, Option, Some, None, refl, ap}
+use Rattle.passkey_cbor.specs.Item.{boolean, byte_string, text_string}
+use Rattle.passkey_core.specs.SignedOutputs.{creation_item, assertion_item, hmac_secret, hmac_secret_mc}
+use Rattle.passkey_core.specs.declared.get_assertion.SignedExtensionOutputs as assertion
+use Rattle.passkey_core.specs.declared.make_credential.SignedExtensionOutputs as creation
+use Rattle.passkey_kinds.specs.GetSigned as used
+use Rattle.passkey_kinds.specs.MakeSigned as made
+use Rattle.passkey_kinds.specs.ReadBack.{IsReadBack, Any}
+use Rattle.passkey_kinds.specs.Tree.{Place, where_some, record_tree}
+use Rattle.passkey_kinds.proofs.Back.{record_back}
+use Rattle.passkey_kinds.proofs.LeafBack.{truth_back, bytes_back, anything, optional_place}
+
+abbrev creation_places : creation.SignedExtensionOutputs → List Place
+creation_places o =
+    where_some (text_string hmac_secret) boolean o.hmac_secret
+    ∷ where_some (text_string hmac_secret_mc) byte_string o.hmac_secret_mc
+    ∷ []
+
+creation_laid : (made : Option Bool) (secrets : Option (List ℕ)) → creation_item (record { hmac_secret = made; hmac_secret_mc = secrets }) ≡ record_tree (creation_places (record { hmac_secret = made; hmac_secret_mc = secrets }))
+creation_laid None None = refl
+creation_laid None (Some b) = refl
+creation_laid (Some t) None = refl
+creation_laid (Some t) (Some b) = refl
+
+pub creation_back : IsReadBack made.signed creation_item Any (λ o. o)
+creation_back = record { back = λ o h. ap made.signed (creation_laid o.hmac_secret o.hmac_secret_mc) ∙ read o } where
+  read : (o : creation.SignedExtensionOutputs) → made.signed (record_tree (creation_places o)) ≡ Some o
+  read o =
+      let told = optional_place truth_back refl o.hmac_secret (anything o.hmac_secret) in
+      let secrets = optional_place bytes_back refl o.hmac_secret_mc (anything o.hmac_secret_mc) in
+      record_back made.signed_table made.signed_values made.signed_of (1 ∷ 2 ∷ []) (creation_places o) o refl
+      (told.accepted, (secrets.accepted, tt)) refl
+      (λ i. Some (record { hmac_secret = told.value i; hmac_secret_mc = secrets.value i }))
+
+abbrev assertion_places : assertion.SignedExtensionOutputs → List Place
+assertion_places o = where_some (text_string hmac_secret) byte_string o.hmac_secret ∷ []
+
+assertion_laid : (secrets : Option (List ℕ)) → assertion_item (record { hmac_secret = secrets }) ≡ record_tree (assertion_places (record { hmac_secret = secrets }))
+assertion_laid None = refl
+assertion_laid (Some b) = refl
+
+pub assertion_back : IsReadBack used.signed assertion_item Any (λ o. o)
+assertion_back = record { back = λ o h. ap used.signed (assertion_laid o.hmac_secret) ∙ read o } where
+  read : (o : assertion.SignedExtensionOutputs) → used.signed (record_tree (assertion_places o)) ≡ Some o
+  read o =
+      let secrets = optional_place bytes_back refl o.hmac_secret (anything o.hmac_secret) in
+      record_back used.signed_table used.signed_values used.signed_of (1 ∷ []) (assertion_places o) o refl
+      (secrets.accepted, tt) refl
+      (λ i. Some (record { hmac_secret = secrets.value i }))
