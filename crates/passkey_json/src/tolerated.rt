@@ -10,7 +10,7 @@ use std::marker::Model;
 
 /// A value, or nothing where a JSON value stood for none. Want of memory isn't tolerated. A
 /// contract sees it as that option.
-#[derive(Drop)]
+#[derive(Debug, Drop)]
 pub struct Tolerated<T>(pub Option<T>);
 
 impl<T> Model for Tolerated<T> {

@@ -13,7 +13,7 @@ use std::alloc::Global;
 use std::marker::Model;
 
 /// A truth that is also read of its name, `true` or `false`. A contract sees it as that truth.
-#[derive(Drop)]
+#[derive(Debug, Drop)]
 pub struct TruthText(pub bool);
 
 impl Model for TruthText {

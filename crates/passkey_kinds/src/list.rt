@@ -53,7 +53,7 @@ impl<T: FromCbor> FromCbor for List<T> {
 
 /// The values of those elements of an array that stand for one, in their order. Want of memory
 /// isn't tolerated.
-#[derive(Drop)]
+#[derive(Debug, Drop)]
 pub struct TolerantList<T>(pub List<T>);
 
 impl<T: FromCbor> FromCbor for TolerantList<T> {

@@ -8,7 +8,7 @@ use passkey_cbor::Value;
 use std::alloc::Global;
 
 /// A value, or nothing where an item stood for none. Want of memory isn't tolerated.
-#[derive(Drop)]
+#[derive(Debug, Drop)]
 pub struct Tolerated<T>(pub Option<T>);
 
 impl<T: FromCbor> FromCbor for Tolerated<T> {
