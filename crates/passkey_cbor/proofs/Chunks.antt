@@ -4,7 +4,6 @@ use Rattle.std.proofs.Common.{Vec, Global}
 use Rattle.std.specs.List.{concat}
 use Rattle.std.proofs.lemmas.List.{append-nil, length-append}
 use Rattle.std.proofs.lemmas.Str.{IsUtf8-nil, IsUtf8-append, IsUtf8-from_is_utf8, is_utf8-from_IsUtf8}
-use Rattle.passkey_cbor.specs.HeadReading.{Read}
 use Rattle.passkey_cbor.specs.Reading.{chunk, may_stand, step_at, list_at, string_at}
 use Rattle.passkey_cbor.specs.Walk.{Walk, ahead, raised, IsInside}
 use Rattle.passkey_cbor.specs.Steps.{NoHead, ElementRead, EndRead, PieceRead, CountsChunks}
@@ -14,7 +13,7 @@ use Rattle.passkey_cbor.specs.declared.error.CborError.TheVariants as error
 use Rattle.passkey_cbor.proofs.Binds.{some_is, none_is_some, bind_some}
 use Rattle.passkey_cbor.proofs.Behind.{string_chunks}
 use Rattle.passkey_cbor.proofs.Shrinking.{list_left, chunk_left}
-use Rattle.passkey_cbor.proofs.Gathering.{went_then, went_passed, went_stopped, passed_heads, makes_one, makes_nothing, Gathers, gathers_start, gathers_nothing, gathers_end, Here, gathers_here, gathers_on}
+use Rattle.passkey_cbor.proofs.Gathering.{went_then, went_passed, went_stopped, passed_heads, Gathers, gathers_start, gathers_nothing, gathers_end, Here, gathers_here, gathers_on}
 
 -- what was copied of the chunks; a chunk makes no item
 abbrev pub no_nodes : List ℕ → ℕ
@@ -163,23 +162,3 @@ counts_end is_text left a b c bytes g n some = record {
   some = some;
   heads = λ chunks rest e. omega (arith, (gathers_end (chunk is_text) no_nodes None left a b c (Collected a b bytes) g n chunks rest e).done.heads, n.counted);
 }
-
--- ---- a string in one piece
-
-pub piece_made : (is_text : Bool) (read : Read (List ℕ)) (a b : Walk) (s : List ℕ) (v : Vec ℕ Global) → PieceRead is_text read a b s → v.items ≡ s → Makes some_bytes read a b (Ok v)
-piece_made is_text read a b s v p e = makes_one some_bytes read s a b v p.passed p.reads e refl
-
-pub no_piece : (is_text : Bool) (read : Read (List ℕ)) (a b : Walk) → NoHead read a b → Makes some_bytes read a b (Err error.DecodeFailed)
-no_piece is_text read a b n = makes_nothing some_bytes read a b _ (went_stopped a b n.stopped) n.reads
-
-pub piece_full : (is_text : Bool) (read : Read (List ℕ)) (a b : Walk) (s : List ℕ) → PieceRead is_text read a b s → 0 < length s → Makes some_bytes read a b (Err error.OutOfMemory)
-piece_full is_text read a b s p some = record {
-  went = went_passed a b p.passed;
-  made = λ t rest e.
-      let same : s ≡ t = ap (λ (q : List ℕ × List ℕ). q.0) (some_is (s, ahead b) (t, rest) (sym p.reads ∙ e)) in
-      (subst IsNotEmpty same (some_byte s some), omega (arith, p.passed.nodes));
-  heads = λ t rest e. omega (arith, passed_heads a b p.passed, ap (λ (q : List ℕ × List ℕ). length q.1) (some_is (s, ahead b) (t, rest) (sym p.reads ∙ e)));
-} where
-  some_byte : (s : List ℕ) → 0 < length s → IsNotEmpty s
-  some_byte [] lt = absurd (omega arith)
-  some_byte (b ∷ s) lt = tt

@@ -1,13 +1,10 @@
 -- The end of comparing two lists.
-use Rattle.std.proofs.Common.{◌≡◌, ℕ, suc, ◌≤◌, ◌==◌, false, arith, List, [], ◌∷◌, length, drop, refl}
-use Rattle.std.proofs.lemmas.Bool.Decides.{nat_tests}
+use Rattle.std.proofs.Common.{◌≡◌, ℕ, ◌≤◌, ◌==◌, List, [], ◌∷◌, length, drop, refl}
 use Rattle.std.proofs.lemmas.List.{drop_all}
 use Rattle.passkey_cbor.specs.Same.{items_eq, pairs_eq}
 use Rattle.passkey_cbor.specs.View.{items_view, pairs_view}
 use Rattle.passkey_cbor.specs.declared.value.Value.{Value}
-
-not_none : (n : ℕ) → (suc n == 0) ≡ false
-not_none n = grind (arith, nat_tests)
+use Rattle.passkey_cbor.proofs.Emptiness.{not_none}
 
 -- when the first list is at its end, the rest of the other decides
 pub items_eq-end : (a rest : List Value) (i : ℕ) → length a ≤ i → (length rest == 0) ≡ items_eq (items_view (drop i a)) (items_view rest)

@@ -1,5 +1,5 @@
 -- Making values of what is read: one after the other, and the elements of a list.
-use Rattle.std.proofs.Common.{◌≡◌, ℕ, zero, suc, ◌+◌, ◌-◌, ◌<◌, ◌≤◌, List, [], ◌∷◌, ◌++◌, length, map, Option, Some, None, Result, Ok, Err, refl, sym, ap, subst, ◌∙◌, append_assoc, arith}
+use Rattle.std.proofs.Common.{◌≡◌, ℕ, zero, suc, ◌+◌, ◌≤◌, List, [], ◌∷◌, ◌++◌, length, map, Option, Some, None, Result, Ok, Err, refl, sym, ap, subst, ◌∙◌, append_assoc, arith}
 use Rattle.std.proofs.Common.{Vec, Global}
 use Rattle.std.proofs.lemmas.List.{append-nil, length-drop, map-append}
 use Rattle.passkey_cbor.specs.HeadReading.{◌>>=◌, Read}
@@ -333,13 +333,6 @@ gathers_on {X = X} read size all left after a b c d h Done More g n went made = 
 pub not_empty : {X : Type 0} (before others xs : List X) (x : X) → xs ≡ before ++ x ∷ others → IsNotEmpty xs
 not_empty [] others xs x e = subst IsNotEmpty (sym e) tt
 not_empty (y ∷ before) others xs x e = subst IsNotEmpty (sym e) tt
-
--- each element takes a byte, so a loop over them ends
-pub gathers_further : (left after : Option ℕ) (b c d : Walk) (h : Head) → ElementRead left after b c h → Went c d → length d.bytes - d.place < length b.bytes - b.place
-gathers_further left after b c d h r w =
-    let to_c : length c.bytes ≡ length b.bytes = ap length r.passed.same in
-    let to_d : length d.bytes ≡ length c.bytes = ap length w.same in
-    omega (arith, to_c, to_d, r.further, w.forward, w.within)
 
 -- ---- what a loop over the elements answers
 

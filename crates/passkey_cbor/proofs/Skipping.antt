@@ -1,10 +1,10 @@
 -- Passing over what is read: one step after another, and the elements of a list.
-use Rattle.std.proofs.Common.{◌≡◌, ℕ, zero, suc, ◌-◌, ◌<◌, Bool, true, false, List, [], ◌∷◌, ◌++◌, length, Option, Some, None, refl, sym, ap, ◌∙◌, append_assoc, arith}
+use Rattle.std.proofs.Common.{◌≡◌, ℕ, zero, suc, ◌<◌, Bool, true, false, List, [], ◌∷◌, ◌++◌, length, Option, Some, None, refl, sym, ap, ◌∙◌, append_assoc, arith}
 use Rattle.std.proofs.lemmas.List.{length-drop}
-use Rattle.passkey_cbor.specs.HeadReading.{◌>>=◌, Read, head_at}
-use Rattle.passkey_cbor.specs.Reading.{Reader, Step, end, element, start, step_at, after_step, list_by, list_at}
+use Rattle.passkey_cbor.specs.HeadReading.{◌>>=◌, Read}
+use Rattle.passkey_cbor.specs.Reading.{Reader, Step, end, element, step_at, after_step, list_by, list_at}
 use Rattle.passkey_cbor.specs.Walk.{Walk, ahead, IsInside, Passed, Stopped}
-use Rattle.passkey_cbor.specs.Steps.{HeadRead, NoHead, ElementRead, EndRead, PassesOver, Skips}
+use Rattle.passkey_cbor.specs.Steps.{NoHead, ElementRead, EndRead, PassesOver, Skips}
 use Rattle.passkey_cbor.specs.declared.head.Head.{Head}
 use Rattle.passkey_cbor.proofs.Binds.{bind_at, bind_none}
 
@@ -44,11 +44,6 @@ skips_made read make a b false s = record { reads = bind_none read (λ x. Some (
 -- the first of two failed
 pub skips_stuck : {A B : Type 0} (read : Read A) (next : A × List ℕ → Read B) (a b : Walk) → NoHead read a b → NoHead (read >>= next) a b
 skips_stuck read next a b s = record { reads = bind_none read next s.reads; stopped = s.stopped }
-
--- an item: its head, and what is behind it
-pub item_skipped : {A : Type 0} (read : Reader A) (a b c : Walk) (h : Head) (found : Bool) → HeadRead a b h → Skips (read h (ahead b)) b c found → Skips (start read (ahead a)) a c found
-item_skipped read a b c h found r s =
-    skips_after (read h (ahead b)) (start read (ahead a)) a b c found r.passed (bind_at (head_at (ahead a)) (h, ahead b) (λ h. read h.0 h.1) r.reads) s
 
 -- ---- the elements of a list
 
@@ -134,10 +129,3 @@ goes_on read all left after a b c d h g r s = more g.fuel g.enough g.same where
         enough = omega (arith, enough, to_c, to_d, r.further, r.passed.within, s.passed.forward, s.passed.within, length-drop b.place b.bytes, length-drop d.place d.bytes);
         same = same ∙ ap (λ o. o >>= λ xs. Some (g.done ++ xs.0, xs.1)) one ∙ regrouped g.done s.value (list_by read fuel after (ahead d));
       }
-
--- each element takes a byte, so a loop over them ends
-pub goes_further : {A : Type 0} (read : Read A) (left after : Option ℕ) (b c d : Walk) (h : Head) → ElementRead left after b c h → PassesOver read c d → length d.bytes - d.place < length b.bytes - b.place
-goes_further read left after b c d h r s =
-    let to_c : length c.bytes ≡ length b.bytes = ap length r.passed.same in
-    let to_d : length d.bytes ≡ length c.bytes = ap length s.passed.same in
-    omega (arith, to_c, to_d, r.further, s.passed.forward, s.passed.within)

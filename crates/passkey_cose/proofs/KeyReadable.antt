@@ -7,7 +7,7 @@ use Rattle.std.proofs.Common.{◌≡◌, ℕ, ℤ, pos, suc, ◌≤◌, max, [],
 use Rattle.std.proofs.lemmas.Bool.{and_from, le-leb}
 use Rattle.passkey_cbor.specs.Depth.{depth, pairs_depth}
 use Rattle.passkey_cbor.specs.Front.{max_depth}
-use Rattle.passkey_cbor.specs.Item.{Item, number, text_string, map, members, pairs_of, Pairs, no_pairs, pair}
+use Rattle.passkey_cbor.specs.Item.{Item, number, text_string, map, members, pairs_of}
 use Rattle.passkey_cose.specs.Iana.{key_type_named}
 use Rattle.passkey_cose.specs.KeyFaults.{is_signed_64, first_fault}
 use Rattle.passkey_cose.specs.KeyLabels.{Members, is_label, is_common}
@@ -22,6 +22,7 @@ use Rattle.passkey_cose.specs.KeyLaws.{ReadIsReadable}
 use Rattle.passkey_cose.proofs.KeyHeld.{key_type_is}
 use Rattle.passkey_cose.proofs.KeyRound.{sorted_of, type_of, written_members}
 use Rattle.passkey_cose.proofs.KeyDepth.{members_depth-append}
+use Rattle.passkey_cbor.proofs.Items.{pairs_of-members}
 
 -- ---- a key that was read is no deeper than its item
 
@@ -58,10 +59,6 @@ sorted_shallow ms =
     let s = members_depth-append d (e ++ f) in
     let t = members_depth-append e f in
     omega (arith, p, q, r, s, t, under_shallow 1 ms, under_shallow 2 ms, under_shallow 3 ms, under_shallow 4 ms, under_shallow 5 ms, further_shallow ms)
-
-pairs_again : (ps : Pairs) → pairs_of (members ps) ≡ ps
-pairs_again no_pairs = refl
-pairs_again (pair k v ps) = ap (pair k v) (pairs_again ps)
 
 -- ---- its type isn't the reserved one
 
@@ -126,5 +123,5 @@ members_readable ms k e shallow =
     ]) refl e
 
 pub read_is_readable : ReadIsReadable
-read_is_readable (map ps) k e shallow = members_readable (members ps) k e (rw (pairs_again ps) shallow)
+read_is_readable (map ps) k e shallow = members_readable (members ps) k e (rw (pairs_of-members ps) shallow)
 read_is_readable i k e shallow = cc
