@@ -49,7 +49,6 @@ pub struct PublicKeyCredentialCreationOptions {
 impl JsonRecord for PublicKeyCredentialCreationOptions {
     ghost members = { creation_options_in };
 
-    #[tactic(auto, unfolding(crate::specs::CreationOptions::creation_options_in, passkey_json::specs::Members::required, passkey_json::specs::Members::given, passkey_json::specs::Members::or_default, passkey_json::specs::Members::tolerated, passkey_json::specs::Members::accepted_list))]
     fn from_object(object: &Object<'_>) -> Result<PublicKeyCredentialCreationOptions, JsonFault> {
         Ok(PublicKeyCredentialCreationOptions {
             rp: object.member("rp").required()?,
