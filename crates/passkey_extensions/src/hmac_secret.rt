@@ -132,6 +132,9 @@ impl Slots for HmacInputSlots {
         ]
     }
 
+    #[tactic(auto, using(crate::proofs::Sufficient::hmac_input_suffices))]
+    fn required_rows_suffice() {}
+
     fn empty() -> HmacInputSlots {
         HmacInputSlots {
             key_agreement: None,

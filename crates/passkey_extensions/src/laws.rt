@@ -2,6 +2,7 @@
 ghost use Rattle.passkey_extensions.specs.ExtensionTrees.{hmac_input_tree, HmacInputFits, is_hmac_input_coherent};
 ghost use Rattle.passkey_extensions.specs.HmacInput.{read_hmac_input};
 ghost use Rattle.passkey_kinds.specs.MessageLaws.{WrittenIsReadBack, ReadIsCoherent};
+ghost use Rattle.passkey_kinds.specs.TableLaws.{KnowsMaps};
 
 /// What is written of coherent inputs of the extension hmac-secret, whatever bytes follow, is read
 /// back as the inputs.
@@ -14,4 +15,10 @@ pub fn written_hmac_input_is_read_back()
 /// Inputs of the extension hmac-secret that were read of bytes are coherent.
 pub fn read_hmac_input_is_coherent()
     ensures { ReadIsCoherent read_hmac_input is_hmac_input_coherent }
+{}
+
+/// Where an input of the extension hmac-secret is read, `NotAMap` is told of no map.
+#[tactic(auto, using(crate::proofs::Sufficient::hmac_input_knows_maps))]
+pub fn read_hmac_input_knows_maps()
+    ensures { KnowsMaps read_hmac_input }
 {}

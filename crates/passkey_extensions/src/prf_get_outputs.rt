@@ -67,6 +67,9 @@ impl Slots for PrfGetSlots {
         &[Row::Required(1, "results")]
     }
 
+    #[tactic(auto, using(crate::proofs::Sufficient::prf_get_suffices))]
+    fn required_rows_suffice() {}
+
     fn empty() -> PrfGetSlots {
         PrfGetSlots { results: None }
     }

@@ -98,6 +98,8 @@ impl Slots for PrfInputsSlots {
         ]
     }
 
+    fn required_rows_suffice() {}
+
     fn empty() -> PrfInputsSlots {
         PrfInputsSlots {
             eval: None,

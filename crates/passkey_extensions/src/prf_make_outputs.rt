@@ -75,6 +75,9 @@ impl Slots for PrfMakeSlots {
         &[Row::Required(1, "enabled"), Row::Optional(2, "results")]
     }
 
+    #[tactic(auto, using(crate::proofs::Sufficient::prf_make_suffices))]
+    fn required_rows_suffice() {}
+
     fn empty() -> PrfMakeSlots {
         PrfMakeSlots {
             enabled: None,

@@ -74,6 +74,9 @@ impl Slots for PrfValuesSlots {
         &[Row::Required(1, "first"), Row::Optional(2, "second")]
     }
 
+    #[tactic(auto, using(crate::proofs::Sufficient::prf_values_suffices))]
+    fn required_rows_suffice() {}
+
     fn empty() -> PrfValuesSlots {
         PrfValuesSlots {
             first: None,

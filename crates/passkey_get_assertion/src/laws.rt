@@ -2,6 +2,7 @@
 ghost use Rattle.passkey_get_assertion.specs.GetRequest.{read_get_request, get_request_tree, GetRequestFits, is_get_request_coherent};
 ghost use Rattle.passkey_get_assertion.specs.GetResponse.{read_get_response, get_response_tree, GetResponseFits, is_get_response_coherent, normal_get_response};
 ghost use Rattle.passkey_kinds.specs.MessageLaws.{WrittenIsReadBack, ReadIsCoherent};
+ghost use Rattle.passkey_kinds.specs.TableLaws.{KnowsMaps};
 
 /// What is written of a coherent request to use a credential, whatever bytes follow, is read as the
 /// request.
@@ -32,3 +33,15 @@ pub fn read_get_response_is_coherent()
 {
     passkey_core::laws::given_data_are_coherent();
 }
+
+/// Where a request to use a credential is read, `NotAMap` is told of no map.
+#[tactic(auto, using(crate::proofs::Sufficient::get_request_knows_maps))]
+pub fn read_get_request_knows_maps()
+    ensures { KnowsMaps read_get_request }
+{}
+
+/// Where a response to a request to use a credential is read, `NotAMap` is told of no map.
+#[tactic(auto, using(crate::proofs::Sufficient::get_response_knows_maps))]
+pub fn read_get_response_knows_maps()
+    ensures { KnowsMaps read_get_response }
+{}

@@ -63,6 +63,8 @@ impl Slots for OptionsSlots {
         &[Row::Optional(1, "up"), Row::Optional(2, "uv")]
     }
 
+    fn required_rows_suffice() {}
+
     fn empty() -> OptionsSlots {
         OptionsSlots { up: None, uv: None }
     }

@@ -85,6 +85,9 @@ impl Slots for RequestSlots {
         ]
     }
 
+    #[tactic(auto, using(crate::proofs::Sufficient::get_request_suffices))]
+    fn required_rows_suffice() {}
+
     fn empty() -> RequestSlots {
         RequestSlots {
             rp_id: None,

@@ -89,6 +89,9 @@ impl Slots for ResponseSlots {
         ]
     }
 
+    #[tactic(auto, using(crate::proofs::Sufficient::get_response_suffices))]
+    fn required_rows_suffice() {}
+
     fn empty() -> ResponseSlots {
         ResponseSlots {
             credential: None,

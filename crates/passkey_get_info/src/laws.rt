@@ -2,6 +2,7 @@
 ghost use Rattle.passkey_get_info.specs.GetInfo.{read_get_info};
 ghost use Rattle.passkey_get_info.specs.GetInfoTree.{get_info_tree, GetInfoFits, is_get_info_coherent, normal_get_info};
 ghost use Rattle.passkey_kinds.specs.MessageLaws.{WrittenIsReadBack, ReadIsCoherent};
+ghost use Rattle.passkey_kinds.specs.TableLaws.{KnowsMaps};
 
 /// What is written of what an authenticator tells of itself, where that is coherent, is read as the
 /// response with the known variants of unknown versions and extensions of known names, whatever
@@ -15,4 +16,10 @@ pub fn written_get_info_is_read_back()
 /// What was read of bytes of what an authenticator tells of itself is coherent.
 pub fn read_get_info_is_coherent()
     ensures { ReadIsCoherent read_get_info is_get_info_coherent }
+{}
+
+/// Where what an authenticator tells of itself is read, `NotAMap` is told of no map.
+#[tactic(auto, using(crate::proofs::Sufficient::get_info_knows_maps))]
+pub fn read_get_info_knows_maps()
+    ensures { KnowsMaps read_get_info }
 {}

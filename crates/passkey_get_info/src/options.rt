@@ -152,6 +152,8 @@ impl Slots for OptionsSlots {
         ]
     }
 
+    fn required_rows_suffice() {}
+
     fn empty() -> OptionsSlots {
         OptionsSlots {
             plat: None,

@@ -159,6 +159,9 @@ impl Slots for ResponseSlots {
         ]
     }
 
+    #[tactic(auto, using(crate::proofs::Sufficient::get_info_suffices))]
+    fn required_rows_suffice() {}
+
     fn empty() -> ResponseSlots {
         ResponseSlots {
             versions: None,

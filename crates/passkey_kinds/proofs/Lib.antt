@@ -7,6 +7,9 @@ pub mod Members
 pub mod Pairs
 pub mod Accepted
 pub mod Unknown
+pub mod FirstBad
+pub mod Required
+pub mod Sufficient
 pub mod SameAnswers
 pub mod Back
 pub mod LeafBack

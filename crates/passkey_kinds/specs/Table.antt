@@ -119,7 +119,7 @@ given kind n m = m n >>= kind
 abbrev pub Build : Type 0 → Type 0 → Type 0
 Build V M = V → Option M
 
--- no table whose required rows are those that the record wants comes to the last case
+-- (no record comes to the last case: what stands under its required rows suffices, TableLaws)
 abbrev pub built : {M : Type 0} → Option ℕ → Option M → Result M Fault
 built (Some n) made = Err (Missing n)
 built None (Some x) = Ok x

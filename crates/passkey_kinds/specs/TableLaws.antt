@@ -1,10 +1,12 @@
 -- Laws of tables and of lists that pass elements over.
-use Rattle.std.specs.Prelude.{◌≡◌, ◌≢◌, ℕ, List, [], ◌∷◌, ◌++◌, Option, Some, None}
+use Rattle.std.specs.Prelude.{◌≡◌, ◌≢◌, ℕ, Bool, true, false, List, [], ◌∷◌, ◌++◌, Option, Some, None, is_some, Result, Err}
 use Rattle.std.specs.List.{All, filter_map}
-use Rattle.passkey_cbor.specs.Item.{Item, array, items_of}
+use Rattle.passkey_cbor.specs.Item.{Item, Pairs, array, map, items_of}
 use Rattle.passkey_kinds.specs.Kind.{Kind, accepted}
 use Rattle.passkey_kinds.specs.Reading.{with_row}
-use Rattle.passkey_kinds.specs.Table.{Table, Naming, row, unknown, wrong, named, Members, accepts_at, Values, Build, read_members}
+use Rattle.passkey_kinds.specs.Table.{Row, Table, Naming, row, unknown, wrong, named, Members, accepts_at, Values, Build, read_members}
+use Rattle.passkey_kinds.specs.declared.fault.Fault.{Fault}
+use Rattle.passkey_kinds.specs.declared.fault.Fault.TheVariants.{NotAMap}
 
 -- A member under a key that the table doesn't know changes nothing, wherever it stands.
 abbrev pub UnknownMemberIsPassedOver : Type 0 → Type 0 → Type 0
@@ -45,3 +47,23 @@ SameAnswers table values (x ∷ xs) (y ∷ ys) = (x.0 ≡ y.0) × AnswersAlike t
 -- alike: it doesn't matter how a key is written, nor which unknown ones stand between them.
 abbrev pub SameAnswersReadAlike : Type 0 → Type 0 → Type 0
 SameAnswersReadAlike V M = (table : Table) (values : Values V) (build : Build V M) (ms ns : Members) → HasNoWrongKey table ms → HasNoWrongKey table ns → SameAnswers table values (known table ms) (known table ns) → read_members table values build ms ≡ read_members table values build ns
+
+-- ---- required rows
+
+-- where a row is required, an item stands there that the row accepts
+abbrev pub IsFilled : Bool → List Row → ℕ → Option Item → Type 0
+IsFilled true rows n (Some i) = accepts_at rows n i ≡ true
+IsFilled true rows n None = ⊥
+IsFilled false rows n found = Unit {0}
+
+abbrev pub AreFilled : Table → List Row → (ℕ → Option Item) → Type 0
+AreFilled table [] found = Unit {0}
+AreFilled table (r ∷ rs) found = IsFilled r.entry.is_required table.rows r.entry.number (found r.entry.number) × AreFilled table rs found
+
+-- What stands under the required rows is all that the record needs.
+abbrev pub RequiredRowsSuffice : {V M : Type 0} → Table → Values V → Build V M → Type 0
+RequiredRowsSuffice table values build = (found : ℕ → Option Item) → AreFilled table table.rows found → is_some (build (values found)) ≡ true
+
+-- No map is told to be none, whatever its members.
+abbrev pub KnowsMaps : {M : Type 0} → (Item → Result M Fault) → Type 0
+KnowsMaps read = (ps : Pairs) → read (map ps) ≢ Err NotAMap

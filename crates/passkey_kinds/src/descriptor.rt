@@ -57,6 +57,9 @@ impl Slots for DescriptorSlots {
         ]
     }
 
+    #[tactic(auto, using(crate::proofs::Sufficient::descriptor_suffices))]
+    fn required_rows_suffice() {}
+
     fn empty() -> DescriptorSlots {
         DescriptorSlots {
             ty: None,

@@ -49,6 +49,9 @@ impl Slots for ParametersSlots {
         &[Row::Required(1, "type"), Row::Required(2, "alg")]
     }
 
+    #[tactic(auto, using(crate::proofs::Sufficient::parameters_suffices))]
+    fn required_rows_suffice() {}
+
     fn empty() -> ParametersSlots {
         ParametersSlots {
             ty: None,

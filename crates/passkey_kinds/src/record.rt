@@ -5,6 +5,7 @@ ghost use Rattle.passkey_kinds.specs.Kind.{Answers};
 ghost use Rattle.passkey_kinds.specs.Reading.{MayGrowIn, MayGrowAt, Reads, Puts, Holds, Steps, are_small, first_unmarked};
 ghost use Rattle.passkey_kinds.specs.Rows.{entry_of};
 ghost use Rattle.passkey_kinds.specs.Table.{Table, Values, Build, Members, entries, read_members, read_item, record_kind};
+ghost use Rattle.passkey_kinds.specs.TableLaws.{RequiredRowsSuffice};
 
 use crate::fault::Fault;
 use crate::refusal::Refusal;
@@ -42,6 +43,10 @@ pub trait Slots: Drop {
     fn rows() -> &'static [Row]
         ensures rows { map entry_of result.now ≡ entries table }
         ensures small { are_small (entries table) ≡ true };
+
+    /// What stands under the required rows is all that the record needs.
+    fn required_rows_suffice()
+        ensures suffice { RequiredRowsSuffice table values build };
 
     /// Slots that hold nothing.
     fn empty() -> Self

@@ -53,6 +53,9 @@ impl Slots for UserSlots {
         ]
     }
 
+    #[tactic(auto, using(crate::proofs::Sufficient::user_suffices))]
+    fn required_rows_suffice() {}
+
     fn empty() -> UserSlots {
         UserSlots {
             id: None,

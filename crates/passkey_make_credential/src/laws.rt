@@ -4,6 +4,7 @@ ghost use Rattle.passkey_core.specs.DataNormal.{IsData, normal_data};
 ghost use Rattle.passkey_make_credential.specs.MakeRequest.{read_make_request, make_request_tree, MakeRequestFits, is_make_request_coherent, normal_make_request};
 ghost use Rattle.passkey_make_credential.specs.MakeResponse.{read_make_response, make_response_tree, MakeResponseFits, is_make_response_coherent, normal_make_response, attestation_tree, unattested};
 ghost use Rattle.passkey_kinds.specs.MessageLaws.{WrittenIsReadBack, ReadIsCoherent};
+ghost use Rattle.passkey_kinds.specs.TableLaws.{KnowsMaps};
 
 /// What is written of a coherent request to make a credential, whatever bytes follow, is read as the
 /// request with options that ask for the user to be there.
@@ -44,3 +45,15 @@ pub fn written_attestation_is_read_back()
     passkey_core::laws::written_data_are_read_back();
     passkey_core::laws::read_is_given();
 }
+
+/// Where a request to make a credential is read, `NotAMap` is told of no map.
+#[tactic(auto, using(crate::proofs::Sufficient::make_request_knows_maps))]
+pub fn read_make_request_knows_maps()
+    ensures { KnowsMaps read_make_request }
+{}
+
+/// Where a response to a request to make a credential is read, `NotAMap` is told of no map.
+#[tactic(auto, using(crate::proofs::Sufficient::make_response_knows_maps))]
+pub fn read_make_response_knows_maps()
+    ensures { KnowsMaps read_make_response }
+{}

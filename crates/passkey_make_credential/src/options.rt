@@ -71,6 +71,8 @@ impl Slots for OptionsSlots {
         ]
     }
 
+    fn required_rows_suffice() {}
+
     fn empty() -> OptionsSlots {
         OptionsSlots {
             rk: None,

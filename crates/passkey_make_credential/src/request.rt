@@ -94,6 +94,9 @@ impl Slots for RequestSlots {
         ]
     }
 
+    #[tactic(auto, using(crate::proofs::Sufficient::make_request_suffices))]
+    fn required_rows_suffice() {}
+
     fn empty() -> RequestSlots {
         RequestSlots {
             client_data_hash: None,

@@ -84,6 +84,9 @@ impl Slots for ResponseSlots {
         ]
     }
 
+    #[tactic(auto, using(crate::proofs::Sufficient::make_response_suffices))]
+    fn required_rows_suffice() {}
+
     fn empty() -> ResponseSlots {
         ResponseSlots {
             fmt: None,

@@ -95,6 +95,9 @@ impl Slots for RpSlots {
         &[Row::Required(1, "id"), Row::Optional(2, "name")]
     }
 
+    #[tactic(auto, using(crate::proofs::Sufficient::rp_suffices))]
+    fn required_rows_suffice() {}
+
     fn empty() -> RpSlots {
         RpSlots {
             id: None,

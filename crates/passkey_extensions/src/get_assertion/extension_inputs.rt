@@ -89,6 +89,8 @@ impl Slots for ExtensionSlots {
         &[Row::Optional(1, "hmac-secret"), Row::Optional(2, "prf")]
     }
 
+    fn required_rows_suffice() {}
+
     fn empty() -> ExtensionSlots {
         ExtensionSlots {
             hmac_secret: None,

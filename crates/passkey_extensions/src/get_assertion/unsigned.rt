@@ -69,6 +69,8 @@ impl Slots for UnsignedSlots {
         &[Row::Optional(1, "prf")]
     }
 
+    fn required_rows_suffice() {}
+
     fn empty() -> UnsignedSlots {
         UnsignedSlots { prf: None }
     }

@@ -96,6 +96,8 @@ impl Slots for ExtensionSlots {
         ]
     }
 
+    fn required_rows_suffice() {}
+
     fn empty() -> ExtensionSlots {
         ExtensionSlots {
             hmac_secret: None,

@@ -47,6 +47,8 @@ impl Slots for SignedSlots {
         &[Row::Optional(1, "hmac-secret")]
     }
 
+    fn required_rows_suffice() {}
+
     fn empty() -> SignedSlots {
         SignedSlots { hmac_secret: None }
     }

@@ -51,6 +51,8 @@ impl Slots for SignedSlots {
         ]
     }
 
+    fn required_rows_suffice() {}
+
     fn empty() -> SignedSlots {
         SignedSlots {
             hmac_secret: None,
