@@ -1,15 +1,15 @@
 -- What the first bad member tells, and what follows where none is bad.
 use Rattle.std.specs.Option.{option_or}
-use Rattle.std.proofs.Common.{◌≡◌, ℕ, Bool, true, false, if◌then◌else◌, [], ◌∷◌, ◌++◌, Option, Some, None, is_some, refl, sym, subst}
+use Rattle.std.proofs.Common.{◌≡◌, ◌≢◌, ℕ, Bool, true, false, if◌then◌else◌, [], ◌∷◌, ◌++◌, Option, Some, None, is_some, Err, refl, sym, subst}
 use Rattle.std.proofs.lemmas.Bool.{eqb-true}
 use Rattle.passkey_cbor.specs.Item.{Item}
-use Rattle.passkey_kinds.specs.Table.{Table, Naming, row, unknown, wrong, named, is_row, Members, found, accepts_at, bad_by, first_bad}
+use Rattle.passkey_kinds.specs.Table.{Table, Naming, row, unknown, wrong, named, is_row, Members, found, accepts_at, bad_by, first_bad, first_missing, Values, Build, built, judged}
 use Rattle.passkey_kinds.specs.declared.fault.Fault.{Fault}
 use Rattle.passkey_kinds.specs.declared.fault.Fault.TheVariants as fault
 
 -- ---- the faults that members have
 
-abbrev pub IsOfMember : Fault → Type 0
+abbrev IsOfMember : Fault → Type 0
 IsOfMember fault.BadKey = Unit {0}
 IsOfMember (fault.Repeated n) = Unit {0}
 IsOfMember (fault.Refused n) = Unit {0}
@@ -29,9 +29,14 @@ either_fault : (a b : Option Fault) (f : Fault) → (a ≡ Some f → IsOfMember
 either_fault None b f p q e = q e
 either_fault (Some g) b f p q e = p e
 
-pub first_bad_fault : (table : Table) (earlier ms : Members) (f : Fault) → first_bad table earlier ms ≡ Some f → IsOfMember f
+first_bad_fault : (table : Table) (earlier ms : Members) (f : Fault) → first_bad table earlier ms ≡ Some f → IsOfMember f
 first_bad_fault table earlier [] f e = absurd cc
 first_bad_fault table earlier (m ∷ ms) f e = either_fault (bad_by table earlier (named table m.0) m.1) (first_bad table (earlier ++ m ∷ []) ms) f (member_fault table earlier (named table m.0) m.1 f) (first_bad_fault table (earlier ++ m ∷ []) ms f) e
+
+-- a fault that no member has is told only where none is bad
+pub told_by_none : {V M : Type 0} (table : Table) (values : Values V) (build : Build V M) (ms : Members) (e : Fault) → (IsOfMember e → ⊥) → (first_bad table [] ms ≡ None → built (first_missing table ms) (build (values (found table ms))) ≢ Err e) → (bad : Option Fault) → first_bad table [] ms ≡ bad → judged table values build ms bad ≢ Err e
+told_by_none table values build ms e other none (Some f) first told = (let same : f ≡ e = cc in other (subst IsOfMember same (first_bad_fault table [] ms f first)))
+told_by_none table values build ms e other none None good told = none good told
 
 -- ---- where none is bad, each row accepts what stands there
 

@@ -1,13 +1,13 @@
 -- Faults of a message that stands at the front of bytes.
-use Rattle.std.proofs.Common.{◌≡◌, ℕ, List, [], Option, Some, None, Err, refl, subst}
+use Rattle.std.proofs.Common.{◌≡◌, ℕ, List, [], Option, Some, None, Err, refl}
 use Rattle.passkey_cbor.specs.Front.{IsFront}
 use Rattle.passkey_cbor.specs.Grows.{Grows}
 use Rattle.passkey_cbor.specs.Item as item
 use Rattle.passkey_cbor.specs.Item.{Item, Pairs, no_pairs, pair, members}
-use Rattle.passkey_kinds.proofs.FirstBad.{IsOfMember, first_bad_fault}
+use Rattle.passkey_kinds.proofs.FirstBad.{told_by_none}
 use Rattle.passkey_kinds.specs.Message.{ReadsMessage}
 use Rattle.passkey_kinds.specs.Reading.{MayGrowAt, Reads}
-use Rattle.passkey_kinds.specs.Table.{Table, Members, found, first_bad, first_missing, Values, Build, built, judged, read_item}
+use Rattle.passkey_kinds.specs.Table.{Table, found, first_bad, first_missing, Values, Build, built, read_item}
 use Rattle.passkey_kinds.specs.declared.fault.Fault.{Fault}
 use Rattle.passkey_kinds.specs.declared.fault.Fault.TheVariants as fault
 
@@ -18,12 +18,8 @@ built_fault (Some n) made e = absurd cc
 built_fault None (Some x) e = absurd cc
 built_fault None None e = absurd cc
 
-judged_fault : {V M : Type 0} (table : Table) (values : Values V) (build : Build V M) (ms : Members) (bad : Option Fault) → first_bad table [] ms ≡ bad → judged table values build ms bad ≡ Err fault.DecodeFailed → ⊥
-judged_fault table values build ms (Some f) found e = (let same : f ≡ fault.DecodeFailed = cc in subst IsOfMember same (first_bad_fault table [] ms f found))
-judged_fault table values build ms None good e = built_fault (first_missing table ms) (build (values (found table ms))) e
-
 read_fault : {V M : Type 0} (table : Table) (values : Values V) (build : Build V M) (i : Item) → read_item table values build i ≡ Err fault.DecodeFailed → ⊥
-read_fault table values build (item.map ps) e = judged_fault table values build (members ps) (first_bad table [] (members ps)) refl e
+read_fault table values build (item.map ps) e = told_by_none table values build (members ps) fault.DecodeFailed (λ h. h) (λ good. built_fault (first_missing table (members ps)) (build (values (found table (members ps))))) (first_bad table [] (members ps)) refl e
 read_fault table values build (item.number z) e = absurd cc
 read_fault table values build (item.byte_string s) e = absurd cc
 read_fault table values build (item.text_string s) e = absurd cc

@@ -1,12 +1,11 @@
 -- What stands under the required rows of a table is all that its record needs.
 use Rattle.std.specs.List.{find}
-use Rattle.std.proofs.Common.{◌≡◌, ◌≢◌, ℕ, Bool, true, false, ◌&&◌, if◌then◌else◌, List, [], ◌∷◌, map, Option, Some, None, is_some, is_none, option_map, Err, refl, sym, subst, ◌∙◌}
+use Rattle.std.proofs.Common.{◌≡◌, ◌≢◌, ℕ, Bool, true, false, ◌&&◌, if◌then◌else◌, List, [], ◌∷◌, map, Option, Some, None, is_some, is_none, option_map, Err, refl, sym, ◌∙◌}
 use Rattle.passkey_cbor.specs.Item.{Item, members}
-use Rattle.passkey_kinds.proofs.FirstBad.{IsOfMember, first_bad_fault, each_accepted}
+use Rattle.passkey_kinds.proofs.FirstBad.{told_by_none, each_accepted}
 use Rattle.passkey_kinds.specs.Kind.{Kind}
-use Rattle.passkey_kinds.specs.Table.{Entry, Row, Table, Members, found, accepts_at, first_bad, first_missing, Values, Build, ◌>>=◌, built, judged, read_item}
+use Rattle.passkey_kinds.specs.Table.{Entry, Row, Table, Members, found, accepts_at, first_bad, first_missing, Values, Build, ◌>>=◌, built, read_item}
 use Rattle.passkey_kinds.specs.TableLaws.{IsFilled, AreFilled, RequiredRowsSuffice, KnowsMaps}
-use Rattle.passkey_kinds.specs.declared.fault.Fault.{Fault}
 use Rattle.passkey_kinds.specs.declared.fault.Fault.TheVariants as fault
 
 -- ---- records, built value by value
@@ -51,13 +50,10 @@ built_known (Some n) made h e = absurd cc
 built_known None (Some x) h e = absurd cc
 built_known None None h e = (let none : false ≡ true = h refl in absurd cc)
 
-judged_known : {V M : Type 0} (table : Table) (values : Values V) (build : Build V M) (ms : Members) → RequiredRowsSuffice table values build → (bad : Option Fault) → first_bad table [] ms ≡ bad → judged table values build ms bad ≢ Err fault.NotAMap
-judged_known table values build ms suffice (Some f) found e =
-    (let same : f ≡ fault.NotAMap = cc in absurd (subst IsOfMember same (first_bad_fault table [] ms f found)))
-judged_known table values build ms suffice None good e =
-    built_known (first_missing table ms) (build (values (found table ms)))
-    (λ none. suffice (found table ms) (all_filled table ms table.rows good (missing_none _ none)))
-    e
-
 pub knows_maps : {V M : Type 0} (table : Table) (values : Values V) (build : Build V M) → RequiredRowsSuffice table values build → KnowsMaps (read_item table values build)
-knows_maps table values build suffice ps = judged_known table values build (members ps) suffice (first_bad table [] (members ps)) refl
+knows_maps table values build suffice ps =
+    let ms = members ps in
+    told_by_none table values build ms fault.NotAMap (λ h. h)
+    (λ good. built_known (first_missing table ms) (build (values (found table ms))) (λ none. suffice (found table ms) (all_filled table ms table.rows good (missing_none _ none))))
+    (first_bad table [] ms)
+    refl
