@@ -1,6 +1,6 @@
 -- What making a `Bytes` from a text answers.
 use Rattle.std.specs.Prelude.{◌<◌, ℕ, Bool, true, false, List, length, Option, Some, None, Result, Ok, Err}
-use Rattle.passkey_cbor.specs.Memory.{Answers}
+use Rattle.passkey_memory.specs.Memory.{Answers}
 use Rattle.passkey_bytes.specs.declared.bytes.BytesFault.{BytesFault}
 use Rattle.passkey_bytes.specs.declared.bytes.BytesFault.TheVariants.{NotBase64Encoded, OutOfMemory}
 use Rattle.passkey_bytes.specs.Encoding.{text_bytes}

@@ -18,7 +18,7 @@ ghost use Rattle.passkey_bytes.specs.BytesLoan.{LendsVec};
 ghost use Rattle.passkey_bytes.specs.List.{GivesItems, LendsItems};
 
 use crate::encoding;
-use passkey_cbor::OutOfMemory;
+use passkey_memory::OutOfMemory;
 use std::alloc::{AllocError, Global};
 use std::error::Error;
 use std::fmt;

@@ -9,7 +9,7 @@ ghost use Rattle.passkey_bytes.specs.Encoding.{base64_bytes, base64url_bytes, ur
 
 use base64::engine::general_purpose::{GeneralPurpose, NO_PAD, STANDARD_NO_PAD, URL_SAFE_NO_PAD};
 use base64::{DecodeAllocError, alphabet};
-use passkey_cbor::OutOfMemory;
+use passkey_memory::OutOfMemory;
 use std::alloc::Global;
 
 fn encode(alloc: Global, engine: &GeneralPurpose, bytes: &[u8]) -> Result<String, OutOfMemory>

@@ -11,5 +11,5 @@ mod text;
 pub use bytes::{Bytes, BytesFault, NotBase64Encoded};
 pub use list::List;
 pub use map::{Key, Map};
-pub use passkey_cbor::OutOfMemory;
+pub use passkey_memory::OutOfMemory;
 pub use text::Text;

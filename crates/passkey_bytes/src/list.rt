@@ -9,7 +9,7 @@ ghost use Rattle.std.specs.List.{AllZip};
 ghost use Rattle.passkey_bytes.specs.List.{GivesItems, LendsItems};
 ghost use Rattle.passkey_bytes.specs.ListLoan.{LendsVec};
 
-use passkey_cbor::OutOfMemory;
+use passkey_memory::OutOfMemory;
 use std::alloc::{AllocError, Global};
 use std::fmt;
 use std::hash::{Hash, Hasher};

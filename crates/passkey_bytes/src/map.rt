@@ -7,7 +7,7 @@ ghost use Rattle.passkey_bytes.specs.SameMaps.{maps_eq-equivalence, maps_eq-part
 
 use crate::bytes::Bytes;
 use crate::text::Text;
-use passkey_cbor::OutOfMemory;
+use passkey_memory::OutOfMemory;
 use std::alloc::{AllocError, AllocFailed, Global};
 use std::collections::HashMap;
 use std::collections::hash_map::{IntoIter, Iter};

@@ -1,5 +1,5 @@
 -- Copying takes memory only where the copied item does.
-use Rattle.std.proofs.Common.{◌≡◌, List, [], ◌∷◌, length, Result, Ok, Err, OnErr, refl, false, IsTrue}
+use Rattle.std.proofs.Common.{◌≡◌, List, [], ◌∷◌, length, refl, false, IsTrue}
 use Rattle.passkey_cbor.specs.Item as spec
 use Rattle.passkey_cbor.specs.View.{items_view, pairs_view}
 use Rattle.passkey_cbor.specs.Grows.{Grows}
@@ -12,7 +12,3 @@ array_grows (v ∷ vs) some = tt
 pub map_grows : (ps : List (Value × Value)) → (length ps ≡ 0 → IsTrue false) → Grows (spec.map (pairs_view ps))
 map_grows [] some = let none : IsTrue false = some refl in cc
 map_grows (p ∷ ps) some = tt
-
-pub on_err : {T E P : Type 0} (r : Result T E) → P → OnErr r P
-on_err (Ok x) p = tt
-on_err (Err e) p = p

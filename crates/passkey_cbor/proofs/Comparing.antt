@@ -4,7 +4,7 @@ use Rattle.std.proofs.lemmas.List.{drop_all}
 use Rattle.passkey_cbor.specs.Same.{items_eq, pairs_eq}
 use Rattle.passkey_cbor.specs.View.{items_view, pairs_view}
 use Rattle.passkey_cbor.specs.declared.value.Value.{Value}
-use Rattle.passkey_cbor.proofs.Emptiness.{not_none}
+use Rattle.passkey_memory.proofs.Emptiness.{not_none}
 
 -- when the first list is at its end, the rest of the other decides
 pub items_eq-end : (a rest : List Value) (i : ℕ) → length a ≤ i → (length rest == 0) ≡ items_eq (items_view (drop i a)) (items_view rest)

@@ -27,5 +27,4 @@ pub mod Lending
 pub mod Naming
 pub mod Joining
 pub mod MapMembers
-pub mod Emptiness
 pub mod Reach

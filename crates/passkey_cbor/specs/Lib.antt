@@ -1,4 +1,3 @@
-pub mod Memory
 pub mod FloatParts
 pub mod Ranges
 pub mod Made

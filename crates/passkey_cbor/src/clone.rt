@@ -4,8 +4,8 @@ ghost use Rattle.passkey_cbor.specs.Item as item;
 ghost use Rattle.passkey_cbor.specs.View.{item_of, pair_of, items_view, pairs_view};
 ghost use Rattle.passkey_cbor.specs.Grows.{Grows};
 
-use crate::error::OutOfMemory;
 use crate::value::Value;
+use passkey_memory::OutOfMemory;
 use std::alloc::Global;
 
 fn copy_bytes(alloc: Global, bytes: &[u8]) -> Result<Vec<u8>, OutOfMemory>

@@ -23,12 +23,13 @@ mod write;
 
 pub use count::Count;
 pub use cursor::Cursor;
-pub use error::{CborError, OutOfMemory};
+pub use error::CborError;
 pub use float::Float;
 pub use head::Head;
 pub use integer::Integer;
 pub use map::members;
 pub use member::Members;
+pub use passkey_memory::OutOfMemory;
 pub use simple::Simple;
 pub use skip::item_len;
 pub use token::{BytesToken, TextToken};

@@ -8,8 +8,8 @@ ghost use Rattle.passkey_cbor.specs.Reading.{may_stand};
 ghost use Rattle.passkey_cbor.specs.Walk.{IsInside};
 
 use crate::cursor::Cursor;
-use crate::error::OutOfMemory;
 use crate::names::name_of;
+use passkey_memory::OutOfMemory;
 use std::alloc::Global;
 use std::marker::Model;
 use std::str;

@@ -7,11 +7,11 @@ ghost use Rattle.passkey_cbor.specs.View.{item_of, items_view, pairs_view};
 ghost use Rattle.passkey_cbor.specs.Written.{shortest_head, float_head, simple_head, written};
 ghost use Rattle.passkey_cbor.specs.Writable.{IsWritable};
 
-use crate::error::OutOfMemory;
 use crate::float::Float;
 use crate::integer::Integer;
 use crate::simple::Simple;
 use crate::value::Value;
+use passkey_memory::OutOfMemory;
 use std::alloc::{AllocError, Global};
 
 /// Appends an initial byte and what follows it.

@@ -10,8 +10,8 @@ use crate::fixed_members::FixedMembers;
 use crate::unknown_members::{known_holds_float, unknown_members};
 use indexmap::IndexMap;
 use passkey_bytes::Text;
-use passkey_cbor::OutOfMemory;
 use passkey_json::{JsonFault, JsonRecord};
+use passkey_memory::OutOfMemory;
 use serde_json::Value;
 use std::alloc::Global;
 

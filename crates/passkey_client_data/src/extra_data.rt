@@ -5,8 +5,8 @@ ghost use Rattle.passkey_json.specs.Fault.{Fault, Gives};
 ghost use Rattle.serde_json.specs.Data.{Members};
 ghost use Rattle.serde_json.specs.View.{members_view};
 
-use passkey_cbor::OutOfMemory;
 use passkey_json::JsonFault;
+use passkey_memory::OutOfMemory;
 use serde_json::{Map, Value};
 use std::alloc::Global;
 

@@ -12,7 +12,7 @@ mod unknown_members;
 pub use client_data::CollectedClientData;
 pub use client_data_type::ClientDataType;
 pub use extra_data::ClientDataExtra;
-pub use passkey_cbor::OutOfMemory;
+pub use passkey_memory::OutOfMemory;
 
 #[cfg(test)]
 mod tests;

@@ -8,8 +8,8 @@ ghost use Rattle.serde_json.specs.Written.{members_have_float};
 
 use crate::extra_data::ClientDataExtra;
 use indexmap::IndexMap;
-use passkey_cbor::OutOfMemory;
 use passkey_json::{JsonFault, holds_float};
+use passkey_memory::OutOfMemory;
 use serde_json::{Map, Value};
 use std::alloc::Global;
 

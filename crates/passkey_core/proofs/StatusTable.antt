@@ -1,7 +1,7 @@
 -- The bytes of the named statuses tell them apart: proofs that the clauses on Ctap2Error cite.
 use Rattle.std.specs.Cmp.{unsigned_Decides}
 use Rattle.std.proofs.Common.{◌≡◌, ◌∙◌, ℕ, nat_eq, Some, refl, sym, ap}
-use Rattle.passkey_cose.specs.TableLaws.{numbered_has}
+use Rattle.passkey_iana.specs.TableLaws.{numbered_has}
 use Rattle.passkey_core.specs.declared.status.ctap2_error.Ctap2Error.{Ctap2Error}
 use Rattle.passkey_core.specs.declared.status.ctap2_error.Ctap2Error.TheVariants as error
 use Rattle.passkey_core.specs.Statuses.{ctap2_error, ctap2_error_byte, ctap2_errors}

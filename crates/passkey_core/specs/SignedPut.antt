@@ -1,7 +1,7 @@
 -- Putting extensions to authenticator data.
 use Rattle.std.specs.Prelude.{◌≡◌, Option, option_map, Result, Ok, Err}
 use Rattle.passkey_cbor.specs.View.{item_of}
-use Rattle.passkey_cbor.specs.declared.error.OutOfMemory.{OutOfMemory}
+use Rattle.passkey_memory.specs.declared.out_of_memory.OutOfMemory.{OutOfMemory}
 use Rattle.passkey_cbor.specs.declared.value.Value.{Value}
 use Rattle.passkey_core.specs.DataViews.{data_parts}
 use Rattle.passkey_core.specs.SignedOutputs.{with_extensions}

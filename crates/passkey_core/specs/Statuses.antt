@@ -1,7 +1,7 @@
 -- The status bytes of CTAP 2.1, section 8.2.
 use Rattle.std.specs.Prelude.{◌≡◌, ℕ, nat_eq, if◌then◌else◌, List, [], ◌∷◌, ◌++◌, Option, Some, None, option_map, Result, Ok, Err}
 use Rattle.std.specs.Option.{option_to_list}
-use Rattle.passkey_cose.specs.Table.{numbered}
+use Rattle.passkey_iana.specs.Table.{numbered}
 use Rattle.passkey_cose.specs.declared.error.CoseKeyConversionError.{CoseKeyConversionError}
 use Rattle.passkey_cose.specs.declared.error.CoseKeyConversionError.TheVariants as reason
 use Rattle.passkey_core.specs.declared.status.CodeOutOfRange.{CodeOutOfRange}

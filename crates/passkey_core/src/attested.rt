@@ -8,8 +8,8 @@ ghost use Rattle.passkey_core.specs.DataSame.{attested_eq, attested_eq-equivalen
 ghost use Rattle.passkey_core.specs.DataViews.{attested_parts};
 
 use crate::aaguid::Aaguid;
-use passkey_cbor::OutOfMemory;
 use passkey_cose::CoseKey;
+use passkey_memory::OutOfMemory;
 use std::alloc::Global;
 use std::num::TryFromIntError;
 

@@ -5,7 +5,8 @@ ghost use Rattle.passkey_core.specs.SignedOutputs.{assertion_item, has_assertion
 
 use crate::signed_outputs::{bytes_value, push_output};
 use passkey_bytes::Bytes;
-use passkey_cbor::{OutOfMemory, Value};
+use passkey_cbor::Value;
+use passkey_memory::OutOfMemory;
 use std::alloc::Global;
 
 /// What extensions answer in the authenticator data of a credential's use (WebAuthn Level 3,

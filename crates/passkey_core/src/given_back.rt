@@ -1,8 +1,8 @@
 //! Values that come back where memory ran out.
 ghost use Rattle.std.specs.Prelude.{Some, codes};
 
-use passkey_cbor::OutOfMemory;
 use passkey_cose::CoseError;
+use passkey_memory::OutOfMemory;
 use std::error::Error;
 use std::fmt;
 

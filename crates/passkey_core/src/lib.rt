@@ -23,9 +23,9 @@ pub use command::Ctap2Command;
 pub use flags::Flags;
 pub use given_back::GivenBack;
 pub use passkey_bytes::{Bytes, BytesFault, Key, List, Map, NotBase64Encoded, Text, encoding};
-pub use passkey_cbor::OutOfMemory;
 pub use passkey_cose as cose;
 pub use passkey_cose::iana;
+pub use passkey_memory::OutOfMemory;
 pub use salts::{HmacSecretSaltOrOutput, TryFromSliceError};
 pub use status::{
     CodeOutOfRange, Ctap2Error, ExtensionError, StatusCode, UnknownSpecError, VendorError,

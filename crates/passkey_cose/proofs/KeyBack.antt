@@ -6,9 +6,10 @@ use Rattle.std.proofs.Common.{◌≡◌, ◌∙◌, ℕ, ℤ, pos, ◌<◌, arit
 use Rattle.std.proofs.lemmas.Bool.{true≢false}
 use Rattle.passkey_cbor.specs.Item.{Item, number, byte_string}
 use Rattle.passkey_cose.specs.KeyReadable.{is_reserved}
-use Rattle.passkey_cose.specs.Iana.{algorithm_number, algorithm_named, key_type_number, key_type_named, key_operation_number, key_operation_named}
-use Rattle.passkey_cose.specs.IanaLaws.{algorithm_named-number, key_type_named-number, key_operation_named-number}
-use Rattle.passkey_cose.specs.KeyFaults.{is_signed_64, name_fault, op_fault, first_op_fault}
+use Rattle.passkey_iana.specs.Iana.{algorithm_number, algorithm_named, key_type_number, key_type_named, key_operation_number, key_operation_named}
+use Rattle.passkey_iana.specs.IanaLaws.{algorithm_named-number, key_type_named-number, key_operation_named-number}
+use Rattle.passkey_iana.specs.Signed64.{is_signed_64}
+use Rattle.passkey_cose.specs.KeyFaults.{name_fault, op_fault, first_op_fault}
 use Rattle.passkey_cose.specs.KeyNormal.{normal_named, normal_key, IsKey}
 use Rattle.passkey_cose.specs.KeyParts.{KeyParts, op_item, ops_item, key_members, key_item}
 use Rattle.passkey_cose.specs.KeyReading.{assigned_or_other, name_in, bytes_in, ops_in, under, further, key_type, judged, read_key}
@@ -16,9 +17,9 @@ use Rattle.passkey_cose.specs.Registered.{Named, assigned, other, text, named_it
 use Rattle.passkey_cose.specs.RegisteredSame.{NumbersName}
 use Rattle.passkey_cose.specs.declared.error.CoseError.{CoseError}
 use Rattle.passkey_cose.specs.declared.error.CoseError.TheVariants.{OutOfRangeIntegerValue}
-use Rattle.passkey_cose.specs.declared.iana.KeyOperation.{KeyOperation}
-use Rattle.passkey_cose.specs.declared.iana.KeyType.{KeyType}
-use Rattle.passkey_cose.specs.declared.iana.KeyType.TheVariants.{Reserved, OKP, EC2, RSA, Symmetric}
+use Rattle.passkey_iana.specs.declared.key_operation.KeyOperation.{KeyOperation}
+use Rattle.passkey_iana.specs.declared.key_type.KeyType.{KeyType}
+use Rattle.passkey_iana.specs.declared.key_type.KeyType.TheVariants.{Reserved, OKP, EC2, RSA, Symmetric}
 use Rattle.passkey_cose.proofs.KeyFurther.{none_either}
 use Rattle.passkey_cose.proofs.KeyHeld.{IsGoodName, AreGoodOps, under_good}
 use Rattle.passkey_cose.proofs.KeyLists.{ops_fault-array, ops_in-array, read_key-map}

@@ -2,11 +2,11 @@
 use Rattle.std.proofs.Common.{◌≡◌, ℕ, ℤ, suc, ◌≤◌, max, length, List, [], ◌∷◌, ◌++◌, map, Option, Some, None, option_map, refl, ap, arith}
 use Rattle.passkey_cbor.specs.Depth.{depth, items_depth, pairs_depth}
 use Rattle.passkey_cbor.specs.Item.{Item, byte_string, items_of, pairs_of}
-use Rattle.passkey_cose.specs.Iana.{algorithm_number, key_type_number}
+use Rattle.passkey_iana.specs.Iana.{algorithm_number, key_type_number}
 use Rattle.passkey_cose.specs.KeyLabels.{Members}
 use Rattle.passkey_cose.specs.KeyParts.{KeyParts, member, op_item, ops_item, key_item}
 use Rattle.passkey_cose.specs.Registered.{Named, assigned, other, text, named_item}
-use Rattle.passkey_cose.specs.declared.iana.KeyOperation.{KeyOperation}
+use Rattle.passkey_iana.specs.declared.key_operation.KeyOperation.{KeyOperation}
 
 pub members_depth-append : (ms ns : Members) → pairs_depth (pairs_of (ms ++ ns)) ≡ max (pairs_depth (pairs_of ms)) (pairs_depth (pairs_of ns))
 members_depth-append [] ns = omega arith

@@ -6,7 +6,7 @@ use Rattle.std.proofs.lemmas.List.{append-nil, append_assoc}
 use Rattle.std.proofs.lemmas.List.Folds.{list_any-append}
 use Rattle.passkey_cbor.specs.Item.{Item, byte_string}
 use Rattle.passkey_cbor.specs.Same.{item_eq}
-use Rattle.passkey_cose.specs.Iana.{algorithm_number, key_type_number}
+use Rattle.passkey_iana.specs.Iana.{algorithm_number, key_type_number}
 use Rattle.passkey_cose.specs.KeyFaults.{name_fault, string_fault, first_op_fault, member_fault, first_fault}
 use Rattle.passkey_cose.specs.KeyLabels.{Members, is_common, has_label, are_separate}
 use Rattle.passkey_cose.specs.KeyNames.{AreNames}
@@ -15,8 +15,8 @@ use Rattle.passkey_cose.specs.KeyParts.{KeyParts, member, op_item, ops_item, key
 use Rattle.passkey_cose.specs.KeyReading.{under, further}
 use Rattle.passkey_cose.specs.KeyWith.{has_repeat}
 use Rattle.passkey_cose.specs.Registered.{Named, named_item}
-use Rattle.passkey_cose.specs.declared.iana.Algorithm.{Algorithm}
-use Rattle.passkey_cose.specs.declared.iana.KeyOperation.{KeyOperation}
+use Rattle.passkey_iana.specs.declared.algorithm.Algorithm.{Algorithm}
+use Rattle.passkey_iana.specs.declared.key_operation.KeyOperation.{KeyOperation}
 use Rattle.passkey_cose.proofs.KeyFurther.{none_either}
 use Rattle.passkey_cose.proofs.KeyHeld.{IsGoodName, IsGoodString, AreGoodOps, under_good}
 use Rattle.passkey_cose.proofs.KeyLists.{ops_fault-array}

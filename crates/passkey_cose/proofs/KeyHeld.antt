@@ -5,9 +5,10 @@ use Rattle.std.proofs.Common.{◌≡◌, ◌<◌, ℕ, ℤ, pos, arith, length, 
 use Rattle.passkey_cbor.specs.Item.{Item, number, byte_string, text_string, array, no_items, item, elements, items_of}
 use Rattle.passkey_cbor.specs.SameItems.{item_Decides}
 use Rattle.passkey_cbor.proofs.Items.{items_of-elements}
-use Rattle.passkey_cose.specs.Iana.{key_operation_named, key_operation_number}
-use Rattle.passkey_cose.specs.IanaLaws.{key_operation_named-number}
-use Rattle.passkey_cose.specs.KeyFaults.{is_signed_64, name_fault, bytes_fault, op_fault, first_op_fault, ops_fault, value_fault, member_fault, first_fault}
+use Rattle.passkey_iana.specs.Iana.{key_operation_named, key_operation_number}
+use Rattle.passkey_iana.specs.IanaLaws.{key_operation_named-number}
+use Rattle.passkey_iana.specs.Signed64.{is_signed_64}
+use Rattle.passkey_cose.specs.KeyFaults.{name_fault, bytes_fault, op_fault, first_op_fault, ops_fault, value_fault, member_fault, first_fault}
 use Rattle.passkey_cose.specs.KeyLabels.{Members, is_label, has_label}
 use Rattle.passkey_cose.specs.KeyParts.{op_item, ops_item}
 use Rattle.passkey_cose.specs.KeyReading.{assigned_or_other, name_in, bytes_in, ops_in, under, key_type}
@@ -15,9 +16,9 @@ use Rattle.passkey_cose.specs.Registered.{Named, assigned, other, text, named_it
 use Rattle.passkey_cose.specs.RegisteredSame.{NumbersName}
 use Rattle.passkey_cose.specs.declared.error.CoseError.{CoseError}
 use Rattle.passkey_cose.specs.declared.error.CoseError.TheVariants.{OutOfRangeIntegerValue, DuplicateMapKey}
-use Rattle.passkey_cose.specs.declared.iana.KeyOperation.{KeyOperation}
-use Rattle.passkey_cose.specs.declared.iana.KeyType.{KeyType}
-use Rattle.passkey_cose.specs.declared.iana.KeyType.TheVariants.{Reserved, OKP, EC2, RSA, Symmetric}
+use Rattle.passkey_iana.specs.declared.key_operation.KeyOperation.{KeyOperation}
+use Rattle.passkey_iana.specs.declared.key_type.KeyType.{KeyType}
+use Rattle.passkey_iana.specs.declared.key_type.KeyType.TheVariants.{Reserved, OKP, EC2, RSA, Symmetric}
 use Rattle.passkey_cose.proofs.KeyFurther.{none_either}
 
 -- ---- names

@@ -3,7 +3,7 @@ use Rattle.std.proofs.Common.{◌≡◌, true, not, ◌&&◌, [], ◌∷◌, ◌
 use Rattle.std.proofs.lemmas.Bool.{and_parts, not-true}
 use Rattle.std.proofs.lemmas.List.{append_assoc}
 use Rattle.passkey_cbor.specs.Item.{byte_string}
-use Rattle.passkey_cose.specs.Iana.{algorithm_number, key_type_number}
+use Rattle.passkey_iana.specs.Iana.{algorithm_number, key_type_number}
 use Rattle.passkey_cose.specs.KeyLabels.{Members, is_common, has_label, are_separate}
 use Rattle.passkey_cose.specs.KeyParts.{KeyParts, member, ops_item, key_members}
 use Rattle.passkey_cose.specs.KeyReading.{further}

@@ -8,15 +8,16 @@ use Rattle.std.proofs.lemmas.Bool.{and_from, le-leb}
 use Rattle.passkey_cbor.specs.Depth.{depth, pairs_depth}
 use Rattle.passkey_cbor.specs.Front.{max_depth}
 use Rattle.passkey_cbor.specs.Item.{Item, number, text_string, map, members, pairs_of}
-use Rattle.passkey_cose.specs.Iana.{key_type_named}
-use Rattle.passkey_cose.specs.KeyFaults.{is_signed_64, first_fault}
+use Rattle.passkey_iana.specs.Iana.{key_type_named}
+use Rattle.passkey_iana.specs.Signed64.{is_signed_64}
+use Rattle.passkey_cose.specs.KeyFaults.{first_fault}
 use Rattle.passkey_cose.specs.KeyLabels.{Members, is_label, is_common}
 use Rattle.passkey_cose.specs.KeyParts.{KeyParts, member, key_members, key_item}
 use Rattle.passkey_cose.specs.KeyReading.{assigned_or_other, name_in, under, further, key_from, key_type, judged}
 use Rattle.passkey_cose.specs.Registered.{Named, assigned, other, text}
 use Rattle.passkey_cose.specs.declared.error.CoseError.{CoseError}
-use Rattle.passkey_cose.specs.declared.iana.KeyType.{KeyType}
-use Rattle.passkey_cose.specs.declared.iana.KeyType.TheVariants.{Reserved, OKP, EC2, RSA, Symmetric}
+use Rattle.passkey_iana.specs.declared.key_type.KeyType.{KeyType}
+use Rattle.passkey_iana.specs.declared.key_type.KeyType.TheVariants.{Reserved, OKP, EC2, RSA, Symmetric}
 use Rattle.passkey_cose.specs.KeyReadable.{is_shallow, is_reserved, is_key_readable}
 use Rattle.passkey_cose.specs.KeyLaws.{ReadIsReadable}
 use Rattle.passkey_cose.proofs.KeyHeld.{key_type_is}

@@ -4,8 +4,8 @@ use Rattle.std.specs.Result.{result_map_both}
 use Rattle.std.proofs.Common.{◌≡◌, ◌++◌, [], Option, Some, None, option_map, unwrap_or, Result, Ok, Err, refl, sym, ap, subst, ◌∙◌}
 use Rattle.std.proofs.lemmas.List.{append_assoc}
 use Rattle.passkey_cbor.specs.Item.{map, members, pairs_of}
-use Rattle.passkey_cose.specs.Iana.{algorithm_number, algorithm_named, key_type_number, key_type_named}
-use Rattle.passkey_cose.specs.IanaLaws.{algorithm_named-number, key_type_named-number}
+use Rattle.passkey_iana.specs.Iana.{algorithm_number, algorithm_named, key_type_number, key_type_named}
+use Rattle.passkey_iana.specs.IanaLaws.{algorithm_named-number, key_type_named-number}
 use Rattle.passkey_cose.specs.KeyFaults.{first_fault}
 use Rattle.passkey_cose.specs.KeyLabels.{Members}
 use Rattle.passkey_cose.specs.KeyLaws.{ReadIsWrittenAlike}
@@ -13,7 +13,7 @@ use Rattle.passkey_cose.specs.KeyParts.{KeyParts, member, key_members, key_item}
 use Rattle.passkey_cose.specs.KeyReading.{name_in, bytes_in, ops_in, under, further, key_from, key_type, judged, read_key}
 use Rattle.passkey_cose.specs.Registered.{Named, named_item}
 use Rattle.passkey_cose.specs.declared.error.CoseError.{CoseError}
-use Rattle.passkey_cose.specs.declared.iana.KeyType.{KeyType}
+use Rattle.passkey_iana.specs.declared.key_type.KeyType.{KeyType}
 use Rattle.passkey_cose.proofs.KeyFurther.{further_separate}
 use Rattle.passkey_cose.proofs.KeyHeld.{names_written, strings_written, all_ops_written, key_type_is, under_good}
 use Rattle.passkey_cose.proofs.KeyLists.{read_key-map}

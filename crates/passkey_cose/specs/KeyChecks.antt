@@ -1,6 +1,6 @@
 -- What a check of an item answers, and what reading one does.
 use Rattle.std.specs.Prelude.{◌≡◌, false, Option, Some, None, Result, Ok, Err}
-use Rattle.passkey_cbor.specs.Memory.{Answers}
+use Rattle.passkey_memory.specs.Memory.{Answers}
 use Rattle.passkey_cose.specs.CoseErrors.{is_memory}
 use Rattle.passkey_cose.specs.declared.error.CoseError.{CoseError}
 

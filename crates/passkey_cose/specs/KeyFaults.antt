@@ -1,16 +1,13 @@
 -- What is bad of the members of a map that is read as a key (RFC 9052, section 7).
-use Rattle.std.specs.Prelude.{ℕ, ℤ, pos, negsuc, ◌^◌, nat_lt, Bool, ◌||◌, if◌then◌else◌, List, [], ◌∷◌, ◌++◌, Option, Some, None}
+use Rattle.std.specs.Prelude.{ℕ, Bool, ◌||◌, if◌then◌else◌, List, [], ◌∷◌, ◌++◌, Option, Some, None}
 use Rattle.std.specs.List.{list_any}
 use Rattle.std.specs.Option.{option_or}
 use Rattle.passkey_cbor.specs.Item.{Item, number, byte_string, text_string, array, no_items, item, elements}
 use Rattle.passkey_cbor.specs.Same.{item_eq}
+use Rattle.passkey_iana.specs.Signed64.{is_signed_64}
 use Rattle.passkey_cose.specs.KeyLabels.{Members, is_label, has_label}
 use Rattle.passkey_cose.specs.declared.error.CoseError.{CoseError}
 use Rattle.passkey_cose.specs.declared.error.CoseError.TheVariants.{OutOfRangeIntegerValue, DuplicateMapKey, UnexpectedItem}
-
-abbrev pub is_signed_64 : ℤ → Bool
-is_signed_64 (pos n) = nat_lt n (2 ^ 63)
-is_signed_64 (negsuc n) = nat_lt n (2 ^ 63)
 
 -- a label, and a value of a registry, is a number or a text
 abbrev pub name_fault : Item → Option CoseError

@@ -6,9 +6,9 @@ use Rattle.passkey_cbor.specs.declared.value.Value.{Value}
 use Rattle.passkey_cose.specs.KeyParams.{params_held}
 use Rattle.passkey_cose.specs.KeyParts.{KeyParts}
 use Rattle.passkey_cose.specs.Registered.{named_of}
-use Rattle.passkey_cose.specs.declared.iana.Algorithm.{Algorithm}
-use Rattle.passkey_cose.specs.declared.iana.KeyOperation.{KeyOperation}
-use Rattle.passkey_cose.specs.declared.iana.KeyType.{KeyType}
+use Rattle.passkey_iana.specs.declared.algorithm.Algorithm.{Algorithm}
+use Rattle.passkey_iana.specs.declared.key_operation.KeyOperation.{KeyOperation}
+use Rattle.passkey_iana.specs.declared.key_type.KeyType.{KeyType}
 use Rattle.passkey_cose.specs.declared.label.Label.{Label}
 use Rattle.passkey_cose.specs.declared.registered.Registered.{Registered}
 

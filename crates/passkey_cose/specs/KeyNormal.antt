@@ -1,6 +1,6 @@
 -- What a key is read back as.
 use Rattle.std.specs.Prelude.{◌≡◌, ℤ, true, [], map, Option, None, option_map}
-use Rattle.passkey_cose.specs.Iana.{algorithm_named, key_type_named, key_operation_named}
+use Rattle.passkey_iana.specs.Iana.{algorithm_named, key_type_named, key_operation_named}
 use Rattle.passkey_cose.specs.KeyFaults.{first_fault}
 use Rattle.passkey_cose.specs.KeyLabels.{are_separate}
 use Rattle.passkey_cose.specs.KeyParts.{KeyParts, key_members}

@@ -3,13 +3,13 @@ use Rattle.std.specs.Prelude.{ℕ, ℤ, pos, negsuc, ◌<◌, ◌⊎◌, List, [
 use Rattle.std.specs.Option.{IsSomeAnd}
 use Rattle.passkey_cbor.specs.Item as item
 use Rattle.passkey_cbor.specs.Item.{Item, number, byte_string, array, items_of, pairs_of}
-use Rattle.passkey_cose.specs.Iana.{algorithm_number, key_type_number, key_operation_number}
+use Rattle.passkey_iana.specs.Iana.{algorithm_number, key_type_number, key_operation_number}
 use Rattle.passkey_cose.specs.KeyLabels.{Members}
 use Rattle.passkey_cose.specs.Registered.{Named, assigned, named_item, IsText}
-use Rattle.passkey_cose.specs.declared.iana.Algorithm.{Algorithm}
-use Rattle.passkey_cose.specs.declared.iana.KeyOperation.{KeyOperation}
-use Rattle.passkey_cose.specs.declared.iana.KeyType.{KeyType}
-use Rattle.passkey_cose.specs.declared.iana.KeyType.TheVariants.{EC2}
+use Rattle.passkey_iana.specs.declared.algorithm.Algorithm.{Algorithm}
+use Rattle.passkey_iana.specs.declared.key_operation.KeyOperation.{KeyOperation}
+use Rattle.passkey_iana.specs.declared.key_type.KeyType.{KeyType}
+use Rattle.passkey_iana.specs.declared.key_type.KeyType.TheVariants.{EC2}
 
 -- no operations stand for any
 pub record KeyParts : Type 0 where

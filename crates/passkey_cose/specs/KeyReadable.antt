@@ -4,10 +4,10 @@ use Rattle.passkey_cbor.specs.Depth.{depth}
 use Rattle.passkey_cbor.specs.Front.{max_depth}
 use Rattle.passkey_cbor.specs.Item.{Item, number}
 use Rattle.passkey_cbor.specs.Same.{item_eq}
-use Rattle.passkey_cose.specs.Iana.{key_type_number}
+use Rattle.passkey_iana.specs.Iana.{key_type_number}
 use Rattle.passkey_cose.specs.KeyParts.{KeyParts, key_item}
 use Rattle.passkey_cose.specs.Registered.{Named, named_item}
-use Rattle.passkey_cose.specs.declared.iana.KeyType.{KeyType}
+use Rattle.passkey_iana.specs.declared.key_type.KeyType.{KeyType}
 
 abbrev pub is_shallow : Item → Bool
 is_shallow x = nat_le (depth x) max_depth

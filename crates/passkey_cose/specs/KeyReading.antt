@@ -4,16 +4,17 @@ use Rattle.std.specs.List.{filter, filter_map, find}
 use Rattle.std.specs.Option.{option_and_then}
 use Rattle.std.specs.Result.{result_map_both}
 use Rattle.passkey_cbor.specs.Item.{Item, number, byte_string, text_string, array, map, elements, members}
-use Rattle.passkey_cose.specs.Iana.{algorithm_named, key_type_named, key_operation_named}
-use Rattle.passkey_cose.specs.KeyFaults.{is_signed_64, first_fault}
+use Rattle.passkey_iana.specs.Iana.{algorithm_named, key_type_named, key_operation_named}
+use Rattle.passkey_iana.specs.Signed64.{is_signed_64}
+use Rattle.passkey_cose.specs.KeyFaults.{first_fault}
 use Rattle.passkey_cose.specs.KeyLabels.{Members, is_label, is_common}
 use Rattle.passkey_cose.specs.KeyParts.{KeyParts}
 use Rattle.passkey_cose.specs.Registered.{Named, assigned, other, text}
 use Rattle.passkey_cose.specs.declared.error.CoseError.{CoseError}
 use Rattle.passkey_cose.specs.declared.error.CoseError.TheVariants.{UnexpectedItem}
-use Rattle.passkey_cose.specs.declared.iana.KeyOperation.{KeyOperation}
-use Rattle.passkey_cose.specs.declared.iana.KeyType.{KeyType}
-use Rattle.passkey_cose.specs.declared.iana.KeyType.TheVariants.{Reserved}
+use Rattle.passkey_iana.specs.declared.key_operation.KeyOperation.{KeyOperation}
+use Rattle.passkey_iana.specs.declared.key_type.KeyType.{KeyType}
+use Rattle.passkey_iana.specs.declared.key_type.KeyType.TheVariants.{Reserved}
 
 abbrev pub assigned_or_other : {T : Type 0} → ℤ → Option T → Named T
 assigned_or_other z (Some a) = assigned a

@@ -5,7 +5,7 @@ use Rattle.std.specs.Option.{option_eq}
 use Rattle.std.specs.Str.{bytes_eq}
 use Rattle.passkey_cbor.specs.Item.{Item}
 use Rattle.passkey_cbor.specs.Same.{item_eq}
-use Rattle.passkey_cose.specs.Iana.{algorithm_number, key_type_number, key_operation_number}
+use Rattle.passkey_iana.specs.Iana.{algorithm_number, key_type_number, key_operation_number}
 use Rattle.passkey_cose.specs.KeyParts.{KeyParts}
 use Rattle.passkey_cose.specs.Registered.{named_eq}
 

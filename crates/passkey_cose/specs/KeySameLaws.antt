@@ -10,8 +10,8 @@ use Rattle.std.proofs.lemmas.Slice.Eq.{bytes_eq-Decides, slice_eq-Decides}
 use Rattle.passkey_cbor.specs.Item.{Item}
 use Rattle.passkey_cbor.specs.Same.{item_eq}
 use Rattle.passkey_cbor.specs.SameItems.{item_Decides}
-use Rattle.passkey_cose.specs.Iana.{algorithm_number, key_type_number, key_operation_number}
-use Rattle.passkey_cose.specs.IanaLaws.{algorithm_named-number, key_type_named-number, key_operation_named-number}
+use Rattle.passkey_iana.specs.Iana.{algorithm_number, key_type_number, key_operation_number}
+use Rattle.passkey_iana.specs.IanaLaws.{algorithm_named-number, key_type_named-number, key_operation_named-number}
 use Rattle.passkey_cose.specs.KeyParts.{KeyParts}
 use Rattle.passkey_cose.specs.KeySame.{member_eq, strings_eq, names_eq, parts_eq}
 use Rattle.passkey_cose.specs.Registered.{named_eq}

@@ -3,7 +3,7 @@ use Rattle.std.specs.Prelude.{◌≡◌, Bool, false, ◌||◌, if◌then◌else
 use Rattle.std.specs.List.{list_any}
 use Rattle.passkey_cbor.specs.Item.{Item}
 use Rattle.passkey_cbor.specs.Same.{item_eq}
-use Rattle.passkey_cbor.specs.Memory.{Fails, unless}
+use Rattle.passkey_memory.specs.Memory.{Fails, unless}
 use Rattle.passkey_cose.specs.CoseErrors.{is_memory}
 use Rattle.passkey_cose.specs.Key.{key_parts}
 use Rattle.passkey_cose.specs.KeyLabels.{Members, is_common, has_label}
@@ -13,7 +13,7 @@ use Rattle.passkey_cose.specs.declared.error.CoseError.{CoseError}
 use Rattle.passkey_cose.specs.declared.error.CoseError.TheVariants.{DuplicateMapKey, UnexpectedItem}
 use Rattle.passkey_cose.specs.declared.key.CoseKey.{CoseKey}
 use Rattle.passkey_cose.specs.declared.refused.RefusedKey.{RefusedKey}
-use Rattle.passkey_cose.specs.declared.iana.KeyOperation.{KeyOperation}
+use Rattle.passkey_iana.specs.declared.key_operation.KeyOperation.{KeyOperation}
 
 abbrev pub has_repeat : List Item → Bool
 has_repeat [] = false

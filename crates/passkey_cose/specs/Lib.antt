@@ -1,7 +1,3 @@
-pub mod Table
-pub mod TableLaws
-pub mod Iana
-pub mod IanaLaws
 pub mod CoseErrors
 pub mod Label
 pub mod Registered

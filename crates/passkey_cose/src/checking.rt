@@ -4,7 +4,8 @@ ghost use Rattle.std.specs.List.{list_any};
 ghost use Rattle.passkey_cbor.specs.Same.{item_eq};
 ghost use Rattle.passkey_cbor.specs.View.{item_of, pair_of};
 ghost use Rattle.passkey_cose.specs.KeyChecks.{Checks};
-ghost use Rattle.passkey_cose.specs.KeyFaults.{is_signed_64, name_fault, bytes_fault, op_fault, first_op_fault, ops_fault, value_fault, member_fault, first_fault};
+ghost use Rattle.passkey_iana.specs.Signed64.{is_signed_64};
+ghost use Rattle.passkey_cose.specs.KeyFaults.{name_fault, bytes_fault, op_fault, first_op_fault, ops_fault, value_fault, member_fault, first_fault};
 ghost use Rattle.passkey_cose.specs.KeyLabels.{is_label, has_label};
 
 use crate::error::CoseError;

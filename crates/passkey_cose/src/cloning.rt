@@ -9,7 +9,8 @@ use crate::iana::{Algorithm, KeyOperation};
 use crate::key::CoseKey;
 use crate::label::Label;
 use crate::registered::Registered;
-use passkey_cbor::{OutOfMemory, Value};
+use passkey_cbor::Value;
+use passkey_memory::OutOfMemory;
 use std::alloc::Global;
 
 fn copy_bytes(alloc: Global, bytes: &Option<Vec<u8>>) -> Result<Option<Vec<u8>>, OutOfMemory>

@@ -5,7 +5,7 @@ ghost use Rattle.std.specs.Cmp.Lexicographic.{pointwise};
 ghost use Rattle.std.specs.Option.{option_eq};
 ghost use Rattle.std.specs.Ordering.{on};
 ghost use Rattle.std.specs.Str.{bytes_eq};
-ghost use Rattle.passkey_cose.specs.Iana.{algorithm_number, key_operation_number};
+ghost use Rattle.passkey_iana.specs.Iana.{algorithm_number, key_operation_number};
 ghost use Rattle.passkey_cose.specs.Key.{key_parts};
 ghost use Rattle.passkey_cose.specs.KeyParams.{params_of};
 ghost use Rattle.passkey_cose.specs.KeySame.{member_eq, strings_eq, names_eq, parts_eq};

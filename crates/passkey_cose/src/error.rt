@@ -3,7 +3,8 @@ ghost use Rattle.std.specs.Prelude.{◌≡◌, Some};
 ghost use Rattle.passkey_cose.specs.CoseErrors.{cose_error_name, cose_error_of};
 ghost use Rattle.passkey_cose.specs.declared.error.CoseError.TheVariants.{OutOfMemory as NoMemory};
 
-use passkey_cbor::{CborError, OutOfMemory};
+use passkey_cbor::CborError;
+use passkey_memory::OutOfMemory;
 use std::alloc::{AllocError, AllocFailed};
 use std::error::Error;
 use std::fmt;

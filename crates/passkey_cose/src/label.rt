@@ -7,7 +7,7 @@ ghost use Rattle.passkey_cbor.specs.Same.{item_eq};
 ghost use Rattle.passkey_cbor.specs.SameItems.{item_eq-equivalence};
 ghost use Rattle.passkey_cose.specs.Label.{label_item};
 
-use passkey_cbor::OutOfMemory;
+use passkey_memory::OutOfMemory;
 use std::alloc::Global;
 
 /// What a parameter of a key stands under (RFC 9052, section 1.4).

@@ -22,7 +22,7 @@ mod writing;
 pub use error::{CoseError, CoseKeyConversionError};
 pub use key::CoseKey;
 pub use label::Label;
-pub use passkey_cbor::OutOfMemory;
+pub use passkey_memory::OutOfMemory;
 pub use refused::RefusedKey;
 pub use registered::Registered;
 

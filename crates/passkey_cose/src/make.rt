@@ -12,7 +12,8 @@ use crate::key::CoseKey;
 use crate::label::Label;
 use crate::names::value_is_name;
 use crate::registered::Registered;
-use passkey_cbor::{Integer, OutOfMemory, Value};
+use passkey_cbor::{Integer, Value};
+use passkey_memory::OutOfMemory;
 use std::alloc::Global;
 
 pub(super) fn integer(n: i64) -> Value
@@ -80,7 +81,7 @@ impl Default for CoseKey {
     ghost use Rattle.passkey_cose.specs.KeyParams.{params_of};
     ghost use Rattle.passkey_cose.specs.KeyParts.{new_key};
     ghost use Rattle.passkey_cose.specs.Registered.{assigned};
-    ghost use Rattle.passkey_cose.specs.declared.iana.KeyType.TheVariants.{Reserved};
+    ghost use Rattle.passkey_iana.specs.declared.key_type.KeyType.TheVariants.{Reserved};
 
     ghost is_default = { λ k. key_parts k ≡ new_key (assigned Reserved) };
 

@@ -3,7 +3,7 @@ ghost use Rattle.std.specs.Prelude.{◌≡◌, ◌<◌, [], length, map, None, I
 ghost use Rattle.std.specs.List.{filter_map};
 ghost use Rattle.std.specs.Option.{option_and_then};
 ghost use Rattle.passkey_cbor.specs.View.{item_of, pair_of};
-ghost use Rattle.passkey_cose.specs.Iana.{key_type_named, key_operation_named};
+ghost use Rattle.passkey_iana.specs.Iana.{key_type_named, key_operation_named};
 ghost use Rattle.passkey_cose.specs.Key.{key_parts};
 ghost use Rattle.passkey_cose.specs.KeyChecks.{Reads};
 ghost use Rattle.passkey_cose.specs.KeyFaults.{name_fault, first_fault};
@@ -20,7 +20,8 @@ use crate::iana::{EnumI64, KeyOperation, KeyType};
 use crate::key::CoseKey;
 use crate::label::Label;
 use crate::registered::Registered;
-use passkey_cbor::{OutOfMemory, Value};
+use passkey_cbor::Value;
+use passkey_memory::OutOfMemory;
 use std::alloc::Global;
 
 /// The value under this label.

@@ -6,7 +6,7 @@ ghost use Rattle.passkey_cose.specs.Registered.{named_of, named_eq, IsText};
 ghost use Rattle.passkey_cose.specs.RegisteredSame.{named_eq-equivalence};
 
 use crate::iana::EnumI64;
-use passkey_cbor::OutOfMemory;
+use passkey_memory::OutOfMemory;
 use std::alloc::Global;
 
 /// A value that a registry assigns, or one that it doesn't, by a number or a text (RFC 9052,

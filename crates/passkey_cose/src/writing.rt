@@ -4,7 +4,7 @@ ghost use Rattle.passkey_cbor.specs.Item.{byte_string, text_string};
 ghost use Rattle.passkey_cbor.specs.View.{item_of, pair_of};
 ghost use Rattle.passkey_cbor.specs.Writable.{IsWritable};
 ghost use Rattle.passkey_cbor.specs.Written.{written};
-ghost use Rattle.passkey_cose.specs.Iana.{algorithm_number};
+ghost use Rattle.passkey_iana.specs.Iana.{algorithm_number};
 ghost use Rattle.passkey_cose.specs.Key.{key_parts};
 ghost use Rattle.passkey_cose.specs.KeyNormal.{IsKey};
 ghost use Rattle.passkey_cose.specs.KeyParams.{params_of};
@@ -17,7 +17,8 @@ use crate::key::CoseKey;
 use crate::label::Label;
 use crate::make::integer;
 use crate::registered::Registered;
-use passkey_cbor::{OutOfMemory, Value};
+use passkey_cbor::Value;
+use passkey_memory::OutOfMemory;
 use std::alloc::Global;
 
 fn text_value(alloc: Global, text: &String) -> Result<Value, OutOfMemory>

@@ -4,10 +4,10 @@ ghost use Rattle.passkey_credentials.specs.AssertionResponse.{assertion_response
 ghost use Rattle.passkey_json.specs.Members.{record_kind};
 
 use passkey_bytes::Bytes;
-use passkey_cbor::OutOfMemory;
 use passkey_json::{
     BytesForm, FromJson, JsonFault, JsonRecord, Object, Refusal, ToJson, Written, read_nested,
 };
+use passkey_memory::OutOfMemory;
 use serde_json::Value;
 use std::alloc::Global;
 

@@ -5,10 +5,10 @@ ghost use Rattle.passkey_credentials.specs.AttestationResponse.{attestation_resp
 ghost use Rattle.passkey_json.specs.Members.{record_kind};
 
 use passkey_bytes::{Bytes, List};
-use passkey_cbor::OutOfMemory;
 use passkey_json::{
     BytesForm, FromJson, JsonFault, JsonRecord, Object, Refusal, ToJson, Written, read_nested,
 };
+use passkey_memory::OutOfMemory;
 use passkey_webauthn::AuthenticatorTransport;
 use serde_json::Value;
 use std::alloc::Global;

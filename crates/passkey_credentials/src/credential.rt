@@ -7,11 +7,11 @@ use crate::assertion_response::AuthenticatorAssertionResponse;
 use crate::attestation_response::AuthenticatorAttestationResponse;
 use crate::response::AuthenticatorResponse;
 use passkey_bytes::{Bytes, Text};
-use passkey_cbor::OutOfMemory;
 use passkey_json::{
     AuthenticationExtensionsClientOutputs, AuthenticatorAttachment, BytesForm, FromJson, JsonFault,
     JsonRecord, Object, Refusal, ToJson, Written, read_nested,
 };
+use passkey_memory::OutOfMemory;
 use passkey_webauthn::PublicKeyCredentialType;
 use serde_json::Value;
 use std::alloc::Global;

@@ -12,7 +12,7 @@ pub use attestation_response::AuthenticatorAttestationResponse;
 pub use credential::{
     AuthenticatedPublicKeyCredential, CreatedPublicKeyCredential, PublicKeyCredential,
 };
-pub use passkey_cbor::OutOfMemory;
+pub use passkey_memory::OutOfMemory;
 pub use response::AuthenticatorResponse;
 
 #[cfg(test)]

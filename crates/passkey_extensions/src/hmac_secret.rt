@@ -14,11 +14,12 @@ ghost use Rattle.passkey_kinds.specs.Reading.{MayGrowAt, Reads};
 ghost use Rattle.passkey_kinds.specs.declared.write_fault.WriteFault.TheVariants.{OutOfMemory as NoMemory};
 
 use passkey_bytes::Bytes;
-use passkey_cbor::{OutOfMemory, Value};
+use passkey_cbor::Value;
 use passkey_kinds::{
     Fault, FromCbor, ReadBack, Refusal, Row, Slots, ToCbor, WriteFault, Written, read_into,
     read_message, read_nested, read_record, write_message,
 };
+use passkey_memory::OutOfMemory;
 use std::alloc::Global;
 
 /// The salts of which the extension hmac-secret is to make secrets (CTAP 2.1, section 12.5).

@@ -7,10 +7,11 @@ ghost use Rattle.passkey_extensions.specs.ExtensionTrees.{PrfGetFits, prf_get_tr
 ghost use Rattle.passkey_extensions.specs.PrfWebauthn.{webauthn_used};
 
 use crate::prf_values::AuthenticatorPrfValues;
-use passkey_cbor::{OutOfMemory, Value};
+use passkey_cbor::Value;
 use passkey_kinds::{
     FromCbor, ReadBack, Refusal, Row, Shallow, Slots, ToCbor, Written, read_into, read_nested,
 };
+use passkey_memory::OutOfMemory;
 use passkey_webauthn::AuthenticationExtensionsPrfOutputs;
 use std::alloc::Global;
 

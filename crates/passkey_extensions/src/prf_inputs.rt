@@ -9,10 +9,11 @@ ghost use Rattle.passkey_extensions.specs.ExtensionTrees.{PrfInputsFit, prf_inpu
 
 use crate::prf_values::AuthenticatorPrfValues;
 use passkey_bytes::{Bytes, Map};
-use passkey_cbor::{OutOfMemory, Value};
+use passkey_cbor::Value;
 use passkey_kinds::{
     FromCbor, ReadBack, Refusal, Row, Shallow, Slots, ToCbor, Written, read_into, read_nested,
 };
+use passkey_memory::OutOfMemory;
 use std::alloc::Global;
 
 /// Of which salts the extension prf is to make secrets (WebAuthn Level 3, section 10.1.4).

@@ -7,10 +7,11 @@ ghost use Rattle.passkey_extensions.specs.ExtensionTrees.{PrfValuesFit, prf_valu
 ghost use Rattle.passkey_extensions.specs.PrfWebauthn.{webauthn_values};
 
 use passkey_bytes::Bytes;
-use passkey_cbor::{OutOfMemory, Value};
+use passkey_cbor::Value;
 use passkey_kinds::{
     FromCbor, ReadBack, Refusal, Row, Shallow, Slots, ToCbor, Written, read_into, read_nested,
 };
+use passkey_memory::OutOfMemory;
 use passkey_webauthn::AuthenticationExtensionsPrfValues;
 use std::alloc::Global;
 

@@ -5,10 +5,11 @@ ghost use Rattle.passkey_get_assertion.specs.GetOptionsHeld.{options_held};
 ghost use Rattle.passkey_get_assertion.specs.declared.options.Options.{Options as Asked};
 ghost use Rattle.passkey_kinds.specs.ReadBack.{Any};
 
-use passkey_cbor::{OutOfMemory, Value};
+use passkey_cbor::Value;
 use passkey_kinds::{
     FromCbor, ReadBack, Refusal, Row, Shallow, Slots, ToCbor, Written, read_into, read_nested,
 };
+use passkey_memory::OutOfMemory;
 use std::alloc::Global;
 
 /// How a credential is to be used (CTAP 2.1, section 6.2).

@@ -12,12 +12,13 @@ ghost use Rattle.passkey_kinds.specs.declared.write_fault.WriteFault.TheVariants
 
 use crate::Options;
 use passkey_bytes::{Bytes, List, Text};
-use passkey_cbor::{OutOfMemory, Value};
+use passkey_cbor::Value;
 use passkey_extensions::get_assertion::ExtensionInputs;
 use passkey_kinds::{
     Fault, Refusal, Row, Slots, ToCbor, TolerantList, Tolerated, WriteFault, Written, list_of,
     read_into, read_message, read_record, write_message,
 };
+use passkey_memory::OutOfMemory;
 use passkey_webauthn::PublicKeyCredentialDescriptor;
 use std::alloc::Global;
 

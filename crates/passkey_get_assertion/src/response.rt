@@ -11,7 +11,7 @@ ghost use Rattle.passkey_kinds.specs.Reading.{MayGrowAt, Reads};
 ghost use Rattle.passkey_kinds.specs.declared.write_fault.WriteFault.TheVariants.{OutOfMemory as NoMemory};
 
 use passkey_bytes::Bytes;
-use passkey_cbor::{OutOfMemory, Value};
+use passkey_cbor::Value;
 use passkey_core::AuthenticatorData;
 use passkey_extensions::get_assertion::UnsignedExtensionOutputs;
 use passkey_kinds::{
@@ -19,6 +19,7 @@ use passkey_kinds::{
     write_message,
 };
 use passkey_make_credential::PublicKeyCredentialUserEntity;
+use passkey_memory::OutOfMemory;
 use passkey_webauthn::PublicKeyCredentialDescriptor;
 use std::alloc::Global;
 

@@ -5,10 +5,11 @@ ghost use Rattle.passkey_get_info.specs.GetInfoOptionsHeld.{options_held};
 ghost use Rattle.passkey_kinds.specs.ReadBack.{Any};
 ghost use Rattle.passkey_get_info.specs.declared.options.Options.{Options as Told};
 
-use passkey_cbor::{OutOfMemory, Value};
+use passkey_cbor::Value;
 use passkey_kinds::{
     FromCbor, ReadBack, Refusal, Row, Shallow, Slots, ToCbor, Written, read_into, read_nested,
 };
+use passkey_memory::OutOfMemory;
 use std::alloc::Global;
 
 /// What an authenticator can do, and how it is set up (CTAP 2.1, section 6.4). An option that is

@@ -5,8 +5,9 @@ ghost use Rattle.passkey_kinds.specs.ReadBack.{Any};
 ghost use Rattle.passkey_get_info.specs.declared.version.Version.{Version as Told};
 
 use passkey_bytes::Text;
-use passkey_cbor::{OutOfMemory, Value};
+use passkey_cbor::Value;
 use passkey_kinds::{FromCbor, ReadBack, Refusal, Shallow, ToCbor};
+use passkey_memory::OutOfMemory;
 use std::alloc::Global;
 
 /// A version of CTAP that an authenticator supports (CTAP 2.1, section 6.4).

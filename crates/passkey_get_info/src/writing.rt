@@ -12,8 +12,9 @@ ghost use Rattle.passkey_kinds.specs.Written.{members_of};
 ghost use Rattle.passkey_kinds.specs.declared.write_fault.WriteFault.TheVariants.{NumberTooLarge as TooLarge};
 
 use crate::Response;
-use passkey_cbor::{Integer, OutOfMemory, Value};
+use passkey_cbor::{Integer, Value};
 use passkey_kinds::{WriteFault, Written};
+use passkey_memory::OutOfMemory;
 use std::alloc::Global;
 use std::num::NonZeroU128;
 

@@ -1,10 +1,10 @@
 -- Numbers that are read back from what they are written as.
 use Rattle.std.proofs.Common.{◌≡◌, ◌∙◌, ℕ, suc, ◌<◌, ◌^◌, ℤ, List, [], ◌∷◌, map, Option, Some, refl, ap, arith, lt-ltb}
 use Rattle.std.specs.Option.{option_and_then}
-use Rattle.passkey_cose.specs.Iana.{algorithm_number, algorithm_named}
-use Rattle.passkey_cose.specs.IanaLaws.{algorithm_named-number}
-use Rattle.passkey_cose.specs.declared.iana.Algorithm.{Algorithm}
-use Rattle.passkey_cose.specs.declared.iana.Algorithm.TheVariants as named
+use Rattle.passkey_iana.specs.Iana.{algorithm_number, algorithm_named}
+use Rattle.passkey_iana.specs.IanaLaws.{algorithm_named-number}
+use Rattle.passkey_iana.specs.declared.algorithm.Algorithm.{Algorithm}
+use Rattle.passkey_iana.specs.declared.algorithm.Algorithm.TheVariants as named
 use Rattle.base64.specs.GeneralPurpose.{IsBytes}
 use Rattle.passkey_json.specs.Kind.{numeral, algorithm, byte, each}
 use Rattle.passkey_json.specs.Written.{algorithm_json, natural_json}

@@ -3,8 +3,8 @@ use Rattle.std.specs.Prelude.{◌≡◌, ℕ, ◌^◌, nat_lt, ℤ, pos, negsuc,
 use Rattle.std.specs.Option.{option_and_then}
 use Rattle.std.specs.Str.{bytes_eq, trim}
 use Rattle.passkey_bytes.specs.Encoding.{text_bytes}
-use Rattle.passkey_cose.specs.Iana.{algorithm_named}
-use Rattle.passkey_cose.specs.declared.iana.Algorithm.{Algorithm}
+use Rattle.passkey_iana.specs.Iana.{algorithm_named}
+use Rattle.passkey_iana.specs.declared.algorithm.Algorithm.{Algorithm}
 use Rattle.passkey_json.specs.declared.refusal.Refusal.{Refusal}
 use Rattle.passkey_json.specs.declared.refusal.Refusal.TheVariants.{Refused, OutOfMemory}
 use Rattle.passkey_webauthn.specs.NumberText.{whole_64}

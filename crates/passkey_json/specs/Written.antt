@@ -4,8 +4,8 @@ use Rattle.std.specs.List.{list_any}
 use Rattle.std.specs.Str.{bytes_eq}
 use Rattle.base64.specs.Engines.{url_safe_no_pad}
 use Rattle.base64.specs.GeneralPurpose.{encode_of}
-use Rattle.passkey_cose.specs.Iana.{algorithm_number}
-use Rattle.passkey_cose.specs.declared.iana.Algorithm.{Algorithm}
+use Rattle.passkey_iana.specs.Iana.{algorithm_number}
+use Rattle.passkey_iana.specs.declared.algorithm.Algorithm.{Algorithm}
 use Rattle.passkey_json.specs.Kind.{Kind, optional}
 use Rattle.passkey_json.specs.declared.bytes_form.BytesForm.{BytesForm}
 use Rattle.passkey_json.specs.declared.bytes_form.BytesForm.TheVariants as form

@@ -4,7 +4,7 @@ ghost use Rattle.passkey_json.specs.Kind.{algorithm};
 
 use crate::from_json::{FromJson, numeral};
 use crate::refusal::Refusal;
-use passkey_cose::iana::{Algorithm, EnumI64};
+use passkey_iana::{Algorithm, EnumI64};
 use serde_json::Value;
 use std::alloc::Global;
 

@@ -13,7 +13,7 @@ use crate::refusal::Refusal;
 use crate::to_json::ToJson;
 use passkey_bytes::encoding::base64url;
 use passkey_bytes::{Bytes, BytesFault, List};
-use passkey_cbor::OutOfMemory;
+use passkey_memory::OutOfMemory;
 use serde_json::Value;
 use std::alloc::Global;
 

@@ -7,7 +7,7 @@ ghost use Rattle.serde_json.specs.Written.{has_float, items_have_float};
 
 use crate::bytes_form::BytesForm;
 use crate::to_json::ToJson;
-use passkey_cbor::OutOfMemory;
+use passkey_memory::OutOfMemory;
 use serde_json::Value;
 use std::alloc::Global;
 

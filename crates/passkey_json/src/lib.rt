@@ -47,7 +47,7 @@ pub use list::TolerantList;
 pub use member::Member;
 pub use names::{read_name, written_name};
 pub use object::Object;
-pub use passkey_cbor::OutOfMemory;
+pub use passkey_memory::OutOfMemory;
 pub use prf_inputs::AuthenticationExtensionsPrfInputs;
 pub use refusal::Refusal;
 pub use resident_key::ResidentKeyRequirement;

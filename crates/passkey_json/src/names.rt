@@ -10,7 +10,7 @@ use crate::bytes_form::BytesForm;
 use crate::from_json::FromJson;
 use crate::refusal::Refusal;
 use crate::to_json::ToJson;
-use passkey_cbor::OutOfMemory;
+use passkey_memory::OutOfMemory;
 use passkey_webauthn::{AuthenticatorTransport, EnumNames, PublicKeyCredentialType};
 use serde_json::Value;
 use std::alloc::Global;

@@ -11,7 +11,7 @@ use crate::object::Object;
 use crate::refusal::Refusal;
 use crate::to_json::ToJson;
 use crate::written::Written;
-use passkey_cbor::OutOfMemory;
+use passkey_memory::OutOfMemory;
 use passkey_webauthn::{PublicKeyCredentialParameters, PublicKeyCredentialType};
 use serde_json::Value;
 use std::alloc::Global;

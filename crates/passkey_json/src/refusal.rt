@@ -5,7 +5,7 @@ ghost use Rattle.passkey_json.specs.Names.{refusal_name};
 ghost use Rattle.passkey_json.specs.declared.refusal.Refusal.TheVariants.{OutOfMemory as NoMemory};
 
 use crate::json_fault::JsonFault;
-use passkey_cbor::OutOfMemory;
+use passkey_memory::OutOfMemory;
 use std::alloc::{AllocError, AllocFailed};
 use std::error::Error;
 use std::fmt;

@@ -15,7 +15,7 @@ use crate::to_json::ToJson;
 use crate::truth_text::TruthText;
 use crate::user_verification::UserVerificationRequirement;
 use crate::written::Written;
-use passkey_cbor::OutOfMemory;
+use passkey_memory::OutOfMemory;
 use serde_json::Value;
 use std::alloc::Global;
 

@@ -9,8 +9,8 @@ ghost use Rattle.serde_json.specs.Written.{has_float};
 use crate::bytes_form::BytesForm;
 use crate::from_json::FromJson;
 use passkey_bytes::Text;
-use passkey_cbor::OutOfMemory;
-use passkey_cose::iana::{Algorithm, EnumI64};
+use passkey_iana::{Algorithm, EnumI64};
+use passkey_memory::OutOfMemory;
 use serde_json::Value;
 use std::alloc::Global;
 

@@ -9,7 +9,7 @@ use crate::from_json::FromJson;
 use crate::names::{read_name, written_name};
 use crate::refusal::Refusal;
 use crate::to_json::ToJson;
-use passkey_cbor::OutOfMemory;
+use passkey_memory::OutOfMemory;
 use passkey_webauthn::EnumNames;
 use serde_json::Value;
 use std::alloc::Global;

@@ -9,7 +9,7 @@ use crate::bytes_form::BytesForm;
 use crate::elements::Elements;
 use crate::to_json::ToJson;
 use passkey_bytes::List;
-use passkey_cbor::OutOfMemory;
+use passkey_memory::OutOfMemory;
 use serde_json::{Map, Value};
 use std::alloc::Global;
 

@@ -7,10 +7,10 @@ use Rattle.std.proofs.lemmas.List.Elements.{All-head, All-tail}
 use Rattle.passkey_cbor.specs.Item.{Item, number, byte_string, text_string, array, map as item_map, tagged, boolean, null, simple, float}
 use Rattle.passkey_cbor.specs.View.{item_of}
 use Rattle.passkey_core.specs.DataNormal.{Where}
-use Rattle.passkey_cose.specs.Iana.{algorithm_number, algorithm_named}
-use Rattle.passkey_cose.specs.IanaLaws.{algorithm_named-number}
-use Rattle.passkey_cose.specs.declared.iana.Algorithm.{Algorithm}
-use Rattle.passkey_cose.specs.declared.iana.Algorithm.TheVariants as algorithm
+use Rattle.passkey_iana.specs.Iana.{algorithm_number, algorithm_named}
+use Rattle.passkey_iana.specs.IanaLaws.{algorithm_named-number}
+use Rattle.passkey_iana.specs.declared.algorithm.Algorithm.{Algorithm}
+use Rattle.passkey_iana.specs.declared.algorithm.Algorithm.TheVariants as algorithm
 use Rattle.passkey_kinds.specs.Algorithm.{algorithm as an_algorithm, algorithm_tree}
 use Rattle.passkey_kinds.specs.Kind.{Kind, truth, below, text, one_named, kept, optional, each, bytes, list, accepted, tolerated}
 use Rattle.passkey_kinds.specs.ReadBack.{IsReadBack, Any, IsByte}

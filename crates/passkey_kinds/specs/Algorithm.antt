@@ -2,8 +2,8 @@
 use Rattle.std.specs.Prelude.{None}
 use Rattle.std.specs.Option.{option_and_then}
 use Rattle.passkey_cbor.specs.Item.{Item, number, text_string}
-use Rattle.passkey_cose.specs.Iana.{algorithm_number, algorithm_named}
-use Rattle.passkey_cose.specs.declared.iana.Algorithm.{Algorithm}
+use Rattle.passkey_iana.specs.Iana.{algorithm_number, algorithm_named}
+use Rattle.passkey_iana.specs.declared.algorithm.Algorithm.{Algorithm}
 use Rattle.passkey_kinds.specs.Kind.{Kind}
 use Rattle.passkey_webauthn.specs.NumberText.{signed_64, whole_64}
 

@@ -1,6 +1,6 @@
 -- Which keys a relying party can use (WebAuthn Level 3, section 5.3).
 use Rattle.std.specs.Prelude.{[], ◌∷◌, Option, Some, codes, false, unwrap_or}
-use Rattle.passkey_cose.specs.declared.iana.Algorithm.{Algorithm}
+use Rattle.passkey_iana.specs.declared.algorithm.Algorithm.{Algorithm}
 use Rattle.passkey_kinds.specs.Algorithm.{algorithm}
 use Rattle.passkey_kinds.specs.Kind.{Kind, one_named, tolerated}
 use Rattle.passkey_kinds.specs.Table.{Table, Values, Build, required, given, record_kind, ◌>>=◌}

@@ -2,8 +2,8 @@
 ghost use Rattle.std.specs.Prelude.{◌≡◌, false, IfOk};
 ghost use Rattle.std.specs.Option.{option_and_then};
 ghost use Rattle.passkey_cbor.specs.View.{item_of};
-ghost use Rattle.passkey_cose.specs.Iana.{algorithm_named};
-ghost use Rattle.passkey_cose.specs.declared.iana.Algorithm.{Algorithm as Named};
+ghost use Rattle.passkey_iana.specs.Iana.{algorithm_named};
+ghost use Rattle.passkey_iana.specs.declared.algorithm.Algorithm.{Algorithm as Named};
 ghost use Rattle.passkey_kinds.specs.Algorithm.{algorithm, algorithm_tree};
 ghost use Rattle.passkey_kinds.specs.Kind.{AnswersAs};
 ghost use Rattle.passkey_webauthn.specs.NumberText.{signed_64};
@@ -12,8 +12,9 @@ ghost use Rattle.passkey_kinds.specs.ReadBack.{Any};
 use crate::from_cbor::FromCbor;
 use crate::refusal::Refusal;
 use crate::to_cbor::ToCbor;
-use passkey_cbor::{Integer, OutOfMemory, Value};
-use passkey_cose::iana::{Algorithm, EnumI64};
+use passkey_cbor::{Integer, Value};
+use passkey_iana::{Algorithm, EnumI64};
+use passkey_memory::OutOfMemory;
 use passkey_webauthn::whole_part;
 use std::alloc::Global;
 

@@ -9,7 +9,8 @@ use crate::from_cbor::FromCbor;
 use crate::refusal::Refusal;
 use crate::to_cbor::ToCbor;
 use crate::written::write_each;
-use passkey_cbor::{OutOfMemory, Value};
+use passkey_cbor::Value;
+use passkey_memory::OutOfMemory;
 use std::alloc::Global;
 
 /// The bytes of 32 numbers. `Refused` exactly where there are more or fewer, or one isn't a byte.

@@ -10,9 +10,10 @@ ghost use Rattle.passkey_kinds.specs.Kind.{Answers};
 use crate::from_cbor::FromCbor;
 use crate::refusal::Refusal;
 use crate::to_cbor::ToCbor;
-use passkey_cbor::{OutOfMemory, Value};
+use passkey_cbor::Value;
 use passkey_core::{Aaguid, AuthenticatorData, laws};
 use passkey_cose::CoseError;
+use passkey_memory::OutOfMemory;
 use std::alloc::Global;
 
 /// The authenticator data of a byte string.

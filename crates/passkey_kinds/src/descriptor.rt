@@ -15,7 +15,8 @@ use crate::to_cbor::ToCbor;
 use crate::tolerated::Tolerated;
 use crate::written::Written;
 use passkey_bytes::Bytes;
-use passkey_cbor::{OutOfMemory, Value};
+use passkey_cbor::Value;
+use passkey_memory::OutOfMemory;
 use passkey_webauthn::{
     AuthenticatorTransport, PublicKeyCredentialDescriptor, PublicKeyCredentialType,
 };

@@ -34,7 +34,7 @@ pub use from_cbor::{FromCbor, read_into};
 pub use list::TolerantList;
 pub use message::{read_message, write_message};
 pub use optional_list::list_of;
-pub use passkey_cbor::OutOfMemory;
+pub use passkey_memory::OutOfMemory;
 pub use read_back::ReadBack;
 pub use record::{Slots, read_nested, read_record};
 pub use refusal::Refusal;

@@ -13,7 +13,8 @@ use crate::from_cbor::FromCbor;
 use crate::refusal::Refusal;
 use crate::to_cbor::ToCbor;
 use passkey_bytes::{Bytes, Map};
-use passkey_cbor::{OutOfMemory, Value};
+use passkey_cbor::Value;
+use passkey_memory::OutOfMemory;
 use std::alloc::Global;
 use std::collections::BTreeMap;
 

@@ -13,8 +13,9 @@ use crate::rows::Row;
 use crate::to_cbor::ToCbor;
 use crate::tolerated::Tolerated;
 use crate::written::Written;
-use passkey_cbor::{OutOfMemory, Value};
-use passkey_cose::iana::Algorithm;
+use passkey_cbor::Value;
+use passkey_iana::Algorithm;
+use passkey_memory::OutOfMemory;
 use passkey_webauthn::{PublicKeyCredentialParameters, PublicKeyCredentialType};
 use std::alloc::Global;
 

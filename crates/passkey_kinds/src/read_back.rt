@@ -6,7 +6,7 @@ ghost use Rattle.passkey_kinds.specs.ReadBack.{IsReadBack};
 use crate::from_cbor::FromCbor;
 use crate::to_cbor::ToCbor;
 use passkey_bytes::{Bytes, List, Map, Text};
-use passkey_cose::iana::Algorithm;
+use passkey_iana::Algorithm;
 use passkey_webauthn as webauthn;
 use passkey_webauthn::{
     AuthenticatorTransport, PublicKeyCredentialDescriptor, PublicKeyCredentialParameters,

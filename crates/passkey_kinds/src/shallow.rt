@@ -4,7 +4,7 @@ ghost use Rattle.passkey_cbor.specs.Depth.{depth};
 
 use crate::to_cbor::ToCbor;
 use passkey_bytes::{Bytes, List, Text};
-use passkey_cose::iana::Algorithm;
+use passkey_iana::Algorithm;
 use passkey_webauthn as webauthn;
 use passkey_webauthn::{
     AuthenticatorTransport, PublicKeyCredentialDescriptor, PublicKeyCredentialParameters,

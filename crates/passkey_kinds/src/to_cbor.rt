@@ -8,7 +8,8 @@ ghost use Rattle.passkey_kinds.specs.Tree.{number_tree, option_tree};
 ghost use Rattle.passkey_kinds.specs.Trees.{credential_type_tree, transport_tree};
 
 use passkey_bytes::{Bytes, Text};
-use passkey_cbor::{Integer, OutOfMemory, Value};
+use passkey_cbor::{Integer, Value};
+use passkey_memory::OutOfMemory;
 use passkey_webauthn::{AuthenticatorTransport, EnumNames, PublicKeyCredentialType};
 use std::alloc::Global;
 

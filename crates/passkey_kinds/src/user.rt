@@ -13,7 +13,8 @@ use crate::rows::Row;
 use crate::to_cbor::ToCbor;
 use crate::written::Written;
 use passkey_bytes::{Bytes, Text};
-use passkey_cbor::{OutOfMemory, Value};
+use passkey_cbor::Value;
+use passkey_memory::OutOfMemory;
 use passkey_webauthn::PublicKeyCredentialUserEntity;
 use std::alloc::Global;
 

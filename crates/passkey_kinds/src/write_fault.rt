@@ -3,7 +3,7 @@ ghost use Rattle.std.specs.Prelude.{◌≡◌, Some};
 ghost use Rattle.passkey_kinds.specs.Names.{write_fault_name};
 ghost use Rattle.passkey_kinds.specs.declared.write_fault.WriteFault.TheVariants.{OutOfMemory as NoMemory};
 
-use passkey_cbor::OutOfMemory;
+use passkey_memory::OutOfMemory;
 use std::error::Error;
 use std::fmt;
 

@@ -9,7 +9,8 @@ ghost use Rattle.passkey_kinds.specs.Written.{members_of};
 
 use crate::to_cbor::ToCbor;
 use passkey_bytes::List;
-use passkey_cbor::{OutOfMemory, Value};
+use passkey_cbor::Value;
+use passkey_memory::OutOfMemory;
 use std::alloc::Global;
 
 pub(crate) fn write_each<T: ToCbor>(alloc: Global, list: &[T]) -> Result<Vec<Value>, OutOfMemory>

@@ -12,12 +12,13 @@ ghost use Rattle.passkey_kinds.specs.declared.write_fault.WriteFault.TheVariants
 
 use crate::{Options, PublicKeyCredentialRpEntity};
 use passkey_bytes::{Bytes, List};
-use passkey_cbor::{OutOfMemory, Value};
+use passkey_cbor::Value;
 use passkey_extensions::make_credential::ExtensionInputs;
 use passkey_kinds::{
     Fault, Refusal, Row, Slots, ToCbor, TolerantList, Tolerated, WriteFault, Written, list_of,
     read_into, read_message, read_record, write_message,
 };
+use passkey_memory::OutOfMemory;
 use passkey_webauthn::{
     PublicKeyCredentialDescriptor, PublicKeyCredentialParameters, PublicKeyCredentialUserEntity,
 };

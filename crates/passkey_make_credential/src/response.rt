@@ -13,13 +13,14 @@ ghost use Rattle.passkey_kinds.specs.Reading.{MayGrowAt, Reads};
 ghost use Rattle.passkey_kinds.specs.declared.write_fault.WriteFault.TheVariants.{OutOfMemory as NoMemory};
 
 use passkey_bytes::{Bytes, Text};
-use passkey_cbor::{OutOfMemory, Value};
+use passkey_cbor::Value;
 use passkey_core::AuthenticatorData;
 use passkey_extensions::make_credential::UnsignedExtensionOutputs;
 use passkey_kinds::{
     Fault, Refusal, Row, Slots, ToCbor, WriteFault, Written, read_into, read_message, read_record,
     write_message,
 };
+use passkey_memory::OutOfMemory;
 use std::alloc::Global;
 
 /// How many levels of items are read.

@@ -9,10 +9,11 @@ ghost use Rattle.passkey_make_credential.specs.Entities.{rp_of_webauthn};
 
 use crate::MissingRpId;
 use passkey_bytes::Text;
-use passkey_cbor::{OutOfMemory, Value};
+use passkey_cbor::Value;
 use passkey_kinds::{
     FromCbor, ReadBack, Refusal, Row, Shallow, Slots, ToCbor, Written, read_into, read_nested,
 };
+use passkey_memory::OutOfMemory;
 use passkey_webauthn as webauthn;
 use std::alloc::Global;
 

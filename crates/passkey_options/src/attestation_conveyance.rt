@@ -4,8 +4,8 @@ ghost use Rattle.passkey_json.specs.Kind.{one_named};
 ghost use Rattle.passkey_options.specs.AttestationConveyance.{conveyance_name, conveyance_named, conveyance_own};
 ghost use Rattle.serde_json.specs.Data.{string};
 
-use passkey_cbor::OutOfMemory;
 use passkey_json::{BytesForm, FromJson, Refusal, ToJson, read_name, written_name};
+use passkey_memory::OutOfMemory;
 use passkey_webauthn::EnumNames;
 use serde_json::Value;
 use std::alloc::Global;

@@ -7,11 +7,11 @@ use crate::attestation_conveyance::AttestationConveyancePreference;
 use crate::attestation_format::AttestationStatementFormatIdentifiers;
 use crate::hints::PublicKeyCredentialHints;
 use passkey_bytes::{Bytes, List};
-use passkey_cbor::OutOfMemory;
 use passkey_json::{
     AuthenticationExtensionsClientInputs, AuthenticatorSelectionCriteria, BytesForm, FromJson,
     JsonFault, JsonRecord, Object, Refusal, ToJson, TolerantList, Written, read_nested,
 };
+use passkey_memory::OutOfMemory;
 use passkey_webauthn::{
     PublicKeyCredentialDescriptor, PublicKeyCredentialParameters, PublicKeyCredentialRpEntity,
     PublicKeyCredentialUserEntity,

@@ -4,10 +4,10 @@ ghost use Rattle.passkey_json.specs.Members.{record_kind};
 ghost use Rattle.passkey_options.specs.CredentialRequest.{credential_request_in, credential_request_json};
 
 use crate::request_options::PublicKeyCredentialRequestOptions;
-use passkey_cbor::OutOfMemory;
 use passkey_json::{
     BytesForm, FromJson, JsonFault, JsonRecord, Object, Refusal, ToJson, Written, read_nested,
 };
+use passkey_memory::OutOfMemory;
 use serde_json::Value;
 use std::alloc::Global;
 

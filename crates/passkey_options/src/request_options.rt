@@ -7,11 +7,11 @@ use crate::attestation_conveyance::AttestationConveyancePreference;
 use crate::attestation_format::AttestationStatementFormatIdentifiers;
 use crate::hints::PublicKeyCredentialHints;
 use passkey_bytes::{Bytes, List, Text};
-use passkey_cbor::OutOfMemory;
 use passkey_json::{
     AuthenticationExtensionsClientInputs, BytesForm, FromJson, JsonFault, JsonRecord, Object,
     Refusal, ToJson, UserVerificationRequirement, Written, read_nested,
 };
+use passkey_memory::OutOfMemory;
 use passkey_webauthn::PublicKeyCredentialDescriptor;
 use serde_json::Value;
 use std::alloc::Global;

@@ -5,8 +5,8 @@ use Rattle.std.specs.Option.{IsSomeAnd}
 use Rattle.passkey_cose.specs.Key.{key_parts}
 use Rattle.passkey_cose.specs.KeyParts.{KeyParts, TakesMemory}
 use Rattle.passkey_cose.specs.Registered.{Named, assigned, other, text}
-use Rattle.passkey_cose.specs.declared.iana.KeyType.{KeyType}
-use Rattle.passkey_cose.specs.declared.iana.KeyType.TheVariants as key_type
+use Rattle.passkey_iana.specs.declared.key_type.KeyType.{KeyType}
+use Rattle.passkey_iana.specs.declared.key_type.KeyType.TheVariants as key_type
 use Rattle.passkey_cose.specs.declared.key.CoseKey.{CoseKey}
 use Rattle.passkey_stored.specs.Extensions.{no_extensions}
 use Rattle.passkey_stored.specs.declared.extensions.CredentialExtensions.{CredentialExtensions}

@@ -7,9 +7,9 @@ use crate::extensions::CredentialExtensions;
 use crate::hmac_secret::StoredHmacSecret;
 use crate::passkey::Passkey;
 use passkey_bytes::{Bytes, Text};
-use passkey_cbor::OutOfMemory;
 use passkey_core::GivenBack;
 use passkey_cose::CoseKey;
+use passkey_memory::OutOfMemory;
 use rand_core::Rng;
 use std::alloc::{AllocError, Global};
 

@@ -3,7 +3,7 @@ ghost use Rattle.std.specs.Prelude.{◌≡◌, IfOk, IsSome, OnErr};
 ghost use Rattle.passkey_stored.specs.Extensions.{no_extensions};
 
 use crate::hmac_secret::StoredHmacSecret;
-use passkey_cbor::OutOfMemory;
+use passkey_memory::OutOfMemory;
 use std::alloc::Global;
 
 /// What extensions store with a passkey.

@@ -4,7 +4,7 @@ ghost use Rattle.std.specs.Option.{IsSomeAnd};
 ghost use Rattle.passkey_stored.specs.HmacSecret.{erased, redacted};
 
 use passkey_bytes::Bytes;
-use passkey_cbor::OutOfMemory;
+use passkey_memory::OutOfMemory;
 use std::alloc::Global;
 use std::fmt;
 

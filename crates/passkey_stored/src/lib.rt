@@ -10,8 +10,8 @@ pub use builder::PasskeyBuilder;
 pub use extensions::CredentialExtensions;
 pub use hmac_secret::StoredHmacSecret;
 pub use passkey::Passkey;
-pub use passkey_cbor::OutOfMemory;
 pub use passkey_core::GivenBack;
+pub use passkey_memory::OutOfMemory;
 
 #[cfg(test)]
 mod tests;

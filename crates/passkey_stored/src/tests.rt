@@ -6,8 +6,8 @@ use crate::{
     CredentialExtensions, GivenBack, OutOfMemory, Passkey, PasskeyBuilder, StoredHmacSecret,
 };
 use passkey_bytes::{Bytes, Text};
-use passkey_cose::iana::KeyType;
 use passkey_cose::{CoseKey, Registered};
+use passkey_iana::KeyType;
 use passkey_webauthn::PublicKeyCredentialType;
 use rand_core::Rng;
 use rand_core::utils::{self, NextWord};

@@ -10,7 +10,7 @@ use Rattle.std.proofs.lemmas.Bool.{ltb-true, lt-ltb, leb-true, le-leb, ne_eqb}
 use Rattle.std.proofs.lemmas.List.Folds.{list_all-append}
 use Rattle.std.proofs.lemmas.Str.Parse.{digit_from_value}
 use Rattle.std.proofs.lemmas.Str.{digit_value_digit}
-use Rattle.passkey_cose.specs.KeyFaults.{is_signed_64}
+use Rattle.passkey_iana.specs.Signed64.{is_signed_64}
 use Rattle.passkey_webauthn.specs.NumberText.{before_point, after_point, digits, is_number_text, whole_64}
 
 both_true : (a b : Bool) → (a && b) ≡ true → (a ≡ true) × (b ≡ true)

@@ -3,7 +3,7 @@ use Rattle.std.specs.Prelude.{ℕ, ◌==◌, Bool, ◌&&◌, List, ◌++◌, len
 use Rattle.std.specs.List.{before_first, after_first, list_all}
 use Rattle.std.specs.Char.{is_ascii_digit}
 use Rattle.std.specs.Str.Parse.{without_leading_sign, signed_digits_value}
-use Rattle.passkey_cose.specs.KeyFaults.{is_signed_64}
+use Rattle.passkey_iana.specs.Signed64.{is_signed_64}
 
 -- `.`
 abbrev pub is_point : ℕ → Bool

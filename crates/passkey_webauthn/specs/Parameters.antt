@@ -1,7 +1,7 @@
 -- Which keys a relying party can use (WebAuthn Level 3, section 5.3).
 use Rattle.std.specs.Prelude.{List, [], ◌∷◌}
-use Rattle.passkey_cose.specs.declared.iana.Algorithm.{Algorithm}
-use Rattle.passkey_cose.specs.declared.iana.Algorithm.TheVariants.{ES256, RS256}
+use Rattle.passkey_iana.specs.declared.algorithm.Algorithm.{Algorithm}
+use Rattle.passkey_iana.specs.declared.algorithm.Algorithm.TheVariants.{ES256, RS256}
 use Rattle.passkey_webauthn.specs.declared.credential_type.PublicKeyCredentialType.TheVariants.{PublicKey}
 use Rattle.passkey_webauthn.specs.declared.parameters.PublicKeyCredentialParameters.{PublicKeyCredentialParameters}
 

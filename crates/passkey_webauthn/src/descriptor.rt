@@ -5,7 +5,7 @@ ghost use Rattle.std.specs.Option.{IsSomeAnd};
 use crate::credential_type::PublicKeyCredentialType;
 use crate::transport::AuthenticatorTransport;
 use passkey_bytes::{Bytes, List};
-use passkey_cbor::OutOfMemory;
+use passkey_memory::OutOfMemory;
 use std::alloc::Global;
 
 /// A credential, by its id (WebAuthn Level 3, section 5.8.3).

@@ -17,7 +17,7 @@ pub use descriptor::PublicKeyCredentialDescriptor;
 pub use names::EnumNames;
 pub use number_text::whole_part;
 pub use parameters::PublicKeyCredentialParameters;
-pub use passkey_cbor::OutOfMemory;
+pub use passkey_memory::OutOfMemory;
 pub use prf_outputs::AuthenticationExtensionsPrfOutputs;
 pub use prf_values::AuthenticationExtensionsPrfValues;
 pub use rp::PublicKeyCredentialRpEntity;

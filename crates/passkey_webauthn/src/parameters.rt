@@ -4,8 +4,8 @@ ghost use Rattle.passkey_webauthn.specs.Parameters.{default_parameters, public_k
 
 use crate::credential_type::PublicKeyCredentialType;
 use passkey_bytes::List;
-use passkey_cbor::OutOfMemory;
-use passkey_cose::iana::Algorithm;
+use passkey_iana::Algorithm;
+use passkey_memory::OutOfMemory;
 use std::alloc::Global;
 
 /// A type of credential and an algorithm that a relying party can use (WebAuthn Level 3, section

@@ -3,7 +3,7 @@ ghost use Rattle.std.specs.Prelude.{◌≡◌, ◌<◌, ◌⊎◌, length, IfOk,
 ghost use Rattle.std.specs.Option.{IsSomeAnd};
 
 use crate::prf_values::AuthenticationExtensionsPrfValues;
-use passkey_cbor::OutOfMemory;
+use passkey_memory::OutOfMemory;
 use std::alloc::Global;
 
 /// What the extension prf answers (WebAuthn Level 3, section 10.1.4).

@@ -3,7 +3,7 @@ ghost use Rattle.std.specs.Prelude.{◌≡◌, ◌<◌, ◌⊎◌, length, IfOk,
 ghost use Rattle.std.specs.Option.{IsSomeAnd};
 
 use passkey_bytes::Bytes;
-use passkey_cbor::OutOfMemory;
+use passkey_memory::OutOfMemory;
 use std::alloc::{AllocError, Global};
 
 /// One or two salts of the extension prf, or what it makes of them, as a relying party sees them

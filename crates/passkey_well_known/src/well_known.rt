@@ -7,8 +7,8 @@ ghost use Rattle.passkey_well_known.specs.WellKnown.{GivesUrls, urls_json, well_
 ghost use Rattle.serde_json.specs.View.{view};
 
 use crate::url_list::{UrlFault, read_urls};
-use passkey_cbor::OutOfMemory;
 use passkey_json::{BytesForm, JsonFault, holds_float};
+use passkey_memory::OutOfMemory;
 use serde_json::{Map, Value};
 use std::alloc::Global;
 use url::Url;

@@ -6,7 +6,7 @@ ghost use Rattle.passkey_core.specs.DataWritten.{attested_written};
 
 use crate::attested::AttestedCredentialData;
 use crate::given_back::GivenBack;
-use passkey_cbor::OutOfMemory;
+use passkey_memory::OutOfMemory;
 use std::alloc::Global;
 use std::iter::FusedIterator;
 use std::marker::Model;

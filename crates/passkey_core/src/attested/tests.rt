@@ -1,7 +1,7 @@
-use super::*;
 use passkey_cose::Registered;
-use passkey_cose::iana::KeyType;
+use passkey_iana::KeyType;
 use std::test::Fail;
+use super::*;
 
 fn zeros(alloc: Global, len: usize) -> Result<Vec<u8>, Fail> {
     Ok(vec![in alloc; 0u8; len]?)

@@ -8,7 +8,8 @@ use crate::authenticator_data::AuthenticatorData;
 use crate::flags::Flags;
 use crate::given_back::GivenBack;
 use crate::{get_assertion, make_credential};
-use passkey_cbor::{OutOfMemory, Value};
+use passkey_cbor::Value;
+use passkey_memory::OutOfMemory;
 use std::alloc::Global;
 
 impl AuthenticatorData {

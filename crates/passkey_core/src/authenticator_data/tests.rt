@@ -1,12 +1,12 @@
 // The bytes here were put together by hand, from WebAuthn Level 3, section 6.1.
-use super::*;
 use crate::{Aaguid, get_assertion, make_credential};
 use passkey_bytes::Bytes;
 use passkey_cbor::Integer;
-use passkey_cose::iana::Algorithm;
 use passkey_cose::{CoseError, CoseKey, Registered};
+use passkey_iana::Algorithm;
 use std::alloc::{AllocError, Global};
 use std::test::Fail;
+use super::*;
 
 /// The SHA-256 hash of `webauthn.io`.
 const HASH: &'static [u8] = &[

@@ -10,7 +10,8 @@ ghost use Rattle.passkey_core.specs.DataWritten.{attested_written, flags_written
 use crate::attested::AttestedCredentialData;
 use crate::authenticator_data::AuthenticatorData;
 use crate::flags::Flags;
-use passkey_cbor::{OutOfMemory, Value};
+use passkey_cbor::Value;
+use passkey_memory::OutOfMemory;
 use std::alloc::Global;
 
 fn push_attested(

@@ -8,10 +8,11 @@ ghost use Rattle.passkey_extensions.specs.ExtensionTrees.{GetExtensionsFit, get_
 ghost use Rattle.passkey_cbor.specs.Depth.{depth};
 
 use crate::{AuthenticatorPrfInputs, HmacGetSecretInput};
-use passkey_cbor::{OutOfMemory, Value};
+use passkey_cbor::Value;
 use passkey_kinds::{
     FromCbor, ReadBack, Refusal, Row, Slots, ToCbor, Tolerated, Written, read_into, read_nested,
 };
+use passkey_memory::OutOfMemory;
 use std::alloc::Global;
 
 /// What extensions are given where a credential is used (CTAP 2.1, section 6.2). An input that is

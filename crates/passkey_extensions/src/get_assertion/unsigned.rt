@@ -7,10 +7,11 @@ ghost use Rattle.passkey_extensions.specs.declared.get_assertion.unsigned.Unsign
 ghost use Rattle.passkey_extensions.specs.ExtensionTrees.{UsedFits, used_tree};
 
 use crate::AuthenticatorPrfGetOutputs;
-use passkey_cbor::{OutOfMemory, Value};
+use passkey_cbor::Value;
 use passkey_kinds::{
     FromCbor, ReadBack, Refusal, Row, Shallow, Slots, ToCbor, Written, read_into, read_nested,
 };
+use passkey_memory::OutOfMemory;
 use std::alloc::Global;
 
 /// What extensions answer beside the authenticator data of a credential's use (WebAuthn

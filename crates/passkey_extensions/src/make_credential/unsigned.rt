@@ -7,10 +7,11 @@ ghost use Rattle.passkey_extensions.specs.declared.make_credential.unsigned.Unsi
 ghost use Rattle.passkey_extensions.specs.ExtensionTrees.{MadeFits, made_tree};
 
 use crate::AuthenticatorPrfMakeOutputs;
-use passkey_cbor::{OutOfMemory, Value};
+use passkey_cbor::Value;
 use passkey_kinds::{
     FromCbor, ReadBack, Refusal, Row, Shallow, Slots, ToCbor, Written, read_into, read_nested,
 };
+use passkey_memory::OutOfMemory;
 use std::alloc::Global;
 
 /// What extensions answer beside the authenticator data of a credential that was made (WebAuthn

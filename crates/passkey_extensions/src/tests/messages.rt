@@ -4,8 +4,9 @@ use crate::{
     AuthenticatorPrfValues, HmacGetSecretInput, get_assertion, make_credential,
 };
 use passkey_bytes::{Bytes, Map};
-use passkey_cbor::{OutOfMemory, Value};
+use passkey_cbor::Value;
 use passkey_kinds::Fault;
+use passkey_memory::OutOfMemory;
 use std::alloc::Global;
 use std::test::Fail;
 

@@ -1,10 +1,10 @@
-use super::read;
 use crate::{TolerantList, Tolerated, TruthText};
 use passkey_bytes::{Bytes, List, Text};
-use passkey_cose::iana::Algorithm;
+use passkey_iana::Algorithm;
 use passkey_webauthn::{AuthenticatorTransport, PublicKeyCredentialType};
 use std::alloc::Global;
 use std::test::Fail;
+use super::read;
 
 /// Whether the JSON text stands for these bytes.
 fn stands_for(alloc: Global, text: &str, bytes: &[u8]) -> Result<bool, Fail> {

@@ -4,7 +4,7 @@ use crate::{
     JsonFault, ResidentKeyRequirement, UserVerificationRequirement,
 };
 use passkey_bytes::Text;
-use passkey_cose::iana::Algorithm;
+use passkey_iana::Algorithm;
 use passkey_webauthn::{
     AuthenticationExtensionsPrfOutputs, AuthenticatorTransport, PublicKeyCredentialDescriptor,
     PublicKeyCredentialParameters, PublicKeyCredentialRpEntity, PublicKeyCredentialType,

@@ -13,8 +13,9 @@ use crate::refusal::Refusal;
 use crate::rows::Row;
 use crate::to_cbor::ToCbor;
 use passkey_bytes::Bytes;
-use passkey_cbor::{OutOfMemory, Value};
+use passkey_cbor::Value;
 use passkey_core::make_credential::SignedExtensionOutputs;
+use passkey_memory::OutOfMemory;
 use std::alloc::Global;
 
 #[derive(Drop)]

@@ -1,5 +1,5 @@
 use crate::{Fault, Refusal, WriteFault};
-use passkey_cbor::OutOfMemory;
+use passkey_memory::OutOfMemory;
 use std::alloc::{AllocError, Global};
 use std::test::Fail;
 

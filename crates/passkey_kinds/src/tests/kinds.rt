@@ -1,12 +1,12 @@
-use super::read;
 use crate::{TolerantList, Tolerated};
 use passkey_bytes::{Bytes, List, Text};
 use passkey_cbor::Value;
-use passkey_cose::iana::Algorithm;
+use passkey_iana::Algorithm;
 use passkey_webauthn::{AuthenticatorTransport, PublicKeyCredentialType};
 use std::alloc::Global;
 use std::num::NonZeroU128;
 use std::test::Fail;
+use super::read;
 
 /// Whether the item stands for these bytes.
 fn stands_for(alloc: Global, item: &[u8], bytes: &[u8]) -> Result<bool, Fail> {

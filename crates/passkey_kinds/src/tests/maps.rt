@@ -1,8 +1,8 @@
-use super::{is_written, read};
 use passkey_bytes::{Bytes, Map};
-use passkey_cbor::OutOfMemory;
+use passkey_memory::OutOfMemory;
 use std::alloc::Global;
 use std::test::Fail;
+use super::{is_written, read};
 
 type Numbers = Map<Bytes, u8>;
 

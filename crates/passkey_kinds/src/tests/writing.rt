@@ -1,9 +1,9 @@
-use super::{is_written, read};
 use crate::Fault;
 use passkey_bytes::{Bytes, List, Text};
 use passkey_cbor::Value;
-use passkey_cose::iana::Algorithm;
+use passkey_iana::Algorithm;
 use passkey_webauthn as webauthn;
+use super::{is_written, read};
 use passkey_webauthn::{
     AuthenticatorTransport, PublicKeyCredentialDescriptor, PublicKeyCredentialParameters,
     PublicKeyCredentialType,

@@ -1,11 +1,11 @@
-use super::{joined, nested};
 use crate::{Options, Request};
 use passkey_cbor::Value;
-use passkey_cose::iana::Algorithm;
+use passkey_iana::Algorithm;
 use passkey_kinds::Fault;
 use passkey_webauthn::PublicKeyCredentialType;
 use std::alloc::Global;
 use std::test::Fail;
+use super::{joined, nested};
 
 /// clientDataHash: no bytes; rp: its id, an empty text; user: no id, two empty names.
 const FIRST_THREE: &'static [u8] = &[

@@ -1,9 +1,9 @@
-use super::{is_rewritten, read};
 use crate::{CredentialCreationOptions, PublicKeyCredentialCreationOptions};
-use passkey_cose::iana::Algorithm;
+use passkey_iana::Algorithm;
 use passkey_json::JsonFault;
 use passkey_webauthn::{PublicKeyCredentialParameters, PublicKeyCredentialType};
 use std::test::Fail;
+use super::{is_rewritten, read};
 
 #[test]
 fn timeouts_are_whole_numbers_or_texts_of_one(rt: HostRuntime) -> Result<(), Fail> {

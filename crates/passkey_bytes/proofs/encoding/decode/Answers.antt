@@ -5,7 +5,7 @@ use Rattle.std.proofs.lemmas.Bool.{true≢false}
 use Rattle.base64.specs.GeneralPurpose.{decode_of, decoded_of}
 use Rattle.base64.specs.declared.engine.general_purpose.GeneralPurpose.{GeneralPurpose}
 use Rattle.base64.proofs.Streams.{decoded_of-nil}
-use Rattle.passkey_cbor.proofs.Emptiness.{empty_list, filled_list}
+use Rattle.passkey_memory.proofs.Emptiness.{empty_list, filled_list}
 use Rattle.passkey_bytes.proofs.Decodable.{some_bytes}
 use Rattle.passkey_bytes.proofs.encoding.decode.Goals as goal
 

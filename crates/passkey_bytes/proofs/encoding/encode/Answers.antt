@@ -1,8 +1,8 @@
 use Rattle.std.proofs.Common.{◌≡◌, [], sym, ap, ◌∙◌}
 use Rattle.base64.specs.GeneralPurpose.{encode_of}
 use Rattle.base64.proofs.EngineFacts.{encode_of-nil}
-use Rattle.passkey_cbor.proofs.Cloning.{on_err}
-use Rattle.passkey_cbor.proofs.Emptiness.{empty_list, filled_list}
+use Rattle.passkey_memory.proofs.Failing.{on_err}
+use Rattle.passkey_memory.proofs.Emptiness.{empty_list, filled_list}
 use Rattle.passkey_bytes.proofs.encoding.encode.Goals as goal
 
 pub returns-then-is_empty-clause-same : goal.returns-then-is_empty-clause-same

@@ -1,7 +1,8 @@
 use Rattle.std.proofs.Common.{List, ap}
 use Rattle.passkey_cbor.specs.Item.{Item, map, pairs_of}
 use Rattle.passkey_cbor.proofs.Views.{item_of-Map}
-use Rattle.passkey_cbor.proofs.Cloning.{array_grows, map_grows, on_err}
+use Rattle.passkey_cbor.proofs.Cloning.{array_grows, map_grows}
+use Rattle.passkey_memory.proofs.Failing.{on_err}
 use Rattle.passkey_cbor.proofs.clone.+clone.Goals as goal
 
 pub copy-returns-in_err-copy_pairs-in-Map-clause-grows :

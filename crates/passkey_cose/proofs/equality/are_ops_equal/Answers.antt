@@ -1,5 +1,5 @@
 use Rattle.std.proofs.Common.{◌∙◌, arith}
-use Rattle.passkey_cose.specs.Iana.{key_operation_number}
+use Rattle.passkey_iana.specs.Iana.{key_operation_number}
 use Rattle.passkey_cose.specs.Registered.{named_of, named_eq}
 use Rattle.passkey_cose.proofs.KeyEnds.{pointwise-end}
 use Rattle.passkey_cose.proofs.equality.are_ops_equal.Goals as goal

@@ -1,6 +1,6 @@
 use Rattle.std.specs.Cmp.Lexicographic.{pointwise}
 use Rattle.std.proofs.Common.{◌≡◌, map, drop}
-use Rattle.passkey_cose.specs.Iana.{key_operation_number}
+use Rattle.passkey_iana.specs.Iana.{key_operation_number}
 use Rattle.passkey_cose.specs.Registered.{named_of, named_eq}
 use Rattle.passkey_cose.proofs.equality.are_ops_equal.Given as goal
 

@@ -1,7 +1,7 @@
 use Rattle.std.specs.List.{filter_map}
 use Rattle.std.proofs.Common.{◌≡◌, ◌++◌, map, drop}
 use Rattle.passkey_cbor.specs.View.{item_of}
-use Rattle.passkey_cose.specs.Iana.{key_operation_named}
+use Rattle.passkey_iana.specs.Iana.{key_operation_named}
 use Rattle.passkey_cose.specs.KeyReading.{name_in}
 use Rattle.passkey_cose.specs.Registered.{named_of}
 use Rattle.passkey_cose.proofs.reading.read_ops.Given as goal

@@ -1,8 +1,8 @@
 use Rattle.std.specs.Option.{option_and_then}
 use Rattle.std.proofs.Common.{rules, ◌≡◌, ◌∙◌, ◌<◌, [], length, map, true, Some, None, option_map, unwrap_or, inl, inr, refl, ap}
 use Rattle.passkey_cbor.specs.View.{pair_of}
-use Rattle.passkey_cbor.proofs.Cloning.{on_err}
-use Rattle.passkey_cose.specs.Iana.{algorithm_named}
+use Rattle.passkey_memory.proofs.Failing.{on_err}
+use Rattle.passkey_iana.specs.Iana.{algorithm_named}
 use Rattle.passkey_cose.specs.KeyFaults.{first_fault}
 use Rattle.passkey_cose.specs.KeyFields.{parts_held}
 use Rattle.passkey_cose.specs.KeyLabels.{are_separate}

@@ -1,7 +1,7 @@
 -- Where each value of a table is found by its number, each is found by its own alone.
 use Rattle.std.specs.Bool.{Decides}
 use Rattle.std.proofs.Common.{◌≡◌, ◌↔◌, Bool, true, false, List, [], ◌∷◌, Some, refl, subst}
-use Rattle.passkey_cose.specs.Table.{numbered}
+use Rattle.passkey_iana.specs.Table.{numbered}
 
 module _ {T N : Type 0} (same : N → N → Bool) (decides : (x y : N) → Decides (same x y) (x ≡ y)) (number : T → N) where
   -- what is found has the number

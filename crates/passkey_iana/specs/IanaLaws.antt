@@ -2,14 +2,14 @@
 use Rattle.std.specs.Cmp.{signed_Decides}
 use Rattle.std.specs.Ordering.{int_eq}
 use Rattle.std.proofs.Common.{◌≡◌, ◌↔◌, ℤ, Some, refl}
-use Rattle.passkey_cose.specs.TableLaws.{numbered_as}
-use Rattle.passkey_cose.specs.declared.iana.Algorithm.{Algorithm}
-use Rattle.passkey_cose.specs.declared.iana.KeyType.{KeyType}
-use Rattle.passkey_cose.specs.declared.iana.KeyOperation.{KeyOperation}
-use Rattle.passkey_cose.specs.declared.iana.Algorithm.TheVariants as algorithm
-use Rattle.passkey_cose.specs.declared.iana.KeyType.TheVariants as key_type
-use Rattle.passkey_cose.specs.declared.iana.KeyOperation.TheVariants as key_operation
-use Rattle.passkey_cose.specs.Iana.{algorithms, algorithm_number, algorithm_named, key_types, key_type_number, key_type_named, key_operations, key_operation_number, key_operation_named}
+use Rattle.passkey_iana.specs.TableLaws.{numbered_as}
+use Rattle.passkey_iana.specs.declared.algorithm.Algorithm.{Algorithm}
+use Rattle.passkey_iana.specs.declared.key_type.KeyType.{KeyType}
+use Rattle.passkey_iana.specs.declared.key_operation.KeyOperation.{KeyOperation}
+use Rattle.passkey_iana.specs.declared.algorithm.Algorithm.TheVariants as algorithm
+use Rattle.passkey_iana.specs.declared.key_type.KeyType.TheVariants as key_type
+use Rattle.passkey_iana.specs.declared.key_operation.KeyOperation.TheVariants as key_operation
+use Rattle.passkey_iana.specs.Iana.{algorithms, algorithm_number, algorithm_named, key_types, key_type_number, key_type_named, key_operations, key_operation_number, key_operation_named}
 
 algorithm_own : (a : Algorithm) → algorithm_named (algorithm_number a) ≡ Some a
 algorithm_own algorithm.RS1 = refl

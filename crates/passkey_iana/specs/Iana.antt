@@ -1,13 +1,13 @@
 -- The numbers that IANA's registries of COSE assign; negsuc n is -1 - n.
 use Rattle.std.specs.Prelude.{ℤ, pos, negsuc, List, [], ◌∷◌, Option}
 use Rattle.std.specs.Ordering.{int_eq}
-use Rattle.passkey_cose.specs.Table.{numbered}
-use Rattle.passkey_cose.specs.declared.iana.Algorithm.{Algorithm}
-use Rattle.passkey_cose.specs.declared.iana.KeyType.{KeyType}
-use Rattle.passkey_cose.specs.declared.iana.KeyOperation.{KeyOperation}
-use Rattle.passkey_cose.specs.declared.iana.Algorithm.TheVariants as algorithm
-use Rattle.passkey_cose.specs.declared.iana.KeyType.TheVariants as key_type
-use Rattle.passkey_cose.specs.declared.iana.KeyOperation.TheVariants as key_operation
+use Rattle.passkey_iana.specs.Table.{numbered}
+use Rattle.passkey_iana.specs.declared.algorithm.Algorithm.{Algorithm}
+use Rattle.passkey_iana.specs.declared.key_type.KeyType.{KeyType}
+use Rattle.passkey_iana.specs.declared.key_operation.KeyOperation.{KeyOperation}
+use Rattle.passkey_iana.specs.declared.algorithm.Algorithm.TheVariants as algorithm
+use Rattle.passkey_iana.specs.declared.key_type.KeyType.TheVariants as key_type
+use Rattle.passkey_iana.specs.declared.key_operation.KeyOperation.TheVariants as key_operation
 
 abbrev pub algorithm_number : Algorithm → ℤ
 algorithm_number algorithm.RS1 = negsuc 65534

@@ -1,4 +1,4 @@
--- What a call answers that may be refused memory.
+-- What a call returns that may run out of memory.
 use Rattle.std.specs.Prelude.{◌≡◌, Bool, true, false, Option, Some, None, Result, Ok, Err}
 use Rattle.std.specs.Result.{IsOkAnd}
 
@@ -13,7 +13,7 @@ abbrev pub FailsBy : {B E : Type 0} → Bool → (B → Type 0) → Result B E �
 FailsBy true Takes wanted e = IsOkAnd wanted Takes
 FailsBy false Takes wanted e = wanted ≡ Err e
 
--- the same, by a test that tells want of memory from the faults
+-- the same, by a test that tells running out of memory from the faults
 abbrev pub Fails : {B E : Type 0} → (E → Bool) → (B → Type 0) → Result B E → E → Type 0
 Fails is_memory Takes wanted e = FailsBy (is_memory e) Takes wanted e
 
