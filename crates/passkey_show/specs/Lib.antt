@@ -1,5 +1,1 @@
-pub mod Kind
-pub mod Trimmed
-pub mod Fault
-pub mod ShowsJson
 pub mod Shows

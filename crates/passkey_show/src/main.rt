@@ -3,18 +3,12 @@
 //! of a fault, whose line is on standard error.
 #![tactic(auto)]
 
-mod fault;
-mod kind;
-mod message;
-mod rewrite_bytes;
-mod rewrite_json;
 mod run;
 #[cfg(test)]
 mod tests;
-mod trim;
 mod words;
 
-use fault::RunFault;
+use passkey_rewrite::RunFault;
 use std::io::{Read, Write};
 use std::process::ExitCode;
 use std::rt::Env;

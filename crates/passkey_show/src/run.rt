@@ -1,14 +1,12 @@
 //! One run: the input is read to its end, rewritten, and written out.
 ghost use Rattle.std.specs.Prelude.{◌≡◌, ◌↔◌, ◌⊎◌, IfOk, IfErr, OnOk, OnErr, IfSome, IsNone, IsErrOf, string_bytes};
 ghost use Rattle.std.specs.Io.KnownBytes.{Appends, IsAtEnd};
-ghost use Rattle.passkey_show.specs.Kind.{kind_named};
-ghost use Rattle.passkey_show.specs.Shows.{AppendsBeginning, HasNoOutput, IsOutput, Shows};
-ghost use Rattle.passkey_show.specs.declared.fault.RunFault.TheVariants.{OutOfMemory, InputFailed, OutputFailed};
+ghost use Rattle.passkey_rewrite.specs.Kind.{kind_named};
+ghost use Rattle.passkey_rewrite.specs.Rewriting.{HasNoOutput};
+ghost use Rattle.passkey_show.specs.Shows.{AppendsBeginning, IsOutput, Shows};
+ghost use Rattle.passkey_rewrite.specs.declared.fault.RunFault.TheVariants.{OutOfMemory, InputFailed, OutputFailed};
 
-use crate::fault::RunFault;
-use crate::kind::Kind;
-use crate::rewrite_bytes::rewrite_hex;
-use crate::rewrite_json::rewrite_json;
+use passkey_rewrite::{Kind, RunFault, rewrite};
 use std::alloc::Global;
 use std::io::{Read, Write};
 
@@ -48,10 +46,7 @@ fn output(alloc: Global, kind: Kind, input: &[u8]) -> Result<String, RunFault>
     ensures ok { IfOk result (λ text. IsOutput kind input.now (string_bytes text)) }
     ensures err { IfErr result (HasNoOutput kind input.now) }
 {
-    let mut text = match kind {
-        Kind::Bytes(kind) => rewrite_hex(alloc, kind, input)?,
-        Kind::Json(kind) => rewrite_json(alloc, kind, input)?,
-    };
+    let mut text = rewrite(alloc, kind, input)?;
     text.push('\n')?;
     Ok(text)
 }
@@ -61,7 +56,7 @@ fn output(alloc: Global, kind: Kind, input: &[u8]) -> Result<String, RunFault>
 /// spaces at its ends, lower-case hexadecimal; of a JSON text compact JSON text with bytes in
 /// base64url. `UnknownKind` exactly where the word names no kind: then nothing is read.
 /// `InputFailed` where a read failed, or the input has no end; `OutOfMemory` where a growth was
-/// refused; else a fault of `rewrite_hex` or `rewrite_json`. At all of these nothing is written.
+/// refused; else a fault of `rewrite`. At all of these nothing is written.
 /// `OutputFailed` where a write failed or took no byte: then not all of the output is written.
 pub fn run<R: Read, W: Write>(
     alloc: Global,

@@ -1,8 +1,8 @@
 //! The words after the program's name.
 ghost use Rattle.std.specs.Prelude.{◌≡◌, ◌≢◌, ◌⊎◌, [], ◌∷◌, IfOk, IfErr, length, map, string_bytes};
-ghost use Rattle.passkey_show.specs.declared.fault.RunFault.TheVariants.{UnknownKind, OutOfMemory};
+ghost use Rattle.passkey_rewrite.specs.declared.fault.RunFault.TheVariants.{UnknownKind, OutOfMemory};
 
-use crate::fault::RunFault;
+use passkey_rewrite::RunFault;
 use std::env;
 use std::io::ErrorKind;
 use std::rt::Env;

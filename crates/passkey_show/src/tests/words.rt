@@ -1,5 +1,5 @@
-use crate::fault::RunFault;
 use crate::words::{kind_of, read_words};
+use passkey_rewrite::RunFault;
 use std::env::FillError;
 use std::rt::Env;
 use std::test::Fail;

@@ -1,6 +1,6 @@
 //! White space at the ends of a text.
 ghost use Rattle.std.specs.Prelude.{◌≡◌};
-ghost use Rattle.passkey_show.specs.Trimmed.{is_space, trimmed_start, trimmed_end, trimmed, IsCore};
+ghost use Rattle.passkey_rewrite.specs.Trimmed.{is_space, trimmed_start, trimmed_end, trimmed, IsCore};
 
 /// The text without the tabs, line feeds, carriage returns and spaces at its ends.
 pub fn trim(text: &[u8]) -> &[u8]

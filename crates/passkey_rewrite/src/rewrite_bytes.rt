@@ -1,8 +1,8 @@
 //! Bytes that the input tells in hexadecimal, rewritten.
 ghost use Rattle.std.specs.Prelude.{◌≡◌, ◌⊎◌, IfOk, IfErr, IsErr, string_bytes};
 ghost use Rattle.hex.specs.Hex.{decode_of};
-ghost use Rattle.passkey_show.specs.Shows.{HasNoHex, IsMessageRefusal, IsRefusal, Rewrites, RewritesHex, RewritesMessage};
-ghost use Rattle.passkey_show.specs.declared.fault.RunFault.TheVariants.{BadHex, OutOfMemory};
+ghost use Rattle.passkey_rewrite.specs.Rewriting.{HasNoHex, IsMessageRefusal, IsRefusal, Rewrites, RewritesHex, RewritesMessage};
+ghost use Rattle.passkey_rewrite.specs.declared.fault.RunFault.TheVariants.{BadHex, OutOfMemory};
 
 use crate::fault::RunFault;
 use crate::kind::BytesKind;

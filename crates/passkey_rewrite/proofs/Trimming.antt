@@ -3,7 +3,7 @@ use Rattle.std.specs.List.{AllPass}
 use Rattle.std.proofs.Common.{◌≡◌, ℕ, List, [], ◌∷◌, ◌++◌, reverse, Bool, true, false, if◌then◌else◌, refl, sym, ap, ◌∙◌, append_assoc}
 use Rattle.std.proofs.lemmas.List.{reverse-append, reverse-reverse}
 use Rattle.std.proofs.lemmas.List.Elements.{All-nil, All-cons, All-head, All-tail, All-same, All-push}
-use Rattle.passkey_show.specs.Trimmed.{is_space, trimmed_start, trimmed_end, trimmed, IsCore}
+use Rattle.passkey_rewrite.specs.Trimmed.{is_space, trimmed_start, trimmed_end, trimmed, IsCore}
 
 abbrev IsSpace : ℕ → Type 0
 IsSpace byte = is_space byte ≡ true

@@ -1,6 +1,6 @@
 use Rattle.std.proofs.Common.{◌≡◌, length}
-use Rattle.passkey_show.specs.Trimmed.{trimmed_end}
-use Rattle.passkey_show.proofs.trim.trim_end.Given as goal
+use Rattle.passkey_rewrite.specs.Trimmed.{trimmed_end}
+use Rattle.passkey_rewrite.proofs.trim.trim_end.Given as goal
 
 abbrev pub invariant-loop-last : goal.invariant-loop-last
 invariant-loop-last l = trimmed_end l.rest ≡ trimmed_end l.fn.text

@@ -14,10 +14,10 @@ use Rattle.passkey_json.specs.declared.json_fault.JsonFault.{JsonFault}
 use Rattle.passkey_json.specs.declared.json_fault.JsonFault.TheVariants as json
 use Rattle.passkey_options.specs.CredentialCreation.{credential_creation_in, credential_creation_json}
 use Rattle.passkey_options.specs.CredentialRequest.{credential_request_in, credential_request_json}
-use Rattle.passkey_show.specs.declared.fault.RunFault.{RunFault}
-use Rattle.passkey_show.specs.declared.fault.RunFault.TheVariants.{JsonRefused, BadJson, OutOfMemory}
-use Rattle.passkey_show.specs.declared.kind.JsonKind.{JsonKind}
-use Rattle.passkey_show.specs.declared.kind.JsonKind.TheVariants.{Creation, Request, Created, Authenticated, ClientData}
+use Rattle.passkey_rewrite.specs.declared.fault.RunFault.{RunFault}
+use Rattle.passkey_rewrite.specs.declared.fault.RunFault.TheVariants.{JsonRefused, BadJson, OutOfMemory}
+use Rattle.passkey_rewrite.specs.declared.kind.JsonKind.{JsonKind}
+use Rattle.passkey_rewrite.specs.declared.kind.JsonKind.TheVariants.{Creation, Request, Created, Authenticated, ClientData}
 use Rattle.serde_json.specs.Data.{Data, no_members}
 use Rattle.serde_json.specs.Read.{read}
 use Rattle.serde_json.specs.Written.{compact_text}

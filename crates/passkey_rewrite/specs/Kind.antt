@@ -1,10 +1,10 @@
 -- The kinds of input, and the words that name them.
 use Rattle.std.specs.Prelude.{ℕ, List, if◌then◌else◌, Option, Some, None, codes}
 use Rattle.std.specs.Str.{bytes_eq}
-use Rattle.passkey_show.specs.declared.kind.BytesKind.TheVariants.{Cbor, Auth, MakeRequest, MakeResponse, GetRequest, GetResponse, Info, HmacInput}
-use Rattle.passkey_show.specs.declared.kind.JsonKind.TheVariants.{Creation, Request, Created, Authenticated, ClientData}
-use Rattle.passkey_show.specs.declared.kind.Kind.{Kind}
-use Rattle.passkey_show.specs.declared.kind.Kind.TheVariants.{Bytes, Json}
+use Rattle.passkey_rewrite.specs.declared.kind.BytesKind.TheVariants.{Cbor, Auth, MakeRequest, MakeResponse, GetRequest, GetResponse, Info, HmacInput}
+use Rattle.passkey_rewrite.specs.declared.kind.JsonKind.TheVariants.{Creation, Request, Created, Authenticated, ClientData}
+use Rattle.passkey_rewrite.specs.declared.kind.Kind.{Kind}
+use Rattle.passkey_rewrite.specs.declared.kind.Kind.TheVariants.{Bytes, Json}
 
 -- the kind that a word names
 abbrev pub kind_named : List ℕ → Option Kind

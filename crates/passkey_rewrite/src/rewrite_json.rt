@@ -1,7 +1,7 @@
 //! JSON texts, rewritten.
 ghost use Rattle.std.specs.Prelude.{◌≡◌, ◌⊎◌, IfOk, IfErr, string_bytes};
-ghost use Rattle.passkey_show.specs.ShowsJson.{HasNoJson, IsJson, IsJsonRefusal, RewritesJson, client_data_rewritten, json_rewritten, record_rewritten};
-ghost use Rattle.passkey_show.specs.declared.fault.RunFault.TheVariants.{BadJson, OutOfMemory};
+ghost use Rattle.passkey_rewrite.specs.RewritesJson.{HasNoJson, IsJson, IsJsonRefusal, RewritesJson, client_data_rewritten, json_rewritten, record_rewritten};
+ghost use Rattle.passkey_rewrite.specs.declared.fault.RunFault.TheVariants.{BadJson, OutOfMemory};
 ghost use Rattle.serde_json.specs.View.{view};
 
 use crate::fault::RunFault;

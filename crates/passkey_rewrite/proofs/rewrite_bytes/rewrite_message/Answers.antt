@@ -1,6 +1,6 @@
 use Rattle.std.proofs.Common.{◌≡◌, ◌∙◌, sym}
 use Rattle.passkey_kinds.specs.declared.write_fault.WriteFault.TheVariants.{OutOfMemory, NumberTooLarge}
-use Rattle.passkey_show.proofs.rewrite_bytes.rewrite_message.Goals as goal
+use Rattle.passkey_rewrite.proofs.rewrite_bytes.rewrite_message.Goals as goal
 
 -- what was read is coherent, so that only memory can lack
 pub unreachable-requires : goal.unreachable-requires

@@ -1,6 +1,6 @@
 //! The kinds of input.
 ghost use Rattle.std.specs.Prelude.{◌≡◌};
-ghost use Rattle.passkey_show.specs.Kind.{kind_named};
+ghost use Rattle.passkey_rewrite.specs.Kind.{kind_named};
 
 /// What the bytes are read as that the input tells in hexadecimal.
 #[derive(Clone, Copy, Debug, PartialEq, Eq)]

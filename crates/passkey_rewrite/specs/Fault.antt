@@ -9,8 +9,8 @@ use Rattle.passkey_json.specs.declared.json_fault.JsonFault.TheVariants as json
 use Rattle.passkey_kinds.specs.Names.{fault_name}
 use Rattle.passkey_kinds.specs.declared.fault.Fault.{Fault}
 use Rattle.passkey_kinds.specs.declared.fault.Fault.TheVariants as message
-use Rattle.passkey_show.specs.declared.fault.RunFault.{RunFault}
-use Rattle.passkey_show.specs.declared.fault.RunFault.TheVariants.{Refused, MessageRefused, JsonRefused, BadHex, BadJson, UnknownKind, OutOfMemory, InputFailed, OutputFailed}
+use Rattle.passkey_rewrite.specs.declared.fault.RunFault.{RunFault}
+use Rattle.passkey_rewrite.specs.declared.fault.RunFault.TheVariants.{Refused, MessageRefused, JsonRefused, BadHex, BadJson, UnknownKind, OutOfMemory, InputFailed, OutputFailed}
 
 abbrev pub status_of : RunFault → ℕ
 status_of (Refused refusal) = 1

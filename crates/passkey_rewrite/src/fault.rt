@@ -1,8 +1,8 @@
 //! Why a run did not write its output.
 ghost use Rattle.std.specs.Prelude.{◌≡◌};
 ghost use Rattle.passkey_cose.specs.CoseErrors.{cose_error_of};
-ghost use Rattle.passkey_show.specs.Fault.{status_of, line_of, fault_of, json_fault_of, message_fault_of};
-ghost use Rattle.passkey_show.specs.declared.fault.RunFault.TheVariants.{OutOfMemory as NoMemory};
+ghost use Rattle.passkey_rewrite.specs.Fault.{status_of, line_of, fault_of, json_fault_of, message_fault_of};
+ghost use Rattle.passkey_rewrite.specs.declared.fault.RunFault.TheVariants.{OutOfMemory as NoMemory};
 
 use passkey_cbor::CborError;
 use passkey_types::cose::CoseError;
@@ -118,10 +118,10 @@ impl From<JsonFault> for RunFault {
     }
 }
 
-impl From<passkey_cbor::OutOfMemory> for RunFault {
+impl From<passkey_memory::OutOfMemory> for RunFault {
     ghost from_gives = { λ _ fault. fault ≡ NoMemory };
 
-    fn from(_error: passkey_cbor::OutOfMemory) -> RunFault {
+    fn from(_error: passkey_memory::OutOfMemory) -> RunFault {
         RunFault::OutOfMemory
     }
 }

@@ -1,0 +1,5 @@
+pub mod Kind
+pub mod Trimmed
+pub mod Fault
+pub mod RewritesJson
+pub mod Rewriting

@@ -1,0 +1,129 @@
+-- What a kind makes of an input, and why it makes nothing of one.
+use Rattle.std.specs.Prelude.{◌≡◌, ℕ, List, Result, Ok, Err, IsErr, ⊤}
+use Rattle.hex.specs.Hex.{decode_of, encode_lower}
+use Rattle.passkey_cbor.specs.Item.{Item}
+use Rattle.passkey_cbor.specs.Front.{IsFront, HasNoFront}
+use Rattle.passkey_cbor.specs.Written.{written}
+use Rattle.passkey_cose.specs.declared.error.CoseError.{CoseError}
+use Rattle.passkey_cose.specs.declared.error.CoseError.TheVariants as error
+use Rattle.passkey_core.specs.DataParts.{DataParts}
+use Rattle.passkey_core.specs.DataReading.{ReadsData}
+use Rattle.passkey_core.specs.DataWritten.{data_written}
+use Rattle.passkey_get_info.specs.GetInfo.{read_get_info}
+use Rattle.passkey_get_info.specs.GetInfoTree.{get_info_tree}
+use Rattle.passkey_get_assertion.specs.GetRequest.{read_get_request, get_request_tree}
+use Rattle.passkey_get_assertion.specs.GetResponse.{read_get_response, get_response_tree}
+use Rattle.passkey_make_credential.specs.MakeRequest.{read_make_request, make_request_tree}
+use Rattle.passkey_make_credential.specs.MakeResponse.{read_make_response, make_response_tree}
+use Rattle.passkey_extensions.specs.ExtensionTrees.{hmac_input_tree}
+use Rattle.passkey_extensions.specs.HmacInput.{read_hmac_input}
+use Rattle.passkey_kinds.specs.Message.{Begins}
+use Rattle.passkey_kinds.specs.declared.fault.Fault.{Fault}
+use Rattle.passkey_kinds.specs.declared.fault.Fault.TheVariants as message
+use Rattle.passkey_rewrite.specs.Trimmed.{trimmed}
+use Rattle.passkey_rewrite.specs.RewritesJson.{RewritesJson, IsJsonRefusal, json_rewritten}
+use Rattle.passkey_rewrite.specs.declared.kind.BytesKind.{BytesKind}
+use Rattle.passkey_rewrite.specs.declared.kind.BytesKind.TheVariants.{Cbor, Auth, MakeRequest, MakeResponse, GetRequest, GetResponse, Info, HmacInput}
+use Rattle.passkey_rewrite.specs.declared.kind.Kind.{Kind}
+use Rattle.passkey_rewrite.specs.declared.kind.Kind.TheVariants.{Bytes, Json}
+use Rattle.passkey_rewrite.specs.declared.fault.RunFault.{RunFault}
+use Rattle.passkey_rewrite.specs.declared.fault.RunFault.TheVariants.{Refused, MessageRefused, BadHex, OutOfMemory}
+
+-- The item that begins the bytes, and its one written spelling.
+pub record RewritesFront (bytes spelling : List ℕ) : Type 0 where
+  pub front : Item
+  pub len : ℕ
+  pub begins : IsFront bytes front len
+  pub rewritten : spelling ≡ written front
+
+-- The authenticator data that the bytes are read as, written.
+pub record RewritesData (bytes spelling : List ℕ) : Type 0 where
+  pub parts : DataParts
+  pub reads : ReadsData bytes (Ok parts)
+  pub rewritten : spelling ≡ data_written parts
+
+-- The message that the item is that begins the bytes, in its one spelling.
+pub record RewritesMessage {P : Type 0} (read : Item → Result P Fault) (tree : P → Item) (bytes spelling : List ℕ) : Type 0 where
+  pub parts : P
+  pub begins : Begins bytes (λ i len. read i ≡ Ok parts)
+  pub rewritten : spelling ≡ written (tree parts)
+
+-- what a kind makes of the decoded bytes
+abbrev pub Rewrites : BytesKind → List ℕ → List ℕ → Type 0
+Rewrites Cbor bytes spelling = RewritesFront bytes spelling
+Rewrites Auth bytes spelling = RewritesData bytes spelling
+Rewrites MakeRequest bytes spelling = RewritesMessage read_make_request make_request_tree bytes spelling
+Rewrites MakeResponse bytes spelling = RewritesMessage read_make_response make_response_tree bytes spelling
+Rewrites GetRequest bytes spelling = RewritesMessage read_get_request get_request_tree bytes spelling
+Rewrites GetResponse bytes spelling = RewritesMessage read_get_response get_response_tree bytes spelling
+Rewrites Info bytes spelling = RewritesMessage read_get_info get_info_tree bytes spelling
+Rewrites HmacInput bytes spelling = RewritesMessage read_hmac_input hmac_input_tree bytes spelling
+
+-- why a kind refuses the decoded bytes
+abbrev pub Refuses : BytesKind → List ℕ → CoseError → Type 0
+Refuses Cbor bytes error.DecodeFailed = HasNoFront bytes
+Refuses Cbor bytes _ = ⊥
+Refuses Auth bytes error.OutOfMemory = ⊥
+Refuses Auth bytes refusal = ReadsData bytes (Err refusal)
+Refuses _ bytes refusal = ⊥
+
+-- no item begins the bytes, or it is no message for this reason
+abbrev pub RefusesMessage : {P : Type 0} → (Item → Result P Fault) → List ℕ → Fault → Type 0
+RefusesMessage read bytes message.DecodeFailed = HasNoFront bytes
+RefusesMessage read bytes message.OutOfMemory = ⊥
+RefusesMessage read bytes fault = Begins bytes (λ i len. read i ≡ Err fault)
+
+-- why a kind of message refuses the decoded bytes
+abbrev pub RefusesAs : BytesKind → List ℕ → Fault → Type 0
+RefusesAs MakeRequest bytes fault = RefusesMessage read_make_request bytes fault
+RefusesAs MakeResponse bytes fault = RefusesMessage read_make_response bytes fault
+RefusesAs GetRequest bytes fault = RefusesMessage read_get_request bytes fault
+RefusesAs GetResponse bytes fault = RefusesMessage read_get_response bytes fault
+RefusesAs Info bytes fault = RefusesMessage read_get_info bytes fault
+RefusesAs HmacInput bytes fault = RefusesMessage read_hmac_input bytes fault
+RefusesAs _ bytes fault = ⊥
+
+-- why no message is made of the decoded bytes; memory can run out at any
+abbrev pub IsMessageRefusal : {P : Type 0} → (Item → Result P Fault) → List ℕ → RunFault → Type 0
+IsMessageRefusal read bytes (MessageRefused fault) = RefusesMessage read bytes fault
+IsMessageRefusal read bytes OutOfMemory = ⊤
+IsMessageRefusal read bytes _ = ⊥
+
+-- why nothing is made of the decoded bytes; memory can run out at any
+abbrev pub IsRefusal : BytesKind → List ℕ → RunFault → Type 0
+IsRefusal kind bytes (Refused refusal) = Refuses kind bytes refusal
+IsRefusal kind bytes (MessageRefused fault) = RefusesAs kind bytes fault
+IsRefusal kind bytes OutOfMemory = ⊤
+IsRefusal kind bytes _ = ⊥
+
+-- What the kind makes of the bytes that the input tells in hexadecimal, in lower-case hexadecimal.
+pub record RewritesHex (kind : BytesKind) (input text : List ℕ) : Type 0 where
+  pub bytes : List ℕ
+  pub decoded : decode_of (trimmed input) ≡ Ok bytes
+  pub spelling : List ℕ
+  pub rewritten : Rewrites kind bytes spelling
+  pub shown : text ≡ encode_lower spelling
+
+-- The kind refuses the input's bytes.
+pub record IsRefused (kind : BytesKind) (input : List ℕ) (fault : RunFault) : Type 0 where
+  pub bytes : List ℕ
+  pub decoded : decode_of (trimmed input) ≡ Ok bytes
+  pub refused : IsRefusal kind bytes fault
+
+-- why no bytes are rewritten; memory can run out at any input
+abbrev pub HasNoHex : BytesKind → List ℕ → RunFault → Type 0
+HasNoHex kind input (Refused refusal) = IsRefused kind input (Refused refusal)
+HasNoHex kind input (MessageRefused fault) = IsRefused kind input (MessageRefused fault)
+HasNoHex kind input BadHex = IsErr (decode_of (trimmed input))
+HasNoHex kind input OutOfMemory = ⊤
+HasNoHex kind input _ = ⊥
+
+-- what the kind makes of the input
+abbrev pub Shown : Kind → List ℕ → List ℕ → Type 0
+Shown (Bytes kind) input text = RewritesHex kind input text
+Shown (Json kind) input text = RewritesJson (json_rewritten kind) input text
+
+-- why the kind makes nothing of the input
+abbrev pub HasNoOutput : Kind → List ℕ → RunFault → Type 0
+HasNoOutput (Bytes kind) input fault = HasNoHex kind input fault
+HasNoOutput (Json kind) input fault = IsJsonRefusal (json_rewritten kind) input fault

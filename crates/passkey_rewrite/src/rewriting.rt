@@ -1,0 +1,24 @@
+//! Inputs of any kind, rewritten.
+ghost use Rattle.std.specs.Prelude.{IfOk, IfErr, string_bytes};
+ghost use Rattle.passkey_rewrite.specs.Rewriting.{HasNoOutput, Shown};
+
+use crate::fault::RunFault;
+use crate::kind::Kind;
+use crate::rewrite_bytes::rewrite_hex;
+use crate::rewrite_json::rewrite_json;
+use std::alloc::Global;
+
+/// Decodes the input as this kind, and encodes what it is: bytes as lower-case hexadecimal, JSON as compact text with
+/// bytes in base64url. The input of a kind of bytes is hexadecimal of either case, with tabs, line feeds, carriage returns and
+/// spaces at its ends. Returns `BadHex` if such an input is no hexadecimal, `BadJson` if a JSON input
+/// isn't UTF-8 or no JSON text of at most 127 levels; `Refused`, `MessageRefused` or `JsonRefused` if the kind refuses what the
+/// input says; `OutOfMemory` if memory runs out.
+pub fn rewrite(alloc: Global, kind: Kind, input: &[u8]) -> Result<String, RunFault>
+    ensures ok { IfOk result (λ text. Shown kind input.now (string_bytes text)) }
+    ensures err { IfErr result (HasNoOutput kind input.now) }
+{
+    match kind {
+        Kind::Bytes(kind) => rewrite_hex(alloc, kind, input),
+        Kind::Json(kind) => rewrite_json(alloc, kind, input),
+    }
+}
