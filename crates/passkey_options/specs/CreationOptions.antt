@@ -12,36 +12,51 @@ use Rattle.passkey_json.specs.User.{user_in, user_json}
 use Rattle.passkey_json.specs.Written.{Row, written, row, row_if, list_json, bytes_json, natural_json}
 use Rattle.passkey_json.specs.declared.bytes_form.BytesForm.{BytesForm}
 use Rattle.passkey_options.specs.AttestationConveyance.{conveyance_name, conveyance_named}
+use Rattle.passkey_options.specs.AttestationMembers.{attestation_members_in}
 use Rattle.passkey_options.specs.AttestationFormat.{format_name, format_named}
 use Rattle.passkey_options.specs.Hints.{hint_name, hint_named}
 use Rattle.passkey_options.specs.declared.attestation_conveyance.AttestationConveyancePreference.TheVariants.{None as NoAttestation}
+use Rattle.passkey_options.specs.declared.creation_options.ChoiceMembers.{ChoiceMembers}
+use Rattle.passkey_options.specs.declared.creation_options.RequiredMembers.{RequiredMembers}
 use Rattle.passkey_options.specs.declared.creation_options.PublicKeyCredentialCreationOptions.{PublicKeyCredentialCreationOptions}
 use Rattle.serde_json.specs.Data.{Data, string}
 
-unfoldable pub creation_options_in : Object → Result PublicKeyCredentialCreationOptions Fault
-creation_options_in object = do
+unfoldable pub required_members_in : Object → Result RequiredMembers Fault
+required_members_in object = do
   rp ← required (record_kind rp_in) (member (codes "rp") object)
   user ← required (record_kind user_in) (member (codes "user") object)
   challenge ← required bytes (member (codes "challenge") object)
   pub_key_cred_params ← required (accepted (record_kind parameters_in)) (member (codes "pubKeyCredParams") object)
+  Ok (record { rp = rp; user = user; challenge = challenge; pub_key_cred_params = pub_key_cred_params })
+
+unfoldable pub choice_members_in : Object → Result ChoiceMembers Fault
+choice_members_in object = do
   timeout ← given word (member (codes "timeout") object)
   exclude_credentials ← accepted_list (record_kind descriptor_in) (member (codes "excludeCredentials") object)
   authenticator_selection ← or_default None (optional (record_kind selection_criteria_in)) (member (codes "authenticatorSelection") object)
-  hints ← accepted_list (one_named hint_named) (member (codes "hints") object)
-  attestation ← tolerated NoAttestation (one_named conveyance_named) (member (codes "attestation") object)
-  attestation_formats ← accepted_list (one_named format_named) (member (codes "attestationFormats") object)
-  extensions ← or_default None (optional (record_kind client_inputs_in)) (member (codes "extensions") object)
   Ok (record {
-    rp = rp;
-    user = user;
-    challenge = challenge;
-    pub_key_cred_params = pub_key_cred_params;
     timeout = timeout;
     exclude_credentials = exclude_credentials;
     authenticator_selection = authenticator_selection;
-    hints = hints;
-    attestation = attestation;
-    attestation_formats = attestation_formats;
+  })
+
+unfoldable pub creation_options_in : Object → Result PublicKeyCredentialCreationOptions Fault
+creation_options_in object = do
+  needed ← required_members_in object
+  choice ← choice_members_in object
+  wishes ← attestation_members_in object
+  extensions ← or_default None (optional (record_kind client_inputs_in)) (member (codes "extensions") object)
+  Ok (record {
+    rp = needed.rp;
+    user = needed.user;
+    challenge = needed.challenge;
+    pub_key_cred_params = needed.pub_key_cred_params;
+    timeout = choice.timeout;
+    exclude_credentials = choice.exclude_credentials;
+    authenticator_selection = choice.authenticator_selection;
+    hints = wishes.hints;
+    attestation = wishes.attestation;
+    attestation_formats = wishes.attestation_formats;
     extensions = extensions;
   })
 

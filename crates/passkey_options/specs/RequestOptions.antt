@@ -10,33 +10,43 @@ use Rattle.passkey_json.specs.Written.{Row, written, row, row_if, list_json, byt
 use Rattle.passkey_json.specs.declared.bytes_form.BytesForm.{BytesForm}
 use Rattle.passkey_json.specs.declared.user_verification.UserVerificationRequirement.TheVariants.{Preferred}
 use Rattle.passkey_options.specs.AttestationConveyance.{conveyance_name, conveyance_named}
+use Rattle.passkey_options.specs.AttestationMembers.{attestation_members_in}
 use Rattle.passkey_options.specs.AttestationFormat.{format_name, format_named}
 use Rattle.passkey_options.specs.Hints.{hint_name, hint_named}
 use Rattle.passkey_options.specs.declared.attestation_conveyance.AttestationConveyancePreference.TheVariants.{None as NoAttestation}
+use Rattle.passkey_options.specs.declared.request_options.CredentialMembers.{CredentialMembers}
 use Rattle.passkey_options.specs.declared.request_options.PublicKeyCredentialRequestOptions.{PublicKeyCredentialRequestOptions}
 use Rattle.serde_json.specs.Data.{Data, string}
 
-unfoldable pub request_options_in : Object → Result PublicKeyCredentialRequestOptions Fault
-request_options_in object = do
+unfoldable pub credential_members_in : Object → Result CredentialMembers Fault
+credential_members_in object = do
   challenge ← required bytes (member (codes "challenge") object)
   timeout ← given word (member (codes "timeout") object)
   rp_id ← or_default None (optional text) (member (codes "rpId") object)
   allowed ← aliased (codes "allowCredentials") (codes "allowList") object
   allow_credentials ← accepted_list (record_kind descriptor_in) allowed
-  user_verification ← tolerated Preferred (one_named user_verification_named) (member (codes "userVerification") object)
-  hints ← accepted_list (one_named hint_named) (member (codes "hints") object)
-  attestation ← tolerated NoAttestation (one_named conveyance_named) (member (codes "attestation") object)
-  attestation_formats ← accepted_list (one_named format_named) (member (codes "attestationFormats") object)
-  extensions ← tolerated None (optional (record_kind client_inputs_in)) (member (codes "extensions") object)
   Ok (record {
     challenge = challenge;
     timeout = timeout;
     rp_id = rp_id;
     allow_credentials = allow_credentials;
+  })
+
+unfoldable pub request_options_in : Object → Result PublicKeyCredentialRequestOptions Fault
+request_options_in object = do
+  credential ← credential_members_in object
+  user_verification ← tolerated Preferred (one_named user_verification_named) (member (codes "userVerification") object)
+  wishes ← attestation_members_in object
+  extensions ← tolerated None (optional (record_kind client_inputs_in)) (member (codes "extensions") object)
+  Ok (record {
+    challenge = credential.challenge;
+    timeout = credential.timeout;
+    rp_id = credential.rp_id;
+    allow_credentials = credential.allow_credentials;
     user_verification = user_verification;
-    hints = hints;
-    attestation = attestation;
-    attestation_formats = attestation_formats;
+    hints = wishes.hints;
+    attestation = wishes.attestation;
+    attestation_formats = wishes.attestation_formats;
     extensions = extensions;
   })
 

@@ -1,10 +1,11 @@
 //! What a relying party asks for where a credential is made, read of JSON objects and written.
 ghost use Rattle.std.specs.Prelude.{true};
 ghost use Rattle.passkey_json.specs.Members.{record_kind};
-ghost use Rattle.passkey_options.specs.CreationOptions.{creation_options_in, creation_options_json};
+ghost use Rattle.passkey_options.specs.CreationOptions.{creation_options_in, creation_options_json, required_members_in, choice_members_in};
 
 use crate::attestation_conveyance::AttestationConveyancePreference;
 use crate::attestation_format::AttestationStatementFormatIdentifiers;
+use crate::attestation_members::AttestationMembers;
 use crate::hints::PublicKeyCredentialHints;
 use passkey_bytes::{Bytes, List};
 use passkey_json::{
@@ -46,11 +47,22 @@ pub struct PublicKeyCredentialCreationOptions {
     pub extensions: Option<AuthenticationExtensionsClientInputs>,
 }
 
-impl JsonRecord for PublicKeyCredentialCreationOptions {
-    ghost members = { creation_options_in };
+// The members are read in groups, since each `?` drops what was read before it.
 
-    fn from_object(object: &Object<'_>) -> Result<PublicKeyCredentialCreationOptions, JsonFault> {
-        Ok(PublicKeyCredentialCreationOptions {
+/// What must be there.
+#[derive(Drop)]
+struct RequiredMembers {
+    rp: PublicKeyCredentialRpEntity,
+    user: PublicKeyCredentialUserEntity,
+    challenge: Bytes,
+    pub_key_cred_params: List<PublicKeyCredentialParameters>,
+}
+
+impl JsonRecord for RequiredMembers {
+    ghost members = { required_members_in };
+
+    fn from_object(object: &Object<'_>) -> Result<RequiredMembers, JsonFault> {
+        Ok(RequiredMembers {
             rp: object.member("rp").required()?,
             user: object.member("user").required()?,
             challenge: object.member("challenge").required()?,
@@ -58,15 +70,50 @@ impl JsonRecord for PublicKeyCredentialCreationOptions {
                 .member("pubKeyCredParams")
                 .required::<TolerantList<PublicKeyCredentialParameters>>()?
                 .into_list(),
+        })
+    }
+}
+
+/// Which authenticators will do, and for how long.
+#[derive(Drop)]
+struct ChoiceMembers {
+    timeout: Option<u32>,
+    exclude_credentials: Option<List<PublicKeyCredentialDescriptor>>,
+    authenticator_selection: Option<AuthenticatorSelectionCriteria>,
+}
+
+impl JsonRecord for ChoiceMembers {
+    ghost members = { choice_members_in };
+
+    fn from_object(object: &Object<'_>) -> Result<ChoiceMembers, JsonFault> {
+        Ok(ChoiceMembers {
             timeout: object.member("timeout").given()?,
             exclude_credentials: object.member("excludeCredentials").accepted_list()?,
             authenticator_selection: object.member("authenticatorSelection").or_default(None)?,
-            hints: object.member("hints").accepted_list()?,
-            attestation: object
-                .member("attestation")
-                .tolerated(AttestationConveyancePreference::None)?,
-            attestation_formats: object.member("attestationFormats").accepted_list()?,
-            extensions: object.member("extensions").or_default(None)?,
+        })
+    }
+}
+
+impl JsonRecord for PublicKeyCredentialCreationOptions {
+    ghost members = { creation_options_in };
+
+    fn from_object(object: &Object<'_>) -> Result<PublicKeyCredentialCreationOptions, JsonFault> {
+        let required = RequiredMembers::from_object(object)?;
+        let choice = ChoiceMembers::from_object(object)?;
+        let wishes = AttestationMembers::from_object(object)?;
+        let extensions = object.member("extensions").or_default(None)?;
+        Ok(PublicKeyCredentialCreationOptions {
+            rp: required.rp,
+            user: required.user,
+            challenge: required.challenge,
+            pub_key_cred_params: required.pub_key_cred_params,
+            timeout: choice.timeout,
+            exclude_credentials: choice.exclude_credentials,
+            authenticator_selection: choice.authenticator_selection,
+            hints: wishes.hints,
+            attestation: wishes.attestation,
+            attestation_formats: wishes.attestation_formats,
+            extensions,
         })
     }
 }

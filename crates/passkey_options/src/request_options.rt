@@ -1,10 +1,11 @@
 //! What a relying party asks for where a user signs in, read of JSON objects and written.
 ghost use Rattle.std.specs.Prelude.{true};
 ghost use Rattle.passkey_json.specs.Members.{record_kind};
-ghost use Rattle.passkey_options.specs.RequestOptions.{request_options_in, request_options_json};
+ghost use Rattle.passkey_options.specs.RequestOptions.{credential_members_in, request_options_in, request_options_json};
 
 use crate::attestation_conveyance::AttestationConveyancePreference;
 use crate::attestation_format::AttestationStatementFormatIdentifiers;
+use crate::attestation_members::AttestationMembers;
 use crate::hints::PublicKeyCredentialHints;
 use passkey_bytes::{Bytes, List, Text};
 use passkey_json::{
@@ -40,27 +41,52 @@ pub struct PublicKeyCredentialRequestOptions {
     pub extensions: Option<AuthenticationExtensionsClientInputs>,
 }
 
-impl JsonRecord for PublicKeyCredentialRequestOptions {
-    ghost members = { request_options_in };
+// The members are read in groups, since each `?` drops what was read before it.
 
-    #[tactic(auto, unfolding(crate::specs::RequestOptions::request_options_in, passkey_json::specs::Members::required, passkey_json::specs::Members::given, passkey_json::specs::Members::or_default, passkey_json::specs::Members::tolerated, passkey_json::specs::Members::accepted_list))]
-    fn from_object(object: &Object<'_>) -> Result<PublicKeyCredentialRequestOptions, JsonFault> {
-        Ok(PublicKeyCredentialRequestOptions {
+/// What a user is to sign in with.
+#[derive(Drop)]
+struct CredentialMembers {
+    challenge: Bytes,
+    timeout: Option<u32>,
+    rp_id: Option<Text>,
+    allow_credentials: Option<List<PublicKeyCredentialDescriptor>>,
+}
+
+impl JsonRecord for CredentialMembers {
+    ghost members = { credential_members_in };
+
+    fn from_object(object: &Object<'_>) -> Result<CredentialMembers, JsonFault> {
+        Ok(CredentialMembers {
             challenge: object.member("challenge").required()?,
             timeout: object.member("timeout").given()?,
             rp_id: object.member("rpId").or_default(None)?,
             allow_credentials: object
                 .aliased("allowCredentials", "allowList")?
                 .accepted_list()?,
-            user_verification: object
-                .member("userVerification")
-                .tolerated(UserVerificationRequirement::Preferred)?,
-            hints: object.member("hints").accepted_list()?,
-            attestation: object
-                .member("attestation")
-                .tolerated(AttestationConveyancePreference::None)?,
-            attestation_formats: object.member("attestationFormats").accepted_list()?,
-            extensions: object.member("extensions").tolerated(None)?,
+        })
+    }
+}
+
+impl JsonRecord for PublicKeyCredentialRequestOptions {
+    ghost members = { request_options_in };
+
+    fn from_object(object: &Object<'_>) -> Result<PublicKeyCredentialRequestOptions, JsonFault> {
+        let credential = CredentialMembers::from_object(object)?;
+        let user_verification = object
+            .member("userVerification")
+            .tolerated(UserVerificationRequirement::Preferred)?;
+        let wishes = AttestationMembers::from_object(object)?;
+        let extensions = object.member("extensions").tolerated(None)?;
+        Ok(PublicKeyCredentialRequestOptions {
+            challenge: credential.challenge,
+            timeout: credential.timeout,
+            rp_id: credential.rp_id,
+            allow_credentials: credential.allow_credentials,
+            user_verification,
+            hints: wishes.hints,
+            attestation: wishes.attestation,
+            attestation_formats: wishes.attestation_formats,
+            extensions,
         })
     }
 }

@@ -6,13 +6,14 @@ use Rattle.passkey_json.specs.Members.{record_kind}
 use Rattle.passkey_json.specs.Parameters.{parameters_in, parameters_json}
 use Rattle.passkey_options.proofs.RequiredList.{required_list_back}
 use Rattle.passkey_options.proofs.creation_options.PublicKeyCredentialCreationOptionsToJson.to_json.Goals as goal
+use Rattle.passkey_options.specs.AttestationMembers.{attestation_members_in}
 use Rattle.passkey_options.specs.AttestationFormat.{format_name, format_named}
-use Rattle.passkey_options.specs.CreationOptions.{creation_options_in, creation_options_rows}
+use Rattle.passkey_options.specs.CreationOptions.{creation_options_in, creation_options_rows, required_members_in, choice_members_in}
 use Rattle.passkey_options.specs.Hints.{hint_name, hint_named}
 use Rattle.serde_json.specs.Data.{string}
 
 pub returns-clause-reads_back : goal.returns-clause-reads_back
-unfolding creation_options_in
+unfolding creation_options_in required_members_in choice_members_in attestation_members_in
 returns-clause-reads_back c =
     record_back creation_options_in (creation_options_rows c.args.form c.args.self.now) c.args.self.now refl (rw (
       required_back c.in_ok-put.ensures.reads_back,

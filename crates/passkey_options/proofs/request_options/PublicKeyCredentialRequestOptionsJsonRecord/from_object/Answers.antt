@@ -1,19 +1,45 @@
 use Rattle.std.proofs.Common.{refl}
+use Rattle.passkey_json.proofs.Faults.{first_fault_passed}
 use Rattle.passkey_options.proofs.request_options.PublicKeyCredentialRequestOptionsJsonRecord.from_object.Goals as goal
 use Rattle.passkey_options.specs.RequestOptions.{request_options_in}
+
+pub returns-in_err-credential : goal.returns-in_err-credential
+unfolding request_options_in
+returns-in_err-credential c =
+    first_fault_passed _ c.in_err-credential.field-0.0 _ _ c.in_err-credential.ensures c.from_residual.ensures.1
+
+pub returns-in_err-user_verification : goal.returns-in_err-user_verification
+unfolding request_options_in
+returns-in_err-user_verification c =
+    rw (
+      c.in_ok-credential.ensures,
+      ← c.member.ensures,
+    ) (first_fault_passed _ c.in_err-user_verification.field-0.0 _ _ c.in_err-user_verification.ensures c.from_residual-in_err-user_verification.ensures.1)
+
+pub returns-in_err-wishes : goal.returns-in_err-wishes
+unfolding request_options_in
+returns-in_err-wishes c =
+    rw (
+      c.in_ok-credential.ensures,
+      rw c.member.ensures at c.in_ok-user_verification.ensures,
+    ) (first_fault_passed _ c.in_err-wishes.field-0.0 _ _ c.in_err-wishes.ensures c.from_residual-in_err-wishes.ensures.1)
+
+pub returns-in_err-extensions : goal.returns-in_err-extensions
+unfolding request_options_in
+returns-in_err-extensions c =
+    rw (
+      c.in_ok-credential.ensures,
+      rw c.member.ensures at c.in_ok-user_verification.ensures,
+      c.in_ok-wishes.ensures,
+      ← c.member-2.ensures,
+    ) (first_fault_passed _ c.in_err-extensions.field-0.0 _ _ c.in_err-extensions.ensures c.from_residual-in_err-extensions.ensures.1)
 
 pub returns : goal.returns
 unfolding request_options_in
 returns c =
     rw (
-      rw c.member.ensures at c.in_ok-required.ensures,
-      rw c.member-2.ensures at c.in_ok-given.ensures,
-      rw c.member-3.ensures at c.in_ok-or_default.ensures,
-      c.in_ok-aliased.ensures,
-      c.in_ok-accepted_list.ensures,
-      rw c.member-4.ensures at c.in_ok-tolerated.ensures,
-      rw c.member-5.ensures at c.in_ok-accepted_list-2.ensures,
-      rw c.member-6.ensures at c.in_ok-tolerated-2.ensures,
-      rw c.member-7.ensures at c.in_ok-accepted_list-3.ensures,
-      rw c.member-8.ensures at c.in_ok-tolerated-3.ensures,
+      c.in_ok-credential.ensures,
+      rw c.member.ensures at c.in_ok-user_verification.ensures,
+      c.in_ok-wishes.ensures,
+      rw c.member-2.ensures at c.in_ok-extensions.ensures,
     ) refl

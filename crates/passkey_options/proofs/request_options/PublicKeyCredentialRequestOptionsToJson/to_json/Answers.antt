@@ -4,13 +4,14 @@ use Rattle.passkey_json.specs.Descriptor.{descriptor_in, descriptor_json}
 use Rattle.passkey_json.specs.Kind.{one_named}
 use Rattle.passkey_json.specs.Members.{record_kind}
 use Rattle.passkey_options.proofs.request_options.PublicKeyCredentialRequestOptionsToJson.to_json.Goals as goal
+use Rattle.passkey_options.specs.AttestationMembers.{attestation_members_in}
 use Rattle.passkey_options.specs.AttestationFormat.{format_name, format_named}
 use Rattle.passkey_options.specs.Hints.{hint_name, hint_named}
-use Rattle.passkey_options.specs.RequestOptions.{request_options_in, request_options_rows}
+use Rattle.passkey_options.specs.RequestOptions.{request_options_in, request_options_rows, credential_members_in}
 use Rattle.serde_json.specs.Data.{string}
 
 pub returns-clause-reads_back : goal.returns-clause-reads_back
-unfolding request_options_in
+unfolding request_options_in credential_members_in attestation_members_in
 returns-clause-reads_back c =
     record_back request_options_in (request_options_rows c.args.form c.args.self.now) c.args.self.now refl (rw (
       required_back c.in_ok-put.ensures.reads_back,

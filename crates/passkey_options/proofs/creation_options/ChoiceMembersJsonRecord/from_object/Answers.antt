@@ -1,0 +1,35 @@
+use Rattle.std.proofs.Common.{refl, sym}
+use Rattle.passkey_json.proofs.Faults.{first_fault_passed}
+use Rattle.passkey_options.proofs.creation_options.ChoiceMembersJsonRecord.from_object.Goals as goal
+use Rattle.passkey_options.specs.CreationOptions.{choice_members_in}
+
+pub returns-in_err-given : goal.returns-in_err-given
+unfolding choice_members_in
+returns-in_err-given c =
+    rw (sym c.member.ensures) (first_fault_passed _ c.in_err-given.field-0.0 _ _ c.in_err-given.ensures c.from_residual.ensures.1)
+
+pub returns-in_err-accepted_list : goal.returns-in_err-accepted_list
+unfolding choice_members_in
+returns-in_err-accepted_list c =
+    rw (
+      rw c.member.ensures at c.in_ok-given.ensures,
+      ← c.member-2.ensures,
+    ) (first_fault_passed _ c.in_err-accepted_list.field-0.0 _ _ c.in_err-accepted_list.ensures c.from_residual-in_err-accepted_list.ensures.1)
+
+pub returns-in_err-or_default : goal.returns-in_err-or_default
+unfolding choice_members_in
+returns-in_err-or_default c =
+    rw (
+      rw c.member.ensures at c.in_ok-given.ensures,
+      rw c.member-2.ensures at c.in_ok-accepted_list.ensures,
+      ← c.member-3.ensures,
+    ) (first_fault_passed _ c.in_err-or_default.field-0.0 _ _ c.in_err-or_default.ensures c.from_residual-in_err-or_default.ensures.1)
+
+pub returns : goal.returns
+unfolding choice_members_in
+returns c =
+    rw (
+      rw c.member.ensures at c.in_ok-given.ensures,
+      rw c.member-2.ensures at c.in_ok-accepted_list.ensures,
+      rw c.member-3.ensures at c.in_ok-or_default.ensures,
+    ) refl

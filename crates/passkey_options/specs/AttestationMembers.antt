@@ -1,0 +1,17 @@
+-- The members on hints and attestation, which both options have (WebAuthn Level 3, sections 5.4 and 5.5).
+use Rattle.std.specs.Prelude.{None, Result, Ok, codes}
+use Rattle.passkey_json.specs.Fault.{Fault}
+use Rattle.passkey_json.specs.Kind.{one_named}
+use Rattle.passkey_json.specs.Members.{◌>>=◌, Object, member, tolerated, accepted_list}
+use Rattle.passkey_options.specs.AttestationConveyance.{conveyance_named}
+use Rattle.passkey_options.specs.AttestationFormat.{format_named}
+use Rattle.passkey_options.specs.Hints.{hint_named}
+use Rattle.passkey_options.specs.declared.attestation_conveyance.AttestationConveyancePreference.TheVariants.{None as NoAttestation}
+use Rattle.passkey_options.specs.declared.attestation_members.AttestationMembers.{AttestationMembers}
+
+unfoldable pub attestation_members_in : Object → Result AttestationMembers Fault
+attestation_members_in object = do
+  hints ← accepted_list (one_named hint_named) (member (codes "hints") object)
+  attestation ← tolerated NoAttestation (one_named conveyance_named) (member (codes "attestation") object)
+  attestation_formats ← accepted_list (one_named format_named) (member (codes "attestationFormats") object)
+  Ok (record { hints = hints; attestation = attestation; attestation_formats = attestation_formats })

@@ -1,0 +1,30 @@
+//! The members on hints and attestation, which both options have.
+ghost use Rattle.passkey_options.specs.AttestationMembers.{attestation_members_in};
+
+use crate::attestation_conveyance::AttestationConveyancePreference;
+use crate::attestation_format::AttestationStatementFormatIdentifiers;
+use crate::hints::PublicKeyCredentialHints;
+use passkey_bytes::List;
+use passkey_json::{JsonFault, JsonRecord, Object};
+
+/// The members on hints and attestation, which both options have (WebAuthn Level 3, sections 5.4 and 5.5).
+#[derive(Drop)]
+pub struct AttestationMembers {
+    pub hints: Option<List<PublicKeyCredentialHints>>,
+    pub attestation: AttestationConveyancePreference,
+    pub attestation_formats: Option<List<AttestationStatementFormatIdentifiers>>,
+}
+
+impl JsonRecord for AttestationMembers {
+    ghost members = { attestation_members_in };
+
+    fn from_object(object: &Object<'_>) -> Result<AttestationMembers, JsonFault> {
+        Ok(AttestationMembers {
+            hints: object.member("hints").accepted_list()?,
+            attestation: object
+                .member("attestation")
+                .tolerated(AttestationConveyancePreference::None)?,
+            attestation_formats: object.member("attestationFormats").accepted_list()?,
+        })
+    }
+}
