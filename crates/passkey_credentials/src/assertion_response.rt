@@ -30,7 +30,6 @@ pub struct AuthenticatorAssertionResponse {
 impl JsonRecord for AuthenticatorAssertionResponse {
     ghost members = { assertion_response_in };
 
-    #[tactic(auto, unfolding(crate::specs::AssertionResponse::assertion_response_in, passkey_json::specs::Members::required, passkey_json::specs::Members::or_default))]
     fn from_object(object: &Object<'_>) -> Result<AuthenticatorAssertionResponse, JsonFault> {
         Ok(AuthenticatorAssertionResponse {
             client_data_json: object.member("clientDataJSON").required()?,
