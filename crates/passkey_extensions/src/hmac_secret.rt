@@ -96,7 +96,7 @@ impl HmacGetSecretInput {
 }
 
 #[derive(Drop)]
-pub(crate) struct HmacInputSlots {
+struct HmacInputSlots {
     key_agreement: Option<Value>,
     salt_enc: Option<Bytes>,
     salt_auth: Option<Bytes>,

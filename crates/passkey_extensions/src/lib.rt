@@ -16,6 +16,3 @@ pub use prf_get_outputs::AuthenticatorPrfGetOutputs;
 pub use prf_inputs::AuthenticatorPrfInputs;
 pub use prf_make_outputs::AuthenticatorPrfMakeOutputs;
 pub use prf_values::AuthenticatorPrfValues;
-
-#[cfg(test)]
-mod tests;

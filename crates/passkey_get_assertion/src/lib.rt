@@ -11,6 +11,3 @@ pub use passkey_core::get_assertion::SignedExtensionOutputs;
 pub use passkey_extensions::get_assertion::{ExtensionInputs, UnsignedExtensionOutputs};
 pub use request::Request;
 pub use response::Response;
-
-#[cfg(test)]
-mod tests;

@@ -12,6 +12,3 @@ pub use extension::Extension;
 pub use options::Options;
 pub use response::Response;
 pub use version::Version;
-
-#[cfg(test)]
-mod tests;

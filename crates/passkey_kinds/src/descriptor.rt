@@ -23,7 +23,7 @@ use passkey_webauthn::{
 use std::alloc::Global;
 
 #[derive(Drop)]
-pub(crate) struct DescriptorSlots {
+struct DescriptorSlots {
     ty: Option<Tolerated<PublicKeyCredentialType>>,
     id: Option<Bytes>,
     transports: Option<Tolerated<TolerantList<AuthenticatorTransport>>>,

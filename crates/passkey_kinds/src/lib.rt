@@ -44,6 +44,3 @@ pub use to_cbor::ToCbor;
 pub use tolerated::Tolerated;
 pub use write_fault::WriteFault;
 pub use written::Written;
-
-#[cfg(test)]
-mod tests;

@@ -17,6 +17,3 @@ pub use request::Request;
 pub use response::Response;
 pub use rp::PublicKeyCredentialRpEntity;
 pub use user::PublicKeyCredentialUserEntity;
-
-#[cfg(test)]
-mod tests;

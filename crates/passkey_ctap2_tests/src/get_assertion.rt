@@ -1,0 +1,100 @@
+//! Using a credential (CTAP 2.1, section 6.2).
+use crate::tables::{
+    assert_read, assert_refused, assert_rewritten, bytes_of, hexadecimal, item_of, shown,
+};
+use passkey_get_assertion::{Options, Request, Response};
+use std::process::Abort;
+
+#[test]
+fn options(rt: HostRuntime) {
+    // {"uv": true, "up": false}
+    let asked = "a2627576f5627570f4";
+    let read = [
+        ("a0", "Ok(Options { up: true, uv: false })"),
+        (asked, "Ok(Options { up: false, uv: true })"),
+    ];
+    assert_read::<Options>(&rt, &read);
+    let rewritten = [("a0", "a2627570f5627576f4"), (asked, "a2627570f4627576f5")];
+    assert_rewritten::<Options>(&rt, &rewritten);
+    assert_refused::<Options>(&rt, &["a1627576f6"]);
+}
+
+/// A request with each member that there is, the last one first.
+const REQUEST: &str =
+    "a7070206410b05a1627570f404a00381a2626964410a64747970656a7075626c69632d6b6579024108016161";
+
+/// The same, as it is written.
+const REQUEST_WRITTEN: &str =
+    "a70161610241080381a264747970656a7075626c69632d6b6579626964410a04a005a2627570f4627576f406410b0702";
+
+const REQUEST_SHOWN: &str = concat!(
+    "Ok((Request { rp_id: \"a\", client_data_hash: Bytes([8]), ",
+    "allow_list: Some([PublicKeyCredentialDescriptor { ty: PublicKey, id: Bytes([10]), transports: None }]), ",
+    "extensions: Some(ExtensionInputs { hmac_secret: None, prf: None }), ",
+    "options: Options { up: false, uv: false }, pin_auth: Some(Bytes([11])), pin_protocol: Some(2) }, 44))",
+);
+
+fn read_request(rt: &(impl Abort + AllocGlobal), item: &str) -> String {
+    shown(
+        rt,
+        &Request::from_slice(rt.alloc(), bytes_of(rt, item).as_slice()),
+    )
+}
+
+fn rewritten_request(rt: &(impl Abort + AllocGlobal), item: &str) -> String {
+    let request = Request::from_value(rt.alloc(), &item_of(rt, item)).expect(rt, "a request");
+    let bytes = request.to_vec(rt.alloc()).expect(rt, "memory");
+    hexadecimal(rt, bytes.as_slice())
+}
+
+#[test]
+fn requests(rt: HostRuntime) {
+    assert_eq!(rt; read_request(&rt, REQUEST).as_str(), REQUEST_SHOWN);
+    assert_eq!(rt; rewritten_request(&rt, REQUEST).as_str(), REQUEST_WRITTEN);
+}
+
+/// A response with each member that there is, the last one first.
+const RESPONSE: &str = concat!(
+    "a808a007410a06f5050204a26469636f6e61696269644108034109025825050605060506050605060506050605060506",
+    "0506050605060506050605060506010000000901a2626964410764747970656a7075626c69632d6b6579",
+);
+
+/// The same, as it is written.
+const RESPONSE_WRITTEN: &str = concat!(
+    "a801a264747970656a7075626c69632d6b65796269644107025825050605060506050605060506050605060506050605",
+    "0605060506050605060506010000000903410904a262696441086469636f6e6169050206f507410a08a163707266f6",
+);
+
+const RESPONSE_SHOWN: &str = concat!(
+    "Ok((Response { ",
+    "credential: Some(PublicKeyCredentialDescriptor { ty: PublicKey, id: Bytes([7]), transports: None }), ",
+    "auth_data: AuthenticatorData { rp_id_hash: [5, 6, 5, 6, 5, 6, 5, 6, 5, 6, 5, 6, 5, 6, 5, 6, ",
+    "5, 6, 5, 6, 5, 6, 5, 6, 5, 6, 5, 6, 5, 6, 5, 6], flags: Flags(1), counter: Some(9), ",
+    "attested_credential_data: None, extensions: None }, signature: Bytes([9]), ",
+    "user: Some(PublicKeyCredentialUserEntity { id: Bytes([8]), ",
+    "name: None, display_name: None, icon_url: Some(\"i\") }), ",
+    "number_of_credentials: Some(2), user_selected: Some(true), large_blob_key: Some(Bytes([10])), ",
+    "unsigned_extension_outputs: Some(UnsignedExtensionOutputs { prf: None }) }, 90))",
+);
+
+fn read_response(rt: &(impl Abort + AllocGlobal), item: &str) -> String {
+    shown(
+        rt,
+        &Response::from_slice(rt.alloc(), bytes_of(rt, item).as_slice()),
+    )
+}
+
+fn rewritten_response(rt: &(impl Abort + AllocGlobal), item: &str) -> String {
+    let response = Response::from_value(rt.alloc(), &item_of(rt, item)).expect(rt, "a response");
+    let bytes = response.to_vec(rt.alloc()).expect(rt, "memory");
+    hexadecimal(rt, bytes.as_slice())
+}
+
+#[test]
+fn responses(rt: HostRuntime) {
+    assert_eq!(rt; read_response(&rt, RESPONSE).as_str(), RESPONSE_SHOWN);
+    assert_eq!(rt;
+        rewritten_response(&rt, RESPONSE).as_str(),
+        RESPONSE_WRITTEN
+    );
+}

@@ -1,0 +1,135 @@
+//! What an authenticator says of itself (CTAP 2.1, section 6.4; CTAP 2.2 for the members from 0x16 on).
+use crate::tables::{
+    assert_read, assert_refused, assert_rewritten, bytes_of, hexadecimal, item_of, shown,
+};
+use passkey_get_info::{Extension, Options, Response, Version};
+use std::process::Abort;
+
+#[test]
+fn versions(rt: HostRuntime) {
+    let fido_2_0 = "684649444f5f325f30";
+    let fido_2_1 = "684649444f5f325f31";
+    let other = "674649444f5f325f";
+    let read = [
+        (fido_2_0, "Ok(FIDO_2_0)"),
+        (fido_2_1, "Ok(FIDO_2_1)"),
+        // "FIDO" and "_2_0" in chunks
+        ("7f644649444f645f325f30ff", "Ok(FIDO_2_0)"),
+        (other, "Ok(Unknown(\"FIDO_2_\"))"),
+        ("60", "Ok(Unknown(\"\"))"),
+    ];
+    assert_read::<Version>(&rt, &read);
+    assert_rewritten::<Version>(
+        &rt,
+        &[(fido_2_0, fido_2_0), (fido_2_1, fido_2_1), (other, other)],
+    );
+    assert_refused::<Version>(&rt, &["40", "02"]);
+}
+
+#[test]
+fn extensions(rt: HostRuntime) {
+    let hmac_secret = "6b686d61632d736563726574";
+    let hmac_secret_mc = "6e686d61632d7365637265742d6d63";
+    let prf = "63707266";
+    let other = "6b6372656450726f74656374";
+    let read = [
+        (hmac_secret, "Ok(HmacSecret)"),
+        (hmac_secret_mc, "Ok(HmacSecretMakeCredential)"),
+        (prf, "Ok(Prf)"),
+        (other, "Ok(Unknown(\"credProtect\"))"),
+    ];
+    assert_read::<Extension>(&rt, &read);
+    let rewritten = [
+        (hmac_secret, hmac_secret),
+        (hmac_secret_mc, hmac_secret_mc),
+        (prf, prf),
+        (other, other),
+    ];
+    assert_rewritten::<Extension>(&rt, &rewritten);
+    assert_refused::<Extension>(&rt, &["00"]);
+}
+
+/// Each option in the order of the table, and what is printed of them.
+const OPTIONS: &str = concat!(
+    "b364706c6174f562726bf469636c69656e7450696ef5627570f5627576f46e70696e557641757468546f6b656ef5781e",
+    "6e6f4d6347615065726d697373696f6e7357697468436c69656e7450696ef56a6c61726765426c6f6273f4626570f569",
+    "62696f456e726f6c6cf5781b75736572566572696669636174696f6e4d676d7450726576696577f46b757642696f456e",
+    "726f6c6cf569617574686e72436667f566757641636667f468637265644d676d74f57563726564656e7469616c4d676d",
+    "7450726576696577f56f7365744d696e50494e4c656e677468f4706d616b654372656455764e6f74527164f568616c77",
+    "6179735576f5",
+);
+
+const OPTIONS_SHOWN: &str = concat!(
+    "Ok(Options { plat: true, rk: false, client_pin: Some(true), up: true, uv: Some(false), ",
+    "pin_uv_auth_token: Some(true), no_mc_ga_permissions_with_client_pin: Some(true), large_blobs: Some(false), ",
+    "ep: Some(true), bio_enroll: Some(true), user_verification_mgmt_preview: Some(false), uv_bio_enroll: Some(true), ",
+    "authnr_cfg: Some(true), uv_acfg: Some(false), cred_mgmt: Some(true), credential_mgmt_preview: Some(true), ",
+    "set_min_pin_length: Some(false), make_cred_uv_not_rqd: Some(true), always_uv: Some(true) })",
+);
+
+#[test]
+fn options(rt: HostRuntime) {
+    let default = concat!(
+        "Ok(Options { plat: false, rk: false, client_pin: None, up: true, uv: None, ",
+        "pin_uv_auth_token: None, no_mc_ga_permissions_with_client_pin: None, large_blobs: None, ",
+        "ep: None, bio_enroll: None, user_verification_mgmt_preview: None, uv_bio_enroll: None, ",
+        "authnr_cfg: None, uv_acfg: None, cred_mgmt: None, credential_mgmt_preview: None, ",
+        "set_min_pin_length: None, make_cred_uv_not_rqd: None, always_uv: None })",
+    );
+    // {"uv": null}
+    let null = "a1627576f6";
+    assert_read::<Options>(
+        &rt,
+        &[(OPTIONS, OPTIONS_SHOWN), ("a0", default), (null, default)],
+    );
+    let least = "a364706c6174f462726bf4627570f5";
+    assert_rewritten::<Options>(&rt, &[(OPTIONS, OPTIONS), ("a0", least)]);
+    // {"up": null} and {1: true}
+    assert_refused::<Options>(&rt, &["a1627570f6", "a101f5"]);
+}
+
+/// A response with each member that there is. A number or byte under a member is the member's own number plus 32.
+const RESPONSE: &str = concat!(
+    "b81a0181684649444f5f325f3102816370726603500102030405060708090a0b0c0d0e0f1004a364706c6174f462726b",
+    "f5627570f5051825068202010981637573620a81a264747970656a7075626c69632d6b657963616c67260b182b0cf40d",
+    "182d0e182e0f182f10183011183112183214183415821affffffff001681667061636b65641718371818f51819413918",
+    "1a81636e6663181bf4181c413c181d183d",
+);
+
+const RESPONSE_SHOWN: &str = concat!(
+    "Ok((Response { versions: [FIDO_2_1], extensions: Some([Prf]), ",
+    "aaguid: Aaguid([1, 2, 3, 4, 5, 6, 7, 8, 9, 10, 11, 12, 13, 14, 15, 16]), ",
+    "options: Some(Options { plat: false, rk: true, client_pin: None, up: true, uv: None, ",
+    "pin_uv_auth_token: None, no_mc_ga_permissions_with_client_pin: None, large_blobs: None, ",
+    "ep: None, bio_enroll: None, user_verification_mgmt_preview: None, uv_bio_enroll: None, ",
+    "authnr_cfg: None, uv_acfg: None, cred_mgmt: None, credential_mgmt_preview: None, ",
+    "set_min_pin_length: None, make_cred_uv_not_rqd: None, always_uv: None }), ",
+    "max_msg_size: Some(37), pin_protocols: Some([2, 1]), transports: Some([Usb]), ",
+    "algorithms: Some([PublicKeyCredentialParameters { ty: PublicKey, alg: ES256 }]), ",
+    "mac_serialized_large_blob_array: Some(43), force_pin_change: Some(false), min_pin_length: Some(45), ",
+    "firmware_version: Some(46), max_cred_blob_length: Some(47), max_rpids_for_set_min_pin_length: Some(48), ",
+    "preferred_platform_uv_attempts: Some(49), uv_modality: Some(50), remaining_discoverable_credentials: Some(52), ",
+    "vendor_prototype_config_commands: Some([4294967295, 0]), attestation_formats: Some([\"packed\"]), ",
+    "uv_count_since_last_pin_entry: Some(55), long_touch_for_reset: Some(true), enc_identifier: Some(Bytes([57])), ",
+    "transports_for_reset: Some([Nfc]), pin_complexity_policy: Some(false), ",
+    "pin_complexity_policy_url: Some(Bytes([60])), max_pin_length: Some(61) }, 161))",
+);
+
+fn read_response(rt: &(impl Abort + AllocGlobal), item: &str) -> String {
+    shown(
+        rt,
+        &Response::from_slice(rt.alloc(), bytes_of(rt, item).as_slice()),
+    )
+}
+
+fn rewritten_response(rt: &(impl Abort + AllocGlobal), item: &str) -> String {
+    let response = Response::from_value(rt.alloc(), &item_of(rt, item)).expect(rt, "a response");
+    let bytes = response.to_vec(rt.alloc()).expect(rt, "memory");
+    hexadecimal(rt, bytes.as_slice())
+}
+
+#[test]
+fn responses(rt: HostRuntime) {
+    assert_eq!(rt; read_response(&rt, RESPONSE).as_str(), RESPONSE_SHOWN);
+    assert_eq!(rt; rewritten_response(&rt, RESPONSE).as_str(), RESPONSE);
+}
