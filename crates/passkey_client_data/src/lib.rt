@@ -13,6 +13,3 @@ pub use client_data::CollectedClientData;
 pub use client_data_type::ClientDataType;
 pub use extra_data::ClientDataExtra;
 pub use passkey_memory::OutOfMemory;
-
-#[cfg(test)]
-mod tests;

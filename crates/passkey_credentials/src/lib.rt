@@ -14,6 +14,3 @@ pub use credential::{
 };
 pub use passkey_memory::OutOfMemory;
 pub use response::AuthenticatorResponse;
-
-#[cfg(test)]
-mod tests;

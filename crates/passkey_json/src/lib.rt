@@ -57,6 +57,3 @@ pub use tolerated::Tolerated;
 pub use truth_text::TruthText;
 pub use user_verification::UserVerificationRequirement;
 pub use written::Written;
-
-#[cfg(test)]
-mod tests;

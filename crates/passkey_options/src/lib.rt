@@ -18,6 +18,3 @@ pub use credential_creation::CredentialCreationOptions;
 pub use credential_request::CredentialRequestOptions;
 pub use hints::PublicKeyCredentialHints;
 pub use request_options::PublicKeyCredentialRequestOptions;
-
-#[cfg(test)]
-mod tests;

@@ -12,6 +12,3 @@ pub use hmac_secret::StoredHmacSecret;
 pub use passkey::Passkey;
 pub use passkey_core::GivenBack;
 pub use passkey_memory::OutOfMemory;
-
-#[cfg(test)]
-mod tests;

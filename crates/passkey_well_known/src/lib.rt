@@ -5,6 +5,3 @@ mod url_list;
 mod well_known;
 
 pub use well_known::WellKnown;
-
-#[cfg(test)]
-mod tests;

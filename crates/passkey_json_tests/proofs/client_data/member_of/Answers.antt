@@ -1,5 +1,5 @@
 use Rattle.std.proofs.Common.{option_map, ap, ◌∙◌}
-use Rattle.passkey_client_data.proofs.tests.member_of.Goals as goal
+use Rattle.passkey_json_tests.proofs.client_data.member_of.Goals as goal
 use Rattle.serde_json.proofs.Views.{view_of_ref, view-lookup}
 use Rattle.serde_json.specs.View.{view}
 

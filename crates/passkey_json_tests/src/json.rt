@@ -1,0 +1,74 @@
+//! What the tests over JSON share. Each call has one way out, so that little has to be proved of a test.
+use passkey_json::{BytesForm, FromJson, JsonRecord, ToJson};
+use serde_json::Value;
+use std::fmt::{Debug, Display};
+use std::process::Abort;
+
+/// The JSON value of a text.
+pub fn parsed(rt: &(impl Abort + AllocGlobal), text: &str) -> Value {
+    Value::from_str(rt.alloc(), text).expect(rt, "a JSON text")
+}
+
+/// The record of a JSON text.
+pub fn record<T: JsonRecord>(rt: &(impl Abort + AllocGlobal), text: &str) -> T {
+    T::from_json(rt.alloc(), &parsed(rt, text)).expect(rt, "a record")
+}
+
+/// The text that `{}` prints.
+pub fn displayed<T: Display>(rt: &(impl Abort + AllocGlobal), value: &T) -> String {
+    format!(in rt.alloc(); "{value}").expect(rt, "memory")
+}
+
+/// The text that `{:?}` prints.
+pub fn debugged<T: Debug>(rt: &(impl Abort + AllocGlobal), value: &T) -> String {
+    format!(in rt.alloc(); "{value:?}").expect(rt, "memory")
+}
+
+/// The compact JSON text that the value is written as.
+pub fn written<T: ToJson>(rt: &(impl Abort + AllocGlobal), value: &T, form: BytesForm) -> String {
+    let json = value.to_json(rt.alloc(), form).expect(rt, "memory");
+    json.to_string(rt.alloc()).expect(rt, "memory")
+}
+
+/// What `{:?}` prints of the value that the JSON text is read as; else what `{}` prints of the refusal.
+fn read<T: FromJson + Debug>(rt: &(impl Abort + AllocGlobal), text: &str) -> String {
+    match T::from_value(rt.alloc(), &parsed(rt, text)) {
+        Ok(value) => debugged(rt, &value),
+        Err(refusal) => displayed(rt, &refusal),
+    }
+}
+
+/// What the record is written as that the JSON text is read as; else what `{}` prints of the fault.
+fn rewritten<T: JsonRecord + ToJson>(
+    rt: &(impl Abort + AllocGlobal),
+    text: &str,
+    form: BytesForm,
+) -> String {
+    match T::from_json(rt.alloc(), &parsed(rt, text)) {
+        Ok(record) => written(rt, &record, form),
+        Err(fault) => displayed(rt, &fault),
+    }
+}
+
+/// Asserts what a call shows of this input.
+pub fn assert_shows(rt: &impl Abort, input: &str, shown: String, want: &str) {
+    assert_eq!(rt; shown.as_str(), want, "on {input}");
+}
+
+/// Asserts what `read` gives for each text.
+pub fn assert_reads<T: FromJson + Debug>(rt: &(impl Abort + AllocGlobal), cases: &[(&str, &str)]) {
+    for (text, want) in cases {
+        assert_shows(rt, text, read::<T>(rt, text), want);
+    }
+}
+
+/// Asserts what `rewritten` gives for each text.
+pub fn assert_rewrites<T: JsonRecord + ToJson>(
+    rt: &(impl Abort + AllocGlobal),
+    form: BytesForm,
+    cases: &[(&str, &str)],
+) {
+    for (text, want) in cases {
+        assert_shows(rt, text, rewritten::<T>(rt, text, form), want);
+    }
+}
