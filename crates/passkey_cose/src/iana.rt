@@ -217,21 +217,3 @@ impl EnumI64 for KeyOperation {
         }
     }
 }
-
-#[cfg(test)]
-mod tests {
-    use super::*;
-
-    #[test]
-    fn numbers_name_their_values(rt: HostRuntime) {
-        assert_eq!(rt; Algorithm::from_i64(-65535), Some(Algorithm::RS1));
-        assert_eq!(rt; Algorithm::from_i64(-6), None);
-        assert_eq!(rt; Algorithm::ES256.to_i64(), -7);
-        assert_eq!(rt; KeyType::from_i64(0), Some(KeyType::Reserved));
-        assert_eq!(rt; KeyType::from_i64(5), None);
-        assert_eq!(rt; KeyType::EC2.to_i64(), 2);
-        assert_eq!(rt; KeyOperation::from_i64(10), Some(KeyOperation::MacVerify));
-        assert_eq!(rt; KeyOperation::from_i64(0), None);
-        assert_eq!(rt; KeyOperation::Sign.to_i64(), 1);
-    }
-}
