@@ -257,6 +257,3 @@ impl fmt::Display for NotBase64Encoded {
 }
 
 impl Error for NotBase64Encoded {}
-
-#[cfg(test)]
-mod tests;

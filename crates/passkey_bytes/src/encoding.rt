@@ -131,6 +131,3 @@ fn without_equals(text: &[u8]) -> &[u8]
     }
     rest
 }
-
-#[cfg(test)]
-mod tests;

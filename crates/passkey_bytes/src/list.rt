@@ -168,6 +168,3 @@ impl<T: fmt::Debug> fmt::Debug for List<T> {
         fmt::Debug::fmt(&self.0, f)
     }
 }
-
-#[cfg(test)]
-mod tests;

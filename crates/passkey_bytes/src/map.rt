@@ -230,6 +230,3 @@ impl<K: Key + fmt::Debug, V: fmt::Debug> fmt::Debug for Map<K, V> {
         fmt::Debug::fmt(&self.0, f)
     }
 }
-
-#[cfg(test)]
-mod tests;

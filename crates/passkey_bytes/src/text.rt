@@ -144,6 +144,3 @@ impl fmt::Debug for Text {
         fmt::Debug::fmt(&self.0, f)
     }
 }
-
-#[cfg(test)]
-mod tests;

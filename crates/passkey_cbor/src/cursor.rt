@@ -238,6 +238,3 @@ fn may_stand(is_text: bool, bytes: &[u8]) -> bool
         true
     }
 }
-
-#[cfg(test)]
-mod tests;

@@ -69,24 +69,3 @@ impl Float {
         Float { width, bits }
     }
 }
-
-#[cfg(test)]
-mod tests {
-    use super::*;
-
-    #[test]
-    fn takes_bits_that_fit_the_width(rt: HostRuntime) {
-        for (width, bits) in [(2, 0xffff), (4, 0xffff_ffff), (8, 0xffff_ffff_ffff_ffff)] {
-            let made = Float::new(width, bits);
-            assert_eq!(rt; made.map(|f| (f.width(), f.bits())), Ok((width, bits)));
-        }
-        for (width, bits) in [(2, 0x1_0000), (4, 0x1_0000_0000), (3, 0), (0, 0), (16, 0)] {
-            let made = Float::new(width, bits);
-            assert_eq!(rt;
-                made,
-                Err(CborError::OutOfRangeIntegerValue),
-                "{width} bytes"
-            );
-        }
-    }
-}

@@ -63,18 +63,3 @@ impl Integer {
         }
     }
 }
-
-#[cfg(test)]
-mod tests {
-    use super::*;
-
-    #[test]
-    fn takes_what_64_bits_and_a_sign_hold(rt: HostRuntime) {
-        for value in [-18446744073709551616, -1, 0, 18446744073709551615] {
-            assert_eq!(rt; Integer::new(value).map(|n| n.get()), Ok(value));
-        }
-        for value in [-18446744073709551617, 18446744073709551616] {
-            assert_eq!(rt; Integer::new(value), Err(CborError::OutOfRangeIntegerValue));
-        }
-    }
-}

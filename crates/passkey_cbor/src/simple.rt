@@ -53,18 +53,3 @@ impl Simple {
         Simple { value }
     }
 }
-
-#[cfg(test)]
-mod tests {
-    use super::*;
-
-    #[test]
-    fn takes_what_has_no_name_and_is_well_formed(rt: HostRuntime) {
-        for value in [0, 19, 32, 255] {
-            assert_eq!(rt; Simple::new(value).map(|s| s.get()), Ok(value));
-        }
-        for value in [20, 23, 24, 31] {
-            assert_eq!(rt; Simple::new(value), Err(CborError::OutOfRangeIntegerValue));
-        }
-    }
-}

@@ -240,6 +240,3 @@ impl<'a> BytesToken<'a> {
         }
     }
 }
-
-#[cfg(test)]
-mod tests;

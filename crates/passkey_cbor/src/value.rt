@@ -29,6 +29,3 @@ pub enum Value {
     /// A map: major type 5.
     Map(Vec<(Value, Value)>),
 }
-
-#[cfg(test)]
-mod tests;

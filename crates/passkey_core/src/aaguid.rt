@@ -31,6 +31,3 @@ impl From<[u8; 16]> for Aaguid {
         Aaguid(bytes)
     }
 }
-
-#[cfg(test)]
-mod tests;

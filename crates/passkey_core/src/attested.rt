@@ -78,6 +78,3 @@ impl PartialEq for AttestedCredentialData {
             && self.key == other.key
     }
 }
-
-#[cfg(test)]
-mod tests;

@@ -73,6 +73,3 @@ impl AuthenticatorData {
         self.set_flags(Flags::AT)
     }
 }
-
-#[cfg(test)]
-mod tests;

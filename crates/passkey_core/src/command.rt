@@ -20,15 +20,3 @@ impl From<Ctap2Command> for u8 {
         command as u8
     }
 }
-
-#[cfg(test)]
-mod tests {
-    use super::*;
-
-    #[test]
-    fn each_command_has_its_byte(rt: HostRuntime) {
-        assert_eq!(rt; u8::from(Ctap2Command::MakeCredential), 1);
-        assert_eq!(rt; u8::from(Ctap2Command::GetAssertion), 2);
-        assert_eq!(rt; u8::from(Ctap2Command::GetInfo), 4);
-    }
-}

@@ -199,6 +199,3 @@ impl TryFrom<u8> for Flags {
         }
     }
 }
-
-#[cfg(test)]
-mod tests;

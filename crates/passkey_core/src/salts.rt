@@ -146,6 +146,3 @@ impl fmt::Display for TryFromSliceError {
 }
 
 impl Error for TryFromSliceError {}
-
-#[cfg(test)]
-mod tests;

@@ -108,6 +108,3 @@ impl<I: fmt::Display> fmt::Display for CodeOutOfRange<I> {
         write!(f, "Value {} is out of range", self.0)
     }
 }
-
-#[cfg(test)]
-mod tests;

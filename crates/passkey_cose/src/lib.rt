@@ -25,6 +25,3 @@ pub use label::Label;
 pub use passkey_memory::OutOfMemory;
 pub use refused::RefusedKey;
 pub use registered::Registered;
-
-#[cfg(test)]
-mod tests;

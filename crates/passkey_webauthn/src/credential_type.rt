@@ -47,6 +47,3 @@ impl Default for PublicKeyCredentialType {
         PublicKeyCredentialType::Unknown
     }
 }
-
-#[cfg(test)]
-mod tests;

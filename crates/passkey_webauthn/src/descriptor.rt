@@ -47,6 +47,3 @@ impl PublicKeyCredentialDescriptor {
         })
     }
 }
-
-#[cfg(test)]
-mod tests;

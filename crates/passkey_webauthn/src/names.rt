@@ -17,6 +17,3 @@ pub trait EnumNames: Copy {
 
     ghost name_is_own: { (x : Self) → named (name_of x) ≡ Some x };
 }
-
-#[cfg(test)]
-mod tests;

@@ -38,6 +38,3 @@ pub fn whole_part(text: &str) -> Option<i64>
         _ => front.parse().ok(),
     }
 }
-
-#[cfg(test)]
-mod tests;

@@ -44,6 +44,3 @@ impl From<Algorithm> for PublicKeyCredentialParameters {
         }
     }
 }
-
-#[cfg(test)]
-mod tests;

@@ -35,6 +35,3 @@ impl AuthenticationExtensionsPrfOutputs {
         })
     }
 }
-
-#[cfg(test)]
-mod tests;

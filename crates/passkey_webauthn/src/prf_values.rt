@@ -44,6 +44,3 @@ impl Clone for AuthenticationExtensionsPrfValues {
         })
     }
 }
-
-#[cfg(test)]
-mod tests;

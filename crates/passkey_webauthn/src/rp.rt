@@ -32,6 +32,3 @@ impl PublicKeyCredentialRpEntity {
         })
     }
 }
-
-#[cfg(test)]
-mod tests;

@@ -49,6 +49,3 @@ impl EnumNames for AuthenticatorTransport {
         }
     }
 }
-
-#[cfg(test)]
-mod tests;

@@ -30,6 +30,3 @@ impl PublicKeyCredentialUserEntity {
         })
     }
 }
-
-#[cfg(test)]
-mod tests;

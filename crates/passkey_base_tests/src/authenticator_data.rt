@@ -1,0 +1,211 @@
+//! Authenticator data, whose bytes were put together by hand from WebAuthn Level 3, sections 6.1 and 6.5.1.
+use crate::checks::{assert_same, assert_same_bytes, bytes, check};
+use bitflags::Flags as _;
+use passkey_bytes::Bytes;
+use passkey_cbor::Value;
+use passkey_core::{
+    Aaguid, AttestedCredentialData, AuthenticatorData, Flags, get_assertion, make_credential,
+};
+use passkey_cose::iana::KeyType;
+use passkey_cose::{CoseKey, Registered};
+use std::process::Abort;
+
+/// The SHA-256 hash of `abc` (FIPS 180-4).
+const ABC: &[u8] = &[
+    0xba, 0x78, 0x16, 0xbf, 0x8f, 0x01, 0xcf, 0xea, 0x41, 0x41, 0x40, 0xde, 0x5d, 0xae, 0x22, 0x23,
+    0xb0, 0x03, 0x61, 0xa3, 0x96, 0x17, 0x7a, 0x9c, 0xb4, 0x10, 0xff, 0x61, 0xf2, 0x00, 0x15, 0xad,
+];
+
+fn with_hash(rt: &(impl Abort + AllocGlobal), behind: &[u8]) -> Vec<u8> {
+    let mut data = Vec::from_slice(rt.alloc(), ABC).expect(rt, "memory");
+    data.extend_from_slice(behind).expect(rt, "memory");
+    data
+}
+
+fn assert_encoded(rt: &(impl Abort + AllocGlobal), data: &AuthenticatorData, behind: &[u8]) {
+    let encoded = data.to_vec(rt.alloc()).expect(rt, "memory");
+    assert_same_bytes(rt, encoded.as_slice(), with_hash(rt, behind).as_slice());
+}
+
+/// What stands behind the hash, and the flags, counter, attested credential data and extensions that it is.
+const DATA: &[(&[u8], &str)] = &[
+    (b"\x00\0\0\0\0", "0, Some(0), None, None"),
+    (
+        b"\x85\x01\x02\x03\x04\xa1\x6bcredProtect\x02",
+        "133, Some(16909060), None, Some(Map([(Text(\"credProtect\"), Integer(Integer { value: 2 }))]))",
+    ),
+    (
+        b"\xc5\0\0\0\x01\0\x01\x02\x03\x04\x05\x06\x07\x08\x09\x0a\x0b\x0c\x0d\x0e\x0f\0\x02\x0c\x98\
+          \xa2\x01\x02\x03\x26\xa1\x6bcredProtect\x02",
+        "197, Some(1), Some(AttestedCredentialData { aaguid: Aaguid([0, 1, 2, 3, 4, 5, 6, 7, 8, 9, 10, 11, 12, 13, 14, 15]), \
+         credential_id: [12, 152], key: CoseKey { kty: Assigned(EC2), key_id: None, alg: Some(Assigned(ES256)), \
+         key_ops: None, base_iv: None, params: Some([]) } }), Some(Map([(Text(\"credProtect\"), Integer(Integer { value: 2 \
+         }))]))",
+    ),
+];
+
+// The data are encoded as they were.
+fn described(rt: &(impl Abort + AllocGlobal), behind: &[u8]) -> String {
+    let data = AuthenticatorData::from_slice(rt.alloc(), with_hash(rt, behind).as_slice());
+    let data = data.expect(rt, "authenticator data");
+    assert_same_bytes(rt, data.rp_id_hash(), ABC);
+    assert_encoded(rt, &data, behind);
+    check(rt, data.is_coherent(), "coherent", behind);
+    let (flags, counter) = (u8::from(data.flags), data.counter);
+    let (attested, extensions) = (&data.attested_credential_data, &data.extensions);
+    format!(in rt.alloc(); "{flags}, {counter:?}, {attested:?}, {extensions:?}").expect(
+        rt, "memory",
+    )
+}
+
+#[test]
+fn data_are_decoded_and_encoded(rt: HostRuntime) {
+    for (behind, wanted) in DATA {
+        assert_same(&rt, described(&rt, behind).as_str(), wanted);
+    }
+}
+
+fn attested(rt: &(impl Abort + AllocGlobal), id: &[u8]) -> AttestedCredentialData {
+    let id = Vec::from_slice(rt.alloc(), id).expect(rt, "memory");
+    let key = CoseKey::new(Registered::Assigned(KeyType::EC2));
+    AttestedCredentialData::new(Aaguid::from([7; 16]), id, key).expect(rt, "a short id")
+}
+
+#[test]
+fn data_are_built_and_encoded(rt: HostRuntime) {
+    let data = AuthenticatorData::new("abc", None);
+    assert_encoded(&rt, &data, b"\x18\0\0\0\0");
+    let data = AuthenticatorData::new("abc", Some(0x0102_0304)).set_flags(Flags::UP);
+    let data = data.set_attested_credential_data(attested(&rt, &[9]));
+    let wanted =
+        b"\x59\x01\x02\x03\x04\x07\x07\x07\x07\x07\x07\x07\x07\x07\x07\x07\x07\x07\x07\x07\x07\0\x01\x09\xa1\x01\x02";
+    assert_encoded(&rt, &data, wanted);
+}
+
+fn creation_outputs(
+    hmac_secret: Option<bool>,
+    hmac_secret_mc: Option<Bytes>,
+) -> make_credential::SignedExtensionOutputs {
+    make_credential::SignedExtensionOutputs {
+        hmac_secret,
+        hmac_secret_mc,
+    }
+}
+
+fn assertion_outputs(secret: Bytes) -> get_assertion::SignedExtensionOutputs {
+    get_assertion::SignedExtensionOutputs {
+        hmac_secret: Some(secret),
+    }
+}
+
+fn assert_creation_outputs(
+    rt: &(impl Abort + AllocGlobal),
+    outputs: make_credential::SignedExtensionOutputs,
+    wanted: &[u8],
+) {
+    let data = AuthenticatorData::new("abc", None).set_make_credential_extensions(
+        rt.alloc(),
+        Some(outputs),
+    );
+    assert_encoded(rt, &data.expect(rt, "memory"), wanted);
+}
+
+fn assert_item(rt: &(impl Abort + AllocGlobal), item: Value, wanted: &[u8]) {
+    let encoded = item.to_vec(rt.alloc()).expect(rt, "memory");
+    assert_same_bytes(rt, encoded.as_slice(), wanted);
+}
+
+#[test]
+fn outputs_of_a_creation_are_encoded(rt: HostRuntime) {
+    assert_creation_outputs(
+        &rt,
+        creation_outputs(Some(true), None),
+        b"\x98\0\0\0\0\xa1\x6bhmac-secret\xf5",
+    );
+    let secrets = bytes(&rt, &[7, 8]);
+    let wanted = b"\x98\0\0\0\0\xa1\x6ehmac-secret-mc\x42\x07\x08";
+    assert_creation_outputs(&rt, creation_outputs(None, Some(secrets)), wanted);
+    let both = creation_outputs(Some(false), Some(bytes(&rt, &[7])));
+    let item = both.to_value(rt.alloc()).expect(&rt, "memory");
+    assert_item(
+        &rt,
+        item,
+        b"\xa2\x6bhmac-secret\xf4\x6ehmac-secret-mc\x41\x07",
+    );
+}
+
+#[test]
+fn outputs_of_a_use_are_encoded(rt: HostRuntime) {
+    let outputs = assertion_outputs(bytes(&rt, &[7, 8]));
+    let item = outputs.to_value(rt.alloc()).expect(&rt, "memory");
+    assert_item(&rt, item, b"\xa1\x6bhmac-secret\x42\x07\x08");
+    let data = AuthenticatorData::new("abc", None).set_assertion_extensions(
+        rt.alloc(),
+        Some(outputs),
+    );
+    assert_encoded(
+        &rt,
+        &data.expect(&rt, "memory"),
+        b"\x98\0\0\0\0\xa1\x6bhmac-secret\x42\x07\x08",
+    );
+}
+
+fn gone_over(rt: &(impl Abort + AllocGlobal), id: &[u8]) -> Vec<u8> {
+    let copy = attested(rt, id).try_clone(rt.alloc()).expect(rt, "memory");
+    let left = copy.try_into_iter(rt.alloc()).expect(rt, "memory");
+    let bytes: Result<Vec<u8>, _> = left.collect(rt.alloc());
+    bytes.expect(rt, "memory")
+}
+
+#[test]
+fn attested_credential_data_are_gone_over(rt: HostRuntime) {
+    let wanted =
+        b"\x07\x07\x07\x07\x07\x07\x07\x07\x07\x07\x07\x07\x07\x07\x07\x07\0\0\xa1\x01\x02";
+    assert_same_bytes(&rt, gone_over(&rt, &[]).as_slice(), wanted);
+    let wanted =
+        b"\x07\x07\x07\x07\x07\x07\x07\x07\x07\x07\x07\x07\x07\x07\x07\x07\0\x03\x01\x02\x03\xa1\x01\x02";
+    assert_same_bytes(&rt, gone_over(&rt, &[1, 2, 3]).as_slice(), wanted);
+}
+
+// Whether data with these flags are coherent that hold attested credential data, or extensions that are a map or an
+// array.
+fn is_coherent(
+    rt: &(impl Abort + AllocGlobal),
+    flags: u8,
+    is_attested: bool,
+    is_map: Option<bool>,
+) -> bool {
+    let mut data = AuthenticatorData::new("abc", None);
+    data.flags = Flags::from_bits_retain(flags);
+    if is_attested {
+        data.attested_credential_data = Some(attested(rt, &[9]));
+    }
+    match is_map {
+        Some(true) => data.extensions = Some(Value::Map(Vec::new(rt.alloc()))),
+        Some(false) => data.extensions = Some(Value::Array(Vec::new(rt.alloc()))),
+        None => {}
+    }
+    data.is_coherent()
+}
+
+#[test]
+fn some_data_are_coherent(rt: HostRuntime) {
+    for (flags, is_attested, is_map, wanted) in [
+        (0x18, false, None, true),
+        (0x1a, false, None, false),
+        (0x58, true, None, true),
+        (0x18, true, None, false),
+        (0x58, false, None, false),
+        (0x98, false, None, false),
+        (0x98, false, Some(false), false),
+        (0x98, false, Some(true), true),
+        (0x18, false, Some(true), false),
+    ] {
+        check(
+            &rt,
+            is_coherent(&rt, flags, is_attested, is_map) == wanted,
+            "coherent",
+            &[flags],
+        );
+    }
+}

@@ -1,0 +1,36 @@
+//! What the tests share.
+use passkey_bytes::{Bytes, Text};
+use std::fmt::Debug;
+use std::process::Abort;
+
+/// Ends the test unless this holds of the case.
+pub(crate) fn check(rt: &impl Abort, holds: bool, what: &str, case: &[u8]) {
+    assert!(rt; holds, "{what}: {case:?}");
+}
+
+/// The same of a case that is a text.
+pub(crate) fn check_text(rt: &impl Abort, holds: bool, what: &str, case: &str) {
+    assert!(rt; holds, "{what}: {case:?}");
+}
+
+pub(crate) fn assert_same(rt: &impl Abort, found: &str, wanted: &str) {
+    assert_eq!(rt; found, wanted);
+}
+
+pub(crate) fn assert_same_bytes(rt: &impl Abort, found: &[u8], wanted: &[u8]) {
+    assert_eq!(rt; found, wanted);
+}
+
+/// How the value is printed by `Debug`.
+pub(crate) fn assert_shown<T: Debug>(rt: &(impl Abort + AllocGlobal), value: &T, wanted: &str) {
+    let shown = format!(in rt.alloc(); "{value:?}").expect(rt, "memory");
+    assert_same(rt, shown.as_str(), wanted);
+}
+
+pub(crate) fn bytes(rt: &(impl Abort + AllocGlobal), of: &[u8]) -> Bytes {
+    Bytes::from_slice(rt.alloc(), of).expect(rt, "memory")
+}
+
+pub(crate) fn text(rt: &(impl Abort + AllocGlobal), of: &str) -> Text {
+    Text::from_str(rt.alloc(), of).expect(rt, "memory")
+}

@@ -1,0 +1,168 @@
+//! Byte strings, texts, lists and maps.
+ghost use Rattle.std.specs.Prelude.{◌≡◌, ◌∷◌, ◌++◌, [], IfOk, OnOk};
+ghost use Rattle.std.specs.FinMap as fin;
+
+use crate::checks::{bytes, text};
+use passkey_bytes::{Bytes, Key, List, Map, OutOfMemory, Text};
+use std::alloc::Global;
+use std::collections::HashMap;
+use std::process::Abort;
+
+// A clause of a caller speaks of the bytes alone.
+fn append_seven(bytes: &mut Bytes) -> Result<(), OutOfMemory>
+    ensures { OnOk result (bytes.new ≡ bytes.old ++ 7 ∷ []) }
+{
+    bytes.as_mut_vec().push(7)?;
+    Ok(())
+}
+
+#[test]
+fn byte_strings_are_copied(rt: HostRuntime) {
+    let mut made = bytes(&rt, &[0xfb, 0xff]);
+    assert_eq!(rt;
+        made.to_base64url(rt.alloc()).expect(&rt, "memory").as_str(),
+        "-_8"
+    );
+    let gathered = Bytes::from_items(rt.alloc(), made.iter().copied()).expect(&rt, "memory");
+    assert!(rt; gathered == made);
+    assert!(rt; made.try_clone(rt.alloc()).expect(&rt, "memory") == made);
+    assert!(rt; made.clone().expect(&rt, "memory") == made);
+    append_seven(&mut made).expect(&rt, "memory");
+    assert_eq!(rt; made.as_slice(), [0xfb, 0xff, 7].as_slice());
+}
+
+#[test]
+fn texts_are_copied(rt: HostRuntime) {
+    let zoe = text(&rt, "Zoë");
+    assert_eq!(rt; zoe.as_str(), "Zoë");
+    assert!(rt; zoe.try_clone(rt.alloc()).expect(&rt, "memory") == zoe);
+    assert!(rt; zoe.clone().expect(&rt, "memory") == zoe);
+}
+
+fn append_eight(list: &mut List<u16>) -> Result<(), OutOfMemory>
+    ensures { OnOk result (list.new ≡ list.old ++ 8 ∷ []) }
+{
+    list.as_mut_vec().push(8)?;
+    Ok(())
+}
+
+#[test]
+fn a_list_of_numbers_is_changed_and_gone_over(rt: HostRuntime) {
+    let mut list: List<u16> = List::empty(rt.alloc());
+    assert!(rt; list.is_empty());
+    append_eight(&mut list).expect(&rt, "memory");
+    let mut sum = 0u64;
+    for item in &list {
+        sum = sum.saturating_add(u64::from(*item));
+    }
+    for item in list.iter() {
+        sum = sum.saturating_add(u64::from(*item));
+    }
+    assert_eq!(rt; list.len(), 1);
+    assert_eq!(rt; list.as_slice(), [8].as_slice());
+    let vec: Vec<u16> = list.into();
+    for item in List::from(vec) {
+        sum = sum.saturating_add(u64::from(item));
+    }
+    assert_eq!(rt; sum, 3 * 8);
+}
+
+// A copy of a list whose items' copies are equal to them is equal to it.
+fn copied_list(list: &List<Bytes>, alloc: Global) -> Result<List<Bytes>, OutOfMemory>
+    ensures { IfOk result (λ copy. copy ≡ list.now) }
+{
+    list.try_clone(alloc)
+}
+
+fn two_byte_strings(rt: &(impl Abort + AllocGlobal)) -> List<Bytes> {
+    let items = vec![in rt.alloc(); bytes(rt, &[1, 2]), Bytes::empty(rt.alloc())];
+    List::from(items.expect(rt, "memory"))
+}
+
+#[test]
+fn a_list_of_byte_strings_is_copied(rt: HostRuntime) {
+    let list = two_byte_strings(&rt);
+    assert!(rt; copied_list(&list, rt.alloc()).expect(&rt, "memory") == list);
+    assert!(rt; list.clone().expect(&rt, "memory") == list);
+    assert!(rt; List::empty(rt.alloc()) != list);
+    let mut ages: HashMap<List<Bytes>, u32> = HashMap::new(rt.alloc());
+    let inserted: Result<_, _> = ages.insert(two_byte_strings(&rt), 1);
+    assert!(rt; inserted.is_ok());
+    assert_eq!(rt; ages.get(&list).copied(), Some(1));
+}
+
+fn two_ages(rt: &(impl Abort + AllocGlobal)) -> Map<Text, u32> {
+    let mut ages = Map::empty(rt.alloc());
+    ages.insert(text(rt, "Zoë"), 7).expect(rt, "memory");
+    ages.insert(text(rt, "Ada"), 36).expect(rt, "memory");
+    ages
+}
+
+// A clause of a caller speaks of the finite map alone.
+fn put_seven(ages: &mut Map<Text, u32>, name: Text) -> Result<(), OutOfMemory>
+    ensures { OnOk result (ages.new ≡ fin.insert ages.old name 7) }
+{
+    ages.insert(name, 7)?;
+    Ok(())
+}
+
+#[test]
+fn a_map_of_texts_is_changed(rt: HostRuntime) {
+    let mut ages = two_ages(&rt);
+    let ada = text(&rt, "Ada");
+    put_seven(&mut ages, text(&rt, "Ada")).expect(&rt, "memory");
+    assert_eq!(rt; ages.len(), 2);
+    assert_eq!(rt; ages.get(&ada).copied(), Some(7));
+    assert!(rt; ages.contains_key(&ada));
+    assert_eq!(rt; ages.remove(&ada), Some(7));
+    assert_eq!(rt; ages.remove(&ada), None);
+    assert!(rt; !ages.is_empty());
+    assert!(rt; ages != two_ages(&rt));
+}
+
+#[test]
+fn a_map_of_texts_is_gone_over(rt: HostRuntime) {
+    let ages = two_ages(&rt);
+    let mut sum = 0u64;
+    for (_name, age) in &ages {
+        sum = sum.saturating_add(u64::from(*age));
+    }
+    for (_name, age) in ages.iter() {
+        sum = sum.saturating_add(u64::from(*age));
+    }
+    let table: HashMap<Text, u32> = ages.into();
+    for (_name, age) in Map::from(table) {
+        sum = sum.saturating_add(u64::from(age));
+    }
+    assert_eq!(rt; sum, 3 * 43);
+}
+
+// A copy of a map whose values' copies are equal to them is equal to it.
+fn copied_map(
+    map: &Map<Bytes, List<Text>>,
+    alloc: Global,
+) -> Result<Map<Bytes, List<Text>>, OutOfMemory>
+    ensures { IfOk result (λ copy. copy ≡ map.now) }
+{
+    map.try_clone(alloc)
+}
+
+#[test]
+fn a_map_of_byte_strings_is_copied(rt: HostRuntime) {
+    let names = vec![in rt.alloc(); text(&rt, "a")].expect(&rt, "memory");
+    let mut map = Map::empty(rt.alloc());
+    map.insert(bytes(&rt, &[1, 2]), List::from(names))
+        .expect(&rt, "memory");
+    assert!(rt; copied_map(&map, rt.alloc()).expect(&rt, "memory") == map);
+    assert!(rt; map.clone().expect(&rt, "memory") == map);
+}
+
+fn key_of<K: Key>(key: &K) -> &[u8] {
+    key.as_key()
+}
+
+#[test]
+fn keys_have_bytes(rt: HostRuntime) {
+    assert_eq!(rt; key_of(&text(&rt, "Zoë")), "Zoë".as_bytes());
+    assert_eq!(rt; key_of(&bytes(&rt, &[1, 2])), [1, 2].as_slice());
+}

@@ -1,0 +1,137 @@
+//! Items as values, and which numbers they hold.
+use crate::checks::{assert_same, assert_same_bytes};
+use passkey_cbor::{CborError, Float, Integer, Simple, Value};
+use std::process::Abort;
+
+/// Items of RFC 8949, appendix A, and some around them: in bytes, and how many levels they have
+/// and how their values are printed.
+const ITEMS: &[(&[u8], &str)] = &[
+    (&[0x00], "0: Integer(Integer { value: 0 })"),
+    (&[0x17], "0: Integer(Integer { value: 23 })"),
+    (&[0x18, 0x18], "0: Integer(Integer { value: 24 })"),
+    (&[0x18, 0x64], "0: Integer(Integer { value: 100 })"),
+    (&[0x19, 0x03, 0xe8], "0: Integer(Integer { value: 1000 })"),
+    (
+        &[0x1a, 0x00, 0x0f, 0x42, 0x40],
+        "0: Integer(Integer { value: 1000000 })",
+    ),
+    (
+        &[0x1b, 0x00, 0x00, 0x00, 0xe8, 0xd4, 0xa5, 0x10, 0x00],
+        "0: Integer(Integer { value: 1000000000000 })",
+    ),
+    (
+        &[0x1b, 0xff, 0xff, 0xff, 0xff, 0xff, 0xff, 0xff, 0xff],
+        "0: Integer(Integer { value: 18446744073709551615 })",
+    ),
+    (&[0x20], "0: Integer(Integer { value: -1 })"),
+    (&[0x29], "0: Integer(Integer { value: -10 })"),
+    (&[0x38, 0x63], "0: Integer(Integer { value: -100 })"),
+    (&[0x39, 0x03, 0xe7], "0: Integer(Integer { value: -1000 })"),
+    (
+        &[0x3b, 0xff, 0xff, 0xff, 0xff, 0xff, 0xff, 0xff, 0xff],
+        "0: Integer(Integer { value: -18446744073709551616 })",
+    ),
+    (
+        &[0xf9, 0x3e, 0x00],
+        "0: Float(Float { width: 2, bits: 15872 })",
+    ),
+    (
+        &[0xfa, 0x47, 0xc3, 0x50, 0x00],
+        "0: Float(Float { width: 4, bits: 1203982336 })",
+    ),
+    (
+        &[0xfb, 0x3f, 0xf1, 0x99, 0x99, 0x99, 0x99, 0x99, 0x9a],
+        "0: Float(Float { width: 8, bits: 4607632778762754458 })",
+    ),
+    (&[0xf4], "0: Bool(false)"),
+    (&[0xf5], "0: Bool(true)"),
+    (&[0xf6], "0: Null"),
+    (&[0xf0], "0: Simple(Simple { value: 16 })"),
+    (&[0xf8, 0xff], "0: Simple(Simple { value: 255 })"),
+    (&[0x40], "0: Bytes([])"),
+    (&[0x44, 0x01, 0x02, 0x03, 0x04], "0: Bytes([1, 2, 3, 4])"),
+    (&[0x60], "0: Text(\"\")"),
+    (&[0x64, 0x49, 0x45, 0x54, 0x46], "0: Text(\"IETF\")"),
+    (&[0x62, 0xc3, 0xbc], "0: Text(\"ü\")"),
+    (&[0x80], "1: Array([])"),
+    (&[0xa0], "1: Map([])"),
+    (
+        &[0xc1, 0x1a, 0x51, 0x4b, 0x67, 0xb0],
+        "1: Tag(1, Integer(Integer { value: 1363896240 }))",
+    ),
+    (
+        &[0xa2, 0x61, 0x61, 0x01, 0x61, 0x62, 0x82, 0x02, 0x03],
+        "2: Map([(Text(\"a\"), Integer(Integer { value: 1 })), (Text(\"b\"), Array([Integer(Integer { value: 2 }), \
+         Integer(Integer { value: 3 })]))])",
+    ),
+    // a map whose key is a tagged map
+    (
+        &[0xa1, 0xc1, 0xa1, 0x61, 0x62, 0x81, 0x02, 0xf6],
+        "4: Map([(Tag(1, Map([(Text(\"b\"), Array([Integer(Integer { value: 2 })]))])), Null)])",
+    ),
+];
+
+// How many levels the item has, and its copy; it is encoded as it was.
+fn described(rt: &(impl Abort + AllocGlobal), bytes: &[u8]) -> String {
+    let (value, _len) = Value::from_slice(rt.alloc(), bytes).expect(rt, "an item");
+    let encoded = value.to_vec(rt.alloc()).expect(rt, "memory");
+    assert_same_bytes(rt, encoded.as_slice(), bytes);
+    let copy = value.try_clone(rt.alloc()).expect(rt, "memory");
+    let depth = value.depth();
+    format!(in rt.alloc(); "{depth}: {copy:?}").expect(rt, "memory")
+}
+
+#[test]
+fn items_are_decoded_copied_and_encoded(rt: HostRuntime) {
+    for (bytes, wanted) in ITEMS {
+        assert_same(&rt, described(&rt, bytes).as_str(), wanted);
+    }
+}
+
+// RFC 8949, sections 3.1 and 3.3.
+fn integer(value: i128) -> Option<i128> {
+    match Integer::new(value) {
+        Ok(integer) => Some(integer.get()),
+        Err(_) => None,
+    }
+}
+
+fn simple(value: u8) -> Option<u8> {
+    match Simple::new(value) {
+        Ok(simple) => Some(simple.get()),
+        Err(_) => None,
+    }
+}
+
+fn float(width: u8, bits: u64) -> Option<(u8, u64)> {
+    match Float::new(width, bits) {
+        Ok(float) => Some((float.width(), float.bits())),
+        Err(_) => None,
+    }
+}
+
+#[test]
+fn numbers_have_their_ranges(rt: HostRuntime) {
+    for value in [-18446744073709551616, -1, 0, 18446744073709551615] {
+        assert_eq!(rt; integer(value), Some(value));
+    }
+    for value in [-18446744073709551617, 18446744073709551616] {
+        assert_eq!(rt; integer(value), None);
+    }
+    for value in [0, 19, 32, 255] {
+        assert_eq!(rt; simple(value), Some(value));
+    }
+    for value in [20, 23, 24, 31] {
+        assert_eq!(rt; simple(value), None);
+    }
+    for (width, bits) in [(2, 0xffff), (4, 0xffff_ffff), (8, 0xffff_ffff_ffff_ffff)] {
+        assert_eq!(rt; float(width, bits), Some((width, bits)));
+    }
+    for (width, bits) in [(2, 0x1_0000), (4, 0x1_0000_0000), (3, 0), (0, 0), (16, 0)] {
+        assert_eq!(rt; float(width, bits), None);
+    }
+    assert_eq!(rt;
+        Integer::new(1 << 64),
+        Err(CborError::OutOfRangeIntegerValue)
+    );
+}

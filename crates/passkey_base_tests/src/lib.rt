@@ -1,0 +1,28 @@
+//! The tests of `passkey_cbor`, `passkey_bytes`, `passkey_cose`, `passkey_core` and `passkey_webauthn`: values from
+//! the standards, printed text, and calls that need memory.
+#![tactic(auto)]
+
+#[cfg(test)]
+mod authenticator_data;
+#[cfg(test)]
+mod base64;
+#[cfg(test)]
+mod checks;
+#[cfg(test)]
+mod containers;
+#[cfg(test)]
+mod cose_keys;
+#[cfg(test)]
+mod ctap2;
+#[cfg(test)]
+mod cursor;
+#[cfg(test)]
+mod entities;
+#[cfg(test)]
+mod items;
+#[cfg(test)]
+mod names;
+#[cfg(test)]
+mod printed;
+#[cfg(test)]
+mod strings;

@@ -1,0 +1,58 @@
+//! Printed text that no contract gives.
+use crate::checks::{assert_same, assert_shown, bytes, text};
+use passkey_bytes::{Bytes, BytesFault, List, Map, NotBase64Encoded, Text};
+use passkey_cbor::{CborError, OutOfMemory};
+use passkey_core::CodeOutOfRange;
+use passkey_cose::{CoseError, CoseKeyConversionError};
+use std::fmt::Display;
+use std::process::Abort;
+
+fn assert_printed<T: Display>(rt: &(impl Abort + AllocGlobal), value: &T, wanted: &str) {
+    let printed = format!(in rt.alloc(); "{value}").expect(rt, "memory");
+    assert_same(rt, printed.as_str(), wanted);
+}
+
+#[test]
+fn faults_are_printed_by_name(rt: HostRuntime) {
+    assert_printed(&rt, &CborError::DecodeFailed, "DecodeFailed");
+    assert_printed(&rt, &CborError::OutOfMemory, "OutOfMemory");
+    assert_printed(
+        &rt,
+        &CborError::OutOfRangeIntegerValue,
+        "OutOfRangeIntegerValue",
+    );
+    assert_printed(&rt, &OutOfMemory, "OutOfMemory");
+    assert_printed(
+        &rt,
+        &BytesFault::NotBase64Encoded(NotBase64Encoded),
+        "NotBase64Encoded",
+    );
+    assert_printed(&rt, &BytesFault::OutOfMemory, "OutOfMemory");
+    assert_printed(&rt, &CoseError::DuplicateMapKey, "DuplicateMapKey");
+    assert_printed(&rt, &CodeOutOfRange(27u8), "Value 27 is out of range");
+    let fault = BytesFault::NotBase64Encoded(NotBase64Encoded);
+    assert_shown(&rt, &fault, "NotBase64Encoded(NotBase64Encoded)");
+    assert_shown(
+        &rt,
+        &CoseKeyConversionError::UnsupportedAlgorithm,
+        "UnsupportedAlgorithm",
+    );
+}
+
+fn list(rt: &(impl Abort + AllocGlobal)) -> List<Text> {
+    let items = vec![in rt.alloc(); text(rt, "a")].expect(rt, "memory");
+    List::from(items)
+}
+
+#[test]
+fn containers_are_printed(rt: HostRuntime) {
+    assert_shown(&rt, &Bytes::empty(rt.alloc()), "Bytes([])");
+    assert_shown(&rt, &bytes(&rt, &[1, 2]), "Bytes([1, 2])");
+    assert_shown(&rt, &text(&rt, "a\"\n"), "\"a\\\"\\n\"");
+    assert_printed(&rt, &text(&rt, "a\"\n"), "a\"\n");
+    assert_shown(&rt, &list(&rt), "[\"a\"]");
+    let mut map = Map::empty(rt.alloc());
+    map.insert(bytes(&rt, &[1, 2]), list(&rt))
+        .expect(&rt, "memory");
+    assert_shown(&rt, &map, "{Bytes([1, 2]): [\"a\"]}");
+}

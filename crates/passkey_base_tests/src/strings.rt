@@ -1,0 +1,184 @@
+//! Strings that a cursor lends (RFC 8949, sections 3.1 and 3.2.3).
+use crate::checks::{assert_same, assert_same_bytes, check};
+use passkey_cbor::Cursor;
+use std::process::Abort;
+
+const NAMES: &[&str] = &["r", "rp", "rpId", "", "rpIds", "rpId", ""];
+
+/// Texts as they are spelled, the text of those in one piece, the whole text, its first place among the names, and how
+/// many heads one look at its chunks decodes at most.
+const TEXTS: &[(&[u8], Option<&str>, &str, Option<usize>, u128)] = &[
+    (
+        &[0x64, 0x72, 0x70, 0x49, 0x64],
+        Some("rpId"),
+        "rpId",
+        Some(2),
+        0,
+    ),
+    (&[0x62, 0x72, 0x70], Some("rp"), "rp", Some(1), 0),
+    (&[0x60], Some(""), "", Some(3), 0),
+    (&[0x63, 0x72, 0x70, 0x49], Some("rpI"), "rpI", None, 0),
+    (
+        &[0x7f, 0x62, 0x72, 0x70, 0x62, 0x49, 0x64, 0xff],
+        None,
+        "rpId",
+        Some(2),
+        3,
+    ),
+    (
+        &[0x7f, 0x60, 0x61, 0x72, 0x60, 0x61, 0x70, 0xff],
+        None,
+        "rp",
+        Some(1),
+        5,
+    ),
+    (
+        &[0x7f, 0x61, 0x72, 0x64, 0x70, 0x49, 0x64, 0x73, 0xff],
+        None,
+        "rpIds",
+        Some(4),
+        3,
+    ),
+    (&[0x7f, 0xff], None, "", Some(3), 1),
+    (&[0x7f, 0x60, 0xff], None, "", Some(3), 2),
+    (
+        &[0x7f, 0x62, 0x72, 0x70, 0x61, 0x49, 0xff],
+        None,
+        "rpI",
+        None,
+        3,
+    ),
+    (&[0x7f, 0x61, 0x78, 0x61, 0x72, 0xff], None, "xr", None, 3),
+];
+
+/// The same of byte strings.
+const BYTE_STRINGS: &[(&[u8], Option<&[u8]>, &[u8], Option<usize>, u128)] = &[
+    (
+        &[0x44, 0x72, 0x70, 0x49, 0x64],
+        Some(b"rpId"),
+        b"rpId",
+        Some(2),
+        0,
+    ),
+    (&[0x41, 0xff], Some(&[0xff]), &[0xff], None, 0),
+    (
+        &[0x5f, 0x42, 0x72, 0x70, 0x42, 0x49, 0x64, 0xff],
+        None,
+        b"rpId",
+        Some(2),
+        3,
+    ),
+    (&[0x5f, 0xff], None, b"", Some(3), 1),
+];
+
+fn copied_text(rt: &(impl Abort + AllocGlobal), spelled: &[u8]) -> String {
+    let mut cursor = Cursor::new(spelled);
+    let token = cursor.text().expect(rt, "a text");
+    token.copy(rt.alloc(), &mut cursor).expect(rt, "memory")
+}
+
+fn copied_bytes(rt: &(impl Abort + AllocGlobal), spelled: &[u8]) -> Vec<u8> {
+    let mut cursor = Cursor::new(spelled);
+    let token = cursor.bytes().expect(rt, "a byte string");
+    token.copy(rt.alloc(), &mut cursor).expect(rt, "memory")
+}
+
+#[test]
+fn texts_are_lent(rt: HostRuntime) {
+    for (spelled, lent, whole, place, heads) in TEXTS {
+        let mut cursor = Cursor::new(spelled);
+        let token = cursor.text().expect(&rt, "a text");
+        let passed = cursor.count().heads;
+        check(&rt, passed <= spelled.len() as u128, "heads", spelled);
+        check(&rt, token.lent() == *lent, "lent", spelled);
+        check(
+            &rt,
+            token.name_of(NAMES, &mut cursor) == *place,
+            "place of the name",
+            spelled,
+        );
+        check(
+            &rt,
+            cursor.count().heads.saturating_sub(passed) <= *heads,
+            "heads again",
+            spelled,
+        );
+        check(&rt, token.eq_name(whole, &mut cursor), "own name", spelled);
+        check(
+            &rt,
+            !token.eq_name("rpIe", &mut cursor),
+            "other name",
+            spelled,
+        );
+        check(&rt, cursor.place() == spelled.len(), "place", spelled);
+        assert_same(&rt, copied_text(&rt, spelled).as_str(), whole);
+    }
+}
+
+#[test]
+fn byte_strings_are_lent(rt: HostRuntime) {
+    for (spelled, lent, whole, place, heads) in BYTE_STRINGS {
+        let mut cursor = Cursor::new(spelled);
+        let token = cursor.bytes().expect(&rt, "a byte string");
+        let passed = cursor.count().heads;
+        check(&rt, passed <= spelled.len() as u128, "heads", spelled);
+        check(&rt, token.lent() == *lent, "lent", spelled);
+        check(
+            &rt,
+            token.name_of(NAMES, &mut cursor) == *place,
+            "place of the name",
+            spelled,
+        );
+        check(
+            &rt,
+            cursor.count().heads.saturating_sub(passed) <= *heads,
+            "heads again",
+            spelled,
+        );
+        check(
+            &rt,
+            token.eq_name("rpId", &mut cursor) == (*place == Some(2)),
+            "name",
+            spelled,
+        );
+        check(&rt, cursor.place() == spelled.len(), "place", spelled);
+        assert_same_bytes(&rt, copied_bytes(&rt, spelled).as_slice(), whole);
+    }
+}
+
+#[test]
+fn other_items_are_not_lent(rt: HostRuntime) {
+    let cases: [(&[u8], bool, bool); 8] = [
+        (&[], false, false),
+        (&[0x01], false, false),
+        (&[0x62, 0x61], false, false),
+        (&[0x7f, 0x42, 0x61, 0x62, 0xff], false, false),
+        (&[0x61, 0x80], false, false),
+        (&[0x61, 0x61], true, false),
+        (&[0x7f, 0xff], true, false),
+        (&[0x41, 0x61], false, true),
+    ];
+    for (bytes, is_text, is_byte_string) in cases {
+        let mut cursor = Cursor::new(bytes);
+        let is_other = cursor.text().is_none() && cursor.bytes().is_none();
+        check(
+            &rt,
+            is_other == (!is_text && !is_byte_string),
+            "another item",
+            bytes,
+        );
+        check(&rt, (cursor.place() == 0) == is_other, "place", bytes);
+        check(
+            &rt,
+            Cursor::new(bytes).text().is_some() == is_text,
+            "text",
+            bytes,
+        );
+        check(
+            &rt,
+            Cursor::new(bytes).bytes().is_some() == is_byte_string,
+            "byte string",
+            bytes,
+        );
+    }
+}
