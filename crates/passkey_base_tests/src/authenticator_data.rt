@@ -37,10 +37,10 @@ const DATA: &[(&[u8], &str)] = &[
     (
         b"\xc5\0\0\0\x01\0\x01\x02\x03\x04\x05\x06\x07\x08\x09\x0a\x0b\x0c\x0d\x0e\x0f\0\x02\x0c\x98\
           \xa2\x01\x02\x03\x26\xa1\x6bcredProtect\x02",
-        "197, Some(1), Some(AttestedCredentialData { aaguid: Aaguid([0, 1, 2, 3, 4, 5, 6, 7, 8, 9, 10, 11, 12, 13, 14, 15]), \
-         credential_id: [12, 152], key: CoseKey { kty: Assigned(EC2), key_id: None, alg: Some(Assigned(ES256)), \
-         key_ops: None, base_iv: None, params: Some([]) } }), Some(Map([(Text(\"credProtect\"), Integer(Integer { value: 2 \
-         }))]))",
+        "197, Some(1), Some(AttestedCredentialData { aaguid: Aaguid([0, 1, 2, 3, 4, 5, 6, 7, 8, 9, 10, 11, 12, 13, \
+         14, 15]), credential_id: [12, 152], key: CoseKey { kty: Assigned(EC2), key_id: None, alg: \
+         Some(Assigned(ES256)), key_ops: None, base_iv: None, params: Some([]) } }), Some(Map([(Text(\"credProtect\"), \
+         Integer(Integer { value: 2 }))]))",
     ),
 ];
 
@@ -71,15 +71,18 @@ fn attested(rt: &(impl Abort + AllocGlobal), id: &[u8]) -> AttestedCredentialDat
     AttestedCredentialData::new(Aaguid::from([7; 16]), id, key).expect(rt, "a short id")
 }
 
+fn built(rt: &(impl Abort + AllocGlobal)) -> AuthenticatorData {
+    AuthenticatorData::new("abc", Some(0x0102_0304))
+        .set_flags(Flags::UP)
+        .set_attested_credential_data(attested(rt, &[9]))
+}
+
 #[test]
 fn data_are_built_and_encoded(rt: HostRuntime) {
-    let data = AuthenticatorData::new("abc", None);
-    assert_encoded(&rt, &data, b"\x18\0\0\0\0");
-    let data = AuthenticatorData::new("abc", Some(0x0102_0304)).set_flags(Flags::UP);
-    let data = data.set_attested_credential_data(attested(&rt, &[9]));
+    assert_encoded(&rt, &AuthenticatorData::new("abc", None), b"\x18\0\0\0\0");
     let wanted =
         b"\x59\x01\x02\x03\x04\x07\x07\x07\x07\x07\x07\x07\x07\x07\x07\x07\x07\x07\x07\x07\x07\0\x01\x09\xa1\x01\x02";
-    assert_encoded(&rt, &data, wanted);
+    assert_encoded(&rt, &built(&rt), wanted);
 }
 
 fn creation_outputs(
@@ -177,13 +180,13 @@ fn is_coherent(
 ) -> bool {
     let mut data = AuthenticatorData::new("abc", None);
     data.flags = Flags::from_bits_retain(flags);
+    data.extensions = match is_map {
+        Some(true) => Some(Value::Map(Vec::new(rt.alloc()))),
+        Some(false) => Some(Value::Array(Vec::new(rt.alloc()))),
+        None => None,
+    };
     if is_attested {
         data.attested_credential_data = Some(attested(rt, &[9]));
-    }
-    match is_map {
-        Some(true) => data.extensions = Some(Value::Map(Vec::new(rt.alloc()))),
-        Some(false) => data.extensions = Some(Value::Array(Vec::new(rt.alloc()))),
-        None => {}
     }
     data.is_coherent()
 }

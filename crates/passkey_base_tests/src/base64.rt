@@ -73,12 +73,23 @@ fn the_alphabets_are_those_of_the_rfc(rt: HostRuntime) {
     assert_same_bytes(&rt, decoded(&rt, URL_SAFE_ALPHABET).as_slice(), ALL_VALUES);
 }
 
-/// Texts, and what they are in base64url: of two symbols the last four bits count for nothing, of three the last two
-/// (RFC 4648, section 3.5).
+/// Texts that are base64url, and their bytes: of two symbols the last four bits count for nothing, of three the last
+/// two (RFC 4648, section 3.5).
 const URL_TEXTS: &[(&str, &[u8])] = &[
     ("_w", &[0xff]),
     ("_x", &[0xff]),
+    ("_y", &[0xff]),
+    ("_z", &[0xff]),
+    ("_0", &[0xff]),
+    ("_1", &[0xff]),
+    ("_2", &[0xff]),
+    ("_3", &[0xff]),
     ("_4", &[0xff]),
+    ("_5", &[0xff]),
+    ("_6", &[0xff]),
+    ("_7", &[0xff]),
+    ("_8", &[0xff]),
+    ("_9", &[0xff]),
     ("_-", &[0xff]),
     ("__", &[0xff]),
     ("__8", &[0xff, 0xff]),
@@ -89,6 +100,7 @@ const URL_TEXTS: &[(&str, &[u8])] = &[
     ("___==", &[0xff, 0xff]),
 ];
 
+/// Texts that are no base64url.
 const NO_URL_TEXTS: &[&str] = &[
     "A",
     "A===",
@@ -110,15 +122,19 @@ const NO_URL_TEXTS: &[&str] = &[
 #[test]
 fn base64url_is_decoded(rt: HostRuntime) {
     for (text, wanted) in URL_TEXTS {
-        assert_same_bytes(&rt, url_decoded(&rt, text).as_slice(), wanted);
+        check_text(
+            &rt,
+            url_decoded(&rt, text).as_slice() == *wanted,
+            "base64url",
+            text,
+        );
     }
     for text in NO_URL_TEXTS {
         check_text(&rt, is_url_refused(&rt, text), "refused", text);
     }
 }
 
-/// Texts, and what they are in base64url, or else in base64 whose last symbol has no bit set past the last byte. The
-/// identifier is of a credential.
+/// Texts that are base64url, or else base64 whose last symbol has no bit set past the last byte, and their bytes.
 const TEXTS: &[(&str, &[u8])] = &[
     ("", &[]),
     ("====", &[]),
@@ -133,11 +149,13 @@ const TEXTS: &[(&str, &[u8])] = &[
     ("ZcPUob9wS72YNHkRPnFypA", IDENTIFIER),
 ];
 
+/// Texts that are neither.
 const OTHER_TEXTS: &[&str] = &[
     "/x", "/+", "//", "//9", "//+", "///", "+x", "-/", "A", "A===", "AAAAA", " ", "_w ", "\n_w",
     "_w\t", "=_w", "_w..",
 ];
 
+/// The id of a credential.
 const IDENTIFIER: &[u8] = &[
     0x65, 0xc3, 0xd4, 0xa1, 0xbf, 0x70, 0x4b, 0xbd, 0x98, 0x34, 0x79, 0x11, 0x3e, 0x71, 0x72, 0xa4,
 ];
@@ -145,7 +163,12 @@ const IDENTIFIER: &[u8] = &[
 #[test]
 fn byte_strings_are_made_of_texts(rt: HostRuntime) {
     for (text, wanted) in TEXTS {
-        assert_same_bytes(&rt, decoded(&rt, text).as_slice(), wanted);
+        check_text(
+            &rt,
+            decoded(&rt, text).as_slice() == *wanted,
+            "base64url or base64",
+            text,
+        );
     }
     let refused = Some(BytesFault::NotBase64Encoded(NotBase64Encoded));
     for text in OTHER_TEXTS {

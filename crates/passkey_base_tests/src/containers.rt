@@ -74,19 +74,19 @@ fn copied_list(list: &List<Bytes>, alloc: Global) -> Result<List<Bytes>, OutOfMe
     list.try_clone(alloc)
 }
 
-fn two_byte_strings(rt: &(impl Abort + AllocGlobal)) -> List<Bytes> {
-    let items = vec![in rt.alloc(); bytes(rt, &[1, 2]), Bytes::empty(rt.alloc())];
+fn one_byte_string(rt: &(impl Abort + AllocGlobal)) -> List<Bytes> {
+    let items = vec![in rt.alloc(); bytes(rt, &[1, 2])];
     List::from(items.expect(rt, "memory"))
 }
 
 #[test]
 fn a_list_of_byte_strings_is_copied(rt: HostRuntime) {
-    let list = two_byte_strings(&rt);
+    let list = one_byte_string(&rt);
     assert!(rt; copied_list(&list, rt.alloc()).expect(&rt, "memory") == list);
     assert!(rt; list.clone().expect(&rt, "memory") == list);
     assert!(rt; List::empty(rt.alloc()) != list);
     let mut ages: HashMap<List<Bytes>, u32> = HashMap::new(rt.alloc());
-    let inserted: Result<_, _> = ages.insert(two_byte_strings(&rt), 1);
+    let inserted: Result<_, _> = ages.insert(one_byte_string(&rt), 1);
     assert!(rt; inserted.is_ok());
     assert_eq!(rt; ages.get(&list).copied(), Some(1));
 }
