@@ -29,20 +29,34 @@ fn assert_encoded(rt: &(impl Abort + AllocGlobal), data: &AuthenticatorData, beh
 
 /// What stands behind the hash, and the flags, counter, attested credential data and extensions that it is.
 const DATA: &[(&[u8], &str)] = &[
-    (b"\x00\0\0\0\0", "0, Some(0), None, None"),
+    (b"\x00\0\0\0\0", "0, Some(0), no credential, None"),
     (
         b"\x85\x01\x02\x03\x04\xa1\x6bcredProtect\x02",
-        "133, Some(16909060), None, Some(Map([(Text(\"credProtect\"), Integer(Integer { value: 2 }))]))",
+        "133, Some(16909060), no credential, Some(Map([(Text(\"credProtect\"), Integer(Integer { value: 2 }))]))",
     ),
     (
         b"\xc5\0\0\0\x01\0\x01\x02\x03\x04\x05\x06\x07\x08\x09\x0a\x0b\x0c\x0d\x0e\x0f\0\x02\x0c\x98\
           \xa2\x01\x02\x03\x26\xa1\x6bcredProtect\x02",
-        "197, Some(1), Some(AttestedCredentialData { aaguid: Aaguid([0, 1, 2, 3, 4, 5, 6, 7, 8, 9, 10, 11, 12, 13, \
-         14, 15]), credential_id: [12, 152], key: CoseKey { kty: Assigned(EC2), key_id: None, alg: \
-         Some(Assigned(ES256)), key_ops: None, base_iv: None, params: Some([]) } }), Some(Map([(Text(\"credProtect\"), \
-         Integer(Integer { value: 2 }))]))",
+        "197, Some(1), Aaguid([0, 1, 2, 3, 4, 5, 6, 7, 8, 9, 10, 11, 12, 13, 14, 15]) [12, 152] Assigned(EC2) \
+         Some(Assigned(ES256)), Some(Map([(Text(\"credProtect\"), Integer(Integer { value: 2 }))]))",
     ),
 ];
+
+fn credential(rt: &(impl Abort + AllocGlobal), data: &AuthenticatorData) -> String {
+    let text = match &data.attested_credential_data {
+        Some(it) => {
+            let (aaguid, id, kty, alg) = (
+                it.aaguid,
+                it.credential_id(),
+                it.key.kty(),
+                it.key.alg(),
+            );
+            format!(in rt.alloc(); "{aaguid:?} {id:?} {kty:?} {alg:?}")
+        }
+        None => format!(in rt.alloc(); "no credential"),
+    };
+    text.expect(rt, "memory")
+}
 
 // The data are encoded as they were.
 fn described(rt: &(impl Abort + AllocGlobal), behind: &[u8]) -> String {
@@ -52,8 +66,8 @@ fn described(rt: &(impl Abort + AllocGlobal), behind: &[u8]) -> String {
     assert_encoded(rt, &data, behind);
     check(rt, data.is_coherent(), "coherent", behind);
     let (flags, counter) = (u8::from(data.flags), data.counter);
-    let (attested, extensions) = (&data.attested_credential_data, &data.extensions);
-    format!(in rt.alloc(); "{flags}, {counter:?}, {attested:?}, {extensions:?}").expect(
+    let (credential, extensions) = (credential(rt, &data), &data.extensions);
+    format!(in rt.alloc(); "{flags}, {counter:?}, {credential}, {extensions:?}").expect(
         rt, "memory",
     )
 }

@@ -88,7 +88,6 @@ fn items_are_decoded_copied_and_encoded(rt: HostRuntime) {
     }
 }
 
-// RFC 8949, sections 3.1 and 3.3.
 fn integer(value: i128) -> Option<i128> {
     match Integer::new(value) {
         Ok(integer) => Some(integer.get()),
@@ -110,26 +109,39 @@ fn float(width: u8, bits: u64) -> Option<(u8, u64)> {
     }
 }
 
-#[test]
-fn numbers_have_their_ranges(rt: HostRuntime) {
+fn assert_integers(rt: &impl Abort) {
     for value in [-18446744073709551616, -1, 0, 18446744073709551615] {
         assert_eq!(rt; integer(value), Some(value));
     }
     for value in [-18446744073709551617, 18446744073709551616] {
         assert_eq!(rt; integer(value), None);
     }
+}
+
+fn assert_simple_values(rt: &impl Abort) {
     for value in [0, 19, 32, 255] {
         assert_eq!(rt; simple(value), Some(value));
     }
     for value in [20, 23, 24, 31] {
         assert_eq!(rt; simple(value), None);
     }
+}
+
+fn assert_floats(rt: &impl Abort) {
     for (width, bits) in [(2, 0xffff), (4, 0xffff_ffff), (8, 0xffff_ffff_ffff_ffff)] {
         assert_eq!(rt; float(width, bits), Some((width, bits)));
     }
     for (width, bits) in [(2, 0x1_0000), (4, 0x1_0000_0000), (3, 0), (0, 0), (16, 0)] {
         assert_eq!(rt; float(width, bits), None);
     }
+}
+
+// RFC 8949, sections 3.1 and 3.3.
+#[test]
+fn numbers_have_their_ranges(rt: HostRuntime) {
+    assert_integers(&rt);
+    assert_simple_values(&rt);
+    assert_floats(&rt);
     assert_eq!(rt;
         Integer::new(1 << 64),
         Err(CborError::OutOfRangeIntegerValue)

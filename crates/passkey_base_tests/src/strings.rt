@@ -83,65 +83,85 @@ fn copied_bytes(rt: &(impl Abort + AllocGlobal), spelled: &[u8]) -> Vec<u8> {
     token.copy(rt.alloc(), &mut cursor).expect(rt, "memory")
 }
 
+// A look at the names, which takes at most so many heads again.
+fn check_names(rt: &impl Abort, spelled: &[u8], whole: &str, place: Option<usize>, heads: u128) {
+    let mut cursor = Cursor::new(spelled);
+    let token = cursor.text().expect(rt, "a text");
+    let passed = cursor.count().heads;
+    check(rt, passed <= spelled.len() as u128, "heads", spelled);
+    check(
+        rt,
+        token.name_of(NAMES, &mut cursor) == place,
+        "place of the name",
+        spelled,
+    );
+    check(
+        rt,
+        cursor.count().heads.saturating_sub(passed) <= heads,
+        "heads again",
+        spelled,
+    );
+    check(rt, token.eq_name(whole, &mut cursor), "own name", spelled);
+    check(rt, cursor.place() == spelled.len(), "place", spelled);
+}
+
+fn check_lent(rt: &impl Abort, spelled: &[u8], lent: Option<&str>) {
+    let mut cursor = Cursor::new(spelled);
+    let token = cursor.text().expect(rt, "a text");
+    check(rt, token.lent() == lent, "lent", spelled);
+    check(
+        rt,
+        !token.eq_name("rpIe", &mut cursor),
+        "other name",
+        spelled,
+    );
+}
+
 #[test]
 fn texts_are_lent(rt: HostRuntime) {
     for (spelled, lent, whole, place, heads) in TEXTS {
-        let mut cursor = Cursor::new(spelled);
-        let token = cursor.text().expect(&rt, "a text");
-        let passed = cursor.count().heads;
-        check(&rt, passed <= spelled.len() as u128, "heads", spelled);
-        check(&rt, token.lent() == *lent, "lent", spelled);
-        check(
-            &rt,
-            token.name_of(NAMES, &mut cursor) == *place,
-            "place of the name",
-            spelled,
-        );
-        check(
-            &rt,
-            cursor.count().heads.saturating_sub(passed) <= *heads,
-            "heads again",
-            spelled,
-        );
-        check(&rt, token.eq_name(whole, &mut cursor), "own name", spelled);
-        check(
-            &rt,
-            !token.eq_name("rpIe", &mut cursor),
-            "other name",
-            spelled,
-        );
-        check(&rt, cursor.place() == spelled.len(), "place", spelled);
+        check_names(&rt, spelled, whole, *place, *heads);
+        check_lent(&rt, spelled, *lent);
         assert_same(&rt, copied_text(&rt, spelled).as_str(), whole);
     }
+}
+
+fn check_names_of_bytes(rt: &impl Abort, spelled: &[u8], place: Option<usize>, heads: u128) {
+    let mut cursor = Cursor::new(spelled);
+    let token = cursor.bytes().expect(rt, "a byte string");
+    let passed = cursor.count().heads;
+    check(rt, passed <= spelled.len() as u128, "heads", spelled);
+    check(
+        rt,
+        token.name_of(NAMES, &mut cursor) == place,
+        "place of the name",
+        spelled,
+    );
+    check(
+        rt,
+        cursor.count().heads.saturating_sub(passed) <= heads,
+        "heads again",
+        spelled,
+    );
+    check(
+        rt,
+        token.eq_name("rpId", &mut cursor) == (place == Some(2)),
+        "name",
+        spelled,
+    );
+    check(rt, cursor.place() == spelled.len(), "place", spelled);
+}
+
+fn check_lent_bytes(rt: &impl Abort, spelled: &[u8], lent: Option<&[u8]>) {
+    let token = Cursor::new(spelled).bytes().expect(rt, "a byte string");
+    check(rt, token.lent() == lent, "lent", spelled);
 }
 
 #[test]
 fn byte_strings_are_lent(rt: HostRuntime) {
     for (spelled, lent, whole, place, heads) in BYTE_STRINGS {
-        let mut cursor = Cursor::new(spelled);
-        let token = cursor.bytes().expect(&rt, "a byte string");
-        let passed = cursor.count().heads;
-        check(&rt, passed <= spelled.len() as u128, "heads", spelled);
-        check(&rt, token.lent() == *lent, "lent", spelled);
-        check(
-            &rt,
-            token.name_of(NAMES, &mut cursor) == *place,
-            "place of the name",
-            spelled,
-        );
-        check(
-            &rt,
-            cursor.count().heads.saturating_sub(passed) <= *heads,
-            "heads again",
-            spelled,
-        );
-        check(
-            &rt,
-            token.eq_name("rpId", &mut cursor) == (*place == Some(2)),
-            "name",
-            spelled,
-        );
-        check(&rt, cursor.place() == spelled.len(), "place", spelled);
+        check_names_of_bytes(&rt, spelled, *place, *heads);
+        check_lent_bytes(&rt, spelled, *lent);
         assert_same_bytes(&rt, copied_bytes(&rt, spelled).as_slice(), whole);
     }
 }
