@@ -2,8 +2,6 @@
 #![tactic(auto)]
 
 #[cfg(test)]
-mod example;
-#[cfg(test)]
 mod extensions;
 #[cfg(test)]
 mod get_assertion;

@@ -14,3 +14,6 @@ pub fn verifies_users(alloc: Global, told: &[u8]) -> Result<bool, Fault> {
         None => Ok(false),
     }
 }
+
+#[cfg(test)]
+mod tests;
