@@ -1,12 +1,12 @@
 //! Strings that a cursor lends (RFC 8949, sections 3.1 and 3.2.3).
 use crate::checks::{assert_same, assert_same_bytes, check};
-use passkey_cbor::Cursor;
+use passkey_cbor::{Count, Cursor};
 use std::process::Abort;
 
 const NAMES: &[&str] = &["r", "rp", "rpId", "", "rpIds", "rpId", ""];
 
 /// Texts as they are spelled, the text of those in one piece, the whole text, its first place among the names, and how
-/// many heads one look at its chunks decodes at most.
+/// many heads one look for the names decodes.
 const TEXTS: &[(&[u8], Option<&str>, &str, Option<usize>, u128)] = &[
     (
         &[0x64, 0x72, 0x70, 0x49, 0x64],
@@ -48,7 +48,7 @@ const TEXTS: &[(&[u8], Option<&str>, &str, Option<usize>, u128)] = &[
         None,
         3,
     ),
-    (&[0x7f, 0x61, 0x78, 0x61, 0x72, 0xff], None, "xr", None, 3),
+    (&[0x7f, 0x61, 0x78, 0x61, 0x72, 0xff], None, "xr", None, 1),
 ];
 
 /// The same of byte strings.
@@ -83,7 +83,7 @@ fn copied_bytes(rt: &(impl Abort + AllocGlobal), spelled: &[u8]) -> Vec<u8> {
     token.copy(rt.alloc(), &mut cursor).expect(rt, "memory")
 }
 
-// A look at the names, which takes at most so many heads again.
+// A look for the names, which takes so many heads again.
 fn check_names(rt: &impl Abort, spelled: &[u8], whole: &str, place: Option<usize>, heads: u128) {
     let mut cursor = Cursor::new(spelled);
     let token = cursor.text().expect(rt, "a text");
@@ -97,7 +97,7 @@ fn check_names(rt: &impl Abort, spelled: &[u8], whole: &str, place: Option<usize
     );
     check(
         rt,
-        cursor.count().heads.saturating_sub(passed) <= heads,
+        cursor.count().heads.saturating_sub(passed) == heads,
         "heads again",
         spelled,
     );
@@ -139,7 +139,7 @@ fn check_names_of_bytes(rt: &impl Abort, spelled: &[u8], place: Option<usize>, h
     );
     check(
         rt,
-        cursor.count().heads.saturating_sub(passed) <= heads,
+        cursor.count().heads.saturating_sub(passed) == heads,
         "heads again",
         spelled,
     );
@@ -199,6 +199,94 @@ fn other_items_are_not_lent(rt: HostRuntime) {
             Cursor::new(bytes).bytes().is_some() == is_byte_string,
             "byte string",
             bytes,
+        );
+    }
+}
+
+fn heads_of_copy(rt: &(impl Abort + AllocGlobal), spelled: &[u8]) -> u128 {
+    let mut cursor = Cursor::new(spelled);
+    let token = cursor.bytes().expect(rt, "a byte string");
+    let passed = cursor.count().heads;
+    let _copy = token.copy(rt.alloc(), &mut cursor).expect(rt, "memory");
+    cursor.count().heads.saturating_sub(passed)
+}
+
+// A copy looks at each chunk's head and at the break.
+#[test]
+fn copies_count_each_chunk(rt: HostRuntime) {
+    let cases: [(&[u8], u128); 4] = [
+        (&[0x44, 0x72, 0x70, 0x49, 0x64], 0),
+        (&[0x5f, 0xff], 1),
+        (&[0x5f, 0x42, 0x72, 0x70, 0x42, 0x49, 0x64, 0xff], 3),
+        (&[0x5f, 0x40, 0x41, 0x78, 0x40, 0xff], 4),
+    ];
+    for (bytes, heads) in cases {
+        check(&rt, heads_of_copy(&rt, bytes) == heads, "heads", bytes);
+    }
+}
+
+// Byte strings as they are spelled, their bytes, and how many heads it takes to put these into a slice.
+#[test]
+fn slices_are_filled(rt: HostRuntime) {
+    let cases: [(&[u8], &[u8], u128); 4] = [
+        (&[0x44, 0x72, 0x70, 0x49, 0x64], b"rpId", 0),
+        (
+            &[0x5f, 0x42, 0x72, 0x70, 0x42, 0x49, 0x64, 0xff],
+            b"rpId",
+            3,
+        ),
+        (
+            &[0x5f, 0x40, 0x41, 0x72, 0x40, 0x43, 0x70, 0x49, 0x64, 0xff],
+            b"rpId",
+            5,
+        ),
+        (&[0x5f, 0x41, 0x72, 0xff], b"r", 2),
+    ];
+    for (spelled, wanted, heads) in cases {
+        let mut cursor = Cursor::new(spelled);
+        let token = cursor.bytes().expect(&rt, "a byte string");
+        let passed = cursor.count().heads;
+        let mut four = [9; 4];
+        let is_filled = token.fill(&mut cursor, &mut four);
+        check(&rt, is_filled == (wanted.len() == 4), "filled", spelled);
+        check(
+            &rt,
+            if is_filled {
+                four == *wanted
+            } else {
+                four == [9; 4]
+            },
+            "slice",
+            spelled,
+        );
+        let looked = cursor.count().heads.saturating_sub(passed);
+        check(
+            &rt,
+            looked == if is_filled { heads } else { 0 },
+            "heads",
+            spelled,
+        );
+    }
+}
+
+// One head is decoded where another item stands, whatever follows it.
+#[test]
+fn other_items_take_one_head(rt: HostRuntime) {
+    let mut bytes = [0; 1001];
+    for first in [0x01, 0x82, 0xf6] {
+        bytes[0] = first;
+        let mut cursor = Cursor::new(&bytes);
+        check(
+            &rt,
+            cursor.text().is_none() && cursor.bytes().is_none(),
+            "no string",
+            &bytes,
+        );
+        check(
+            &rt,
+            cursor.count() == Count { heads: 2, nodes: 0 },
+            "heads",
+            &bytes,
         );
     }
 }

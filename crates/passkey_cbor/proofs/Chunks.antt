@@ -1,19 +1,21 @@
 -- The chunks of a string, joined.
-use Rattle.std.proofs.Common.{◌≡◌, ℕ, ◌+◌, ◌<◌, ◌≤◌, Bool, true, false, List, [], ◌∷◌, ◌++◌, length, Option, Some, None, Ok, Err, refl, sym, ap, subst, ◌∙◌, append_assoc, arith}
+use Rattle.std.proofs.Common.{◌≡◌, ℕ, suc, ◌+◌, ◌<◌, ◌≤◌, Bool, true, false, cond, List, [], ◌∷◌, ◌++◌, length, Option, Some, None, Ok, Err, refl, sym, ap, subst, ◌∙◌, append_assoc, zero-add, arith}
 use Rattle.std.proofs.Common.{Vec, Global}
 use Rattle.std.specs.List.{concat}
-use Rattle.std.proofs.lemmas.List.{append-nil, length-append}
+use Rattle.std.proofs.lemmas.List.{append-nil, length-append, length-drop}
 use Rattle.std.proofs.lemmas.Str.{IsUtf8-nil, IsUtf8-append, IsUtf8-from_is_utf8, is_utf8-from_IsUtf8}
 use Rattle.passkey_cbor.specs.Reading.{chunk, may_stand, step_at, list_at, string_at}
-use Rattle.passkey_cbor.specs.Walk.{Walk, ahead, raised, IsInside}
-use Rattle.passkey_cbor.specs.Steps.{NoHead, ElementRead, EndRead, PieceRead, CountsChunks}
+use Rattle.passkey_cbor.specs.Walk.{Walk, ahead, raised, break_heads, IsInside}
+use Rattle.passkey_cbor.specs.Steps.{NoHead, PassesOver, ElementRead, EndRead, PieceRead, IsLengthOf, CountsAll, CountsSome, CountsSought}
+use Rattle.passkey_cbor.specs.Names.{begins_one, heads_until}
 use Rattle.passkey_cbor.specs.Building.{IsNotEmpty, total, some_bytes, Went, Makes}
 use Rattle.passkey_cbor.specs.declared.head.Head.{Head}
 use Rattle.passkey_cbor.specs.declared.error.CborError.TheVariants as error
 use Rattle.passkey_cbor.proofs.Binds.{some_is, none_is_some, bind_some}
-use Rattle.passkey_cbor.proofs.Behind.{string_chunks}
-use Rattle.passkey_cbor.proofs.Shrinking.{list_left, chunk_left}
-use Rattle.passkey_cbor.proofs.Gathering.{went_then, went_passed, went_stopped, passed_heads, Gathers, gathers_start, gathers_nothing, gathers_end, Here, gathers_here, gathers_on}
+use Rattle.passkey_cbor.proofs.Behind.{string_chunks, made_skipped}
+use Rattle.passkey_cbor.proofs.Shrinking.{list_left, chunk_left, chunk_size}
+use Rattle.passkey_cbor.proofs.Skipping.{Goes, goes_start, goes_on}
+use Rattle.passkey_cbor.proofs.Gathering.{went_then, went_passed, went_stopped, passed_heads, raised-le, raised-raised, Gathers, gathers_start, gathers_nothing, gathers_end, Here, gathers_here, gathers_on}
 
 -- what was copied of the chunks; a chunk makes no item
 abbrev pub no_nodes : List ℕ → ℕ
@@ -23,10 +25,10 @@ total-no_nodes : (chunks : List (List ℕ)) → total no_nodes chunks ≡ 0
 total-no_nodes [] = refl
 total-no_nodes (c ∷ chunks) = omega (arith, total-no_nodes chunks)
 
--- Those so far join to the bytes, and each counted at most one head.
+-- Those so far join to the bytes, and each counted one head.
 pub record Collected (old now : Walk) (bytes : List ℕ) (chunks : List (List ℕ)) : Type 0 where
   pub joined : concat chunks ≡ bytes
-  pub heads : now.heads ≤ old.heads + length chunks
+  pub heads : now.heads ≡ raised old.heads (length chunks)
 
 -- What a loop over chunks keeps.
 abbrev pub Collects : Bool → Option ℕ → Walk → Walk → List ℕ → Type 0
@@ -47,6 +49,10 @@ pub concat-push : (chunks : List (List ℕ)) (s : List ℕ) → concat (chunks +
 concat-push [] s = append-nil s
 concat-push (c ∷ chunks) s = ap (λ (t : List ℕ). c ++ t) (concat-push chunks s) ∙ sym (append_assoc c (concat chunks) s)
 
+pub concat-append : (xs ys : List (List ℕ)) → concat (xs ++ ys) ≡ concat xs ++ concat ys
+concat-append [] ys = refl
+concat-append (x ∷ xs) ys = ap (λ (t : List ℕ). x ++ t) (concat-append xs ys) ∙ sym (append_assoc x (concat xs) (concat ys))
+
 -- one that isn't empty makes the whole not empty
 concat-not_empty : (chunks others : List (List ℕ)) (s : List ℕ) → 0 < length s → IsNotEmpty (concat (chunks ++ s ∷ others))
 concat-not_empty [] others [] some = absurd (omega arith)
@@ -57,7 +63,16 @@ concat-not_empty ((b ∷ c) ∷ chunks) others s some = tt
 -- ---- what the loop answers, by what it keeps
 
 pub collects_start : (is_text : Bool) (a : Walk) (bytes : List ℕ) → IsInside a → bytes ≡ [] → Collects is_text None a a bytes
-collects_start is_text a bytes inside none = gathers_start (chunk is_text) no_nodes None a (Collected a a bytes) inside (record { joined = sym none; heads = omega arith })
+collects_start is_text a bytes inside none = gathers_start (chunk is_text) no_nodes None a (Collected a a bytes) inside (record { joined = sym none; heads = refl })
+
+-- one more chunk
+collected_on : (a b c d : Walk) (bytes more s x : List ℕ) (before : List (List ℕ)) → Collected a b bytes before → c.heads ≡ raised b.heads 1 → d.heads ≡ c.heads → more ≡ bytes ++ s → s ≡ x → Collected a d more (before ++ x ∷ [])
+collected_on a b c d bytes more s x before done counted uncounted pushed x_is =
+    let one_more : length before + 1 ≡ length (before ++ x ∷ []) = omega (arith, length-append before (x ∷ [])) in
+    record {
+      joined = concat-push before x ∙ ap (λ (t : List ℕ). t ++ x) done.joined ∙ ap (λ (t : List ℕ). bytes ++ t) (sym x_is) ∙ sym pushed;
+      heads = uncounted ∙ counted ∙ ap (λ (n : ℕ). raised n 1) done.heads ∙ raised-raised a.heads (length before) 1 ∙ ap (raised a.heads) one_more;
+    }
 
 pub collects_on : (is_text : Bool) (left after : Option ℕ) (a b c d : Walk) (h : Head) (bytes more s : List ℕ) → Collects is_text left a b bytes → ElementRead left after b c h → PieceRead is_text (chunk is_text h (ahead c)) c d s → more ≡ bytes ++ s → Collects is_text after a d more
 collects_on is_text left after a b c d h bytes more s g n p pushed =
@@ -66,10 +81,7 @@ collects_on is_text left after a b c d h bytes more s g n p pushed =
     let x_is : s ≡ x = ap (λ (q : List ℕ × List ℕ). q.0) same in
     let rest_is : ahead d ≡ u = ap (λ (q : List ℕ × List ℕ). q.1) same in
     record {
-      more = record {
-        joined = concat-push before x ∙ ap (λ (t : List ℕ). t ++ x) done.joined ∙ ap (λ (t : List ℕ). bytes ++ t) (sym x_is) ∙ sym pushed;
-        heads = omega (arith, done.heads, n.counted, p.uncounted, length-append before (x ∷ []));
-      };
+      more = collected_on a b c d bytes more s x before done n.counted p.uncounted pushed x_is;
       rest_is = rest_is;
       nodes = p.passed.nodes;
       heads = omega (arith, passed_heads c d p.passed, ap length rest_is);
@@ -138,27 +150,153 @@ collects_end is_text left a b c v g n = record {
 
 -- ---- how many heads the loop counted, by what it keeps
 
-pub counts_no_step : (is_text : Bool) (left : Option ℕ) (a b c : Walk) (bytes : List ℕ) → Collects is_text left a b bytes → NoHead (step_at left (ahead b)) b c → 0 < c.heads → CountsChunks is_text a c
-counts_no_step is_text left a b c bytes g n some = record { some = some; heads = λ chunks rest e. absurd (gathers_nothing (chunk is_text) no_nodes None left a b c (Collected a b bytes) g n chunks rest e) }
+pub counts_no_step : (is_text : Bool) (left : Option ℕ) (a b c : Walk) (bytes : List ℕ) → Collects is_text left a b bytes → NoHead (step_at left (ahead b)) b c → c.heads ≡ raised b.heads 1 → CountsSome is_text a c
+counts_no_step is_text left a b c bytes g n one = record {
+  least = omega (arith, g.went.heads, one);
+  heads = λ chunks rest e. absurd (gathers_nothing (chunk is_text) no_nodes None left a b c (Collected a b bytes) g n chunks rest e);
+}
 
-pub counts_no_chunk : (is_text : Bool) (left after : Option ℕ) (a b c d : Walk) (h : Head) (bytes : List ℕ) → Collects is_text left a b bytes → ElementRead left after b c h → NoHead (chunk is_text h (ahead c)) c d → 0 < d.heads → CountsChunks is_text a d
-counts_no_chunk is_text left after a b c d h bytes g n none some = record {
-  some = some;
+pub counts_no_chunk : (is_text : Bool) (left after : Option ℕ) (a b c d : Walk) (h : Head) (bytes : List ℕ) → Collects is_text left a b bytes → ElementRead left after b c h → NoHead (chunk is_text h (ahead c)) c d → d.heads ≡ c.heads → CountsSome is_text a d
+counts_no_chunk is_text left after a b c d h bytes g n none uncounted = record {
+  least = omega (arith, g.went.heads, n.counted, uncounted);
   heads = λ chunks rest e.
       let r = gathers_here (chunk is_text) no_nodes None left after a b c h (Collected a b bytes) g n chunks rest e in
       absurd (none_is_some (r.first, r.middle) (sym none.reads ∙ r.one));
 }
 
-pub counts_here : (is_text : Bool) (left after : Option ℕ) (a b c d : Walk) (h : Head) (bytes s : List ℕ) → Collects is_text left a b bytes → ElementRead left after b c h → PieceRead is_text (chunk is_text h (ahead c)) c d s → 0 < d.heads → CountsChunks is_text a d
-counts_here is_text left after a b c d h bytes s g n p some = record {
-  some = some;
+pub counts_here : (is_text : Bool) (left after : Option ℕ) (a b c d : Walk) (h : Head) (bytes s : List ℕ) → Collects is_text left a b bytes → ElementRead left after b c h → PieceRead is_text (chunk is_text h (ahead c)) c d s → CountsSome is_text a d
+counts_here is_text left after a b c d h bytes s g n p = record {
+  least = omega (arith, g.went.heads, n.counted, p.uncounted);
   heads = λ chunks rest e.
       let r = gathers_here (chunk is_text) no_nodes None left after a b c h (Collected a b bytes) g n chunks rest e in
-      omega (arith, r.done.heads, n.counted, p.uncounted, ap length r.whole, length-append r.before (r.first ∷ r.others));
+      omega (arith, r.done.heads, raised-le a.heads (length r.before), n.counted, p.uncounted, ap length r.whole, length-append r.before (r.first ∷ r.others));
 }
 
-pub counts_end : (is_text : Bool) (left : Option ℕ) (a b c : Walk) (bytes : List ℕ) → Collects is_text left a b bytes → EndRead left b c → 0 < c.heads → CountsChunks is_text a c
-counts_end is_text left a b c bytes g n some = record {
-  some = some;
-  heads = λ chunks rest e. omega (arith, (gathers_end (chunk is_text) no_nodes None left a b c (Collected a b bytes) g n chunks rest e).done.heads, n.counted);
+-- a break was read behind these
+ends_counted : (left : Option ℕ) (a b c : Walk) (k : ℕ) → left ≡ None → b.heads ≡ raised a.heads k → EndRead left b c → c.heads ≡ raised a.heads (k + 1)
+ends_counted left a b c k unknown heads n =
+    n.counted ∙ ap (λ (l : Option ℕ). raised b.heads (break_heads l)) unknown ∙ ap (λ (i : ℕ). raised i 1) heads ∙ raised-raised a.heads k 1
+
+pub counts_end : (is_text : Bool) (left : Option ℕ) (a b c : Walk) (bytes : List ℕ) → left ≡ None → Collects is_text left a b bytes → EndRead left b c → CountsAll is_text a c
+counts_end is_text left a b c bytes unknown g n chunks rest e =
+    let r = g.goes chunks rest e in
+    let k = gathers_end (chunk is_text) no_nodes None left a b c (Collected a b bytes) g n chunks rest e in
+    ends_counted left a b c (length chunks) unknown k.done.heads n
+
+-- ---- looking for names, as long as one of them begins so
+
+-- Those so far are what the look at all of them begins with.
+pub record Sought (names : List (List ℕ)) (old now : Walk) (bytes : List ℕ) (chunks : List (List ℕ)) : Type 0 where
+  pub collected : Collected old now bytes chunks
+  pub until : (others : List (List ℕ)) → heads_until names [] (chunks ++ others) ≡ length chunks + heads_until names bytes others
+
+-- What a loop over chunks keeps that looks for names.
+abbrev pub Seeks : Bool → List (List ℕ) → Option ℕ → Walk → Walk → List ℕ → Type 0
+Seeks is_text names left old now bytes = Gathers (chunk is_text) no_nodes None left old now (Sought names old now bytes)
+
+pub seeks_collects : (is_text : Bool) (names : List (List ℕ)) (left : Option ℕ) (a b : Walk) (bytes : List ℕ) → Seeks is_text names left a b bytes → Collects is_text left a b bytes
+seeks_collects is_text names left a b bytes g = record {
+  went = g.went;
+  goes = λ xs rest e.
+      let r = g.goes xs rest e in
+      record { before = r.before; done = r.done.collected; others = r.others; fuel = r.fuel; reads = r.reads; whole = r.whole; nodes = r.nodes; heads = r.heads };
 }
+
+pub seeks_start : (is_text : Bool) (names : List (List ℕ)) (a : Walk) (bytes : List ℕ) → IsInside a → bytes ≡ [] → Seeks is_text names None a a bytes
+seeks_start is_text names a bytes inside none =
+    gathers_start (chunk is_text) no_nodes None a (Sought names a a bytes) inside (record {
+      collected = record { joined = sym none; heads = refl };
+      until = λ others. ap (λ (t : List ℕ). heads_until names t others) (sym none) ∙ sym (zero-add (heads_until names bytes others));
+    })
+
+pub seeks_on : (is_text : Bool) (names : List (List ℕ)) (left after : Option ℕ) (a b c d : Walk) (h : Head) (bytes more s : List ℕ) → Seeks is_text names left a b bytes → ElementRead left after b c h → PieceRead is_text (chunk is_text h (ahead c)) c d s → more ≡ bytes ++ s → begins_one (bytes ++ s) names ≡ true → Seeks is_text names after a d more
+seeks_on is_text names left after a b c d h bytes more s g n p pushed begins =
+    gathers_on (chunk is_text) no_nodes None left after a b c d h (Sought names a b bytes) (Sought names a d more) g n (went_passed c d p.passed) (λ before x u done one.
+    let same = some_is (s, ahead d) (x, u) (sym p.reads ∙ one) in
+    let x_is : s ≡ x = ap (λ (q : List ℕ × List ℕ). q.0) same in
+    let rest_is : ahead d ≡ u = ap (λ (q : List ℕ × List ℕ). q.1) same in
+    let more_is : bytes ++ x ≡ more = ap (λ (t : List ℕ). bytes ++ t) (sym x_is) ∙ sym pushed in
+    let goes_on : begins_one (bytes ++ x) names ≡ true = ap (λ (t : List ℕ). begins_one (bytes ++ t) names) (sym x_is) ∙ begins in
+    record {
+      more = record {
+        collected = collected_on a b c d bytes more s x before done.collected n.counted p.uncounted pushed x_is;
+        until = λ others.
+            let behind : heads_until names bytes (x ∷ others) ≡ suc (heads_until names more others) =
+            ap (λ (t : Bool). suc (cond t (heads_until names (bytes ++ x) others) 0)) goes_on ∙ ap (λ (t : List ℕ). suc (heads_until names t others)) more_is in
+            ap (heads_until names []) (append_assoc before (x ∷ []) others) ∙ done.until (x ∷ others) ∙ omega (arith, behind, length-append before (x ∷ []));
+      };
+      rest_is = rest_is;
+      nodes = p.passed.nodes;
+      heads = omega (arith, passed_heads c d p.passed, ap length rest_is);
+    })
+
+pub sought_no_step : (is_text : Bool) (names : List (List ℕ)) (left : Option ℕ) (a b c : Walk) (bytes : List ℕ) → Seeks is_text names left a b bytes → NoHead (step_at left (ahead b)) b c → CountsSought is_text names a c
+sought_no_step is_text names left a b c bytes g n chunks rest e = absurd (gathers_nothing (chunk is_text) no_nodes None left a b c (Sought names a b bytes) g n chunks rest e)
+
+pub sought_no_chunk : (is_text : Bool) (names : List (List ℕ)) (left after : Option ℕ) (a b c d : Walk) (h : Head) (bytes : List ℕ) → Seeks is_text names left a b bytes → ElementRead left after b c h → NoHead (chunk is_text h (ahead c)) c d → CountsSought is_text names a d
+sought_no_chunk is_text names left after a b c d h bytes g n none chunks rest e =
+    let r = gathers_here (chunk is_text) no_nodes None left after a b c h (Sought names a b bytes) g n chunks rest e in
+    absurd (none_is_some (r.first, r.middle) (sym none.reads ∙ r.one))
+
+-- no name begins as they do, so far
+pub sought_stops : (is_text : Bool) (names : List (List ℕ)) (left after : Option ℕ) (a b c d : Walk) (h : Head) (bytes s : List ℕ) → Seeks is_text names left a b bytes → ElementRead left after b c h → PieceRead is_text (chunk is_text h (ahead c)) c d s → begins_one (bytes ++ s) names ≡ false → CountsSought is_text names a d
+sought_stops is_text names left after a b c d h bytes s g n p none chunks rest e =
+    let r = gathers_here (chunk is_text) no_nodes None left after a b c h (Sought names a b bytes) g n chunks rest e in
+    let x_is : s ≡ r.first = ap (λ (q : List ℕ × List ℕ). q.0) (some_is (s, ahead d) (r.first, r.middle) (sym p.reads ∙ r.one)) in
+    let stops : begins_one (bytes ++ r.first) names ≡ false = ap (λ (t : List ℕ). begins_one (bytes ++ t) names) (sym x_is) ∙ none in
+    let behind : heads_until names bytes (r.first ∷ r.others) ≡ 1 = ap (λ (t : Bool). suc (cond t (heads_until names (bytes ++ r.first) r.others) 0)) stops in
+    let sum : length r.before + 1 ≡ heads_until names [] chunks = omega (arith, behind, r.done.until (r.first ∷ r.others), ap (heads_until names []) r.whole) in
+    p.uncounted ∙ n.counted ∙ ap (λ (i : ℕ). raised i 1) r.done.collected.heads ∙ raised-raised a.heads (length r.before) 1 ∙ ap (raised a.heads) sum
+
+pub sought_end : (is_text : Bool) (names : List (List ℕ)) (left : Option ℕ) (a b c : Walk) (bytes : List ℕ) → left ≡ None → Seeks is_text names left a b bytes → EndRead left b c → CountsSought is_text names a c
+sought_end is_text names left a b c bytes unknown g n chunks rest e =
+    let k = gathers_end (chunk is_text) no_nodes None left a b c (Sought names a b bytes) g n chunks rest e in
+    let sum : length chunks + 1 ≡ heads_until names [] chunks = omega (arith, k.done.until [], ap (heads_until names []) (append-nil chunks)) in
+    ends_counted left a b c (length chunks) unknown k.done.collected.heads n ∙ ap (raised a.heads) sum
+
+-- ---- how many bytes they have together
+
+-- a chunk that was passed has no more bytes than were passed
+pub chunk_passed : (is_text : Bool) (c d : Walk) (h : Head) (s : List ℕ) → PieceRead is_text (chunk is_text h (ahead c)) c d s → length s + c.place ≤ d.place
+chunk_passed is_text c d h s p =
+    let long : length d.bytes ≡ length c.bytes = ap length p.passed.same in
+    omega (arith, long, chunk_size is_text h (ahead c) s (ahead d) p.reads, p.passed.forward, p.passed.within, length-drop c.place c.bytes, length-drop d.place d.bytes)
+
+-- What a loop over chunks keeps that passes them and adds their lengths.
+pub record Measures (is_text : Bool) (left : Option ℕ) (old now : Walk) (size : ℕ) : Type 0 where
+  pub goes : Goes (chunk is_text) None left old now
+  pub bytes : List ℕ
+  pub size_is : length bytes ≡ size
+  pub collects : Collects is_text left old now bytes
+  pub fits : size + old.place ≤ now.place
+
+-- the string that they are was passed, or none was
+pub chunks_passed : (is_text : Bool) (a b : Walk) → IsInside a → PassesOver (list_at (chunk is_text) None (ahead a)) a b → PassesOver (string_at is_text None (ahead a)) a b
+chunks_passed is_text a b inside p = made_skipped (list_at (chunk is_text) None (ahead a)) _ concat a b true inside (string_chunks is_text None (ahead a) refl) p
+
+pub chunks_missed : (is_text : Bool) (a b : Walk) → IsInside a → NoHead (list_at (chunk is_text) None (ahead a)) a b → NoHead (string_at is_text None (ahead a)) a b
+chunks_missed is_text a b inside n = made_skipped (list_at (chunk is_text) None (ahead a)) _ concat a b false inside (string_chunks is_text None (ahead a) refl) n
+
+pub measures_start : (is_text : Bool) (a : Walk) → IsInside a → Measures is_text None a a 0
+measures_start is_text a inside = record {
+  goes = goes_start (chunk is_text) None a inside;
+  bytes = [];
+  size_is = refl;
+  collects = collects_start is_text a [] inside refl;
+  fits = omega arith;
+}
+
+pub measures_on : (is_text : Bool) (left after : Option ℕ) (a b c d : Walk) (h : Head) (size : ℕ) (s : List ℕ) → Measures is_text left a b size → ElementRead left after b c h → PieceRead is_text (chunk is_text h (ahead c)) c d s → Measures is_text after a d (size + length s)
+measures_on is_text left after a b c d h size s m n p = record {
+  goes = goes_on (chunk is_text) None left after a b c d h m.goes n (record { value = s; reads = p.reads; passed = p.passed });
+  bytes = m.bytes ++ s;
+  size_is = omega (arith, length-append m.bytes s, m.size_is);
+  collects = collects_on is_text left after a b c d h m.bytes (m.bytes ++ s) s m.collects n p refl;
+  fits = omega (arith, m.fits, n.passed.forward, chunk_passed is_text c d h s p);
+}
+
+pub measured : (is_text : Bool) (left : Option ℕ) (a b c : Walk) (size : ℕ) → Measures is_text left a b size → EndRead left b c → IsLengthOf (string_at is_text None (ahead a)) size
+measured is_text left a b c size m n s rest e =
+    let cs = chunks_of is_text (ahead a) s rest e in
+    let k = gathers_end (chunk is_text) no_nodes None left a b c (Collected a b m.bytes) m.collects n cs.chunks rest cs.reads in
+    ap length (sym cs.joined ∙ k.done.joined) ∙ m.size_is

@@ -74,12 +74,18 @@ counted x rest a b c (Err f) e k =
     let up : b.nodes ≡ min (a.nodes + 1) (2 ^ 128 - 1) = ap (λ (w : Walk). w.nodes) e in
     fails_within a_counted_item an_item x x rest rest a b c f (λ t. t) (omega (arith, up, nodes-pos x)) k
 
-pub counted_once : (read : Read Item) (a b c : Walk) (result : Result Value CborError) → b ≡ one_more a → Makes a_counted_item read b c result → Makes an_item read a c result
-counted_once read a b c result e k =
+pub counted_once : (read : Read Item) (a b c : Walk) (result : Result Value CborError) → b ≡ one_more a → a.heads ≤ b.heads → a.nodes ≤ b.nodes → Makes a_counted_item read b c result → Makes an_item read a c result
+counted_once read a b c result e heads nodes k =
     let bytes_are : b.bytes ≡ a.bytes = ap (λ (w : Walk). w.bytes) e in
     let place_is : b.place ≡ a.place = ap (λ (w : Walk). w.place) e in
     record {
-      went = record { same = k.went.same ∙ bytes_are; within = k.went.within; forward = omega (arith, k.went.forward, place_is) };
+      went = record {
+        same = k.went.same ∙ bytes_are;
+        within = k.went.within;
+        forward = omega (arith, k.went.forward, place_is);
+        heads = omega (arith, k.went.heads, heads);
+        nodes = omega (arith, k.went.nodes, nodes);
+      };
       made = λ x rest f. counted x rest a b c result e (k.made x rest f);
       heads = λ x rest f. omega (arith, k.heads x rest f, ap (λ (w : Walk). w.heads) e, ap (λ (w : Walk). length (ahead w)) e);
     }

@@ -8,7 +8,7 @@ use Rattle.passkey_cbor.specs.Front.{max_depth, IsFront, HasNoFront}
 use Rattle.passkey_cbor.specs.FrontAt.{front_at, IsFrontOf}
 use Rattle.passkey_cbor.specs.Laws.{AtMostOneFront, NoShorterFront, FrontIsGiven, GivenIsFront}
 use Rattle.passkey_cbor.specs.Reading.{start, item_within}
-use Rattle.passkey_cbor.specs.Walk.{Walk, ahead, IsPlaced}
+use Rattle.passkey_cbor.specs.Walk.{Walk, ahead, raised, IsPlaced}
 use Rattle.passkey_cbor.specs.Steps.{NoHead, PassesOver}
 use Rattle.passkey_cbor.specs.Skipped.{PassesFront, FindsNoFront}
 use Rattle.passkey_cbor.proofs.Binds.{some_is, none_is_some}
@@ -77,8 +77,8 @@ no_shorter bytes x k j f lt y l g =
 
 -- ---- passing over the item ahead
 
-pub front_passed : (a b : Walk) → IsPlaced a.bytes a.place → PassesOver (start (item_within max_depth) (ahead a)) a b → PassesFront a b
-front_passed a b placed p =
+pub front_passed : (a b : Walk) → IsPlaced a.bytes a.place → raised a.heads 1 ≤ b.heads → PassesOver (start (item_within max_depth) (ahead a)) a b → PassesFront a b
+front_passed a b placed least p =
     let long : length b.bytes ≡ length a.bytes = ap length p.passed.same in
     let size : (b.place - a.place) + length (ahead b) ≡ length (ahead a) =
     omega (arith, long, p.passed.forward, p.passed.within, length-drop a.place a.bytes, length-drop b.place b.bytes) in
@@ -87,15 +87,17 @@ front_passed a b placed p =
       len = b.place - a.place;
       front = front_taken (ahead a) p.value (ahead b) (b.place - a.place) (IsBytes-drop a.place a.bytes placed.fits) size p.reads;
       place = omega (arith, p.passed.forward);
+      least = least;
       heads = omega (arith, p.passed.forward, p.passed.heads);
       nodes = p.passed.nodes;
       bytes = p.passed.same;
     }
 
-pub front_missed : (a b : Walk) (place : ℕ) → place ≡ a.place → NoHead (start (item_within max_depth) (ahead a)) a b → FindsNoFront a (record b { place = place })
-front_missed a b place back n = record {
+pub front_missed : (a b : Walk) (place : ℕ) → place ≡ a.place → raised a.heads 1 ≤ b.heads → NoHead (start (item_within max_depth) (ahead a)) a b → FindsNoFront a (record b { place = place })
+front_missed a b place back least n = record {
   none = no_front (ahead a) n.reads;
   place = back;
+  least = least;
   heads = n.stopped.heads;
   nodes = n.stopped.nodes;
   bytes = n.stopped.same;

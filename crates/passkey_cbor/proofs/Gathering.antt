@@ -16,16 +16,22 @@ use Rattle.passkey_cbor.proofs.Shrinking.{Shrinks, list_left}
 -- ---- where the cursor goes
 
 pub went_none : (a : Walk) → IsInside a → Went a a
-went_none a inside = record { same = refl; within = inside; forward = omega arith }
+went_none a inside = record { same = refl; within = inside; forward = omega arith; heads = omega arith; nodes = omega arith }
 
 pub went_passed : (a b : Walk) → Passed a b → Went a b
-went_passed a b p = record { same = p.same; within = p.within; forward = p.forward }
+went_passed a b p = record { same = p.same; within = p.within; forward = p.forward; heads = p.rises; nodes = omega (arith, p.nodes) }
 
 pub went_stopped : (a b : Walk) → Stopped a b → Went a b
-went_stopped a b p = record { same = p.same; within = p.within; forward = p.forward }
+went_stopped a b p = record { same = p.same; within = p.within; forward = p.forward; heads = p.rises; nodes = omega (arith, p.nodes) }
 
 pub went_then : (a b c : Walk) → Went a b → Went b c → Went a c
-went_then a b c p q = record { same = q.same ∙ p.same; within = q.within; forward = omega (arith, p.forward, q.forward) }
+went_then a b c p q = record {
+  same = q.same ∙ p.same;
+  within = q.within;
+  forward = omega (arith, p.forward, q.forward);
+  heads = omega (arith, p.heads, q.heads);
+  nodes = omega (arith, p.nodes, q.nodes);
+}
 
 -- at most one head for each byte that was passed
 pub passed_heads : (a b : Walk) → Passed a b → b.heads + length (ahead b) ≤ a.heads + length (ahead a)

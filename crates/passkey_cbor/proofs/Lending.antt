@@ -9,16 +9,20 @@ use Rattle.passkey_cbor.specs.Spelling.{Spells, Strings}
 use Rattle.passkey_cbor.specs.Front.{max_depth, IsFront}
 use Rattle.passkey_cbor.specs.HeadSpelling.{LengthHeads, SpellsHead}
 use Rattle.passkey_cbor.specs.Inside.{MayStand, major_type, Content}
-use Rattle.passkey_cbor.specs.Reading.{start, string_len, string_at, string_by}
-use Rattle.passkey_cbor.specs.Walk.{Walk, ahead, IsInside}
-use Rattle.passkey_cbor.specs.Steps.{PassesOver, RegionRead, ReadsString}
+use Rattle.passkey_cbor.specs.HeadReading.{head_at}
+use Rattle.passkey_cbor.specs.Reading.{start, string_len, string_at, string_by, item_within}
+use Rattle.passkey_cbor.specs.Walk.{Walk, ahead, raised, IsInside}
+use Rattle.passkey_cbor.specs.Steps.{NoHead, HeadRead, PassesOver, RegionRead, NoStringRead, ReadsString, IsLengthOf}
 use Rattle.passkey_cbor.specs.Found.{PassesHead}
-use Rattle.passkey_cbor.specs.Lent.{Region, string_item, string_head, PassesString, LendsString, LendsStanding}
+use Rattle.passkey_cbor.specs.Lent.{Region, string_item, string_head, PassesString, LendsString, LendsStanding, IsSized}
 use Rattle.passkey_cbor.specs.declared.head.Head.{Head}
 use Rattle.passkey_cbor.specs.declared.head.Head.TheVariants as head
-use Rattle.passkey_cbor.proofs.Binds.{some_is, none_is_some}
+use Rattle.passkey_cbor.proofs.Binds.{some_is, none_is_some, bind_at, bind_none}
 use Rattle.passkey_cbor.proofs.Strings.{starts, spells_string_head, string_head_spells, string_again, string_takes, string_headed, headed_string}
 use Rattle.passkey_cbor.proofs.Standing.{stands_front, only_one}
+use Rattle.passkey_cbor.proofs.Fronts.{front_again}
+use Rattle.passkey_cbor.proofs.Behind.{by_string}
+use Rattle.passkey_cbor.proofs.Skipping.{stopped_then}
 
 -- ---- strings as items
 
@@ -69,6 +73,10 @@ region_read is_text len a b region inside fits p is =
       passed = p.passed;
     }
 
+-- how many bytes the string of a region has
+pub region_sized : (is_text : Bool) (len : Option ℕ) (a b : Walk) (region : List ℕ) (size : ℕ) → RegionRead is_text len a b region → IsLengthOf (string_at is_text len (ahead a)) size → IsSized is_text (record { len = len; bytes = region }) size
+region_sized is_text len a b region size r sized s c = sized s (ahead b) (ap (string_at is_text len) r.parts ∙ string_again is_text len s region (ahead b) c)
+
 -- a string with its head
 pub string_read : (is_text : Bool) (len : Option ℕ) (a b c : Walk) (h : Head) (region : List ℕ) → IsInside a → PassesHead a b h → a.place < b.place → string_len is_text h ≡ Some len → RegionRead is_text len b c region → PassesString is_text a c (record { len = len; bytes = region })
 string_read is_text len a b c h region inside p further is r =
@@ -94,12 +102,31 @@ string_read is_text len a b c h region inside p further is r =
       headed = record { front = p.text; back = region; first = spelled; second = refl; whole = taken };
       tells = r.tells;
       place = place;
+      least = omega (arith, p.heads, r.passed.rises);
       heads = omega (arith, place, further, p.place, p.heads, r.passed.heads, r.passed.forward);
       nodes = r.passed.nodes ∙ p.nodes;
       bytes = r.passed.same ∙ p.bytes;
     }
 
 -- ---- where nothing was passed
+
+-- no head of such a string stands there, and one was decoded
+pub no_string_head : (is_text : Bool) (a b : Walk) → NoHead (start (string_by is_text) (ahead a)) a b → b.heads ≡ raised a.heads 1 → NoStringRead is_text a b
+no_string_head is_text a b n one = record { no_string = n; least = omega (arith, one); one = λ x rest e. one }
+
+-- one does, and the string isn't read: so no item is
+pub string_cut : (is_text : Bool) (len : Option ℕ) (a b c : Walk) (h : Head) → HeadRead a b h → string_len is_text h ≡ Some len → NoHead (string_at is_text len (ahead b)) b c → NoStringRead is_text a c
+string_cut is_text len a b c h r is n =
+    let head_is : h ≡ string_head is_text len = string_len-is is_text h len is in
+    let no_item : start (item_within max_depth) (ahead a) ≡ None = bind_at (head_at (ahead a)) (h, ahead b) (λ h. item_within max_depth h.0 h.1) r.reads ∙ by_string max_depth is_text len h (ahead b) head_is ∙ bind_none (string_at is_text len (ahead b)) (λ s. Some (string_item is_text s.0, s.1)) n.reads in
+    record {
+      no_string = record {
+        reads = bind_at (head_at (ahead a)) (h, ahead b) (λ h. string_by is_text h.0 h.1) r.reads ∙ ap (λ (g : Head). string_by is_text g (ahead b)) head_is ∙ string_by_head is_text len (ahead b) ∙ n.reads;
+        stopped = stopped_then a b c r.passed n.stopped;
+      };
+      least = omega (arith, r.counted, n.stopped.rises);
+      one = λ x rest e. absurd (none_is_some (x, rest) (sym no_item ∙ e));
+    }
 
 string_again_headed : (is_text : Bool) (bytes s : List ℕ) (k : ℕ) → IsFront bytes (string_item is_text s) k → start (string_by is_text) bytes ≡ Some (s, drop k bytes)
 string_again_headed is_text bytes s k f =
@@ -113,11 +140,13 @@ string_again_headed is_text bytes s k f =
 pub string_missed : {T : Type 0} (region : T → Region) (is_text : Bool) (a b : Walk) (place : ℕ) (found : Option T) → is_some found ≡ false → place ≡ a.place → ReadsString is_text a b (option_map region found) → LendsString is_text a (record b { place = place }) (option_map region found)
 string_missed region is_text a b place (Some r) none back n = absurd cc
 string_missed region is_text a b place None none back n = record {
-  none = λ s k f. none_is_some (s, drop k (ahead a)) (sym n.reads ∙ string_again_headed is_text (ahead a) s k f);
+  none = λ s k f. none_is_some (s, drop k (ahead a)) (sym n.no_string.reads ∙ string_again_headed is_text (ahead a) s k f);
   place = back;
-  heads = n.stopped.heads;
-  nodes = n.stopped.nodes;
-  bytes = n.stopped.same;
+  one = λ x k f. n.one x (drop k (ahead a)) (front_again (ahead a) x k f);
+  least = n.least;
+  heads = n.no_string.stopped.heads;
+  nodes = n.no_string.stopped.nodes;
+  bytes = n.no_string.stopped.same;
 }
 
 pub string_found : {T : Type 0} (region : T → Region) (is_text : Bool) (a b : Walk) (found : Option T) → is_some found ≡ true → ReadsString is_text a b (option_map region found) → LendsString is_text a b (option_map region found)
@@ -129,6 +158,6 @@ string_found region is_text a b None some p = absurd cc
 pub lends : (is_text : Bool) (a b : Walk) (found : Option Region) → LendsString is_text a b found → LendsStanding is_text a b found
 lends is_text a b (Some r) p x to l =
     let same = only_one x (string_item is_text p.content) a.bytes a.place to p.len l p.front in
-    (p.content, (sym same.0, record { tells = p.tells; place = omega (arith, p.place, same.1, l.forward); heads = omega (arith, p.heads, same.1, l.forward); nodes = p.nodes; bytes = p.bytes }))
+    (p.content, (sym same.0, record { tells = p.tells; place = omega (arith, p.place, same.1, l.forward); least = p.least; heads = omega (arith, p.heads, same.1, l.forward); nodes = p.nodes; bytes = p.bytes }))
 lends is_text a b None n x to l =
-    (λ s is. n.none s (to - a.place) (subst (λ (y : Item). IsFront (ahead a) y (to - a.place)) is (stands_front x a.bytes a.place to l)), record { place = n.place; heads = n.heads; nodes = n.nodes; bytes = n.bytes })
+    (λ s is. n.none s (to - a.place) (subst (λ (y : Item). IsFront (ahead a) y (to - a.place)) is (stands_front x a.bytes a.place to l)), record { place = n.place; heads = n.one x (to - a.place) (stands_front x a.bytes a.place to l); nodes = n.nodes; bytes = n.bytes })

@@ -5,6 +5,7 @@ pub mod HeadTakes
 pub mod Lists
 pub mod Strings
 pub mod Items
+pub mod Filling
 pub mod Fronts
 pub mod Walks
 pub mod Skipping

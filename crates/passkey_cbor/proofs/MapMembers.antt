@@ -109,7 +109,7 @@ pub gives : (before after : Option ℕ) (a m k v : Walk) (bytes : List ℕ) (key
     → k.bytes ≡ m.bytes → ((x : Item) (to : ℕ) → Stands x m.bytes m.place to → LendsItem x to m k key.now) → ((x : Item) (to : ℕ) → Stands x k.bytes k.place to → LendsItem x to k v value.now)
     → GivesNext (at bytes a.place before) (Some (key, value)) (at bytes v.place after)
 gives before after a m k v bytes key value same some w same_k lends_key lends_value =
-    let here : m.bytes ≡ bytes = w.looks.same ∙ same in
+    let here : m.bytes ≡ bytes = w.looks.bytes ∙ same in
     let stays : m.place ≡ a.place = w.looks.stays refl in
     record {
       some = some;

@@ -1,6 +1,7 @@
 -- A walk over the elements of a list that stands in bytes.
-use Rattle.std.proofs.Common.{◌≡◌, ℕ, ◌+◌, ◌-◌, ◌<◌, ◌≤◌, Bool, true, false, List, [], ◌∷◌, ◌++◌, length, drop, Option, Some, None, refl, sym, ap, subst, ◌∙◌, append_assoc, arith}
+use Rattle.std.proofs.Common.{◌≡◌, ℕ, ◌+◌, ◌-◌, ◌<◌, ◌≤◌, Bool, true, false, not, nat_lt, List, [], ◌∷◌, ◌++◌, length, drop, Option, Some, None, refl, sym, ap, subst, ◌∙◌, append_assoc, arith}
 use Rattle.std.proofs.lemmas.List.{length-append, length-drop, drop_at, drop-drop}
+use Rattle.std.proofs.lemmas.Bool.{lt-ltb, ne_eqb}
 use Rattle.passkey_cbor.specs.Item.{Item}
 use Rattle.passkey_cbor.specs.Languages.{Language, Is, Then}
 use Rattle.passkey_cbor.specs.Heads.{break}
@@ -8,9 +9,11 @@ use Rattle.passkey_cbor.specs.Front.{max_depth}
 use Rattle.passkey_cbor.specs.HeadReading.{head_at}
 use Rattle.passkey_cbor.specs.Reading.{Reader, is_break, pair_by, item_within}
 use Rattle.passkey_cbor.specs.Inside.{Within, PairWithin, Left}
-use Rattle.passkey_cbor.specs.Walk.{Walk, ahead, IsInside}
+use Rattle.passkey_cbor.specs.HeadSpelling.{SpellsHead}
+use Rattle.passkey_cbor.specs.Found.{PassesHead}
+use Rattle.passkey_cbor.specs.Walk.{Walk, ahead, raised, break_heads, IsInside, IsPlaced}
 use Rattle.passkey_cbor.specs.Steps.{HeadRead, NoHead}
-use Rattle.passkey_cbor.specs.Stands.{Lies, Next, Walks, Looks, WalksOn}
+use Rattle.passkey_cbor.specs.Stands.{Lies, Next, Walks, Looks, WalksOn, goes_on, left_after}
 use Rattle.passkey_cbor.specs.declared.head.Head.{Head}
 use Rattle.passkey_cbor.specs.declared.head.Head.TheVariants as head
 use Rattle.passkey_cbor.proofs.Binds.{some_is, none_is_some, bind_some}
@@ -18,6 +21,7 @@ use Rattle.passkey_cbor.proofs.HeadAgain.{head_again}
 use Rattle.passkey_cbor.proofs.Lists.{Follows}
 use Rattle.passkey_cbor.proofs.Items.{follows_item, follows_pair}
 use Rattle.passkey_cbor.proofs.Standing.{lies_size}
+use Rattle.passkey_cbor.proofs.Walks.{head_passed}
 
 -- ---- one after the other
 
@@ -130,41 +134,89 @@ follows_pairs : Follows (PairWithin max_depth) (pair_by (item_within max_depth))
 follows_pairs = follows_pair (Within max_depth) (item_within max_depth) follows_items
 
 -- both kinds of elements walk alike
-both_walk : (before after : Option ℕ) (a b : Walk) (found : Bool) → ((A : Type 0) (P : A → Language) (read : Reader A) → Follows P read → Walks P before after a b found) → Looks a b found → WalksOn before after a b found
+both_walk : (before after : Option ℕ) (a b : Walk) (found : Bool) → ((A : Type 0) (P : A → Language) (read : Reader A) → Follows P read → Walks P before after a b found) → Looks before after a b found → WalksOn before after a b found
 both_walk before after a b found walks looks = record {
   items = walks Item (Within max_depth) (item_within max_depth) follows_items;
   pairs = walks (Item × Item) (PairWithin max_depth) (pair_by (item_within max_depth)) follows_pairs;
   looks = looks;
 }
 
-stays_put : (a : Walk) (found : Bool) → IsInside a → Looks a a found
-stays_put a found inside = record { same = refl; within = inside; forward = omega arith; stays = λ e. refl; heads = omega arith; nodes = refl }
+-- so many are left, and the cursor stays
+known_looks : (n : ℕ) (a : Walk) (found : Bool) → IsInside a → found ≡ nat_lt 0 n → Looks (Some n) (left_after (Some n) found) a a found
+known_looks n a found inside is = record {
+  answer = is;
+  left = refl;
+  stays = λ e. refl;
+  passes = λ e. omega arith;
+  within = inside;
+  heads = refl;
+  nodes = refl;
+  bytes = refl;
+}
 
 pub none_left : (before : Option ℕ) (n : ℕ) (a : Walk) → IsInside a → before ≡ Some n → n ≡ 0 → WalksOn before before a a false
 none_left before n a inside is none =
-    both_walk before before a a false (λ A P read f xs to l. none_known P n xs a.bytes a.place to none (subst (λ (left : Option ℕ). Lies (Left P left xs) a.bytes a.place to) is l)) (stays_put a false inside)
+    both_walk before before a a false (λ A P read f xs to l. none_known P n xs a.bytes a.place to none (subst (λ (left : Option ℕ). Lies (Left P left xs) a.bytes a.place to) is l)) (subst (λ (left : Option ℕ). Looks left left a a false) (sym is) (known_looks n a false inside (sym (ap (nat_lt 0) none))))
 
 pub some_left : (before : Option ℕ) (n : ℕ) (a : Walk) → IsInside a → before ≡ Some n → 0 < n → WalksOn before (Some (n - 1)) a a true
 some_left before n a inside is some =
-    both_walk before (Some (n - 1)) a a true (λ A P read f xs to l. next_known P n xs a.bytes a.place to some (subst (λ (left : Option ℕ). Lies (Left P left xs) a.bytes a.place to) is l)) (stays_put a true inside)
+    both_walk before (Some (n - 1)) a a true (λ A P read f xs to l. next_known P n xs a.bytes a.place to some (subst (λ (left : Option ℕ). Lies (Left P left xs) a.bytes a.place to) is l)) (subst (λ (left : Option ℕ). Looks left (Some (n - 1)) a a true) (sym is) (known_looks n a true inside (sym (lt-ltb 0 n some))))
+
+-- ---- whether a break stands ahead
+
+break_head : (h : Head) → is_break h ≡ true → h ≡ head.Break
+break_head (head.Unsigned n) e = absurd cc
+break_head (head.Negative n) e = absurd cc
+break_head (head.Bytes len) e = absurd cc
+break_head (head.Text len) e = absurd cc
+break_head (head.Array len) e = absurd cc
+break_head (head.Map len) e = absurd cc
+break_head (head.Tag n) e = absurd cc
+break_head (head.Simple n) e = absurd cc
+break_head (head.Float f) e = absurd cc
+break_head head.Break e = refl
+
+break_read : (bytes : List ℕ) → head_at (break ∷ bytes) ≡ Some (head.Break, bytes)
+break_read bytes = head_again head.Break (break ∷ []) bytes refl
+
+-- no break stands there, as what is read shows
+no_break_ahead : (bytes : List ℕ) → ((rest : List ℕ) → head_at bytes ≡ Some (head.Break, rest) → ⊥) → goes_on None bytes ≡ true
+no_break_ahead [] none = refl
+no_break_ahead (b ∷ bytes) none = ap not (ne_eqb b break (λ (e : b ≡ break). none bytes (ap (λ (n : ℕ). head_at (n ∷ bytes)) e ∙ break_read bytes)))
+
+another_head : (bytes rest : List ℕ) (h : Head) (r : List ℕ) → head_at bytes ≡ Some (h, r) → is_break h ≡ false → head_at bytes ≡ Some (head.Break, rest) → ⊥
+another_head bytes rest h r e other f =
+    let same : head.Break ≡ h = ap (λ (q : Head × List ℕ). q.0) (some_is (head.Break, rest) (h, r) (sym f ∙ e)) in
+    not_both (is_break h) (ap is_break (sym same)) other where
+      not_both : (b : Bool) → b ≡ true → b ≡ false → ⊥
+      not_both b p q = absurd cc
+
+record BreakPassed (a b : Walk) : Type 0 where
+  pub ahead_is : goes_on None (ahead a) ≡ false
+  pub place : b.place ≡ a.place + 1
+
+break_passed : (a b : Walk) (h : Head) → is_break h ≡ true → PassesHead a b h → BreakPassed a b
+break_passed a b h ends p =
+    let text_is : p.text ≡ break ∷ [] = subst (λ (g : Head). SpellsHead g p.text) (break_head h ends) p.spelled in
+    record {
+      ahead_is = ap (goes_on None) (p.parts ∙ ap (λ (t : List ℕ). t ++ ahead b) text_is);
+      place = omega (arith, p.place, ap length text_is);
+    }
+
+looks_unknown : (before : Option ℕ) (a b : Walk) (found : Bool) → before ≡ None → found ≡ goes_on None (ahead a) → (found ≡ true → b.place ≡ a.place) → (found ≡ false → b.place ≡ a.place + 1) → b.place ≤ length b.bytes → b.heads ≡ raised a.heads 1 → b.nodes ≡ a.nodes → b.bytes ≡ a.bytes → Looks before before a b found
+looks_unknown before a b found is answer stays passes within heads nodes bytes = subst (λ (left : Option ℕ). Looks left left a b found) (sym is) (record { answer = answer; left = refl; stays = stays; passes = passes; within = within; heads = heads; nodes = nodes; bytes = bytes })
 
 -- a break stands there
-pub break_there : (before : Option ℕ) (a b : Walk) (h : Head) → before ≡ None → is_break h ≡ true → b.heads ≤ a.heads + 1 → HeadRead a b h → WalksOn before before a b false
-break_there before a b h is ends one r =
+pub break_there : (before : Option ℕ) (a b : Walk) (h : Head) → IsPlaced a.bytes a.place → before ≡ None → is_break h ≡ true → HeadRead a b h → WalksOn before before a b false
+break_there before a b h placed is ends r =
+    let passed = break_passed a b h ends (head_passed a b placed r.counted h r) in
     both_walk before before a b false (λ A P read f xs to l.
     let t = head_there P read f xs a.bytes a.place to (subst (λ (left : Option ℕ). Lies (Left P left xs) a.bytes a.place to) is l) in
     let same = some_is (t.0, t.1.0) (h, ahead b) (sym t.1.1.reads ∙ r.reads) in
     let e = t.1.1.ends (ap (λ (q : Head × List ℕ). is_break q.0) same ∙ ends) in
     let at_end : ahead b ≡ drop to a.bytes = sym (ap (λ (q : Head × List ℕ). q.1) same) ∙ e.1 in
     let long : length b.bytes ≡ length a.bytes = ap length r.passed.same in
-    (e.0, omega (arith, long, ap length at_end, r.passed.within, l.within, length-drop b.place b.bytes, length-drop to a.bytes))) (record {
-      same = r.passed.same;
-      within = r.passed.within;
-      forward = r.passed.forward;
-      stays = λ e. absurd cc;
-      heads = one;
-      nodes = r.passed.nodes;
-    })
+    (e.0, omega (arith, long, ap length at_end, r.passed.within, l.within, length-drop b.place b.bytes, length-drop to a.bytes))) (looks_unknown before a b false is (sym passed.ahead_is) (λ e. absurd cc) (λ e. passed.place) r.passed.within r.counted r.passed.nodes r.passed.same)
 
 some_element : {A : Type 0} (P : A → Language) (xs : List A) (bytes : List ℕ) (from to : ℕ) → (xs ≡ [] → ⊥) → Lies (Left P None xs) bytes from to → Next P None xs bytes from to
 some_element P [] bytes from to some l = absurd (some refl)
@@ -175,31 +227,33 @@ at_place : {A : Type 0} (P : A → Language) (before : Option ℕ) (xs : List A)
 at_place P before xs a c to place bytes is n = rw (place, bytes, is) n
 
 -- another head stands there, and the cursor went back
-pub element_there : (before : Option ℕ) (a b c : Walk) (h : Head) → IsInside a → before ≡ None → is_break h ≡ false → b.heads ≤ a.heads + 1 → HeadRead a b h → c ≡ record b { place = a.place } → WalksOn before before a c true
-element_there before a b c h inside is goes_on one r back =
+pub element_there : (before : Option ℕ) (a b c : Walk) (h : Head) → IsInside a → before ≡ None → is_break h ≡ false → HeadRead a b h → c ≡ record b { place = a.place } → WalksOn before before a c true
+element_there before a b c h inside is other r back =
     both_walk before before a c true (λ A P read f xs to l.
     let left_is = subst (λ (left : Option ℕ). Lies (Left P left xs) a.bytes a.place to) is l in
     let t = head_there P read f xs a.bytes a.place to left_is in
     let same = some_is (t.0, t.1.0) (h, ahead b) (sym t.1.1.reads ∙ r.reads) in
-    at_place P before xs a c to (ap (λ (w : Walk). w.place) back) (ap (λ (w : Walk). w.bytes) back ∙ r.passed.same) is (some_element P xs a.bytes a.place to (t.1.1.goes_on (ap (λ (q : Head × List ℕ). is_break q.0) same ∙ goes_on)) left_is)) (record {
-      same = ap (λ (w : Walk). w.bytes) back ∙ r.passed.same;
-      within = omega (arith, inside, ap (λ (w : Walk). w.place) back, ap (λ (w : Walk). length w.bytes) back, ap length r.passed.same);
-      forward = omega (arith, ap (λ (w : Walk). w.place) back);
-      stays = λ e. ap (λ (w : Walk). w.place) back;
-      heads = omega (arith, one, ap (λ (w : Walk). w.heads) back);
-      nodes = ap (λ (w : Walk). w.nodes) back ∙ r.passed.nodes;
-    })
+    at_place P before xs a c to (ap (λ (w : Walk). w.place) back) (ap (λ (w : Walk). w.bytes) back ∙ r.passed.same) is (some_element P xs a.bytes a.place to (t.1.1.goes_on (ap (λ (q : Head × List ℕ). is_break q.0) same ∙ other)) left_is))
+    (looks_unknown before a c true is
+    (sym (no_break_ahead (ahead a) (λ rest e. another_head (ahead a) rest h (ahead b) r.reads other e)))
+    (λ e. ap (λ (w : Walk). w.place) back)
+    (λ e. absurd cc)
+    (omega (arith, inside, ap (λ (w : Walk). w.place) back, ap (λ (w : Walk). length w.bytes) back, ap length r.passed.same))
+    (ap (λ (w : Walk). w.heads) back ∙ r.counted)
+    (ap (λ (w : Walk). w.nodes) back ∙ r.passed.nodes)
+    (ap (λ (w : Walk). w.bytes) back ∙ r.passed.same))
 
 -- no head stands there, so no such list is left
-pub no_head_there : (before : Option ℕ) (a b : Walk) → before ≡ None → b.heads ≤ a.heads + 1 → b.place ≡ a.place → NoHead (head_at (ahead a)) a b → WalksOn before before a b true
+pub no_head_there : (before : Option ℕ) (a b : Walk) → before ≡ None → b.heads ≡ raised a.heads 1 → b.place ≡ a.place → NoHead (head_at (ahead a)) a b → WalksOn before before a b true
 no_head_there before a b is one stays n =
     both_walk before before a b true (λ A P read f xs to l.
     let t = head_there P read f xs a.bytes a.place to (subst (λ (left : Option ℕ). Lies (Left P left xs) a.bytes a.place to) is l) in
-    absurd (none_is_some (t.0, t.1.0) (sym n.reads ∙ t.1.1.reads))) (record {
-      same = n.stopped.same;
-      within = n.stopped.within;
-      forward = n.stopped.forward;
-      stays = λ e. stays;
-      heads = one;
-      nodes = n.stopped.nodes;
-    })
+    absurd (none_is_some (t.0, t.1.0) (sym n.reads ∙ t.1.1.reads)))
+    (looks_unknown before a b true is
+    (sym (no_break_ahead (ahead a) (λ rest e. none_is_some (head.Break, rest) (sym n.reads ∙ e))))
+    (λ e. stays)
+    (λ e. absurd cc)
+    n.stopped.within
+    one
+    n.stopped.nodes
+    n.stopped.same)

@@ -1,13 +1,12 @@
 -- Names: which of them begin with some bytes, and which are these bytes.
-use Rattle.std.proofs.Common.{◌≡◌, ℕ, suc, ◌+◌, ◌<◌, ◌≤◌, Bool, true, false, cond, nat_lt, not, List, [], ◌∷◌, ◌++◌, length, map, drop, get_or, Option, Some, None, Bor, refl, sym, ap, subst, ◌∙◌, arith}
+use Rattle.std.proofs.Common.{◌≡◌, ℕ, suc, ◌+◌, ◌<◌, ◌≤◌, Bool, true, false, cond, nat_lt, not, ◌||◌, List, [], ◌∷◌, ◌++◌, length, map, drop, get_or, take, Option, Some, None, Bor, refl, sym, ap, subst, ◌∙◌, arith}
 use Rattle.std.specs.List.{position, position_or_len}
-use Rattle.std.specs.Option.{MatchOption, is_some}
 use Rattle.std.specs.Str.{bytes_eq}
 use Rattle.std.proofs.lemmas.Bool.Decides.{nat_tests}
-use Rattle.std.proofs.lemmas.List.{length-map, drop_all}
+use Rattle.std.proofs.lemmas.List.{length-map, drop_all, take_at, take-append-drop}
 use Rattle.std.proofs.Math.Seq.{drop-cons}
 use Rattle.std.proofs.lemmas.Slice.Eq.{bytes_eq-Decides}
-use Rattle.passkey_cbor.specs.Names.{place_of, NoneBegins}
+use Rattle.passkey_cbor.specs.Names.{place_of, begins, begins_one}
 
 pub same_behind : (s t u : List ℕ) → s ++ t ≡ s ++ u → t ≡ u
 same_behind [] t u e = e
@@ -22,6 +21,21 @@ position_or_len-map f p (x ∷ xs) = ap (λ (n : ℕ). cond (not (p (f x))) (1 +
 pub place_of-told : (s : List ℕ) (names : List (Bor (List ℕ))) → position (λ n. bytes_eq n.now s) names ≡ place_of s (map (λ n. n.now) names)
 place_of-told s names = rw (position_or_len-map (λ n. n.now) (λ n. bytes_eq n s) names, length-map names (λ n. n.now)) refl
 
+-- ---- whether a name begins so
+
+pub begins_so : (s n rest : List ℕ) → n ≡ s ++ rest → begins s n ≡ true
+begins_so s n rest e = (bytes_eq-Decides (take (length s) n) s).1 (ap (take (length s)) e ∙ take_at s rest (length s) refl)
+
+begins_with : (s n : List ℕ) → begins s n ≡ true → n ≡ s ++ drop (length s) n
+begins_with s n e =
+    sym (take-append-drop (length s) n) ∙ ap (λ (t : List ℕ). t ++ drop (length s) n) ((bytes_eq-Decides (take (length s) n) s).0 e)
+
+pub begins_not : (s n : List ℕ) → ((rest : List ℕ) → n ≡ s ++ rest → ⊥) → begins s n ≡ false
+begins_not s n other = by (begins s n) refl where
+  by : (b : Bool) → begins s n ≡ b → begins s n ≡ false
+  by false e = e
+  by true e = absurd (other (drop (length s) n) (begins_with s n e))
+
 -- ---- a name that begins otherwise
 
 suc_lt : (at len : ℕ) → nat_lt (1 + at) (suc len) ≡ nat_lt at len
@@ -34,23 +48,38 @@ none-more p at len e none = by p (nat_lt at len) e refl none where
   by false true e is none = absurd cc
   by false false e is none = rw (suc_lt at len ∙ is) refl
 
-begins_not : (s n rest : List ℕ) (b : Bool) → bytes_eq n (s ++ rest) ≡ b → (n ≡ s ++ rest → ⊥) → b ≡ false
-begins_not s n rest false is other = refl
-begins_not s n rest true is other = absurd (other ((bytes_eq-Decides n (s ++ rest)).0 is))
+is_not : (s n rest : List ℕ) → begins s n ≡ false → bytes_eq n (s ++ rest) ≡ false
+is_not s n rest e = by (bytes_eq n (s ++ rest)) refl where
+  by : (b : Bool) → bytes_eq n (s ++ rest) ≡ b → bytes_eq n (s ++ rest) ≡ false
+  by false is = is
+  by true is = absurd (not_both (begins s n) (begins_so s n rest ((bytes_eq-Decides n (s ++ rest)).0 is)) e) where
+    not_both : (b : Bool) → b ≡ true → b ≡ false → ⊥
+    not_both b p q = absurd cc
 
-pub none_begins-more : (s n : List ℕ) (names : List (List ℕ)) → ((rest : List ℕ) → n ≡ s ++ rest → ⊥) → NoneBegins s names → NoneBegins s (n ∷ names)
-none_begins-more s n names other none rest = none-more (bytes_eq n (s ++ rest)) (position_or_len (λ n. bytes_eq n (s ++ rest)) names) (length names) (begins_not s n rest (bytes_eq n (s ++ rest)) refl (other rest)) (none rest)
+first_not : (p q : Bool) → (p || q) ≡ false → p ≡ false
+first_not false q e = refl
+first_not true q e = absurd cc
+
+second_not : (p q : Bool) → (p || q) ≡ false → q ≡ false
+second_not false q e = e
+second_not true q e = absurd cc
+
+-- no string that begins so is one of the names
+pub none_begins : (s : List ℕ) (names : List (List ℕ)) → begins_one s names ≡ false → (rest : List ℕ) → place_of (s ++ rest) names ≡ None
+none_begins s [] e rest = refl
+none_begins s (n ∷ names) e rest =
+    none-more (bytes_eq n (s ++ rest)) (position_or_len (λ n. bytes_eq n (s ++ rest)) names) (length names) (is_not s n rest (first_not (begins s n) (begins_one s names) e)) (none_begins s names (second_not (begins s n) (begins_one s names) e) rest)
 
 -- ---- the names one after the other
 
-pub none_left : (s : List ℕ) (names : List (Bor (List ℕ))) (i : ℕ) → length names ≤ i → NoneBegins s (map (λ n. n.now) (drop i names))
-none_left s names i end rest = rw (drop_all i names end) refl
+pub none_left : (s : List ℕ) (names : List (Bor (List ℕ))) (i : ℕ) → length names ≤ i → begins_one s (map (λ n. n.now) (drop i names)) ≡ false
+none_left s names i end = rw (drop_all i names end) refl
 
--- one more name begins otherwise
-pub none_before : (s : List ℕ) (names : List (Bor (List ℕ))) (i : ℕ) (name : List ℕ) (none : Bor (List ℕ)) (found : Option (Bor (List ℕ))) → i < length names → name ≡ (get_or names i none).now
-    → MatchOption found ((rest : List ℕ) → name ≡ s ++ rest → ⊥) (λ t. t.now ≡ s) → is_some found ≡ false → NoneBegins s (map (λ n. n.now) (drop (i + 1) names)) → NoneBegins s (map (λ n. n.now) (drop i names))
-none_before s names i name none (Some t) within at other e others = absurd cc
-none_before s names i name none None within at other e others =
+-- the name there begins so, or those behind it are asked
+pub one_there : (s : List ℕ) (names : List (Bor (List ℕ))) (i : ℕ) (name : List ℕ) (none : Bor (List ℕ)) → i < length names → name ≡ (get_or names i none).now → begins_one s (map (λ n. n.now) (drop i names)) ≡ (begins s name || begins_one s (map (λ n. n.now) (drop (i + 1) names)))
+one_there s names i name none within at =
     let goes_on : drop i names ≡ get_or names i none ∷ drop (suc i) names = drop-cons names i none within in
-    let one : i + 1 ≡ suc i = omega arith in
-    subst (λ (ns : List (Bor (List ℕ))). NoneBegins s (map (λ n. n.now) ns)) (sym goes_on) (none_begins-more s (get_or names i none).now (map (λ n. n.now) (drop (suc i) names)) (subst (λ (n : List ℕ). (rest : List ℕ) → n ≡ s ++ rest → ⊥) at other) (subst (λ (j : ℕ). NoneBegins s (map (λ n. n.now) (drop j names))) one others))
+    let one : suc i ≡ i + 1 = omega arith in
+    ap (λ (ns : List (Bor (List ℕ))). begins_one s (map (λ n. n.now) ns)) goes_on
+    ∙ ap (λ (n : List ℕ). begins s n || begins_one s (map (λ n. n.now) (drop (suc i) names))) (sym at)
+    ∙ ap (λ (j : ℕ). begins s name || begins_one s (map (λ n. n.now) (drop j names))) one

@@ -1,9 +1,9 @@
 -- Reading leaves no more bytes than there were.
-use Rattle.std.proofs.Common.{◌≡◌, ◌⊎◌, ℕ, zero, suc, ◌/◌, ◌%◌, ◌<◌, ◌≤◌, Bool, true, false, cond, List, [], ◌∷◌, length, take, drop, Option, Some, None, sym, ap, ◌∙◌, arith, inl, inr}
+use Rattle.std.proofs.Common.{◌≡◌, ◌⊎◌, ℕ, ◌+◌, zero, suc, ◌/◌, ◌%◌, ◌<◌, ◌≤◌, Bool, true, false, cond, List, [], ◌∷◌, length, take, drop, Option, Some, None, sym, ap, ◌∙◌, arith, inl, inr}
 use Rattle.std.specs.Int.{byte_len, from_be_bytes}
 use Rattle.std.specs.List.{concat}
 use Rattle.std.proofs.lemmas.Bool.{cases_eq, cases_lt, lt-ltb, le-ltb, ne_eqb}
-use Rattle.std.proofs.lemmas.List.{length-drop}
+use Rattle.std.proofs.lemmas.List.{length-drop, length-take}
 use Rattle.passkey_cbor.specs.Item.{Item, array, map, tagged, byte_string, text_string, items_of, pairs_of}
 use Rattle.passkey_cbor.specs.Heads.{Size, width}
 use Rattle.passkey_cbor.specs.HeadReading.{◌>>=◌, Read, take_at as taken_at, number_at, size_of, argument_at, with_argument, without_argument, simple_or_float, simple_at, head_behind, head_at}
@@ -26,13 +26,16 @@ made_left {B = B} read make bytes y shrinks e =
 
 -- ---- heads
 
-taken_left : (n : ℕ) (bytes : List ℕ) (y : List ℕ × List ℕ) → taken_at n bytes ≡ Some y → length y.1 ≤ length bytes
-taken_left n bytes y e = by_test (cases_lt (length bytes) n) where
-  by_test : (length bytes < n) ⊎ (n ≤ length bytes) → length y.1 ≤ length bytes
+taken_size : (n : ℕ) (bytes : List ℕ) (y : List ℕ × List ℕ) → taken_at n bytes ≡ Some y → length y.0 + length y.1 ≡ length bytes
+taken_size n bytes y e = by_test (cases_lt (length bytes) n) where
+  by_test : (length bytes < n) ⊎ (n ≤ length bytes) → length y.0 + length y.1 ≡ length bytes
   by_test (inl lt) = absurd (none_is_some y (rw (lt-ltb (length bytes) n lt) at e))
   by_test (inr le) =
       let p = some_is (take n bytes, drop n bytes) y (rw (le-ltb (length bytes) n le) at e) in
-      omega (arith, ap (λ (q : List ℕ × List ℕ). length q.1) p, length-drop n bytes)
+      omega (arith, le, ap (λ (q : List ℕ × List ℕ). length q.0) p, ap (λ (q : List ℕ × List ℕ). length q.1) p, length-take n bytes, length-drop n bytes)
+
+taken_left : (n : ℕ) (bytes : List ℕ) (y : List ℕ × List ℕ) → taken_at n bytes ≡ Some y → length y.1 ≤ length bytes
+taken_left n bytes y e = omega (arith, taken_size n bytes y e)
 
 number_left : (s : Size) (bytes : List ℕ) (y : ℕ × List ℕ) → number_at s bytes ≡ Some y → length y.1 ≤ length bytes
 unfolding number_at
@@ -130,14 +133,22 @@ list_left read s (suc fuel) left bytes y e =
     let st = bind_some (step_at left bytes) (after_step read (list_by read fuel)) y e in
     omega (arith, step_left left bytes st.0 st.1, after_left read (list_by read fuel) st.0 y s (λ after r z. list_left read s fuel after r z) st.2)
 
-piece_left : (is_text : Bool) (n : ℕ) (bytes : List ℕ) (y : List ℕ × List ℕ) → piece_at is_text n bytes ≡ Some y → length y.1 ≤ length bytes
+piece_size : (is_text : Bool) (n : ℕ) (bytes : List ℕ) (y : List ℕ × List ℕ) → piece_at is_text n bytes ≡ Some y → length y.0 + length y.1 ≡ length bytes
 unfolding piece_at
-piece_left is_text n bytes y e =
+piece_size is_text n bytes y e =
     let t = bind_some (taken_at n bytes) (λ t. cond (may_stand is_text t.0) (Some t) None) y e in
-    by_test (may_stand is_text t.0.0) t.0 (taken_left n bytes t.0 t.1) t.2 where
-      by_test : (b : Bool) (t : List ℕ × List ℕ) → length t.1 ≤ length bytes → cond b (Some t) None ≡ Some y → length y.1 ≤ length bytes
-      by_test true t le f = omega (arith, le, ap (λ (q : List ℕ × List ℕ). length q.1) (some_is t y f))
-      by_test false t le f = absurd (none_is_some y f)
+    by_test (may_stand is_text t.0.0) t.0 (taken_size n bytes t.0 t.1) t.2 where
+      by_test : (b : Bool) (t : List ℕ × List ℕ) → length t.0 + length t.1 ≡ length bytes → cond b (Some t) None ≡ Some y → length y.0 + length y.1 ≡ length bytes
+      by_test true t is f = omega (arith, is, ap (λ (q : List ℕ × List ℕ). length q.0) (some_is t y f), ap (λ (q : List ℕ × List ℕ). length q.1) (some_is t y f))
+      by_test false t is f = absurd (none_is_some y f)
+
+piece_left : (is_text : Bool) (n : ℕ) (bytes : List ℕ) (y : List ℕ × List ℕ) → piece_at is_text n bytes ≡ Some y → length y.1 ≤ length bytes
+piece_left is_text n bytes y e = omega (arith, piece_size is_text n bytes y e)
+
+pub chunk_size : (is_text : Bool) (h : Head) (bytes s rest : List ℕ) → chunk is_text h bytes ≡ Some (s, rest) → length s + length rest ≡ length bytes
+chunk_size is_text h bytes s rest e =
+    let n = bind_some (chunk_len is_text h) (λ n. piece_at is_text n bytes) (s, rest) e in
+    piece_size is_text n.0 bytes (s, rest) n.2
 
 pub chunk_left : (is_text : Bool) → Shrinks (chunk is_text)
 chunk_left is_text h bytes y e =

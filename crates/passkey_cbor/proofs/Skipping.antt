@@ -11,13 +11,13 @@ use Rattle.passkey_cbor.proofs.Binds.{bind_at, bind_none}
 -- ---- where the cursor goes
 
 pub passed_none : (a : Walk) → IsInside a → Passed a a
-passed_none a inside = record { same = refl; within = inside; forward = omega arith; heads = omega arith; nodes = refl }
+passed_none a inside = record { same = refl; within = inside; forward = omega arith; rises = omega arith; heads = omega arith; nodes = refl }
 
 pub passed_then : (a b c : Walk) → Passed a b → Passed b c → Passed a c
-passed_then a b c p q = record { same = q.same ∙ p.same; within = q.within; forward = omega (arith, p.forward, q.forward); heads = omega (arith, p.heads, q.heads); nodes = q.nodes ∙ p.nodes }
+passed_then a b c p q = record { same = q.same ∙ p.same; within = q.within; forward = omega (arith, p.forward, q.forward); rises = omega (arith, p.rises, q.rises); heads = omega (arith, p.heads, q.heads); nodes = q.nodes ∙ p.nodes }
 
 pub stopped_none : (a : Walk) → IsInside a → Stopped a a
-stopped_none a inside = record { same = refl; within = inside; forward = omega arith; heads = omega arith; nodes = refl }
+stopped_none a inside = record { same = refl; within = inside; forward = omega arith; rises = omega arith; heads = omega arith; nodes = refl }
 
 pub stopped_then : (a b c : Walk) → Passed a b → Stopped b c → Stopped a c
 stopped_then a b c p q =
@@ -26,6 +26,7 @@ stopped_then a b c p q =
       same = q.same ∙ p.same;
       within = q.within;
       forward = omega (arith, p.forward, q.forward);
+      rises = omega (arith, p.rises, q.rises);
       heads = omega (arith, long, p.heads, p.within, p.forward, q.heads, length-drop a.place a.bytes, length-drop b.place b.bytes);
       nodes = q.nodes ∙ p.nodes;
     }

@@ -123,15 +123,15 @@ opens a b (Some h) x to p l =
 pub passes : (a b : Walk) (found : Bool) (x : Item) (to : ℕ) → SkipsFront a b found → Stands x a.bytes a.place to → Passes to a b found
 passes a b true x to p l =
     let same = only_one x p.item a.bytes a.place to p.len l p.front in
-    record { is_found = refl; place = omega (arith, p.place, same.1, l.forward); heads = omega (arith, p.heads, same.1, l.forward); nodes = p.nodes; bytes = p.bytes }
+    record { is_found = refl; place = omega (arith, p.place, same.1, l.forward); least = p.least; heads = omega (arith, p.heads, same.1, l.forward); nodes = p.nodes; bytes = p.bytes }
 passes a b false x to n l = absurd (n.none x (to - a.place) (stands_front x a.bytes a.place to l))
 
 pub values : (a b : Walk) (result : Result Value CborError) (x : Item) (to : ℕ) → ReadsValue a b result → Stands x a.bytes a.place to → Values x to a b result
 values a b (Ok v) x to p l =
     let same = only_one x (item_of v) a.bytes a.place to p.len l p.front in
-    record { value = same.0; place = omega (arith, p.place, same.1, l.forward); heads = omega (arith, p.heads, same.1, l.forward); nodes = p.nodes ∙ ap (λ (y : Item). raised a.nodes (nodes y)) same.0; bytes = p.bytes }
+    record { value = same.0; place = omega (arith, p.place, same.1, l.forward); least = p.least; heads = omega (arith, p.heads, same.1, l.forward); nodes = p.nodes ∙ ap (λ (y : Item). raised a.nodes (nodes y)) same.0; bytes = p.bytes }
 values a b (Err error.DecodeFailed) x to n l = n.none x (to - a.place) (stands_front x a.bytes a.place to l)
 values a b (Err error.OutOfMemory) x to p l =
     let same = only_one x p.item a.bytes a.place to p.len l p.front in
-    record { grows = subst Grows same.0 p.grows; place = p.place; heads = omega (arith, p.heads, same.1, l.forward); nodes = omega (arith, p.nodes, ap nodes same.0); bytes = p.bytes }
+    record { grows = subst Grows same.0 p.grows; place = p.place; least = p.least; heads = omega (arith, p.heads, same.1, l.forward); least_nodes = p.least_nodes; nodes = omega (arith, p.nodes, ap nodes same.0); bytes = p.bytes }
 values a b (Err error.OutOfRangeIntegerValue) x to n l = n

@@ -57,6 +57,7 @@ value_made a b c d v p e m =
       len = p.len;
       front = p.front;
       place = place;
+      least = omega (arith, p.least, ap (λ (w : Walk). w.heads) e, m.went.heads);
       heads = two_heads a b c d p (Ok v) e m;
       nodes = nodes_are;
       bytes = same;
@@ -72,7 +73,9 @@ value_fails a b c d f x p e m back = by_error x (two_heads a b c d p (Err x) e m
     front = p.front;
     grows = k.0;
     place = ap (λ (w : Walk). w.place) back;
+    least = omega (arith, p.least, ap (λ (w : Walk). w.heads) e, m.went.heads, ap (λ (w : Walk). w.heads) back);
     heads = omega (arith, heads, ap (λ (w : Walk). w.heads) back);
+    least_nodes = omega (arith, p.nodes, ap (λ (w : Walk). w.nodes) e, m.went.nodes, ap (λ (w : Walk). w.nodes) back);
     nodes = omega (arith, k.1, ap (λ (w : Walk). w.nodes) back, ap (λ (w : Walk). w.nodes) e, p.nodes);
     bytes = ap (λ (w : Walk). w.bytes) back ∙ m.went.same ∙ ap (λ (w : Walk). w.bytes) e ∙ p.bytes;
   }

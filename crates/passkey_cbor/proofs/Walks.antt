@@ -4,7 +4,7 @@ use Rattle.std.specs.Prelude.{IfNone}
 use Rattle.std.proofs.lemmas.List.{length-append, length-drop, drop-drop, drop_at, take_rest}
 use Rattle.passkey_cbor.specs.HeadReading.{◌>>=◌, head_at}
 use Rattle.passkey_cbor.specs.Reading.{end, element, step_at, is_break, may_stand, piece_at}
-use Rattle.passkey_cbor.specs.Walk.{Walk, ahead, raised, IsInside, IsPlaced}
+use Rattle.passkey_cbor.specs.Walk.{Walk, ahead, raised, break_heads, IsInside, IsPlaced}
 use Rattle.passkey_cbor.specs.Found.{PassesHead, FindsNoHead, FindsHead}
 use Rattle.passkey_cbor.specs.Steps.{IsHead, ReadsHead, HeadRead, NoHead, ElementRead, EndRead, PieceRead}
 use Rattle.passkey_cbor.specs.HeadSpelling.{SpellsHead}
@@ -72,10 +72,10 @@ head_taken bytes place h u placed e =
       shorter = b.shorter;
     }
 
-pub head_read : (bytes : List ℕ) (place heads counted nodes : ℕ) (h : Head) (u : List ℕ) → counted ≤ heads + 1 → HeadTaken bytes place h u → HeadRead (walk bytes place heads nodes) (walk bytes (length bytes - length u) counted nodes) h
-head_read bytes place heads counted nodes h u one t = record {
+pub head_read : (bytes : List ℕ) (place heads counted nodes : ℕ) (h : Head) (u : List ℕ) → heads ≤ counted → counted ≡ raised heads 1 → HeadTaken bytes place h u → HeadRead (walk bytes place heads nodes) (walk bytes (length bytes - length u) counted nodes) h
+head_read bytes place heads counted nodes h u rises one t = record {
   reads = t.reads;
-  passed = record { same = refl; within = omega arith; forward = omega (arith, t.further); heads = omega (arith, one, t.further); nodes = refl };
+  passed = record { same = refl; within = omega arith; forward = omega (arith, t.further); rises = rises; heads = omega (arith, one, t.further); nodes = refl };
   counted = one;
   further = t.further;
   well_formed = t.well_formed;
@@ -87,8 +87,8 @@ pub step_end : (w : Walk) (left : Option ℕ) (n : ℕ) → IsInside w → left 
 unfolding step_at
 step_end w left n inside is none = record {
   reads = ap (λ (l : Option ℕ). step_at l (ahead w)) (is ∙ ap Some none);
-  passed = record { same = refl; within = inside; forward = omega arith; heads = omega arith; nodes = refl };
-  counted = omega arith;
+  passed = record { same = refl; within = inside; forward = omega arith; rises = omega arith; heads = omega arith; nodes = refl };
+  counted = ap (λ (l : Option ℕ). raised w.heads (break_heads l)) (sym is);
 }
 
 step_known : (n : ℕ) (bytes : List ℕ) → step_at (Some (suc n)) bytes ≡ (head_at bytes >>= λ h. Some (element (Some n) h.0 h.1))
@@ -137,7 +137,7 @@ pub break_unknown : (a b : Walk) (left : Option ℕ) (h : Head) → left ≡ Non
 break_unknown a b left h is ends r = record {
   reads = unknown_is left (ahead a) is ∙ bind_at (head_at (ahead a)) (h, ahead b) (λ h. cond (is_break h.0) (Some (end h.1)) (Some (element None h.0 h.1))) r.reads ∙ rw ends refl;
   passed = r.passed;
-  counted = r.counted;
+  counted = r.counted ∙ ap (λ (l : Option ℕ). raised a.heads (break_heads l)) (sym is);
 }
 
 pub no_element_unknown : (a b : Walk) (left : Option ℕ) → left ≡ None → NoHead (head_at (ahead a)) a b → NoHead (step_at left (ahead a)) a b
@@ -169,7 +169,7 @@ piece_taken is_text len bytes place s u placed e =
 pub piece_read : (is_text : Bool) (len : ℕ) (bytes : List ℕ) (place heads nodes : ℕ) (s u : List ℕ) → PieceTaken is_text len bytes place s u → PieceRead is_text (piece_at is_text len (drop place bytes)) (walk bytes place heads nodes) (walk bytes (length bytes - length u) heads nodes) s
 piece_read is_text len bytes place heads nodes s u t = record {
   reads = t.reads;
-  passed = record { same = refl; within = omega arith; forward = t.forward; heads = omega (arith, t.forward); nodes = refl };
+  passed = record { same = refl; within = omega arith; forward = t.forward; rises = omega arith; heads = omega (arith, t.forward); nodes = refl };
   uncounted = refl;
   stands = t.stands;
 }

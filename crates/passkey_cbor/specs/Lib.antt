@@ -1,3 +1,4 @@
+pub mod ErrorNames
 pub mod FloatParts
 pub mod Ranges
 pub mod Made

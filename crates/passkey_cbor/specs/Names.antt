@@ -1,17 +1,41 @@
 -- Which of some names a string is.
-use Rattle.std.specs.Prelude.{◌≡◌, ℕ, List, ◌++◌, Bool, Option, None}
-use Rattle.std.specs.List.{position}
+use Rattle.std.specs.Prelude.{◌≡◌, ℕ, suc, List, [], ◌∷◌, ◌++◌, length, take, Bool, Option, Some, None, if◌then◌else◌}
+use Rattle.std.specs.List.{position, list_any}
 use Rattle.std.specs.Str.{bytes_eq}
+use Rattle.passkey_cbor.specs.Inside.{Content}
 use Rattle.passkey_cbor.specs.Lent.{Region, Tells}
+use Rattle.passkey_cbor.specs.Walk.{Walk, raised}
 
 -- The place of the first of the names that is this string.
 abbrev pub place_of : List ℕ → List (List ℕ) → Option ℕ
 place_of s names = position (λ n. bytes_eq n s) names
 
--- No string that begins so is one of the names.
-abbrev pub NoneBegins : List ℕ → List (List ℕ) → Type 0
-NoneBegins s names = (rest : List ℕ) → place_of (s ++ rest) names ≡ None
+-- whether a name begins so
+abbrev pub begins : List ℕ → List ℕ → Bool
+begins s name = bytes_eq (take (length s) name) s
+
+-- whether one of the names does
+abbrev pub begins_one : List ℕ → List (List ℕ) → Bool
+begins_one s names = list_any (begins s) names
 
 -- The place of the first of the names that the string is; none where it is none of them.
 abbrev pub IsNameOf : Bool → Region → List (List ℕ) → Option ℕ → Type 0
 IsNameOf is_text r names place = (s : List ℕ) → Tells is_text r s → place ≡ place_of s names
+
+-- How many heads it takes to look for the names in these chunks, behind what was joined before: each chunk's as long as one of
+-- the names begins so, and then the break's.
+abbrev pub heads_until : List (List ℕ) → List ℕ → List (List ℕ) → ℕ
+heads_until names joined [] = 1
+heads_until names joined (c ∷ cs) = suc (if begins_one (joined ++ c) names then heads_until names (joined ++ c) cs else 0)
+
+-- the same in a region; a string in one piece has no such head
+abbrev pub heads_sought : (is_text : Bool) → List (List ℕ) → (len : Option ℕ) (s bytes : List ℕ) → Content is_text len s bytes → ℕ
+heads_sought is_text names (Some n) s bytes c = 0
+heads_sought is_text names None s bytes c = heads_until names [] c.first.0
+
+-- The cursor stays, and counts the heads that were looked at for the names.
+pub record LooksFor (is_text : Bool) (names : List (List ℕ)) (r : Region) (old new : Walk) : Type 0 where
+  pub heads : (s : List ℕ) (t : Tells is_text r s) → new.heads ≡ raised old.heads (heads_sought is_text names r.len s r.bytes t)
+  pub place : new.place ≡ old.place
+  pub nodes : new.nodes ≡ old.nodes
+  pub bytes : new.bytes ≡ old.bytes

@@ -1,5 +1,5 @@
 -- Where items stand in bytes: by places, which do not move along a walk.
-use Rattle.std.specs.Prelude.{◌≡◌, ℕ, ◌+◌, ◌*◌, ◌≤◌, List, [], ◌∷◌, ◌++◌, length, drop, Bool, true, false, Option, Some, None, Result, Ok, Err}
+use Rattle.std.specs.Prelude.{◌≡◌, ℕ, ◌+◌, ◌-◌, ◌*◌, ◌≤◌, ◌==◌, nat_lt, not, List, [], ◌∷◌, ◌++◌, length, drop, Bool, true, false, Option, Some, None, Result, Ok, Err}
 use Rattle.passkey_cbor.specs.Item.{Item}
 use Rattle.passkey_cbor.specs.Nodes.{nodes}
 use Rattle.passkey_cbor.specs.Languages.{Language}
@@ -7,7 +7,8 @@ use Rattle.passkey_cbor.specs.Front.{max_depth}
 use Rattle.passkey_cbor.specs.Grows.{Grows}
 use Rattle.passkey_cbor.specs.Inside.{Within, PairWithin, Left, Inside}
 use Rattle.passkey_cbor.specs.View.{item_of}
-use Rattle.passkey_cbor.specs.Walk.{Walk, raised}
+use Rattle.passkey_cbor.specs.Heads.{break}
+use Rattle.passkey_cbor.specs.Walk.{Walk, ahead, raised, break_heads}
 use Rattle.passkey_cbor.specs.declared.head.Head.{Head}
 use Rattle.passkey_cbor.specs.declared.value.Value.{Value}
 use Rattle.passkey_cbor.specs.declared.error.CborError.{CborError}
@@ -39,18 +40,20 @@ abbrev pub Opens : Item → ℕ → Walk → Option Head → Type 0
 Opens x to new (Some h) = Lies (Inside h x) new.bytes new.place to
 Opens x to new None = ⊥
 
--- `skip` passes it, with at most one head for each of its bytes.
+-- `skip` passes it, with at least one head, and at most one for each of its bytes.
 pub record Passes (to : ℕ) (old new : Walk) (found : Bool) : Type 0 where
   pub is_found : found ≡ true
   pub place : new.place ≡ to
+  pub least : raised old.heads 1 ≤ new.heads
   pub heads : new.heads + old.place ≤ old.heads + to
   pub nodes : new.nodes ≡ old.nodes
   pub bytes : new.bytes ≡ old.bytes
 
--- `value` makes it and passes it, with at most two heads for each of its bytes; or finds no memory for it, and stays.
+-- `value` makes it and passes it, with at least one head, and at most two for each of its bytes; or finds no memory for it, and stays.
 pub record Valued (x : Item) (to : ℕ) (old new : Walk) (v : Value) : Type 0 where
   pub value : item_of v ≡ x
   pub place : new.place ≡ to
+  pub least : raised old.heads 1 ≤ new.heads
   pub heads : new.heads + 2 * old.place ≤ old.heads + 2 * to
   pub nodes : new.nodes ≡ raised old.nodes (nodes x)
   pub bytes : new.bytes ≡ old.bytes
@@ -58,7 +61,9 @@ pub record Valued (x : Item) (to : ℕ) (old new : Walk) (v : Value) : Type 0 wh
 pub record NotValued (x : Item) (to : ℕ) (old new : Walk) : Type 0 where
   pub grows : Grows x
   pub place : new.place ≡ old.place
+  pub least : raised old.heads 1 ≤ new.heads
   pub heads : new.heads + 2 * old.place ≤ old.heads + 2 * to
+  pub least_nodes : old.nodes ≤ new.nodes
   pub nodes : new.nodes ≤ old.nodes + nodes x
   pub bytes : new.bytes ≡ old.bytes
 
@@ -89,16 +94,30 @@ abbrev pub Walks : {A : Type 0} → (A → Language) → Option ℕ → Option �
 Walks {A} P before after old new found =
     (xs : List A) (to : ℕ) → Lies (Left P before xs) old.bytes old.place to → NextIf P after xs new to found
 
--- Where `more` leaves the cursor, whatever stands there: it stays where any are left, and counts at most one head.
-pub record Looks (old new : Walk) (found : Bool) : Type 0 where
-  pub same : new.bytes ≡ old.bytes
-  pub within : new.place ≤ length new.bytes
-  pub forward : old.place ≤ new.place
+-- whether a list goes on: so many elements are left, or no break stands ahead
+abbrev pub goes_on : Option ℕ → List ℕ → Bool
+goes_on (Some n) bytes = nat_lt 0 n
+goes_on None [] = true
+goes_on None (b ∷ bytes) = not (b == break)
+
+-- how many are left behind the answer: one fewer where the list goes on
+abbrev pub left_after : Option ℕ → Bool → Option ℕ
+left_after (Some n) true = Some (n - 1)
+left_after (Some n) false = Some n
+left_after None found = None
+
+-- What `more` answers, and where it leaves the cursor, whatever stands there: a break is passed, and else the cursor stays.
+pub record Looks (before after : Option ℕ) (old new : Walk) (found : Bool) : Type 0 where
+  pub answer : found ≡ goes_on before (ahead old)
+  pub left : after ≡ left_after before found
   pub stays : found ≡ true → new.place ≡ old.place
-  pub heads : new.heads ≤ old.heads + 1
+  pub passes : found ≡ false → new.place ≡ old.place + break_heads before
+  pub within : new.place ≤ length new.bytes
+  pub heads : new.heads ≡ raised old.heads (break_heads before)
   pub nodes : new.nodes ≡ old.nodes
+  pub bytes : new.bytes ≡ old.bytes
 
 pub record WalksOn (before after : Option ℕ) (old new : Walk) (found : Bool) : Type 0 where
   pub items : Walks (Within max_depth) before after old new found
   pub pairs : Walks (PairWithin max_depth) before after old new found
-  pub looks : Looks old new found
+  pub looks : Looks before after old new found

@@ -1,12 +1,13 @@
 -- What the calls of a cursor answer, in terms of reading what is ahead.
-use Rattle.std.specs.Prelude.{◌≡◌, ◌⊎◌, ℕ, ◌+◌, ◌<◌, ◌≤◌, List, ◌++◌, length, Bool, true, false, Option, Some, None}
+use Rattle.std.specs.Prelude.{◌≡◌, ◌⊎◌, ℕ, ◌+◌, ◌<◌, ◌≤◌, List, [], ◌++◌, length, Bool, true, false, Option, Some, None, Result, Ok, Err}
 use Rattle.passkey_cbor.specs.Item.{Item}
 use Rattle.passkey_cbor.specs.HeadReading.{Read, head_at}
 use Rattle.passkey_cbor.specs.Reading.{Reader, start, end, element, step_at, may_stand, chunk, list_at, string_at, string_by, pair_by, item_within}
-use Rattle.passkey_cbor.specs.Walk.{Walk, ahead, Passed, Stopped}
+use Rattle.passkey_cbor.specs.Front.{max_depth}
+use Rattle.passkey_cbor.specs.Walk.{Walk, ahead, raised, break_heads, Passed, Stopped}
 use Rattle.passkey_cbor.specs.Inside.{Content}
 use Rattle.passkey_cbor.specs.Lent.{Region, PassesString}
-use Rattle.passkey_cbor.specs.Names.{place_of}
+use Rattle.passkey_cbor.specs.Names.{place_of, heads_until}
 use Rattle.passkey_cbor.specs.declared.head.Head.{Head}
 use Rattle.passkey_cbor.specs.declared.head.Head.TheVariants as head
 use Rattle.passkey_cbor.specs.declared.cursor.Next.{Next}
@@ -32,7 +33,7 @@ IsHead head.Break = Unit {0}
 pub record HeadRead (old new : Walk) (h : Head) : Type 0 where
   pub reads : head_at (ahead old) ≡ Some (h, ahead new)
   pub passed : Passed old new
-  pub counted : new.heads ≤ old.heads + 1
+  pub counted : new.heads ≡ raised old.heads 1
   pub further : old.place < new.place
   pub well_formed : IsHead h
 
@@ -50,14 +51,14 @@ ReadsHead old new None = NoHead (head_at (ahead old)) old new
 pub record ElementRead (left after : Option ℕ) (old new : Walk) (h : Head) : Type 0 where
   pub reads : step_at left (ahead old) ≡ Some (element after h (ahead new))
   pub passed : Passed old new
-  pub counted : new.heads ≤ old.heads + 1
+  pub counted : new.heads ≡ raised old.heads 1
   pub further : old.place < new.place
   pub well_formed : IsHead h
 
 pub record EndRead (left : Option ℕ) (old new : Walk) : Type 0 where
   pub reads : step_at left (ahead old) ≡ Some (end (ahead new))
   pub passed : Passed old new
-  pub counted : new.heads ≤ old.heads + 1
+  pub counted : new.heads ≡ raised old.heads (break_heads left)
 
 abbrev pub ReadsStep : Option ℕ → Option ℕ → Walk → Walk → Next → Type 0
 ReadsStep left after old new (next.Element h) = ElementRead left after old new h
@@ -92,12 +93,10 @@ Skips read old new false = NoHead read old new
 abbrev pub Entered : Entry → Type 0
 Entered entry.Item = Item
 Entered entry.Pair = Item × Item
-Entered (entry.Chunk is_text) = List ℕ
 
 abbrev pub entry_by : ℕ → (e : Entry) → Reader (Entered e)
 entry_by levels entry.Item = item_within levels
 entry_by levels entry.Pair = pair_by (item_within levels)
-entry_by levels (entry.Chunk is_text) = chunk is_text
 
 -- ---- strings that are lent
 
@@ -116,12 +115,35 @@ ReadsRegion is_text len old new None = NoHead (string_at is_text len (ahead old)
 abbrev pub AreSought : Bool → List (List ℕ) → Walk → Option ℕ → Type 0
 AreSought is_text names old place = (s rest : List ℕ) → string_at is_text None (ahead old) ≡ Some (s, rest) → place ≡ place_of s names
 
--- The chunks ahead were looked at: one head or more, at most one for each and one for the break.
-pub record CountsChunks (is_text : Bool) (old new : Walk) : Type 0 where
-  pub some : 0 < new.heads
+-- So many bytes are in the string that is read.
+abbrev pub IsLengthOf : Read (List ℕ) → ℕ → Type 0
+IsLengthOf read n = (s rest : List ℕ) → read ≡ Some (s, rest) → length s ≡ n
+
+-- The chunks ahead were looked at, each and the break.
+abbrev pub CountsAll : Bool → Walk → Walk → Type 0
+CountsAll is_text old new = (chunks : List (List ℕ)) (rest : List ℕ) → list_at (chunk is_text) None (ahead old) ≡ Some (chunks, rest) → new.heads ≡ raised old.heads (length chunks + 1)
+
+-- One head or more was looked at, at most each chunk's and the break.
+pub record CountsSome (is_text : Bool) (old new : Walk) : Type 0 where
+  pub least : raised old.heads 1 ≤ new.heads
   pub heads : (chunks : List (List ℕ)) (rest : List ℕ) → list_at (chunk is_text) None (ahead old) ≡ Some (chunks, rest) → new.heads ≤ old.heads + length chunks + 1
+
+-- All of them to join the chunks, some where they weren't joined.
+abbrev pub CountsChunks : {T E : Type 0} → Bool → Walk → Walk → Result T E → Type 0
+CountsChunks is_text old new (Ok v) = CountsAll is_text old new
+CountsChunks is_text old new (Err e) = CountsSome is_text old new
+
+-- The chunks ahead were looked at, as long as a name begins so.
+abbrev pub CountsSought : Bool → List (List ℕ) → Walk → Walk → Type 0
+CountsSought is_text names old new = (chunks : List (List ℕ)) (rest : List ℕ) → list_at (chunk is_text) None (ahead old) ≡ Some (chunks, rest) → new.heads ≡ raised old.heads (heads_until names [] chunks)
+
+-- No string with its head was read; where another item is, its head alone was decoded.
+pub record NoStringRead (is_text : Bool) (old new : Walk) : Type 0 where
+  pub no_string : NoHead (start (string_by is_text) (ahead old)) old new
+  pub least : raised old.heads 1 ≤ new.heads
+  pub one : (x : Item) (rest : List ℕ) → start (item_within max_depth) (ahead old) ≡ Some (x, rest) → new.heads ≡ raised old.heads 1
 
 -- a string with its head
 abbrev pub ReadsString : Bool → Walk → Walk → Option Region → Type 0
 ReadsString is_text old new (Some r) = PassesString is_text old new r
-ReadsString is_text old new None = NoHead (start (string_by is_text) (ahead old)) old new
+ReadsString is_text old new None = NoStringRead is_text old new

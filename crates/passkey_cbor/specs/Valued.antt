@@ -11,23 +11,26 @@ use Rattle.passkey_cbor.specs.declared.value.Value.{Value}
 use Rattle.passkey_cbor.specs.declared.error.CborError.{CborError}
 use Rattle.passkey_cbor.specs.declared.error.CborError.TheVariants as error
 
--- The cursor passed the item ahead and made it, with at most two heads for each of its bytes; each item in it is counted.
+-- The cursor passed the item ahead and made it, with at least one head, and at most two for each of its bytes; each item in it is counted.
 pub record MakesFront (old new : Walk) (x : Item) : Type 0 where
   pub len : ℕ
   pub front : IsFront (ahead old) x len
   pub place : new.place ≡ old.place + len
+  pub least : raised old.heads 1 ≤ new.heads
   pub heads : new.heads ≤ old.heads + 2 * len
   pub nodes : new.nodes ≡ raised old.nodes (nodes x)
   pub bytes : new.bytes ≡ old.bytes
 
--- An item that takes memory stands ahead, and there was none; the cursor stays.
+-- An item that takes memory stands ahead, and there was none; the cursor stays, and its counts don't fall.
 pub record FindsNoMemory (old new : Walk) : Type 0 where
   pub item : Item
   pub len : ℕ
   pub front : IsFront (ahead old) item len
   pub grows : Grows item
   pub place : new.place ≡ old.place
+  pub least : raised old.heads 1 ≤ new.heads
   pub heads : new.heads ≤ old.heads + 2 * len
+  pub least_nodes : old.nodes ≤ new.nodes
   pub nodes : new.nodes ≤ old.nodes + nodes item
   pub bytes : new.bytes ≡ old.bytes
 

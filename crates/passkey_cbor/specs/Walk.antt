@@ -1,5 +1,5 @@
 -- Where a cursor stands in its bytes, and what it has counted.
-use Rattle.std.specs.Prelude.{◌≡◌, ℕ, zero, suc, ◌+◌, ◌-◌, ◌^◌, ◌≤◌, min, List, length, drop}
+use Rattle.std.specs.Prelude.{◌≡◌, ℕ, zero, suc, ◌+◌, ◌-◌, ◌^◌, ◌≤◌, min, List, length, drop, Option, Some, None}
 use Rattle.passkey_cbor.specs.Bytes.{IsBytes}
 
 pub record Walk : Type 0 where
@@ -17,6 +17,11 @@ abbrev pub raised : ℕ → ℕ → ℕ
 raised n zero = n
 raised n (suc k) = min (n + suc k) (2 ^ 128 - 1)
 
+-- how many heads are decoded to see whether a list goes on: none where its length is known, else one, which may be its break
+abbrev pub break_heads : Option ℕ → ℕ
+break_heads (Some n) = 0
+break_heads None = 1
+
 -- What holds of every cursor: its place is in the bytes, and these are bytes.
 pub record IsPlaced (bytes : List ℕ) (place : ℕ) : Type 0 where
   pub within : place ≤ length bytes
@@ -30,6 +35,7 @@ pub record Passed (old new : Walk) : Type 0 where
   pub same : new.bytes ≡ old.bytes
   pub within : new.place ≤ length new.bytes
   pub forward : old.place ≤ new.place
+  pub rises : old.heads ≤ new.heads
   pub heads : new.heads + old.place ≤ old.heads + new.place
   pub nodes : new.nodes ≡ old.nodes
 
@@ -38,5 +44,6 @@ pub record Stopped (old new : Walk) : Type 0 where
   pub same : new.bytes ≡ old.bytes
   pub within : new.place ≤ length new.bytes
   pub forward : old.place ≤ new.place
+  pub rises : old.heads ≤ new.heads
   pub heads : new.heads ≤ old.heads + length (ahead old) + 1
   pub nodes : new.nodes ≡ old.nodes

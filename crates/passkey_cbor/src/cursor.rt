@@ -1,5 +1,5 @@
 //! A cursor over lent bytes, which decodes head by head and counts the heads.
-ghost use Rattle.std.specs.Prelude.{◌≡◌, ℕ, ◌+◌, ◌≤◌, min, None, option_map, IfNone};
+ghost use Rattle.std.specs.Prelude.{◌≡◌, ℕ, ◌+◌, ◌≤◌, min, None, option_map, IfNone, IfSome};
 ghost use Rattle.passkey_cbor.specs.Walk.{ahead, raised, IsInside, IsPlaced};
 ghost use Rattle.passkey_cbor.specs.Found.{FindsHead};
 ghost use Rattle.passkey_cbor.specs.Item.{Item};
@@ -78,7 +78,9 @@ impl<'a> Cursor<'a> {
 
     /// Raises the counts by these, each up to `u128::MAX`.
     pub fn add(&mut self, count: Count)
-        ensures { self.new ≡ record self.old { heads = min (self.old.heads + count.heads) u128.MAX; nodes = min (self.old.nodes + count.nodes) u128.MAX } }
+        ensures raised { self.new ≡ record self.old { heads = min (self.old.heads + count.heads) u128.MAX; nodes = min (self.old.nodes + count.nodes) u128.MAX } }
+        ensures heads { self.old.heads ≤ self.new.heads }
+        ensures nodes { self.old.nodes ≤ self.new.nodes }
     {
         self.count.heads = self.count.heads.saturating_add(count.heads);
         self.count.nodes = self.count.nodes.saturating_add(count.nodes);
@@ -135,6 +137,7 @@ impl<'a> Cursor<'a> {
     pub(crate) fn decode(&mut self) -> Option<Head>
         ensures reads { ReadsHead self.old self.new result }
         ensures counted { self.new.heads ≡ raised self.old.heads 1 }
+        ensures rises { self.old.heads ≤ self.new.heads }
         ensures stays { IfNone result (self.new.place ≡ self.old.place) }
         ensures placed { IsPlaced self.old.bytes self.old.place }
     {
@@ -188,6 +191,7 @@ impl<'a> Cursor<'a> {
     pub(crate) fn piece(&mut self, is_text: bool, len: u64) -> Option<&'a [u8]>
         ensures reads { ReadsPiece is_text (piece_at is_text len (ahead self.old)) self.old self.new (option_map (λ s. s.now) result) }
         ensures uncounted { self.new.heads ≡ self.old.heads }
+        ensures fits { IfSome result (λ _. self.new.place ≤ usize.MAX) }
     {
         let bytes = self.bytes;
         match piece_of(is_text, len, &bytes[self.place..]) {
@@ -204,6 +208,7 @@ impl<'a> Cursor<'a> {
         requires { IsInside self.old }
         ensures reads { ReadsPiece is_text (chunk is_text head (ahead self.old)) self.old self.new (option_map (λ s. s.now) result) }
         ensures uncounted { self.new.heads ≡ self.old.heads }
+        ensures fits { IfSome result (λ _. self.new.place ≤ usize.MAX) }
     {
         match head.chunk_len(is_text) {
             None => None,

@@ -1,5 +1,6 @@
 //! Why no item was read or made.
-ghost use Rattle.std.specs.Prelude.{◌≡◌};
+ghost use Rattle.std.specs.Prelude.{◌≡◌, Some};
+ghost use Rattle.passkey_cbor.specs.ErrorNames.{cbor_error_name};
 ghost use Rattle.passkey_cbor.specs.declared.error.CborError.TheVariants.{OutOfMemory as NoMemory};
 
 use passkey_memory::OutOfMemory;
@@ -19,6 +20,8 @@ pub enum CborError {
 }
 
 impl fmt::Display for CborError {
+    ghost output = { λ e. Some (cbor_error_name e) };
+
     fn fmt<W: fmt::Write>(&self, f: &mut fmt::Formatter<W>) -> fmt::Result {
         f.write_str(match self {
             CborError::DecodeFailed => "DecodeFailed",

@@ -1,10 +1,9 @@
 //! Which of some names a string is.
-ghost use Rattle.std.specs.Prelude.{◌≡◌, ◌++◌, ℕ, List, map, MatchOption};
+ghost use Rattle.std.specs.Prelude.{◌≡◌, ◌++◌, ℕ, List, map, is_some, IfSome, MatchOption};
 ghost use Rattle.std.specs.List.{position};
 ghost use Rattle.std.specs.Str.{bytes_eq};
-ghost use Rattle.passkey_cbor.specs.Lent.{LooksAgain};
-ghost use Rattle.passkey_cbor.specs.Names.{NoneBegins, IsNameOf};
-ghost use Rattle.passkey_cbor.specs.Steps.{AreSought, CountsChunks};
+ghost use Rattle.passkey_cbor.specs.Names.{begins, begins_one, IsNameOf, LooksFor};
+ghost use Rattle.passkey_cbor.specs.Steps.{AreSought, CountsSought};
 ghost use Rattle.passkey_cbor.specs.Walk.{IsInside};
 
 use crate::cursor::{Cursor, Next};
@@ -25,7 +24,8 @@ fn behind<'b>(bytes: &'b [u8], front: &[u8]) -> Option<&'b [u8]>
 
 // How the name begins, where it begins with these bytes and then those.
 fn begin_of<'n>(name: &'n [u8], front: &[u8], more: &[u8]) -> Option<&'n [u8]>
-    ensures { MatchOption result ((rest : List ℕ) → name.now ≡ (front.now ++ more.now) ++ rest → ⊥) (λ s. s.now ≡ front.now ++ more.now) }
+    ensures begins { is_some result ≡ begins (front.now ++ more.now) name.now }
+    ensures same { IfSome result (λ s. s.now ≡ front.now ++ more.now) }
 {
     match behind(name, front) {
         None => None,
@@ -38,7 +38,8 @@ fn begin_of<'n>(name: &'n [u8], front: &[u8], more: &[u8]) -> Option<&'n [u8]>
 
 // What was joined so far and one more piece, as one of the names begins; none where none does.
 fn longer<'n>(names: &[&'n str], joined: &[u8], piece: &[u8]) -> Option<&'n [u8]>
-    ensures { MatchOption result (NoneBegins (joined.now ++ piece.now) (map (λ n. n.now) names.now)) (λ s. s.now ≡ joined.now ++ piece.now) }
+    ensures begins { is_some result ≡ begins_one (joined.now ++ piece.now) (map (λ n. n.now) names.now) }
+    ensures same { IfSome result (λ s. s.now ≡ joined.now ++ piece.now) }
 {
     for name in names {
         let begin = begin_of(name.as_bytes(), joined, piece);
@@ -61,7 +62,7 @@ fn place_of(names: &[&str], bytes: &[u8]) -> Option<usize>
 fn place_of_joined(chunks: &mut Cursor<'_>, is_text: bool, names: &[&str]) -> Option<usize>
     requires { IsInside chunks.old }
     ensures place { AreSought is_text (map (λ n. n.now) names.now) chunks.old result }
-    ensures counted { CountsChunks is_text chunks.old chunks.new }
+    ensures counted { CountsSought is_text (map (λ n. n.now) names.now) chunks.old chunks.new }
 {
     let mut left = None;
     let mut joined: &[u8] = &[];
@@ -90,7 +91,7 @@ pub(crate) fn name_of(
     cursor: &mut Cursor<'_>,
 ) -> Option<usize>
     ensures name { IsNameOf is_text (record { len = len; bytes = region.now }) (map (λ n. n.now) names.now) result }
-    ensures looks { LooksAgain is_text (record { len = len; bytes = region.now }) cursor.old cursor.new }
+    ensures looks { LooksFor is_text (map (λ n. n.now) names.now) (record { len = len; bytes = region.now }) cursor.old cursor.new }
 {
     match len {
         Some(_) => place_of(names, region),

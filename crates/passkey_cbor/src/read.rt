@@ -231,7 +231,7 @@ impl<'a> Cursor<'a> {
         requires { IsInside self.old }
         ensures made { Makes some_bytes (string_at is_text None (ahead self.old)) self.old self.new result }
         ensures stands { IfOk result (λ v. may_stand is_text v.items ≡ true) }
-        ensures counted { CountsChunks is_text self.old self.new }
+        ensures counted { CountsChunks is_text self.old self.new result }
     {
         let mut bytes = Vec::new(alloc);
         let mut left = None;

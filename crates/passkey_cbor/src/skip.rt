@@ -1,8 +1,8 @@
 //! Passing over items without making them.
-ghost use Rattle.std.specs.Prelude.{ℕ, MatchOption};
-ghost use Rattle.passkey_cbor.specs.Walk.{ahead, IsInside};
+ghost use Rattle.std.specs.Prelude.{ℕ, ◌≤◌, None, is_some, IfSome, MatchOption};
+ghost use Rattle.passkey_cbor.specs.Walk.{ahead, raised, IsInside};
 ghost use Rattle.passkey_cbor.specs.Reading.{start, string_at, item_within, list_at};
-ghost use Rattle.passkey_cbor.specs.Steps.{Skips, entry_by};
+ghost use Rattle.passkey_cbor.specs.Steps.{Skips, IsLengthOf, entry_by};
 ghost use Rattle.passkey_cbor.specs.Skipped.{SkipsFront};
 ghost use Rattle.passkey_cbor.specs.Stands.{Stands, Passes};
 ghost use Rattle.passkey_cbor.specs.Item.{Item};
@@ -11,13 +11,11 @@ ghost use Rattle.passkey_cbor.specs.Front.{IsFront, HasNoFront};
 use crate::cursor::{Cursor, MAX_DEPTH, Next};
 use crate::head::Head;
 
-/// What the elements of a list are: the items of an array, the pairs of a map, or the chunks of
-/// a byte string or of a text string.
+/// What the elements of a list are: the items of an array, or the pairs of a map.
 #[derive(Clone, Copy)]
 pub(crate) enum Entry {
     Item,
     Pair,
-    Chunk(bool),
 }
 
 impl<'a> Cursor<'a> {
@@ -41,7 +39,8 @@ impl<'a> Cursor<'a> {
     #[cycle(skip)]
     pub(crate) fn skip_item(&mut self, levels: u16) -> bool
         requires { IsInside self.old }
-        ensures { Skips (start (item_within levels) (ahead self.old)) self.old self.new result }
+        ensures skips { Skips (start (item_within levels) (ahead self.old)) self.old self.new result }
+        ensures least { raised self.old.heads 1 ≤ self.new.heads }
     {
         match self.decode() {
             None => false,
@@ -60,24 +59,12 @@ impl<'a> Cursor<'a> {
             Head::Negative(_) => true,
             Head::Simple(_) => true,
             Head::Float(_) => true,
-            Head::Bytes(len) => self.skip_string(false, len),
-            Head::Text(len) => self.skip_string(true, len),
+            Head::Bytes(len) => self.pass_string(false, len).is_some(),
+            Head::Text(len) => self.pass_string(true, len).is_some(),
             Head::Array(len) => levels > 0 && self.skip_list(Entry::Item, len, levels - 1),
             Head::Map(len) => levels > 0 && self.skip_list(Entry::Pair, len, levels - 1),
             Head::Tag(_) => levels > 0 && self.skip_item(levels - 1),
             Head::Break => false,
-        }
-    }
-
-    // Passes a string whose head was read.
-    #[cycle(skip)]
-    pub(crate) fn skip_string(&mut self, is_text: bool, len: Option<u64>) -> bool
-        requires { IsInside self.old }
-        ensures { Skips (string_at is_text len (ahead self.old)) self.old self.new result }
-    {
-        match len {
-            Some(len) => self.piece(is_text, len).is_some(),
-            None => self.skip_list(Entry::Chunk(is_text), None, 0),
         }
     }
 
@@ -110,7 +97,41 @@ impl<'a> Cursor<'a> {
         match entry {
             Entry::Item => self.skip_behind(head, levels),
             Entry::Pair => self.skip_behind(head, levels) && self.skip_item(levels),
-            Entry::Chunk(is_text) => self.chunk(is_text, head).is_some(),
+        }
+    }
+
+    /// Passes a string whose head was read: how many bytes the string has.
+    pub(crate) fn pass_string(&mut self, is_text: bool, len: Option<u64>) -> Option<usize>
+        requires { IsInside self.old }
+        ensures skips { Skips (string_at is_text len (ahead self.old)) self.old self.new (is_some result) }
+        ensures size { IfSome result (IsLengthOf (string_at is_text len (ahead self.old))) }
+    {
+        match len {
+            Some(len) => match self.piece(is_text, len) {
+                None => None,
+                Some(piece) => Some(piece.len()),
+            },
+            None => self.pass_chunks(is_text),
+        }
+    }
+
+    // Passes the chunks of a string and their break: how many bytes they have together.
+    fn pass_chunks(&mut self, is_text: bool) -> Option<usize>
+        requires { IsInside self.old }
+        ensures skips { Skips (string_at is_text None (ahead self.old)) self.old self.new (is_some result) }
+        ensures size { IfSome result (IsLengthOf (string_at is_text None (ahead self.old))) }
+    {
+        let mut left = None;
+        let mut size = 0;
+        loop {
+            match self.step(&mut left) {
+                Next::Malformed => return None,
+                Next::End => return Some(size),
+                Next::Element(head) => match self.chunk(is_text, head) {
+                    None => return None,
+                    Some(piece) => size += piece.len(),
+                },
+            }
         }
     }
 }

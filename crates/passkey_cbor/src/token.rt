@@ -1,13 +1,13 @@
 //! Strings that a cursor passes and lends, in one piece or in chunks.
-ghost use Rattle.std.specs.Prelude.{◌≡◌, true, false, map, option_map, IfOk};
+ghost use Rattle.std.specs.Prelude.{◌≡◌, ◌+◌, ◌≤◌, true, false, List, [], ◌∷◌, ◌++◌, take, drop, length, map, option_map, IfOk, IfSome, None};
 ghost use Rattle.std.specs.String.{string_bytes};
-ghost use Rattle.passkey_cbor.specs.Lent.{LendsString, LendsStanding, LentWhole, LooksAgain, IsNamed, Copies, IsRegion};
-ghost use Rattle.passkey_cbor.specs.Names.{IsNameOf};
-ghost use Rattle.passkey_cbor.specs.Steps.{ReadsRegion, ReadsString};
+ghost use Rattle.passkey_cbor.specs.Lent.{LendsString, LendsStanding, LentWhole, LooksToCopy, LooksAtAll, LooksToFill, IsNamed, Copies, Fills, IsRegion, IsSized, Tells};
+ghost use Rattle.passkey_cbor.specs.Names.{IsNameOf, LooksFor};
+ghost use Rattle.passkey_cbor.specs.Steps.{ReadsRegion, ReadsString, CountsAll};
 ghost use Rattle.passkey_cbor.specs.Reading.{may_stand};
-ghost use Rattle.passkey_cbor.specs.Walk.{IsInside};
+ghost use Rattle.passkey_cbor.specs.Walk.{ahead, IsInside};
 
-use crate::cursor::Cursor;
+use crate::cursor::{Cursor, Next};
 use crate::names::name_of;
 use passkey_memory::OutOfMemory;
 use std::alloc::Global;
@@ -39,17 +39,20 @@ impl<'a> Model for TextToken<'a> {
 pub struct BytesToken<'a> {
     len: Option<u64>,
     region: &'a [u8],
+
+    /// How many bytes the string has.
+    size: usize,
 }
 
 impl<'a> Model for BytesToken<'a> {
-    ghost use Rattle.passkey_cbor.specs.Lent.{Region, IsRegion};
+    ghost use Rattle.passkey_cbor.specs.Lent.{Region, IsRegion, IsSized};
     ghost use Rattle.std.specs.Prelude.{false};
 
     ghost Value = { Region };
 
     ghost view = { λ t. record { len = t.len; bytes = t.region.now } };
 
-    ghost invariant = { λ t. IsRegion false (record { len = t.len; bytes = t.region.now }) };
+    ghost invariant = { λ t. IsRegion false (record { len = t.len; bytes = t.region.now }) × IsSized false (record { len = t.len; bytes = t.region.now }) t.size };
 }
 
 impl<'a> Cursor<'a> {
@@ -63,7 +66,7 @@ impl<'a> Cursor<'a> {
     {
         match self.string(true) {
             None => None,
-            Some((len, region)) => Some(TextToken { len, region }),
+            Some((len, region, _)) => Some(TextToken { len, region }),
         }
     }
 
@@ -77,15 +80,16 @@ impl<'a> Cursor<'a> {
     {
         match self.string(false) {
             None => None,
-            Some((len, region)) => Some(BytesToken { len, region }),
+            Some((len, region, size)) => Some(BytesToken { len, region, size }),
         }
     }
 
-    // Passes a string of this kind, or stays where none stands: the length that its head says, and
-    // what stands behind the head.
-    fn string(&mut self, is_text: bool) -> Option<(Option<u64>, &'a [u8])>
+    // Passes a string of this kind, or stays where none stands: the length that its head says, what
+    // stands behind the head, and how many bytes the string has.
+    fn string(&mut self, is_text: bool) -> Option<(Option<u64>, &'a [u8], usize)>
         ensures front { LendsString is_text self.old self.new (option_map (λ r. record { len = r.0; bytes = r.1.now }) result) }
         ensures lends { LendsStanding is_text self.old self.new (option_map (λ r. record { len = r.0; bytes = r.1.now }) result) }
+        ensures size { IfSome result (λ r. IsSized is_text (record { len = r.0; bytes = r.1.now }) r.2) }
     {
         let place = self.place;
         let found = self.string_ahead(is_text);
@@ -96,8 +100,9 @@ impl<'a> Cursor<'a> {
     }
 
     // Passes a string of this kind, or stops where none stands.
-    fn string_ahead(&mut self, is_text: bool) -> Option<(Option<u64>, &'a [u8])>
-        ensures { ReadsString is_text self.old self.new (option_map (λ r. record { len = r.0; bytes = r.1.now }) result) }
+    fn string_ahead(&mut self, is_text: bool) -> Option<(Option<u64>, &'a [u8], usize)>
+        ensures reads { ReadsString is_text self.old self.new (option_map (λ r. record { len = r.0; bytes = r.1.now }) result) }
+        ensures size { IfSome result (λ r. IsSized is_text (record { len = r.0; bytes = r.1.now }) r.2) }
     {
         match self.decode() {
             None => None,
@@ -105,23 +110,25 @@ impl<'a> Cursor<'a> {
                 None => None,
                 Some(len) => match self.region(is_text, len) {
                     None => None,
-                    Some(region) => Some((len, region)),
+                    Some((region, size)) => Some((len, region, size)),
                 },
             },
         }
     }
 
-    // Passes what stands behind the head of a string that says this length.
-    fn region(&mut self, is_text: bool, len: Option<u64>) -> Option<&'a [u8]>
+    // Passes what stands behind the head of a string that says this length: that, and how many bytes
+    // the string has.
+    fn region(&mut self, is_text: bool, len: Option<u64>) -> Option<(&'a [u8], usize)>
         requires { IsInside self.old }
-        ensures { ReadsRegion is_text len self.old self.new (option_map (λ s. s.now) result) }
+        ensures reads { ReadsRegion is_text len self.old self.new (option_map (λ r. r.0.now) result) }
+        ensures size { IfSome result (λ r. IsSized is_text (record { len = len; bytes = r.0.now }) r.1) }
     {
         let bytes = self.bytes;
         let start = self.place;
-        if !self.skip_string(is_text, len) {
+        let Some(size) = self.pass_string(is_text, len) else {
             return None;
-        }
-        Some(&bytes[start..self.place])
+        };
+        Some((&bytes[start..self.place], size))
     }
 }
 
@@ -136,7 +143,7 @@ fn copy(
     requires { IsRegion is_text (record { len = len; bytes = region.now }) }
     ensures copies { Copies (λ v. v.items) is_text (record { len = len; bytes = region.now }) result }
     ensures stands { IfOk result (λ v. may_stand is_text v.items ≡ true) }
-    ensures looks { LooksAgain is_text (record { len = len; bytes = region.now }) cursor.old cursor.new }
+    ensures looks { LooksToCopy is_text (record { len = len; bytes = region.now }) cursor.old cursor.new result }
 {
     match len {
         Some(_) => {
@@ -157,32 +164,81 @@ fn copy(
     }
 }
 
+// Puts the piece into the slice, at a place.
+fn put(into: &mut [u8], at: usize, piece: &[u8])
+    requires { at + length piece.now ≤ length into.old }
+    ensures { into.new ≡ take at into.old ++ (piece.now ++ drop (at + length piece.now) into.old) }
+{
+    into[at..at + piece.len()].copy_from_slice(piece);
+}
+
+// Puts the chunks ahead, up to their break, into a slice of as many bytes as they have.
+fn put_chunks(chunks: &mut Cursor<'_>, into: &mut [u8])
+    requires inside { IsInside chunks.old }
+    requires region { IsRegion false (record { len = None; bytes = ahead chunks.old }) }
+    requires size { IsSized false (record { len = None; bytes = ahead chunks.old }) (length into.old) }
+    ensures filled { Tells false (record { len = None; bytes = ahead chunks.old }) into.new }
+    ensures counted { CountsAll false chunks.old chunks.new }
+{
+    let mut left = None;
+    let mut at = 0;
+    loop {
+        match chunks.step(&mut left) {
+            // They are those of a token, which are well formed.
+            Next::Malformed => return,
+            Next::End => return,
+            Next::Element(head) => match chunks.chunk(false, head) {
+                None => return,
+                Some(piece) => {
+                    put(into, at, piece);
+                    at += piece.len();
+                }
+            },
+        }
+    }
+}
+
+// Puts the bytes of a byte string in chunks, by its region, into a slice of as many. The heads are
+// counted at the cursor.
+fn fill_chunks(region: &[u8], cursor: &mut Cursor<'_>, into: &mut [u8])
+    requires region { IsRegion false (record { len = None; bytes = region.now }) }
+    requires size { IsSized false (record { len = None; bytes = region.now }) (length into.old) }
+    ensures filled { Tells false (record { len = None; bytes = region.now }) into.new }
+    ensures looks { LooksAtAll false (record { len = None; bytes = region.now }) cursor.old cursor.new }
+{
+    let mut chunks = Cursor::new(region);
+    put_chunks(&mut chunks, into);
+    cursor.add_heads(chunks.count().heads);
+}
+
 impl<'a> TextToken<'a> {
     /// Whether it is the text with this name. Where it is in chunks, each head that is decoded again
-    /// is counted at the cursor, which stays: at most one for each chunk, and one for the break.
+    /// is counted at the cursor, which stays: one for each chunk as long as the name begins so, and
+    /// then one for the break.
     pub fn eq_name(&self, name: &str, cursor: &mut Cursor<'_>) -> bool
         ensures same { IsNamed true self.now name.now result }
-        ensures looks { LooksAgain true self.now cursor.old cursor.new }
+        ensures looks { LooksFor true (name.now ∷ []) self.now cursor.old cursor.new }
     {
         name_of(true, self.len, self.region, &[name], cursor).is_some()
     }
 
     /// The place of the first of the names that it is; none where it is none of them. All
     /// are looked for in one walk. Where it is in chunks, each head that is decoded again is counted
-    /// at the cursor, which stays: at most one for each chunk, and one for the break.
+    /// at the cursor, which stays: one for each chunk as long as one of the names begins so, and
+    /// then one for the break.
     pub fn name_of(&self, names: &[&str], cursor: &mut Cursor<'_>) -> Option<usize>
         ensures name { IsNameOf true self.now (map (λ n. n.now) names.now) result }
-        ensures looks { LooksAgain true self.now cursor.old cursor.new }
+        ensures looks { LooksFor true (map (λ n. n.now) names.now) self.now cursor.old cursor.new }
     {
         name_of(true, self.len, self.region, names, cursor)
     }
 
     /// A copy of the text. `OutOfMemory` where a growth was refused, which cannot be for an empty
     /// text. Where it is in chunks, each head that is decoded again is counted at the cursor, which
-    /// stays: at most one for each chunk, and one for the break.
+    /// stays: one for each chunk and one for the break, or fewer where memory ran out.
     pub fn copy(&self, alloc: Global, cursor: &mut Cursor<'_>) -> Result<String, OutOfMemory>
         ensures copies { Copies string_bytes true self.now result }
-        ensures looks { LooksAgain true self.now cursor.old cursor.new }
+        ensures looks { LooksToCopy true self.now cursor.old cursor.new result }
     {
         let bytes = copy(alloc, true, self.len, self.region, cursor)?;
         Ok(String::from_utf8(bytes).unwrap())
@@ -201,33 +257,52 @@ impl<'a> TextToken<'a> {
 
 impl<'a> BytesToken<'a> {
     /// Whether it is the byte string with the bytes of this name. Where it is in chunks, each head
-    /// that is decoded again is counted at the cursor, which stays: at most one for each chunk, and
-    /// one for the break.
+    /// that is decoded again is counted at the cursor, which stays: one for each chunk as long as
+    /// the name begins so, and then one for the break.
     pub fn eq_name(&self, name: &str, cursor: &mut Cursor<'_>) -> bool
         ensures same { IsNamed false self.now name.now result }
-        ensures looks { LooksAgain false self.now cursor.old cursor.new }
+        ensures looks { LooksFor false (name.now ∷ []) self.now cursor.old cursor.new }
     {
         name_of(false, self.len, self.region, &[name], cursor).is_some()
     }
 
     /// The place of the first of the names whose bytes it has; none where it is none of them. All
     /// are looked for in one walk. Where it is in chunks, each head that is decoded again is counted
-    /// at the cursor, which stays: at most one for each chunk, and one for the break.
+    /// at the cursor, which stays: one for each chunk as long as one of the names begins so, and
+    /// then one for the break.
     pub fn name_of(&self, names: &[&str], cursor: &mut Cursor<'_>) -> Option<usize>
         ensures name { IsNameOf false self.now (map (λ n. n.now) names.now) result }
-        ensures looks { LooksAgain false self.now cursor.old cursor.new }
+        ensures looks { LooksFor false (map (λ n. n.now) names.now) self.now cursor.old cursor.new }
     {
         name_of(false, self.len, self.region, names, cursor)
     }
 
     /// A copy of the bytes. `OutOfMemory` where a growth was refused, which cannot be for no bytes.
     /// Where they are in chunks, each head that is decoded again is counted at the cursor, which
-    /// stays: at most one for each chunk, and one for the break.
+    /// stays: one for each chunk and one for the break, or fewer where memory ran out.
     pub fn copy(&self, alloc: Global, cursor: &mut Cursor<'_>) -> Result<Vec<u8>, OutOfMemory>
         ensures copies { Copies (λ v. v.items) false self.now result }
-        ensures looks { LooksAgain false self.now cursor.old cursor.new }
+        ensures looks { LooksToCopy false self.now cursor.old cursor.new result }
     {
         copy(alloc, false, self.len, self.region, cursor)
+    }
+
+    /// Puts the bytes into the slice and answers true, if it is as long as they are; else false, and
+    /// the slice is as it was. Takes no memory. Where the string is in chunks, each head that is
+    /// decoded again is counted at the cursor, which stays: one for each chunk and one for the
+    /// break, and none where the answer is false.
+    pub fn fill(&self, cursor: &mut Cursor<'_>, into: &mut [u8]) -> bool
+        ensures filled { Fills self.now into.old into.new result }
+        ensures looks { LooksToFill self.now cursor.old cursor.new result }
+    {
+        if self.size != into.len() {
+            return false;
+        }
+        match self.len {
+            Some(_) => into.copy_from_slice(self.region),
+            None => fill_chunks(self.region, cursor, into),
+        }
+        true
     }
 
     /// The bytes, where the head says their length.

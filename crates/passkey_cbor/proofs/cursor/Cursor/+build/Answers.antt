@@ -109,7 +109,7 @@ build_inside-returns-in_ok-new-in-Tag t c =
     makes_put an_item a_counted_item (tagged c.in-Tag.tag) (start (item_within (c.args.levels - 1)) (ahead c.args.self.now)) _ c.args.self.now c.build_item.new.self c.in_ok-inner-in-Tag.inner (Tag c.in-Tag.tag c.in_ok-new-in-Tag.field-0) (by_tag c.args.levels c.in-Tag.tag c.args.head (ahead c.args.self.now) (omega arith) c.in-Tag.is) (item_of-Tag c.in-Tag.tag c.in_ok-new-in-Tag.field-0 ∙ ap (λ v. tagged c.in-Tag.tag (item_of v)) c.in_ok-new-in-Tag.ensures.ok) (tag_size c.in-Tag.tag) c.in_ok-inner-in-Tag.ensures
 
 pub build_behind-returns : goal.build_behind-returns
-build_behind-returns t c = counted_once (item_within c.args.levels c.args.head (ahead c.args.self.now)) c.args.self.now c.add.new.self c.build_inside.new.self c.build_inside.result c.add.ensures (subst (λ (bytes : List ℕ). Makes a_counted_item (item_within c.args.levels c.args.head bytes) c.add.new.self c.build_inside.new.self c.build_inside.result) (ap ahead c.add.ensures) c.build_inside.ensures)
+build_behind-returns t c = counted_once (item_within c.args.levels c.args.head (ahead c.args.self.now)) c.args.self.now c.add.new.self c.build_inside.new.self c.build_inside.result c.add.ensures.raised c.add.ensures.heads c.add.ensures.nodes (subst (λ (bytes : List ℕ). Makes a_counted_item (item_within c.args.levels c.args.head bytes) c.add.new.self c.build_inside.new.self c.build_inside.result) (ap ahead c.add.ensures.raised) c.build_inside.ensures)
 
 pub build_item-returns-in-None : goal.build_item-returns-in-None
 build_item-returns-in-None t c = makes_nothing an_item _ c.args.self.now c.decode.new.self _ (went_stopped c.args.self.now c.decode.new.self c.in-None.ensures.reads.stopped) (bind_none (head_at (ahead c.args.self.now)) (λ h. item_within c.args.levels h.0 h.1) c.in-None.ensures.reads.reads)

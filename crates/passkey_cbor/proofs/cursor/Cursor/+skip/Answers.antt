@@ -35,11 +35,11 @@ skip_behind-returns-in-Float t c =
 
 pub skip_behind-returns-in-Bytes : goal.skip_behind-returns-in-Bytes
 skip_behind-returns-in-Bytes t c =
-    made_skipped (string_at false c.in-Bytes.len (ahead c.args.self.now)) _ (string_item false) c.args.self.now c.skip_string.new.self c.skip_string.result c.requires (by_string c.args.levels false c.in-Bytes.len c.args.head (ahead c.args.self.now) c.in-Bytes.is) c.skip_string.ensures
+    made_skipped (string_at false c.in-Bytes.len (ahead c.args.self.now)) _ (string_item false) c.args.self.now c.pass_string.new.self c.is_some.result c.requires (by_string c.args.levels false c.in-Bytes.len c.args.head (ahead c.args.self.now) c.in-Bytes.is) (rw c.is_some.ensures c.pass_string.ensures.skips)
 
 pub skip_behind-returns-in-Text : goal.skip_behind-returns-in-Text
 skip_behind-returns-in-Text t c =
-    made_skipped (string_at true c.in-Text.len (ahead c.args.self.now)) _ (string_item true) c.args.self.now c.skip_string-in-Text.new.self c.skip_string-in-Text.result c.requires (by_string c.args.levels true c.in-Text.len c.args.head (ahead c.args.self.now) c.in-Text.is) c.skip_string-in-Text.ensures
+    made_skipped (string_at true c.in-Text.len (ahead c.args.self.now)) _ (string_item true) c.args.self.now c.pass_string-in-Text.new.self c.is_some-in-Text.result c.requires (by_string c.args.levels true c.in-Text.len c.args.head (ahead c.args.self.now) c.in-Text.is) (rw c.is_some-in-Text.ensures c.pass_string-in-Text.ensures.skips)
 
 pub skip_behind-returns-then-levels-gt0 : goal.skip_behind-returns-then-levels-gt0
 skip_behind-returns-then-levels-gt0 t c =
@@ -61,7 +61,7 @@ skip_behind-returns-else-levels-gt0-2 t c =
 
 pub skip_behind-returns-then-levels-gt0-3 : goal.skip_behind-returns-then-levels-gt0-3
 skip_behind-returns-then-levels-gt0-3 t c =
-    made_skipped (start (item_within (c.args.levels - 1)) (ahead c.args.self.now)) _ (tagged c.in-Tag.field-0) c.args.self.now c.skip_item.new.self c.skip_item.result c.requires (by_tag c.args.levels c.in-Tag.field-0 c.args.head (ahead c.args.self.now) (omega arith) c.in-Tag.is) c.skip_item.ensures
+    made_skipped (start (item_within (c.args.levels - 1)) (ahead c.args.self.now)) _ (tagged c.in-Tag.field-0) c.args.self.now c.skip_item.new.self c.skip_item.result c.requires (by_tag c.args.levels c.in-Tag.field-0 c.args.head (ahead c.args.self.now) (omega arith) c.in-Tag.is) c.skip_item.ensures.skips
 
 pub skip_behind-returns-else-levels-gt0-3 : goal.skip_behind-returns-else-levels-gt0-3
 unfolding item_by
@@ -77,15 +77,11 @@ skip_entry-returns-in-Item t c =
 
 pub skip_entry-returns-then-skip_behind : goal.skip_entry-returns-then-skip_behind
 skip_entry-returns-then-skip_behind t c =
-    entry_skipped c.args.levels c.args.entry entry.Pair c.args.head c.args.self.now c.skip_item.new.self c.skip_item.result c.in-Pair.is (pair_skipped (item_within c.args.levels) c.args.head c.args.self.now c.skip_behind-in-Pair.new.self c.skip_item.new.self c.skip_item.result c.if-skip_behind.ensures c.skip_item.ensures)
+    entry_skipped c.args.levels c.args.entry entry.Pair c.args.head c.args.self.now c.skip_item.new.self c.skip_item.result c.in-Pair.is (pair_skipped (item_within c.args.levels) c.args.head c.args.self.now c.skip_behind-in-Pair.new.self c.skip_item.new.self c.skip_item.result c.if-skip_behind.ensures c.skip_item.ensures.skips)
 
 pub skip_entry-returns-else-skip_behind : goal.skip_entry-returns-else-skip_behind
 skip_entry-returns-else-skip_behind t c =
     rw c.if-skip_behind.false (entry_skipped c.args.levels c.args.entry entry.Pair c.args.head c.args.self.now c.skip_behind-in-Pair.new.self false c.in-Pair.is (no_pair (item_within c.args.levels) c.args.head c.args.self.now c.skip_behind-in-Pair.new.self c.if-skip_behind.ensures))
-
-pub skip_entry-returns-in-Chunk : goal.skip_entry-returns-in-Chunk
-skip_entry-returns-in-Chunk t c =
-    entry_skipped c.args.levels c.args.entry (entry.Chunk c.in-Chunk.is_text) c.args.head c.args.self.now c.chunk.new.self c.is_some.result c.in-Chunk.is (rw c.is_some.ensures (piece_skipped _ c.in-Chunk.is_text _ c.args.self.now c.chunk.new.self _ c.chunk.ensures.reads))
 
 pub skip_list-loop-head-init : goal.skip_list-loop-head-init
 skip_list-loop-head-init t c = goes_start (entry_by c.args.levels c.args.entry) c.args.len c.args.self.now c.requires
@@ -105,11 +101,3 @@ skip_list-returns-then-not-skip_entry t c =
 pub skip_list-loop-head-preserved : goal.skip_list-loop-head-preserved
 skip_list-loop-head-preserved t c =
     goes_on (entry_by c.args.levels c.args.entry) c.args.len c.loop-head.left c.step.new.left c.args.self.now c.loop-head.self c.step.new.self c.skip_entry.new.self c.in-Element.head c.loop-head.invariant c.in-Element.ensures.reads c.if-not-skip_entry.ensures
-
-pub skip_string-returns-in-Some : goal.skip_string-returns-in-Some
-skip_string-returns-in-Some t c =
-    rw (string_piece c.args.is_text c.args.len c.in-Some.len (ahead c.args.self.now) c.in-Some.is, c.is_some.ensures) (piece_skipped _ c.args.is_text _ c.args.self.now c.piece.new.self _ c.piece.ensures.reads)
-
-pub skip_string-returns-in-None : goal.skip_string-returns-in-None
-skip_string-returns-in-None t c =
-    made_skipped (list_at (chunk c.args.is_text) None (ahead c.args.self.now)) _ concat c.args.self.now c.skip_list.new.self c.skip_list.result c.requires (string_chunks c.args.is_text c.args.len (ahead c.args.self.now) c.in-None.is) c.skip_list.ensures

@@ -4,9 +4,6 @@ use Rattle.passkey_cbor.proofs.Skipping.{Goes}
 use Rattle.passkey_cbor.proofs.Measures.{entry_measure}
 use Rattle.passkey_cbor.proofs.cursor.Cursor.+skip.Given as goal
 
-abbrev pub decreases-skip_string : goal.decreases-skip_string
-decreases-skip_string l = 2
-
 abbrev pub decreases-skip_behind : goal.decreases-skip_behind
 decreases-skip_behind l = 8 * l.levels + 3
 

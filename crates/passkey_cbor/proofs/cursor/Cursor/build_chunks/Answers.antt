@@ -36,13 +36,15 @@ returns-in_err-extend_from_slice-in-Some-clause-made c =
     rw (p.1, p.2) (collects_full c.args.is_text c.loop-bytes.left c.step.new.left c.args.self.now c.loop-bytes.self c.step.new.self c.chunk.new.self c.in-Element.head c.loop-bytes.bytes.items c.in-Some.piece.now c.loop-bytes.invariant.collects c.in-Element.ensures.reads c.in-Some.ensures.reads some)
 
 pub returns-in-Malformed-clause-counted : goal.returns-in-Malformed-clause-counted
-returns-in-Malformed-clause-counted c = counts_no_step c.args.is_text c.loop-bytes.left c.args.self.now c.loop-bytes.self c.step.new.self c.loop-bytes.bytes.items c.loop-bytes.invariant.collects c.in-Malformed.ensures.reads (omega (arith, (c.step.ensures.counted c.loop-bytes.invariant.unknown).1))
+returns-in-Malformed-clause-counted c = counts_no_step c.args.is_text c.loop-bytes.left c.args.self.now c.loop-bytes.self c.step.new.self c.loop-bytes.bytes.items c.loop-bytes.invariant.collects c.in-Malformed.ensures.reads (c.step.ensures.counted c.loop-bytes.invariant.unknown).1
 
 pub returns-in-End-clause-counted : goal.returns-in-End-clause-counted
-returns-in-End-clause-counted c = counts_end c.args.is_text c.loop-bytes.left c.args.self.now c.loop-bytes.self c.step.new.self c.loop-bytes.bytes.items c.loop-bytes.invariant.collects c.in-End.ensures.reads (omega (arith, (c.step.ensures.counted c.loop-bytes.invariant.unknown).1))
+returns-in-End-clause-counted c = counts_end c.args.is_text c.loop-bytes.left c.args.self.now c.loop-bytes.self c.step.new.self c.loop-bytes.bytes.items c.loop-bytes.invariant.unknown c.loop-bytes.invariant.collects c.in-End.ensures.reads
 
 pub returns-in-None-clause-counted : goal.returns-in-None-clause-counted
-returns-in-None-clause-counted c = counts_no_chunk c.args.is_text c.loop-bytes.left c.step.new.left c.args.self.now c.loop-bytes.self c.step.new.self c.chunk.new.self c.in-Element.head c.loop-bytes.bytes.items c.loop-bytes.invariant.collects c.in-Element.ensures.reads c.in-None.ensures.reads (omega (arith, (c.step.ensures.counted c.loop-bytes.invariant.unknown).1, c.chunk.ensures.uncounted))
+returns-in-None-clause-counted c = counts_no_chunk c.args.is_text c.loop-bytes.left c.step.new.left c.args.self.now c.loop-bytes.self c.step.new.self c.chunk.new.self c.in-Element.head c.loop-bytes.bytes.items c.loop-bytes.invariant.collects c.in-Element.ensures.reads c.in-None.ensures.reads c.chunk.ensures.uncounted
 
 pub returns-in_err-extend_from_slice-in-Some-clause-counted : goal.returns-in_err-extend_from_slice-in-Some-clause-counted
-returns-in_err-extend_from_slice-in-Some-clause-counted c = counts_here c.args.is_text c.loop-bytes.left c.step.new.left c.args.self.now c.loop-bytes.self c.step.new.self c.chunk.new.self c.in-Element.head c.loop-bytes.bytes.items c.in-Some.piece.now c.loop-bytes.invariant.collects c.in-Element.ensures.reads c.in-Some.ensures.reads (omega (arith, (c.step.ensures.counted c.loop-bytes.invariant.unknown).1, c.chunk.ensures.uncounted))
+returns-in_err-extend_from_slice-in-Some-clause-counted c =
+    let p = err_from_is_err_and c.from_residual.result c.from_residual.ensures.1 in
+    rw p.1 (counts_here c.args.is_text c.loop-bytes.left c.step.new.left c.args.self.now c.loop-bytes.self c.step.new.self c.chunk.new.self c.in-Element.head c.loop-bytes.bytes.items c.in-Some.piece.now c.loop-bytes.invariant.collects c.in-Element.ensures.reads c.in-Some.ensures.reads)

@@ -4,16 +4,16 @@ use Rattle.passkey_cbor.specs.Lent.{Region}
 use Rattle.passkey_cbor.proofs.Lending.{string_missed, string_found, lends}
 use Rattle.passkey_cbor.proofs.cursor.Cursor.string.Goals as goal
 
-abbrev region_of : Option ℕ × Bor (List ℕ) → Region
+abbrev region_of : Option ℕ × Bor (List ℕ) × ℕ → Region
 region_of r = record { len = r.0; bytes = r.1.now }
 
 pub returns-then-is_none : goal.returns-then-is_none
 returns-then-is_none c =
     let place_is : c.self.inside.place ≡ c.args.self.now.place = ap (λ (w : Walk). w.place) c.self.view_is in
-    let missed = string_missed region_of c.args.is_text c.args.self.now c.string_ahead-found.new.self c.self.inside.place c.string_ahead-found.result c.if-is_none.ensures place_is c.string_ahead-found.ensures in
-    rw c.go_back.ensures (record { front = missed; lends = lends c.args.is_text c.args.self.now _ _ missed })
+    let missed = string_missed region_of c.args.is_text c.args.self.now c.string_ahead-found.new.self c.self.inside.place c.string_ahead-found.result c.if-is_none.ensures place_is c.string_ahead-found.ensures.reads in
+    rw c.go_back.ensures (record { front = missed; lends = lends c.args.is_text c.args.self.now _ _ missed; size = c.string_ahead-found.ensures.size })
 
 pub returns-else-is_none : goal.returns-else-is_none
 returns-else-is_none c =
-    let found = string_found region_of c.args.is_text c.args.self.now c.string_ahead-found.new.self c.string_ahead-found.result c.if-is_none.ensures c.string_ahead-found.ensures in
-    record { front = found; lends = lends c.args.is_text c.args.self.now _ _ found }
+    let found = string_found region_of c.args.is_text c.args.self.now c.string_ahead-found.new.self c.string_ahead-found.result c.if-is_none.ensures c.string_ahead-found.ensures.reads in
+    record { front = found; lends = lends c.args.is_text c.args.self.now _ _ found; size = c.string_ahead-found.ensures.size }
