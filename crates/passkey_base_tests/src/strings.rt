@@ -252,9 +252,9 @@ fn slices_are_filled(rt: HostRuntime) {
         check(
             &rt,
             if is_filled {
-                four == *wanted
+                four.as_slice() == wanted
             } else {
-                four == [9; 4]
+                four == [9, 9, 9, 9]
             },
             "slice",
             spelled,
