@@ -63,8 +63,8 @@ fn copy(alloc: Global, value: &Value) -> Result<Value, OutOfMemory>
 }
 
 impl Value {
-    /// An equal value. `OutOfMemory` where a growth was refused, which never happens at a number,
-    /// a float, a boolean, null, another simple value, or an empty byte string, array or map.
+    /// Returns an equal value. `OutOfMemory` if an allocation fails, which can't happen for numbers,
+    /// floats, booleans, null, other simple values, and empty byte strings, arrays and maps.
     pub fn try_clone(&self, alloc: Global) -> Result<Value, OutOfMemory>
         ensures same { IfOk result (λ v. item_of v ≡ item_of self.now) }
         ensures grows { OnErr result (Grows (item_of self.now)) }

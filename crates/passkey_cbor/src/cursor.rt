@@ -1,4 +1,4 @@
-//! A cursor over lent bytes, which decodes head by head and counts the heads.
+//! A cursor that decodes borrowed bytes head by head.
 ghost use Rattle.std.specs.Prelude.{◌≡◌, ℕ, ◌+◌, ◌≤◌, min, None, option_map, IfNone, IfSome};
 ghost use Rattle.passkey_cbor.specs.Walk.{ahead, raised, IsInside, IsPlaced};
 ghost use Rattle.passkey_cbor.specs.Found.{FindsHead};
@@ -15,7 +15,8 @@ use std::str;
 /// How many levels of arrays, maps and tags are read.
 pub(crate) const MAX_DEPTH: u16 = 256;
 
-/// A place in bytes. Each head that is decoded from them is counted, also where none stands.
+/// An offset in borrowed bytes, from which heads are decoded one by one. Each attempt to decode a
+/// head is counted, failed ones too.
 #[derive(Drop)]
 pub struct Cursor<'a> {
     pub(crate) bytes: &'a [u8],
@@ -42,7 +43,7 @@ pub(crate) enum Next {
 }
 
 impl<'a> Cursor<'a> {
-    /// At the start of the bytes, with nothing counted.
+    /// Returns a cursor at the start of the bytes, with both counts at 0.
     pub fn new(bytes: &'a [u8]) -> Cursor<'a>
         ensures { result ≡ record { bytes = bytes.entry.now; place = 0; heads = 0; nodes = 0 } }
     {
@@ -53,14 +54,14 @@ impl<'a> Cursor<'a> {
         }
     }
 
-    /// How many bytes lie before it.
+    /// Returns the offset: how many bytes lie before the cursor.
     pub fn place(&self) -> usize
         ensures { result ≡ self.now.place }
     {
         self.place
     }
 
-    /// Goes back to an earlier place. What was counted stays.
+    /// Moves back to an earlier offset. The counts stay.
     pub fn go_back(&mut self, to: usize)
         requires { to ≤ self.old.place }
         ensures { self.new ≡ record self.old { place = to } }
@@ -68,7 +69,7 @@ impl<'a> Cursor<'a> {
         self.place = to;
     }
 
-    /// What was counted so far.
+    /// Returns the heads decoded and the data items made so far.
     pub fn count(&self) -> Count
         ensures heads { result.heads ≡ self.now.heads }
         ensures nodes { result.nodes ≡ self.now.nodes }
@@ -76,7 +77,7 @@ impl<'a> Cursor<'a> {
         self.count
     }
 
-    /// Raises the counts by these, each up to `u128::MAX`.
+    /// Adds to the counts, each of which stops at `u128::MAX`.
     pub fn add(&mut self, count: Count)
         ensures raised { self.new ≡ record self.old { heads = min (self.old.heads + count.heads) u128.MAX; nodes = min (self.old.nodes + count.nodes) u128.MAX } }
         ensures heads { self.old.heads ≤ self.new.heads }
@@ -93,8 +94,8 @@ impl<'a> Cursor<'a> {
         self.count.heads = self.count.heads.saturating_add(heads);
     }
 
-    /// The head at the place, and on behind it; none where no whole, well-formed head stands there,
-    /// and then the cursor stays. One head is counted either way. (RFC 8949, section 3.)
+    /// Decodes the head at the cursor and moves behind it. Returns `None` and stays if no complete,
+    /// well-formed head is there. Counts one head either way. (RFC 8949, section 3.)
     pub fn head(&mut self) -> Option<Head>
         ensures found { FindsHead self.old self.new result }
 
@@ -104,9 +105,10 @@ impl<'a> Cursor<'a> {
         self.decode()
     }
 
-    /// Whether elements are left of an array or a map whose head said `left`; each answer of true
-    /// takes one off. Where the head said no length, a break ends them, and is passed; to see it one
-    /// head is counted. Else the cursor stays. (RFC 8949, section 3.2.2.)
+    /// Returns whether an array or a map has more elements, where `left` is the length in its head. A
+    /// definite length is counted down, and the cursor stays. For an indefinite one the next head is
+    /// decoded and counted: the cursor moves behind it if it is the break, and else stays.
+    /// (RFC 8949, section 3.2.2.)
     pub fn more(&mut self, left: &mut Option<u64>) -> bool
         ensures { WalksOn left.old left.new self.old self.new result }
     {

@@ -46,8 +46,9 @@ fn pairs_depth_of(pairs: &[(Value, Value)]) -> usize
 }
 
 impl Value {
-    /// How many levels of arrays, maps and tags there are: none in a number or a string, one in
-    /// an empty array. Readers limit them (RFC 8949, section 10). Above `usize::MAX` it is that.
+    /// Returns the number of nesting levels: each array, map and tag counts one, so a number or a
+    /// string has none and an empty array has one. At most `usize::MAX`. Decoders limit nesting
+    /// (RFC 8949, section 10); those of this crate accept 256 levels.
     pub fn depth(&self) -> usize
         ensures { result ≡ min (depth (item_of self.now)) usize.MAX }
     {

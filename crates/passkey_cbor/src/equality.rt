@@ -66,8 +66,8 @@ impl PartialEq for Value {
 
     ghost laws = { on_per item_of (partial_equiv_from_equiv item_eq-equivalence) };
 
-    /// Whether the two are one item: floats of different widths are not, nor are maps whose pairs
-    /// stand in different orders.
+    /// Whether both are the same data item. Floats of different widths are different items, and so
+    /// are maps whose pairs come in different orders.
     #[tactic(auto, using(crate::specs::SameItems::item_Decides))]
     fn eq(&self, other: &Value) -> bool
         ensures value { result ≡ item_eq (item_of self.now) (item_of other.now) }

@@ -1,4 +1,4 @@
-//! Why no item was read or made.
+//! Why a data item was not decoded or made.
 ghost use Rattle.std.specs.Prelude.{◌≡◌, Some};
 ghost use Rattle.passkey_cbor.specs.ErrorNames.{cbor_error_name};
 ghost use Rattle.passkey_cbor.specs.declared.error.CborError.TheVariants.{OutOfMemory as NoMemory};
@@ -8,12 +8,12 @@ use std::alloc::{AllocError, AllocFailed};
 use std::error::Error;
 use std::fmt;
 
-/// Why no item was read or made.
+/// Why a data item was not decoded or made.
 #[derive(Clone, Copy, Debug, PartialEq, Eq)]
 pub enum CborError {
-    /// No well-formed item of at most 256 levels begins the bytes.
+    /// The bytes don't begin with a well-formed data item of at most 256 levels.
     DecodeFailed,
-    /// A growth was refused.
+    /// An allocation failed.
     OutOfMemory,
     /// A number is outside its range.
     OutOfRangeIntegerValue,

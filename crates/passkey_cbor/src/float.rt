@@ -6,8 +6,9 @@ ghost use Rattle.passkey_cbor.specs.Made.{MadeWhere};
 use crate::error::CborError;
 use std::marker::Model;
 
-/// A floating-point number as it is spelled: its width in bytes, and its bits, big-endian
-/// (RFC 8949, section 3.3). No arithmetic is offered, and no two widths are one number.
+/// A floating-point number as it is encoded: its width in bytes, and its bits as a big-endian
+/// number (RFC 8949, section 3.3). There is no arithmetic, and floats of different widths are
+/// different numbers.
 #[derive(Clone, Copy, Debug, PartialEq, Eq)]
 pub struct Float {
     width: u8,
@@ -27,8 +28,8 @@ impl Model for Float {
 }
 
 impl Float {
-    /// The float of this width, 2, 4 or 8 bytes, and these bits, which fit it;
-    /// else `OutOfRangeIntegerValue`.
+    /// Returns the float of this width, 2, 4 or 8 bytes, with these bits. `OutOfRangeIntegerValue`
+    /// for another width, or if the bits don't fit.
     pub fn new(width: u8, bits: u64) -> Result<Float, CborError>
         ensures { MadeWhere (IsFloat width bits) (record { width = width; bits = bits }) result }
     {
@@ -45,7 +46,7 @@ impl Float {
         }
     }
 
-    /// How many bytes the bits have: 2, 4 or 8.
+    /// Returns the width in bytes: 2, 4 or 8.
     pub fn width(&self) -> u8
         ensures value { result ≡ self.now.width }
         ensures range { IsFloat self.now.width self.now.bits }
@@ -53,7 +54,7 @@ impl Float {
         self.width
     }
 
-    /// The bits.
+    /// Returns the bits, as a number below 2^(8 * width).
     pub fn bits(&self) -> u64
         ensures value { result ≡ self.now.bits }
         ensures range { IsFloat self.now.width self.now.bits }

@@ -6,28 +6,29 @@ ghost use Rattle.passkey_cbor.specs.Reading.{is_break, chunk_len, string_len};
 
 use crate::float::Float;
 
-/// A head: the initial byte of an item with its argument (RFC 8949, section 3).
+/// A head: the initial byte of a data item and its argument (RFC 8949, section 3). `None` as a
+/// length means an indefinite one.
 #[derive(Clone, Copy, Debug, PartialEq, Eq)]
 pub enum Head {
-    /// The number n.
+    /// An unsigned integer n (major type 0).
     Unsigned(u64),
-    /// The number -1 - n.
+    /// The negative integer -1 - n (major type 1).
     Negative(u64),
-    /// A byte string of so many bytes, or in chunks up to a break.
+    /// A byte string of this many bytes, or in chunks up to a break (major type 2).
     Bytes(Option<u64>),
-    /// A text string of so many bytes, or in chunks up to a break.
+    /// A text string of this many bytes, or in chunks up to a break (major type 3).
     Text(Option<u64>),
-    /// An array of so many items, or of items up to a break.
+    /// An array of this many elements, or of elements up to a break (major type 4).
     Array(Option<u64>),
-    /// A map of so many pairs, or of pairs up to a break.
+    /// A map of this many pairs, or of pairs up to a break (major type 5).
     Map(Option<u64>),
-    /// A tag: one item follows.
+    /// A tag number, with the tag content behind it (major type 6).
     Tag(u64),
-    /// A simple value, 0 to 23 or 32 to 255.
+    /// A simple value, 0 to 23 or 32 to 255 (major type 7).
     Simple(u8),
-    /// A floating-point number.
+    /// A floating-point number (major type 7).
     Float(Float),
-    /// The end of what has an indefinite length.
+    /// The break that ends an item of indefinite length (section 3.2.1).
     Break,
 }
 

@@ -6,8 +6,7 @@ ghost use Rattle.passkey_cbor.specs.Made.{MadeWhere};
 use crate::error::CborError;
 use std::marker::Model;
 
-/// A whole number from -2^64 to 2^64 - 1: what the major types 0 and 1 hold
-/// (RFC 8949, section 3.1).
+/// An integer from -2^64 to 2^64 - 1: the range of the major types 0 and 1 (RFC 8949, section 3.1).
 #[derive(Clone, Copy, Debug, PartialEq, Eq)]
 pub struct Integer {
     value: i128,
@@ -27,7 +26,7 @@ impl Model for Integer {
 }
 
 impl Integer {
-    /// The number, from -2^64 to 2^64 - 1; else `OutOfRangeIntegerValue`.
+    /// Returns the integer. `OutOfRangeIntegerValue` if it is not from -2^64 to 2^64 - 1.
     pub fn new(value: i128) -> Result<Integer, CborError>
         ensures { MadeWhere (IsInteger value) value result }
     {
@@ -37,7 +36,7 @@ impl Integer {
         Ok(Integer { value })
     }
 
-    /// The number.
+    /// Returns the number.
     pub fn get(&self) -> i128
         ensures value { result ≡ self.now }
         ensures range { IsInteger self.now }

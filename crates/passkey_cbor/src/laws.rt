@@ -1,39 +1,39 @@
 //! Laws of the definitions, each the contract of a function without effect.
 ghost use Rattle.passkey_cbor.specs.Laws.{AtMostOneFront, NoShorterFront, FrontIsGiven, GivenIsFront, GivenIsShallow, WrittenSpells, WrittenIsFront};
 
-/// At most one item begins a byte list, and it has one length: no spelling of an item is the
-/// beginning of another one's, nor of its own (RFC 8949, section 3).
+/// Bytes begin with at most one data item, of one length: no encoding is a proper beginning of
+/// another one (RFC 8949, section 3).
 pub fn at_most_one_front()
     ensures { AtMostOneFront }
 {}
 
-/// Where an item of length k begins the bytes, no item begins a beginning of fewer than k bytes.
+/// If bytes begin with a data item of length k, their first bytes, if fewer than k, begin with none.
 pub fn no_shorter_front()
     ensures { NoShorterFront }
 {}
 
-/// Where an item begins the bytes, `front_at` gives that item and the bytes behind it.
+/// If bytes begin with a data item, `front_at` gives that item and the bytes after it.
 pub fn front_is_given()
     ensures { FrontIsGiven }
 {}
 
-/// What `front_at` gives of bytes begins them; where it gives nothing, no item begins them.
+/// What `front_at` gives begins the bytes; where it gives nothing, they begin with no data item.
 pub fn given_is_front()
     ensures { GivenIsFront }
 {}
 
-/// What `front_at` gives of any list of numbers has at most 256 levels.
+/// A data item that `front_at` gives has at most 256 levels.
 pub fn given_is_shallow()
     ensures { GivenIsShallow }
 {}
 
-/// What is written of an item spells it.
+/// What an item is encoded as is one of its encodings.
 pub fn written_spells()
     ensures { WrittenSpells }
 {}
 
-/// What is written of an item of at most 256 levels is read back as that item and no further,
-/// whatever bytes follow.
+/// The encoding of an item of at most 256 levels, whatever bytes follow, is decoded as that item and
+/// no further.
 pub fn written_is_front()
     ensures { WrittenIsFront }
 {}

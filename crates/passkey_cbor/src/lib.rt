@@ -1,4 +1,5 @@
-//! CBOR (RFC 8949): items, read from bytes in every spelling and written in one.
+//! CBOR (RFC 8949): data items, decoded from every well-formed encoding of at most 256 levels and
+//! encoded in one.
 #![tactic(auto)]
 
 mod clone;

@@ -8,8 +8,8 @@ use crate::cursor::Cursor;
 use std::iter::FusedIterator;
 use std::marker::Model;
 
-/// The members that are left of a map, each as the bytes of its key and of its value, in the
-/// order in which they stand. (RFC 8949, section 3.1, major type 5.)
+/// The remaining members of a map in their order, each as the encodings of its key and of its
+/// value (RFC 8949, section 3.1, major type 5).
 #[derive(Drop)]
 pub struct Members<'a> {
     pub(crate) bytes: &'a [u8],
@@ -41,8 +41,8 @@ impl<'a> Iterator for Members<'a> {
 
     ghost remaining = { λ m. at_most (length m.bytes - m.place) };
 
-    /// The bytes of the next key and of its value, each of which is one whole item; none where no
-    /// member is left, and from then on.
+    /// Returns the encodings of the next key and of its value, each one whole data item; `None` after
+    /// the last member, and from then on.
     fn next(&mut self) -> Option<(&'a [u8], &'a [u8])> {
         if !self.cursor.more(&mut self.left) {
             // Else a call after a break would take what follows the map for a member.

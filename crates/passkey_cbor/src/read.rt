@@ -1,4 +1,4 @@
-//! Making the value of the item that begins the bytes.
+//! Decoding data items to values.
 ghost use Rattle.std.specs.Prelude.{◌≡◌, ◌<◌, ◌≤◌, ◌⊎◌, ◌↔◌, ℕ, map, string_bytes, true, Err, IfOk, IfErr, OnErr, IsOk};
 ghost use Rattle.std.specs.Str.{IsUtf8};
 ghost use Rattle.passkey_cbor.specs.Item as item;
@@ -23,11 +23,11 @@ use crate::value::Value;
 use std::alloc::Global;
 
 impl Value {
-    /// The item that begins the bytes, at most 256 levels deep, and how many bytes it has; what
-    /// follows it is not looked at. `DecodeFailed` where no such item begins the bytes, and
-    /// `OutOfMemory` only where one does that takes memory: a tag, a text string, or a byte
-    /// string, array or map that isn't empty. No growth is asked for by what a head claims
-    /// before its bytes are there. (RFC 8949, section 3.)
+    /// Decodes the data item that begins the bytes, and returns it with its length; bytes after it
+    /// are ignored. `DecodeFailed` if the bytes don't begin with a well-formed item of at most 256
+    /// levels. `OutOfMemory` if an allocation fails, which can happen only where they do, and the
+    /// item is a tag, a text string, or a byte string, array or map that isn't empty. A length that
+    /// a head claims reserves nothing before its bytes are there. (RFC 8949, section 3.)
     pub fn from_slice(alloc: Global, bytes: &[u8]) -> Result<(Value, usize), CborError>
         ensures { ReadsFront bytes.now result }
     {
@@ -38,9 +38,10 @@ impl Value {
 }
 
 impl<'a> Cursor<'a> {
-    /// Makes the item at the place, at most 256 levels deep, and passes it. `DecodeFailed` where no
-    /// such item stands there, and `OutOfMemory` only where one does that takes memory: then the
-    /// cursor stays. Each item that is made counts one node. (RFC 8949, section 3.)
+    /// Decodes the data item at the cursor and moves behind it. `DecodeFailed` if no well-formed item
+    /// of at most 256 levels is there. `OutOfMemory` if an allocation fails, which can happen only
+    /// where one is, and it is a tag, a text string, or a byte string, array or map that isn't empty.
+    /// The cursor stays on both. Each item that is made counts one node. (RFC 8949, section 3.)
     pub fn value(&mut self, alloc: Global) -> Result<Value, CborError>
         ensures front { ReadsValue self.old self.new result }
 

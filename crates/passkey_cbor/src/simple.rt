@@ -6,7 +6,8 @@ ghost use Rattle.passkey_cbor.specs.Made.{MadeWhere};
 use crate::error::CborError;
 use std::marker::Model;
 
-/// A simple value without a name of its own: 0 to 19 or 32 to 255 (RFC 8949, section 3.3).
+/// A simple value other than false, true, null and undefined: 0 to 19 or 32 to 255 (RFC 8949,
+/// section 3.3).
 #[derive(Clone, Copy, Debug, PartialEq, Eq)]
 pub struct Simple {
     value: u8,
@@ -26,7 +27,7 @@ impl Model for Simple {
 }
 
 impl Simple {
-    /// The simple value, 0 to 19 or 32 to 255; else `OutOfRangeIntegerValue`.
+    /// Returns the simple value. `OutOfRangeIntegerValue` if it is not 0 to 19 or 32 to 255.
     pub fn new(value: u8) -> Result<Simple, CborError>
         ensures { MadeWhere (IsSimple value) value result }
     {
@@ -37,7 +38,7 @@ impl Simple {
         }
     }
 
-    /// The number.
+    /// Returns the number.
     pub fn get(&self) -> u8
         ensures value { result ≡ self.now }
         ensures range { IsSimple self.now }

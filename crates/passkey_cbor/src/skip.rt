@@ -1,4 +1,4 @@
-//! Passing over items without making them.
+//! Skipping data items.
 ghost use Rattle.std.specs.Prelude.{ℕ, ◌≤◌, None, is_some, IfSome, MatchOption};
 ghost use Rattle.passkey_cbor.specs.Walk.{ahead, raised, IsInside};
 ghost use Rattle.passkey_cbor.specs.Reading.{start, string_at, item_within, list_at};
@@ -19,8 +19,8 @@ pub(crate) enum Entry {
 }
 
 impl<'a> Cursor<'a> {
-    /// Passes the item at the place, of at most 256 levels, and answers true; false where none
-    /// stands there, and then the cursor stays. (RFC 8949, section 3.)
+    /// Skips the data item at the cursor, of at most 256 levels, and returns true. Returns false and
+    /// stays if no well-formed one is there. Allocates nothing. (RFC 8949, section 3.)
     pub fn skip(&mut self) -> bool
         ensures front { SkipsFront self.old self.new result }
 
@@ -136,8 +136,8 @@ impl<'a> Cursor<'a> {
     }
 }
 
-/// How many bytes the item has that begins the bytes, where it is well formed and at most 256
-/// levels deep; none where no such item begins them. Takes no memory. (RFC 8949, section 3.)
+/// Returns the length of the data item that begins the bytes, or `None` if they don't begin with a
+/// well-formed one of at most 256 levels. Allocates nothing. (RFC 8949, section 3.)
 pub fn item_len(bytes: &[u8]) -> Option<usize>
     ensures { MatchOption result (HasNoFront bytes.now) (λ len. (x : Item) × IsFront bytes.now x len) }
 {

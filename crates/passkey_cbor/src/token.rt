@@ -1,4 +1,4 @@
-//! Strings that a cursor passes and lends, in one piece or in chunks.
+//! Strings that are lent without a copy, in one piece or in chunks.
 ghost use Rattle.std.specs.Prelude.{◌≡◌, ◌+◌, ◌≤◌, true, false, List, [], ◌∷◌, ◌++◌, take, drop, length, map, option_map, IfOk, IfSome, None};
 ghost use Rattle.std.specs.String.{string_bytes};
 ghost use Rattle.passkey_cbor.specs.Lent.{LendsString, LendsStanding, LentWhole, LooksToCopy, LooksAtAll, LooksToFill, IsNamed, Copies, Fills, IsRegion, IsSized, Tells};
@@ -14,8 +14,8 @@ use std::alloc::Global;
 use std::marker::Model;
 use std::str;
 
-/// A text string that a cursor passed: its bytes, or its chunks with their break (RFC 8949, section
-/// 3.2.3). It copies nothing.
+/// A text string that a cursor moved behind: it borrows the string's bytes, or its chunks with their
+/// break (RFC 8949, section 3.2.3).
 #[derive(Drop)]
 pub struct TextToken<'a> {
     len: Option<u64>,
@@ -33,14 +33,14 @@ impl<'a> Model for TextToken<'a> {
     ghost invariant = { λ t. IsRegion true (record { len = t.len; bytes = t.region.now }) };
 }
 
-/// A byte string that a cursor passed: its bytes, or its chunks with their break (RFC 8949, section
-/// 3.2.3). It copies nothing.
+/// A byte string that a cursor moved behind: it borrows the string's bytes, or its chunks with their
+/// break (RFC 8949, section 3.2.3).
 #[derive(Drop)]
 pub struct BytesToken<'a> {
     len: Option<u64>,
     region: &'a [u8],
 
-    /// How many bytes the string has.
+    /// The string's length in bytes.
     size: usize,
 }
 
@@ -56,8 +56,8 @@ impl<'a> Model for BytesToken<'a> {
 }
 
 impl<'a> Cursor<'a> {
-    /// Passes the text string at the place and lends it; none where no text string stands there, and
-    /// then the cursor stays. (RFC 8949, section 3.1, major type 3.)
+    /// Moves behind the text string at the cursor and lends it. Returns `None` and stays if no
+    /// well-formed text string is there. (RFC 8949, section 3.1, major type 3.)
     pub fn text(&mut self) -> Option<TextToken<'a>>
         ensures front { LendsString true self.old self.new result }
 
@@ -70,8 +70,8 @@ impl<'a> Cursor<'a> {
         }
     }
 
-    /// Passes the byte string at the place and lends it; none where no byte string stands there, and
-    /// then the cursor stays. (RFC 8949, section 3.1, major type 2.)
+    /// Moves behind the byte string at the cursor and lends it. Returns `None` and stays if no
+    /// well-formed byte string is there. (RFC 8949, section 3.1, major type 2.)
     pub fn bytes(&mut self) -> Option<BytesToken<'a>>
         ensures front { LendsString false self.old self.new result }
 
@@ -212,9 +212,9 @@ fn fill_chunks(region: &[u8], cursor: &mut Cursor<'_>, into: &mut [u8])
 }
 
 impl<'a> TextToken<'a> {
-    /// Whether it is the text with this name. Where it is in chunks, each head that is decoded again
-    /// is counted at the cursor, which stays: one for each chunk as long as the name begins so, and
-    /// then one for the break.
+    /// Returns whether the text equals this name. For a string in chunks the heads that are decoded
+    /// again are counted at the cursor, which stays: one for each chunk as long as the name begins
+    /// with what they join to, and then one for the break.
     pub fn eq_name(&self, name: &str, cursor: &mut Cursor<'_>) -> bool
         ensures same { IsNamed true self.now name.now result }
         ensures looks { LooksFor true (name.now ∷ []) self.now cursor.old cursor.new }
@@ -222,10 +222,10 @@ impl<'a> TextToken<'a> {
         name_of(true, self.len, self.region, &[name], cursor).is_some()
     }
 
-    /// The place of the first of the names that it is; none where it is none of them. All
-    /// are looked for in one walk. Where it is in chunks, each head that is decoded again is counted
-    /// at the cursor, which stays: one for each chunk as long as one of the names begins so, and
-    /// then one for the break.
+    /// Returns the index of the first name that the text equals, or `None`. All names are compared in
+    /// one pass. For a string in chunks the heads that are decoded again are counted at the cursor,
+    /// which stays: one for each chunk as long as one of the names begins with what they join to,
+    /// and then one for the break.
     pub fn name_of(&self, names: &[&str], cursor: &mut Cursor<'_>) -> Option<usize>
         ensures name { IsNameOf true self.now (map (λ n. n.now) names.now) result }
         ensures looks { LooksFor true (map (λ n. n.now) names.now) self.now cursor.old cursor.new }
@@ -233,9 +233,9 @@ impl<'a> TextToken<'a> {
         name_of(true, self.len, self.region, names, cursor)
     }
 
-    /// A copy of the text. `OutOfMemory` where a growth was refused, which cannot be for an empty
-    /// text. Where it is in chunks, each head that is decoded again is counted at the cursor, which
-    /// stays: one for each chunk and one for the break, or fewer where memory ran out.
+    /// Copies the text. `OutOfMemory` if an allocation fails, which can't happen for an empty text.
+    /// For a string in chunks the heads that are decoded again are counted at the cursor, which
+    /// stays: one for each chunk and one for the break, or fewer if it runs out of memory.
     pub fn copy(&self, alloc: Global, cursor: &mut Cursor<'_>) -> Result<String, OutOfMemory>
         ensures copies { Copies string_bytes true self.now result }
         ensures looks { LooksToCopy true self.now cursor.old cursor.new result }
@@ -244,7 +244,7 @@ impl<'a> TextToken<'a> {
         Ok(String::from_utf8(bytes).unwrap())
     }
 
-    /// The text, where its head says its length.
+    /// Returns the text if its length is definite, and `None` if it is in chunks.
     pub fn lent(&self) -> Option<&'a str>
         ensures { LentWhole self.now (option_map (λ s. s.now) result) }
     {
@@ -256,9 +256,9 @@ impl<'a> TextToken<'a> {
 }
 
 impl<'a> BytesToken<'a> {
-    /// Whether it is the byte string with the bytes of this name. Where it is in chunks, each head
-    /// that is decoded again is counted at the cursor, which stays: one for each chunk as long as
-    /// the name begins so, and then one for the break.
+    /// Returns whether the bytes are those of this name. For a string in chunks the heads that are
+    /// decoded again are counted at the cursor, which stays: one for each chunk as long as the name
+    /// begins with what they join to, and then one for the break.
     pub fn eq_name(&self, name: &str, cursor: &mut Cursor<'_>) -> bool
         ensures same { IsNamed false self.now name.now result }
         ensures looks { LooksFor false (name.now ∷ []) self.now cursor.old cursor.new }
@@ -266,10 +266,10 @@ impl<'a> BytesToken<'a> {
         name_of(false, self.len, self.region, &[name], cursor).is_some()
     }
 
-    /// The place of the first of the names whose bytes it has; none where it is none of them. All
-    /// are looked for in one walk. Where it is in chunks, each head that is decoded again is counted
-    /// at the cursor, which stays: one for each chunk as long as one of the names begins so, and
-    /// then one for the break.
+    /// Returns the index of the first name whose bytes these are, or `None`. All names are compared in
+    /// one pass. For a string in chunks the heads that are decoded again are counted at the cursor,
+    /// which stays: one for each chunk as long as one of the names begins with what they join to,
+    /// and then one for the break.
     pub fn name_of(&self, names: &[&str], cursor: &mut Cursor<'_>) -> Option<usize>
         ensures name { IsNameOf false self.now (map (λ n. n.now) names.now) result }
         ensures looks { LooksFor false (map (λ n. n.now) names.now) self.now cursor.old cursor.new }
@@ -277,9 +277,9 @@ impl<'a> BytesToken<'a> {
         name_of(false, self.len, self.region, names, cursor)
     }
 
-    /// A copy of the bytes. `OutOfMemory` where a growth was refused, which cannot be for no bytes.
-    /// Where they are in chunks, each head that is decoded again is counted at the cursor, which
-    /// stays: one for each chunk and one for the break, or fewer where memory ran out.
+    /// Copies the bytes. `OutOfMemory` if an allocation fails, which can't happen for an empty string.
+    /// For a string in chunks the heads that are decoded again are counted at the cursor, which
+    /// stays: one for each chunk and one for the break, or fewer if it runs out of memory.
     pub fn copy(&self, alloc: Global, cursor: &mut Cursor<'_>) -> Result<Vec<u8>, OutOfMemory>
         ensures copies { Copies (λ v. v.items) false self.now result }
         ensures looks { LooksToCopy false self.now cursor.old cursor.new result }
@@ -287,10 +287,10 @@ impl<'a> BytesToken<'a> {
         copy(alloc, false, self.len, self.region, cursor)
     }
 
-    /// Puts the bytes into the slice and answers true, if it is as long as they are; else false, and
-    /// the slice is as it was. Takes no memory. Where the string is in chunks, each head that is
-    /// decoded again is counted at the cursor, which stays: one for each chunk and one for the
-    /// break, and none where the answer is false.
+    /// Copies the bytes into the slice and returns true if it has their length. Returns false and
+    /// leaves the slice as it was if it hasn't. Allocates nothing. For a string in chunks the heads
+    /// that are decoded again are counted at the cursor, which stays: one for each chunk and one for
+    /// the break, and none if it returns false.
     pub fn fill(&self, cursor: &mut Cursor<'_>, into: &mut [u8]) -> bool
         ensures filled { Fills self.now into.old into.new result }
         ensures looks { LooksToFill self.now cursor.old cursor.new result }
@@ -305,7 +305,7 @@ impl<'a> BytesToken<'a> {
         true
     }
 
-    /// The bytes, where the head says their length.
+    /// Returns the bytes if their length is definite, and `None` if they are in chunks.
     pub fn lent(&self) -> Option<&'a [u8]>
         ensures { LentWhole self.now (option_map (λ s. s.now) result) }
     {

@@ -1,14 +1,15 @@
-//! Items as values.
+//! Data items as values.
 
 use crate::float::Float;
 use crate::integer::Integer;
 use crate::simple::Simple;
 
-/// An item (RFC 8949, section 2). What is not kept of its spelling: widths of heads, chunks of
-/// strings, and whether a length was definite. Pairs keep their order, and equal keys are kept.
+/// A data item (RFC 8949, section 2). Of its encoding it doesn't keep the length of heads, the chunks
+/// of strings, and whether lengths were definite. The pairs of a map keep their order, equal keys
+/// too.
 #[derive(Debug, Drop)]
 pub enum Value {
-    /// A whole number: major types 0 and 1.
+    /// An integer: major types 0 and 1.
     Integer(Integer),
     /// A byte string: major type 2, its chunks joined.
     Bytes(Vec<u8>),
@@ -18,11 +19,11 @@ pub enum Value {
     Text(String),
     /// False or true.
     Bool(bool),
-    /// Null, and undefined, which is read as null.
+    /// Null; undefined is decoded as null, too.
     Null,
     /// Any other simple value.
     Simple(Simple),
-    /// A tag's number and the item that it encloses: major type 6.
+    /// A tag number and the tag content: major type 6.
     Tag(u64, Box<Value>),
     /// An array: major type 4.
     Array(Vec<Value>),

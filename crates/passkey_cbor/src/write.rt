@@ -1,4 +1,4 @@
-//! Items to bytes.
+//! Encoding.
 ghost use Rattle.std.specs.Prelude.{◌≡◌, ◌<◌, ◌^◌, ◌∷◌, ◌++◌, length, OnOk, IfOk};
 ghost use Rattle.passkey_cbor.specs.FloatParts.{IsFloat};
 ghost use Rattle.passkey_cbor.specs.Ranges.{IsSimple};
@@ -143,9 +143,8 @@ fn push_value(out: &mut Vec<u8>, value: &Value) -> Result<(), AllocError>
 }
 
 impl Value {
-    /// The item in bytes: the one spelling with shortest heads and definite lengths (RFC 8949,
-    /// section 4.1), where floats keep their width and pairs their order. `OutOfMemory` where
-    /// the bytes found no room.
+    /// Encodes the data item with shortest heads and definite lengths (RFC 8949, section 4.1); floats
+    /// keep their width, and pairs their order. `OutOfMemory` if an allocation fails.
     pub fn to_vec(&self, alloc: Global) -> Result<Vec<u8>, OutOfMemory>
         ensures written { IfOk result (λ bytes. bytes.items ≡ written (item_of self.now)) }
         ensures writable { OnOk result (IsWritable (item_of self.now)) }
