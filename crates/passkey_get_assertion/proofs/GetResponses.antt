@@ -9,11 +9,11 @@ use Rattle.passkey_core.specs.Coherent.{is_coherent}
 use Rattle.passkey_core.specs.DataLaws.{GivenIsCoherent, ReadIsGiven, WrittenDataAreReadBack}
 use Rattle.passkey_core.specs.DataParts.{DataParts}
 use Rattle.passkey_get_assertion.specs.GetResponse.{GetResponseParts, get_response_table, get_response_values, get_response_of, read_get_response, get_response_places, get_response_tree, GetResponseFits, is_get_response_coherent, normal_get_response}
-use Rattle.passkey_make_credential.specs.MakeUser.{user_tree}
-use Rattle.passkey_make_credential.specs.declared.user.PublicKeyCredentialUserEntity.{PublicKeyCredentialUserEntity}
+use Rattle.passkey_entities.specs.MakeUser.{user_tree}
+use Rattle.passkey_entities.specs.declared.user.PublicKeyCredentialUserEntity.{PublicKeyCredentialUserEntity}
 use Rattle.passkey_kinds.proofs.DataBack.{auth_data_back, auth_data_coherent}
-use Rattle.passkey_make_credential.proofs.MakeBack.{made_user_back}
-use Rattle.passkey_make_credential.proofs.MakeLevels.{made_user_levels}
+use Rattle.passkey_entities.proofs.MakeBack.{made_user_back}
+use Rattle.passkey_entities.proofs.MakeLevels.{made_user_levels}
 use Rattle.passkey_extensions.specs.ExtensionTrees.{used_tree}
 use Rattle.passkey_extensions.specs.declared.get_assertion.unsigned.UnsignedExtensionOutputs.{UnsignedExtensionOutputs}
 use Rattle.passkey_extensions.proofs.ExtensionBack.{used_back}

@@ -7,8 +7,8 @@ use Rattle.passkey_core.specs.Coherent.{is_coherent}
 use Rattle.passkey_core.specs.DataNormal.{IsData, Where, normal_data}
 use Rattle.passkey_core.specs.DataParts.{DataParts}
 use Rattle.passkey_kinds.specs.Data.{auth_data_tree}
-use Rattle.passkey_make_credential.specs.MakeUser.{user, user_tree}
-use Rattle.passkey_make_credential.specs.declared.user.PublicKeyCredentialUserEntity.{PublicKeyCredentialUserEntity}
+use Rattle.passkey_entities.specs.MakeUser.{user, user_tree}
+use Rattle.passkey_entities.specs.declared.user.PublicKeyCredentialUserEntity.{PublicKeyCredentialUserEntity}
 use Rattle.passkey_extensions.specs.ExtensionTrees.{used_tree, UsedFits}
 use Rattle.passkey_extensions.specs.GetUnsigned.{unsigned}
 use Rattle.passkey_extensions.specs.declared.get_assertion.unsigned.UnsignedExtensionOutputs.{UnsignedExtensionOutputs}

@@ -18,7 +18,7 @@ use passkey_kinds::{
     Fault, Refusal, Row, Slots, ToCbor, WriteFault, Written, read_into, read_message, read_record,
     write_message,
 };
-use passkey_make_credential::PublicKeyCredentialUserEntity;
+use passkey_entities::PublicKeyCredentialUserEntity;
 use passkey_memory::OutOfMemory;
 use passkey_webauthn::PublicKeyCredentialDescriptor;
 use std::alloc::Global;

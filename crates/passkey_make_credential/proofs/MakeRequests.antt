@@ -15,7 +15,7 @@ use Rattle.passkey_kinds.specs.Table.{◌>>=◌, found, given}
 use Rattle.passkey_kinds.specs.Tree.{number_tree, list_tree}
 use Rattle.passkey_kinds.specs.Trees.{descriptor_tree, parameters_tree}
 use Rattle.passkey_make_credential.specs.declared.options.Options.{Options}
-use Rattle.passkey_make_credential.specs.declared.rp.PublicKeyCredentialRpEntity.{PublicKeyCredentialRpEntity}
+use Rattle.passkey_entities.specs.declared.rp.PublicKeyCredentialRpEntity.{PublicKeyCredentialRpEntity}
 use Rattle.passkey_kinds.proofs.Back.{required_place, default_place, reads_back}
 use Rattle.passkey_kinds.proofs.Deep.{built_from, under_row, given_by, default_of, not_null}
 use Rattle.passkey_extensions.proofs.ExtensionBack.{make_parts_back}
@@ -28,8 +28,10 @@ use Rattle.passkey_webauthn.specs.declared.descriptor.PublicKeyCredentialDescrip
 use Rattle.passkey_webauthn.specs.declared.parameters.PublicKeyCredentialParameters.{PublicKeyCredentialParameters}
 use Rattle.passkey_webauthn.specs.declared.user.PublicKeyCredentialUserEntity.{PublicKeyCredentialUserEntity}
 use Rattle.passkey_extensions.proofs.Keys.{made_key}
-use Rattle.passkey_make_credential.proofs.MakeBack.{rp_back, options_back}
-use Rattle.passkey_make_credential.proofs.MakeLevels.{rp_levels, options_levels}
+use Rattle.passkey_entities.proofs.MakeBack.{rp_back}
+use Rattle.passkey_make_credential.proofs.MakeBack.{options_back}
+use Rattle.passkey_entities.proofs.MakeLevels.{rp_levels}
+use Rattle.passkey_make_credential.proofs.MakeLevels.{options_levels}
 
 -- ---- what is written is read back
 

@@ -8,8 +8,7 @@ use Rattle.passkey_kinds.specs.TableLaws.{RequiredRowsSuffice, KnowsMaps}
 use Rattle.passkey_kinds.specs.User.{user}
 use Rattle.passkey_make_credential.specs.MakeRequest.{make_request_table, make_request_values, make_request_of, read_make_request}
 use Rattle.passkey_make_credential.specs.MakeResponse.{make_response_table, make_response_values, make_response_of, read_make_response}
-use Rattle.passkey_make_credential.specs.MakeRp.{rp_table, rp_values, rp_of, rp}
-use Rattle.passkey_make_credential.specs.MakeUser.{user_table, user_values, user_of}
+use Rattle.passkey_entities.specs.MakeRp.{rp}
 
 pub make_request_suffices : RequiredRowsSuffice make_request_table make_request_values make_request_of
 make_request_suffices m filled =
@@ -24,16 +23,6 @@ make_response_suffices m filled =
     with_value text make_response_table.rows 1 (m 1) _ (λ i. refl) filled.0 λ fmt.
     with_value authenticator_data make_response_table.rows 2 (m 2) _ (λ i. refl) filled.1.0 λ auth_data.
     with_value kept make_response_table.rows 3 (m 3) _ (λ i. refl) filled.1.1.0 λ att_stmt.
-    refl
-
-pub rp_suffices : RequiredRowsSuffice rp_table rp_values rp_of
-rp_suffices m filled =
-    with_value text rp_table.rows 1 (m 1) _ (λ i. refl) filled.0 λ id.
-    refl
-
-pub user_suffices : RequiredRowsSuffice user_table user_values user_of
-user_suffices m filled =
-    with_value bytes user_table.rows 1 (m 1) _ (λ i. refl) filled.0 λ id.
     refl
 
 pub make_request_knows_maps : KnowsMaps read_make_request

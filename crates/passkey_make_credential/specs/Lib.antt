@@ -1,7 +1,3 @@
-pub mod MakeRp
-pub mod MakeRpHeld
-pub mod MakeUser
-pub mod MakeUserHeld
 pub mod MakeOptions
 pub mod MakeOptionsHeld
 pub mod MakeRequest
@@ -10,4 +6,3 @@ pub mod MakeRequestHeld
 pub mod MakeResponse
 pub mod MakeResponseView
 pub mod MakeResponseHeld
-pub mod Entities

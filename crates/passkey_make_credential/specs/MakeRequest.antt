@@ -9,7 +9,7 @@ use Rattle.passkey_extensions.specs.ExtensionTrees.{make_extensions_tree, MakeEx
 use Rattle.passkey_kinds.specs.Kind.{below, optional, bytes, accepted, tolerated}
 use Rattle.passkey_extensions.specs.MakeExtensions.{MakeExtensionsParts, make_extensions}
 use Rattle.passkey_make_credential.specs.MakeOptions.{options, options_default, options_tree, normal_options}
-use Rattle.passkey_make_credential.specs.MakeRp.{rp, rp_tree}
+use Rattle.passkey_entities.specs.MakeRp.{rp, rp_tree}
 use Rattle.passkey_kinds.specs.Parameters.{parameters}
 use Rattle.passkey_kinds.specs.ReadBack.{IsByte}
 use Rattle.passkey_kinds.specs.Table.{Table, Values, Build, required, default, given, read_item, ◌>>=◌}
@@ -18,7 +18,7 @@ use Rattle.passkey_kinds.specs.Trees.{descriptor_tree, parameters_tree, webauthn
 use Rattle.passkey_kinds.specs.User.{user}
 use Rattle.passkey_kinds.specs.declared.fault.Fault.{Fault}
 use Rattle.passkey_make_credential.specs.declared.options.Options.{Options}
-use Rattle.passkey_make_credential.specs.declared.rp.PublicKeyCredentialRpEntity.{PublicKeyCredentialRpEntity}
+use Rattle.passkey_entities.specs.declared.rp.PublicKeyCredentialRpEntity.{PublicKeyCredentialRpEntity}
 use Rattle.passkey_webauthn.specs.declared.descriptor.PublicKeyCredentialDescriptor.{PublicKeyCredentialDescriptor}
 use Rattle.passkey_webauthn.specs.declared.parameters.PublicKeyCredentialParameters.{PublicKeyCredentialParameters}
 use Rattle.passkey_webauthn.specs.declared.user.PublicKeyCredentialUserEntity.{PublicKeyCredentialUserEntity}

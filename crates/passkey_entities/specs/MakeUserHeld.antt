@@ -1,7 +1,7 @@
 -- The members of a user that were read so far.
 use Rattle.std.specs.Prelude.{option_map}
-use Rattle.passkey_make_credential.specs.MakeUser.{UserValues}
-use Rattle.passkey_make_credential.specs.declared.user.UserSlots.{UserSlots}
+use Rattle.passkey_entities.specs.MakeUser.{UserValues}
+use Rattle.passkey_entities.specs.declared.user.UserSlots.{UserSlots}
 
 abbrev pub user_held : UserSlots → UserValues
 user_held s = record {

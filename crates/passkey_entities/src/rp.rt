@@ -1,11 +1,11 @@
 //! Relying parties, as CTAP2 names them.
 ghost use Rattle.std.specs.Prelude.{◌≡◌, ◌<◌, ◌⊎◌, length, true, IfOk, OnErr};
 ghost use Rattle.std.specs.Option.{IsSomeAnd};
-ghost use Rattle.passkey_make_credential.specs.MakeRp.{rp_tree, RpValues, rp_table, rp_values, rp_of, rp};
-ghost use Rattle.passkey_make_credential.specs.MakeRpHeld.{rp_held};
-ghost use Rattle.passkey_make_credential.specs.declared.rp.PublicKeyCredentialRpEntity.{PublicKeyCredentialRpEntity as RpEntity};
+ghost use Rattle.passkey_entities.specs.MakeRp.{rp_tree, RpValues, rp_table, rp_values, rp_of, rp};
+ghost use Rattle.passkey_entities.specs.MakeRpHeld.{rp_held};
+ghost use Rattle.passkey_entities.specs.declared.rp.PublicKeyCredentialRpEntity.{PublicKeyCredentialRpEntity as RpEntity};
 ghost use Rattle.passkey_kinds.specs.ReadBack.{Any};
-ghost use Rattle.passkey_make_credential.specs.Entities.{rp_of_webauthn};
+ghost use Rattle.passkey_entities.specs.Entities.{rp_of_webauthn};
 
 use crate::MissingRpId;
 use passkey_bytes::Text;

@@ -2,11 +2,11 @@
 ghost use Rattle.std.specs.Prelude.{◌≡◌, ◌<◌, ◌⊎◌, length, true, IfOk, OnErr, None, IfErr, codes};
 ghost use Rattle.std.specs.Result.{result_ok};
 ghost use Rattle.std.specs.Option.{IsSomeAnd};
-ghost use Rattle.passkey_make_credential.specs.MakeUser.{user_tree, UserValues, user_table, user_values, user_of, user};
-ghost use Rattle.passkey_make_credential.specs.MakeUserHeld.{user_held};
-ghost use Rattle.passkey_make_credential.specs.declared.user.PublicKeyCredentialUserEntity.{PublicKeyCredentialUserEntity as UserEntity};
+ghost use Rattle.passkey_entities.specs.MakeUser.{user_tree, UserValues, user_table, user_values, user_of, user};
+ghost use Rattle.passkey_entities.specs.MakeUserHeld.{user_held};
+ghost use Rattle.passkey_entities.specs.declared.user.PublicKeyCredentialUserEntity.{PublicKeyCredentialUserEntity as UserEntity};
 ghost use Rattle.passkey_kinds.specs.ReadBack.{Any};
-ghost use Rattle.passkey_make_credential.specs.Entities.{user_of_webauthn, webauthn_of_user};
+ghost use Rattle.passkey_entities.specs.Entities.{user_of_webauthn, webauthn_of_user};
 
 use passkey_bytes::{Bytes, Text};
 use passkey_cbor::Value;

@@ -2,7 +2,7 @@
 use Rattle.std.specs.Prelude.{ℕ, List, [], ◌∷◌, Option, Some, None, codes, true, false, unwrap_or}
 use Rattle.passkey_kinds.specs.Kind.{Kind, text, optional}
 use Rattle.passkey_kinds.specs.Table.{Table, Values, Build, required, default, given, record_kind, ◌>>=◌}
-use Rattle.passkey_make_credential.specs.declared.rp.PublicKeyCredentialRpEntity.{PublicKeyCredentialRpEntity}
+use Rattle.passkey_entities.specs.declared.rp.PublicKeyCredentialRpEntity.{PublicKeyCredentialRpEntity}
 use Rattle.passkey_cbor.specs.Item.{text_string, Item}
 use Rattle.passkey_kinds.specs.Tree.{Place, always, where_some, record_tree}
 

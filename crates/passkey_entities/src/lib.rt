@@ -1,0 +1,10 @@
+//! The relying party and the user, as CTAP2 has them (CTAP 2.1, section 6.1).
+#![tactic(auto)]
+
+mod missing_rp_id;
+mod rp;
+mod user;
+
+pub use missing_rp_id::MissingRpId;
+pub use rp::PublicKeyCredentialRpEntity;
+pub use user::PublicKeyCredentialUserEntity;
