@@ -1,14 +1,16 @@
 -- Readings of authenticator data, put together.
 use Rattle.std.specs.Int.RustNames.{bit_and}
-use Rattle.std.proofs.Common.{◌≡◌, List, ℕ, nat_lt, length, take, drop, ◌==◌, Bool, true, false, if◌then◌else◌, ◌||◌, Option, Some, Result, Ok, Err, refl, sym, ap, subst, ◌∙◌}
+use Rattle.std.proofs.Common.{◌≡◌, List, ℕ, nat_lt, length, take, drop, ◌==◌, Bool, true, false, if◌then◌else◌, Option, Some, Result, Ok, Err, inl, inr, refl, sym, subst}
+use Rattle.std.specs.Result.{IsOkAnd}
 use Rattle.passkey_cbor.specs.Item.{Item}
+use Rattle.passkey_cbor.specs.Reads.{HasGrowingFront}
 use Rattle.passkey_cose.specs.declared.error.CoseError.{CoseError}
 use Rattle.passkey_cose.specs.declared.error.CoseError.TheVariants.{DecodeFailed, OutOfMemory, OutOfRangeIntegerValue, DuplicateMapKey, UnexpectedItem}
 use Rattle.passkey_core.specs.DataParts.{AttestedParts, DataParts}
 use Rattle.passkey_core.specs.Flags.{reserved_flags}
 use Rattle.passkey_core.specs.DataFlags.{has_flag, attested_flag, extensions_flag}
 use Rattle.passkey_core.specs.DataAnswers.{Gives}
-use Rattle.passkey_core.specs.DataReading.{Begun, ◌>>=◌, bytes_at, known_only, fixed_at, names_parts, has_parts, read_map, ReadsItem, Behind, Then, ReadsAttested, ReadsWhere, ReadsData}
+use Rattle.passkey_core.specs.DataReading.{Begun, ◌>>=◌, bytes_at, known_only, fixed_at, read_map, ReadsItem, Behind, Then, ReadsAttested, ReadsWhere, ReadsData, AttestedGrows, PartsGrow, DataGrow}
 
 -- a fault of one reading that is a fault of another
 pub gives_fault : {A B C D : Type 0} (memory : Type 0) (other : Type 0) (seen : A → B) (told : C → D) (reads : Result B CoseError → Type 0) (answers : Result D CoseError → Type 0) → (memory → other) → ((e : CoseError) → reads (Err e) → answers (Err e)) → (e : CoseError) → Gives memory seen reads (Err e) → Gives other told answers (Err e)
@@ -38,7 +40,7 @@ went first next y (Err e) b g = cc
 pub then_went : {X Y : Type 0} (first : Begun X → Type 0) (next : X → List ℕ → Result Y CoseError → Type 0) (y : Y) → Then first next (Ok y) → Went first next y
 then_went first next y p = went first next y p.begun p.begins p.goes_on
 
-at_shape : {Y : Type 0} (Q : Result Y CoseError → Type 0) → Q (Err DecodeFailed) → (n : ℕ) (bytes : List ℕ) (next : List ℕ × List ℕ → Result Y CoseError) → ((p : List ℕ × List ℕ) → Q (next p)) → Q (bytes_at n bytes >>= next)
+pub at_shape : {Y : Type 0} (Q : Result Y CoseError → Type 0) → Q (Err DecodeFailed) → (n : ℕ) (bytes : List ℕ) (next : List ℕ × List ℕ → Result Y CoseError) → ((p : List ℕ × List ℕ) → Q (next p)) → Q (bytes_at n bytes >>= next)
 at_shape Q cut n bytes next h =
     elim (nat_lt (length bytes) n) as (λ (b : Bool). Q ((if b then Err DecodeFailed else Ok (take n bytes, drop n bytes)) >>= next)) [
       | true ↦ cut
@@ -57,10 +59,6 @@ pub fixed_shape : (Q : Begun DataParts → Type 0) → Q (Err DecodeFailed) → 
 unfolding fixed_at
 fixed_shape Q cut range known bytes = at_shape Q cut 32 bytes _ (λ hash. at_shape Q cut 1 hash.1 _ (λ flags. at_shape Q cut 4 flags.1 _ (λ counter. known_shape Q range known _ counter.1)))
 
-or_right : (a b : Bool) → b ≡ true → (a || b) ≡ true
-or_right true b e = refl
-or_right false b e = e
-
 -- a fault of the parts of fixed length is the answer
 abbrev FailsAs : {A : Type 0} → Type 0 → (A → DataParts) → List ℕ → Begun DataParts → Type 0
 FailsAs memory seen bytes (Ok p) = Unit {0}
@@ -71,9 +69,16 @@ fixed_fails memory seen bytes e h =
     let wanted : FailsAs memory seen bytes (fixed_at bytes) = fixed_shape (FailsAs memory seen bytes) (λ g. record { begun = Err DecodeFailed; begins = sym g; goes_on = refl }) (λ g. record { begun = Err OutOfRangeIntegerValue; begins = sym g; goes_on = refl }) (λ d rest known. tt) bytes in
     (subst (FailsAs memory seen bytes) h wanted) h
 
-pub extensions_fail : {A B : Type 0} (seen : A → DataParts) (told : B → Option Item × List ℕ) (bytes : List ℕ) (fixed : DataParts) (rest : List ℕ) (attested : Option AttestedParts) (behind : List ℕ) (e : CoseError) → Ok (fixed, rest) ≡ fixed_at bytes → ReadsWhere (has_flag attested_flag fixed.flags) ReadsAttested rest (Ok (attested, behind)) → Gives (has_flag extensions_flag fixed.flags ≡ true) told (ReadsWhere (has_flag extensions_flag fixed.flags) (ReadsItem read_map) behind) (Err e) → Gives (has_parts bytes ≡ true) seen (ReadsData bytes) (Err e)
+pub attested_fails : {A B : Type 0} (seen : A → DataParts) (told : B → Option AttestedParts × List ℕ) (bytes : List ℕ) (fixed : DataParts) (rest : List ℕ) (e : CoseError) → Ok (fixed, rest) ≡ fixed_at bytes → Gives ((has_flag attested_flag fixed.flags ≡ true) × AttestedGrows rest) told (ReadsWhere (has_flag attested_flag fixed.flags) ReadsAttested rest) (Err e) → Gives (DataGrow bytes) seen (ReadsData bytes) (Err e)
+attested_fails seen told bytes fixed rest e is_fixed h =
+    gives_fault ((has_flag attested_flag fixed.flags ≡ true) × AttestedGrows rest) (DataGrow bytes) told seen (ReadsWhere (has_flag attested_flag fixed.flags) ReadsAttested rest) (ReadsData bytes)
+    (λ grows. subst (λ (begun : Begun DataParts). IsOkAnd begun (λ p. PartsGrow p.0 p.1)) is_fixed (inl grows))
+    (λ f g. record { begun = Ok (fixed, rest); begins = is_fixed; goes_on = record { begun = Err f; begins = g; goes_on = refl } })
+    e h
+
+pub extensions_fail : {A B : Type 0} (seen : A → DataParts) (told : B → Option Item × List ℕ) (bytes : List ℕ) (fixed : DataParts) (rest : List ℕ) (attested : Option AttestedParts) (behind : List ℕ) (e : CoseError) → Ok (fixed, rest) ≡ fixed_at bytes → ReadsWhere (has_flag attested_flag fixed.flags) ReadsAttested rest (Ok (attested, behind)) → Gives ((has_flag extensions_flag fixed.flags ≡ true) × HasGrowingFront behind) told (ReadsWhere (has_flag extensions_flag fixed.flags) (ReadsItem read_map) behind) (Err e) → Gives (DataGrow bytes) seen (ReadsData bytes) (Err e)
 extensions_fail seen told bytes fixed rest attested behind e is_fixed is_attested h =
-    gives_fault (has_flag extensions_flag fixed.flags ≡ true) (has_parts bytes ≡ true) told seen (ReadsWhere (has_flag extensions_flag fixed.flags) (ReadsItem read_map) behind) (ReadsData bytes)
-    (λ flagged. sym (ap names_parts is_fixed) ∙ or_right (has_flag attested_flag fixed.flags) (has_flag extensions_flag fixed.flags) flagged)
+    gives_fault ((has_flag extensions_flag fixed.flags ≡ true) × HasGrowingFront behind) (DataGrow bytes) told seen (ReadsWhere (has_flag extensions_flag fixed.flags) (ReadsItem read_map) behind) (ReadsData bytes)
+    (λ grows. subst (λ (begun : Begun DataParts). IsOkAnd begun (λ p. PartsGrow p.0 p.1)) is_fixed (inr (grows.0, record { attested = attested; behind = behind; begins = is_attested; grows = grows.1 })))
     (λ f g. record { begun = Ok (fixed, rest); begins = is_fixed; goes_on = record { begun = Ok (attested, behind); begins = is_attested; goes_on = record { begun = Err f; begins = g; goes_on = refl } } })
     e h

@@ -1,4 +1,5 @@
 pub mod DataReadings
+pub mod DataGrowth
 pub mod StatusTable
 pub mod StatusAlone
 pub mod DataOne

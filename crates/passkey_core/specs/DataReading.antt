@@ -1,10 +1,11 @@
 -- What bytes are read as authenticator data (WebAuthn Level 3, sections 6.1 and 6.5.1).
-use Rattle.std.specs.Prelude.{◌≡◌, ◌⊎◌, ℕ, ◌==◌, nat_lt, List, length, take, drop, slice_index, Bool, true, false, ◌||◌, if◌then◌else◌, Option, Some, None, Result, Ok, Err}
+use Rattle.std.specs.Prelude.{◌≡◌, ◌⊎◌, ℕ, ◌==◌, nat_lt, List, length, take, drop, slice_index, Bool, true, false, if◌then◌else◌, Option, Some, None, Result, Ok, Err}
 use Rattle.std.specs.Int.{w16, w32, from_be_bytes}
 use Rattle.std.specs.Int.RustNames.{bit_and}
-use Rattle.std.specs.Result.{result_map_both}
+use Rattle.std.specs.Result.{result_map_both, IsOkAnd}
 use Rattle.passkey_cbor.specs.Front.{IsFront, HasNoFront}
 use Rattle.passkey_cbor.specs.Item.{Item, map}
+use Rattle.passkey_cbor.specs.Reads.{HasGrowingFront}
 use Rattle.passkey_cose.specs.KeyParts.{KeyParts}
 use Rattle.passkey_cose.specs.KeyReading.{read_key}
 use Rattle.passkey_cose.specs.declared.error.CoseError.{CoseError}
@@ -37,14 +38,6 @@ fixed_at bytes = do
   flags ← bytes_at 1 hash.1
   counter ← bytes_at 4 flags.1
   known_only (bare_data hash.0 (slice_index flags.0 0) (Some (from_be_bytes w32 counter.0))) counter.1
-
--- whether the flags name a part behind
-abbrev pub names_parts : Begun DataParts → Bool
-names_parts (Ok fixed) = has_flag attested_flag fixed.0.flags || has_flag extensions_flag fixed.0.flags
-names_parts (Err e) = false
-
-abbrev pub has_parts : List ℕ → Bool
-has_parts bytes = names_parts (fixed_at bytes)
 
 -- the AAGUID of 16 bytes, and behind its length of 2 bytes, big-endian, the credential id
 unfoldable pub ids_at : List ℕ → Begun (List ℕ × List ℕ)
@@ -99,3 +92,24 @@ ReadsData bytes =
     Then (ReadsWhere (has_flag attested_flag fixed.flags) ReadsAttested rest) (λ attested behind.
     Then (ReadsWhere (has_flag extensions_flag fixed.flags) (ReadsItem read_map) behind) (λ extensions last answer.
     answer ≡ Ok (record fixed { attested = attested; extensions = extensions }))))
+
+-- where attested credential data may want memory: behind a whole credential id an item that takes memory begins the bytes
+abbrev pub AttestedGrows : List ℕ → Type 0
+AttestedGrows bytes = IsOkAnd (ids_at bytes) (λ ids. HasGrowingFront ids.1)
+
+-- where extensions may: the part before them is read without a fault, and behind it an item that takes memory begins the bytes
+pub record ExtensionsGrow (before : Begun (Option AttestedParts) → Type 0) : Type 0 where
+  pub attested : Option AttestedParts
+  pub behind : List ℕ
+  pub begins : before (Ok (attested, behind))
+  pub grows : HasGrowingFront behind
+
+-- where the parts that the flags name may
+abbrev pub PartsGrow : DataParts → List ℕ → Type 0
+PartsGrow fixed rest =
+    ((has_flag attested_flag fixed.flags ≡ true) × AttestedGrows rest)
+    ⊎ ((has_flag extensions_flag fixed.flags ≡ true) × ExtensionsGrow (ReadsWhere (has_flag attested_flag fixed.flags) ReadsAttested rest))
+
+-- where authenticator data may: the parts of fixed length have no fault, and a part behind them takes memory
+abbrev pub DataGrow : List ℕ → Type 0
+DataGrow bytes = IsOkAnd (fixed_at bytes) (λ fixed. PartsGrow fixed.0 fixed.1)

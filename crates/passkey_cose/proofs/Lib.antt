@@ -11,3 +11,4 @@ pub mod KeyMembers
 pub mod KeyGood
 pub mod KeyBack
 pub mod KeyReadable
+pub mod SeenNames

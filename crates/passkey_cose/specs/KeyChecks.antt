@@ -4,7 +4,7 @@ use Rattle.passkey_memory.specs.Memory.{Answers}
 use Rattle.passkey_cose.specs.CoseErrors.{is_memory}
 use Rattle.passkey_cose.specs.declared.error.CoseError.{CoseError}
 
--- nothing, or the fault, which is never want of memory
+-- nothing, or the fault, which is never that memory ran out
 abbrev pub Checks : Option CoseError → Result (Unit {0}) CoseError → Type 0
 Checks fault (Ok x) = fault ≡ None
 Checks fault (Err e) = (fault ≡ Some e) × (is_memory e ≡ false)

@@ -17,3 +17,4 @@ pub mod KeySameLaws
 pub mod KeyLaws
 pub mod KeyNormal
 pub mod KeyReadable
+pub mod Seen

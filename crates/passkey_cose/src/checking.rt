@@ -1,5 +1,5 @@
 //! What is bad of the members of a map that is read as a key.
-ghost use Rattle.std.specs.Prelude.{◌≡◌, if◌then◌else◌, [], map, Some, None};
+ghost use Rattle.std.specs.Prelude.{◌≡◌, if◌then◌else◌, [], ◌∷◌, ◌++◌, map, Some, None, OnOk};
 ghost use Rattle.std.specs.List.{list_any};
 ghost use Rattle.passkey_cbor.specs.Same.{item_eq};
 ghost use Rattle.passkey_cbor.specs.View.{item_of, pair_of};
@@ -7,9 +7,15 @@ ghost use Rattle.passkey_cose.specs.KeyChecks.{Checks};
 ghost use Rattle.passkey_iana.specs.Signed64.{is_signed_64};
 ghost use Rattle.passkey_cose.specs.KeyFaults.{name_fault, bytes_fault, op_fault, first_op_fault, ops_fault, value_fault, member_fault, first_fault};
 ghost use Rattle.passkey_cose.specs.KeyLabels.{is_label, has_label};
+ghost use Rattle.passkey_cose.specs.Seen.{Holds, labels_of};
 
 use crate::error::CoseError;
+use crate::seen::Seen;
 use passkey_cbor::{Integer, Value};
+use std::alloc::Global;
+
+/// Up to so many names are compared with one another; of more, the earlier ones are kept in order.
+const FEW: usize = 16;
 
 /// The number, if 64 signed bits hold it.
 pub(super) fn signed_64(n: Integer) -> Option<i64>
@@ -72,26 +78,42 @@ fn stands_in(op: &Value, ops: &[Value]) -> bool
     false
 }
 
-fn check_op(earlier: &[Value], op: &Value) -> Result<(), CoseError>
-    ensures { Checks (op_fault (map item_of earlier.now) (item_of op.now)) result }
+/// Whether the operation is one of the earlier ones, to which it is added.
+fn is_repeated_op<'a>(seen: &mut Seen<'a>, earlier: &[Value], op: &'a Value) -> bool
+    requires name { name_fault (item_of op.now) ≡ None }
+    requires held { Holds seen.old (map item_of earlier.now) }
+    ensures value { result ≡ list_any (item_eq (item_of op.now)) (map item_of earlier.now) }
+    ensures held { Holds seen.new (map item_of earlier.now ++ item_of op.now ∷ []) }
+{
+    match seen.insert(op) {
+        Some(is_new) => !is_new,
+        None => stands_in(op, earlier),
+    }
+}
+
+fn check_op<'a>(seen: &mut Seen<'a>, earlier: &[Value], op: &'a Value) -> Result<(), CoseError>
+    requires { Holds seen.old (map item_of earlier.now) }
+    ensures fault { Checks (op_fault (map item_of earlier.now) (item_of op.now)) result }
+    ensures held { OnOk result (Holds seen.new (map item_of earlier.now ++ item_of op.now ∷ [])) }
 {
     check_name(op)?;
-    if stands_in(op, earlier) {
+    if is_repeated_op(seen, earlier, op) {
         return Err(CoseError::UnexpectedItem);
     }
     Ok(())
 }
 
-fn check_each_op(ops: &[Value]) -> Result<(), CoseError>
+fn check_each_op(alloc: Global, ops: &[Value]) -> Result<(), CoseError>
     ensures { Checks (first_op_fault [] (map item_of ops.now)) result }
 {
+    let mut seen = Seen::new(alloc, ops.len() > FEW);
     for i in 0..ops.len() {
-        check_op(&ops[..i], &ops[i])?;
+        check_op(&mut seen, &ops[..i], &ops[i])?;
     }
     Ok(())
 }
 
-fn check_ops(value: &Value) -> Result<(), CoseError>
+fn check_ops(alloc: Global, value: &Value) -> Result<(), CoseError>
     ensures { Checks (ops_fault (item_of value.now)) result }
 {
     match value {
@@ -99,13 +121,13 @@ fn check_ops(value: &Value) -> Result<(), CoseError>
             if ops.is_empty() {
                 return Err(CoseError::UnexpectedItem);
             }
-            check_each_op(ops)
+            check_each_op(alloc, ops)
         }
         _ => Err(CoseError::UnexpectedItem),
     }
 }
 
-fn check_value(label: &Value, value: &Value) -> Result<(), CoseError>
+fn check_value(alloc: Global, label: &Value, value: &Value) -> Result<(), CoseError>
     ensures { Checks (value_fault (item_of label.now) (item_of value.now)) result }
 {
     if is_label_of(label, 1) || is_label_of(label, 3) {
@@ -113,7 +135,7 @@ fn check_value(label: &Value, value: &Value) -> Result<(), CoseError>
     } else if is_label_of(label, 2) || is_label_of(label, 5) {
         check_bytes(value)
     } else if is_label_of(label, 4) {
-        check_ops(value)
+        check_ops(alloc, value)
     } else {
         Ok(())
     }
@@ -130,23 +152,46 @@ fn is_taken(label: &Value, members: &[(Value, Value)]) -> bool
     false
 }
 
-fn check_member(earlier: &[(Value, Value)], member: &(Value, Value)) -> Result<(), CoseError>
-    ensures { Checks (member_fault (map pair_of earlier.now) (pair_of member.now)) result }
+/// Whether the label is one of the earlier ones, to which it is added.
+fn is_repeated_label<'a>(seen: &mut Seen<'a>, earlier: &[(Value, Value)], label: &'a Value) -> bool
+    requires name { name_fault (item_of label.now) ≡ None }
+    requires held { Holds seen.old (labels_of (map pair_of earlier.now)) }
+    ensures value { result ≡ has_label (map pair_of earlier.now) (item_of label.now) }
+    ensures held { Holds seen.new (labels_of (map pair_of earlier.now) ++ item_of label.now ∷ []) }
+{
+    match seen.insert(label) {
+        Some(is_new) => !is_new,
+        None => is_taken(label, earlier),
+    }
+}
+
+fn check_member<'a>(
+    alloc: Global,
+    seen: &mut Seen<'a>,
+    earlier: &[(Value, Value)],
+    member: &'a (Value, Value),
+) -> Result<(), CoseError>
+    requires { Holds seen.old (labels_of (map pair_of earlier.now)) }
+    ensures fault { Checks (member_fault (map pair_of earlier.now) (pair_of member.now)) result }
+    ensures held { let labels = labels_of (map pair_of earlier.now) in
+        OnOk result (Holds seen.new (labels ++ item_of member.now.0 ∷ [])) }
 {
     let (label, value) = member;
     check_name(label)?;
-    if is_taken(label, earlier) {
+    if is_repeated_label(seen, earlier, label) {
         return Err(CoseError::DuplicateMapKey);
     }
-    check_value(label, value)
+    check_value(alloc, label, value)
 }
 
-/// The fault of the first bad member.
-pub(super) fn check_members(members: &[(Value, Value)]) -> Result<(), CoseError>
+/// Returns the fault of the first bad member. Never runs out of memory: after a refused growth,
+/// labels and operations are compared with one another.
+pub(super) fn check_members(alloc: Global, members: &[(Value, Value)]) -> Result<(), CoseError>
     ensures { Checks (first_fault [] (map pair_of members.now)) result }
 {
+    let mut seen = Seen::new(alloc, members.len() > FEW);
     for i in 0..members.len() {
-        check_member(&members[..i], &members[i])?;
+        check_member(alloc, &mut seen, &members[..i], &members[i])?;
     }
     Ok(())
 }

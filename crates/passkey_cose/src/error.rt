@@ -12,7 +12,7 @@ use std::fmt;
 /// Why no key was read or made.
 #[derive(Clone, Copy, Debug, PartialEq, Eq)]
 pub enum CoseError {
-    /// The bytes are no item of CBOR.
+    /// The bytes are cut off, or no item of CBOR stands where one should.
     DecodeFailed,
     /// A growth was refused.
     OutOfMemory,

@@ -16,6 +16,7 @@ mod readable;
 mod reading;
 mod refused;
 mod registered;
+mod seen;
 mod with;
 mod writing;
 

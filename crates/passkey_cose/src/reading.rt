@@ -199,16 +199,18 @@ impl CoseKey {
     /// string, or an empty one; the operations (4) are no array, or an empty one, or two are one;
     /// or, at the end, where the type is not there or the reserved one. `OutOfRangeIntegerValue`
     /// where such a number is outside 64 signed bits. `DuplicateMapKey` where a label stands
-    /// twice. `OutOfMemory` where none of these is so, the key takes memory and a growth was refused;
-    /// a key takes none whose type and algorithm are numbers, and which has no other part.
+    /// twice. `OutOfMemory` if memory runs out for a key that has none of these faults and takes
+    /// memory; a key takes none if its type and algorithm are numbers and it has no other part.
     ///
-    /// The time grows with the square of the number of pairs, and of operations.
+    /// Repeated labels and operations are found by keeping the earlier ones in order, in a time of
+    /// n log n for n of them. If there is no memory for that, they are compared with one another, and
+    /// the time grows with the square.
     pub fn from_value(alloc: Global, value: &Value) -> Result<CoseKey, CoseError>
         ensures { Reads TakesMemory key_parts (read_key (item_of value.now)) result }
     {
         match value {
             Value::Map(members) => {
-                check_members(members)?;
+                check_members(alloc, members)?;
                 read_members(alloc, members)
             }
             _ => Err(CoseError::UnexpectedItem),

@@ -1,11 +1,12 @@
 //! Bytes to authenticator data.
-ghost use Rattle.std.specs.Prelude.{◌≡◌, ◌<◌, ◌^◌, ⊤, true, Ok, length, option_map, IfOk};
+ghost use Rattle.std.specs.Prelude.{◌≡◌, ◌<◌, ◌^◌, true, Ok, length, option_map, IfOk};
 ghost use Rattle.std.specs.Result.{result_map_both};
+ghost use Rattle.passkey_cbor.specs.Reads.{HasGrowingFront};
 ghost use Rattle.passkey_cbor.specs.View.{item_of};
 ghost use Rattle.passkey_cose.specs.Key.{key_parts};
 ghost use Rattle.passkey_cose.specs.KeyReading.{read_key};
 ghost use Rattle.passkey_core.specs.DataAnswers.{Gives};
-ghost use Rattle.passkey_core.specs.DataReading.{bytes_at, fixed_at, ids_at, has_parts, read_map, ReadsItem, ReadsAttested, ReadsWhere, ReadsData};
+ghost use Rattle.passkey_core.specs.DataReading.{bytes_at, fixed_at, ids_at, read_map, ReadsItem, ReadsAttested, ReadsWhere, ReadsData, AttestedGrows, DataGrow};
 ghost use Rattle.passkey_core.specs.DataViews.{attested_parts, data_parts};
 
 use crate::aaguid::Aaguid;
@@ -71,21 +72,24 @@ fn read_ids(bytes: &[u8]) -> Begun<'_, (Aaguid, &[u8])>
 }
 
 fn read_item(alloc: Global, bytes: &[u8]) -> Begun<'_, Value>
-    ensures { Gives ⊤ (λ r. (item_of r.0, r.1.now)) (ReadsItem Ok bytes.now) result }
+    ensures { Gives (HasGrowingFront bytes.now) (λ r. (item_of r.0, r.1.now))
+        (ReadsItem Ok bytes.now) result }
 {
     let (value, len) = Value::from_slice(alloc, bytes)?;
     Ok((value, &bytes[len..]))
 }
 
 fn read_key(alloc: Global, bytes: &[u8]) -> Begun<'_, CoseKey>
-    ensures { Gives ⊤ (λ r. (key_parts r.0, r.1.now)) (ReadsItem read_key bytes.now) result }
+    ensures { Gives (HasGrowingFront bytes.now) (λ r. (key_parts r.0, r.1.now))
+        (ReadsItem read_key bytes.now) result }
 {
     let (value, rest) = read_item(alloc, bytes)?;
     Ok((CoseKey::from_value(alloc, &value)?, rest))
 }
 
 fn read_extensions(alloc: Global, bytes: &[u8]) -> Begun<'_, Value>
-    ensures { Gives ⊤ (λ r. (item_of r.0, r.1.now)) (ReadsItem read_map bytes.now) result }
+    ensures { Gives (HasGrowingFront bytes.now) (λ r. (item_of r.0, r.1.now))
+        (ReadsItem read_map bytes.now) result }
 {
     let (value, rest) = read_item(alloc, bytes)?;
     match value {
@@ -95,7 +99,8 @@ fn read_extensions(alloc: Global, bytes: &[u8]) -> Begun<'_, Value>
 }
 
 fn read_attested(alloc: Global, bytes: &[u8]) -> Begun<'_, AttestedCredentialData>
-    ensures { Gives ⊤ (λ r. (attested_parts r.0, r.1.now)) (ReadsAttested bytes.now) result }
+    ensures { Gives (AttestedGrows bytes.now) (λ r. (attested_parts r.0, r.1.now))
+        (ReadsAttested bytes.now) result }
 {
     let ((aaguid, id), rest) = read_ids(bytes)?;
     let (key, rest) = read_key(alloc, rest)?;
@@ -112,7 +117,8 @@ fn read_attested_where(
     is_there: bool,
     bytes: &[u8],
 ) -> Begun<'_, Option<AttestedCredentialData>>
-    ensures { Gives (is_there ≡ true) (λ r. (option_map attested_parts r.0, r.1.now)) (ReadsWhere is_there ReadsAttested bytes.now) result }
+    ensures { Gives ((is_there ≡ true) × AttestedGrows bytes.now) (λ r. (option_map attested_parts r.0, r.1.now))
+        (ReadsWhere is_there ReadsAttested bytes.now) result }
 {
     if !is_there {
         return Ok((None, bytes));
@@ -122,7 +128,8 @@ fn read_attested_where(
 }
 
 fn read_extensions_where(alloc: Global, is_there: bool, bytes: &[u8]) -> Begun<'_, Option<Value>>
-    ensures { Gives (is_there ≡ true) (λ r. (option_map item_of r.0, r.1.now)) (ReadsWhere is_there (ReadsItem read_map) bytes.now) result }
+    ensures { Gives ((is_there ≡ true) × HasGrowingFront bytes.now) (λ r. (option_map item_of r.0, r.1.now))
+        (ReadsWhere is_there (ReadsItem read_map) bytes.now) result }
 {
     if !is_there {
         return Ok((None, bytes));
@@ -138,14 +145,18 @@ impl AuthenticatorData {
     /// key; and where ED is set a map. Bytes behind the last part are passed over.
     ///
     /// `DecodeFailed` where fewer than 37 bytes are there, the attested credential data are cut off,
-    /// or no item of CBOR stands where a key or the extensions are to be;
+    /// or no item of CBOR stands where a key or the extensions should be;
     /// `OutOfRangeIntegerValue` where bit 1 or 5 of the flags is set; the fault of
     /// `CoseKey::from_value` where the item is no key; `UnexpectedItem` where the extensions are no
-    /// map. The first fault is answered: the length's, the flags', and then from the first byte to
-    /// the last. `OutOfMemory` where a growth was refused, which cannot be where neither AT nor ED is
-    /// set.
+    /// map. The first fault is returned: the length's, the flags', and then from the first byte to
+    /// the last.
+    ///
+    /// `OutOfMemory` where memory ran out for an item that stands there whole as the key or as the
+    /// extensions, where AT or ED names it and no fault stands before it. As the item is made before
+    /// it is judged, `OutOfMemory` may hide that it is no key or no map. Never where neither AT nor
+    /// ED is set.
     pub fn from_slice(alloc: Global, bytes: &[u8]) -> Result<AuthenticatorData, CoseError>
-        ensures { Gives (has_parts bytes.now ≡ true) data_parts (ReadsData bytes.now) result }
+        ensures { Gives (DataGrow bytes.now) data_parts (ReadsData bytes.now) result }
     {
         let (fixed, rest) = read_fixed(bytes)?;
         let has_attested = bitflags::Flags::contains(&fixed.flags, Flags::AT);

@@ -1,8 +1,7 @@
-use Rattle.std.specs.Prelude.{⊤}
 use Rattle.std.proofs.Common.{rules, ◌≡◌, ℕ, List, true, Option, Err, option_map, Bor}
 use Rattle.passkey_core.specs.DataViews.{attested_parts}
 use Rattle.passkey_core.specs.declared.attested.data.AttestedCredentialData.{AttestedCredentialData}
-use Rattle.passkey_core.specs.DataReading.{ReadsAttested, ReadsWhere}
+use Rattle.passkey_core.specs.DataReading.{ReadsAttested, ReadsWhere, AttestedGrows}
 use Rattle.passkey_core.proofs.DataReadings.{gives_fault, part_stands, part_fails}
 use Rattle.passkey_core.proofs.authenticator_data.reading.read_attested_where.Goals as goal
 
@@ -10,7 +9,7 @@ pub returns-in_err-attested : goal.returns-in_err-attested
 returns-in_err-attested c =
     let there : c.args.is_there ≡ true = search rules in
     let told : c.from_residual.result ≡ Err c.in_err-attested.field-0.0 = search rules in
-    rw told (gives_fault ⊤ (c.args.is_there ≡ true) (λ (r : AttestedCredentialData × Bor (List ℕ)). (attested_parts r.0, r.1.now)) (λ (r : Option AttestedCredentialData × Bor (List ℕ)). (option_map attested_parts r.0, r.1.now)) (ReadsAttested c.args.bytes.now) (ReadsWhere c.args.is_there ReadsAttested c.args.bytes.now) (λ _. there) (part_fails ReadsAttested c.args.is_there c.args.bytes.now there) c.in_err-attested.field-0.0 c.in_err-attested.ensures)
+    rw told (gives_fault (AttestedGrows c.args.bytes.now) ((c.args.is_there ≡ true) × AttestedGrows c.args.bytes.now) (λ (r : AttestedCredentialData × Bor (List ℕ)). (attested_parts r.0, r.1.now)) (λ (r : Option AttestedCredentialData × Bor (List ℕ)). (option_map attested_parts r.0, r.1.now)) (ReadsAttested c.args.bytes.now) (ReadsWhere c.args.is_there ReadsAttested c.args.bytes.now) (λ grows. (there, grows)) (part_fails ReadsAttested c.args.is_there c.args.bytes.now there) c.in_err-attested.field-0.0 c.in_err-attested.ensures)
 
 pub returns : goal.returns
 returns c =
