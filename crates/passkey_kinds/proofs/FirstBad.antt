@@ -9,7 +9,7 @@ use Rattle.passkey_kinds.specs.declared.fault.Fault.TheVariants as fault
 
 -- ---- the faults that members have
 
-abbrev IsOfMember : Fault → Type 0
+abbrev pub IsOfMember : Fault → Type 0
 IsOfMember fault.BadKey = Unit {0}
 IsOfMember (fault.Repeated n) = Unit {0}
 IsOfMember (fault.Refused n) = Unit {0}

@@ -8,6 +8,7 @@ pub mod Pairs
 pub mod Accepted
 pub mod Unknown
 pub mod FirstBad
+pub mod ItemFaults
 pub mod Required
 pub mod Sufficient
 pub mod SameAnswers
@@ -20,6 +21,7 @@ pub mod SignedBack
 pub mod WrittenLists
 pub mod Levels
 pub mod Messages
+pub mod LengthAlone
 pub mod RecordLevels
 pub mod Deep
 pub mod Held

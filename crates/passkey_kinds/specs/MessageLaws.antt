@@ -1,11 +1,14 @@
--- Laws of messages: what is written is read back, and what is read can be written so.
-use Rattle.std.specs.Prelude.{◌≡◌, ℕ, List, ◌++◌, length, Bool, true, Result, Ok}
+-- Laws of messages: what is written is read back, what is read can be written so, and which bytes are read alike.
+use Rattle.std.specs.Prelude.{◌≡◌, ◌≢◌, ◌↔◌, ℕ, List, ◌∷◌, ◌++◌, length, Bool, true, Result, Ok, Err}
 use Rattle.passkey_cbor.specs.Front.{IsFront}
 use Rattle.passkey_cbor.specs.Item.{Item}
 use Rattle.passkey_cbor.specs.Writable.{IsWritable}
 use Rattle.passkey_cbor.specs.Written.{written}
-use Rattle.passkey_kinds.specs.Message.{Begins}
+use Rattle.passkey_kinds.specs.Message.{Begins, ReadsMessage}
+use Rattle.passkey_kinds.specs.Table.{Table, Members, Values, Build, unknown, named, read_item}
+use Rattle.passkey_kinds.specs.Tree.{map_tree}
 use Rattle.passkey_kinds.specs.declared.fault.Fault.{Fault}
+use Rattle.passkey_kinds.specs.declared.fault.Fault.TheVariants.{OutOfMemory}
 
 -- What is written of a coherent message begins the bytes, whatever follows, and is read as the message's normal form.
 abbrev pub WrittenIsReadBack : {P : Type 0} → (Item → Result P Fault) → (P → Item) → (P → Type 0) → (P → Bool) → (P → P) → Type 0
@@ -14,3 +17,44 @@ WrittenIsReadBack {P} read tree Fits is_coherent normal = (p : P) (rest : List �
 -- What is read of bytes is coherent.
 abbrev pub ReadIsCoherent : {P : Type 0} → (Item → Result P Fault) → (P → Bool) → Type 0
 ReadIsCoherent {P} read is_coherent = (bytes : List ℕ) (p : P) → Begins bytes (λ i len. read i ≡ Ok p) → is_coherent p ≡ true
+
+-- ---- bytes that are read alike
+
+-- the same value, with this length in the second answer, or the same fault
+abbrev pub SameButForLength : {A M : Type 0} → (A → M) → ℕ → Result (A × ℕ) Fault → Result (A × ℕ) Fault → Type 0
+SameButForLength view len (Ok r) (Ok s) = (view r.0 ≡ view s.0) × (s.1 ≡ len)
+SameButForLength view len (Ok r) (Err f) = ⊥
+SameButForLength view len (Err e) (Ok s) = ⊥
+SameButForLength view len (Err e) (Err f) = e ≡ f
+
+-- Where reading the bytes may give the first answer, reading the others may give the second exactly
+-- where that is the same but for the length, which is this one. Out of memory aside, which may be
+-- answered wherever an item takes memory.
+abbrev pub AnswersCarryOver : {A M : Type 0} → (A → M) → (Item → Result M Fault) → List ℕ → List ℕ → ℕ → Type 0
+AnswersCarryOver {A} view read bytes others len =
+    (first second : Result (A × ℕ) Fault) →
+    first ≢ Err OutOfMemory →
+    second ≢ Err OutOfMemory →
+    ReadsMessage view read bytes first →
+    (ReadsMessage view read others second ↔ SameButForLength view len first second)
+
+-- Whatever bytes begin with the two items, in any spelling and with anything behind, what is read
+-- of them differs in the length alone.
+abbrev pub DifferInLength : {A M : Type 0} → (A → M) → (Item → Result M Fault) → Item → Item → Type 0
+DifferInLength view read x y =
+    (bytes others : List ℕ) (n m : ℕ) →
+    IsFront bytes x n →
+    IsFront others y m →
+    AnswersCarryOver view read bytes others m × AnswersCarryOver view read others bytes n
+
+-- Items that are read alike differ in the length alone.
+abbrev pub AlikeDifferInLength : {A M : Type 0} → (A → M) → (Item → Result M Fault) → Type 0
+AlikeDifferInLength view read = (x y : Item) → read x ≡ read y → DifferInLength view read x y
+
+-- A map with one member more, under a key that the table doesn't know, differs in the length alone
+-- from the map without it, wherever the member stands.
+abbrev pub PassesOverUnknown : {A V M : Type 0} → (A → M) → Table → Values V → Build V M → Type 0
+PassesOverUnknown view table values build =
+    (before behind : Members) (key value : Item) →
+    named table key ≡ unknown →
+    DifferInLength view (read_item table values build) (map_tree (before ++ behind)) (map_tree (before ++ (key, value) ∷ behind))

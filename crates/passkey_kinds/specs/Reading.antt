@@ -32,11 +32,11 @@ MayGrowAt table (item.map ps) = MayGrowIn table (members ps)
 MayGrowAt table _ = ⊥
 
 -- What a reader of a record answers: what is wanted, as contracts see it, or its fault; or memory
--- was refused, where it may be.
+-- was refused, where it may be. That no item is there, it never says.
 abbrev pub Reads : {A M : Type 0} → (A → M) → Type 0 → Result M Fault → Result A Fault → Type 0
 Reads view takes wanted (Ok x) = wanted ≡ Ok (view x)
 Reads view takes wanted (Err fault.OutOfMemory) = takes
-Reads view takes wanted (Err fault.DecodeFailed) = wanted ≡ Err fault.DecodeFailed
+Reads view takes wanted (Err fault.DecodeFailed) = ⊥
 Reads view takes wanted (Err fault.NotAMap) = wanted ≡ Err fault.NotAMap
 Reads view takes wanted (Err fault.BadKey) = wanted ≡ Err fault.BadKey
 Reads view takes wanted (Err (fault.Repeated n)) = wanted ≡ Err (fault.Repeated n)

@@ -6,7 +6,7 @@ use Rattle.passkey_kinds.specs.Kind.{Kind, accepted}
 use Rattle.passkey_kinds.specs.Reading.{with_row}
 use Rattle.passkey_kinds.specs.Table.{Row, Table, Naming, row, unknown, wrong, named, Members, accepts_at, Values, Build, read_members}
 use Rattle.passkey_kinds.specs.declared.fault.Fault.{Fault}
-use Rattle.passkey_kinds.specs.declared.fault.Fault.TheVariants.{NotAMap}
+use Rattle.passkey_kinds.specs.declared.fault.Fault.TheVariants.{DecodeFailed, NotAMap, OutOfMemory}
 
 -- A member under a key that the table doesn't know changes nothing, wherever it stands.
 abbrev pub UnknownMemberIsPassedOver : Type 0 → Type 0 → Type 0
@@ -63,6 +63,12 @@ AreFilled table (r ∷ rs) found = IsFilled r.entry.is_required table.rows r.ent
 -- What stands under the required rows is all that the record needs.
 abbrev pub RequiredRowsSuffice : {V M : Type 0} → Table → Values V → Build V M → Type 0
 RequiredRowsSuffice table values build = (found : ℕ → Option Item) → AreFilled table table.rows found → is_some (build (values found)) ≡ true
+
+-- ---- faults that an item doesn't have
+
+-- No item is told to be none, nor to want memory.
+abbrev pub KnowsItems : {M : Type 0} → (Item → Result M Fault) → Type 0
+KnowsItems read = (i : Item) → (read i ≢ Err DecodeFailed) × (read i ≢ Err OutOfMemory)
 
 -- No map is told to be none, whatever its members.
 abbrev pub KnowsMaps : {M : Type 0} → (Item → Result M Fault) → Type 0

@@ -1,0 +1,86 @@
+-- Bytes that begin with items which are read alike: reading them differs in the length alone.
+use Rattle.std.proofs.Common.{◌≡◌, ◌≢◌, ◌∙◌, ℕ, List, ◌∷◌, ◌++◌, Result, Ok, Err, refl, sym, ap, subst}
+use Rattle.passkey_cbor.specs.Front.{IsFront}
+use Rattle.passkey_cbor.specs.Item.{Item}
+use Rattle.passkey_cbor.specs.Laws.{AtMostOneFront}
+use Rattle.passkey_cose.proofs.KeyLists.{members-pairs_of}
+use Rattle.passkey_kinds.proofs.ItemFaults.{knows_items}
+use Rattle.passkey_kinds.proofs.Unknown.{unknown_is_passed_over}
+use Rattle.passkey_kinds.specs.Message.{Begins, ReadsMessage}
+use Rattle.passkey_kinds.specs.MessageLaws.{SameButForLength, AnswersCarryOver, AlikeDifferInLength, PassesOverUnknown}
+use Rattle.passkey_kinds.specs.Table.{Table, Members, Values, Build, read_members, read_item}
+use Rattle.passkey_kinds.specs.TableLaws.{KnowsItems}
+use Rattle.passkey_kinds.specs.Tree.{map_tree}
+use Rattle.passkey_kinds.specs.declared.fault.Fault.{Fault}
+use Rattle.passkey_kinds.specs.declared.fault.Fault.TheVariants as fault
+
+-- an answer where this is read of the item that begins the bytes, which has this length
+abbrev Tells : {A M : Type 0} → (A → M) → Result M Fault → ℕ → Result (A × ℕ) Fault → Type 0
+Tells view wanted len (Ok r) = (r.1 ≡ len) × (wanted ≡ Ok (view r.0))
+Tells view wanted len (Err e) = wanted ≡ Err e
+
+-- ---- at a front, the answers other than out of memory are those that tell what is read of it
+
+holds_at : AtMostOneFront → (bytes : List ℕ) (x : Item) (len : ℕ) (Holds : Item → ℕ → Type 0) → IsFront bytes x len → Begins bytes Holds → Holds x len
+holds_at law bytes x len Holds front begun =
+    let same = law bytes begun.item x begun.len len begun.front front in
+    subst (λ (n : ℕ). Holds x n) same.1 (subst (λ (i : Item). Holds i begun.len) same.0 begun.holds)
+
+tells : {A M : Type 0} → AtMostOneFront → (view : A → M) (read : Item → Result M Fault) (bytes : List ℕ) (x : Item) (len : ℕ) → IsFront bytes x len → (r : Result (A × ℕ) Fault) → r ≢ Err fault.OutOfMemory → ReadsMessage view read bytes r → Tells view (read x) len r
+tells law view read bytes x len front (Ok r) some h =
+    let told = holds_at law bytes x len (λ i n. (n ≡ r.1) × (read i ≡ Ok (view r.0))) front h in
+    (sym told.0, told.1)
+tells law view read bytes x len front (Err fault.DecodeFailed) some h = absurd (h x len front)
+tells law view read bytes x len front (Err fault.OutOfMemory) some h = absurd (some refl)
+tells law view read bytes x len front (Err fault.NotAMap) some h = holds_at law bytes x len (λ i n. read i ≡ Err fault.NotAMap) front h
+tells law view read bytes x len front (Err fault.BadKey) some h = holds_at law bytes x len (λ i n. read i ≡ Err fault.BadKey) front h
+tells law view read bytes x len front (Err (fault.Repeated k)) some h = holds_at law bytes x len (λ i n. read i ≡ Err (fault.Repeated k)) front h
+tells law view read bytes x len front (Err (fault.Refused k)) some h = holds_at law bytes x len (λ i n. read i ≡ Err (fault.Refused k)) front h
+tells law view read bytes x len front (Err (fault.Missing k)) some h = holds_at law bytes x len (λ i n. read i ≡ Err (fault.Missing k)) front h
+
+may_tell : {A M : Type 0} (view : A → M) (read : Item → Result M Fault) → KnowsItems read → (bytes : List ℕ) (x : Item) (len : ℕ) → IsFront bytes x len → (r : Result (A × ℕ) Fault) → r ≢ Err fault.OutOfMemory → Tells view (read x) len r → ReadsMessage view read bytes r
+may_tell view read knows bytes x len front (Ok r) some told = record { item = x; len = len; front = front; holds = (sym told.0, told.1) }
+may_tell view read knows bytes x len front (Err fault.DecodeFailed) some told = absurd ((knows x).0 told)
+may_tell view read knows bytes x len front (Err fault.OutOfMemory) some told = absurd (some refl)
+may_tell view read knows bytes x len front (Err fault.NotAMap) some told = record { item = x; len = len; front = front; holds = told }
+may_tell view read knows bytes x len front (Err fault.BadKey) some told = record { item = x; len = len; front = front; holds = told }
+may_tell view read knows bytes x len front (Err (fault.Repeated k)) some told = record { item = x; len = len; front = front; holds = told }
+may_tell view read knows bytes x len front (Err (fault.Refused k)) some told = record { item = x; len = len; front = front; holds = told }
+may_tell view read knows bytes x len front (Err (fault.Missing k)) some told = record { item = x; len = len; front = front; holds = told }
+
+-- ---- two answers that tell the same
+
+same_told : {A M : Type 0} (view : A → M) (one other : Result M Fault) → one ≡ other → (n m : ℕ) (r s : Result (A × ℕ) Fault) → Tells view one n r → Tells view other m s → SameButForLength view m r s
+same_told view one other same n m (Ok r) (Ok s) t u = (let values : view r.0 ≡ view s.0 = cc (t.1, u.1) in (values, u.0))
+same_told view one other same n m (Ok r) (Err f) t u = absurd (cc t.1)
+same_told view one other same n m (Err e) (Ok s) t u = absurd (cc u.1)
+same_told view one other same n m (Err e) (Err f) t u = cc
+
+told_same : {A M : Type 0} (view : A → M) (one other : Result M Fault) → one ≡ other → (n m : ℕ) (r s : Result (A × ℕ) Fault) → Tells view one n r → SameButForLength view m r s → Tells view other m s
+told_same view one other same n m (Ok r) (Ok s) t u = (u.1, sym same ∙ t.1 ∙ ap Ok u.0)
+told_same view one other same n m (Ok r) (Err f) t u = absurd u
+told_same view one other same n m (Err e) (Ok s) t u = absurd u
+told_same view one other same n m (Err e) (Err f) t u = sym same ∙ t ∙ ap Err u
+
+carries_over : {A M : Type 0} → AtMostOneFront → (view : A → M) (read : Item → Result M Fault) → KnowsItems read → (x y : Item) → read x ≡ read y → (bytes others : List ℕ) (n m : ℕ) → IsFront bytes x n → IsFront others y m → AnswersCarryOver view read bytes others m
+carries_over law view read knows x y same bytes others n m front other r s some some_too h =
+    let told = tells law view read bytes x n front r some h in
+    (λ k. same_told view (read x) (read y) same n m r s told (tells law view read others y m other s some_too k), λ k. may_tell view read knows others y m other s some_too (told_same view (read x) (read y) same n m r s told k))
+
+alike : {A M : Type 0} → AtMostOneFront → (view : A → M) (read : Item → Result M Fault) → KnowsItems read → AlikeDifferInLength view read
+alike law view read knows x y same bytes others n m front other =
+    (carries_over law view read knows x y same bytes others n m front other, carries_over law view read knows y x (sym same) others bytes m n other front)
+
+-- ---- records
+
+pub alike_differ_in_length : {A V M : Type 0} → AtMostOneFront → (view : A → M) (table : Table) (values : Values V) (build : Build V M) → AlikeDifferInLength view (read_item table values build)
+alike_differ_in_length law view table values build = alike law view (read_item table values build) (knows_items table values build)
+
+pub passes_over_unknown : {A V M : Type 0} → AtMostOneFront → (view : A → M) (table : Table) (values : Values V) (build : Build V M) → PassesOverUnknown view table values build
+passes_over_unknown law view table values build before behind key value naming =
+    let without : Members = before ++ behind in
+    let with_it : Members = before ++ (key, value) ∷ behind in
+    alike_differ_in_length law view table values build (map_tree without) (map_tree with_it)
+    (ap (read_members table values build) (members-pairs_of without)
+    ∙ sym (unknown_is_passed_over table values build before behind key value naming)
+    ∙ sym (ap (read_members table values build) (members-pairs_of with_it)))
