@@ -1,6 +1,7 @@
 //! What a relying party asks of extensions, read of JSON objects and written.
-ghost use Rattle.std.specs.Prelude.{◌≡◌, true};
+ghost use Rattle.std.specs.Prelude.{◌≡◌};
 ghost use Rattle.passkey_json.specs.ClientInputs.{client_inputs_in, client_inputs_json, no_inputs, where_any};
+ghost use Rattle.passkey_json.specs.Kind.{is_object};
 ghost use Rattle.passkey_json.specs.Members.{record_kind};
 
 use crate::bytes_form::BytesForm;
@@ -67,7 +68,7 @@ impl JsonRecord for AuthenticationExtensionsClientInputs {
 impl FromJson for AuthenticationExtensionsClientInputs {
     ghost kind = { record_kind client_inputs_in };
 
-    ghost takes = { true };
+    ghost takes = { is_object };
 
     fn from_value(
         alloc: Global,

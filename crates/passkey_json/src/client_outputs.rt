@@ -1,5 +1,6 @@
 //! What extensions answer a relying party, read of JSON objects and written.
-ghost use Rattle.std.specs.Prelude.{◌≡◌, true};
+ghost use Rattle.std.specs.Prelude.{◌≡◌};
+ghost use Rattle.passkey_json.specs.Kind.{is_object};
 ghost use Rattle.passkey_json.specs.Members.{record_kind};
 ghost use Rattle.passkey_json.specs.ClientOutputs.{client_outputs_in, client_outputs_json, no_outputs};
 
@@ -55,7 +56,7 @@ impl JsonRecord for AuthenticationExtensionsClientOutputs {
 impl FromJson for AuthenticationExtensionsClientOutputs {
     ghost kind = { record_kind client_outputs_in };
 
-    ghost takes = { true };
+    ghost takes = { is_object };
 
     fn from_value(
         alloc: Global,

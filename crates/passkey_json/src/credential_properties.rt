@@ -1,5 +1,5 @@
 //! Properties of a credential, read of JSON objects and written.
-ghost use Rattle.std.specs.Prelude.{true};
+ghost use Rattle.passkey_json.specs.Kind.{is_object};
 ghost use Rattle.passkey_json.specs.Members.{record_kind};
 ghost use Rattle.passkey_json.specs.CredentialProperties.{credential_properties_in, credential_properties_json};
 
@@ -37,7 +37,7 @@ impl JsonRecord for CredentialPropertiesOutput {
 impl FromJson for CredentialPropertiesOutput {
     ghost kind = { record_kind credential_properties_in };
 
-    ghost takes = { true };
+    ghost takes = { is_object };
 
     fn from_value(alloc: Global, value: &Value) -> Result<CredentialPropertiesOutput, Refusal> {
         read_nested(alloc, value)

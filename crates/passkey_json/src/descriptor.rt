@@ -1,6 +1,6 @@
 //! Descriptors of credentials, read of JSON objects and written.
-ghost use Rattle.std.specs.Prelude.{true};
 ghost use Rattle.passkey_json.specs.Descriptor.{descriptor_in, descriptor_json};
+ghost use Rattle.passkey_json.specs.Kind.{is_object};
 ghost use Rattle.passkey_json.specs.Members.{record_kind};
 
 use crate::bytes_form::BytesForm;
@@ -34,7 +34,7 @@ impl JsonRecord for PublicKeyCredentialDescriptor {
 impl FromJson for PublicKeyCredentialDescriptor {
     ghost kind = { record_kind descriptor_in };
 
-    ghost takes = { true };
+    ghost takes = { is_object };
 
     fn from_value(alloc: Global, value: &Value) -> Result<PublicKeyCredentialDescriptor, Refusal> {
         read_nested(alloc, value)

@@ -1,5 +1,5 @@
 //! Keys that a relying party can use, read of JSON objects and written.
-ghost use Rattle.std.specs.Prelude.{true};
+ghost use Rattle.passkey_json.specs.Kind.{is_object};
 ghost use Rattle.passkey_json.specs.Members.{record_kind};
 ghost use Rattle.passkey_json.specs.Parameters.{parameters_in, parameters_json};
 
@@ -33,7 +33,7 @@ impl JsonRecord for PublicKeyCredentialParameters {
 impl FromJson for PublicKeyCredentialParameters {
     ghost kind = { record_kind parameters_in };
 
-    ghost takes = { true };
+    ghost takes = { is_object };
 
     fn from_value(alloc: Global, value: &Value) -> Result<PublicKeyCredentialParameters, Refusal> {
         read_nested(alloc, value)

@@ -1,7 +1,8 @@
 //! What a relying party asks of the extension prf, read of JSON objects and written.
-ghost use Rattle.std.specs.Prelude.{◌≡◌, ◌<◌, ◌⊎◌, length, true, IfOk, OnErr};
+ghost use Rattle.std.specs.Prelude.{◌≡◌, ◌<◌, ◌⊎◌, length, IfOk, OnErr};
 ghost use Rattle.std.specs.FinMap as fin;
 ghost use Rattle.std.specs.Option.{IsSomeAnd};
+ghost use Rattle.passkey_json.specs.Kind.{is_object};
 ghost use Rattle.passkey_json.specs.Members.{record_kind};
 ghost use Rattle.passkey_json.specs.PrfInputs.{prf_inputs_in, prf_inputs_json, no_prf_inputs};
 
@@ -85,7 +86,7 @@ impl JsonRecord for AuthenticationExtensionsPrfInputs {
 impl FromJson for AuthenticationExtensionsPrfInputs {
     ghost kind = { record_kind prf_inputs_in };
 
-    ghost takes = { true };
+    ghost takes = { is_object };
 
     fn from_value(
         alloc: Global,

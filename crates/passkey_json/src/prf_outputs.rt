@@ -1,5 +1,5 @@
 //! What the extension prf answers, read of JSON objects and written.
-ghost use Rattle.std.specs.Prelude.{true};
+ghost use Rattle.passkey_json.specs.Kind.{is_object};
 ghost use Rattle.passkey_json.specs.Members.{record_kind};
 ghost use Rattle.passkey_json.specs.PrfOutputs.{prf_outputs_in, prf_outputs_json};
 
@@ -31,7 +31,7 @@ impl JsonRecord for AuthenticationExtensionsPrfOutputs {
 impl FromJson for AuthenticationExtensionsPrfOutputs {
     ghost kind = { record_kind prf_outputs_in };
 
-    ghost takes = { true };
+    ghost takes = { is_object };
 
     fn from_value(
         alloc: Global,

@@ -1,5 +1,5 @@
 //! Salts of the extension prf, read of JSON objects and written.
-ghost use Rattle.std.specs.Prelude.{true};
+ghost use Rattle.passkey_json.specs.Kind.{is_object};
 ghost use Rattle.passkey_json.specs.Members.{record_kind};
 ghost use Rattle.passkey_json.specs.PrfValues.{prf_values_in, prf_values_json};
 
@@ -31,7 +31,7 @@ impl JsonRecord for AuthenticationExtensionsPrfValues {
 impl FromJson for AuthenticationExtensionsPrfValues {
     ghost kind = { record_kind prf_values_in };
 
-    ghost takes = { true };
+    ghost takes = { is_object };
 
     fn from_value(
         alloc: Global,

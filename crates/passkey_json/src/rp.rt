@@ -1,5 +1,5 @@
 //! Relying parties, read of JSON objects and written.
-ghost use Rattle.std.specs.Prelude.{true};
+ghost use Rattle.passkey_json.specs.Kind.{is_object};
 ghost use Rattle.passkey_json.specs.Members.{record_kind};
 ghost use Rattle.passkey_json.specs.Rp.{rp_in, rp_json};
 
@@ -31,7 +31,7 @@ impl JsonRecord for PublicKeyCredentialRpEntity {
 impl FromJson for PublicKeyCredentialRpEntity {
     ghost kind = { record_kind rp_in };
 
-    ghost takes = { true };
+    ghost takes = { is_object };
 
     fn from_value(alloc: Global, value: &Value) -> Result<PublicKeyCredentialRpEntity, Refusal> {
         read_nested(alloc, value)

@@ -1,5 +1,6 @@
 //! What a relying party asks of an authenticator, read of JSON objects and written.
-ghost use Rattle.std.specs.Prelude.{◌≡◌, true};
+ghost use Rattle.std.specs.Prelude.{◌≡◌};
+ghost use Rattle.passkey_json.specs.Kind.{is_object};
 ghost use Rattle.passkey_json.specs.Members.{record_kind};
 ghost use Rattle.passkey_json.specs.SelectionCriteria.{selection_criteria_in, selection_criteria_json, any_authenticator};
 
@@ -69,7 +70,7 @@ impl JsonRecord for AuthenticatorSelectionCriteria {
 impl FromJson for AuthenticatorSelectionCriteria {
     ghost kind = { record_kind selection_criteria_in };
 
-    ghost takes = { true };
+    ghost takes = { is_object };
 
     fn from_value(alloc: Global, value: &Value) -> Result<AuthenticatorSelectionCriteria, Refusal> {
         read_nested(alloc, value)

@@ -1,5 +1,5 @@
 //! Users, read of JSON objects and written.
-ghost use Rattle.std.specs.Prelude.{true};
+ghost use Rattle.passkey_json.specs.Kind.{is_object};
 ghost use Rattle.passkey_json.specs.Members.{record_kind};
 ghost use Rattle.passkey_json.specs.User.{user_in, user_json};
 
@@ -32,7 +32,7 @@ impl JsonRecord for PublicKeyCredentialUserEntity {
 impl FromJson for PublicKeyCredentialUserEntity {
     ghost kind = { record_kind user_in };
 
-    ghost takes = { true };
+    ghost takes = { is_object };
 
     fn from_value(alloc: Global, value: &Value) -> Result<PublicKeyCredentialUserEntity, Refusal> {
         read_nested(alloc, value)
