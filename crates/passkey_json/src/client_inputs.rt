@@ -10,6 +10,7 @@ use crate::json_fault::JsonFault;
 use crate::json_record::{JsonRecord, read_nested};
 use crate::object::Object;
 use crate::prf_inputs::AuthenticationExtensionsPrfInputs;
+use crate::record_to_json::RecordToJson;
 use crate::refusal::Refusal;
 use crate::to_json::ToJson;
 use crate::written::Written;
@@ -88,4 +89,10 @@ impl ToJson for AuthenticationExtensionsClientInputs {
         members.put_some(alloc, form, "prfAlreadyHashed", &self.prf_already_hashed)?;
         Ok(members.into_value())
     }
+}
+
+impl RecordToJson for AuthenticationExtensionsClientInputs {
+    ghost use Rattle.std.specs.Prelude.{refl};
+
+    ghost kind_is_record = { λ _. refl };
 }

@@ -10,6 +10,7 @@ use crate::from_json::FromJson;
 use crate::json_fault::JsonFault;
 use crate::json_record::{JsonRecord, read_nested};
 use crate::object::Object;
+use crate::record_to_json::RecordToJson;
 use crate::refusal::Refusal;
 use crate::to_json::ToJson;
 use crate::written::Written;
@@ -75,4 +76,10 @@ impl ToJson for AuthenticationExtensionsClientOutputs {
         members.put_some(alloc, form, "prf", &self.prf)?;
         Ok(members.into_value())
     }
+}
+
+impl RecordToJson for AuthenticationExtensionsClientOutputs {
+    ghost use Rattle.std.specs.Prelude.{refl};
+
+    ghost kind_is_record = { λ _. refl };
 }

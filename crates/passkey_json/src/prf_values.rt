@@ -8,6 +8,7 @@ use crate::from_json::FromJson;
 use crate::json_fault::JsonFault;
 use crate::json_record::{JsonRecord, read_nested};
 use crate::object::Object;
+use crate::record_to_json::RecordToJson;
 use crate::refusal::Refusal;
 use crate::to_json::ToJson;
 use crate::written::Written;
@@ -50,4 +51,10 @@ impl ToJson for AuthenticationExtensionsPrfValues {
         members.put_some(alloc, form, "second", &self.second)?;
         Ok(members.into_value())
     }
+}
+
+impl RecordToJson for AuthenticationExtensionsPrfValues {
+    ghost use Rattle.std.specs.Prelude.{refl};
+
+    ghost kind_is_record = { λ _. refl };
 }

@@ -10,6 +10,7 @@ use crate::from_json::FromJson;
 use crate::json_fault::JsonFault;
 use crate::json_record::{JsonRecord, read_nested};
 use crate::object::Object;
+use crate::record_to_json::RecordToJson;
 use crate::refusal::Refusal;
 use crate::resident_key::ResidentKeyRequirement;
 use crate::to_json::ToJson;
@@ -98,4 +99,10 @@ impl ToJson for AuthenticatorSelectionCriteria {
         members.put(alloc, form, "userVerification", &self.user_verification)?;
         Ok(members.into_value())
     }
+}
+
+impl RecordToJson for AuthenticatorSelectionCriteria {
+    ghost use Rattle.std.specs.Prelude.{refl};
+
+    ghost kind_is_record = { λ _. refl };
 }
