@@ -28,6 +28,7 @@ fn faults_are_printed_by_name(rt: HostRuntime) {
         "NotBase64Encoded",
     );
     assert_printed(&rt, &BytesFault::OutOfMemory, "OutOfMemory");
+    assert_printed(&rt, &NotBase64Encoded, "NotBase64Encoded");
     assert_printed(&rt, &CoseError::DuplicateMapKey, "DuplicateMapKey");
     assert_printed(&rt, &CodeOutOfRange(27u8), "Value 27 is out of range");
     let fault = BytesFault::NotBase64Encoded(NotBase64Encoded);

@@ -1,5 +1,6 @@
 -- A fault of one step is that of the whole, through what is seen of a value.
 use Rattle.std.proofs.Common.{◌≡◌, Result, Ok, Err}
+use Rattle.std.specs.Prelude.{⊤}
 use Rattle.std.specs.Result.{IsErrAnd}
 use Rattle.passkey_json.proofs.Faults.{first_fault_passed}
 use Rattle.passkey_json.specs.Fault.{Fault, Gives}
@@ -7,6 +8,6 @@ use Rattle.passkey_json.specs.Held.{GivesAs}
 use Rattle.passkey_json.specs.Members.{◌>>=◌}
 use Rattle.passkey_json.specs.declared.json_fault.JsonFault.{JsonFault}
 
-pub fault_passed : {A B M : Type 0} (seen : B → M) (reads : Result A Fault) (e : JsonFault) (rest : A → Result M Fault) (passed : Result B JsonFault) → Gives reads (Err e) → IsErrAnd passed (λ f. f ≡ e) → GivesAs seen (reads >>= rest) passed
-fault_passed seen reads e rest (Ok x) told is = absurd is
-fault_passed {B} {M} seen reads e rest (Err f) told is = first_fault_passed {B = M} reads e rest (Err f) told is
+pub fault_passed : {A B M : Type 0} (Takes : Type 0) (seen : B → M) (reads : Result A Fault) (e : JsonFault) (rest : A → Result M Fault) (passed : Result B JsonFault) → Gives Takes reads (Err e) → IsErrAnd passed (λ f. f ≡ e) → GivesAs ⊤ seen (reads >>= rest) passed
+fault_passed Takes seen reads e rest (Ok x) told is = absurd is
+fault_passed {M} Takes seen reads e rest (Err f) told is = first_fault_passed {B = M} Takes reads e rest (Err f) told is

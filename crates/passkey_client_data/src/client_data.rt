@@ -1,7 +1,8 @@
 //! Client data, read of JSON objects.
-ghost use Rattle.std.specs.Prelude.{◌≡◌, IfOk};
+ghost use Rattle.std.specs.Prelude.{◌≡◌, IfOk, IsTrue};
 ghost use Rattle.passkey_client_data.specs.ClientData.{client_data, held};
 ghost use Rattle.passkey_json.specs.Held.{GivesAs};
+ghost use Rattle.passkey_json.specs.Kind.{is_object};
 ghost use Rattle.serde_json.specs.View.{view};
 
 use crate::client_data_type::ClientDataType;
@@ -38,10 +39,11 @@ impl<E: ClientDataExtra> CollectedClientData<E> {
     /// first fault of `type`, `challenge`, `origin` and `crossOrigin`, in this order; then
     /// `Float("extra_data")` where a float stands in a member that `E` knows; then the fault that `E`
     /// tells; then `Float("unknown_keys")` where a float stands in a member that is unknown. Unknown
-    /// members are held in the order of their names. `OutOfMemory` where a growth was refused.
+    /// members are held in the order of their names. `OutOfMemory` where a growth was refused, which
+    /// only an object lets happen.
     #[tactic(auto, unfolding(crate::specs::ClientData::client_data_in))]
     pub fn from_json(alloc: Global, value: &Value) -> Result<CollectedClientData<E>, JsonFault>
-        ensures { GivesAs held (client_data E.has E.reads (view value.now)) result }
+        ensures { GivesAs (IsTrue (is_object (view value.now))) held (client_data E.has E.reads (view value.now)) result }
     {
         let Value::Object(members) = value else {
             return Err(JsonFault::NotAnObject);

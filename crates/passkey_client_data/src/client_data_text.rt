@@ -1,5 +1,5 @@
 //! Client data, written as JSON text.
-ghost use Rattle.std.specs.Prelude.{◌≡◌, ◌++◌, false, IfOk, OnOk};
+ghost use Rattle.std.specs.Prelude.{◌≡◌, ◌++◌, false, IfOk, OnOk, ⊤};
 ghost use Rattle.std.specs.String.{string_bytes};
 ghost use Rattle.passkey_client_data.specs.ClientData.{held};
 ghost use Rattle.passkey_client_data.specs.ClientDataText.{client_data_text, member_text, later_text, fixed_text};
@@ -142,7 +142,7 @@ impl<E: ClientDataExtra> CollectedClientData<E> {
     /// `Float("unknown_keys")` where one stands in the latter. `OutOfMemory` where a growth was refused.
     #[tactic(auto, unfolding(crate::specs::ClientDataText::client_data_text))]
     pub fn to_text(&self, alloc: Global) -> Result<Text, JsonFault>
-        ensures { Gives (client_data_text E.written (held self.now)) result }
+        ensures { Gives ⊤ (client_data_text E.written (held self.now)) result }
     {
         let extra = self.extra_data.members(alloc)?;
         if extra_holds_float(&extra) {

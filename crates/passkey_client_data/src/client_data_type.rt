@@ -58,7 +58,7 @@ impl fmt::Display for ClientDataType {
 impl FromJson for ClientDataType {
     ghost kind = { one_named client_data_type_named };
 
-    ghost takes = { false };
+    ghost takes = { λ _. false };
 
     fn from_value(_alloc: Global, value: &Value) -> Result<ClientDataType, Refusal> {
         read_name(value)

@@ -1,5 +1,5 @@
 //! Members of client data beside those that all client data has.
-ghost use Rattle.std.specs.Prelude.{◌≡◌, ℕ, Bool, true, List, Result, IfOk};
+ghost use Rattle.std.specs.Prelude.{◌≡◌, ℕ, Bool, true, List, Result, IfOk, ⊤};
 ghost use Rattle.passkey_client_data.specs.ExtraData.{are_extra};
 ghost use Rattle.passkey_json.specs.Fault.{Fault, Gives};
 ghost use Rattle.serde_json.specs.Data.{Members};
@@ -29,7 +29,7 @@ pub trait ClientDataExtra: Drop {
     /// The value that the client data with these members stands for, or the fault. No member of this
     /// type's holds a float. `OutOfMemory` where a growth was refused.
     fn from_object(alloc: Global, object: &Map<String, Value>) -> Result<Self, JsonFault>
-        ensures { Gives (reads (members_view object.now.entries)) result };
+        ensures { Gives ⊤ (reads (members_view object.now.entries)) result };
 
     /// The members that the value is written as, in their order. `OutOfMemory` where a growth was
     /// refused.

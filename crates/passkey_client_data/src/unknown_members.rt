@@ -1,5 +1,5 @@
 //! Members of client data that a type knows, and those that nothing knows.
-ghost use Rattle.std.specs.Prelude.{◌≡◌, IfOk, OnOk, codes};
+ghost use Rattle.std.specs.Prelude.{◌≡◌, IfOk, OnOk, ⊤, codes};
 ghost use Rattle.passkey_client_data.specs.ExtraData.{is_fixed, is_unknown};
 ghost use Rattle.passkey_client_data.specs.MemberLists.{added, members_where, without_floats};
 ghost use Rattle.passkey_json.specs.Held.{GivesAs};
@@ -81,7 +81,7 @@ pub(crate) fn unknown_members<E: ClientDataExtra>(
     alloc: Global,
     members: &Map<String, Value>,
 ) -> Result<IndexMap<String, Value>, JsonFault>
-    ensures { GivesAs (λ copies. members_view copies.entries) (without_floats (codes "unknown_keys") (members_where (is_unknown E.has) (members_view members.now.entries))) result }
+    ensures { GivesAs ⊤ (λ copies. members_view copies.entries) (without_floats (codes "unknown_keys") (members_where (is_unknown E.has) (members_view members.now.entries))) result }
 {
     if unknown_holds_float::<E>(members) {
         return Err(JsonFault::Float("unknown_keys"));

@@ -1,6 +1,6 @@
 //! What an authenticator answers to a sign-in, read of JSON objects and written.
-ghost use Rattle.std.specs.Prelude.{true};
 ghost use Rattle.passkey_credentials.specs.AssertionResponse.{assertion_response_in, assertion_response_json};
+ghost use Rattle.passkey_json.specs.Kind.{is_object};
 ghost use Rattle.passkey_json.specs.Members.{record_kind};
 
 use passkey_bytes::Bytes;
@@ -44,7 +44,7 @@ impl JsonRecord for AuthenticatorAssertionResponse {
 impl FromJson for AuthenticatorAssertionResponse {
     ghost kind = { record_kind assertion_response_in };
 
-    ghost takes = { true };
+    ghost takes = { is_object };
 
     fn from_value(alloc: Global, value: &Value) -> Result<AuthenticatorAssertionResponse, Refusal> {
         read_nested(alloc, value)

@@ -1,7 +1,8 @@
 //! What an authenticator answers when it makes a credential, read of JSON objects and written.
-ghost use Rattle.std.specs.Prelude.{◌≡◌, ◌<◌, ◌⊎◌, true, length, IfOk, OnErr};
+ghost use Rattle.std.specs.Prelude.{◌≡◌, ◌<◌, ◌⊎◌, length, IfOk, OnErr};
 ghost use Rattle.std.specs.Option.{IsSomeAnd};
 ghost use Rattle.passkey_credentials.specs.AttestationResponse.{attestation_response_in, attestation_response_json};
+ghost use Rattle.passkey_json.specs.Kind.{is_object};
 ghost use Rattle.passkey_json.specs.Members.{record_kind};
 
 use passkey_bytes::{Bytes, List};
@@ -76,7 +77,7 @@ impl JsonRecord for AuthenticatorAttestationResponse {
 impl FromJson for AuthenticatorAttestationResponse {
     ghost kind = { record_kind attestation_response_in };
 
-    ghost takes = { true };
+    ghost takes = { is_object };
 
     fn from_value(
         alloc: Global,

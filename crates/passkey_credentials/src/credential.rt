@@ -1,6 +1,6 @@
 //! Credentials that a client hands back, read of JSON objects and written.
-ghost use Rattle.std.specs.Prelude.{true};
 ghost use Rattle.passkey_credentials.specs.Credential.{credential_in, credential_json};
+ghost use Rattle.passkey_json.specs.Kind.{is_object};
 ghost use Rattle.passkey_json.specs.Members.{record_kind};
 
 use crate::assertion_response::AuthenticatorAssertionResponse;
@@ -61,7 +61,7 @@ impl<R: AuthenticatorResponse> JsonRecord for PublicKeyCredential<R> {
 impl<R: AuthenticatorResponse> FromJson for PublicKeyCredential<R> {
     ghost kind = { record_kind (credential_in R.FromJson.kind) };
 
-    ghost takes = { true };
+    ghost takes = { is_object };
 
     fn from_value(alloc: Global, value: &Value) -> Result<PublicKeyCredential<R>, Refusal> {
         read_nested(alloc, value)

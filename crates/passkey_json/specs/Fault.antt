@@ -13,15 +13,16 @@ pub data Fault : Type 0 where
   float : List ℕ → Fault
   repeated : List ℕ → Fault
 
--- What a reader answers: what is wanted, the value or the fault; or memory was refused.
-abbrev pub Gives : {A : Type 0} → Result A Fault → Result A JsonFault → Type 0
-Gives wanted (Ok x) = wanted ≡ Ok x
-Gives wanted (Err json_fault.OutOfMemory) = Unit {0}
-Gives wanted (Err json_fault.NotAnObject) = wanted ≡ Err no_object
-Gives wanted (Err (json_fault.Missing name)) = wanted ≡ Err (missing name.now)
-Gives wanted (Err (json_fault.Refused name)) = wanted ≡ Err (refused name.now)
-Gives wanted (Err (json_fault.Float name)) = wanted ≡ Err (float name.now)
-Gives wanted (Err (json_fault.Repeated name)) = wanted ≡ Err (repeated name.now)
+-- What a reader answers: what is wanted, the value or the fault; or memory was refused, where reading
+-- takes some.
+abbrev pub Gives : {A : Type 0} → Type 0 → Result A Fault → Result A JsonFault → Type 0
+Gives Takes wanted (Ok x) = wanted ≡ Ok x
+Gives Takes wanted (Err json_fault.OutOfMemory) = Takes
+Gives Takes wanted (Err json_fault.NotAnObject) = wanted ≡ Err no_object
+Gives Takes wanted (Err (json_fault.Missing name)) = wanted ≡ Err (missing name.now)
+Gives Takes wanted (Err (json_fault.Refused name)) = wanted ≡ Err (refused name.now)
+Gives Takes wanted (Err (json_fault.Float name)) = wanted ≡ Err (float name.now)
+Gives Takes wanted (Err (json_fault.Repeated name)) = wanted ≡ Err (repeated name.now)
 
 -- what a record's fault is where the record stands inside another
 abbrev pub refusal_of : JsonFault → Refusal

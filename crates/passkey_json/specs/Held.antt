@@ -19,9 +19,9 @@ abbrev pub found : MemberHeld → Member
 found m = record { name = m.name.now; value = option_map (λ v. view v.now) m.value }
 
 -- The same as `Gives`, through what is seen of a value.
-abbrev pub GivesAs : {A M : Type 0} → (A → M) → Result M Fault → Result A JsonFault → Type 0
-GivesAs seen wanted (Ok x) = wanted ≡ Ok (seen x)
-GivesAs seen wanted (Err e) = Gives wanted (Err e)
+abbrev pub GivesAs : {A M : Type 0} → Type 0 → (A → M) → Result M Fault → Result A JsonFault → Type 0
+GivesAs Takes seen wanted (Ok x) = wanted ≡ Ok (seen x)
+GivesAs Takes seen wanted (Err e) = Gives Takes wanted (Err e)
 
 -- the value, or the default where it was refused
 abbrev pub IsUnlessRefused : {A : Type 0} → A → Result A Refusal → Result A JsonFault → Type 0

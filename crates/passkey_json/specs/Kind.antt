@@ -1,5 +1,5 @@
 -- What JSON values mean: a kind accepts some of them, and gives each of those a value.
-use Rattle.std.specs.Prelude.{◌≡◌, ℕ, ◌^◌, nat_lt, ℤ, pos, negsuc, Bool, true, false, IsTrue, if◌then◌else◌, codes, List, [], ◌∷◌, Option, Some, None, option_map, Result, Ok, Err}
+use Rattle.std.specs.Prelude.{◌≡◌, ℕ, ◌^◌, nat_lt, ℤ, pos, negsuc, Bool, true, false, ◌||◌, IsTrue, if◌then◌else◌, codes, List, [], ◌∷◌, Option, Some, None, is_some, option_map, Result, Ok, Err}
 use Rattle.std.specs.Option.{option_and_then}
 use Rattle.std.specs.Str.{bytes_eq, trim}
 use Rattle.passkey_bytes.specs.Encoding.{text_bytes}
@@ -9,17 +9,29 @@ use Rattle.passkey_json.specs.declared.refusal.Refusal.{Refusal}
 use Rattle.passkey_json.specs.declared.refusal.Refusal.TheVariants.{Refused, OutOfMemory}
 use Rattle.passkey_webauthn.specs.NumberText.{whole_64}
 use Rattle.serde_json.specs.Data.{Data, null, boolean, number, string, array, Items, no_items, item}
-use Rattle.serde_json.specs.Find.{as_i64}
+use Rattle.serde_json.specs.Find.{as_str, as_array, as_object, as_i64}
 
 abbrev pub Kind : Type 0 → Type 0
 Kind A = Data → Option A
 
--- What a reader answers: the value, or that there is none; or memory was refused, where the kind
--- takes some.
-abbrev pub Answers : {A : Type 0} → Kind A → Bool → Data → Result A Refusal → Type 0
+-- What a reader answers: the value, or that there is none; or memory was refused, where the JSON
+-- value is one that takes some.
+abbrev pub Answers : {A : Type 0} → Kind A → (Data → Bool) → Data → Result A Refusal → Type 0
 Answers kind takes d (Ok x) = kind d ≡ Some x
 Answers kind takes d (Err Refused) = kind d ≡ None
-Answers kind takes d (Err OutOfMemory) = IsTrue takes
+Answers kind takes d (Err OutOfMemory) = IsTrue (takes d)
+
+abbrev pub is_text : Data → Bool
+is_text d = is_some (as_str d)
+
+abbrev pub is_array : Data → Bool
+is_array d = is_some (as_array d)
+
+abbrev pub is_text_or_array : Data → Bool
+is_text_or_array d = is_text d || is_array d
+
+abbrev pub is_object : Data → Bool
+is_object d = is_some (as_object d)
 
 abbrev pub truth : Kind Bool
 truth (boolean b) = Some b

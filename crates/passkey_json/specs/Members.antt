@@ -1,11 +1,11 @@
 -- Reading an object member by member, in the order of a table.
-use Rattle.std.specs.Prelude.{ℕ, List, Option, Some, None, Result, Ok, Err, option_map, option_and_then, unwrap_or, if◌then◌else◌, is_some}
-use Rattle.std.specs.Option.{ok_or}
+use Rattle.std.specs.Prelude.{ℕ, List, Option, Some, None, Result, Ok, Err, option_map, option_and_then, unwrap_or, if◌then◌else◌, Bool, IsTrue}
+use Rattle.std.specs.Option.{IsSomeAnd, ok_or}
 use Rattle.std.specs.Result.{result_ok}
 use Rattle.passkey_json.specs.Fault.{Fault, no_object, missing, refused, float, repeated}
-use Rattle.passkey_json.specs.Kind.{Kind, accepted}
+use Rattle.passkey_json.specs.Kind.{Kind, accepted, is_object}
 use Rattle.serde_json.specs.Data.{Data}
-use Rattle.serde_json.specs.Find.{get, as_object}
+use Rattle.serde_json.specs.Find.{get}
 use Rattle.serde_json.specs.Written.{has_float}
 
 -- the answer that follows from a value, or the fault
@@ -19,7 +19,7 @@ abbrev pub Object : Type 0
 Object = List ℕ → Option Data
 
 abbrev pub object_of : Data → Result Object Fault
-object_of d = if is_some (as_object d) then Ok (λ name. get name d) else Err no_object
+object_of d = if is_object d then Ok (λ name. get name d) else Err no_object
 
 -- what reading members answers of what is an object
 abbrev pub in_object : {A : Type 0} → (Object → Result A Fault) → Data → Result A Fault
@@ -39,6 +39,10 @@ under name value = record { name = name; value = value }
 
 abbrev pub member : List ℕ → Object → Member
 member name object = under name (object name)
+
+-- a member is there whose value may take memory to read
+abbrev pub MemberTakes : (Data → Bool) → Member → Type 0
+MemberTakes takes m = IsSomeAnd m.value (λ d. IsTrue (takes d))
 
 abbrev pub one_of : List ℕ → Option Data → Option Data → Result Member Fault
 one_of name (Some d) (Some e) = Err (repeated name)

@@ -11,7 +11,7 @@ use std::alloc::Global;
 impl FromJson for Algorithm {
     ghost kind = { algorithm };
 
-    ghost takes = { false };
+    ghost takes = { λ _. false };
 
     #[tactic(auto, unfolding(crate::specs::Kind::algorithm))]
     fn from_value(_alloc: Global, value: &Value) -> Result<Algorithm, Refusal> {

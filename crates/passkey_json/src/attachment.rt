@@ -49,7 +49,7 @@ impl EnumNames for AuthenticatorAttachment {
 impl FromJson for AuthenticatorAttachment {
     ghost kind = { one_named attachment_named };
 
-    ghost takes = { false };
+    ghost takes = { λ _. false };
 
     fn from_value(_alloc: Global, value: &Value) -> Result<AuthenticatorAttachment, Refusal> {
         read_name(value)

@@ -1,6 +1,6 @@
 //! Byte strings, read of JSON values and written.
-ghost use Rattle.std.specs.Prelude.{◌≡◌, false, true, IfOk, OnOk};
-ghost use Rattle.passkey_json.specs.Kind.{bytes as byte_string};
+ghost use Rattle.std.specs.Prelude.{◌≡◌, false, IfOk, OnOk};
+ghost use Rattle.passkey_json.specs.Kind.{bytes as byte_string, is_text_or_array};
 ghost use Rattle.passkey_json.specs.Written.{ReadsBack, bytes_json};
 ghost use Rattle.passkey_json.specs.declared.bytes_form.BytesForm.TheVariants.{Numbers, Base64Url};
 ghost use Rattle.serde_json.specs.View.{view};
@@ -20,7 +20,7 @@ use std::alloc::Global;
 impl FromJson for Bytes {
     ghost kind = { byte_string };
 
-    ghost takes = { true };
+    ghost takes = { is_text_or_array };
 
     fn from_value(alloc: Global, value: &Value) -> Result<Bytes, Refusal> {
         match value {

@@ -1,6 +1,7 @@
 //! What a relying party asks of extensions, read of JSON objects and written.
-ghost use Rattle.std.specs.Prelude.{◌≡◌, true};
+ghost use Rattle.std.specs.Prelude.{◌≡◌};
 ghost use Rattle.passkey_json.specs.ClientInputs.{client_inputs_in, client_inputs_json, no_inputs, where_any};
+ghost use Rattle.passkey_json.specs.Kind.{is_object};
 ghost use Rattle.passkey_json.specs.Members.{record_kind};
 
 use crate::bytes_form::BytesForm;
@@ -9,6 +10,7 @@ use crate::json_fault::JsonFault;
 use crate::json_record::{JsonRecord, read_nested};
 use crate::object::Object;
 use crate::prf_inputs::AuthenticationExtensionsPrfInputs;
+use crate::record_to_json::RecordToJson;
 use crate::refusal::Refusal;
 use crate::to_json::ToJson;
 use crate::written::Written;
@@ -67,7 +69,7 @@ impl JsonRecord for AuthenticationExtensionsClientInputs {
 impl FromJson for AuthenticationExtensionsClientInputs {
     ghost kind = { record_kind client_inputs_in };
 
-    ghost takes = { true };
+    ghost takes = { is_object };
 
     fn from_value(
         alloc: Global,
@@ -87,4 +89,10 @@ impl ToJson for AuthenticationExtensionsClientInputs {
         members.put_some(alloc, form, "prfAlreadyHashed", &self.prf_already_hashed)?;
         Ok(members.into_value())
     }
+}
+
+impl RecordToJson for AuthenticationExtensionsClientInputs {
+    ghost use Rattle.std.specs.Prelude.{refl};
+
+    ghost kind_is_record = { λ _. refl };
 }

@@ -1,5 +1,6 @@
 //! What extensions answer a relying party, read of JSON objects and written.
-ghost use Rattle.std.specs.Prelude.{◌≡◌, true};
+ghost use Rattle.std.specs.Prelude.{◌≡◌};
+ghost use Rattle.passkey_json.specs.Kind.{is_object};
 ghost use Rattle.passkey_json.specs.Members.{record_kind};
 ghost use Rattle.passkey_json.specs.ClientOutputs.{client_outputs_in, client_outputs_json, no_outputs};
 
@@ -9,6 +10,7 @@ use crate::from_json::FromJson;
 use crate::json_fault::JsonFault;
 use crate::json_record::{JsonRecord, read_nested};
 use crate::object::Object;
+use crate::record_to_json::RecordToJson;
 use crate::refusal::Refusal;
 use crate::to_json::ToJson;
 use crate::written::Written;
@@ -55,7 +57,7 @@ impl JsonRecord for AuthenticationExtensionsClientOutputs {
 impl FromJson for AuthenticationExtensionsClientOutputs {
     ghost kind = { record_kind client_outputs_in };
 
-    ghost takes = { true };
+    ghost takes = { is_object };
 
     fn from_value(
         alloc: Global,
@@ -74,4 +76,10 @@ impl ToJson for AuthenticationExtensionsClientOutputs {
         members.put_some(alloc, form, "prf", &self.prf)?;
         Ok(members.into_value())
     }
+}
+
+impl RecordToJson for AuthenticationExtensionsClientOutputs {
+    ghost use Rattle.std.specs.Prelude.{refl};
+
+    ghost kind_is_record = { λ _. refl };
 }

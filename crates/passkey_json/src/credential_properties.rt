@@ -1,5 +1,5 @@
 //! Properties of a credential, read of JSON objects and written.
-ghost use Rattle.std.specs.Prelude.{true};
+ghost use Rattle.passkey_json.specs.Kind.{is_object};
 ghost use Rattle.passkey_json.specs.Members.{record_kind};
 ghost use Rattle.passkey_json.specs.CredentialProperties.{credential_properties_in, credential_properties_json};
 
@@ -8,6 +8,7 @@ use crate::from_json::FromJson;
 use crate::json_fault::JsonFault;
 use crate::json_record::{JsonRecord, read_nested};
 use crate::object::Object;
+use crate::record_to_json::RecordToJson;
 use crate::refusal::Refusal;
 use crate::to_json::ToJson;
 use crate::written::Written;
@@ -37,7 +38,7 @@ impl JsonRecord for CredentialPropertiesOutput {
 impl FromJson for CredentialPropertiesOutput {
     ghost kind = { record_kind credential_properties_in };
 
-    ghost takes = { true };
+    ghost takes = { is_object };
 
     fn from_value(alloc: Global, value: &Value) -> Result<CredentialPropertiesOutput, Refusal> {
         read_nested(alloc, value)
@@ -52,4 +53,10 @@ impl ToJson for CredentialPropertiesOutput {
         members.put_some(alloc, form, "rk", &self.discoverable)?;
         Ok(members.into_value())
     }
+}
+
+impl RecordToJson for CredentialPropertiesOutput {
+    ghost use Rattle.std.specs.Prelude.{refl};
+
+    ghost kind_is_record = { λ _. refl };
 }

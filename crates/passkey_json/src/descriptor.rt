@@ -1,6 +1,6 @@
 //! Descriptors of credentials, read of JSON objects and written.
-ghost use Rattle.std.specs.Prelude.{true};
 ghost use Rattle.passkey_json.specs.Descriptor.{descriptor_in, descriptor_json};
+ghost use Rattle.passkey_json.specs.Kind.{is_object};
 ghost use Rattle.passkey_json.specs.Members.{record_kind};
 
 use crate::bytes_form::BytesForm;
@@ -8,6 +8,7 @@ use crate::from_json::FromJson;
 use crate::json_fault::JsonFault;
 use crate::json_record::{JsonRecord, read_nested};
 use crate::object::Object;
+use crate::record_to_json::RecordToJson;
 use crate::refusal::Refusal;
 use crate::to_json::ToJson;
 use crate::written::Written;
@@ -34,7 +35,7 @@ impl JsonRecord for PublicKeyCredentialDescriptor {
 impl FromJson for PublicKeyCredentialDescriptor {
     ghost kind = { record_kind descriptor_in };
 
-    ghost takes = { true };
+    ghost takes = { is_object };
 
     fn from_value(alloc: Global, value: &Value) -> Result<PublicKeyCredentialDescriptor, Refusal> {
         read_nested(alloc, value)
@@ -51,4 +52,10 @@ impl ToJson for PublicKeyCredentialDescriptor {
         members.put_some(alloc, form, "transports", &self.transports)?;
         Ok(members.into_value())
     }
+}
+
+impl RecordToJson for PublicKeyCredentialDescriptor {
+    ghost use Rattle.std.specs.Prelude.{refl};
+
+    ghost kind_is_record = { λ _. refl };
 }

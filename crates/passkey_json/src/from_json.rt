@@ -1,6 +1,6 @@
 //! Values that are read of JSON values.
-ghost use Rattle.std.specs.Prelude.{◌≡◌, Bool, true, false, Option};
-ghost use Rattle.passkey_json.specs.Kind.{Answers, truth, text, whole, numeral, byte, word, optional};
+ghost use Rattle.std.specs.Prelude.{◌≡◌, Bool, false, Option};
+ghost use Rattle.passkey_json.specs.Kind.{Answers, truth, text, whole, numeral, byte, word, optional, is_text};
 ghost use Rattle.serde_json.specs.Data.{Data};
 ghost use Rattle.serde_json.specs.View.{view};
 
@@ -15,11 +15,11 @@ pub trait FromJson: Drop {
     /// What each JSON value stands for, where it stands for a value.
     ghost kind: { Data → Option Self };
 
-    /// Whether reading may take memory.
-    ghost takes: { Bool };
+    /// Whether reading the JSON value may take memory.
+    ghost takes: { Data → Bool };
 
     /// The value that the JSON value stands for. `Refused` exactly where it stands for none;
-    /// `OutOfMemory` where a growth was refused, which only a kind lets happen that takes memory.
+    /// `OutOfMemory` where a growth was refused, which only JSON values let happen that take memory.
     fn from_value(alloc: Global, value: &Value) -> Result<Self, Refusal>
         ensures { Answers kind takes (view value.now) result };
 }
@@ -37,7 +37,7 @@ pub(crate) fn numeral(value: &Value) -> Option<i64>
 impl FromJson for bool {
     ghost kind = { truth };
 
-    ghost takes = { false };
+    ghost takes = { λ _. false };
 
     fn from_value(_alloc: Global, value: &Value) -> Result<bool, Refusal> {
         value.as_bool().ok_or(Refusal::Refused)
@@ -47,7 +47,7 @@ impl FromJson for bool {
 impl FromJson for Text {
     ghost kind = { text };
 
-    ghost takes = { true };
+    ghost takes = { is_text };
 
     fn from_value(alloc: Global, value: &Value) -> Result<Text, Refusal> {
         match value {
@@ -60,7 +60,7 @@ impl FromJson for Text {
 impl FromJson for u8 {
     ghost kind = { byte };
 
-    ghost takes = { false };
+    ghost takes = { λ _. false };
 
     fn from_value(_alloc: Global, value: &Value) -> Result<u8, Refusal> {
         match value.as_i64() {
@@ -73,7 +73,7 @@ impl FromJson for u8 {
 impl FromJson for u32 {
     ghost kind = { word };
 
-    ghost takes = { false };
+    ghost takes = { λ _. false };
 
     #[tactic(auto, unfolding(crate::specs::Kind::word))]
     fn from_value(_alloc: Global, value: &Value) -> Result<u32, Refusal> {
@@ -87,7 +87,7 @@ impl FromJson for u32 {
 impl FromJson for i64 {
     ghost kind = { whole };
 
-    ghost takes = { false };
+    ghost takes = { λ _. false };
 
     fn from_value(_alloc: Global, value: &Value) -> Result<i64, Refusal> {
         value.as_i64().ok_or(Refusal::Refused)

@@ -1,6 +1,6 @@
 //! Lists of values.
-ghost use Rattle.std.specs.Prelude.{◌≡◌, true};
-ghost use Rattle.passkey_json.specs.Kind.{list, accepted};
+ghost use Rattle.std.specs.Prelude.{◌≡◌};
+ghost use Rattle.passkey_json.specs.Kind.{list, accepted, is_array};
 
 use crate::from_json::FromJson;
 use crate::refusal::Refusal;
@@ -12,7 +12,7 @@ use std::marker::Model;
 impl<T: FromJson> FromJson for List<T> {
     ghost kind = { list T.kind };
 
-    ghost takes = { true };
+    ghost takes = { is_array };
 
     fn from_value(alloc: Global, value: &Value) -> Result<List<T>, Refusal> {
         let Value::Array(elements) = value else {
@@ -51,7 +51,7 @@ impl<T> TolerantList<T> {
 impl<T: FromJson> FromJson for TolerantList<T> {
     ghost kind = { accepted T.kind };
 
-    ghost takes = { true };
+    ghost takes = { is_array };
 
     fn from_value(alloc: Global, value: &Value) -> Result<TolerantList<T>, Refusal> {
         let Value::Array(elements) = value else {

@@ -1,6 +1,5 @@
 //! Maps from texts, read of JSON objects and written.
-ghost use Rattle.std.specs.Prelude.{true};
-ghost use Rattle.passkey_json.specs.Kind.{Answers};
+ghost use Rattle.passkey_json.specs.Kind.{Answers, is_object};
 ghost use Rattle.passkey_json.specs.MapKind.{map_from_texts, map_json};
 ghost use Rattle.serde_json.specs.Data.{object};
 ghost use Rattle.serde_json.specs.View.{members_view};
@@ -19,7 +18,7 @@ fn read_members<T: FromJson>(
     alloc: Global,
     members: &Members<String, Value>,
 ) -> Result<Map<Text, T>, Refusal>
-    ensures { Answers (map_from_texts T.kind) true (object (members_view members.now.entries)) result }
+    ensures { Answers (map_from_texts T.kind) is_object (object (members_view members.now.entries)) result }
 {
     let mut read = Map::empty(alloc);
     for (name, member) in members.iter() {
@@ -32,7 +31,7 @@ fn read_members<T: FromJson>(
 impl<T: FromJson> FromJson for Map<Text, T> {
     ghost kind = { map_from_texts T.kind };
 
-    ghost takes = { true };
+    ghost takes = { is_object };
 
     fn from_value(alloc: Global, value: &Value) -> Result<Map<Text, T>, Refusal> {
         match value {

@@ -1,8 +1,9 @@
 //! Members of objects, each read in one of a few ways.
-ghost use Rattle.std.specs.Prelude.{◌≡◌, Err, option_map};
+ghost use Rattle.std.specs.Prelude.{◌≡◌, Err, IsTrue, option_map};
 ghost use Rattle.passkey_json.specs.Fault.{Gives};
-ghost use Rattle.passkey_json.specs.Held.{GivesAs, IsUnlessRefused, found};
-ghost use Rattle.passkey_json.specs.Members.{under, fault_of, judged, required, or_default, given, tolerated, required_tolerated, accepted_list};
+ghost use Rattle.passkey_json.specs.Held.{IsUnlessRefused, found};
+ghost use Rattle.passkey_json.specs.Kind.{is_array};
+ghost use Rattle.passkey_json.specs.Members.{MemberTakes, under, fault_of, judged, required, or_default, given, tolerated, required_tolerated, accepted_list};
 ghost use Rattle.serde_json.specs.View.{view};
 
 use crate::floats::holds_float;
@@ -16,7 +17,7 @@ use std::alloc::Global;
 
 /// The fault of a value that is refused.
 fn fault_of(name: &'static str, value: &Value) -> JsonFault
-    ensures { Gives {A = Unit {0}} (Err (fault_of name.now (view value.now))) (Err result) }
+    ensures { Gives {A = Unit {0}} ⊥ (Err (fault_of name.now (view value.now))) (Err result) }
 {
     if holds_float(value) {
         JsonFault::Float(name)
@@ -27,7 +28,7 @@ fn fault_of(name: &'static str, value: &Value) -> JsonFault
 
 /// The value that a JSON value stands for, or the fault.
 fn judged<T: FromJson>(alloc: Global, name: &'static str, value: &Value) -> Result<T, JsonFault>
-    ensures { Gives (judged T.kind name.now (view value.now)) result }
+    ensures { Gives (IsTrue (T.takes (view value.now))) (judged T.kind name.now (view value.now)) result }
 {
     match T::from_value(alloc, value) {
         Ok(read) => Ok(read),
@@ -65,7 +66,7 @@ impl<'a> Member<'a> {
     /// `Float` if it holds a float and else `Refused`; `OutOfMemory` where a growth was refused.
     #[tactic(auto, unfolding(crate::specs::Members::required))]
     pub fn required<T: FromJson>(self) -> Result<T, JsonFault>
-        ensures { Gives (required T.kind (found self.entry)) result }
+        ensures { Gives (MemberTakes T.takes (found self.entry)) (required T.kind (found self.entry)) result }
     {
         match self.value {
             Some(value) => judged(self.alloc, self.name, value),
@@ -77,7 +78,7 @@ impl<'a> Member<'a> {
     /// holds a float and else `Refused`; `OutOfMemory` where a growth was refused.
     #[tactic(auto, unfolding(crate::specs::Members::or_default))]
     pub fn or_default<T: FromJson>(self, default: T) -> Result<T, JsonFault>
-        ensures { Gives (or_default default T.kind (found self.entry)) result }
+        ensures { Gives (MemberTakes T.takes (found self.entry)) (or_default default T.kind (found self.entry)) result }
     {
         match self.value {
             Some(value) => judged(self.alloc, self.name, value),
@@ -89,7 +90,7 @@ impl<'a> Member<'a> {
     /// and else `Refused`; `OutOfMemory` where a growth was refused.
     #[tactic(auto, unfolding(crate::specs::Members::given))]
     pub fn given<T: FromJson>(self) -> Result<Option<T>, JsonFault>
-        ensures { Gives (given T.kind (found self.entry)) result }
+        ensures { Gives (MemberTakes T.takes (found self.entry)) (given T.kind (found self.entry)) result }
     {
         match self.value {
             Some(value) => Ok(Some(judged(self.alloc, self.name, value)?)),
@@ -101,7 +102,7 @@ impl<'a> Member<'a> {
     /// tolerated: `OutOfMemory` where a growth was refused, and no other fault.
     #[tactic(auto, unfolding(crate::specs::Members::tolerated))]
     pub fn tolerated<T: FromJson>(self, default: T) -> Result<T, JsonFault>
-        ensures { Gives (tolerated default T.kind (found self.entry)) result }
+        ensures { Gives (MemberTakes T.takes (found self.entry)) (tolerated default T.kind (found self.entry)) result }
     {
         let Some(value) = self.value else {
             return Ok(default);
@@ -114,7 +115,7 @@ impl<'a> Member<'a> {
     /// other fault.
     #[tactic(auto, unfolding(crate::specs::Members::required_tolerated, crate::specs::Members::tolerated))]
     pub fn required_tolerated<T: FromJson>(self, default: T) -> Result<T, JsonFault>
-        ensures { Gives (required_tolerated default T.kind (found self.entry)) result }
+        ensures { Gives (MemberTakes T.takes (found self.entry)) (required_tolerated default T.kind (found self.entry)) result }
     {
         if self.value.is_none() {
             return Err(JsonFault::Missing(self.name));
@@ -127,7 +128,7 @@ impl<'a> Member<'a> {
     /// and no other fault.
     #[tactic(auto, unfolding(crate::specs::Members::accepted_list))]
     pub fn accepted_list<T: FromJson>(self) -> Result<Option<List<T>>, JsonFault>
-        ensures { Gives (accepted_list T.kind (found self.entry)) result }
+        ensures { Gives (MemberTakes is_array (found self.entry)) (accepted_list T.kind (found self.entry)) result }
     {
         let Some(value) = self.value else {
             return Ok(None);

@@ -17,7 +17,7 @@ use std::alloc::Global;
 
 /// The value that a text names. `Refused` where the JSON value isn't a text that names one.
 pub fn read_name<T: EnumNames>(value: &Value) -> Result<T, Refusal>
-    ensures { Answers (one_named T.named) false (view value.now) result }
+    ensures { Answers (one_named T.named) (λ _. false) (view value.now) result }
 {
     match value {
         Value::String(name) => T::from_name(name.as_str()).ok_or(Refusal::Refused),
@@ -28,7 +28,7 @@ pub fn read_name<T: EnumNames>(value: &Value) -> Result<T, Refusal>
 impl FromJson for PublicKeyCredentialType {
     ghost kind = { one_named credential_type_named };
 
-    ghost takes = { false };
+    ghost takes = { λ _. false };
 
     fn from_value(_alloc: Global, value: &Value) -> Result<PublicKeyCredentialType, Refusal> {
         read_name(value)
@@ -38,7 +38,7 @@ impl FromJson for PublicKeyCredentialType {
 impl FromJson for AuthenticatorTransport {
     ghost kind = { one_named transport_named };
 
-    ghost takes = { false };
+    ghost takes = { λ _. false };
 
     fn from_value(_alloc: Global, value: &Value) -> Result<AuthenticatorTransport, Refusal> {
         read_name(value)

@@ -19,7 +19,7 @@ pub struct Object<'a> {
 impl<'a> Object<'a> {
     /// The value as an object. `NotAnObject` where it is none.
     pub fn of(alloc: Global, value: &'a Value) -> Result<Object<'a>, JsonFault>
-        ensures { GivesAs names_of (object_of (view value.now)) result }
+        ensures { GivesAs ⊥ names_of (object_of (view value.now)) result }
     {
         if value.is_object() {
             Ok(Object { alloc, value })
@@ -38,7 +38,7 @@ impl<'a> Object<'a> {
     /// The member of this name, which may stand under another one. `Repeated` where it stands under
     /// both.
     pub fn aliased(&self, name: &'static str, other: &'static str) -> Result<Member<'a>, JsonFault>
-        ensures { GivesAs found (aliased name.now other.now (names_of self.now)) result }
+        ensures { GivesAs ⊥ found (aliased name.now other.now (names_of self.now)) result }
     {
         match (self.value.get(name), self.value.get(other)) {
             (Some(_), Some(_)) => Err(JsonFault::Repeated(name)),

@@ -1,5 +1,5 @@
 //! Keys that a relying party can use, read of JSON objects and written.
-ghost use Rattle.std.specs.Prelude.{true};
+ghost use Rattle.passkey_json.specs.Kind.{is_object};
 ghost use Rattle.passkey_json.specs.Members.{record_kind};
 ghost use Rattle.passkey_json.specs.Parameters.{parameters_in, parameters_json};
 
@@ -8,6 +8,7 @@ use crate::from_json::FromJson;
 use crate::json_fault::JsonFault;
 use crate::json_record::{JsonRecord, read_nested};
 use crate::object::Object;
+use crate::record_to_json::RecordToJson;
 use crate::refusal::Refusal;
 use crate::to_json::ToJson;
 use crate::written::Written;
@@ -33,7 +34,7 @@ impl JsonRecord for PublicKeyCredentialParameters {
 impl FromJson for PublicKeyCredentialParameters {
     ghost kind = { record_kind parameters_in };
 
-    ghost takes = { true };
+    ghost takes = { is_object };
 
     fn from_value(alloc: Global, value: &Value) -> Result<PublicKeyCredentialParameters, Refusal> {
         read_nested(alloc, value)
@@ -49,4 +50,10 @@ impl ToJson for PublicKeyCredentialParameters {
         members.put(alloc, form, "alg", &self.alg)?;
         Ok(members.into_value())
     }
+}
+
+impl RecordToJson for PublicKeyCredentialParameters {
+    ghost use Rattle.std.specs.Prelude.{refl};
+
+    ghost kind_is_record = { λ _. refl };
 }

@@ -1,7 +1,8 @@
 //! What a relying party asks of the extension prf, read of JSON objects and written.
-ghost use Rattle.std.specs.Prelude.{◌≡◌, ◌<◌, ◌⊎◌, length, true, IfOk, OnErr};
+ghost use Rattle.std.specs.Prelude.{◌≡◌, ◌<◌, ◌⊎◌, length, IfOk, OnErr};
 ghost use Rattle.std.specs.FinMap as fin;
 ghost use Rattle.std.specs.Option.{IsSomeAnd};
+ghost use Rattle.passkey_json.specs.Kind.{is_object};
 ghost use Rattle.passkey_json.specs.Members.{record_kind};
 ghost use Rattle.passkey_json.specs.PrfInputs.{prf_inputs_in, prf_inputs_json, no_prf_inputs};
 
@@ -10,6 +11,7 @@ use crate::from_json::FromJson;
 use crate::json_fault::JsonFault;
 use crate::json_record::{JsonRecord, read_nested};
 use crate::object::Object;
+use crate::record_to_json::RecordToJson;
 use crate::refusal::Refusal;
 use crate::to_json::ToJson;
 use crate::written::Written;
@@ -85,7 +87,7 @@ impl JsonRecord for AuthenticationExtensionsPrfInputs {
 impl FromJson for AuthenticationExtensionsPrfInputs {
     ghost kind = { record_kind prf_inputs_in };
 
-    ghost takes = { true };
+    ghost takes = { is_object };
 
     fn from_value(
         alloc: Global,
@@ -104,4 +106,10 @@ impl ToJson for AuthenticationExtensionsPrfInputs {
         members.put_some(alloc, form, "evalByCredential", &self.eval_by_credential)?;
         Ok(members.into_value())
     }
+}
+
+impl RecordToJson for AuthenticationExtensionsPrfInputs {
+    ghost use Rattle.std.specs.Prelude.{refl};
+
+    ghost kind_is_record = { λ _. refl };
 }

@@ -1,5 +1,5 @@
 //! What the extension prf answers, read of JSON objects and written.
-ghost use Rattle.std.specs.Prelude.{true};
+ghost use Rattle.passkey_json.specs.Kind.{is_object};
 ghost use Rattle.passkey_json.specs.Members.{record_kind};
 ghost use Rattle.passkey_json.specs.PrfOutputs.{prf_outputs_in, prf_outputs_json};
 
@@ -8,6 +8,7 @@ use crate::from_json::FromJson;
 use crate::json_fault::JsonFault;
 use crate::json_record::{JsonRecord, read_nested};
 use crate::object::Object;
+use crate::record_to_json::RecordToJson;
 use crate::refusal::Refusal;
 use crate::to_json::ToJson;
 use crate::written::Written;
@@ -31,7 +32,7 @@ impl JsonRecord for AuthenticationExtensionsPrfOutputs {
 impl FromJson for AuthenticationExtensionsPrfOutputs {
     ghost kind = { record_kind prf_outputs_in };
 
-    ghost takes = { true };
+    ghost takes = { is_object };
 
     fn from_value(
         alloc: Global,
@@ -50,4 +51,10 @@ impl ToJson for AuthenticationExtensionsPrfOutputs {
         members.put_some(alloc, form, "results", &self.results)?;
         Ok(members.into_value())
     }
+}
+
+impl RecordToJson for AuthenticationExtensionsPrfOutputs {
+    ghost use Rattle.std.specs.Prelude.{refl};
+
+    ghost kind_is_record = { λ _. refl };
 }

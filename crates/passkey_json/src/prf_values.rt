@@ -1,5 +1,5 @@
 //! Salts of the extension prf, read of JSON objects and written.
-ghost use Rattle.std.specs.Prelude.{true};
+ghost use Rattle.passkey_json.specs.Kind.{is_object};
 ghost use Rattle.passkey_json.specs.Members.{record_kind};
 ghost use Rattle.passkey_json.specs.PrfValues.{prf_values_in, prf_values_json};
 
@@ -8,6 +8,7 @@ use crate::from_json::FromJson;
 use crate::json_fault::JsonFault;
 use crate::json_record::{JsonRecord, read_nested};
 use crate::object::Object;
+use crate::record_to_json::RecordToJson;
 use crate::refusal::Refusal;
 use crate::to_json::ToJson;
 use crate::written::Written;
@@ -31,7 +32,7 @@ impl JsonRecord for AuthenticationExtensionsPrfValues {
 impl FromJson for AuthenticationExtensionsPrfValues {
     ghost kind = { record_kind prf_values_in };
 
-    ghost takes = { true };
+    ghost takes = { is_object };
 
     fn from_value(
         alloc: Global,
@@ -50,4 +51,10 @@ impl ToJson for AuthenticationExtensionsPrfValues {
         members.put_some(alloc, form, "second", &self.second)?;
         Ok(members.into_value())
     }
+}
+
+impl RecordToJson for AuthenticationExtensionsPrfValues {
+    ghost use Rattle.std.specs.Prelude.{refl};
+
+    ghost kind_is_record = { λ _. refl };
 }

@@ -53,7 +53,7 @@ impl EnumNames for ResidentKeyRequirement {
 impl FromJson for ResidentKeyRequirement {
     ghost kind = { one_named resident_key_named };
 
-    ghost takes = { false };
+    ghost takes = { λ _. false };
 
     fn from_value(_alloc: Global, value: &Value) -> Result<ResidentKeyRequirement, Refusal> {
         read_name(value)

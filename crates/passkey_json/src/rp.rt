@@ -1,5 +1,5 @@
 //! Relying parties, read of JSON objects and written.
-ghost use Rattle.std.specs.Prelude.{true};
+ghost use Rattle.passkey_json.specs.Kind.{is_object};
 ghost use Rattle.passkey_json.specs.Members.{record_kind};
 ghost use Rattle.passkey_json.specs.Rp.{rp_in, rp_json};
 
@@ -8,6 +8,7 @@ use crate::from_json::FromJson;
 use crate::json_fault::JsonFault;
 use crate::json_record::{JsonRecord, read_nested};
 use crate::object::Object;
+use crate::record_to_json::RecordToJson;
 use crate::refusal::Refusal;
 use crate::to_json::ToJson;
 use crate::written::Written;
@@ -31,7 +32,7 @@ impl JsonRecord for PublicKeyCredentialRpEntity {
 impl FromJson for PublicKeyCredentialRpEntity {
     ghost kind = { record_kind rp_in };
 
-    ghost takes = { true };
+    ghost takes = { is_object };
 
     fn from_value(alloc: Global, value: &Value) -> Result<PublicKeyCredentialRpEntity, Refusal> {
         read_nested(alloc, value)
@@ -47,4 +48,10 @@ impl ToJson for PublicKeyCredentialRpEntity {
         members.put(alloc, form, "name", &self.name)?;
         Ok(members.into_value())
     }
+}
+
+impl RecordToJson for PublicKeyCredentialRpEntity {
+    ghost use Rattle.std.specs.Prelude.{refl};
+
+    ghost kind_is_record = { λ _. refl };
 }

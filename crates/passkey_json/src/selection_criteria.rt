@@ -1,5 +1,6 @@
 //! What a relying party asks of an authenticator, read of JSON objects and written.
-ghost use Rattle.std.specs.Prelude.{◌≡◌, true};
+ghost use Rattle.std.specs.Prelude.{◌≡◌};
+ghost use Rattle.passkey_json.specs.Kind.{is_object};
 ghost use Rattle.passkey_json.specs.Members.{record_kind};
 ghost use Rattle.passkey_json.specs.SelectionCriteria.{selection_criteria_in, selection_criteria_json, any_authenticator};
 
@@ -9,6 +10,7 @@ use crate::from_json::FromJson;
 use crate::json_fault::JsonFault;
 use crate::json_record::{JsonRecord, read_nested};
 use crate::object::Object;
+use crate::record_to_json::RecordToJson;
 use crate::refusal::Refusal;
 use crate::resident_key::ResidentKeyRequirement;
 use crate::to_json::ToJson;
@@ -69,7 +71,7 @@ impl JsonRecord for AuthenticatorSelectionCriteria {
 impl FromJson for AuthenticatorSelectionCriteria {
     ghost kind = { record_kind selection_criteria_in };
 
-    ghost takes = { true };
+    ghost takes = { is_object };
 
     fn from_value(alloc: Global, value: &Value) -> Result<AuthenticatorSelectionCriteria, Refusal> {
         read_nested(alloc, value)
@@ -97,4 +99,10 @@ impl ToJson for AuthenticatorSelectionCriteria {
         members.put(alloc, form, "userVerification", &self.user_verification)?;
         Ok(members.into_value())
     }
+}
+
+impl RecordToJson for AuthenticatorSelectionCriteria {
+    ghost use Rattle.std.specs.Prelude.{refl};
+
+    ghost kind_is_record = { λ _. refl };
 }

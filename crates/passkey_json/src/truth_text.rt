@@ -46,7 +46,7 @@ fn truth_named(name: &str) -> Option<bool>
 impl FromJson for TruthText {
     ghost kind = { truth_text };
 
-    ghost takes = { false };
+    ghost takes = { λ _. false };
 
     fn from_value(_alloc: Global, value: &Value) -> Result<TruthText, Refusal> {
         let truth = match value {

@@ -1,5 +1,5 @@
 //! Users, read of JSON objects and written.
-ghost use Rattle.std.specs.Prelude.{true};
+ghost use Rattle.passkey_json.specs.Kind.{is_object};
 ghost use Rattle.passkey_json.specs.Members.{record_kind};
 ghost use Rattle.passkey_json.specs.User.{user_in, user_json};
 
@@ -8,6 +8,7 @@ use crate::from_json::FromJson;
 use crate::json_fault::JsonFault;
 use crate::json_record::{JsonRecord, read_nested};
 use crate::object::Object;
+use crate::record_to_json::RecordToJson;
 use crate::refusal::Refusal;
 use crate::to_json::ToJson;
 use crate::written::Written;
@@ -32,7 +33,7 @@ impl JsonRecord for PublicKeyCredentialUserEntity {
 impl FromJson for PublicKeyCredentialUserEntity {
     ghost kind = { record_kind user_in };
 
-    ghost takes = { true };
+    ghost takes = { is_object };
 
     fn from_value(alloc: Global, value: &Value) -> Result<PublicKeyCredentialUserEntity, Refusal> {
         read_nested(alloc, value)
@@ -49,4 +50,10 @@ impl ToJson for PublicKeyCredentialUserEntity {
         members.put(alloc, form, "name", &self.name)?;
         Ok(members.into_value())
     }
+}
+
+impl RecordToJson for PublicKeyCredentialUserEntity {
+    ghost use Rattle.std.specs.Prelude.{refl};
+
+    ghost kind_is_record = { λ _. refl };
 }

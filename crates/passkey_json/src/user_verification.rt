@@ -53,7 +53,7 @@ impl EnumNames for UserVerificationRequirement {
 impl FromJson for UserVerificationRequirement {
     ghost kind = { one_named user_verification_named };
 
-    ghost takes = { false };
+    ghost takes = { λ _. false };
 
     fn from_value(_alloc: Global, value: &Value) -> Result<UserVerificationRequirement, Refusal> {
         read_name(value)

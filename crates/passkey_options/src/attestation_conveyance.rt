@@ -53,7 +53,7 @@ impl EnumNames for AttestationConveyancePreference {
 impl FromJson for AttestationConveyancePreference {
     ghost kind = { one_named conveyance_named };
 
-    ghost takes = { false };
+    ghost takes = { λ _. false };
 
     fn from_value(
         _alloc: Global,

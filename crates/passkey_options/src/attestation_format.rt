@@ -65,7 +65,7 @@ impl EnumNames for AttestationStatementFormatIdentifiers {
 impl FromJson for AttestationStatementFormatIdentifiers {
     ghost kind = { one_named format_named };
 
-    ghost takes = { false };
+    ghost takes = { λ _. false };
 
     fn from_value(
         _alloc: Global,

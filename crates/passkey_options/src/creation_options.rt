@@ -1,5 +1,5 @@
 //! What a relying party asks for where a credential is made, read of JSON objects and written.
-ghost use Rattle.std.specs.Prelude.{true};
+ghost use Rattle.passkey_json.specs.Kind.{is_object};
 ghost use Rattle.passkey_json.specs.Members.{record_kind};
 ghost use Rattle.passkey_options.specs.CreationOptions.{creation_options_in, creation_options_json, required_members_in, choice_members_in};
 
@@ -121,7 +121,7 @@ impl JsonRecord for PublicKeyCredentialCreationOptions {
 impl FromJson for PublicKeyCredentialCreationOptions {
     ghost kind = { record_kind creation_options_in };
 
-    ghost takes = { true };
+    ghost takes = { is_object };
 
     fn from_value(
         alloc: Global,

@@ -1,5 +1,5 @@
 //! What a page asks of the browser where a credential is made, read of JSON objects and written.
-ghost use Rattle.std.specs.Prelude.{true};
+ghost use Rattle.passkey_json.specs.Kind.{is_object};
 ghost use Rattle.passkey_json.specs.Members.{record_kind};
 ghost use Rattle.passkey_options.specs.CredentialCreation.{credential_creation_in, credential_creation_json};
 
@@ -32,7 +32,7 @@ impl JsonRecord for CredentialCreationOptions {
 impl FromJson for CredentialCreationOptions {
     ghost kind = { record_kind credential_creation_in };
 
-    ghost takes = { true };
+    ghost takes = { is_object };
 
     fn from_value(alloc: Global, value: &Value) -> Result<CredentialCreationOptions, Refusal> {
         read_nested(alloc, value)

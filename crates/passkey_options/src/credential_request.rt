@@ -1,5 +1,5 @@
 //! What a page asks of the browser where a user signs in, read of JSON objects and written.
-ghost use Rattle.std.specs.Prelude.{true};
+ghost use Rattle.passkey_json.specs.Kind.{is_object};
 ghost use Rattle.passkey_json.specs.Members.{record_kind};
 ghost use Rattle.passkey_options.specs.CredentialRequest.{credential_request_in, credential_request_json};
 
@@ -32,7 +32,7 @@ impl JsonRecord for CredentialRequestOptions {
 impl FromJson for CredentialRequestOptions {
     ghost kind = { record_kind credential_request_in };
 
-    ghost takes = { true };
+    ghost takes = { is_object };
 
     fn from_value(alloc: Global, value: &Value) -> Result<CredentialRequestOptions, Refusal> {
         read_nested(alloc, value)

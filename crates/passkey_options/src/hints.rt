@@ -49,7 +49,7 @@ impl EnumNames for PublicKeyCredentialHints {
 impl FromJson for PublicKeyCredentialHints {
     ghost kind = { one_named hint_named };
 
-    ghost takes = { false };
+    ghost takes = { λ _. false };
 
     fn from_value(_alloc: Global, value: &Value) -> Result<PublicKeyCredentialHints, Refusal> {
         read_name(value)

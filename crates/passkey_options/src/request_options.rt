@@ -1,5 +1,5 @@
 //! What a relying party asks for where a user signs in, read of JSON objects and written.
-ghost use Rattle.std.specs.Prelude.{true};
+ghost use Rattle.passkey_json.specs.Kind.{is_object};
 ghost use Rattle.passkey_json.specs.Members.{record_kind};
 ghost use Rattle.passkey_options.specs.RequestOptions.{credential_members_in, request_options_in, request_options_json};
 
@@ -94,7 +94,7 @@ impl JsonRecord for PublicKeyCredentialRequestOptions {
 impl FromJson for PublicKeyCredentialRequestOptions {
     ghost kind = { record_kind request_options_in };
 
-    ghost takes = { true };
+    ghost takes = { is_object };
 
     fn from_value(
         alloc: Global,

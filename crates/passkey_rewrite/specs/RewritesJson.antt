@@ -56,7 +56,7 @@ pub record RewritesJson (rewritten : Data → Result (List ℕ) Fault) (input te
 pub record IsRefusedJson (rewritten : Data → Result (List ℕ) Fault) (input : List ℕ) (fault : JsonFault) : Type 0 where
   pub value : Data
   pub reads : IsJson input value
-  pub told : Gives (rewritten value) (Err fault)
+  pub told : Gives ⊥ (rewritten value) (Err fault)
 
 -- memory that ran out is no such fault
 abbrev pub RefusesJson : (Data → Result (List ℕ) Fault) → List ℕ → JsonFault → Type 0

@@ -1,8 +1,9 @@
-use Rattle.std.proofs.Common.{◌≡◌, ◌∙◌, Ok, Err, refl, sym, ap, subst}
+use Rattle.std.proofs.Common.{◌≡◌, ◌∙◌, IsTrue, Ok, Err, refl, sym, ap, subst}
 use Rattle.passkey_client_data.proofs.FaultsPassed.{fault_passed}
 use Rattle.passkey_client_data.proofs.client_data.CollectedClientData.from_json.Goals as goal
 use Rattle.passkey_client_data.specs.ClientData.{client_data_in, fixed_members_in, held}
 use Rattle.passkey_json.specs.Fault.{Gives}
+use Rattle.passkey_json.specs.Kind.{is_object}
 use Rattle.passkey_json.specs.Members.{in_object}
 use Rattle.serde_json.proofs.Views.{view-Object}
 use Rattle.serde_json.specs.Data.{Data, object}
@@ -12,8 +13,8 @@ pub returns-in_err-ty : goal.returns-in_err-ty
 unfolding client_data_in
 returns-in_err-ty g c =
     let seen : view c.args.value.now ≡ object (members_view c.in-Object.members.entries) = ap view c.in-Object.is ∙ view-Object c.in-Object.members in
-    let fixed = subst (λ (d : Data). Gives (in_object fixed_members_in d) (Err c.in_err-ty.field-0.0)) seen c.in_err-ty.ensures in
-    rw seen (fault_passed held _ c.in_err-ty.field-0.0 _ _ fixed c.from_residual.ensures.1)
+    let fixed = subst (λ (d : Data). Gives (IsTrue (is_object d)) (in_object fixed_members_in d) (Err c.in_err-ty.field-0.0)) seen c.in_err-ty.ensures in
+    rw seen (fault_passed _ held _ c.in_err-ty.field-0.0 _ _ fixed c.from_residual.ensures.1)
 
 pub returns : goal.returns
 unfolding client_data_in

@@ -6,7 +6,7 @@ use Rattle.passkey_credentials.specs.AttestationResponse.{attestation_response_i
 pub returns-in_err-required : goal.returns-in_err-required
 unfolding attestation_response_in
 returns-in_err-required c =
-    rw (sym c.member.ensures) (first_fault_passed _ c.in_err-required.field-0.0 _ _ c.in_err-required.ensures c.from_residual.ensures.1)
+    rw (sym c.member.ensures) (first_fault_passed _ _ c.in_err-required.field-0.0 _ _ c.in_err-required.ensures c.from_residual.ensures.1)
 
 pub returns-in_err-required-2 : goal.returns-in_err-required-2
 unfolding attestation_response_in
@@ -14,7 +14,7 @@ returns-in_err-required-2 c =
     rw (
       rw c.member.ensures at c.in_ok-required.ensures,
       ← c.member-2.ensures,
-    ) (first_fault_passed _ c.in_err-required-2.field-0.0 _ _ c.in_err-required-2.ensures c.from_residual-in_err-required-2.ensures.1)
+    ) (first_fault_passed _ _ c.in_err-required-2.field-0.0 _ _ c.in_err-required-2.ensures c.from_residual-in_err-required-2.ensures.1)
 
 pub returns-in_err-or_default : goal.returns-in_err-or_default
 unfolding attestation_response_in
@@ -23,7 +23,7 @@ returns-in_err-or_default c =
       rw c.member.ensures at c.in_ok-required.ensures,
       rw c.member-2.ensures at c.in_ok-required-2.ensures,
       ← c.member-3.ensures,
-    ) (first_fault_passed _ c.in_err-or_default.field-0.0 _ _ c.in_err-or_default.ensures c.from_residual-in_err-or_default.ensures.1)
+    ) (first_fault_passed _ _ c.in_err-or_default.field-0.0 _ _ c.in_err-or_default.ensures c.from_residual-in_err-or_default.ensures.1)
 
 pub returns-in_err-required-3 : goal.returns-in_err-required-3
 unfolding attestation_response_in
@@ -33,7 +33,7 @@ returns-in_err-required-3 c =
       rw c.member-2.ensures at c.in_ok-required-2.ensures,
       rw c.member-3.ensures at c.in_ok-or_default.ensures,
       ← c.member-4.ensures,
-    ) (first_fault_passed _ c.in_err-required-3.field-0.0 _ _ c.in_err-required-3.ensures c.from_residual-in_err-required-3.ensures.1)
+    ) (first_fault_passed _ _ c.in_err-required-3.field-0.0 _ _ c.in_err-required-3.ensures c.from_residual-in_err-required-3.ensures.1)
 
 pub returns-in_err-required-4 : goal.returns-in_err-required-4
 unfolding attestation_response_in
@@ -44,7 +44,7 @@ returns-in_err-required-4 c =
       rw c.member-3.ensures at c.in_ok-or_default.ensures,
       rw c.member-4.ensures at c.in_ok-required-3.ensures,
       ← c.member-5.ensures,
-    ) (first_fault_passed _ c.in_err-required-4.field-0.0 _ _ c.in_err-required-4.ensures c.from_residual-in_err-required-4.ensures.1)
+    ) (first_fault_passed _ _ c.in_err-required-4.field-0.0 _ _ c.in_err-required-4.ensures c.from_residual-in_err-required-4.ensures.1)
 
 pub returns-in_err-or_default-2 : goal.returns-in_err-or_default-2
 unfolding attestation_response_in
@@ -56,4 +56,4 @@ returns-in_err-or_default-2 c =
       rw c.member-4.ensures at c.in_ok-required-3.ensures,
       rw c.member-5.ensures at c.in_ok-required-4.ensures,
       ← c.member-6.ensures,
-    ) (first_fault_passed _ c.in_err-or_default-2.field-0.0 _ _ c.in_err-or_default-2.ensures c.from_residual-in_err-or_default-2.ensures.1)
+    ) (first_fault_passed _ _ c.in_err-or_default-2.field-0.0 _ _ c.in_err-or_default-2.ensures c.from_residual-in_err-or_default-2.ensures.1)

@@ -7,4 +7,4 @@ unfolding client_inputs_in
 returns-in_err-or_default-3 c =
     let cred_props = rw c.member.ensures at c.in_ok-or_default.ensures in
     let prf = rw c.member-2.ensures at c.in_ok-or_default-2.ensures in
-    rw (cred_props, prf, ← c.member-3.ensures) (first_fault_passed _ c.in_err-or_default-3.field-0.0 _ _ c.in_err-or_default-3.ensures c.from_residual-in_err-or_default-3.ensures.1)
+    rw (cred_props, prf, ← c.member-3.ensures) (first_fault_passed _ _ c.in_err-or_default-3.field-0.0 _ _ c.in_err-or_default-3.ensures c.from_residual-in_err-or_default-3.ensures.1)

@@ -6,7 +6,7 @@ use Rattle.passkey_options.specs.AttestationMembers.{attestation_members_in}
 pub returns-in_err-accepted_list : goal.returns-in_err-accepted_list
 unfolding attestation_members_in
 returns-in_err-accepted_list c =
-    rw (sym c.member.ensures) (first_fault_passed _ c.in_err-accepted_list.field-0.0 _ _ c.in_err-accepted_list.ensures c.from_residual.ensures.1)
+    rw (sym c.member.ensures) (first_fault_passed _ _ c.in_err-accepted_list.field-0.0 _ _ c.in_err-accepted_list.ensures c.from_residual.ensures.1)
 
 pub returns-in_err-tolerated : goal.returns-in_err-tolerated
 unfolding attestation_members_in
@@ -14,7 +14,7 @@ returns-in_err-tolerated c =
     rw (
       rw c.member.ensures at c.in_ok-accepted_list.ensures,
       ← c.member-2.ensures,
-    ) (first_fault_passed _ c.in_err-tolerated.field-0.0 _ _ c.in_err-tolerated.ensures c.from_residual-in_err-tolerated.ensures.1)
+    ) (first_fault_passed _ _ c.in_err-tolerated.field-0.0 _ _ c.in_err-tolerated.ensures c.from_residual-in_err-tolerated.ensures.1)
 
 pub returns-in_err-accepted_list-2 : goal.returns-in_err-accepted_list-2
 unfolding attestation_members_in
@@ -23,7 +23,7 @@ returns-in_err-accepted_list-2 c =
       rw c.member.ensures at c.in_ok-accepted_list.ensures,
       rw c.member-2.ensures at c.in_ok-tolerated.ensures,
       ← c.member-3.ensures,
-    ) (first_fault_passed _ c.in_err-accepted_list-2.field-0.0 _ _ c.in_err-accepted_list-2.ensures c.from_residual-in_err-accepted_list-2.ensures.1)
+    ) (first_fault_passed _ _ c.in_err-accepted_list-2.field-0.0 _ _ c.in_err-accepted_list-2.ensures c.from_residual-in_err-accepted_list-2.ensures.1)
 
 pub returns : goal.returns
 unfolding attestation_members_in

@@ -6,7 +6,7 @@ use Rattle.passkey_options.specs.CreationOptions.{choice_members_in}
 pub returns-in_err-given : goal.returns-in_err-given
 unfolding choice_members_in
 returns-in_err-given c =
-    rw (sym c.member.ensures) (first_fault_passed _ c.in_err-given.field-0.0 _ _ c.in_err-given.ensures c.from_residual.ensures.1)
+    rw (sym c.member.ensures) (first_fault_passed _ _ c.in_err-given.field-0.0 _ _ c.in_err-given.ensures c.from_residual.ensures.1)
 
 pub returns-in_err-accepted_list : goal.returns-in_err-accepted_list
 unfolding choice_members_in
@@ -14,7 +14,7 @@ returns-in_err-accepted_list c =
     rw (
       rw c.member.ensures at c.in_ok-given.ensures,
       ← c.member-2.ensures,
-    ) (first_fault_passed _ c.in_err-accepted_list.field-0.0 _ _ c.in_err-accepted_list.ensures c.from_residual-in_err-accepted_list.ensures.1)
+    ) (first_fault_passed _ _ c.in_err-accepted_list.field-0.0 _ _ c.in_err-accepted_list.ensures c.from_residual-in_err-accepted_list.ensures.1)
 
 pub returns-in_err-or_default : goal.returns-in_err-or_default
 unfolding choice_members_in
@@ -23,7 +23,7 @@ returns-in_err-or_default c =
       rw c.member.ensures at c.in_ok-given.ensures,
       rw c.member-2.ensures at c.in_ok-accepted_list.ensures,
       ← c.member-3.ensures,
-    ) (first_fault_passed _ c.in_err-or_default.field-0.0 _ _ c.in_err-or_default.ensures c.from_residual-in_err-or_default.ensures.1)
+    ) (first_fault_passed _ _ c.in_err-or_default.field-0.0 _ _ c.in_err-or_default.ensures c.from_residual-in_err-or_default.ensures.1)
 
 pub returns : goal.returns
 unfolding choice_members_in

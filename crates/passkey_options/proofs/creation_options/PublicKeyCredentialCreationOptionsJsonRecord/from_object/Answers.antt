@@ -6,12 +6,12 @@ use Rattle.passkey_options.specs.CreationOptions.{creation_options_in}
 pub returns-in_err-required : goal.returns-in_err-required
 unfolding creation_options_in
 returns-in_err-required c =
-    first_fault_passed _ c.in_err-required.field-0.0 _ _ c.in_err-required.ensures c.from_residual.ensures.1
+    first_fault_passed _ _ c.in_err-required.field-0.0 _ _ c.in_err-required.ensures c.from_residual.ensures.1
 
 pub returns-in_err-choice : goal.returns-in_err-choice
 unfolding creation_options_in
 returns-in_err-choice c =
-    rw c.in_ok-required.ensures (first_fault_passed _ c.in_err-choice.field-0.0 _ _ c.in_err-choice.ensures c.from_residual-in_err-choice.ensures.1)
+    rw c.in_ok-required.ensures (first_fault_passed _ _ c.in_err-choice.field-0.0 _ _ c.in_err-choice.ensures c.from_residual-in_err-choice.ensures.1)
 
 pub returns-in_err-wishes : goal.returns-in_err-wishes
 unfolding creation_options_in
@@ -19,7 +19,7 @@ returns-in_err-wishes c =
     rw (
       c.in_ok-required.ensures,
       c.in_ok-choice.ensures,
-    ) (first_fault_passed _ c.in_err-wishes.field-0.0 _ _ c.in_err-wishes.ensures c.from_residual-in_err-wishes.ensures.1)
+    ) (first_fault_passed _ _ c.in_err-wishes.field-0.0 _ _ c.in_err-wishes.ensures c.from_residual-in_err-wishes.ensures.1)
 
 pub returns-in_err-extensions : goal.returns-in_err-extensions
 unfolding creation_options_in
@@ -29,7 +29,7 @@ returns-in_err-extensions c =
       c.in_ok-choice.ensures,
       c.in_ok-wishes.ensures,
       ← c.member.ensures,
-    ) (first_fault_passed _ c.in_err-extensions.field-0.0 _ _ c.in_err-extensions.ensures c.from_residual-in_err-extensions.ensures.1)
+    ) (first_fault_passed _ _ c.in_err-extensions.field-0.0 _ _ c.in_err-extensions.ensures c.from_residual-in_err-extensions.ensures.1)
 
 pub returns : goal.returns
 unfolding creation_options_in

@@ -6,7 +6,7 @@ use Rattle.passkey_options.specs.RequestOptions.{request_options_in}
 pub returns-in_err-credential : goal.returns-in_err-credential
 unfolding request_options_in
 returns-in_err-credential c =
-    first_fault_passed _ c.in_err-credential.field-0.0 _ _ c.in_err-credential.ensures c.from_residual.ensures.1
+    first_fault_passed _ _ c.in_err-credential.field-0.0 _ _ c.in_err-credential.ensures c.from_residual.ensures.1
 
 pub returns-in_err-user_verification : goal.returns-in_err-user_verification
 unfolding request_options_in
@@ -14,7 +14,7 @@ returns-in_err-user_verification c =
     rw (
       c.in_ok-credential.ensures,
       ← c.member.ensures,
-    ) (first_fault_passed _ c.in_err-user_verification.field-0.0 _ _ c.in_err-user_verification.ensures c.from_residual-in_err-user_verification.ensures.1)
+    ) (first_fault_passed _ _ c.in_err-user_verification.field-0.0 _ _ c.in_err-user_verification.ensures c.from_residual-in_err-user_verification.ensures.1)
 
 pub returns-in_err-wishes : goal.returns-in_err-wishes
 unfolding request_options_in
@@ -22,7 +22,7 @@ returns-in_err-wishes c =
     rw (
       c.in_ok-credential.ensures,
       rw c.member.ensures at c.in_ok-user_verification.ensures,
-    ) (first_fault_passed _ c.in_err-wishes.field-0.0 _ _ c.in_err-wishes.ensures c.from_residual-in_err-wishes.ensures.1)
+    ) (first_fault_passed _ _ c.in_err-wishes.field-0.0 _ _ c.in_err-wishes.ensures c.from_residual-in_err-wishes.ensures.1)
 
 pub returns-in_err-extensions : goal.returns-in_err-extensions
 unfolding request_options_in
@@ -32,7 +32,7 @@ returns-in_err-extensions c =
       rw c.member.ensures at c.in_ok-user_verification.ensures,
       c.in_ok-wishes.ensures,
       ← c.member-2.ensures,
-    ) (first_fault_passed _ c.in_err-extensions.field-0.0 _ _ c.in_err-extensions.ensures c.from_residual-in_err-extensions.ensures.1)
+    ) (first_fault_passed _ _ c.in_err-extensions.field-0.0 _ _ c.in_err-extensions.ensures c.from_residual-in_err-extensions.ensures.1)
 
 pub returns : goal.returns
 unfolding request_options_in

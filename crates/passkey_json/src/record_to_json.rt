@@ -1,0 +1,31 @@
+//! Records that are read of what they are written as.
+ghost use Rattle.std.specs.Prelude.{◌≡◌, IfErr, IfOk};
+ghost use Rattle.passkey_json.specs.Members.{record_kind};
+ghost use Rattle.passkey_json.specs.declared.json_fault.JsonFault.TheVariants.{OutOfMemory as NoMemory};
+ghost use Rattle.serde_json.specs.Data.{Data};
+
+use crate::bytes_form::BytesForm;
+use crate::json_fault::JsonFault;
+use crate::json_record::JsonRecord;
+use crate::to_json::ToJson;
+use std::alloc::Global;
+
+/// A record that is written as an object, of which it is read member by member.
+pub trait RecordToJson: JsonRecord + ToJson {
+    /// As a member of another record it is read of the same objects as by itself.
+    ghost kind_is_record: { (d : Data) → Self.FromJson.kind d ≡ record_kind Self.JsonRecord.members d };
+}
+
+/// The record that is read of what the record is written as: the same one. `OutOfMemory` where a growth
+/// was refused, and no other fault.
+pub fn read_back<R: RecordToJson>(
+    alloc: Global,
+    record: &R,
+    form: BytesForm,
+) -> Result<R, JsonFault>
+    ensures same { IfOk result (λ read. read ≡ record.now) }
+    ensures memory { IfErr result (λ fault. fault ≡ NoMemory) }
+{
+    let written = record.to_json(alloc, form)?;
+    R::from_json(alloc, &written)
+}
