@@ -20,12 +20,12 @@ pub trait RecordToJson: JsonRecord + ToJson {
 /// was refused, and no other fault.
 pub fn read_back<R: RecordToJson>(
     alloc: Global,
-    record: &R,
+    value: &R,
     form: BytesForm,
 ) -> Result<R, JsonFault>
-    ensures same { IfOk result (λ read. read ≡ record.now) }
+    ensures same { IfOk result (λ read. read ≡ value.now) }
     ensures memory { IfErr result (λ fault. fault ≡ NoMemory) }
 {
-    let written = record.to_json(alloc, form)?;
+    let written = value.to_json(alloc, form)?;
     R::from_json(alloc, &written)
 }

@@ -1,12 +1,13 @@
 -- URLs, read of JSON values, and what their readers answer.
-use Rattle.std.specs.Prelude.{◌≡◌, ◌<◌, List, length, Option, Some, None, IfSome, Result, Ok, Err}
+use Rattle.std.specs.Prelude.{◌≡◌, nat_le, Bool, false, ◌||◌, IsTrue, List, length, Some, None, Result, Ok, Err}
 use Rattle.std.specs.Result.{result_ok}
 use Rattle.std.specs.declared.alloc.Global.{Global}
 use Rattle.std.specs.declared.vec.Vec.{Vec}
-use Rattle.passkey_json.specs.Kind.{Kind}
+use Rattle.passkey_json.specs.Kind.{Kind, list, is_text, is_array}
+use Rattle.passkey_well_known.specs.declared.url_list.TheConstants.{LONG_TEXT}
 use Rattle.passkey_well_known.specs.declared.url_list.UrlFault.{UrlFault}
 use Rattle.passkey_well_known.specs.declared.url_list.UrlFault.TheVariants.{Refused, TooLong, OutOfMemory}
-use Rattle.serde_json.specs.Data.{string}
+use Rattle.serde_json.specs.Data.{Data, string, array, Items, no_items, item}
 use Rattle.url.specs.Parser.{parse_url}
 use Rattle.url.specs.Parts.{Parts}
 
@@ -15,16 +16,30 @@ abbrev pub url : Kind Parts
 url (string s) = result_ok (parse_url None s)
 url _ = None
 
--- The URL, or that there is none; or there was no room for it.
-abbrev pub AnswersUrl : Option Parts → Result Parts UrlFault → Type 0
-AnswersUrl wanted (Ok u) = wanted ≡ Some u
-AnswersUrl wanted (Err Refused) = wanted ≡ None
-AnswersUrl wanted (Err TooLong) = Unit {0}
-AnswersUrl wanted (Err OutOfMemory) = Unit {0}
+-- a text whose URL may be refused for its length
+abbrev pub is_long : Data → Bool
+is_long (string s) = nat_le LONG_TEXT (length s)
+is_long _ = false
 
--- The URLs, or that there are none such; or there was no room for one of them.
-abbrev pub AnswersUrls : Option (List Parts) → Result (Vec Parts Global) UrlFault → Type 0
-AnswersUrls wanted (Ok us) = wanted ≡ Some us.items
-AnswersUrls wanted (Err Refused) = wanted ≡ None
-AnswersUrls wanted (Err TooLong) = IfSome wanted (λ us. 0 < length us)
-AnswersUrls wanted (Err OutOfMemory) = Unit {0}
+abbrev pub any_long : Items → Bool
+any_long no_items = false
+any_long (item d ds) = is_long d || any_long ds
+
+-- a list in which such a text stands
+abbrev pub has_long : Data → Bool
+has_long (array ds) = any_long ds
+has_long _ = false
+
+-- The URL of the text, or that there is none; or there was no room for it.
+abbrev pub AnswersUrl : Data → Result Parts UrlFault → Type 0
+AnswersUrl d (Ok u) = url d ≡ Some u
+AnswersUrl d (Err Refused) = url d ≡ None
+AnswersUrl d (Err TooLong) = IsTrue (is_long d)
+AnswersUrl d (Err OutOfMemory) = IsTrue (is_text d)
+
+-- The URLs of the list's texts, or that there are none such; or there was no room for one of them.
+abbrev pub AnswersUrls : Data → Result (Vec Parts Global) UrlFault → Type 0
+AnswersUrls d (Ok us) = list url d ≡ Some us.items
+AnswersUrls d (Err Refused) = list url d ≡ None
+AnswersUrls d (Err TooLong) = IsTrue (has_long d)
+AnswersUrls d (Err OutOfMemory) = IsTrue (is_array d)

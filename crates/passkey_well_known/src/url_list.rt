@@ -1,7 +1,6 @@
 //! Lists of URLs, read of JSON values.
 ghost use Rattle.std.specs.Prelude.{◌≡◌};
-ghost use Rattle.passkey_json.specs.Kind.{list};
-ghost use Rattle.passkey_well_known.specs.UrlKind.{AnswersUrl, AnswersUrls, url};
+ghost use Rattle.passkey_well_known.specs.UrlKind.{AnswersUrl, AnswersUrls};
 ghost use Rattle.passkey_well_known.specs.declared.url_list.UrlFault.TheVariants.{OutOfMemory as NoMemory};
 ghost use Rattle.serde_json.specs.View.{view};
 
@@ -9,13 +8,17 @@ use serde_json::Value;
 use std::alloc::{AllocFailed, Global};
 use url::{ParseError, Url};
 
+/// The least number of bytes of a text whose URL may be refused for its length. The crate `url` has no
+/// room for a URL of 4 GB or more; escapes make a shorter text at most three times as long.
+pub(crate) const LONG_TEXT: usize = 1 << 30;
+
 /// Why no URLs were read of a JSON value.
 pub(crate) enum UrlFault {
     /// It is no list of texts that are URLs.
     Refused,
-    /// One of the texts may be a URL, of 4 GB or more.
+    /// One of the texts has `LONG_TEXT` bytes or more, and may be a URL of 4 GB or more.
     TooLong,
-    /// A growth was refused.
+    /// A growth was refused, or a shorter text makes a URL of 4 GB or more.
     OutOfMemory,
 }
 
@@ -29,7 +32,7 @@ impl<T: Drop> From<AllocFailed<T>> for UrlFault {
 
 /// The URL that the JSON value is a text of.
 fn read_url(alloc: Global, value: &Value) -> Result<Url, UrlFault>
-    ensures { AnswersUrl (url (view value.now)) result }
+    ensures { AnswersUrl (view value.now) result }
 {
     let Value::String(text) = value else {
         return Err(UrlFault::Refused);
@@ -37,14 +40,15 @@ fn read_url(alloc: Global, value: &Value) -> Result<Url, UrlFault>
     match Url::parse(alloc, text.as_str()) {
         Ok(url) => Ok(url),
         Err(ParseError::OutOfMemory) => Err(UrlFault::OutOfMemory),
-        Err(ParseError::Overflow) => Err(UrlFault::TooLong),
+        Err(ParseError::Overflow) if text.len() >= LONG_TEXT => Err(UrlFault::TooLong),
+        Err(ParseError::Overflow) => Err(UrlFault::OutOfMemory),
         Err(_) => Err(UrlFault::Refused),
     }
 }
 
 /// The URLs that the JSON value is a list of texts of.
 pub(crate) fn read_urls(alloc: Global, value: &Value) -> Result<Vec<Url>, UrlFault>
-    ensures { AnswersUrls (list url (view value.now)) result }
+    ensures { AnswersUrls (view value.now) result }
 {
     let Value::Array(texts) = value else {
         return Err(UrlFault::Refused);

@@ -1,9 +1,9 @@
 //! The document that tells which origins may use a relying party's id.
-ghost use Rattle.std.specs.Prelude.{◌≡◌, IfOk, codes};
+ghost use Rattle.std.specs.Prelude.{◌≡◌, IfOk, Some, codes};
 ghost use Rattle.passkey_json.specs.Kind.{list};
 ghost use Rattle.passkey_json.specs.Members.{in_object, judged};
 ghost use Rattle.passkey_well_known.specs.UrlKind.{url};
-ghost use Rattle.passkey_well_known.specs.WellKnown.{GivesUrls, urls_json, well_known_in, well_known_json};
+ghost use Rattle.passkey_well_known.specs.WellKnown.{GivesUrls, origins_in, urls_json, well_known_in, well_known_json};
 ghost use Rattle.serde_json.specs.View.{view};
 
 use crate::url_list::{UrlFault, read_urls};
@@ -22,7 +22,7 @@ pub struct WellKnown {
 
 /// The URLs of the member `origins`.
 fn origins_of(alloc: Global, value: &Value) -> Result<Vec<Url>, JsonFault>
-    ensures { GivesUrls (λ urls. urls.items) (judged (list url) (codes "origins") (view value.now)) result }
+    ensures { GivesUrls (Some (view value.now)) (λ urls. urls.items) (judged (list url) (codes "origins") (view value.now)) result }
 {
     match read_urls(alloc, value) {
         Ok(urls) => Ok(urls),
@@ -41,11 +41,12 @@ impl WellKnown {
     /// The document that the JSON value stands for: an object whose member `origins` is a list of
     /// texts, each of which the URL Standard reads as a URL. Other members are passed over.
     /// `NotAnObject` where it is no object, `Missing` where there is no such member; where that is
-    /// no such list, `Float` where it holds a float and else `Refused`. `Refused` also where a URL
-    /// has 4 GB or more. `OutOfMemory` where a growth was refused.
+    /// no such list, `Float` where it holds a float and else `Refused`. `Refused` also where one of
+    /// its texts has 2^30 bytes or more and is a URL of 4 GB or more. `OutOfMemory` where a growth was
+    /// refused, or a shorter text makes such a URL; only where that member is a list.
     #[tactic(auto, unfolding(crate::specs::WellKnown::well_known_in, passkey_json::specs::Members::required))]
     pub fn from_json(alloc: Global, value: &Value) -> Result<WellKnown, JsonFault>
-        ensures { GivesUrls (λ document. document.origins.items) (in_object well_known_in (view value.now)) result }
+        ensures { GivesUrls (origins_in (view value.now)) (λ document. document.origins.items) (in_object well_known_in (view value.now)) result }
     {
         if !value.is_object() {
             return Err(JsonFault::NotAnObject);

@@ -1,10 +1,13 @@
-use Rattle.std.proofs.Common.{◌≡◌, ◌++◌, option_map, drop}
+use Rattle.std.proofs.Common.{◌≡◌, IsTrue, ◌++◌, option_map, drop}
 use Rattle.passkey_json.specs.Kind.{each}
-use Rattle.passkey_well_known.specs.UrlKind.{url}
+use Rattle.passkey_well_known.specs.UrlKind.{url, any_long}
 use Rattle.passkey_well_known.proofs.url_list.read_urls.Given as goal
 use Rattle.serde_json.specs.View.{items_view}
 
 abbrev pub invariant-loop-text : goal.invariant-loop-text
-invariant-loop-text l =
-    option_map (λ us. l.urls.items ++ us) (each url (items_view (drop l.text-index l.text-items)))
-    ≡ each url (items_view l.text-items)
+invariant-loop-text l = record {
+  read :
+      option_map (λ us. l.urls.items ++ us) (each url (items_view (drop l.text-index l.text-items)))
+      ≡ each url (items_view l.text-items);
+  long : IsTrue (any_long (items_view (drop l.text-index l.text-items))) → IsTrue (any_long (items_view l.text-items));
+}
