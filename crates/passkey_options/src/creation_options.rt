@@ -10,7 +10,7 @@ use crate::hints::PublicKeyCredentialHints;
 use passkey_bytes::{Bytes, List};
 use passkey_json::{
     AuthenticationExtensionsClientInputs, AuthenticatorSelectionCriteria, BytesForm, FromJson,
-    JsonFault, JsonRecord, Object, Refusal, ToJson, TolerantList, Written, read_nested,
+    JsonFault, JsonRecord, Object, RecordToJson, Refusal, ToJson, TolerantList, Written, read_nested,
 };
 use passkey_memory::OutOfMemory;
 use passkey_webauthn::{
@@ -154,4 +154,10 @@ impl ToJson for PublicKeyCredentialCreationOptions {
         members.put_some(alloc, form, "extensions", &self.extensions)?;
         Ok(members.into_value())
     }
+}
+
+impl RecordToJson for PublicKeyCredentialCreationOptions {
+    ghost use Rattle.std.specs.Prelude.{refl};
+
+    ghost kind_is_record = { λ _. refl };
 }

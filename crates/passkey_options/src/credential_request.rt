@@ -5,7 +5,7 @@ ghost use Rattle.passkey_options.specs.CredentialRequest.{credential_request_in,
 
 use crate::request_options::PublicKeyCredentialRequestOptions;
 use passkey_json::{
-    BytesForm, FromJson, JsonFault, JsonRecord, Object, Refusal, ToJson, Written, read_nested,
+    BytesForm, FromJson, JsonFault, JsonRecord, Object, RecordToJson, Refusal, ToJson, Written, read_nested,
 };
 use passkey_memory::OutOfMemory;
 use serde_json::Value;
@@ -47,4 +47,10 @@ impl ToJson for CredentialRequestOptions {
         members.put(alloc, form, "publicKey", &self.public_key)?;
         Ok(members.into_value())
     }
+}
+
+impl RecordToJson for CredentialRequestOptions {
+    ghost use Rattle.std.specs.Prelude.{refl};
+
+    ghost kind_is_record = { λ _. refl };
 }

@@ -10,7 +10,7 @@ use crate::hints::PublicKeyCredentialHints;
 use passkey_bytes::{Bytes, List, Text};
 use passkey_json::{
     AuthenticationExtensionsClientInputs, BytesForm, FromJson, JsonFault, JsonRecord, Object,
-    Refusal, ToJson, UserVerificationRequirement, Written, read_nested,
+    RecordToJson, Refusal, ToJson, UserVerificationRequirement, Written, read_nested,
 };
 use passkey_memory::OutOfMemory;
 use passkey_webauthn::PublicKeyCredentialDescriptor;
@@ -120,4 +120,10 @@ impl ToJson for PublicKeyCredentialRequestOptions {
         members.put_some(alloc, form, "extensions", &self.extensions)?;
         Ok(members.into_value())
     }
+}
+
+impl RecordToJson for PublicKeyCredentialRequestOptions {
+    ghost use Rattle.std.specs.Prelude.{refl};
+
+    ghost kind_is_record = { λ _. refl };
 }
