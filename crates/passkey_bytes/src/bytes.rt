@@ -19,7 +19,7 @@ ghost use Rattle.passkey_bytes.specs.List.{GivesItems, LendsItems};
 
 use crate::encoding;
 use passkey_memory::OutOfMemory;
-use std::alloc::{AllocError, Global};
+use std::alloc::{AllocError, AllocFailed, Global};
 use std::error::Error;
 use std::fmt;
 use std::hash::{Hash, Hasher};
@@ -237,6 +237,22 @@ impl fmt::Display for BytesFault {
 }
 
 impl Error for BytesFault {}
+
+impl From<AllocError> for BytesFault {
+    ghost from_gives = { λ _ fault. fault ≡ NoMemory };
+
+    fn from(_error: AllocError) -> BytesFault {
+        BytesFault::OutOfMemory
+    }
+}
+
+impl<T: Drop> From<AllocFailed<T>> for BytesFault {
+    ghost from_gives = { λ _ fault. fault ≡ NoMemory };
+
+    fn from(_error: AllocFailed<T>) -> BytesFault {
+        BytesFault::OutOfMemory
+    }
+}
 
 impl From<OutOfMemory> for BytesFault {
     ghost from_gives = { λ _ fault. fault ≡ NoMemory };

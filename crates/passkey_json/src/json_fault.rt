@@ -4,7 +4,7 @@ ghost use Rattle.passkey_json.specs.Names.{json_fault_name};
 ghost use Rattle.passkey_json.specs.declared.json_fault.JsonFault.TheVariants.{OutOfMemory as NoMemory};
 
 use passkey_memory::OutOfMemory;
-use std::alloc::AllocError;
+use std::alloc::{AllocError, AllocFailed};
 use std::error::Error;
 use std::fmt;
 
@@ -47,6 +47,14 @@ impl From<AllocError> for JsonFault {
     ghost from_gives = { λ _ e. e ≡ NoMemory };
 
     fn from(_error: AllocError) -> JsonFault {
+        JsonFault::OutOfMemory
+    }
+}
+
+impl<T: Drop> From<AllocFailed<T>> for JsonFault {
+    ghost from_gives = { λ _ e. e ≡ NoMemory };
+
+    fn from(_error: AllocFailed<T>) -> JsonFault {
         JsonFault::OutOfMemory
     }
 }

@@ -4,6 +4,7 @@ ghost use Rattle.passkey_kinds.specs.Names.{write_fault_name};
 ghost use Rattle.passkey_kinds.specs.declared.write_fault.WriteFault.TheVariants.{OutOfMemory as NoMemory};
 
 use passkey_memory::OutOfMemory;
+use std::alloc::{AllocError, AllocFailed};
 use std::error::Error;
 use std::fmt;
 
@@ -28,6 +29,22 @@ impl fmt::Display for WriteFault {
 }
 
 impl Error for WriteFault {}
+
+impl From<AllocError> for WriteFault {
+    ghost from_gives = { λ _ e. e ≡ NoMemory };
+
+    fn from(_error: AllocError) -> WriteFault {
+        WriteFault::OutOfMemory
+    }
+}
+
+impl<T: Drop> From<AllocFailed<T>> for WriteFault {
+    ghost from_gives = { λ _ e. e ≡ NoMemory };
+
+    fn from(_error: AllocFailed<T>) -> WriteFault {
+        WriteFault::OutOfMemory
+    }
+}
 
 impl From<OutOfMemory> for WriteFault {
     ghost from_gives = { λ _ e. e ≡ NoMemory };
