@@ -5,7 +5,7 @@ ghost use Rattle.passkey_json.specs.Members.{record_kind};
 
 use passkey_bytes::Bytes;
 use passkey_json::{
-    BytesForm, FromJson, JsonFault, JsonRecord, Object, Refusal, ToJson, Written, read_nested,
+    BytesForm, FromJson, JsonFault, JsonRecord, Object, RecordToJson, Refusal, ToJson, Written, read_nested,
 };
 use passkey_memory::OutOfMemory;
 use serde_json::Value;
@@ -63,4 +63,10 @@ impl ToJson for AuthenticatorAssertionResponse {
         members.put_some(alloc, form, "attestationObject", &self.attestation_object)?;
         Ok(members.into_value())
     }
+}
+
+impl RecordToJson for AuthenticatorAssertionResponse {
+    ghost use Rattle.std.specs.Prelude.{refl};
+
+    ghost kind_is_record = { λ _. refl };
 }

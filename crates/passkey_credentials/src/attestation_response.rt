@@ -7,7 +7,7 @@ ghost use Rattle.passkey_json.specs.Members.{record_kind};
 
 use passkey_bytes::{Bytes, List};
 use passkey_json::{
-    BytesForm, FromJson, JsonFault, JsonRecord, Object, Refusal, ToJson, Written, read_nested,
+    BytesForm, FromJson, JsonFault, JsonRecord, Object, RecordToJson, Refusal, ToJson, Written, read_nested,
 };
 use passkey_memory::OutOfMemory;
 use passkey_webauthn::AuthenticatorTransport;
@@ -105,4 +105,10 @@ impl ToJson for AuthenticatorAttestationResponse {
         members.put_some(alloc, form, "transports", &self.transports)?;
         Ok(members.into_value())
     }
+}
+
+impl RecordToJson for AuthenticatorAttestationResponse {
+    ghost use Rattle.std.specs.Prelude.{refl};
+
+    ghost kind_is_record = { λ _. refl };
 }

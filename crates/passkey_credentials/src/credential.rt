@@ -9,7 +9,7 @@ use crate::response::AuthenticatorResponse;
 use passkey_bytes::{Bytes, Text};
 use passkey_json::{
     AuthenticationExtensionsClientOutputs, AuthenticatorAttachment, BytesForm, FromJson, JsonFault,
-    JsonRecord, Object, Refusal, ToJson, Written, read_nested,
+    JsonRecord, Object, RecordToJson, Refusal, ToJson, Written, read_nested,
 };
 use passkey_memory::OutOfMemory;
 use passkey_webauthn::PublicKeyCredentialType;
@@ -91,4 +91,10 @@ impl<R: AuthenticatorResponse> ToJson for PublicKeyCredential<R> {
         )?;
         Ok(members.into_value())
     }
+}
+
+impl<R: AuthenticatorResponse> RecordToJson for PublicKeyCredential<R> {
+    ghost use Rattle.std.specs.Prelude.{refl};
+
+    ghost kind_is_record = { λ _. refl };
 }
