@@ -13,12 +13,12 @@ ghost use Rattle.passkey_kinds.specs.declared.write_fault.WriteFault.TheVariants
 use passkey_bytes::Bytes;
 use passkey_cbor::Value;
 use passkey_core::AuthenticatorData;
+use passkey_entities::PublicKeyCredentialUserEntity;
 use passkey_extensions::get_assertion::UnsignedExtensionOutputs;
 use passkey_kinds::{
     Fault, Refusal, Row, Slots, ToCbor, WriteFault, Written, read_into, read_message, read_record,
     write_message,
 };
-use passkey_entities::PublicKeyCredentialUserEntity;
 use passkey_memory::OutOfMemory;
 use passkey_webauthn::PublicKeyCredentialDescriptor;
 use std::alloc::Global;

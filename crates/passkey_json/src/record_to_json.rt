@@ -18,11 +18,7 @@ pub trait RecordToJson: JsonRecord + ToJson {
 
 /// The record that is read of what the record is written as: the same one. `OutOfMemory` where a growth
 /// was refused, and no other fault.
-pub fn read_back<R: RecordToJson>(
-    alloc: Global,
-    value: &R,
-    form: BytesForm,
-) -> Result<R, JsonFault>
+pub fn read_back<R: RecordToJson>(alloc: Global, value: &R, form: BytesForm) -> Result<R, JsonFault>
     ensures same { IfOk result (λ read. read ≡ value.now) }
     ensures memory { IfErr result (λ fault. fault ≡ NoMemory) }
 {
