@@ -7,7 +7,8 @@ ghost use Rattle.passkey_json.specs.Members.{record_kind};
 
 use passkey_bytes::{Bytes, List};
 use passkey_json::{
-    BytesForm, FromJson, JsonFault, JsonRecord, Object, RecordToJson, Refusal, ToJson, Written, read_nested,
+    BytesForm, FromJson, JsonFault, JsonRecord, Object, RecordToJson, Refusal, ToJson, Written,
+    read_nested,
 };
 use passkey_memory::OutOfMemory;
 use passkey_webauthn::AuthenticatorTransport;

@@ -10,7 +10,8 @@ use crate::hints::PublicKeyCredentialHints;
 use passkey_bytes::{Bytes, List};
 use passkey_json::{
     AuthenticationExtensionsClientInputs, AuthenticatorSelectionCriteria, BytesForm, FromJson,
-    JsonFault, JsonRecord, Object, RecordToJson, Refusal, ToJson, TolerantList, Written, read_nested,
+    JsonFault, JsonRecord, Object, RecordToJson, Refusal, ToJson, TolerantList, Written,
+    read_nested,
 };
 use passkey_memory::OutOfMemory;
 use passkey_webauthn::{

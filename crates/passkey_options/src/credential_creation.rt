@@ -5,7 +5,8 @@ ghost use Rattle.passkey_options.specs.CredentialCreation.{credential_creation_i
 
 use crate::creation_options::PublicKeyCredentialCreationOptions;
 use passkey_json::{
-    BytesForm, FromJson, JsonFault, JsonRecord, Object, RecordToJson, Refusal, ToJson, Written, read_nested,
+    BytesForm, FromJson, JsonFault, JsonRecord, Object, RecordToJson, Refusal, ToJson, Written,
+    read_nested,
 };
 use passkey_memory::OutOfMemory;
 use serde_json::Value;

@@ -5,7 +5,8 @@ ghost use Rattle.passkey_options.specs.CredentialRequest.{credential_request_in,
 
 use crate::request_options::PublicKeyCredentialRequestOptions;
 use passkey_json::{
-    BytesForm, FromJson, JsonFault, JsonRecord, Object, RecordToJson, Refusal, ToJson, Written, read_nested,
+    BytesForm, FromJson, JsonFault, JsonRecord, Object, RecordToJson, Refusal, ToJson, Written,
+    read_nested,
 };
 use passkey_memory::OutOfMemory;
 use serde_json::Value;

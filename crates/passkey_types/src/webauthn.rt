@@ -9,8 +9,8 @@ pub use passkey_credentials::{
 pub use passkey_json::{
     AuthenticationExtensionsClientInputs, AuthenticationExtensionsClientOutputs,
     AuthenticationExtensionsPrfInputs, AuthenticatorAttachment, AuthenticatorSelectionCriteria,
-    BytesForm, CredentialPropertiesOutput, FromJson, JsonFault, JsonRecord, Object, Refusal,
-    ResidentKeyRequirement, ToJson, UserVerificationRequirement,
+    BytesForm, CredentialPropertiesOutput, FromJson, JsonFault, JsonRecord, Object, RecordToJson,
+    Refusal, ResidentKeyRequirement, ToJson, UserVerificationRequirement, read_back,
 };
 pub use passkey_options::{
     AttestationConveyancePreference, AttestationStatementFormatIdentifiers,
