@@ -7,20 +7,20 @@ use Rattle.passkey_cbor.specs.Item as item
 use Rattle.passkey_cbor.specs.Item.{Item, boolean, byte_string, text_string, members}
 use Rattle.passkey_cbor.specs.Laws.{WrittenIsFront}
 use Rattle.passkey_core.specs.DataNormal.{Where}
-use Rattle.passkey_get_info.specs.GetInfo.{GetInfoParts, get_info_table, get_info_values, get_info_of, read_get_info}
+use Rattle.passkey_get_info.specs.GetInfo.{GetInfoParts, get_info_fields, read_get_info}
 use Rattle.passkey_get_info.specs.GetInfoTree.{get_info_places, get_info_tree, IsPositive, GetInfoFits, is_spelled, is_get_info_coherent, normal_get_info}
 use Rattle.passkey_get_info.specs.GetInfoNames.{version_tree, extension_tree}
 use Rattle.passkey_get_info.specs.GetInfoOptions.{options_tree}
 use Rattle.passkey_kinds.specs.Kind.{optional}
 use Rattle.passkey_kinds.specs.MessageLaws.{WrittenIsReadBack, ReadIsCoherent}
 use Rattle.passkey_kinds.specs.Size.{size, IsSize}
-use Rattle.passkey_kinds.specs.Table.{◌>>=◌, found}
 use Rattle.passkey_kinds.specs.Tree.{number_tree, list_tree}
 use Rattle.passkey_kinds.specs.Trees.{parameters_tree, transport_tree}
 use Rattle.passkey_kinds.specs.declared.write_fault.WriteFault.{WriteFault}
 use Rattle.passkey_kinds.specs.declared.write_fault.WriteFault.TheVariants.{NumberTooLarge}
-use Rattle.passkey_kinds.proofs.Back.{required_place, option_place, reads_back}
-use Rattle.passkey_kinds.proofs.Deep.{built_from}
+use Rattle.passkey_kinds.proofs.Back.{option_place}
+use Rattle.passkey_kinds.proofs.Keeping.{◌▹◌, keeps, leaves, record_keeps}
+use Rattle.passkey_kinds.proofs.RowsBack.{puts_value, puts_default, ◌▸◌, no_more, rows_back}
 use Rattle.passkey_kinds.proofs.SizedBack.{size_back, aaguid_back}
 use Rattle.passkey_get_info.proofs.GetInfoBack.{version_back, extension_back, options_back}
 use Rattle.passkey_get_info.proofs.GetInfoLevels.{options_levels}
@@ -37,65 +37,35 @@ sized (Some n) h e = (h, ltb-true n (2 ^ 64) e)
 
 response_back : (r : GetInfoParts) → GetInfoFits r → is_spelled r.max_msg_size ≡ true → read_get_info (get_info_tree r) ≡ Ok (normal_get_info r)
 response_back r fits spelled =
-    let versions = required_place (list_back version_back) r.versions (λ k d less. tt) in
-    let extensions = option_place (optional_back (list_back extension_back) refl) r.extensions (all_of_anything r.extensions) in
-    let aaguid = required_place aaguid_back r.aaguid fits.0.aaguid in
-    let options = optional_place options_back refl r.options (anything r.options) in
-    let max_msg_size = optional_place size_back refl r.max_msg_size (sized r.max_msg_size fits.0.max_msg_size spelled) in
-    let pin_protocols = optional_place (list_same byte_back) refl r.pin_protocols fits.0.pin_protocols in
-    let transports = accepted_place transport_back r.transports (all_of_anything r.transports) in
-    let algorithms = accepted_place parameters_back r.algorithms (all_of_anything r.algorithms) in
-    let mac_serialized_large_blob_array = optional_place word_back refl r.mac_serialized_large_blob_array fits.1.mac_serialized_large_blob_array in
-    let force_pin_change = optional_place truth_back refl r.force_pin_change (anything r.force_pin_change) in
-    let min_pin_length = optional_place word_back refl r.min_pin_length fits.1.min_pin_length in
-    let firmware_version = optional_place word_back refl r.firmware_version fits.1.firmware_version in
-    let max_cred_blob_length = optional_place word_back refl r.max_cred_blob_length fits.1.max_cred_blob_length in
-    let max_rpids_for_set_min_pin_length = optional_place word_back refl r.max_rpids_for_set_min_pin_length fits.1.max_rpids_for_set_min_pin_length in
-    let preferred_platform_uv_attempts = optional_place word_back refl r.preferred_platform_uv_attempts fits.1.preferred_platform_uv_attempts in
-    let uv_modality = optional_place word_back refl r.uv_modality fits.1.uv_modality in
-    let remaining_discoverable_credentials = optional_place word_back refl r.remaining_discoverable_credentials fits.1.remaining_discoverable_credentials in
-    let vendor_prototype_config_commands = accepted_place word_back r.vendor_prototype_config_commands fits.1.vendor_prototype_config_commands in
-    let attestation_formats = accepted_place text_back r.attestation_formats (all_of_anything r.attestation_formats) in
-    let uv_count_since_last_pin_entry = optional_place word_back refl r.uv_count_since_last_pin_entry fits.1.uv_count_since_last_pin_entry in
-    let long_touch_for_reset = optional_place truth_back refl r.long_touch_for_reset (anything r.long_touch_for_reset) in
-    let enc_identifier = optional_place bytes_back refl r.enc_identifier (anything r.enc_identifier) in
-    let transports_for_reset = accepted_place transport_back r.transports_for_reset (all_of_anything r.transports_for_reset) in
-    let pin_complexity_policy = optional_place truth_back refl r.pin_complexity_policy (anything r.pin_complexity_policy) in
-    let pin_complexity_policy_url = optional_place bytes_back refl r.pin_complexity_policy_url (anything r.pin_complexity_policy_url) in
-    let max_pin_length = optional_place word_back refl r.max_pin_length fits.1.max_pin_length in
-    reads_back get_info_table get_info_values get_info_of (1 ∷ 2 ∷ 3 ∷ 4 ∷ 5 ∷ 6 ∷ 9 ∷ 10 ∷ 11 ∷ 12 ∷ 13 ∷ 14 ∷ 15 ∷ 16 ∷ 17 ∷ 18 ∷ 20 ∷ 21 ∷ 22 ∷ 23 ∷ 24 ∷ 25 ∷ 26 ∷ 27 ∷ 28 ∷ 29 ∷ []) (get_info_places r) (normal_get_info r) refl
-    (versions.accepted, (extensions.accepted, (aaguid.accepted, (options.accepted, (max_msg_size.accepted, (pin_protocols.accepted, (transports.accepted, (algorithms.accepted, (mac_serialized_large_blob_array.accepted, (force_pin_change.accepted, (min_pin_length.accepted, (firmware_version.accepted, (max_cred_blob_length.accepted, (max_rpids_for_set_min_pin_length.accepted, (preferred_platform_uv_attempts.accepted, (uv_modality.accepted, (remaining_discoverable_credentials.accepted, (vendor_prototype_config_commands.accepted, (attestation_formats.accepted, (uv_count_since_last_pin_entry.accepted, (long_touch_for_reset.accepted, (enc_identifier.accepted, (transports_for_reset.accepted, (pin_complexity_policy.accepted, (pin_complexity_policy_url.accepted, (max_pin_length.accepted, tt)))))))))))))))))))))))))) refl
-    (λ i. do
-      v ← versions.value i
-      a ← aaguid.value i
-      Some (record {
-        versions = v;
-        extensions = extensions.value i;
-        aaguid = a;
-        options = options.value i;
-        max_msg_size = max_msg_size.value i;
-        pin_protocols = pin_protocols.value i;
-        transports = transports.value i;
-        algorithms = algorithms.value i;
-        mac_serialized_large_blob_array = mac_serialized_large_blob_array.value i;
-        force_pin_change = force_pin_change.value i;
-        min_pin_length = min_pin_length.value i;
-        firmware_version = firmware_version.value i;
-        max_cred_blob_length = max_cred_blob_length.value i;
-        max_rpids_for_set_min_pin_length = max_rpids_for_set_min_pin_length.value i;
-        preferred_platform_uv_attempts = preferred_platform_uv_attempts.value i;
-        uv_modality = uv_modality.value i;
-        remaining_discoverable_credentials = remaining_discoverable_credentials.value i;
-        vendor_prototype_config_commands = vendor_prototype_config_commands.value i;
-        attestation_formats = attestation_formats.value i;
-        uv_count_since_last_pin_entry = uv_count_since_last_pin_entry.value i;
-        long_touch_for_reset = long_touch_for_reset.value i;
-        enc_identifier = enc_identifier.value i;
-        transports_for_reset = transports_for_reset.value i;
-        pin_complexity_policy = pin_complexity_policy.value i;
-        pin_complexity_policy_url = pin_complexity_policy_url.value i;
-        max_pin_length = max_pin_length.value i;
-      }))
+    rows_back get_info_fields (get_info_places r) (normal_get_info r) refl refl
+    (
+    puts_value (list_back version_back) r.versions (λ k d less. tt) ▸
+    puts_default (option_place (optional_back (list_back extension_back) refl) r.extensions (all_of_anything r.extensions)) refl ▸
+    puts_value aaguid_back r.aaguid fits.0.aaguid ▸
+    puts_default (optional_place options_back refl r.options (anything r.options)) refl ▸
+    puts_default (optional_place size_back refl r.max_msg_size (sized r.max_msg_size fits.0.max_msg_size spelled)) refl ▸
+    puts_default (optional_place (list_same byte_back) refl r.pin_protocols fits.0.pin_protocols) refl ▸
+    puts_default (accepted_place transport_back r.transports (all_of_anything r.transports)) refl ▸
+    puts_default (accepted_place parameters_back r.algorithms (all_of_anything r.algorithms)) refl ▸
+    puts_default (optional_place word_back refl r.mac_serialized_large_blob_array fits.1.mac_serialized_large_blob_array) refl ▸
+    puts_default (optional_place truth_back refl r.force_pin_change (anything r.force_pin_change)) refl ▸
+    puts_default (optional_place word_back refl r.min_pin_length fits.1.min_pin_length) refl ▸
+    puts_default (optional_place word_back refl r.firmware_version fits.1.firmware_version) refl ▸
+    puts_default (optional_place word_back refl r.max_cred_blob_length fits.1.max_cred_blob_length) refl ▸
+    puts_default (optional_place word_back refl r.max_rpids_for_set_min_pin_length fits.1.max_rpids_for_set_min_pin_length) refl ▸
+    puts_default (optional_place word_back refl r.preferred_platform_uv_attempts fits.1.preferred_platform_uv_attempts) refl ▸
+    puts_default (optional_place word_back refl r.uv_modality fits.1.uv_modality) refl ▸
+    puts_default (optional_place word_back refl r.remaining_discoverable_credentials fits.1.remaining_discoverable_credentials) refl ▸
+    puts_default (accepted_place word_back r.vendor_prototype_config_commands fits.1.vendor_prototype_config_commands) refl ▸
+    puts_default (accepted_place text_back r.attestation_formats (all_of_anything r.attestation_formats)) refl ▸
+    puts_default (optional_place word_back refl r.uv_count_since_last_pin_entry fits.1.uv_count_since_last_pin_entry) refl ▸
+    puts_default (optional_place truth_back refl r.long_touch_for_reset (anything r.long_touch_for_reset)) refl ▸
+    puts_default (optional_place bytes_back refl r.enc_identifier (anything r.enc_identifier)) refl ▸
+    puts_default (accepted_place transport_back r.transports_for_reset (all_of_anything r.transports_for_reset)) refl ▸
+    puts_default (optional_place truth_back refl r.pin_complexity_policy (anything r.pin_complexity_policy)) refl ▸
+    puts_default (optional_place bytes_back refl r.pin_complexity_policy_url (anything r.pin_complexity_policy_url)) refl ▸
+    puts_default (optional_place word_back refl r.max_pin_length fits.1.max_pin_length) refl ▸
+    no_more)
 
 pub get_info_returns : WrittenIsFront → WrittenIsReadBack read_get_info get_info_tree GetInfoFits is_get_info_coherent normal_get_info
 get_info_returns law r rest fits writable coherent =
@@ -135,14 +105,6 @@ told spelled (Err e) h f = sym f.1
 
 -- ---- what is read is coherent
 
-size_of : {x y : GetInfoParts} → Some x ≡ Some y → x.max_msg_size ≡ y.max_msg_size
-size_of {x} {y} e = (let same : x ≡ y = cc in ap (λ (p : GetInfoParts). p.max_msg_size) same)
-
-built_size : {X Y : Type 0} (a : Option X) (b : Option Y) (make : X → Y → GetInfoParts) (s : Option ℕ) (r : GetInfoParts) → ((x : X) (y : Y) → s ≡ (make x y).max_msg_size) → (a >>= (λ x. b >>= (λ y. Some (make x y)))) ≡ Some r → s ≡ r.max_msg_size
-built_size None b make s r same e = absurd cc
-built_size (Some x) None make s r same e = absurd cc
-built_size (Some x) (Some y) make s r same e = same x y ∙ size_of e
-
 in_range : (n : ℕ) (a b : Bool) → nat_lt n (2 ^ 64) ≡ b → is_spelled (unwrap_or (option_map Some (if a && b then Some n else None)) None) ≡ true
 in_range n true true e = e
 in_range n true false e = refl
@@ -162,17 +124,41 @@ spelled_item item.null = refl
 spelled_item (item.simple n) = refl
 spelled_item (item.float f) = refl
 
-spelled_given : (o : Option Item) → is_spelled (unwrap_or (o >>= optional size) None) ≡ true
-spelled_given None = refl
-spelled_given (Some i) = spelled_item i
+abbrev SizeIsSpelled : GetInfoParts → Type 0
+SizeIsSpelled r = is_spelled r.max_msg_size ≡ true
 
 read_coherent : (i : Item) (r : GetInfoParts) → read_get_info i ≡ Ok r → is_get_info_coherent r ≡ true
 read_coherent i r read =
-    let b = built_from get_info_table get_info_values get_info_of i r read in
-    let f : ℕ → Option Item = found get_info_table (members b.pairs) in
-    let v = get_info_values f in
-    let same = built_size v.versions v.aaguid _ (unwrap_or v.max_msg_size None) r (λ x y. refl) b.made in
-    sym (spelled_coherent r) ∙ ap is_spelled (sym same) ∙ spelled_given (f 5)
+    sym (spelled_coherent r)
+    ∙ record_keeps get_info_fields SizeIsSpelled i r read refl
+    (
+    (leaves SizeIsSpelled λ v r h. h) ▹
+    (leaves SizeIsSpelled λ v r h. h) ▹
+    (leaves SizeIsSpelled λ v r h. h) ▹
+    (leaves SizeIsSpelled λ v r h. h) ▹
+    (keeps SizeIsSpelled (λ i v r less e h. ap (λ (o : Option (Option ℕ)). is_spelled (unwrap_or o None)) (sym e) ∙ spelled_item i)) ▹
+    (leaves SizeIsSpelled λ v r h. h) ▹
+    (leaves SizeIsSpelled λ v r h. h) ▹
+    (leaves SizeIsSpelled λ v r h. h) ▹
+    (leaves SizeIsSpelled λ v r h. h) ▹
+    (leaves SizeIsSpelled λ v r h. h) ▹
+    (leaves SizeIsSpelled λ v r h. h) ▹
+    (leaves SizeIsSpelled λ v r h. h) ▹
+    (leaves SizeIsSpelled λ v r h. h) ▹
+    (leaves SizeIsSpelled λ v r h. h) ▹
+    (leaves SizeIsSpelled λ v r h. h) ▹
+    (leaves SizeIsSpelled λ v r h. h) ▹
+    (leaves SizeIsSpelled λ v r h. h) ▹
+    (leaves SizeIsSpelled λ v r h. h) ▹
+    (leaves SizeIsSpelled λ v r h. h) ▹
+    (leaves SizeIsSpelled λ v r h. h) ▹
+    (leaves SizeIsSpelled λ v r h. h) ▹
+    (leaves SizeIsSpelled λ v r h. h) ▹
+    (leaves SizeIsSpelled λ v r h. h) ▹
+    (leaves SizeIsSpelled λ v r h. h) ▹
+    (leaves SizeIsSpelled λ v r h. h) ▹
+    (leaves SizeIsSpelled λ v r h. h) ▹
+    tt)
 
 pub get_info_coherent : ReadIsCoherent read_get_info is_get_info_coherent
 get_info_coherent bytes r begins = read_coherent begins.item r begins.holds

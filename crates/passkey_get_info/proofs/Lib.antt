@@ -1,4 +1,3 @@
 pub mod GetInfoBack
 pub mod GetInfoLevels
 pub mod GetInfos
-pub mod Sufficient

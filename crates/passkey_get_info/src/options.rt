@@ -1,13 +1,12 @@
 //! What an authenticator can do.
 ghost use Rattle.std.specs.Prelude.{◌≡◌, true};
-ghost use Rattle.passkey_get_info.specs.GetInfoOptions.{OptionsValues, options_table, options_values, options_of, options, options_default, options_tree};
-ghost use Rattle.passkey_get_info.specs.GetInfoOptionsHeld.{options_held};
+ghost use Rattle.passkey_get_info.specs.GetInfoOptions.{options_fields, options, options_default, options_tree};
 ghost use Rattle.passkey_kinds.specs.ReadBack.{Any};
 ghost use Rattle.passkey_get_info.specs.declared.options.Options.{Options as Told};
 
 use passkey_cbor::Value;
 use passkey_kinds::{
-    FromCbor, ReadBack, Refusal, Row, Shallow, Slots, ToCbor, Written, read_into, read_nested,
+    FromCbor, ReadBack, Record, Refusal, Row, Shallow, Source, ToCbor, Written, nested_from_value, set,
 };
 use passkey_memory::OutOfMemory;
 use std::alloc::Global;
@@ -85,45 +84,12 @@ impl Default for Options {
     }
 }
 
-#[derive(Drop)]
-struct OptionsSlots {
-    plat: Option<bool>,
-    rk: Option<bool>,
-    client_pin: Option<Option<bool>>,
-    up: Option<bool>,
-    uv: Option<Option<bool>>,
-    pin_uv_auth_token: Option<Option<bool>>,
-    no_mc_ga_permissions_with_client_pin: Option<Option<bool>>,
-    large_blobs: Option<Option<bool>>,
-    ep: Option<Option<bool>>,
-    bio_enroll: Option<Option<bool>>,
-    user_verification_mgmt_preview: Option<Option<bool>>,
-    uv_bio_enroll: Option<Option<bool>>,
-    authnr_cfg: Option<Option<bool>>,
-    uv_acfg: Option<Option<bool>>,
-    cred_mgmt: Option<Option<bool>>,
-    credential_mgmt_preview: Option<Option<bool>>,
-    set_min_pin_length: Option<Option<bool>>,
-    make_cred_uv_not_rqd: Option<Option<bool>>,
-    always_uv: Option<Option<bool>>,
-}
+impl Record for Options {
+    ghost Parts = { Told };
 
-impl Slots for OptionsSlots {
-    type Of = Options;
+    ghost parts = { λ options. options };
 
-    ghost Held = { OptionsValues };
-
-    ghost held = { options_held };
-
-    ghost Meaning = { Told };
-
-    ghost view = { λ options. options };
-
-    ghost table = { options_table };
-
-    ghost values = { options_values };
-
-    ghost build = { options_of };
+    ghost fields = { options_fields };
 
     fn is_numbered() -> bool {
         false
@@ -153,81 +119,33 @@ impl Slots for OptionsSlots {
         ]
     }
 
-    fn required_rows_suffice() {}
-
-    fn empty() -> OptionsSlots {
-        OptionsSlots {
-            plat: None,
-            rk: None,
-            client_pin: None,
-            up: None,
-            uv: None,
-            pin_uv_auth_token: None,
-            no_mc_ga_permissions_with_client_pin: None,
-            large_blobs: None,
-            ep: None,
-            bio_enroll: None,
-            user_verification_mgmt_preview: None,
-            uv_bio_enroll: None,
-            authnr_cfg: None,
-            uv_acfg: None,
-            cred_mgmt: None,
-            credential_mgmt_preview: None,
-            set_min_pin_length: None,
-            make_cred_uv_not_rqd: None,
-            always_uv: None,
-        }
+    fn blank(_alloc: Global) -> Options {
+        Options::default()
     }
 
-    fn put(&mut self, alloc: Global, number: u8, value: &Value) -> Result<(), Refusal> {
+    fn put<S: Source>(&mut self, alloc: Global, number: u8, source: &mut S) -> Result<(), Refusal> {
         match number {
-            1 => read_into(&mut self.plat, alloc, value),
-            2 => read_into(&mut self.rk, alloc, value),
-            3 => read_into(&mut self.client_pin, alloc, value),
-            4 => read_into(&mut self.up, alloc, value),
-            5 => read_into(&mut self.uv, alloc, value),
-            6 => read_into(&mut self.pin_uv_auth_token, alloc, value),
-            7 => read_into(&mut self.no_mc_ga_permissions_with_client_pin, alloc, value),
-            8 => read_into(&mut self.large_blobs, alloc, value),
-            9 => read_into(&mut self.ep, alloc, value),
-            10 => read_into(&mut self.bio_enroll, alloc, value),
-            11 => read_into(&mut self.user_verification_mgmt_preview, alloc, value),
-            12 => read_into(&mut self.uv_bio_enroll, alloc, value),
-            13 => read_into(&mut self.authnr_cfg, alloc, value),
-            14 => read_into(&mut self.uv_acfg, alloc, value),
-            15 => read_into(&mut self.cred_mgmt, alloc, value),
-            16 => read_into(&mut self.credential_mgmt_preview, alloc, value),
-            17 => read_into(&mut self.set_min_pin_length, alloc, value),
-            18 => read_into(&mut self.make_cred_uv_not_rqd, alloc, value),
-            19 => read_into(&mut self.always_uv, alloc, value),
+            1 => set(&mut self.plat, alloc, source),
+            2 => set(&mut self.rk, alloc, source),
+            3 => set(&mut self.client_pin, alloc, source),
+            4 => set(&mut self.up, alloc, source),
+            5 => set(&mut self.uv, alloc, source),
+            6 => set(&mut self.pin_uv_auth_token, alloc, source),
+            7 => set(&mut self.no_mc_ga_permissions_with_client_pin, alloc, source),
+            8 => set(&mut self.large_blobs, alloc, source),
+            9 => set(&mut self.ep, alloc, source),
+            10 => set(&mut self.bio_enroll, alloc, source),
+            11 => set(&mut self.user_verification_mgmt_preview, alloc, source),
+            12 => set(&mut self.uv_bio_enroll, alloc, source),
+            13 => set(&mut self.authnr_cfg, alloc, source),
+            14 => set(&mut self.uv_acfg, alloc, source),
+            15 => set(&mut self.cred_mgmt, alloc, source),
+            16 => set(&mut self.credential_mgmt_preview, alloc, source),
+            17 => set(&mut self.set_min_pin_length, alloc, source),
+            18 => set(&mut self.make_cred_uv_not_rqd, alloc, source),
+            19 => set(&mut self.always_uv, alloc, source),
             _ => Err(Refusal::Refused),
         }
-    }
-
-    fn finish(self) -> Option<Options> {
-        Some(Options {
-            plat: self.plat.unwrap_or(false),
-            rk: self.rk.unwrap_or(false),
-            client_pin: self.client_pin.unwrap_or(None),
-            up: self.up.unwrap_or(true),
-            uv: self.uv.unwrap_or(None),
-            pin_uv_auth_token: self.pin_uv_auth_token.unwrap_or(None),
-            no_mc_ga_permissions_with_client_pin: self
-                .no_mc_ga_permissions_with_client_pin
-                .unwrap_or(None),
-            large_blobs: self.large_blobs.unwrap_or(None),
-            ep: self.ep.unwrap_or(None),
-            bio_enroll: self.bio_enroll.unwrap_or(None),
-            user_verification_mgmt_preview: self.user_verification_mgmt_preview.unwrap_or(None),
-            uv_bio_enroll: self.uv_bio_enroll.unwrap_or(None),
-            authnr_cfg: self.authnr_cfg.unwrap_or(None),
-            uv_acfg: self.uv_acfg.unwrap_or(None),
-            cred_mgmt: self.cred_mgmt.unwrap_or(None),
-            credential_mgmt_preview: self.credential_mgmt_preview.unwrap_or(None),
-            set_min_pin_length: self.set_min_pin_length.unwrap_or(None),
-            make_cred_uv_not_rqd: self.make_cred_uv_not_rqd.unwrap_or(None),
-            always_uv: self.always_uv.unwrap_or(None),
-        })
     }
 }
 
@@ -241,7 +159,7 @@ impl FromCbor for Options {
     ghost takes = { true };
 
     fn from_value(alloc: Global, value: &Value) -> Result<Options, Refusal> {
-        read_nested::<OptionsSlots>(alloc, value)
+        nested_from_value(alloc, value)
     }
 }
 

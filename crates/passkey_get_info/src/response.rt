@@ -1,8 +1,7 @@
 //! What an authenticator tells of itself.
 ghost use Rattle.std.specs.Prelude.{◌≡◌};
 ghost use Rattle.passkey_cbor.specs.View.{item_of};
-ghost use Rattle.passkey_get_info.specs.GetInfo.{GetInfoParts, GetInfoValues, get_info_table, get_info_values, get_info_of, read_get_info, get_info_empty};
-ghost use Rattle.passkey_get_info.specs.GetInfoHeld.{get_info_held};
+ghost use Rattle.passkey_get_info.specs.GetInfo.{GetInfoParts, get_info_fields, get_info_table, read_get_info, get_info_empty};
 ghost use Rattle.passkey_get_info.specs.GetInfoView.{get_info_parts};
 ghost use Rattle.passkey_kinds.specs.Message.{ReadsMessage};
 ghost use Rattle.passkey_kinds.specs.Reading.{MayGrowAt, Reads};
@@ -12,8 +11,8 @@ use passkey_bytes::{Bytes, List, Text};
 use passkey_cbor::Value;
 use passkey_core::Aaguid;
 use passkey_kinds::{
-    Fault, Refusal, Row, Slots, TolerantList, Tolerated, list_of, read_into, read_message,
-    read_record,
+    Fault, Record, Refusal, Row, Source, message_from_slice, record_from_value, set,
+    set_accepted_or_none,
 };
 use passkey_webauthn::{AuthenticatorTransport, PublicKeyCredentialParameters};
 use std::alloc::Global;
@@ -77,52 +76,12 @@ pub struct Response {
     pub max_pin_length: Option<u32>,
 }
 
-#[derive(Drop)]
-struct ResponseSlots {
-    versions: Option<List<Version>>,
-    extensions: Option<Option<List<Extension>>>,
-    aaguid: Option<Aaguid>,
-    options: Option<Option<Options>>,
-    max_msg_size: Option<Option<NonZeroU128>>,
-    pin_protocols: Option<Option<List<u8>>>,
-    transports: Option<Tolerated<TolerantList<AuthenticatorTransport>>>,
-    algorithms: Option<Tolerated<TolerantList<PublicKeyCredentialParameters>>>,
-    mac_serialized_large_blob_array: Option<Option<u32>>,
-    force_pin_change: Option<Option<bool>>,
-    min_pin_length: Option<Option<u32>>,
-    firmware_version: Option<Option<u32>>,
-    max_cred_blob_length: Option<Option<u32>>,
-    max_rpids_for_set_min_pin_length: Option<Option<u32>>,
-    preferred_platform_uv_attempts: Option<Option<u32>>,
-    uv_modality: Option<Option<u32>>,
-    remaining_discoverable_credentials: Option<Option<u32>>,
-    vendor_prototype_config_commands: Option<Tolerated<TolerantList<u32>>>,
-    attestation_formats: Option<Tolerated<TolerantList<Text>>>,
-    uv_count_since_last_pin_entry: Option<Option<u32>>,
-    long_touch_for_reset: Option<Option<bool>>,
-    enc_identifier: Option<Option<Bytes>>,
-    transports_for_reset: Option<Tolerated<TolerantList<AuthenticatorTransport>>>,
-    pin_complexity_policy: Option<Option<bool>>,
-    pin_complexity_policy_url: Option<Option<Bytes>>,
-    max_pin_length: Option<Option<u32>>,
-}
+impl Record for Response {
+    ghost Parts = { GetInfoParts };
 
-impl Slots for ResponseSlots {
-    type Of = Response;
+    ghost parts = { get_info_parts };
 
-    ghost Held = { GetInfoValues };
-
-    ghost held = { get_info_held };
-
-    ghost Meaning = { GetInfoParts };
-
-    ghost view = { get_info_parts };
-
-    ghost table = { get_info_table };
-
-    ghost values = { get_info_values };
-
-    ghost build = { get_info_of };
+    ghost fields = { get_info_fields };
 
     fn is_numbered() -> bool {
         true
@@ -159,103 +118,40 @@ impl Slots for ResponseSlots {
         ]
     }
 
-    #[tactic(auto, using(crate::proofs::Sufficient::get_info_suffices))]
-    fn required_rows_suffice() {}
-
-    fn empty() -> ResponseSlots {
-        ResponseSlots {
-            versions: None,
-            extensions: None,
-            aaguid: None,
-            options: None,
-            max_msg_size: None,
-            pin_protocols: None,
-            transports: None,
-            algorithms: None,
-            mac_serialized_large_blob_array: None,
-            force_pin_change: None,
-            min_pin_length: None,
-            firmware_version: None,
-            max_cred_blob_length: None,
-            max_rpids_for_set_min_pin_length: None,
-            preferred_platform_uv_attempts: None,
-            uv_modality: None,
-            remaining_discoverable_credentials: None,
-            vendor_prototype_config_commands: None,
-            attestation_formats: None,
-            uv_count_since_last_pin_entry: None,
-            long_touch_for_reset: None,
-            enc_identifier: None,
-            transports_for_reset: None,
-            pin_complexity_policy: None,
-            pin_complexity_policy_url: None,
-            max_pin_length: None,
-        }
+    fn blank(alloc: Global) -> Response {
+        Response::empty(alloc)
     }
 
-    fn put(&mut self, alloc: Global, number: u8, value: &Value) -> Result<(), Refusal> {
+    fn put<S: Source>(&mut self, alloc: Global, number: u8, source: &mut S) -> Result<(), Refusal> {
         match number {
-            0x01 => read_into(&mut self.versions, alloc, value),
-            0x02 => read_into(&mut self.extensions, alloc, value),
-            0x03 => read_into(&mut self.aaguid, alloc, value),
-            0x04 => read_into(&mut self.options, alloc, value),
-            0x05 => read_into(&mut self.max_msg_size, alloc, value),
-            0x06 => read_into(&mut self.pin_protocols, alloc, value),
-            0x09 => read_into(&mut self.transports, alloc, value),
-            0x0a => read_into(&mut self.algorithms, alloc, value),
-            0x0b => read_into(&mut self.mac_serialized_large_blob_array, alloc, value),
-            0x0c => read_into(&mut self.force_pin_change, alloc, value),
-            0x0d => read_into(&mut self.min_pin_length, alloc, value),
-            0x0e => read_into(&mut self.firmware_version, alloc, value),
-            0x0f => read_into(&mut self.max_cred_blob_length, alloc, value),
-            0x10 => read_into(&mut self.max_rpids_for_set_min_pin_length, alloc, value),
-            0x11 => read_into(&mut self.preferred_platform_uv_attempts, alloc, value),
-            0x12 => read_into(&mut self.uv_modality, alloc, value),
-            0x14 => read_into(&mut self.remaining_discoverable_credentials, alloc, value),
-            0x15 => read_into(&mut self.vendor_prototype_config_commands, alloc, value),
-            0x16 => read_into(&mut self.attestation_formats, alloc, value),
-            0x17 => read_into(&mut self.uv_count_since_last_pin_entry, alloc, value),
-            0x18 => read_into(&mut self.long_touch_for_reset, alloc, value),
-            0x19 => read_into(&mut self.enc_identifier, alloc, value),
-            0x1a => read_into(&mut self.transports_for_reset, alloc, value),
-            0x1b => read_into(&mut self.pin_complexity_policy, alloc, value),
-            0x1c => read_into(&mut self.pin_complexity_policy_url, alloc, value),
-            0x1d => read_into(&mut self.max_pin_length, alloc, value),
+            0x01 => set(&mut self.versions, alloc, source),
+            0x02 => set(&mut self.extensions, alloc, source),
+            0x03 => set(&mut self.aaguid, alloc, source),
+            0x04 => set(&mut self.options, alloc, source),
+            0x05 => set(&mut self.max_msg_size, alloc, source),
+            0x06 => set(&mut self.pin_protocols, alloc, source),
+            0x09 => set_accepted_or_none(&mut self.transports, alloc, source),
+            0x0a => set_accepted_or_none(&mut self.algorithms, alloc, source),
+            0x0b => set(&mut self.mac_serialized_large_blob_array, alloc, source),
+            0x0c => set(&mut self.force_pin_change, alloc, source),
+            0x0d => set(&mut self.min_pin_length, alloc, source),
+            0x0e => set(&mut self.firmware_version, alloc, source),
+            0x0f => set(&mut self.max_cred_blob_length, alloc, source),
+            0x10 => set(&mut self.max_rpids_for_set_min_pin_length, alloc, source),
+            0x11 => set(&mut self.preferred_platform_uv_attempts, alloc, source),
+            0x12 => set(&mut self.uv_modality, alloc, source),
+            0x14 => set(&mut self.remaining_discoverable_credentials, alloc, source),
+            0x15 => set_accepted_or_none(&mut self.vendor_prototype_config_commands, alloc, source),
+            0x16 => set_accepted_or_none(&mut self.attestation_formats, alloc, source),
+            0x17 => set(&mut self.uv_count_since_last_pin_entry, alloc, source),
+            0x18 => set(&mut self.long_touch_for_reset, alloc, source),
+            0x19 => set(&mut self.enc_identifier, alloc, source),
+            0x1a => set_accepted_or_none(&mut self.transports_for_reset, alloc, source),
+            0x1b => set(&mut self.pin_complexity_policy, alloc, source),
+            0x1c => set(&mut self.pin_complexity_policy_url, alloc, source),
+            0x1d => set(&mut self.max_pin_length, alloc, source),
             _ => Err(Refusal::Refused),
         }
-    }
-
-    fn finish(self) -> Option<Response> {
-        Some(Response {
-            versions: self.versions?,
-            extensions: self.extensions.unwrap_or(None),
-            aaguid: self.aaguid?,
-            options: self.options.unwrap_or(None),
-            max_msg_size: self.max_msg_size.unwrap_or(None),
-            pin_protocols: self.pin_protocols.unwrap_or(None),
-            transports: list_of(self.transports),
-            algorithms: list_of(self.algorithms),
-            mac_serialized_large_blob_array: self.mac_serialized_large_blob_array.unwrap_or(None),
-            force_pin_change: self.force_pin_change.unwrap_or(None),
-            min_pin_length: self.min_pin_length.unwrap_or(None),
-            firmware_version: self.firmware_version.unwrap_or(None),
-            max_cred_blob_length: self.max_cred_blob_length.unwrap_or(None),
-            max_rpids_for_set_min_pin_length: self.max_rpids_for_set_min_pin_length.unwrap_or(None),
-            preferred_platform_uv_attempts: self.preferred_platform_uv_attempts.unwrap_or(None),
-            uv_modality: self.uv_modality.unwrap_or(None),
-            remaining_discoverable_credentials: self
-                .remaining_discoverable_credentials
-                .unwrap_or(None),
-            vendor_prototype_config_commands: list_of(self.vendor_prototype_config_commands),
-            attestation_formats: list_of(self.attestation_formats),
-            uv_count_since_last_pin_entry: self.uv_count_since_last_pin_entry.unwrap_or(None),
-            long_touch_for_reset: self.long_touch_for_reset.unwrap_or(None),
-            enc_identifier: self.enc_identifier.unwrap_or(None),
-            transports_for_reset: list_of(self.transports_for_reset),
-            pin_complexity_policy: self.pin_complexity_policy.unwrap_or(None),
-            pin_complexity_policy_url: self.pin_complexity_policy_url.unwrap_or(None),
-            max_pin_length: self.max_pin_length.unwrap_or(None),
-        })
     }
 }
 
@@ -301,7 +197,7 @@ impl Response {
     pub fn from_slice(alloc: Global, bytes: &[u8]) -> Result<(Response, usize), Fault>
         ensures { ReadsMessage get_info_parts read_get_info bytes.now result }
     {
-        read_message::<ResponseSlots>(alloc, bytes)
+        message_from_slice(alloc, bytes)
     }
 
     /// The response that the item is. Else `NotAMap`, or the first fault of its members in their
@@ -311,6 +207,6 @@ impl Response {
     pub fn from_value(alloc: Global, value: &Value) -> Result<Response, Fault>
         ensures { Reads get_info_parts (MayGrowAt get_info_table (item_of value.now)) (read_get_info (item_of value.now)) result }
     {
-        read_record::<ResponseSlots>(alloc, value)
+        record_from_value(alloc, value)
     }
 }

@@ -46,23 +46,23 @@ Fit rows (n ∷ ns) [] = Unit {0}
 Fit rows (n ∷ ns) (p ∷ ps) = ((i : Item) → p.1 ≡ Some i → accepts_at rows n i ≡ true) × Fit rows ns ps
 
 -- nothing stands under these rows
-abbrev Free : Table → Members → List ℕ → Type 0
+abbrev pub Free : Table → Members → List ℕ → Type 0
 Free table earlier [] = Unit {0}
 Free table earlier (n ∷ ns) = (found table earlier n ≡ None) × Free table earlier ns
 
-names_it : (naming : Naming) (n : ℕ) → is_row n naming ≡ true → naming ≡ row n
+pub names_it : (naming : Naming) (n : ℕ) → is_row n naming ≡ true → naming ≡ row n
 names_it (row m) n h = ap row (sym (eqb-true n m h))
 names_it unknown n h = absurd cc
 names_it wrong n h = absurd cc
 
-neither : (a b : Bool) → (a || b) ≡ false → (a ≡ false) × (b ≡ false)
+pub neither : (a b : Bool) → (a || b) ≡ false → (a ≡ false) × (b ≡ false)
 neither true b e = absurd cc
 neither false b e = (refl, e)
 
-apart_too : (n k : ℕ) → (n == k) ≡ false → (k == n) ≡ false
+pub apart_too : (n k : ℕ) → (n == k) ≡ false → (k == n) ≡ false
 apart_too n k h = ne_eqb k n (λ e. eqb-false n k h (sym e))
 
-all_free : (table : Table) (ns : List ℕ) → Free table [] ns
+pub all_free : (table : Table) (ns : List ℕ) → Free table [] ns
 all_free table [] = tt
 all_free table (n ∷ ns) = (refl, all_free table ns)
 
@@ -76,7 +76,7 @@ place_good : (table : Table) (earlier : Members) (key : Item) (n : ℕ) (ms : Me
 place_good table earlier key n ms None e free fit without with = without
 place_good table earlier key n ms (Some i) e free fit without with = rw (was_good table earlier key i n e (ap is_some free) (fit i refl)) (with i)
 
-none_bad : (table : Table) (earlier : Members) (ns : List ℕ) (ps : List Place) → have_rows table ns ps ≡ true → are_distinct ns ≡ true → Fit table.rows ns ps → Free table earlier ns → first_bad table earlier (spread ps) ≡ None
+pub none_bad : (table : Table) (earlier : Members) (ns : List ℕ) (ps : List Place) → have_rows table ns ps ≡ true → are_distinct ns ≡ true → Fit table.rows ns ps → Free table earlier ns → first_bad table earlier (spread ps) ≡ None
 none_bad table earlier [] [] keys apart fit free = refl
 none_bad table earlier [] (p ∷ ps) keys apart fit free = absurd cc
 none_bad table earlier (n ∷ ns) [] keys apart fit free = refl
@@ -103,7 +103,7 @@ place_found : (table : Table) (key : Item) (n m : ℕ) (ms : Members) (o s : Opt
 place_found table key n m ms None s e none h = h ∙ none_where (m == n) s none
 place_found table key n m ms (Some i) s e none h = rw (e, h) refl
 
-found_spread : (table : Table) (ns : List ℕ) (ps : List Place) (m : ℕ) → have_rows table ns ps ≡ true → are_distinct ns ≡ true → found table (spread ps) m ≡ stands ns ps m
+pub found_spread : (table : Table) (ns : List ℕ) (ps : List Place) (m : ℕ) → have_rows table ns ps ≡ true → are_distinct ns ≡ true → found table (spread ps) m ≡ stands ns ps m
 found_spread table [] [] m keys apart = refl
 found_spread table [] (p ∷ ps) m keys apart = absurd cc
 found_spread table (n ∷ ns) [] m keys apart = absurd cc
@@ -146,7 +146,7 @@ pub record Falls {M : Type 0} (kind : Kind M) (default : M) (o : Option Item) (y
   pub value : unwrap_or (o >>= kind) default ≡ y
   pub accepted : (i : Item) → o ≡ Some i → is_some (kind i) ≡ true
 
-accepts_it : {M : Type 0} (kind : Kind M) (j : Item) (y : M) → kind j ≡ Some y → (i : Item) → Some j ≡ Some i → is_some (kind i) ≡ true
+pub accepts_it : {M : Type 0} (kind : Kind M) (j : Item) (y : M) → kind j ≡ Some y → (i : Item) → Some j ≡ Some i → is_some (kind i) ≡ true
 accepts_it kind j y h i e =
     let same : j ≡ i = cc in
     subst (λ (k : Item). is_some (kind k) ≡ true) same (ap is_some h)

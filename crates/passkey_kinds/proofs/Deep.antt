@@ -45,7 +45,7 @@ built_from table values build item.null p e = absurd cc
 built_from table values build (item.simple n) p e = absurd cc
 built_from table values build (item.float f) p e = absurd cc
 
-ok_of : {M : Type 0} (r : Result M Fault) (p : M) → result_ok r ≡ Some p → r ≡ Ok p
+pub ok_of : {M : Type 0} (r : Result M Fault) (p : M) → result_ok r ≡ Some p → r ≡ Ok p
 ok_of (Ok x) p e = cc
 ok_of (Err f) p e = absurd cc
 

@@ -29,7 +29,7 @@ either_fault : (a b : Option Fault) (f : Fault) → (a ≡ Some f → IsOfMember
 either_fault None b f p q e = q e
 either_fault (Some g) b f p q e = p e
 
-first_bad_fault : (table : Table) (earlier ms : Members) (f : Fault) → first_bad table earlier ms ≡ Some f → IsOfMember f
+pub first_bad_fault : (table : Table) (earlier ms : Members) (f : Fault) → first_bad table earlier ms ≡ Some f → IsOfMember f
 first_bad_fault table earlier [] f e = absurd cc
 first_bad_fault table earlier (m ∷ ms) f e = either_fault (bad_by table earlier (named table m.0) m.1) (first_bad table (earlier ++ m ∷ []) ms) f (member_fault table earlier (named table m.0) m.1 f) (first_bad_fault table (earlier ++ m ∷ []) ms f) e
 

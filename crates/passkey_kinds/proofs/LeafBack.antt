@@ -2,7 +2,7 @@
 use Rattle.std.specs.List.{All, filter_map}
 use Rattle.std.specs.Option.{option_and_then}
 use Rattle.std.specs.Prelude.{ℤ}
-use Rattle.std.proofs.Common.{◌≡◌, ◌∙◌, sym, ◌<◌, ◌^◌, lt-ltb, List, [], ◌∷◌, map, Option, Some, None, option_map, refl, ap}
+use Rattle.std.proofs.Common.{◌≡◌, ◌∙◌, sym, ◌<◌, ◌^◌, lt-ltb, List, [], ◌∷◌, map, Option, Some, None, option_map, unwrap_or, refl, ap}
 use Rattle.std.proofs.lemmas.List.Elements.{All-head, All-tail}
 use Rattle.passkey_cbor.specs.Item.{Item, number, byte_string, text_string, array, map as item_map, tagged, boolean, null, simple, float}
 use Rattle.passkey_cbor.specs.View.{item_of}
@@ -12,7 +12,7 @@ use Rattle.passkey_iana.specs.IanaLaws.{algorithm_named-number}
 use Rattle.passkey_iana.specs.declared.algorithm.Algorithm.{Algorithm}
 use Rattle.passkey_iana.specs.declared.algorithm.Algorithm.TheVariants as algorithm
 use Rattle.passkey_kinds.specs.Algorithm.{algorithm as an_algorithm, algorithm_tree}
-use Rattle.passkey_kinds.specs.Kind.{Kind, truth, below, text, one_named, kept, optional, each, bytes, list, accepted, tolerated}
+use Rattle.passkey_kinds.specs.Kind.{Kind, truth, below, text, one_named, kept, optional, each, bytes, list, accepted, tolerated, or_else}
 use Rattle.passkey_kinds.specs.ReadBack.{IsReadBack, Any, IsByte}
 use Rattle.passkey_kinds.specs.Tree.{number_tree, option_tree, list_tree}
 use Rattle.passkey_kinds.specs.Trees.{credential_type_tree, transport_tree}
@@ -101,6 +101,9 @@ module _ {A M : Type 0} {kind : Kind M} {tree : A → Item} {Fits : A → Type 0
 
   pub tolerated_back : IsReadBack (tolerated kind) tree Fits (λ x. Some (normal x))
   tolerated_back = record { back = λ x h. ap Some (r.back x h) }
+
+  pub or_else_back : (default : M) → IsReadBack (or_else default kind) tree Fits normal
+  or_else_back default = record { back = λ x h. ap (λ (o : Option M). Some (unwrap_or o default)) (r.back x h) }
 
   filtered_back : (xs : List A) → All Fits xs → filter_map kind (map tree xs) ≡ map normal xs
   filtered_back [] h = refl

@@ -67,7 +67,7 @@ carries_over law view read knows x y same bytes others n m front other r s some 
     let told = tells law view read bytes x n front r some h in
     (λ k. same_told view (read x) (read y) same n m r s told (tells law view read others y m other s some_too k), λ k. may_tell view read knows others y m other s some_too (told_same view (read x) (read y) same n m r s told k))
 
-alike : {A M : Type 0} → AtMostOneFront → (view : A → M) (read : Item → Result M Fault) → KnowsItems read → AlikeDifferInLength view read
+pub alike : {A M : Type 0} → AtMostOneFront → (view : A → M) (read : Item → Result M Fault) → KnowsItems read → AlikeDifferInLength view read
 alike law view read knows x y same bytes others n m front other =
     (carries_over law view read knows x y same bytes others n m front other, carries_over law view read knows y x (sym same) others bytes m n other front)
 

@@ -5,14 +5,15 @@ pub mod InOrder
 pub mod Texts
 pub mod Members
 pub mod Pairs
+pub mod Putting
 pub mod Accepted
 pub mod Unknown
 pub mod FirstBad
 pub mod ItemFaults
 pub mod Required
-pub mod Sufficient
 pub mod SameAnswers
 pub mod Back
+pub mod RowsBack
 pub mod LeafBack
 pub mod SizedBack
 pub mod MapBack
@@ -22,7 +23,9 @@ pub mod WrittenLists
 pub mod Levels
 pub mod Messages
 pub mod LengthAlone
+pub mod RecordLaws
 pub mod RecordLevels
 pub mod Deep
+pub mod Keeping
 pub mod Held
 pub mod DataBack

@@ -1,12 +1,12 @@
 -- Faults of a message that stands at the front of bytes.
-use Rattle.std.proofs.Common.{ℕ, List, Err}
+use Rattle.std.proofs.Common.{ℕ, List, Result, Err}
 use Rattle.passkey_cbor.specs.Front.{IsFront}
 use Rattle.passkey_cbor.specs.Grows.{Grows}
 use Rattle.passkey_cbor.specs.Item as item
 use Rattle.passkey_cbor.specs.Item.{Item, Pairs, no_pairs, pair}
 use Rattle.passkey_kinds.specs.Message.{ReadsMessage}
 use Rattle.passkey_kinds.specs.Reading.{MayGrowAt, Reads}
-use Rattle.passkey_kinds.specs.Table.{Table, Values, Build, read_item}
+use Rattle.passkey_kinds.specs.Table.{Table}
 use Rattle.passkey_kinds.specs.declared.fault.Fault.{Fault}
 use Rattle.passkey_kinds.specs.declared.fault.Fault.TheVariants as fault
 
@@ -28,11 +28,11 @@ may_grow table item.null h = absurd h
 may_grow table (item.simple n) h = absurd h
 may_grow table (item.float f) h = absurd h
 
-pub message_fails : {A V M : Type 0} (view : A → M) (table : Table) (values : Values V) (build : Build V M) (bytes : List ℕ) (i : Item) (len : ℕ) (e : Fault) → IsFront bytes i len → Reads view (MayGrowAt table i) (read_item table values build i) (Err e) → ReadsMessage view (read_item table values build) bytes (Err e)
-message_fails view table values build bytes i len fault.DecodeFailed f h = absurd h
-message_fails view table values build bytes i len fault.OutOfMemory f h = record { item = i; len = len; front = f; grows = may_grow table i h }
-message_fails view table values build bytes i len fault.NotAMap f h = record { item = i; len = len; front = f; holds = h }
-message_fails view table values build bytes i len fault.BadKey f h = record { item = i; len = len; front = f; holds = h }
-message_fails view table values build bytes i len (fault.Repeated n) f h = record { item = i; len = len; front = f; holds = h }
-message_fails view table values build bytes i len (fault.Refused n) f h = record { item = i; len = len; front = f; holds = h }
-message_fails view table values build bytes i len (fault.Missing n) f h = record { item = i; len = len; front = f; holds = h }
+pub message_fails : {A M : Type 0} (view : A → M) (table : Table) (read : Item → Result M Fault) (bytes : List ℕ) (i : Item) (len : ℕ) (e : Fault) → IsFront bytes i len → Reads view (MayGrowAt table i) (read i) (Err e) → ReadsMessage view read bytes (Err e)
+message_fails view table read bytes i len fault.DecodeFailed f h = absurd h
+message_fails view table read bytes i len fault.OutOfMemory f h = record { item = i; len = len; front = f; grows = may_grow table i h }
+message_fails view table read bytes i len fault.NotAMap f h = record { item = i; len = len; front = f; holds = h }
+message_fails view table read bytes i len fault.BadKey f h = record { item = i; len = len; front = f; holds = h }
+message_fails view table read bytes i len (fault.Repeated n) f h = record { item = i; len = len; front = f; holds = h }
+message_fails view table read bytes i len (fault.Refused n) f h = record { item = i; len = len; front = f; holds = h }
+message_fails view table read bytes i len (fault.Missing n) f h = record { item = i; len = len; front = f; holds = h }

@@ -34,7 +34,7 @@ grows_drop table [] i h = subst (MayGrowIn table) (drop_all i [] (omega arith)) 
 grows_drop table (m ∷ ms) zero h = h
 grows_drop table (m ∷ ms) (suc i) h = inr (grows_drop table ms i h)
 
-grows_in : (table : Table) (ms : Members) (i : ℕ) (m : Item × Item) (rest : Members) → drop i ms ≡ m ∷ rest → MayGrowBy table (named table m.0) m.1 → MayGrowIn table ms
+pub grows_in : (table : Table) (ms : Members) (i : ℕ) (m : Item × Item) (rest : Members) → drop i ms ≡ m ∷ rest → MayGrowBy table (named table m.0) m.1 → MayGrowIn table ms
 grows_in table ms i m rest e h = grows_drop table ms i (subst (MayGrowIn table) (sym e) (inl h))
 
 none_marked : (n : ℕ) → n < 256 → slice_get (replicate 256 false) n ≡ Some false

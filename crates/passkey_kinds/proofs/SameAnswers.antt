@@ -14,7 +14,7 @@ use Rattle.passkey_kinds.specs.declared.fault.Fault.TheVariants.{Repeated, Refus
 
 -- ---- what stands under each row, by the known members alone
 
-abbrev found_in : List (ℕ × Item) → ℕ → Option Item
+abbrev pub found_in : List (ℕ × Item) → ℕ → Option Item
 found_in [] = λ k. None
 found_in (x ∷ xs) = with_row x.0 x.1 (found_in xs)
 
@@ -23,16 +23,16 @@ found_by (row n) value o xs k rest = ap (λ (p : Option Item). if k == n then So
 found_by unknown value o xs k rest = rest
 found_by wrong value o xs k rest = rest
 
-found_known : (table : Table) (ms : Members) (k : ℕ) → found table ms k ≡ found_in (known table ms) k
+pub found_known : (table : Table) (ms : Members) (k : ℕ) → found table ms k ≡ found_in (known table ms) k
 found_known table [] k = refl
 found_known table (m ∷ ms) k = found_by (named table m.0) m.1 (found table ms k) (known table ms) k (found_known table ms k)
 
 -- ---- what is bad, by the known members alone
 
-abbrev bad_at : Table → Bool → ℕ → Item → Option Fault
+abbrev pub bad_at : Table → Bool → ℕ → Item → Option Fault
 bad_at table seen n i = if seen then Some (Repeated n) else (if accepts_at table.rows n i then None else Some (Refused n))
 
-abbrev bad_in : Table → (ℕ → Bool) → List (ℕ × Item) → Option Fault
+abbrev pub bad_in : Table → (ℕ → Bool) → List (ℕ × Item) → Option Fault
 bad_in table seen [] = None
 bad_in table seen (x ∷ xs) = option_or (bad_at table (seen x.0) x.0 x.1) (bad_in table (λ k. seen k || (k == x.0)) xs)
 
@@ -56,7 +56,7 @@ first_bad_by table earlier key value later xs seen same rest (row n) e right =
 first_bad_by table earlier key value later xs seen same rest unknown e right = rest seen (λ k. ap is_some (found_pushed table earlier key value e k) ∙ same k)
 first_bad_by table earlier key value later xs seen same rest wrong e right = absurd (right refl)
 
-first_bad_known : (table : Table) (earlier ms : Members) (seen : ℕ → Bool) → ((k : ℕ) → is_some (found table earlier k) ≡ seen k) → HasNoWrongKey table ms → first_bad table earlier ms ≡ bad_in table seen (known table ms)
+pub first_bad_known : (table : Table) (earlier ms : Members) (seen : ℕ → Bool) → ((k : ℕ) → is_some (found table earlier k) ≡ seen k) → HasNoWrongKey table ms → first_bad table earlier ms ≡ bad_in table seen (known table ms)
 first_bad_known table earlier [] seen same right = refl
 first_bad_known table earlier (m ∷ ms) seen same right =
     first_bad_by table earlier m.0 m.1 (first_bad table (earlier ++ m ∷ []) ms) (known table ms) seen same
@@ -115,7 +115,7 @@ module _ {V : Type 0} (table : Table) (values : Values V) where
       ∙ sym (ap values (λ t k. nested g (found_in ys) x.0 y.1 k t))
       ∙ ap (λ (n : ℕ). values (over g (with_row n y.1 (found_in ys)))) h.0
 
-  same_bad : (xs ys : List (ℕ × Item)) → SameAnswers table values xs ys → (seen : ℕ → Bool) → bad_in table seen xs ≡ bad_in table seen ys
+  pub same_bad : (xs ys : List (ℕ × Item)) → SameAnswers table values xs ys → (seen : ℕ → Bool) → bad_in table seen xs ≡ bad_in table seen ys
   same_bad [] [] h seen = refl
   same_bad [] (y ∷ ys) h seen = absurd h
   same_bad (x ∷ xs) [] h seen = absurd h
@@ -125,7 +125,7 @@ module _ {V : Type 0} (table : Table) (values : Values V) where
       let rest : bad_in table (λ k. seen k || (k == x.0)) xs ≡ bad_in table (λ k. seen k || (k == y.0)) ys = same_bad xs ys h.2 (λ k. seen k || (k == x.0)) ∙ ap (λ (n : ℕ). bad_in table (λ k. seen k || (k == n)) ys) h.0 in
       λ i. option_or (here i) (rest i)
 
-  same_filled : (xs ys : List (ℕ × Item)) → SameAnswers table values xs ys → (k : ℕ) → is_none (found_in xs k) ≡ is_none (found_in ys k)
+  pub same_filled : (xs ys : List (ℕ × Item)) → SameAnswers table values xs ys → (k : ℕ) → is_none (found_in xs k) ≡ is_none (found_in ys k)
   same_filled [] [] h k = refl
   same_filled [] (y ∷ ys) h k = absurd h
   same_filled (x ∷ xs) [] h k = absurd h

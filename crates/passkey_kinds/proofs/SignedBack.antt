@@ -8,8 +8,8 @@ use Rattle.passkey_kinds.specs.GetSigned as used
 use Rattle.passkey_kinds.specs.MakeSigned as made
 use Rattle.passkey_kinds.specs.ReadBack.{IsReadBack, Any}
 use Rattle.passkey_kinds.specs.Tree.{Place, where_some, record_tree}
-use Rattle.passkey_kinds.proofs.Back.{record_back}
 use Rattle.passkey_kinds.proofs.LeafBack.{truth_back, bytes_back, anything, optional_place}
+use Rattle.passkey_kinds.proofs.RowsBack.{puts_default, ◌▸◌, no_more, kind_back}
 
 abbrev creation_places : creation.SignedExtensionOutputs → List Place
 creation_places o =
@@ -27,11 +27,7 @@ pub creation_back : IsReadBack made.signed creation_item Any (λ o. o)
 creation_back = record { back = λ o h. ap made.signed (creation_laid o.hmac_secret o.hmac_secret_mc) ∙ read o } where
   read : (o : creation.SignedExtensionOutputs) → made.signed (record_tree (creation_places o)) ≡ Some o
   read o =
-      let told = optional_place truth_back refl o.hmac_secret (anything o.hmac_secret) in
-      let secrets = optional_place bytes_back refl o.hmac_secret_mc (anything o.hmac_secret_mc) in
-      record_back made.signed_table made.signed_values made.signed_of (1 ∷ 2 ∷ []) (creation_places o) o refl
-      (told.accepted, (secrets.accepted, tt)) refl
-      (λ i. Some (record { hmac_secret = told.value i; hmac_secret_mc = secrets.value i }))
+      kind_back made.signed_fields (creation_places o) o refl refl (puts_default (optional_place truth_back refl o.hmac_secret (anything o.hmac_secret)) refl ▸ puts_default (optional_place bytes_back refl o.hmac_secret_mc (anything o.hmac_secret_mc)) refl ▸ no_more)
 
 abbrev assertion_places : assertion.SignedExtensionOutputs → List Place
 assertion_places o = where_some (text_string hmac_secret) byte_string o.hmac_secret ∷ []
@@ -44,7 +40,4 @@ pub assertion_back : IsReadBack used.signed assertion_item Any (λ o. o)
 assertion_back = record { back = λ o h. ap used.signed (assertion_laid o.hmac_secret) ∙ read o } where
   read : (o : assertion.SignedExtensionOutputs) → used.signed (record_tree (assertion_places o)) ≡ Some o
   read o =
-      let secrets = optional_place bytes_back refl o.hmac_secret (anything o.hmac_secret) in
-      record_back used.signed_table used.signed_values used.signed_of (1 ∷ []) (assertion_places o) o refl
-      (secrets.accepted, tt) refl
-      (λ i. Some (record { hmac_secret = secrets.value i }))
+      kind_back used.signed_fields (assertion_places o) o refl refl (puts_default (optional_place bytes_back refl o.hmac_secret (anything o.hmac_secret)) refl ▸ no_more)

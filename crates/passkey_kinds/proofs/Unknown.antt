@@ -48,7 +48,7 @@ pub found_pushed : (table : Table) (earlier : Members) (key value : Item) → na
 found_pushed table earlier key value naming k =
     found_without table earlier [] key value naming k ∙ ap (λ (ms : Members). found table ms k) (append-nil earlier)
 
-first_bad_without : (table : Table) (earlier before behind : Members) (key value : Item) → named table key ≡ unknown → first_bad table earlier (before ++ (key, value) ∷ behind) ≡ first_bad table earlier (before ++ behind)
+pub first_bad_without : (table : Table) (earlier before behind : Members) (key value : Item) → named table key ≡ unknown → first_bad table earlier (before ++ (key, value) ∷ behind) ≡ first_bad table earlier (before ++ behind)
 first_bad_without table earlier [] behind key value naming =
     ap (λ (n : Naming). option_or (bad_by table earlier n value) (first_bad table (earlier ++ (key, value) ∷ []) behind)) naming
     ∙ first_bad_alike table (earlier ++ (key, value) ∷ []) earlier (found_pushed table earlier key value naming) behind

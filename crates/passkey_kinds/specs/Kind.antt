@@ -1,5 +1,5 @@
 -- What items mean: a kind accepts some items, and gives each of them a value.
-use Rattle.std.specs.Prelude.{◌≡◌, ◌==◌, ℕ, pos, nat_lt, length, Bool, true, false, IsTrue, if◌then◌else◌, is_some, List, [], ◌∷◌, Option, Some, None, option_map, Result, Ok, Err}
+use Rattle.std.specs.Prelude.{◌≡◌, ◌==◌, ℕ, pos, nat_lt, length, Bool, true, false, IsTrue, if◌then◌else◌, is_some, List, [], ◌∷◌, Option, Some, None, option_map, unwrap_or, Result, Ok, Err}
 use Rattle.std.specs.List.{filter_map}
 use Rattle.std.specs.Option.{option_and_then}
 use Rattle.std.specs.Str.{trim}
@@ -98,3 +98,7 @@ accepted kind _ = None
 -- the value, or nothing where the kind refuses
 abbrev pub tolerated : {M : Type 0} → Kind M → Kind (Option M)
 tolerated kind i = Some (kind i)
+
+-- the value, or this one where the kind refuses
+abbrev pub or_else : {M : Type 0} → M → Kind M → Kind M
+or_else default kind i = Some (unwrap_or (kind i) default)

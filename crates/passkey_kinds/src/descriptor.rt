@@ -1,50 +1,29 @@
 //! Descriptors, read of items.
 ghost use Rattle.std.specs.Prelude.{true};
-ghost use Rattle.passkey_kinds.specs.Descriptor.{DescriptorValues, descriptor_table, descriptor_values, descriptor_of, descriptor};
-ghost use Rattle.passkey_kinds.specs.DescriptorHeld.{descriptor_held};
+ghost use Rattle.passkey_kinds.specs.Descriptor.{descriptor_fields, descriptor};
 ghost use Rattle.passkey_webauthn.specs.declared.descriptor.PublicKeyCredentialDescriptor.{PublicKeyCredentialDescriptor as Descriptor};
 ghost use Rattle.passkey_kinds.specs.Trees.{descriptor_tree};
 ghost use Rattle.passkey_kinds.specs.ReadBack.{Any};
 
-use crate::from_cbor::{FromCbor, read_into};
-use crate::list::TolerantList;
-use crate::record::{Slots, read_nested};
+use crate::from_cbor::FromCbor;
 use crate::refusal::Refusal;
 use crate::rows::Row;
+use crate::source::{Source, set, set_accepted_or_none, set_or};
+use crate::table::{Record, nested_from_value};
 use crate::to_cbor::ToCbor;
-use crate::tolerated::Tolerated;
 use crate::written::Written;
 use passkey_bytes::Bytes;
 use passkey_cbor::Value;
 use passkey_memory::OutOfMemory;
-use passkey_webauthn::{
-    AuthenticatorTransport, PublicKeyCredentialDescriptor, PublicKeyCredentialType,
-};
+use passkey_webauthn::{PublicKeyCredentialDescriptor, PublicKeyCredentialType};
 use std::alloc::Global;
 
-#[derive(Drop)]
-struct DescriptorSlots {
-    ty: Option<Tolerated<PublicKeyCredentialType>>,
-    id: Option<Bytes>,
-    transports: Option<Tolerated<TolerantList<AuthenticatorTransport>>>,
-}
+impl Record for PublicKeyCredentialDescriptor {
+    ghost Parts = { Descriptor };
 
-impl Slots for DescriptorSlots {
-    type Of = PublicKeyCredentialDescriptor;
+    ghost parts = { λ d. d };
 
-    ghost Held = { DescriptorValues };
-
-    ghost held = { descriptor_held };
-
-    ghost Meaning = { Descriptor };
-
-    ghost view = { λ d. d };
-
-    ghost table = { descriptor_table };
-
-    ghost values = { descriptor_values };
-
-    ghost build = { descriptor_of };
+    ghost fields = { descriptor_fields };
 
     fn is_numbered() -> bool {
         false
@@ -58,38 +37,21 @@ impl Slots for DescriptorSlots {
         ]
     }
 
-    #[tactic(auto, using(crate::proofs::Sufficient::descriptor_suffices))]
-    fn required_rows_suffice() {}
-
-    fn empty() -> DescriptorSlots {
-        DescriptorSlots {
-            ty: None,
-            id: None,
+    fn blank(alloc: Global) -> PublicKeyCredentialDescriptor {
+        PublicKeyCredentialDescriptor {
+            ty: PublicKeyCredentialType::Unknown,
+            id: Bytes::empty(alloc),
             transports: None,
         }
     }
 
-    fn put(&mut self, alloc: Global, number: u8, value: &Value) -> Result<(), Refusal> {
+    fn put<S: Source>(&mut self, alloc: Global, number: u8, source: &mut S) -> Result<(), Refusal> {
         match number {
-            1 => read_into(&mut self.ty, alloc, value),
-            2 => read_into(&mut self.id, alloc, value),
-            3 => read_into(&mut self.transports, alloc, value),
+            1 => set_or(&mut self.ty, PublicKeyCredentialType::Unknown, alloc, source),
+            2 => set(&mut self.id, alloc, source),
+            3 => set_accepted_or_none(&mut self.transports, alloc, source),
             _ => Err(Refusal::Refused),
         }
-    }
-
-    #[tactic(auto, using(crate::proofs::Lists::map_same))]
-    fn finish(self) -> Option<PublicKeyCredentialDescriptor> {
-        let DescriptorSlots { ty, id, transports } = self;
-        let transports = match transports {
-            Some(Tolerated(Some(transports))) => Some(transports.0),
-            _ => None,
-        };
-        Some(PublicKeyCredentialDescriptor {
-            ty: ty?.0.unwrap_or(PublicKeyCredentialType::Unknown),
-            id: id?,
-            transports,
-        })
     }
 }
 
@@ -103,7 +65,7 @@ impl FromCbor for PublicKeyCredentialDescriptor {
     ghost takes = { true };
 
     fn from_value(alloc: Global, value: &Value) -> Result<PublicKeyCredentialDescriptor, Refusal> {
-        read_nested::<DescriptorSlots>(alloc, value)
+        nested_from_value(alloc, value)
     }
 }
 

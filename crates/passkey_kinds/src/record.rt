@@ -92,7 +92,7 @@ fn read_member<S: Slots>(
 }
 
 /// The number of the first required row that has no mark.
-fn first_missing(rows: &[Row], seen: &[bool; 256]) -> Option<u8>
+pub(crate) fn first_missing(rows: &[Row], seen: &[bool; 256]) -> Option<u8>
     ensures { result ≡ first_unmarked (map entry_of rows.now) seen.now }
 {
     for row in rows {
@@ -104,7 +104,7 @@ fn first_missing(rows: &[Row], seen: &[bool; 256]) -> Option<u8>
 }
 
 /// Marks of no rows.
-fn no_marks() -> [bool; 256]
+pub(crate) fn no_marks() -> [bool; 256]
     ensures { result ≡ replicate 256 false }
 {
     [false; 256]

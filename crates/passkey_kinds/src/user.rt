@@ -1,15 +1,15 @@
 //! Users, read of items and written.
 ghost use Rattle.std.specs.Prelude.{true};
 ghost use Rattle.passkey_kinds.specs.Trees.{webauthn_user_tree};
-ghost use Rattle.passkey_kinds.specs.User.{UserValues, user_table, user_values, user_of, user};
-ghost use Rattle.passkey_kinds.specs.UserHeld.{user_held};
+ghost use Rattle.passkey_kinds.specs.User.{user_fields, user};
 ghost use Rattle.passkey_webauthn.specs.declared.user.PublicKeyCredentialUserEntity.{PublicKeyCredentialUserEntity as UserEntity};
 ghost use Rattle.passkey_kinds.specs.ReadBack.{Any};
 
-use crate::from_cbor::{FromCbor, read_into};
-use crate::record::{Slots, read_nested};
+use crate::from_cbor::FromCbor;
 use crate::refusal::Refusal;
 use crate::rows::Row;
+use crate::source::{Source, set};
+use crate::table::{Record, nested_from_value};
 use crate::to_cbor::ToCbor;
 use crate::written::Written;
 use passkey_bytes::{Bytes, Text};
@@ -18,29 +18,12 @@ use passkey_memory::OutOfMemory;
 use passkey_webauthn::PublicKeyCredentialUserEntity;
 use std::alloc::Global;
 
-#[derive(Drop)]
-struct UserSlots {
-    id: Option<Bytes>,
-    display_name: Option<Text>,
-    name: Option<Text>,
-}
+impl Record for PublicKeyCredentialUserEntity {
+    ghost Parts = { UserEntity };
 
-impl Slots for UserSlots {
-    type Of = PublicKeyCredentialUserEntity;
+    ghost parts = { λ user. user };
 
-    ghost Held = { UserValues };
-
-    ghost held = { user_held };
-
-    ghost Meaning = { UserEntity };
-
-    ghost view = { λ user. user };
-
-    ghost table = { user_table };
-
-    ghost values = { user_values };
-
-    ghost build = { user_of };
+    ghost fields = { user_fields };
 
     fn is_numbered() -> bool {
         false
@@ -54,33 +37,21 @@ impl Slots for UserSlots {
         ]
     }
 
-    #[tactic(auto, using(crate::proofs::Sufficient::user_suffices))]
-    fn required_rows_suffice() {}
-
-    fn empty() -> UserSlots {
-        UserSlots {
-            id: None,
-            display_name: None,
-            name: None,
+    fn blank(alloc: Global) -> PublicKeyCredentialUserEntity {
+        PublicKeyCredentialUserEntity {
+            id: Bytes::empty(alloc),
+            display_name: Text::empty(alloc),
+            name: Text::empty(alloc),
         }
     }
 
-    fn put(&mut self, alloc: Global, number: u8, value: &Value) -> Result<(), Refusal> {
+    fn put<S: Source>(&mut self, alloc: Global, number: u8, source: &mut S) -> Result<(), Refusal> {
         match number {
-            1 => read_into(&mut self.id, alloc, value),
-            2 => read_into(&mut self.display_name, alloc, value),
-            3 => read_into(&mut self.name, alloc, value),
+            1 => set(&mut self.id, alloc, source),
+            2 => set(&mut self.display_name, alloc, source),
+            3 => set(&mut self.name, alloc, source),
             _ => Err(Refusal::Refused),
         }
-    }
-
-    #[tactic(auto, using(crate::proofs::Lists::option_same))]
-    fn finish(self) -> Option<PublicKeyCredentialUserEntity> {
-        Some(PublicKeyCredentialUserEntity {
-            id: self.id?,
-            display_name: self.display_name?,
-            name: self.name?,
-        })
     }
 }
 
@@ -94,7 +65,7 @@ impl FromCbor for PublicKeyCredentialUserEntity {
     ghost takes = { true };
 
     fn from_value(alloc: Global, value: &Value) -> Result<PublicKeyCredentialUserEntity, Refusal> {
-        read_nested::<UserSlots>(alloc, value)
+        nested_from_value(alloc, value)
     }
 }
 

@@ -1,45 +1,28 @@
 //! What extensions answer in the authenticator data of a credential that was made, read of items.
 ghost use Rattle.std.specs.Prelude.{true};
 ghost use Rattle.passkey_core.specs.declared.make_credential.SignedExtensionOutputs.{SignedExtensionOutputs as SignedOutputs};
-ghost use Rattle.passkey_kinds.specs.MakeSigned.{SignedValues, signed_table, signed_values, signed_of, signed};
-ghost use Rattle.passkey_kinds.specs.MakeSignedHeld.{signed_held};
+ghost use Rattle.passkey_kinds.specs.MakeSigned.{signed_fields, signed};
 ghost use Rattle.passkey_core.specs.SignedOutputs.{creation_item};
 ghost use Rattle.passkey_kinds.specs.ReadBack.{Any};
 
-use crate::from_cbor::{FromCbor, read_into};
+use crate::from_cbor::FromCbor;
 use crate::read_back::ReadBack;
-use crate::record::{Slots, read_nested};
 use crate::refusal::Refusal;
 use crate::rows::Row;
+use crate::source::{Source, set};
+use crate::table::{Record, nested_from_value};
 use crate::to_cbor::ToCbor;
-use passkey_bytes::Bytes;
 use passkey_cbor::Value;
 use passkey_core::make_credential::SignedExtensionOutputs;
 use passkey_memory::OutOfMemory;
 use std::alloc::Global;
 
-#[derive(Drop)]
-struct SignedSlots {
-    hmac_secret: Option<Option<bool>>,
-    hmac_secret_mc: Option<Option<Bytes>>,
-}
+impl Record for SignedExtensionOutputs {
+    ghost Parts = { SignedOutputs };
 
-impl Slots for SignedSlots {
-    type Of = SignedExtensionOutputs;
+    ghost parts = { λ outputs. outputs };
 
-    ghost Held = { SignedValues };
-
-    ghost held = { signed_held };
-
-    ghost Meaning = { SignedOutputs };
-
-    ghost view = { λ outputs. outputs };
-
-    ghost table = { signed_table };
-
-    ghost values = { signed_values };
-
-    ghost build = { signed_of };
+    ghost fields = { signed_fields };
 
     fn is_numbered() -> bool {
         false
@@ -52,29 +35,19 @@ impl Slots for SignedSlots {
         ]
     }
 
-    fn required_rows_suffice() {}
-
-    fn empty() -> SignedSlots {
-        SignedSlots {
+    fn blank(_alloc: Global) -> SignedExtensionOutputs {
+        SignedExtensionOutputs {
             hmac_secret: None,
             hmac_secret_mc: None,
         }
     }
 
-    fn put(&mut self, alloc: Global, number: u8, value: &Value) -> Result<(), Refusal> {
+    fn put<S: Source>(&mut self, alloc: Global, number: u8, source: &mut S) -> Result<(), Refusal> {
         match number {
-            1 => read_into(&mut self.hmac_secret, alloc, value),
-            2 => read_into(&mut self.hmac_secret_mc, alloc, value),
+            1 => set(&mut self.hmac_secret, alloc, source),
+            2 => set(&mut self.hmac_secret_mc, alloc, source),
             _ => Err(Refusal::Refused),
         }
-    }
-
-    #[tactic(auto, using(crate::proofs::Lists::option_same))]
-    fn finish(self) -> Option<SignedExtensionOutputs> {
-        Some(SignedExtensionOutputs {
-            hmac_secret: self.hmac_secret.unwrap_or(None),
-            hmac_secret_mc: self.hmac_secret_mc.unwrap_or(None),
-        })
     }
 }
 
@@ -88,7 +61,7 @@ impl FromCbor for SignedExtensionOutputs {
     ghost takes = { true };
 
     fn from_value(alloc: Global, value: &Value) -> Result<SignedExtensionOutputs, Refusal> {
-        read_nested::<SignedSlots>(alloc, value)
+        nested_from_value(alloc, value)
     }
 }
 

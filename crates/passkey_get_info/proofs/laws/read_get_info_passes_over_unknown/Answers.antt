@@ -1,7 +1,7 @@
-use Rattle.passkey_get_info.specs.GetInfo.{get_info_table, get_info_values, get_info_of}
+use Rattle.passkey_get_info.specs.GetInfo.{get_info_fields}
 use Rattle.passkey_get_info.specs.GetInfoView.{get_info_parts}
 use Rattle.passkey_get_info.proofs.laws.read_get_info_passes_over_unknown.Goals as goal
-use Rattle.passkey_kinds.proofs.LengthAlone.{passes_over_unknown}
+use Rattle.passkey_kinds.proofs.RecordLaws.{skips_unknown}
 
 pub returns : goal.returns
-returns c = passes_over_unknown c.at_most_one_front.ensures get_info_parts get_info_table get_info_values get_info_of
+returns c = skips_unknown c.at_most_one_front.ensures get_info_parts get_info_fields

@@ -1,0 +1,13 @@
+use Rattle.std.proofs.Common.{List, map, subst}
+use Rattle.passkey_cbor.specs.View.{pair_of}
+use Rattle.passkey_cbor.specs.declared.value.Value.{Value}
+use Rattle.passkey_cbor.proofs.Views.{item_of-Map}
+use Rattle.passkey_cose.proofs.KeyLists.{members-pairs_of}
+use Rattle.passkey_kinds.specs.Reading.{MayGrowIn, Reads}
+use Rattle.passkey_kinds.specs.Record.{table_of, read_members}
+use Rattle.passkey_kinds.proofs.table.record_from_value.Goals as goal
+
+pub returns-in-Map : goal.returns-in-Map
+returns-in-Map g c =
+    let told = subst (λ (ps : List (Value × Value)). Reads g.R.Record.parts (MayGrowIn (table_of g.R.Record.fields) (map pair_of ps)) (read_members g.R.Record.fields (map pair_of ps)) c.read_pairs.result) c.deref.ensures.value c.read_pairs.ensures in
+    rw (c.in-Map.is, item_of-Map c.in-Map.pairs, members-pairs_of (map pair_of c.in-Map.pairs.items)) told

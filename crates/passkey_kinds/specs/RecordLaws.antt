@@ -1,0 +1,37 @@
+-- Laws of records: which members change nothing, and which are decoded alike.
+use Rattle.std.specs.Prelude.{◌≡◌, ℕ, List, [], ◌∷◌, ◌++◌}
+use Rattle.passkey_cbor.specs.Item.{Item}
+use Rattle.passkey_kinds.specs.MessageLaws.{DifferInLength}
+use Rattle.passkey_kinds.specs.Record.{Fields, rows_of, table_of, put_at, read_members, read_item}
+use Rattle.passkey_kinds.specs.Table.{Members, unknown, named, accepts_at}
+use Rattle.passkey_kinds.specs.TableLaws.{known, HasNoWrongKey}
+use Rattle.passkey_kinds.specs.Tree.{map_tree}
+
+-- A member under a key that the table doesn't know changes nothing, wherever it is.
+abbrev pub UnknownMemberIsSkipped : {P : Type 0} → Fields P → Type 0
+UnknownMemberIsSkipped t = (before behind : Members) (key value : Item) → named (table_of t) key ≡ unknown → read_members t (before ++ (key, value) ∷ behind) ≡ read_members t (before ++ behind)
+
+-- Row n answers the same at two items: it accepts both or neither, and puts the same value.
+pub record AnswersAlike {P : Type 0} (t : Fields P) (n : ℕ) (i j : Item) : Type 0 where
+  pub accepts : accepts_at (rows_of t.rows) n i ≡ accepts_at (rows_of t.rows) n j
+  pub puts : (r : P) → put_at t.rows n i r ≡ put_at t.rows n j r
+
+-- the same rows in the same order, with the same answers
+abbrev pub SameAnswers : {P : Type 0} → Fields P → List (ℕ × Item) → List (ℕ × Item) → Type 0
+SameAnswers t [] [] = Unit {0}
+SameAnswers t [] (y ∷ ys) = ⊥
+SameAnswers t (x ∷ xs) [] = ⊥
+SameAnswers t (x ∷ xs) (y ∷ ys) = (x.0 ≡ y.0) × AnswersAlike t x.0 x.1 y.1 × SameAnswers t xs ys
+
+-- Members without a wrong key that give the same rows the same answers in the same order are
+-- decoded alike: it doesn't matter how a key is encoded, nor which unknown ones are between them.
+abbrev pub SameAnswersReadAlike : {P : Type 0} → Fields P → Type 0
+SameAnswersReadAlike t = (ms ns : Members) → HasNoWrongKey (table_of t) ms → HasNoWrongKey (table_of t) ns → SameAnswers t (known (table_of t) ms) (known (table_of t) ns) → read_members t ms ≡ read_members t ns
+
+-- A map with one member more, under a key that the table doesn't know, differs in the length alone
+-- from the map without it, wherever the member is.
+abbrev pub SkipsUnknown : {A P : Type 0} → (A → P) → Fields P → Type 0
+SkipsUnknown view t =
+    (before behind : Members) (key value : Item) →
+    named (table_of t) key ≡ unknown →
+    DifferInLength view (read_item t) (map_tree (before ++ behind)) (map_tree (before ++ (key, value) ∷ behind))
