@@ -19,7 +19,8 @@ use Rattle.passkey_kinds.specs.Trees.{parameters_tree, transport_tree}
 use Rattle.passkey_kinds.specs.declared.write_fault.WriteFault.{WriteFault}
 use Rattle.passkey_kinds.specs.declared.write_fault.WriteFault.TheVariants.{NumberTooLarge}
 use Rattle.passkey_kinds.proofs.Back.{option_place}
-use Rattle.passkey_kinds.proofs.Keeping.{◌▹◌, keeps, leaves, record_keeps}
+use Rattle.passkey_kinds.proofs.Keeping as kept
+use Rattle.passkey_kinds.proofs.Keeping.{◌▹◌, record_keeps}
 use Rattle.passkey_kinds.proofs.RowsBack.{puts_value, puts_default, ◌▸◌, no_more, rows_back}
 use Rattle.passkey_kinds.proofs.SizedBack.{size_back, aaguid_back}
 use Rattle.passkey_get_info.proofs.GetInfoBack.{version_back, extension_back, options_back}
@@ -132,33 +133,33 @@ read_coherent i r read =
     sym (spelled_coherent r)
     ∙ record_keeps get_info_fields SizeIsSpelled i r read refl
     (
-    (leaves SizeIsSpelled λ v r h. h) ▹
-    (leaves SizeIsSpelled λ v r h. h) ▹
-    (leaves SizeIsSpelled λ v r h. h) ▹
-    (leaves SizeIsSpelled λ v r h. h) ▹
-    (keeps SizeIsSpelled (λ i v r less e h. ap (λ (o : Option (Option ℕ)). is_spelled (unwrap_or o None)) (sym e) ∙ spelled_item i)) ▹
-    (leaves SizeIsSpelled λ v r h. h) ▹
-    (leaves SizeIsSpelled λ v r h. h) ▹
-    (leaves SizeIsSpelled λ v r h. h) ▹
-    (leaves SizeIsSpelled λ v r h. h) ▹
-    (leaves SizeIsSpelled λ v r h. h) ▹
-    (leaves SizeIsSpelled λ v r h. h) ▹
-    (leaves SizeIsSpelled λ v r h. h) ▹
-    (leaves SizeIsSpelled λ v r h. h) ▹
-    (leaves SizeIsSpelled λ v r h. h) ▹
-    (leaves SizeIsSpelled λ v r h. h) ▹
-    (leaves SizeIsSpelled λ v r h. h) ▹
-    (leaves SizeIsSpelled λ v r h. h) ▹
-    (leaves SizeIsSpelled λ v r h. h) ▹
-    (leaves SizeIsSpelled λ v r h. h) ▹
-    (leaves SizeIsSpelled λ v r h. h) ▹
-    (leaves SizeIsSpelled λ v r h. h) ▹
-    (leaves SizeIsSpelled λ v r h. h) ▹
-    (leaves SizeIsSpelled λ v r h. h) ▹
-    (leaves SizeIsSpelled λ v r h. h) ▹
-    (leaves SizeIsSpelled λ v r h. h) ▹
-    (leaves SizeIsSpelled λ v r h. h) ▹
-    tt)
+    (λ i v r less e h. h) ▹
+    (λ i v r less e h. h) ▹
+    (λ i v r less e h. h) ▹
+    (λ i v r less e h. h) ▹
+    (λ i v r less e h. ap (λ (o : Option (Option ℕ)). is_spelled (unwrap_or o None)) (sym e) ∙ spelled_item i) ▹
+    (λ i v r less e h. h) ▹
+    (λ i v r less e h. h) ▹
+    (λ i v r less e h. h) ▹
+    (λ i v r less e h. h) ▹
+    (λ i v r less e h. h) ▹
+    (λ i v r less e h. h) ▹
+    (λ i v r less e h. h) ▹
+    (λ i v r less e h. h) ▹
+    (λ i v r less e h. h) ▹
+    (λ i v r less e h. h) ▹
+    (λ i v r less e h. h) ▹
+    (λ i v r less e h. h) ▹
+    (λ i v r less e h. h) ▹
+    (λ i v r less e h. h) ▹
+    (λ i v r less e h. h) ▹
+    (λ i v r less e h. h) ▹
+    (λ i v r less e h. h) ▹
+    (λ i v r less e h. h) ▹
+    (λ i v r less e h. h) ▹
+    (λ i v r less e h. h) ▹
+    (λ i v r less e h. h) ▹
+    kept.no_more)
 
 pub get_info_coherent : ReadIsCoherent read_get_info is_get_info_coherent
 get_info_coherent bytes r begins = read_coherent begins.item r begins.holds

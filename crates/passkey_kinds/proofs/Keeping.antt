@@ -13,6 +13,16 @@ abbrev pub Keeps : {P : Type 0} → ℕ → (P → Type 0) → List (Member P) �
 Keeps n Inv [] = Unit {0}
 Keeps {P} n Inv (m ∷ ms) = ((i : Item) (v : m.Of) (r : P) → depth i < n → m.kind.of i ≡ Some v → Inv r → Inv (m.set v r)) × Keeps n Inv ms
 
+pub record KeepsAll {P : Type 0} (n : ℕ) (Inv : P → Type 0) (ms : List (Member P)) : Type 0 where
+  pub all : Keeps n Inv ms
+
+pub no_more : {P : Type 0} {n : ℕ} {Inv : P → Type 0} → KeepsAll n Inv []
+no_more = record { all = tt }
+
+infixr 5 ◌▹◌
+pub ◌▹◌ : {P : Type 0} {n : ℕ} {Inv : P → Type 0} {m : Member P} {ms : List (Member P)} → ((i : Item) (v : m.Of) (r : P) → depth i < n → m.kind.of i ≡ Some v → Inv r → Inv (m.set v r)) → KeepsAll n Inv ms → KeepsAll n Inv (m ∷ ms)
+here ▹ rest = record { all = (here, rest.all) }
+
 if_some : {M P : Type 0} (Inv : P → Type 0) (set : M → P → P) (o : Option M) (r : P) → ((v : M) → o ≡ Some v → Inv (set v r)) → Inv r → Inv (set_with set o r)
 if_some Inv set None r here h = h
 if_some Inv set (Some v) r here h = here v refl
@@ -63,12 +73,12 @@ made_from t (item.simple n) p e = absurd cc
 made_from t (item.float f) p e = absurd cc
 
 -- what each row keeps holds of a record that is decoded
-pub record_keeps : {P : Type 0} (t : Fields P) (Inv : P → Type 0) (i : Item) (p : P) → read_item t i ≡ Ok p → Inv t.blank → Keeps (depth i) Inv t.rows → Inv p
+pub record_keeps : {P : Type 0} (t : Fields P) (Inv : P → Type 0) (i : Item) (p : P) → read_item t i ≡ Ok p → Inv t.blank → KeepsAll (depth i) Inv t.rows → Inv p
 record_keeps t Inv i p e begun all =
     let made = made_from t i p e in
     let less : pairs_depth made.pairs < depth i = (let whole : depth i ≡ depth (item.map made.pairs) = ap depth made.is_map in omega (arith, whole)) in
-    subst Inv made.made (members_keep (depth i) Inv t made.pairs t.blank all less begun)
+    subst Inv made.made (members_keep (depth i) Inv t made.pairs t.blank all.all less begun)
 
 -- the same of a record that is held in another one
-pub nested_keeps : {P : Type 0} (t : Fields P) (Inv : P → Type 0) (i : Item) (p : P) → record_kind t i ≡ Some p → Inv t.blank → Keeps (depth i) Inv t.rows → Inv p
+pub nested_keeps : {P : Type 0} (t : Fields P) (Inv : P → Type 0) (i : Item) (p : P) → record_kind t i ≡ Some p → Inv t.blank → KeepsAll (depth i) Inv t.rows → Inv p
 nested_keeps t Inv i p e begun all = record_keeps t Inv i p (ok_of (read_item t i) p e) begun all

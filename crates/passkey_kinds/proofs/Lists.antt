@@ -39,6 +39,10 @@ pub map_same : {X : Type 0} (xs : List X) → map (λ x. x) xs ≡ xs
 map_same [] = refl
 map_same (x ∷ xs) = ap (λ ys. x ∷ ys) (map_same xs)
 
+pub each_same : {X : Type 0} (o : Option (List X)) → option_map (λ xs. map (λ x. x) xs) o ≡ o
+each_same None = refl
+each_same (Some xs) = ap Some (map_same xs)
+
 -- a value or its default, and the same of an option
 pub unwrap_same : {X : Type 0} (default : X) {y : X} (o : Option X) → y ≡ unwrap_or o default → y ≡ unwrap_or (option_map (λ x. x) o) default
 unwrap_same {X} default o e = e ∙ sym (ap (λ (p : Option X). unwrap_or p default) (option_same o))

@@ -1,10 +1,11 @@
 -- Records that are decoded one member after the other.
-use Rattle.std.proofs.Common.{◌≡◌, ◌∙◌, ◌<◌, ◌≤◌, ◌+◌, ℕ, Bool, true, false, List, [], ◌∷◌, ◌++◌, length, take, set, Option, Some, None, is_some, Err, refl, sym, ap, subst}
+use Rattle.std.proofs.Common.{◌≡◌, ◌∙◌, ◌<◌, ◌≤◌, ◌+◌, ℕ, Bool, true, false, List, [], ◌∷◌, ◌++◌, length, take, set, Option, Some, None, is_some, Result, Ok, Err, refl, sym, ap, subst}
 use Rattle.std.proofs.lemmas.List.{take_all}
 use Rattle.passkey_cbor.specs.Item.{Item}
-use Rattle.passkey_kinds.specs.Reading.{MayGrowIn, Reads, Holds, Steps, are_small, first_unmarked, ReadSoFar}
-use Rattle.passkey_kinds.specs.Record.{Fields, rows_of, table_of, put_at, put_named, with_members, unless_missing, judged, read_members}
-use Rattle.passkey_kinds.specs.RecordReading.{Puts, no_values, HasReadTo}
+use Rattle.passkey_kinds.specs.Kind.{Kind, MayGrow}
+use Rattle.passkey_kinds.specs.Reading.{takes_at, MayGrowIn, Reads, Holds, Steps, are_small, first_unmarked, ReadSoFar}
+use Rattle.passkey_kinds.specs.Record.{Fields, set_with, rows_of, table_of, put_at, put_named, with_members, unless_missing, judged, read_members}
+use Rattle.passkey_kinds.specs.RecordReading.{Sets, Puts, no_values, HasReadTo}
 use Rattle.passkey_kinds.specs.Table.{Naming, row, unknown, entries, named, Members, accepts_at, bad_member, first_bad, first_missing}
 use Rattle.passkey_kinds.specs.declared.fault.Fault.{Fault}
 use Rattle.passkey_kinds.specs.declared.fault.Fault.TheVariants as fault
@@ -61,3 +62,11 @@ module _ {P : Type 0} (t : Fields P) where
 
 pub puts_refused : {P : Type 0} (t : Fields P) (n : ℕ) (i : Item) (old new : P) (why : Refusal) → why ≡ refusal.Refused → Puts t n i old new (Err why) → accepts_at (rows_of t.rows) n i ≡ false
 puts_refused t n i old new why e h = subst (λ (w : Refusal). Puts t n i old new (Err w)) e h
+
+-- a field that was set is what its row puts
+pub sets_put : {A M P : Type 0} (t : Fields P) (view : A → M) (kind : Kind M) (takes : Bool) (set : M → P → P) (n k : ℕ) (i : Item) (field : A) (old new : P) (result : Result (Unit {0}) Refusal) → n ≡ k → accepts_at (rows_of t.rows) k i ≡ is_some (kind i) → put_at t.rows k i old ≡ set_with set (kind i) old → takes_at (rows_of t.rows) k ≡ takes → set (view field) old ≡ new → Sets view kind takes i field result → Puts t n i old new result
+sets_put {M = M} t view kind takes set n k i field old new result same accepts puts may made h = subst (λ (j : ℕ). Puts t j i old new result) (sym same) (there result h) where
+  there : (r : Result (Unit {0}) Refusal) → Sets view kind takes i field r → Puts t k i old new r
+  there (Ok x) h = (accepts ∙ ap (λ (o : Option M). is_some o) h, puts ∙ ap (λ (o : Option M). set_with set o old) h ∙ made)
+  there (Err refusal.Refused) h = accepts ∙ ap (λ (o : Option M). is_some o) h
+  there (Err refusal.OutOfMemory) h = subst (λ (b : Bool). MayGrow b i) (sym may) h
