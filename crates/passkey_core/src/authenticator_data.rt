@@ -1,5 +1,5 @@
 //! Authenticator data (WebAuthn Level 3, section 6.1).
-ghost use Rattle.std.specs.Prelude.{◌≡◌, Some};
+ghost use Rattle.std.specs.Prelude.{◌≡◌, None, Some, replicate};
 ghost use Rattle.std.specs.Int.RustNames.{bit_or};
 ghost use Rattle.sha2.specs.Sha256.{sha256};
 ghost use Rattle.passkey_core.specs.DataParts.{bare_data};
@@ -42,6 +42,20 @@ impl AuthenticatorData {
             rp_id_hash: Sha256::digest(rp_id),
             flags: Flags::default(),
             counter,
+            attested_credential_data: None,
+            extensions: None,
+        }
+    }
+
+    /// Data for no relying party: a hash of 32 zero bytes, the flags BE and BS, no counter and no
+    /// further part.
+    pub fn empty() -> AuthenticatorData
+        ensures { data_parts result ≡ bare_data (replicate 32 0) 24 None }
+    {
+        AuthenticatorData {
+            rp_id_hash: [0; 32],
+            flags: Flags::default(),
+            counter: None,
             attested_credential_data: None,
             extensions: None,
         }

@@ -1,5 +1,3 @@
 pub mod MakeRp
-pub mod MakeRpHeld
 pub mod MakeUser
-pub mod MakeUserHeld
 pub mod Entities

@@ -1,8 +1,7 @@
 //! Relying parties, as CTAP2 names them.
 ghost use Rattle.std.specs.Prelude.{◌≡◌, ◌<◌, ◌⊎◌, length, true, IfOk, OnErr};
 ghost use Rattle.std.specs.Option.{IsSomeAnd};
-ghost use Rattle.passkey_entities.specs.MakeRp.{rp_tree, RpValues, rp_table, rp_values, rp_of, rp};
-ghost use Rattle.passkey_entities.specs.MakeRpHeld.{rp_held};
+ghost use Rattle.passkey_entities.specs.MakeRp.{rp_tree, rp_fields, rp};
 ghost use Rattle.passkey_entities.specs.declared.rp.PublicKeyCredentialRpEntity.{PublicKeyCredentialRpEntity as RpEntity};
 ghost use Rattle.passkey_kinds.specs.ReadBack.{Any};
 ghost use Rattle.passkey_entities.specs.Entities.{rp_of_webauthn};
@@ -10,9 +9,7 @@ ghost use Rattle.passkey_entities.specs.Entities.{rp_of_webauthn};
 use crate::MissingRpId;
 use passkey_bytes::Text;
 use passkey_cbor::Value;
-use passkey_kinds::{
-    FromCbor, ReadBack, Refusal, Row, Shallow, Slots, ToCbor, Written, read_into, read_nested,
-};
+use passkey_kinds::{FromCbor, ReadBack, Record, Refusal, Row, Shallow, Source, ToCbor, Written, nested_from_value, set};
 use passkey_memory::OutOfMemory;
 use passkey_webauthn as webauthn;
 use std::alloc::Global;
@@ -65,28 +62,12 @@ impl TryFrom<webauthn::PublicKeyCredentialRpEntity> for PublicKeyCredentialRpEnt
     }
 }
 
-#[derive(Drop)]
-struct RpSlots {
-    id: Option<Text>,
-    name: Option<Option<Text>>,
-}
+impl Record for PublicKeyCredentialRpEntity {
+    ghost Parts = { RpEntity };
 
-impl Slots for RpSlots {
-    type Of = PublicKeyCredentialRpEntity;
+    ghost parts = { λ rp. rp };
 
-    ghost Held = { RpValues };
-
-    ghost held = { rp_held };
-
-    ghost Meaning = { RpEntity };
-
-    ghost view = { λ rp. rp };
-
-    ghost table = { rp_table };
-
-    ghost values = { rp_values };
-
-    ghost build = { rp_of };
+    ghost fields = { rp_fields };
 
     fn is_numbered() -> bool {
         false
@@ -96,30 +77,19 @@ impl Slots for RpSlots {
         &[Row::Required(1, "id"), Row::Optional(2, "name")]
     }
 
-    #[tactic(auto, using(crate::proofs::Sufficient::rp_suffices))]
-    fn required_rows_suffice() {}
-
-    fn empty() -> RpSlots {
-        RpSlots {
-            id: None,
+    fn blank(alloc: Global) -> PublicKeyCredentialRpEntity {
+        PublicKeyCredentialRpEntity {
+            id: Text::empty(alloc),
             name: None,
         }
     }
 
-    fn put(&mut self, alloc: Global, number: u8, value: &Value) -> Result<(), Refusal> {
+    fn put<S: Source>(&mut self, alloc: Global, number: u8, source: &mut S) -> Result<(), Refusal> {
         match number {
-            1 => read_into(&mut self.id, alloc, value),
-            2 => read_into(&mut self.name, alloc, value),
+            1 => set(&mut self.id, alloc, source),
+            2 => set(&mut self.name, alloc, source),
             _ => Err(Refusal::Refused),
         }
-    }
-
-    #[tactic(auto, using(passkey_kinds::proofs::Lists::option_same))]
-    fn finish(self) -> Option<PublicKeyCredentialRpEntity> {
-        Some(PublicKeyCredentialRpEntity {
-            id: self.id?,
-            name: self.name.unwrap_or(None),
-        })
     }
 }
 
@@ -133,7 +103,7 @@ impl FromCbor for PublicKeyCredentialRpEntity {
     ghost takes = { true };
 
     fn from_value(alloc: Global, value: &Value) -> Result<PublicKeyCredentialRpEntity, Refusal> {
-        read_nested::<RpSlots>(alloc, value)
+        nested_from_value(alloc, value)
     }
 }
 

@@ -2,17 +2,14 @@
 ghost use Rattle.std.specs.Prelude.{◌≡◌, ◌<◌, ◌⊎◌, length, true, IfOk, OnErr, None, IfErr, codes};
 ghost use Rattle.std.specs.Result.{result_ok};
 ghost use Rattle.std.specs.Option.{IsSomeAnd};
-ghost use Rattle.passkey_entities.specs.MakeUser.{user_tree, UserValues, user_table, user_values, user_of, user};
-ghost use Rattle.passkey_entities.specs.MakeUserHeld.{user_held};
+ghost use Rattle.passkey_entities.specs.MakeUser.{user_tree, user_fields, user};
 ghost use Rattle.passkey_entities.specs.declared.user.PublicKeyCredentialUserEntity.{PublicKeyCredentialUserEntity as UserEntity};
 ghost use Rattle.passkey_kinds.specs.ReadBack.{Any};
 ghost use Rattle.passkey_entities.specs.Entities.{user_of_webauthn, webauthn_of_user};
 
 use passkey_bytes::{Bytes, Text};
 use passkey_cbor::Value;
-use passkey_kinds::{
-    FromCbor, ReadBack, Refusal, Row, Shallow, Slots, ToCbor, Written, read_into, read_nested,
-};
+use passkey_kinds::{FromCbor, ReadBack, Record, Refusal, Row, Shallow, Source, ToCbor, Written, nested_from_value, set};
 use passkey_memory::OutOfMemory;
 use passkey_webauthn as webauthn;
 use std::alloc::Global;
@@ -99,30 +96,12 @@ impl TryFrom<PublicKeyCredentialUserEntity> for webauthn::PublicKeyCredentialUse
     }
 }
 
-#[derive(Drop)]
-struct UserSlots {
-    id: Option<Bytes>,
-    name: Option<Option<Text>>,
-    display_name: Option<Option<Text>>,
-    icon_url: Option<Option<Text>>,
-}
+impl Record for PublicKeyCredentialUserEntity {
+    ghost Parts = { UserEntity };
 
-impl Slots for UserSlots {
-    type Of = PublicKeyCredentialUserEntity;
+    ghost parts = { λ user. user };
 
-    ghost Held = { UserValues };
-
-    ghost held = { user_held };
-
-    ghost Meaning = { UserEntity };
-
-    ghost view = { λ user. user };
-
-    ghost table = { user_table };
-
-    ghost values = { user_values };
-
-    ghost build = { user_of };
+    ghost fields = { user_fields };
 
     fn is_numbered() -> bool {
         false
@@ -137,36 +116,23 @@ impl Slots for UserSlots {
         ]
     }
 
-    #[tactic(auto, using(crate::proofs::Sufficient::user_suffices))]
-    fn required_rows_suffice() {}
-
-    fn empty() -> UserSlots {
-        UserSlots {
-            id: None,
+    fn blank(alloc: Global) -> PublicKeyCredentialUserEntity {
+        PublicKeyCredentialUserEntity {
+            id: Bytes::empty(alloc),
             name: None,
             display_name: None,
             icon_url: None,
         }
     }
 
-    fn put(&mut self, alloc: Global, number: u8, value: &Value) -> Result<(), Refusal> {
+    fn put<S: Source>(&mut self, alloc: Global, number: u8, source: &mut S) -> Result<(), Refusal> {
         match number {
-            1 => read_into(&mut self.id, alloc, value),
-            2 => read_into(&mut self.name, alloc, value),
-            3 => read_into(&mut self.display_name, alloc, value),
-            4 => read_into(&mut self.icon_url, alloc, value),
+            1 => set(&mut self.id, alloc, source),
+            2 => set(&mut self.name, alloc, source),
+            3 => set(&mut self.display_name, alloc, source),
+            4 => set(&mut self.icon_url, alloc, source),
             _ => Err(Refusal::Refused),
         }
-    }
-
-    #[tactic(auto, using(passkey_kinds::proofs::Lists::option_same))]
-    fn finish(self) -> Option<PublicKeyCredentialUserEntity> {
-        Some(PublicKeyCredentialUserEntity {
-            id: self.id?,
-            name: self.name.unwrap_or(None),
-            display_name: self.display_name.unwrap_or(None),
-            icon_url: self.icon_url.unwrap_or(None),
-        })
     }
 }
 
@@ -180,7 +146,7 @@ impl FromCbor for PublicKeyCredentialUserEntity {
     ghost takes = { true };
 
     fn from_value(alloc: Global, value: &Value) -> Result<PublicKeyCredentialUserEntity, Refusal> {
-        read_nested::<UserSlots>(alloc, value)
+        nested_from_value(alloc, value)
     }
 }
 

@@ -2,4 +2,3 @@ pub mod ExtensionBack
 pub mod ExtensionLevels
 pub mod Keys
 pub mod HmacInputLaws
-pub mod Sufficient

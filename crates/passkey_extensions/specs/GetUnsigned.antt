@@ -1,25 +1,18 @@
 -- What extensions answer unsigned where a credential is used (WebAuthn Level 3, section 9).
-use Rattle.std.specs.Prelude.{[], ◌∷◌, Option, Some, None, codes, true, false, unwrap_or}
-use Rattle.passkey_kinds.specs.Kind.{Kind, optional}
+use Rattle.std.specs.Prelude.{[], ◌∷◌, None, codes, false}
+use Rattle.passkey_kinds.specs.Kind.{Kind}
+use Rattle.passkey_kinds.specs.Record.{Fields, default, record_kind}
+use Rattle.passkey_kinds.specs.Typed.{optional, growing}
 use Rattle.passkey_extensions.specs.PrfGetOutputs.{prf_get}
-use Rattle.passkey_kinds.specs.Table.{Table, Values, Build, default, given, record_kind}
 use Rattle.passkey_extensions.specs.declared.prf_get_outputs.AuthenticatorPrfGetOutputs.{AuthenticatorPrfGetOutputs}
 use Rattle.passkey_extensions.specs.declared.get_assertion.unsigned.UnsignedExtensionOutputs.{UnsignedExtensionOutputs}
 
-abbrev pub unsigned_table : Table
-unsigned_table = record {
+abbrev pub unsigned_fields : Fields UnsignedExtensionOutputs
+unsigned_fields = record {
   is_numbered = false;
-  rows = default 1 (codes "prf") (optional prf_get) true ∷ [];
+  blank = record { prf = None };
+  rows = default 1 (codes "prf") (optional (growing prf_get)) (λ x r. record r { prf = x }) ∷ [];
 }
 
-pub record UnsignedValues : Type 0 where
-  pub prf : Option (Option AuthenticatorPrfGetOutputs)
-
-abbrev pub unsigned_values : Values UnsignedValues
-unsigned_values m = record { prf = given (optional prf_get) 1 m }
-
-abbrev pub unsigned_of : Build UnsignedValues UnsignedExtensionOutputs
-unsigned_of v = Some (record { prf = unwrap_or v.prf None })
-
 abbrev pub unsigned : Kind UnsignedExtensionOutputs
-unsigned = record_kind unsigned_table unsigned_values unsigned_of
+unsigned = record_kind unsigned_fields

@@ -5,8 +5,7 @@ ghost use Rattle.passkey_cbor.specs.Grows.{Grows};
 ghost use Rattle.passkey_cbor.specs.View.{item_of};
 ghost use Rattle.passkey_cbor.specs.Writable.{IsWritable};
 ghost use Rattle.passkey_cbor.specs.Written.{written};
-ghost use Rattle.passkey_extensions.specs.HmacInput.{HmacInputParts, HmacInputValues, hmac_input_table, hmac_input_values, hmac_input_of, hmac_input, read_hmac_input};
-ghost use Rattle.passkey_extensions.specs.HmacInputHeld.{hmac_input_held};
+ghost use Rattle.passkey_extensions.specs.HmacInput.{HmacInputParts, hmac_input_fields, hmac_input_table, hmac_input, read_hmac_input};
 ghost use Rattle.passkey_extensions.specs.HmacInputView.{hmac_input_parts};
 ghost use Rattle.passkey_extensions.specs.ExtensionTrees.{HmacInputFits, hmac_input_tree, is_hmac_input_coherent};
 ghost use Rattle.passkey_kinds.specs.Message.{ReadsMessage};
@@ -15,10 +14,7 @@ ghost use Rattle.passkey_kinds.specs.declared.write_fault.WriteFault.TheVariants
 
 use passkey_bytes::Bytes;
 use passkey_cbor::Value;
-use passkey_kinds::{
-    Fault, FromCbor, ReadBack, Refusal, Row, Slots, ToCbor, WriteFault, Written, read_into,
-    read_message, read_nested, read_record, write_message,
-};
+use passkey_kinds::{Fault, FromCbor, ReadBack, Record, Refusal, Row, Source, ToCbor, WriteFault, Written, message_from_slice, nested_from_value, record_from_value, set, write_message};
 use passkey_memory::OutOfMemory;
 use std::alloc::Global;
 
@@ -56,7 +52,7 @@ impl HmacGetSecretInput {
     pub fn from_slice(alloc: Global, bytes: &[u8]) -> Result<(HmacGetSecretInput, usize), Fault>
         ensures { ReadsMessage hmac_input_parts read_hmac_input bytes.now result }
     {
-        read_message::<HmacInputSlots>(alloc, bytes)
+        message_from_slice(alloc, bytes)
     }
 
     /// The inputs that the item is. Else `NotAMap`, or the first fault of its members in their order
@@ -65,7 +61,7 @@ impl HmacGetSecretInput {
     pub fn from_value(alloc: Global, value: &Value) -> Result<HmacGetSecretInput, Fault>
         ensures { Reads hmac_input_parts (MayGrowAt hmac_input_table (item_of value.now)) (read_hmac_input (item_of value.now)) result }
     {
-        read_record::<HmacInputSlots>(alloc, value)
+        record_from_value(alloc, value)
     }
 
     /// The inputs' bytes: members by their numbers in the table's order, the protocol where it is
@@ -95,30 +91,12 @@ impl HmacGetSecretInput {
     }
 }
 
-#[derive(Drop)]
-struct HmacInputSlots {
-    key_agreement: Option<Value>,
-    salt_enc: Option<Bytes>,
-    salt_auth: Option<Bytes>,
-    pin_uv_auth_protocol: Option<Option<u8>>,
-}
+impl Record for HmacGetSecretInput {
+    ghost Parts = { HmacInputParts };
 
-impl Slots for HmacInputSlots {
-    type Of = HmacGetSecretInput;
+    ghost parts = { hmac_input_parts };
 
-    ghost Held = { HmacInputValues };
-
-    ghost held = { hmac_input_held };
-
-    ghost Meaning = { HmacInputParts };
-
-    ghost view = { hmac_input_parts };
-
-    ghost table = { hmac_input_table };
-
-    ghost values = { hmac_input_values };
-
-    ghost build = { hmac_input_of };
+    ghost fields = { hmac_input_fields };
 
     fn is_numbered() -> bool {
         true
@@ -133,36 +111,23 @@ impl Slots for HmacInputSlots {
         ]
     }
 
-    #[tactic(auto, using(crate::proofs::Sufficient::hmac_input_suffices))]
-    fn required_rows_suffice() {}
-
-    fn empty() -> HmacInputSlots {
-        HmacInputSlots {
-            key_agreement: None,
-            salt_enc: None,
-            salt_auth: None,
+    fn blank(alloc: Global) -> HmacGetSecretInput {
+        HmacGetSecretInput {
+            key_agreement: Value::Null,
+            salt_enc: Bytes::empty(alloc),
+            salt_auth: Bytes::empty(alloc),
             pin_uv_auth_protocol: None,
         }
     }
 
-    fn put(&mut self, alloc: Global, number: u8, value: &Value) -> Result<(), Refusal> {
+    fn put<S: Source>(&mut self, alloc: Global, number: u8, source: &mut S) -> Result<(), Refusal> {
         match number {
-            1 => read_into(&mut self.key_agreement, alloc, value),
-            2 => read_into(&mut self.salt_enc, alloc, value),
-            3 => read_into(&mut self.salt_auth, alloc, value),
-            4 => read_into(&mut self.pin_uv_auth_protocol, alloc, value),
+            1 => set(&mut self.key_agreement, alloc, source),
+            2 => set(&mut self.salt_enc, alloc, source),
+            3 => set(&mut self.salt_auth, alloc, source),
+            4 => set(&mut self.pin_uv_auth_protocol, alloc, source),
             _ => Err(Refusal::Refused),
         }
-    }
-
-    #[tactic(auto, using(passkey_kinds::proofs::Lists::option_same))]
-    fn finish(self) -> Option<HmacGetSecretInput> {
-        Some(HmacGetSecretInput {
-            key_agreement: self.key_agreement?,
-            salt_enc: self.salt_enc?,
-            salt_auth: self.salt_auth?,
-            pin_uv_auth_protocol: self.pin_uv_auth_protocol.unwrap_or(None),
-        })
     }
 }
 
@@ -176,7 +141,7 @@ impl FromCbor for HmacGetSecretInput {
     ghost takes = { true };
 
     fn from_value(alloc: Global, value: &Value) -> Result<HmacGetSecretInput, Refusal> {
-        read_nested::<HmacInputSlots>(alloc, value)
+        nested_from_value(alloc, value)
     }
 }
 

@@ -1,8 +1,9 @@
 //! Laws of the extensions' records, each the contract of a function without effect.
 ghost use Rattle.passkey_extensions.specs.ExtensionTrees.{hmac_input_tree, HmacInputFits, is_hmac_input_coherent};
-ghost use Rattle.passkey_extensions.specs.HmacInput.{hmac_input_table, hmac_input_values, hmac_input_of, read_hmac_input};
+ghost use Rattle.passkey_extensions.specs.HmacInput.{hmac_input_fields, read_hmac_input};
 ghost use Rattle.passkey_extensions.specs.HmacInputView.{hmac_input_parts};
-ghost use Rattle.passkey_kinds.specs.MessageLaws.{WrittenIsReadBack, ReadIsCoherent, PassesOverUnknown};
+ghost use Rattle.passkey_kinds.specs.MessageLaws.{WrittenIsReadBack, ReadIsCoherent};
+ghost use Rattle.passkey_kinds.specs.RecordLaws.{SkipsUnknown};
 ghost use Rattle.passkey_kinds.specs.TableLaws.{KnowsMaps};
 
 /// What is written of coherent inputs of the extension hmac-secret, whatever bytes follow, is read
@@ -19,7 +20,6 @@ pub fn read_hmac_input_is_coherent()
 {}
 
 /// Where an input of the extension hmac-secret is read, `NotAMap` is told of no map.
-#[tactic(auto, using(crate::proofs::Sufficient::hmac_input_knows_maps))]
 pub fn read_hmac_input_knows_maps()
     ensures { KnowsMaps read_hmac_input }
 {}
@@ -27,7 +27,7 @@ pub fn read_hmac_input_knows_maps()
 /// A member under an unknown key may stand anywhere in inputs of the extension hmac-secret, while
 /// the map has at most 256 levels with it: what is read of bytes differs in the length alone.
 pub fn read_hmac_input_passes_over_unknown()
-    ensures { PassesOverUnknown hmac_input_parts hmac_input_table hmac_input_values hmac_input_of }
+    ensures { SkipsUnknown hmac_input_parts hmac_input_fields }
 {
     passkey_cbor::laws::at_most_one_front();
 }

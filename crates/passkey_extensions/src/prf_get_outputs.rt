@@ -1,16 +1,13 @@
 //! What the extension prf answers where a credential is used.
 ghost use Rattle.std.specs.Prelude.{true, ◌≡◌, IfOk};
-ghost use Rattle.passkey_extensions.specs.PrfGetOutputs.{PrfGetValues, prf_get_table, prf_get_values, prf_get_of, prf_get};
-ghost use Rattle.passkey_extensions.specs.PrfGetOutputsHeld.{prf_get_held};
+ghost use Rattle.passkey_extensions.specs.PrfGetOutputs.{prf_get_fields, prf_get};
 ghost use Rattle.passkey_extensions.specs.declared.prf_get_outputs.AuthenticatorPrfGetOutputs.{AuthenticatorPrfGetOutputs as PrfGetOutputs};
 ghost use Rattle.passkey_extensions.specs.ExtensionTrees.{PrfGetFits, prf_get_tree};
 ghost use Rattle.passkey_extensions.specs.PrfWebauthn.{webauthn_used};
 
 use crate::prf_values::AuthenticatorPrfValues;
 use passkey_cbor::Value;
-use passkey_kinds::{
-    FromCbor, ReadBack, Refusal, Row, Shallow, Slots, ToCbor, Written, read_into, read_nested,
-};
+use passkey_kinds::{FromCbor, ReadBack, Record, Refusal, Row, Shallow, Source, ToCbor, Written, nested_from_value, set};
 use passkey_memory::OutOfMemory;
 use passkey_webauthn::AuthenticationExtensionsPrfOutputs;
 use std::alloc::Global;
@@ -38,27 +35,12 @@ impl AuthenticatorPrfGetOutputs {
     }
 }
 
-#[derive(Drop)]
-struct PrfGetSlots {
-    results: Option<AuthenticatorPrfValues>,
-}
+impl Record for AuthenticatorPrfGetOutputs {
+    ghost Parts = { PrfGetOutputs };
 
-impl Slots for PrfGetSlots {
-    type Of = AuthenticatorPrfGetOutputs;
+    ghost parts = { λ outputs. outputs };
 
-    ghost Held = { PrfGetValues };
-
-    ghost held = { prf_get_held };
-
-    ghost Meaning = { PrfGetOutputs };
-
-    ghost view = { λ outputs. outputs };
-
-    ghost table = { prf_get_table };
-
-    ghost values = { prf_get_values };
-
-    ghost build = { prf_get_of };
+    ghost fields = { prf_get_fields };
 
     fn is_numbered() -> bool {
         false
@@ -68,25 +50,20 @@ impl Slots for PrfGetSlots {
         &[Row::Required(1, "results")]
     }
 
-    #[tactic(auto, using(crate::proofs::Sufficient::prf_get_suffices))]
-    fn required_rows_suffice() {}
-
-    fn empty() -> PrfGetSlots {
-        PrfGetSlots { results: None }
-    }
-
-    fn put(&mut self, alloc: Global, number: u8, value: &Value) -> Result<(), Refusal> {
-        match number {
-            1 => read_into(&mut self.results, alloc, value),
-            _ => Err(Refusal::Refused),
+    fn blank(_alloc: Global) -> AuthenticatorPrfGetOutputs {
+        AuthenticatorPrfGetOutputs {
+            results: AuthenticatorPrfValues {
+                first: [0; 32],
+                second: None,
+            },
         }
     }
 
-    #[tactic(auto, using(passkey_kinds::proofs::Lists::option_same))]
-    fn finish(self) -> Option<AuthenticatorPrfGetOutputs> {
-        Some(AuthenticatorPrfGetOutputs {
-            results: self.results?,
-        })
+    fn put<S: Source>(&mut self, alloc: Global, number: u8, source: &mut S) -> Result<(), Refusal> {
+        match number {
+            1 => set(&mut self.results, alloc, source),
+            _ => Err(Refusal::Refused),
+        }
     }
 }
 
@@ -100,7 +77,7 @@ impl FromCbor for AuthenticatorPrfGetOutputs {
     ghost takes = { true };
 
     fn from_value(alloc: Global, value: &Value) -> Result<AuthenticatorPrfGetOutputs, Refusal> {
-        read_nested::<PrfGetSlots>(alloc, value)
+        nested_from_value(alloc, value)
     }
 }
 

@@ -2,17 +2,14 @@
 ghost use Rattle.std.specs.Prelude.{◌≡◌, true, IfOk, OnErr};
 ghost use Rattle.std.specs.FinMap as fin;
 ghost use Rattle.std.specs.Option.{IsSomeAnd};
-ghost use Rattle.passkey_extensions.specs.PrfInputs.{PrfInputsValues, prf_inputs_table, prf_inputs_values, prf_inputs_of, prf_inputs};
-ghost use Rattle.passkey_extensions.specs.PrfInputsHeld.{prf_inputs_held};
+ghost use Rattle.passkey_extensions.specs.PrfInputs.{prf_inputs_fields, prf_inputs};
 ghost use Rattle.passkey_extensions.specs.declared.prf_inputs.AuthenticatorPrfInputs.{AuthenticatorPrfInputs as PrfInputs};
 ghost use Rattle.passkey_extensions.specs.ExtensionTrees.{PrfInputsFit, prf_inputs_tree};
 
 use crate::prf_values::AuthenticatorPrfValues;
 use passkey_bytes::{Bytes, Map};
 use passkey_cbor::Value;
-use passkey_kinds::{
-    FromCbor, ReadBack, Refusal, Row, Shallow, Slots, ToCbor, Written, read_into, read_nested,
-};
+use passkey_kinds::{FromCbor, ReadBack, Record, Refusal, Row, Shallow, Source, ToCbor, Written, nested_from_value, set};
 use passkey_memory::OutOfMemory;
 use std::alloc::Global;
 
@@ -65,28 +62,12 @@ impl AuthenticatorPrfInputs {
     }
 }
 
-#[derive(Drop)]
-struct PrfInputsSlots {
-    eval: Option<Option<AuthenticatorPrfValues>>,
-    eval_by_credential: Option<Option<Map<Bytes, AuthenticatorPrfValues>>>,
-}
+impl Record for AuthenticatorPrfInputs {
+    ghost Parts = { PrfInputs };
 
-impl Slots for PrfInputsSlots {
-    type Of = AuthenticatorPrfInputs;
+    ghost parts = { λ inputs. inputs };
 
-    ghost Held = { PrfInputsValues };
-
-    ghost held = { prf_inputs_held };
-
-    ghost Meaning = { PrfInputs };
-
-    ghost view = { λ inputs. inputs };
-
-    ghost table = { prf_inputs_table };
-
-    ghost values = { prf_inputs_values };
-
-    ghost build = { prf_inputs_of };
+    ghost fields = { prf_inputs_fields };
 
     fn is_numbered() -> bool {
         false
@@ -99,29 +80,19 @@ impl Slots for PrfInputsSlots {
         ]
     }
 
-    fn required_rows_suffice() {}
-
-    fn empty() -> PrfInputsSlots {
-        PrfInputsSlots {
+    fn blank(_alloc: Global) -> AuthenticatorPrfInputs {
+        AuthenticatorPrfInputs {
             eval: None,
             eval_by_credential: None,
         }
     }
 
-    fn put(&mut self, alloc: Global, number: u8, value: &Value) -> Result<(), Refusal> {
+    fn put<S: Source>(&mut self, alloc: Global, number: u8, source: &mut S) -> Result<(), Refusal> {
         match number {
-            1 => read_into(&mut self.eval, alloc, value),
-            2 => read_into(&mut self.eval_by_credential, alloc, value),
+            1 => set(&mut self.eval, alloc, source),
+            2 => set(&mut self.eval_by_credential, alloc, source),
             _ => Err(Refusal::Refused),
         }
-    }
-
-    #[tactic(auto, using(passkey_kinds::proofs::Maps::map_values_same))]
-    fn finish(self) -> Option<AuthenticatorPrfInputs> {
-        Some(AuthenticatorPrfInputs {
-            eval: self.eval.unwrap_or(None),
-            eval_by_credential: self.eval_by_credential.unwrap_or(None),
-        })
     }
 }
 
@@ -135,7 +106,7 @@ impl FromCbor for AuthenticatorPrfInputs {
     ghost takes = { true };
 
     fn from_value(alloc: Global, value: &Value) -> Result<AuthenticatorPrfInputs, Refusal> {
-        read_nested::<PrfInputsSlots>(alloc, value)
+        nested_from_value(alloc, value)
     }
 }
 

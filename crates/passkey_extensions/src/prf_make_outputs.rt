@@ -1,16 +1,13 @@
 //! What the extension prf answers where a credential is made.
 ghost use Rattle.std.specs.Prelude.{true, ◌≡◌, is_some, IfOk, OnErr};
-ghost use Rattle.passkey_extensions.specs.PrfMakeOutputs.{PrfMakeValues, prf_make_table, prf_make_values, prf_make_of, prf_make};
-ghost use Rattle.passkey_extensions.specs.PrfMakeOutputsHeld.{prf_make_held};
+ghost use Rattle.passkey_extensions.specs.PrfMakeOutputs.{prf_make_fields, prf_make};
 ghost use Rattle.passkey_extensions.specs.declared.prf_make_outputs.AuthenticatorPrfMakeOutputs.{AuthenticatorPrfMakeOutputs as PrfMakeOutputs};
 ghost use Rattle.passkey_extensions.specs.ExtensionTrees.{PrfMakeFits, prf_make_tree};
 ghost use Rattle.passkey_extensions.specs.PrfWebauthn.{webauthn_made};
 
 use crate::prf_values::AuthenticatorPrfValues;
 use passkey_cbor::Value;
-use passkey_kinds::{
-    FromCbor, ReadBack, Refusal, Row, Shallow, Slots, ToCbor, Written, read_into, read_nested,
-};
+use passkey_kinds::{FromCbor, ReadBack, Record, Refusal, Row, Shallow, Source, ToCbor, Written, nested_from_value, set};
 use passkey_memory::OutOfMemory;
 use passkey_webauthn::AuthenticationExtensionsPrfOutputs;
 use std::alloc::Global;
@@ -45,28 +42,12 @@ impl AuthenticatorPrfMakeOutputs {
     }
 }
 
-#[derive(Drop)]
-struct PrfMakeSlots {
-    enabled: Option<bool>,
-    results: Option<Option<AuthenticatorPrfValues>>,
-}
+impl Record for AuthenticatorPrfMakeOutputs {
+    ghost Parts = { PrfMakeOutputs };
 
-impl Slots for PrfMakeSlots {
-    type Of = AuthenticatorPrfMakeOutputs;
+    ghost parts = { λ outputs. outputs };
 
-    ghost Held = { PrfMakeValues };
-
-    ghost held = { prf_make_held };
-
-    ghost Meaning = { PrfMakeOutputs };
-
-    ghost view = { λ outputs. outputs };
-
-    ghost table = { prf_make_table };
-
-    ghost values = { prf_make_values };
-
-    ghost build = { prf_make_of };
+    ghost fields = { prf_make_fields };
 
     fn is_numbered() -> bool {
         false
@@ -76,30 +57,19 @@ impl Slots for PrfMakeSlots {
         &[Row::Required(1, "enabled"), Row::Optional(2, "results")]
     }
 
-    #[tactic(auto, using(crate::proofs::Sufficient::prf_make_suffices))]
-    fn required_rows_suffice() {}
-
-    fn empty() -> PrfMakeSlots {
-        PrfMakeSlots {
-            enabled: None,
+    fn blank(_alloc: Global) -> AuthenticatorPrfMakeOutputs {
+        AuthenticatorPrfMakeOutputs {
+            enabled: false,
             results: None,
         }
     }
 
-    fn put(&mut self, alloc: Global, number: u8, value: &Value) -> Result<(), Refusal> {
+    fn put<S: Source>(&mut self, alloc: Global, number: u8, source: &mut S) -> Result<(), Refusal> {
         match number {
-            1 => read_into(&mut self.enabled, alloc, value),
-            2 => read_into(&mut self.results, alloc, value),
+            1 => set(&mut self.enabled, alloc, source),
+            2 => set(&mut self.results, alloc, source),
             _ => Err(Refusal::Refused),
         }
-    }
-
-    #[tactic(auto, using(passkey_kinds::proofs::Lists::option_same))]
-    fn finish(self) -> Option<AuthenticatorPrfMakeOutputs> {
-        Some(AuthenticatorPrfMakeOutputs {
-            enabled: self.enabled?,
-            results: self.results.unwrap_or(None),
-        })
     }
 }
 
@@ -113,7 +83,7 @@ impl FromCbor for AuthenticatorPrfMakeOutputs {
     ghost takes = { true };
 
     fn from_value(alloc: Global, value: &Value) -> Result<AuthenticatorPrfMakeOutputs, Refusal> {
-        read_nested::<PrfMakeSlots>(alloc, value)
+        nested_from_value(alloc, value)
     }
 }
 

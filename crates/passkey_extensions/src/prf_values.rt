@@ -1,16 +1,13 @@
 //! Salts and outputs of the extension prf.
 ghost use Rattle.std.specs.Prelude.{true, ◌≡◌, IfOk};
-ghost use Rattle.passkey_extensions.specs.PrfValues.{PrfSlotValues, prf_values_table, prf_values_values, prf_values_of, prf_values};
-ghost use Rattle.passkey_extensions.specs.PrfValuesHeld.{prf_values_held};
+ghost use Rattle.passkey_extensions.specs.PrfValues.{prf_values_fields, prf_values};
 ghost use Rattle.passkey_extensions.specs.declared.prf_values.AuthenticatorPrfValues.{AuthenticatorPrfValues as PrfValues};
 ghost use Rattle.passkey_extensions.specs.ExtensionTrees.{PrfValuesFit, prf_values_tree};
 ghost use Rattle.passkey_extensions.specs.PrfWebauthn.{webauthn_values};
 
 use passkey_bytes::Bytes;
 use passkey_cbor::Value;
-use passkey_kinds::{
-    FromCbor, ReadBack, Refusal, Row, Shallow, Slots, ToCbor, Written, read_into, read_nested,
-};
+use passkey_kinds::{FromCbor, ReadBack, Record, Refusal, Row, Shallow, Source, ToCbor, Written, nested_from_value, set};
 use passkey_memory::OutOfMemory;
 use passkey_webauthn::AuthenticationExtensionsPrfValues;
 use std::alloc::Global;
@@ -44,28 +41,12 @@ impl AuthenticatorPrfValues {
     }
 }
 
-#[derive(Drop)]
-struct PrfValuesSlots {
-    first: Option<[u8; 32]>,
-    second: Option<Option<[u8; 32]>>,
-}
+impl Record for AuthenticatorPrfValues {
+    ghost Parts = { PrfValues };
 
-impl Slots for PrfValuesSlots {
-    type Of = AuthenticatorPrfValues;
+    ghost parts = { λ values. values };
 
-    ghost Held = { PrfSlotValues };
-
-    ghost held = { prf_values_held };
-
-    ghost Meaning = { PrfValues };
-
-    ghost view = { λ values. values };
-
-    ghost table = { prf_values_table };
-
-    ghost values = { prf_values_values };
-
-    ghost build = { prf_values_of };
+    ghost fields = { prf_values_fields };
 
     fn is_numbered() -> bool {
         false
@@ -75,30 +56,19 @@ impl Slots for PrfValuesSlots {
         &[Row::Required(1, "first"), Row::Optional(2, "second")]
     }
 
-    #[tactic(auto, using(crate::proofs::Sufficient::prf_values_suffices))]
-    fn required_rows_suffice() {}
-
-    fn empty() -> PrfValuesSlots {
-        PrfValuesSlots {
-            first: None,
+    fn blank(_alloc: Global) -> AuthenticatorPrfValues {
+        AuthenticatorPrfValues {
+            first: [0; 32],
             second: None,
         }
     }
 
-    fn put(&mut self, alloc: Global, number: u8, value: &Value) -> Result<(), Refusal> {
+    fn put<S: Source>(&mut self, alloc: Global, number: u8, source: &mut S) -> Result<(), Refusal> {
         match number {
-            1 => read_into(&mut self.first, alloc, value),
-            2 => read_into(&mut self.second, alloc, value),
+            1 => set(&mut self.first, alloc, source),
+            2 => set(&mut self.second, alloc, source),
             _ => Err(Refusal::Refused),
         }
-    }
-
-    #[tactic(auto, using(passkey_kinds::proofs::Lists::option_same))]
-    fn finish(self) -> Option<AuthenticatorPrfValues> {
-        Some(AuthenticatorPrfValues {
-            first: self.first?,
-            second: self.second.unwrap_or(None),
-        })
     }
 }
 
@@ -112,7 +82,7 @@ impl FromCbor for AuthenticatorPrfValues {
     ghost takes = { true };
 
     fn from_value(alloc: Global, value: &Value) -> Result<AuthenticatorPrfValues, Refusal> {
-        read_nested::<PrfValuesSlots>(alloc, value)
+        nested_from_value(alloc, value)
     }
 }
 

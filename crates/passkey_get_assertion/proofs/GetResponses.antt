@@ -8,7 +8,7 @@ use Rattle.passkey_cbor.specs.Laws.{WrittenIsFront}
 use Rattle.passkey_core.specs.Coherent.{is_coherent}
 use Rattle.passkey_core.specs.DataLaws.{GivenIsCoherent, ReadIsGiven, WrittenDataAreReadBack}
 use Rattle.passkey_core.specs.DataParts.{DataParts}
-use Rattle.passkey_get_assertion.specs.GetResponse.{GetResponseParts, get_response_table, get_response_values, get_response_of, read_get_response, get_response_places, get_response_tree, GetResponseFits, is_get_response_coherent, normal_get_response}
+use Rattle.passkey_get_assertion.specs.GetResponse.{GetResponseParts, get_response_fields, read_get_response, get_response_places, get_response_tree, GetResponseFits, is_get_response_coherent, normal_get_response}
 use Rattle.passkey_entities.specs.MakeUser.{user_tree}
 use Rattle.passkey_entities.specs.declared.user.PublicKeyCredentialUserEntity.{PublicKeyCredentialUserEntity}
 use Rattle.passkey_kinds.proofs.DataBack.{auth_data_back, auth_data_coherent}
@@ -24,12 +24,14 @@ use Rattle.passkey_kinds.specs.Table.{◌>>=◌, found}
 use Rattle.passkey_kinds.specs.Tree.{number_tree}
 use Rattle.passkey_kinds.specs.Trees.{descriptor_tree}
 use Rattle.passkey_kinds.proofs.Back.{required_place, reads_back}
-use Rattle.passkey_kinds.proofs.Deep.{built_from, given_by}
+use Rattle.passkey_kinds.proofs.Keeping as kept
+use Rattle.passkey_kinds.proofs.Keeping.{◌▹◌, record_keeps}
 use Rattle.passkey_kinds.proofs.LeafBack.{truth_back, byte_back, bytes_back, anything, optional_place}
 use Rattle.passkey_kinds.proofs.Levels.{record_within, option_within}
 use Rattle.passkey_kinds.proofs.RecordBack.{descriptor_back}
 use Rattle.passkey_kinds.proofs.RecordLevels.{descriptor_levels, flat}
 use Rattle.passkey_webauthn.specs.declared.descriptor.PublicKeyCredentialDescriptor.{PublicKeyCredentialDescriptor}
+use Rattle.passkey_kinds.proofs.RowsBack.{puts_value, puts_default, rows_back, ◌▸◌, no_more}
 
 -- ---- a response has few levels
 
@@ -64,29 +66,16 @@ data_decide r = and_true (is_coherent r.auth_data) (nat_le (depth (get_response_
 
 response_back : WrittenDataAreReadBack → ReadIsGiven → (r : GetResponseParts) → GetResponseFits r → is_coherent r.auth_data ≡ true → read_get_response (get_response_tree r) ≡ Ok (normal_get_response r)
 response_back written given r fits coherent =
-    let credential = optional_place descriptor_back refl r.credential (anything r.credential) in
-    let auth_data = required_place (auth_data_back written given) r.auth_data (fits.auth_data, coherent) in
-    let signature = required_place bytes_back r.signature tt in
-    let user = optional_place made_user_back refl r.user (anything r.user) in
-    let number = optional_place byte_back refl r.number_of_credentials fits.number_of_credentials in
-    let selected = optional_place truth_back refl r.user_selected (anything r.user_selected) in
-    let large_blob_key = optional_place bytes_back refl r.large_blob_key (anything r.large_blob_key) in
-    let outputs = optional_place used_back refl r.unsigned_extension_outputs fits.unsigned_extension_outputs in
-    reads_back get_response_table get_response_values get_response_of (1 ∷ 2 ∷ 3 ∷ 4 ∷ 5 ∷ 6 ∷ 7 ∷ 8 ∷ []) (get_response_places r) (normal_get_response r) refl
-    (credential.accepted, (auth_data.accepted, (signature.accepted, (user.accepted, (number.accepted, (selected.accepted, (large_blob_key.accepted, (outputs.accepted, tt)))))))) refl
-    (λ i. do
-      d ← auth_data.value i
-      s ← signature.value i
-      Some (record {
-        credential = credential.value i;
-        auth_data = d;
-        signature = s;
-        user = user.value i;
-        number_of_credentials = number.value i;
-        user_selected = selected.value i;
-        large_blob_key = large_blob_key.value i;
-        unsigned_extension_outputs = outputs.value i;
-      }))
+    rows_back get_response_fields (get_response_places r) (normal_get_response r) refl refl
+    (puts_default (optional_place descriptor_back refl r.credential (anything r.credential)) refl ▸
+    puts_value (auth_data_back written given) r.auth_data (fits.auth_data, coherent) ▸
+    puts_value bytes_back r.signature tt ▸
+    puts_default (optional_place made_user_back refl r.user (anything r.user)) refl ▸
+    puts_default (optional_place byte_back refl r.number_of_credentials fits.number_of_credentials) refl ▸
+    puts_default (optional_place truth_back refl r.user_selected (anything r.user_selected)) refl ▸
+    puts_default (optional_place bytes_back refl r.large_blob_key (anything r.large_blob_key)) refl ▸
+    puts_default (optional_place used_back refl r.unsigned_extension_outputs fits.unsigned_extension_outputs) refl ▸
+    no_more)
 
 pub get_response_returns : WrittenIsFront → WrittenDataAreReadBack → ReadIsGiven → WrittenIsReadBack read_get_response get_response_tree GetResponseFits is_get_response_coherent normal_get_response
 get_response_returns law written given r rest fits writable coherent =
@@ -95,19 +84,19 @@ get_response_returns law written given r rest fits writable coherent =
 
 -- ---- what is read is coherent
 
-same_response : (x y : GetResponseParts) → Some x ≡ Some y → x ≡ y
-same_response x y e = cc
-
-built_data : (c : Option (Option PublicKeyCredentialDescriptor)) (d : Option DataParts) (s : Option (List ℕ)) (u : Option (Option PublicKeyCredentialUserEntity)) (n : Option (Option ℕ)) (t : Option (Option Bool)) (k : Option (Option (List ℕ))) (o : Option (Option UnsignedExtensionOutputs)) (r : GetResponseParts) → get_response_of (record { credential = c; auth_data = d; signature = s; user = u; number_of_credentials = n; user_selected = t; large_blob_key = k; unsigned_extension_outputs = o }) ≡ Some r → d ≡ Some r.auth_data
-built_data c None s u n t k o r h = absurd cc
-built_data c (Some d) None u n t k o r h = absurd cc
-built_data c (Some d) (Some s) u n t k o r h = ap (λ (p : GetResponseParts). Some p.auth_data) (same_response _ r h)
+abbrev DataAreCoherent : GetResponseParts → Type 0
+DataAreCoherent r = is_coherent r.auth_data ≡ true
 
 pub get_response_coherent : GivenIsCoherent → ReadIsCoherent read_get_response is_get_response_coherent
 get_response_coherent law bytes r begins =
-    let b = built_from get_response_table get_response_values get_response_of begins.item r begins.holds in
-    let f : ℕ → Option Item = found get_response_table (members b.pairs) in
-    let v = get_response_values f in
-    let stands = built_data v.credential v.auth_data v.signature v.user v.number_of_credentials v.user_selected v.large_blob_key v.unsigned_extension_outputs r b.made in
-    let auth_data = given_by authenticator_data (f 2) r.auth_data stands in
-    and_from (is_coherent r.auth_data) (nat_le (depth (get_response_tree r)) max_depth) (auth_data_coherent law auth_data.item r.auth_data auth_data.read) (has_few_levels r)
+    let coherent = record_keeps get_response_fields DataAreCoherent begins.item r begins.holds (λ d. refl)
+    ((λ x v p less e h. h) ▹
+    (λ x v p less e h. auth_data_coherent law x v e) ▹
+    (λ x v p less e h. h) ▹
+    (λ x v p less e h. h) ▹
+    (λ x v p less e h. h) ▹
+    (λ x v p less e h. h) ▹
+    (λ x v p less e h. h) ▹
+    (λ x v p less e h. h) ▹
+    kept.no_more) in
+    and_from (is_coherent r.auth_data) (nat_le (depth (get_response_tree r)) max_depth) coherent (has_few_levels r)

@@ -1,4 +1,3 @@
 pub mod GetBack
 pub mod GetRequests
 pub mod GetResponses
-pub mod Sufficient

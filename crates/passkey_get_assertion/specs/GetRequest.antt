@@ -1,5 +1,5 @@
 -- Requests to use a credential (CTAP 2.1, section 6.2).
-use Rattle.std.specs.Prelude.{ℕ, nat_le, Bool, true, false, List, [], ◌∷◌, Option, Some, None, codes, unwrap_or, Result}
+use Rattle.std.specs.Prelude.{ℕ, nat_le, Bool, true, List, [], ◌∷◌, Option, None, codes, Result}
 use Rattle.passkey_cbor.specs.Depth.{depth}
 use Rattle.passkey_cbor.specs.Front.{max_depth}
 use Rattle.passkey_cbor.specs.Item.{Item, byte_string, text_string}
@@ -9,9 +9,10 @@ use Rattle.passkey_get_assertion.specs.declared.options.Options.{Options}
 use Rattle.passkey_extensions.specs.ExtensionTrees.{get_extensions_tree, GetExtensionsFit}
 use Rattle.passkey_extensions.specs.GetExtensions.{GetExtensionsParts, get_extensions}
 use Rattle.passkey_kinds.specs.Descriptor.{descriptor}
-use Rattle.passkey_kinds.specs.Kind.{below, optional, bytes, text, accepted, tolerated}
+use Rattle.passkey_kinds.specs.Record.{Fields, required, default, table_of, read_item}
+use Rattle.passkey_kinds.specs.Table.{Table}
+use Rattle.passkey_kinds.specs.Typed.{below, optional, bytes, text, accepted, tolerated, growing}
 use Rattle.passkey_kinds.specs.ReadBack.{IsByte}
-use Rattle.passkey_kinds.specs.Table.{Table, Values, Build, required, default, given, read_item, ◌>>=◌}
 use Rattle.passkey_kinds.specs.Tree.{Place, number_tree, list_tree, always, where_some, record_tree}
 use Rattle.passkey_kinds.specs.Trees.{descriptor_tree}
 use Rattle.passkey_kinds.specs.declared.fault.Fault.{Fault}
@@ -27,56 +28,26 @@ pub record GetRequestParts : Type 0 where
   pub pin_auth : Option (List ℕ)
   pub pin_protocol : Option ℕ
 
-abbrev pub get_request_table : Table
-get_request_table = record {
+abbrev pub get_request_fields : Fields GetRequestParts
+get_request_fields = record {
   is_numbered = true;
-  rows = required 1 (codes "rpId") text true
-      ∷ required 2 (codes "clientDataHash") bytes true
-      ∷ default 3 (codes "allowList") (tolerated (accepted descriptor)) true
-      ∷ default 4 (codes "extensions") (tolerated get_extensions) true
-      ∷ default 5 (codes "options") options true
-      ∷ default 6 (codes "pinAuth") (optional bytes) true
-      ∷ default 7 (codes "pinProtocol") (optional (below 256)) false
+  blank = record { rp_id = []; client_data_hash = []; allow_list = None; extensions = None; options = options_default; pin_auth = None; pin_protocol = None };
+  rows = required 1 (codes "rpId") text (λ x r. record r { rp_id = x })
+      ∷ required 2 (codes "clientDataHash") bytes (λ x r. record r { client_data_hash = x })
+      ∷ default 3 (codes "allowList") (tolerated (accepted (growing descriptor))) (λ x r. record r { allow_list = x })
+      ∷ default 4 (codes "extensions") (tolerated (growing get_extensions)) (λ x r. record r { extensions = x })
+      ∷ default 5 (codes "options") (growing options) (λ x r. record r { options = x })
+      ∷ default 6 (codes "pinAuth") (optional bytes) (λ x r. record r { pin_auth = x })
+      ∷ default 7 (codes "pinProtocol") (optional (below 256)) (λ x r. record r { pin_protocol = x })
       ∷ [];
 }
 
-pub record GetRequestValues : Type 0 where
-  pub rp_id : Option (List ℕ)
-  pub client_data_hash : Option (List ℕ)
-  pub allow_list : Option (Option (List PublicKeyCredentialDescriptor))
-  pub extensions : Option (Option GetExtensionsParts)
-  pub options : Option Options
-  pub pin_auth : Option (Option (List ℕ))
-  pub pin_protocol : Option (Option ℕ)
-
-abbrev pub get_request_values : Values GetRequestValues
-get_request_values m = record {
-  rp_id = given text 1 m;
-  client_data_hash = given bytes 2 m;
-  allow_list = given (tolerated (accepted descriptor)) 3 m;
-  extensions = given (tolerated get_extensions) 4 m;
-  options = given options 5 m;
-  pin_auth = given (optional bytes) 6 m;
-  pin_protocol = given (optional (below 256)) 7 m;
-}
-
-abbrev pub get_request_of : Build GetRequestValues GetRequestParts
-get_request_of v = do
-  rp_id ← v.rp_id
-  client_data_hash ← v.client_data_hash
-  Some (record {
-    rp_id = rp_id;
-    client_data_hash = client_data_hash;
-    allow_list = unwrap_or v.allow_list None;
-    extensions = unwrap_or v.extensions None;
-    options = unwrap_or v.options options_default;
-    pin_auth = unwrap_or v.pin_auth None;
-    pin_protocol = unwrap_or v.pin_protocol None;
-  })
+abbrev pub get_request_table : Table
+get_request_table = table_of get_request_fields
 
 -- the request that an item is, or its first fault
 abbrev pub read_get_request : Item → Result GetRequestParts Fault
-read_get_request = read_item get_request_table get_request_values get_request_of
+read_get_request = read_item get_request_fields
 
 -- ---- what a request is written as
 

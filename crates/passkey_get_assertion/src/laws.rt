@@ -1,9 +1,10 @@
 //! Laws of the messages of using a credential, each the contract of a function without effect.
-ghost use Rattle.passkey_get_assertion.specs.GetRequest.{get_request_table, get_request_values, get_request_of, read_get_request, get_request_tree, GetRequestFits, is_get_request_coherent};
+ghost use Rattle.passkey_get_assertion.specs.GetRequest.{get_request_fields, read_get_request, get_request_tree, GetRequestFits, is_get_request_coherent};
 ghost use Rattle.passkey_get_assertion.specs.GetRequestView.{get_request_parts};
-ghost use Rattle.passkey_get_assertion.specs.GetResponse.{get_response_table, get_response_values, get_response_of, read_get_response, get_response_tree, GetResponseFits, is_get_response_coherent, normal_get_response};
+ghost use Rattle.passkey_get_assertion.specs.GetResponse.{get_response_fields, read_get_response, get_response_tree, GetResponseFits, is_get_response_coherent, normal_get_response};
 ghost use Rattle.passkey_get_assertion.specs.GetResponseView.{get_response_parts};
-ghost use Rattle.passkey_kinds.specs.MessageLaws.{WrittenIsReadBack, ReadIsCoherent, PassesOverUnknown};
+ghost use Rattle.passkey_kinds.specs.MessageLaws.{WrittenIsReadBack, ReadIsCoherent};
+ghost use Rattle.passkey_kinds.specs.RecordLaws.{SkipsUnknown};
 ghost use Rattle.passkey_kinds.specs.TableLaws.{KnowsMaps};
 
 /// What is written of a coherent request to use a credential, whatever bytes follow, is read as the
@@ -37,13 +38,11 @@ pub fn read_get_response_is_coherent()
 }
 
 /// Where a request to use a credential is read, `NotAMap` is told of no map.
-#[tactic(auto, using(crate::proofs::Sufficient::get_request_knows_maps))]
 pub fn read_get_request_knows_maps()
     ensures { KnowsMaps read_get_request }
 {}
 
 /// Where a response to a request to use a credential is read, `NotAMap` is told of no map.
-#[tactic(auto, using(crate::proofs::Sufficient::get_response_knows_maps))]
 pub fn read_get_response_knows_maps()
     ensures { KnowsMaps read_get_response }
 {}
@@ -51,7 +50,7 @@ pub fn read_get_response_knows_maps()
 /// A member under an unknown key may stand anywhere in a request to use a credential, while the map
 /// has at most 256 levels with it: what is read of bytes differs in the length alone.
 pub fn read_get_request_passes_over_unknown()
-    ensures { PassesOverUnknown get_request_parts get_request_table get_request_values get_request_of }
+    ensures { SkipsUnknown get_request_parts get_request_fields }
 {
     passkey_cbor::laws::at_most_one_front();
 }
@@ -59,7 +58,7 @@ pub fn read_get_request_passes_over_unknown()
 /// A member under an unknown key may stand anywhere in a response to a request to use a credential,
 /// while the map has at most 256 levels with it: what is read of bytes differs in the length alone.
 pub fn read_get_response_passes_over_unknown()
-    ensures { PassesOverUnknown get_response_parts get_response_table get_response_values get_response_of }
+    ensures { SkipsUnknown get_response_parts get_response_fields }
 {
     passkey_cbor::laws::at_most_one_front();
 }

@@ -1,14 +1,11 @@
 //! How a credential is to be used.
 ghost use Rattle.std.specs.Prelude.{◌≡◌, true, false};
-ghost use Rattle.passkey_get_assertion.specs.GetOptions.{options_tree, OptionsValues, options_table, options_values, options_of, options, options_default};
-ghost use Rattle.passkey_get_assertion.specs.GetOptionsHeld.{options_held};
+ghost use Rattle.passkey_get_assertion.specs.GetOptions.{options_tree, options_fields, options, options_default};
 ghost use Rattle.passkey_get_assertion.specs.declared.options.Options.{Options as Asked};
 ghost use Rattle.passkey_kinds.specs.ReadBack.{Any};
 
 use passkey_cbor::Value;
-use passkey_kinds::{
-    FromCbor, ReadBack, Refusal, Row, Shallow, Slots, ToCbor, Written, read_into, read_nested,
-};
+use passkey_kinds::{FromCbor, ReadBack, Record, Refusal, Row, Shallow, Source, ToCbor, Written, nested_from_value, set};
 use passkey_memory::OutOfMemory;
 use std::alloc::Global;
 
@@ -33,28 +30,12 @@ impl Default for Options {
     }
 }
 
-#[derive(Drop)]
-struct OptionsSlots {
-    up: Option<bool>,
-    uv: Option<bool>,
-}
+impl Record for Options {
+    ghost Parts = { Asked };
 
-impl Slots for OptionsSlots {
-    type Of = Options;
+    ghost parts = { λ options. options };
 
-    ghost Held = { OptionsValues };
-
-    ghost held = { options_held };
-
-    ghost Meaning = { Asked };
-
-    ghost view = { λ options. options };
-
-    ghost table = { options_table };
-
-    ghost values = { options_values };
-
-    ghost build = { options_of };
+    ghost fields = { options_fields };
 
     fn is_numbered() -> bool {
         false
@@ -64,26 +45,16 @@ impl Slots for OptionsSlots {
         &[Row::Optional(1, "up"), Row::Optional(2, "uv")]
     }
 
-    fn required_rows_suffice() {}
-
-    fn empty() -> OptionsSlots {
-        OptionsSlots { up: None, uv: None }
+    fn blank(_alloc: Global) -> Options {
+        Options::default()
     }
 
-    fn put(&mut self, alloc: Global, number: u8, value: &Value) -> Result<(), Refusal> {
+    fn put<S: Source>(&mut self, alloc: Global, number: u8, source: &mut S) -> Result<(), Refusal> {
         match number {
-            1 => read_into(&mut self.up, alloc, value),
-            2 => read_into(&mut self.uv, alloc, value),
+            1 => set(&mut self.up, alloc, source),
+            2 => set(&mut self.uv, alloc, source),
             _ => Err(Refusal::Refused),
         }
-    }
-
-    #[tactic(auto, using(passkey_kinds::proofs::Lists::option_same))]
-    fn finish(self) -> Option<Options> {
-        Some(Options {
-            up: self.up.unwrap_or(true),
-            uv: self.uv.unwrap_or(false),
-        })
     }
 }
 
@@ -97,7 +68,7 @@ impl FromCbor for Options {
     ghost takes = { true };
 
     fn from_value(alloc: Global, value: &Value) -> Result<Options, Refusal> {
-        read_nested::<OptionsSlots>(alloc, value)
+        nested_from_value(alloc, value)
     }
 }
 

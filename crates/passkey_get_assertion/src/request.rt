@@ -3,8 +3,7 @@ ghost use Rattle.std.specs.Prelude.{◌≡◌, IfOk, IfErr, OnOk};
 ghost use Rattle.passkey_cbor.specs.View.{item_of};
 ghost use Rattle.passkey_cbor.specs.Writable.{IsWritable};
 ghost use Rattle.passkey_cbor.specs.Written.{written};
-ghost use Rattle.passkey_get_assertion.specs.GetRequest.{GetRequestParts, GetRequestValues, get_request_table, get_request_values, get_request_of, read_get_request, get_request_tree, GetRequestFits, is_get_request_coherent};
-ghost use Rattle.passkey_get_assertion.specs.GetRequestHeld.{get_request_held};
+ghost use Rattle.passkey_get_assertion.specs.GetRequest.{GetRequestParts, get_request_fields, get_request_table, read_get_request, get_request_tree, GetRequestFits, is_get_request_coherent};
 ghost use Rattle.passkey_get_assertion.specs.GetRequestView.{get_request_parts};
 ghost use Rattle.passkey_kinds.specs.Message.{ReadsMessage};
 ghost use Rattle.passkey_kinds.specs.Reading.{MayGrowAt, Reads};
@@ -14,10 +13,7 @@ use crate::Options;
 use passkey_bytes::{Bytes, List, Text};
 use passkey_cbor::Value;
 use passkey_extensions::get_assertion::ExtensionInputs;
-use passkey_kinds::{
-    Fault, Refusal, Row, Slots, ToCbor, TolerantList, Tolerated, WriteFault, Written, list_of,
-    read_into, read_message, read_record, write_message,
-};
+use passkey_kinds::{Fault, Record, Refusal, Row, Source, ToCbor, WriteFault, Written, message_from_slice, record_from_value, set, set_accepted_or_none, set_tolerated, write_message};
 use passkey_memory::OutOfMemory;
 use passkey_webauthn::PublicKeyCredentialDescriptor;
 use std::alloc::Global;
@@ -42,33 +38,12 @@ pub struct Request {
     pub pin_protocol: Option<u8>,
 }
 
-#[derive(Drop)]
-struct RequestSlots {
-    rp_id: Option<Text>,
-    client_data_hash: Option<Bytes>,
-    allow_list: Option<Tolerated<TolerantList<PublicKeyCredentialDescriptor>>>,
-    extensions: Option<Tolerated<ExtensionInputs>>,
-    options: Option<Options>,
-    pin_auth: Option<Option<Bytes>>,
-    pin_protocol: Option<Option<u8>>,
-}
+impl Record for Request {
+    ghost Parts = { GetRequestParts };
 
-impl Slots for RequestSlots {
-    type Of = Request;
+    ghost parts = { get_request_parts };
 
-    ghost Held = { GetRequestValues };
-
-    ghost held = { get_request_held };
-
-    ghost Meaning = { GetRequestParts };
-
-    ghost view = { get_request_parts };
-
-    ghost table = { get_request_table };
-
-    ghost values = { get_request_values };
-
-    ghost build = { get_request_of };
+    ghost fields = { get_request_fields };
 
     fn is_numbered() -> bool {
         true
@@ -86,53 +61,29 @@ impl Slots for RequestSlots {
         ]
     }
 
-    #[tactic(auto, using(crate::proofs::Sufficient::get_request_suffices))]
-    fn required_rows_suffice() {}
-
-    fn empty() -> RequestSlots {
-        RequestSlots {
-            rp_id: None,
-            client_data_hash: None,
+    fn blank(alloc: Global) -> Request {
+        Request {
+            rp_id: Text::empty(alloc),
+            client_data_hash: Bytes::empty(alloc),
             allow_list: None,
             extensions: None,
-            options: None,
+            options: Options::default(),
             pin_auth: None,
             pin_protocol: None,
         }
     }
 
-    fn put(&mut self, alloc: Global, number: u8, value: &Value) -> Result<(), Refusal> {
+    fn put<S: Source>(&mut self, alloc: Global, number: u8, source: &mut S) -> Result<(), Refusal> {
         match number {
-            1 => read_into(&mut self.rp_id, alloc, value),
-            2 => read_into(&mut self.client_data_hash, alloc, value),
-            3 => read_into(&mut self.allow_list, alloc, value),
-            4 => read_into(&mut self.extensions, alloc, value),
-            5 => read_into(&mut self.options, alloc, value),
-            6 => read_into(&mut self.pin_auth, alloc, value),
-            7 => read_into(&mut self.pin_protocol, alloc, value),
+            1 => set(&mut self.rp_id, alloc, source),
+            2 => set(&mut self.client_data_hash, alloc, source),
+            3 => set_accepted_or_none(&mut self.allow_list, alloc, source),
+            4 => set_tolerated(&mut self.extensions, alloc, source),
+            5 => set(&mut self.options, alloc, source),
+            6 => set(&mut self.pin_auth, alloc, source),
+            7 => set(&mut self.pin_protocol, alloc, source),
             _ => Err(Refusal::Refused),
         }
-    }
-
-    fn finish(self) -> Option<Request> {
-        let RequestSlots {
-            rp_id,
-            client_data_hash,
-            allow_list,
-            extensions,
-            options,
-            pin_auth,
-            pin_protocol,
-        } = self;
-        Some(Request {
-            rp_id: rp_id?,
-            client_data_hash: client_data_hash?,
-            allow_list: list_of(allow_list),
-            extensions: extensions.unwrap_or(Tolerated(None)).0,
-            options: options.unwrap_or_default(),
-            pin_auth: pin_auth.unwrap_or(None),
-            pin_protocol: pin_protocol.unwrap_or(None),
-        })
     }
 }
 
@@ -161,7 +112,7 @@ impl Request {
     pub fn from_slice(alloc: Global, bytes: &[u8]) -> Result<(Request, usize), Fault>
         ensures { ReadsMessage get_request_parts read_get_request bytes.now result }
     {
-        read_message::<RequestSlots>(alloc, bytes)
+        message_from_slice(alloc, bytes)
     }
 
     /// The request that the item is. Else `NotAMap`, or the first fault of its members in their
@@ -171,7 +122,7 @@ impl Request {
     pub fn from_value(alloc: Global, value: &Value) -> Result<Request, Fault>
         ensures { Reads get_request_parts (MayGrowAt get_request_table (item_of value.now)) (read_get_request (item_of value.now)) result }
     {
-        read_record::<RequestSlots>(alloc, value)
+        record_from_value(alloc, value)
     }
 
     /// The request's bytes: members by their numbers in the table's order, each where it is there,

@@ -3,8 +3,7 @@ ghost use Rattle.std.specs.Prelude.{◌≡◌, IfOk, IfErr, OnOk};
 ghost use Rattle.passkey_cbor.specs.View.{item_of};
 ghost use Rattle.passkey_cbor.specs.Writable.{IsWritable};
 ghost use Rattle.passkey_cbor.specs.Written.{written};
-ghost use Rattle.passkey_get_assertion.specs.GetResponse.{GetResponseParts, GetResponseValues, get_response_table, get_response_values, get_response_of, read_get_response, get_response_tree, GetResponseFits, is_get_response_coherent};
-ghost use Rattle.passkey_get_assertion.specs.GetResponseHeld.{get_response_held};
+ghost use Rattle.passkey_get_assertion.specs.GetResponse.{GetResponseParts, get_response_fields, get_response_table, read_get_response, get_response_tree, GetResponseFits, is_get_response_coherent};
 ghost use Rattle.passkey_get_assertion.specs.GetResponseView.{get_response_parts};
 ghost use Rattle.passkey_kinds.specs.Message.{ReadsMessage};
 ghost use Rattle.passkey_kinds.specs.Reading.{MayGrowAt, Reads};
@@ -15,10 +14,7 @@ use passkey_cbor::Value;
 use passkey_core::AuthenticatorData;
 use passkey_entities::PublicKeyCredentialUserEntity;
 use passkey_extensions::get_assertion::UnsignedExtensionOutputs;
-use passkey_kinds::{
-    Fault, Refusal, Row, Slots, ToCbor, WriteFault, Written, read_into, read_message, read_record,
-    write_message,
-};
+use passkey_kinds::{Fault, Record, Refusal, Row, Source, ToCbor, WriteFault, Written, message_from_slice, record_from_value, set, write_message};
 use passkey_memory::OutOfMemory;
 use passkey_webauthn::PublicKeyCredentialDescriptor;
 use std::alloc::Global;
@@ -44,34 +40,12 @@ pub struct Response {
     pub unsigned_extension_outputs: Option<UnsignedExtensionOutputs>,
 }
 
-#[derive(Drop)]
-struct ResponseSlots {
-    credential: Option<Option<PublicKeyCredentialDescriptor>>,
-    auth_data: Option<AuthenticatorData>,
-    signature: Option<Bytes>,
-    user: Option<Option<PublicKeyCredentialUserEntity>>,
-    number_of_credentials: Option<Option<u8>>,
-    user_selected: Option<Option<bool>>,
-    large_blob_key: Option<Option<Bytes>>,
-    unsigned_extension_outputs: Option<Option<UnsignedExtensionOutputs>>,
-}
+impl Record for Response {
+    ghost Parts = { GetResponseParts };
 
-impl Slots for ResponseSlots {
-    type Of = Response;
+    ghost parts = { get_response_parts };
 
-    ghost Held = { GetResponseValues };
-
-    ghost held = { get_response_held };
-
-    ghost Meaning = { GetResponseParts };
-
-    ghost view = { get_response_parts };
-
-    ghost table = { get_response_table };
-
-    ghost values = { get_response_values };
-
-    ghost build = { get_response_of };
+    ghost fields = { get_response_fields };
 
     fn is_numbered() -> bool {
         true
@@ -90,14 +64,11 @@ impl Slots for ResponseSlots {
         ]
     }
 
-    #[tactic(auto, using(crate::proofs::Sufficient::get_response_suffices))]
-    fn required_rows_suffice() {}
-
-    fn empty() -> ResponseSlots {
-        ResponseSlots {
+    fn blank(alloc: Global) -> Response {
+        Response {
             credential: None,
-            auth_data: None,
-            signature: None,
+            auth_data: AuthenticatorData::empty(),
+            signature: Bytes::empty(alloc),
             user: None,
             number_of_credentials: None,
             user_selected: None,
@@ -106,31 +77,18 @@ impl Slots for ResponseSlots {
         }
     }
 
-    fn put(&mut self, alloc: Global, number: u8, value: &Value) -> Result<(), Refusal> {
+    fn put<S: Source>(&mut self, alloc: Global, number: u8, source: &mut S) -> Result<(), Refusal> {
         match number {
-            1 => read_into(&mut self.credential, alloc, value),
-            2 => read_into(&mut self.auth_data, alloc, value),
-            3 => read_into(&mut self.signature, alloc, value),
-            4 => read_into(&mut self.user, alloc, value),
-            5 => read_into(&mut self.number_of_credentials, alloc, value),
-            6 => read_into(&mut self.user_selected, alloc, value),
-            7 => read_into(&mut self.large_blob_key, alloc, value),
-            8 => read_into(&mut self.unsigned_extension_outputs, alloc, value),
+            1 => set(&mut self.credential, alloc, source),
+            2 => set(&mut self.auth_data, alloc, source),
+            3 => set(&mut self.signature, alloc, source),
+            4 => set(&mut self.user, alloc, source),
+            5 => set(&mut self.number_of_credentials, alloc, source),
+            6 => set(&mut self.user_selected, alloc, source),
+            7 => set(&mut self.large_blob_key, alloc, source),
+            8 => set(&mut self.unsigned_extension_outputs, alloc, source),
             _ => Err(Refusal::Refused),
         }
-    }
-
-    fn finish(self) -> Option<Response> {
-        Some(Response {
-            credential: self.credential.unwrap_or(None),
-            auth_data: self.auth_data?,
-            signature: self.signature?,
-            user: self.user.unwrap_or(None),
-            number_of_credentials: self.number_of_credentials.unwrap_or(None),
-            user_selected: self.user_selected.unwrap_or(None),
-            large_blob_key: self.large_blob_key.unwrap_or(None),
-            unsigned_extension_outputs: self.unsigned_extension_outputs.unwrap_or(None),
-        })
     }
 }
 
@@ -160,7 +118,7 @@ impl Response {
     pub fn from_slice(alloc: Global, bytes: &[u8]) -> Result<(Response, usize), Fault>
         ensures { ReadsMessage get_response_parts read_get_response bytes.now result }
     {
-        read_message::<ResponseSlots>(alloc, bytes)
+        message_from_slice(alloc, bytes)
     }
 
     /// The response that the item is. Else `NotAMap`, or the first fault of its members in their
@@ -169,7 +127,7 @@ impl Response {
     pub fn from_value(alloc: Global, value: &Value) -> Result<Response, Fault>
         ensures { Reads get_response_parts (MayGrowAt get_response_table (item_of value.now)) (read_get_response (item_of value.now)) result }
     {
-        read_record::<ResponseSlots>(alloc, value)
+        record_from_value(alloc, value)
     }
 
     /// The response's bytes: members by their numbers in the table's order, each where it is there.

@@ -131,7 +131,7 @@ SizeIsSpelled r = is_spelled r.max_msg_size ≡ true
 read_coherent : (i : Item) (r : GetInfoParts) → read_get_info i ≡ Ok r → is_get_info_coherent r ≡ true
 read_coherent i r read =
     sym (spelled_coherent r)
-    ∙ record_keeps get_info_fields SizeIsSpelled i r read refl
+    ∙ record_keeps get_info_fields SizeIsSpelled i r read (λ d. refl)
     (
     (λ i v r less e h. h) ▹
     (λ i v r less e h. h) ▹

@@ -73,12 +73,12 @@ made_from t (item.simple n) p e = absurd cc
 made_from t (item.float f) p e = absurd cc
 
 -- what each row keeps holds of a record that is decoded
-pub record_keeps : {P : Type 0} (t : Fields P) (Inv : P → Type 0) (i : Item) (p : P) → read_item t i ≡ Ok p → Inv t.blank → KeepsAll (depth i) Inv t.rows → Inv p
+pub record_keeps : {P : Type 0} (t : Fields P) (Inv : P → Type 0) (i : Item) (p : P) → read_item t i ≡ Ok p → (0 < depth i → Inv t.blank) → KeepsAll (depth i) Inv t.rows → Inv p
 record_keeps t Inv i p e begun all =
     let made = made_from t i p e in
     let less : pairs_depth made.pairs < depth i = (let whole : depth i ≡ depth (item.map made.pairs) = ap depth made.is_map in omega (arith, whole)) in
-    subst Inv made.made (members_keep (depth i) Inv t made.pairs t.blank all.all less begun)
+    subst Inv made.made (members_keep (depth i) Inv t made.pairs t.blank all.all less (begun (omega (arith, less))))
 
 -- the same of a record that is held in another one
-pub nested_keeps : {P : Type 0} (t : Fields P) (Inv : P → Type 0) (i : Item) (p : P) → record_kind t i ≡ Some p → Inv t.blank → KeepsAll (depth i) Inv t.rows → Inv p
+pub nested_keeps : {P : Type 0} (t : Fields P) (Inv : P → Type 0) (i : Item) (p : P) → record_kind t i ≡ Some p → (0 < depth i → Inv t.blank) → KeepsAll (depth i) Inv t.rows → Inv p
 nested_keeps t Inv i p e begun all = record_keeps t Inv i p (ok_of (read_item t i) p e) begun all

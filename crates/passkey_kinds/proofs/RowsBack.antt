@@ -2,7 +2,7 @@
 use Rattle.std.specs.Cmp.{unsigned_Decides}
 use Rattle.std.specs.List.{list_any}
 use Rattle.std.specs.Result.{result_ok}
-use Rattle.std.proofs.Common.{◌≡◌, ◌∙◌, ℕ, ◌==◌, Bool, true, false, not, ◌&&◌, ◌||◌, if◌then◌else◌, List, [], ◌∷◌, ◌++◌, Option, Some, None, is_some, unwrap_or, Ok, refl, sym, ap}
+use Rattle.std.proofs.Common.{◌≡◌, ◌∙◌, ℕ, ◌==◌, Bool, true, false, not, ◌&&◌, List, [], ◌∷◌, ◌++◌, Option, Some, None, is_some, unwrap_or, Ok, refl, sym, ap}
 use Rattle.std.proofs.lemmas.Bool.{and_parts, not-true}
 use Rattle.passkey_cbor.specs.Item.{Item}
 use Rattle.passkey_cose.proofs.KeyLists.{members-pairs_of}
@@ -29,7 +29,7 @@ put_places (m ∷ ms) [] r = r
 put_places (m ∷ ms) (p ∷ ps) r = put_places ms ps (put_if m p.1 r)
 
 -- The table finds each of these members by its number.
-abbrev Finds : {P : Type 0} → List (Member P) → List (Member P) → Type 0
+abbrev pub Finds : {P : Type 0} → List (Member P) → List (Member P) → Type 0
 Finds all [] = Unit {0}
 Finds {P} all (m ∷ ms) = ((i : Item) → accepts_at (rows_of all) m.entry.number i ≡ is_some (m.kind.of i)) × ((i : Item) (r : P) → put_at all m.entry.number i r ≡ set_with m.set (m.kind.of i) r) × Finds all ms
 
@@ -118,18 +118,35 @@ judged_good t ms f x good is complete made =
     ∙ (λ i. unless_missing (missing_of (table_of t) (is i)) (made i))
     ∙ ap (λ (m : Option ℕ). unless_missing m x) complete
 
+-- the members of these numbers, in this order
+abbrev either : {A : Type 1} → Bool → A → A → A
+either true x y = x
+either false x y = y
+
+abbrev member_at : {P : Type 0} → List (Member P) → ℕ → List (Member P) → List (Member P)
+member_at [] n rest = rest
+member_at (m ∷ ms) n rest = either (m.entry.number == n) (m ∷ rest) (member_at ms n rest)
+
+abbrev pub picked : {P : Type 0} → List (Member P) → List ℕ → List (Member P)
+picked all [] = []
+picked all (n ∷ ns) = member_at all n (picked all ns)
+
+-- what was laid out in this order is read back
+pub picked_back : {P : Type 0} (t : Fields P) (fs : List (Member P)) (ps : List Place) (x : P) → Finds t.rows fs → (have_rows (table_of t) (numbers fs) ps && are_distinct (numbers fs)) ≡ true → missing_of (table_of t) (stands (numbers fs) ps) ≡ None → Backs fs ps t.blank x → read_item t (record_tree ps) ≡ Ok x
+picked_back t fs ps x finds keys complete backs =
+    let ns = numbers fs in
+    let k = and_parts (have_rows (table_of t) ns ps) (are_distinct ns) keys in
+    ap (read_members t) (members-pairs_of (laid [] ps) ∙ laid_spread [] ps)
+    ∙ judged_good t (spread ps) (stands ns ps) x
+    (none_bad (table_of t) [] ns ps k.0 k.1 (fit_rows t.rows fs ps finds backs.fit) (all_free (table_of t) ns))
+    (λ i m. found_spread (table_of t) ns ps m k.0 k.1 i)
+    complete
+    (with_spread t fs ps t.blank finds k.0 ∙ backs.made)
+
 -- what was laid out in the order of the rows is read back
 pub rows_back : {P : Type 0} (t : Fields P) (ps : List Place) (x : P) → (have_rows (table_of t) (numbers t.rows) ps && are_distinct (numbers t.rows)) ≡ true → missing_of (table_of t) (stands (numbers t.rows) ps) ≡ None → Backs t.rows ps t.blank x → read_item t (record_tree ps) ≡ Ok x
 rows_back t ps x keys complete backs =
-    let ns = numbers t.rows in
-    let k = and_parts (have_rows (table_of t) ns ps) (are_distinct ns) keys in
-    let finds = finds_all t.rows k.1 in
-    ap (read_members t) (members-pairs_of (laid [] ps) ∙ laid_spread [] ps)
-    ∙ judged_good t (spread ps) (stands ns ps) x
-    (none_bad (table_of t) [] ns ps k.0 k.1 (fit_rows t.rows t.rows ps finds backs.fit) (all_free (table_of t) ns))
-    (λ i m. found_spread (table_of t) ns ps m k.0 k.1 i)
-    complete
-    (with_spread t t.rows ps t.blank finds k.0 ∙ backs.made)
+    picked_back t t.rows ps x (finds_all t.rows (and_parts (have_rows (table_of t) (numbers t.rows) ps) (are_distinct (numbers t.rows)) keys).1) keys complete backs
 
 pub kind_back : {P : Type 0} (t : Fields P) (ps : List Place) (x : P) → (have_rows (table_of t) (numbers t.rows) ps && are_distinct (numbers t.rows)) ≡ true → missing_of (table_of t) (stands (numbers t.rows) ps) ≡ None → Backs t.rows ps t.blank x → record_kind t (record_tree ps) ≡ Some x
 kind_back t ps x keys complete backs = ap result_ok (rows_back t ps x keys complete backs)

@@ -2,4 +2,3 @@ pub mod MakeBack
 pub mod MakeLevels
 pub mod MakeRequests
 pub mod MakeResponses
-pub mod Sufficient

@@ -1,7 +1,8 @@
 -- How a credential is to be made (CTAP 2.1, section 6.1).
-use Rattle.std.specs.Prelude.{[], ◌∷◌, Bool, true, false, Option, Some, codes, unwrap_or, List}
-use Rattle.passkey_kinds.specs.Kind.{Kind, truth}
-use Rattle.passkey_kinds.specs.Table.{Table, Values, Build, default, given, record_kind}
+use Rattle.std.specs.Prelude.{[], ◌∷◌, true, false, codes, List}
+use Rattle.passkey_kinds.specs.Kind.{Kind}
+use Rattle.passkey_kinds.specs.Record.{Fields, default, record_kind}
+use Rattle.passkey_kinds.specs.Typed.{truth}
 use Rattle.passkey_make_credential.specs.declared.options.Options.{Options}
 use Rattle.passkey_cbor.specs.Item.{boolean, text_string, Item}
 use Rattle.passkey_kinds.specs.Tree.{Place, always, where_true, record_tree}
@@ -9,28 +10,18 @@ use Rattle.passkey_kinds.specs.Tree.{Place, always, where_true, record_tree}
 abbrev pub options_default : Options
 options_default = record { rk = false; up = true; uv = false }
 
-abbrev pub options_table : Table
-options_table = record {
+abbrev pub options_fields : Fields Options
+options_fields = record {
   is_numbered = false;
-  rows = default 1 (codes "rk") truth false
-      ∷ default 2 (codes "up") truth false
-      ∷ default 3 (codes "uv") truth false
+  blank = options_default;
+  rows = default 1 (codes "rk") truth (λ x o. record o { rk = x })
+      ∷ default 2 (codes "up") truth (λ x o. record o { up = x })
+      ∷ default 3 (codes "uv") truth (λ x o. record o { uv = x })
       ∷ [];
 }
 
-pub record OptionsValues : Type 0 where
-  pub rk : Option Bool
-  pub up : Option Bool
-  pub uv : Option Bool
-
-abbrev pub options_values : Values OptionsValues
-options_values m = record { rk = given truth 1 m; up = given truth 2 m; uv = given truth 3 m }
-
-abbrev pub options_of : Build OptionsValues Options
-options_of v = Some (record { rk = unwrap_or v.rk false; up = unwrap_or v.up true; uv = unwrap_or v.uv false })
-
 abbrev pub options : Kind Options
-options = record_kind options_table options_values options_of
+options = record_kind options_fields
 
 -- that the user is to be there is the default, and is written where it is so
 abbrev pub options_places : Options → List Place

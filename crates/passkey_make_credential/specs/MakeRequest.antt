@@ -1,18 +1,19 @@
 -- Requests to make a credential (CTAP 2.1, section 6.1).
-use Rattle.std.specs.Prelude.{ℕ, nat_le, Bool, true, false, List, [], ◌∷◌, Option, Some, None, codes, unwrap_or, Result}
+use Rattle.std.specs.Prelude.{ℕ, nat_le, Bool, true, List, [], ◌∷◌, Option, None, codes, Result}
 use Rattle.passkey_cbor.specs.Depth.{depth}
 use Rattle.passkey_cbor.specs.Front.{max_depth}
 use Rattle.passkey_cbor.specs.Item.{Item, byte_string}
 use Rattle.passkey_core.specs.DataNormal.{Where}
 use Rattle.passkey_kinds.specs.Descriptor.{descriptor}
 use Rattle.passkey_extensions.specs.ExtensionTrees.{make_extensions_tree, MakeExtensionsFit}
-use Rattle.passkey_kinds.specs.Kind.{below, optional, bytes, accepted, tolerated}
+use Rattle.passkey_kinds.specs.Record.{Fields, required, default, table_of, read_item}
+use Rattle.passkey_kinds.specs.Table.{Table}
+use Rattle.passkey_kinds.specs.Typed.{below, optional, bytes, accepted, tolerated, growing}
 use Rattle.passkey_extensions.specs.MakeExtensions.{MakeExtensionsParts, make_extensions}
 use Rattle.passkey_make_credential.specs.MakeOptions.{options, options_default, options_tree, normal_options}
 use Rattle.passkey_entities.specs.MakeRp.{rp, rp_tree}
 use Rattle.passkey_kinds.specs.Parameters.{parameters}
 use Rattle.passkey_kinds.specs.ReadBack.{IsByte}
-use Rattle.passkey_kinds.specs.Table.{Table, Values, Build, required, default, given, read_item, ◌>>=◌}
 use Rattle.passkey_kinds.specs.Tree.{Place, number_tree, list_tree, always, where_some, record_tree}
 use Rattle.passkey_kinds.specs.Trees.{descriptor_tree, parameters_tree, webauthn_user_tree}
 use Rattle.passkey_kinds.specs.User.{user}
@@ -35,66 +36,38 @@ pub record MakeRequestParts : Type 0 where
   pub pin_auth : Option (List ℕ)
   pub pin_protocol : Option ℕ
 
-abbrev pub make_request_table : Table
-make_request_table = record {
+abbrev pub make_request_fields : Fields MakeRequestParts
+make_request_fields = record {
   is_numbered = true;
-  rows = required 1 (codes "clientDataHash") bytes true
-      ∷ required 2 (codes "rp") rp true
-      ∷ required 3 (codes "user") user true
-      ∷ required 4 (codes "pubKeyCredParams") (accepted parameters) true
-      ∷ default 5 (codes "excludeList") (tolerated (accepted descriptor)) true
-      ∷ default 6 (codes "extensions") (optional make_extensions) true
-      ∷ default 7 (codes "options") options true
-      ∷ default 8 (codes "pinAuth") (optional bytes) true
-      ∷ default 9 (codes "pinProtocol") (optional (below 256)) false
+  blank = record {
+    client_data_hash = [];
+    rp = record { id = []; name = None };
+    user = record { id = []; display_name = []; name = [] };
+    pub_key_cred_params = [];
+    exclude_list = None;
+    extensions = None;
+    options = options_default;
+    pin_auth = None;
+    pin_protocol = None;
+  };
+  rows = required 1 (codes "clientDataHash") bytes (λ x r. record r { client_data_hash = x })
+      ∷ required 2 (codes "rp") (growing rp) (λ x r. record r { rp = x })
+      ∷ required 3 (codes "user") (growing user) (λ x r. record r { user = x })
+      ∷ required 4 (codes "pubKeyCredParams") (accepted (growing parameters)) (λ x r. record r { pub_key_cred_params = x })
+      ∷ default 5 (codes "excludeList") (tolerated (accepted (growing descriptor))) (λ x r. record r { exclude_list = x })
+      ∷ default 6 (codes "extensions") (optional (growing make_extensions)) (λ x r. record r { extensions = x })
+      ∷ default 7 (codes "options") (growing options) (λ x r. record r { options = x })
+      ∷ default 8 (codes "pinAuth") (optional bytes) (λ x r. record r { pin_auth = x })
+      ∷ default 9 (codes "pinProtocol") (optional (below 256)) (λ x r. record r { pin_protocol = x })
       ∷ [];
 }
 
-pub record MakeRequestValues : Type 0 where
-  pub client_data_hash : Option (List ℕ)
-  pub rp : Option PublicKeyCredentialRpEntity
-  pub user : Option PublicKeyCredentialUserEntity
-  pub pub_key_cred_params : Option (List PublicKeyCredentialParameters)
-  pub exclude_list : Option (Option (List PublicKeyCredentialDescriptor))
-  pub extensions : Option (Option MakeExtensionsParts)
-  pub options : Option Options
-  pub pin_auth : Option (Option (List ℕ))
-  pub pin_protocol : Option (Option ℕ)
-
-abbrev pub make_request_values : Values MakeRequestValues
-make_request_values m = record {
-  client_data_hash = given bytes 1 m;
-  rp = given rp 2 m;
-  user = given user 3 m;
-  pub_key_cred_params = given (accepted parameters) 4 m;
-  exclude_list = given (tolerated (accepted descriptor)) 5 m;
-  extensions = given (optional make_extensions) 6 m;
-  options = given options 7 m;
-  pin_auth = given (optional bytes) 8 m;
-  pin_protocol = given (optional (below 256)) 9 m;
-}
-
-abbrev pub make_request_of : Build MakeRequestValues MakeRequestParts
-make_request_of v = do
-  client_data_hash ← v.client_data_hash
-  rp ← v.rp
-  user ← v.user
-  pub_key_cred_params ← v.pub_key_cred_params
-  Some (record {
-    client_data_hash = client_data_hash;
-    rp = rp;
-    user = user;
-    pub_key_cred_params = pub_key_cred_params;
-    exclude_list = unwrap_or v.exclude_list None;
-    extensions = unwrap_or v.extensions None;
-    options = unwrap_or v.options options_default;
-    pin_auth = unwrap_or v.pin_auth None;
-    pin_protocol = unwrap_or v.pin_protocol None;
-  })
+abbrev pub make_request_table : Table
+make_request_table = table_of make_request_fields
 
 -- the request that an item is, or its first fault
 abbrev pub read_make_request : Item → Result MakeRequestParts Fault
-read_make_request = read_item make_request_table make_request_values make_request_of
+read_make_request = read_item make_request_fields
 
 -- ---- what a request is written as
 

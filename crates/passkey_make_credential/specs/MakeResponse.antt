@@ -1,17 +1,17 @@
 -- What an authenticator answers to a request to make a credential (CTAP 2.1, section 6.1).
-use Rattle.std.specs.Prelude.{ℕ, nat_le, Bool, true, false, ◌&&◌, List, [], ◌∷◌, Option, Some, None, codes, unwrap_or, Result}
+use Rattle.std.specs.Prelude.{ℕ, nat_le, Bool, true, ◌&&◌, List, [], ◌∷◌, Option, None, codes, Result, replicate}
 use Rattle.passkey_cbor.specs.Depth.{depth}
 use Rattle.passkey_cbor.specs.Front.{max_depth}
-use Rattle.passkey_cbor.specs.Item.{Item, boolean, byte_string, text_string, map, no_pairs}
+use Rattle.passkey_cbor.specs.Item.{Item, boolean, byte_string, text_string, map, no_pairs, null}
 use Rattle.passkey_core.specs.Coherent.{is_coherent}
 use Rattle.passkey_core.specs.DataNormal.{IsData, Where, normal_data}
-use Rattle.passkey_core.specs.DataParts.{DataParts}
+use Rattle.passkey_core.specs.DataParts.{DataParts, bare_data}
 use Rattle.passkey_kinds.specs.Data.{auth_data_tree}
-use Rattle.passkey_kinds.specs.Data.{authenticator_data}
 use Rattle.passkey_extensions.specs.ExtensionTrees.{made_tree, MadeFits}
-use Rattle.passkey_kinds.specs.Kind.{bytes, kept, optional, text, truth}
+use Rattle.passkey_kinds.specs.Record.{Fields, required, default, table_of, read_item}
+use Rattle.passkey_kinds.specs.Table.{Table}
+use Rattle.passkey_kinds.specs.Typed.{bytes, kept, optional, text, truth, growing, authenticator_data}
 use Rattle.passkey_extensions.specs.MakeUnsigned.{unsigned}
-use Rattle.passkey_kinds.specs.Table.{Table, Values, Build, required, default, given, read_item, ◌>>=◌}
 use Rattle.passkey_kinds.specs.Tree.{Place, number_tree, always, where_some, record_tree}
 use Rattle.passkey_kinds.specs.declared.fault.Fault.{Fault}
 use Rattle.passkey_extensions.specs.declared.make_credential.unsigned.UnsignedExtensionOutputs.{UnsignedExtensionOutputs}
@@ -25,53 +25,25 @@ pub record MakeResponseParts : Type 0 where
   pub large_blob_key : Option (List ℕ)
   pub unsigned_extension_outputs : Option UnsignedExtensionOutputs
 
-abbrev pub make_response_table : Table
-make_response_table = record {
+abbrev pub make_response_fields : Fields MakeResponseParts
+make_response_fields = record {
   is_numbered = true;
-  rows = required 1 (codes "fmt") text true
-      ∷ required 2 (codes "authData") authenticator_data true
-      ∷ required 3 (codes "attStmt") kept true
-      ∷ default 4 (codes "epAtt") (optional truth) false
-      ∷ default 5 (codes "largeBlobKey") (optional bytes) true
-      ∷ default 6 (codes "unsignedExtensionOutputs") (optional unsigned) true
+  blank = record { fmt = []; auth_data = bare_data (replicate 32 0) 24 None; att_stmt = null; ep_att = None; large_blob_key = None; unsigned_extension_outputs = None };
+  rows = required 1 (codes "fmt") text (λ x r. record r { fmt = x })
+      ∷ required 2 (codes "authData") authenticator_data (λ x r. record r { auth_data = x })
+      ∷ required 3 (codes "attStmt") kept (λ x r. record r { att_stmt = x })
+      ∷ default 4 (codes "epAtt") (optional truth) (λ x r. record r { ep_att = x })
+      ∷ default 5 (codes "largeBlobKey") (optional bytes) (λ x r. record r { large_blob_key = x })
+      ∷ default 6 (codes "unsignedExtensionOutputs") (optional (growing unsigned)) (λ x r. record r { unsigned_extension_outputs = x })
       ∷ [];
 }
 
-pub record MakeResponseValues : Type 0 where
-  pub fmt : Option (List ℕ)
-  pub auth_data : Option DataParts
-  pub att_stmt : Option Item
-  pub ep_att : Option (Option Bool)
-  pub large_blob_key : Option (Option (List ℕ))
-  pub unsigned_extension_outputs : Option (Option UnsignedExtensionOutputs)
-
-abbrev pub make_response_values : Values MakeResponseValues
-make_response_values m = record {
-  fmt = given text 1 m;
-  auth_data = given authenticator_data 2 m;
-  att_stmt = given kept 3 m;
-  ep_att = given (optional truth) 4 m;
-  large_blob_key = given (optional bytes) 5 m;
-  unsigned_extension_outputs = given (optional unsigned) 6 m;
-}
-
-abbrev pub make_response_of : Build MakeResponseValues MakeResponseParts
-make_response_of v = do
-  fmt ← v.fmt
-  auth_data ← v.auth_data
-  att_stmt ← v.att_stmt
-  Some (record {
-    fmt = fmt;
-    auth_data = auth_data;
-    att_stmt = att_stmt;
-    ep_att = unwrap_or v.ep_att None;
-    large_blob_key = unwrap_or v.large_blob_key None;
-    unsigned_extension_outputs = unwrap_or v.unsigned_extension_outputs None;
-  })
+abbrev pub make_response_table : Table
+make_response_table = table_of make_response_fields
 
 -- the response that an item is, or its first fault
 abbrev pub read_make_response : Item → Result MakeResponseParts Fault
-read_make_response = read_item make_response_table make_response_values make_response_of
+read_make_response = read_item make_response_fields
 
 -- ---- what a response is written as
 

@@ -1,11 +1,12 @@
 //! Laws of the messages of making a credential, each the contract of a function without effect.
 ghost use Rattle.passkey_core.specs.Coherent.{is_coherent};
 ghost use Rattle.passkey_core.specs.DataNormal.{IsData, normal_data};
-ghost use Rattle.passkey_make_credential.specs.MakeRequest.{make_request_table, make_request_values, make_request_of, read_make_request, make_request_tree, MakeRequestFits, is_make_request_coherent, normal_make_request};
+ghost use Rattle.passkey_make_credential.specs.MakeRequest.{make_request_fields, read_make_request, make_request_tree, MakeRequestFits, is_make_request_coherent, normal_make_request};
 ghost use Rattle.passkey_make_credential.specs.MakeRequestView.{make_request_parts};
-ghost use Rattle.passkey_make_credential.specs.MakeResponse.{make_response_table, make_response_values, make_response_of, read_make_response, make_response_tree, MakeResponseFits, is_make_response_coherent, normal_make_response, attestation_tree, unattested};
+ghost use Rattle.passkey_make_credential.specs.MakeResponse.{make_response_fields, read_make_response, make_response_tree, MakeResponseFits, is_make_response_coherent, normal_make_response, attestation_tree, unattested};
 ghost use Rattle.passkey_make_credential.specs.MakeResponseView.{make_response_parts};
-ghost use Rattle.passkey_kinds.specs.MessageLaws.{WrittenIsReadBack, ReadIsCoherent, PassesOverUnknown};
+ghost use Rattle.passkey_kinds.specs.MessageLaws.{WrittenIsReadBack, ReadIsCoherent};
+ghost use Rattle.passkey_kinds.specs.RecordLaws.{SkipsUnknown};
 ghost use Rattle.passkey_kinds.specs.TableLaws.{KnowsMaps};
 
 /// What is written of a coherent request to make a credential, whatever bytes follow, is read as the
@@ -49,13 +50,11 @@ pub fn written_attestation_is_read_back()
 }
 
 /// Where a request to make a credential is read, `NotAMap` is told of no map.
-#[tactic(auto, using(crate::proofs::Sufficient::make_request_knows_maps))]
 pub fn read_make_request_knows_maps()
     ensures { KnowsMaps read_make_request }
 {}
 
 /// Where a response to a request to make a credential is read, `NotAMap` is told of no map.
-#[tactic(auto, using(crate::proofs::Sufficient::make_response_knows_maps))]
 pub fn read_make_response_knows_maps()
     ensures { KnowsMaps read_make_response }
 {}
@@ -63,7 +62,7 @@ pub fn read_make_response_knows_maps()
 /// A member under an unknown key may stand anywhere in a request to make a credential, while the map
 /// has at most 256 levels with it: what is read of bytes differs in the length alone.
 pub fn read_make_request_passes_over_unknown()
-    ensures { PassesOverUnknown make_request_parts make_request_table make_request_values make_request_of }
+    ensures { SkipsUnknown make_request_parts make_request_fields }
 {
     passkey_cbor::laws::at_most_one_front();
 }
@@ -71,7 +70,7 @@ pub fn read_make_request_passes_over_unknown()
 /// A member under an unknown key may stand anywhere in a response to a request to make a credential,
 /// while the map has at most 256 levels with it: what is read of bytes differs in the length alone.
 pub fn read_make_response_passes_over_unknown()
-    ensures { PassesOverUnknown make_response_parts make_response_table make_response_values make_response_of }
+    ensures { SkipsUnknown make_response_parts make_response_fields }
 {
     passkey_cbor::laws::at_most_one_front();
 }

@@ -1,14 +1,11 @@
 //! How a credential is to be made.
 ghost use Rattle.std.specs.Prelude.{◌≡◌, true, false};
-ghost use Rattle.passkey_make_credential.specs.MakeOptions.{options_tree, normal_options, OptionsValues, options_table, options_values, options_of, options, options_default};
-ghost use Rattle.passkey_make_credential.specs.MakeOptionsHeld.{options_held};
+ghost use Rattle.passkey_make_credential.specs.MakeOptions.{options_tree, normal_options, options_fields, options, options_default};
 ghost use Rattle.passkey_make_credential.specs.declared.options.Options.{Options as Made};
 ghost use Rattle.passkey_kinds.specs.ReadBack.{Any};
 
 use passkey_cbor::Value;
-use passkey_kinds::{
-    FromCbor, ReadBack, Refusal, Row, Shallow, Slots, ToCbor, Written, read_into, read_nested,
-};
+use passkey_kinds::{FromCbor, ReadBack, Record, Refusal, Row, Shallow, Source, ToCbor, Written, nested_from_value, set};
 use passkey_memory::OutOfMemory;
 use std::alloc::Global;
 
@@ -36,29 +33,12 @@ impl Default for Options {
     }
 }
 
-#[derive(Drop)]
-struct OptionsSlots {
-    rk: Option<bool>,
-    up: Option<bool>,
-    uv: Option<bool>,
-}
+impl Record for Options {
+    ghost Parts = { Made };
 
-impl Slots for OptionsSlots {
-    type Of = Options;
+    ghost parts = { λ options. options };
 
-    ghost Held = { OptionsValues };
-
-    ghost held = { options_held };
-
-    ghost Meaning = { Made };
-
-    ghost view = { λ options. options };
-
-    ghost table = { options_table };
-
-    ghost values = { options_values };
-
-    ghost build = { options_of };
+    ghost fields = { options_fields };
 
     fn is_numbered() -> bool {
         false
@@ -72,32 +52,17 @@ impl Slots for OptionsSlots {
         ]
     }
 
-    fn required_rows_suffice() {}
-
-    fn empty() -> OptionsSlots {
-        OptionsSlots {
-            rk: None,
-            up: None,
-            uv: None,
-        }
+    fn blank(_alloc: Global) -> Options {
+        Options::default()
     }
 
-    fn put(&mut self, alloc: Global, number: u8, value: &Value) -> Result<(), Refusal> {
+    fn put<S: Source>(&mut self, alloc: Global, number: u8, source: &mut S) -> Result<(), Refusal> {
         match number {
-            1 => read_into(&mut self.rk, alloc, value),
-            2 => read_into(&mut self.up, alloc, value),
-            3 => read_into(&mut self.uv, alloc, value),
+            1 => set(&mut self.rk, alloc, source),
+            2 => set(&mut self.up, alloc, source),
+            3 => set(&mut self.uv, alloc, source),
             _ => Err(Refusal::Refused),
         }
-    }
-
-    #[tactic(auto, using(passkey_kinds::proofs::Lists::option_same))]
-    fn finish(self) -> Option<Options> {
-        Some(Options {
-            rk: self.rk.unwrap_or(false),
-            up: self.up.unwrap_or(true),
-            uv: self.uv.unwrap_or(false),
-        })
     }
 }
 
@@ -111,7 +76,7 @@ impl FromCbor for Options {
     ghost takes = { true };
 
     fn from_value(alloc: Global, value: &Value) -> Result<Options, Refusal> {
-        read_nested::<OptionsSlots>(alloc, value)
+        nested_from_value(alloc, value)
     }
 }
 

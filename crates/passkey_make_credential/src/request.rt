@@ -3,21 +3,17 @@ ghost use Rattle.std.specs.Prelude.{◌≡◌, IfOk, IfErr, OnOk};
 ghost use Rattle.passkey_cbor.specs.View.{item_of};
 ghost use Rattle.passkey_cbor.specs.Writable.{IsWritable};
 ghost use Rattle.passkey_cbor.specs.Written.{written};
-ghost use Rattle.passkey_make_credential.specs.MakeRequest.{MakeRequestParts, MakeRequestValues, make_request_table, make_request_values, make_request_of, read_make_request, make_request_tree, MakeRequestFits, is_make_request_coherent};
-ghost use Rattle.passkey_make_credential.specs.MakeRequestHeld.{make_request_held};
+ghost use Rattle.passkey_make_credential.specs.MakeRequest.{MakeRequestParts, make_request_fields, make_request_table, read_make_request, make_request_tree, MakeRequestFits, is_make_request_coherent};
 ghost use Rattle.passkey_make_credential.specs.MakeRequestView.{make_request_parts};
 ghost use Rattle.passkey_kinds.specs.Message.{ReadsMessage};
 ghost use Rattle.passkey_kinds.specs.Reading.{MayGrowAt, Reads};
 ghost use Rattle.passkey_kinds.specs.declared.write_fault.WriteFault.TheVariants.{OutOfMemory as NoMemory};
 
 use crate::{Options, PublicKeyCredentialRpEntity};
-use passkey_bytes::{Bytes, List};
+use passkey_bytes::{Bytes, List, Text};
 use passkey_cbor::Value;
 use passkey_extensions::make_credential::ExtensionInputs;
-use passkey_kinds::{
-    Fault, Refusal, Row, Slots, ToCbor, TolerantList, Tolerated, WriteFault, Written, list_of,
-    read_into, read_message, read_record, write_message,
-};
+use passkey_kinds::{Fault, Record, Refusal, Row, Source, ToCbor, WriteFault, Written, message_from_slice, record_from_value, set, set_accepted, set_accepted_or_none, write_message};
 use passkey_memory::OutOfMemory;
 use passkey_webauthn::{
     PublicKeyCredentialDescriptor, PublicKeyCredentialParameters, PublicKeyCredentialUserEntity,
@@ -47,35 +43,12 @@ pub struct Request {
     pub pin_protocol: Option<u8>,
 }
 
-#[derive(Drop)]
-struct RequestSlots {
-    client_data_hash: Option<Bytes>,
-    rp: Option<PublicKeyCredentialRpEntity>,
-    user: Option<PublicKeyCredentialUserEntity>,
-    pub_key_cred_params: Option<TolerantList<PublicKeyCredentialParameters>>,
-    exclude_list: Option<Tolerated<TolerantList<PublicKeyCredentialDescriptor>>>,
-    extensions: Option<Option<ExtensionInputs>>,
-    options: Option<Options>,
-    pin_auth: Option<Option<Bytes>>,
-    pin_protocol: Option<Option<u8>>,
-}
+impl Record for Request {
+    ghost Parts = { MakeRequestParts };
 
-impl Slots for RequestSlots {
-    type Of = Request;
+    ghost parts = { make_request_parts };
 
-    ghost Held = { MakeRequestValues };
-
-    ghost held = { make_request_held };
-
-    ghost Meaning = { MakeRequestParts };
-
-    ghost view = { make_request_parts };
-
-    ghost table = { make_request_table };
-
-    ghost values = { make_request_values };
-
-    ghost build = { make_request_of };
+    ghost fields = { make_request_fields };
 
     fn is_numbered() -> bool {
         true
@@ -95,61 +68,40 @@ impl Slots for RequestSlots {
         ]
     }
 
-    #[tactic(auto, using(crate::proofs::Sufficient::make_request_suffices))]
-    fn required_rows_suffice() {}
-
-    fn empty() -> RequestSlots {
-        RequestSlots {
-            client_data_hash: None,
-            rp: None,
-            user: None,
-            pub_key_cred_params: None,
+    fn blank(alloc: Global) -> Request {
+        Request {
+            client_data_hash: Bytes::empty(alloc),
+            rp: PublicKeyCredentialRpEntity {
+                id: Text::empty(alloc),
+                name: None,
+            },
+            user: PublicKeyCredentialUserEntity {
+                id: Bytes::empty(alloc),
+                display_name: Text::empty(alloc),
+                name: Text::empty(alloc),
+            },
+            pub_key_cred_params: List::empty(alloc),
             exclude_list: None,
             extensions: None,
-            options: None,
+            options: Options::default(),
             pin_auth: None,
             pin_protocol: None,
         }
     }
 
-    fn put(&mut self, alloc: Global, number: u8, value: &Value) -> Result<(), Refusal> {
+    fn put<S: Source>(&mut self, alloc: Global, number: u8, source: &mut S) -> Result<(), Refusal> {
         match number {
-            1 => read_into(&mut self.client_data_hash, alloc, value),
-            2 => read_into(&mut self.rp, alloc, value),
-            3 => read_into(&mut self.user, alloc, value),
-            4 => read_into(&mut self.pub_key_cred_params, alloc, value),
-            5 => read_into(&mut self.exclude_list, alloc, value),
-            6 => read_into(&mut self.extensions, alloc, value),
-            7 => read_into(&mut self.options, alloc, value),
-            8 => read_into(&mut self.pin_auth, alloc, value),
-            9 => read_into(&mut self.pin_protocol, alloc, value),
+            1 => set(&mut self.client_data_hash, alloc, source),
+            2 => set(&mut self.rp, alloc, source),
+            3 => set(&mut self.user, alloc, source),
+            4 => set_accepted(&mut self.pub_key_cred_params, alloc, source),
+            5 => set_accepted_or_none(&mut self.exclude_list, alloc, source),
+            6 => set(&mut self.extensions, alloc, source),
+            7 => set(&mut self.options, alloc, source),
+            8 => set(&mut self.pin_auth, alloc, source),
+            9 => set(&mut self.pin_protocol, alloc, source),
             _ => Err(Refusal::Refused),
         }
-    }
-
-    fn finish(self) -> Option<Request> {
-        let RequestSlots {
-            client_data_hash,
-            rp,
-            user,
-            pub_key_cred_params,
-            exclude_list,
-            extensions,
-            options,
-            pin_auth,
-            pin_protocol,
-        } = self;
-        Some(Request {
-            client_data_hash: client_data_hash?,
-            rp: rp?,
-            user: user?,
-            pub_key_cred_params: pub_key_cred_params?.0,
-            exclude_list: list_of(exclude_list),
-            extensions: extensions.unwrap_or(None),
-            options: options.unwrap_or_default(),
-            pin_auth: pin_auth.unwrap_or(None),
-            pin_protocol: pin_protocol.unwrap_or(None),
-        })
     }
 }
 
@@ -180,7 +132,7 @@ impl Request {
     pub fn from_slice(alloc: Global, bytes: &[u8]) -> Result<(Request, usize), Fault>
         ensures { ReadsMessage make_request_parts read_make_request bytes.now result }
     {
-        read_message::<RequestSlots>(alloc, bytes)
+        message_from_slice(alloc, bytes)
     }
 
     /// The request that the item is. Else `NotAMap`, or the first fault of its members in their
@@ -190,7 +142,7 @@ impl Request {
     pub fn from_value(alloc: Global, value: &Value) -> Result<Request, Fault>
         ensures { Reads make_request_parts (MayGrowAt make_request_table (item_of value.now)) (read_make_request (item_of value.now)) result }
     {
-        read_record::<RequestSlots>(alloc, value)
+        record_from_value(alloc, value)
     }
 
     /// The request's bytes: members by their numbers in the table's order, each where it is there,

@@ -5,8 +5,7 @@ ghost use Rattle.passkey_cbor.specs.Writable.{IsWritable};
 ghost use Rattle.passkey_cbor.specs.Written.{written};
 ghost use Rattle.passkey_core.specs.DataNormal.{IsData};
 ghost use Rattle.passkey_core.specs.DataViews.{data_parts};
-ghost use Rattle.passkey_make_credential.specs.MakeResponse.{MakeResponseParts, MakeResponseValues, make_response_table, make_response_values, make_response_of, read_make_response, make_response_tree, MakeResponseFits, is_make_response_coherent, attestation_tree};
-ghost use Rattle.passkey_make_credential.specs.MakeResponseHeld.{make_response_held};
+ghost use Rattle.passkey_make_credential.specs.MakeResponse.{MakeResponseParts, make_response_fields, make_response_table, read_make_response, make_response_tree, MakeResponseFits, is_make_response_coherent, attestation_tree};
 ghost use Rattle.passkey_make_credential.specs.MakeResponseView.{make_response_parts};
 ghost use Rattle.passkey_kinds.specs.Message.{ReadsMessage};
 ghost use Rattle.passkey_kinds.specs.Reading.{MayGrowAt, Reads};
@@ -16,10 +15,7 @@ use passkey_bytes::{Bytes, Text};
 use passkey_cbor::Value;
 use passkey_core::AuthenticatorData;
 use passkey_extensions::make_credential::UnsignedExtensionOutputs;
-use passkey_kinds::{
-    Fault, Refusal, Row, Slots, ToCbor, WriteFault, Written, read_into, read_message, read_record,
-    write_message,
-};
+use passkey_kinds::{Fault, Record, Refusal, Row, Source, ToCbor, WriteFault, Written, message_from_slice, record_from_value, set, write_message};
 use passkey_memory::OutOfMemory;
 use std::alloc::Global;
 
@@ -43,32 +39,12 @@ pub struct Response {
     pub unsigned_extension_outputs: Option<UnsignedExtensionOutputs>,
 }
 
-#[derive(Drop)]
-struct ResponseSlots {
-    fmt: Option<Text>,
-    auth_data: Option<AuthenticatorData>,
-    att_stmt: Option<Value>,
-    ep_att: Option<Option<bool>>,
-    large_blob_key: Option<Option<Bytes>>,
-    unsigned_extension_outputs: Option<Option<UnsignedExtensionOutputs>>,
-}
+impl Record for Response {
+    ghost Parts = { MakeResponseParts };
 
-impl Slots for ResponseSlots {
-    type Of = Response;
+    ghost parts = { make_response_parts };
 
-    ghost Held = { MakeResponseValues };
-
-    ghost held = { make_response_held };
-
-    ghost Meaning = { MakeResponseParts };
-
-    ghost view = { make_response_parts };
-
-    ghost table = { make_response_table };
-
-    ghost values = { make_response_values };
-
-    ghost build = { make_response_of };
+    ghost fields = { make_response_fields };
 
     fn is_numbered() -> bool {
         true
@@ -85,42 +61,27 @@ impl Slots for ResponseSlots {
         ]
     }
 
-    #[tactic(auto, using(crate::proofs::Sufficient::make_response_suffices))]
-    fn required_rows_suffice() {}
-
-    fn empty() -> ResponseSlots {
-        ResponseSlots {
-            fmt: None,
-            auth_data: None,
-            att_stmt: None,
+    fn blank(alloc: Global) -> Response {
+        Response {
+            fmt: Text::empty(alloc),
+            auth_data: AuthenticatorData::empty(),
+            att_stmt: Value::Null,
             ep_att: None,
             large_blob_key: None,
             unsigned_extension_outputs: None,
         }
     }
 
-    fn put(&mut self, alloc: Global, number: u8, value: &Value) -> Result<(), Refusal> {
+    fn put<S: Source>(&mut self, alloc: Global, number: u8, source: &mut S) -> Result<(), Refusal> {
         match number {
-            1 => read_into(&mut self.fmt, alloc, value),
-            2 => read_into(&mut self.auth_data, alloc, value),
-            3 => read_into(&mut self.att_stmt, alloc, value),
-            4 => read_into(&mut self.ep_att, alloc, value),
-            5 => read_into(&mut self.large_blob_key, alloc, value),
-            6 => read_into(&mut self.unsigned_extension_outputs, alloc, value),
+            1 => set(&mut self.fmt, alloc, source),
+            2 => set(&mut self.auth_data, alloc, source),
+            3 => set(&mut self.att_stmt, alloc, source),
+            4 => set(&mut self.ep_att, alloc, source),
+            5 => set(&mut self.large_blob_key, alloc, source),
+            6 => set(&mut self.unsigned_extension_outputs, alloc, source),
             _ => Err(Refusal::Refused),
         }
-    }
-
-    #[tactic(auto, using(passkey_kinds::proofs::Lists::option_same))]
-    fn finish(self) -> Option<Response> {
-        Some(Response {
-            fmt: self.fmt?,
-            auth_data: self.auth_data?,
-            att_stmt: self.att_stmt?,
-            ep_att: self.ep_att.unwrap_or(None),
-            large_blob_key: self.large_blob_key.unwrap_or(None),
-            unsigned_extension_outputs: self.unsigned_extension_outputs.unwrap_or(None),
-        })
     }
 }
 
@@ -148,7 +109,7 @@ impl Response {
     pub fn from_slice(alloc: Global, bytes: &[u8]) -> Result<(Response, usize), Fault>
         ensures { ReadsMessage make_response_parts read_make_response bytes.now result }
     {
-        read_message::<ResponseSlots>(alloc, bytes)
+        message_from_slice(alloc, bytes)
     }
 
     /// The response that the item is. Else `NotAMap`, or the first fault of its members in their
@@ -157,7 +118,7 @@ impl Response {
     pub fn from_value(alloc: Global, value: &Value) -> Result<Response, Fault>
         ensures { Reads make_response_parts (MayGrowAt make_response_table (item_of value.now)) (read_make_response (item_of value.now)) result }
     {
-        read_record::<ResponseSlots>(alloc, value)
+        record_from_value(alloc, value)
     }
 
     /// The response's bytes: members by their numbers in the table's order, each where it is there.

@@ -1,17 +1,14 @@
 //! What extensions are given where a credential is used.
 ghost use Rattle.std.specs.Prelude.{nat_le, ◌≡◌, true};
 ghost use Rattle.passkey_core.specs.SignedOutputs.{where_some};
-ghost use Rattle.passkey_extensions.specs.GetExtensions.{GetExtensionsParts, GetExtensionsValues, get_extensions_table, get_extensions_values, get_extensions_of, get_extensions};
-ghost use Rattle.passkey_extensions.specs.GetExtensionsHeld.{get_extensions_held};
+ghost use Rattle.passkey_extensions.specs.GetExtensions.{GetExtensionsParts, get_extensions_fields, get_extensions};
 ghost use Rattle.passkey_extensions.specs.GetExtensionsView.{get_extensions_parts, no_get_extensions, has_get_extension};
 ghost use Rattle.passkey_extensions.specs.ExtensionTrees.{GetExtensionsFit, get_extensions_tree};
 ghost use Rattle.passkey_cbor.specs.Depth.{depth};
 
 use crate::{AuthenticatorPrfInputs, HmacGetSecretInput};
 use passkey_cbor::Value;
-use passkey_kinds::{
-    FromCbor, ReadBack, Refusal, Row, Slots, ToCbor, Tolerated, Written, read_into, read_nested,
-};
+use passkey_kinds::{FromCbor, ReadBack, Record, Refusal, Row, Source, ToCbor, Written, nested_from_value, set_tolerated};
 use passkey_memory::OutOfMemory;
 use std::alloc::Global;
 
@@ -59,28 +56,12 @@ impl ExtensionInputs {
     }
 }
 
-#[derive(Drop)]
-struct ExtensionSlots {
-    hmac_secret: Option<Tolerated<HmacGetSecretInput>>,
-    prf: Option<Tolerated<AuthenticatorPrfInputs>>,
-}
+impl Record for ExtensionInputs {
+    ghost Parts = { GetExtensionsParts };
 
-impl Slots for ExtensionSlots {
-    type Of = ExtensionInputs;
+    ghost parts = { get_extensions_parts };
 
-    ghost Held = { GetExtensionsValues };
-
-    ghost held = { get_extensions_held };
-
-    ghost Meaning = { GetExtensionsParts };
-
-    ghost view = { get_extensions_parts };
-
-    ghost table = { get_extensions_table };
-
-    ghost values = { get_extensions_values };
-
-    ghost build = { get_extensions_of };
+    ghost fields = { get_extensions_fields };
 
     fn is_numbered() -> bool {
         false
@@ -90,29 +71,19 @@ impl Slots for ExtensionSlots {
         &[Row::Optional(1, "hmac-secret"), Row::Optional(2, "prf")]
     }
 
-    fn required_rows_suffice() {}
-
-    fn empty() -> ExtensionSlots {
-        ExtensionSlots {
+    fn blank(_alloc: Global) -> ExtensionInputs {
+        ExtensionInputs {
             hmac_secret: None,
             prf: None,
         }
     }
 
-    fn put(&mut self, alloc: Global, number: u8, value: &Value) -> Result<(), Refusal> {
+    fn put<S: Source>(&mut self, alloc: Global, number: u8, source: &mut S) -> Result<(), Refusal> {
         match number {
-            1 => read_into(&mut self.hmac_secret, alloc, value),
-            2 => read_into(&mut self.prf, alloc, value),
+            1 => set_tolerated(&mut self.hmac_secret, alloc, source),
+            2 => set_tolerated(&mut self.prf, alloc, source),
             _ => Err(Refusal::Refused),
         }
-    }
-
-    #[tactic(auto, using(passkey_kinds::proofs::Lists::option_same))]
-    fn finish(self) -> Option<ExtensionInputs> {
-        Some(ExtensionInputs {
-            hmac_secret: self.hmac_secret.unwrap_or(Tolerated(None)).0,
-            prf: self.prf.unwrap_or(Tolerated(None)).0,
-        })
     }
 }
 
@@ -126,7 +97,7 @@ impl FromCbor for ExtensionInputs {
     ghost takes = { true };
 
     fn from_value(alloc: Global, value: &Value) -> Result<ExtensionInputs, Refusal> {
-        read_nested::<ExtensionSlots>(alloc, value)
+        nested_from_value(alloc, value)
     }
 }
 

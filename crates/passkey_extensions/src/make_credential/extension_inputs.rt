@@ -1,17 +1,14 @@
 //! What extensions are given where a credential is made.
 ghost use Rattle.std.specs.Prelude.{nat_le, ◌≡◌, true};
 ghost use Rattle.passkey_core.specs.SignedOutputs.{where_some};
-ghost use Rattle.passkey_extensions.specs.MakeExtensions.{MakeExtensionsParts, MakeExtensionsValues, make_extensions_table, make_extensions_values, make_extensions_of, make_extensions};
-ghost use Rattle.passkey_extensions.specs.MakeExtensionsHeld.{make_extensions_held};
+ghost use Rattle.passkey_extensions.specs.MakeExtensions.{MakeExtensionsParts, make_extensions_fields, make_extensions};
 ghost use Rattle.passkey_extensions.specs.MakeExtensionsView.{make_extensions_parts, no_make_extensions, has_make_extension};
 ghost use Rattle.passkey_extensions.specs.ExtensionTrees.{MakeExtensionsFit, make_extensions_tree};
 ghost use Rattle.passkey_cbor.specs.Depth.{depth};
 
 use crate::{AuthenticatorPrfInputs, HmacGetSecretInput};
 use passkey_cbor::Value;
-use passkey_kinds::{
-    FromCbor, ReadBack, Refusal, Row, Slots, ToCbor, Written, read_into, read_nested,
-};
+use passkey_kinds::{FromCbor, ReadBack, Record, Refusal, Row, Source, ToCbor, Written, nested_from_value, set};
 use passkey_memory::OutOfMemory;
 use std::alloc::Global;
 
@@ -61,29 +58,12 @@ impl ExtensionInputs {
     }
 }
 
-#[derive(Drop)]
-struct ExtensionSlots {
-    hmac_secret: Option<Option<bool>>,
-    hmac_secret_mc: Option<Option<HmacGetSecretInput>>,
-    prf: Option<Option<AuthenticatorPrfInputs>>,
-}
+impl Record for ExtensionInputs {
+    ghost Parts = { MakeExtensionsParts };
 
-impl Slots for ExtensionSlots {
-    type Of = ExtensionInputs;
+    ghost parts = { make_extensions_parts };
 
-    ghost Held = { MakeExtensionsValues };
-
-    ghost held = { make_extensions_held };
-
-    ghost Meaning = { MakeExtensionsParts };
-
-    ghost view = { make_extensions_parts };
-
-    ghost table = { make_extensions_table };
-
-    ghost values = { make_extensions_values };
-
-    ghost build = { make_extensions_of };
+    ghost fields = { make_extensions_fields };
 
     fn is_numbered() -> bool {
         false
@@ -97,32 +77,21 @@ impl Slots for ExtensionSlots {
         ]
     }
 
-    fn required_rows_suffice() {}
-
-    fn empty() -> ExtensionSlots {
-        ExtensionSlots {
+    fn blank(_alloc: Global) -> ExtensionInputs {
+        ExtensionInputs {
             hmac_secret: None,
             hmac_secret_mc: None,
             prf: None,
         }
     }
 
-    fn put(&mut self, alloc: Global, number: u8, value: &Value) -> Result<(), Refusal> {
+    fn put<S: Source>(&mut self, alloc: Global, number: u8, source: &mut S) -> Result<(), Refusal> {
         match number {
-            1 => read_into(&mut self.hmac_secret, alloc, value),
-            2 => read_into(&mut self.hmac_secret_mc, alloc, value),
-            3 => read_into(&mut self.prf, alloc, value),
+            1 => set(&mut self.hmac_secret, alloc, source),
+            2 => set(&mut self.hmac_secret_mc, alloc, source),
+            3 => set(&mut self.prf, alloc, source),
             _ => Err(Refusal::Refused),
         }
-    }
-
-    #[tactic(auto, using(passkey_kinds::proofs::Lists::option_same))]
-    fn finish(self) -> Option<ExtensionInputs> {
-        Some(ExtensionInputs {
-            hmac_secret: self.hmac_secret.unwrap_or(None),
-            hmac_secret_mc: self.hmac_secret_mc.unwrap_or(None),
-            prf: self.prf.unwrap_or(None),
-        })
     }
 }
 
@@ -136,7 +105,7 @@ impl FromCbor for ExtensionInputs {
     ghost takes = { true };
 
     fn from_value(alloc: Global, value: &Value) -> Result<ExtensionInputs, Refusal> {
-        read_nested::<ExtensionSlots>(alloc, value)
+        nested_from_value(alloc, value)
     }
 }
 

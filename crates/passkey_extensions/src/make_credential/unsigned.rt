@@ -1,16 +1,13 @@
 //! What extensions answer unsigned where a credential is made.
 ghost use Rattle.std.specs.Prelude.{◌≡◌, true, is_some, None};
 ghost use Rattle.passkey_core.specs.SignedOutputs.{where_some};
-ghost use Rattle.passkey_extensions.specs.MakeUnsigned.{UnsignedValues, unsigned_table, unsigned_values, unsigned_of, unsigned};
-ghost use Rattle.passkey_extensions.specs.MakeUnsignedHeld.{unsigned_held};
+ghost use Rattle.passkey_extensions.specs.MakeUnsigned.{unsigned_fields, unsigned};
 ghost use Rattle.passkey_extensions.specs.declared.make_credential.unsigned.UnsignedExtensionOutputs.{UnsignedExtensionOutputs as UnsignedOutputs};
 ghost use Rattle.passkey_extensions.specs.ExtensionTrees.{MadeFits, made_tree};
 
 use crate::AuthenticatorPrfMakeOutputs;
 use passkey_cbor::Value;
-use passkey_kinds::{
-    FromCbor, ReadBack, Refusal, Row, Shallow, Slots, ToCbor, Written, read_into, read_nested,
-};
+use passkey_kinds::{FromCbor, ReadBack, Record, Refusal, Row, Shallow, Source, ToCbor, Written, nested_from_value, set};
 use passkey_memory::OutOfMemory;
 use std::alloc::Global;
 
@@ -40,27 +37,12 @@ impl UnsignedExtensionOutputs {
     }
 }
 
-#[derive(Drop)]
-struct UnsignedSlots {
-    prf: Option<Option<AuthenticatorPrfMakeOutputs>>,
-}
+impl Record for UnsignedExtensionOutputs {
+    ghost Parts = { UnsignedOutputs };
 
-impl Slots for UnsignedSlots {
-    type Of = UnsignedExtensionOutputs;
+    ghost parts = { λ outputs. outputs };
 
-    ghost Held = { UnsignedValues };
-
-    ghost held = { unsigned_held };
-
-    ghost Meaning = { UnsignedOutputs };
-
-    ghost view = { λ outputs. outputs };
-
-    ghost table = { unsigned_table };
-
-    ghost values = { unsigned_values };
-
-    ghost build = { unsigned_of };
+    ghost fields = { unsigned_fields };
 
     fn is_numbered() -> bool {
         false
@@ -70,24 +52,15 @@ impl Slots for UnsignedSlots {
         &[Row::Optional(1, "prf")]
     }
 
-    fn required_rows_suffice() {}
-
-    fn empty() -> UnsignedSlots {
-        UnsignedSlots { prf: None }
+    fn blank(_alloc: Global) -> UnsignedExtensionOutputs {
+        UnsignedExtensionOutputs { prf: None }
     }
 
-    fn put(&mut self, alloc: Global, number: u8, value: &Value) -> Result<(), Refusal> {
+    fn put<S: Source>(&mut self, alloc: Global, number: u8, source: &mut S) -> Result<(), Refusal> {
         match number {
-            1 => read_into(&mut self.prf, alloc, value),
+            1 => set(&mut self.prf, alloc, source),
             _ => Err(Refusal::Refused),
         }
-    }
-
-    #[tactic(auto, using(passkey_kinds::proofs::Lists::option_same))]
-    fn finish(self) -> Option<UnsignedExtensionOutputs> {
-        Some(UnsignedExtensionOutputs {
-            prf: self.prf.unwrap_or(None),
-        })
     }
 }
 
@@ -101,7 +74,7 @@ impl FromCbor for UnsignedExtensionOutputs {
     ghost takes = { true };
 
     fn from_value(alloc: Global, value: &Value) -> Result<UnsignedExtensionOutputs, Refusal> {
-        read_nested::<UnsignedSlots>(alloc, value)
+        nested_from_value(alloc, value)
     }
 }
 

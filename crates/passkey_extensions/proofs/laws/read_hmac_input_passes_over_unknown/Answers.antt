@@ -1,7 +1,7 @@
-use Rattle.passkey_extensions.specs.HmacInput.{hmac_input_table, hmac_input_values, hmac_input_of}
+use Rattle.passkey_extensions.specs.HmacInput.{hmac_input_fields}
 use Rattle.passkey_extensions.specs.HmacInputView.{hmac_input_parts}
 use Rattle.passkey_extensions.proofs.laws.read_hmac_input_passes_over_unknown.Goals as goal
-use Rattle.passkey_kinds.proofs.LengthAlone.{passes_over_unknown}
+use Rattle.passkey_kinds.proofs.RecordLaws.{skips_unknown}
 
 pub returns : goal.returns
-returns c = passes_over_unknown c.at_most_one_front.ensures hmac_input_parts hmac_input_table hmac_input_values hmac_input_of
+returns c = skips_unknown c.at_most_one_front.ensures hmac_input_parts hmac_input_fields

@@ -1,7 +1,7 @@
-use Rattle.passkey_make_credential.specs.MakeRequest.{make_request_table, make_request_values, make_request_of}
+use Rattle.passkey_make_credential.specs.MakeRequest.{make_request_fields}
 use Rattle.passkey_make_credential.specs.MakeRequestView.{make_request_parts}
 use Rattle.passkey_make_credential.proofs.laws.read_make_request_passes_over_unknown.Goals as goal
-use Rattle.passkey_kinds.proofs.LengthAlone.{passes_over_unknown}
+use Rattle.passkey_kinds.proofs.RecordLaws.{skips_unknown}
 
 pub returns : goal.returns
-returns c = passes_over_unknown c.at_most_one_front.ensures make_request_parts make_request_table make_request_values make_request_of
+returns c = skips_unknown c.at_most_one_front.ensures make_request_parts make_request_fields

@@ -1,7 +1,7 @@
-use Rattle.passkey_make_credential.specs.MakeResponse.{make_response_table, make_response_values, make_response_of}
+use Rattle.passkey_make_credential.specs.MakeResponse.{make_response_fields}
 use Rattle.passkey_make_credential.specs.MakeResponseView.{make_response_parts}
 use Rattle.passkey_make_credential.proofs.laws.read_make_response_passes_over_unknown.Goals as goal
-use Rattle.passkey_kinds.proofs.LengthAlone.{passes_over_unknown}
+use Rattle.passkey_kinds.proofs.RecordLaws.{skips_unknown}
 
 pub returns : goal.returns
-returns c = passes_over_unknown c.at_most_one_front.ensures make_response_parts make_response_table make_response_values make_response_of
+returns c = skips_unknown c.at_most_one_front.ensures make_response_parts make_response_fields

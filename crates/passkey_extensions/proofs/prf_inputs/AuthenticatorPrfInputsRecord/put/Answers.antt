@@ -1,0 +1,24 @@
+use Rattle.std.proofs.Common.{◌≡◌, true, Option, Some, None, option_map, refl, ap}
+use Rattle.passkey_bytes.specs.Map.{ByteMap}
+use Rattle.passkey_extensions.specs.PrfInputs.{prf_inputs_fields}
+use Rattle.passkey_extensions.specs.PrfValues.{prf_values}
+use Rattle.passkey_extensions.specs.declared.prf_inputs.AuthenticatorPrfInputs.{AuthenticatorPrfInputs}
+use Rattle.passkey_extensions.specs.declared.prf_values.AuthenticatorPrfValues.{AuthenticatorPrfValues}
+use Rattle.passkey_kinds.proofs.Maps.{map_values_same}
+use Rattle.passkey_kinds.proofs.Putting.{sets_put}
+use Rattle.passkey_kinds.specs.Kind.{optional}
+use Rattle.passkey_kinds.specs.MapKind.{map_from_bytes, map_values}
+use Rattle.passkey_extensions.proofs.prf_inputs.AuthenticatorPrfInputsRecord.put.Goals as goal
+
+abbrev seen : Option (ByteMap AuthenticatorPrfValues) → Option (ByteMap AuthenticatorPrfValues)
+seen o = option_map (λ (m : ByteMap AuthenticatorPrfValues). map_values (λ (v : AuthenticatorPrfValues). v) m) o
+
+same : (o : Option (ByteMap AuthenticatorPrfValues)) → seen o ≡ o
+same None = refl
+same (Some m) = ap Some (map_values_same m)
+
+pub returns-in-2 : goal.returns-in-2
+returns-in-2 g c = λ i at.
+    let old = c.args.self.now in
+    let set : Option (ByteMap AuthenticatorPrfValues) → AuthenticatorPrfInputs → AuthenticatorPrfInputs = λ x r. record r { eval_by_credential = x } in
+    sets_put prf_inputs_fields seen (optional (map_from_bytes prf_values)) true set c.args.number 2 i c.set-in-2.new.field old (set c.set-in-2.new.field old) c.set-in-2.result c.in-2.is refl refl refl (ap (λ o. set o old) (same c.set-in-2.new.field)) (c.set-in-2.ensures i at)
