@@ -1,5 +1,5 @@
 -- What items mean: a kind accepts some items, and gives each of them a value.
-use Rattle.std.specs.Prelude.{◌≡◌, ◌==◌, ℕ, pos, nat_lt, length, Bool, true, false, IsTrue, if◌then◌else◌, is_some, List, [], ◌∷◌, Option, Some, None, option_map, unwrap_or, Result, Ok, Err}
+use Rattle.std.specs.Prelude.{◌≡◌, ◌==◌, ℕ, pos, nat_lt, length, Bool, IsTrue, if◌then◌else◌, List, [], ◌∷◌, Option, Some, None, option_map, unwrap_or, Result, Ok, Err}
 use Rattle.std.specs.List.{filter_map}
 use Rattle.std.specs.Option.{option_and_then}
 use Rattle.std.specs.Str.{trim}
@@ -26,12 +26,6 @@ MayGrow takes i = IsTrue takes × Grows i
 -- the same, at an item
 abbrev pub Answers : {A M : Type 0} → (A → M) → Kind M → Bool → Item → Result A Refusal → Type 0
 Answers view kind takes i = AnswersAs view (kind i) (MayGrow takes i)
-
--- What a slot holds after a reader.
-abbrev pub ReadsInto : {A M : Type 0} → (A → M) → Kind M → Bool → Item → Option A → Result (Unit {0}) Refusal → Type 0
-ReadsInto view kind takes i slot (Ok x) = (kind i ≡ option_map view slot) × (is_some (kind i) ≡ true)
-ReadsInto view kind takes i slot (Err Refused) = is_some (kind i) ≡ false
-ReadsInto view kind takes i slot (Err OutOfMemory) = MayGrow takes i
 
 abbrev pub truth : Kind Bool
 truth (boolean b) = Some b

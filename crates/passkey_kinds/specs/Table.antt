@@ -29,13 +29,6 @@ pub record Table : Type 0 where
 abbrev pub entries : Table → List Entry
 entries table = map (λ r. r.entry) table.rows
 
--- a row of this kind, which takes memory or doesn't
-abbrev pub required : {M : Type 0} → ℕ → List ℕ → Kind M → Bool → Row
-required n name kind takes = record { entry = record { number = n; name = name; is_required = true }; accepts = λ i. is_some (kind i); takes = takes }
-
-abbrev pub default : {M : Type 0} → ℕ → List ℕ → Kind M → Bool → Row
-default n name kind takes = record { entry = record { number = n; name = name; is_required = false }; accepts = λ i. is_some (kind i); takes = takes }
-
 -- What a key names: a row by its number, or nothing that the table knows; or it is no key.
 pub data Naming : Type 0 where
   row : ℕ → Naming
@@ -102,41 +95,7 @@ first_bad table earlier (m ∷ ms) = option_or (bad_member table earlier m) (fir
 abbrev pub first_missing : Table → Members → Option ℕ
 first_missing table ms = option_map (λ (e : Entry). e.number) (find (λ (e : Entry). e.is_required && is_none (found table ms e.number)) (entries table))
 
--- the values that a record's kinds give of what stands under each row
-abbrev pub Values : Type 0 → Type 0
-Values V = (ℕ → Option Item) → V
-
 infixl 10 ◌>>=◌
 abbrev pub ◌>>=◌ : {X Y : Type 0} → Option X → (X → Option Y) → Option Y
 None >>= f = None
 (Some x) >>= f = f x
-
--- the value of the kind, of what stands under the row
-abbrev pub given : {M : Type 0} → Kind M → ℕ → (ℕ → Option Item) → Option M
-given kind n m = m n >>= kind
-
--- the record of the values, with its defaults; nothing where a required value isn't there
-abbrev pub Build : Type 0 → Type 0 → Type 0
-Build V M = V → Option M
-
--- (no record comes to the last case: what stands under its required rows suffices, TableLaws)
-abbrev pub built : {M : Type 0} → Option ℕ → Option M → Result M Fault
-built (Some n) made = Err (Missing n)
-built None (Some x) = Ok x
-built None None = Err NotAMap
-
-abbrev pub judged : {V M : Type 0} → Table → Values V → Build V M → Members → Option Fault → Result M Fault
-judged table values build ms (Some f) = Err f
-judged table values build ms None = built (first_missing table ms) (build (values (found table ms)))
-
-abbrev pub read_members : {V M : Type 0} → Table → Values V → Build V M → Members → Result M Fault
-read_members table values build ms = judged table values build ms (first_bad table [] ms)
-
--- the record that an item is, or the first fault
-abbrev pub read_item : {V M : Type 0} → Table → Values V → Build V M → Item → Result M Fault
-read_item table values build (item.map ps) = read_members table values build (members ps)
-read_item table values build _ = Err NotAMap
-
--- a record as a kind
-abbrev pub record_kind : {V M : Type 0} → Table → Values V → Build V M → Kind M
-record_kind table values build i = result_ok (read_item table values build i)

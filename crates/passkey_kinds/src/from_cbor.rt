@@ -2,7 +2,7 @@
 ghost use Rattle.std.specs.Prelude.{◌^◌, ℕ, Bool, true, false, List, Option, option_map};
 ghost use Rattle.passkey_cbor.specs.Item.{Item};
 ghost use Rattle.passkey_cbor.specs.View.{item_of};
-ghost use Rattle.passkey_kinds.specs.Kind.{Answers, ReadsInto, truth, below, text, kept, optional};
+ghost use Rattle.passkey_kinds.specs.Kind.{Answers, truth, below, text, kept, optional};
 
 use crate::refusal::Refusal;
 use passkey_bytes::Text;
@@ -125,17 +125,4 @@ impl<T: FromCbor> FromCbor for Option<T> {
             _ => Ok(Some(T::from_value(alloc, value)?)),
         }
     }
-}
-
-/// Reads the item into the slot. `Refused` where it stands for no value of the type; `OutOfMemory`
-/// where a growth was refused, which only an item lets happen that takes memory.
-pub fn read_into<T: FromCbor>(
-    slot: &mut Option<T>,
-    alloc: Global,
-    value: &Value,
-) -> Result<(), Refusal>
-    ensures { ReadsInto T.view T.kind T.takes (item_of value.now) slot.new result }
-{
-    *slot = Some(T::from_value(alloc, value)?);
-    Ok(())
 }

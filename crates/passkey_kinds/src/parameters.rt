@@ -6,10 +6,10 @@ ghost use Rattle.passkey_webauthn.specs.declared.parameters.PublicKeyCredentialP
 ghost use Rattle.passkey_kinds.specs.ReadBack.{Any};
 
 use crate::from_cbor::FromCbor;
+use crate::record::{Record, nested_from_value};
 use crate::refusal::Refusal;
 use crate::rows::Row;
 use crate::source::{Source, set, set_or};
-use crate::table::{Record, nested_from_value};
 use crate::to_cbor::ToCbor;
 use crate::written::Written;
 use passkey_cbor::Value;

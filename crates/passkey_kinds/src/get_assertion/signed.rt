@@ -7,10 +7,10 @@ ghost use Rattle.passkey_kinds.specs.ReadBack.{Any};
 
 use crate::from_cbor::FromCbor;
 use crate::read_back::ReadBack;
+use crate::record::{Record, nested_from_value};
 use crate::refusal::Refusal;
 use crate::rows::Row;
 use crate::source::{Source, set};
-use crate::table::{Record, nested_from_value};
 use crate::to_cbor::ToCbor;
 use passkey_cbor::Value;
 use passkey_core::get_assertion::SignedExtensionOutputs;

@@ -5,7 +5,7 @@ use Rattle.passkey_cbor.proofs.Views.{item_of-Map}
 use Rattle.passkey_cose.proofs.KeyLists.{members-pairs_of}
 use Rattle.passkey_kinds.specs.Reading.{MayGrowIn, Reads}
 use Rattle.passkey_kinds.specs.Record.{table_of, read_members}
-use Rattle.passkey_kinds.proofs.table.record_from_value.Goals as goal
+use Rattle.passkey_kinds.proofs.record.record_from_value.Goals as goal
 
 pub returns-in-Map : goal.returns-in-Map
 returns-in-Map g c =

@@ -2,7 +2,7 @@ use Rattle.std.proofs.Common.{rules, ◌≡◌, Err}
 use Rattle.passkey_cbor.specs.View.{item_of}
 use Rattle.passkey_kinds.specs.Record.{table_of, read_item}
 use Rattle.passkey_kinds.proofs.Messages.{message_fails}
-use Rattle.passkey_kinds.proofs.table.message_from_slice.Goals as goal
+use Rattle.passkey_kinds.proofs.message.message_from_slice.Goals as goal
 
 pub returns-in_err-record_from_value : goal.returns-in_err-record_from_value
 returns-in_err-record_from_value g c =
