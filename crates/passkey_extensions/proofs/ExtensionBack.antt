@@ -26,7 +26,7 @@ use Rattle.passkey_extensions.specs.declared.prf_make_outputs.AuthenticatorPrfMa
 use Rattle.passkey_extensions.specs.declared.prf_values.AuthenticatorPrfValues.{AuthenticatorPrfValues}
 use Rattle.passkey_extensions.specs.declared.get_assertion.unsigned.UnsignedExtensionOutputs as assertion
 use Rattle.passkey_extensions.specs.declared.make_credential.unsigned.UnsignedExtensionOutputs as creation
-use Rattle.passkey_kinds.proofs.Back.{required_place, default_place, falls_as, reads_back, record_back}
+use Rattle.passkey_kinds.proofs.Back.{falls_as}
 use Rattle.passkey_kinds.proofs.LeafBack.{truth_back, byte_back, bytes_back, kept_back, or_null_back, anything, optional_place, tolerated_place}
 use Rattle.passkey_kinds.proofs.SizedBack.{numbers_back}
 use Rattle.passkey_kinds.proofs.Lists.{option_same}

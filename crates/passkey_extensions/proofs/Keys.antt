@@ -5,7 +5,7 @@ use Rattle.passkey_cbor.specs.Item.{Item}
 use Rattle.passkey_extensions.specs.GetExtensions.{GetExtensionsParts, get_extensions_fields, get_extensions}
 use Rattle.passkey_extensions.specs.HmacInput.{HmacInputParts, hmac_input_fields, hmac_input, read_hmac_input}
 use Rattle.passkey_extensions.specs.MakeExtensions.{MakeExtensionsParts, make_extensions_fields, make_extensions}
-use Rattle.passkey_kinds.proofs.Deep.{not_null, ok_of}
+use Rattle.passkey_kinds.proofs.NotNull.{not_null, ok_of}
 use Rattle.passkey_kinds.proofs.Keeping.{◌▹◌, no_more, record_keeps, nested_keeps}
 
 pub read_key : (i : Item) (h : HmacInputParts) → read_hmac_input i ≡ Ok h → depth h.key_agreement < depth i

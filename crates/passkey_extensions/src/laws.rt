@@ -4,7 +4,7 @@ ghost use Rattle.passkey_extensions.specs.HmacInput.{hmac_input_fields, read_hma
 ghost use Rattle.passkey_extensions.specs.HmacInputView.{hmac_input_parts};
 ghost use Rattle.passkey_kinds.specs.MessageLaws.{WrittenIsReadBack, ReadIsCoherent};
 ghost use Rattle.passkey_kinds.specs.RecordLaws.{SkipsUnknown};
-ghost use Rattle.passkey_kinds.specs.TableLaws.{KnowsMaps};
+ghost use Rattle.passkey_kinds.specs.RecordLaws.{KnowsMaps};
 
 /// What is written of coherent inputs of the extension hmac-secret, whatever bytes follow, is read
 /// back as the inputs.

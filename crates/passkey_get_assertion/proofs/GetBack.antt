@@ -4,7 +4,6 @@ use Rattle.passkey_cbor.specs.Depth.{depth}
 use Rattle.passkey_get_assertion.specs.GetOptions.{options_fields, options, options_places, options_tree}
 use Rattle.passkey_get_assertion.specs.declared.options.Options.{Options}
 use Rattle.passkey_kinds.specs.ReadBack.{IsReadBack, Any}
-use Rattle.passkey_kinds.proofs.Back.{default_place, record_back}
 use Rattle.passkey_kinds.proofs.LeafBack.{truth_back}
 use Rattle.passkey_kinds.proofs.Levels.{record_within}
 use Rattle.passkey_kinds.proofs.RecordLevels.{flat}

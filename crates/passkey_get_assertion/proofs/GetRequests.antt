@@ -19,7 +19,6 @@ use Rattle.passkey_kinds.specs.MessageLaws.{WrittenIsReadBack, ReadIsCoherent}
 use Rattle.passkey_kinds.specs.Table.{◌>>=◌, found, given}
 use Rattle.passkey_kinds.specs.Tree.{number_tree, list_tree}
 use Rattle.passkey_kinds.specs.Trees.{descriptor_tree}
-use Rattle.passkey_kinds.proofs.Back.{required_place, default_place, reads_back}
 use Rattle.passkey_kinds.proofs.Keeping as kept
 use Rattle.passkey_kinds.proofs.Keeping.{◌▹◌, record_keeps}
 use Rattle.passkey_kinds.proofs.LeafBack.{byte_back, text_back, bytes_back, anything, all_of_anything, optional_place, accepted_place, tolerated_place}

@@ -23,7 +23,6 @@ use Rattle.passkey_kinds.specs.MessageLaws.{WrittenIsReadBack, ReadIsCoherent}
 use Rattle.passkey_kinds.specs.Table.{◌>>=◌, found}
 use Rattle.passkey_kinds.specs.Tree.{number_tree}
 use Rattle.passkey_kinds.specs.Trees.{descriptor_tree}
-use Rattle.passkey_kinds.proofs.Back.{required_place, reads_back}
 use Rattle.passkey_kinds.proofs.Keeping as kept
 use Rattle.passkey_kinds.proofs.Keeping.{◌▹◌, record_keeps}
 use Rattle.passkey_kinds.proofs.LeafBack.{truth_back, byte_back, bytes_back, anything, optional_place}

@@ -5,7 +5,7 @@ ghost use Rattle.passkey_get_assertion.specs.GetResponse.{get_response_fields, r
 ghost use Rattle.passkey_get_assertion.specs.GetResponseView.{get_response_parts};
 ghost use Rattle.passkey_kinds.specs.MessageLaws.{WrittenIsReadBack, ReadIsCoherent};
 ghost use Rattle.passkey_kinds.specs.RecordLaws.{SkipsUnknown};
-ghost use Rattle.passkey_kinds.specs.TableLaws.{KnowsMaps};
+ghost use Rattle.passkey_kinds.specs.RecordLaws.{KnowsMaps};
 
 /// What is written of a coherent request to use a credential, whatever bytes follow, is read as the
 /// request.

@@ -4,7 +4,7 @@ ghost use Rattle.passkey_get_info.specs.GetInfoView.{get_info_parts};
 ghost use Rattle.passkey_get_info.specs.GetInfoTree.{get_info_tree, GetInfoFits, is_get_info_coherent, normal_get_info};
 ghost use Rattle.passkey_kinds.specs.MessageLaws.{WrittenIsReadBack, ReadIsCoherent};
 ghost use Rattle.passkey_kinds.specs.RecordLaws.{SkipsUnknown};
-ghost use Rattle.passkey_kinds.specs.TableLaws.{KnowsMaps};
+ghost use Rattle.passkey_kinds.specs.RecordLaws.{KnowsMaps};
 
 /// What is written of what an authenticator tells of itself, where that is coherent, is read as the
 /// response with the known variants of unknown versions and extensions of known names, whatever

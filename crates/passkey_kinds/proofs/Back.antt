@@ -1,16 +1,14 @@
--- Records are read back from what they are written as.
+-- What the places of a record give its rows.
 use Rattle.std.specs.List.{find, list_any}
-use Rattle.std.specs.Result.{result_ok}
-use Rattle.std.proofs.Common.{◌≡◌, ◌∙◌, ℕ, ◌==◌, Bool, true, false, cond, not, ◌&&◌, ◌||◌, List, [], ◌∷◌, ◌++◌, append_assoc, Option, Some, None, is_some, is_none, option_map, unwrap_or, Ok, refl, sym, ap, subst}
+use Rattle.std.proofs.Common.{◌≡◌, ◌∙◌, ℕ, ◌==◌, Bool, true, false, cond, not, ◌&&◌, ◌||◌, List, [], ◌∷◌, ◌++◌, append_assoc, Option, Some, None, is_some, is_none, option_map, unwrap_or, refl, sym, ap, subst}
 use Rattle.std.proofs.lemmas.Bool.{and_parts, eqb-true, eqb-false, ne_eqb, not-true}
 use Rattle.std.proofs.lemmas.List.{append-nil}
 use Rattle.passkey_cbor.specs.Item.{Item, boolean}
 use Rattle.passkey_core.specs.DataNormal.{Where}
-use Rattle.passkey_cose.proofs.KeyLists.{members-pairs_of}
 use Rattle.passkey_kinds.specs.Kind.{Kind, truth}
 use Rattle.passkey_kinds.specs.ReadBack.{IsReadBack}
-use Rattle.passkey_kinds.specs.Table.{Entry, Row, Table, Naming, row, unknown, wrong, entries, named, is_row, Members, found, accepts_at, first_bad, Values, ◌>>=◌, Build, built, judged, read_members, read_item, record_kind}
-use Rattle.passkey_kinds.specs.Tree.{Place, where_true, under, laid, record_tree}
+use Rattle.passkey_kinds.specs.Table.{Entry, Row, Table, Naming, row, unknown, wrong, entries, named, is_row, Members, found, accepts_at, first_bad, ◌>>=◌}
+use Rattle.passkey_kinds.specs.Tree.{Place, where_true, under, laid}
 use Rattle.passkey_kinds.proofs.Members.{was_good, found_push}
 
 -- the members of the places
@@ -119,29 +117,9 @@ found_spread table (n ∷ ns) (p ∷ ps) m keys apart =
 abbrev pub missing_of : Table → (ℕ → Option Item) → Option ℕ
 missing_of table f = option_map (λ (e : Entry). e.number) (find (λ (e : Entry). e.is_required && is_none (f e.number)) (entries table))
 
-read_spread : {V M : Type 0} (table : Table) (values : Values V) (build : Build V M) (ms : Members) (f : ℕ → Option Item) (x : M) → first_bad table [] ms ≡ None → found table ms ≡ f → missing_of table f ≡ None → build (values f) ≡ Some x → read_members table values build ms ≡ Ok x
-read_spread table values build ms f x good is complete made =
-    ap (judged table values build ms) good
-    ∙ (λ i. built (missing_of table (is i)) (build (values (is i))))
-    ∙ (λ i. built (complete i) (made i))
-
--- what was laid out is read back
-pub reads_back : {V M : Type 0} (table : Table) (values : Values V) (build : Build V M) (ns : List ℕ) (ps : List Place) (x : M) → (have_rows table ns ps && are_distinct ns) ≡ true → Fit table.rows ns ps → missing_of table (stands ns ps) ≡ None → build (values (stands ns ps)) ≡ Some x → read_item table values build (record_tree ps) ≡ Ok x
-reads_back table values build ns ps x keys fit complete made =
-    let k = and_parts (have_rows table ns ps) (are_distinct ns) keys in
-    ap (read_members table values build) (members-pairs_of (laid [] ps) ∙ laid_spread [] ps)
-    ∙ read_spread table values build (spread ps) (stands ns ps) x (none_bad table [] ns ps k.0 k.1 fit (all_free table ns)) (λ i m. found_spread table ns ps m k.0 k.1 i) complete made
-
-pub record_back : {V M : Type 0} (table : Table) (values : Values V) (build : Build V M) (ns : List ℕ) (ps : List Place) (x : M) → (have_rows table ns ps && are_distinct ns) ≡ true → Fit table.rows ns ps → missing_of table (stands ns ps) ≡ None → build (values (stands ns ps)) ≡ Some x → record_kind table values build (record_tree ps) ≡ Some x
-record_back table values build ns ps x keys fit complete made = ap result_ok (reads_back table values build ns ps x keys fit complete made)
-
 -- ---- what a row gives of its place
 
-pub record Gives {M : Type 0} (kind : Kind M) (o : Option Item) (w : Option M) : Type 0 where
-  pub value : (o >>= kind) ≡ w
-  pub accepted : (i : Item) → o ≡ Some i → is_some (kind i) ≡ true
-
--- the same of a row with a default
+-- What an item, or none, gives where none is the default.
 pub record Falls {M : Type 0} (kind : Kind M) (default : M) (o : Option Item) (y : M) : Type 0 where
   pub value : unwrap_or (o >>= kind) default ≡ y
   pub accepted : (i : Item) → o ≡ Some i → is_some (kind i) ≡ true
@@ -156,13 +134,6 @@ none_there kind i e = absurd cc
 
 given_it : {M : Type 0} (kind : Kind M) (default : M) (j : Item) (y : M) → kind j ≡ Some y → Falls kind default (Some j) y
 given_it {M} kind default j y h = record { value = ap (λ (o : Option M). unwrap_or o default) h; accepted = accepts_it kind j y h }
-
-module _ {A M : Type 0} {kind : Kind M} {tree : A → Item} {Fits : A → Type 0} {normal : A → M} (r : IsReadBack kind tree Fits normal) where
-  pub required_place : (x : A) → Fits x → Gives kind (Some (tree x)) (Some (normal x))
-  required_place x h = record { value = r.back x h; accepted = accepts_it kind (tree x) (normal x) (r.back x h) }
-
-  pub default_place : (default : M) (x : A) → Fits x → Falls kind default (Some (tree x)) (normal x)
-  default_place default x h = given_it kind default (tree x) (normal x) (r.back x h)
 
 pub option_place : {A M : Type 0} {kind : Kind (Option M)} {tree : A → Item} {Fits : A → Type 0} {normal : A → M} → IsReadBack kind tree Fits (λ x. Some (normal x)) → (o : Option A) → Where Fits o → Falls kind None (option_map tree o) (option_map normal o)
 option_place {kind = kind} r None h = record { value = refl; accepted = none_there kind }

@@ -6,7 +6,7 @@ use Rattle.passkey_cbor.specs.Item.{Item, Pairs, no_pairs, pair, members}
 use Rattle.passkey_kinds.specs.Record.{Member, Fields, set_with, table_of, put_at, put_named, with_members, unless_missing, judged, read_item, record_kind}
 use Rattle.passkey_kinds.specs.Table.{Naming, row, unknown, wrong, named, Members, first_bad, first_missing}
 use Rattle.passkey_kinds.specs.declared.fault.Fault.{Fault}
-use Rattle.passkey_kinds.proofs.Deep.{ok_of}
+use Rattle.passkey_kinds.proofs.NotNull.{ok_of}
 
 -- each member keeps it, at items of fewer levels than n
 abbrev pub Keeps : {P : Type 0} → ℕ → (P → Type 0) → List (Member P) → Type 0

@@ -3,14 +3,9 @@ use Rattle.std.proofs.Common.{◌≡◌, ◌≢◌, ◌∙◌, ℕ, List, ◌∷
 use Rattle.passkey_cbor.specs.Front.{IsFront}
 use Rattle.passkey_cbor.specs.Item.{Item}
 use Rattle.passkey_cbor.specs.Laws.{AtMostOneFront}
-use Rattle.passkey_cose.proofs.KeyLists.{members-pairs_of}
-use Rattle.passkey_kinds.proofs.ItemFaults.{knows_items}
-use Rattle.passkey_kinds.proofs.Unknown.{unknown_is_passed_over}
 use Rattle.passkey_kinds.specs.Message.{Begins, ReadsMessage}
-use Rattle.passkey_kinds.specs.MessageLaws.{SameButForLength, AnswersCarryOver, AlikeDifferInLength, PassesOverUnknown}
-use Rattle.passkey_kinds.specs.Table.{Table, Members, Values, Build, read_members, read_item}
-use Rattle.passkey_kinds.specs.TableLaws.{KnowsItems}
-use Rattle.passkey_kinds.specs.Tree.{map_tree}
+use Rattle.passkey_kinds.specs.MessageLaws.{SameButForLength, AnswersCarryOver, AlikeDifferInLength}
+use Rattle.passkey_kinds.specs.RecordLaws.{KnowsItems}
 use Rattle.passkey_kinds.specs.declared.fault.Fault.{Fault}
 use Rattle.passkey_kinds.specs.declared.fault.Fault.TheVariants as fault
 
@@ -70,17 +65,3 @@ carries_over law view read knows x y same bytes others n m front other r s some 
 pub alike : {A M : Type 0} → AtMostOneFront → (view : A → M) (read : Item → Result M Fault) → KnowsItems read → AlikeDifferInLength view read
 alike law view read knows x y same bytes others n m front other =
     (carries_over law view read knows x y same bytes others n m front other, carries_over law view read knows y x (sym same) others bytes m n other front)
-
--- ---- records
-
-pub alike_differ_in_length : {A V M : Type 0} → AtMostOneFront → (view : A → M) (table : Table) (values : Values V) (build : Build V M) → AlikeDifferInLength view (read_item table values build)
-alike_differ_in_length law view table values build = alike law view (read_item table values build) (knows_items table values build)
-
-pub passes_over_unknown : {A V M : Type 0} → AtMostOneFront → (view : A → M) (table : Table) (values : Values V) (build : Build V M) → PassesOverUnknown view table values build
-passes_over_unknown law view table values build before behind key value naming =
-    let without : Members = before ++ behind in
-    let with_it : Members = before ++ (key, value) ∷ behind in
-    alike_differ_in_length law view table values build (map_tree without) (map_tree with_it)
-    (ap (read_members table values build) (members-pairs_of without)
-    ∙ sym (unknown_is_passed_over table values build before behind key value naming)
-    ∙ sym (ap (read_members table values build) (members-pairs_of with_it)))

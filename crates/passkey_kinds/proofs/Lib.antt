@@ -9,8 +9,6 @@ pub mod Putting
 pub mod Accepted
 pub mod Unknown
 pub mod FirstBad
-pub mod ItemFaults
-pub mod Required
 pub mod SameAnswers
 pub mod Back
 pub mod RowsBack
@@ -25,7 +23,6 @@ pub mod Messages
 pub mod LengthAlone
 pub mod RecordLaws
 pub mod RecordLevels
-pub mod Deep
+pub mod NotNull
 pub mod Keeping
-pub mod Held
 pub mod DataBack

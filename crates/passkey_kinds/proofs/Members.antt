@@ -1,14 +1,12 @@
 -- What one more member does to what was read.
 use Rattle.std.specs.Cmp.{unsigned_Decides}
-use Rattle.std.proofs.Common.{◌≡◌, ◌∙◌, ◌<◌, ◌==◌, ℕ, arith, Bool, true, false, if◌then◌else◌, List, [], ◌∷◌, ◌++◌, length, set, get_or, Option, Some, None, is_some, Err, refl, sym, ap, subst}
+use Rattle.std.proofs.Common.{◌≡◌, ◌∙◌, ◌<◌, ◌==◌, ℕ, arith, Bool, true, false, if◌then◌else◌, List, [], ◌∷◌, ◌++◌, length, set, get_or, Option, Some, None, is_some, refl, sym, ap}
 use Rattle.std.proofs.lemmas.Bool.{true≢false}
 use Rattle.std.proofs.lemmas.List.{get_or-set_same, get_or-set_other, length-set}
 use Rattle.std.proofs.lemmas.Option.{slice_get-get_or, get_or_from_slice_get}
 use Rattle.passkey_cbor.specs.Item.{Item}
-use Rattle.passkey_kinds.specs.Reading.{with_row, Holds, Puts}
-use Rattle.passkey_kinds.specs.Table.{Entry, Row, Table, Naming, row, unknown, entries, names, named, is_row, Members, found, accepts_at, bad_member, Values}
-use Rattle.passkey_kinds.specs.declared.refusal.Refusal.{Refusal}
-use Rattle.passkey_kinds.specs.declared.refusal.Refusal.TheVariants as refusal
+use Rattle.passkey_kinds.specs.Reading.{with_row, Marks}
+use Rattle.passkey_kinds.specs.Table.{Entry, Table, Naming, row, unknown, entries, names, named, is_row, Members, found, accepts_at, bad_member}
 use Rattle.passkey_kinds.specs.declared.fault.Fault.TheVariants.{Repeated, Refused}
 use Rattle.passkey_kinds.proofs.Unknown.{found_pushed}
 
@@ -49,35 +47,24 @@ found_push table key value n naming (m ∷ ms) e k =
       | false ↦ λ h. λ u. λ r. rw r refl
     ]) refl refl rest
 
--- ---- slots and marks
+-- ---- marks
 
-module _ {V : Type 0} (table : Table) (values : Values V) (earlier : Members) (key value : Item) (held : V) (marks : List Bool) (h : Holds table values earlier held marks) where
+module _ (table : Table) (earlier : Members) (key value : Item) (marks : List Bool) (marked : Marks table earlier marks) where
   pub marked_as : (n : ℕ) (d b : Bool) → n < 256 → get_or marks n d ≡ b → is_some (found table earlier n) ≡ b
-  marked_as n d b small e = sym (get_or_from_slice_get marks n (is_some (found table earlier n)) d (h.marked n small)) ∙ e
+  marked_as n d b small e = sym (get_or_from_slice_get marks n (is_some (found table earlier n)) d (marked n small)) ∙ e
 
-  pub stays : named table key ≡ unknown → Holds table values (earlier ++ (key, value) ∷ []) held marks
-  stays naming =
-      let same : (k : ℕ) → found table (earlier ++ (key, value) ∷ []) k ≡ found table earlier k = found_pushed table earlier key value naming in
-      record {
-        filled = ap values (λ i k. same k i) ∙ h.filled;
-        marked = λ n small. h.marked n small ∙ ap (λ (o : Option Item). Some (is_some o)) (sym (same n));
-      }
+  pub stays : named table key ≡ unknown → Marks table (earlier ++ (key, value) ∷ []) marks
+  stays naming n small = marked n small ∙ ap (λ (o : Option Item). Some (is_some o)) (sym (found_pushed table earlier key value naming n))
 
-  pub fills : (n : ℕ) (next : V) → named table key ≡ row n → is_some (found table earlier n) ≡ false → n < 256 → length marks ≡ 256 → ((f : ℕ → Option Item) → f n ≡ None → values f ≡ held → values (with_row n value f) ≡ next) → Holds table values (earlier ++ (key, value) ∷ []) next (set marks n true)
-  fills n next naming none small long puts =
-      let free : found table earlier n ≡ None = none_of (found table earlier n) none in
-      let pushed : (k : ℕ) → found table (earlier ++ (key, value) ∷ []) k ≡ with_row n value (found table earlier) k = found_push table key value n naming earlier free in
-      record {
-        filled = ap values (λ i k. pushed k i) ∙ puts (found table earlier) free h.filled;
-        marked = λ k less. slice_get-get_or (set marks n true) k false (omega (arith, less, long, length-set marks n true)) ∙ ap Some (mark_of k less ∙ ap is_some (sym (pushed k)));
-      }
+  pub marks_one : (n : ℕ) → named table key ≡ row n → is_some (found table earlier n) ≡ false → n < 256 → length marks ≡ 256 → Marks table (earlier ++ (key, value) ∷ []) (set marks n true)
+  marks_one n naming none small long k less = slice_get-get_or (set marks n true) k false (omega (arith, less, long, length-set marks n true)) ∙ ap Some (mark_of ∙ ap is_some (sym (pushed k)))
     where
-      mark_of : (k : ℕ) → k < 256 → get_or (set marks n true) k false ≡ is_some (with_row n value (found table earlier) k)
-      mark_of k less =
+      pushed : (k : ℕ) → found table (earlier ++ (key, value) ∷ []) k ≡ with_row n value (found table earlier) k
+      pushed k = found_push table key value n naming earlier (none_of (found table earlier n) none) k
+
+      mark_of : get_or (set marks n true) k false ≡ is_some (with_row n value (found table earlier) k)
+      mark_of =
           (elim (k == n) as (λ (b : Bool). (k == n) ≡ b → get_or (set marks n true) k false ≡ is_some (if b then Some value else found table earlier k)) [
             | true ↦ λ e. (let same : k ≡ n = (unsigned_Decides k n).0 e in ap (λ (j : ℕ). get_or (set marks n true) j false) same ∙ get_or-set_same marks n true false (omega (arith, small, long)))
-            | false ↦ λ e. get_or-set_other marks n k true false (λ same. true≢false (sym ((unsigned_Decides k n).1 same) ∙ e)) ∙ get_or_from_slice_get marks k (is_some (found table earlier k)) false (h.marked k less)
+            | false ↦ λ e. get_or-set_other marks n k true false (λ same. true≢false (sym ((unsigned_Decides k n).1 same) ∙ e)) ∙ get_or_from_slice_get marks k (is_some (found table earlier k)) false (marked k less)
           ]) refl
-
-pub puts_refused : {V : Type 0} (values : Values V) (rows : List Row) (n : ℕ) (i : Item) (old new : V) (why : Refusal) → why ≡ refusal.Refused → Puts values rows n i old new (Err why) → accepts_at rows n i ≡ false
-puts_refused values rows n i old new why e h = subst (λ (w : Refusal). Puts values rows n i old new (Err w)) e h

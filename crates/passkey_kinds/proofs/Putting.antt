@@ -1,17 +1,17 @@
 -- Records that are decoded one member after the other.
-use Rattle.std.proofs.Common.{◌≡◌, ◌∙◌, ◌<◌, ◌≤◌, ◌+◌, ℕ, Bool, true, false, List, [], ◌∷◌, ◌++◌, length, take, set, Option, Some, None, is_some, Result, Ok, Err, refl, sym, ap, subst}
+use Rattle.std.proofs.Common.{◌≡◌, ◌∙◌, ◌<◌, ◌≤◌, ◌+◌, ℕ, Bool, true, false, List, [], ◌∷◌, ◌++◌, length, replicate, slice_get, take, drop, Option, Some, None, is_some, Result, Ok, Err, refl, sym, ap, subst}
 use Rattle.std.proofs.lemmas.List.{take_all}
 use Rattle.passkey_cbor.specs.Item.{Item}
 use Rattle.passkey_kinds.specs.Kind.{Kind, MayGrow}
-use Rattle.passkey_kinds.specs.Reading.{takes_at, MayGrowIn, Reads, Holds, Steps, are_small, first_unmarked, ReadSoFar}
+use Rattle.passkey_kinds.specs.Reading.{takes_at, MayGrowIn, Reads, Marks, Steps, are_small, first_unmarked}
 use Rattle.passkey_kinds.specs.Record.{Fields, set_with, rows_of, table_of, put_at, put_named, with_members, unless_missing, judged, read_members}
-use Rattle.passkey_kinds.specs.RecordReading.{Sets, Puts, no_values, HasReadTo}
+use Rattle.passkey_kinds.specs.RecordReading.{Sets, Puts, HasRead, HasReadTo}
 use Rattle.passkey_kinds.specs.Table.{Naming, row, unknown, entries, named, Members, accepts_at, bad_member, first_bad, first_missing}
 use Rattle.passkey_kinds.specs.declared.fault.Fault.{Fault}
 use Rattle.passkey_kinds.specs.declared.fault.Fault.TheVariants as fault
 use Rattle.passkey_kinds.specs.declared.refusal.Refusal.{Refusal}
 use Rattle.passkey_kinds.specs.declared.refusal.Refusal.TheVariants as refusal
-use Rattle.passkey_kinds.proofs.Pairs.{IsAt, grows_in, begins, step, first_is, AllRead, ends, missing_is}
+use Rattle.passkey_kinds.proofs.Pairs.{IsAt, grows_in, none_marked, first_is, still_good, none_bad, missing_is}
 
 module _ {P : Type 0} (t : Fields P) where
   pub put_last : (ms : Members) (m : Item × Item) (r : P) → with_members t (ms ++ m ∷ []) r ≡ put_named t.rows (named (table_of t) m.0) m.1 (with_members t ms r)
@@ -35,30 +35,35 @@ module _ {P : Type 0} (t : Fields P) where
 
   -- ---- all members
 
-  pub has_begun : (ms : Members) (held : P) (marks : List Bool) → held ≡ t.blank → ReadSoFar (table_of t) no_values ms 0 tt marks → HasReadTo t ms 0 held marks
-  has_begun ms held marks empty so_far = record { so_far = so_far; made = sym empty }
-
-  pub goes_on : (ms : Members) (i : ℕ) (m : Item × Item) (old new : P) (marks next : List Bool) → IsAt ms i m → HasReadTo t ms i old marks → bad_member (table_of t) (take i ms) m ≡ None → Holds (table_of t) no_values (take i ms ++ m ∷ []) tt next → with_members t (take i ms ++ m ∷ []) t.blank ≡ new → HasReadTo t ms (i + 1) new next
-  goes_on ms i m old new marks next at h good holds made = record {
-    so_far = step (table_of t) no_values ms i m tt tt marks next at h.so_far good holds;
-    made = ap (λ (before : Members). with_members t before t.blank) at.before ∙ made;
+  pub has_begun : (ms : Members) (held : P) (marks : List Bool) → held ≡ t.blank → marks ≡ replicate 256 false → HasReadTo t ms 0 held marks
+  has_begun ms held marks empty none = record {
+    good = refl;
+    holds = record {
+      marked = λ n small. ap (λ (bs : List Bool). slice_get bs n) none ∙ none_marked n small;
+      made = sym empty;
+    };
   }
 
-  pub fails : {A : Type 0} (view : A → P) (ms : Members) (i : ℕ) (m : Item × Item) (marks later : List Bool) (f : Fault) → IsAt ms i m → ReadSoFar (table_of t) no_values ms i tt marks → Steps (table_of t) no_values (take i ms) m tt later (Err f) → Reads view (MayGrowIn (table_of t) ms) (read_members t ms) (Err f)
-  fails view ms i m marks later fault.DecodeFailed at so_far h = absurd h
-  fails view ms i m marks later fault.OutOfMemory at so_far h = grows_in (table_of t) ms i m _ at.behind h
-  fails view ms i m marks later fault.NotAMap at so_far h = absurd h
-  fails view ms i m marks later fault.BadKey at so_far h = ap (judged t ms) (first_is (table_of t) no_values ms i m tt marks fault.BadKey at so_far h)
-  fails view ms i m marks later (fault.Repeated n) at so_far h = ap (judged t ms) (first_is (table_of t) no_values ms i m tt marks (fault.Repeated n) at so_far h)
-  fails view ms i m marks later (fault.Refused n) at so_far h = ap (judged t ms) (first_is (table_of t) no_values ms i m tt marks (fault.Refused n) at so_far h)
-  fails view ms i m marks later (fault.Missing n) at so_far h = absurd h
+  pub goes_on : (ms : Members) (i : ℕ) (m : Item × Item) (old new : P) (marks next : List Bool) → IsAt ms i m → HasReadTo t ms i old marks → bad_member (table_of t) (take i ms) m ≡ None → Marks (table_of t) (take i ms ++ m ∷ []) next → with_members t (take i ms ++ m ∷ []) t.blank ≡ new → HasReadTo t ms (i + 1) new next
+  goes_on ms i m old new marks next at h good marked made = record {
+    good = still_good (table_of t) ms i m at h.good good;
+    holds = subst (λ (before : Members). HasRead t before new next) (sym at.before) (record { marked = marked; made = made });
+  }
+
+  pub fails : {A : Type 0} (view : A → P) (ms : Members) (i : ℕ) (m : Item × Item) (later : List Bool) (f : Fault) → IsAt ms i m → first_bad (table_of t) [] ms ≡ first_bad (table_of t) (take i ms) (drop i ms) → Steps (table_of t) (take i ms) m later (Err f) → Reads view (MayGrowIn (table_of t) ms) (read_members t ms) (Err f)
+  fails view ms i m later fault.DecodeFailed at good h = absurd h
+  fails view ms i m later fault.OutOfMemory at good h = grows_in (table_of t) ms i m _ at.behind h
+  fails view ms i m later fault.NotAMap at good h = absurd h
+  fails view ms i m later fault.BadKey at good h = ap (judged t ms) (first_is (table_of t) ms i m fault.BadKey at good h)
+  fails view ms i m later (fault.Repeated n) at good h = ap (judged t ms) (first_is (table_of t) ms i m (fault.Repeated n) at good h)
+  fails view ms i m later (fault.Refused n) at good h = ap (judged t ms) (first_is (table_of t) ms i m (fault.Refused n) at good h)
+  fails view ms i m later (fault.Missing n) at good h = absurd h
 
   pub all_read : (ms : Members) (i : ℕ) (held : P) (marks : List Bool) (missing : Option ℕ) → length ms ≤ i → HasReadTo t ms i held marks → are_small (entries (table_of t)) ≡ true → first_unmarked (entries (table_of t)) marks ≡ missing → read_members t ms ≡ unless_missing missing held
   all_read ms i held marks missing past h small e =
-      let all : AllRead (table_of t) no_values ms tt marks = ends (table_of t) no_values ms i tt marks past h.so_far in
-      let none : first_missing (table_of t) ms ≡ missing = sym (missing_is (table_of t) no_values ms tt marks all.holds small) ∙ e in
-      let whole : with_members t ms t.blank ≡ held = ap (λ (before : Members). with_members t before t.blank) (sym (take_all i ms past)) ∙ h.made in
-      ap (judged t ms) all.good ∙ (λ j. unless_missing (none j) (whole j))
+      let whole : HasRead t ms held marks = subst (λ (before : Members). HasRead t before held marks) (take_all i ms past) h.holds in
+      let none : first_missing (table_of t) ms ≡ missing = sym (missing_is (table_of t) ms marks whole.marked small) ∙ e in
+      ap (judged t ms) (none_bad (table_of t) ms i past h.good) ∙ (λ j. unless_missing (none j) (whole.made j))
 
 pub puts_refused : {P : Type 0} (t : Fields P) (n : ℕ) (i : Item) (old new : P) (why : Refusal) → why ≡ refusal.Refused → Puts t n i old new (Err why) → accepts_at (rows_of t.rows) n i ≡ false
 puts_refused t n i old new why e h = subst (λ (w : Refusal). Puts t n i old new (Err w)) e h

@@ -7,11 +7,8 @@ use Rattle.passkey_cbor.specs.Laws.{AtMostOneFront}
 use Rattle.passkey_cose.proofs.KeyLists.{members-pairs_of}
 use Rattle.passkey_kinds.specs.MessageLaws.{AlikeDifferInLength}
 use Rattle.passkey_kinds.specs.Record.{Fields, table_of, put_at, put_named, with_members, unless_missing, judged, read_members, read_item}
-use Rattle.passkey_kinds.specs.RecordLaws.{SameAnswers, SkipsUnknown}
-use Rattle.passkey_kinds.specs.RecordReading.{no_values}
+use Rattle.passkey_kinds.specs.RecordLaws.{known_member, known, HasNoWrongKey, SameAnswers, SkipsUnknown, KnowsItems, KnowsMaps}
 use Rattle.passkey_kinds.specs.Table.{Naming, row, unknown, wrong, named, Members, first_bad, first_missing}
-use Rattle.passkey_kinds.specs.TableLaws as plain
-use Rattle.passkey_kinds.specs.TableLaws.{known_member, known, HasNoWrongKey, KnowsItems, KnowsMaps}
 use Rattle.passkey_kinds.specs.Tree.{map_tree}
 use Rattle.passkey_kinds.specs.declared.fault.Fault.{Fault}
 use Rattle.passkey_kinds.specs.declared.fault.Fault.TheVariants as fault
@@ -63,21 +60,14 @@ module _ {P : Type 0} (t : Fields P) where
       let here : put_at t.rows x.0 x.1 r ≡ put_at t.rows y.0 y.1 r = h.1.puts r ∙ ap (λ (n : ℕ). put_at t.rows n y.1 r) h.0 in
       ap (put_known xs) here ∙ same_made xs ys h.2 (put_at t.rows y.0 y.1 r)
 
-  as_plain : (xs ys : List (ℕ × Item)) → SameAnswers t xs ys → plain.SameAnswers (table_of t) no_values xs ys
-  as_plain [] [] h = tt
-  as_plain [] (y ∷ ys) h = absurd h
-  as_plain (x ∷ xs) [] h = absurd h
-  as_plain (x ∷ xs) (y ∷ ys) h = (h.0, record { accepts = h.1.accepts; gives = λ f. refl }, as_plain xs ys h.2)
-
   pub same_answers_read_alike : (ms ns : Members) → HasNoWrongKey (table_of t) ms → HasNoWrongKey (table_of t) ns → SameAnswers t (known (table_of t) ms) (known (table_of t) ns) → read_members t ms ≡ read_members t ns
   same_answers_read_alike ms ns right also h =
       let xs = known (table_of t) ms in
       let ys = known (table_of t) ns in
-      let same = as_plain xs ys h in
       let none : ℕ → Bool = λ _. false in
       judged_alike ms ns
-      (first_bad_known (table_of t) [] ms none (λ _. refl) right ∙ same_bad (table_of t) no_values xs ys same none ∙ sym (first_bad_known (table_of t) [] ns none (λ _. refl) also))
-      (missing_alike (table_of t) ms ns (λ k. ap is_none (found_known (table_of t) ms k) ∙ same_filled (table_of t) no_values xs ys same k ∙ sym (ap is_none (found_known (table_of t) ns k))))
+      (first_bad_known (table_of t) [] ms none (λ _. refl) right ∙ same_bad t xs ys h none ∙ sym (first_bad_known (table_of t) [] ns none (λ _. refl) also))
+      (missing_alike (table_of t) ms ns (λ k. ap is_none (found_known (table_of t) ms k) ∙ same_filled t xs ys h k ∙ sym (ap is_none (found_known (table_of t) ns k))))
       (made_known ms t.blank ∙ same_made xs ys h t.blank ∙ sym (made_known ns t.blank))
 
   -- ---- faults

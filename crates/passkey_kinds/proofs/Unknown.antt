@@ -4,7 +4,7 @@ use Rattle.std.specs.Option.{option_or}
 use Rattle.std.proofs.Common.{◌≡◌, ◌∙◌, ℕ, Bool, true, false, ◌&&◌, if◌then◌else◌, [], ◌∷◌, ◌++◌, Option, Some, None, is_some, is_none, option_map, refl, sym, ap}
 use Rattle.std.proofs.lemmas.List.{append-nil}
 use Rattle.passkey_cbor.specs.Item.{Item}
-use Rattle.passkey_kinds.specs.Table.{Entry, Table, Naming, row, unknown, wrong, entries, named, is_row, Members, found, accepts_at, bad_by, first_bad, first_missing, Values, Build, built, judged, read_members}
+use Rattle.passkey_kinds.specs.Table.{Entry, Table, Naming, row, unknown, wrong, entries, named, is_row, Members, found, accepts_at, bad_by, first_bad, first_missing}
 use Rattle.passkey_kinds.specs.declared.fault.Fault.{Fault}
 use Rattle.passkey_kinds.specs.declared.fault.Fault.TheVariants.{Repeated, Refused}
 
@@ -56,19 +56,8 @@ first_bad_without table earlier (m ∷ before) behind key value naming =
     let rest = first_bad_without table (earlier ++ m ∷ []) before behind key value naming in
     ap (option_or (bad_by table earlier (named table m.0) m.1)) rest
 
--- ---- where as much stands under the rows and the values are the same, members are judged alike
+-- ---- where the same rows are named, the same row is missing
 
 pub missing_alike : (table : Table) (one other : Members) → ((k : ℕ) → is_none (found table one k) ≡ is_none (found table other k)) → first_missing table one ≡ first_missing table other
 missing_alike table one other same =
     λ i. option_map (λ (e : Entry). e.number) (find (λ (e : Entry). e.is_required && same e.number i) (entries table))
-
-pub judged_alike : {V M : Type 0} (table : Table) (values : Values V) (build : Build V M) (one other : Members) → first_missing table one ≡ first_missing table other → values (found table one) ≡ values (found table other) → (bad : Option Fault) → judged table values build one bad ≡ judged table values build other bad
-judged_alike table values build one other missing valued (Some f) = refl
-judged_alike table values build one other missing valued None = λ i. built (missing i) (build (valued i))
-
-pub unknown_is_passed_over : {V M : Type 0} (table : Table) (values : Values V) (build : Build V M) (before behind : Members) (key value : Item) → named table key ≡ unknown → read_members table values build (before ++ (key, value) ∷ behind) ≡ read_members table values build (before ++ behind)
-unknown_is_passed_over table values build before behind key value naming =
-    let same : (k : ℕ) → found table (before ++ (key, value) ∷ behind) k ≡ found table (before ++ behind) k = found_without table before behind key value naming in
-    let missing = missing_alike table (before ++ (key, value) ∷ behind) (before ++ behind) (λ k. ap is_none (same k)) in
-    ap (judged table values build (before ++ (key, value) ∷ behind)) (first_bad_without table [] before behind key value naming)
-    ∙ judged_alike table values build (before ++ (key, value) ∷ behind) (before ++ behind) missing (λ i. values (λ k. same k i)) (first_bad table [] (before ++ behind))

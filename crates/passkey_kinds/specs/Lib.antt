@@ -8,7 +8,6 @@ pub mod Record
 pub mod RecordReading
 pub mod Rows
 pub mod Descriptor
-pub mod TableLaws
 pub mod Tree
 pub mod ReadBack
 pub mod Trees

@@ -1,12 +1,10 @@
 -- Laws of messages: what is written is read back, what is read can be written so, and which bytes are read alike.
-use Rattle.std.specs.Prelude.{◌≡◌, ◌≢◌, ◌↔◌, ℕ, List, ◌∷◌, ◌++◌, length, Bool, true, Result, Ok, Err}
+use Rattle.std.specs.Prelude.{◌≡◌, ◌≢◌, ◌↔◌, ℕ, List, ◌++◌, length, Bool, true, Result, Ok, Err}
 use Rattle.passkey_cbor.specs.Front.{IsFront}
 use Rattle.passkey_cbor.specs.Item.{Item}
 use Rattle.passkey_cbor.specs.Writable.{IsWritable}
 use Rattle.passkey_cbor.specs.Written.{written}
 use Rattle.passkey_kinds.specs.Message.{Begins, ReadsMessage}
-use Rattle.passkey_kinds.specs.Table.{Table, Members, Values, Build, unknown, named, read_item}
-use Rattle.passkey_kinds.specs.Tree.{map_tree}
 use Rattle.passkey_kinds.specs.declared.fault.Fault.{Fault}
 use Rattle.passkey_kinds.specs.declared.fault.Fault.TheVariants.{OutOfMemory}
 
@@ -50,11 +48,3 @@ DifferInLength view read x y =
 -- Items that are read alike differ in the length alone.
 abbrev pub AlikeDifferInLength : {A M : Type 0} → (A → M) → (Item → Result M Fault) → Type 0
 AlikeDifferInLength view read = (x y : Item) → read x ≡ read y → DifferInLength view read x y
-
--- A map with one member more, under a key that the table doesn't know, differs in the length alone
--- from the map without it, wherever the member stands.
-abbrev pub PassesOverUnknown : {A V M : Type 0} → (A → M) → Table → Values V → Build V M → Type 0
-PassesOverUnknown view table values build =
-    (before behind : Members) (key value : Item) →
-    named table key ≡ unknown →
-    DifferInLength view (read_item table values build) (map_tree (before ++ behind)) (map_tree (before ++ (key, value) ∷ behind))

@@ -1,14 +1,12 @@
 -- What reading a record answers, and what its steps do.
-use Rattle.std.specs.Prelude.{◌≡◌, ℕ, ◌<◌, ◌==◌, nat_lt, ◌⊎◌, Bool, true, false, not, ◌&&◌, if◌then◌else◌, List, [], ◌∷◌, ◌++◌, slice_get, get_or, take, drop, option_map, Option, Some, None, is_some, Result, Ok, Err}
+use Rattle.std.specs.Prelude.{◌≡◌, ℕ, ◌<◌, ◌==◌, nat_lt, ◌⊎◌, Bool, true, false, not, ◌&&◌, if◌then◌else◌, List, [], ◌∷◌, ◌++◌, slice_get, get_or, option_map, Option, Some, None, is_some, Result, Ok, Err}
 use Rattle.std.specs.List.{find}
 use Rattle.passkey_cbor.specs.Item as item
 use Rattle.passkey_cbor.specs.Item.{Item, members}
 use Rattle.passkey_kinds.specs.Kind.{MayGrow}
-use Rattle.passkey_kinds.specs.Table.{Entry, Row, Table, Naming, row, unknown, wrong, named, Members, found, accepts_at, bad_member, first_bad, Values}
+use Rattle.passkey_kinds.specs.Table.{Entry, Row, Table, Naming, row, unknown, wrong, named, Members, found, bad_member}
 use Rattle.passkey_kinds.specs.declared.fault.Fault.{Fault}
 use Rattle.passkey_kinds.specs.declared.fault.Fault.TheVariants as fault
-use Rattle.passkey_kinds.specs.declared.refusal.Refusal.{Refusal}
-use Rattle.passkey_kinds.specs.declared.refusal.Refusal.TheVariants as refusal
 use Rattle.passkey_kinds.specs.declared.rows.Named.{Named}
 use Rattle.passkey_kinds.specs.declared.rows.Named.TheVariants as code
 
@@ -49,31 +47,24 @@ naming_of (code.Row n) = row n
 naming_of code.Unknown = unknown
 naming_of code.Wrong = wrong
 
--- one more value, under row n
+-- one more item, under row n
 abbrev pub with_row : ℕ → Item → (ℕ → Option Item) → ℕ → Option Item
 with_row n i f m = if m == n then Some i else f m
 
--- What putting an item under row n into slots does: they hold what they held, and the item too.
-abbrev pub Puts : {V : Type 0} → Values V → List Row → ℕ → Item → V → V → Result (Unit {0}) Refusal → Type 0
-Puts values rows n i old new (Ok x) = (accepts_at rows n i ≡ true) × ((f : ℕ → Option Item) → f n ≡ None → values f ≡ old → values (with_row n i f) ≡ new)
-Puts values rows n i old new (Err refusal.Refused) = accepts_at rows n i ≡ false
-Puts values rows n i old new (Err refusal.OutOfMemory) = MayGrow (takes_at rows n) i
-
--- Slots and marks that hold what the earlier members gave.
-pub record Holds {V : Type 0} (table : Table) (values : Values V) (earlier : Members) (held : V) (marks : List Bool) : Type 0 where
-  pub filled : values (found table earlier) ≡ held
-  pub marked : (n : ℕ) → n < 256 → slice_get marks n ≡ Some (is_some (found table earlier n))
+-- Marks of the rows that the earlier members name.
+abbrev pub Marks : Table → Members → List Bool → Type 0
+Marks table earlier marks = (n : ℕ) → n < 256 → slice_get marks n ≡ Some (is_some (found table earlier n))
 
 -- What one more member does.
-abbrev pub Steps : {V : Type 0} → Table → Values V → Members → Item × Item → V → List Bool → Result (Unit {0}) Fault → Type 0
-Steps table values earlier m held marks (Ok x) = (bad_member table earlier m ≡ None) × Holds table values (earlier ++ m ∷ []) held marks
-Steps table values earlier m held marks (Err fault.OutOfMemory) = MayGrowBy table (named table m.0) m.1
-Steps table values earlier m held marks (Err fault.DecodeFailed) = ⊥
-Steps table values earlier m held marks (Err fault.NotAMap) = ⊥
-Steps table values earlier m held marks (Err fault.BadKey) = bad_member table earlier m ≡ Some fault.BadKey
-Steps table values earlier m held marks (Err (fault.Repeated n)) = bad_member table earlier m ≡ Some (fault.Repeated n)
-Steps table values earlier m held marks (Err (fault.Refused n)) = bad_member table earlier m ≡ Some (fault.Refused n)
-Steps table values earlier m held marks (Err (fault.Missing n)) = ⊥
+abbrev pub Steps : Table → Members → Item × Item → List Bool → Result (Unit {0}) Fault → Type 0
+Steps table earlier m marks (Ok x) = (bad_member table earlier m ≡ None) × Marks table (earlier ++ m ∷ []) marks
+Steps table earlier m marks (Err fault.OutOfMemory) = MayGrowBy table (named table m.0) m.1
+Steps table earlier m marks (Err fault.DecodeFailed) = ⊥
+Steps table earlier m marks (Err fault.NotAMap) = ⊥
+Steps table earlier m marks (Err fault.BadKey) = bad_member table earlier m ≡ Some fault.BadKey
+Steps table earlier m marks (Err (fault.Repeated n)) = bad_member table earlier m ≡ Some (fault.Repeated n)
+Steps table earlier m marks (Err (fault.Refused n)) = bad_member table earlier m ≡ Some (fault.Refused n)
+Steps table earlier m marks (Err (fault.Missing n)) = ⊥
 
 -- each number has one byte
 abbrev pub are_small : List Entry → Bool
@@ -83,8 +74,3 @@ are_small (e ∷ es) = nat_lt e.number 256 && are_small es
 -- the number of the first required row that has no mark
 abbrev pub first_unmarked : List Entry → List Bool → Option ℕ
 first_unmarked rows marks = option_map (λ (e : Entry). e.number) (find (λ (e : Entry). e.is_required && not (get_or marks e.number false)) rows)
-
--- The members before the i-th are good, and slots and marks hold them.
-pub record ReadSoFar {V : Type 0} (table : Table) (values : Values V) (ms : Members) (i : ℕ) (held : V) (marks : List Bool) : Type 0 where
-  pub good : first_bad table [] ms ≡ first_bad table (take i ms) (drop i ms)
-  pub holds : Holds table values (take i ms) held marks

@@ -1,15 +1,36 @@
--- Laws of records: which members change nothing, and which are decoded alike.
-use Rattle.std.specs.Prelude.{◌≡◌, ℕ, List, [], ◌∷◌, ◌++◌}
-use Rattle.passkey_cbor.specs.Item.{Item}
+-- Laws of records: which members and elements change nothing, which are decoded alike, and which faults an item hasn't.
+use Rattle.std.specs.Prelude.{◌≡◌, ◌≢◌, ℕ, List, [], ◌∷◌, ◌++◌, Option, Some, None, Result, Err}
+use Rattle.std.specs.List.{All, filter_map}
+use Rattle.passkey_cbor.specs.Item.{Item, Pairs, array, map, items_of}
+use Rattle.passkey_kinds.specs.Kind.{Kind, accepted}
 use Rattle.passkey_kinds.specs.MessageLaws.{DifferInLength}
 use Rattle.passkey_kinds.specs.Record.{Fields, rows_of, table_of, put_at, read_members, read_item}
-use Rattle.passkey_kinds.specs.Table.{Members, unknown, named, accepts_at}
-use Rattle.passkey_kinds.specs.TableLaws.{known, HasNoWrongKey}
+use Rattle.passkey_kinds.specs.Table.{Table, Naming, row, unknown, wrong, named, Members, accepts_at}
 use Rattle.passkey_kinds.specs.Tree.{map_tree}
+use Rattle.passkey_kinds.specs.declared.fault.Fault.{Fault}
+use Rattle.passkey_kinds.specs.declared.fault.Fault.TheVariants.{DecodeFailed, NotAMap, OutOfMemory}
+
+-- An element that the kind refuses changes nothing, wherever it is in a tolerant list.
+abbrev pub RefusedElementIsSkipped : Type 0 → Type 0
+RefusedElementIsSkipped M = (kind : Kind M) (before behind : List Item) (x : Item) → kind x ≡ None → accepted kind (array (items_of (before ++ x ∷ behind))) ≡ accepted kind (array (items_of (before ++ behind)))
 
 -- A member under a key that the table doesn't know changes nothing, wherever it is.
 abbrev pub UnknownMemberIsSkipped : {P : Type 0} → Fields P → Type 0
 UnknownMemberIsSkipped t = (before behind : Members) (key value : Item) → named (table_of t) key ≡ unknown → read_members t (before ++ (key, value) ∷ behind) ≡ read_members t (before ++ behind)
+
+-- ---- members that are decoded alike
+
+abbrev pub known_member : Naming → Item → Option (ℕ × Item)
+known_member (row n) i = Some (n, i)
+known_member unknown i = None
+known_member wrong i = None
+
+-- the rows that the keys name, in the order of the members, each with the item that stands there
+abbrev pub known : Table → Members → List (ℕ × Item)
+known table ms = filter_map (λ (m : Item × Item). known_member (named table m.0) m.1) ms
+
+abbrev pub HasNoWrongKey : Table → Members → Type 0
+HasNoWrongKey table ms = All (λ (m : Item × Item). named table m.0 ≢ wrong) ms
 
 -- Row n answers the same at two items: it accepts both or neither, and puts the same value.
 pub record AnswersAlike {P : Type 0} (t : Fields P) (n : ℕ) (i j : Item) : Type 0 where
@@ -35,3 +56,13 @@ SkipsUnknown view t =
     (before behind : Members) (key value : Item) →
     named (table_of t) key ≡ unknown →
     DifferInLength view (read_item t) (map_tree (before ++ behind)) (map_tree (before ++ (key, value) ∷ behind))
+
+-- ---- faults that an item hasn't
+
+-- No item has the fault that no item is there, nor that of running out of memory.
+abbrev pub KnowsItems : {M : Type 0} → (Item → Result M Fault) → Type 0
+KnowsItems read = (i : Item) → (read i ≢ Err DecodeFailed) × (read i ≢ Err OutOfMemory)
+
+-- No map has the fault that it is none, whatever its members.
+abbrev pub KnowsMaps : {M : Type 0} → (Item → Result M Fault) → Type 0
+KnowsMaps read = (ps : Pairs) → read (map ps) ≢ Err NotAMap

@@ -1,10 +1,10 @@
 -- What decoding a record does, step by step.
-use Rattle.std.specs.Prelude.{◌≡◌, ℕ, Bool, true, false, List, [], ◌∷◌, ◌++◌, take, Some, None, Result, Ok, Err, OnOk}
+use Rattle.std.specs.Prelude.{◌≡◌, ℕ, Bool, true, false, List, [], ◌∷◌, ◌++◌, take, drop, Some, None, Result, Ok, Err, OnOk}
 use Rattle.passkey_cbor.specs.Item.{Item}
 use Rattle.passkey_kinds.specs.Kind.{Kind, MayGrow}
-use Rattle.passkey_kinds.specs.Reading.{takes_at, Holds, Steps, ReadSoFar}
+use Rattle.passkey_kinds.specs.Reading.{takes_at, Marks, Steps}
 use Rattle.passkey_kinds.specs.Record.{Fields, rows_of, table_of, put_at, with_members}
-use Rattle.passkey_kinds.specs.Table.{Members, Values, accepts_at}
+use Rattle.passkey_kinds.specs.Table.{Members, accepts_at, first_bad}
 use Rattle.passkey_kinds.specs.declared.fault.Fault.{Fault}
 use Rattle.passkey_kinds.specs.declared.refusal.Refusal.{Refusal}
 use Rattle.passkey_kinds.specs.declared.refusal.Refusal.TheVariants.{Refused, OutOfMemory}
@@ -21,20 +21,16 @@ Puts t n i old new (Ok x) = (accepts_at (rows_of t.rows) n i ≡ true) × (put_a
 Puts t n i old new (Err Refused) = accepts_at (rows_of t.rows) n i ≡ false
 Puts t n i old new (Err OutOfMemory) = MayGrow (takes_at (rows_of t.rows) n) i
 
--- no values, where marks alone count
-abbrev pub no_values : Values (Unit {0})
-no_values f = tt
-
--- Marks, and a record, that hold what the earlier members gave.
+-- A record, and marks, that hold what the earlier members gave.
 pub record HasRead {P : Type 0} (t : Fields P) (earlier : Members) (held : P) (marks : List Bool) : Type 0 where
-  pub holds : Holds (table_of t) no_values earlier tt marks
+  pub marked : Marks (table_of t) earlier marks
   pub made : with_members t earlier t.blank ≡ held
 
 -- What decoding one more member does.
 abbrev pub ReadsOne : {P : Type 0} → Fields P → Members → Item × Item → P → List Bool → Result (Unit {0}) Fault → Type 0
-ReadsOne t earlier m held marks result = Steps (table_of t) no_values earlier m tt marks result × OnOk result (with_members t (earlier ++ m ∷ []) t.blank ≡ held)
+ReadsOne t earlier m held marks result = Steps (table_of t) earlier m marks result × OnOk result (with_members t (earlier ++ m ∷ []) t.blank ≡ held)
 
--- The members before the i-th are good, and marks and the record hold them.
+-- The members before the i-th are good, and the record and the marks hold them.
 pub record HasReadTo {P : Type 0} (t : Fields P) (ms : Members) (i : ℕ) (held : P) (marks : List Bool) : Type 0 where
-  pub so_far : ReadSoFar (table_of t) no_values ms i tt marks
-  pub made : with_members t (take i ms) t.blank ≡ held
+  pub good : first_bad (table_of t) [] ms ≡ first_bad (table_of t) (take i ms) (drop i ms)
+  pub holds : HasRead t (take i ms) held marks

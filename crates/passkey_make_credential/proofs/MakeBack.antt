@@ -5,7 +5,7 @@ use Rattle.passkey_cbor.specs.Item.{text_string}
 use Rattle.passkey_kinds.specs.ReadBack.{IsReadBack, Any}
 use Rattle.passkey_make_credential.specs.MakeOptions.{options_fields, options, options_places, options_tree, normal_options}
 use Rattle.passkey_make_credential.specs.declared.options.Options.{Options}
-use Rattle.passkey_kinds.proofs.Back.{default_place, true_place, record_back}
+use Rattle.passkey_kinds.proofs.Back.{true_place}
 use Rattle.passkey_kinds.proofs.LeafBack.{truth_back}
 use Rattle.passkey_kinds.proofs.RowsBack.{puts_value, puts_default, kind_back, ◌▸◌, no_more}
 

@@ -16,8 +16,7 @@ use Rattle.passkey_kinds.specs.Tree.{number_tree, list_tree}
 use Rattle.passkey_kinds.specs.Trees.{descriptor_tree, parameters_tree}
 use Rattle.passkey_make_credential.specs.declared.options.Options.{Options}
 use Rattle.passkey_entities.specs.declared.rp.PublicKeyCredentialRpEntity.{PublicKeyCredentialRpEntity}
-use Rattle.passkey_kinds.proofs.Back.{required_place, default_place, reads_back}
-use Rattle.passkey_kinds.proofs.Deep.{not_null}
+use Rattle.passkey_kinds.proofs.NotNull.{not_null}
 use Rattle.passkey_kinds.proofs.Keeping as kept
 use Rattle.passkey_kinds.proofs.Keeping.{◌▹◌, record_keeps}
 use Rattle.passkey_extensions.proofs.ExtensionBack.{make_parts_back}

@@ -19,7 +19,6 @@ use Rattle.passkey_kinds.specs.MessageLaws.{WrittenIsReadBack, ReadIsCoherent}
 use Rattle.passkey_kinds.specs.Table.{◌>>=◌, found}
 use Rattle.passkey_kinds.specs.Tree.{number_tree}
 use Rattle.passkey_extensions.specs.declared.make_credential.unsigned.UnsignedExtensionOutputs.{UnsignedExtensionOutputs}
-use Rattle.passkey_kinds.proofs.Back.{required_place, reads_back}
 use Rattle.passkey_kinds.proofs.Keeping as kept
 use Rattle.passkey_kinds.proofs.Keeping.{◌▹◌, record_keeps}
 use Rattle.passkey_extensions.proofs.ExtensionBack.{made_back}

@@ -7,7 +7,7 @@ ghost use Rattle.passkey_make_credential.specs.MakeResponse.{make_response_field
 ghost use Rattle.passkey_make_credential.specs.MakeResponseView.{make_response_parts};
 ghost use Rattle.passkey_kinds.specs.MessageLaws.{WrittenIsReadBack, ReadIsCoherent};
 ghost use Rattle.passkey_kinds.specs.RecordLaws.{SkipsUnknown};
-ghost use Rattle.passkey_kinds.specs.TableLaws.{KnowsMaps};
+ghost use Rattle.passkey_kinds.specs.RecordLaws.{KnowsMaps};
 
 /// What is written of a coherent request to make a credential, whatever bytes follow, is read as the
 /// request with options that ask for the user to be there.

@@ -1,0 +1,28 @@
+-- A value that isn't null, and a record that is a value.
+use Rattle.std.proofs.Common.{◌≡◌, Option, Some, None, option_map, Result, Ok, Err, ap}
+use Rattle.std.specs.Result.{result_ok}
+use Rattle.passkey_cbor.specs.Item as item
+use Rattle.passkey_cbor.specs.Item.{Item}
+use Rattle.passkey_kinds.specs.Kind.{Kind, optional}
+use Rattle.passkey_kinds.specs.declared.fault.Fault.{Fault}
+
+pub ok_of : {M : Type 0} (r : Result M Fault) (p : M) → result_ok r ≡ Some p → r ≡ Ok p
+ok_of (Ok x) p e = cc
+ok_of (Err f) p e = absurd cc
+
+some_of : {M : Type 0} (o : Option M) (x : M) → option_map Some o ≡ Some (Some x) → o ≡ Some x
+some_of None x e = absurd cc
+some_of (Some y) x e = cc
+
+-- a value that may be null, and is not
+pub not_null : {M : Type 0} (kind : Kind M) (i : Item) (x : M) → optional kind i ≡ Some (Some x) → kind i ≡ Some x
+not_null kind item.null x e = absurd cc
+not_null kind (item.number z) x e = some_of (kind (item.number z)) x e
+not_null kind (item.byte_string s) x e = some_of (kind (item.byte_string s)) x e
+not_null kind (item.text_string s) x e = some_of (kind (item.text_string s)) x e
+not_null kind (item.array xs) x e = some_of (kind (item.array xs)) x e
+not_null kind (item.map ps) x e = some_of (kind (item.map ps)) x e
+not_null kind (item.tagged t y) x e = some_of (kind (item.tagged t y)) x e
+not_null kind (item.boolean b) x e = some_of (kind (item.boolean b)) x e
+not_null kind (item.simple n) x e = some_of (kind (item.simple n)) x e
+not_null kind (item.float f) x e = some_of (kind (item.float f)) x e
