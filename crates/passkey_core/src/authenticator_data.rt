@@ -54,7 +54,7 @@ impl AuthenticatorData {
     {
         AuthenticatorData {
             rp_id_hash: [0; 32],
-            flags: Flags::default(),
+            flags: Flags::BE | Flags::BS,
             counter: None,
             attested_credential_data: None,
             extensions: None,

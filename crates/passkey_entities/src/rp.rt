@@ -9,7 +9,10 @@ ghost use Rattle.passkey_entities.specs.Entities.{rp_of_webauthn};
 use crate::MissingRpId;
 use passkey_bytes::Text;
 use passkey_cbor::Value;
-use passkey_kinds::{FromCbor, ReadBack, Record, Refusal, Row, Shallow, Source, ToCbor, Written, nested_from_value, set};
+use passkey_kinds::{
+    FromCbor, ReadBack, Record, Refusal, Row, Shallow, Source, ToCbor, Written, nested_from_value,
+    set,
+};
 use passkey_memory::OutOfMemory;
 use passkey_webauthn as webauthn;
 use std::alloc::Global;

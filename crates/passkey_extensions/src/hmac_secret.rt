@@ -14,7 +14,10 @@ ghost use Rattle.passkey_kinds.specs.declared.write_fault.WriteFault.TheVariants
 
 use passkey_bytes::Bytes;
 use passkey_cbor::Value;
-use passkey_kinds::{Fault, FromCbor, ReadBack, Record, Refusal, Row, Source, ToCbor, WriteFault, Written, message_from_slice, nested_from_value, record_from_value, set, write_message};
+use passkey_kinds::{
+    Fault, FromCbor, ReadBack, Record, Refusal, Row, Source, ToCbor, WriteFault, Written,
+    message_from_slice, nested_from_value, record_from_value, set, write_message,
+};
 use passkey_memory::OutOfMemory;
 use std::alloc::Global;
 

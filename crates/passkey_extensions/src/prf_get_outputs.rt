@@ -7,7 +7,10 @@ ghost use Rattle.passkey_extensions.specs.PrfWebauthn.{webauthn_used};
 
 use crate::prf_values::AuthenticatorPrfValues;
 use passkey_cbor::Value;
-use passkey_kinds::{FromCbor, ReadBack, Record, Refusal, Row, Shallow, Source, ToCbor, Written, nested_from_value, set};
+use passkey_kinds::{
+    FromCbor, ReadBack, Record, Refusal, Row, Shallow, Source, ToCbor, Written, nested_from_value,
+    set,
+};
 use passkey_memory::OutOfMemory;
 use passkey_webauthn::AuthenticationExtensionsPrfOutputs;
 use std::alloc::Global;

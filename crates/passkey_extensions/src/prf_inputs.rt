@@ -9,7 +9,10 @@ ghost use Rattle.passkey_extensions.specs.ExtensionTrees.{PrfInputsFit, prf_inpu
 use crate::prf_values::AuthenticatorPrfValues;
 use passkey_bytes::{Bytes, Map};
 use passkey_cbor::Value;
-use passkey_kinds::{FromCbor, ReadBack, Record, Refusal, Row, Shallow, Source, ToCbor, Written, nested_from_value, set};
+use passkey_kinds::{
+    FromCbor, ReadBack, Record, Refusal, Row, Shallow, Source, ToCbor, Written, nested_from_value,
+    set,
+};
 use passkey_memory::OutOfMemory;
 use std::alloc::Global;
 

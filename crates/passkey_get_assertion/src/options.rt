@@ -5,7 +5,10 @@ ghost use Rattle.passkey_get_assertion.specs.declared.options.Options.{Options a
 ghost use Rattle.passkey_kinds.specs.ReadBack.{Any};
 
 use passkey_cbor::Value;
-use passkey_kinds::{FromCbor, ReadBack, Record, Refusal, Row, Shallow, Source, ToCbor, Written, nested_from_value, set};
+use passkey_kinds::{
+    FromCbor, ReadBack, Record, Refusal, Row, Shallow, Source, ToCbor, Written, nested_from_value,
+    set,
+};
 use passkey_memory::OutOfMemory;
 use std::alloc::Global;
 

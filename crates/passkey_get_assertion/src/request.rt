@@ -13,7 +13,10 @@ use crate::Options;
 use passkey_bytes::{Bytes, List, Text};
 use passkey_cbor::Value;
 use passkey_extensions::get_assertion::ExtensionInputs;
-use passkey_kinds::{Fault, Record, Refusal, Row, Source, ToCbor, WriteFault, Written, message_from_slice, record_from_value, set, set_accepted_or_none, set_tolerated, write_message};
+use passkey_kinds::{
+    Fault, Record, Refusal, Row, Source, ToCbor, WriteFault, Written, message_from_slice,
+    record_from_value, set, set_accepted_or_none, set_tolerated, write_message,
+};
 use passkey_memory::OutOfMemory;
 use passkey_webauthn::PublicKeyCredentialDescriptor;
 use std::alloc::Global;

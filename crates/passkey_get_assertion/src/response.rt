@@ -14,7 +14,10 @@ use passkey_cbor::Value;
 use passkey_core::AuthenticatorData;
 use passkey_entities::PublicKeyCredentialUserEntity;
 use passkey_extensions::get_assertion::UnsignedExtensionOutputs;
-use passkey_kinds::{Fault, Record, Refusal, Row, Source, ToCbor, WriteFault, Written, message_from_slice, record_from_value, set, write_message};
+use passkey_kinds::{
+    Fault, Record, Refusal, Row, Source, ToCbor, WriteFault, Written, message_from_slice,
+    record_from_value, set, write_message,
+};
 use passkey_memory::OutOfMemory;
 use passkey_webauthn::PublicKeyCredentialDescriptor;
 use std::alloc::Global;

@@ -13,26 +13,28 @@ pub extension_back : IsReadBack extension extension_tree Any normal_extension
 extension_back = record { back = λ e h. refl }
 
 pub options_back : IsReadBack options options_tree Any (λ o. o)
-options_back = record { back = λ o h.
-    kind_back options_fields (options_places o) o refl refl
-    (
-    puts_value truth_back o.plat tt ▸
-    puts_value truth_back o.rk tt ▸
-    puts_default (optional_place truth_back refl o.client_pin (anything o.client_pin)) refl ▸
-    puts_value truth_back o.up tt ▸
-    puts_default (optional_place truth_back refl o.uv (anything o.uv)) refl ▸
-    puts_default (optional_place truth_back refl o.pin_uv_auth_token (anything o.pin_uv_auth_token)) refl ▸
-    puts_default (optional_place truth_back refl o.no_mc_ga_permissions_with_client_pin (anything o.no_mc_ga_permissions_with_client_pin)) refl ▸
-    puts_default (optional_place truth_back refl o.large_blobs (anything o.large_blobs)) refl ▸
-    puts_default (optional_place truth_back refl o.ep (anything o.ep)) refl ▸
-    puts_default (optional_place truth_back refl o.bio_enroll (anything o.bio_enroll)) refl ▸
-    puts_default (optional_place truth_back refl o.user_verification_mgmt_preview (anything o.user_verification_mgmt_preview)) refl ▸
-    puts_default (optional_place truth_back refl o.uv_bio_enroll (anything o.uv_bio_enroll)) refl ▸
-    puts_default (optional_place truth_back refl o.authnr_cfg (anything o.authnr_cfg)) refl ▸
-    puts_default (optional_place truth_back refl o.uv_acfg (anything o.uv_acfg)) refl ▸
-    puts_default (optional_place truth_back refl o.cred_mgmt (anything o.cred_mgmt)) refl ▸
-    puts_default (optional_place truth_back refl o.credential_mgmt_preview (anything o.credential_mgmt_preview)) refl ▸
-    puts_default (optional_place truth_back refl o.set_min_pin_length (anything o.set_min_pin_length)) refl ▸
-    puts_default (optional_place truth_back refl o.make_cred_uv_not_rqd (anything o.make_cred_uv_not_rqd)) refl ▸
-    puts_default (optional_place truth_back refl o.always_uv (anything o.always_uv)) refl ▸
-    no_more) }
+options_back = record {
+  back = λ o h.
+      kind_back options_fields (options_places o) o refl refl
+      (
+      puts_value truth_back o.plat tt ▸
+      puts_value truth_back o.rk tt ▸
+      puts_default (optional_place truth_back refl o.client_pin (anything o.client_pin)) refl ▸
+      puts_value truth_back o.up tt ▸
+      puts_default (optional_place truth_back refl o.uv (anything o.uv)) refl ▸
+      puts_default (optional_place truth_back refl o.pin_uv_auth_token (anything o.pin_uv_auth_token)) refl ▸
+      puts_default (optional_place truth_back refl o.no_mc_ga_permissions_with_client_pin (anything o.no_mc_ga_permissions_with_client_pin)) refl ▸
+      puts_default (optional_place truth_back refl o.large_blobs (anything o.large_blobs)) refl ▸
+      puts_default (optional_place truth_back refl o.ep (anything o.ep)) refl ▸
+      puts_default (optional_place truth_back refl o.bio_enroll (anything o.bio_enroll)) refl ▸
+      puts_default (optional_place truth_back refl o.user_verification_mgmt_preview (anything o.user_verification_mgmt_preview)) refl ▸
+      puts_default (optional_place truth_back refl o.uv_bio_enroll (anything o.uv_bio_enroll)) refl ▸
+      puts_default (optional_place truth_back refl o.authnr_cfg (anything o.authnr_cfg)) refl ▸
+      puts_default (optional_place truth_back refl o.uv_acfg (anything o.uv_acfg)) refl ▸
+      puts_default (optional_place truth_back refl o.cred_mgmt (anything o.cred_mgmt)) refl ▸
+      puts_default (optional_place truth_back refl o.credential_mgmt_preview (anything o.credential_mgmt_preview)) refl ▸
+      puts_default (optional_place truth_back refl o.set_min_pin_length (anything o.set_min_pin_length)) refl ▸
+      puts_default (optional_place truth_back refl o.make_cred_uv_not_rqd (anything o.make_cred_uv_not_rqd)) refl ▸
+      puts_default (optional_place truth_back refl o.always_uv (anything o.always_uv)) refl ▸
+      no_more);
+}

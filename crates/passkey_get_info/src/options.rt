@@ -6,7 +6,8 @@ ghost use Rattle.passkey_get_info.specs.declared.options.Options.{Options as Tol
 
 use passkey_cbor::Value;
 use passkey_kinds::{
-    FromCbor, ReadBack, Record, Refusal, Row, Shallow, Source, ToCbor, Written, nested_from_value, set,
+    FromCbor, ReadBack, Record, Refusal, Row, Shallow, Source, ToCbor, Written, nested_from_value,
+    set,
 };
 use passkey_memory::OutOfMemory;
 use std::alloc::Global;
@@ -131,7 +132,11 @@ impl Record for Options {
             4 => set(&mut self.up, alloc, source),
             5 => set(&mut self.uv, alloc, source),
             6 => set(&mut self.pin_uv_auth_token, alloc, source),
-            7 => set(&mut self.no_mc_ga_permissions_with_client_pin, alloc, source),
+            7 => set(
+                &mut self.no_mc_ga_permissions_with_client_pin,
+                alloc,
+                source,
+            ),
             8 => set(&mut self.large_blobs, alloc, source),
             9 => set(&mut self.ep, alloc, source),
             10 => set(&mut self.bio_enroll, alloc, source),

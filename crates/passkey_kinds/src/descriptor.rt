@@ -47,7 +47,12 @@ impl Record for PublicKeyCredentialDescriptor {
 
     fn put<S: Source>(&mut self, alloc: Global, number: u8, source: &mut S) -> Result<(), Refusal> {
         match number {
-            1 => set_or(&mut self.ty, PublicKeyCredentialType::Unknown, alloc, source),
+            1 => set_or(
+                &mut self.ty,
+                PublicKeyCredentialType::Unknown,
+                alloc,
+                source,
+            ),
             2 => set(&mut self.id, alloc, source),
             3 => set_accepted_or_none(&mut self.transports, alloc, source),
             _ => Err(Refusal::Refused),

@@ -42,7 +42,12 @@ impl Record for PublicKeyCredentialParameters {
 
     fn put<S: Source>(&mut self, alloc: Global, number: u8, source: &mut S) -> Result<(), Refusal> {
         match number {
-            1 => set_or(&mut self.ty, PublicKeyCredentialType::Unknown, alloc, source),
+            1 => set_or(
+                &mut self.ty,
+                PublicKeyCredentialType::Unknown,
+                alloc,
+                source,
+            ),
             2 => set(&mut self.alg, alloc, source),
             _ => Err(Refusal::Refused),
         }

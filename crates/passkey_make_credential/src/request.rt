@@ -13,7 +13,10 @@ use crate::{Options, PublicKeyCredentialRpEntity};
 use passkey_bytes::{Bytes, List, Text};
 use passkey_cbor::Value;
 use passkey_extensions::make_credential::ExtensionInputs;
-use passkey_kinds::{Fault, Record, Refusal, Row, Source, ToCbor, WriteFault, Written, message_from_slice, record_from_value, set, set_accepted, set_accepted_or_none, write_message};
+use passkey_kinds::{
+    Fault, Record, Refusal, Row, Source, ToCbor, WriteFault, Written, message_from_slice,
+    record_from_value, set, set_accepted, set_accepted_or_none, write_message,
+};
 use passkey_memory::OutOfMemory;
 use passkey_webauthn::{
     PublicKeyCredentialDescriptor, PublicKeyCredentialParameters, PublicKeyCredentialUserEntity,

@@ -15,7 +15,10 @@ use passkey_bytes::{Bytes, Text};
 use passkey_cbor::Value;
 use passkey_core::AuthenticatorData;
 use passkey_extensions::make_credential::UnsignedExtensionOutputs;
-use passkey_kinds::{Fault, Record, Refusal, Row, Source, ToCbor, WriteFault, Written, message_from_slice, record_from_value, set, write_message};
+use passkey_kinds::{
+    Fault, Record, Refusal, Row, Source, ToCbor, WriteFault, Written, message_from_slice,
+    record_from_value, set, write_message,
+};
 use passkey_memory::OutOfMemory;
 use std::alloc::Global;
 

@@ -8,7 +8,10 @@ ghost use Rattle.passkey_cbor.specs.Depth.{depth};
 
 use crate::{AuthenticatorPrfInputs, HmacGetSecretInput};
 use passkey_cbor::Value;
-use passkey_kinds::{FromCbor, ReadBack, Record, Refusal, Row, Source, ToCbor, Written, nested_from_value, set_tolerated};
+use passkey_kinds::{
+    FromCbor, ReadBack, Record, Refusal, Row, Source, ToCbor, Written, nested_from_value,
+    set_tolerated,
+};
 use passkey_memory::OutOfMemory;
 use std::alloc::Global;
 
@@ -72,10 +75,7 @@ impl Record for ExtensionInputs {
     }
 
     fn blank(_alloc: Global) -> ExtensionInputs {
-        ExtensionInputs {
-            hmac_secret: None,
-            prf: None,
-        }
+        ExtensionInputs::empty()
     }
 
     fn put<S: Source>(&mut self, alloc: Global, number: u8, source: &mut S) -> Result<(), Refusal> {

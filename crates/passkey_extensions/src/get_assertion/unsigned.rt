@@ -7,7 +7,10 @@ ghost use Rattle.passkey_extensions.specs.ExtensionTrees.{UsedFits, used_tree};
 
 use crate::AuthenticatorPrfGetOutputs;
 use passkey_cbor::Value;
-use passkey_kinds::{FromCbor, ReadBack, Record, Refusal, Row, Shallow, Source, ToCbor, Written, nested_from_value, set};
+use passkey_kinds::{
+    FromCbor, ReadBack, Record, Refusal, Row, Shallow, Source, ToCbor, Written, nested_from_value,
+    set,
+};
 use passkey_memory::OutOfMemory;
 use std::alloc::Global;
 
@@ -53,7 +56,7 @@ impl Record for UnsignedExtensionOutputs {
     }
 
     fn blank(_alloc: Global) -> UnsignedExtensionOutputs {
-        UnsignedExtensionOutputs { prf: None }
+        UnsignedExtensionOutputs::default()
     }
 
     fn put<S: Source>(&mut self, alloc: Global, number: u8, source: &mut S) -> Result<(), Refusal> {

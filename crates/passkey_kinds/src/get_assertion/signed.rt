@@ -33,9 +33,7 @@ impl Record for SignedExtensionOutputs {
     }
 
     fn blank(_alloc: Global) -> SignedExtensionOutputs {
-        SignedExtensionOutputs {
-            hmac_secret: None,
-        }
+        SignedExtensionOutputs { hmac_secret: None }
     }
 
     fn put<S: Source>(&mut self, alloc: Global, number: u8, source: &mut S) -> Result<(), Refusal> {
