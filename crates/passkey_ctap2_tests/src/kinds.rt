@@ -5,7 +5,9 @@ use passkey_cbor::Value;
 use passkey_core::{Aaguid, AuthenticatorData};
 use passkey_iana::Algorithm;
 use passkey_kinds::{ReadBack, Shallow, TolerantList, Tolerated, laws};
-use passkey_webauthn::{AuthenticatorTransport, PublicKeyCredentialType};
+use passkey_webauthn::{
+    AuthenticatorTransport, PublicKeyCredentialDescriptor, PublicKeyCredentialType,
+};
 use std::num::NonZeroU128;
 
 #[test]
@@ -213,7 +215,7 @@ fn laws_at_concrete_types() {
     List::<u8>::read_back();
     Map::<Bytes, u8>::read_back();
     List::<u8>::shallow();
-    laws::unknown_member_is_passed_over::<u8, u8>();
+    laws::unknown_member_is_passed_over::<PublicKeyCredentialDescriptor>();
     laws::refused_element_is_passed_over::<u8>();
-    laws::same_answers_read_alike::<u8, u8>();
+    laws::same_answers_read_alike::<PublicKeyCredentialDescriptor>();
 }

@@ -26,10 +26,8 @@ use Rattle.passkey_extensions.specs.declared.prf_make_outputs.AuthenticatorPrfMa
 use Rattle.passkey_extensions.specs.declared.prf_values.AuthenticatorPrfValues.{AuthenticatorPrfValues}
 use Rattle.passkey_extensions.specs.declared.get_assertion.unsigned.UnsignedExtensionOutputs as assertion
 use Rattle.passkey_extensions.specs.declared.make_credential.unsigned.UnsignedExtensionOutputs as creation
-use Rattle.passkey_kinds.proofs.Back.{falls_as}
-use Rattle.passkey_kinds.proofs.LeafBack.{truth_back, byte_back, bytes_back, kept_back, or_null_back, anything, optional_place, tolerated_place}
+use Rattle.passkey_kinds.proofs.LeafBack.{truth_back, byte_back, bytes_back, kept_back, or_null_same, anything, optional_place, tolerated_place}
 use Rattle.passkey_kinds.proofs.SizedBack.{numbers_back}
-use Rattle.passkey_kinds.proofs.Lists.{option_same}
 use Rattle.passkey_kinds.proofs.MapBack.{map_back}
 use Rattle.passkey_kinds.proofs.Maps.{map_values_same}
 use Rattle.passkey_kinds.proofs.RowsBack.{puts_value, puts_default, kind_back, rows_back, ◌▸◌, no_more}
@@ -84,7 +82,7 @@ made_back = record { back = λ o fits. read o fits } where
   read : (o : creation.UnsignedExtensionOutputs) → MadeFits o → made.unsigned (made_tree o) ≡ Some o
   read o fits =
       kind_back made.unsigned_fields (made_places o) o refl refl
-      (puts_default (falls_as (option_same o.prf) (default_place (or_null_back prf_make_back refl) None o.prf fits)) refl ▸
+      (puts_value (or_null_same prf_make_back refl) o.prf fits ▸
       no_more)
 
 pub used_back : IsReadBack used.unsigned used_tree UsedFits (λ o. o)
@@ -92,7 +90,7 @@ used_back = record { back = λ o fits. read o fits } where
   read : (o : assertion.UnsignedExtensionOutputs) → UsedFits o → used.unsigned (used_tree o) ≡ Some o
   read o fits =
       kind_back used.unsigned_fields (used_places o) o refl refl
-      (puts_default (falls_as (option_same o.prf) (default_place (or_null_back prf_get_back refl) None o.prf fits)) refl ▸
+      (puts_value (or_null_same prf_get_back refl) o.prf fits ▸
       no_more)
 
 values_map_back : IsReadBack (map_from_bytes prf_values) (byte_map_tree prf_values_tree) EachFits (λ m. m)

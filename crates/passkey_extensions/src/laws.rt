@@ -3,7 +3,7 @@ ghost use Rattle.passkey_extensions.specs.ExtensionTrees.{hmac_input_tree, HmacI
 ghost use Rattle.passkey_extensions.specs.HmacInput.{hmac_input_fields, read_hmac_input};
 ghost use Rattle.passkey_extensions.specs.HmacInputView.{hmac_input_parts};
 ghost use Rattle.passkey_kinds.specs.MessageLaws.{WrittenIsReadBack, ReadIsCoherent};
-ghost use Rattle.passkey_kinds.specs.RecordLaws.{SkipsUnknown};
+ghost use Rattle.passkey_kinds.specs.RecordLaws.{PassesOverUnknown};
 ghost use Rattle.passkey_kinds.specs.RecordLaws.{KnowsMaps};
 
 /// What is written of coherent inputs of the extension hmac-secret, whatever bytes follow, is read
@@ -27,7 +27,7 @@ pub fn read_hmac_input_knows_maps()
 /// A member under an unknown key may stand anywhere in inputs of the extension hmac-secret, while
 /// the map has at most 256 levels with it: what is read of bytes differs in the length alone.
 pub fn read_hmac_input_passes_over_unknown()
-    ensures { SkipsUnknown hmac_input_parts hmac_input_fields }
+    ensures { PassesOverUnknown hmac_input_parts hmac_input_fields }
 {
     passkey_cbor::laws::at_most_one_front();
 }

@@ -4,7 +4,7 @@ ghost use Rattle.passkey_get_assertion.specs.GetRequestView.{get_request_parts};
 ghost use Rattle.passkey_get_assertion.specs.GetResponse.{get_response_fields, read_get_response, get_response_tree, GetResponseFits, is_get_response_coherent, normal_get_response};
 ghost use Rattle.passkey_get_assertion.specs.GetResponseView.{get_response_parts};
 ghost use Rattle.passkey_kinds.specs.MessageLaws.{WrittenIsReadBack, ReadIsCoherent};
-ghost use Rattle.passkey_kinds.specs.RecordLaws.{SkipsUnknown};
+ghost use Rattle.passkey_kinds.specs.RecordLaws.{PassesOverUnknown};
 ghost use Rattle.passkey_kinds.specs.RecordLaws.{KnowsMaps};
 
 /// What is written of a coherent request to use a credential, whatever bytes follow, is read as the
@@ -50,7 +50,7 @@ pub fn read_get_response_knows_maps()
 /// A member under an unknown key may stand anywhere in a request to use a credential, while the map
 /// has at most 256 levels with it: what is read of bytes differs in the length alone.
 pub fn read_get_request_passes_over_unknown()
-    ensures { SkipsUnknown get_request_parts get_request_fields }
+    ensures { PassesOverUnknown get_request_parts get_request_fields }
 {
     passkey_cbor::laws::at_most_one_front();
 }
@@ -58,7 +58,7 @@ pub fn read_get_request_passes_over_unknown()
 /// A member under an unknown key may stand anywhere in a response to a request to use a credential,
 /// while the map has at most 256 levels with it: what is read of bytes differs in the length alone.
 pub fn read_get_response_passes_over_unknown()
-    ensures { SkipsUnknown get_response_parts get_response_fields }
+    ensures { PassesOverUnknown get_response_parts get_response_fields }
 {
     passkey_cbor::laws::at_most_one_front();
 }

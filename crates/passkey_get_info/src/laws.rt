@@ -3,7 +3,7 @@ ghost use Rattle.passkey_get_info.specs.GetInfo.{get_info_fields, read_get_info}
 ghost use Rattle.passkey_get_info.specs.GetInfoView.{get_info_parts};
 ghost use Rattle.passkey_get_info.specs.GetInfoTree.{get_info_tree, GetInfoFits, is_get_info_coherent, normal_get_info};
 ghost use Rattle.passkey_kinds.specs.MessageLaws.{WrittenIsReadBack, ReadIsCoherent};
-ghost use Rattle.passkey_kinds.specs.RecordLaws.{SkipsUnknown};
+ghost use Rattle.passkey_kinds.specs.RecordLaws.{PassesOverUnknown};
 ghost use Rattle.passkey_kinds.specs.RecordLaws.{KnowsMaps};
 
 /// What is written of what an authenticator tells of itself, where that is coherent, is read as the
@@ -28,7 +28,7 @@ pub fn read_get_info_knows_maps()
 /// A member under an unknown key may stand anywhere in what an authenticator tells of itself, while
 /// the map has at most 256 levels with it: what is read of bytes differs in the length alone.
 pub fn read_get_info_passes_over_unknown()
-    ensures { SkipsUnknown get_info_parts get_info_fields }
+    ensures { PassesOverUnknown get_info_parts get_info_fields }
 {
     passkey_cbor::laws::at_most_one_front();
 }

@@ -126,6 +126,10 @@ or_null_back {A} {M} {kind} {tree} {Fits} {normal} r none = record { back = ther
   there None h = refl
   there (Some x) h = optional_some kind (tree x) (normal x) none (r.back x h)
 
+-- null or the value, read back as it was
+pub or_null_same : {M : Type 0} {kind : Kind M} {tree : M → Item} {Fits : M → Type 0} → IsReadBack kind tree Fits (λ x. x) → kind null ≡ None → IsReadBack (optional kind) (option_tree tree) (Where Fits) (λ o. o)
+or_null_same r none = record { back = λ o h. (or_null_back r none).back o h ∙ ap Some (option_same o) }
+
 -- ---- places, where each value is read as itself
 
 pub anything : {A : Type 0} (o : Option A) → Where Any o

@@ -7,7 +7,7 @@ use Rattle.passkey_cbor.specs.Laws.{AtMostOneFront}
 use Rattle.passkey_cose.proofs.KeyLists.{members-pairs_of}
 use Rattle.passkey_kinds.specs.MessageLaws.{AlikeDifferInLength}
 use Rattle.passkey_kinds.specs.Record.{Fields, table_of, put_at, put_named, with_members, unless_missing, judged, read_members, read_item}
-use Rattle.passkey_kinds.specs.RecordLaws.{known_member, known, HasNoWrongKey, SameAnswers, SkipsUnknown, KnowsItems, KnowsMaps}
+use Rattle.passkey_kinds.specs.RecordLaws.{known_member, known, HasNoWrongKey, SameAnswers, PassesOverUnknown, KnowsItems, KnowsMaps}
 use Rattle.passkey_kinds.specs.Table.{Naming, row, unknown, wrong, named, Members, first_bad, first_missing}
 use Rattle.passkey_kinds.specs.Tree.{map_tree}
 use Rattle.passkey_kinds.specs.declared.fault.Fault.{Fault}
@@ -101,7 +101,7 @@ module _ {P : Type 0} (t : Fields P) where
 pub alike_differ_in_length : {A P : Type 0} → AtMostOneFront → (view : A → P) (t : Fields P) → AlikeDifferInLength view (read_item t)
 alike_differ_in_length law view t = alike law view (read_item t) (knows_items t)
 
-pub skips_unknown : {A P : Type 0} → AtMostOneFront → (view : A → P) (t : Fields P) → SkipsUnknown view t
+pub skips_unknown : {A P : Type 0} → AtMostOneFront → (view : A → P) (t : Fields P) → PassesOverUnknown view t
 skips_unknown law view t before behind key value naming =
     let without : Members = before ++ behind in
     let with_it : Members = before ++ (key, value) ∷ behind in

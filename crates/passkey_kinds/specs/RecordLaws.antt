@@ -11,12 +11,12 @@ use Rattle.passkey_kinds.specs.declared.fault.Fault.{Fault}
 use Rattle.passkey_kinds.specs.declared.fault.Fault.TheVariants.{DecodeFailed, NotAMap, OutOfMemory}
 
 -- An element that the kind refuses changes nothing, wherever it is in a tolerant list.
-abbrev pub RefusedElementIsSkipped : Type 0 → Type 0
-RefusedElementIsSkipped M = (kind : Kind M) (before behind : List Item) (x : Item) → kind x ≡ None → accepted kind (array (items_of (before ++ x ∷ behind))) ≡ accepted kind (array (items_of (before ++ behind)))
+abbrev pub RefusedElementIsPassedOver : Type 0 → Type 0
+RefusedElementIsPassedOver M = (kind : Kind M) (before behind : List Item) (x : Item) → kind x ≡ None → accepted kind (array (items_of (before ++ x ∷ behind))) ≡ accepted kind (array (items_of (before ++ behind)))
 
 -- A member under a key that the table doesn't know changes nothing, wherever it is.
-abbrev pub UnknownMemberIsSkipped : {P : Type 0} → Fields P → Type 0
-UnknownMemberIsSkipped t = (before behind : Members) (key value : Item) → named (table_of t) key ≡ unknown → read_members t (before ++ (key, value) ∷ behind) ≡ read_members t (before ++ behind)
+abbrev pub UnknownMemberIsPassedOver : {P : Type 0} → Fields P → Type 0
+UnknownMemberIsPassedOver t = (before behind : Members) (key value : Item) → named (table_of t) key ≡ unknown → read_members t (before ++ (key, value) ∷ behind) ≡ read_members t (before ++ behind)
 
 -- ---- members that are decoded alike
 
@@ -51,8 +51,8 @@ SameAnswersReadAlike t = (ms ns : Members) → HasNoWrongKey (table_of t) ms →
 
 -- A map with one member more, under a key that the table doesn't know, differs in the length alone
 -- from the map without it, wherever the member is.
-abbrev pub SkipsUnknown : {A P : Type 0} → (A → P) → Fields P → Type 0
-SkipsUnknown view t =
+abbrev pub PassesOverUnknown : {A P : Type 0} → (A → P) → Fields P → Type 0
+PassesOverUnknown view t =
     (before behind : Members) (key value : Item) →
     named (table_of t) key ≡ unknown →
     DifferInLength view (read_item t) (map_tree (before ++ behind)) (map_tree (before ++ (key, value) ∷ behind))

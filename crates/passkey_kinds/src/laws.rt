@@ -1,14 +1,14 @@
 //! Laws of what records and lists are decoded as, each the contract of a function without effect.
 ghost use Rattle.passkey_kinds.specs.MessageLaws.{AlikeDifferInLength};
 ghost use Rattle.passkey_kinds.specs.Record.{read_item};
-ghost use Rattle.passkey_kinds.specs.RecordLaws.{KnowsItems, KnowsMaps, RefusedElementIsSkipped, SameAnswersReadAlike, SkipsUnknown, UnknownMemberIsSkipped};
+ghost use Rattle.passkey_kinds.specs.RecordLaws.{KnowsItems, KnowsMaps, RefusedElementIsPassedOver, SameAnswersReadAlike, PassesOverUnknown, UnknownMemberIsPassedOver};
 
 use crate::record::Record;
 
 /// A member under a key that a record's table doesn't know may be anywhere: what is decoded, or the
 /// fault, is the same without it.
-pub fn unknown_member_is_skipped<R: Record>()
-    ensures { UnknownMemberIsSkipped R.fields }
+pub fn unknown_member_is_passed_over<R: Record>()
+    ensures { UnknownMemberIsPassedOver R.fields }
 {}
 
 /// A member under a key that a message's table doesn't know may be anywhere, while the map has at
@@ -16,7 +16,7 @@ pub fn unknown_member_is_skipped<R: Record>()
 /// what is decoded from them differs in the length alone, and a fault is the same. Out of memory is
 /// left out: it may be returned for any map that isn't empty.
 pub fn unknown_member_changes_the_length_alone<R: Record>()
-    ensures { SkipsUnknown R.parts R.fields }
+    ensures { PassesOverUnknown R.parts R.fields }
 {
     passkey_cbor::laws::at_most_one_front();
 }
@@ -32,8 +32,8 @@ pub fn alike_items_differ_in_length<R: Record>()
 /// An element that its kind refuses may be anywhere in a tolerant list: the value is the same
 /// without it.
 #[tactic(auto, using(crate::proofs::Accepted::refused_is_passed_over))]
-pub fn refused_element_is_skipped<M>()
-    ensures { RefusedElementIsSkipped M }
+pub fn refused_element_is_passed_over<M>()
+    ensures { RefusedElementIsPassedOver M }
 {}
 
 /// What is decoded as a record, or its fault, is the same for any members without a wrong key that

@@ -6,7 +6,7 @@ ghost use Rattle.passkey_make_credential.specs.MakeRequestView.{make_request_par
 ghost use Rattle.passkey_make_credential.specs.MakeResponse.{make_response_fields, read_make_response, make_response_tree, MakeResponseFits, is_make_response_coherent, normal_make_response, attestation_tree, unattested};
 ghost use Rattle.passkey_make_credential.specs.MakeResponseView.{make_response_parts};
 ghost use Rattle.passkey_kinds.specs.MessageLaws.{WrittenIsReadBack, ReadIsCoherent};
-ghost use Rattle.passkey_kinds.specs.RecordLaws.{SkipsUnknown};
+ghost use Rattle.passkey_kinds.specs.RecordLaws.{PassesOverUnknown};
 ghost use Rattle.passkey_kinds.specs.RecordLaws.{KnowsMaps};
 
 /// What is written of a coherent request to make a credential, whatever bytes follow, is read as the
@@ -62,7 +62,7 @@ pub fn read_make_response_knows_maps()
 /// A member under an unknown key may stand anywhere in a request to make a credential, while the map
 /// has at most 256 levels with it: what is read of bytes differs in the length alone.
 pub fn read_make_request_passes_over_unknown()
-    ensures { SkipsUnknown make_request_parts make_request_fields }
+    ensures { PassesOverUnknown make_request_parts make_request_fields }
 {
     passkey_cbor::laws::at_most_one_front();
 }
@@ -70,7 +70,7 @@ pub fn read_make_request_passes_over_unknown()
 /// A member under an unknown key may stand anywhere in a response to a request to make a credential,
 /// while the map has at most 256 levels with it: what is read of bytes differs in the length alone.
 pub fn read_make_response_passes_over_unknown()
-    ensures { SkipsUnknown make_response_parts make_response_fields }
+    ensures { PassesOverUnknown make_response_parts make_response_fields }
 {
     passkey_cbor::laws::at_most_one_front();
 }
