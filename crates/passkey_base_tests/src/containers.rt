@@ -5,7 +5,7 @@ ghost use Rattle.std.specs.FinMap as fin;
 use crate::checks::{bytes, text};
 use passkey_bytes::{Bytes, Key, List, Map, OutOfMemory, Text};
 use std::alloc::Global;
-use std::collections::HashMap;
+use std::collections::{BTreeMap, HashMap};
 use std::process::Abort;
 
 // A clause of a caller speaks of the bytes alone.
@@ -37,6 +37,10 @@ fn texts_are_copied(rt: HostRuntime) {
     assert_eq!(rt; zoe.as_str(), "Zoë");
     assert!(rt; zoe.try_clone(rt.alloc()).expect(&rt, "memory") == zoe);
     assert!(rt; zoe.clone().expect(&rt, "memory") == zoe);
+    let mut ages: HashMap<Text, u32> = HashMap::new(rt.alloc());
+    let inserted: Result<_, _> = ages.insert(text(&rt, "Zoë"), 7);
+    assert!(rt; inserted.is_ok());
+    assert_eq!(rt; ages.get(&zoe).copied(), Some(7));
 }
 
 fn append_eight(list: &mut List<u16>) -> Result<(), OutOfMemory>
@@ -130,8 +134,8 @@ fn a_map_of_texts_is_gone_over(rt: HostRuntime) {
     for (_name, age) in ages.iter() {
         sum = sum.saturating_add(u64::from(*age));
     }
-    let table: HashMap<Text, u32> = ages.into();
-    for (_name, age) in Map::from(table) {
+    let tree: BTreeMap<Text, u32> = ages.into();
+    for (_name, age) in Map::from(tree) {
         sum = sum.saturating_add(u64::from(age));
     }
     assert_eq!(rt; sum, 3 * 43);

@@ -53,7 +53,7 @@ fn containers_are_printed(rt: HostRuntime) {
     assert_printed(&rt, &text(&rt, "a\"\n"), "a\"\n");
     assert_shown(&rt, &list(&rt), "[\"a\"]");
     let mut map = Map::empty(rt.alloc());
-    map.insert(bytes(&rt, &[1, 2]), list(&rt))
-        .expect(&rt, "memory");
-    assert_shown(&rt, &map, "{Bytes([1, 2]): [\"a\"]}");
+    map.insert(bytes(&rt, &[1, 2]), 3).expect(&rt, "memory");
+    map.insert(bytes(&rt, &[1]), 4).expect(&rt, "memory");
+    assert_shown(&rt, &map, "{Bytes([1]): 4, Bytes([1, 2]): 3}");
 }

@@ -1,27 +1,29 @@
--- A change of a hash map at one key is the same change of its finite map.
+-- A change of an ordered tree at one key is the same change of its finite map.
+use Rattle.std.specs.BTreeMap.{BTreeMap, Updates, UpdatesBy, is_at}
+use Rattle.std.specs.Cmp.{eq_by_cmp_equiv}
 use Rattle.std.specs.Cmp.Lexicographic.{bytes_decides, slice_cmp, texts_ties}
 use Rattle.std.specs.FinMap as fin
-use Rattle.std.specs.HashMap.{HashMap, Updates, UpdatesBy}
 use Rattle.std.specs.Map.{lookup}
-use Rattle.std.specs.Ordering.{eq_by_cmp, nat_cmp}
+use Rattle.std.specs.Ordering.{eq_by_cmp, is_eq, nat_cmp}
+use Rattle.std.specs.declared.cmp.Ordering.{Ordering}
 use Rattle.std.specs.Str.{bytes_eq}
 use Rattle.std.proofs.Common.{◌≡◌, ℕ, Bool, true, false, cond, List, refl, sym, ap, subst, ◌∙◌, inl, inr, Option, Some, None}
-use Rattle.std.proofs.lemmas.Cmp.{nat_list_cmp_total, nat_list_eq_equiv}
+use Rattle.std.proofs.lemmas.Cmp.{nat_list_cmp_total}
 use Rattle.passkey_bytes.specs.Map.{map_of}
 use Rattle.passkey_bytes.proofs.Maps.{get-map_of, get_or_key}
 use Rattle.passkey_bytes.proofs.Placed.{same_bytes}
 
-module _ {K V : Type 0} (bytes : K → List ℕ) (eq : K → K → Bool) (same : (a b : K) → eq a b ≡ bytes_eq (bytes a) (bytes b)) (key : K) (value : Option V) (old new : List (K × V)) (changed : (q : K) → lookup (eq q) new ≡ cond (eq key q) value (lookup (eq q) old)) where
+module _ {K V : Type 0} (bytes : K → List ℕ) (cmp : K → K → Ordering) (same : (a b : K) → cmp a b ≡ slice_cmp nat_cmp (bytes a) (bytes b)) (key : K) (value : Option V) (old new : List (K × V)) (changed : (q : K) → lookup (is_at (cmp q)) new ≡ cond (is_at (cmp key) q) value (lookup (is_at (cmp q)) old)) where
   abbrev IsChanged : List ℕ → Type 0
   IsChanged q = fin.get (map_of bytes new) q ≡ cond (eq_by_cmp (slice_cmp nat_cmp) q (bytes key)) value (fin.get (map_of bytes old) q)
 
   -- equal keys are equal both ways round
-  turned : (k : K) → eq key k ≡ eq_by_cmp (slice_cmp nat_cmp) (bytes k) (bytes key)
-  turned k = same key k ∙ nat_list_eq_equiv.symm (bytes key) (bytes k) ∙ texts_ties (bytes k) (bytes key)
+  turned : (k : K) → is_at (cmp key) k ≡ eq_by_cmp (slice_cmp nat_cmp) (bytes k) (bytes key)
+  turned k = ap is_eq (same key k) ∙ (eq_by_cmp_equiv nat_list_cmp_total).symm (bytes key) (bytes k)
 
   at_key : (k : K) → IsChanged (bytes k)
-  at_key k = get-map_of bytes eq same new k ∙ changed k
-      ∙ (λ i. cond (turned k i) value (sym (get-map_of bytes eq same old k) i))
+  at_key k = get-map_of bytes cmp same new k ∙ changed k
+      ∙ (λ i. cond (turned k i) value (sym (get-map_of bytes cmp same old k) i))
 
   at_own : (q : List ℕ) → ((k : K) × (bytes k ≡ q)) → IsChanged q
   at_own q found = subst IsChanged found.1 (at_key found.0)
@@ -41,21 +43,21 @@ module _ {K V : Type 0} (bytes : K → List ℕ) (eq : K → K → Bool) (same :
     ]
   ]
 
-module _ {K V : Type 0} (bytes : K → List ℕ) (eq : K → K → Bool) (same : (a b : K) → eq a b ≡ bytes_eq (bytes a) (bytes b)) (key : K) (old new : List (K × V)) where
-  pub map_of-insert : (v : V) → ((q : K) → lookup (eq q) new ≡ cond (eq key q) (Some v) (lookup (eq q) old)) → map_of bytes new ≡ fin.insert (map_of bytes old) (bytes key) v
+module _ {K V : Type 0} (bytes : K → List ℕ) (cmp : K → K → Ordering) (same : (a b : K) → cmp a b ≡ slice_cmp nat_cmp (bytes a) (bytes b)) (key : K) (old new : List (K × V)) where
+  pub map_of-insert : (v : V) → ((q : K) → lookup (is_at (cmp q)) new ≡ cond (is_at (cmp key) q) (Some v) (lookup (is_at (cmp q)) old)) → map_of bytes new ≡ fin.insert (map_of bytes old) (bytes key) v
   map_of-insert v changed = fin.same_map nat_list_cmp_total same_bytes _ _
-      (λ q. get-changed bytes eq same key (Some v) old new changed q ∙ sym (fin.get-insert nat_list_cmp_total (map_of bytes old) (bytes key) v q))
+      (λ q. get-changed bytes cmp same key (Some v) old new changed q ∙ sym (fin.get-insert nat_list_cmp_total (map_of bytes old) (bytes key) v q))
 
-  pub map_of-remove : ((q : K) → lookup (eq q) new ≡ cond (eq key q) None (lookup (eq q) old)) → map_of bytes new ≡ fin.remove (map_of bytes old) (bytes key)
+  pub map_of-remove : ((q : K) → lookup (is_at (cmp q)) new ≡ cond (is_at (cmp key) q) None (lookup (is_at (cmp q)) old)) → map_of bytes new ≡ fin.remove (map_of bytes old) (bytes key)
   map_of-remove changed = fin.same_map nat_list_cmp_total same_bytes _ _
-      (λ q. get-changed bytes eq same key None old new changed q ∙ sym (fin.get-remove nat_list_cmp_total (map_of bytes old) (bytes key) q))
+      (λ q. get-changed bytes cmp same key None old new changed q ∙ sym (fin.get-remove nat_list_cmp_total (map_of bytes old) (bytes key) q))
 
-module _ {K V S : Type 0} (bytes : K → List ℕ) (eq : K → K → Bool) where
-  pub removed : (same : (a b : K) → eq a b ≡ bytes_eq (bytes a) (bytes b)) (key : K) (m n : HashMap K V S) → UpdatesBy eq (eq key) m n None → map_of bytes n.entries ≡ fin.remove (map_of bytes m.entries) (bytes key)
-  removed same key m n updates = map_of-remove bytes eq same key m.entries n.entries updates.0
+module _ {K V : Type 0} (bytes : K → List ℕ) (cmp : K → K → Ordering) where
+  pub removed : (same : (a b : K) → cmp a b ≡ slice_cmp nat_cmp (bytes a) (bytes b)) (key : K) (m n : BTreeMap K V) → UpdatesBy cmp (cmp key) m n None → map_of bytes n.entries ≡ fin.remove (map_of bytes m.entries) (bytes key)
+  removed same key m n updates = map_of-remove bytes cmp same key m.entries n.entries updates.0
 
-  pub inserted : (same : (a b : K) → eq a b ≡ bytes_eq (bytes a) (bytes b)) (key : K) (v : V) (m n : HashMap K V S) → Updates eq m n key (Some v) → map_of bytes n.entries ≡ fin.insert (map_of bytes m.entries) (bytes key) v
-  inserted same key v m n updates = map_of-insert bytes eq same key m.entries n.entries v updates.0
+  pub inserted : (same : (a b : K) → cmp a b ≡ slice_cmp nat_cmp (bytes a) (bytes b)) (key : K) (v : V) (m n : BTreeMap K V) → Updates cmp m n key (Some v) → map_of bytes n.entries ≡ fin.insert (map_of bytes m.entries) (bytes key) v
+  inserted same key v m n updates = map_of-insert bytes cmp same key m.entries n.entries v updates.0
 
 -- what a map reads as, and a change of it
 pub ruleset changes = (get-map_of, inserted, removed)

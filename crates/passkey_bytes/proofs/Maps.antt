@@ -1,41 +1,54 @@
 -- A finite map is read as the list of entries that it is made of.
+use Rattle.std.specs.BTreeMap.{is_at}
 use Rattle.std.specs.Cmp.Lexicographic.{bytes_decides, slice_cmp, texts_ties}
 use Rattle.std.specs.FinMap as fin
-use Rattle.std.specs.Ordering.{eq_by_cmp, nat_cmp}
-use Rattle.std.specs.List.{AllByRecursion, AllZip, IsDistinct}
+use Rattle.std.specs.FinMap.Entries.{by_order}
+use Rattle.std.specs.Ordering.{eq_by_cmp, is_eq, nat_cmp}
+use Rattle.std.specs.declared.cmp.Ordering.{Ordering}
+use Rattle.std.specs.declared.cmp.Ordering.TheVariants.{Less}
+use Rattle.std.specs.List.{AllByRecursion, AllZip}
+use Rattle.std.specs.List.Sorted.{IsStrictlySortedBy}
 use Rattle.std.specs.Option.{IsSomeAnd}
 use Rattle.std.specs.Map.{keys_of, lookup}
 use Rattle.std.specs.Str.{bytes_eq}
-use Rattle.std.proofs.Common.{◌≡◌, ℕ, ◌+◌, Bool, true, false, cond, List, [], ◌∷◌, length, refl, sym, ap, ◌∙◌, Option, Some, None, is_some, arith, ◌↔◌, subst, MatchOption, ◌⊎◌, inl, inr}
+use Rattle.std.proofs.Common.{◌≡◌, ℕ, suc, Bool, true, false, cond, List, [], ◌∷◌, length, refl, sym, ap, ◌∙◌, Option, Some, None, ◌↔◌, subst, MatchOption, ◌⊎◌, inl, inr}
 use Rattle.std.proofs.lemmas.Cmp.{nat_list_cmp_total}
-use Rattle.std.proofs.lemmas.Map.Keys.{IsDistinct-head, IsDistinct-tail}
+use Rattle.std.proofs.lemmas.Map.Keys.{sorted_head, sorted_tail}
 use Rattle.passkey_bytes.specs.Map.{ByteMap, ClonesValues, by_bytes, map_of}
+use Rattle.passkey_bytes.proofs.Placed.{entries_empty}
 
-module _ {K V : Type 0} (bytes : K → List ℕ) (eq : K → K → Bool) (same : (a b : K) → eq a b ≡ bytes_eq (bytes a) (bytes b)) where
-  find-by_bytes : (q : K) (es : List (K × V)) → fin.find (slice_cmp nat_cmp) (bytes q) (by_bytes bytes es) ≡ lookup (eq q) es
+module _ {K V : Type 0} (bytes : K → List ℕ) (cmp : K → K → Ordering) (same : (a b : K) → cmp a b ≡ slice_cmp nat_cmp (bytes a) (bytes b)) where
+  find-by_bytes : (q : K) (es : List (K × V)) → fin.find (slice_cmp nat_cmp) (bytes q) (by_bytes bytes es) ≡ lookup (is_at (cmp q)) es
   find-by_bytes q [] = refl
-  find-by_bytes q (e ∷ es) =
-      let test : eq_by_cmp (slice_cmp nat_cmp) (bytes q) (bytes e.0) ≡ eq q e.0 = sym (same q e.0 ∙ texts_ties (bytes q) (bytes e.0)) in
-      λ i. cond (test i) (Some e.1) (find-by_bytes q es i)
+  find-by_bytes q (e ∷ es) = λ i. cond (is_eq (sym (same q e.0) i)) (Some e.1) (find-by_bytes q es i)
 
-  pub get-map_of : (es : List (K × V)) (q : K) → fin.get (map_of bytes es) (bytes q) ≡ lookup (eq q) es
+  pub get-map_of : (es : List (K × V)) (q : K) → fin.get (map_of bytes es) (bytes q) ≡ lookup (is_at (cmp q)) es
   get-map_of es q = fin.get-from_entries nat_list_cmp_total (by_bytes bytes es) (bytes q) ∙ find-by_bytes q es
 
-  lookup_absent : (k : K) (es : List (K × V)) → AllByRecursion (λ y. eq k y ≡ false) (keys_of es) → lookup (eq k) es ≡ None
-  lookup_absent k [] h = refl
-  lookup_absent k (e ∷ es) h = ap (λ b. cond b (Some e.1) (lookup (eq k) es)) h.0 ∙ lookup_absent k es h.1
+  -- an entry whose key is below all others goes to the front
+  put_first : (e : K × V) (es : List (K × V)) → AllByRecursion (λ k. cmp e.0 k ≡ Less) (keys_of es) → fin.put (slice_cmp nat_cmp) (bytes e.0) e.1 (by_bytes bytes es) ≡ by_bytes bytes (e ∷ es)
+  put_first e [] below = refl
+  put_first e (f ∷ fs) below =
+      ap (λ (r : Ordering). by_order r (by_bytes bytes (e ∷ f ∷ fs)) ((bytes f.0, e.1) ∷ by_bytes bytes fs) ((bytes f.0, f.1) ∷ fin.put (slice_cmp nat_cmp) (bytes e.0) e.1 (by_bytes bytes fs)))
+      (sym (same e.0 f.0) ∙ below.0)
 
-  pub len-map_of : (es : List (K × V)) → IsDistinct eq (keys_of es) → fin.len (map_of bytes es) ≡ length es
-  len-map_of [] d = fin.len-empty (slice_cmp nat_cmp) V
-  len-map_of (e ∷ es) d =
-      let absent : fin.get (map_of bytes es) (bytes e.0) ≡ None =
-      get-map_of es e.0 ∙ lookup_absent e.0 es (IsDistinct-head eq e.0 (keys_of es) d) in
-      let rest = len-map_of es (IsDistinct-tail eq e.0 (keys_of es) d) in
-      let count = fin.len (map_of bytes es) in
-      let grown : fin.len (map_of bytes (e ∷ es)) ≡ count + 1 =
-      fin.len-insert nat_list_cmp_total (map_of bytes es) (bytes e.0) e.1
-      ∙ ap (λ found. cond (is_some found) count (count + 1)) absent in
-      omega (arith, grown, rest)
+  -- entries in order are those of their map
+  pub entries-map_of : (es : List (K × V)) → IsStrictlySortedBy cmp (keys_of es) → by_bytes bytes es ≡ fin.entries (map_of bytes es)
+  entries-map_of [] sorted = sym entries_empty
+  entries-map_of (e ∷ es) sorted =
+      sym (fin.entries-insert nat_list_cmp_total (map_of bytes es) (bytes e.0) e.1
+      ∙ ap (fin.put (slice_cmp nat_cmp) (bytes e.0) e.1) (sym (entries-map_of es (sorted_tail cmp e.0 (keys_of es) sorted)))
+      ∙ put_first e es (sorted_head cmp e.0 (keys_of es) sorted))
+
+  length-by_bytes : (es : List (K × V)) → length (by_bytes bytes es) ≡ length es
+  length-by_bytes [] = refl
+  length-by_bytes (e ∷ es) = ap (λ n. suc n) (length-by_bytes es)
+
+  pub len-map_of : (es : List (K × V)) → IsStrictlySortedBy cmp (keys_of es) → fin.len (map_of bytes es) ≡ length es
+  len-map_of es sorted =
+      fin.len-entries (map_of bytes es)
+      ∙ ap length (sym (entries-map_of es sorted))
+      ∙ length-by_bytes es
 
 module _ {K V : Type 0} (bytes : K → List ℕ) where
   find_or_key : (q : List ℕ) (es : List (K × V)) → (fin.find (slice_cmp nat_cmp) q (by_bytes bytes es) ≡ None) ⊎ ((k : K) × (bytes k ≡ q))
@@ -104,4 +117,4 @@ ClonesValues-empty {V} D m copy none same q =
     subst P (sym (ap (λ n. fin.get n q) none ∙ fin.get-empty (slice_cmp nat_cmp) q)) (ap (λ n. fin.get n q) same ∙ fin.get-empty (slice_cmp nat_cmp) q)
 
 -- what a map reads as
-pub ruleset readings = (get-map_of, len-map_of)
+pub ruleset readings = (get-map_of, len-map_of, entries-map_of)

@@ -1,7 +1,7 @@
--- The entries of a map, put one after the other where their keys belong.
+-- The entries of a map, put in one after the other.
 use Rattle.std.specs.Cmp.Lexicographic.{bytes_decides, slice_cmp, texts_ties}
 use Rattle.std.specs.FinMap as fin
-use Rattle.std.specs.FinMap.Entries.{below_all, by_order, is_sorted}
+use Rattle.std.specs.FinMap.Entries.{below_all, is_sorted}
 use Rattle.std.specs.List.{AllByRecursion, IsDistinct, fold}
 use Rattle.std.specs.Map.{keys_of}
 use Rattle.std.specs.Option.{option_or}
@@ -9,7 +9,7 @@ use Rattle.std.specs.Ordering.{eq_by_cmp, is_eq, is_lt, nat_cmp}
 use Rattle.std.specs.declared.cmp.Ordering.{Ordering}
 use Rattle.std.specs.declared.cmp.Ordering.TheVariants.{Less, Equal, Greater}
 use Rattle.std.specs.Str.{bytes_eq}
-use Rattle.std.proofs.Common.{◌≡◌, ◌∙◌, ℕ, Bool, true, false, ◌&&◌, cond, T, List, [], ◌∷◌, length, map, Option, Some, None, refl, sym, ap, subst, arith}
+use Rattle.std.proofs.Common.{◌≡◌, ◌∙◌, ℕ, Bool, true, false, ◌&&◌, cond, T, List, [], ◌∷◌, length, map, Option, Some, None, refl, sym, ap, arith}
 use Rattle.std.proofs.lemmas.Cmp.{nat_list_cmp_total}
 use Rattle.std.proofs.lemmas.List.{map-id}
 use Rattle.std.proofs.lemmas.Map.Keys.{IsDistinct-head, IsDistinct-tail}
@@ -67,13 +67,6 @@ module _ {V : Type 0} where
       ∙ or_none _
       ∙ sym (fin.get-from_entries nat_list_cmp_total es q))
 
-  -- the entries of a map, in whatever order they come
-  pub placed_all : (m : ByteMap V) (es : List (List ℕ × V)) → AreEntries (λ b. b) bytes_eq m es → placed [] es ≡ fin.entries m
-  placed_all m es are =
-      ap (λ fs. placed fs es) (sym entries_empty)
-      ∙ entries-put_each fin.empty es
-      ∙ ap fin.entries (put_each-distinct es are.1 ∙ ap fin.from_entries (sym (map-id es)) ∙ are.0)
-
 -- ---- keys in order
 
 both : (a b : Bool) → T (a && b) → T a × T b
@@ -118,27 +111,13 @@ put_each-entries {V} m =
     ∙ ap fin.from_entries (map-id es)
     ∙ fin.same_map nat_list_cmp_total same_bytes _ _ (λ q. fin.get-from_entries nat_list_cmp_total es q ∙ sym (fin.get-entries m q))
 
--- ---- what holds of each value
+-- they stay in their order
+pub placed_again : {V : Type 0} (m : ByteMap V) → placed [] (fin.entries m) ≡ fin.entries m
+placed_again m =
+    ap (λ fs. placed fs (fin.entries m)) (sym entries_empty)
+    ∙ entries-put_each fin.empty (fin.entries m)
+    ∙ ap fin.entries (put_each-entries m)
 
-module _ {V : Type 0} (P : V → Type 0) where
-  abbrev pub OfEach : List (List ℕ × V) → Type 0
-  OfEach es = AllByRecursion (λ e. P e.1) es
-
-  by_order_each : (r : Ordering) (x y z : List (List ℕ × V)) → OfEach x → OfEach y → OfEach z → OfEach (by_order r x y z)
-  by_order_each Less x y z h i j = h
-  by_order_each Equal x y z h i j = i
-  by_order_each Greater x y z h i j = j
-
-  put_of_each : (k : List ℕ) (v : V) (es : List (List ℕ × V)) → P v → OfEach es → OfEach (fin.put (slice_cmp nat_cmp) k v es)
-  put_of_each k v [] h all = (h, tt)
-  put_of_each k v (e ∷ es) h all =
-      by_order_each (slice_cmp nat_cmp k e.0) ((k, v) ∷ e ∷ es) ((e.0, v) ∷ es) (e ∷ fin.put (slice_cmp nat_cmp) k v es)
-      (h, all) (h, all.1) (all.0, put_of_each k v es h all.1)
-
-  placed_of_each : (sorted es : List (List ℕ × V)) → OfEach sorted → OfEach es → OfEach (placed sorted es)
-  placed_of_each sorted [] h all = h
-  placed_of_each sorted (e ∷ es) h all = placed_of_each (fin.put (slice_cmp nat_cmp) e.0 e.1 sorted) es (put_of_each e.0 e.1 sorted all.0 h) all.1
-
-  -- what holds of each value of a map, in whatever order they come, holds of each in the keys' order
-  pub each_in_order : (m : ByteMap V) (es : List (List ℕ × V)) → AreEntries (λ b. b) bytes_eq m es → OfEach es → OfEach (fin.entries m)
-  each_in_order m es are all = subst OfEach (placed_all m es are) (placed_of_each [] es tt all)
+-- what an iterator over a map from byte strings has are the map's entries
+pub entries_by_bytes : {V : Type 0} (m : ByteMap V) (es : List (List ℕ × V)) → AreEntries (λ b. b) m es → es ≡ fin.entries m
+entries_by_bytes m es are = sym (map-id es) ∙ are

@@ -1,24 +1,24 @@
 //! Finite maps.
 ghost use Rattle.std.specs.Prelude.{◌≡◌, ◌↔◌, ℕ, List, None, length, map, option_map, option_copied, is_some, IfErr, IfOk, IsTrue, OnErr, OnOk};
 ghost use Rattle.std.specs.FinMap as fin;
-ghost use Rattle.std.specs.Str.{bytes_eq};
-ghost use Rattle.passkey_bytes.specs.Map.{AreEntries, ClonesValues, GivesEntries, LendsEntries, map_of, maps_eq};
+ghost use Rattle.passkey_bytes.specs.Map.{ClonesValues, GivesEntries, LendsEntries, map_of, maps_eq};
 ghost use Rattle.passkey_bytes.specs.SameMaps.{maps_eq-equivalence, maps_eq-partial};
 
 use crate::bytes::Bytes;
 use crate::text::Text;
 use passkey_memory::OutOfMemory;
 use std::alloc::{AllocError, AllocFailed, Global};
-use std::collections::HashMap;
-use std::collections::hash_map::{IntoIter, Iter};
+use std::collections::BTreeMap;
+use std::collections::btree_map::{IntoIter, Iter};
 use std::fmt;
-use std::hash::Hash;
 use std::marker::Model;
 
-/// What a `Map` may have as keys: values that are equal exactly where their bytes are.
-pub trait Key: Eq + Hash + Clone {
+/// What a `Map` may have as keys: values in the order of their bytes, which are equal exactly where
+/// their bytes are.
+pub trait Key: Ord + Clone {
     ghost use Rattle.std.specs.Prelude.{◌≡◌, List, ℕ};
-    ghost use Rattle.std.specs.Str.{bytes_eq};
+    ghost use Rattle.std.specs.Cmp.Lexicographic.{slice_cmp};
+    ghost use Rattle.std.specs.Ordering.{nat_cmp};
 
     ghost key_bytes: { Self → List ℕ };
 
@@ -26,7 +26,7 @@ pub trait Key: Eq + Hash + Clone {
     fn as_key(&self) -> &[u8]
         ensures { result.now ≡ key_bytes self.now };
 
-    ghost eq_by_bytes: { (a b : Self) → Self.eq a b ≡ bytes_eq (key_bytes a) (key_bytes b) };
+    ghost cmp_by_bytes: { (a b : Self) → Self.cmp a b ≡ slice_cmp nat_cmp (key_bytes a) (key_bytes b) };
 
     ghost clone_keeps_bytes: { (a b : Self) → Self.is_clone a b → key_bytes b ≡ key_bytes a };
 }
@@ -36,7 +36,7 @@ impl Key for Bytes {
 
     ghost key_bytes = { λ bytes. bytes };
 
-    ghost eq_by_bytes = { λ _ _. refl };
+    ghost cmp_by_bytes = { λ _ _. refl };
 
     ghost clone_keeps_bytes = { λ _ _ same. same };
 
@@ -50,7 +50,7 @@ impl Key for Text {
 
     ghost key_bytes = { λ text. text };
 
-    ghost eq_by_bytes = { λ _ _. refl };
+    ghost cmp_by_bytes = { λ _ _. refl };
 
     ghost clone_keeps_bytes = { λ _ _ same. same };
 
@@ -59,10 +59,10 @@ impl Key for Text {
     }
 }
 
-/// A finite map with byte strings or texts as keys. A contract sees it as the map from the bytes of
-/// its keys to its values, in no order.
+/// A finite map with byte strings or texts as keys, whose entries come in the order of their keys'
+/// bytes. A contract sees it as the map from the bytes of its keys to its values.
 #[derive(Drop)]
-pub struct Map<K: Key, V>(HashMap<K, V>);
+pub struct Map<K: Key, V>(BTreeMap<K, V>);
 
 impl<K: Key, V> Model for Map<K, V> {
     ghost use Rattle.std.specs.Coded.{coded_list, coded_ℕ};
@@ -81,7 +81,7 @@ impl<K: Key, V> Map<K, V> {
     pub fn empty(alloc: Global) -> Map<K, V>
         ensures { result ≡ fin.empty }
     {
-        Map(HashMap::new(alloc))
+        Map(BTreeMap::new(alloc))
     }
 
     /// The value at the key, if there is one.
@@ -138,9 +138,10 @@ impl<K: Key, V> Map<K, V> {
         self.len() == 0
     }
 
-    /// The keys with their values, in an open order.
+    /// The keys with their values, in the order of the keys' bytes.
+    #[tactic(auto, using(crate::proofs::Maps::readings))]
     pub fn iter(&self) -> Iter<'_, K, V>
-        ensures { LendsEntries K.key_bytes K.eq self.now result }
+        ensures { LendsEntries K.key_bytes self.now result }
     {
         self.0.iter()
     }
@@ -161,18 +162,18 @@ impl<K: Key, V: Clone> Map<K, V> {
     }
 }
 
-impl<K: Key, V> From<HashMap<K, V>> for Map<K, V> {
-    ghost from_gives = { λ hash_map map. map ≡ map_of K.key_bytes hash_map.entries };
+impl<K: Key, V> From<BTreeMap<K, V>> for Map<K, V> {
+    ghost from_gives = { λ tree map. map ≡ map_of K.key_bytes tree.entries };
 
-    fn from(map: HashMap<K, V>) -> Map<K, V> {
+    fn from(map: BTreeMap<K, V>) -> Map<K, V> {
         Map(map)
     }
 }
 
-impl<K: Key, V> From<Map<K, V>> for HashMap<K, V> {
-    ghost from_gives = { λ map hash_map. map_of K.key_bytes hash_map.entries ≡ map };
+impl<K: Key, V> From<Map<K, V>> for BTreeMap<K, V> {
+    ghost from_gives = { λ map tree. map_of K.key_bytes tree.entries ≡ map };
 
-    fn from(map: Map<K, V>) -> HashMap<K, V> {
+    fn from(map: Map<K, V>) -> BTreeMap<K, V> {
         map.0
     }
 }
@@ -182,8 +183,9 @@ impl<K: Key, V: Drop> IntoIterator for Map<K, V> {
 
     type IntoIter = IntoIter<K, V>;
 
-    ghost into_iter_gives = { λ map it. GivesEntries K.key_bytes K.eq map it };
+    ghost into_iter_gives = { λ map it. GivesEntries K.key_bytes map it };
 
+    #[tactic(auto, using(crate::proofs::Maps::readings))]
     fn into_iter(self) -> IntoIter<K, V> {
         self.0.into_iter()
     }
@@ -194,7 +196,7 @@ impl<'a, K: Key, V> IntoIterator for &'a Map<K, V> {
 
     type IntoIter = Iter<'a, K, V>;
 
-    ghost into_iter_gives = { λ map it. LendsEntries K.key_bytes K.eq map.now it };
+    ghost into_iter_gives = { λ map it. LendsEntries K.key_bytes map.now it };
 
     fn into_iter(self) -> Iter<'a, K, V> {
         self.iter()
@@ -215,9 +217,9 @@ impl<K: Key, V: PartialEq> PartialEq for Map<K, V> {
 
     ghost laws = { maps_eq-partial V.eq V.laws };
 
-    #[tactic(auto, using(crate::proofs::MapEquality::hash_map_eq_as_maps_eq))]
     fn eq(&self, other: &Map<K, V>) -> bool {
-        self.0 == other.0
+        let as_long = self.0.len() == other.0.len();
+        as_long && self.0 == other.0
     }
 }
 

@@ -2,14 +2,13 @@
 use Rattle.std.specs.Cmp.Lexicographic.{slice_cmp}
 use Rattle.std.specs.FinMap as fin
 use Rattle.std.specs.FinMap.Entries.{by_order}
-use Rattle.std.specs.List.{fold}
+use Rattle.std.specs.List.{AllByRecursion, fold}
 use Rattle.std.specs.Ordering.{match_ordering, nat_cmp}
 use Rattle.std.specs.declared.cmp.Ordering.{Ordering}
 use Rattle.std.specs.declared.cmp.Ordering.TheVariants.{Less, Equal, Greater}
-use Rattle.std.specs.Str.{bytes_eq}
 use Rattle.std.proofs.Common.{◌≡◌, ◌∙◌, ℕ, List, [], ◌∷◌, Some, refl, sym, ap}
-use Rattle.passkey_bytes.specs.Map.{ByteMap, AreEntries, put_each}
-use Rattle.passkey_bytes.proofs.Placed.{OfEach, placed, placed_all, put_each-entries}
+use Rattle.passkey_bytes.specs.Map.{ByteMap, put_each}
+use Rattle.passkey_bytes.proofs.Placed.{placed, placed_again, put_each-entries}
 use Rattle.passkey_json.specs.Kind.{Kind}
 use Rattle.passkey_json.specs.MapKind.{with_members, map_from_texts, members_json, map_json}
 use Rattle.passkey_json.specs.Written.{ReadsBack}
@@ -39,9 +38,9 @@ module _ {A : Type 0} (json : A → Data) where
       ap (λ (ms : Members). put_members ms es) (put_member e.0 e.1 sorted)
       ∙ put_members-placed (fin.put (slice_cmp nat_cmp) e.0 e.1 sorted) es
 
-  -- the entries of a map, in whatever order they are put
-  pub put_all : (m : ByteMap A) (es : List (List ℕ × A)) → AreEntries (λ b. b) bytes_eq m es → put_members no_members es ≡ members_json json (fin.entries m)
-  put_all m es are = put_members-placed [] es ∙ ap (members_json json) (placed_all m es are)
+  -- the entries of a map
+  pub put_all : (m : ByteMap A) → put_members no_members (fin.entries m) ≡ members_json json (fin.entries m)
+  put_all m = put_members-placed [] (fin.entries m) ∙ ap (members_json json) (placed_again m)
 
   -- one more entry
   pub put_more : (old new : Members) (left rest : List (List ℕ × A)) (name k : List ℕ) (x : A) → left ≡ (k, x) ∷ rest → name ≡ k → new ≡ put name (json x) old → put_members new rest ≡ put_members old left
@@ -51,7 +50,7 @@ module _ {A : Type 0} (json : A → Data) where
 
 module _ {A : Type 0} (kind : Kind A) (json : A → Data) where
   abbrev pub EachBack : List (List ℕ × A) → Type 0
-  EachBack es = OfEach (λ x. ReadsBack kind x (json x)) es
+  EachBack es = AllByRecursion (λ e. ReadsBack kind e.1 (json e.1)) es
 
   members_back : (m : ByteMap A) (es : List (List ℕ × A)) → EachBack es → with_members kind m (members_json json es) ≡ Some (put_each m es)
   members_back m [] back = refl

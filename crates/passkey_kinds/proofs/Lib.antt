@@ -1,7 +1,6 @@
 pub mod Lists
 pub mod Arrays
 pub mod Maps
-pub mod InOrder
 pub mod Texts
 pub mod Members
 pub mod Pairs

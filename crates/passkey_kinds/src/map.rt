@@ -2,7 +2,6 @@
 ghost use Rattle.std.specs.Prelude.{◌≡◌, ◌<◌, length, map, true, IfOk, OnOk};
 ghost use Rattle.std.specs.FinMap as fin;
 ghost use Rattle.std.specs.List.{All};
-ghost use Rattle.std.specs.Map.Iter.{deref_pair};
 ghost use Rattle.passkey_bytes.specs.Map.{ByteMap};
 ghost use Rattle.passkey_cbor.specs.View.{pair_of};
 ghost use Rattle.passkey_kinds.specs.Kind.{AnswersAs};
@@ -16,7 +15,6 @@ use passkey_bytes::{Bytes, Map};
 use passkey_cbor::Value;
 use passkey_memory::OutOfMemory;
 use std::alloc::Global;
-use std::collections::BTreeMap;
 
 fn read_entries<T: FromCbor>(
     alloc: Global,
@@ -48,30 +46,16 @@ impl<T: FromCbor> FromCbor for Map<Bytes, T> {
     }
 }
 
-/// The entries in the order of their keys' bytes.
-fn in_order<'a, T>(
-    alloc: Global,
-    entries: &'a Map<Bytes, T>,
-) -> Result<BTreeMap<&'a [u8], &'a T>, OutOfMemory>
-    ensures { IfOk result (λ sorted. map deref_pair sorted.entries ≡ fin.entries entries.now) }
-{
-    let mut sorted = BTreeMap::new(alloc);
-    for (key, value) in entries {
-        sorted.insert(key.as_slice(), value)?;
-    }
-    Ok(sorted)
-}
-
 fn write_entries<T: ToCbor>(
     alloc: Global,
-    entries: &BTreeMap<&[u8], &T>,
+    entries: &Map<Bytes, T>,
 ) -> Result<Vec<(Value, Value)>, OutOfMemory>
-    ensures trees { IfOk result (λ pairs. map pair_of pairs.items ≡ map (entry_tree T.tree) (map deref_pair entries.now.entries)) }
-    ensures fits { OnOk result (All (λ e. T.fits e.1) (map deref_pair entries.now.entries)) }
+    ensures trees { IfOk result (λ pairs. map pair_of pairs.items ≡ map (entry_tree T.tree) (fin.entries entries.now)) }
+    ensures fits { OnOk result (All (λ e. T.fits e.1) (fin.entries entries.now)) }
 {
     let mut pairs = Vec::with_capacity(alloc, entries.len())?;
     for (key, value) in entries {
-        let key = Value::Bytes(Vec::from_slice(alloc, key)?);
+        let key = Value::Bytes(Vec::from_slice(alloc, key.as_slice())?);
         pairs.push((key, value.to_value(alloc)?))?;
     }
     Ok(pairs)
@@ -83,7 +67,6 @@ impl<T: ToCbor> ToCbor for Map<Bytes, T> {
     ghost fits = { λ m. All (λ e. T.fits e.1) (fin.entries m) };
 
     fn to_value(&self, alloc: Global) -> Result<Value, OutOfMemory> {
-        let entries = in_order(alloc, self)?;
-        Ok(Value::Map(write_entries(alloc, &entries)?))
+        Ok(Value::Map(write_entries(alloc, self)?))
     }
 }

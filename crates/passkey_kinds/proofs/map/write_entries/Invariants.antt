@@ -1,5 +1,5 @@
+use Rattle.std.specs.FinMap as fin
 use Rattle.std.specs.List.{All}
-use Rattle.std.specs.Map.Iter.{deref_pair}
 use Rattle.std.proofs.Common.{◌≡◌, ◌++◌, map}
 use Rattle.passkey_cbor.specs.View.{pair_of}
 use Rattle.passkey_kinds.specs.Tree.{entry_tree}
@@ -7,6 +7,6 @@ use Rattle.passkey_kinds.proofs.map.write_entries.Given as goal
 
 abbrev pub invariant-loop-key : goal.invariant-loop-key
 invariant-loop-key g l = record {
-  items : map pair_of l.pairs.items ++ map (entry_tree g.T.ToCbor.tree) (map deref_pair l.key-iterator) ≡ map (entry_tree g.T.ToCbor.tree) (map deref_pair l.entries.entries);
-  fits : All (λ e. g.T.ToCbor.fits e.1) (map deref_pair l.key-iterator) → All (λ e. g.T.ToCbor.fits e.1) (map deref_pair l.entries.entries);
+  items : map pair_of l.pairs.items ++ map (entry_tree g.T.ToCbor.tree) l.key-iterator ≡ map (entry_tree g.T.ToCbor.tree) (fin.entries l.entries);
+  fits : All (λ e. g.T.ToCbor.fits e.1) l.key-iterator → All (λ e. g.T.ToCbor.fits e.1) (fin.entries l.entries);
 }

@@ -1,19 +1,21 @@
+use Rattle.std.specs.FinMap as fin
 use Rattle.std.specs.Map.Iter.{deref_pair}
-use Rattle.std.proofs.Common.{◌∙◌, sym, ap, subst}
+use Rattle.std.proofs.Common.{◌≡◌, ◌∙◌, sym, ap, subst}
 use Rattle.std.proofs.lemmas.Map.Iter.{rest_more}
-use Rattle.passkey_bytes.proofs.Placed.{each_in_order}
+use Rattle.passkey_bytes.proofs.Placed.{entries_by_bytes}
 use Rattle.passkey_json.proofs.MapsBack.{EachBack, map_back, put_all, put_members, put_more}
 use Rattle.passkey_json.proofs.map.MapTextToJson.to_json.Goals as goal
-use Rattle.passkey_json.specs.Written.{ReadsBack, so_far}
+use Rattle.passkey_json.specs.Written.{so_far}
+use Rattle.serde_json.specs.Data.{no_members}
 
 pub loop-name-init : goal.loop-name-init
 loop-name-init g c =
     let json = g.T.ToJson.json c.args.form in
     let entries = c.into_iter-name-iterator.result in
-    let are = c.into_iter-name-iterator.ensures.into_iter_gives.0 in
+    let are : entries ≡ fin.entries c.args.self.now = entries_by_bytes c.args.self.now entries c.into_iter-name-iterator.ensures.into_iter_gives.0 in
     record {
-      written = ap (λ ms. put_members json ms entries) c.new-members.ensures ∙ put_all json c.args.self.now entries are;
-      reads_back = each_in_order (λ x. ReadsBack g.T.FromJson.kind x (json x)) c.args.self.now entries are;
+      written = ap (λ ms. put_members json ms entries) c.new-members.ensures ∙ ap (put_members json no_members) are ∙ put_all json c.args.self.now;
+      reads_back = subst (EachBack g.T.FromJson.kind json) are;
     }
 
 pub loop-name-preserved : goal.loop-name-preserved
