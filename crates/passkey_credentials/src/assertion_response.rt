@@ -1,7 +1,6 @@
 //! What an authenticator answers to a sign-in, read of JSON objects and written.
-ghost use Rattle.passkey_credentials.specs.AssertionResponse.{assertion_response_in, assertion_response_json};
-ghost use Rattle.passkey_json.specs.Kind.{is_object};
-ghost use Rattle.passkey_json.specs.Members.{record_kind};
+ghost use Rattle.passkey_credentials.specs.AssertionResponse.{assertion_response_in, assertion_response_json, assertion_response_takes};
+ghost use Rattle.passkey_json.specs.Members.{record_kind, takes_in};
 
 use passkey_bytes::Bytes;
 use passkey_json::{
@@ -31,6 +30,8 @@ pub struct AuthenticatorAssertionResponse {
 impl JsonRecord for AuthenticatorAssertionResponse {
     ghost members = { assertion_response_in };
 
+    ghost takes = { assertion_response_takes };
+
     fn from_object(object: &Object<'_>) -> Result<AuthenticatorAssertionResponse, JsonFault> {
         Ok(AuthenticatorAssertionResponse {
             client_data_json: object.member("clientDataJSON").required()?,
@@ -45,7 +46,7 @@ impl JsonRecord for AuthenticatorAssertionResponse {
 impl FromJson for AuthenticatorAssertionResponse {
     ghost kind = { record_kind assertion_response_in };
 
-    ghost takes = { is_object };
+    ghost takes = { takes_in assertion_response_takes };
 
     fn from_value(alloc: Global, value: &Value) -> Result<AuthenticatorAssertionResponse, Refusal> {
         read_nested(alloc, value)

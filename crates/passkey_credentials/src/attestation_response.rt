@@ -1,9 +1,8 @@
 //! What an authenticator answers when it makes a credential, read of JSON objects and written.
 ghost use Rattle.std.specs.Prelude.{◌≡◌, ◌<◌, ◌⊎◌, length, IfOk, OnErr};
 ghost use Rattle.std.specs.Option.{IsSomeAnd};
-ghost use Rattle.passkey_credentials.specs.AttestationResponse.{attestation_response_in, attestation_response_json};
-ghost use Rattle.passkey_json.specs.Kind.{is_object};
-ghost use Rattle.passkey_json.specs.Members.{record_kind};
+ghost use Rattle.passkey_credentials.specs.AttestationResponse.{attestation_response_in, attestation_response_json, attestation_response_takes};
+ghost use Rattle.passkey_json.specs.Members.{record_kind, takes_in};
 
 use passkey_bytes::{Bytes, List};
 use passkey_json::{
@@ -62,7 +61,9 @@ impl AuthenticatorAttestationResponse {
 impl JsonRecord for AuthenticatorAttestationResponse {
     ghost members = { attestation_response_in };
 
-    #[tactic(auto, unfolding(crate::specs::AttestationResponse::attestation_response_in, passkey_json::specs::Members::required, passkey_json::specs::Members::or_default))]
+    ghost takes = { attestation_response_takes };
+
+    #[tactic(auto, unfolding(crate::specs::AttestationResponse::attestation_response_in, crate::specs::AttestationResponse::attestation_response_takes, passkey_json::specs::Members::takes_any, passkey_json::specs::Members::required, passkey_json::specs::Members::or_default))]
     fn from_object(object: &Object<'_>) -> Result<AuthenticatorAttestationResponse, JsonFault> {
         Ok(AuthenticatorAttestationResponse {
             client_data_json: object.member("clientDataJSON").required()?,
@@ -78,7 +79,7 @@ impl JsonRecord for AuthenticatorAttestationResponse {
 impl FromJson for AuthenticatorAttestationResponse {
     ghost kind = { record_kind attestation_response_in };
 
-    ghost takes = { is_object };
+    ghost takes = { takes_in attestation_response_takes };
 
     fn from_value(
         alloc: Global,

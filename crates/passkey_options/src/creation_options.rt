@@ -1,7 +1,6 @@
 //! What a relying party asks for where a credential is made, read of JSON objects and written.
-ghost use Rattle.passkey_json.specs.Kind.{is_object};
-ghost use Rattle.passkey_json.specs.Members.{record_kind};
-ghost use Rattle.passkey_options.specs.CreationOptions.{creation_options_in, creation_options_json, required_members_in, choice_members_in};
+ghost use Rattle.passkey_json.specs.Members.{record_kind, takes_in};
+ghost use Rattle.passkey_options.specs.CreationOptions.{creation_options_in, creation_options_json, required_members_in, choice_members_in, required_members_takes, choice_members_takes, creation_options_takes};
 
 use crate::attestation_conveyance::AttestationConveyancePreference;
 use crate::attestation_format::AttestationStatementFormatIdentifiers;
@@ -62,6 +61,8 @@ struct RequiredMembers {
 impl JsonRecord for RequiredMembers {
     ghost members = { required_members_in };
 
+    ghost takes = { required_members_takes };
+
     fn from_object(object: &Object<'_>) -> Result<RequiredMembers, JsonFault> {
         Ok(RequiredMembers {
             rp: object.member("rp").required()?,
@@ -86,6 +87,8 @@ struct ChoiceMembers {
 impl JsonRecord for ChoiceMembers {
     ghost members = { choice_members_in };
 
+    ghost takes = { choice_members_takes };
+
     fn from_object(object: &Object<'_>) -> Result<ChoiceMembers, JsonFault> {
         Ok(ChoiceMembers {
             timeout: object.member("timeout").given()?,
@@ -97,6 +100,8 @@ impl JsonRecord for ChoiceMembers {
 
 impl JsonRecord for PublicKeyCredentialCreationOptions {
     ghost members = { creation_options_in };
+
+    ghost takes = { creation_options_takes };
 
     fn from_object(object: &Object<'_>) -> Result<PublicKeyCredentialCreationOptions, JsonFault> {
         let required = RequiredMembers::from_object(object)?;
@@ -122,7 +127,7 @@ impl JsonRecord for PublicKeyCredentialCreationOptions {
 impl FromJson for PublicKeyCredentialCreationOptions {
     ghost kind = { record_kind creation_options_in };
 
-    ghost takes = { is_object };
+    ghost takes = { takes_in creation_options_takes };
 
     fn from_value(
         alloc: Global,

@@ -1,7 +1,6 @@
 //! What a relying party asks for where a user signs in, read of JSON objects and written.
-ghost use Rattle.passkey_json.specs.Kind.{is_object};
-ghost use Rattle.passkey_json.specs.Members.{record_kind};
-ghost use Rattle.passkey_options.specs.RequestOptions.{credential_members_in, request_options_in, request_options_json};
+ghost use Rattle.passkey_json.specs.Members.{record_kind, takes_in};
+ghost use Rattle.passkey_options.specs.RequestOptions.{credential_members_in, request_options_in, request_options_json, credential_members_takes, request_options_takes};
 
 use crate::attestation_conveyance::AttestationConveyancePreference;
 use crate::attestation_format::AttestationStatementFormatIdentifiers;
@@ -55,6 +54,8 @@ struct CredentialMembers {
 impl JsonRecord for CredentialMembers {
     ghost members = { credential_members_in };
 
+    ghost takes = { credential_members_takes };
+
     fn from_object(object: &Object<'_>) -> Result<CredentialMembers, JsonFault> {
         Ok(CredentialMembers {
             challenge: object.member("challenge").required()?,
@@ -69,6 +70,8 @@ impl JsonRecord for CredentialMembers {
 
 impl JsonRecord for PublicKeyCredentialRequestOptions {
     ghost members = { request_options_in };
+
+    ghost takes = { request_options_takes };
 
     fn from_object(object: &Object<'_>) -> Result<PublicKeyCredentialRequestOptions, JsonFault> {
         let credential = CredentialMembers::from_object(object)?;
@@ -94,7 +97,7 @@ impl JsonRecord for PublicKeyCredentialRequestOptions {
 impl FromJson for PublicKeyCredentialRequestOptions {
     ghost kind = { record_kind request_options_in };
 
-    ghost takes = { is_object };
+    ghost takes = { takes_in request_options_takes };
 
     fn from_value(
         alloc: Global,
