@@ -1,4 +1,4 @@
-//! Client data, read of JSON objects.
+//! Client data, decoded from JSON objects.
 ghost use Rattle.std.specs.Prelude.{◌≡◌, IfOk, IsTrue};
 ghost use Rattle.passkey_client_data.specs.ClientData.{client_data, held, client_data_takes};
 ghost use Rattle.passkey_json.specs.Held.{GivesAs};
@@ -69,7 +69,7 @@ impl<E: ClientDataExtra> CollectedClientData<E> {
         })
     }
 
-    /// A copy that holds the same. `OutOfMemory` where a growth was refused.
+    /// A copy that holds the same. `OutOfMemory` if an allocation fails.
     pub fn try_clone(&self, alloc: Global) -> Result<CollectedClientData<E>, OutOfMemory>
         ensures { IfOk result (λ copy. held copy ≡ held self.now) }
     {

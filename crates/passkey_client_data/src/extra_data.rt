@@ -35,15 +35,15 @@ pub trait ClientDataExtra: Drop {
     fn from_object(alloc: Global, object: &Map<String, Value>) -> Result<Self, JsonFault>
         ensures { Gives (IsTrue (takes (members_view object.now.entries))) (reads (members_view object.now.entries)) result };
 
-    /// The members that the value is written as, in their order. `OutOfMemory` where a growth was
-    /// refused.
+    /// The members that the value is written as, in their order. `OutOfMemory` if an allocation
+    /// fails.
     fn members(&self, alloc: Global) -> Result<Vec<(String, Value)>, OutOfMemory>
         ensures { IfOk result (λ ms. members_view ms.items ≡ written self.now) };
 
     /// What is written are members of this type's, each name once, and none that all client data has.
     ghost members_are_extra: { (x : Self) → are_extra has (written x) ≡ true };
 
-    /// An equal value. `OutOfMemory` where a growth was refused.
+    /// An equal value. `OutOfMemory` if an allocation fails.
     fn try_clone(&self, alloc: Global) -> Result<Self, OutOfMemory>
         ensures { IfOk result (λ copy. copy ≡ self.now) };
 }

@@ -25,7 +25,7 @@ fn is_unknown<E: ClientDataExtra>(name: &str) -> bool
     !is_fixed(name) && !E::is_member(name)
 }
 
-/// Whether a float stands in a member that the type knows.
+/// Whether a member that the type knows holds a float.
 pub(crate) fn known_holds_float<E: ClientDataExtra>(members: &Map<String, Value>) -> bool
     ensures { result ≡ members_have_float (members_where E.has (members_view members.now.entries)) }
 {

@@ -1,4 +1,4 @@
-//! What an authenticator answers to a sign-in, read of JSON objects and written.
+//! What an authenticator answers to a sign-in, decoded from JSON objects and encoded.
 ghost use Rattle.passkey_credentials.specs.AssertionResponse.{assertion_response_in, assertion_response_json, assertion_response_takes};
 ghost use Rattle.passkey_json.specs.Members.{record_kind, takes_in};
 
@@ -21,9 +21,9 @@ pub struct AuthenticatorAssertionResponse {
     pub authenticator_data: Bytes,
     /// The signature over the authenticator data and the hash of the client data.
     pub signature: Bytes,
-    /// The user's handle, where the authenticator gives it.
+    /// The user's handle, if the authenticator gives it.
     pub user_handle: Option<Bytes>,
-    /// An attestation object, in CBOR, where the authenticator gives one at a sign-in.
+    /// An attestation object, in CBOR, if the authenticator gives one at a sign-in.
     pub attestation_object: Option<Bytes>,
 }
 

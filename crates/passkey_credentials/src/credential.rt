@@ -1,4 +1,4 @@
-//! Credentials that a client hands back, read of JSON objects and written.
+//! Credentials that a client hands back, decoded from JSON objects and encoded.
 ghost use Rattle.passkey_credentials.specs.Credential.{credential_in, credential_json, credential_takes};
 ghost use Rattle.passkey_json.specs.Members.{record_kind, takes_in};
 
@@ -27,7 +27,7 @@ pub struct PublicKeyCredential<R: AuthenticatorResponse> {
     pub ty: PublicKeyCredentialType,
     /// What the authenticator answered.
     pub response: R,
-    /// How the authenticator was attached, where the client tells it.
+    /// How the authenticator was attached, if the client reports it.
     pub authenticator_attachment: Option<AuthenticatorAttachment>,
     /// What extensions answered.
     pub client_extension_results: AuthenticationExtensionsClientOutputs,

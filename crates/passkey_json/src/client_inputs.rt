@@ -1,4 +1,4 @@
-//! What a relying party asks of extensions, read of JSON objects and written.
+//! What a relying party asks of extensions, decoded from JSON objects and encoded.
 ghost use Rattle.std.specs.Prelude.{◌≡◌};
 ghost use Rattle.passkey_json.specs.ClientInputs.{client_inputs_in, client_inputs_json, no_inputs, where_any, client_inputs_takes};
 ghost use Rattle.passkey_json.specs.Members.{record_kind, takes_in};

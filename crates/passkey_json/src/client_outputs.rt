@@ -1,4 +1,4 @@
-//! What extensions answer a relying party, read of JSON objects and written.
+//! What extensions answer a relying party, decoded from JSON objects and encoded.
 ghost use Rattle.std.specs.Prelude.{◌≡◌};
 ghost use Rattle.passkey_json.specs.Members.{record_kind, takes_in};
 ghost use Rattle.passkey_json.specs.ClientOutputs.{client_outputs_in, client_outputs_json, no_outputs, client_outputs_takes};

@@ -1,4 +1,4 @@
-//! Properties of a credential, read of JSON objects and written.
+//! Properties of a credential, decoded from JSON objects and encoded.
 ghost use Rattle.std.specs.Prelude.{false};
 ghost use Rattle.passkey_json.specs.Members.{record_kind};
 ghost use Rattle.passkey_json.specs.CredentialProperties.{credential_properties_in, credential_properties_json};

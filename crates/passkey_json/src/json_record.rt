@@ -1,4 +1,4 @@
-//! Records that are read of objects.
+//! Records that are decoded from objects.
 ghost use Rattle.std.specs.Prelude.{Bool, IsTrue, Result};
 ghost use Rattle.passkey_json.specs.Fault.{Fault, Gives};
 ghost use Rattle.passkey_json.specs.Held.{names_of};

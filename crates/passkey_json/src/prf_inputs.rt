@@ -1,4 +1,4 @@
-//! What a relying party asks of the extension prf, read of JSON objects and written.
+//! What a relying party asks of the extension prf, decoded from JSON objects and encoded.
 ghost use Rattle.std.specs.Prelude.{◌≡◌, ◌<◌, ◌⊎◌, length, IfOk, OnErr};
 ghost use Rattle.std.specs.FinMap as fin;
 ghost use Rattle.std.specs.Option.{IsSomeAnd};
@@ -40,8 +40,8 @@ impl AuthenticationExtensionsPrfInputs {
         }
     }
 
-    /// An equal value. `OutOfMemory` where a growth was refused, which cannot be where no credential
-    /// has salts of its own and the others are empty or not there.
+    /// An equal value. `OutOfMemory` if an allocation fails, which can't happen if no credential has
+    /// salts of its own and the others are empty or absent.
     pub fn try_clone(&self, alloc: Global) -> Result<AuthenticationExtensionsPrfInputs, OutOfMemory>
         ensures same { IfOk result (λ copy. copy ≡ self.now) }
         ensures grows { OnErr result (IsSomeAnd self.now.eval (λ values. IsSomeAnd values.second (λ bytes. 0 < length bytes) ⊎ (0 < length values.first)) ⊎ IsSomeAnd self.now.eval_by_credential (λ salts. ¬ (salts ≡ fin.empty))) }

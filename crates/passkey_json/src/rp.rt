@@ -1,4 +1,4 @@
-//! Relying parties, read of JSON objects and written.
+//! Relying parties, decoded from JSON objects and encoded.
 ghost use Rattle.passkey_json.specs.Members.{record_kind, takes_in};
 ghost use Rattle.passkey_json.specs.Rp.{rp_in, rp_json, rp_takes};
 

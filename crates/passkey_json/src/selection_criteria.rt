@@ -1,4 +1,4 @@
-//! What a relying party asks of an authenticator, read of JSON objects and written.
+//! What a relying party asks of an authenticator, decoded from JSON objects and encoded.
 ghost use Rattle.std.specs.Prelude.{◌≡◌, false};
 ghost use Rattle.passkey_json.specs.Members.{record_kind};
 ghost use Rattle.passkey_json.specs.SelectionCriteria.{selection_criteria_in, selection_criteria_json, any_authenticator};

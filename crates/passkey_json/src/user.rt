@@ -1,4 +1,4 @@
-//! Users, read of JSON objects and written.
+//! Users, decoded from JSON objects and encoded.
 ghost use Rattle.passkey_json.specs.Members.{record_kind, takes_in};
 ghost use Rattle.passkey_json.specs.User.{user_in, user_json, user_takes};
 

@@ -1,4 +1,4 @@
-//! What a relying party asks for where a credential is made, read of JSON objects and written.
+//! What a relying party asks for where a credential is made, decoded from JSON objects and encoded.
 ghost use Rattle.passkey_json.specs.Members.{record_kind, takes_in};
 ghost use Rattle.passkey_options.specs.CreationOptions.{creation_options_in, creation_options_json, required_members_in, choice_members_in, required_members_takes, choice_members_takes, creation_options_takes};
 
@@ -35,7 +35,7 @@ pub struct PublicKeyCredentialCreationOptions {
     pub timeout: Option<u32>,
     /// Credentials that the user has already; no authenticator that holds one of them will do.
     pub exclude_credentials: Option<List<PublicKeyCredentialDescriptor>>,
-    /// Which authenticators will do; any where nothing is there.
+    /// Which authenticators will do; any if nothing is there.
     pub authenticator_selection: Option<AuthenticatorSelectionCriteria>,
     /// Which authenticators the user will probably take, the likeliest first.
     pub hints: Option<List<PublicKeyCredentialHints>>,
@@ -47,7 +47,7 @@ pub struct PublicKeyCredentialCreationOptions {
     pub extensions: Option<AuthenticationExtensionsClientInputs>,
 }
 
-// The members are read in groups, since each `?` drops what was read before it.
+// The members are decoded in groups, since each `?` drops what was decoded before it.
 
 /// What must be there.
 #[derive(Drop)]

@@ -1,4 +1,4 @@
-//! What a page asks of the browser where a credential is made, read of JSON objects and written.
+//! What a page asks of the browser where a credential is made, decoded from JSON objects and encoded.
 ghost use Rattle.passkey_json.specs.Members.{record_kind, takes_in};
 ghost use Rattle.passkey_options.specs.CredentialCreation.{credential_creation_in, credential_creation_json, credential_creation_takes};
 

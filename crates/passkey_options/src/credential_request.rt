@@ -1,4 +1,4 @@
-//! What a page asks of the browser where a user signs in, read of JSON objects and written.
+//! What a page asks of the browser where a user signs in, decoded from JSON objects and encoded.
 ghost use Rattle.passkey_json.specs.Members.{record_kind, takes_in};
 ghost use Rattle.passkey_options.specs.CredentialRequest.{credential_request_in, credential_request_json, credential_request_takes};
 

@@ -1,4 +1,4 @@
-//! What a relying party asks for where a user signs in, read of JSON objects and written.
+//! What a relying party asks for where a user signs in, decoded from JSON objects and encoded.
 ghost use Rattle.passkey_json.specs.Members.{record_kind, takes_in};
 ghost use Rattle.passkey_options.specs.RequestOptions.{credential_members_in, request_options_in, request_options_json, credential_members_takes, request_options_takes};
 
@@ -23,10 +23,10 @@ pub struct PublicKeyCredentialRequestOptions {
     pub challenge: Bytes,
     /// How long the client is to wait, in milliseconds.
     pub timeout: Option<u32>,
-    /// The relying party's id; the client's own one where there is none.
+    /// The relying party's id; the client's own one if there is none.
     pub rp_id: Option<Text>,
-    /// The credentials that will do; any where there is no list or an empty one. It is also read of
-    /// `allowList`.
+    /// The credentials that will do; any if there is no list or an empty one. It is also decoded
+    /// from `allowList`.
     pub allow_credentials: Option<List<PublicKeyCredentialDescriptor>>,
     /// Whether the user is to be verified.
     pub user_verification: UserVerificationRequirement,
@@ -40,7 +40,7 @@ pub struct PublicKeyCredentialRequestOptions {
     pub extensions: Option<AuthenticationExtensionsClientInputs>,
 }
 
-// The members are read in groups, since each `?` drops what was read before it.
+// The members are decoded in groups, since each `?` drops what was decoded before it.
 
 /// What a user is to sign in with.
 #[derive(Drop)]
