@@ -1,5 +1,6 @@
 -- Members that are copied one by one into a map in the order of insertion.
-use Rattle.std.proofs.Common.{◌≡◌, ◌∙◌, ℕ, List, [], ◌∷◌, Bool, true, false, if◌then◌else◌, Less, Greater, String, Global, string_bytes, string_cmp, string_eq, nat_cmp, is_eq, bytes_eq, refl, sym, ap}
+use Rattle.std.proofs.Common.{◌≡◌, ◌∙◌, ℕ, List, [], ◌∷◌, Bool, true, false, if◌then◌else◌, Less, Greater, Result, Ok, Err, String, Global, string_bytes, string_cmp, string_eq, nat_cmp, is_eq, bytes_eq, refl, sym, ap}
+use Rattle.std.proofs.lemmas.Bool.{false≢true}
 use Rattle.std.proofs.lemmas.Cmp.{nat_list_cmp_total}
 use Rattle.std.proofs.lemmas.Map.Text.{is_eq-slice_cmp}
 use Rattle.std.specs.Cmp.Lexicographic.{slice_cmp}
@@ -7,8 +8,9 @@ use Rattle.std.specs.List.{AllByRecursion, AllZip}
 use Rattle.std.specs.List.Sorted.{IsStrictlySortedBy}
 use Rattle.std.specs.Map.{keys_of}
 use Rattle.std.specs.Ordering.{ordering_reverse}
+use Rattle.std.specs.Result.{OnErr}
 use Rattle.indexmap.specs.IndexMap.{insert_entry}
-use Rattle.passkey_client_data.specs.MemberLists.{added, joined, members_where}
+use Rattle.passkey_client_data.specs.MemberLists.{added, any_member, joined, members_where}
 use Rattle.serde_json.specs.Data.{Data, Members, no_members, member}
 use Rattle.serde_json.specs.View.{view, members_view}
 use Rattle.serde_json.specs.declared.value.Value.{Value}
@@ -114,6 +116,36 @@ apart_sorted (e ∷ es) sorted = (lacking_first e es sorted.0, apart_sorted es s
 -- an object's members that pass a test are copied in their order
 pub copied : (test : List ℕ → Bool) (es : List Entry) → IsStrictlySortedBy string_cmp (keys_of es) → added_all no_members (members_where test (members_view es)) ≡ members_where test (members_view es)
 copied test es sorted = added_all_new (members_where test (members_view es)) no_members (lacking_none (members_where test (members_view es))) (apart_where test (members_view es) (apart_sorted es sorted))
+
+-- ---- that something is copied
+
+any_if : (b : Bool) (name : List ℕ) (d e : Data) (ms ns : Members) → any_member (if b then member name d ms else member name e ns) ≡ true
+any_if true name d e ms ns = refl
+any_if false name d e ms ns = refl
+
+any_added : (name : List ℕ) (d : Data) (ms : Members) → any_member (added name d ms) ≡ true
+any_added name d no_members = refl
+any_added name d (member other e ms) = any_if (bytes_eq name other) other d e ms (added name d ms)
+
+any_kept : (ms ns : Members) → any_member ms ≡ true → any_member (added_all ms ns) ≡ true
+any_kept ms no_members h = h
+any_kept ms (member name d ns) h = any_kept (added name d ms) ns (any_added name d ms)
+
+any_copied : (ns : Members) → any_member (added_all no_members ns) ≡ true → any_member ns ≡ true
+any_copied no_members h = h
+any_copied (member name d ns) h = refl
+
+any_from : (ms ns : Members) → any_member ns ≡ true → any_member (added_all ms ns) ≡ true
+any_from ms no_members h = absurd (false≢true h)
+any_from ms (member name d ns) h = any_kept (added name d ms) ns (any_added name d ms)
+
+-- where a member is left to copy, there is one
+pub any_left : (copies left all : Members) → any_member left ≡ true → added_all copies left ≡ added_all no_members all → any_member all ≡ true
+any_left copies left all h same = any_copied all (sym (ap any_member same) ∙ any_from copies left h)
+
+pub on_any_error : {T E P : Type 0} (r : Result T E) → P → OnErr r P
+on_any_error (Ok x) h = tt
+on_any_error (Err e) h = h
 
 -- ---- clones
 

@@ -1,16 +1,16 @@
 -- Client data (WebAuthn Level 3, section 5.8.1), read of an object.
-use Rattle.std.specs.Prelude.{ℕ, Bool, List, Option, None, Result, Ok, Err, codes}
+use Rattle.std.specs.Prelude.{ℕ, Bool, List, Option, None, Result, Ok, Err, codes, [], ◌∷◌, ◌||◌}
 use Rattle.passkey_client_data.specs.ClientDataType.{client_data_type_named}
 use Rattle.passkey_client_data.specs.ExtraData.{is_unknown}
-use Rattle.passkey_client_data.specs.MemberLists.{members_where, without_floats}
+use Rattle.passkey_client_data.specs.MemberLists.{members_where, without_floats, any_member}
 use Rattle.passkey_client_data.specs.declared.client_data.CollectedClientData.{CollectedClientData}
 use Rattle.passkey_client_data.specs.declared.client_data_type.ClientDataType.{ClientDataType}
 use Rattle.passkey_client_data.specs.declared.fixed_members.FixedMembers.{FixedMembers}
 use Rattle.passkey_json.specs.Fault.{Fault, no_object}
-use Rattle.passkey_json.specs.Kind.{one_named, optional, text, truth}
-use Rattle.passkey_json.specs.Members.{◌>>=◌, Object, member, required, or_default}
+use Rattle.passkey_json.specs.Kind.{one_named, optional, text, truth, is_text}
+use Rattle.passkey_json.specs.Members.{◌>>=◌, Object, member, required, or_default, takes_any, takes_at}
 use Rattle.serde_json.specs.Data.{Data, null, boolean, number, string, array, object, Members}
-use Rattle.serde_json.specs.Find.{get_member}
+use Rattle.serde_json.specs.Find.{get_member, as_object}
 use Rattle.serde_json.specs.View.{members_view}
 
 -- the members that all client data has
@@ -21,6 +21,13 @@ fixed_members_in names = do
   origin ← required text (member (codes "origin") names)
   cross_origin ← or_default None (optional truth) (member (codes "crossOrigin") names)
   Ok (record { ty = ty; challenge = challenge; origin = origin; cross_origin = cross_origin })
+
+-- whether one of them is there that may take memory to decode
+unfoldable pub fixed_members_takes : Object → Bool
+fixed_members_takes = takes_any (
+    (codes "challenge", is_text)
+    ∷ (codes "origin", is_text)
+    ∷ [])
 
 -- what client data holds: beside the fixed members a value of its user's, and the members that neither knows
 pub record ClientData (E : Type 0) : Type 0 where
@@ -53,3 +60,14 @@ module _ {E : Type 0} (has : List ℕ → Bool) (reads : Members → Result E Fa
   client_data (string s) = Err no_object
   client_data (array ds) = Err no_object
   client_data (object ms) = client_data_in ms
+
+-- ---- where decoding may take memory
+
+module _ (has : List ℕ → Bool) (takes : Members → Bool) where
+  -- such a fixed member, a value that may take memory, or a member that is copied since neither knows it
+  abbrev pub members_take : Members → Bool
+  members_take ms = fixed_members_takes (λ name. get_member name ms) || takes ms || any_member (members_where (is_unknown has) ms)
+
+  -- an object with such members
+  abbrev pub client_data_takes : Data → Bool
+  client_data_takes d = takes_at members_take (as_object d)

@@ -1,5 +1,5 @@
 -- Members of objects, in an order of their own.
-use Rattle.std.specs.Prelude.{ℕ, Bool, false, ◌||◌, List, if◌then◌else◌, Result, Ok, Err}
+use Rattle.std.specs.Prelude.{ℕ, Bool, false, ◌||◌, List, if◌then◌else◌, Result, Ok, Err, true}
 use Rattle.std.specs.Str.{bytes_eq}
 use Rattle.passkey_json.specs.Fault.{Fault, float}
 use Rattle.serde_json.specs.Data.{Data, Members, no_members, member}
@@ -9,6 +9,11 @@ use Rattle.serde_json.specs.Written.{members_have_float}
 abbrev pub members_where : (List ℕ → Bool) → Members → Members
 members_where test no_members = no_members
 members_where test (member name d ms) = if test name then member name d (members_where test ms) else members_where test ms
+
+-- whether any member is there
+abbrev pub any_member : Members → Bool
+any_member no_members = false
+any_member (member name d ms) = true
 
 -- these members, and then those
 abbrev pub joined : Members → Members → Members

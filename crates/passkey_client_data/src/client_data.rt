@@ -1,8 +1,7 @@
-//! Client data, read of JSON objects.
+//! Client data, decoded from JSON objects.
 ghost use Rattle.std.specs.Prelude.{◌≡◌, IfOk, IsTrue};
-ghost use Rattle.passkey_client_data.specs.ClientData.{client_data, held};
+ghost use Rattle.passkey_client_data.specs.ClientData.{client_data, held, client_data_takes};
 ghost use Rattle.passkey_json.specs.Held.{GivesAs};
-ghost use Rattle.passkey_json.specs.Kind.{is_object};
 ghost use Rattle.serde_json.specs.View.{view};
 
 use crate::client_data_type::ClientDataType;
@@ -35,15 +34,16 @@ pub struct CollectedClientData<E = ()> {
 }
 
 impl<E: ClientDataExtra> CollectedClientData<E> {
-    /// The client data that the JSON value stands for. `NotAnObject` where it is no object; else the
+    /// The client data that the JSON value stands for. `NotAnObject` if it is no object; else the
     /// first fault of `type`, `challenge`, `origin` and `crossOrigin`, in this order; then
-    /// `Float("extra_data")` where a float stands in a member that `E` knows; then the fault that `E`
-    /// tells; then `Float("unknown_keys")` where a float stands in a member that is unknown. Unknown
-    /// members are held in the order of their names. `OutOfMemory` where a growth was refused, which
-    /// only an object lets happen.
+    /// `Float("extra_data")` if a member that `E` knows holds a float; then the fault that `E`
+    /// returns; then `Float("unknown_keys")` if a member that is unknown holds a float. Unknown
+    /// members are held in the order of their names. `OutOfMemory` if an allocation fails, and only
+    /// if it is an object whose `challenge` or `origin` is a text, whose members take memory as `E`
+    /// decodes them, or that has a member that is unknown.
     #[tactic(auto, unfolding(crate::specs::ClientData::client_data_in))]
     pub fn from_json(alloc: Global, value: &Value) -> Result<CollectedClientData<E>, JsonFault>
-        ensures { GivesAs (IsTrue (is_object (view value.now))) held (client_data E.has E.reads (view value.now)) result }
+        ensures { GivesAs (IsTrue (client_data_takes E.has E.takes (view value.now))) held (client_data E.has E.reads (view value.now)) result }
     {
         let Value::Object(members) = value else {
             return Err(JsonFault::NotAnObject);
@@ -69,7 +69,7 @@ impl<E: ClientDataExtra> CollectedClientData<E> {
         })
     }
 
-    /// A copy that holds the same. `OutOfMemory` where a growth was refused.
+    /// A copy that holds the same. `OutOfMemory` if an allocation fails.
     pub fn try_clone(&self, alloc: Global) -> Result<CollectedClientData<E>, OutOfMemory>
         ensures { IfOk result (λ copy. held copy ≡ held self.now) }
     {

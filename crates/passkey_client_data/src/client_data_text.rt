@@ -136,10 +136,10 @@ impl<E: ClientDataExtra> CollectedClientData<E> {
     }
 
     /// The client data as JSON text with no space: `type`, `challenge`, `origin`, `crossOrigin` (true
-    /// where it holds true, else false), the members of `extra_data` in their order, and
+    /// if it holds true, else false), the members of `extra_data` in their order, and
     /// `unknown_keys` in theirs (WebAuthn Level 3, section 5.8.1.1, has the first four so).
-    /// `Float("extra_data")` where a float stands in one of the former members, else
-    /// `Float("unknown_keys")` where one stands in the latter. `OutOfMemory` where a growth was refused.
+    /// `Float("extra_data")` if one of the former members holds a float, else
+    /// `Float("unknown_keys")` if one of the latter does. `OutOfMemory` if an allocation fails.
     #[tactic(auto, unfolding(crate::specs::ClientDataText::client_data_text))]
     pub fn to_text(&self, alloc: Global) -> Result<Text, JsonFault>
         ensures { Gives ⊤ (client_data_text E.written (held self.now)) result }

@@ -1,4 +1,4 @@
-//! What client data is for, read of JSON values and printed.
+//! What client data is for, decoded from JSON values and printed.
 ghost use Rattle.std.specs.Prelude.{false, Some};
 ghost use Rattle.passkey_client_data.specs.ClientDataType.{client_data_type_name, client_data_type_named, client_data_type_own};
 ghost use Rattle.passkey_json.specs.Kind.{one_named};

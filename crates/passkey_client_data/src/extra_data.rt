@@ -1,5 +1,5 @@
 //! Members of client data beside those that all client data has.
-ghost use Rattle.std.specs.Prelude.{◌≡◌, ℕ, Bool, true, List, Result, IfOk, ⊤};
+ghost use Rattle.std.specs.Prelude.{◌≡◌, ℕ, Bool, true, List, Result, IfOk, IsTrue};
 ghost use Rattle.passkey_client_data.specs.ExtraData.{are_extra};
 ghost use Rattle.passkey_json.specs.Fault.{Fault, Gives};
 ghost use Rattle.serde_json.specs.Data.{Members};
@@ -19,6 +19,9 @@ pub trait ClientDataExtra: Drop {
     /// The value that an object with these members stands for, or the fault.
     ghost reads: { Members → Result Self Fault };
 
+    /// Whether decoding the value from an object with these members may take memory.
+    ghost takes: { Members → Bool };
+
     /// The members that each value is written as.
     ghost written: { Self → Members };
 
@@ -27,19 +30,20 @@ pub trait ClientDataExtra: Drop {
         ensures { result ≡ has name.now };
 
     /// The value that the client data with these members stands for, or the fault. No member of this
-    /// type's holds a float. `OutOfMemory` where a growth was refused.
+    /// type's holds a float. `OutOfMemory` if an allocation fails, and only if the members take
+    /// memory to decode (`takes`).
     fn from_object(alloc: Global, object: &Map<String, Value>) -> Result<Self, JsonFault>
-        ensures { Gives ⊤ (reads (members_view object.now.entries)) result };
+        ensures { Gives (IsTrue (takes (members_view object.now.entries))) (reads (members_view object.now.entries)) result };
 
-    /// The members that the value is written as, in their order. `OutOfMemory` where a growth was
-    /// refused.
+    /// The members that the value is written as, in their order. `OutOfMemory` if an allocation
+    /// fails.
     fn members(&self, alloc: Global) -> Result<Vec<(String, Value)>, OutOfMemory>
         ensures { IfOk result (λ ms. members_view ms.items ≡ written self.now) };
 
     /// What is written are members of this type's, each name once, and none that all client data has.
     ghost members_are_extra: { (x : Self) → are_extra has (written x) ≡ true };
 
-    /// An equal value. `OutOfMemory` where a growth was refused.
+    /// An equal value. `OutOfMemory` if an allocation fails.
     fn try_clone(&self, alloc: Global) -> Result<Self, OutOfMemory>
         ensures { IfOk result (λ copy. copy ≡ self.now) };
 }
@@ -52,6 +56,8 @@ impl ClientDataExtra for () {
     ghost has = { λ _. false };
 
     ghost reads = { λ _. Ok tt };
+
+    ghost takes = { λ _. false };
 
     ghost written = { λ _. no_members };
 

@@ -1,5 +1,5 @@
 //! The members that all client data has.
-ghost use Rattle.passkey_client_data.specs.ClientData.{fixed_members_in};
+ghost use Rattle.passkey_client_data.specs.ClientData.{fixed_members_in, fixed_members_takes};
 
 use crate::client_data_type::ClientDataType;
 use passkey_bytes::Text;
@@ -17,7 +17,9 @@ pub(crate) struct FixedMembers {
 impl JsonRecord for FixedMembers {
     ghost members = { fixed_members_in };
 
-    #[tactic(auto, unfolding(crate::specs::ClientData::fixed_members_in, passkey_json::specs::Members::required, passkey_json::specs::Members::or_default))]
+    ghost takes = { fixed_members_takes };
+
+    #[tactic(auto, unfolding(crate::specs::ClientData::fixed_members_in, crate::specs::ClientData::fixed_members_takes, passkey_json::specs::Members::takes_any, passkey_json::specs::Members::required, passkey_json::specs::Members::or_default))]
     fn from_object(object: &Object<'_>) -> Result<FixedMembers, JsonFault> {
         Ok(FixedMembers {
             ty: object.member("type").required()?,

@@ -1,7 +1,7 @@
 //! Members of client data that a type knows, and those that nothing knows.
-ghost use Rattle.std.specs.Prelude.{◌≡◌, IfOk, OnOk, ⊤, codes};
+ghost use Rattle.std.specs.Prelude.{◌≡◌, IfOk, OnOk, codes, IsTrue, OnErr};
 ghost use Rattle.passkey_client_data.specs.ExtraData.{is_fixed, is_unknown};
-ghost use Rattle.passkey_client_data.specs.MemberLists.{added, members_where, without_floats};
+ghost use Rattle.passkey_client_data.specs.MemberLists.{added, members_where, without_floats, any_member};
 ghost use Rattle.passkey_json.specs.Held.{GivesAs};
 ghost use Rattle.serde_json.specs.View.{view, members_view};
 ghost use Rattle.serde_json.specs.Written.{members_have_float};
@@ -25,7 +25,7 @@ fn is_unknown<E: ClientDataExtra>(name: &str) -> bool
     !is_fixed(name) && !E::is_member(name)
 }
 
-/// Whether a float stands in a member that the type knows.
+/// Whether a member that the type knows holds a float.
 pub(crate) fn known_holds_float<E: ClientDataExtra>(members: &Map<String, Value>) -> bool
     ensures { result ≡ members_have_float (members_where E.has (members_view members.now.entries)) }
 {
@@ -65,7 +65,8 @@ fn copy_unknown<E: ClientDataExtra>(
     alloc: Global,
     members: &Map<String, Value>,
 ) -> Result<IndexMap<String, Value>, OutOfMemory>
-    ensures { IfOk result (λ copies. members_view copies.entries ≡ members_where (is_unknown E.has) (members_view members.now.entries)) }
+    ensures same { IfOk result (λ copies. members_view copies.entries ≡ members_where (is_unknown E.has) (members_view members.now.entries)) }
+    ensures grows { OnErr result (IsTrue (any_member (members_where (is_unknown E.has) (members_view members.now.entries)))) }
 {
     let mut copies = IndexMap::new(alloc);
     for (name, value) in members.iter() {
@@ -77,11 +78,12 @@ fn copy_unknown<E: ClientDataExtra>(
 }
 
 /// Copies of the members that neither all client data nor the type has, in their order.
+/// `OutOfMemory` only if there is one.
 pub(crate) fn unknown_members<E: ClientDataExtra>(
     alloc: Global,
     members: &Map<String, Value>,
 ) -> Result<IndexMap<String, Value>, JsonFault>
-    ensures { GivesAs ⊤ (λ copies. members_view copies.entries) (without_floats (codes "unknown_keys") (members_where (is_unknown E.has) (members_view members.now.entries))) result }
+    ensures { GivesAs (IsTrue (any_member (members_where (is_unknown E.has) (members_view members.now.entries)))) (λ copies. members_view copies.entries) (without_floats (codes "unknown_keys") (members_where (is_unknown E.has) (members_view members.now.entries))) result }
 {
     if unknown_holds_float::<E>(members) {
         return Err(JsonFault::Float("unknown_keys"));

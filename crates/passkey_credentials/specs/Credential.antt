@@ -1,11 +1,11 @@
 -- Credentials that a client hands back (WebAuthn Level 3, section 5.1).
-use Rattle.std.specs.Prelude.{List, [], ◌∷◌, None, Result, Ok, codes}
+use Rattle.std.specs.Prelude.{List, [], ◌∷◌, None, Result, Ok, codes, Bool}
 use Rattle.passkey_credentials.specs.declared.credential.PublicKeyCredential.{PublicKeyCredential}
 use Rattle.passkey_json.specs.Attachment.{attachment_name, attachment_named}
-use Rattle.passkey_json.specs.ClientOutputs.{client_outputs_in, client_outputs_json, no_outputs}
+use Rattle.passkey_json.specs.ClientOutputs.{client_outputs_in, client_outputs_json, no_outputs, client_outputs_takes}
 use Rattle.passkey_json.specs.Fault.{Fault}
-use Rattle.passkey_json.specs.Kind.{Kind, bytes, one_named, optional, text}
-use Rattle.passkey_json.specs.Members.{◌>>=◌, Object, member, record_kind, required, tolerated, or_default}
+use Rattle.passkey_json.specs.Kind.{Kind, bytes, one_named, optional, text, is_text, is_text_or_array}
+use Rattle.passkey_json.specs.Members.{◌>>=◌, Object, member, record_kind, required, tolerated, or_default, takes_any, takes_in}
 use Rattle.passkey_json.specs.Written.{Row, written, row, row_if, bytes_json}
 use Rattle.passkey_json.specs.declared.bytes_form.BytesForm.{BytesForm}
 use Rattle.passkey_webauthn.specs.CredentialType.{credential_type_name, credential_type_named}
@@ -21,6 +21,15 @@ credential_in kind object = do
   attachment ← tolerated None (optional (one_named attachment_named)) (member (codes "authenticatorAttachment") object)
   results ← or_default no_outputs (record_kind client_outputs_in) (member (codes "clientExtensionResults") object)
   Ok (record { id = id; raw_id = raw_id; ty = ty; response = response; authenticator_attachment = attachment; client_extension_results = results })
+
+-- whether a member is there that may take memory to decode, where a response may that passes the test
+unfoldable pub credential_takes : (Data → Bool) → Object → Bool
+credential_takes response_takes = takes_any (
+    (codes "id", is_text)
+    ∷ (codes "rawId", is_text_or_array)
+    ∷ (codes "response", response_takes)
+    ∷ (codes "clientExtensionResults", takes_in client_outputs_takes)
+    ∷ [])
 
 abbrev pub credential_rows : {R : Type 0} → (BytesForm → R → Data) → BytesForm → PublicKeyCredential R → List Row
 credential_rows json form x =

@@ -1,7 +1,6 @@
-//! What an authenticator answers to a sign-in, read of JSON objects and written.
-ghost use Rattle.passkey_credentials.specs.AssertionResponse.{assertion_response_in, assertion_response_json};
-ghost use Rattle.passkey_json.specs.Kind.{is_object};
-ghost use Rattle.passkey_json.specs.Members.{record_kind};
+//! What an authenticator answers to a sign-in, decoded from JSON objects and encoded.
+ghost use Rattle.passkey_credentials.specs.AssertionResponse.{assertion_response_in, assertion_response_json, assertion_response_takes};
+ghost use Rattle.passkey_json.specs.Members.{record_kind, takes_in};
 
 use passkey_bytes::Bytes;
 use passkey_json::{
@@ -22,14 +21,16 @@ pub struct AuthenticatorAssertionResponse {
     pub authenticator_data: Bytes,
     /// The signature over the authenticator data and the hash of the client data.
     pub signature: Bytes,
-    /// The user's handle, where the authenticator gives it.
+    /// The user's handle, if the authenticator gives it.
     pub user_handle: Option<Bytes>,
-    /// An attestation object, in CBOR, where the authenticator gives one at a sign-in.
+    /// An attestation object, in CBOR, if the authenticator gives one at a sign-in.
     pub attestation_object: Option<Bytes>,
 }
 
 impl JsonRecord for AuthenticatorAssertionResponse {
     ghost members = { assertion_response_in };
+
+    ghost takes = { assertion_response_takes };
 
     fn from_object(object: &Object<'_>) -> Result<AuthenticatorAssertionResponse, JsonFault> {
         Ok(AuthenticatorAssertionResponse {
@@ -45,7 +46,7 @@ impl JsonRecord for AuthenticatorAssertionResponse {
 impl FromJson for AuthenticatorAssertionResponse {
     ghost kind = { record_kind assertion_response_in };
 
-    ghost takes = { is_object };
+    ghost takes = { takes_in assertion_response_takes };
 
     fn from_value(alloc: Global, value: &Value) -> Result<AuthenticatorAssertionResponse, Refusal> {
         read_nested(alloc, value)

@@ -1,9 +1,8 @@
-//! What an authenticator answers when it makes a credential, read of JSON objects and written.
+//! What an authenticator answers when it makes a credential, decoded from JSON objects and encoded.
 ghost use Rattle.std.specs.Prelude.{◌≡◌, ◌<◌, ◌⊎◌, length, IfOk, OnErr};
 ghost use Rattle.std.specs.Option.{IsSomeAnd};
-ghost use Rattle.passkey_credentials.specs.AttestationResponse.{attestation_response_in, attestation_response_json};
-ghost use Rattle.passkey_json.specs.Kind.{is_object};
-ghost use Rattle.passkey_json.specs.Members.{record_kind};
+ghost use Rattle.passkey_credentials.specs.AttestationResponse.{attestation_response_in, attestation_response_json, attestation_response_takes};
+ghost use Rattle.passkey_json.specs.Members.{record_kind, takes_in};
 
 use passkey_bytes::{Bytes, List};
 use passkey_json::{
@@ -23,7 +22,7 @@ pub struct AuthenticatorAttestationResponse {
     pub client_data_json: Bytes,
     /// The authenticator data, which is in the attestation object too.
     pub authenticator_data: Bytes,
-    /// The new key as a DER SubjectPublicKeyInfo, where the client knows keys of its algorithm.
+    /// The new key as a DER SubjectPublicKeyInfo, if the client knows keys of its algorithm.
     pub public_key: Option<Bytes>,
     /// The number of the key's algorithm (COSE).
     pub public_key_algorithm: i64,
@@ -34,8 +33,8 @@ pub struct AuthenticatorAttestationResponse {
 }
 
 impl AuthenticatorAttestationResponse {
-    /// An equal value. `OutOfMemory` where a growth was refused, which cannot be where all byte
-    /// strings are empty or not there and no transport is there.
+    /// An equal value. `OutOfMemory` if an allocation fails, which can't happen if all byte strings
+    /// are empty or absent and no transport is there.
     pub fn try_clone(&self, alloc: Global) -> Result<AuthenticatorAttestationResponse, OutOfMemory>
         ensures same { IfOk result (λ copy. copy ≡ self.now) }
         ensures grows { OnErr result ((0 < length self.now.client_data_json) ⊎ (0 < length self.now.authenticator_data) ⊎ (0 < length self.now.attestation_object) ⊎ IsSomeAnd self.now.public_key (λ key. 0 < length key) ⊎ IsSomeAnd self.now.transports (λ ts. 0 < length ts)) }
@@ -62,7 +61,9 @@ impl AuthenticatorAttestationResponse {
 impl JsonRecord for AuthenticatorAttestationResponse {
     ghost members = { attestation_response_in };
 
-    #[tactic(auto, unfolding(crate::specs::AttestationResponse::attestation_response_in, passkey_json::specs::Members::required, passkey_json::specs::Members::or_default))]
+    ghost takes = { attestation_response_takes };
+
+    #[tactic(auto, unfolding(crate::specs::AttestationResponse::attestation_response_in, crate::specs::AttestationResponse::attestation_response_takes, passkey_json::specs::Members::takes_any, passkey_json::specs::Members::required, passkey_json::specs::Members::or_default))]
     fn from_object(object: &Object<'_>) -> Result<AuthenticatorAttestationResponse, JsonFault> {
         Ok(AuthenticatorAttestationResponse {
             client_data_json: object.member("clientDataJSON").required()?,
@@ -78,7 +79,7 @@ impl JsonRecord for AuthenticatorAttestationResponse {
 impl FromJson for AuthenticatorAttestationResponse {
     ghost kind = { record_kind attestation_response_in };
 
-    ghost takes = { is_object };
+    ghost takes = { takes_in attestation_response_takes };
 
     fn from_value(
         alloc: Global,

@@ -1,7 +1,6 @@
-//! Credentials that a client hands back, read of JSON objects and written.
-ghost use Rattle.passkey_credentials.specs.Credential.{credential_in, credential_json};
-ghost use Rattle.passkey_json.specs.Kind.{is_object};
-ghost use Rattle.passkey_json.specs.Members.{record_kind};
+//! Credentials that a client hands back, decoded from JSON objects and encoded.
+ghost use Rattle.passkey_credentials.specs.Credential.{credential_in, credential_json, credential_takes};
+ghost use Rattle.passkey_json.specs.Members.{record_kind, takes_in};
 
 use crate::assertion_response::AuthenticatorAssertionResponse;
 use crate::attestation_response::AuthenticatorAttestationResponse;
@@ -28,7 +27,7 @@ pub struct PublicKeyCredential<R: AuthenticatorResponse> {
     pub ty: PublicKeyCredentialType,
     /// What the authenticator answered.
     pub response: R,
-    /// How the authenticator was attached, where the client tells it.
+    /// How the authenticator was attached, if the client reports it.
     pub authenticator_attachment: Option<AuthenticatorAttachment>,
     /// What extensions answered.
     pub client_extension_results: AuthenticationExtensionsClientOutputs,
@@ -43,7 +42,9 @@ pub type AuthenticatedPublicKeyCredential = PublicKeyCredential<AuthenticatorAss
 impl<R: AuthenticatorResponse> JsonRecord for PublicKeyCredential<R> {
     ghost members = { credential_in R.FromJson.kind };
 
-    #[tactic(auto, unfolding(crate::specs::Credential::credential_in, passkey_json::specs::Members::required, passkey_json::specs::Members::tolerated, passkey_json::specs::Members::or_default))]
+    ghost takes = { credential_takes R.FromJson.takes };
+
+    #[tactic(auto, unfolding(crate::specs::Credential::credential_in, crate::specs::Credential::credential_takes, passkey_json::specs::Members::takes_any, passkey_json::specs::Members::required, passkey_json::specs::Members::tolerated, passkey_json::specs::Members::or_default))]
     fn from_object(object: &Object<'_>) -> Result<PublicKeyCredential<R>, JsonFault> {
         Ok(PublicKeyCredential {
             id: object.member("id").required()?,
@@ -61,7 +62,7 @@ impl<R: AuthenticatorResponse> JsonRecord for PublicKeyCredential<R> {
 impl<R: AuthenticatorResponse> FromJson for PublicKeyCredential<R> {
     ghost kind = { record_kind (credential_in R.FromJson.kind) };
 
-    ghost takes = { is_object };
+    ghost takes = { takes_in (credential_takes R.FromJson.takes) };
 
     fn from_value(alloc: Global, value: &Value) -> Result<PublicKeyCredential<R>, Refusal> {
         read_nested(alloc, value)

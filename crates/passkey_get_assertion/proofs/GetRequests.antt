@@ -16,7 +16,6 @@ use Rattle.passkey_extensions.proofs.ExtensionLevels.{same_tests, some_within, n
 use Rattle.passkey_extensions.proofs.Keys.{used_key}
 use Rattle.passkey_kinds.specs.Kind.{tolerated}
 use Rattle.passkey_kinds.specs.MessageLaws.{WrittenIsReadBack, ReadIsCoherent}
-use Rattle.passkey_kinds.specs.Table.{◌>>=◌, found, given}
 use Rattle.passkey_kinds.specs.Tree.{number_tree, list_tree}
 use Rattle.passkey_kinds.specs.Trees.{descriptor_tree}
 use Rattle.passkey_kinds.proofs.Keeping as kept

@@ -20,7 +20,6 @@ use Rattle.passkey_extensions.proofs.ExtensionBack.{used_back}
 use Rattle.passkey_extensions.proofs.ExtensionLevels.{used_levels}
 use Rattle.passkey_kinds.specs.Data.{authenticator_data}
 use Rattle.passkey_kinds.specs.MessageLaws.{WrittenIsReadBack, ReadIsCoherent}
-use Rattle.passkey_kinds.specs.Table.{◌>>=◌, found}
 use Rattle.passkey_kinds.specs.Tree.{number_tree}
 use Rattle.passkey_kinds.specs.Trees.{descriptor_tree}
 use Rattle.passkey_kinds.proofs.Keeping as kept

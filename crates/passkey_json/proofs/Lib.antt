@@ -4,4 +4,5 @@ pub mod FloatFree
 pub mod Looking
 pub mod MembersBack
 pub mod Faults
+pub mod Taking
 pub mod MapsBack

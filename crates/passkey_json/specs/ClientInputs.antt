@@ -2,8 +2,8 @@
 use Rattle.std.specs.Prelude.{List, [], ◌∷◌, Bool, ◌||◌, Option, Some, None, is_some, Result, Ok, codes, if◌then◌else◌}
 use Rattle.passkey_json.specs.Fault.{Fault}
 use Rattle.passkey_json.specs.Kind.{truth, optional}
-use Rattle.passkey_json.specs.Members.{◌>>=◌, Object, member, record_kind, or_default}
-use Rattle.passkey_json.specs.PrfInputs.{prf_inputs_in, prf_inputs_json}
+use Rattle.passkey_json.specs.Members.{◌>>=◌, Object, member, record_kind, or_default, takes_any, takes_in}
+use Rattle.passkey_json.specs.PrfInputs.{prf_inputs_in, prf_inputs_json, prf_inputs_takes}
 use Rattle.passkey_json.specs.Written.{Row, written, row_if}
 use Rattle.passkey_json.specs.declared.bytes_form.BytesForm.{BytesForm}
 use Rattle.serde_json.specs.Data.{Data, boolean}
@@ -15,6 +15,13 @@ client_inputs_in object = do
   prf ← or_default None (optional (record_kind prf_inputs_in)) (member (codes "prf") object)
   prf_already_hashed ← or_default None (optional (record_kind prf_inputs_in)) (member (codes "prfAlreadyHashed") object)
   Ok (record { cred_props = cred_props; prf = prf; prf_already_hashed = prf_already_hashed })
+
+-- whether a member is there that may take memory to decode
+unfoldable pub client_inputs_takes : Object → Bool
+client_inputs_takes = takes_any (
+    (codes "prf", takes_in prf_inputs_takes)
+    ∷ (codes "prfAlreadyHashed", takes_in prf_inputs_takes)
+    ∷ [])
 
 abbrev pub client_inputs_rows : BytesForm → AuthenticationExtensionsClientInputs → List Row
 client_inputs_rows form x =

@@ -1,8 +1,8 @@
 -- Descriptors of credentials (WebAuthn Level 3, section 5.8.3).
-use Rattle.std.specs.Prelude.{List, [], ◌∷◌, Result, Ok, codes}
+use Rattle.std.specs.Prelude.{List, [], ◌∷◌, Result, Ok, codes, Bool}
 use Rattle.passkey_json.specs.Fault.{Fault}
-use Rattle.passkey_json.specs.Kind.{bytes, one_named}
-use Rattle.passkey_json.specs.Members.{◌>>=◌, Object, member, required, required_tolerated, accepted_list}
+use Rattle.passkey_json.specs.Kind.{bytes, one_named, is_array, is_text_or_array}
+use Rattle.passkey_json.specs.Members.{◌>>=◌, Object, member, required, required_tolerated, accepted_list, takes_any}
 use Rattle.passkey_json.specs.Written.{Row, written, row, row_if, list_json, bytes_json}
 use Rattle.passkey_json.specs.declared.bytes_form.BytesForm.{BytesForm}
 use Rattle.passkey_webauthn.specs.CredentialType.{credential_type_name, credential_type_named}
@@ -17,6 +17,13 @@ descriptor_in object = do
   id ← required bytes (member (codes "id") object)
   transports ← accepted_list (one_named transport_named) (member (codes "transports") object)
   Ok (record { ty = ty; id = id; transports = transports })
+
+-- whether a member is there that may take memory to decode
+unfoldable pub descriptor_takes : Object → Bool
+descriptor_takes = takes_any (
+    (codes "id", is_text_or_array)
+    ∷ (codes "transports", is_array)
+    ∷ [])
 
 abbrev pub descriptor_rows : BytesForm → PublicKeyCredentialDescriptor → List Row
 descriptor_rows form x =

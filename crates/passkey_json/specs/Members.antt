@@ -1,6 +1,7 @@
 -- Reading an object member by member, in the order of a table.
-use Rattle.std.specs.Prelude.{ℕ, List, Option, Some, None, Result, Ok, Err, option_map, option_and_then, unwrap_or, if◌then◌else◌, Bool, IsTrue}
-use Rattle.std.specs.Option.{IsSomeAnd, ok_or}
+use Rattle.std.specs.Prelude.{ℕ, List, Option, Some, None, Result, Ok, Err, option_map, option_and_then, unwrap_or, if◌then◌else◌, Bool, false, IsTrue}
+use Rattle.std.specs.List.{list_any}
+use Rattle.std.specs.Option.{ok_or, option_map_or}
 use Rattle.std.specs.Result.{result_ok}
 use Rattle.passkey_json.specs.Fault.{Fault, no_object, missing, refused, float, repeated}
 use Rattle.passkey_json.specs.Kind.{Kind, accepted, is_object}
@@ -40,9 +41,29 @@ under name value = record { name = name; value = value }
 abbrev pub member : List ℕ → Object → Member
 member name object = under name (object name)
 
--- a member is there whose value may take memory to read
+-- ---- where decoding may take memory
+
+-- something is there that may take memory to decode
+abbrev pub takes_at : {A : Type 0} → (A → Bool) → Option A → Bool
+takes_at takes found = option_map_or takes found false
+
+-- a member is there whose value may take memory to decode
 abbrev pub MemberTakes : (Data → Bool) → Member → Type 0
-MemberTakes takes m = IsSomeAnd m.value (λ d. IsTrue (takes d))
+MemberTakes takes m = IsTrue (takes_at takes m.value)
+
+-- names of members, and which values there may take memory to decode
+abbrev pub Costs : Type 0
+Costs = List (List ℕ × (Data → Bool))
+
+-- one of these members is there, with such a value
+unfoldable pub takes_any : Costs → Object → Bool
+takes_any costs object = list_any (λ cost. takes_at cost.1 (object cost.0)) costs
+
+-- an object whose members may take memory to decode
+abbrev pub takes_in : (Object → Bool) → Data → Bool
+takes_in takes d = takes_at takes (result_ok (object_of d))
+
+-- ---- ways to decode a member
 
 abbrev pub one_of : List ℕ → Option Data → Option Data → Result Member Fault
 one_of name (Some d) (Some e) = Err (repeated name)

@@ -1,12 +1,12 @@
 -- What the extension prf answers (WebAuthn Level 3, section 10.1.4).
-use Rattle.std.specs.Prelude.{List, [], ◌∷◌, None, Result, Ok, codes}
+use Rattle.std.specs.Prelude.{List, [], ◌∷◌, None, Result, Ok, codes, Bool}
 use Rattle.passkey_json.specs.Fault.{Fault}
 use Rattle.passkey_json.specs.Kind.{truth, optional}
-use Rattle.passkey_json.specs.Members.{◌>>=◌, Object, member, record_kind, or_default}
+use Rattle.passkey_json.specs.Members.{◌>>=◌, Object, member, record_kind, or_default, takes_any, takes_in}
 use Rattle.passkey_json.specs.Written.{Row, written, row_if}
 use Rattle.passkey_json.specs.declared.bytes_form.BytesForm.{BytesForm}
 use Rattle.serde_json.specs.Data.{Data, boolean}
-use Rattle.passkey_json.specs.PrfValues.{prf_values_in, prf_values_json}
+use Rattle.passkey_json.specs.PrfValues.{prf_values_in, prf_values_json, prf_values_takes}
 use Rattle.passkey_webauthn.specs.declared.prf_outputs.AuthenticationExtensionsPrfOutputs.{AuthenticationExtensionsPrfOutputs}
 
 unfoldable pub prf_outputs_in : Object → Result AuthenticationExtensionsPrfOutputs Fault
@@ -14,6 +14,12 @@ prf_outputs_in object = do
   enabled ← or_default None (optional truth) (member (codes "enabled") object)
   results ← or_default None (optional (record_kind prf_values_in)) (member (codes "results") object)
   Ok (record { enabled = enabled; results = results })
+
+-- whether a member is there that may take memory to decode
+unfoldable pub prf_outputs_takes : Object → Bool
+prf_outputs_takes = takes_any (
+    (codes "results", takes_in prf_values_takes)
+    ∷ [])
 
 abbrev pub prf_outputs_rows : BytesForm → AuthenticationExtensionsPrfOutputs → List Row
 prf_outputs_rows form x =

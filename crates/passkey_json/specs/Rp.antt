@@ -1,8 +1,8 @@
 -- Relying parties (WebAuthn Level 3, section 5.4.2).
-use Rattle.std.specs.Prelude.{List, [], ◌∷◌, None, Result, Ok, codes}
+use Rattle.std.specs.Prelude.{List, [], ◌∷◌, None, Result, Ok, codes, Bool}
 use Rattle.passkey_json.specs.Fault.{Fault}
-use Rattle.passkey_json.specs.Kind.{text, optional}
-use Rattle.passkey_json.specs.Members.{◌>>=◌, Object, member, required, or_default}
+use Rattle.passkey_json.specs.Kind.{text, optional, is_text}
+use Rattle.passkey_json.specs.Members.{◌>>=◌, Object, member, required, or_default, takes_any}
 use Rattle.passkey_json.specs.Written.{Row, written, row, row_if}
 use Rattle.passkey_json.specs.declared.bytes_form.BytesForm.{BytesForm}
 use Rattle.serde_json.specs.Data.{Data, string}
@@ -13,6 +13,13 @@ rp_in object = do
   id ← or_default None (optional text) (member (codes "id") object)
   name ← required text (member (codes "name") object)
   Ok (record { id = id; name = name })
+
+-- whether a member is there that may take memory to decode
+unfoldable pub rp_takes : Object → Bool
+rp_takes = takes_any (
+    (codes "id", is_text)
+    ∷ (codes "name", is_text)
+    ∷ [])
 
 abbrev pub rp_rows : BytesForm → PublicKeyCredentialRpEntity → List Row
 rp_rows form x =

@@ -1,4 +1,4 @@
-//! Algorithms, read of JSON values.
+//! Algorithms, decoded from JSON values.
 ghost use Rattle.std.specs.Prelude.{false};
 ghost use Rattle.passkey_json.specs.Kind.{algorithm};
 

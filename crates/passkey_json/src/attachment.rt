@@ -1,4 +1,4 @@
-//! How an authenticator is attached to the client, read of JSON values and written.
+//! How an authenticator is attached to the client, decoded from JSON values and encoded.
 ghost use Rattle.std.specs.Prelude.{false};
 ghost use Rattle.passkey_json.specs.Kind.{one_named};
 ghost use Rattle.passkey_json.specs.Attachment.{attachment_name, attachment_named, attachment_own};

@@ -1,4 +1,4 @@
-//! Byte strings, read of JSON values and written.
+//! Byte strings, decoded from JSON values and encoded.
 ghost use Rattle.std.specs.Prelude.{◌≡◌, false, IfOk, OnOk};
 ghost use Rattle.passkey_json.specs.Kind.{bytes as byte_string, is_text_or_array};
 ghost use Rattle.passkey_json.specs.Written.{ReadsBack, bytes_json};

@@ -1,8 +1,7 @@
-//! What a relying party asks of extensions, read of JSON objects and written.
+//! What a relying party asks of extensions, decoded from JSON objects and encoded.
 ghost use Rattle.std.specs.Prelude.{◌≡◌};
-ghost use Rattle.passkey_json.specs.ClientInputs.{client_inputs_in, client_inputs_json, no_inputs, where_any};
-ghost use Rattle.passkey_json.specs.Kind.{is_object};
-ghost use Rattle.passkey_json.specs.Members.{record_kind};
+ghost use Rattle.passkey_json.specs.ClientInputs.{client_inputs_in, client_inputs_json, no_inputs, where_any, client_inputs_takes};
+ghost use Rattle.passkey_json.specs.Members.{record_kind, takes_in};
 
 use crate::bytes_form::BytesForm;
 use crate::from_json::FromJson;
@@ -56,7 +55,9 @@ impl AuthenticationExtensionsClientInputs {
 impl JsonRecord for AuthenticationExtensionsClientInputs {
     ghost members = { client_inputs_in };
 
-    #[tactic(auto, unfolding(crate::specs::ClientInputs::client_inputs_in, crate::specs::Members::or_default))]
+    ghost takes = { client_inputs_takes };
+
+    #[tactic(auto, unfolding(crate::specs::ClientInputs::client_inputs_in, crate::specs::ClientInputs::client_inputs_takes, crate::specs::Members::takes_any, crate::specs::Members::or_default))]
     fn from_object(object: &Object<'_>) -> Result<AuthenticationExtensionsClientInputs, JsonFault> {
         Ok(AuthenticationExtensionsClientInputs {
             cred_props: object.member("credProps").or_default(None)?,
@@ -69,7 +70,7 @@ impl JsonRecord for AuthenticationExtensionsClientInputs {
 impl FromJson for AuthenticationExtensionsClientInputs {
     ghost kind = { record_kind client_inputs_in };
 
-    ghost takes = { is_object };
+    ghost takes = { takes_in client_inputs_takes };
 
     fn from_value(
         alloc: Global,

@@ -1,8 +1,7 @@
-//! What extensions answer a relying party, read of JSON objects and written.
+//! What extensions answer a relying party, decoded from JSON objects and encoded.
 ghost use Rattle.std.specs.Prelude.{◌≡◌};
-ghost use Rattle.passkey_json.specs.Kind.{is_object};
-ghost use Rattle.passkey_json.specs.Members.{record_kind};
-ghost use Rattle.passkey_json.specs.ClientOutputs.{client_outputs_in, client_outputs_json, no_outputs};
+ghost use Rattle.passkey_json.specs.Members.{record_kind, takes_in};
+ghost use Rattle.passkey_json.specs.ClientOutputs.{client_outputs_in, client_outputs_json, no_outputs, client_outputs_takes};
 
 use crate::bytes_form::BytesForm;
 use crate::credential_properties::CredentialPropertiesOutput;
@@ -43,7 +42,9 @@ impl AuthenticationExtensionsClientOutputs {
 impl JsonRecord for AuthenticationExtensionsClientOutputs {
     ghost members = { client_outputs_in };
 
-    #[tactic(auto, unfolding(crate::specs::ClientOutputs::client_outputs_in, crate::specs::Members::or_default))]
+    ghost takes = { client_outputs_takes };
+
+    #[tactic(auto, unfolding(crate::specs::ClientOutputs::client_outputs_in, crate::specs::ClientOutputs::client_outputs_takes, crate::specs::Members::takes_any, crate::specs::Members::or_default))]
     fn from_object(
         object: &Object<'_>,
     ) -> Result<AuthenticationExtensionsClientOutputs, JsonFault> {
@@ -57,7 +58,7 @@ impl JsonRecord for AuthenticationExtensionsClientOutputs {
 impl FromJson for AuthenticationExtensionsClientOutputs {
     ghost kind = { record_kind client_outputs_in };
 
-    ghost takes = { is_object };
+    ghost takes = { takes_in client_outputs_takes };
 
     fn from_value(
         alloc: Global,

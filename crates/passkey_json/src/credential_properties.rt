@@ -1,5 +1,5 @@
-//! Properties of a credential, read of JSON objects and written.
-ghost use Rattle.passkey_json.specs.Kind.{is_object};
+//! Properties of a credential, decoded from JSON objects and encoded.
+ghost use Rattle.std.specs.Prelude.{false};
 ghost use Rattle.passkey_json.specs.Members.{record_kind};
 ghost use Rattle.passkey_json.specs.CredentialProperties.{credential_properties_in, credential_properties_json};
 
@@ -27,6 +27,8 @@ pub struct CredentialPropertiesOutput {
 impl JsonRecord for CredentialPropertiesOutput {
     ghost members = { credential_properties_in };
 
+    ghost takes = { λ _. false };
+
     #[tactic(auto, unfolding(crate::specs::CredentialProperties::credential_properties_in, crate::specs::Members::or_default))]
     fn from_object(object: &Object<'_>) -> Result<CredentialPropertiesOutput, JsonFault> {
         Ok(CredentialPropertiesOutput {
@@ -38,7 +40,7 @@ impl JsonRecord for CredentialPropertiesOutput {
 impl FromJson for CredentialPropertiesOutput {
     ghost kind = { record_kind credential_properties_in };
 
-    ghost takes = { is_object };
+    ghost takes = { λ _. false };
 
     fn from_value(alloc: Global, value: &Value) -> Result<CredentialPropertiesOutput, Refusal> {
         read_nested(alloc, value)

@@ -1,7 +1,6 @@
-//! Descriptors of credentials, read of JSON objects and written.
-ghost use Rattle.passkey_json.specs.Descriptor.{descriptor_in, descriptor_json};
-ghost use Rattle.passkey_json.specs.Kind.{is_object};
-ghost use Rattle.passkey_json.specs.Members.{record_kind};
+//! Descriptors of credentials, decoded from JSON objects and encoded.
+ghost use Rattle.passkey_json.specs.Descriptor.{descriptor_in, descriptor_json, descriptor_takes};
+ghost use Rattle.passkey_json.specs.Members.{record_kind, takes_in};
 
 use crate::bytes_form::BytesForm;
 use crate::from_json::FromJson;
@@ -20,7 +19,9 @@ use std::alloc::Global;
 impl JsonRecord for PublicKeyCredentialDescriptor {
     ghost members = { descriptor_in };
 
-    #[tactic(auto, unfolding(crate::specs::Descriptor::descriptor_in, crate::specs::Members::required, crate::specs::Members::required_tolerated, crate::specs::Members::accepted_list))]
+    ghost takes = { descriptor_takes };
+
+    #[tactic(auto, unfolding(crate::specs::Descriptor::descriptor_in, crate::specs::Descriptor::descriptor_takes, crate::specs::Members::takes_any, crate::specs::Members::required, crate::specs::Members::required_tolerated, crate::specs::Members::accepted_list))]
     fn from_object(object: &Object<'_>) -> Result<PublicKeyCredentialDescriptor, JsonFault> {
         Ok(PublicKeyCredentialDescriptor {
             ty: object
@@ -35,7 +36,7 @@ impl JsonRecord for PublicKeyCredentialDescriptor {
 impl FromJson for PublicKeyCredentialDescriptor {
     ghost kind = { record_kind descriptor_in };
 
-    ghost takes = { is_object };
+    ghost takes = { takes_in descriptor_takes };
 
     fn from_value(alloc: Global, value: &Value) -> Result<PublicKeyCredentialDescriptor, Refusal> {
         read_nested(alloc, value)

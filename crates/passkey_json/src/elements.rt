@@ -35,7 +35,7 @@ impl Elements {
         }
     }
 
-    /// One more element. `OutOfMemory` where a growth was refused.
+    /// One more element. `OutOfMemory` if an allocation fails.
     pub fn push<T: ToJson>(
         &mut self,
         alloc: Global,

@@ -5,7 +5,7 @@ ghost use Rattle.serde_json.specs.Written.{has_float, items_have_float, members_
 
 use serde_json::{Map, Value};
 
-/// Whether a number that is no whole one of 64 bits stands in the value, however deep.
+/// Whether the value holds a number that is no whole one of 64 bits, however deep.
 #[cycle(floats)]
 pub fn holds_float(value: &Value) -> bool
     ensures { result ≡ has_float (view value.now) }

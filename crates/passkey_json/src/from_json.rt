@@ -1,4 +1,4 @@
-//! Values that are read of JSON values.
+//! Values that are decoded from JSON values.
 ghost use Rattle.std.specs.Prelude.{◌≡◌, Bool, false, Option};
 ghost use Rattle.passkey_json.specs.Kind.{Answers, truth, text, whole, numeral, byte, word, optional, is_text};
 ghost use Rattle.serde_json.specs.Data.{Data};
@@ -10,16 +10,16 @@ use passkey_webauthn::whole_part;
 use serde_json::Value;
 use std::alloc::Global;
 
-/// A type whose values are read of JSON values.
+/// A type whose values are decoded from JSON values.
 pub trait FromJson: Drop {
     /// What each JSON value stands for, where it stands for a value.
     ghost kind: { Data → Option Self };
 
-    /// Whether reading the JSON value may take memory.
+    /// Whether decoding the JSON value may take memory.
     ghost takes: { Data → Bool };
 
-    /// The value that the JSON value stands for. `Refused` exactly where it stands for none;
-    /// `OutOfMemory` where a growth was refused, which only JSON values let happen that take memory.
+    /// The value that the JSON value stands for. `Refused` exactly if it stands for none;
+    /// `OutOfMemory` if an allocation fails, and only for a JSON value that takes memory (`takes`).
     fn from_value(alloc: Global, value: &Value) -> Result<Self, Refusal>
         ensures { Answers kind takes (view value.now) result };
 }

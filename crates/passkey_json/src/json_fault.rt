@@ -1,4 +1,4 @@
-//! Why no record was read of a JSON value.
+//! Why no record was decoded from a JSON value.
 ghost use Rattle.std.specs.Prelude.{◌≡◌};
 ghost use Rattle.passkey_json.specs.Names.{json_fault_name};
 ghost use Rattle.passkey_json.specs.declared.json_fault.JsonFault.TheVariants.{OutOfMemory as NoMemory};
@@ -8,11 +8,11 @@ use std::alloc::{AllocError, AllocFailed};
 use std::error::Error;
 use std::fmt;
 
-/// Why no record was read of a JSON value. A member is told by its name in the record that was
-/// asked for, however deep within it the fault lies.
+/// Why no record was decoded from a JSON value. A member is named by its name in the record that
+/// was asked for, however deep within it the fault lies.
 #[derive(Clone, Copy, Debug, PartialEq, Eq)]
 pub enum JsonFault {
-    /// A growth was refused.
+    /// An allocation failed.
     OutOfMemory,
     /// The JSON value is no object.
     NotAnObject,
@@ -22,7 +22,7 @@ pub enum JsonFault {
     Refused(&'static str),
     /// This member's value isn't one of its kind, and holds a number that is no whole one of 64 bits.
     Float(&'static str),
-    /// This member has two names, and stands under both.
+    /// This member has two names, and is there under both.
     Repeated(&'static str),
 }
 

@@ -1,9 +1,9 @@
-//! Records that are read of objects.
-ghost use Rattle.std.specs.Prelude.{IsTrue, Result, ⊤};
+//! Records that are decoded from objects.
+ghost use Rattle.std.specs.Prelude.{Bool, IsTrue, Result};
 ghost use Rattle.passkey_json.specs.Fault.{Fault, Gives};
 ghost use Rattle.passkey_json.specs.Held.{names_of};
-ghost use Rattle.passkey_json.specs.Kind.{Answers, is_object};
-ghost use Rattle.passkey_json.specs.Members.{Object as Names, in_object, record_kind};
+ghost use Rattle.passkey_json.specs.Kind.{Answers};
+ghost use Rattle.passkey_json.specs.Members.{Object as Names, in_object, record_kind, takes_in};
 ghost use Rattle.serde_json.specs.View.{view};
 
 use crate::json_fault::JsonFault;
@@ -12,32 +12,37 @@ use crate::refusal::Refusal;
 use serde_json::Value;
 use std::alloc::Global;
 
-/// A record that is read of an object, member by member. Members that it doesn't know are passed
-/// over.
+/// A record that is decoded from an object, member by member. Members that it doesn't know are
+/// skipped.
 pub trait JsonRecord: Drop {
     /// The record that an object stands for, or the first fault in the order of its members.
     ghost members: { Names → Result Self Fault };
 
-    /// The record that the object stands for, or the first fault in the order of its members: a
-    /// member that stands under two names is `Repeated`; one whose value isn't of its kind is
-    /// `Float` where that value holds a float and else `Refused`; one that must be there and isn't
-    /// is `Missing`. `OutOfMemory` where a growth was refused.
-    fn from_object(object: &Object<'_>) -> Result<Self, JsonFault>
-        ensures { Gives ⊤ (members (names_of object.now)) result };
+    /// Whether decoding an object's members may take memory.
+    ghost takes: { Names → Bool };
 
-    /// The record that the JSON value stands for, or its fault: `NotAnObject` where it is no object,
-    /// else as of its members. `OutOfMemory` only where it is an object.
+    /// The record that the object stands for, or the first fault in the order of its members: a
+    /// member that is there under two names is `Repeated`; one whose value isn't of its kind is
+    /// `Float` if that value holds a float and else `Refused`; one that must be there and isn't is
+    /// `Missing`. `OutOfMemory` if an allocation fails, and only if the object has a member that
+    /// the record knows and whose value takes memory to decode (`takes`).
+    fn from_object(object: &Object<'_>) -> Result<Self, JsonFault>
+        ensures { Gives (IsTrue (takes (names_of object.now))) (members (names_of object.now)) result };
+
+    /// The record that the JSON value stands for, or its fault: `NotAnObject` if it is no object,
+    /// else as `from_object`. `OutOfMemory` if an allocation fails, and only if it is an object
+    /// with such a member.
     final fn from_json(alloc: Global, value: &Value) -> Result<Self, JsonFault>
-        ensures { Gives (IsTrue (is_object (view value.now))) (in_object members (view value.now)) result }
+        ensures { Gives (IsTrue (takes_in takes (view value.now))) (in_object members (view value.now)) result }
     {
         Self::from_object(&Object::of(alloc, value)?)
     }
 }
 
-/// The record inside another. `Refused` where the value has another fault than want of memory, as
-/// `from_json` tells them; `OutOfMemory` where a growth was refused, which only an object lets happen.
+/// The record inside another. `Refused` if `from_json` returns any fault but `OutOfMemory`, which is
+/// returned as such.
 pub fn read_nested<R: JsonRecord>(alloc: Global, value: &Value) -> Result<R, Refusal>
-    ensures { Answers (record_kind R.members) is_object (view value.now) result }
+    ensures { Answers (record_kind R.members) (takes_in R.takes) (view value.now) result }
 {
     Ok(R::from_json(alloc, value)?)
 }

@@ -1,4 +1,4 @@
-//! Maps from texts, read of JSON objects and written.
+//! Maps from texts, decoded from JSON objects and encoded.
 ghost use Rattle.passkey_json.specs.Kind.{Answers, is_object};
 ghost use Rattle.passkey_json.specs.MapKind.{map_from_texts, map_json};
 ghost use Rattle.serde_json.specs.Data.{object};

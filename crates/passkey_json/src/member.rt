@@ -62,8 +62,9 @@ impl<'a> Member<'a> {
         Member { alloc, name, value }
     }
 
-    /// The value, which must be there: `Missing` where it isn't. Where it isn't one of its kind,
-    /// `Float` if it holds a float and else `Refused`; `OutOfMemory` where a growth was refused.
+    /// The value, which must be there: `Missing` if it isn't. `Float` or `Refused` if it isn't one
+    /// of its kind: `Float` if it holds a float. `OutOfMemory` if an allocation fails, and only if
+    /// it takes memory to decode.
     #[tactic(auto, unfolding(crate::specs::Members::required))]
     pub fn required<T: FromJson>(self) -> Result<T, JsonFault>
         ensures { Gives (MemberTakes T.takes (found self.entry)) (required T.kind (found self.entry)) result }
@@ -74,8 +75,9 @@ impl<'a> Member<'a> {
         }
     }
 
-    /// The value, or a default where none is there. Where it isn't one of its kind, `Float` if it
-    /// holds a float and else `Refused`; `OutOfMemory` where a growth was refused.
+    /// The value, or a default if none is there. `Float` or `Refused` if it isn't one of its kind:
+    /// `Float` if it holds a float. `OutOfMemory` if an allocation fails, and only if it takes
+    /// memory to decode.
     #[tactic(auto, unfolding(crate::specs::Members::or_default))]
     pub fn or_default<T: FromJson>(self, default: T) -> Result<T, JsonFault>
         ensures { Gives (MemberTakes T.takes (found self.entry)) (or_default default T.kind (found self.entry)) result }
@@ -86,8 +88,8 @@ impl<'a> Member<'a> {
         }
     }
 
-    /// Some value, where one is there. Where it isn't one of its kind, `Float` if it holds a float
-    /// and else `Refused`; `OutOfMemory` where a growth was refused.
+    /// Some value, if one is there. `Float` or `Refused` if it isn't one of its kind: `Float` if it
+    /// holds a float. `OutOfMemory` if an allocation fails, and only if it takes memory to decode.
     #[tactic(auto, unfolding(crate::specs::Members::given))]
     pub fn given<T: FromJson>(self) -> Result<Option<T>, JsonFault>
         ensures { Gives (MemberTakes T.takes (found self.entry)) (given T.kind (found self.entry)) result }
@@ -98,8 +100,9 @@ impl<'a> Member<'a> {
         }
     }
 
-    /// The value, or a default where none is there or it is refused. Want of memory isn't
-    /// tolerated: `OutOfMemory` where a growth was refused, and no other fault.
+    /// The value, or a default if none is there or it is refused. Running out of memory isn't
+    /// tolerated: `OutOfMemory` if an allocation fails, and only if the value takes memory to
+    /// decode. There is no other fault.
     #[tactic(auto, unfolding(crate::specs::Members::tolerated))]
     pub fn tolerated<T: FromJson>(self, default: T) -> Result<T, JsonFault>
         ensures { Gives (MemberTakes T.takes (found self.entry)) (tolerated default T.kind (found self.entry)) result }
@@ -110,9 +113,9 @@ impl<'a> Member<'a> {
         unless_refused(T::from_value(self.alloc, value), default)
     }
 
-    /// The value, which must be there, or a default where it is refused. `Missing` where it isn't
-    /// there. Want of memory isn't tolerated: `OutOfMemory` where a growth was refused. There is no
-    /// other fault.
+    /// The value, which must be there, or a default if it is refused. `Missing` if it isn't there.
+    /// Running out of memory isn't tolerated: `OutOfMemory` if an allocation fails, and only if the
+    /// value takes memory to decode. There is no other fault.
     #[tactic(auto, unfolding(crate::specs::Members::required_tolerated, crate::specs::Members::tolerated))]
     pub fn required_tolerated<T: FromJson>(self, default: T) -> Result<T, JsonFault>
         ensures { Gives (MemberTakes T.takes (found self.entry)) (required_tolerated default T.kind (found self.entry)) result }
@@ -123,9 +126,9 @@ impl<'a> Member<'a> {
         self.tolerated(default)
     }
 
-    /// The accepted elements of a list, in their order; nothing where no value is there, or one
-    /// that is no array. Want of memory isn't tolerated: `OutOfMemory` where a growth was refused,
-    /// and no other fault.
+    /// The accepted elements of a list, in their order; nothing if no value is there, or one that is
+    /// no array. Running out of memory isn't tolerated: `OutOfMemory` if an allocation fails, and
+    /// only for an array. There is no other fault.
     #[tactic(auto, unfolding(crate::specs::Members::accepted_list))]
     pub fn accepted_list<T: FromJson>(self) -> Result<Option<List<T>>, JsonFault>
         ensures { Gives (MemberTakes is_array (found self.entry)) (accepted_list T.kind (found self.entry)) result }

@@ -1,4 +1,4 @@
-//! Objects, whose members are read by their names.
+//! Objects, whose members are found by their names.
 ghost use Rattle.passkey_json.specs.Held.{GivesAs, found, names_of};
 ghost use Rattle.passkey_json.specs.Members.{aliased, member, object_of};
 ghost use Rattle.std.specs.Prelude.{◌≡◌};
@@ -17,7 +17,7 @@ pub struct Object<'a> {
 }
 
 impl<'a> Object<'a> {
-    /// The value as an object. `NotAnObject` where it is none.
+    /// The value as an object. `NotAnObject` if it is none.
     pub fn of(alloc: Global, value: &'a Value) -> Result<Object<'a>, JsonFault>
         ensures { GivesAs ⊥ names_of (object_of (view value.now)) result }
     {
@@ -35,8 +35,8 @@ impl<'a> Object<'a> {
         Member::new(self.alloc, name, self.value.get(name))
     }
 
-    /// The member of this name, which may stand under another one. `Repeated` where it stands under
-    /// both.
+    /// The member of this name, which may be there under another one. `Repeated` if it is there
+    /// under both.
     pub fn aliased(&self, name: &'static str, other: &'static str) -> Result<Member<'a>, JsonFault>
         ensures { GivesAs ⊥ found (aliased name.now other.now (names_of self.now)) result }
     {

@@ -1,5 +1,5 @@
-//! Keys that a relying party can use, read of JSON objects and written.
-ghost use Rattle.passkey_json.specs.Kind.{is_object};
+//! Keys that a relying party can use, decoded from JSON objects and encoded.
+ghost use Rattle.std.specs.Prelude.{false};
 ghost use Rattle.passkey_json.specs.Members.{record_kind};
 ghost use Rattle.passkey_json.specs.Parameters.{parameters_in, parameters_json};
 
@@ -20,6 +20,8 @@ use std::alloc::Global;
 impl JsonRecord for PublicKeyCredentialParameters {
     ghost members = { parameters_in };
 
+    ghost takes = { λ _. false };
+
     #[tactic(auto, unfolding(crate::specs::Parameters::parameters_in, crate::specs::Members::required, crate::specs::Members::required_tolerated))]
     fn from_object(object: &Object<'_>) -> Result<PublicKeyCredentialParameters, JsonFault> {
         Ok(PublicKeyCredentialParameters {
@@ -34,7 +36,7 @@ impl JsonRecord for PublicKeyCredentialParameters {
 impl FromJson for PublicKeyCredentialParameters {
     ghost kind = { record_kind parameters_in };
 
-    ghost takes = { is_object };
+    ghost takes = { λ _. false };
 
     fn from_value(alloc: Global, value: &Value) -> Result<PublicKeyCredentialParameters, Refusal> {
         read_nested(alloc, value)

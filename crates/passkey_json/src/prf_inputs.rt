@@ -1,10 +1,9 @@
-//! What a relying party asks of the extension prf, read of JSON objects and written.
+//! What a relying party asks of the extension prf, decoded from JSON objects and encoded.
 ghost use Rattle.std.specs.Prelude.{◌≡◌, ◌<◌, ◌⊎◌, length, IfOk, OnErr};
 ghost use Rattle.std.specs.FinMap as fin;
 ghost use Rattle.std.specs.Option.{IsSomeAnd};
-ghost use Rattle.passkey_json.specs.Kind.{is_object};
-ghost use Rattle.passkey_json.specs.Members.{record_kind};
-ghost use Rattle.passkey_json.specs.PrfInputs.{prf_inputs_in, prf_inputs_json, no_prf_inputs};
+ghost use Rattle.passkey_json.specs.Members.{record_kind, takes_in};
+ghost use Rattle.passkey_json.specs.PrfInputs.{prf_inputs_in, prf_inputs_json, no_prf_inputs, prf_inputs_takes};
 
 use crate::bytes_form::BytesForm;
 use crate::from_json::FromJson;
@@ -41,8 +40,8 @@ impl AuthenticationExtensionsPrfInputs {
         }
     }
 
-    /// An equal value. `OutOfMemory` where a growth was refused, which cannot be where no credential
-    /// has salts of its own and the others are empty or not there.
+    /// An equal value. `OutOfMemory` if an allocation fails, which can't happen if no credential has
+    /// salts of its own and the others are empty or absent.
     pub fn try_clone(&self, alloc: Global) -> Result<AuthenticationExtensionsPrfInputs, OutOfMemory>
         ensures same { IfOk result (λ copy. copy ≡ self.now) }
         ensures grows { OnErr result (IsSomeAnd self.now.eval (λ values. IsSomeAnd values.second (λ bytes. 0 < length bytes) ⊎ (0 < length values.first)) ⊎ IsSomeAnd self.now.eval_by_credential (λ salts. ¬ (salts ≡ fin.empty))) }
@@ -75,7 +74,9 @@ fn copied(
 impl JsonRecord for AuthenticationExtensionsPrfInputs {
     ghost members = { prf_inputs_in };
 
-    #[tactic(auto, unfolding(crate::specs::PrfInputs::prf_inputs_in, crate::specs::Members::or_default))]
+    ghost takes = { prf_inputs_takes };
+
+    #[tactic(auto, unfolding(crate::specs::PrfInputs::prf_inputs_in, crate::specs::PrfInputs::prf_inputs_takes, crate::specs::Members::takes_any, crate::specs::Members::or_default))]
     fn from_object(object: &Object<'_>) -> Result<AuthenticationExtensionsPrfInputs, JsonFault> {
         Ok(AuthenticationExtensionsPrfInputs {
             eval: object.member("eval").or_default(None)?,
@@ -87,7 +88,7 @@ impl JsonRecord for AuthenticationExtensionsPrfInputs {
 impl FromJson for AuthenticationExtensionsPrfInputs {
     ghost kind = { record_kind prf_inputs_in };
 
-    ghost takes = { is_object };
+    ghost takes = { takes_in prf_inputs_takes };
 
     fn from_value(
         alloc: Global,

@@ -1,7 +1,6 @@
-//! What the extension prf answers, read of JSON objects and written.
-ghost use Rattle.passkey_json.specs.Kind.{is_object};
-ghost use Rattle.passkey_json.specs.Members.{record_kind};
-ghost use Rattle.passkey_json.specs.PrfOutputs.{prf_outputs_in, prf_outputs_json};
+//! What the extension prf answers, decoded from JSON objects and encoded.
+ghost use Rattle.passkey_json.specs.Members.{record_kind, takes_in};
+ghost use Rattle.passkey_json.specs.PrfOutputs.{prf_outputs_in, prf_outputs_json, prf_outputs_takes};
 
 use crate::bytes_form::BytesForm;
 use crate::from_json::FromJson;
@@ -20,7 +19,9 @@ use std::alloc::Global;
 impl JsonRecord for AuthenticationExtensionsPrfOutputs {
     ghost members = { prf_outputs_in };
 
-    #[tactic(auto, unfolding(crate::specs::PrfOutputs::prf_outputs_in, crate::specs::Members::or_default))]
+    ghost takes = { prf_outputs_takes };
+
+    #[tactic(auto, unfolding(crate::specs::PrfOutputs::prf_outputs_in, crate::specs::PrfOutputs::prf_outputs_takes, crate::specs::Members::takes_any, crate::specs::Members::or_default))]
     fn from_object(object: &Object<'_>) -> Result<AuthenticationExtensionsPrfOutputs, JsonFault> {
         Ok(AuthenticationExtensionsPrfOutputs {
             enabled: object.member("enabled").or_default(None)?,
@@ -32,7 +33,7 @@ impl JsonRecord for AuthenticationExtensionsPrfOutputs {
 impl FromJson for AuthenticationExtensionsPrfOutputs {
     ghost kind = { record_kind prf_outputs_in };
 
-    ghost takes = { is_object };
+    ghost takes = { takes_in prf_outputs_takes };
 
     fn from_value(
         alloc: Global,

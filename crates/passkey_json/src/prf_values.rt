@@ -1,7 +1,6 @@
-//! Salts of the extension prf, read of JSON objects and written.
-ghost use Rattle.passkey_json.specs.Kind.{is_object};
-ghost use Rattle.passkey_json.specs.Members.{record_kind};
-ghost use Rattle.passkey_json.specs.PrfValues.{prf_values_in, prf_values_json};
+//! Salts of the extension prf, decoded from JSON objects and encoded.
+ghost use Rattle.passkey_json.specs.Members.{record_kind, takes_in};
+ghost use Rattle.passkey_json.specs.PrfValues.{prf_values_in, prf_values_json, prf_values_takes};
 
 use crate::bytes_form::BytesForm;
 use crate::from_json::FromJson;
@@ -20,7 +19,9 @@ use std::alloc::Global;
 impl JsonRecord for AuthenticationExtensionsPrfValues {
     ghost members = { prf_values_in };
 
-    #[tactic(auto, unfolding(crate::specs::PrfValues::prf_values_in, crate::specs::Members::required, crate::specs::Members::or_default))]
+    ghost takes = { prf_values_takes };
+
+    #[tactic(auto, unfolding(crate::specs::PrfValues::prf_values_in, crate::specs::PrfValues::prf_values_takes, crate::specs::Members::takes_any, crate::specs::Members::required, crate::specs::Members::or_default))]
     fn from_object(object: &Object<'_>) -> Result<AuthenticationExtensionsPrfValues, JsonFault> {
         Ok(AuthenticationExtensionsPrfValues {
             first: object.member("first").required()?,
@@ -32,7 +33,7 @@ impl JsonRecord for AuthenticationExtensionsPrfValues {
 impl FromJson for AuthenticationExtensionsPrfValues {
     ghost kind = { record_kind prf_values_in };
 
-    ghost takes = { is_object };
+    ghost takes = { takes_in prf_values_takes };
 
     fn from_value(
         alloc: Global,

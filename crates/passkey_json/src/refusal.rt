@@ -1,4 +1,4 @@
-//! Why no value was read of a JSON value.
+//! Why no value was decoded from a JSON value.
 ghost use Rattle.std.specs.Prelude.{◌≡◌, Some};
 ghost use Rattle.passkey_json.specs.Fault.{refusal_of};
 ghost use Rattle.passkey_json.specs.Names.{refusal_name};
@@ -10,12 +10,12 @@ use std::alloc::{AllocError, AllocFailed};
 use std::error::Error;
 use std::fmt;
 
-/// Why no value was read of a JSON value.
+/// Why no value was decoded from a JSON value.
 #[derive(Clone, Copy, Debug, PartialEq, Eq)]
 pub enum Refusal {
     /// The JSON value stands for no such value.
     Refused,
-    /// A growth was refused.
+    /// An allocation failed.
     OutOfMemory,
 }
 
@@ -59,7 +59,7 @@ impl From<OutOfMemory> for Refusal {
 impl From<JsonFault> for Refusal {
     ghost from_gives = { λ fault e. e ≡ refusal_of fault };
 
-    /// A record that has a fault is refused where it stands inside another.
+    /// A record that has a fault is refused if it is inside another.
     fn from(fault: JsonFault) -> Refusal {
         match fault {
             JsonFault::OutOfMemory => Refusal::OutOfMemory,

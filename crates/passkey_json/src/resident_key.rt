@@ -1,4 +1,4 @@
-//! Whether a new credential is to be found without its id, read of JSON values and written.
+//! Whether a new credential is to be found without its id, decoded from JSON values and encoded.
 ghost use Rattle.std.specs.Prelude.{false};
 ghost use Rattle.passkey_json.specs.Kind.{one_named};
 ghost use Rattle.passkey_json.specs.ResidentKey.{resident_key_name, resident_key_named, resident_key_own};

@@ -1,7 +1,6 @@
-//! Relying parties, read of JSON objects and written.
-ghost use Rattle.passkey_json.specs.Kind.{is_object};
-ghost use Rattle.passkey_json.specs.Members.{record_kind};
-ghost use Rattle.passkey_json.specs.Rp.{rp_in, rp_json};
+//! Relying parties, decoded from JSON objects and encoded.
+ghost use Rattle.passkey_json.specs.Members.{record_kind, takes_in};
+ghost use Rattle.passkey_json.specs.Rp.{rp_in, rp_json, rp_takes};
 
 use crate::bytes_form::BytesForm;
 use crate::from_json::FromJson;
@@ -20,7 +19,9 @@ use std::alloc::Global;
 impl JsonRecord for PublicKeyCredentialRpEntity {
     ghost members = { rp_in };
 
-    #[tactic(auto, unfolding(crate::specs::Rp::rp_in, crate::specs::Members::required, crate::specs::Members::or_default))]
+    ghost takes = { rp_takes };
+
+    #[tactic(auto, unfolding(crate::specs::Rp::rp_in, crate::specs::Rp::rp_takes, crate::specs::Members::takes_any, crate::specs::Members::required, crate::specs::Members::or_default))]
     fn from_object(object: &Object<'_>) -> Result<PublicKeyCredentialRpEntity, JsonFault> {
         Ok(PublicKeyCredentialRpEntity {
             id: object.member("id").or_default(None)?,
@@ -32,7 +33,7 @@ impl JsonRecord for PublicKeyCredentialRpEntity {
 impl FromJson for PublicKeyCredentialRpEntity {
     ghost kind = { record_kind rp_in };
 
-    ghost takes = { is_object };
+    ghost takes = { takes_in rp_takes };
 
     fn from_value(alloc: Global, value: &Value) -> Result<PublicKeyCredentialRpEntity, Refusal> {
         read_nested(alloc, value)

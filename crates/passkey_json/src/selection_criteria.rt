@@ -1,6 +1,5 @@
-//! What a relying party asks of an authenticator, read of JSON objects and written.
-ghost use Rattle.std.specs.Prelude.{◌≡◌};
-ghost use Rattle.passkey_json.specs.Kind.{is_object};
+//! What a relying party asks of an authenticator, decoded from JSON objects and encoded.
+ghost use Rattle.std.specs.Prelude.{◌≡◌, false};
 ghost use Rattle.passkey_json.specs.Members.{record_kind};
 ghost use Rattle.passkey_json.specs.SelectionCriteria.{selection_criteria_in, selection_criteria_json, any_authenticator};
 
@@ -52,6 +51,8 @@ impl Default for AuthenticatorSelectionCriteria {
 impl JsonRecord for AuthenticatorSelectionCriteria {
     ghost members = { selection_criteria_in };
 
+    ghost takes = { λ _. false };
+
     #[tactic(auto, unfolding(crate::specs::SelectionCriteria::selection_criteria_in, crate::specs::Members::or_default, crate::specs::Members::tolerated))]
     fn from_object(object: &Object<'_>) -> Result<AuthenticatorSelectionCriteria, JsonFault> {
         Ok(AuthenticatorSelectionCriteria {
@@ -71,7 +72,7 @@ impl JsonRecord for AuthenticatorSelectionCriteria {
 impl FromJson for AuthenticatorSelectionCriteria {
     ghost kind = { record_kind selection_criteria_in };
 
-    ghost takes = { is_object };
+    ghost takes = { λ _. false };
 
     fn from_value(alloc: Global, value: &Value) -> Result<AuthenticatorSelectionCriteria, Refusal> {
         read_nested(alloc, value)

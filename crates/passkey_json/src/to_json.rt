@@ -20,7 +20,7 @@ pub trait ToJson: FromJson {
     ghost json: { Form → Self → Data };
 
     /// The JSON value that the value is written as, with bytes in the form; it is read as the
-    /// value, and holds no float. `OutOfMemory` where a growth was refused.
+    /// value, and holds no float. `OutOfMemory` if an allocation fails.
     fn to_json(&self, alloc: Global, form: BytesForm) -> Result<Value, OutOfMemory>
         ensures written { IfOk result (λ v. view v ≡ json form self.now) }
         ensures reads_back { OnOk result (ReadsBack Self.kind self.now (json form self.now)) }

@@ -8,7 +8,7 @@ use serde_json::Value;
 use std::alloc::Global;
 use std::marker::Model;
 
-/// A value, or nothing where a JSON value stood for none. Want of memory isn't tolerated. A
+/// A value, or nothing where a JSON value stood for none. Running out of memory isn't tolerated. A
 /// contract sees it as that option.
 #[derive(Debug, Drop)]
 pub struct Tolerated<T>(pub Option<T>);

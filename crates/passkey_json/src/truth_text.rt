@@ -12,7 +12,7 @@ use serde_json::Value;
 use std::alloc::Global;
 use std::marker::Model;
 
-/// A truth that is also read of its name, `true` or `false`. A contract sees it as that truth.
+/// A truth that is also decoded from its name, `true` or `false`. A contract sees it as that truth.
 #[derive(Debug, Drop)]
 pub struct TruthText(pub bool);
 

@@ -1,7 +1,6 @@
-//! Users, read of JSON objects and written.
-ghost use Rattle.passkey_json.specs.Kind.{is_object};
-ghost use Rattle.passkey_json.specs.Members.{record_kind};
-ghost use Rattle.passkey_json.specs.User.{user_in, user_json};
+//! Users, decoded from JSON objects and encoded.
+ghost use Rattle.passkey_json.specs.Members.{record_kind, takes_in};
+ghost use Rattle.passkey_json.specs.User.{user_in, user_json, user_takes};
 
 use crate::bytes_form::BytesForm;
 use crate::from_json::FromJson;
@@ -20,7 +19,9 @@ use std::alloc::Global;
 impl JsonRecord for PublicKeyCredentialUserEntity {
     ghost members = { user_in };
 
-    #[tactic(auto, unfolding(crate::specs::User::user_in, crate::specs::Members::required))]
+    ghost takes = { user_takes };
+
+    #[tactic(auto, unfolding(crate::specs::User::user_in, crate::specs::User::user_takes, crate::specs::Members::takes_any, crate::specs::Members::required))]
     fn from_object(object: &Object<'_>) -> Result<PublicKeyCredentialUserEntity, JsonFault> {
         Ok(PublicKeyCredentialUserEntity {
             id: object.member("id").required()?,
@@ -33,7 +34,7 @@ impl JsonRecord for PublicKeyCredentialUserEntity {
 impl FromJson for PublicKeyCredentialUserEntity {
     ghost kind = { record_kind user_in };
 
-    ghost takes = { is_object };
+    ghost takes = { takes_in user_takes };
 
     fn from_value(alloc: Global, value: &Value) -> Result<PublicKeyCredentialUserEntity, Refusal> {
         read_nested(alloc, value)

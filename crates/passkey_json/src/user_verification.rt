@@ -1,4 +1,4 @@
-//! Whether the user is to be verified, read of JSON values and written.
+//! Whether the user is to be verified, decoded from JSON values and encoded.
 ghost use Rattle.std.specs.Prelude.{false};
 ghost use Rattle.passkey_json.specs.Kind.{one_named};
 ghost use Rattle.passkey_json.specs.UserVerification.{user_verification_name, user_verification_named, user_verification_own};

@@ -54,7 +54,7 @@ impl Written {
         }
     }
 
-    /// A member of this name. `OutOfMemory` where a growth was refused.
+    /// A member of this name. `OutOfMemory` if an allocation fails.
     pub fn put<T: ToJson>(
         &mut self,
         alloc: Global,
@@ -69,7 +69,7 @@ impl Written {
         put_member(alloc, &mut self.members, name, value)
     }
 
-    /// A member of this name, where there is one. `OutOfMemory` where a growth was refused.
+    /// A member of this name, if there is one. `OutOfMemory` if an allocation fails.
     pub fn put_some<T: ToJson>(
         &mut self,
         alloc: Global,

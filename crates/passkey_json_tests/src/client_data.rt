@@ -38,12 +38,15 @@ impl ClientDataExtra for PackageName {
     ghost use Rattle.std.specs.Prelude.{codes, option_and_then, refl};
     ghost use Rattle.std.specs.Str.{bytes_eq};
     ghost use Rattle.passkey_json.specs.Fault.{missing};
-    ghost use Rattle.passkey_json.specs.Kind.{text};
+    ghost use Rattle.passkey_json.specs.Kind.{text, is_text};
+    ghost use Rattle.passkey_json.specs.Members.{takes_at};
     ghost use Rattle.serde_json.specs.Data.{string, member, no_members};
 
     ghost has = { λ name. bytes_eq name (codes "androidPackageName") };
 
     ghost reads = { λ ms. ok_or (option_and_then text (get_member (codes "androidPackageName") ms)) (missing (codes "androidPackageName")) };
+
+    ghost takes = { λ ms. takes_at is_text (get_member (codes "androidPackageName") ms) };
 
     ghost written = { λ name. member (codes "androidPackageName") (string name) no_members };
 

@@ -1,16 +1,17 @@
 //! Records that are read of objects and written, worked out by hand from WebAuthn Level 3 and RFC 4648. Further
 //! objects are in the rows of the program.
-use crate::json::{assert_reads, assert_rewrites, assert_shows, record, written};
+use crate::json::{assert_reads, assert_rewrites, assert_shows, parsed, record, written};
 use passkey_json::BytesForm::{Base64Url, Numbers};
 use passkey_json::{
     AuthenticationExtensionsClientInputs, AuthenticationExtensionsClientOutputs,
-    AuthenticationExtensionsPrfInputs, AuthenticatorSelectionCriteria,
+    AuthenticationExtensionsPrfInputs, AuthenticatorSelectionCriteria, JsonFault, JsonRecord,
 };
 use passkey_webauthn::{
     AuthenticationExtensionsPrfOutputs, AuthenticationExtensionsPrfValues,
     PublicKeyCredentialDescriptor, PublicKeyCredentialParameters, PublicKeyCredentialRpEntity,
     PublicKeyCredentialUserEntity,
 };
+use serde_json::{Map, Value};
 use std::process::Abort;
 
 // Sections 5.3, 5.4.2, 5.4.3 and 5.8.3.
@@ -257,4 +258,18 @@ fn prf_inputs_are_copied(rt: HostRuntime) {
     let text =
         r#"{"eval":{"first":"Aw"},"evalByCredential":{"a":{"first":"","second":"Ag"},"b":{"first":"AQ"}}}"#;
     assert_shows(&rt, text, copied(&rt, &record(&rt, text)), text);
+}
+
+// With any allocation refused, this either fails while the text is parsed or succeeds.
+#[test]
+fn members_that_take_no_memory_are_decoded_without_any(rt: HostRuntime) {
+    let nothing = Value::Object(Map::new(rt.alloc()));
+    let user = PublicKeyCredentialUserEntity::from_json(rt.alloc(), &nothing);
+    assert!(rt;
+        matches!(&user, Err(JsonFault::Missing(_))),
+        "a user of nothing"
+    );
+    let text = r#"{"residentKey":"required","requireResidentKey":"true","x":["y"]}"#;
+    let criteria = AuthenticatorSelectionCriteria::from_json(rt.alloc(), &parsed(&rt, text));
+    assert!(rt; criteria.is_ok(), "criteria");
 }

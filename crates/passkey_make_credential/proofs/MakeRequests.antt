@@ -11,7 +11,6 @@ use Rattle.passkey_kinds.specs.Kind.{optional}
 use Rattle.passkey_extensions.specs.MakeExtensions.{MakeExtensionsParts, make_extensions}
 use Rattle.passkey_make_credential.specs.MakeOptions.{options_default}
 use Rattle.passkey_kinds.specs.MessageLaws.{WrittenIsReadBack, ReadIsCoherent}
-use Rattle.passkey_kinds.specs.Table.{◌>>=◌, found, given}
 use Rattle.passkey_kinds.specs.Tree.{number_tree, list_tree}
 use Rattle.passkey_kinds.specs.Trees.{descriptor_tree, parameters_tree}
 use Rattle.passkey_make_credential.specs.declared.options.Options.{Options}

@@ -16,7 +16,6 @@ use Rattle.passkey_kinds.specs.Data.{authenticator_data}
 use Rattle.passkey_extensions.specs.ExtensionTrees.{made_tree}
 use Rattle.passkey_kinds.specs.Kind.{kept}
 use Rattle.passkey_kinds.specs.MessageLaws.{WrittenIsReadBack, ReadIsCoherent}
-use Rattle.passkey_kinds.specs.Table.{◌>>=◌, found}
 use Rattle.passkey_kinds.specs.Tree.{number_tree}
 use Rattle.passkey_extensions.specs.declared.make_credential.unsigned.UnsignedExtensionOutputs.{UnsignedExtensionOutputs}
 use Rattle.passkey_kinds.proofs.Keeping as kept

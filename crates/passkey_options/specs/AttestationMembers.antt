@@ -1,8 +1,8 @@
 -- The members on hints and attestation, which both options have (WebAuthn Level 3, sections 5.4 and 5.5).
-use Rattle.std.specs.Prelude.{None, Result, Ok, codes}
+use Rattle.std.specs.Prelude.{Result, Ok, codes, Bool, [], ◌∷◌}
 use Rattle.passkey_json.specs.Fault.{Fault}
-use Rattle.passkey_json.specs.Kind.{one_named}
-use Rattle.passkey_json.specs.Members.{◌>>=◌, Object, member, tolerated, accepted_list}
+use Rattle.passkey_json.specs.Kind.{one_named, is_array}
+use Rattle.passkey_json.specs.Members.{◌>>=◌, Object, member, tolerated, accepted_list, takes_any}
 use Rattle.passkey_options.specs.AttestationConveyance.{conveyance_named}
 use Rattle.passkey_options.specs.AttestationFormat.{format_named}
 use Rattle.passkey_options.specs.Hints.{hint_named}
@@ -15,3 +15,10 @@ attestation_members_in object = do
   attestation ← tolerated NoAttestation (one_named conveyance_named) (member (codes "attestation") object)
   attestation_formats ← accepted_list (one_named format_named) (member (codes "attestationFormats") object)
   Ok (record { hints = hints; attestation = attestation; attestation_formats = attestation_formats })
+
+-- whether a member is there that may take memory to decode
+unfoldable pub attestation_members_takes : Object → Bool
+attestation_members_takes = takes_any (
+    (codes "hints", is_array)
+    ∷ (codes "attestationFormats", is_array)
+    ∷ [])

@@ -1,21 +1,20 @@
 -- What a relying party asks for where a credential is made (WebAuthn Level 3, section 5.4).
-use Rattle.std.specs.Prelude.{List, [], ◌∷◌, None, Result, Ok, codes}
-use Rattle.passkey_json.specs.ClientInputs.{client_inputs_in, client_inputs_json}
+use Rattle.std.specs.Prelude.{List, [], ◌∷◌, None, Result, Ok, codes, Bool, ◌||◌}
+use Rattle.passkey_json.specs.ClientInputs.{client_inputs_in, client_inputs_json, client_inputs_takes}
 use Rattle.passkey_json.specs.Descriptor.{descriptor_in, descriptor_json}
 use Rattle.passkey_json.specs.Fault.{Fault}
-use Rattle.passkey_json.specs.Kind.{bytes, word, optional, one_named, accepted}
-use Rattle.passkey_json.specs.Members.{◌>>=◌, Object, member, record_kind, required, given, or_default, tolerated, accepted_list}
+use Rattle.passkey_json.specs.Kind.{bytes, word, optional, accepted, is_array, is_text_or_array}
+use Rattle.passkey_json.specs.Members.{◌>>=◌, Object, member, record_kind, required, given, or_default, accepted_list, takes_any, takes_in}
 use Rattle.passkey_json.specs.Parameters.{parameters_in, parameters_json}
-use Rattle.passkey_json.specs.Rp.{rp_in, rp_json}
+use Rattle.passkey_json.specs.Rp.{rp_in, rp_json, rp_takes}
 use Rattle.passkey_json.specs.SelectionCriteria.{selection_criteria_in, selection_criteria_json}
-use Rattle.passkey_json.specs.User.{user_in, user_json}
+use Rattle.passkey_json.specs.User.{user_in, user_json, user_takes}
 use Rattle.passkey_json.specs.Written.{Row, written, row, row_if, list_json, bytes_json, natural_json}
 use Rattle.passkey_json.specs.declared.bytes_form.BytesForm.{BytesForm}
-use Rattle.passkey_options.specs.AttestationConveyance.{conveyance_name, conveyance_named}
-use Rattle.passkey_options.specs.AttestationMembers.{attestation_members_in}
-use Rattle.passkey_options.specs.AttestationFormat.{format_name, format_named}
-use Rattle.passkey_options.specs.Hints.{hint_name, hint_named}
-use Rattle.passkey_options.specs.declared.attestation_conveyance.AttestationConveyancePreference.TheVariants.{None as NoAttestation}
+use Rattle.passkey_options.specs.AttestationConveyance.{conveyance_name}
+use Rattle.passkey_options.specs.AttestationMembers.{attestation_members_in, attestation_members_takes}
+use Rattle.passkey_options.specs.AttestationFormat.{format_name}
+use Rattle.passkey_options.specs.Hints.{hint_name}
 use Rattle.passkey_options.specs.declared.creation_options.ChoiceMembers.{ChoiceMembers}
 use Rattle.passkey_options.specs.declared.creation_options.RequiredMembers.{RequiredMembers}
 use Rattle.passkey_options.specs.declared.creation_options.PublicKeyCredentialCreationOptions.{PublicKeyCredentialCreationOptions}
@@ -59,6 +58,30 @@ creation_options_in object = do
     attestation_formats = wishes.attestation_formats;
     extensions = extensions;
   })
+
+-- ---- whether a member is there that may take memory to decode
+
+unfoldable pub required_members_takes : Object → Bool
+required_members_takes = takes_any (
+    (codes "rp", takes_in rp_takes)
+    ∷ (codes "user", takes_in user_takes)
+    ∷ (codes "challenge", is_text_or_array)
+    ∷ (codes "pubKeyCredParams", is_array)
+    ∷ [])
+
+unfoldable pub choice_members_takes : Object → Bool
+choice_members_takes = takes_any (
+    (codes "excludeCredentials", is_array)
+    ∷ [])
+
+unfoldable pub creation_options_takes : Object → Bool
+creation_options_takes object =
+    required_members_takes object
+    || choice_members_takes object
+    || attestation_members_takes object
+    || takes_any ((codes "extensions", takes_in client_inputs_takes) ∷ []) object
+
+-- ---- how they are encoded
 
 abbrev pub creation_options_rows : BytesForm → PublicKeyCredentialCreationOptions → List Row
 creation_options_rows form x =

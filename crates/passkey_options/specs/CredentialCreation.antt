@@ -1,10 +1,10 @@
 -- What a page asks of the browser where a credential is made (WebAuthn Level 3, section 5.1.1).
-use Rattle.std.specs.Prelude.{List, [], ◌∷◌, Result, Ok, codes}
+use Rattle.std.specs.Prelude.{List, [], ◌∷◌, Result, Ok, codes, Bool}
 use Rattle.passkey_json.specs.Fault.{Fault}
-use Rattle.passkey_json.specs.Members.{◌>>=◌, Object, member, record_kind, required}
+use Rattle.passkey_json.specs.Members.{◌>>=◌, Object, member, record_kind, required, takes_any, takes_in}
 use Rattle.passkey_json.specs.Written.{Row, written, row}
 use Rattle.passkey_json.specs.declared.bytes_form.BytesForm.{BytesForm}
-use Rattle.passkey_options.specs.CreationOptions.{creation_options_in, creation_options_json}
+use Rattle.passkey_options.specs.CreationOptions.{creation_options_in, creation_options_json, creation_options_takes}
 use Rattle.passkey_options.specs.declared.credential_creation.CredentialCreationOptions.{CredentialCreationOptions}
 use Rattle.serde_json.specs.Data.{Data}
 
@@ -12,6 +12,12 @@ unfoldable pub credential_creation_in : Object → Result CredentialCreationOpti
 credential_creation_in object = do
   public_key ← required (record_kind creation_options_in) (member (codes "publicKey") object)
   Ok (record { public_key = public_key })
+
+-- whether a member is there that may take memory to decode
+unfoldable pub credential_creation_takes : Object → Bool
+credential_creation_takes = takes_any (
+    (codes "publicKey", takes_in creation_options_takes)
+    ∷ [])
 
 abbrev pub credential_creation_rows : BytesForm → CredentialCreationOptions → List Row
 credential_creation_rows form x =

@@ -1,10 +1,10 @@
 -- What a page asks of the browser where a user signs in (WebAuthn Level 3, section 5.1.2).
-use Rattle.std.specs.Prelude.{List, [], ◌∷◌, Result, Ok, codes}
+use Rattle.std.specs.Prelude.{List, [], ◌∷◌, Result, Ok, codes, Bool}
 use Rattle.passkey_json.specs.Fault.{Fault}
-use Rattle.passkey_json.specs.Members.{◌>>=◌, Object, member, record_kind, required}
+use Rattle.passkey_json.specs.Members.{◌>>=◌, Object, member, record_kind, required, takes_any, takes_in}
 use Rattle.passkey_json.specs.Written.{Row, written, row}
 use Rattle.passkey_json.specs.declared.bytes_form.BytesForm.{BytesForm}
-use Rattle.passkey_options.specs.RequestOptions.{request_options_in, request_options_json}
+use Rattle.passkey_options.specs.RequestOptions.{request_options_in, request_options_json, request_options_takes}
 use Rattle.passkey_options.specs.declared.credential_request.CredentialRequestOptions.{CredentialRequestOptions}
 use Rattle.serde_json.specs.Data.{Data}
 
@@ -12,6 +12,12 @@ unfoldable pub credential_request_in : Object → Result CredentialRequestOption
 credential_request_in object = do
   public_key ← required (record_kind request_options_in) (member (codes "publicKey") object)
   Ok (record { public_key = public_key })
+
+-- whether a member is there that may take memory to decode
+unfoldable pub credential_request_takes : Object → Bool
+credential_request_takes = takes_any (
+    (codes "publicKey", takes_in request_options_takes)
+    ∷ [])
 
 abbrev pub credential_request_rows : BytesForm → CredentialRequestOptions → List Row
 credential_request_rows form x =

@@ -1,19 +1,18 @@
 -- What a relying party asks for where a user signs in (WebAuthn Level 3, section 5.5).
-use Rattle.std.specs.Prelude.{List, [], ◌∷◌, None, Result, Ok, codes}
-use Rattle.passkey_json.specs.ClientInputs.{client_inputs_in, client_inputs_json}
+use Rattle.std.specs.Prelude.{List, [], ◌∷◌, None, Result, Ok, codes, Bool, ◌||◌}
+use Rattle.passkey_json.specs.ClientInputs.{client_inputs_in, client_inputs_json, client_inputs_takes}
 use Rattle.passkey_json.specs.Descriptor.{descriptor_in, descriptor_json}
 use Rattle.passkey_json.specs.Fault.{Fault}
-use Rattle.passkey_json.specs.Kind.{bytes, text, word, optional, one_named}
-use Rattle.passkey_json.specs.Members.{◌>>=◌, Object, member, aliased, record_kind, required, given, or_default, tolerated, accepted_list}
+use Rattle.passkey_json.specs.Kind.{bytes, text, word, optional, one_named, is_array, is_text, is_text_or_array}
+use Rattle.passkey_json.specs.Members.{◌>>=◌, Object, member, aliased, record_kind, required, given, or_default, tolerated, accepted_list, takes_any, takes_in}
 use Rattle.passkey_json.specs.UserVerification.{user_verification_name, user_verification_named}
 use Rattle.passkey_json.specs.Written.{Row, written, row, row_if, list_json, bytes_json, natural_json}
 use Rattle.passkey_json.specs.declared.bytes_form.BytesForm.{BytesForm}
 use Rattle.passkey_json.specs.declared.user_verification.UserVerificationRequirement.TheVariants.{Preferred}
-use Rattle.passkey_options.specs.AttestationConveyance.{conveyance_name, conveyance_named}
-use Rattle.passkey_options.specs.AttestationMembers.{attestation_members_in}
-use Rattle.passkey_options.specs.AttestationFormat.{format_name, format_named}
-use Rattle.passkey_options.specs.Hints.{hint_name, hint_named}
-use Rattle.passkey_options.specs.declared.attestation_conveyance.AttestationConveyancePreference.TheVariants.{None as NoAttestation}
+use Rattle.passkey_options.specs.AttestationConveyance.{conveyance_name}
+use Rattle.passkey_options.specs.AttestationMembers.{attestation_members_in, attestation_members_takes}
+use Rattle.passkey_options.specs.AttestationFormat.{format_name}
+use Rattle.passkey_options.specs.Hints.{hint_name}
 use Rattle.passkey_options.specs.declared.request_options.CredentialMembers.{CredentialMembers}
 use Rattle.passkey_options.specs.declared.request_options.PublicKeyCredentialRequestOptions.{PublicKeyCredentialRequestOptions}
 use Rattle.serde_json.specs.Data.{Data, string}
@@ -49,6 +48,24 @@ request_options_in object = do
     attestation_formats = wishes.attestation_formats;
     extensions = extensions;
   })
+
+-- ---- whether a member is there that may take memory to decode
+
+unfoldable pub credential_members_takes : Object → Bool
+credential_members_takes = takes_any (
+    (codes "challenge", is_text_or_array)
+    ∷ (codes "rpId", is_text)
+    ∷ (codes "allowCredentials", is_array)
+    ∷ (codes "allowList", is_array)
+    ∷ [])
+
+unfoldable pub request_options_takes : Object → Bool
+request_options_takes object =
+    credential_members_takes object
+    || attestation_members_takes object
+    || takes_any ((codes "extensions", takes_in client_inputs_takes) ∷ []) object
+
+-- ---- how they are encoded
 
 abbrev pub request_options_rows : BytesForm → PublicKeyCredentialRequestOptions → List Row
 request_options_rows form x =

@@ -1,4 +1,4 @@
-//! Which attestation a relying party wants, read of JSON values and written.
+//! Which attestation a relying party wants, decoded from JSON values and encoded.
 ghost use Rattle.std.specs.Prelude.{false};
 ghost use Rattle.passkey_json.specs.Kind.{one_named};
 ghost use Rattle.passkey_options.specs.AttestationConveyance.{conveyance_name, conveyance_named, conveyance_own};
@@ -19,7 +19,7 @@ pub enum AttestationConveyancePreference {
     Indirect,
     /// The authenticator's own.
     Direct,
-    /// One that tells which authenticator it is, within an enterprise.
+    /// One that identifies the authenticator, within an enterprise.
     Enterprise,
 }
 

@@ -1,4 +1,4 @@
-//! Formats of attestation statements, read of JSON values and written.
+//! Formats of attestation statements, decoded from JSON values and encoded.
 ghost use Rattle.std.specs.Prelude.{false};
 ghost use Rattle.passkey_json.specs.Kind.{one_named};
 ghost use Rattle.passkey_options.specs.AttestationFormat.{format_name, format_named, format_own};

@@ -1,5 +1,5 @@
 //! The members on hints and attestation, which both options have.
-ghost use Rattle.passkey_options.specs.AttestationMembers.{attestation_members_in};
+ghost use Rattle.passkey_options.specs.AttestationMembers.{attestation_members_in, attestation_members_takes};
 
 use crate::attestation_conveyance::AttestationConveyancePreference;
 use crate::attestation_format::AttestationStatementFormatIdentifiers;
@@ -17,6 +17,8 @@ pub struct AttestationMembers {
 
 impl JsonRecord for AttestationMembers {
     ghost members = { attestation_members_in };
+
+    ghost takes = { attestation_members_takes };
 
     fn from_object(object: &Object<'_>) -> Result<AttestationMembers, JsonFault> {
         Ok(AttestationMembers {

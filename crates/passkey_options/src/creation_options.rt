@@ -1,7 +1,6 @@
-//! What a relying party asks for where a credential is made, read of JSON objects and written.
-ghost use Rattle.passkey_json.specs.Kind.{is_object};
-ghost use Rattle.passkey_json.specs.Members.{record_kind};
-ghost use Rattle.passkey_options.specs.CreationOptions.{creation_options_in, creation_options_json, required_members_in, choice_members_in};
+//! What a relying party asks for where a credential is made, decoded from JSON objects and encoded.
+ghost use Rattle.passkey_json.specs.Members.{record_kind, takes_in};
+ghost use Rattle.passkey_options.specs.CreationOptions.{creation_options_in, creation_options_json, required_members_in, choice_members_in, required_members_takes, choice_members_takes, creation_options_takes};
 
 use crate::attestation_conveyance::AttestationConveyancePreference;
 use crate::attestation_format::AttestationStatementFormatIdentifiers;
@@ -36,7 +35,7 @@ pub struct PublicKeyCredentialCreationOptions {
     pub timeout: Option<u32>,
     /// Credentials that the user has already; no authenticator that holds one of them will do.
     pub exclude_credentials: Option<List<PublicKeyCredentialDescriptor>>,
-    /// Which authenticators will do; any where nothing is there.
+    /// Which authenticators will do; any if nothing is there.
     pub authenticator_selection: Option<AuthenticatorSelectionCriteria>,
     /// Which authenticators the user will probably take, the likeliest first.
     pub hints: Option<List<PublicKeyCredentialHints>>,
@@ -48,7 +47,7 @@ pub struct PublicKeyCredentialCreationOptions {
     pub extensions: Option<AuthenticationExtensionsClientInputs>,
 }
 
-// The members are read in groups, since each `?` drops what was read before it.
+// The members are decoded in groups, since each `?` drops what was decoded before it.
 
 /// What must be there.
 #[derive(Drop)]
@@ -61,6 +60,8 @@ struct RequiredMembers {
 
 impl JsonRecord for RequiredMembers {
     ghost members = { required_members_in };
+
+    ghost takes = { required_members_takes };
 
     fn from_object(object: &Object<'_>) -> Result<RequiredMembers, JsonFault> {
         Ok(RequiredMembers {
@@ -86,6 +87,8 @@ struct ChoiceMembers {
 impl JsonRecord for ChoiceMembers {
     ghost members = { choice_members_in };
 
+    ghost takes = { choice_members_takes };
+
     fn from_object(object: &Object<'_>) -> Result<ChoiceMembers, JsonFault> {
         Ok(ChoiceMembers {
             timeout: object.member("timeout").given()?,
@@ -97,6 +100,8 @@ impl JsonRecord for ChoiceMembers {
 
 impl JsonRecord for PublicKeyCredentialCreationOptions {
     ghost members = { creation_options_in };
+
+    ghost takes = { creation_options_takes };
 
     fn from_object(object: &Object<'_>) -> Result<PublicKeyCredentialCreationOptions, JsonFault> {
         let required = RequiredMembers::from_object(object)?;
@@ -122,7 +127,7 @@ impl JsonRecord for PublicKeyCredentialCreationOptions {
 impl FromJson for PublicKeyCredentialCreationOptions {
     ghost kind = { record_kind creation_options_in };
 
-    ghost takes = { is_object };
+    ghost takes = { takes_in creation_options_takes };
 
     fn from_value(
         alloc: Global,

@@ -1,7 +1,6 @@
-//! What a page asks of the browser where a credential is made, read of JSON objects and written.
-ghost use Rattle.passkey_json.specs.Kind.{is_object};
-ghost use Rattle.passkey_json.specs.Members.{record_kind};
-ghost use Rattle.passkey_options.specs.CredentialCreation.{credential_creation_in, credential_creation_json};
+//! What a page asks of the browser where a credential is made, decoded from JSON objects and encoded.
+ghost use Rattle.passkey_json.specs.Members.{record_kind, takes_in};
+ghost use Rattle.passkey_options.specs.CredentialCreation.{credential_creation_in, credential_creation_json, credential_creation_takes};
 
 use crate::creation_options::PublicKeyCredentialCreationOptions;
 use passkey_json::{
@@ -22,7 +21,9 @@ pub struct CredentialCreationOptions {
 impl JsonRecord for CredentialCreationOptions {
     ghost members = { credential_creation_in };
 
-    #[tactic(auto, unfolding(crate::specs::CredentialCreation::credential_creation_in, passkey_json::specs::Members::required))]
+    ghost takes = { credential_creation_takes };
+
+    #[tactic(auto, unfolding(crate::specs::CredentialCreation::credential_creation_in, crate::specs::CredentialCreation::credential_creation_takes, passkey_json::specs::Members::takes_any, passkey_json::specs::Members::required))]
     fn from_object(object: &Object<'_>) -> Result<CredentialCreationOptions, JsonFault> {
         Ok(CredentialCreationOptions {
             public_key: object.member("publicKey").required()?,
@@ -33,7 +34,7 @@ impl JsonRecord for CredentialCreationOptions {
 impl FromJson for CredentialCreationOptions {
     ghost kind = { record_kind credential_creation_in };
 
-    ghost takes = { is_object };
+    ghost takes = { takes_in credential_creation_takes };
 
     fn from_value(alloc: Global, value: &Value) -> Result<CredentialCreationOptions, Refusal> {
         read_nested(alloc, value)

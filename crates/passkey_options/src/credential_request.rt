@@ -1,7 +1,6 @@
-//! What a page asks of the browser where a user signs in, read of JSON objects and written.
-ghost use Rattle.passkey_json.specs.Kind.{is_object};
-ghost use Rattle.passkey_json.specs.Members.{record_kind};
-ghost use Rattle.passkey_options.specs.CredentialRequest.{credential_request_in, credential_request_json};
+//! What a page asks of the browser where a user signs in, decoded from JSON objects and encoded.
+ghost use Rattle.passkey_json.specs.Members.{record_kind, takes_in};
+ghost use Rattle.passkey_options.specs.CredentialRequest.{credential_request_in, credential_request_json, credential_request_takes};
 
 use crate::request_options::PublicKeyCredentialRequestOptions;
 use passkey_json::{
@@ -22,7 +21,9 @@ pub struct CredentialRequestOptions {
 impl JsonRecord for CredentialRequestOptions {
     ghost members = { credential_request_in };
 
-    #[tactic(auto, unfolding(crate::specs::CredentialRequest::credential_request_in, passkey_json::specs::Members::required))]
+    ghost takes = { credential_request_takes };
+
+    #[tactic(auto, unfolding(crate::specs::CredentialRequest::credential_request_in, crate::specs::CredentialRequest::credential_request_takes, passkey_json::specs::Members::takes_any, passkey_json::specs::Members::required))]
     fn from_object(object: &Object<'_>) -> Result<CredentialRequestOptions, JsonFault> {
         Ok(CredentialRequestOptions {
             public_key: object.member("publicKey").required()?,
@@ -33,7 +34,7 @@ impl JsonRecord for CredentialRequestOptions {
 impl FromJson for CredentialRequestOptions {
     ghost kind = { record_kind credential_request_in };
 
-    ghost takes = { is_object };
+    ghost takes = { takes_in credential_request_takes };
 
     fn from_value(alloc: Global, value: &Value) -> Result<CredentialRequestOptions, Refusal> {
         read_nested(alloc, value)

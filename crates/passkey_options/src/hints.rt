@@ -1,4 +1,4 @@
-//! Which authenticator a user will probably take, read of JSON values and written.
+//! Which authenticator a user will probably take, decoded from JSON values and encoded.
 ghost use Rattle.std.specs.Prelude.{false};
 ghost use Rattle.passkey_json.specs.Kind.{one_named};
 ghost use Rattle.passkey_options.specs.Hints.{hint_name, hint_named, hint_own};

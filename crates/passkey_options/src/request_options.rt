@@ -1,7 +1,6 @@
-//! What a relying party asks for where a user signs in, read of JSON objects and written.
-ghost use Rattle.passkey_json.specs.Kind.{is_object};
-ghost use Rattle.passkey_json.specs.Members.{record_kind};
-ghost use Rattle.passkey_options.specs.RequestOptions.{credential_members_in, request_options_in, request_options_json};
+//! What a relying party asks for where a user signs in, decoded from JSON objects and encoded.
+ghost use Rattle.passkey_json.specs.Members.{record_kind, takes_in};
+ghost use Rattle.passkey_options.specs.RequestOptions.{credential_members_in, request_options_in, request_options_json, credential_members_takes, request_options_takes};
 
 use crate::attestation_conveyance::AttestationConveyancePreference;
 use crate::attestation_format::AttestationStatementFormatIdentifiers;
@@ -24,10 +23,10 @@ pub struct PublicKeyCredentialRequestOptions {
     pub challenge: Bytes,
     /// How long the client is to wait, in milliseconds.
     pub timeout: Option<u32>,
-    /// The relying party's id; the client's own one where there is none.
+    /// The relying party's id; the client's own one if there is none.
     pub rp_id: Option<Text>,
-    /// The credentials that will do; any where there is no list or an empty one. It is also read of
-    /// `allowList`.
+    /// The credentials that will do; any if there is no list or an empty one. It is also decoded
+    /// from `allowList`.
     pub allow_credentials: Option<List<PublicKeyCredentialDescriptor>>,
     /// Whether the user is to be verified.
     pub user_verification: UserVerificationRequirement,
@@ -41,7 +40,7 @@ pub struct PublicKeyCredentialRequestOptions {
     pub extensions: Option<AuthenticationExtensionsClientInputs>,
 }
 
-// The members are read in groups, since each `?` drops what was read before it.
+// The members are decoded in groups, since each `?` drops what was decoded before it.
 
 /// What a user is to sign in with.
 #[derive(Drop)]
@@ -54,6 +53,8 @@ struct CredentialMembers {
 
 impl JsonRecord for CredentialMembers {
     ghost members = { credential_members_in };
+
+    ghost takes = { credential_members_takes };
 
     fn from_object(object: &Object<'_>) -> Result<CredentialMembers, JsonFault> {
         Ok(CredentialMembers {
@@ -69,6 +70,8 @@ impl JsonRecord for CredentialMembers {
 
 impl JsonRecord for PublicKeyCredentialRequestOptions {
     ghost members = { request_options_in };
+
+    ghost takes = { request_options_takes };
 
     fn from_object(object: &Object<'_>) -> Result<PublicKeyCredentialRequestOptions, JsonFault> {
         let credential = CredentialMembers::from_object(object)?;
@@ -94,7 +97,7 @@ impl JsonRecord for PublicKeyCredentialRequestOptions {
 impl FromJson for PublicKeyCredentialRequestOptions {
     ghost kind = { record_kind request_options_in };
 
-    ghost takes = { is_object };
+    ghost takes = { takes_in request_options_takes };
 
     fn from_value(
         alloc: Global,

@@ -1,4 +1,4 @@
-//! The document that tells which origins may use a relying party's id.
+//! The document of the origins that may use a relying party's id.
 #![tactic(auto)]
 
 mod url_list;

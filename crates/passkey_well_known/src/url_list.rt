@@ -1,4 +1,4 @@
-//! Lists of URLs, read of JSON values.
+//! Lists of URLs, decoded from JSON values.
 ghost use Rattle.std.specs.Prelude.{◌≡◌};
 ghost use Rattle.passkey_well_known.specs.UrlKind.{AnswersUrl, AnswersUrls};
 ghost use Rattle.passkey_well_known.specs.declared.url_list.UrlFault.TheVariants.{OutOfMemory as NoMemory};
@@ -12,13 +12,13 @@ use url::{ParseError, Url};
 /// room for a URL of 4 GB or more; escapes make a shorter text at most three times as long.
 pub(crate) const LONG_TEXT: usize = 1 << 30;
 
-/// Why no URLs were read of a JSON value.
+/// Why no URLs were decoded from a JSON value.
 pub(crate) enum UrlFault {
     /// It is no list of texts that are URLs.
     Refused,
     /// One of the texts has `LONG_TEXT` bytes or more, and may be a URL of 4 GB or more.
     TooLong,
-    /// A growth was refused, or a shorter text makes a URL of 4 GB or more.
+    /// An allocation failed, or a shorter text makes a URL of 4 GB or more.
     OutOfMemory,
 }
 

@@ -1,4 +1,4 @@
-//! The document that tells which origins may use a relying party's id.
+//! The document of the origins that may use a relying party's id.
 ghost use Rattle.std.specs.Prelude.{◌≡◌, IfOk, Some, codes};
 ghost use Rattle.passkey_json.specs.Kind.{list};
 ghost use Rattle.passkey_json.specs.Members.{in_object, judged};
@@ -39,11 +39,11 @@ fn origins_of(alloc: Global, value: &Value) -> Result<Vec<Url>, JsonFault>
 
 impl WellKnown {
     /// The document that the JSON value stands for: an object whose member `origins` is a list of
-    /// texts, each of which the URL Standard reads as a URL. Other members are passed over.
-    /// `NotAnObject` where it is no object, `Missing` where there is no such member; where that is
-    /// no such list, `Float` where it holds a float and else `Refused`. `Refused` also where one of
-    /// its texts has 2^30 bytes or more and is a URL of 4 GB or more. `OutOfMemory` where a growth was
-    /// refused, or a shorter text makes such a URL; only where that member is a list.
+    /// texts, each of which the URL Standard reads as a URL. Other members are skipped.
+    /// `NotAnObject` if it is no object, `Missing` if there is no such member; if that is no such
+    /// list, `Float` if it holds a float and else `Refused`. `Refused` also if one of its texts has
+    /// 2^30 bytes or more and is a URL of 4 GB or more. `OutOfMemory` if an allocation fails, or a
+    /// shorter text makes such a URL; only if that member is a list.
     #[tactic(auto, unfolding(crate::specs::WellKnown::well_known_in, passkey_json::specs::Members::required))]
     pub fn from_json(alloc: Global, value: &Value) -> Result<WellKnown, JsonFault>
         ensures { GivesUrls (origins_in (view value.now)) (λ document. document.origins.items) (in_object well_known_in (view value.now)) result }
@@ -61,7 +61,7 @@ impl WellKnown {
     }
 
     /// The object whose member `origins` is the list of the URLs' texts, in either form of bytes.
-    /// `OutOfMemory` where a growth was refused.
+    /// `OutOfMemory` if an allocation fails.
     pub fn to_json(&self, alloc: Global, _form: BytesForm) -> Result<Value, OutOfMemory>
         ensures { IfOk result (λ v. view v ≡ well_known_json self.now.origins.items) }
     {

@@ -1,29 +1,30 @@
 use Rattle.std.proofs.Common.{refl, sym}
 use Rattle.passkey_json.proofs.Faults.{first_fault_passed}
+use Rattle.passkey_json.proofs.Taking.{takes_known, takes_none}
 use Rattle.passkey_options.proofs.creation_options.ChoiceMembersJsonRecord.from_object.Goals as goal
-use Rattle.passkey_options.specs.CreationOptions.{choice_members_in}
+use Rattle.passkey_options.specs.CreationOptions.{choice_members_in, choice_members_takes}
 
 pub returns-in_err-given : goal.returns-in_err-given
-unfolding choice_members_in
+unfolding choice_members_in choice_members_takes
 returns-in_err-given c =
-    rw (sym c.member.ensures) (first_fault_passed _ _ c.in_err-given.field-0.0 _ _ c.in_err-given.ensures c.from_residual.ensures.1)
+    rw (sym c.member.ensures) (first_fault_passed _ _ _ c.in_err-given.field-0.0 _ _ c.in_err-given.ensures c.from_residual.ensures.1 (λ h. absurd (takes_none _ h)))
 
 pub returns-in_err-accepted_list : goal.returns-in_err-accepted_list
-unfolding choice_members_in
+unfolding choice_members_in choice_members_takes
 returns-in_err-accepted_list c =
     rw (
       rw c.member.ensures at c.in_ok-given.ensures,
       ← c.member-2.ensures,
-    ) (first_fault_passed _ _ c.in_err-accepted_list.field-0.0 _ _ c.in_err-accepted_list.ensures c.from_residual-in_err-accepted_list.ensures.1)
+    ) (first_fault_passed _ _ _ c.in_err-accepted_list.field-0.0 _ _ c.in_err-accepted_list.ensures c.from_residual-in_err-accepted_list.ensures.1 (takes_known _ _ 0 _ c.member-2.ensures))
 
 pub returns-in_err-or_default : goal.returns-in_err-or_default
-unfolding choice_members_in
+unfolding choice_members_in choice_members_takes
 returns-in_err-or_default c =
     rw (
       rw c.member.ensures at c.in_ok-given.ensures,
       rw c.member-2.ensures at c.in_ok-accepted_list.ensures,
       ← c.member-3.ensures,
-    ) (first_fault_passed _ _ c.in_err-or_default.field-0.0 _ _ c.in_err-or_default.ensures c.from_residual-in_err-or_default.ensures.1)
+    ) (first_fault_passed _ _ _ c.in_err-or_default.field-0.0 _ _ c.in_err-or_default.ensures c.from_residual-in_err-or_default.ensures.1 (λ h. absurd (takes_none _ h)))
 
 pub returns : goal.returns
 unfolding choice_members_in
