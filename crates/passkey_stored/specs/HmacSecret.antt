@@ -1,6 +1,12 @@
 -- Secrets of the extension hmac-secret that are stored.
-use Rattle.std.specs.Prelude.{ℕ, List, [], None, codes, is_some, if◌then◌else◌}
+use Rattle.std.specs.Prelude.{ℕ, ◌<◌, ◌⊎◌, List, [], length, None, codes, is_some, if◌then◌else◌}
+use Rattle.std.specs.Option.{IsSomeAnd}
 use Rattle.passkey_stored.specs.declared.hmac_secret.StoredHmacSecret.{StoredHmacSecret}
+
+-- the secrets that take memory to hold
+abbrev pub HoldsSecrets : StoredHmacSecret → Type 0
+HoldsSecrets secret =
+    (0 < length secret.cred_with_uv) ⊎ IsSomeAnd secret.cred_without_uv (λ bytes. 0 < length bytes)
 
 -- no secrets any more
 abbrev pub erased : StoredHmacSecret

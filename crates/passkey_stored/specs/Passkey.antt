@@ -1,5 +1,5 @@
 -- Passkeys (WebAuthn Level 3, section 4: public key credential source).
-use Rattle.std.specs.Prelude.{ℕ, ◌<◌, ◌⊎◌, List, ◌++◌, length, codes, Option, Some, None, IsSome}
+use Rattle.std.specs.Prelude.{ℕ, ◌<◌, ◌⊎◌, List, ◌++◌, length, codes, Option, Some, None}
 use Rattle.std.specs.Fmt.{decimal, signed_decimal}
 use Rattle.std.specs.Option.{IsSomeAnd}
 use Rattle.passkey_cose.specs.Key.{key_parts}
@@ -9,6 +9,7 @@ use Rattle.passkey_iana.specs.declared.key_type.KeyType.{KeyType}
 use Rattle.passkey_iana.specs.declared.key_type.KeyType.TheVariants as key_type
 use Rattle.passkey_cose.specs.declared.key.CoseKey.{CoseKey}
 use Rattle.passkey_stored.specs.Extensions.{no_extensions}
+use Rattle.passkey_stored.specs.HmacSecret.{HoldsSecrets}
 use Rattle.passkey_stored.specs.declared.extensions.CredentialExtensions.{CredentialExtensions}
 use Rattle.passkey_stored.specs.declared.passkey.Passkey.{Passkey}
 use Rattle.passkey_webauthn.specs.declared.credential_type.PublicKeyCredentialType.TheVariants.{PublicKey}
@@ -50,7 +51,7 @@ StoresMemory p =
     ⊎ IsFilled p.user_handle
     ⊎ IsFilled p.username
     ⊎ IsFilled p.user_display_name
-    ⊎ IsSome p.extensions.hmac_secret
+    ⊎ IsSomeAnd p.extensions.hmac_secret HoldsSecrets
 
 -- ---- what is printed
 

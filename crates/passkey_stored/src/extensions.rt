@@ -1,6 +1,8 @@
 //! What extensions store with a passkey.
-ghost use Rattle.std.specs.Prelude.{◌≡◌, IfOk, IsSome, OnErr};
+ghost use Rattle.std.specs.Prelude.{◌≡◌, IfOk, OnErr};
+ghost use Rattle.std.specs.Option.{IsSomeAnd};
 ghost use Rattle.passkey_stored.specs.Extensions.{no_extensions};
+ghost use Rattle.passkey_stored.specs.HmacSecret.{HoldsSecrets};
 
 use crate::hmac_secret::StoredHmacSecret;
 use passkey_memory::OutOfMemory;
@@ -22,10 +24,10 @@ impl CredentialExtensions {
     }
 
     /// An equal value. `OutOfMemory` where a growth was refused, which cannot be where no secrets
-    /// are there.
+    /// are there, or empty ones.
     pub fn try_clone(&self, alloc: Global) -> Result<CredentialExtensions, OutOfMemory>
         ensures same { IfOk result (λ copy. copy ≡ self.now) }
-        ensures grows { OnErr result (IsSome self.now.hmac_secret) }
+        ensures grows { OnErr result (IsSomeAnd self.now.hmac_secret HoldsSecrets) }
     {
         let hmac_secret = match &self.hmac_secret {
             Some(secret) => Some(secret.try_clone(alloc)?),

@@ -1,7 +1,6 @@
 //! Secrets of the extension hmac-secret.
-ghost use Rattle.std.specs.Prelude.{◌≡◌, ◌<◌, ◌⊎◌, Some, None, [], length, IfOk, OnErr};
-ghost use Rattle.std.specs.Option.{IsSomeAnd};
-ghost use Rattle.passkey_stored.specs.HmacSecret.{erased, redacted};
+ghost use Rattle.std.specs.Prelude.{◌≡◌, Some, None, IfOk, OnErr};
+ghost use Rattle.passkey_stored.specs.HmacSecret.{HoldsSecrets, erased, redacted};
 
 use passkey_bytes::Bytes;
 use passkey_memory::OutOfMemory;
@@ -23,7 +22,7 @@ impl StoredHmacSecret {
     /// are empty.
     pub fn try_clone(&self, alloc: Global) -> Result<StoredHmacSecret, OutOfMemory>
         ensures same { IfOk result (λ copy. copy ≡ self.now) }
-        ensures grows { OnErr result ((0 < length self.now.cred_with_uv) ⊎ IsSomeAnd self.now.cred_without_uv (λ secret. 0 < length secret)) }
+        ensures grows { OnErr result (HoldsSecrets self.now) }
     {
         let cred_without_uv = match &self.cred_without_uv {
             Some(secret) => Some(secret.try_clone(alloc)?),
