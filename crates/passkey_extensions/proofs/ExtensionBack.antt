@@ -1,6 +1,6 @@
 -- The extensions' records are read back.
 use Rattle.std.specs.Result.{result_ok}
-use Rattle.std.proofs.Common.{◌≡◌, ◌∙◌, [], ◌∷◌, Some, None, Ok, refl, ap}
+use Rattle.std.proofs.Common.{◌≡◌, ◌∙◌, Some, Ok, refl, ap}
 use Rattle.passkey_cbor.specs.Item.{Item}
 use Rattle.passkey_extensions.specs.ExtensionTrees.{hmac_input_places, hmac_input_tree, HmacInputFits, prf_values_places, prf_values_tree, PrfValuesFit, prf_make_places, prf_make_tree, PrfMakeFits, prf_get_places, prf_get_tree, PrfGetFits, made_places, made_tree, MadeFits, used_places, used_tree, UsedFits, EachFits, prf_inputs_places, prf_inputs_tree, PrfInputsFit, make_extensions_places, make_extensions_tree, MakeExtensionsFit, get_extensions_places, get_extensions_tree, GetExtensionsFit}
 use Rattle.passkey_extensions.specs.GetExtensions.{GetExtensionsParts, get_extensions_fields, get_extensions}
@@ -18,7 +18,6 @@ use Rattle.passkey_extensions.specs.PrfGetOutputs.{prf_get_fields, prf_get}
 use Rattle.passkey_extensions.specs.PrfMakeOutputs.{prf_make_fields, prf_make}
 use Rattle.passkey_extensions.specs.PrfValues.{prf_values_fields, prf_values}
 use Rattle.passkey_kinds.specs.ReadBack.{IsReadBack}
-use Rattle.passkey_kinds.specs.Table.{◌>>=◌}
 use Rattle.passkey_kinds.specs.Tree.{byte_map_tree}
 use Rattle.passkey_extensions.specs.declared.prf_get_outputs.AuthenticatorPrfGetOutputs.{AuthenticatorPrfGetOutputs}
 use Rattle.passkey_extensions.specs.declared.prf_inputs.AuthenticatorPrfInputs.{AuthenticatorPrfInputs}

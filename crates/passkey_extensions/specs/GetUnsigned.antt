@@ -4,7 +4,6 @@ use Rattle.passkey_kinds.specs.Kind.{Kind}
 use Rattle.passkey_kinds.specs.Record.{Fields, default, record_kind}
 use Rattle.passkey_kinds.specs.Typed.{optional, growing}
 use Rattle.passkey_extensions.specs.PrfGetOutputs.{prf_get}
-use Rattle.passkey_extensions.specs.declared.prf_get_outputs.AuthenticatorPrfGetOutputs.{AuthenticatorPrfGetOutputs}
 use Rattle.passkey_extensions.specs.declared.get_assertion.unsigned.UnsignedExtensionOutputs.{UnsignedExtensionOutputs}
 
 abbrev pub unsigned_fields : Fields UnsignedExtensionOutputs

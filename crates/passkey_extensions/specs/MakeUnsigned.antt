@@ -4,7 +4,6 @@ use Rattle.passkey_kinds.specs.Kind.{Kind}
 use Rattle.passkey_kinds.specs.Record.{Fields, default, record_kind}
 use Rattle.passkey_kinds.specs.Typed.{optional, growing}
 use Rattle.passkey_extensions.specs.PrfMakeOutputs.{prf_make}
-use Rattle.passkey_extensions.specs.declared.prf_make_outputs.AuthenticatorPrfMakeOutputs.{AuthenticatorPrfMakeOutputs}
 use Rattle.passkey_extensions.specs.declared.make_credential.unsigned.UnsignedExtensionOutputs.{UnsignedExtensionOutputs}
 
 abbrev pub unsigned_fields : Fields UnsignedExtensionOutputs

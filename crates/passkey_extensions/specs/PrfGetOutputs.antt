@@ -5,7 +5,6 @@ use Rattle.passkey_kinds.specs.Record.{Fields, required, record_kind}
 use Rattle.passkey_kinds.specs.Typed.{growing}
 use Rattle.passkey_extensions.specs.PrfValues.{prf_values}
 use Rattle.passkey_extensions.specs.declared.prf_get_outputs.AuthenticatorPrfGetOutputs.{AuthenticatorPrfGetOutputs}
-use Rattle.passkey_extensions.specs.declared.prf_values.AuthenticatorPrfValues.{AuthenticatorPrfValues}
 
 abbrev pub prf_get_fields : Fields AuthenticatorPrfGetOutputs
 prf_get_fields = record {

@@ -1,12 +1,10 @@
 -- Inputs of the extension prf (WebAuthn Level 3, section 10.1.4).
 use Rattle.std.specs.Prelude.{[], ◌∷◌, None, codes, false}
-use Rattle.passkey_bytes.specs.Map.{ByteMap}
 use Rattle.passkey_kinds.specs.Kind.{Kind}
 use Rattle.passkey_kinds.specs.Record.{Fields, default, record_kind}
 use Rattle.passkey_kinds.specs.Typed.{optional, map_from_bytes, growing}
 use Rattle.passkey_extensions.specs.PrfValues.{prf_values}
 use Rattle.passkey_extensions.specs.declared.prf_inputs.AuthenticatorPrfInputs.{AuthenticatorPrfInputs}
-use Rattle.passkey_extensions.specs.declared.prf_values.AuthenticatorPrfValues.{AuthenticatorPrfValues}
 
 abbrev pub prf_inputs_fields : Fields AuthenticatorPrfInputs
 prf_inputs_fields = record {

@@ -5,7 +5,6 @@ use Rattle.passkey_kinds.specs.Record.{Fields, required, default, record_kind}
 use Rattle.passkey_kinds.specs.Typed.{optional, truth, growing}
 use Rattle.passkey_extensions.specs.PrfValues.{prf_values}
 use Rattle.passkey_extensions.specs.declared.prf_make_outputs.AuthenticatorPrfMakeOutputs.{AuthenticatorPrfMakeOutputs}
-use Rattle.passkey_extensions.specs.declared.prf_values.AuthenticatorPrfValues.{AuthenticatorPrfValues}
 
 abbrev pub prf_make_fields : Fields AuthenticatorPrfMakeOutputs
 prf_make_fields = record {

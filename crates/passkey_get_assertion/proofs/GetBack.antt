@@ -1,5 +1,5 @@
 -- Options of authenticatorGetAssertion are read back, and written with one level.
-use Rattle.std.proofs.Common.{◌≡◌, ◌≤◌, true, false, [], ◌∷◌, Some, refl}
+use Rattle.std.proofs.Common.{◌≡◌, ◌≤◌, Some, refl}
 use Rattle.passkey_cbor.specs.Depth.{depth}
 use Rattle.passkey_get_assertion.specs.GetOptions.{options_fields, options, options_places, options_tree}
 use Rattle.passkey_get_assertion.specs.declared.options.Options.{Options}

@@ -1,12 +1,10 @@
 -- Requests to use a credential: reading back what is written, and its levels.
-use Rattle.std.proofs.Common.{◌≡◌, ◌∙◌, ℕ, ◌≤◌, nat_le, arith, le-leb, leb-true, true, List, [], ◌∷◌, Option, Some, None, option_map, unwrap_or, Ok, refl, sym, ap}
+use Rattle.std.proofs.Common.{◌≡◌, ◌∙◌, ◌≤◌, nat_le, arith, le-leb, leb-true, true, List, Option, Some, None, option_map, Ok, refl, sym}
 use Rattle.passkey_cbor.specs.Depth.{depth}
 use Rattle.passkey_cbor.specs.Front.{max_depth}
-use Rattle.passkey_cbor.specs.Item.{Item, byte_string, members}
+use Rattle.passkey_cbor.specs.Item.{Item, byte_string}
 use Rattle.passkey_cbor.specs.Laws.{WrittenIsFront}
-use Rattle.passkey_get_assertion.specs.GetOptions.{options_default}
 use Rattle.passkey_get_assertion.specs.GetRequest.{GetRequestParts, get_request_fields, read_get_request, get_request_places, get_request_tree, GetRequestFits, is_get_request_coherent}
-use Rattle.passkey_get_assertion.specs.declared.options.Options.{Options}
 use Rattle.passkey_get_assertion.proofs.GetBack.{options_back, options_levels}
 use Rattle.passkey_extensions.specs.ExtensionTrees.{hmac_input_tree, get_extensions_tree}
 use Rattle.passkey_extensions.specs.GetExtensions.{GetExtensionsParts, get_extensions}
@@ -14,7 +12,6 @@ use Rattle.passkey_extensions.specs.HmacInput.{HmacInputParts}
 use Rattle.passkey_extensions.proofs.ExtensionBack.{get_parts_back}
 use Rattle.passkey_extensions.proofs.ExtensionLevels.{same_tests, some_within, none_within, of_some, input_up, used_with, used_without}
 use Rattle.passkey_extensions.proofs.Keys.{used_key}
-use Rattle.passkey_kinds.specs.Kind.{tolerated}
 use Rattle.passkey_kinds.specs.MessageLaws.{WrittenIsReadBack, ReadIsCoherent}
 use Rattle.passkey_kinds.specs.Tree.{number_tree, list_tree}
 use Rattle.passkey_kinds.specs.Trees.{descriptor_tree}

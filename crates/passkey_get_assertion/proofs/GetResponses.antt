@@ -1,13 +1,12 @@
 -- Responses to requests to use a credential: reading back what is written, and its levels.
-use Rattle.std.proofs.Common.{◌≡◌, ℕ, ◌≤◌, nat_le, arith, le-leb, leb-true, Bool, true, false, ◌&&◌, List, [], ◌∷◌, Option, Some, None, Ok, refl, sym, ap}
+use Rattle.std.proofs.Common.{◌≡◌, ◌≤◌, nat_le, arith, le-leb, leb-true, Bool, true, false, ◌&&◌, Ok, refl, sym}
 use Rattle.std.proofs.lemmas.Bool.{and_parts, and_from}
 use Rattle.passkey_cbor.specs.Depth.{depth}
 use Rattle.passkey_cbor.specs.Front.{max_depth}
-use Rattle.passkey_cbor.specs.Item.{Item, boolean, byte_string, members}
+use Rattle.passkey_cbor.specs.Item.{boolean, byte_string}
 use Rattle.passkey_cbor.specs.Laws.{WrittenIsFront}
 use Rattle.passkey_core.specs.Coherent.{is_coherent}
 use Rattle.passkey_core.specs.DataLaws.{GivenIsCoherent, ReadIsGiven, WrittenDataAreReadBack}
-use Rattle.passkey_core.specs.DataParts.{DataParts}
 use Rattle.passkey_get_assertion.specs.GetResponse.{GetResponseParts, get_response_fields, read_get_response, get_response_places, get_response_tree, GetResponseFits, is_get_response_coherent, normal_get_response}
 use Rattle.passkey_entities.specs.MakeUser.{user_tree}
 use Rattle.passkey_entities.specs.declared.user.PublicKeyCredentialUserEntity.{PublicKeyCredentialUserEntity}
@@ -18,7 +17,6 @@ use Rattle.passkey_extensions.specs.ExtensionTrees.{used_tree}
 use Rattle.passkey_extensions.specs.declared.get_assertion.unsigned.UnsignedExtensionOutputs.{UnsignedExtensionOutputs}
 use Rattle.passkey_extensions.proofs.ExtensionBack.{used_back}
 use Rattle.passkey_extensions.proofs.ExtensionLevels.{used_levels}
-use Rattle.passkey_kinds.specs.Data.{authenticator_data}
 use Rattle.passkey_kinds.specs.MessageLaws.{WrittenIsReadBack, ReadIsCoherent}
 use Rattle.passkey_kinds.specs.Tree.{number_tree}
 use Rattle.passkey_kinds.specs.Trees.{descriptor_tree}

@@ -1,5 +1,5 @@
 -- Responses of get_info: reading back what is written, and its levels.
-use Rattle.std.proofs.Common.{◌≡◌, ◌∙◌, ℕ, pos, negsuc, ◌^◌, ◌≤◌, nat_lt, nat_le, arith, le-leb, leb-true, ltb-true, Bool, true, false, ◌&&◌, if◌then◌else◌, List, [], ◌∷◌, Option, Some, None, option_map, unwrap_or, Result, Ok, Err, is_ok, OnOk, IfErr, refl, sym, ap}
+use Rattle.std.proofs.Common.{◌≡◌, ◌∙◌, ℕ, pos, negsuc, ◌^◌, ◌≤◌, nat_lt, nat_le, arith, le-leb, leb-true, ltb-true, Bool, true, false, ◌&&◌, if◌then◌else◌, List, Option, Some, None, option_map, unwrap_or, Result, Ok, Err, is_ok, OnOk, IfErr, refl, sym, ap}
 use Rattle.std.proofs.lemmas.Bool.{and_parts}
 use Rattle.passkey_cbor.specs.Depth.{depth}
 use Rattle.passkey_cbor.specs.Front.{max_depth}

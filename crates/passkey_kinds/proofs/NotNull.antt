@@ -1,5 +1,5 @@
 -- A value that isn't null, and a record that is a value.
-use Rattle.std.proofs.Common.{◌≡◌, Option, Some, None, option_map, Result, Ok, Err, ap}
+use Rattle.std.proofs.Common.{◌≡◌, Option, Some, None, option_map, Result, Ok, Err}
 use Rattle.std.specs.Result.{result_ok}
 use Rattle.passkey_cbor.specs.Item as item
 use Rattle.passkey_cbor.specs.Item.{Item}

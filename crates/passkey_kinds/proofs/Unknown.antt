@@ -5,7 +5,6 @@ use Rattle.std.proofs.Common.{◌≡◌, ◌∙◌, ℕ, Bool, true, false, ◌&
 use Rattle.std.proofs.lemmas.List.{append-nil}
 use Rattle.passkey_cbor.specs.Item.{Item}
 use Rattle.passkey_kinds.specs.Table.{Entry, Table, Naming, row, unknown, wrong, entries, named, is_row, Members, found, accepts_at, bad_by, first_bad, first_missing}
-use Rattle.passkey_kinds.specs.declared.fault.Fault.{Fault}
 use Rattle.passkey_kinds.specs.declared.fault.Fault.TheVariants.{Repeated, Refused}
 
 pub found_append : (table : Table) (ms ns : Members) (k : ℕ) → found table (ms ++ ns) k ≡ option_or (found table ms k) (found table ns k)

@@ -1,14 +1,12 @@
 -- Records as tables of members.
-use Rattle.std.specs.Prelude.{ℕ, ◌==◌, Bool, true, false, ◌&&◌, if◌then◌else◌, List, [], ◌∷◌, ◌++◌, map, Option, Some, None, is_some, is_none, option_map, Result, Ok, Err}
+use Rattle.std.specs.Prelude.{ℕ, ◌==◌, Bool, true, false, ◌&&◌, if◌then◌else◌, List, [], ◌∷◌, ◌++◌, map, Option, Some, None, is_some, is_none, option_map}
 use Rattle.std.specs.List.{find}
 use Rattle.std.specs.Option.{option_or}
-use Rattle.std.specs.Result.{result_ok}
 use Rattle.std.specs.Str.{bytes_eq}
-use Rattle.passkey_cbor.specs.Item as item
-use Rattle.passkey_cbor.specs.Item.{Item, number, text_string, byte_string, members}
-use Rattle.passkey_kinds.specs.Kind.{Kind, below}
+use Rattle.passkey_cbor.specs.Item.{Item, number, text_string, byte_string}
+use Rattle.passkey_kinds.specs.Kind.{below}
 use Rattle.passkey_kinds.specs.declared.fault.Fault.{Fault}
-use Rattle.passkey_kinds.specs.declared.fault.Fault.TheVariants.{NotAMap, BadKey, Repeated, Refused, Missing}
+use Rattle.passkey_kinds.specs.declared.fault.Fault.TheVariants.{BadKey, Repeated, Refused}
 
 -- what a table says of a member, but for its kind
 pub record Entry : Type 0 where

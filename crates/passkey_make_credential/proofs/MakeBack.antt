@@ -1,5 +1,5 @@
 -- Options of authenticatorMakeCredential are read back.
-use Rattle.std.proofs.Common.{◌≡◌, false, [], ◌∷◌, Some, refl}
+use Rattle.std.proofs.Common.{◌≡◌, Some, refl}
 use Rattle.std.specs.Prelude.{codes}
 use Rattle.passkey_cbor.specs.Item.{text_string}
 use Rattle.passkey_kinds.specs.ReadBack.{IsReadBack, Any}

@@ -1,20 +1,16 @@
 -- Requests to make a credential: reading back what is written, and its levels.
-use Rattle.std.proofs.Common.{◌≡◌, ◌∙◌, ℕ, ◌≤◌, nat_le, arith, le-leb, leb-true, true, List, [], ◌∷◌, Option, Some, None, option_map, unwrap_or, Ok, refl, sym, ap}
+use Rattle.std.proofs.Common.{◌≡◌, ◌∙◌, ◌≤◌, nat_le, arith, le-leb, leb-true, true, List, Option, Some, None, option_map, Ok, refl, sym, ap}
 use Rattle.passkey_cbor.specs.Depth.{depth}
 use Rattle.passkey_cbor.specs.Front.{max_depth}
-use Rattle.passkey_cbor.specs.Item.{Item, byte_string, members}
+use Rattle.passkey_cbor.specs.Item.{Item, byte_string}
 use Rattle.passkey_cbor.specs.Laws.{WrittenIsFront}
 use Rattle.passkey_make_credential.specs.MakeRequest.{MakeRequestParts, make_request_fields, read_make_request, make_request_places, make_request_tree, MakeRequestFits, is_make_request_coherent, normal_make_request}
 use Rattle.passkey_extensions.specs.ExtensionTrees.{hmac_input_tree, make_extensions_tree}
 use Rattle.passkey_extensions.specs.HmacInput.{HmacInputParts}
-use Rattle.passkey_kinds.specs.Kind.{optional}
 use Rattle.passkey_extensions.specs.MakeExtensions.{MakeExtensionsParts, make_extensions}
-use Rattle.passkey_make_credential.specs.MakeOptions.{options_default}
 use Rattle.passkey_kinds.specs.MessageLaws.{WrittenIsReadBack, ReadIsCoherent}
 use Rattle.passkey_kinds.specs.Tree.{number_tree, list_tree}
 use Rattle.passkey_kinds.specs.Trees.{descriptor_tree, parameters_tree}
-use Rattle.passkey_make_credential.specs.declared.options.Options.{Options}
-use Rattle.passkey_entities.specs.declared.rp.PublicKeyCredentialRpEntity.{PublicKeyCredentialRpEntity}
 use Rattle.passkey_kinds.proofs.NotNull.{not_null}
 use Rattle.passkey_kinds.proofs.Keeping as kept
 use Rattle.passkey_kinds.proofs.Keeping.{◌▹◌, record_keeps}
@@ -25,8 +21,6 @@ use Rattle.passkey_kinds.proofs.Levels.{PlaceWithin, record_within, of_record, l
 use Rattle.passkey_kinds.proofs.RecordBack.{descriptor_back, parameters_back, user_back}
 use Rattle.passkey_kinds.proofs.RecordLevels.{flat, descriptor_levels, parameters_levels, user_levels}
 use Rattle.passkey_webauthn.specs.declared.descriptor.PublicKeyCredentialDescriptor.{PublicKeyCredentialDescriptor}
-use Rattle.passkey_webauthn.specs.declared.parameters.PublicKeyCredentialParameters.{PublicKeyCredentialParameters}
-use Rattle.passkey_webauthn.specs.declared.user.PublicKeyCredentialUserEntity.{PublicKeyCredentialUserEntity}
 use Rattle.passkey_extensions.proofs.Keys.{made_key}
 use Rattle.passkey_entities.proofs.MakeBack.{rp_back}
 use Rattle.passkey_make_credential.proofs.MakeBack.{options_back}

@@ -1,10 +1,10 @@
 -- Responses to requests to make a credential: reading back what is written, and its levels.
 use Rattle.std.specs.Prelude.{codes}
-use Rattle.std.proofs.Common.{◌≡◌, ℕ, ◌<◌, ◌≤◌, ◌-◌, ◌^◌, min, nat_lt, nat_le, arith, lt-ltb, ltb-true, le-leb, leb-true, Bool, true, List, [], ◌∷◌, Option, Some, None, Ok, refl, ap, subst}
+use Rattle.std.proofs.Common.{◌≡◌, ℕ, ◌<◌, ◌≤◌, ◌-◌, ◌^◌, min, nat_lt, nat_le, arith, lt-ltb, ltb-true, le-leb, leb-true, true, [], ◌∷◌, Ok, refl, subst}
 use Rattle.std.proofs.lemmas.Bool.{and_parts, and_from}
 use Rattle.passkey_cbor.specs.Depth.{depth}
 use Rattle.passkey_cbor.specs.Front.{max_depth}
-use Rattle.passkey_cbor.specs.Item.{Item, boolean, byte_string, members}
+use Rattle.passkey_cbor.specs.Item.{boolean, byte_string}
 use Rattle.passkey_cbor.specs.Laws.{WrittenIsFront}
 use Rattle.passkey_core.specs.Coherent.{is_coherent}
 use Rattle.passkey_core.specs.DataLaws.{GivenIsCoherent, ReadIsGiven, WrittenDataAreReadBack}
@@ -12,9 +12,7 @@ use Rattle.passkey_core.specs.DataNormal.{IsData, normal_data}
 use Rattle.passkey_core.specs.DataParts.{DataParts}
 use Rattle.passkey_kinds.proofs.DataBack.{auth_data_back, auth_data_coherent}
 use Rattle.passkey_make_credential.specs.MakeResponse.{MakeResponseParts, make_response_fields, read_make_response, make_response_places, make_response_tree, MakeResponseFits, is_make_response_coherent, normal_make_response, no_statement, attestation_places, attestation_tree, unattested}
-use Rattle.passkey_kinds.specs.Data.{authenticator_data}
 use Rattle.passkey_extensions.specs.ExtensionTrees.{made_tree}
-use Rattle.passkey_kinds.specs.Kind.{kept}
 use Rattle.passkey_kinds.specs.MessageLaws.{WrittenIsReadBack, ReadIsCoherent}
 use Rattle.passkey_kinds.specs.Tree.{number_tree}
 use Rattle.passkey_extensions.specs.declared.make_credential.unsigned.UnsignedExtensionOutputs.{UnsignedExtensionOutputs}

@@ -1,5 +1,5 @@
 use Rattle.std.proofs.lemmas.List.{length-map}
-use Rattle.std.proofs.Common.{rules, ◌≡◌, ◌∙◌, map, Some, None, Err, refl, sym, ap}
+use Rattle.std.proofs.Common.{rules, ◌≡◌, ◌∙◌, map, Some, None, Err, sym, ap}
 use Rattle.passkey_cbor.specs.View.{pair_of}
 use Rattle.passkey_kinds.specs.Reading.{first_unmarked}
 use Rattle.passkey_kinds.proofs.Pairs.{member_at}
