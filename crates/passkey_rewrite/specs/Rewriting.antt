@@ -49,7 +49,7 @@ pub record RewritesMessage {P : Type 0} (read : Item → Result P Fault) (tree :
   pub rewritten : spelling ≡ written (tree parts)
 
 -- what a kind makes of the decoded bytes
-abbrev pub Rewrites : BytesKind → List ℕ → List ℕ → Type 0
+unfoldable pub Rewrites : BytesKind → List ℕ → List ℕ → Type 0
 Rewrites Cbor bytes spelling = RewritesFront bytes spelling
 Rewrites Auth bytes spelling = RewritesData bytes spelling
 Rewrites MakeRequest bytes spelling = RewritesMessage read_make_request make_request_tree bytes spelling
@@ -60,7 +60,7 @@ Rewrites Info bytes spelling = RewritesMessage read_get_info get_info_tree bytes
 Rewrites HmacInput bytes spelling = RewritesMessage read_hmac_input hmac_input_tree bytes spelling
 
 -- why a kind refuses the decoded bytes
-abbrev pub Refuses : BytesKind → List ℕ → CoseError → Type 0
+unfoldable pub Refuses : BytesKind → List ℕ → CoseError → Type 0
 Refuses Cbor bytes error.DecodeFailed = HasNoFront bytes
 Refuses Cbor bytes _ = ⊥
 Refuses Auth bytes error.OutOfMemory = ⊥
@@ -74,7 +74,7 @@ RefusesMessage read bytes message.OutOfMemory = ⊥
 RefusesMessage read bytes fault = Begins bytes (λ i len. read i ≡ Err fault)
 
 -- why a kind of message refuses the decoded bytes
-abbrev pub RefusesAs : BytesKind → List ℕ → Fault → Type 0
+unfoldable pub RefusesAs : BytesKind → List ℕ → Fault → Type 0
 RefusesAs MakeRequest bytes fault = RefusesMessage read_make_request bytes fault
 RefusesAs MakeResponse bytes fault = RefusesMessage read_make_response bytes fault
 RefusesAs GetRequest bytes fault = RefusesMessage read_get_request bytes fault

@@ -40,6 +40,7 @@ fn rewrite_message<M: Message>(alloc: Global, bytes: &[u8]) -> Result<Vec<u8>, R
     }
 }
 
+#[tactic(auto, unfolding(crate::specs::Rewriting::Rewrites, crate::specs::Rewriting::Refuses, crate::specs::Rewriting::RefusesAs))]
 fn rewrite(alloc: Global, kind: BytesKind, bytes: &[u8]) -> Result<Vec<u8>, RunFault>
     ensures ok { IfOk result (λ spelling. Rewrites kind bytes.now spelling.items) }
     ensures err { IfErr result (IsRefusal kind bytes.now) }
