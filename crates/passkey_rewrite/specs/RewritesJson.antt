@@ -31,7 +31,7 @@ abbrev pub client_data_rewritten : Data → Result (List ℕ) Fault
 client_data_rewritten d = client_data {E = Unit {0}} (λ _. false) (λ _. Ok tt) d >>= client_data_text (λ _. no_members)
 
 -- what a kind makes of a JSON value
-abbrev pub json_rewritten : JsonKind → Data → Result (List ℕ) Fault
+unfoldable pub json_rewritten : JsonKind → Data → Result (List ℕ) Fault
 json_rewritten Creation = record_rewritten credential_creation_in credential_creation_json
 json_rewritten Request = record_rewritten credential_request_in credential_request_json
 json_rewritten Created = record_rewritten (credential_in (record_kind attestation_response_in)) (credential_json attestation_response_json)

@@ -48,6 +48,7 @@ fn rewrite_client_data(alloc: Global, input: &[u8]) -> Result<String, RunFault>
 /// What the kind makes of the JSON value that the input is, as compact text with bytes in
 /// base64url. `BadJson` where the input is no JSON text of at most 127 levels; `JsonRefused` where
 /// the kind refuses the value; `OutOfMemory` where a growth was refused.
+#[tactic(auto, unfolding(crate::specs::RewritesJson::json_rewritten))]
 pub fn rewrite_json(alloc: Global, kind: JsonKind, input: &[u8]) -> Result<String, RunFault>
     ensures ok { IfOk result (λ text. RewritesJson (json_rewritten kind) input.now (string_bytes text)) }
     ensures err { IfErr result (IsJsonRefusal (json_rewritten kind) input.now) }
