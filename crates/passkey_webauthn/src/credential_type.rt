@@ -1,8 +1,8 @@
 //! Types of credentials.
-ghost use Rattle.passkey_webauthn.specs.CredentialType.{credential_type_name, credential_type_named};
-ghost use Rattle.passkey_webauthn.specs.NameLaws.{credential_type_own};
+ghost use Rattle.passkey_webauthn.specs.CredentialType.{credential_type_at, credential_type_name, credential_type_named, credential_type_names};
+ghost use Rattle.passkey_webauthn.specs.NameLaws.{credential_type_by_index, credential_type_own};
 
-use crate::names::EnumNames;
+use crate::names::{EnumNames, NameTable};
 
 /// The type of a credential (WebAuthn Level 3, section 5.8.2).
 #[derive(Clone, Copy, Debug, PartialEq, Eq)]
@@ -32,6 +32,26 @@ impl EnumNames for PublicKeyCredentialType {
         match self {
             PublicKeyCredentialType::PublicKey => "public-key",
             PublicKeyCredentialType::Unknown => "unknown",
+        }
+    }
+}
+
+impl NameTable for PublicKeyCredentialType {
+    ghost all_names = { credential_type_names };
+
+    ghost at_index = { credential_type_at };
+
+    ghost named_by_index = { credential_type_by_index };
+
+    fn names() -> &'static [&'static str] {
+        &["public-key", "unknown"]
+    }
+
+    fn named_at(index: usize) -> Option<PublicKeyCredentialType> {
+        match index {
+            0 => Some(PublicKeyCredentialType::PublicKey),
+            1 => Some(PublicKeyCredentialType::Unknown),
+            _ => None,
         }
     }
 }

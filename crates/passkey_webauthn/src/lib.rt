@@ -14,7 +14,7 @@ mod user;
 
 pub use credential_type::PublicKeyCredentialType;
 pub use descriptor::PublicKeyCredentialDescriptor;
-pub use names::EnumNames;
+pub use names::{EnumNames, NameTable};
 pub use number_text::whole_part;
 pub use parameters::PublicKeyCredentialParameters;
 pub use passkey_memory::OutOfMemory;

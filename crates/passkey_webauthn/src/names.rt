@@ -1,5 +1,6 @@
 //! Enumerations whose values have names.
-ghost use Rattle.std.specs.Prelude.{◌≡◌, ℕ, List, Option, Some};
+ghost use Rattle.std.specs.Prelude.{◌≡◌, ℕ, List, map, Option, Some};
+ghost use Rattle.passkey_webauthn.specs.Names.{by_index};
 
 /// The values of an enumeration, each with the name that messages have for it.
 pub trait EnumNames: Copy {
@@ -16,4 +17,22 @@ pub trait EnumNames: Copy {
         ensures { result.now ≡ name_of self };
 
     ghost name_is_own: { (x : Self) → named (name_of x) ≡ Some x };
+}
+
+/// An enumeration whose names are one table, by which a decoder can compare a text in chunks with
+/// all names at once.
+pub trait NameTable: EnumNames {
+    ghost all_names: { List (List ℕ) };
+
+    ghost at_index: { ℕ → Option Self };
+
+    /// All names, also earlier ones, such as `cable`.
+    fn names() -> &'static [&'static str]
+        ensures { map (λ n. n.now) result.now ≡ all_names };
+
+    /// The value of the name at this index of `names`, or `None` past its end.
+    fn named_at(index: usize) -> Option<Self>
+        ensures { result ≡ at_index index };
+
+    ghost named_by_index: { (name : List ℕ) → Self.named name ≡ by_index all_names at_index name };
 }

@@ -1,8 +1,8 @@
 //! Ways to an authenticator.
-ghost use Rattle.passkey_webauthn.specs.NameLaws.{transport_own};
-ghost use Rattle.passkey_webauthn.specs.Transport.{transport_name, transport_named};
+ghost use Rattle.passkey_webauthn.specs.NameLaws.{transport_by_index, transport_own};
+ghost use Rattle.passkey_webauthn.specs.Transport.{transport_at, transport_name, transport_named, transport_names};
 
-use crate::names::EnumNames;
+use crate::names::{EnumNames, NameTable};
 
 /// How a client can reach an authenticator (WebAuthn Level 3, section 5.8.4). Other names that the
 /// specification has, as `smart-card`, are none here.
@@ -46,6 +46,29 @@ impl EnumNames for AuthenticatorTransport {
             AuthenticatorTransport::Ble => "ble",
             AuthenticatorTransport::Hybrid => "hybrid",
             AuthenticatorTransport::Internal => "internal",
+        }
+    }
+}
+
+impl NameTable for AuthenticatorTransport {
+    ghost all_names = { transport_names };
+
+    ghost at_index = { transport_at };
+
+    ghost named_by_index = { transport_by_index };
+
+    fn names() -> &'static [&'static str] {
+        &["usb", "nfc", "ble", "hybrid", "internal", "cable"]
+    }
+
+    fn named_at(index: usize) -> Option<AuthenticatorTransport> {
+        match index {
+            0 => Some(AuthenticatorTransport::Usb),
+            1 => Some(AuthenticatorTransport::Nfc),
+            2 => Some(AuthenticatorTransport::Ble),
+            3 | 5 => Some(AuthenticatorTransport::Hybrid),
+            4 => Some(AuthenticatorTransport::Internal),
+            _ => None,
         }
     }
 }
