@@ -27,5 +27,6 @@ pub mod More
 pub mod Lending
 pub mod Naming
 pub mod Joining
+pub mod Pieces
 pub mod MapMembers
 pub mod Reach

@@ -56,7 +56,7 @@ step_known : (n : ℕ) (bytes : List ℕ) (h : Head) (r : List ℕ) → is_break
 unfolding step_at
 step_known n bytes h r goes_on e = rw e refl
 
-step_unknown : (bytes : List ℕ) (h : Head) (r : List ℕ) → is_break h ≡ false → head_at bytes ≡ Some (h, r) → step_at None bytes ≡ Some (element None h r)
+pub step_unknown : (bytes : List ℕ) (h : Head) (r : List ℕ) → is_break h ≡ false → head_at bytes ≡ Some (h, r) → step_at None bytes ≡ Some (element None h r)
 unfolding step_at
 step_unknown bytes h r goes_on e = rw (e, goes_on) refl
 

@@ -32,4 +32,5 @@ pub mod Valued
 pub mod Stands
 pub mod Lent
 pub mod Names
+pub mod Pieces
 pub mod Members

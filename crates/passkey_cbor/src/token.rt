@@ -9,6 +9,7 @@ ghost use Rattle.passkey_cbor.specs.Walk.{ahead, IsInside};
 
 use crate::cursor::{Cursor, Next};
 use crate::names::name_of;
+use crate::text_chunks::TextChunks;
 use passkey_memory::OutOfMemory;
 use std::alloc::Global;
 use std::marker::Model;
@@ -242,6 +243,16 @@ impl<'a> TextToken<'a> {
     {
         let bytes = copy(alloc, true, self.len, self.region, cursor)?;
         Ok(String::from_utf8(bytes).unwrap())
+    }
+
+    /// The text's pieces: itself if its length is definite, or else its chunks in their order.
+    pub fn chunks(&self) -> TextChunks<'a>
+        ensures { result ≡ self.now }
+    {
+        TextChunks {
+            len: self.len,
+            region: self.region,
+        }
     }
 
     /// Returns the text if its length is definite, and `None` if it is in chunks.

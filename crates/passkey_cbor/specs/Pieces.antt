@@ -1,0 +1,46 @@
+-- The pieces of a string that is lent, one after the other: the string itself, or its chunks (RFC 8949, section 3.2.3).
+use Rattle.std.specs.Prelude.{◌≡◌, ℕ, ◌+◌, ◌<◌, List, [], ◌++◌, length, Bool, Option, Some, None}
+use Rattle.passkey_cbor.specs.Lent.{Region, Tells, heads_in}
+use Rattle.passkey_cbor.specs.Walk.{Walk, raised, break_heads}
+
+-- The string is the piece and what is left of it, and so are its heads: a chunk has one, and a string of definite length none.
+pub record IsLeft (is_text : Bool) (old new : Region) (piece s : List ℕ) (t : Tells is_text old s) : Type 0 where
+  pub rest : List ℕ
+  pub tells : Tells is_text new rest
+  pub whole : s ≡ piece ++ rest
+  pub heads : heads_in is_text old.len s old.bytes t ≡ break_heads old.len + heads_in is_text new.len rest new.bytes tells
+
+-- A piece was lent, and what is left has fewer bytes.
+pub record LendsPiece (is_text : Bool) (old new : Region) (piece : List ℕ) : Type 0 where
+  pub left : (s : List ℕ) (t : Tells is_text old s) → IsLeft is_text old new piece s t
+  pub shorter : length new.bytes < length old.bytes
+
+-- No piece is left; where one could have been a chunk, the break is.
+abbrev pub IsAtEnd : Bool → Region → Type 0
+IsAtEnd is_text r = (s : List ℕ) (t : Tells is_text r s) → (s ≡ []) × (heads_in is_text r.len s r.bytes t ≡ break_heads r.len)
+
+-- No piece was lent, and from then on none is left, nor a break.
+pub record LendsNoPiece (is_text : Bool) (old new : Region) : Type 0 where
+  pub none : IsAtEnd is_text old
+  pub ended : new ≡ record { len = Some 0; bytes = [] }
+
+abbrev pub LendsNext : Bool → Region → Region → Option (List ℕ) → Type 0
+LendsNext is_text old new (Some piece) = LendsPiece is_text old new piece
+LendsNext is_text old new None = LendsNoPiece is_text old new
+
+-- The cursor stays. It counts one head where what is left is in chunks: a chunk's, or the break.
+pub record LooksAhead (r : Region) (old new : Walk) : Type 0 where
+  pub heads : new.heads ≡ raised old.heads (break_heads r.len)
+  pub place : new.place ≡ old.place
+  pub nodes : new.nodes ≡ old.nodes
+  pub bytes : new.bytes ≡ old.bytes
+
+-- ---- the first of the chunks that are left
+
+abbrev pub in_chunks : List ℕ → Region
+in_chunks bytes = record { len = None; bytes = bytes }
+
+-- The first chunk, and the region behind it; or there is none.
+abbrev pub SplitsChunk : Bool → List ℕ → Option (List ℕ × List ℕ) → Type 0
+SplitsChunk is_text region (Some p) = LendsPiece is_text (in_chunks region) (in_chunks p.1) p.0
+SplitsChunk is_text region None = IsAtEnd is_text (in_chunks region)
