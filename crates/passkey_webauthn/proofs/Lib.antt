@@ -1,1 +1,1 @@
-mod NumberTexts
+mod NumberStates

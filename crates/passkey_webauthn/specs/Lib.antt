@@ -3,4 +3,5 @@ pub mod CredentialType
 pub mod Transport
 pub mod NameLaws
 pub mod NumberText
+pub mod NumberState
 pub mod Parameters

@@ -4,6 +4,7 @@
 mod credential_type;
 mod descriptor;
 mod names;
+mod number_state;
 mod number_text;
 mod parameters;
 mod prf_outputs;
@@ -15,7 +16,7 @@ mod user;
 pub use credential_type::PublicKeyCredentialType;
 pub use descriptor::PublicKeyCredentialDescriptor;
 pub use names::{EnumNames, NameTable};
-pub use number_text::whole_part;
+pub use number_text::{NumberText, whole_part};
 pub use parameters::PublicKeyCredentialParameters;
 pub use passkey_memory::OutOfMemory;
 pub use prf_outputs::AuthenticationExtensionsPrfOutputs;

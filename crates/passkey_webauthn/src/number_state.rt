@@ -1,0 +1,117 @@
+//! How far a text of a number has come.
+ghost use Rattle.std.specs.Prelude.{◌≡◌, ℕ, false, List, [], ◌∷◌};
+ghost use Rattle.passkey_webauthn.specs.NumberState.{number_64, whole_behind};
+ghost use Rattle.passkey_webauthn.specs.declared.number_state.NumberState.TheVariants.{Whole, Fraction};
+
+/// A sign and the digits behind it.
+#[derive(Clone, Copy)]
+pub(crate) struct Digits {
+    is_negative: bool,
+
+    /// The value of the digits before the point.
+    whole: u64,
+
+    /// Whether there is a digit, before the point or behind it.
+    has_digit: bool,
+}
+
+/// What the text is so far.
+#[derive(Clone, Copy)]
+pub(crate) enum NumberState {
+    Empty,
+    /// A sign, digits or both.
+    Whole(Digits),
+    /// The same, then a point, and digits or none behind it.
+    Fraction(Digits),
+    /// Whatever follows, no number text, or one whose whole part doesn't fit.
+    Refused,
+}
+
+/// `i64::MAX / 10`: behind a greater value no digit fits.
+const MOST: u64 = 922_337_203_685_477_580;
+
+impl Digits {
+    // A sign alone.
+    fn sign(is_negative: bool) -> Digits
+        ensures { result ≡ record { is_negative = is_negative; whole = 0; has_digit = false } }
+    {
+        Digits {
+            is_negative,
+            whole: 0,
+            has_digit: false,
+        }
+    }
+
+    // A digit more before the point, or the point.
+    fn push_whole(self, byte: u8) -> NumberState
+        ensures { (more : List ℕ) → whole_behind (Whole self) (byte ∷ more) ≡ whole_behind result more }
+    {
+        if byte == b'.' {
+            return NumberState::Fraction(self);
+        }
+        if !byte.is_ascii_digit() || self.whole > MOST {
+            return NumberState::Refused;
+        }
+        NumberState::Whole(Digits {
+            is_negative: self.is_negative,
+            whole: self.whole * 10 + u64::from(byte - b'0'),
+            has_digit: true,
+        })
+    }
+
+    // A digit more behind the point.
+    fn push_fraction(self, byte: u8) -> NumberState
+        ensures { (more : List ℕ) → whole_behind (Fraction self) (byte ∷ more) ≡ whole_behind result more }
+    {
+        if !byte.is_ascii_digit() {
+            return NumberState::Refused;
+        }
+        NumberState::Fraction(Digits {
+            is_negative: self.is_negative,
+            whole: self.whole,
+            has_digit: true,
+        })
+    }
+
+    // The number with this sign and whole part, where there is a digit and it fits in 64 bits.
+    fn number(self) -> Option<i64>
+        ensures { result ≡ number_64 self.has_digit self.is_negative self.whole }
+    {
+        if !self.has_digit {
+            return None;
+        }
+        if self.is_negative {
+            0_i64.checked_sub_unsigned(self.whole)
+        } else {
+            i64::try_from(self.whole).ok()
+        }
+    }
+}
+
+impl NumberState {
+    /// The state with one byte more.
+    pub(crate) fn push(self, byte: u8) -> NumberState
+        ensures { (more : List ℕ) → whole_behind self (byte ∷ more) ≡ whole_behind result more }
+    {
+        match self {
+            NumberState::Empty => match byte {
+                b'-' => NumberState::Whole(Digits::sign(true)),
+                b'+' => NumberState::Whole(Digits::sign(false)),
+                _ => Digits::sign(false).push_whole(byte),
+            },
+            NumberState::Whole(digits) => digits.push_whole(byte),
+            NumberState::Fraction(digits) => digits.push_fraction(byte),
+            NumberState::Refused => NumberState::Refused,
+        }
+    }
+
+    /// The whole part, where nothing follows.
+    pub(crate) fn whole(self) -> Option<i64>
+        ensures { result ≡ whole_behind self [] }
+    {
+        match self {
+            NumberState::Whole(digits) | NumberState::Fraction(digits) => digits.number(),
+            NumberState::Empty | NumberState::Refused => None,
+        }
+    }
+}
