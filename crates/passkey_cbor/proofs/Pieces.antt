@@ -1,18 +1,19 @@
 -- The pieces of a string that is lent.
-use Rattle.std.proofs.Common.{◌≡◌, ℕ, ◌+◌, ◌-◌, Bool, List, [], ◌∷◌, ◌++◌, length, take, drop, Option, Some, None, refl, sym, ap, subst, ◌∙◌, append_assoc, arith}
+use Rattle.std.proofs.Common.{◌≡◌, ℕ, ◌+◌, ◌-◌, ◌≤◌, Bool, List, [], ◌∷◌, ◌++◌, length, take, drop, Option, Some, None, refl, sym, ap, subst, ◌∙◌, append_assoc, arith}
 use Rattle.std.specs.List.{concat}
-use Rattle.std.proofs.lemmas.List.{length-drop, take_all}
+use Rattle.std.proofs.lemmas.List.{append-nil, length-drop, take_all}
 use Rattle.passkey_cbor.specs.Heads.{break}
 use Rattle.passkey_cbor.specs.Inside.{Left, Content}
 use Rattle.passkey_cbor.specs.HeadReading.{head_at}
 use Rattle.passkey_cbor.specs.Reading.{end, element, step_at, chunk}
-use Rattle.passkey_cbor.specs.Walk.{Walk, ahead, Passed}
+use Rattle.passkey_cbor.specs.Walk.{Walk, ahead, raised, break_heads, Passed}
 use Rattle.passkey_cbor.specs.Steps.{NoHead, ElementRead, EndRead, PieceRead}
-use Rattle.passkey_cbor.specs.Lent.{IsRegion}
-use Rattle.passkey_cbor.specs.Pieces.{LendsPiece, IsAtEnd, LendsNoPiece, in_chunks}
+use Rattle.passkey_cbor.specs.Lent.{Region, IsRegion, Tells, heads_in, LooksAtAll}
+use Rattle.passkey_cbor.specs.Pieces.{LendsPiece, IsAtEnd, LendsNoPiece, LooksAhead, in_chunks, LendsUpTo}
 use Rattle.passkey_cbor.specs.declared.head.Head.{Head}
 use Rattle.passkey_cbor.specs.declared.head.Head.TheVariants as head
 use Rattle.passkey_cbor.proofs.Binds.{some_is, none_is_some, bind_some}
+use Rattle.passkey_cbor.proofs.Gathering.{raised-le, raised-raised}
 use Rattle.passkey_cbor.proofs.HeadAgain.{head_again}
 use Rattle.passkey_cbor.proofs.Lists.{step_unknown}
 use Rattle.passkey_cbor.proofs.Strings.{AChunk, follows_chunk}
@@ -148,3 +149,52 @@ region_behind is_text None region rest piece none r l = let left = l.left r.0 r.
 pub break_lent : (is_text : Bool) (len : Option ℕ) (region : List ℕ) → len ≡ None → IsAtEnd is_text (in_chunks region) → LendsNoPiece is_text (record { len = len; bytes = region }) (record { len = Some 0; bytes = [] })
 break_lent is_text (Some n) region none l = absurd (none_is_some n (sym none))
 break_lent is_text None region none l = record { none = l; ended = refl }
+
+-- ---- a loop over the pieces
+
+pub lends_start : (is_text : Bool) (whole : Region) (a : Walk) → LendsUpTo is_text whole whole a a []
+lends_start is_text whole a = record {
+  lent = λ s t. record { rest = s; tells = t; joined = refl; counted = 0; heads_are = omega arith; heads = refl };
+  place = refl;
+  nodes = refl;
+  same = refl;
+}
+
+pub lends_on : (is_text : Bool) (whole left next : Region) (a b c : Walk) (bytes more piece : List ℕ) → LendsUpTo is_text whole left a b bytes → LendsPiece is_text left next piece → LooksAhead left b c → more ≡ bytes ++ piece → LendsUpTo is_text whole next a c more
+lends_on is_text whole left next a b c bytes more piece l p looks more_is = record {
+  lent = λ s t.
+      let h = l.lent s t in
+      let q = p.left h.rest h.tells in
+      record {
+        rest = q.rest;
+        tells = q.tells;
+        joined = h.joined ∙ ap (λ (r : List ℕ). bytes ++ r) q.whole ∙ sym (append_assoc bytes piece q.rest) ∙ ap (λ (u : List ℕ). u ++ q.rest) (sym more_is);
+        counted = h.counted + break_heads left.len;
+        heads_are = omega (arith, h.heads_are, q.heads);
+        heads = looks.heads ∙ ap (λ (n : ℕ). raised n (break_heads left.len)) h.heads ∙ raised-raised a.heads h.counted (break_heads left.len);
+      };
+  place = looks.place ∙ l.place;
+  nodes = looks.nodes ∙ l.nodes;
+  same = looks.bytes ∙ l.same;
+}
+
+-- so far, at most the heads of the region
+pub lends_within : (is_text : Bool) (whole left : Region) (a b : Walk) (bytes : List ℕ) → LendsUpTo is_text whole left a b bytes → (s : List ℕ) (t : Tells is_text whole s) → b.heads ≤ a.heads + heads_in is_text whole.len s whole.bytes t
+lends_within is_text whole left a b bytes l s t =
+    let h = l.lent s t in
+    omega (arith, h.heads_are, h.heads, raised-le a.heads h.counted)
+
+-- at the end, the pieces are the string, and all heads were counted
+pub lends_all : (is_text : Bool) (whole left next : Region) (a b c : Walk) (bytes : List ℕ) → LendsUpTo is_text whole left a b bytes → LendsNoPiece is_text left next → LooksAhead left b c → ((s : List ℕ) → Tells is_text whole s → s ≡ bytes) × LooksAtAll is_text whole a c
+lends_all is_text whole left next a b c bytes l p looks = (
+  λ s t. let h = l.lent s t in h.joined ∙ ap (λ (r : List ℕ). bytes ++ r) (p.none h.rest h.tells).0 ∙ append-nil bytes,
+  record {
+    heads = λ s t.
+        let h = l.lent s t in
+        let all : h.counted + break_heads left.len ≡ heads_in is_text whole.len s whole.bytes t = omega (arith, h.heads_are, (p.none h.rest h.tells).1) in
+        looks.heads ∙ ap (λ (n : ℕ). raised n (break_heads left.len)) h.heads ∙ raised-raised a.heads h.counted (break_heads left.len) ∙ ap (raised a.heads) all;
+    place = looks.place ∙ l.place;
+    nodes = looks.nodes ∙ l.nodes;
+    bytes = looks.bytes ∙ l.same;
+  },
+)

@@ -44,3 +44,21 @@ in_chunks bytes = record { len = None; bytes = bytes }
 abbrev pub SplitsChunk : Bool → List ℕ → Option (List ℕ × List ℕ) → Type 0
 SplitsChunk is_text region (Some p) = LendsPiece is_text (in_chunks region) (in_chunks p.1) p.0
 SplitsChunk is_text region None = IsAtEnd is_text (in_chunks region)
+
+-- ---- a loop over the pieces
+
+-- Some pieces were lent, which join to these bytes: the string is these and what is left of it, and its heads were counted but for those left.
+pub record HasLent (is_text : Bool) (whole left : Region) (old now : Walk) (bytes s : List ℕ) (t : Tells is_text whole s) : Type 0 where
+  pub rest : List ℕ
+  pub tells : Tells is_text left rest
+  pub joined : s ≡ bytes ++ rest
+  pub counted : ℕ
+  pub heads_are : heads_in is_text whole.len s whole.bytes t ≡ counted + heads_in is_text left.len rest left.bytes tells
+  pub heads : now.heads ≡ raised old.heads counted
+
+-- What a loop over the pieces of a whole region keeps.
+pub record LendsUpTo (is_text : Bool) (whole left : Region) (old now : Walk) (bytes : List ℕ) : Type 0 where
+  pub lent : (s : List ℕ) (t : Tells is_text whole s) → HasLent is_text whole left old now bytes s t
+  pub place : now.place ≡ old.place
+  pub nodes : now.nodes ≡ old.nodes
+  pub same : now.bytes ≡ old.bytes
