@@ -2,7 +2,7 @@
 use crate::checks::{assert_same, assert_same_bytes, bytes, check};
 use bitflags::Flags as _;
 use passkey_bytes::Bytes;
-use passkey_cbor::Value;
+use passkey_cbor::{Count, Value};
 use passkey_core::{
     Aaguid, AttestedCredentialData, AuthenticatorData, Flags, get_assertion, make_credential,
 };
@@ -76,6 +76,56 @@ fn described(rt: &(impl Abort + AllocGlobal), behind: &[u8]) -> String {
 fn data_are_decoded_and_encoded(rt: HostRuntime) {
     for (behind, wanted) in DATA {
         assert_same(&rt, described(&rt, behind).as_str(), wanted);
+    }
+}
+
+/// What follows the hash, whether that is authenticator data, and how many heads and nodes decoding it counts. Each
+/// head of the key and of the extensions counts twice, since an item is passed over and then made; if no well-formed
+/// item is there, the heads up to the one that can't be decoded count once (RFC 8949, section 3).
+const COUNTS: &[(&[u8], bool, u128, u128)] = &[
+    (b"\x00\0\0\0\0", true, 0, 0),
+    (b"\xc5\0\0\0", false, 0, 0),
+    (b"\xc7\0\0\0\0\xa0", false, 0, 0),
+    (b"\x80\0\0\0\0\xa1\x61a\x02", true, 6, 3),
+    (b"\x80\0\0\0\0\xbf\x61a\x81\x02\xff", true, 10, 4),
+    (b"\x80\0\0\0\0\x01", false, 2, 1),
+    (b"\x80\0\0\0\0", false, 1, 0),
+    (b"\x80\0\0\0\0\xa1\x01", false, 3, 0),
+    (
+        b"\xc0\0\0\0\0\0\0\0\0\0\0\0\0\0\0\0\0\0\0\0\0\0\x01\x09\xa2\x01\x02\x03\x26\xa1\x61a\x02",
+        true,
+        16,
+        8,
+    ),
+    (
+        b"\xc0\0\0\0\0\0\0\0\0\0\0\0\0\0\0\0\0\0\0\0\0\0\x01\x09\xa2\x01\x02\x03\x26",
+        false,
+        11,
+        5,
+    ),
+    (
+        b"\xc0\0\0\0\0\0\0\0\0\0\0\0\0\0\0\0\0\0\0\0\0\0\x01\x09\x82\x01\x02\xa1\x61a\x02",
+        false,
+        6,
+        3,
+    ),
+    (
+        b"\xc0\0\0\0\0\0\0\0\0\0\0\0\0\0\0\0\0\0\0\0\0\0\x01",
+        false,
+        0,
+        0,
+    ),
+];
+
+#[test]
+fn decoding_is_counted(rt: HostRuntime) {
+    for (behind, is_data, heads, nodes) in COUNTS {
+        let mut count = Count { heads: 0, nodes: 0 };
+        let bytes = with_hash(&rt, behind);
+        let data = AuthenticatorData::from_slice_counted(rt.alloc(), bytes.as_slice(), &mut count);
+        check(&rt, data.is_ok() == *is_data, "data", behind);
+        check(&rt, count.heads == *heads, "heads", behind);
+        check(&rt, count.nodes == *nodes, "nodes", behind);
     }
 }
 

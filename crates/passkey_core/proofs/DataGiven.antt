@@ -133,6 +133,9 @@ where_given : {X : Type 0} (is_there : Bool) (part : List ℕ → Begun X → Ty
 where_given true part part_at bytes given o h = then_given (part bytes) _ (part_at bytes) _ o given (λ p e. sym e) h
 where_given false part part_at bytes given o h = sym h
 
+pub attested_where_given : FrontIsGiven → (is_there : Bool) (bytes : List ℕ) → Gives (ReadsWhere is_there ReadsAttested bytes) (where_at is_there attested_at bytes)
+attested_where_given law is_there bytes = where_given is_there ReadsAttested attested_at bytes (attested_given law bytes)
+
 pub read_is_given : FrontIsGiven → ReadIsGiven
 unfolding read_data
 read_is_given law bytes d h =

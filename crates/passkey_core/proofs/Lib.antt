@@ -6,3 +6,6 @@ pub mod DataOne
 pub mod DataCoherent
 pub mod DataBack
 pub mod DataGiven
+pub mod DataShrinking
+pub mod DataCounting
+pub mod DataTotals

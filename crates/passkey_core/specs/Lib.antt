@@ -17,4 +17,6 @@ pub mod SignedPut
 pub mod DataSame
 pub mod DataNormal
 pub mod DataRead
+pub mod DataNodes
+pub mod DataCounts
 pub mod DataLaws

@@ -1,11 +1,14 @@
 //! Bytes to authenticator data.
-ghost use Rattle.std.specs.Prelude.{◌≡◌, ◌<◌, ◌^◌, true, Ok, length, option_map, IfOk};
+ghost use Rattle.std.specs.Prelude.{◌≡◌, ◌+◌, ◌*◌, ◌<◌, ◌≤◌, ◌^◌, true, Ok, length, min, option_map, IfOk, IfErr};
 ghost use Rattle.std.specs.Result.{result_map_both};
 ghost use Rattle.passkey_cbor.specs.Reads.{HasGrowingFront};
 ghost use Rattle.passkey_cbor.specs.View.{item_of};
+ghost use Rattle.passkey_cbor.specs.Walk.{raised};
 ghost use Rattle.passkey_cose.specs.Key.{key_parts};
 ghost use Rattle.passkey_cose.specs.KeyReading.{read_key};
 ghost use Rattle.passkey_core.specs.DataAnswers.{Gives};
+ghost use Rattle.passkey_core.specs.DataCounts.{Counts};
+ghost use Rattle.passkey_core.specs.DataNodes.{count_key, count_where, data_nodes, data_places};
 ghost use Rattle.passkey_core.specs.DataReading.{bytes_at, fixed_at, ids_at, read_map, ReadsItem, ReadsAttested, ReadsWhere, ReadsData, AttestedGrows, DataGrow};
 ghost use Rattle.passkey_core.specs.DataViews.{attested_parts, data_parts};
 
@@ -13,7 +16,7 @@ use crate::aaguid::Aaguid;
 use crate::attested::AttestedCredentialData;
 use crate::authenticator_data::AuthenticatorData;
 use crate::flags::Flags;
-use passkey_cbor::Value;
+use passkey_cbor::{Count, Cursor, Value};
 use passkey_cose::{CoseError, CoseKey};
 use std::alloc::Global;
 
@@ -71,39 +74,61 @@ fn read_ids(bytes: &[u8]) -> Begun<'_, (Aaguid, &[u8])>
     Ok(((Aaguid(aaguid), id), rest))
 }
 
-fn read_item(alloc: Global, bytes: &[u8]) -> Begun<'_, Value>
-    ensures { Gives (HasGrowingFront bytes.now) (λ r. (item_of r.0, r.1.now))
-        (ReadsItem Ok bytes.now) result }
+// Adds to the counts, each of which stops at `u128::MAX`.
+fn add(count: &mut Count, more: Count)
+    ensures heads { count.new.heads ≡ min (count.old.heads + more.heads) u128.MAX }
+    ensures nodes { count.new.nodes ≡ min (count.old.nodes + more.nodes) u128.MAX }
+    ensures heads_rise { count.old.heads ≤ count.new.heads }
+    ensures nodes_rise { count.old.nodes ≤ count.new.nodes }
 {
-    let (value, len) = Value::from_slice(alloc, bytes)?;
-    Ok((value, &bytes[len..]))
+    count.heads = count.heads.saturating_add(more.heads);
+    count.nodes = count.nodes.saturating_add(more.nodes);
 }
 
-fn read_key(alloc: Global, bytes: &[u8]) -> Begun<'_, CoseKey>
-    ensures { Gives (HasGrowingFront bytes.now) (λ r. (key_parts r.0, r.1.now))
-        (ReadsItem read_key bytes.now) result }
+fn read_item<'a>(alloc: Global, bytes: &'a [u8], count: &mut Count) -> Begun<'a, Value>
+    ensures value { Gives (HasGrowingFront bytes.now) (λ r. (item_of r.0, r.1.now))
+        (ReadsItem Ok bytes.now) result }
+    ensures counts { Counts (λ each. each bytes.now) bytes.now count.old count.new result }
 {
-    let (value, rest) = read_item(alloc, bytes)?;
+    let mut cursor = Cursor::new(bytes);
+    let value = cursor.value(alloc);
+    add(count, cursor.count());
+    let value = value?;
+    Ok((value, &bytes[cursor.place()..]))
+}
+
+fn read_key<'a>(alloc: Global, bytes: &'a [u8], count: &mut Count) -> Begun<'a, CoseKey>
+    ensures value { Gives (HasGrowingFront bytes.now) (λ r. (key_parts r.0, r.1.now))
+        (ReadsItem read_key bytes.now) result }
+    ensures counts { Counts (λ each. each bytes.now) bytes.now count.old count.new result }
+{
+    let (value, rest) = read_item(alloc, bytes, count)?;
     Ok((CoseKey::from_value(alloc, &value)?, rest))
 }
 
-fn read_extensions(alloc: Global, bytes: &[u8]) -> Begun<'_, Value>
-    ensures { Gives (HasGrowingFront bytes.now) (λ r. (item_of r.0, r.1.now))
+fn read_extensions<'a>(alloc: Global, bytes: &'a [u8], count: &mut Count) -> Begun<'a, Value>
+    ensures value { Gives (HasGrowingFront bytes.now) (λ r. (item_of r.0, r.1.now))
         (ReadsItem read_map bytes.now) result }
+    ensures counts { Counts (λ each. each bytes.now) bytes.now count.old count.new result }
 {
-    let (value, rest) = read_item(alloc, bytes)?;
+    let (value, rest) = read_item(alloc, bytes, count)?;
     match value {
         Value::Map(_) => Ok((value, rest)),
         _ => Err(CoseError::UnexpectedItem),
     }
 }
 
-fn read_attested(alloc: Global, bytes: &[u8]) -> Begun<'_, AttestedCredentialData>
-    ensures { Gives (AttestedGrows bytes.now) (λ r. (attested_parts r.0, r.1.now))
+fn read_attested<'a>(
+    alloc: Global,
+    bytes: &'a [u8],
+    count: &mut Count,
+) -> Begun<'a, AttestedCredentialData>
+    ensures value { Gives (AttestedGrows bytes.now) (λ r. (attested_parts r.0, r.1.now))
         (ReadsAttested bytes.now) result }
+    ensures counts { Counts (λ each. count_key each bytes.now) bytes.now count.old count.new result }
 {
     let ((aaguid, id), rest) = read_ids(bytes)?;
-    let (key, rest) = read_key(alloc, rest)?;
+    let (key, rest) = read_key(alloc, rest, count)?;
     let attested = AttestedCredentialData {
         aaguid,
         credential_id: Vec::from_slice(alloc, id)?,
@@ -112,29 +137,40 @@ fn read_attested(alloc: Global, bytes: &[u8]) -> Begun<'_, AttestedCredentialDat
     Ok((attested, rest))
 }
 
-fn read_attested_where(
+fn read_attested_where<'a>(
     alloc: Global,
     is_there: bool,
-    bytes: &[u8],
-) -> Begun<'_, Option<AttestedCredentialData>>
-    ensures { Gives ((is_there ≡ true) × AttestedGrows bytes.now) (λ r. (option_map attested_parts r.0, r.1.now))
+    bytes: &'a [u8],
+    count: &mut Count,
+) -> Begun<'a, Option<AttestedCredentialData>>
+    ensures value { Gives ((is_there ≡ true) × AttestedGrows bytes.now) (λ r. (option_map attested_parts r.0, r.1.now))
         (ReadsWhere is_there ReadsAttested bytes.now) result }
+    ensures there { IfErr result (λ e. is_there ≡ true) }
+    ensures counts { Counts (λ each. count_where is_there (count_key each) bytes.now) bytes.now
+        count.old count.new result }
 {
     if !is_there {
         return Ok((None, bytes));
     }
-    let (attested, rest) = read_attested(alloc, bytes)?;
+    let (attested, rest) = read_attested(alloc, bytes, count)?;
     Ok((Some(attested), rest))
 }
 
-fn read_extensions_where(alloc: Global, is_there: bool, bytes: &[u8]) -> Begun<'_, Option<Value>>
-    ensures { Gives ((is_there ≡ true) × HasGrowingFront bytes.now) (λ r. (option_map item_of r.0, r.1.now))
+fn read_extensions_where<'a>(
+    alloc: Global,
+    is_there: bool,
+    bytes: &'a [u8],
+    count: &mut Count,
+) -> Begun<'a, Option<Value>>
+    ensures value { Gives ((is_there ≡ true) × HasGrowingFront bytes.now) (λ r. (option_map item_of r.0, r.1.now))
         (ReadsWhere is_there (ReadsItem read_map) bytes.now) result }
+    ensures counts { Counts (λ each. count_where is_there each bytes.now) bytes.now
+        count.old count.new result }
 {
     if !is_there {
         return Ok((None, bytes));
     }
-    let (extensions, rest) = read_extensions(alloc, bytes)?;
+    let (extensions, rest) = read_extensions(alloc, bytes, count)?;
     Ok((Some(extensions), rest))
 }
 
@@ -158,11 +194,38 @@ impl AuthenticatorData {
     pub fn from_slice(alloc: Global, bytes: &[u8]) -> Result<AuthenticatorData, CoseError>
         ensures { Gives (DataGrow bytes.now) data_parts (ReadsData bytes.now) result }
     {
+        let mut count = Count { heads: 0, nodes: 0 };
+        AuthenticatorData::from_slice_counted(alloc, bytes, &mut count)
+    }
+
+    /// Returns what `from_slice` returns, and adds to `count` what that costs, also if it is an
+    /// error. Neither count falls, and each stops at `u128::MAX`.
+    ///
+    /// `heads`: at most four for each byte, and four more (RFC 8949, section 3). At least one if
+    /// decoding comes to a data item: if AT or ED is set, and what precedes the item has no fault.
+    ///
+    /// `nodes`: one for each data item that is made for the key or the extensions, nested ones
+    /// included. At most as many as there are in the two items, and on `Ok` exactly as many. An item
+    /// that is no key or no map was made, and counts as well.
+    pub fn from_slice_counted(
+        alloc: Global,
+        bytes: &[u8],
+        count: &mut Count,
+    ) -> Result<AuthenticatorData, CoseError>
+        ensures value { Gives (DataGrow bytes.now) data_parts (ReadsData bytes.now) result }
+        ensures heads { count.new.heads ≤ count.old.heads + (4 * length bytes.now + 4) }
+        ensures nodes { count.new.nodes ≤ count.old.nodes + data_nodes bytes.now }
+        ensures least { 0 < data_places bytes.now → raised count.old.heads 1 ≤ count.new.heads }
+        ensures all { IfOk result (λ made.
+            min (count.old.nodes + data_nodes bytes.now) u128.MAX ≤ count.new.nodes) }
+        ensures heads_rise { count.old.heads ≤ count.new.heads }
+        ensures nodes_rise { count.old.nodes ≤ count.new.nodes }
+    {
         let (fixed, rest) = read_fixed(bytes)?;
         let has_attested = bitflags::Flags::contains(&fixed.flags, Flags::AT);
         let has_extensions = bitflags::Flags::contains(&fixed.flags, Flags::ED);
-        let (attested, rest) = read_attested_where(alloc, has_attested, rest)?;
-        let (extensions, _) = read_extensions_where(alloc, has_extensions, rest)?;
+        let (attested, rest) = read_attested_where(alloc, has_attested, rest, count)?;
+        let (extensions, _) = read_extensions_where(alloc, has_extensions, rest, count)?;
         Ok(AuthenticatorData {
             attested_credential_data: attested,
             extensions,

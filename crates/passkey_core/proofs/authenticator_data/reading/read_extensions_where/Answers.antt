@@ -6,13 +6,13 @@ use Rattle.passkey_core.specs.DataReading.{read_map, ReadsItem, ReadsWhere}
 use Rattle.passkey_core.proofs.DataReadings.{gives_fault, part_stands, part_fails}
 use Rattle.passkey_core.proofs.authenticator_data.reading.read_extensions_where.Goals as goal
 
-pub returns-in_err-extensions : goal.returns-in_err-extensions
-returns-in_err-extensions c =
+pub returns-in_err-extensions-clause-value : goal.returns-in_err-extensions-clause-value
+returns-in_err-extensions-clause-value c =
     let there : c.args.is_there ≡ true = search rules in
     let told : c.from_residual.result ≡ Err c.in_err-extensions.field-0.0 = search rules in
-    rw told (gives_fault (HasGrowingFront c.args.bytes.now) ((c.args.is_there ≡ true) × HasGrowingFront c.args.bytes.now) (λ (r : Value × Bor (List ℕ)). (item_of r.0, r.1.now)) (λ (r : Option Value × Bor (List ℕ)). (option_map item_of r.0, r.1.now)) (ReadsItem read_map c.args.bytes.now) (ReadsWhere c.args.is_there (ReadsItem read_map) c.args.bytes.now) (λ grows. (there, grows)) (part_fails (ReadsItem read_map) c.args.is_there c.args.bytes.now there) c.in_err-extensions.field-0.0 c.in_err-extensions.ensures)
+    rw told (gives_fault (HasGrowingFront c.args.bytes.now) ((c.args.is_there ≡ true) × HasGrowingFront c.args.bytes.now) (λ (r : Value × Bor (List ℕ)). (item_of r.0, r.1.now)) (λ (r : Option Value × Bor (List ℕ)). (option_map item_of r.0, r.1.now)) (ReadsItem read_map c.args.bytes.now) (ReadsWhere c.args.is_there (ReadsItem read_map) c.args.bytes.now) (λ grows. (there, grows)) (part_fails (ReadsItem read_map) c.args.is_there c.args.bytes.now there) c.in_err-extensions.field-0.0 c.in_err-extensions.ensures.value)
 
-pub returns : goal.returns
-returns c =
+pub returns-clause-value : goal.returns-clause-value
+returns-clause-value c =
     let there : c.args.is_there ≡ true = search rules in
-    part_stands (ReadsItem read_map) c.args.is_there c.args.bytes.now (item_of c.in_ok-extensions.extensions) c.in_ok-extensions.rest.now there c.in_ok-extensions.ensures
+    part_stands (ReadsItem read_map) c.args.is_there c.args.bytes.now (item_of c.in_ok-extensions.extensions) c.in_ok-extensions.rest.now there c.in_ok-extensions.ensures.value
