@@ -27,7 +27,7 @@ fn assert_encoded(rt: &(impl Abort + AllocGlobal), data: &AuthenticatorData, beh
     assert_same_bytes(rt, encoded.as_slice(), with_hash(rt, behind).as_slice());
 }
 
-/// What stands behind the hash, and the flags, counter, attested credential data and extensions that it is.
+/// The bytes after the hash, and the flags, counter, attested credential data and extensions that they decode to.
 const DATA: &[(&[u8], &str)] = &[
     (b"\x00\0\0\0\0", "0, Some(0), no credential, None"),
     (
@@ -58,7 +58,7 @@ fn credential(rt: &(impl Abort + AllocGlobal), data: &AuthenticatorData) -> Stri
     text.expect(rt, "memory")
 }
 
-// The data are encoded as they were.
+// The data are encoded as before.
 fn described(rt: &(impl Abort + AllocGlobal), behind: &[u8]) -> String {
     let data = AuthenticatorData::from_slice(rt.alloc(), with_hash(rt, behind).as_slice());
     let data = data.expect(rt, "authenticator data");

@@ -100,7 +100,7 @@ const URL_TEXTS: &[(&str, &[u8])] = &[
     ("___==", &[0xff, 0xff]),
 ];
 
-/// Texts that are no base64url.
+/// Texts that aren't base64url.
 const NO_URL_TEXTS: &[&str] = &[
     "A",
     "A===",

@@ -3,12 +3,12 @@ use passkey_bytes::{Bytes, Text};
 use std::fmt::Debug;
 use std::process::Abort;
 
-/// Ends the test unless this holds of the case.
+/// Ends the test unless this holds for the case.
 pub(crate) fn check(rt: &impl Abort, holds: bool, what: &str, case: &[u8]) {
     assert!(rt; holds, "{what}: {case:?}");
 }
 
-/// The same of a case that is a text.
+/// The same for a case that is a text.
 pub(crate) fn check_text(rt: &impl Abort, holds: bool, what: &str, case: &str) {
     assert!(rt; holds, "{what}: {case:?}");
 }

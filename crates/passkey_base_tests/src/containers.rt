@@ -8,7 +8,7 @@ use std::alloc::Global;
 use std::collections::{BTreeMap, HashMap};
 use std::process::Abort;
 
-// A clause of a caller speaks of the bytes alone.
+// A caller's clause speaks of the bytes alone.
 fn append_seven(bytes: &mut Bytes) -> Result<(), OutOfMemory>
     ensures { OnOk result (bytes.new ≡ bytes.old ++ 7 ∷ []) }
 {
@@ -25,6 +25,7 @@ fn byte_strings_are_copied(rt: HostRuntime) {
     );
     let gathered = Bytes::from_items(rt.alloc(), made.iter().copied()).expect(&rt, "memory");
     assert!(rt; gathered == made);
+    assert!(rt; made.eq_slice(&[0xfb, 0xff]));
     assert!(rt; made.try_clone(rt.alloc()).expect(&rt, "memory") == made);
     assert!(rt; made.clone().expect(&rt, "memory") == made);
     append_seven(&mut made).expect(&rt, "memory");
@@ -35,6 +36,7 @@ fn byte_strings_are_copied(rt: HostRuntime) {
 fn texts_are_copied(rt: HostRuntime) {
     let zoe = text(&rt, "Zoë");
     assert_eq!(rt; zoe.as_str(), "Zoë");
+    assert!(rt; zoe.eq_str("Zoë"));
     assert!(rt; zoe.try_clone(rt.alloc()).expect(&rt, "memory") == zoe);
     assert!(rt; zoe.clone().expect(&rt, "memory") == zoe);
     let mut ages: HashMap<Text, u32> = HashMap::new(rt.alloc());
@@ -102,7 +104,7 @@ fn two_ages(rt: &(impl Abort + AllocGlobal)) -> Map<Text, u32> {
     ages
 }
 
-// A clause of a caller speaks of the finite map alone.
+// A caller's clause speaks of the finite map alone.
 fn put_seven(ages: &mut Map<Text, u32>, name: Text) -> Result<(), OutOfMemory>
     ensures { OnOk result (ages.new ≡ fin.insert ages.old name 7) }
 {

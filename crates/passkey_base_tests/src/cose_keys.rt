@@ -1,4 +1,4 @@
-//! Keys of COSE. What they are written as was put together by hand, from RFC 9052, section 7, and RFC 8949.
+//! COSE keys. Their encodings were put together by hand, from RFC 9052, section 7, and RFC 8949.
 use crate::checks::{assert_same, assert_same_bytes};
 use passkey_cbor::{Cursor, Value};
 use passkey_cose::iana::{Algorithm, KeyOperation, KeyType};
@@ -66,7 +66,19 @@ fn keys_are_built_and_encoded(rt: HostRuntime) {
     );
 }
 
-// Type, name, algorithm, operations, Base IV and further parameters of a copy; the key is encoded as it was.
+#[test]
+fn parameters_are_found_by_their_labels(rt: HostRuntime) {
+    let key = key_of_all_parts(&rt);
+    for (label, wanted) in [
+        (Label::Int(-1), Some(&Value::Bool(true))),
+        (Label::Int(1), None),
+        (Label::Text(text(&rt, "a")), Some(&Value::Null)),
+    ] {
+        assert!(rt; key.param(&label) == wanted, "{label:?}");
+    }
+}
+
+// Type, name, algorithm, operations, Base IV and further parameters of a copy; the key is encoded as before.
 fn described(rt: &(impl Abort + AllocGlobal), bytes: &[u8]) -> String {
     let value = Cursor::new(bytes).value(rt.alloc()).expect(rt, "an item");
     let key = CoseKey::from_value(rt.alloc(), &value).expect(rt, "a key");
@@ -131,7 +143,7 @@ fn fault_of_iv(rt: &(impl Abort + AllocGlobal), iv: &[u8]) -> Option<CoseError> 
     answer.map_err(CoseError::from).err()
 }
 
-// RFC 9052, section 7.1: labels are unique, strings aren't empty, and no operation stands twice.
+// RFC 9052, section 7.1: labels are unique, strings aren't empty, and no operation is repeated.
 #[test]
 fn bad_parts_are_refused(rt: HostRuntime) {
     assert_eq!(rt; fault_of_param(&rt, 3), Some(CoseError::DuplicateMapKey));

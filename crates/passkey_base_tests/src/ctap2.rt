@@ -35,14 +35,14 @@ fn flags_have_bits_and_names(rt: HostRuntime) {
     }
 }
 
-/// Two are equal exactly where their bytes are.
+/// Two are equal exactly if their bytes are.
 fn are_equal(a: &Flags, b: &Flags) -> bool
     ensures { IsTrue result ↔ (a.now.0 ≡ b.now.0) }
 {
     a == b
 }
 
-/// Two are equal exactly where their bytes are.
+/// Two are equal exactly if their bytes are.
 fn are_equal_aaguids(a: &Aaguid, b: &Aaguid) -> bool
     ensures { IsTrue result ↔ (a.now.0 ≡ b.now.0) }
 {
@@ -74,7 +74,7 @@ const FIRST: [u8; 32] = [1; 32];
 
 const SECOND: [u8; 32] = [2; 32];
 
-// Of so many bytes: whether there is a second salt, where they are salts.
+// For this many bytes: whether there is a second salt, if they are salts.
 fn has_second(bytes: &[u8]) -> Option<bool> {
     match HmacSecretSaltOrOutput::try_from(bytes) {
         Ok(salts) => Some(salts.second().is_some()),

@@ -1,4 +1,4 @@
-//! Copies of what WebAuthn says of credentials, users and relying parties, and how they are printed.
+//! Copies of credential descriptors, users and relying parties, and how they are printed.
 use crate::checks::{assert_shown, bytes, text};
 use passkey_bytes::List;
 use passkey_webauthn::{

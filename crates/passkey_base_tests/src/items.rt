@@ -71,7 +71,7 @@ const ITEMS: &[(&[u8], &str)] = &[
     ),
 ];
 
-// How many levels the item has, and its copy; it is encoded as it was.
+// How many levels the item has, and its copy; it is encoded as before.
 fn described(rt: &(impl Abort + AllocGlobal), bytes: &[u8]) -> String {
     let (value, _len) = Value::from_slice(rt.alloc(), bytes).expect(rt, "an item");
     let encoded = value.to_vec(rt.alloc()).expect(rt, "memory");

@@ -5,7 +5,7 @@ use std::process::Abort;
 
 const NAMES: &[&str] = &["r", "rp", "rpId", "", "rpIds", "rpId", ""];
 
-/// Texts as they are spelled, the text of those in one piece, the whole text, its first place among the names, and how
+/// Encodings of texts, the text of those in one piece, the whole text, its first place among the names, and how
 /// many heads one look for the names decodes.
 const TEXTS: &[(&[u8], Option<&str>, &str, Option<usize>, u128)] = &[
     (
@@ -51,7 +51,7 @@ const TEXTS: &[(&[u8], Option<&str>, &str, Option<usize>, u128)] = &[
     (&[0x7f, 0x61, 0x78, 0x61, 0x72, 0xff], None, "xr", None, 1),
 ];
 
-/// The same of byte strings.
+/// The same for byte strings.
 const BYTE_STRINGS: &[(&[u8], Option<&[u8]>, &[u8], Option<usize>, u128)] = &[
     (
         &[0x44, 0x72, 0x70, 0x49, 0x64],
@@ -83,7 +83,7 @@ fn copied_bytes(rt: &(impl Abort + AllocGlobal), spelled: &[u8]) -> Vec<u8> {
     token.copy(rt.alloc(), &mut cursor).expect(rt, "memory")
 }
 
-// A look for the names, which takes so many heads again.
+// A search for the names, which decodes this many heads again.
 fn check_names(rt: &impl Abort, spelled: &[u8], whole: &str, place: Option<usize>, heads: u128) {
     let mut cursor = Cursor::new(spelled);
     let token = cursor.text().expect(rt, "a text");
@@ -225,7 +225,7 @@ fn copies_count_each_chunk(rt: HostRuntime) {
     }
 }
 
-// Byte strings as they are spelled, their bytes, and how many heads it takes to put these into a slice.
+// Encodings of byte strings, their bytes, and how many heads it takes to put these into a slice.
 #[test]
 fn slices_are_filled(rt: HostRuntime) {
     let cases: [(&[u8], &[u8], u128); 4] = [
@@ -269,7 +269,7 @@ fn slices_are_filled(rt: HostRuntime) {
     }
 }
 
-// One head is decoded where another item stands, whatever follows it.
+// One head is decoded if another item is there, whatever follows it.
 #[test]
 fn other_items_take_one_head(rt: HostRuntime) {
     let mut bytes = [0; 1001];

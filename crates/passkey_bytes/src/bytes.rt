@@ -23,15 +23,14 @@ use crate::encoding;
 use passkey_memory::OutOfMemory;
 use std::alloc::{AllocError, AllocFailed, Global};
 use std::cmp::Ordering;
-use std::error::Error;
-use std::fmt;
 use std::hash::{Hash, Hasher};
 use std::marker::Model;
 use std::slice::Iter;
 use std::vec::IntoIter;
+use thiserror::Error;
 
-/// A byte string. Of two that differ, the first byte that differs says which is less, or else the
-/// shorter one is.
+/// A byte string. Byte strings are ordered byte by byte; one that another begins with comes before
+/// it.
 #[derive(Debug, Drop)]
 pub struct Bytes(Vec<u8>);
 
@@ -44,14 +43,15 @@ impl Model for Bytes {
 }
 
 impl Bytes {
-    /// No bytes. It takes no memory.
+    /// The empty byte string. Allocates nothing.
     pub fn empty(alloc: Global) -> Bytes
         ensures { result ≡ [] }
     {
         Bytes(Vec::new(alloc))
     }
 
-    /// A copy of the bytes. `OutOfMemory` where its memory was refused, which cannot be for none.
+    /// Returns a copy of the bytes. `OutOfMemory` if the allocation fails, which can't happen if
+    /// there are no bytes.
     pub fn from_slice(alloc: Global, bytes: &[u8]) -> Result<Bytes, OutOfMemory>
         ensures same { IfOk result (λ made. made ≡ bytes.now) }
         ensures grows { OnErr result (0 < length bytes.now) }
@@ -61,8 +61,7 @@ impl Bytes {
         Ok(Bytes(copy))
     }
 
-    /// The bytes that the iterator gives before its end, in their order. `OutOfMemory` where a
-    /// growth was refused.
+    /// Collects the iterator's bytes, in their order. `OutOfMemory` if an allocation fails.
     pub fn from_items<I: Iterator<Item = u8> + Drop>(
         alloc: Global,
         items: I,
@@ -75,12 +74,13 @@ impl Bytes {
         Ok(Bytes(bytes))
     }
 
-    /// The bytes of a text in base64url or base64, padded or not (RFC 4648, sections 4 and 5):
-    /// those that `encoding::try_from_base64url` finds, or where it finds none those of the text as
-    /// base64 whose last symbol has no bit set past the last byte. `NotBase64Encoded` where the text
-    /// is neither: a length of 4k + 1 symbols without the `=` at the end, a symbol of no or the
-    /// other alphabet, or white space. `OutOfMemory` where a growth was refused, which cannot be
-    /// where the text is neither, or stands for no bytes.
+    /// Decodes base64url or base64, padded or not (RFC 4648, sections 4 and 5): first as
+    /// `encoding::try_from_base64url` does, then as base64 whose last symbol has no bit set beyond
+    /// the last byte.
+    ///
+    /// `NotBase64Encoded` if the text is neither: without the `=` at its end it has 4k + 1 symbols,
+    /// or it has a symbol outside the alphabet, such as white space. `OutOfMemory` if an allocation
+    /// fails, which can't happen if the text is neither or decodes to no bytes.
     pub fn try_from(alloc: Global, text: &str) -> Result<Bytes, BytesFault>
         ensures { ReadsText text.now result }
     {
@@ -93,8 +93,8 @@ impl Bytes {
         }
     }
 
-    /// The bytes in base64url, without padding (RFC 4648, section 5). `OutOfMemory` where the
-    /// text's memory was refused, which cannot be where there are no bytes.
+    /// Encodes the bytes in base64url, without padding (RFC 4648, section 5). `OutOfMemory` if the
+    /// allocation fails, which can't happen if there are no bytes.
     pub fn to_base64url(&self, alloc: Global) -> Result<String, OutOfMemory>
         ensures same { IfOk result (λ text. string_bytes text ≡ encode_of url_safe_no_pad self.now) }
         ensures grows { OnErr result (0 < length self.now) }
@@ -109,7 +109,8 @@ impl Bytes {
         self.0.as_slice()
     }
 
-    /// The bytes as a vector, to be changed: afterwards they are what it was left with.
+    /// Borrows the bytes as a vector that can be changed. The byte string is then whatever the
+    /// vector is left as.
     pub fn as_mut_vec(&mut self) -> &mut Vec<u8>
         ensures* writes_back { sem 𝓛 (LendsVec self.entry result) }
         ensures value { result.now.items ≡ self.old }
@@ -117,28 +118,36 @@ impl Bytes {
         &mut self.0
     }
 
-    /// The bytes, one after the other.
+    /// Iterates over the bytes.
     pub fn iter(&self) -> Iter<'_, u8>
         ensures { LendsItems self.now result }
     {
         self.as_slice().iter()
     }
 
-    /// How many bytes there are.
+    /// The number of bytes.
     pub fn len(&self) -> usize
         ensures { result ≡ length self.now }
     {
         self.0.len()
     }
 
-    /// Whether there are no bytes.
+    /// Whether the byte string is empty.
     pub fn is_empty(&self) -> bool
         ensures { IsTrue result ↔ (self.now ≡ []) }
     {
         self.0.is_empty()
     }
 
-    /// A copy. `OutOfMemory` where its memory was refused, which cannot be where there are no bytes.
+    /// Whether these are the same bytes. (`==` compares two `Bytes`.)
+    pub fn eq_slice(&self, bytes: &[u8]) -> bool
+        ensures { IsTrue result ↔ (self.now ≡ bytes.now) }
+    {
+        self.as_slice() == bytes
+    }
+
+    /// Returns a copy. `OutOfMemory` if the allocation fails, which can't happen if there are no
+    /// bytes.
     pub fn try_clone(&self, alloc: Global) -> Result<Bytes, OutOfMemory>
         ensures same { IfOk result (λ copy. copy ≡ self.now) }
         ensures grows { OnErr result (0 < length self.now) }
@@ -246,25 +255,16 @@ impl Hash for Bytes {
     }
 }
 
-/// Why no `Bytes` was made of a text.
-#[derive(Clone, Copy, Debug, PartialEq, Eq)]
+/// Why a text wasn't decoded to `Bytes`.
+#[derive(Clone, Copy, Debug, Error, PartialEq, Eq)]
 pub enum BytesFault {
     /// The text is neither base64url nor base64.
+    #[error(transparent)]
     NotBase64Encoded(NotBase64Encoded),
-    /// A growth was refused.
+    /// An allocation failed.
+    #[error("OutOfMemory")]
     OutOfMemory,
 }
-
-impl fmt::Display for BytesFault {
-    fn fmt<W: fmt::Write>(&self, f: &mut fmt::Formatter<W>) -> fmt::Result {
-        match self {
-            BytesFault::NotBase64Encoded(fault) => fault.fmt(f),
-            BytesFault::OutOfMemory => f.write_str("OutOfMemory"),
-        }
-    }
-}
-
-impl Error for BytesFault {}
 
 impl From<AllocError> for BytesFault {
     ghost from_gives = { λ _ fault. fault ≡ NoMemory };
@@ -291,13 +291,6 @@ impl From<OutOfMemory> for BytesFault {
 }
 
 /// A text is neither base64url nor base64 (RFC 4648, sections 4 and 5).
-#[derive(Clone, Copy, Debug, PartialEq, Eq)]
+#[derive(Clone, Copy, Debug, Error, PartialEq, Eq)]
+#[error("NotBase64Encoded")]
 pub struct NotBase64Encoded;
-
-impl fmt::Display for NotBase64Encoded {
-    fn fmt<W: fmt::Write>(&self, f: &mut fmt::Formatter<W>) -> fmt::Result {
-        f.write_str("NotBase64Encoded")
-    }
-}
-
-impl Error for NotBase64Encoded {}

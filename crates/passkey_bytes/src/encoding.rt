@@ -1,5 +1,5 @@
-//! Bytes as text: base64 and base64url (RFC 4648, sections 4 and 5), written without padding and
-//! read with or without it.
+//! Base64 and base64url (RFC 4648, sections 4 and 5): encoded without padding, decoded with or
+//! without it.
 ghost use Rattle.std.specs.Prelude.{◌≡◌, ◌<◌, length, is_ok, IfOk, IsSomeAnd, OnErr, option_map};
 ghost use Rattle.std.specs.Result.{result_ok};
 ghost use Rattle.std.specs.String.{string_bytes};
@@ -22,8 +22,8 @@ fn encode(alloc: Global, engine: &GeneralPurpose, bytes: &[u8]) -> Result<String
     Ok(engine.encode(alloc, bytes)?)
 }
 
-/// The bytes in base64, without padding (RFC 4648, section 4). `OutOfMemory` where the text's
-/// memory was refused, which cannot be where there are no bytes.
+/// Encodes the bytes in base64, without padding (RFC 4648, section 4). `OutOfMemory` if the
+/// allocation fails, which can't happen if there are no bytes.
 pub fn base64(alloc: Global, bytes: &[u8]) -> Result<String, OutOfMemory>
     ensures same { IfOk result (λ text. string_bytes text ≡ encode_of standard_no_pad bytes.now) }
     ensures grows { OnErr result (0 < length bytes.now) }
@@ -31,8 +31,8 @@ pub fn base64(alloc: Global, bytes: &[u8]) -> Result<String, OutOfMemory>
     encode(alloc, &STANDARD_NO_PAD, bytes)
 }
 
-/// The bytes in base64url, without padding (RFC 4648, section 5). `OutOfMemory` where the text's
-/// memory was refused, which cannot be where there are no bytes.
+/// Encodes the bytes in base64url, without padding (RFC 4648, section 5). `OutOfMemory` if the
+/// allocation fails, which can't happen if there are no bytes.
 pub fn base64url(alloc: Global, bytes: &[u8]) -> Result<String, OutOfMemory>
     ensures same { IfOk result (λ text. string_bytes text ≡ encode_of url_safe_no_pad bytes.now) }
     ensures grows { OnErr result (0 < length bytes.now) }
@@ -40,10 +40,10 @@ pub fn base64url(alloc: Global, bytes: &[u8]) -> Result<String, OutOfMemory>
     encode(alloc, &URL_SAFE_NO_PAD, bytes)
 }
 
-/// The bytes of a text in base64url (RFC 4648, section 5), or `None` where it is none. Every `=` at
-/// the end is dropped, nothing else is, and the bits of the last symbol past the last whole byte
-/// may be set. `OutOfMemory` where the bytes' memory was refused, which cannot be where the text is
-/// none, or stands for no bytes.
+/// Decodes base64url (RFC 4648, section 5); `None` if the text isn't base64url. Every `=` at its
+/// end is ignored, and nothing else; the last symbol may have bits set beyond the last whole byte.
+/// `OutOfMemory` if the allocation fails, which can't happen if the result is `None` or has no
+/// bytes.
 pub fn try_from_base64url(alloc: Global, text: &str) -> Result<Option<Vec<u8>>, OutOfMemory>
     ensures same { IfOk result (λ found. option_map (λ v. v.items) found ≡ base64url_bytes text.now) }
     ensures grows { OnErr result (IsSomeAnd (base64url_bytes text.now) (λ bytes. 0 < length bytes)) }
@@ -51,8 +51,8 @@ pub fn try_from_base64url(alloc: Global, text: &str) -> Result<Option<Vec<u8>>, 
     decode(alloc, &url_safe_loose(), without_equals(text.as_bytes()))
 }
 
-/// The bytes of a text in base64 (RFC 4648, section 4), or `None` where it is none. Every `=` at the
-/// end is dropped, nothing else is, and no bit may be set past the last whole byte.
+/// Decodes base64 (RFC 4648, section 4); `None` if the text isn't base64. Every `=` at its end is
+/// ignored, and nothing else; no bit may be set beyond the last whole byte.
 pub(crate) fn try_from_base64(alloc: Global, text: &str) -> Result<Option<Vec<u8>>, OutOfMemory>
     ensures same { IfOk result (λ found. option_map (λ v. v.items) found ≡ base64_bytes text.now) }
     ensures grows { OnErr result (IsSomeAnd (base64_bytes text.now) (λ bytes. 0 < length bytes)) }
@@ -60,8 +60,8 @@ pub(crate) fn try_from_base64(alloc: Global, text: &str) -> Result<Option<Vec<u8
     decode(alloc, &STANDARD_NO_PAD, without_equals(text.as_bytes()))
 }
 
-/// Whether the first four symbols are of the alphabet: whether they decode with two symbols of
-/// value zero behind them.
+/// Whether the first four symbols are in the alphabet: whether they decode if two symbols of value
+/// zero follow.
 fn is_group(engine: &GeneralPurpose, symbols: &[u8]) -> bool
     requires { 4 < length symbols.now }
     ensures { result ≡ is_ok (decode_of engine.now (window symbols.now)) }
@@ -70,7 +70,7 @@ fn is_group(engine: &GeneralPurpose, symbols: &[u8]) -> bool
     engine.decode_slice_unchecked(&window, &mut [0; 6]).is_ok()
 }
 
-/// Whether the symbols are those of some bytes, told without memory.
+/// Whether the symbols decode. Allocates nothing.
 fn is_decodable(engine: &GeneralPurpose, symbols: &[u8]) -> bool
     requires { ReadsZeros engine.now }
     ensures { result ≡ is_ok (decode_of engine.now symbols.now) }
@@ -109,7 +109,7 @@ fn decode(
     }
 }
 
-/// The engine for base64url that reads a last symbol with any bits.
+/// The engine for base64url that accepts any bits beyond the last byte.
 fn url_safe_loose() -> GeneralPurpose
     ensures { SameEngine result url_safe_loose }
 {

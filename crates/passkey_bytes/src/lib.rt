@@ -1,5 +1,5 @@
-//! Byte strings, texts, lists and maps that the messages of passkeys hold, and the texts of base64
-//! (RFC 4648) that byte strings are read of and written as.
+//! Byte strings, texts, lists and maps, of which the messages of passkeys are made, and base64 (RFC
+//! 4648).
 #![tactic(auto)]
 
 mod bytes;

@@ -17,7 +17,7 @@ use std::marker::Model;
 use std::slice::Iter;
 use std::vec::IntoIter;
 
-/// A list of items in their order. A contract sees it as that list.
+/// A list of items. Contracts see it as that list.
 #[derive(Drop)]
 pub struct List<T>(Vec<T>);
 
@@ -30,7 +30,7 @@ impl<T> Model for List<T> {
 }
 
 impl<T> List<T> {
-    /// The empty list. It takes no memory.
+    /// The empty list. Allocates nothing.
     pub fn empty(alloc: Global) -> List<T>
         ensures { result ≡ [] }
     {
@@ -44,7 +44,8 @@ impl<T> List<T> {
         self.0.as_slice()
     }
 
-    /// The items as a vector, to be changed: afterwards they are what it was left with.
+    /// Borrows the items as a vector that can be changed. The list is then whatever the vector is
+    /// left as.
     pub fn as_mut_vec(&mut self) -> &mut Vec<T>
         ensures* writes_back { sem 𝓛 (LendsVec T.row self.entry result) }
         ensures value { result.now.items ≡ self.old }
@@ -52,21 +53,21 @@ impl<T> List<T> {
         &mut self.0
     }
 
-    /// The items, one after the other.
+    /// Iterates over the items.
     pub fn iter(&self) -> Iter<'_, T>
         ensures { LendsItems self.now result }
     {
         self.as_slice().iter()
     }
 
-    /// How many items there are.
+    /// The number of items.
     pub fn len(&self) -> usize
         ensures { result ≡ length self.now }
     {
         self.0.len()
     }
 
-    /// Whether there are no items.
+    /// Whether the list is empty.
     pub fn is_empty(&self) -> bool
         ensures { IsTrue result ↔ (self.now ≡ []) }
     {
@@ -75,8 +76,8 @@ impl<T> List<T> {
 }
 
 impl<T: Clone> List<T> {
-    /// A list of copies of the items. `OutOfMemory` where a growth was refused, which cannot be for
-    /// the empty list.
+    /// Returns a list of copies of the items. `OutOfMemory` if an allocation fails, which can't
+    /// happen if the list is empty.
     pub fn try_clone(&self, alloc: Global) -> Result<List<T>, OutOfMemory>
         ensures clones { IfOk result (λ copy. AllZip T.is_clone self.now copy) }
         ensures same { ((x y : T) → T.is_clone x y → y ≡ x) → IfOk result (λ copy. copy ≡ self.now) }

@@ -13,7 +13,7 @@ use std::collections::btree_map::{IntoIter, Iter};
 use std::fmt;
 use std::marker::Model;
 
-/// What a `Map` may have as keys: values in the order of their bytes, which are equal exactly where
+/// What a `Map` may have as keys: values that are ordered by their bytes, and are equal exactly if
 /// their bytes are.
 pub trait Key: Ord + Clone {
     ghost use Rattle.std.specs.Prelude.{◌≡◌, List, ℕ};
@@ -59,8 +59,8 @@ impl Key for Text {
     }
 }
 
-/// A finite map with byte strings or texts as keys, whose entries come in the order of their keys'
-/// bytes. A contract sees it as the map from the bytes of its keys to its values.
+/// A map with byte strings or texts as keys. Its entries are ordered by the keys' bytes. Contracts
+/// see it as the finite map from its keys' bytes to its values.
 #[derive(Drop)]
 pub struct Map<K: Key, V>(BTreeMap<K, V>);
 
@@ -77,14 +77,14 @@ impl<K: Key, V> Model for Map<K, V> {
 }
 
 impl<K: Key, V> Map<K, V> {
-    /// The empty map. It takes no memory.
+    /// The empty map. Allocates nothing.
     pub fn empty(alloc: Global) -> Map<K, V>
         ensures { result ≡ fin.empty }
     {
         Map(BTreeMap::new(alloc))
     }
 
-    /// The value at the key, if there is one.
+    /// The key's value; `None` if the key is absent.
     #[tactic(auto, using(crate::proofs::Maps::readings))]
     pub fn get(&self, key: &K) -> Option<&V>
         ensures { option_copied result ≡ fin.get self.now (K.key_bytes key.now) }
@@ -92,7 +92,7 @@ impl<K: Key, V> Map<K, V> {
         self.0.get(key)
     }
 
-    /// Whether there is a value at the key.
+    /// Whether the key is present.
     #[tactic(auto, using(crate::proofs::Maps::readings))]
     pub fn contains_key(&self, key: &K) -> bool
         ensures { result ≡ fin.contains_key self.now (K.key_bytes key.now) }
@@ -100,9 +100,9 @@ impl<K: Key, V> Map<K, V> {
         self.0.contains_key(key)
     }
 
-    /// Puts the value at the key, and gives back the one that stood there. Where a growth was
-    /// refused, which only a new key lets happen, the map is as before, and the error holds the key
-    /// and the value.
+    /// Sets the key's value, and returns the one that it replaces. If an allocation fails, which
+    /// can happen only for a new key, the map is unchanged, and the error holds the key and the
+    /// value.
     #[tactic(auto, using(crate::proofs::MapChanges::changes))]
     pub fn insert(&mut self, key: K, value: V) -> Result<Option<V>, AllocFailed<(K, V)>>
         ensures before { IfOk result (λ before. before ≡ fin.get self.old (K.key_bytes key)) }
@@ -114,7 +114,7 @@ impl<K: Key, V> Map<K, V> {
         self.0.insert(key, value)
     }
 
-    /// Takes out the value at the key, and gives it back if there was one.
+    /// Removes the key and returns its value; `None` if the key is absent.
     #[tactic(auto, using(crate::proofs::MapChanges::changes))]
     pub fn remove(&mut self, key: &K) -> Option<V>
         ensures before { result ≡ fin.get self.old (K.key_bytes key.now) }
@@ -123,7 +123,7 @@ impl<K: Key, V> Map<K, V> {
         self.0.remove(key)
     }
 
-    /// How many keys have a value.
+    /// The number of entries.
     #[tactic(auto, using(crate::proofs::Maps::readings))]
     pub fn len(&self) -> usize
         ensures { result ≡ fin.len self.now }
@@ -131,14 +131,14 @@ impl<K: Key, V> Map<K, V> {
         self.0.len()
     }
 
-    /// Whether no key has a value.
+    /// Whether the map is empty.
     pub fn is_empty(&self) -> bool
         ensures { IsTrue result ↔ (self.now ≡ fin.empty) }
     {
         self.len() == 0
     }
 
-    /// The keys with their values, in the order of the keys' bytes.
+    /// Iterates over the entries in the order of their keys' bytes.
     #[tactic(auto, using(crate::proofs::Maps::readings))]
     pub fn iter(&self) -> Iter<'_, K, V>
         ensures { LendsEntries K.key_bytes self.now result }
@@ -148,8 +148,8 @@ impl<K: Key, V> Map<K, V> {
 }
 
 impl<K: Key, V: Clone> Map<K, V> {
-    /// A map of copies of the keys and the values. `OutOfMemory` where a growth was refused, which
-    /// cannot be for the empty map.
+    /// Returns a map of copies of the keys and values. `OutOfMemory` if an allocation fails, which
+    /// can't happen if the map is empty.
     pub fn try_clone(&self, alloc: Global) -> Result<Map<K, V>, OutOfMemory>
         ensures clones { IfOk result (ClonesValues V.is_clone self.now) }
         ensures same { ((x y : V) → V.is_clone x y → y ≡ x) → IfOk result (λ copy. copy ≡ self.now) }

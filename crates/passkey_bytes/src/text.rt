@@ -1,4 +1,4 @@
-//! Texts.
+//! Text strings.
 ghost use Rattle.std.specs.Prelude.{◌≡◌, ◌↔◌, ◌<◌, [], Some, length, refl, IfOk, IsTrue, OnErr};
 ghost use Rattle.std.specs.Cmp.{partial_equiv_from_equiv};
 ghost use Rattle.std.specs.Cmp.Lexicographic.{slice_cmp, texts_po, texts_ties};
@@ -18,8 +18,8 @@ use std::fmt;
 use std::hash::{Hash, Hasher};
 use std::marker::Model;
 
-/// A text in UTF-8. A contract sees it as the list of its bytes. Of two that differ, the first byte
-/// that differs says which is less, or else the shorter one is.
+/// A text string in UTF-8. Contracts see it as the list of its bytes. Text strings are ordered byte
+/// by byte; one that another begins with comes before it.
 #[derive(Drop)]
 pub struct Text(String);
 
@@ -33,15 +33,15 @@ impl Model for Text {
 }
 
 impl Text {
-    /// The empty text. It takes no memory.
+    /// The empty text. Allocates nothing.
     pub fn empty(alloc: Global) -> Text
         ensures { result ≡ [] }
     {
         Text(String::new(alloc))
     }
 
-    /// A copy of the text. `OutOfMemory` where its memory was refused, which cannot be for the empty
-    /// text.
+    /// Returns a copy of the text. `OutOfMemory` if the allocation fails, which can't happen if the
+    /// text is empty.
     pub fn from_str(alloc: Global, text: &str) -> Result<Text, OutOfMemory>
         ensures same { IfOk result (λ made. made ≡ text.now) }
         ensures grows { OnErr result (0 < length text.now) }
@@ -59,21 +59,29 @@ impl Text {
         self.0.as_str()
     }
 
-    /// How many bytes the text has.
+    /// The length in bytes.
     pub fn len(&self) -> usize
         ensures { result ≡ length self.now }
     {
         self.0.len()
     }
 
-    /// Whether the text has no bytes.
+    /// Whether the text is empty.
     pub fn is_empty(&self) -> bool
         ensures { IsTrue result ↔ (self.now ≡ []) }
     {
         self.0.is_empty()
     }
 
-    /// A copy. `OutOfMemory` where its memory was refused, which cannot be for the empty text.
+    /// Whether this is the same text. (`==` compares two `Text`s.)
+    pub fn eq_str(&self, text: &str) -> bool
+        ensures { IsTrue result ↔ (self.now ≡ text.now) }
+    {
+        self.as_str() == text
+    }
+
+    /// Returns a copy. `OutOfMemory` if the allocation fails, which can't happen if the text is
+    /// empty.
     pub fn try_clone(&self, alloc: Global) -> Result<Text, OutOfMemory>
         ensures same { IfOk result (λ copy. copy ≡ self.now) }
         ensures grows { OnErr result (0 < length self.now) }

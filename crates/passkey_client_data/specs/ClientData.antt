@@ -41,14 +41,14 @@ pub record ClientData (E : Type 0) : Type 0 where
 abbrev pub held : {E : Type 0} → CollectedClientData E → ClientData E
 held x = record { ty = x.ty; challenge = x.challenge; origin = x.origin; cross_origin = x.cross_origin; extra_data = x.extra_data; unknown_keys = members_view x.unknown_keys.entries }
 
-module _ {E : Type 0} (has : List ℕ → Bool) (reads : Members → Result E Fault) where
+module _ {E : Type 0} (has : List ℕ → Bool) (reads : Object → Result E Fault) where
   -- The fixed members first; then the value, whose members hold no float; then the unknown members,
   -- which hold none either.
   unfoldable pub client_data_in : Members → Result (ClientData E) Fault
   client_data_in ms = do
     fixed ← fixed_members_in (λ name. get_member name ms)
     extra_members ← without_floats (codes "extra_data") (members_where has ms)
-    extra_data ← reads ms
+    extra_data ← reads (λ name. get_member name ms)
     unknown_keys ← without_floats (codes "unknown_keys") (members_where (is_unknown has) ms)
     Ok (record { ty = fixed.ty; challenge = fixed.challenge; origin = fixed.origin; cross_origin = fixed.cross_origin; extra_data = extra_data; unknown_keys = unknown_keys })
 
@@ -63,10 +63,10 @@ module _ {E : Type 0} (has : List ℕ → Bool) (reads : Members → Result E Fa
 
 -- ---- where decoding may take memory
 
-module _ (has : List ℕ → Bool) (takes : Members → Bool) where
+module _ (has : List ℕ → Bool) (takes : Object → Bool) where
   -- such a fixed member, a value that may take memory, or a member that is copied since neither knows it
   abbrev pub members_take : Members → Bool
-  members_take ms = fixed_members_takes (λ name. get_member name ms) || takes ms || any_member (members_where (is_unknown has) ms)
+  members_take ms = fixed_members_takes (λ name. get_member name ms) || takes (λ name. get_member name ms) || any_member (members_where (is_unknown has) ms)
 
   -- an object with such members
   abbrev pub client_data_takes : Data → Bool

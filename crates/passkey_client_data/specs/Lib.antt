@@ -3,3 +3,4 @@ pub mod MemberLists
 pub mod ExtraData
 pub mod ClientData
 pub mod ClientDataText
+pub mod ClientDataBytes

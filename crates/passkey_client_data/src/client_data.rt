@@ -15,32 +15,33 @@ use passkey_memory::OutOfMemory;
 use serde_json::Value;
 use std::alloc::Global;
 
-/// What an authenticator signs of a client's part (WebAuthn Level 3, section 5.8.1). `E` is what its
-/// user knows of further members.
+/// The client data that an authenticator signs the hash of (WebAuthn Level 3, section 5.8.1). `E`
+/// holds the further members that the caller knows.
 #[derive(Debug, Drop)]
 pub struct CollectedClientData<E = ()> {
-    /// What the client data is for.
+    /// `webauthn.create` for a registration, `webauthn.get` for a sign-in.
     pub ty: ClientDataType,
-    /// The relying party's challenge, in base64url, which isn't looked at.
+    /// The relying party's challenge in base64url, which isn't decoded. A relying party must
+    /// compare it.
     pub challenge: Text,
-    /// The origin that asked.
+    /// The caller's origin. A relying party must compare it.
     pub origin: Text,
-    /// Whether a page of another origin held the one that asked.
+    /// Whether the caller's origin wasn't the same as its ancestors'; `None` means the member is
+    /// absent.
     pub cross_origin: Option<bool>,
-    /// What the further members stand for that `E` knows.
+    /// The further members that `E` knows.
     pub extra_data: E,
-    /// The members that neither `E` nor all client data has.
+    /// The members that neither `E` knows nor all client data has.
     pub unknown_keys: IndexMap<String, Value>,
 }
 
 impl<E: ClientDataExtra> CollectedClientData<E> {
-    /// The client data that the JSON value stands for. `NotAnObject` if it is no object; else the
-    /// first fault of `type`, `challenge`, `origin` and `crossOrigin`, in this order; then
-    /// `Float("extra_data")` if a member that `E` knows holds a float; then the fault that `E`
-    /// returns; then `Float("unknown_keys")` if a member that is unknown holds a float. Unknown
-    /// members are held in the order of their names. `OutOfMemory` if an allocation fails, and only
-    /// if it is an object whose `challenge` or `origin` is a text, whose members take memory as `E`
-    /// decodes them, or that has a member that is unknown.
+    /// Decodes client data. `NotAnObject` if the JSON value is no object; else the first fault of
+    /// `type`, `challenge`, `origin` and `crossOrigin`, in this order; then `Float("extra_data")`
+    /// if a member that `E` knows holds a float; then `E`'s fault; then `Float("unknown_keys")` if
+    /// an unknown member holds a float. Unknown members are ordered by name. `OutOfMemory` if an
+    /// allocation fails, and only if the value is an object whose `challenge` or `origin` is a
+    /// text, whose members take memory as `E` decodes them, or that has an unknown member.
     #[tactic(auto, unfolding(crate::specs::ClientData::client_data_in))]
     pub fn from_json(alloc: Global, value: &Value) -> Result<CollectedClientData<E>, JsonFault>
         ensures { GivesAs (IsTrue (client_data_takes E.has E.takes (view value.now))) held (client_data E.has E.reads (view value.now)) result }
@@ -57,7 +58,7 @@ impl<E: ClientDataExtra> CollectedClientData<E> {
         if known_holds_float::<E>(members) {
             return Err(JsonFault::Float("extra_data"));
         }
-        let extra_data = E::from_object(alloc, members)?;
+        let extra_data = E::from_value(alloc, value)?;
         let unknown_keys = unknown_members::<E>(alloc, members)?;
         Ok(CollectedClientData {
             ty,
@@ -69,7 +70,7 @@ impl<E: ClientDataExtra> CollectedClientData<E> {
         })
     }
 
-    /// A copy that holds the same. `OutOfMemory` if an allocation fails.
+    /// Returns a copy that holds the same. `OutOfMemory` if an allocation fails.
     pub fn try_clone(&self, alloc: Global) -> Result<CollectedClientData<E>, OutOfMemory>
         ensures { IfOk result (λ copy. held copy ≡ held self.now) }
     {

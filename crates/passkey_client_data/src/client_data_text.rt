@@ -1,4 +1,4 @@
-//! Client data, written as JSON text.
+//! Client data, encoded as JSON text.
 ghost use Rattle.std.specs.Prelude.{◌≡◌, ◌++◌, false, IfOk, OnOk, ⊤};
 ghost use Rattle.std.specs.String.{string_bytes};
 ghost use Rattle.passkey_client_data.specs.ClientData.{held};
@@ -40,7 +40,7 @@ fn unknown_holds_float(members: &IndexMap<String, Value>) -> bool
     false
 }
 
-/// Writes the value behind the text.
+/// Appends the value.
 fn put_value(alloc: Global, text: &mut String, value: &Value) -> Result<(), OutOfMemory>
     ensures { has_float (view value.now) ≡ false → OnOk result (string_bytes text.new ≡ string_bytes text.old ++ compact_text (view value.now)) }
 {
@@ -49,14 +49,14 @@ fn put_value(alloc: Global, text: &mut String, value: &Value) -> Result<(), OutO
     Ok(())
 }
 
-/// Writes a text behind the text.
+/// Appends a text value.
 fn put_string(alloc: Global, text: &mut String, value: &str) -> Result<(), OutOfMemory>
     ensures { OnOk result (string_bytes text.new ≡ string_bytes text.old ++ compact_text (string value.now)) }
 {
     put_value(alloc, text, &Value::try_from_str(alloc, value)?)
 }
 
-/// Writes a member behind those before it.
+/// Appends a member.
 fn put_member(
     alloc: Global,
     text: &mut String,
@@ -71,7 +71,7 @@ fn put_member(
     put_value(alloc, text, value)
 }
 
-/// Writes a member that is a text behind those before it.
+/// Appends a member that is a text.
 fn put_string_member(
     alloc: Global,
     text: &mut String,
@@ -83,7 +83,7 @@ fn put_string_member(
     put_member(alloc, text, name, &Value::try_from_str(alloc, member)?)
 }
 
-/// Writes a member that is a truth behind those before it.
+/// Appends a member that is a boolean.
 fn put_truth_member(
     alloc: Global,
     text: &mut String,
@@ -135,11 +135,17 @@ impl<E: ClientDataExtra> CollectedClientData<E> {
         Ok(text)
     }
 
-    /// The client data as JSON text with no space: `type`, `challenge`, `origin`, `crossOrigin` (true
-    /// if it holds true, else false), the members of `extra_data` in their order, and
-    /// `unknown_keys` in theirs (WebAuthn Level 3, section 5.8.1.1, has the first four so).
+    /// Encodes the client data as JSON text without white space: `type`, `challenge`, `origin`,
+    /// `crossOrigin` (false if it is absent), in this order (WebAuthn Level 3, section 5.8.1.1),
+    /// then the members of `extra_data`, then `unknown_keys`.
+    ///
     /// `Float("extra_data")` if one of the former members holds a float, else
     /// `Float("unknown_keys")` if one of the latter does. `OutOfMemory` if an allocation fails.
+    ///
+    /// The members of an object within a member are ordered by name, and `unknown_keys` were so
+    /// when they were decoded. So client data that was decoded and encoded again may not hash to
+    /// what the authenticator signed: keep the bytes that came in, and verify the signature with
+    /// those.
     #[tactic(auto, unfolding(crate::specs::ClientDataText::client_data_text))]
     pub fn to_text(&self, alloc: Global) -> Result<Text, JsonFault>
         ensures { Gives ⊤ (client_data_text E.written (held self.now)) result }

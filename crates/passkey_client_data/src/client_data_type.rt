@@ -1,4 +1,4 @@
-//! What client data is for, decoded from JSON values and printed.
+//! Types of client data, decoded from JSON values and encoded as names.
 ghost use Rattle.std.specs.Prelude.{false, Some};
 ghost use Rattle.passkey_client_data.specs.ClientDataType.{client_data_type_name, client_data_type_named, client_data_type_own};
 ghost use Rattle.passkey_json.specs.Kind.{one_named};
@@ -9,15 +9,15 @@ use serde_json::Value;
 use std::alloc::Global;
 use std::fmt;
 
-/// What client data is for (WebAuthn Level 3, section 5.8.1), or Secure Payment Confirmation, which has
-/// the last.
+/// What client data is for (WebAuthn Level 3, section 5.8.1). `PaymentGet` comes from Secure
+/// Payment Confirmation.
 #[derive(Clone, Copy, Debug, PartialEq, Eq)]
 pub enum ClientDataType {
-    /// A credential is made.
+    /// A registration: `webauthn.create`.
     Create,
-    /// A credential signs in.
+    /// A sign-in: `webauthn.get`.
     Get,
-    /// A credential confirms a payment.
+    /// The confirmation of a payment: `payment.get`.
     PaymentGet,
 }
 
@@ -49,7 +49,7 @@ impl EnumNames for ClientDataType {
 impl fmt::Display for ClientDataType {
     ghost output = { λ x. Some (client_data_type_name x) };
 
-    /// The name that client data has for it.
+    /// The type's name in client data.
     fn fmt<W: fmt::Write>(&self, f: &mut fmt::Formatter<W>) -> fmt::Result {
         f.write_str(self.name())
     }

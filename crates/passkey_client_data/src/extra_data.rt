@@ -1,54 +1,64 @@
-//! Members of client data beside those that all client data has.
+//! Further members of client data.
 ghost use Rattle.std.specs.Prelude.{◌≡◌, ℕ, Bool, true, List, Result, IfOk, IsTrue};
 ghost use Rattle.passkey_client_data.specs.ExtraData.{are_extra};
 ghost use Rattle.passkey_json.specs.Fault.{Fault, Gives};
+ghost use Rattle.passkey_json.specs.Held.{names_of};
+ghost use Rattle.passkey_json.specs.Members.{Object as Names, in_object, takes_in};
 ghost use Rattle.serde_json.specs.Data.{Members};
-ghost use Rattle.serde_json.specs.View.{members_view};
+ghost use Rattle.serde_json.specs.View.{members_view, view};
 
-use passkey_json::JsonFault;
+use passkey_json::{JsonFault, Object};
 use passkey_memory::OutOfMemory;
-use serde_json::{Map, Value};
+use serde_json::Value;
 use std::alloc::Global;
 
-/// What a user of client data knows of its members beside `type`, `challenge`, `origin` and
-/// `crossOrigin` (WebAuthn Level 3, section 5.8.1, lets clients add members).
+/// The members that a caller knows beside `type`, `challenge`, `origin` and `crossOrigin`; clients
+/// may add some (WebAuthn Level 3, section 5.8.1).
 pub trait ClientDataExtra: Drop {
-    /// Whether a name is that of a member of this type's.
+    /// Whether a name is that of a member of this type.
     ghost has: { List ℕ → Bool };
 
-    /// The value that an object with these members stands for, or the fault.
-    ghost reads: { Members → Result Self Fault };
+    /// The value that an object decodes to, or the fault.
+    ghost reads: { Names → Result Self Fault };
 
-    /// Whether decoding the value from an object with these members may take memory.
-    ghost takes: { Members → Bool };
+    /// Whether decoding the value from an object may take memory.
+    ghost takes: { Names → Bool };
 
-    /// The members that each value is written as.
+    /// The members that each value is encoded as.
     ghost written: { Self → Members };
 
-    /// Whether the name is that of a member of this type's.
+    /// Whether the name is that of a member of this type.
     fn is_member(name: &str) -> bool
         ensures { result ≡ has name.now };
 
-    /// The value that the client data with these members stands for, or the fault. No member of this
-    /// type's holds a float. `OutOfMemory` if an allocation fails, and only if the members take
-    /// memory to decode (`takes`).
-    fn from_object(alloc: Global, object: &Map<String, Value>) -> Result<Self, JsonFault>
-        ensures { Gives (IsTrue (takes (members_view object.now.entries))) (reads (members_view object.now.entries)) result };
+    /// Decodes the value from the client data, member by member, as `JsonRecord::from_object` does.
+    /// No member of this type holds a float. `OutOfMemory` if an allocation fails, and only if the
+    /// object takes memory to decode (`takes`).
+    fn from_object(object: &Object<'_>) -> Result<Self, JsonFault>
+        ensures { Gives (IsTrue (takes (names_of object.now))) (reads (names_of object.now)) result };
 
-    /// The members that the value is written as, in their order. `OutOfMemory` if an allocation
-    /// fails.
+    /// Decodes the value from the client data's JSON value: `NotAnObject` if it is no object, else
+    /// as `from_object`.
+    final fn from_value(alloc: Global, value: &Value) -> Result<Self, JsonFault>
+        ensures { Gives (IsTrue (takes_in takes (view value.now))) (in_object reads (view value.now)) result }
+    {
+        Self::from_object(&Object::of(alloc, value)?)
+    }
+
+    /// Encodes the value as members, in their order. `OutOfMemory` if an allocation fails.
     fn members(&self, alloc: Global) -> Result<Vec<(String, Value)>, OutOfMemory>
         ensures { IfOk result (λ ms. members_view ms.items ≡ written self.now) };
 
-    /// What is written are members of this type's, each name once, and none that all client data has.
+    /// The encoded members are of this type, each name once, and none of a member that all client
+    /// data has.
     ghost members_are_extra: { (x : Self) → are_extra has (written x) ≡ true };
 
-    /// An equal value. `OutOfMemory` if an allocation fails.
+    /// Returns an equal value. `OutOfMemory` if an allocation fails.
     fn try_clone(&self, alloc: Global) -> Result<Self, OutOfMemory>
         ensures { IfOk result (λ copy. copy ≡ self.now) };
 }
 
-/// No member is known beside those that all client data has.
+/// No further members are known.
 impl ClientDataExtra for () {
     ghost use Rattle.std.specs.Prelude.{false, Ok, refl};
     ghost use Rattle.serde_json.specs.Data.{no_members};
@@ -65,7 +75,7 @@ impl ClientDataExtra for () {
         false
     }
 
-    fn from_object(_alloc: Global, _object: &Map<String, Value>) -> Result<(), JsonFault> {
+    fn from_object(_object: &Object<'_>) -> Result<(), JsonFault> {
         Ok(())
     }
 

@@ -1,8 +1,10 @@
-//! What an authenticator signs of a browser's part: where a credential was made or used, and for which
-//! challenge (WebAuthn Level 3, section 5.8.1), read of JSON values and written as JSON texts.
+//! Collected client data: what a client adds to what an authenticator signs, such as the challenge
+//! and the origin (WebAuthn Level 3, section 5.8.1), decoded from JSON and encoded as JSON texts.
 #![tactic(auto)]
 
 mod client_data;
+mod client_data_bytes;
+mod client_data_fault;
 mod client_data_text;
 mod client_data_type;
 mod extra_data;
@@ -10,6 +12,7 @@ mod fixed_members;
 mod unknown_members;
 
 pub use client_data::CollectedClientData;
+pub use client_data_fault::ClientDataFault;
 pub use client_data_type::ClientDataType;
 pub use extra_data::ClientDataExtra;
 pub use passkey_memory::OutOfMemory;

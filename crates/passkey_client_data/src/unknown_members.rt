@@ -1,4 +1,4 @@
-//! Members of client data that a type knows, and those that nothing knows.
+//! The members of client data that a type knows, and unknown ones.
 ghost use Rattle.std.specs.Prelude.{◌≡◌, IfOk, OnOk, codes, IsTrue, OnErr};
 ghost use Rattle.passkey_client_data.specs.ExtraData.{is_fixed, is_unknown};
 ghost use Rattle.passkey_client_data.specs.MemberLists.{added, members_where, without_floats, any_member};
@@ -77,8 +77,8 @@ fn copy_unknown<E: ClientDataExtra>(
     Ok(copies)
 }
 
-/// Copies of the members that neither all client data nor the type has, in their order.
-/// `OutOfMemory` only if there is one.
+/// Copies of the unknown members, in their order. `OutOfMemory` if an allocation fails, and only if
+/// there is one.
 pub(crate) fn unknown_members<E: ClientDataExtra>(
     alloc: Global,
     members: &Map<String, Value>,

@@ -1,13 +1,13 @@
-//! What names an authenticator's make and model.
+//! Authenticators' makes and models.
 ghost use Rattle.std.specs.Prelude.{◌≡◌, replicate};
 
-/// An authenticator attestation GUID: 16 bytes that name an authenticator's make and model, or all
-/// of them zero where it tells neither (WebAuthn Level 3, section 6.5.1).
+/// An authenticator attestation GUID: 16 bytes that identify the authenticator's make and model, or
+/// all zero if it doesn't disclose them (WebAuthn Level 3, section 6.5.1).
 #[derive(Clone, Copy, Debug, PartialEq, Eq)]
 pub struct Aaguid(pub [u8; 16]);
 
 impl Aaguid {
-    /// 16 zero bytes, which name nothing.
+    /// The AAGUID of 16 zero bytes.
     pub const fn new_empty() -> Aaguid
         ensures { result.0 ≡ replicate 16 0 }
     {
@@ -18,7 +18,7 @@ impl Aaguid {
 impl Default for Aaguid {
     ghost is_default = { λ aaguid. aaguid.0 ≡ replicate 16 0 };
 
-    /// 16 zero bytes.
+    /// The AAGUID of 16 zero bytes.
     fn default() -> Aaguid {
         Aaguid::new_empty()
     }

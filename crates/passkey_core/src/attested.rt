@@ -20,8 +20,9 @@ pub use data::AttestedCredentialData;
 pub use iter::AttestedCredentialDataIterator;
 
 impl AttestedCredentialData {
-    /// Attested credential data of these parts. `TryFromIntError` exactly where the credential id
-    /// has more than 65535 bytes, since its length is written in two.
+    /// Attested credential data with these parts. `TryFromIntError` exactly if the credential id
+    /// has more than 65535 bytes, since its length is encoded in two. (Relying parties should
+    /// reject more than 1023: WebAuthn Level 3, section 7.1.)
     pub fn new(
         aaguid: Aaguid,
         credential_id: Vec<u8>,
@@ -38,7 +39,7 @@ impl AttestedCredentialData {
         })
     }
 
-    /// The credential's id, of at most 65535 bytes.
+    /// The credential id, at most 65535 bytes.
     pub fn credential_id(&self) -> &[u8]
         ensures value { result.now ≡ (attested_parts self.now).credential_id }
         ensures fits { length result.now < 2 ^ 16 }
@@ -46,8 +47,8 @@ impl AttestedCredentialData {
         self.credential_id.as_slice()
     }
 
-    /// Equal data. `OutOfMemory` where a growth was refused, which cannot be where the id is empty
-    /// and the key takes no memory.
+    /// Returns equal data. `OutOfMemory` if an allocation fails, which can't happen if the id is
+    /// empty and the key takes no memory.
     pub fn try_clone(&self, alloc: Global) -> Result<AttestedCredentialData, OutOfMemory>
         ensures same { IfOk result (λ copy. attested_parts copy ≡ attested_parts self.now) }
         ensures grows { OnErr result ((0 < length (attested_parts self.now).credential_id) ⊎ TakesMemory (attested_parts self.now).key) }
@@ -67,7 +68,7 @@ impl PartialEq for AttestedCredentialData {
 
     ghost laws = { on_per attested_parts (partial_equiv_from_equiv attested_eq-equivalence) };
 
-    /// Whether the two have the same parts.
+    /// Whether both have the same parts.
     #[tactic(auto, using(crate::specs::DataSame::attested_Decides))]
     fn eq(&self, other: &AttestedCredentialData) -> bool
         ensures value { result ≡ attested_eq (attested_parts self.now) (attested_parts other.now) }

@@ -17,24 +17,26 @@ mod extensions;
 mod reading;
 mod writing;
 
-/// What an authenticator says of a credential's use: for whom, how, how often, and where it made
-/// the credential, which one (WebAuthn Level 3, section 6.1).
+/// What an authenticator signs about a registration or an assertion: the relying party, flags, a
+/// signature counter, the new credential and extension outputs (WebAuthn Level 3, section 6.1).
 #[derive(Debug, Drop)]
 pub struct AuthenticatorData {
     rp_id_hash: [u8; 32],
-    /// How it was used, and which parts follow.
+    /// The flags: user present, user verified, backup state, and which parts follow.
     pub flags: Flags,
-    /// How often it was used; none is written as 0.
+    /// The signature counter. `None` is encoded as 0, which means that the authenticator keeps
+    /// none.
     pub counter: Option<u32>,
-    /// The credential that was made.
+    /// The new credential; `None` at an assertion.
     pub attested_credential_data: Option<AttestedCredentialData>,
-    /// What extensions answered: a map, whose keys name them.
+    /// The extension outputs: a map from extension identifiers. Another item is encoded as it is,
+    /// but then the data aren't coherent.
     pub extensions: Option<Value>,
 }
 
 impl AuthenticatorData {
-    /// Data for this relying party id, whose hash it has, with the flags BE and BS and no further
-    /// part.
+    /// Authenticator data for this relying party id, of which it holds the SHA-256 hash, with the
+    /// flags BE and BS and without further parts.
     pub fn new(rp_id: &str, counter: Option<u32>) -> AuthenticatorData
         ensures { data_parts result ≡ bare_data (sha256 rp_id.now) 24 counter }
     {
@@ -47,8 +49,8 @@ impl AuthenticatorData {
         }
     }
 
-    /// Data for no relying party: a hash of 32 zero bytes, the flags BE and BS, no counter and no
-    /// further part.
+    /// Authenticator data with a hash of 32 zero bytes, the flags BE and BS, no counter and no
+    /// further parts.
     pub fn empty() -> AuthenticatorData
         ensures { data_parts result ≡ bare_data (replicate 32 0) 24 None }
     {
@@ -61,14 +63,14 @@ impl AuthenticatorData {
         }
     }
 
-    /// The SHA-256 hash of the relying party's id.
+    /// The SHA-256 hash of the relying party id, 32 bytes.
     pub fn rp_id_hash(&self) -> &[u8]
         ensures { result.now ≡ (data_parts self.now).rp_id_hash }
     {
         &self.rp_id_hash
     }
 
-    /// The data with these flags set as well.
+    /// The data with these flags set in addition.
     pub fn set_flags(mut self, flags: Flags) -> AuthenticatorData
         ensures { data_parts result ≡ record (data_parts self) { flags = bit_or self.flags.0 flags.0 } }
     {
@@ -76,7 +78,7 @@ impl AuthenticatorData {
         self
     }
 
-    /// The data with this attested credential data, and with AT set.
+    /// The data with this attested credential data, and the flag AT set.
     pub fn set_attested_credential_data(
         mut self,
         attested: AttestedCredentialData,

@@ -1,15 +1,15 @@
-//! The commands that an authenticator is sent.
+//! CTAP2's commands.
 ghost use Rattle.std.specs.Prelude.{◌≡◌};
 ghost use Rattle.passkey_core.specs.Command.{command_byte};
 
-/// A command to an authenticator, by its byte (CTAP 2.1, section 6).
+/// A command to an authenticator, with its byte (CTAP 2.1, section 6).
 #[derive(Drop)]
 pub enum Ctap2Command {
-    /// To make a credential.
+    /// authenticatorMakeCredential.
     MakeCredential = 1,
-    /// To sign by a credential.
+    /// authenticatorGetAssertion.
     GetAssertion = 2,
-    /// To tell what the authenticator can do.
+    /// authenticatorGetInfo.
     GetInfo = 4,
 }
 

@@ -8,28 +8,28 @@ use std::ops::{
     BitAnd, BitAndAssign, BitOr, BitOrAssign, BitXor, BitXorAssign, Not, Sub, SubAssign,
 };
 
-/// The flags of authenticator data, in a byte. Bits 1 and 5 are reserved: a value holds them only
-/// where `from_bits_retain` of `bitflags::Flags` gave it them (WebAuthn Level 3, section 6.1).
+/// The flags of authenticator data, one byte. Bits 1 and 5 are reserved. They are set only in a
+/// value that `from_bits_retain` of `bitflags::Flags` made (WebAuthn Level 3, section 6.1).
 #[derive(Clone, Copy, Debug, PartialEq, Eq)]
 pub struct Flags(u8);
 
 impl Flags {
-    /// The user is present: bit 0.
+    /// UP, bit 0: the user is present.
     pub const UP: Flags = Flags(1);
 
-    /// The user is verified: bit 2.
+    /// UV, bit 2: the user is verified.
     pub const UV: Flags = Flags(4);
 
-    /// The credential may be backed up: bit 3.
+    /// BE, bit 3: the credential may be backed up.
     pub const BE: Flags = Flags(8);
 
-    /// The credential is backed up: bit 4.
+    /// BS, bit 4: the credential is backed up. It must not be set without BE.
     pub const BS: Flags = Flags(16);
 
-    /// Attested credential data is there: bit 6.
+    /// AT, bit 6: attested credential data is present.
     pub const AT: Flags = Flags(64);
 
-    /// Extensions are there: bit 7.
+    /// ED, bit 7: extension outputs are present.
     pub const ED: Flags = Flags(128);
 
     const TABLE: &'static [Flag<Flags>] = &[
@@ -143,7 +143,7 @@ impl Sub for Flags {
 
     ghost sub_gives = { λ a b left. left.0 ≡ bit_and a.0 (255 - b.0) };
 
-    /// Its bits without those of the other.
+    /// The bits of this value that the other one lacks.
     fn sub(self, other: Flags) -> Flags {
         Flags(self.0 & !other.0)
     }
@@ -162,7 +162,7 @@ impl Not for Flags {
 
     ghost not_gives = { λ a lacking. lacking.0 ≡ bit_and (255 - a.0) known_flags };
 
-    /// The flags that it lacks, and no reserved bits.
+    /// The flags that aren't set, without reserved bits.
     fn not(self) -> Flags {
         Flags(!self.0 & Flags::KNOWN)
     }
@@ -171,7 +171,7 @@ impl Not for Flags {
 impl Default for Flags {
     ghost is_default = { λ flags. flags.0 ≡ 24 };
 
-    /// BE and BS.
+    /// The flags BE and BS.
     fn default() -> Flags {
         Flags::BE | Flags::BS
     }
@@ -190,7 +190,7 @@ impl TryFrom<u8> for Flags {
 
     ghost try_from_gives = { λ byte flags. (IsOk flags ↔ (bit_and byte reserved_flags ≡ 0)) × IfOk flags (λ made. made.0 ≡ byte) };
 
-    /// The flags of a byte; nothing exactly where bit 1 or bit 5 is set.
+    /// The flags of a byte; `()` exactly if bit 1 or 5 is set.
     fn try_from(byte: u8) -> Result<Flags, ()> {
         if byte & !Flags::KNOWN == 0 {
             Ok(Flags(byte))

@@ -1,4 +1,4 @@
-//! What is said of a credential's use (CTAP 2.1, section 6.2).
+//! Extension outputs in the authenticator data of an assertion (CTAP 2.1, section 6.2).
 ghost use Rattle.std.specs.Prelude.{◌≡◌, IfOk, IsSome, IsTrue, OnErr, option_map};
 ghost use Rattle.passkey_cbor.specs.View.{item_of};
 ghost use Rattle.passkey_core.specs.SignedOutputs.{assertion_item, has_assertion_member, where_some, assertion_extensions};
@@ -9,16 +9,15 @@ use passkey_cbor::Value;
 use passkey_memory::OutOfMemory;
 use std::alloc::Global;
 
-/// What extensions answer in the authenticator data of a credential's use (WebAuthn Level 3,
-/// section 9.2).
+/// Extension outputs in the authenticator data of an assertion (WebAuthn Level 3, section 9.2).
 #[derive(Debug, Drop)]
 pub struct SignedExtensionOutputs {
-    /// `hmac-secret`: the encrypted secrets.
+    /// `hmac-secret`: the encrypted outputs; `None` means the member is absent.
     pub hmac_secret: Option<Bytes>,
 }
 
 impl SignedExtensionOutputs {
-    /// The outputs themselves, exactly where one is there.
+    /// `Some` with the outputs if one is present.
     pub fn zip_contents(self) -> Option<SignedExtensionOutputs>
         ensures { result ≡ where_some (has_assertion_member self) self }
     {
@@ -29,8 +28,8 @@ impl SignedExtensionOutputs {
         }
     }
 
-    /// The outputs as a map: `hmac-secret`, where it is there. `OutOfMemory` where a growth was
-    /// refused, which cannot be where it isn't.
+    /// The outputs as a map: `hmac-secret`, if present. `OutOfMemory` if an allocation fails, which
+    /// can't happen if it is absent.
     pub fn to_value(&self, alloc: Global) -> Result<Value, OutOfMemory>
         ensures value { IfOk result (λ v. item_of v ≡ assertion_item self.now) }
         ensures grows { OnErr result (IsTrue (has_assertion_member self.now)) }
@@ -42,7 +41,7 @@ impl SignedExtensionOutputs {
     }
 }
 
-/// The outputs as extensions, where one is there. `OutOfMemory` where a growth was refused.
+/// The outputs as a map, if one is present. `OutOfMemory` if an allocation fails.
 pub(crate) fn to_extensions(
     alloc: Global,
     outputs: Option<SignedExtensionOutputs>,

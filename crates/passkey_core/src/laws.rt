@@ -1,28 +1,28 @@
-//! Laws of authenticator data, each the contract of a function without effect.
+//! Laws about authenticator data, each the contract of a function that does nothing.
 ghost use Rattle.passkey_core.specs.DataLaws.{OneReading, GivenIsRead, ReadIsGiven, GivenIsCoherent, ReadIsCoherent, WrittenDataAreReadBack};
 
-/// Bytes are read as one thing: as these data, or with this fault (WebAuthn Level 3, section 6.1).
+/// Bytes decode to one result: these data, or this error (WebAuthn Level 3, section 6.1).
 pub fn one_reading()
     ensures { OneReading }
 {
     passkey_cbor::laws::at_most_one_front();
 }
 
-/// What `read_data` gives of bytes, data or a fault, is what they are read as.
+/// What `read_data` gives for bytes, data or an error, is what they decode to.
 pub fn given_is_read()
     ensures { GivenIsRead }
 {
     passkey_cbor::laws::given_is_front();
 }
 
-/// Data that bytes are read as are what `read_data` gives of them.
+/// What bytes decode to is what `read_data` gives for them.
 pub fn read_is_given()
     ensures { ReadIsGiven }
 {
     passkey_cbor::laws::front_is_given();
 }
 
-/// What `read_data` gives of any list of numbers is coherent.
+/// What `read_data` gives for any list of numbers is coherent.
 pub fn given_data_are_coherent()
     ensures { GivenIsCoherent }
 {
@@ -30,7 +30,7 @@ pub fn given_data_are_coherent()
     passkey_cose::laws::read_key_is_readable();
 }
 
-/// What is read of bytes is coherent.
+/// Decoded data are coherent.
 pub fn read_data_is_coherent()
     ensures { ReadIsCoherent }
 {
@@ -38,8 +38,8 @@ pub fn read_data_is_coherent()
     given_data_are_coherent();
 }
 
-/// What is written of coherent data is read as the data, whatever bytes follow, with 0 for an absent
-/// counter, and with the value that a registry assigns to a number of the key.
+/// The encoding of coherent data decodes to these data, whatever bytes follow, with 0 for an absent
+/// counter, and with assigned numbers in the key as the registry's values.
 pub fn written_data_are_read_back()
     ensures { WrittenDataAreReadBack }
 {

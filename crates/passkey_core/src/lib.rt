@@ -1,6 +1,6 @@
-//! What the messages of passkeys are made of: byte strings, texts, lists, maps, keys of COSE
-//! (RFC 9052, section 7), authenticator data and attested credential data (WebAuthn Level 3, sections
-//! 6.1 and 6.5.1), and the status codes and commands of CTAP2.
+//! What messages are made of: byte strings, texts, lists, maps, COSE keys (RFC 9052, section 7),
+//! authenticator data and attested credential data (WebAuthn Level 3, sections 6.1 and 6.5.1), and
+//! CTAP2's status codes and commands.
 #![tactic(auto)]
 
 mod aaguid;

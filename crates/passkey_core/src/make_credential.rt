@@ -1,4 +1,4 @@
-//! What is said of a credential that was made (CTAP 2.1, section 6.1).
+//! Extension outputs in the authenticator data of a registration (CTAP 2.1, section 6.1).
 ghost use Rattle.std.specs.Prelude.{◌≡◌, IfOk, IsSome, IsTrue, OnErr, option_map};
 ghost use Rattle.passkey_cbor.specs.View.{item_of};
 ghost use Rattle.passkey_core.specs.SignedOutputs.{creation_item, has_creation_member, where_some, creation_extensions};
@@ -9,18 +9,17 @@ use passkey_cbor::Value;
 use passkey_memory::OutOfMemory;
 use std::alloc::Global;
 
-/// What extensions answer in the authenticator data of a credential that was made (WebAuthn
-/// Level 3, section 9.2).
+/// Extension outputs in the authenticator data of a registration (WebAuthn Level 3, section 9.2).
 #[derive(Debug, Drop)]
 pub struct SignedExtensionOutputs {
-    /// `hmac-secret`: whether secrets are derived for the credential.
+    /// `hmac-secret`: whether the credential supports it; `None` means the member is absent.
     pub hmac_secret: Option<bool>,
-    /// `hmac-secret-mc` (CTAP 2.2): the encrypted secrets.
+    /// `hmac-secret-mc` (CTAP 2.2): the encrypted outputs; `None` means the member is absent.
     pub hmac_secret_mc: Option<Bytes>,
 }
 
 impl SignedExtensionOutputs {
-    /// The outputs themselves, exactly where one is there.
+    /// `Some` with the outputs if one is present.
     pub fn zip_contents(self) -> Option<SignedExtensionOutputs>
         ensures { result ≡ where_some (has_creation_member self) self }
     {
@@ -31,8 +30,8 @@ impl SignedExtensionOutputs {
         }
     }
 
-    /// The outputs as a map: `hmac-secret`, `hmac-secret-mc`, each where it is there. `OutOfMemory`
-    /// where a growth was refused, which cannot be where none is there.
+    /// The outputs as a map: `hmac-secret` and `hmac-secret-mc`, each if present. `OutOfMemory` if
+    /// an allocation fails, which can't happen if both are absent.
     pub fn to_value(&self, alloc: Global) -> Result<Value, OutOfMemory>
         ensures value { IfOk result (λ v. item_of v ≡ creation_item self.now) }
         ensures grows { OnErr result (IsTrue (has_creation_member self.now)) }
@@ -46,7 +45,7 @@ impl SignedExtensionOutputs {
     }
 }
 
-/// The outputs as extensions, where one is there. `OutOfMemory` where a growth was refused.
+/// The outputs as a map, if one is present. `OutOfMemory` if an allocation fails.
 pub(crate) fn to_extensions(
     alloc: Global,
     outputs: Option<SignedExtensionOutputs>,

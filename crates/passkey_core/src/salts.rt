@@ -1,13 +1,12 @@
 //! The salts of the extension hmac-secret (CTAP 2.1, section 12.5).
-ghost use Rattle.std.specs.Prelude.{◌≡◌, Some, codes, option_map, take};
+ghost use Rattle.std.specs.Prelude.{◌≡◌, option_map, take};
 ghost use Rattle.passkey_core.specs.Salts.{AreSalts, JoinsSalts, ReadsSalt, ReadsSalts, salts_of, second_salt};
 
-use std::error::Error;
-use std::fmt;
 use std::marker::Model;
+use thiserror::Error;
 
-/// One salt of 32 bytes, or two: what is given to the extension hmac-secret, or what it makes of
-/// them (CTAP 2.1, section 12.5).
+/// One or two salts of 32 bytes: inputs of the extension hmac-secret, or its outputs for them (CTAP
+/// 2.1, section 12.5).
 #[derive(Debug, Clone, Drop)]
 pub struct HmacSecretSaltOrOutput(Salts);
 
@@ -29,7 +28,7 @@ impl Model for HmacSecretSaltOrOutput {
 }
 
 impl HmacSecretSaltOrOutput {
-    /// The first salt, and the second one where there is one.
+    /// One or two salts.
     pub fn new(first: [u8; 32], second: Option<[u8; 32]>) -> HmacSecretSaltOrOutput
         ensures { result ≡ salts_of first second }
     {
@@ -45,8 +44,7 @@ impl HmacSecretSaltOrOutput {
         }
     }
 
-    /// The first salt, and the second one where there is one. `TryFromSliceError` exactly where one
-    /// of them hasn't 32 bytes.
+    /// One or two salts from slices. `TryFromSliceError` exactly if one of them hasn't 32 bytes.
     pub fn try_new(
         first: &[u8],
         second: Option<&[u8]>,
@@ -60,7 +58,7 @@ impl HmacSecretSaltOrOutput {
         }
     }
 
-    /// The first salt and the second one behind it: 32 bytes or 64.
+    /// The salts one after the other: 32 bytes or 64.
     pub fn as_slice(&self) -> &[u8]
         ensures value { result.now ≡ self.now }
         ensures length { AreSalts self.now }
@@ -71,7 +69,7 @@ impl HmacSecretSaltOrOutput {
         }
     }
 
-    /// The first salt: 32 bytes.
+    /// The first salt, 32 bytes.
     pub fn first(&self) -> &[u8]
         ensures { result.now ≡ take 32 self.now }
     {
@@ -79,7 +77,7 @@ impl HmacSecretSaltOrOutput {
         first
     }
 
-    /// The second salt, 32 bytes, where there are two.
+    /// The second salt, 32 bytes; `None` if there is only one.
     pub fn second(&self) -> Option<&[u8]>
         ensures { option_map (λ salt. salt.now) result ≡ second_salt self.now }
     {
@@ -121,7 +119,7 @@ impl TryFrom<&[u8]> for HmacSecretSaltOrOutput {
 
     ghost try_from_gives = { λ bytes result. ReadsSalts bytes.now result };
 
-    /// One salt where there are 32 bytes, two where there are 64; else `TryFromSliceError`.
+    /// One salt from 32 bytes, two from 64. `TryFromSliceError` for any other length.
     fn try_from(bytes: &[u8]) -> Result<HmacSecretSaltOrOutput, TryFromSliceError> {
         if let Ok(first) = <[u8; 32]>::try_from(bytes) {
             return Ok(HmacSecretSaltOrOutput::from(first));
@@ -133,16 +131,7 @@ impl TryFrom<&[u8]> for HmacSecretSaltOrOutput {
     }
 }
 
-/// Bytes are no salt, or no one or two salts, by their number.
-#[derive(Clone, Copy, Debug, PartialEq, Eq)]
+/// A slice hasn't the length of a salt, or of one or two salts.
+#[derive(Clone, Copy, Debug, Error, PartialEq, Eq)]
+#[error("TryFromSliceError")]
 pub struct TryFromSliceError;
-
-impl fmt::Display for TryFromSliceError {
-    ghost output = { λ _. Some (codes "TryFromSliceError") };
-
-    fn fmt<W: fmt::Write>(&self, f: &mut fmt::Formatter<W>) -> fmt::Result {
-        f.write_str("TryFromSliceError")
-    }
-}
-
-impl Error for TryFromSliceError {}

@@ -1,4 +1,4 @@
-//! What extensions answer, as the members of a map.
+//! Extension outputs as members of a map.
 ghost use Rattle.std.specs.Prelude.{◌≡◌, ◌++◌, map, option_map, IfOk, OnOk, IsSome, OnErr};
 ghost use Rattle.passkey_cbor.specs.Item.{byte_string};
 ghost use Rattle.passkey_cbor.specs.View.{item_of, pair_of};
@@ -9,7 +9,7 @@ use passkey_cbor::Value;
 use passkey_memory::OutOfMemory;
 use std::alloc::Global;
 
-/// The bytes as an item, where they are there.
+/// The bytes as an item, if present.
 pub(crate) fn bytes_value(
     alloc: Global,
     bytes: &Option<Bytes>,
@@ -23,7 +23,7 @@ pub(crate) fn bytes_value(
     }
 }
 
-/// Puts the member of this name behind the others, where there is one.
+/// Adds the member after the others, if present.
 pub(crate) fn push_output(
     alloc: Global,
     outputs: &mut Vec<(Value, Value)>,

@@ -1,4 +1,4 @@
-//! The status bytes that answer CTAP2's commands (CTAP 2.1, section 8.2).
+//! CTAP2's status codes (CTAP 2.1, section 8.2).
 ghost use Rattle.std.specs.Prelude.{◌≡◌, ◌++◌, codes, option_map};
 ghost use Rattle.passkey_core.specs.declared.status.StatusCode.TheVariants as status;
 ghost use Rattle.passkey_core.specs.Statuses.{IsStatus, ctap2_error_of};
@@ -9,19 +9,20 @@ mod ctap2_error;
 pub use classes::{ExtensionError, UnknownSpecError, VendorError};
 pub use ctap2_error::Ctap2Error;
 use passkey_cose::CoseKeyConversionError;
+use std::error::Error;
 use std::fmt;
 
-/// How a command ended, by its byte: each byte is in exactly one of the classes (CTAP 2.1,
-/// section 8.2).
+/// The status code of a response, one byte. Each byte belongs to exactly one of the four classes
+/// (CTAP 2.1, section 8.2).
 #[derive(Debug, Drop, PartialEq, Eq)]
 pub enum StatusCode {
-    /// A status with a name.
+    /// A status code that CTAP 2.1 names.
     Known(Ctap2Error),
-    /// A byte below 0xE0 that is assigned to nothing.
+    /// An unassigned byte below 0xE0.
     Other(UnknownSpecError),
-    /// A status of an extension, 0xE0 to 0xEF.
+    /// An extension's status code, 0xE0 to 0xEF.
     Extension(ExtensionError),
-    /// A vendor's status, 0xF0 to 0xFF.
+    /// A vendor's status code, 0xF0 to 0xFF.
     Vendor(VendorError),
 }
 
@@ -97,7 +98,7 @@ impl From<CoseKeyConversionError> for StatusCode {
     }
 }
 
-/// A number that is no code of the type that was asked for.
+/// The number isn't a code of the requested type.
 #[derive(Debug, Drop)]
 pub struct CodeOutOfRange<I>(pub I);
 
@@ -108,3 +109,5 @@ impl<I: fmt::Display> fmt::Display for CodeOutOfRange<I> {
         write!(f, "Value {} is out of range", self.0)
     }
 }
+
+impl<I: fmt::Debug + fmt::Display + Drop> Error for CodeOutOfRange<I> {}

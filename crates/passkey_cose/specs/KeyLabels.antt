@@ -1,6 +1,6 @@
 -- The members of a key: pairs of a label and a value, as items.
-use Rattle.std.specs.Prelude.{ℕ, pos, Bool, true, not, ◌&&◌, List, [], ◌∷◌}
-use Rattle.std.specs.List.{list_any}
+use Rattle.std.specs.Prelude.{ℕ, pos, Bool, true, not, ◌&&◌, List, [], ◌∷◌, Option, option_map}
+use Rattle.std.specs.List.{find, list_any}
 use Rattle.passkey_cbor.specs.Item.{Item, number}
 use Rattle.passkey_cbor.specs.Same.{item_eq}
 
@@ -16,6 +16,10 @@ is_common label = list_any (λ n. is_label n label) (1 ∷ 2 ∷ 3 ∷ 4 ∷ 5 �
 
 abbrev pub has_label : Members → Item → Bool
 has_label ms label = list_any (λ (m : Item × Item). item_eq label m.0) ms
+
+-- the value of the member with this label, if there is one
+abbrev pub value_at : Item → Members → Option Item
+value_at label ms = option_map (λ (m : Item × Item). m.1) (find (λ (m : Item × Item). item_eq label m.0) ms)
 
 -- no label is a common parameter's, and none stands twice
 abbrev pub are_separate : Members → Bool

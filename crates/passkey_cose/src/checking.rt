@@ -1,4 +1,4 @@
-//! What is bad of the members of a map that is read as a key.
+//! Finding the first bad member of a map that is decoded as a key.
 ghost use Rattle.std.specs.Prelude.{◌≡◌, if◌then◌else◌, [], ◌∷◌, ◌++◌, map, Some, None, OnOk};
 ghost use Rattle.std.specs.List.{list_any};
 ghost use Rattle.passkey_cbor.specs.Same.{item_eq};
@@ -14,10 +14,11 @@ use crate::seen::Seen;
 use passkey_cbor::{Integer, Value};
 use std::alloc::Global;
 
-/// Up to so many names are compared with one another; of more, the earlier ones are kept in order.
+/// Up to this many labels or operations are compared with one another. If there are more, the
+/// earlier ones are kept in an ordered set.
 const FEW: usize = 16;
 
-/// The number, if 64 signed bits hold it.
+/// The number as 64 signed bits; `None` if it is outside their range.
 pub(super) fn signed_64(n: Integer) -> Option<i64>
     ensures { result ≡ (if is_signed_64 n then Some n else None) }
 {
@@ -28,7 +29,7 @@ pub(super) fn signed_64(n: Integer) -> Option<i64>
     Some(n as i64)
 }
 
-/// Whether the item is this number.
+/// Whether the label is this number.
 pub(super) fn is_label_of(label: &Value, n: u8) -> bool
     ensures { result ≡ is_label n (item_of label.now) }
 {
@@ -78,7 +79,7 @@ fn stands_in(op: &Value, ops: &[Value]) -> bool
     false
 }
 
-/// Whether the operation is one of the earlier ones, to which it is added.
+/// Whether the operation repeats an earlier one. It is added to those.
 fn is_repeated_op<'a>(seen: &mut Seen<'a>, earlier: &[Value], op: &'a Value) -> bool
     requires name { name_fault (item_of op.now) ≡ None }
     requires held { Holds seen.old (map item_of earlier.now) }
@@ -152,7 +153,7 @@ fn is_taken(label: &Value, members: &[(Value, Value)]) -> bool
     false
 }
 
-/// Whether the label is one of the earlier ones, to which it is added.
+/// Whether the label repeats an earlier one. It is added to those.
 fn is_repeated_label<'a>(seen: &mut Seen<'a>, earlier: &[(Value, Value)], label: &'a Value) -> bool
     requires name { name_fault (item_of label.now) ≡ None }
     requires held { Holds seen.old (labels_of (map pair_of earlier.now)) }
@@ -184,7 +185,7 @@ fn check_member<'a>(
     check_value(alloc, label, value)
 }
 
-/// Returns the fault of the first bad member. Never runs out of memory: after a refused growth,
+/// Returns the error of the first bad member. Never runs out of memory: once an allocation fails,
 /// labels and operations are compared with one another.
 pub(super) fn check_members(alloc: Global, members: &[(Value, Value)]) -> Result<(), CoseError>
     ensures { Checks (first_fault [] (map pair_of members.now)) result }

@@ -1,4 +1,4 @@
-//! Copies of keys.
+//! Copying keys.
 ghost use Rattle.std.specs.Prelude.{◌≡◌, ◌<◌, length, map, IsSome, IsSomeAnd, option_map, IfOk, OnErr};
 ghost use Rattle.passkey_cose.specs.Key.{key_parts};
 ghost use Rattle.passkey_cose.specs.KeyParams.{params_of};
@@ -62,8 +62,8 @@ fn copy_params(alloc: Global, params: &[(Label, Value)]) -> Result<Vec<(Label, V
 }
 
 impl CoseKey {
-    /// An equal key. `OutOfMemory` where a growth was refused, which cannot be for a key whose type
-    /// and algorithm are numbers, and which has no other part.
+    /// Returns an equal key. `OutOfMemory` if an allocation fails, which can't happen for a key
+    /// whose type and algorithm are numbers and which has no other part.
     pub fn try_clone(&self, alloc: Global) -> Result<CoseKey, OutOfMemory>
         ensures same { IfOk result (λ k. key_parts k ≡ key_parts self.now) }
         ensures grows { OnErr result (TakesMemory (key_parts self.now)) }

@@ -1,4 +1,4 @@
-//! Why no key was read or made.
+//! Why a key wasn't decoded or made.
 ghost use Rattle.std.specs.Prelude.{◌≡◌, Some};
 ghost use Rattle.passkey_cose.specs.CoseErrors.{cose_error_name, cose_error_of};
 ghost use Rattle.passkey_cose.specs.declared.error.CoseError.TheVariants.{OutOfMemory as NoMemory};
@@ -6,21 +6,22 @@ ghost use Rattle.passkey_cose.specs.declared.error.CoseError.TheVariants.{OutOfM
 use passkey_cbor::CborError;
 use passkey_memory::OutOfMemory;
 use std::alloc::{AllocError, AllocFailed};
-use std::error::Error;
 use std::fmt;
+use thiserror::Error;
 
-/// Why no key was read or made.
+/// Why a key wasn't decoded, made or changed.
 #[derive(Clone, Copy, Debug, PartialEq, Eq)]
 pub enum CoseError {
-    /// The bytes are cut off, or no item of CBOR stands where one should.
+    /// The bytes are cut off, or no well-formed CBOR item of at most 256 levels is where one is
+    /// expected.
     DecodeFailed,
-    /// A growth was refused.
+    /// An allocation failed.
     OutOfMemory,
-    /// A number is outside its range.
+    /// A number is out of range.
     OutOfRangeIntegerValue,
-    /// A label stands twice.
+    /// A label occurs twice.
     DuplicateMapKey,
-    /// An item of another kind is wanted, or none, or another value.
+    /// An item has the wrong type or an invalid value, or is absent.
     UnexpectedItem,
 }
 
@@ -38,7 +39,7 @@ impl fmt::Display for CoseError {
     }
 }
 
-impl Error for CoseError {}
+impl std::error::Error for CoseError {}
 
 impl From<AllocError> for CoseError {
     ghost from_gives = { λ _ e. e ≡ NoMemory };
@@ -76,14 +77,16 @@ impl From<CborError> for CoseError {
     }
 }
 
-/// Why a key of COSE was not converted into a key of another library, or such a key into one of
-/// COSE.
-#[derive(Debug, Drop)]
+/// Why a COSE key wasn't converted to a key of another library, or the other way round.
+#[derive(Debug, Drop, Error)]
 pub enum CoseKeyConversionError {
-    /// No key of this algorithm is converted.
+    /// Keys of this algorithm aren't converted.
+    #[error("UnsupportedAlgorithm")]
     UnsupportedAlgorithm,
-    /// The key lacks a part, or a part of it has a wrong value.
+    /// A part of the key is absent, or has a wrong value.
+    #[error("InvalidCredential")]
     InvalidCredential,
     /// Another reason, in words.
+    #[error("{0}")]
     Other(String),
 }

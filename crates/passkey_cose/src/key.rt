@@ -11,9 +11,9 @@ use crate::label::Label;
 use crate::registered::Registered;
 use passkey_cbor::Value;
 
-/// A key (RFC 9052, section 7): its type, the common parameters of section 7.1, and further
-/// parameters, whose labels differ from those and from one another. No member that it is written
-/// with is one that is refused when it is read.
+/// A COSE key (RFC 9052, section 7): its type, the common parameters of section 7.1, and further
+/// parameters. No label occurs twice, and no further parameter has the label of a common one, 1 to
+/// 5. A key is never encoded with a member that decoding rejects.
 #[derive(Debug, Drop)]
 pub struct CoseKey {
     pub(super) kty: Registered<KeyType>,

@@ -10,17 +10,18 @@ ghost use Rattle.passkey_cose.specs.Label.{label_item};
 use passkey_memory::OutOfMemory;
 use std::alloc::Global;
 
-/// What a parameter of a key stands under (RFC 9052, section 1.4).
+/// The label of a key's parameter (RFC 9052, section 1.4).
 #[derive(Debug, Drop)]
 pub enum Label {
-    /// A number.
+    /// An integer.
     Int(i64),
-    /// A text.
+    /// A text string.
     Text(String),
 }
 
 impl Label {
-    /// An equal label. `OutOfMemory` where a growth was refused, which cannot be for a number.
+    /// Returns an equal label. `OutOfMemory` if the allocation fails, which can't happen for a
+    /// number.
     pub fn try_clone(&self, alloc: Global) -> Result<Label, OutOfMemory>
         ensures same { IfOk result (λ l. label_item l ≡ label_item self.now) }
         ensures grows { OnErr result (Grows (label_item self.now)) }
@@ -37,7 +38,7 @@ impl PartialEq for Label {
 
     ghost laws = { on_per label_item (partial_equiv_from_equiv item_eq-equivalence) };
 
-    /// Whether the two are one number, or one text.
+    /// Whether both are the same number or the same text.
     #[tactic(auto, using(passkey_cbor::specs::SameItems::item_Decides))]
     fn eq(&self, other: &Label) -> bool
         ensures value { result ≡ item_eq (label_item self.now) (label_item other.now) }

@@ -1,4 +1,4 @@
-//! Keys of COSE (RFC 9052, section 7), and the values that IANA's registries of COSE assign.
+//! COSE keys (RFC 9052, section 7), and the values in IANA's COSE registries.
 #![tactic(auto)]
 
 mod checking;

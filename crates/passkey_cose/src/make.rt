@@ -1,4 +1,4 @@
-//! Keys made of their parts.
+//! Making keys.
 ghost use Rattle.std.specs.Prelude.{◌≡◌, IfOk};
 ghost use Rattle.passkey_cbor.specs.Item.{number};
 ghost use Rattle.passkey_cbor.specs.View.{item_of};
@@ -38,7 +38,7 @@ fn ec2_params(
 }
 
 impl CoseKey {
-    /// A key of this type, with no other part.
+    /// A key of this type without any other part.
     pub fn new(kty: Registered<KeyType>) -> CoseKey
         ensures { key_parts result ≡ new_key (named_of kty) }
     {
@@ -53,8 +53,8 @@ impl CoseKey {
         }
     }
 
-    /// A point of the elliptic curve with this number, by its coordinates (RFC 9053, section
-    /// 7.1.1). `OutOfMemory` where a growth was refused.
+    /// The EC2 key of a point on the curve with this number (1 is P-256), by its coordinates (RFC
+    /// 9053, section 7.1.1). `OutOfMemory` if an allocation fails.
     pub fn new_ec2_pub_key(
         alloc: Global,
         curve: i64,
@@ -85,7 +85,7 @@ impl Default for CoseKey {
 
     ghost is_default = { λ k. key_parts k ≡ new_key (assigned Reserved) };
 
-    /// A key of the reserved type, which no key has, with no other part.
+    /// A key of the reserved type, 0, which decoding rejects, without any other part.
     fn default() -> CoseKey {
         CoseKey::new(Registered::Assigned(KeyType::Reserved))
     }

@@ -1,5 +1,5 @@
-//! That the numbers which keys hold are such as are read: each has 64 bits. Nothing is computed
-//! here; the contracts tell callers what the types hold.
+//! The numbers in a key have 64 bits. The functions compute nothing: their contracts pass on what
+//! the types guarantee.
 ghost use Rattle.std.specs.Prelude.{◌≡◌, None, map};
 ghost use Rattle.passkey_cbor.specs.Item.{number};
 ghost use Rattle.passkey_cose.specs.KeyFaults.{name_fault};

@@ -1,8 +1,10 @@
-//! The parts of keys.
+//! Reading a key's parts.
 ghost use Rattle.std.specs.Prelude.{◌≡◌, true, map, option_map};
+ghost use Rattle.passkey_cbor.specs.View.{item_of};
 ghost use Rattle.passkey_cose.specs.Key.{key_parts};
-ghost use Rattle.passkey_cose.specs.KeyLabels.{are_separate};
+ghost use Rattle.passkey_cose.specs.KeyLabels.{are_separate, value_at};
 ghost use Rattle.passkey_cose.specs.KeyParams.{params_of};
+ghost use Rattle.passkey_cose.specs.Label.{label_item};
 ghost use Rattle.passkey_cose.specs.Registered.{named_of};
 
 use crate::iana::{Algorithm, KeyOperation, KeyType};
@@ -11,15 +13,27 @@ use crate::label::Label;
 use crate::registered::Registered;
 use passkey_cbor::Value;
 
+/// The value of the parameter with this label; `None` if there is none.
+fn value_at<'a>(label: &Label, params: &'a [(Label, Value)]) -> Option<&'a Value>
+    ensures { option_map (λ v. item_of v.now) result ≡ value_at (label_item label.now) (params_of params.now) }
+{
+    for (other, value) in params {
+        if label == other {
+            return Some(value);
+        }
+    }
+    None
+}
+
 impl CoseKey {
-    /// The key's type: label 1.
+    /// The key type (`kty`, label 1).
     pub fn kty(&self) -> &Registered<KeyType>
         ensures { named_of result.now ≡ (key_parts self.now).kty }
     {
         &self.kty
     }
 
-    /// The key's name: label 2.
+    /// The key identifier (`kid`, label 2).
     pub fn key_id(&self) -> Option<&[u8]>
         ensures { option_map (λ s. s.now) result ≡ (key_parts self.now).key_id }
     {
@@ -29,14 +43,15 @@ impl CoseKey {
         }
     }
 
-    /// The one algorithm that the key is for: label 3.
+    /// The algorithm that the key is restricted to (`alg`, label 3).
     pub fn alg(&self) -> Option<&Registered<Algorithm>>
         ensures { option_map (λ a. named_of a.now) result ≡ (key_parts self.now).alg }
     {
         self.alg.as_ref()
     }
 
-    /// What the key may be used for, label 4; none stands for any use.
+    /// The operations that the key is restricted to (`key_ops`, label 4); if empty, it may be used
+    /// for any.
     pub fn key_ops(&self) -> &[Registered<KeyOperation>]
         ensures { map named_of result.now ≡ (key_parts self.now).key_ops }
     {
@@ -46,7 +61,7 @@ impl CoseKey {
         }
     }
 
-    /// The Base IV: label 5.
+    /// The Base IV (label 5).
     pub fn base_iv(&self) -> Option<&[u8]>
         ensures { option_map (λ s. s.now) result ≡ (key_parts self.now).base_iv }
     {
@@ -56,7 +71,8 @@ impl CoseKey {
         }
     }
 
-    /// The further parameters, under labels other than 1 to 5, each under its own.
+    /// The further parameters, in their order. Their labels differ from 1 to 5 and from one
+    /// another.
     pub fn params(&self) -> &[(Label, Value)]
         ensures value { params_of result.now ≡ (key_parts self.now).params }
         ensures separate { are_separate (key_parts self.now).params ≡ true }
@@ -65,5 +81,12 @@ impl CoseKey {
             Some(params) => params.as_slice(),
             None => &[],
         }
+    }
+    /// The value of the further parameter with this label; `None` if the key has none, and for the
+    /// labels of the common parameters, 1 to 5.
+    pub fn param(&self, label: &Label) -> Option<&Value>
+        ensures { option_map (λ v. item_of v.now) result ≡ value_at (label_item label.now) (key_parts self.now).params }
+    {
+        value_at(label, self.params())
     }
 }

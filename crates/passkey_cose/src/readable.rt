@@ -1,4 +1,4 @@
-//! Whether a key is read back as it was written.
+//! Whether a key's encoding decodes to the key.
 ghost use Rattle.std.specs.Prelude.{◌≡◌, min, map};
 ghost use Rattle.passkey_cbor.specs.Depth.{depth, pairs_depth};
 ghost use Rattle.passkey_cbor.specs.Item.{pairs_of};
@@ -14,7 +14,7 @@ use crate::label::Label;
 use crate::registered::Registered;
 use passkey_cbor::Value;
 
-/// How many levels of items are read.
+/// The number of levels that are decoded.
 const MAX_DEPTH: usize = 256;
 
 fn params_depth(params: &[(Label, Value)]) -> usize
@@ -54,8 +54,8 @@ fn is_reserved(kty: &Registered<KeyType>) -> bool
 }
 
 impl CoseKey {
-    /// Whether what `to_vec` writes is read back: the key's type isn't written as 0, which is
-    /// reserved, and the map has at most 256 levels. It takes no memory.
+    /// Whether what `to_vec` returns decodes to this key: the type isn't the reserved number 0, and
+    /// the map has at most 256 levels. Allocates nothing.
     pub fn is_readable(&self) -> bool
         ensures { result ≡ is_key_readable (key_parts self.now) }
     {

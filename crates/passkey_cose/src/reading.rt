@@ -1,4 +1,4 @@
-//! Items to keys.
+//! Decoding keys.
 ghost use Rattle.std.specs.Prelude.{◌≡◌, ◌<◌, [], length, map, None, IsSome, IsSomeAnd, option_map, unwrap_or, IfOk, OnErr, Ok};
 ghost use Rattle.std.specs.List.{filter_map};
 ghost use Rattle.std.specs.Option.{option_and_then};
@@ -24,7 +24,7 @@ use passkey_cbor::Value;
 use passkey_memory::OutOfMemory;
 use std::alloc::Global;
 
-/// The value under this label.
+/// The value of the member with this label.
 fn value_under(members: &[(Value, Value)], label: u8) -> Option<&Value>
     ensures { option_map (λ v. item_of v.now) result ≡ under label (map pair_of members.now) }
 {
@@ -36,7 +36,7 @@ fn value_under(members: &[(Value, Value)], label: u8) -> Option<&Value>
     None
 }
 
-/// The value of a registry, where the item is one.
+/// The registry's value, if the item is one.
 fn read_name<T: EnumI64>(alloc: Global, name: &Value) -> Result<Option<Registered<T>>, OutOfMemory>
     ensures same { IfOk result (λ o. option_map named_of o ≡ name_in T.named (item_of name.now)) }
     ensures grows { OnErr result (IsSomeAnd (name_in T.named (item_of name.now)) IsText) }
@@ -155,7 +155,7 @@ fn read_kty(alloc: Global, members: &[(Value, Value)]) -> Result<Registered<KeyT
     }
 }
 
-/// The key of this type with the members' other parts.
+/// The key of this type with the other parts among the members.
 fn read_parts(
     alloc: Global,
     members: &[(Value, Value)],
@@ -190,21 +190,20 @@ fn read_members(alloc: Global, members: &[(Value, Value)]) -> Result<CoseKey, Co
 }
 
 impl CoseKey {
-    /// The key that the item is (RFC 9052, section 7): a map, whose pairs are judged in their
-    /// order, and each pair by its label, then by whether the label stood before, then by its
-    /// value.
+    /// Decodes a key from a CBOR item (RFC 9052, section 7). The map's members are checked in their
+    /// order: first the label, then whether it repeats an earlier one, then the value.
     ///
-    /// `UnexpectedItem` where the item is no map; a label is neither a number nor a text; so is
-    /// the type (1), the algorithm (3) or an operation; the name (2) or the Base IV (5) is no byte
-    /// string, or an empty one; the operations (4) are no array, or an empty one, or two are one;
-    /// or, at the end, where the type is not there or the reserved one. `OutOfRangeIntegerValue`
-    /// where such a number is outside 64 signed bits. `DuplicateMapKey` where a label stands
-    /// twice. `OutOfMemory` if memory runs out for a key that has none of these faults and takes
-    /// memory; a key takes none if its type and algorithm are numbers and it has no other part.
+    /// `UnexpectedItem` if the item is no map; a label, the type (1), the algorithm (3) or an
+    /// operation is neither an integer nor a text; the key identifier (2) or the Base IV (5) is no
+    /// byte string or empty; the operations (4) are no array, are empty, or repeat one; or, after
+    /// all members, if the type is absent or the reserved one. `OutOfRangeIntegerValue` if such an
+    /// integer is outside 64 signed bits. `DuplicateMapKey` if a label occurs twice. `OutOfMemory`
+    /// if an allocation fails, which can happen only for a key that has none of these errors, and
+    /// not if its type and algorithm are numbers and it has no other part.
     ///
-    /// Repeated labels and operations are found by keeping the earlier ones in order, in a time of
-    /// n log n for n of them. If there is no memory for that, they are compared with one another, and
-    /// the time grows with the square.
+    /// Finding repeated labels and operations takes n log n time for n of them, with the earlier
+    /// ones in ordered sets. If there is no memory for these, they are compared with one another,
+    /// in time that grows with the square.
     pub fn from_value(alloc: Global, value: &Value) -> Result<CoseKey, CoseError>
         ensures { Reads TakesMemory key_parts (read_key (item_of value.now)) result }
     {

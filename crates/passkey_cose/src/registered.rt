@@ -1,4 +1,4 @@
-//! Values of registries.
+//! Values in IANA's registries.
 ghost use Rattle.std.specs.Prelude.{◌≡◌, ◌↔◌, IsTrue, IfOk, OnErr};
 ghost use Rattle.std.specs.Cmp.{on_equiv, on_per, partial_equiv_from_equiv};
 ghost use Rattle.std.specs.Ordering.{on};
@@ -9,20 +9,21 @@ use crate::iana::EnumI64;
 use passkey_memory::OutOfMemory;
 use std::alloc::Global;
 
-/// A value that a registry assigns, or one that it doesn't, by a number or a text (RFC 9052,
-/// section 7.1).
+/// A value of an IANA registry: an assigned one, or another number or a text (RFC 9052, section
+/// 7.1).
 #[derive(Debug, Drop)]
 pub enum Registered<T> {
-    /// A value of the registry.
+    /// An assigned value.
     Assigned(T),
-    /// A number.
+    /// A number that isn't assigned here.
     Other(i64),
     /// A text.
     Text(String),
 }
 
 impl<T: EnumI64> Registered<T> {
-    /// An equal value. `OutOfMemory` where a growth was refused, which only a text lets happen.
+    /// Returns an equal value. `OutOfMemory` if the allocation fails, which can happen only for a
+    /// text.
     pub fn try_clone(&self, alloc: Global) -> Result<Registered<T>, OutOfMemory>
         ensures same { IfOk result (λ r. named_of r ≡ named_of self.now) }
         ensures grows { OnErr result (IsText (named_of self.now)) }
@@ -51,7 +52,7 @@ impl<T: EnumI64> PartialEq for Registered<T> {
 
     ghost laws = { on_per named_of (partial_equiv_from_equiv (named_eq-equivalence T.numbers_name)) };
 
-    /// Whether the two are one value of the registry, one other number, or one text.
+    /// Whether both are the same assigned value, the same other number, or the same text.
     #[tactic(auto, using(crate::specs::RegisteredSame::named_Decides))]
     fn eq(&self, other: &Registered<T>) -> bool
         ensures value { result ≡ named_eq T.number_of (named_of self.now) (named_of other.now) }

@@ -1,4 +1,4 @@
-//! The names that stood before, to find one that stands twice.
+//! The labels or operations seen so far, to find repeated ones.
 ghost use Rattle.std.specs.List.{list_any};
 ghost use Rattle.std.specs.Prelude.{◌≡◌, [], ◌∷◌, ◌++◌, List, None, not, IfSome};
 ghost use Rattle.passkey_cbor.specs.Item.{Item, number, text_string};
@@ -11,17 +11,17 @@ use passkey_cbor::Value;
 use std::alloc::Global;
 use std::collections::BTreeSet;
 
-/// Numbers and texts that stood before, in order.
+/// Numbers and texts seen so far, ordered.
 #[derive(Drop)]
 pub(super) struct Seen<'a> {
     numbers: BTreeSet<i128>,
     texts: BTreeSet<&'a str>,
-    /// False once some that stood before may be missing: then nothing more is added.
+    /// False once some may be missing. Nothing is added from then on.
     is_whole: bool,
 }
 
 impl<'a> Seen<'a> {
-    /// Nothing yet. If `is_whole` is false, nothing is ever added.
+    /// None so far. If `is_whole` is false, none is ever added.
     pub(super) fn new(alloc: Global, is_whole: bool) -> Seen<'a>
         ensures { Holds result [] }
     {
@@ -62,8 +62,8 @@ impl<'a> Seen<'a> {
         }
     }
 
-    /// Adds a name and returns whether it is new; `None` if some that stood before may be missing,
-    /// as after a refused growth.
+    /// Adds a label or operation and returns whether it is new; `None` if earlier ones may be
+    /// missing because an allocation failed.
     pub(super) fn insert(&mut self, name: &'a Value) -> Option<bool>
         requires { name_fault (item_of name.now) ≡ None }
         ensures told { IfSome result (λ is_new. (names : List Item) → Holds self.old names →

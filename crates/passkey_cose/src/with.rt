@@ -1,4 +1,4 @@
-//! Giving a key one more part.
+//! Adding parts to keys.
 ghost use Rattle.std.specs.Prelude.{◌≡◌, ◌||◌, [], ◌∷◌, ◌++◌, Some, map, OnOk, OnErr};
 ghost use Rattle.std.specs.List.{list_any};
 ghost use Rattle.passkey_cbor.specs.Item.{number};
@@ -32,7 +32,7 @@ fn is_number<T: EnumI64>(value: &Registered<T>, n: i64) -> bool
     }
 }
 
-/// Whether the two are written as one item.
+/// Whether both are encoded as the same item.
 fn are_written_alike<T: EnumI64>(a: &Registered<T>, b: &Registered<T>) -> bool
     ensures { result ≡ item_eq (named_item T.number_of (named_of a.now)) (named_item T.number_of (named_of b.now)) }
 {
@@ -109,7 +109,7 @@ fn push_param(
 }
 
 impl CoseKey {
-    /// The key for this one algorithm: label 3 (RFC 9052, section 7.1).
+    /// The key, restricted to this algorithm (`alg`, label 3; RFC 9052, section 7.1).
     pub fn with_algorithm(mut self, alg: Registered<Algorithm>) -> CoseKey
         ensures { key_parts result ≡ record (key_parts self) { alg = Some (named_of alg) } }
     {
@@ -118,8 +118,8 @@ impl CoseKey {
         self
     }
 
-    /// The key under this name: label 2 (RFC 9052, section 7.1). `UnexpectedItem` where the name is
-    /// empty.
+    /// The key with this key identifier (`kid`, label 2; RFC 9052, section 7.1). `UnexpectedItem`
+    /// if it is empty.
     pub fn with_key_id(mut self, id: Vec<u8>) -> Result<CoseKey, RefusedKey>
         ensures { Becomes (key_parts self) (string_fault id.items) (record (key_parts self) { key_id = Some id.items }) result }
     {
@@ -133,8 +133,7 @@ impl CoseKey {
         Ok(self)
     }
 
-    /// The key with this Base IV: label 5 (RFC 9052, section 7.1). `UnexpectedItem` where it is
-    /// empty.
+    /// The key with this Base IV (label 5; RFC 9052, section 7.1). `UnexpectedItem` if it is empty.
     pub fn with_base_iv(mut self, iv: Vec<u8>) -> Result<CoseKey, RefusedKey>
         ensures { Becomes (key_parts self) (string_fault iv.items) (record (key_parts self) { base_iv = Some iv.items }) result }
     {
@@ -148,8 +147,8 @@ impl CoseKey {
         Ok(self)
     }
 
-    /// The key for these uses: label 4 (RFC 9052, section 7.1). `UnexpectedItem` where there are
-    /// none, and where one is written as another one is.
+    /// The key, restricted to these operations (`key_ops`, label 4; RFC 9052, section 7.1).
+    /// `UnexpectedItem` if there are none, or two are encoded alike.
     pub fn with_key_ops(mut self, ops: Vec<Registered<KeyOperation>>) -> Result<CoseKey, RefusedKey>
         ensures { Becomes (key_parts self) (key_ops_fault (map named_of ops.items)) (record (key_parts self) { key_ops = map named_of ops.items }) result }
     {
@@ -164,9 +163,9 @@ impl CoseKey {
         Ok(self)
     }
 
-    /// The key with this further parameter under its label, behind the others (RFC 9052, section
-    /// 7). `DuplicateMapKey` where the label is one of 1 to 5 (section 7.1), or stands in the key;
-    /// else `OutOfMemory` where a growth was refused.
+    /// The key with this further parameter after the others (RFC 9052, section 7).
+    /// `DuplicateMapKey` if the label is 1 to 5 (section 7.1) or the key has it; else `OutOfMemory`
+    /// if an allocation fails.
     pub fn with_param(
         mut self,
         alloc: Global,

@@ -1,4 +1,4 @@
-//! Keys to items.
+//! Encoding keys.
 ghost use Rattle.std.specs.Prelude.{◌≡◌, ◌++◌, map, option_map, string_bytes, IfOk, OnOk};
 ghost use Rattle.passkey_cbor.specs.Item.{byte_string, text_string};
 ghost use Rattle.passkey_cbor.specs.View.{item_of, pair_of};
@@ -126,17 +126,17 @@ fn member_values(alloc: Global, key: &CoseKey) -> Result<Vec<(Value, Value)>, Ou
 }
 
 impl CoseKey {
-    /// The key as a map: its type, name, algorithm, operations and Base IV under 1 to 5, each
-    /// where it is there, and then the further parameters in their order (RFC 9052, section 7).
-    /// `OutOfMemory` where a growth was refused.
+    /// The key as a CBOR map: type, key identifier, algorithm, operations and Base IV under 1 to 5,
+    /// each if present, then the further parameters in their order (RFC 9052, section 7).
+    /// `OutOfMemory` if an allocation fails.
     pub fn to_value(&self, alloc: Global) -> Result<Value, OutOfMemory>
         ensures { IfOk result (λ v. item_of v ≡ key_item (key_parts self.now)) }
     {
         Ok(Value::Map(member_values(alloc, self)?))
     }
 
-    /// The map that the key is, in bytes, which CBOR can spell; no member of it is one that
-    /// `from_value` refuses. `OutOfMemory` where a growth was refused.
+    /// The encoding of the key's map. Decoding rejects none of its members. `OutOfMemory` if an
+    /// allocation fails.
     pub fn to_vec(&self, alloc: Global) -> Result<Vec<u8>, OutOfMemory>
         ensures written { IfOk result (λ bytes. bytes.items ≡ written (key_item (key_parts self.now))) }
         ensures writable { OnOk result (IsWritable (key_item (key_parts self.now))) }

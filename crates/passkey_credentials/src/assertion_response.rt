@@ -1,4 +1,4 @@
-//! What an authenticator answers to a sign-in, decoded from JSON objects and encoded.
+//! The response to a sign-in, decoded from JSON objects and encoded.
 ghost use Rattle.passkey_credentials.specs.AssertionResponse.{assertion_response_in, assertion_response_json, assertion_response_takes};
 ghost use Rattle.passkey_json.specs.Members.{record_kind, takes_in};
 
@@ -11,19 +11,20 @@ use passkey_memory::OutOfMemory;
 use serde_json::Value;
 use std::alloc::Global;
 
-/// What an authenticator answers to a sign-in (WebAuthn Level 3, section 5.2.2; the members of its
-/// JSON in section 5.1).
+/// The response to a sign-in (WebAuthn Level 3, section 5.2.2; as JSON in section 5.1).
 #[derive(Debug, Drop)]
 pub struct AuthenticatorAssertionResponse {
-    /// The client data, as the JSON text that was hashed for the authenticator.
+    /// The client data, as the JSON text whose hash the authenticator signed. Verify its hash over
+    /// these bytes.
     pub client_data_json: Bytes,
-    /// The authenticator data.
+    /// The authenticator data, which `AuthenticatorData::from_slice` decodes.
     pub authenticator_data: Bytes,
-    /// The signature over the authenticator data and the hash of the client data.
+    /// The signature over the authenticator data and the SHA-256 hash of the client data.
     pub signature: Bytes,
-    /// The user's handle, if the authenticator gives it.
+    /// The user handle; `None` means the member is absent. It is present at a sign-in without a
+    /// list of allowed credentials.
     pub user_handle: Option<Bytes>,
-    /// An attestation object, in CBOR, if the authenticator gives one at a sign-in.
+    /// An attestation object in CBOR; `None` means the member is absent.
     pub attestation_object: Option<Bytes>,
 }
 

@@ -1,4 +1,4 @@
-//! What an authenticator answers when it makes a credential, decoded from JSON objects and encoded.
+//! The response to a registration, decoded from JSON objects and encoded.
 ghost use Rattle.std.specs.Prelude.{◌≡◌, ◌<◌, ◌⊎◌, length, IfOk, OnErr};
 ghost use Rattle.std.specs.Option.{IsSomeAnd};
 ghost use Rattle.passkey_credentials.specs.AttestationResponse.{attestation_response_in, attestation_response_json, attestation_response_takes};
@@ -14,27 +14,31 @@ use passkey_webauthn::AuthenticatorTransport;
 use serde_json::Value;
 use std::alloc::Global;
 
-/// What an authenticator answers when it makes a credential (WebAuthn Level 3, section 5.2.1; the
-/// members of its JSON in section 5.1).
+/// The response to a registration (WebAuthn Level 3, section 5.2.1; as JSON in section 5.1).
 #[derive(Debug, Drop)]
 pub struct AuthenticatorAttestationResponse {
-    /// The client data, as the JSON text that was hashed for the authenticator.
+    /// The client data, as the JSON text whose hash is in the attestation. Verify its hash over
+    /// these bytes.
     pub client_data_json: Bytes,
-    /// The authenticator data, which is in the attestation object too.
+    /// The authenticator data, as in the attestation object. A relying party should take it from
+    /// there, where the attestation signs it.
     pub authenticator_data: Bytes,
-    /// The new key as a DER SubjectPublicKeyInfo, if the client knows keys of its algorithm.
+    /// The new key as a DER SubjectPublicKeyInfo; `None` if the client doesn't support its
+    /// algorithm.
     pub public_key: Option<Bytes>,
-    /// The number of the key's algorithm (COSE).
+    /// The COSE number of the key's algorithm.
     pub public_key_algorithm: i64,
-    /// The attestation object, in CBOR.
+    /// The attestation object in CBOR: a map of `fmt`, `attStmt` and `authData`.
+    /// `ctap2::make_credential::Response` decodes it.
     pub attestation_object: Bytes,
-    /// How the authenticator can be reached, as far as is known.
+    /// The transports of the authenticator, as far as the client knows them; `None` means the
+    /// member is absent.
     pub transports: Option<List<AuthenticatorTransport>>,
 }
 
 impl AuthenticatorAttestationResponse {
-    /// An equal value. `OutOfMemory` if an allocation fails, which can't happen if all byte strings
-    /// are empty or absent and no transport is there.
+    /// Returns an equal value. `OutOfMemory` if an allocation fails, which can't happen if all byte
+    /// strings are empty or absent and there are no transports.
     pub fn try_clone(&self, alloc: Global) -> Result<AuthenticatorAttestationResponse, OutOfMemory>
         ensures same { IfOk result (λ copy. copy ≡ self.now) }
         ensures grows { OnErr result ((0 < length self.now.client_data_json) ⊎ (0 < length self.now.authenticator_data) ⊎ (0 < length self.now.attestation_object) ⊎ IsSomeAnd self.now.public_key (λ key. 0 < length key) ⊎ IsSomeAnd self.now.transports (λ ts. 0 < length ts)) }

@@ -1,4 +1,4 @@
-//! Credentials that a client hands back, decoded from JSON objects and encoded.
+//! Credentials that a browser returns, decoded from JSON objects and encoded.
 ghost use Rattle.passkey_credentials.specs.Credential.{credential_in, credential_json, credential_takes};
 ghost use Rattle.passkey_json.specs.Members.{record_kind, takes_in};
 
@@ -15,28 +15,29 @@ use passkey_webauthn::PublicKeyCredentialType;
 use serde_json::Value;
 use std::alloc::Global;
 
-/// A credential that a client hands back, with what its authenticator answered (WebAuthn Level 3,
+/// A credential that a browser returns, with its authenticator's response (WebAuthn Level 3,
 /// section 5.1).
 #[derive(Debug, Drop)]
 pub struct PublicKeyCredential<R: AuthenticatorResponse> {
-    /// The credential's id in base64url, which isn't looked at.
+    /// The credential id in base64url. It isn't checked against `raw_id`.
     pub id: Text,
-    /// The credential's id.
+    /// The credential id: at most 1023 bytes (WebAuthn Level 3, section 7.1). The length isn't
+    /// checked.
     pub raw_id: Bytes,
-    /// The type of the credential.
+    /// The credential type.
     pub ty: PublicKeyCredentialType,
-    /// What the authenticator answered.
+    /// The authenticator's response.
     pub response: R,
-    /// How the authenticator was attached, if the client reports it.
+    /// The attachment of the authenticator that was used; `None` means the member is absent.
     pub authenticator_attachment: Option<AuthenticatorAttachment>,
-    /// What extensions answered.
+    /// The client extension outputs.
     pub client_extension_results: AuthenticationExtensionsClientOutputs,
 }
 
-/// A credential that was made (WebAuthn Level 3, section 5.1.3).
+/// A new credential (WebAuthn Level 3, section 5.1.3).
 pub type CreatedPublicKeyCredential = PublicKeyCredential<AuthenticatorAttestationResponse>;
 
-/// A credential that signed in (WebAuthn Level 3, section 5.1.4).
+/// An assertion (WebAuthn Level 3, section 5.1.4).
 pub type AuthenticatedPublicKeyCredential = PublicKeyCredential<AuthenticatorAssertionResponse>;
 
 impl<R: AuthenticatorResponse> JsonRecord for PublicKeyCredential<R> {

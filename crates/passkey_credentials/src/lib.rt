@@ -1,5 +1,5 @@
-//! What a browser hands back to a relying party: credentials that were made, and credentials that
-//! signed in (WebAuthn Level 3, sections 5.1 and 5.2), decoded from JSON values and encoded.
+//! What a browser returns to a relying party: new credentials, and assertions (WebAuthn Level 3,
+//! sections 5.1 and 5.2), decoded from JSON values and encoded.
 #![tactic(auto)]
 
 mod assertion_response;

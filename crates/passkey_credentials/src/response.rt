@@ -1,15 +1,15 @@
-//! What an authenticator answers.
+//! Authenticator responses.
 use crate::assertion_response::AuthenticatorAssertionResponse;
 use crate::attestation_response::AuthenticatorAttestationResponse;
 use passkey_json::{FromJson, JsonRecord, RecordToJson};
 
 mod sealed {
-    /// The answers that there are.
+    /// The responses that there are.
     pub trait Sealed {}
 }
 
-/// What an authenticator answers (WebAuthn Level 3, section 5.2): to the making of a credential or
-/// to a sign-in, and nothing else.
+/// An authenticator's response (WebAuthn Level 3, section 5.2), to a registration or to a sign-in.
+/// The trait is sealed.
 pub trait AuthenticatorResponse: sealed::Sealed + JsonRecord + FromJson + RecordToJson {}
 
 impl sealed::Sealed for AuthenticatorAttestationResponse {}

@@ -1,4 +1,4 @@
-//! What the extensions hmac-secret and prf are given, and what they answer
+//! Inputs and outputs of the extensions hmac-secret and prf
 //! (CTAP 2.1, section 12.5; WebAuthn Level 3, section 10.1.4).
 use crate::tables::{
     assert_read, assert_refused, assert_rewritten, bytes_of, hexadecimal, item_of, read, shown,
@@ -10,7 +10,7 @@ use passkey_extensions::{
 };
 use std::process::Abort;
 
-/// {"first": 32 bytes 1, "second": 32 bytes 2}, and what is written of it: arrays of numbers.
+/// {"first": 32 bytes 1, "second": 32 bytes 2}, and its encoding: arrays of numbers.
 const VALUES: &str = concat!(
     "a265666972737458200101010101010101010101010101010101010101010101010101010101010101667365636f6e64",
     "58200202020202020202020202020202020202020202020202020202020202020202",
@@ -129,7 +129,7 @@ const SALTS: &str = concat!(
     "03030303030303030303",
 );
 
-/// What is written of it: members in the table's order, and credentials in the order of their ids' bytes.
+/// Its encoding: members in the table's order, and credentials in the order of their ids' bytes.
 const SALTS_WRITTEN: &str = concat!(
     "a2646576616ca16566697273749820030303030303030303030303030303030303030303030303030303030303030372",
     "6576616c5f62795f63726564656e7469616ca2420109a165666972737498200202020202020202020202020202020202",
@@ -226,13 +226,13 @@ fn inputs_where_a_credential_is_made(rt: HostRuntime) {
     assert_refused::<make_credential::ExtensionInputs>(&rt, &[number]);
 }
 
-// Inputs that are refused are read as if they weren't there.
+// Rejected inputs are ignored.
 #[test]
 fn inputs_where_a_credential_is_used(rt: HostRuntime) {
     // {"prf": {}, "hmac-secret": inputs}
     let both = "a263707266a06b686d61632d736563726574a301a10102024108034109";
     let both_written = "a26b686d61632d736563726574a301a1010202410803410963707266a0";
-    // {"prf": 0, "hmac-secret": inputs}, and what is written of it
+    // {"prf": 0, "hmac-secret": inputs}, and its encoding
     let one = "a263707266006b686d61632d736563726574a301a10102024108034109";
     let one_written = "a16b686d61632d736563726574a301a10102024108034109";
     // {"hmac-secret": {255: 0}}
@@ -248,7 +248,7 @@ fn inputs_where_a_credential_is_used(rt: HostRuntime) {
     assert_read::<get_assertion::ExtensionInputs>(&rt, &[(other, value)]);
 }
 
-/// What a relying party sees of the values.
+/// The values as a relying party sees them.
 const VALUES_SEEN: &str = concat!(
     "AuthenticationExtensionsPrfValues { ",
     "first: Bytes([1, 1, 1, 1, 1, 1, 1, 1, 1, 1, 1, 1, 1, 1, 1, 1, ",

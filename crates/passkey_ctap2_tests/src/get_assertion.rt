@@ -1,4 +1,4 @@
-//! Using a credential (CTAP 2.1, section 6.2).
+//! authenticatorGetAssertion (CTAP 2.1, section 6.2).
 use crate::tables::{
     assert_read, assert_refused, assert_rewritten, bytes_of, hexadecimal, item_of, shown,
 };
@@ -19,11 +19,11 @@ fn options(rt: HostRuntime) {
     assert_refused::<Options>(&rt, &["a1627576f6"]);
 }
 
-/// A request with each member that there is, the last one first.
+/// A request with every member, the last one first.
 const REQUEST: &str =
     "a7070206410b05a1627570f404a00381a2626964410a64747970656a7075626c69632d6b6579024108016161";
 
-/// The same, as it is written.
+/// Its encoding.
 const REQUEST_WRITTEN: &str =
     "a70161610241080381a264747970656a7075626c69632d6b6579626964410a04a005a2627570f4627576f406410b0702";
 
@@ -53,13 +53,13 @@ fn requests(rt: HostRuntime) {
     assert_eq!(rt; rewritten_request(&rt, REQUEST).as_str(), REQUEST_WRITTEN);
 }
 
-/// A response with each member that there is, the last one first.
+/// A response with every member, the last one first.
 const RESPONSE: &str = concat!(
     "a808a007410a06f5050204a26469636f6e61696269644108034109025825050605060506050605060506050605060506",
     "0506050605060506050605060506010000000901a2626964410764747970656a7075626c69632d6b6579",
 );
 
-/// The same, as it is written.
+/// Its encoding.
 const RESPONSE_WRITTEN: &str = concat!(
     "a801a264747970656a7075626c69632d6b65796269644107025825050605060506050605060506050605060506050605",
     "0605060506050605060506010000000903410904a262696441086469636f6e6169050206f507410a08a163707266f6",

@@ -1,4 +1,4 @@
-//! What an authenticator says of itself (CTAP 2.1, section 6.4; CTAP 2.2 for the members from 0x16 on).
+//! The authenticatorGetInfo response (CTAP 2.1, section 6.4; CTAP 2.2 for the members from 0x16 on).
 use crate::tables::{
     assert_read, assert_refused, assert_rewritten, bytes_of, hexadecimal, item_of, shown,
 };
@@ -88,7 +88,7 @@ fn options(rt: HostRuntime) {
     assert_refused::<Options>(&rt, &["a1627570f6", "a101f5"]);
 }
 
-/// A response with each member that there is. A number or byte under a member is the member's own number plus 32.
+/// A response with every member. A number or byte under a member is the member's own number plus 32.
 const RESPONSE: &str = concat!(
     "b81a0181684649444f5f325f3102816370726603500102030405060708090a0b0c0d0e0f1004a364706c6174f462726b",
     "f5627570f5051825068202010981637573620a81a264747970656a7075626c69632d6b657963616c67260b182b0cf40d",

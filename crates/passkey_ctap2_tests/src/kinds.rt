@@ -49,7 +49,7 @@ fn texts_and_items(rt: HostRuntime) {
     assert_read::<Text>(&rt, &[("7f61616162ff", "Ok(\"ab\")")]);
     assert_rewritten::<Text>(&rt, &[("7f61616162ff", "626162"), ("60", "60")]);
     assert_refused::<Text>(&rt, &["4161"]);
-    // 1(undefined): undefined is read as null
+    // 1(undefined): undefined is decoded as null
     assert_read::<Value>(&rt, &[("c1f7", "Ok(Tag(1, Null))")]);
     assert_rewritten::<Value>(&rt, &[("c1f7", "c1f6")]);
 }
@@ -116,7 +116,7 @@ fn lists(rt: HostRuntime) {
 #[test]
 fn maps_from_byte_strings(rt: HostRuntime) {
     let rewritten = [
-        // written in the order of the keys' bytes: h'', h'01', h'0100', h'02'
+        // encoded in the order of the keys' bytes: h'', h'01', h'0100', h'02'
         ("a4410201410102420100034004", "a4400441010242010003410201"),
         // of the keys h'07' and [7] the last one counts
         ("a2410701810702", "a1410702"),

@@ -1,4 +1,4 @@
-//! Tests of the crates that read and write the messages of CTAP2.
+//! Tests of the crates that decode and encode CTAP2's messages.
 #![tactic(auto)]
 
 #[cfg(test)]

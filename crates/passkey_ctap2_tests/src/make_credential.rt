@@ -1,4 +1,4 @@
-//! Making a credential (CTAP 2.1, section 6.1).
+//! authenticatorMakeCredential (CTAP 2.1, section 6.1).
 use crate::tables::{
     assert_read, assert_refused, assert_rewritten, bytes_of, hexadecimal, item_of, read, shown,
 };
@@ -77,7 +77,7 @@ fn options(rt: HostRuntime) {
     assert_read::<Options>(&rt, &read);
     let rewritten = [
         ("a0", "a362726bf4627570f5627576f4"),
-        // "up" is written only where it is true
+        // "up" is encoded only if it is true
         (absent, "a262726bf5627576f4"),
     ];
     assert_rewritten::<Options>(&rt, &rewritten);
@@ -102,14 +102,14 @@ fn users_without_names_are_none_of_webauthn(rt: HostRuntime) {
     );
 }
 
-/// A request with each member that there is, the last one first.
+/// A request with every member, the last one first.
 const REQUEST: &str = concat!(
     "a9090208410b07a2627576f562726bf506a16b686d61632d736563726574f50581a2626964410a64747970656a707562",
     "6c69632d6b65790481a264747970656a7075626c69632d6b657963616c672603a36269644109646e616d65616e6b6469",
     "73706c61794e616d65616402a26269646161646e616d656162014108",
 );
 
-/// The same, as it is written.
+/// Its encoding.
 const REQUEST_WRITTEN: &str = concat!(
     "a901410802a26269646161646e616d65616203a362696441096b646973706c61794e616d656164646e616d65616e0481",
     "a264747970656a7075626c69632d6b657963616c67260581a264747970656a7075626c69632d6b6579626964410a06a1",
@@ -144,11 +144,11 @@ fn requests(rt: HostRuntime) {
     assert_eq!(rt; rewritten_request(&rt, REQUEST).as_str(), REQUEST_WRITTEN);
 }
 
-/// A response with each member that there is, the last one first.
+/// A response with every member, the last one first.
 const RESPONSE: &str =
     "a606a005410704f503a002582505060506050605060506050605060506050605060506050605060506050605060100000009016166";
 
-/// The same, as it is written.
+/// Its encoding.
 const RESPONSE_WRITTEN: &str = concat!(
     "a60161660258250506050605060506050605060506050605060506050605060506050605060506010000000903a004f5",
     "05410706a163707266f6",

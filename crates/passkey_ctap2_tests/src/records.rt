@@ -1,4 +1,4 @@
-//! Records that messages share: descriptors, parameters, users of WebAuthn, and what extensions answer signed.
+//! Records that messages share: descriptors, parameters, users of WebAuthn, and signed extension outputs.
 use crate::tables::{assert_read, assert_refused, assert_rewritten};
 use passkey_core::{get_assertion, make_credential};
 use passkey_webauthn::{

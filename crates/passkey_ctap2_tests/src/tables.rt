@@ -1,4 +1,4 @@
-//! Tables of items in hexadecimal, and what they are read and written as.
+//! Tables of items in hexadecimal, and what they decode to and are encoded as.
 use passkey_cbor::Value;
 use passkey_kinds::{FromCbor, ToCbor};
 use std::fmt::Debug;
@@ -23,14 +23,14 @@ pub(crate) fn shown<T: Debug>(rt: &(impl Abort + AllocGlobal), value: &T) -> Str
     format!(in rt.alloc(); "{value:?}").expect(rt, "memory")
 }
 
-/// The item that the value is written as.
+/// The item that the value is encoded as.
 pub(crate) fn written<T: ToCbor>(rt: &(impl Abort + AllocGlobal), value: &T) -> String {
     let item = value.to_value(rt.alloc()).expect(rt, "memory");
     let bytes = item.to_vec(rt.alloc()).expect(rt, "memory");
     hexadecimal(rt, bytes.as_slice())
 }
 
-/// Asserts what is printed of the value that each item is read as.
+/// Asserts what is printed of the value that each item decodes to.
 pub(crate) fn assert_read<T: FromCbor + Debug>(
     rt: &(impl Abort + AllocGlobal),
     rows: &[(&str, &str)],
@@ -41,7 +41,7 @@ pub(crate) fn assert_read<T: FromCbor + Debug>(
     }
 }
 
-/// Asserts what the value is written as that each item is read as.
+/// Asserts what the value that each item decodes to is encoded as.
 pub(crate) fn assert_rewritten<T: FromCbor + ToCbor>(
     rt: &(impl Abort + AllocGlobal),
     rows: &[(&str, &str)],
@@ -52,7 +52,7 @@ pub(crate) fn assert_rewritten<T: FromCbor + ToCbor>(
     }
 }
 
-/// Asserts that each item is refused.
+/// Asserts that each item is rejected.
 pub(crate) fn assert_refused<T: FromCbor + Debug>(rt: &(impl Abort + AllocGlobal), items: &[&str]) {
     for item in items {
         let value = T::from_value(rt.alloc(), &item_of(rt, item));
@@ -60,7 +60,7 @@ pub(crate) fn assert_refused<T: FromCbor + Debug>(rt: &(impl Abort + AllocGlobal
     }
 }
 
-/// The value that the item is read as.
+/// The value that the item decodes to.
 pub(crate) fn read<T: FromCbor>(rt: &(impl Abort + AllocGlobal), item: &str) -> T {
     T::from_value(rt.alloc(), &item_of(rt, item)).expect(rt, item)
 }

@@ -4,6 +4,7 @@ pub mod Kind
 pub mod Members
 pub mod Held
 pub mod Written
+pub mod JsonText
 pub mod Descriptor
 pub mod Parameters
 pub mod User

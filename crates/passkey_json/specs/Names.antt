@@ -3,12 +3,6 @@ use Rattle.std.specs.Prelude.{ℕ, List, ◌++◌, Option, Some, option_map, cod
 use Rattle.std.specs.Fmt.{debug_str}
 use Rattle.passkey_json.specs.declared.json_fault.JsonFault.{JsonFault}
 use Rattle.passkey_json.specs.declared.json_fault.JsonFault.TheVariants as fault
-use Rattle.passkey_json.specs.declared.refusal.Refusal.{Refusal}
-use Rattle.passkey_json.specs.declared.refusal.Refusal.TheVariants as refusal
-
-abbrev pub refusal_name : Refusal → List ℕ
-refusal_name refusal.Refused = codes "Refused"
-refusal_name refusal.OutOfMemory = codes "OutOfMemory"
 
 -- a word, and a member's name as a debug text has it, where there is such a text
 abbrev pub with_name : List ℕ → List ℕ → Option (List ℕ)

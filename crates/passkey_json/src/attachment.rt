@@ -1,4 +1,4 @@
-//! How an authenticator is attached to the client, decoded from JSON values and encoded.
+//! Authenticator attachment, decoded from JSON values and encoded.
 ghost use Rattle.std.specs.Prelude.{false};
 ghost use Rattle.passkey_json.specs.Kind.{one_named};
 ghost use Rattle.passkey_json.specs.Attachment.{attachment_name, attachment_named, attachment_own};
@@ -14,12 +14,12 @@ use passkey_webauthn::EnumNames;
 use serde_json::Value;
 use std::alloc::Global;
 
-/// How an authenticator is attached to the client (WebAuthn Level 3, section 5.4.5).
+/// Authenticator attachment (WebAuthn Level 3, section 5.4.5).
 #[derive(Clone, Copy, Debug, PartialEq, Eq)]
 pub enum AuthenticatorAttachment {
-    /// It is part of the client's device.
+    /// A platform authenticator, which isn't removable from the client's device.
     Platform,
-    /// It can be taken from one device to another.
+    /// A roaming authenticator, which can be used on other devices.
     CrossPlatform,
 }
 

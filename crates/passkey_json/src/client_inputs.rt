@@ -1,4 +1,4 @@
-//! What a relying party asks of extensions, decoded from JSON objects and encoded.
+//! Client extension inputs, decoded from JSON objects and encoded.
 ghost use Rattle.std.specs.Prelude.{◌≡◌};
 ghost use Rattle.passkey_json.specs.ClientInputs.{client_inputs_in, client_inputs_json, no_inputs, where_any, client_inputs_takes};
 ghost use Rattle.passkey_json.specs.Members.{record_kind, takes_in};
@@ -17,19 +17,21 @@ use passkey_memory::OutOfMemory;
 use serde_json::Value;
 use std::alloc::Global;
 
-/// What a relying party asks of extensions (WebAuthn Level 3, section 9.3).
+/// Client extension inputs: what a relying party asks of extensions (WebAuthn Level 3, section
+/// 9.3).
 #[derive(Debug, Drop)]
 pub struct AuthenticationExtensionsClientInputs {
-    /// Whether properties of the new credential are asked for.
+    /// credProps: whether properties of the new credential are asked for; `None` means the member
+    /// is absent.
     pub cred_props: Option<bool>,
-    /// What is asked of prf.
+    /// prf: its salts; `None` means the member is absent.
     pub prf: Option<AuthenticationExtensionsPrfInputs>,
-    /// The same, with salts that are hashes already.
+    /// prfAlreadyHashed: the same, with salts that are hashed already.
     pub prf_already_hashed: Option<AuthenticationExtensionsPrfInputs>,
 }
 
 impl AuthenticationExtensionsClientInputs {
-    /// Nothing is asked of any extension.
+    /// No extension is asked for anything.
     pub fn empty() -> AuthenticationExtensionsClientInputs
         ensures { result ≡ no_inputs }
     {
@@ -40,7 +42,7 @@ impl AuthenticationExtensionsClientInputs {
         }
     }
 
-    /// The inputs themselves, exactly where one is there.
+    /// `Some` with the inputs if one is present.
     pub fn zip_contents(self) -> Option<AuthenticationExtensionsClientInputs>
         ensures { result ≡ where_any self }
     {

@@ -1,4 +1,4 @@
-//! What extensions answer a relying party, decoded from JSON objects and encoded.
+//! Client extension outputs, decoded from JSON objects and encoded.
 ghost use Rattle.std.specs.Prelude.{◌≡◌};
 ghost use Rattle.passkey_json.specs.Members.{record_kind, takes_in};
 ghost use Rattle.passkey_json.specs.ClientOutputs.{client_outputs_in, client_outputs_json, no_outputs, client_outputs_takes};
@@ -18,17 +18,18 @@ use passkey_webauthn::AuthenticationExtensionsPrfOutputs;
 use serde_json::Value;
 use std::alloc::Global;
 
-/// What extensions answer a relying party (WebAuthn Level 3, section 9.4).
+/// Client extension outputs: what extensions return to a relying party (WebAuthn Level 3, section
+/// 9.4).
 #[derive(Debug, Drop)]
 pub struct AuthenticationExtensionsClientOutputs {
-    /// What credProps answers.
+    /// credProps: properties of the new credential; `None` means the member is absent.
     pub cred_props: Option<CredentialPropertiesOutput>,
-    /// What prf answers.
+    /// prf: its outputs; `None` means the member is absent.
     pub prf: Option<AuthenticationExtensionsPrfOutputs>,
 }
 
 impl AuthenticationExtensionsClientOutputs {
-    /// No answer of any extension.
+    /// No extension returned anything.
     pub fn empty() -> AuthenticationExtensionsClientOutputs
         ensures { result ≡ no_outputs }
     {

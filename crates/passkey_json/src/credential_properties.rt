@@ -16,11 +16,11 @@ use passkey_memory::OutOfMemory;
 use serde_json::Value;
 use std::alloc::Global;
 
-/// What the extension credProps answers (WebAuthn Level 3, section 10.1.3).
+/// Outputs of the extension credProps (WebAuthn Level 3, section 10.1.3).
 #[derive(Debug, Drop)]
 pub struct CredentialPropertiesOutput {
-    /// Whether the new credential can be found by an authenticator without its id, as far as the
-    /// client knows.
+    /// rk: whether the new credential is a client-side discoverable one; `None` means that the
+    /// client doesn't know.
     pub discoverable: Option<bool>,
 }
 

@@ -1,4 +1,4 @@
-//! Elements that are written.
+//! Encoding arrays.
 ghost use Rattle.std.specs.Prelude.{◌≡◌, ◌++◌, ◌∷◌, [], false, map, OnOk};
 ghost use Rattle.passkey_json.specs.Written.{ReadsBack, elements_so_far};
 ghost use Rattle.serde_json.specs.Data.{array};
@@ -15,7 +15,7 @@ mod held;
 
 pub use held::Elements;
 
-/// One more element of an array.
+/// Adds an element to an array.
 #[tactic(auto, using(crate::proofs::FloatFree::pushed_value_free))]
 fn push_value(values: &mut Vec<Value>, value: Value) -> Result<(), OutOfMemory>
     ensures written { OnOk result (map view values.new.items ≡ map view values.old.items ++ view value ∷ []) }
@@ -26,7 +26,7 @@ fn push_value(values: &mut Vec<Value>, value: Value) -> Result<(), OutOfMemory>
 }
 
 impl Elements {
-    /// No elements. It takes no memory.
+    /// No elements. Allocates nothing.
     pub fn new(alloc: Global) -> Elements
         ensures { elements_so_far result ≡ [] }
     {
@@ -35,7 +35,7 @@ impl Elements {
         }
     }
 
-    /// One more element. `OutOfMemory` if an allocation fails.
+    /// Adds an element. `OutOfMemory` if an allocation fails.
     pub fn push<T: ToJson>(
         &mut self,
         alloc: Global,

@@ -5,7 +5,7 @@ ghost use Rattle.serde_json.specs.Written.{has_float, items_have_float, members_
 
 use serde_json::{Map, Value};
 
-/// Whether the value holds a number that is no whole one of 64 bits, however deep.
+/// Whether the value holds, at any depth, a number that isn't an integer of 64 bits.
 #[cycle(floats)]
 pub fn holds_float(value: &Value) -> bool
     ensures { result ≡ has_float (view value.now) }

@@ -12,19 +12,19 @@ use std::alloc::Global;
 
 /// A type whose values are decoded from JSON values.
 pub trait FromJson: Drop {
-    /// What each JSON value stands for, where it stands for a value.
+    /// The value that each JSON value decodes to, if any.
     ghost kind: { Data → Option Self };
 
     /// Whether decoding the JSON value may take memory.
     ghost takes: { Data → Bool };
 
-    /// The value that the JSON value stands for. `Refused` exactly if it stands for none;
+    /// Decodes the JSON value. `Refused` exactly if it decodes to no value of this type;
     /// `OutOfMemory` if an allocation fails, and only for a JSON value that takes memory (`takes`).
     fn from_value(alloc: Global, value: &Value) -> Result<Self, Refusal>
         ensures { Answers kind takes (view value.now) result };
 }
 
-/// The number that the JSON value is or, as a text, writes.
+/// The number that the JSON value is, or that its text has.
 pub(crate) fn numeral(value: &Value) -> Option<i64>
     ensures { result ≡ numeral (view value.now) }
 {

@@ -16,13 +16,13 @@ pub enum JsonFault {
     OutOfMemory,
     /// The JSON value is no object.
     NotAnObject,
-    /// This member is required, and isn't there.
+    /// This member is required, and is absent.
     Missing(&'static str),
-    /// This member's value isn't one of its kind, and holds no float.
+    /// This member's value is rejected, and holds no float.
     Refused(&'static str),
-    /// This member's value isn't one of its kind, and holds a number that is no whole one of 64 bits.
+    /// This member's value is rejected, and holds a number that isn't an integer of 64 bits.
     Float(&'static str),
-    /// This member has two names, and is there under both.
+    /// This member has two names, and is present under both.
     Repeated(&'static str),
 }
 

@@ -21,17 +21,17 @@ pub trait JsonRecord: Drop {
     /// Whether decoding an object's members may take memory.
     ghost takes: { Names → Bool };
 
-    /// The record that the object stands for, or the first fault in the order of its members: a
-    /// member that is there under two names is `Repeated`; one whose value isn't of its kind is
-    /// `Float` if that value holds a float and else `Refused`; one that must be there and isn't is
-    /// `Missing`. `OutOfMemory` if an allocation fails, and only if the object has a member that
-    /// the record knows and whose value takes memory to decode (`takes`).
+    /// Decodes the record from an object, or returns the first fault in the order of its members:
+    /// `Repeated` for a member that is present under two names; `Float` or `Refused` for a value
+    /// that isn't of its kind, `Float` if it holds a float; `Missing` for an absent required
+    /// member. `OutOfMemory` if an allocation fails, and only if the object has a member that the
+    /// record knows and whose value takes memory to decode (`takes`).
     fn from_object(object: &Object<'_>) -> Result<Self, JsonFault>
         ensures { Gives (IsTrue (takes (names_of object.now))) (members (names_of object.now)) result };
 
-    /// The record that the JSON value stands for, or its fault: `NotAnObject` if it is no object,
-    /// else as `from_object`. `OutOfMemory` if an allocation fails, and only if it is an object
-    /// with such a member.
+    /// Decodes the record from a JSON value: `NotAnObject` if it is no object, else as
+    /// `from_object`. `OutOfMemory` if an allocation fails, and only if it is an object with such a
+    /// member.
     final fn from_json(alloc: Global, value: &Value) -> Result<Self, JsonFault>
         ensures { Gives (IsTrue (takes_in takes (view value.now))) (in_object members (view value.now)) result }
     {
@@ -39,8 +39,7 @@ pub trait JsonRecord: Drop {
     }
 }
 
-/// The record inside another. `Refused` if `from_json` returns any fault but `OutOfMemory`, which is
-/// returned as such.
+/// Decodes a record inside another. `Refused` for any fault but `OutOfMemory`, which is passed on.
 pub fn read_nested<R: JsonRecord>(alloc: Global, value: &Value) -> Result<R, Refusal>
     ensures { Answers (record_kind R.members) (takes_in R.takes) (view value.now) result }
 {

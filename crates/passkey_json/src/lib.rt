@@ -1,4 +1,4 @@
-//! How WebAuthn's types are read from JSON values and written as JSON values.
+//! How WebAuthn's types are decoded from JSON values and encoded as such.
 #![tactic(auto)]
 
 mod algorithm;

@@ -26,8 +26,8 @@ impl<T: FromJson> FromJson for List<T> {
     }
 }
 
-/// The values of those elements of an array that stand for one, in their order. Running out of
-/// memory isn't tolerated. A contract sees it as that list.
+/// The values of those elements of an array that decode to one, in their order; other elements are
+/// skipped. Running out of memory isn't tolerated. Contracts see it as that list.
 #[derive(Debug, Drop)]
 pub struct TolerantList<T>(pub List<T>);
 

@@ -1,4 +1,4 @@
-//! Members of objects, each read in one of a few ways.
+//! Members of objects, each decoded in one of a few ways.
 ghost use Rattle.std.specs.Prelude.{◌≡◌, Err, IsTrue, option_map};
 ghost use Rattle.passkey_json.specs.Fault.{Gives};
 ghost use Rattle.passkey_json.specs.Held.{IsUnlessRefused, found};
@@ -15,7 +15,7 @@ use passkey_bytes::List;
 use serde_json::Value;
 use std::alloc::Global;
 
-/// The fault of a value that is refused.
+/// The fault of a value that is rejected.
 fn fault_of(name: &'static str, value: &Value) -> JsonFault
     ensures { Gives {A = Unit {0}} ⊥ (Err (fault_of name.now (view value.now))) (Err result) }
 {
@@ -26,7 +26,7 @@ fn fault_of(name: &'static str, value: &Value) -> JsonFault
     }
 }
 
-/// The value that a JSON value stands for, or the fault.
+/// The value that a JSON value decodes to, or the fault.
 fn judged<T: FromJson>(alloc: Global, name: &'static str, value: &Value) -> Result<T, JsonFault>
     ensures { Gives (IsTrue (T.takes (view value.now))) (judged T.kind name.now (view value.now)) result }
 {
@@ -62,9 +62,9 @@ impl<'a> Member<'a> {
         Member { alloc, name, value }
     }
 
-    /// The value, which must be there: `Missing` if it isn't. `Float` or `Refused` if it isn't one
-    /// of its kind: `Float` if it holds a float. `OutOfMemory` if an allocation fails, and only if
-    /// it takes memory to decode.
+    /// Decodes a required member: `Missing` if it is absent. `Float` or `Refused` if its value
+    /// isn't one of the kind, `Float` if it holds a float. `OutOfMemory` if an allocation fails,
+    /// and only if the value takes memory to decode.
     #[tactic(auto, unfolding(crate::specs::Members::required))]
     pub fn required<T: FromJson>(self) -> Result<T, JsonFault>
         ensures { Gives (MemberTakes T.takes (found self.entry)) (required T.kind (found self.entry)) result }
@@ -75,9 +75,9 @@ impl<'a> Member<'a> {
         }
     }
 
-    /// The value, or a default if none is there. `Float` or `Refused` if it isn't one of its kind:
-    /// `Float` if it holds a float. `OutOfMemory` if an allocation fails, and only if it takes
-    /// memory to decode.
+    /// Decodes a member, or returns the default if it is absent. `Float` or `Refused` if its value
+    /// isn't one of the kind, `Float` if it holds a float. `OutOfMemory` if an allocation fails,
+    /// and only if the value takes memory to decode.
     #[tactic(auto, unfolding(crate::specs::Members::or_default))]
     pub fn or_default<T: FromJson>(self, default: T) -> Result<T, JsonFault>
         ensures { Gives (MemberTakes T.takes (found self.entry)) (or_default default T.kind (found self.entry)) result }
@@ -88,8 +88,9 @@ impl<'a> Member<'a> {
         }
     }
 
-    /// Some value, if one is there. `Float` or `Refused` if it isn't one of its kind: `Float` if it
-    /// holds a float. `OutOfMemory` if an allocation fails, and only if it takes memory to decode.
+    /// Decodes a member; `None` if it is absent. `Float` or `Refused` if its value isn't one of the
+    /// kind, `Float` if it holds a float. `OutOfMemory` if an allocation fails, and only if the
+    /// value takes memory to decode.
     #[tactic(auto, unfolding(crate::specs::Members::given))]
     pub fn given<T: FromJson>(self) -> Result<Option<T>, JsonFault>
         ensures { Gives (MemberTakes T.takes (found self.entry)) (given T.kind (found self.entry)) result }
@@ -100,8 +101,8 @@ impl<'a> Member<'a> {
         }
     }
 
-    /// The value, or a default if none is there or it is refused. Running out of memory isn't
-    /// tolerated: `OutOfMemory` if an allocation fails, and only if the value takes memory to
+    /// Decodes a member, or returns the default if it is absent or rejected. Running out of memory
+    /// isn't tolerated: `OutOfMemory` if an allocation fails, and only if the value takes memory to
     /// decode. There is no other fault.
     #[tactic(auto, unfolding(crate::specs::Members::tolerated))]
     pub fn tolerated<T: FromJson>(self, default: T) -> Result<T, JsonFault>
@@ -113,9 +114,9 @@ impl<'a> Member<'a> {
         unless_refused(T::from_value(self.alloc, value), default)
     }
 
-    /// The value, which must be there, or a default if it is refused. `Missing` if it isn't there.
-    /// Running out of memory isn't tolerated: `OutOfMemory` if an allocation fails, and only if the
-    /// value takes memory to decode. There is no other fault.
+    /// Decodes a required member, or returns the default if its value is rejected. `Missing` if it
+    /// is absent. Running out of memory isn't tolerated: `OutOfMemory` if an allocation fails, and
+    /// only if the value takes memory to decode. There is no other fault.
     #[tactic(auto, unfolding(crate::specs::Members::required_tolerated, crate::specs::Members::tolerated))]
     pub fn required_tolerated<T: FromJson>(self, default: T) -> Result<T, JsonFault>
         ensures { Gives (MemberTakes T.takes (found self.entry)) (required_tolerated default T.kind (found self.entry)) result }
@@ -126,9 +127,9 @@ impl<'a> Member<'a> {
         self.tolerated(default)
     }
 
-    /// The accepted elements of a list, in their order; nothing if no value is there, or one that is
-    /// no array. Running out of memory isn't tolerated: `OutOfMemory` if an allocation fails, and
-    /// only for an array. There is no other fault.
+    /// Decodes the elements of an array that are accepted, in their order; `None` if the member is
+    /// absent or no array. Running out of memory isn't tolerated: `OutOfMemory` if an allocation
+    /// fails, and only for an array. There is no other fault.
     #[tactic(auto, unfolding(crate::specs::Members::accepted_list))]
     pub fn accepted_list<T: FromJson>(self) -> Result<Option<List<T>>, JsonFault>
         ensures { Gives (MemberTakes is_array (found self.entry)) (accepted_list T.kind (found self.entry)) result }

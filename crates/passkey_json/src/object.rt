@@ -28,15 +28,14 @@ impl<'a> Object<'a> {
         }
     }
 
-    /// The member of this name, which may be absent.
+    /// The member with this name, which may be absent.
     pub fn member(&self, name: &'static str) -> Member<'a>
         ensures { found result ≡ member name.now (names_of self.now) }
     {
         Member::new(self.alloc, name, self.value.get(name))
     }
 
-    /// The member of this name, which may be there under another one. `Repeated` if it is there
-    /// under both.
+    /// The member with this name or the other one. `Repeated` if both are present.
     pub fn aliased(&self, name: &'static str, other: &'static str) -> Result<Member<'a>, JsonFault>
         ensures { GivesAs ⊥ found (aliased name.now other.now (names_of self.now)) result }
     {

@@ -1,4 +1,4 @@
-//! What a relying party asks of the extension prf, decoded from JSON objects and encoded.
+//! Inputs of the extension prf, decoded from JSON objects and encoded.
 ghost use Rattle.std.specs.Prelude.{◌≡◌, ◌<◌, ◌⊎◌, length, IfOk, OnErr};
 ghost use Rattle.std.specs.FinMap as fin;
 ghost use Rattle.std.specs.Option.{IsSomeAnd};
@@ -20,12 +20,14 @@ use passkey_webauthn::AuthenticationExtensionsPrfValues;
 use serde_json::Value;
 use std::alloc::Global;
 
-/// What a relying party asks of the extension prf (WebAuthn Level 3, section 10.1.4).
+/// Inputs of the extension prf (WebAuthn Level 3, section 10.1.4).
 #[derive(Debug, Drop)]
 pub struct AuthenticationExtensionsPrfInputs {
-    /// Salts for whichever credential is used.
+    /// eval: salts for whichever credential is used; `None` means the member is absent.
     pub eval: Option<AuthenticationExtensionsPrfValues>,
-    /// Salts for single credentials, by their ids in base64url.
+    /// evalByCredential: salts for single credentials, by their ids in base64url. Only a sign-in
+    /// with a list of allowed credentials may have it; else the client fails with
+    /// NotSupportedError.
     pub eval_by_credential: Option<Map<Text, AuthenticationExtensionsPrfValues>>,
 }
 
@@ -40,8 +42,8 @@ impl AuthenticationExtensionsPrfInputs {
         }
     }
 
-    /// An equal value. `OutOfMemory` if an allocation fails, which can't happen if no credential has
-    /// salts of its own and the others are empty or absent.
+    /// Returns an equal value. `OutOfMemory` if an allocation fails, which can't happen if no
+    /// credential has salts of its own and the others are empty or absent.
     pub fn try_clone(&self, alloc: Global) -> Result<AuthenticationExtensionsPrfInputs, OutOfMemory>
         ensures same { IfOk result (λ copy. copy ≡ self.now) }
         ensures grows { OnErr result (IsSomeAnd self.now.eval (λ values. IsSomeAnd values.second (λ bytes. 0 < length bytes) ⊎ (0 < length values.first)) ⊎ IsSomeAnd self.now.eval_by_credential (λ salts. ¬ (salts ≡ fin.empty))) }

@@ -1,36 +1,23 @@
 //! Why no value was decoded from a JSON value.
-ghost use Rattle.std.specs.Prelude.{◌≡◌, Some};
+ghost use Rattle.std.specs.Prelude.{◌≡◌};
 ghost use Rattle.passkey_json.specs.Fault.{refusal_of};
-ghost use Rattle.passkey_json.specs.Names.{refusal_name};
 ghost use Rattle.passkey_json.specs.declared.refusal.Refusal.TheVariants.{OutOfMemory as NoMemory};
 
 use crate::json_fault::JsonFault;
 use passkey_memory::OutOfMemory;
 use std::alloc::{AllocError, AllocFailed};
-use std::error::Error;
-use std::fmt;
+use thiserror::Error;
 
 /// Why no value was decoded from a JSON value.
-#[derive(Clone, Copy, Debug, PartialEq, Eq)]
+#[derive(Clone, Copy, Debug, Error, PartialEq, Eq)]
 pub enum Refusal {
-    /// The JSON value stands for no such value.
+    /// The JSON value decodes to no value of the type.
+    #[error("Refused")]
     Refused,
     /// An allocation failed.
+    #[error("OutOfMemory")]
     OutOfMemory,
 }
-
-impl fmt::Display for Refusal {
-    ghost output = { λ e. Some (refusal_name e) };
-
-    fn fmt<W: fmt::Write>(&self, f: &mut fmt::Formatter<W>) -> fmt::Result {
-        f.write_str(match self {
-            Refusal::Refused => "Refused",
-            Refusal::OutOfMemory => "OutOfMemory",
-        })
-    }
-}
-
-impl Error for Refusal {}
 
 impl From<AllocError> for Refusal {
     ghost from_gives = { λ _ e. e ≡ NoMemory };

@@ -1,4 +1,4 @@
-//! Whether a new credential is to be found without its id, decoded from JSON values and encoded.
+//! Resident key requirements, decoded from JSON values and encoded.
 ghost use Rattle.std.specs.Prelude.{false};
 ghost use Rattle.passkey_json.specs.Kind.{one_named};
 ghost use Rattle.passkey_json.specs.ResidentKey.{resident_key_name, resident_key_named, resident_key_own};
@@ -14,14 +14,15 @@ use passkey_webauthn::EnumNames;
 use serde_json::Value;
 use std::alloc::Global;
 
-/// Whether a new credential is to be found without its id (WebAuthn Level 3, section 5.4.6).
+/// Whether the relying party wants a client-side discoverable credential (WebAuthn Level 3, section
+/// 5.4.6).
 #[derive(Clone, Copy, Debug, PartialEq, Eq)]
 pub enum ResidentKeyRequirement {
-    /// Rather not.
+    /// Preferably not, but a discoverable credential is accepted.
     Discouraged,
-    /// Where the authenticator can.
+    /// Preferably, if the authenticator can make one.
     Preferred,
-    /// Nothing else will do.
+    /// Required: the client fails if no authenticator can make one.
     Required,
 }
 

@@ -1,4 +1,4 @@
-//! What a relying party asks of an authenticator, decoded from JSON objects and encoded.
+//! Authenticator selection criteria, decoded from JSON objects and encoded.
 ghost use Rattle.std.specs.Prelude.{◌≡◌, false};
 ghost use Rattle.passkey_json.specs.Members.{record_kind};
 ghost use Rattle.passkey_json.specs.SelectionCriteria.{selection_criteria_in, selection_criteria_json, any_authenticator};
@@ -20,24 +20,26 @@ use passkey_memory::OutOfMemory;
 use serde_json::Value;
 use std::alloc::Global;
 
-/// What a relying party asks of the authenticator that makes a credential (WebAuthn Level 3, section
-/// 5.4.4).
+/// The relying party's requirements for the authenticator that makes a credential (WebAuthn Level
+/// 3, section 5.4.4).
 #[derive(Debug, Drop)]
 pub struct AuthenticatorSelectionCriteria {
-    /// How the authenticator is to be attached; any way where there is none.
+    /// The attachment; `None` allows any.
     pub authenticator_attachment: Option<AuthenticatorAttachment>,
-    /// Whether the credential is to be found without its id.
+    /// Whether a discoverable credential is wanted; `None` means `required` if
+    /// `require_resident_key` is true, else `discouraged`.
     pub resident_key: Option<ResidentKeyRequirement>,
-    /// The same, as Level 1 asks it.
+    /// The same for Level 1; relying parties should set it to true exactly if `resident_key` is
+    /// `required`.
     pub require_resident_key: bool,
-    /// Whether the user is to be verified.
+    /// Whether user verification is wanted.
     pub user_verification: UserVerificationRequirement,
 }
 
 impl Default for AuthenticatorSelectionCriteria {
     ghost is_default = { λ x. x ≡ any_authenticator };
 
-    /// Any authenticator, which verifies its user where it can.
+    /// Any authenticator, with user verification if it can.
     fn default() -> AuthenticatorSelectionCriteria {
         AuthenticatorSelectionCriteria {
             authenticator_attachment: None,

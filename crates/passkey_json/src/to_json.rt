@@ -1,4 +1,4 @@
-//! Values that are written as JSON values.
+//! Values that are encoded as JSON values.
 ghost use Rattle.std.specs.Prelude.{◌≡◌, false, IfOk, OnOk};
 ghost use Rattle.passkey_json.specs.Written.{ReadsBack, natural_json, whole_json, algorithm_json};
 ghost use Rattle.passkey_json.specs.declared.bytes_form.BytesForm.{BytesForm as Form};
@@ -14,13 +14,13 @@ use passkey_memory::OutOfMemory;
 use serde_json::Value;
 use std::alloc::Global;
 
-/// A type whose values are written as JSON values.
+/// A type whose values are encoded as JSON values.
 pub trait ToJson: FromJson {
-    /// The JSON value that each value is written as.
+    /// The JSON value that each value is encoded as.
     ghost json: { Form → Self → Data };
 
-    /// The JSON value that the value is written as, with bytes in the form; it is read as the
-    /// value, and holds no float. `OutOfMemory` if an allocation fails.
+    /// Encodes the value as a JSON value, with bytes in this form. The result decodes to the value,
+    /// and holds no float. `OutOfMemory` if an allocation fails.
     fn to_json(&self, alloc: Global, form: BytesForm) -> Result<Value, OutOfMemory>
         ensures written { IfOk result (λ v. view v ≡ json form self.now) }
         ensures reads_back { OnOk result (ReadsBack Self.kind self.now (json form self.now)) }

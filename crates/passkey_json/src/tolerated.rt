@@ -1,4 +1,4 @@
-//! Values that may be refused.
+//! Values that may be rejected.
 ghost use Rattle.std.specs.Prelude.{◌≡◌};
 ghost use Rattle.passkey_json.specs.Kind.{tolerated};
 
@@ -8,8 +8,8 @@ use serde_json::Value;
 use std::alloc::Global;
 use std::marker::Model;
 
-/// A value, or nothing where a JSON value stood for none. Running out of memory isn't tolerated. A
-/// contract sees it as that option.
+/// A value, or `None` if the JSON value was rejected. Running out of memory isn't tolerated.
+/// Contracts see it as that option.
 #[derive(Debug, Drop)]
 pub struct Tolerated<T>(pub Option<T>);
 

@@ -1,4 +1,4 @@
-//! Truths that may be texts.
+//! Booleans that may be texts.
 ghost use Rattle.std.specs.Prelude.{◌≡◌, false};
 ghost use Rattle.passkey_json.specs.Kind.{truth_named, truth_text};
 ghost use Rattle.serde_json.specs.Data.{boolean};
@@ -12,7 +12,8 @@ use serde_json::Value;
 use std::alloc::Global;
 use std::marker::Model;
 
-/// A truth that is also decoded from its name, `true` or `false`. A contract sees it as that truth.
+/// A boolean that is also decoded from the text `true` or `false`. Contracts see it as that
+/// boolean.
 #[derive(Debug, Drop)]
 pub struct TruthText(pub bool);
 
@@ -25,7 +26,7 @@ impl Model for TruthText {
 }
 
 impl TruthText {
-    /// The truth.
+    /// The boolean.
     pub fn get(self) -> bool
         ensures { result ≡ self }
     {

@@ -1,4 +1,4 @@
-//! Whether the user is to be verified, decoded from JSON values and encoded.
+//! User verification requirements, decoded from JSON values and encoded.
 ghost use Rattle.std.specs.Prelude.{false};
 ghost use Rattle.passkey_json.specs.Kind.{one_named};
 ghost use Rattle.passkey_json.specs.UserVerification.{user_verification_name, user_verification_named, user_verification_own};
@@ -14,14 +14,14 @@ use passkey_webauthn::EnumNames;
 use serde_json::Value;
 use std::alloc::Global;
 
-/// Whether the user is to be verified (WebAuthn Level 3, section 5.8.6).
+/// Whether the relying party wants user verification (WebAuthn Level 3, section 5.8.6).
 #[derive(Clone, Copy, Debug, PartialEq, Eq)]
 pub enum UserVerificationRequirement {
-    /// Nothing else will do.
+    /// Required: the client fails if the response lacks the flag UV.
     Required,
-    /// Where the authenticator can.
+    /// Preferably, if the authenticator can.
     Preferred,
-    /// Rather not.
+    /// Preferably not.
     Discouraged,
 }
 

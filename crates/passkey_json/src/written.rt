@@ -1,4 +1,4 @@
-//! Lists and objects that are written.
+//! Encoding lists and objects.
 ghost use Rattle.std.specs.Prelude.{◌≡◌, false, OnOk, Some, option_map};
 ghost use Rattle.passkey_json.specs.Written.{ReadsBack, ReadsBackIf, list_json, put_if, so_far};
 ghost use Rattle.serde_json.specs.Data.{no_members, object, put};
@@ -29,7 +29,7 @@ impl<T: ToJson> ToJson for List<T> {
     }
 }
 
-/// One more member of an object.
+/// Adds a member to an object.
 #[tactic(auto, using(crate::proofs::FloatFree::entry_free))]
 fn put_member(
     alloc: Global,
@@ -45,7 +45,7 @@ fn put_member(
 }
 
 impl Written {
-    /// No members. It takes no memory.
+    /// No members. Allocates nothing.
     pub fn new(alloc: Global) -> Written
         ensures { so_far result ≡ no_members }
     {
@@ -54,7 +54,7 @@ impl Written {
         }
     }
 
-    /// A member of this name. `OutOfMemory` if an allocation fails.
+    /// Adds a member. `OutOfMemory` if an allocation fails.
     pub fn put<T: ToJson>(
         &mut self,
         alloc: Global,
@@ -69,7 +69,7 @@ impl Written {
         put_member(alloc, &mut self.members, name, value)
     }
 
-    /// A member of this name, if there is one. `OutOfMemory` if an allocation fails.
+    /// Adds a member if the value is present. `OutOfMemory` if an allocation fails.
     pub fn put_some<T: ToJson>(
         &mut self,
         alloc: Global,
@@ -86,7 +86,7 @@ impl Written {
         Ok(())
     }
 
-    /// The object of the members.
+    /// The object with these members.
     pub fn into_value(self) -> Value
         ensures value { view result ≡ object (so_far self) }
         ensures without_floats { has_float (view result) ≡ false }

@@ -1,25 +1,16 @@
 //! Client data (WebAuthn Level 3, section 5.8.1), worked out by hand. Client data without further members is in
 //! the rows of the program too.
-ghost use Rattle.std.specs.Prelude.{◌≡◌, option_map};
-ghost use Rattle.serde_json.specs.Find.{get_member};
-ghost use Rattle.serde_json.specs.View.{view, members_view};
 
 use crate::json::{assert_shows, displayed, parsed};
 use indexmap::IndexMap;
 use passkey_bytes::Text;
 use passkey_client_data::{ClientDataExtra, ClientDataType, CollectedClientData};
-use passkey_json::JsonFault;
+use passkey_json::{JsonFault, Object};
 use passkey_memory::OutOfMemory;
-use serde_json::{Map, Value};
+use serde_json::Value;
 use std::alloc::Global;
 use std::marker::Model;
 use std::process::Abort;
-
-fn member_of<'a>(object: &'a Map<String, Value>, name: &str) -> Option<&'a Value>
-    ensures { option_map (λ v. view v.now) result ≡ get_member name.now (members_view object.now.entries) }
-{
-    object.get(name)
-}
 
 /// The name of the app that asked, which Android's clients add.
 #[derive(Debug, Drop)]
@@ -34,19 +25,17 @@ impl Model for PackageName {
 }
 
 impl ClientDataExtra for PackageName {
-    ghost use Rattle.std.specs.Option.{ok_or};
-    ghost use Rattle.std.specs.Prelude.{codes, option_and_then, refl};
+    ghost use Rattle.std.specs.Prelude.{codes, refl};
     ghost use Rattle.std.specs.Str.{bytes_eq};
-    ghost use Rattle.passkey_json.specs.Fault.{missing};
     ghost use Rattle.passkey_json.specs.Kind.{text, is_text};
-    ghost use Rattle.passkey_json.specs.Members.{takes_at};
+    ghost use Rattle.passkey_json.specs.Members.{member as member_at, required, takes_at};
     ghost use Rattle.serde_json.specs.Data.{string, member, no_members};
 
     ghost has = { λ name. bytes_eq name (codes "androidPackageName") };
 
-    ghost reads = { λ ms. ok_or (option_and_then text (get_member (codes "androidPackageName") ms)) (missing (codes "androidPackageName")) };
+    ghost reads = { λ object. required text (member_at (codes "androidPackageName") object) };
 
-    ghost takes = { λ ms. takes_at is_text (get_member (codes "androidPackageName") ms) };
+    ghost takes = { λ object. takes_at is_text (object (codes "androidPackageName")) };
 
     ghost written = { λ name. member (codes "androidPackageName") (string name) no_members };
 
@@ -54,11 +43,8 @@ impl ClientDataExtra for PackageName {
         name == "androidPackageName"
     }
 
-    fn from_object(alloc: Global, object: &Map<String, Value>) -> Result<PackageName, JsonFault> {
-        match member_of(object, "androidPackageName") {
-            Some(Value::String(name)) => { Ok(PackageName(Text::from_str(alloc, name.as_str())?)) }
-            _ => Err(JsonFault::Missing("androidPackageName")),
-        }
+    fn from_object(object: &Object<'_>) -> Result<PackageName, JsonFault> {
+        Ok(PackageName(object.member("androidPackageName").required()?))
     }
 
     fn members(&self, alloc: Global) -> Result<Vec<(String, Value)>, OutOfMemory> {
@@ -84,13 +70,13 @@ fn shown(rt: &(impl Abort + AllocGlobal), text: Result<Text, JsonFault>) -> Stri
     }
 }
 
-/// What a copy of the client data is written as.
+/// What a copy of the client data is encoded as.
 fn copied(rt: &(impl Abort + AllocGlobal), data: &CollectedClientData<PackageName>) -> String {
     let copy = data.try_clone(rt.alloc()).expect(rt, "memory");
     shown(rt, copy.to_text(rt.alloc()))
 }
 
-/// What a copy of the client data is written as that the JSON text is read as; else the fault.
+/// Decodes the JSON text, and encodes a copy of the client data; else the fault.
 fn rewritten(rt: &(impl Abort + AllocGlobal), text: &str) -> String {
     match CollectedClientData::from_json(rt.alloc(), &parsed(rt, text)) {
         Ok(data) => copied(rt, &data),
@@ -129,6 +115,10 @@ fn client_data_has_further_members(rt: HostRuntime) {
         ),
         (
             r#"{"challenge":"c","origin":"o","type":"webauthn.get","androidPackageName":1,"a":1.5}"#,
+            r#"Refused("androidPackageName")"#,
+        ),
+        (
+            r#"{"challenge":"c","origin":"o","type":"webauthn.get","a":1.5}"#,
             r#"Missing("androidPackageName")"#,
         ),
         (
@@ -140,7 +130,29 @@ fn client_data_has_further_members(rt: HostRuntime) {
     }
 }
 
-/// What client data with this unknown member, or none, is written as; else the fault.
+/// Decodes the bytes, and encodes the client data; else the fault.
+fn rewritten_bytes(rt: &(impl Abort + AllocGlobal), bytes: &[u8]) -> String {
+    match CollectedClientData::<PackageName>::from_slice(rt.alloc(), bytes) {
+        Ok(data) => copied(rt, &data),
+        Err(fault) => displayed(rt, &fault),
+    }
+}
+
+#[test]
+fn client_data_is_decoded_from_bytes(rt: HostRuntime) {
+    let whole =
+        r#"{"type":"webauthn.get","challenge":"c","origin":"o","crossOrigin":false,"androidPackageName":"p"}"#;
+    for (bytes, want) in [
+        (whole.as_bytes(), whole),
+        (b"{", "BadJson"),
+        (b"\"\xff\"", "BadJson"),
+        (b"{}", r#"Missing("type")"#),
+    ] {
+        assert_shows(&rt, "bytes", rewritten_bytes(&rt, bytes), want);
+    }
+}
+
+/// What client data with this unknown member, or none, is encoded as; else the fault.
 fn made(rt: &(impl Abort + AllocGlobal), unknown: Option<Value>) -> String {
     let mut unknown_keys = IndexMap::new(rt.alloc());
     if let Some(value) = unknown {

@@ -1,4 +1,4 @@
-//! What the tests over JSON share. Each call has one way out, so that little has to be proved of a test.
+//! What the tests over JSON share. Each call has one exit, so that little has to be proved about a test.
 use passkey_json::{BytesForm, FromJson, JsonRecord, ToJson};
 use serde_json::Value;
 use std::fmt::{Debug, Display};
@@ -9,7 +9,7 @@ pub fn parsed(rt: &(impl Abort + AllocGlobal), text: &str) -> Value {
     Value::from_str(rt.alloc(), text).expect(rt, "a JSON text")
 }
 
-/// The record of a JSON text.
+/// The record that a JSON text decodes to.
 pub fn record<T: JsonRecord>(rt: &(impl Abort + AllocGlobal), text: &str) -> T {
     T::from_json(rt.alloc(), &parsed(rt, text)).expect(rt, "a record")
 }
@@ -24,13 +24,13 @@ pub fn debugged<T: Debug>(rt: &(impl Abort + AllocGlobal), value: &T) -> String 
     format!(in rt.alloc(); "{value:?}").expect(rt, "memory")
 }
 
-/// The compact JSON text that the value is written as.
+/// The compact JSON text that the value is encoded as.
 pub fn written<T: ToJson>(rt: &(impl Abort + AllocGlobal), value: &T, form: BytesForm) -> String {
     let json = value.to_json(rt.alloc(), form).expect(rt, "memory");
     json.to_string(rt.alloc()).expect(rt, "memory")
 }
 
-/// What `{:?}` prints of the value that the JSON text is read as; else what `{}` prints of the refusal.
+/// What `{:?}` prints of the value that the JSON text decodes to; else what `{}` prints of the error.
 fn read<T: FromJson + Debug>(rt: &(impl Abort + AllocGlobal), text: &str) -> String {
     match T::from_value(rt.alloc(), &parsed(rt, text)) {
         Ok(value) => debugged(rt, &value),
@@ -38,7 +38,7 @@ fn read<T: FromJson + Debug>(rt: &(impl Abort + AllocGlobal), text: &str) -> Str
     }
 }
 
-/// What the record is written as that the JSON text is read as; else what `{}` prints of the fault.
+/// What the record that the JSON text decodes to is encoded as; else what `{}` prints of the fault.
 fn rewritten<T: JsonRecord + ToJson>(
     rt: &(impl Abort + AllocGlobal),
     text: &str,

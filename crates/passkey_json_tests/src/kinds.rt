@@ -1,4 +1,4 @@
-//! What JSON values are read as, worked out by hand from WebAuthn Level 3 and RFC 4648. Further values are
+//! What JSON values decode to, worked out by hand from WebAuthn Level 3 and RFC 4648. Further values are
 //! in the rows of the program.
 use crate::json::assert_reads;
 use passkey_bytes::{Bytes, List, Map, Text};

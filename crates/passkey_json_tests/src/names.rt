@@ -12,7 +12,7 @@ use passkey_webauthn::EnumNames;
 use std::fmt::Debug;
 use std::process::Abort;
 
-/// Asserts what `{:?}` prints of the value that each name is found as.
+/// Asserts what `{:?}` prints of the value that each name stands for.
 fn assert_finds<T: EnumNames + Debug>(rt: &(impl Abort + AllocGlobal), cases: &[(&str, &str)]) {
     for (name, want) in cases {
         assert_shows(rt, name, debugged(rt, &T::from_name(name)), want);

@@ -1,4 +1,4 @@
-//! What a relying party asks of a browser (WebAuthn Level 3, sections 5.4 and 5.5), worked out by hand. Whole options
+//! Options of registrations and sign-ins (WebAuthn Level 3, sections 5.4 and 5.5), worked out by hand. Whole options
 //! are in the rows of the program.
 use crate::json::{assert_reads, assert_rewrites};
 use passkey_json::BytesForm::{Base64Url, Numbers};

@@ -1,4 +1,4 @@
-//! Records that are read of objects and written, worked out by hand from WebAuthn Level 3 and RFC 4648. Further
+//! Records that are decoded from objects and encoded, worked out by hand from WebAuthn Level 3 and RFC 4648. Further
 //! objects are in the rows of the program.
 use crate::json::{assert_reads, assert_rewrites, assert_shows, parsed, record, written};
 use passkey_json::BytesForm::{Base64Url, Numbers};
@@ -247,7 +247,7 @@ fn records_without_bytes_are_written(rt: HostRuntime) {
     );
 }
 
-/// What a copy of the inputs is written as.
+/// What a copy of the inputs is encoded as.
 fn copied(rt: &(impl Abort + AllocGlobal), inputs: &AuthenticationExtensionsPrfInputs) -> String {
     let copy = inputs.try_clone(rt.alloc()).expect(rt, "memory");
     written(rt, &copy, Base64Url)
@@ -260,7 +260,7 @@ fn prf_inputs_are_copied(rt: HostRuntime) {
     assert_shows(&rt, text, copied(&rt, &record(&rt, text)), text);
 }
 
-// With any allocation refused, this either fails while the text is parsed or succeeds.
+// Whichever allocation fails, this either fails while the text is parsed or succeeds.
 #[test]
 fn members_that_take_no_memory_are_decoded_without_any(rt: HostRuntime) {
     let nothing = Value::Object(Map::new(rt.alloc()));

@@ -12,7 +12,7 @@ use rand_core::utils::{self, NextWord};
 use std::marker::Model;
 use std::process::Abort;
 
-/// A generator of the bytes 0, 1, 2 and so on. A contract sees the next four as a number.
+/// A generator of the bytes 0, 1, 2 and so on. Contracts see the next four as a number.
 #[derive(Drop)]
 struct Ascending(u32);
 
@@ -56,7 +56,7 @@ fn builder(rt: &(impl Abort + AllocGlobal), kty: Registered<KeyType>) -> Passkey
     Passkey::mock(rt.alloc(), rp_id, CoseKey::new(kty), Ascending(0x0302_0100)).expect(rt, "memory")
 }
 
-/// A builder that was not given back.
+/// The builder, if it wasn't handed back.
 fn drawn(
     rt: &impl Abort,
     built: Result<PasskeyBuilder<Ascending>, GivenBack<PasskeyBuilder<Ascending>>>,

@@ -1,14 +1,13 @@
-//! Documents of related origins (WebAuthn Level 3, section 5.11), with URLs as the URL Standard writes them.
+//! Documents of related origins (WebAuthn Level 3, section 5.11), with URLs as the URL Standard serializes them.
 use crate::json::{assert_shows, displayed, parsed};
-use passkey_json::BytesForm;
 use passkey_well_known::WellKnown;
 use std::process::Abort;
 
-/// What the document is written as that the JSON text is read as; else its fault.
+/// What the document that the JSON text decodes to is encoded as; else its fault.
 fn rewritten(rt: &(impl Abort + AllocGlobal), text: &str) -> String {
     match WellKnown::from_json(rt.alloc(), &parsed(rt, text)) {
         Ok(document) => {
-            let json = document.to_json(rt.alloc(), BytesForm::Base64Url);
+            let json = document.to_json(rt.alloc());
             json.expect(rt, "memory")
                 .to_string(rt.alloc())
                 .expect(rt, "memory")

@@ -1,4 +1,4 @@
-//! Which attestation a relying party wants, decoded from JSON values and encoded.
+//! Attestation conveyance preferences, decoded from JSON values and encoded.
 ghost use Rattle.std.specs.Prelude.{false};
 ghost use Rattle.passkey_json.specs.Kind.{one_named};
 ghost use Rattle.passkey_options.specs.AttestationConveyance.{conveyance_name, conveyance_named, conveyance_own};
@@ -10,16 +10,16 @@ use passkey_webauthn::EnumNames;
 use serde_json::Value;
 use std::alloc::Global;
 
-/// Which attestation a relying party wants (WebAuthn Level 3, section 5.4.7).
+/// Which attestation the relying party wants (WebAuthn Level 3, section 5.4.7).
 #[derive(Clone, Copy, Debug, PartialEq, Eq)]
 pub enum AttestationConveyancePreference {
     /// No attestation.
     None,
-    /// One that can be verified, which may be another one that the client puts in its place.
+    /// A verifiable attestation, which the client may have replaced by an anonymous one.
     Indirect,
-    /// The authenticator's own.
+    /// The attestation as the authenticator makes it.
     Direct,
-    /// One that identifies the authenticator, within an enterprise.
+    /// An attestation that may identify the authenticator, within an enterprise.
     Enterprise,
 }
 

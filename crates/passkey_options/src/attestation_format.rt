@@ -1,4 +1,4 @@
-//! Formats of attestation statements, decoded from JSON values and encoded.
+//! Attestation statement formats, decoded from JSON values and encoded.
 ghost use Rattle.std.specs.Prelude.{false};
 ghost use Rattle.passkey_json.specs.Kind.{one_named};
 ghost use Rattle.passkey_options.specs.AttestationFormat.{format_name, format_named, format_own};
@@ -10,22 +10,22 @@ use passkey_webauthn::EnumNames;
 use serde_json::Value;
 use std::alloc::Global;
 
-/// A format of attestation statements (WebAuthn Level 3, section 8.1).
+/// An attestation statement format (WebAuthn Level 3, section 8.1).
 #[derive(Clone, Copy, Debug, PartialEq, Eq)]
 pub enum AttestationStatementFormatIdentifiers {
-    /// The one that was made for WebAuthn (section 8.2).
+    /// packed, which was made for WebAuthn (section 8.2).
     Packed,
-    /// That of a trusted platform module (section 8.3).
+    /// tpm, of trusted platform modules (section 8.3).
     Tpm,
-    /// That of a key store of Android (section 8.4).
+    /// android-key, of Android's key store (section 8.4).
     AndroidKey,
-    /// That of SafetyNet of Android (section 8.5).
+    /// android-safetynet (section 8.5).
     AndroidSafetynet,
-    /// That of FIDO U2F (section 8.6).
+    /// fido-u2f (section 8.6).
     FidoU2f,
-    /// That of Apple's anonymous attestation (section 8.8).
+    /// apple, anonymous attestation (section 8.8).
     Apple,
-    /// No statement (section 8.7).
+    /// none, without a statement (section 8.7).
     None,
 }
 

@@ -1,4 +1,4 @@
-//! The members on hints and attestation, which both options have.
+//! The members about hints and attestation, which both options have.
 ghost use Rattle.passkey_options.specs.AttestationMembers.{attestation_members_in, attestation_members_takes};
 
 use crate::attestation_conveyance::AttestationConveyancePreference;
@@ -7,7 +7,8 @@ use crate::hints::PublicKeyCredentialHints;
 use passkey_bytes::List;
 use passkey_json::{JsonFault, JsonRecord, Object};
 
-/// The members on hints and attestation, which both options have (WebAuthn Level 3, sections 5.4 and 5.5).
+/// The members about hints and attestation, which both options have (WebAuthn Level 3, sections 5.4
+/// and 5.5).
 #[derive(Drop)]
 pub struct AttestationMembers {
     pub hints: Option<List<PublicKeyCredentialHints>>,

@@ -1,4 +1,4 @@
-//! What a relying party asks for where a credential is made, decoded from JSON objects and encoded.
+//! The options of a registration, decoded from JSON objects and encoded.
 ghost use Rattle.passkey_json.specs.Members.{record_kind, takes_in};
 ghost use Rattle.passkey_options.specs.CreationOptions.{creation_options_in, creation_options_json, required_members_in, choice_members_in, required_members_takes, choice_members_takes, creation_options_takes};
 
@@ -20,36 +20,39 @@ use passkey_webauthn::{
 use serde_json::Value;
 use std::alloc::Global;
 
-/// What a relying party asks for where a credential is made (WebAuthn Level 3, section 5.4).
+/// The options of a registration (WebAuthn Level 3, section 5.4).
 #[derive(Debug, Drop)]
 pub struct PublicKeyCredentialCreationOptions {
     /// The relying party.
     pub rp: PublicKeyCredentialRpEntity,
-    /// Whose credential it will be.
+    /// The user account that the credential is for.
     pub user: PublicKeyCredentialUserEntity,
-    /// What the authenticator is to sign, so that no answer serves twice.
+    /// The challenge: at least 16 random bytes (WebAuthn Level 3, section 13.4.3). The length isn't
+    /// checked.
     pub challenge: Bytes,
-    /// The keys that the relying party can use, the best first.
+    /// The credential types and algorithms that the relying party supports, the most preferred
+    /// first. Decoding skips elements that it doesn't know; an empty list means ES256 and RS256
+    /// (WebAuthn Level 3, section 5.1.3).
     pub pub_key_cred_params: List<PublicKeyCredentialParameters>,
-    /// How long the client is to wait, in milliseconds.
+    /// The time that the client should wait, in milliseconds. It is a hint.
     pub timeout: Option<u32>,
-    /// Credentials that the user has already; no authenticator that holds one of them will do.
+    /// The user's existing credentials: the client fails if an authenticator has one of them.
     pub exclude_credentials: Option<List<PublicKeyCredentialDescriptor>>,
-    /// Which authenticators will do; any if nothing is there.
+    /// The requirements for the authenticator; `None` allows any.
     pub authenticator_selection: Option<AuthenticatorSelectionCriteria>,
-    /// Which authenticators the user will probably take, the likeliest first.
+    /// Which kinds of authenticator the user will probably use, the likeliest first.
     pub hints: Option<List<PublicKeyCredentialHints>>,
-    /// Which attestation is wanted.
+    /// Which attestation the relying party wants.
     pub attestation: AttestationConveyancePreference,
-    /// The formats of its statement, the best first.
+    /// The preferred formats of the attestation statement, the most preferred first.
     pub attestation_formats: Option<List<AttestationStatementFormatIdentifiers>>,
-    /// What is asked of extensions.
+    /// The client extension inputs; `None` means the member is absent.
     pub extensions: Option<AuthenticationExtensionsClientInputs>,
 }
 
 // The members are decoded in groups, since each `?` drops what was decoded before it.
 
-/// What must be there.
+/// The required members.
 #[derive(Drop)]
 struct RequiredMembers {
     rp: PublicKeyCredentialRpEntity,
@@ -76,7 +79,7 @@ impl JsonRecord for RequiredMembers {
     }
 }
 
-/// Which authenticators will do, and for how long.
+/// The members about which authenticators are accepted, and for how long.
 #[derive(Drop)]
 struct ChoiceMembers {
     timeout: Option<u32>,

@@ -1,4 +1,4 @@
-//! What a page asks of the browser where a credential is made, decoded from JSON objects and encoded.
+//! The argument of `navigator.credentials.create()`, decoded from JSON objects and encoded.
 ghost use Rattle.passkey_json.specs.Members.{record_kind, takes_in};
 ghost use Rattle.passkey_options.specs.CredentialCreation.{credential_creation_in, credential_creation_json, credential_creation_takes};
 
@@ -11,10 +11,10 @@ use passkey_memory::OutOfMemory;
 use serde_json::Value;
 use std::alloc::Global;
 
-/// What a page asks of the browser where a credential is made (WebAuthn Level 3, section 5.1.1).
+/// The argument of `navigator.credentials.create()` (WebAuthn Level 3, section 5.1.1).
 #[derive(Debug, Drop)]
 pub struct CredentialCreationOptions {
-    /// What the relying party asks for.
+    /// The options of the registration.
     pub public_key: PublicKeyCredentialCreationOptions,
 }
 

@@ -1,4 +1,4 @@
-//! What a page asks of the browser where a user signs in, decoded from JSON objects and encoded.
+//! The argument of `navigator.credentials.get()`, decoded from JSON objects and encoded.
 ghost use Rattle.passkey_json.specs.Members.{record_kind, takes_in};
 ghost use Rattle.passkey_options.specs.CredentialRequest.{credential_request_in, credential_request_json, credential_request_takes};
 
@@ -11,10 +11,10 @@ use passkey_memory::OutOfMemory;
 use serde_json::Value;
 use std::alloc::Global;
 
-/// What a page asks of the browser where a user signs in (WebAuthn Level 3, section 5.1.2).
+/// The argument of `navigator.credentials.get()` (WebAuthn Level 3, section 5.1.2).
 #[derive(Debug, Drop)]
 pub struct CredentialRequestOptions {
-    /// What the relying party asks for.
+    /// The options of the sign-in.
     pub public_key: PublicKeyCredentialRequestOptions,
 }
 

@@ -1,4 +1,4 @@
-//! Which authenticator a user will probably take, decoded from JSON values and encoded.
+//! Hints about authenticators, decoded from JSON values and encoded.
 ghost use Rattle.std.specs.Prelude.{false};
 ghost use Rattle.passkey_json.specs.Kind.{one_named};
 ghost use Rattle.passkey_options.specs.Hints.{hint_name, hint_named, hint_own};
@@ -10,14 +10,14 @@ use passkey_webauthn::EnumNames;
 use serde_json::Value;
 use std::alloc::Global;
 
-/// Which authenticator a user will probably take (WebAuthn Level 3, section 5.8.8).
+/// Which kind of authenticator the user will probably use (WebAuthn Level 3, section 5.8.8).
 #[derive(Clone, Copy, Debug, PartialEq, Eq)]
 pub enum PublicKeyCredentialHints {
-    /// A security key of its own.
+    /// A physical security key.
     SecurityKey,
-    /// One that is part of the client's device.
+    /// A platform authenticator of the client's device.
     ClientDevice,
-    /// One of general use, such as that of a telephone.
+    /// A general-purpose authenticator, such as a phone.
     Hybrid,
 }
 

@@ -1,5 +1,5 @@
-//! The options of WebAuthn that a relying party hands to a browser, read from JSON values and written
-//! as JSON values.
+//! The options of WebAuthn that a relying party sends to a browser, decoded from JSON values and
+//! encoded.
 #![tactic(auto)]
 
 mod attestation_conveyance;

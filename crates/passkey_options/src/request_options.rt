@@ -1,4 +1,4 @@
-//! What a relying party asks for where a user signs in, decoded from JSON objects and encoded.
+//! The options of a sign-in, decoded from JSON objects and encoded.
 ghost use Rattle.passkey_json.specs.Members.{record_kind, takes_in};
 ghost use Rattle.passkey_options.specs.RequestOptions.{credential_members_in, request_options_in, request_options_json, credential_members_takes, request_options_takes};
 
@@ -16,33 +16,34 @@ use passkey_webauthn::PublicKeyCredentialDescriptor;
 use serde_json::Value;
 use std::alloc::Global;
 
-/// What a relying party asks for where a user signs in (WebAuthn Level 3, section 5.5).
+/// The options of a sign-in (WebAuthn Level 3, section 5.5).
 #[derive(Debug, Drop)]
 pub struct PublicKeyCredentialRequestOptions {
-    /// What the authenticator is to sign, so that no answer serves twice.
+    /// The challenge: at least 16 random bytes (WebAuthn Level 3, section 13.4.3). The length isn't
+    /// checked.
     pub challenge: Bytes,
-    /// How long the client is to wait, in milliseconds.
+    /// The time that the client should wait, in milliseconds. It is a hint.
     pub timeout: Option<u32>,
-    /// The relying party's id; the client's own one if there is none.
+    /// The relying party id; `None` means the effective domain of the caller's origin.
     pub rp_id: Option<Text>,
-    /// The credentials that will do; any if there is no list or an empty one. It is also decoded
-    /// from `allowList`.
+    /// The credentials that are accepted; without a list, or with an empty one, any discoverable
+    /// one. Also decoded from `allowList`.
     pub allow_credentials: Option<List<PublicKeyCredentialDescriptor>>,
-    /// Whether the user is to be verified.
+    /// Whether user verification is wanted.
     pub user_verification: UserVerificationRequirement,
-    /// Which authenticators the user will probably take, the likeliest first.
+    /// Which kinds of authenticator the user will probably use, the likeliest first.
     pub hints: Option<List<PublicKeyCredentialHints>>,
-    /// Which attestation is wanted.
+    /// Which attestation the relying party wants.
     pub attestation: AttestationConveyancePreference,
-    /// The formats of its statement, the best first.
+    /// The preferred formats of the attestation statement, the most preferred first.
     pub attestation_formats: Option<List<AttestationStatementFormatIdentifiers>>,
-    /// What is asked of extensions.
+    /// The client extension inputs; `None` means the member is absent.
     pub extensions: Option<AuthenticationExtensionsClientInputs>,
 }
 
 // The members are decoded in groups, since each `?` drops what was decoded before it.
 
-/// What a user is to sign in with.
+/// The members about the credentials that are accepted.
 #[derive(Drop)]
 struct CredentialMembers {
     challenge: Bytes,

@@ -1,12 +1,12 @@
 -- What is made of an input in JSON.
-use Rattle.std.specs.Prelude.{◌≡◌, ℕ, List, false, Some, None, Result, Ok, Err, ⊤}
-use Rattle.std.specs.Str.{IsUtf8}
+use Rattle.std.specs.Prelude.{◌≡◌, ℕ, List, false, Result, Ok, Err, ⊤}
 use Rattle.passkey_client_data.specs.ClientData.{client_data}
 use Rattle.passkey_client_data.specs.ClientDataText.{client_data_text}
 use Rattle.passkey_credentials.specs.AssertionResponse.{assertion_response_in, assertion_response_json}
 use Rattle.passkey_credentials.specs.AttestationResponse.{attestation_response_in, attestation_response_json}
 use Rattle.passkey_credentials.specs.Credential.{credential_in, credential_json}
 use Rattle.passkey_json.specs.Fault.{Fault, Gives}
+use Rattle.passkey_json.specs.JsonText.{IsJson, HasNoJson}
 use Rattle.passkey_json.specs.Members.{◌>>=◌, Object, in_object, record_kind}
 use Rattle.passkey_json.specs.declared.bytes_form.BytesForm.{BytesForm}
 use Rattle.passkey_json.specs.declared.bytes_form.BytesForm.TheVariants.{Base64Url}
@@ -19,7 +19,6 @@ use Rattle.passkey_rewrite.specs.declared.fault.RunFault.TheVariants.{JsonRefuse
 use Rattle.passkey_rewrite.specs.declared.kind.JsonKind.{JsonKind}
 use Rattle.passkey_rewrite.specs.declared.kind.JsonKind.TheVariants.{Creation, Request, Created, Authenticated, ClientData}
 use Rattle.serde_json.specs.Data.{Data, no_members}
-use Rattle.serde_json.specs.Read.{read}
 use Rattle.serde_json.specs.Written.{compact_text}
 
 -- the compact text of the record that the value is, with bytes in base64url
@@ -37,14 +36,6 @@ json_rewritten Request = record_rewritten credential_request_in credential_reque
 json_rewritten Created = record_rewritten (credential_in (record_kind attestation_response_in)) (credential_json attestation_response_json)
 json_rewritten Authenticated = record_rewritten (credential_in (record_kind assertion_response_in)) (credential_json assertion_response_json)
 json_rewritten ClientData = client_data_rewritten
-
--- the bytes are a text in UTF-8, which reads as the JSON value
-abbrev pub IsJson : List ℕ → Data → Type 0
-IsJson input d = IsUtf8 input × (read input ≡ Some d)
-
--- if the bytes are a text in UTF-8, it reads as no JSON value
-abbrev pub HasNoJson : List ℕ → Type 0
-HasNoJson input = IsUtf8 input → read input ≡ None
 
 -- The input is a JSON value, of which this text is made.
 pub record RewritesJson (rewritten : Data → Result (List ℕ) Fault) (input text : List ℕ) : Type 0 where

@@ -1,4 +1,4 @@
-//! Why a run did not write its output.
+//! Why a run didn't write its output.
 ghost use Rattle.std.specs.Prelude.{◌≡◌};
 ghost use Rattle.passkey_cose.specs.CoseErrors.{cose_error_of};
 ghost use Rattle.passkey_rewrite.specs.Fault.{status_of, line_of, fault_of, json_fault_of, message_fault_of};
@@ -12,28 +12,28 @@ use std::alloc::{AllocError, AllocFailed};
 use std::error::Error;
 use std::fmt;
 
-/// Why a run did not write its output, with a line on standard error and an exit status for each.
+/// Why a run didn't write its output. Each has an exit status and a line on standard error.
 #[derive(Clone, Copy, Debug, PartialEq, Eq)]
 pub enum RunFault {
-    /// The decoded bytes are refused: the line is the refusal's name, the status 1.
+    /// The decoded bytes are rejected: the line is the error's name, the status 1.
     Refused(CoseError),
     /// The decoded bytes are no message of the kind: the line is the fault's name with the member's
     /// number, if it has one (`Repeated(1)`), the status 1.
     MessageRefused(Fault),
-    /// The JSON value is none of the kind: the line is the fault's name with the member's, if it has
-    /// one (`Missing("challenge")`), the status 1.
+    /// The JSON value is rejected by the kind: the line is the fault's name with the member's, if
+    /// it has one (`Missing("challenge")`), the status 1.
     JsonRefused(JsonFault),
-    /// The input is no hexadecimal: `BadHex`, 1.
+    /// The input isn't hexadecimal: `BadHex`, 1.
     BadHex,
-    /// The input is no JSON text: `BadJson`, 1.
+    /// The input isn't a JSON text: `BadJson`, 1.
     BadJson,
-    /// There is not exactly one word, or no kind of that name: `unknown kind`, 2.
+    /// There isn't exactly one argument, or it names no kind: `unknown kind`, 2.
     UnknownKind,
-    /// A growth was refused: `OutOfMemory`, 3.
+    /// An allocation failed: `OutOfMemory`, 3.
     OutOfMemory,
-    /// A read failed, or the input has no end: `input failed`, 4.
+    /// Reading failed, or the input has no end: `input failed`, 4.
     InputFailed,
-    /// A write failed, or took no byte: `output failed`, 4.
+    /// Writing failed, or a write took no byte: `output failed`, 4.
     OutputFailed,
 }
 
@@ -76,7 +76,7 @@ impl fmt::Display for RunFault {
 
 impl Error for RunFault {}
 
-/// Memory that ran out is no refusal.
+/// Running out of memory is no rejection.
 impl From<CoseError> for RunFault {
     ghost from_gives = { λ error fault. fault ≡ fault_of error };
 

@@ -2,43 +2,43 @@
 ghost use Rattle.std.specs.Prelude.{◌≡◌};
 ghost use Rattle.passkey_rewrite.specs.Kind.{kind_named};
 
-/// What the bytes are read as that the input tells in hexadecimal.
+/// What the bytes that the input has in hexadecimal are decoded as.
 #[derive(Clone, Copy, Debug, PartialEq, Eq)]
 pub enum BytesKind {
-    /// A CBOR item.
+    /// A CBOR data item.
     Cbor,
     /// Authenticator data.
     Auth,
-    /// A request to make a credential.
+    /// An authenticatorMakeCredential request.
     MakeRequest,
-    /// The response to one.
+    /// An authenticatorMakeCredential response.
     MakeResponse,
-    /// A request to use a credential.
+    /// An authenticatorGetAssertion request.
     GetRequest,
-    /// The response to one.
+    /// An authenticatorGetAssertion response.
     GetResponse,
-    /// What an authenticator tells of itself.
+    /// An authenticatorGetInfo response.
     Info,
     /// The input of the extension hmac-secret.
     HmacInput,
 }
 
-/// What an input in JSON is read as.
+/// What a JSON input is decoded as.
 #[derive(Clone, Copy, Debug, PartialEq, Eq)]
 pub enum JsonKind {
-    /// What a page asks for where a user registers.
+    /// The options of a registration.
     Creation,
-    /// What a page asks for where a user signs in.
+    /// The options of a sign-in.
     Request,
-    /// A credential that was made.
+    /// The credential that a browser returns at a registration.
     Created,
-    /// A credential that signed in.
+    /// The credential that a browser returns at a sign-in.
     Authenticated,
-    /// What an authenticator signs of a client's part.
+    /// Collected client data.
     ClientData,
 }
 
-/// What the input is read as.
+/// What the input is decoded as.
 #[derive(Clone, Copy, Debug, PartialEq, Eq)]
 pub enum Kind {
     /// Bytes, in hexadecimal.

@@ -1,4 +1,4 @@
-//! The messages that the program rewrites.
+//! The messages that the program decodes and encodes again.
 ghost use Rattle.std.specs.Prelude.{◌≡◌, true, Bool, Result, IfOk, IfErr};
 ghost use Rattle.passkey_cbor.specs.Item.{Item};
 ghost use Rattle.passkey_cbor.specs.Written.{written};
@@ -25,35 +25,35 @@ use passkey_types::ctap2::extensions::HmacGetSecretInput;
 use passkey_types::ctap2::{Fault, WriteFault, get_assertion, get_info, laws, make_credential};
 use std::alloc::Global;
 
-/// A message of CTAP2, which is read from bytes and written (CTAP 2.1, section 6).
+/// A CTAP2 message, which is decoded from bytes and encoded (CTAP 2.1, section 6).
 pub trait Message: Drop {
     /// What contracts see of a message.
     ghost Parts: { Type 0 };
 
     ghost parts: { Self → Parts };
 
-    /// The message that an item is, or its first fault.
+    /// The message that an item decodes to, or its first fault.
     ghost read: { Item → Result Parts AnyFault };
 
-    /// What a message is written as.
+    /// The item that a message is encoded as.
     ghost tree: { Parts → Item };
 
-    /// Whether a message can be written, and is read back.
+    /// Whether a message's encoding decodes to it.
     ghost is_coherent: { Parts → Bool };
 
-    /// The message that begins the bytes, and how many bytes it has. `DecodeFailed` exactly where
-    /// no well-formed item of at most 256 levels begins them; else the item's first fault;
-    /// `OutOfMemory` where a growth was refused.
+    /// Decodes the message that begins the bytes, and returns it with its length. `DecodeFailed`
+    /// exactly if the bytes don't begin with a well-formed item of at most 256 levels; else the
+    /// item's first fault. `OutOfMemory` if an allocation fails.
     fn read_bytes(alloc: Global, bytes: &[u8]) -> Result<(Self, usize), Fault>
         ensures { ReadsMessage parts read bytes.now result };
 
-    /// The message's bytes. `OutOfMemory` where a growth was refused, and no other fault where the
+    /// Encodes the message. `OutOfMemory` if an allocation fails; there is no other error if the
     /// message is coherent.
     fn to_bytes(&self, alloc: Global) -> Result<Vec<u8>, WriteFault>
         ensures written { IfOk result (λ bytes. bytes.items ≡ written (tree (parts self.now))) }
         ensures memory { is_coherent (parts self.now) ≡ true → IfErr result (λ e. e ≡ NoMemory) };
 
-    /// Messages that were read of bytes are coherent.
+    /// Decoded messages are coherent.
     fn read_is_coherent()
         ensures { ReadIsCoherent read is_coherent };
 }

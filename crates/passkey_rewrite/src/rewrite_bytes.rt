@@ -1,4 +1,4 @@
-//! Bytes that the input tells in hexadecimal, rewritten.
+//! Bytes in hexadecimal, decoded as a kind and encoded again.
 ghost use Rattle.std.specs.Prelude.{◌≡◌, ◌⊎◌, IfOk, IfErr, IsErr, string_bytes};
 ghost use Rattle.hex.specs.Hex.{decode_of};
 ghost use Rattle.passkey_rewrite.specs.Rewriting.{HasNoHex, IsMessageRefusal, IsRefusal, Rewrites, RewritesHex, RewritesMessage};
@@ -63,10 +63,10 @@ fn rewrite(alloc: Global, kind: BytesKind, bytes: &[u8]) -> Result<Vec<u8>, RunF
     }
 }
 
-/// What the kind makes of the bytes that the input tells in hexadecimal of either case, with tabs,
-/// line feeds, carriage returns and spaces at its ends; in lower-case hexadecimal. `BadHex` where
-/// the input is no hexadecimal; where the kind refuses the bytes, `MessageRefused` if it is one of
-/// messages and else `Refused`; `OutOfMemory` where a growth was refused.
+/// Decodes the bytes as the kind and encodes the result, in lower-case hexadecimal. The input is
+/// hexadecimal of either case, with tabs, line feeds, carriage returns and spaces at its ends.
+/// `BadHex` if the input isn't hexadecimal; if the kind rejects the bytes, `MessageRefused` for a
+/// message and else `Refused`; `OutOfMemory` if an allocation fails.
 pub fn rewrite_hex(alloc: Global, kind: BytesKind, input: &[u8]) -> Result<String, RunFault>
     ensures ok { IfOk result (λ text. RewritesHex kind input.now (string_bytes text)) }
     ensures err { IfErr result (HasNoHex kind input.now) }

@@ -1,6 +1,7 @@
-//! JSON texts, rewritten.
+//! JSON texts, decoded as a kind and encoded again.
 ghost use Rattle.std.specs.Prelude.{◌≡◌, ◌⊎◌, IfOk, IfErr, string_bytes};
-ghost use Rattle.passkey_rewrite.specs.RewritesJson.{HasNoJson, IsJson, IsJsonRefusal, RewritesJson, client_data_rewritten, json_rewritten, record_rewritten};
+ghost use Rattle.passkey_json.specs.JsonText.{HasNoJson, IsJson};
+ghost use Rattle.passkey_rewrite.specs.RewritesJson.{IsJsonRefusal, RewritesJson, client_data_rewritten, json_rewritten, record_rewritten};
 ghost use Rattle.passkey_rewrite.specs.declared.fault.RunFault.TheVariants.{BadJson, OutOfMemory};
 ghost use Rattle.serde_json.specs.View.{view};
 
@@ -45,9 +46,9 @@ fn rewrite_client_data(alloc: Global, input: &[u8]) -> Result<String, RunFault>
     Ok(String::from_str(alloc, text.as_str())?)
 }
 
-/// What the kind makes of the JSON value that the input is, as compact text with bytes in
-/// base64url. `BadJson` where the input is no JSON text of at most 127 levels; `JsonRefused` where
-/// the kind refuses the value; `OutOfMemory` where a growth was refused.
+/// Decodes the JSON text as the kind and encodes the result, as compact JSON with bytes in
+/// base64url. `BadJson` if the input isn't UTF-8 or no JSON text of at most 127 levels;
+/// `JsonRefused` if the kind rejects its value; `OutOfMemory` if an allocation fails.
 #[tactic(auto, unfolding(crate::specs::RewritesJson::json_rewritten))]
 pub fn rewrite_json(alloc: Global, kind: JsonKind, input: &[u8]) -> Result<String, RunFault>
     ensures ok { IfOk result (λ text. RewritesJson (json_rewritten kind) input.now (string_bytes text)) }

@@ -1,4 +1,4 @@
-//! Inputs of any kind, rewritten.
+//! Inputs of any kind, decoded and encoded again.
 ghost use Rattle.std.specs.Prelude.{IfOk, IfErr, string_bytes};
 ghost use Rattle.passkey_rewrite.specs.Rewriting.{HasNoOutput, Shown};
 
@@ -8,11 +8,11 @@ use crate::rewrite_bytes::rewrite_hex;
 use crate::rewrite_json::rewrite_json;
 use std::alloc::Global;
 
-/// Decodes the input as this kind, and encodes what it is: bytes as lower-case hexadecimal, JSON as compact text with
-/// bytes in base64url. The input of a kind of bytes is hexadecimal of either case, with tabs, line feeds, carriage returns and
-/// spaces at its ends. Returns `BadHex` if such an input is no hexadecimal, `BadJson` if a JSON input
-/// isn't UTF-8 or no JSON text of at most 127 levels; `Refused`, `MessageRefused` or `JsonRefused` if the kind refuses what the
-/// input says; `OutOfMemory` if memory runs out.
+/// Decodes the input as this kind and encodes the result: bytes as lower-case hexadecimal, JSON as
+/// compact JSON with bytes in base64url. An input of bytes is hexadecimal of either case, with
+/// tabs, line feeds, carriage returns and spaces at its ends. `BadHex` if it isn't hexadecimal;
+/// `BadJson` if a JSON input isn't UTF-8 or no JSON text of at most 127 levels; `Refused`,
+/// `MessageRefused` or `JsonRefused` if the kind rejects it; `OutOfMemory` if an allocation fails.
 pub fn rewrite(alloc: Global, kind: Kind, input: &[u8]) -> Result<String, RunFault>
     ensures ok { IfOk result (λ text. Shown kind input.now (string_bytes text)) }
     ensures err { IfErr result (HasNoOutput kind input.now) }

@@ -1,6 +1,6 @@
-//! `passkey_rows` reads rows on standard input, one a line: the name of a kind, a space, and an input. For each it prints
-//! what `passkey_show` makes of that input: the exit status, a space, and the output or the fault's line. Empty lines and
-//! those that begin with `#` are printed as they are.
+//! `passkey_rows` reads rows from standard input, one a line: a kind, a space and an input. For
+//! each it prints the exit status of `passkey_show` on that input, a space, and the output or the
+//! fault's line. Empty lines, and lines that begin with `#`, are printed as they are.
 #![tactic(auto)]
 
 use anyhow::Result;

@@ -1,6 +1,6 @@
-//! `passkey_show KIND` reads a value from standard input, bytes in hexadecimal or a JSON text, and
-//! writes what the kind makes of it to standard output in the same form. Its status is 0, or that
-//! of a fault, whose line is on standard error.
+//! `passkey_show KIND` reads standard input, bytes in hexadecimal or a JSON text, decodes it as the
+//! kind, encodes the result and writes it to standard output in the same form. The exit status is
+//! 0, or that of a fault, whose line goes to standard error.
 #![tactic(auto)]
 
 mod run;

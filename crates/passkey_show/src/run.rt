@@ -1,4 +1,4 @@
-//! One run: the input is read to its end, rewritten, and written out.
+//! One run: the input is read to its end, decoded, encoded again and written.
 ghost use Rattle.std.specs.Prelude.{◌≡◌, ◌↔◌, ◌⊎◌, IfOk, IfErr, OnOk, OnErr, IfSome, IsNone, IsErrOf, string_bytes};
 ghost use Rattle.std.specs.Io.KnownBytes.{Appends, IsAtEnd};
 ghost use Rattle.passkey_rewrite.specs.Kind.{kind_named};
@@ -51,13 +51,15 @@ fn output(alloc: Global, kind: Kind, input: &[u8]) -> Result<String, RunFault>
     Ok(text)
 }
 
-/// Reads the input to its end, and writes what the kind makes of it, with a line feed: of bytes,
-/// which the input tells in hexadecimal of either case with tabs, line feeds, carriage returns and
-/// spaces at its ends, lower-case hexadecimal; of a JSON text compact JSON text with bytes in
-/// base64url. `UnknownKind` exactly where the word names no kind: then nothing is read.
-/// `InputFailed` where a read failed, or the input has no end; `OutOfMemory` where a growth was
-/// refused; else a fault of `rewrite`. At all of these nothing is written.
-/// `OutputFailed` where a write failed or took no byte: then not all of the output is written.
+/// Reads the input to its end, decodes it as the kind, and writes what that is encoded as, with a
+/// line feed: lower-case hexadecimal for bytes, which the input has in hexadecimal of either case
+/// with tabs, line feeds, carriage returns and spaces at its ends; compact JSON with bytes in
+/// base64url for JSON.
+///
+/// `UnknownKind` exactly if the word names no kind; then nothing is read. `InputFailed` if reading
+/// fails or the input has no end; `OutOfMemory` if an allocation fails; else a fault of `rewrite`.
+/// In all of these cases nothing is written. `OutputFailed` if writing fails or a write takes no
+/// byte; then not all of the output was written.
 pub fn run<R: Read, W: Write>(
     alloc: Global,
     reader: &mut R,

@@ -1,4 +1,4 @@
-//! The words after the program's name.
+//! The program's arguments.
 ghost use Rattle.std.specs.Prelude.{◌≡◌, ◌≢◌, ◌⊎◌, [], ◌∷◌, IfOk, IfErr, length, map, string_bytes};
 ghost use Rattle.passkey_rewrite.specs.declared.fault.RunFault.TheVariants.{UnknownKind, OutOfMemory};
 
@@ -7,8 +7,8 @@ use std::env;
 use std::io::ErrorKind;
 use std::rt::Env;
 
-/// The words after the program's name; or `unknown kind` where one is not UTF-8, and `OutOfMemory`
-/// where a growth was refused.
+/// The program's arguments. `unknown kind` if one isn't UTF-8, `OutOfMemory` if an allocation
+/// fails.
 pub fn read_words(rt: &(impl Env + AllocGlobal)) -> Result<Vec<String>, RunFault>
     ensures { IfErr result (λ fault. (fault ≡ UnknownKind) ⊎ (fault ≡ OutOfMemory)) }
 {
@@ -24,7 +24,7 @@ pub fn read_words(rt: &(impl Env + AllocGlobal)) -> Result<Vec<String>, RunFault
     Ok(words)
 }
 
-/// The one word, which is to name a kind; or `unknown kind` where there is not exactly one.
+/// The one argument, which should name a kind. `unknown kind` if there isn't exactly one.
 pub fn kind_of(words: &[String]) -> Result<&str, RunFault>
     ensures one { IfOk result (λ word. map string_bytes words.now ≡ word.now ∷ []) }
     ensures other { IfErr result (λ fault. (fault ≡ UnknownKind) × (length words.now ≢ 1)) }

@@ -13,17 +13,17 @@ use passkey_memory::OutOfMemory;
 use rand_core::Rng;
 use std::alloc::{AllocError, Global};
 
-/// How many bytes an id has where no other length is asked for.
+/// The length of an id for which no other is asked.
 const DEFAULT_LEN: usize = 16;
 
-/// Builds a passkey whose ids come from a random number generator.
+/// Builds a passkey with random ids.
 #[derive(Drop)]
 pub struct PasskeyBuilder<R> {
     passkey: Passkey,
     rng: R,
 }
 
-/// The generator's next bytes. Where their memory was refused, nothing is drawn.
+/// Draws bytes from the generator. If the allocation fails, nothing is drawn.
 fn drawn<R: Rng>(alloc: Global, rng: &mut R, len: usize) -> Result<Bytes, OutOfMemory>
     ensures bytes { IfOk result (λ bytes. bytes ≡ (fill_bytes len (R.stream rng.old)).0) }
     ensures rest { IfOk result (λ _. R.stream rng.new ≡ (fill_bytes len (R.stream rng.old)).1) }
@@ -60,8 +60,9 @@ impl<R: Rng + Drop> PasskeyBuilder<R> {
         Ok(PasskeyBuilder { passkey, rng })
     }
 
-    /// Draws another id of the credential, of this many bytes. Where their memory was refused, the
-    /// builder comes back with nothing drawn.
+    /// Draws another credential id, of this length in bytes. If the allocation fails, the builder
+    /// comes back unchanged and nothing is drawn. (WebAuthn Level 3, section 4, allows 16 to 1023
+    /// bytes; the length isn't checked.)
     pub fn credential_id(
         mut self,
         alloc: Global,
@@ -81,8 +82,9 @@ impl<R: Rng + Drop> PasskeyBuilder<R> {
         }
     }
 
-    /// Draws the user's id, of this many bytes, of 16 where no length is given. Where their memory
-    /// was refused, the builder comes back with nothing drawn.
+    /// Draws a user handle of this length in bytes, 16 if none is given. If the allocation fails,
+    /// the builder comes back unchanged and nothing is drawn. (WebAuthn Level 3, section 5.4.3,
+    /// allows 1 to 64 bytes; the length isn't checked.)
     pub fn user_handle(
         mut self,
         alloc: Global,
@@ -110,7 +112,7 @@ impl<R: Rng + Drop> PasskeyBuilder<R> {
         self
     }
 
-    /// Sets what the user is called.
+    /// Sets the user's display name.
     pub fn user_display_name(mut self, name: Text) -> PasskeyBuilder<R>
         ensures { result ≡ record self { passkey = record self.passkey { user_display_name = Some name } } }
     {
@@ -118,7 +120,7 @@ impl<R: Rng + Drop> PasskeyBuilder<R> {
         self
     }
 
-    /// Sets how often the passkey was used.
+    /// Sets the signature counter.
     pub fn counter(mut self, counter: u32) -> PasskeyBuilder<R>
         ensures { result ≡ record self { passkey = record self.passkey { counter = Some counter } } }
     {
@@ -134,7 +136,7 @@ impl<R: Rng + Drop> PasskeyBuilder<R> {
         self
     }
 
-    /// The passkey.
+    /// Returns the passkey.
     pub fn build(self) -> Passkey
         ensures { result ≡ self.passkey }
     {

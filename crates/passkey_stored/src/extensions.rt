@@ -1,4 +1,4 @@
-//! What extensions store with a passkey.
+//! Extension data of stored passkeys.
 ghost use Rattle.std.specs.Prelude.{◌≡◌, IfOk, OnErr};
 ghost use Rattle.std.specs.Option.{IsSomeAnd};
 ghost use Rattle.passkey_stored.specs.Extensions.{no_extensions};
@@ -8,23 +8,23 @@ use crate::hmac_secret::StoredHmacSecret;
 use passkey_memory::OutOfMemory;
 use std::alloc::Global;
 
-/// What extensions store with a passkey.
+/// The extension data that is stored with a passkey.
 #[derive(Debug, Drop, PartialEq)]
 pub struct CredentialExtensions {
-    /// The secrets of the extension hmac-secret.
+    /// The secrets of the extension hmac-secret; `None` if it isn't enabled.
     pub hmac_secret: Option<StoredHmacSecret>,
 }
 
 impl CredentialExtensions {
-    /// Nothing is stored.
+    /// No extension stores anything.
     pub fn empty() -> CredentialExtensions
         ensures { result ≡ no_extensions }
     {
         CredentialExtensions { hmac_secret: None }
     }
 
-    /// An equal value. `OutOfMemory` where a growth was refused, which cannot be where no secrets
-    /// are there, or empty ones.
+    /// Returns an equal value. `OutOfMemory` if an allocation fails, which can't happen if there
+    /// are no secrets or empty ones.
     pub fn try_clone(&self, alloc: Global) -> Result<CredentialExtensions, OutOfMemory>
         ensures same { IfOk result (λ copy. copy ≡ self.now) }
         ensures grows { OnErr result (IsSomeAnd self.now.hmac_secret HoldsSecrets) }
@@ -36,10 +36,14 @@ impl CredentialExtensions {
         Ok(CredentialExtensions { hmac_secret })
     }
 
-    /// Forgets what is stored: nothing is there then. The memory isn't overwritten.
+    /// Overwrites the secrets with zeros and removes them: nothing is stored then. The compiler may
+    /// leave copies of them in memory, as `StoredHmacSecret::zeroize` says.
     pub fn zeroize(&mut self)
         ensures { self.new ≡ no_extensions }
     {
+        if let Some(secret) = &mut self.hmac_secret {
+            secret.zeroize();
+        }
         self.hmac_secret = None;
     }
 }

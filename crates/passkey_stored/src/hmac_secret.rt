@@ -1,5 +1,5 @@
 //! Secrets of the extension hmac-secret.
-ghost use Rattle.std.specs.Prelude.{◌≡◌, Some, None, IfOk, OnErr};
+ghost use Rattle.std.specs.Prelude.{◌≡◌, [], Some, None, IfOk, OnErr};
 ghost use Rattle.passkey_stored.specs.HmacSecret.{HoldsSecrets, erased, redacted};
 
 use passkey_bytes::Bytes;
@@ -7,19 +7,19 @@ use passkey_memory::OutOfMemory;
 use std::alloc::Global;
 use std::fmt;
 
-/// The secrets of the extension hmac-secret that belong to a passkey (CTAP 2.1, section 12.5). They
-/// aren't printed.
+/// The secrets (CredRandom) of the extension hmac-secret for a passkey (CTAP 2.1, section 12.5).
+/// CTAP generates each as 32 random bytes; the length isn't checked. They aren't printed.
 #[derive(Drop, PartialEq)]
 pub struct StoredHmacSecret {
-    /// The secret where the user was verified.
+    /// The secret for requests with user verification (CredRandomWithUV).
     pub cred_with_uv: Bytes,
-    /// The secret where the user was present alone.
+    /// The secret for requests without user verification (CredRandomWithoutUV).
     pub cred_without_uv: Option<Bytes>,
 }
 
 impl StoredHmacSecret {
-    /// An equal value. `OutOfMemory` where a growth was refused, which cannot be where the secrets
-    /// are empty.
+    /// Returns an equal value. `OutOfMemory` if an allocation fails, which can't happen if the
+    /// secrets are empty.
     pub fn try_clone(&self, alloc: Global) -> Result<StoredHmacSecret, OutOfMemory>
         ensures same { IfOk result (λ copy. copy ≡ self.now) }
         ensures grows { OnErr result (HoldsSecrets self.now) }
@@ -34,14 +34,29 @@ impl StoredHmacSecret {
         })
     }
 
-    /// Forgets the secrets: one is empty then, and the other isn't there. Their memory isn't
-    /// overwritten.
+    /// Overwrites the secrets with zeros and removes them: `cred_with_uv` is empty then, and
+    /// `cred_without_uv` is `None`. The compiler may leave out writes that nothing reads, and it may
+    /// have left copies of the secrets elsewhere in memory: no contract says that memory is erased.
     pub fn zeroize(&mut self)
         ensures { self.new ≡ erased }
     {
-        self.cred_with_uv.as_mut_vec().clear();
+        erase(&mut self.cred_with_uv);
+        if let Some(secret) = &mut self.cred_without_uv {
+            erase(secret);
+        }
         self.cred_without_uv = None;
     }
+}
+
+/// Writes a zero over each byte, and leaves none.
+fn erase(secret: &mut Bytes)
+    ensures { secret.new ≡ [] }
+{
+    let bytes = secret.as_mut_vec();
+    for byte in bytes.iter_mut() {
+        *byte = 0;
+    }
+    bytes.clear();
 }
 
 impl fmt::Debug for StoredHmacSecret {

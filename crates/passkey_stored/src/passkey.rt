@@ -15,25 +15,25 @@ use rand_core::Rng;
 use std::alloc::Global;
 use std::fmt;
 
-/// A passkey as its authenticator stores it: a public key credential source (WebAuthn Level 3,
-/// section 4). Of its fields the key's type and the counter alone are printed.
+/// A passkey as an authenticator stores it: a public key credential source (WebAuthn Level 3,
+/// section 4). `Debug` prints only the key's type and the counter.
 #[derive(Drop, PartialEq)]
 pub struct Passkey {
     /// The private key.
     pub key: CoseKey,
-    /// The credential's id.
+    /// The credential id: 16 to 1023 bytes (WebAuthn Level 3, section 4). The length isn't checked.
     pub credential_id: Bytes,
-    /// The id of the relying party that the passkey is for.
+    /// The relying party id.
     pub rp_id: Text,
-    /// The relying party's id of the user, where it is stored.
+    /// The user handle, if it is stored.
     pub user_handle: Option<Bytes>,
-    /// The user's name, where it is stored.
+    /// The user's name, if it is stored.
     pub username: Option<Text>,
-    /// What the user is called, where it is stored.
+    /// The user's display name, if it is stored.
     pub user_display_name: Option<Text>,
-    /// How often the passkey was used, where that is counted.
+    /// The signature counter; `None` if the authenticator keeps none for this passkey.
     pub counter: Option<u32>,
-    /// What extensions store with the passkey.
+    /// The extension data that is stored with the passkey.
     pub extensions: CredentialExtensions,
 }
 
@@ -58,8 +58,9 @@ fn copied_text(alloc: Global, text: &Option<Text>) -> Result<Option<Text>, OutOf
 }
 
 impl Passkey {
-    /// A builder of passkeys for a relying party, with this key. The credential's id is the next 16
-    /// bytes of the generator; nothing else is set. `OutOfMemory` where the id's memory was refused.
+    /// A builder of a passkey for this relying party, with this key. The credential id is the next
+    /// 16 bytes of the generator; nothing else is set. `OutOfMemory` if the allocation of the id
+    /// fails.
     pub fn mock<R: Rng + Drop>(
         alloc: Global,
         rp_id: Text,
@@ -72,9 +73,9 @@ impl Passkey {
         PasskeyBuilder::new(alloc, rp_id, key, rng)
     }
 
-    /// The descriptor by which relying parties name the passkey's credential (WebAuthn Level 3,
-    /// section 5.8.3); no transports. `OutOfMemory` where a growth was refused, which cannot be where
-    /// the credential's id is empty.
+    /// The descriptor of the passkey's credential (WebAuthn Level 3, section 5.8.3), without
+    /// transports. `OutOfMemory` if the allocation fails, which can't happen if the credential id
+    /// is empty.
     pub fn descriptor(&self, alloc: Global) -> Result<PublicKeyCredentialDescriptor, OutOfMemory>
         ensures named { IfOk result (λ descriptor. descriptor ≡ named self.now) }
         ensures grows { OnErr result (0 < length self.now.credential_id) }
@@ -86,7 +87,7 @@ impl Passkey {
         })
     }
 
-    /// The same descriptor, of the passkey's own id.
+    /// The same descriptor, made from the passkey's own id without an allocation.
     pub fn into_descriptor(self) -> PublicKeyCredentialDescriptor
         ensures { result ≡ named self }
     {
@@ -97,8 +98,8 @@ impl Passkey {
         }
     }
 
-    /// An equal passkey. `OutOfMemory` where a growth was refused, which cannot be where no part of
-    /// the passkey takes memory.
+    /// Returns an equal passkey. `OutOfMemory` if an allocation fails, which can't happen if no
+    /// part of the passkey takes memory.
     pub fn try_clone(&self, alloc: Global) -> Result<Passkey, OutOfMemory>
         ensures same { IfOk result (λ copy. passkey_parts copy ≡ passkey_parts self.now) }
         ensures grows { OnErr result (StoresMemory (passkey_parts self.now)) }

@@ -1,4 +1,4 @@
-//! Keys (RFC 9052, section 7) and the numbers that IANA registers for them.
+//! COSE keys (RFC 9052, section 7) and the numbers that IANA registers for them.
 pub use passkey_cose::{
     CoseError, CoseKey, CoseKeyConversionError, Label, RefusedKey, Registered, iana,
 };

@@ -1,4 +1,4 @@
-//! What a platform and an authenticator tell each other (CTAP 2.1).
+//! What a platform and an authenticator exchange (CTAP 2.1).
 pub mod extensions;
 pub mod get_assertion;
 pub mod get_info;

@@ -1,14 +1,18 @@
-//! The messages of passkeys: what a relying party, a browser and an authenticator tell each other
-//! (WebAuthn Level 3; CTAP 2.1). Everything that users name stands here, down to the items of CBOR
-//! and the keys of COSE.
+//! The messages of passkeys: what a relying party, a browser and an authenticator exchange (WebAuthn
+//! Level 3; CTAP 2.1). Everything that users name is here, down to CBOR data items and COSE keys.
 #![tactic(auto)]
 
 pub mod cose;
 pub mod ctap2;
+pub mod json;
 pub mod webauthn;
 
+/// The crate with the trait of sets of flags. `use passkey_types::bitflags::Flags as _;` makes its
+/// calls, such as `contains`, available on `ctap2::Flags`.
+pub use bitflags;
 pub use passkey_bytes::{
     Bytes, BytesFault, Key, List, Map, NotBase64Encoded, OutOfMemory, Text, encoding,
 };
 pub use passkey_cbor as cbor;
 pub use passkey_stored::{CredentialExtensions, Passkey, PasskeyBuilder, StoredHmacSecret};
+pub use rand_core::Rng;

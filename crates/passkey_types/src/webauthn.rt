@@ -1,6 +1,9 @@
-//! What a relying party and a browser tell each other (WebAuthn Level 3), read of JSON values and
-//! written.
-pub use passkey_client_data::{ClientDataExtra, ClientDataType, CollectedClientData};
+//! What a relying party and a browser exchange (WebAuthn Level 3), decoded from JSON values and
+//! encoded.
+pub use indexmap::IndexMap;
+pub use passkey_client_data::{
+    ClientDataExtra, ClientDataFault, ClientDataType, CollectedClientData,
+};
 pub use passkey_credentials::{
     AuthenticatedPublicKeyCredential, AuthenticatorAssertionResponse,
     AuthenticatorAttestationResponse, AuthenticatorResponse, CreatedPublicKeyCredential,
@@ -9,8 +12,8 @@ pub use passkey_credentials::{
 pub use passkey_json::{
     AuthenticationExtensionsClientInputs, AuthenticationExtensionsClientOutputs,
     AuthenticationExtensionsPrfInputs, AuthenticatorAttachment, AuthenticatorSelectionCriteria,
-    BytesForm, CredentialPropertiesOutput, FromJson, JsonFault, JsonRecord, Object, RecordToJson,
-    Refusal, ResidentKeyRequirement, ToJson, UserVerificationRequirement, read_back,
+    BytesForm, CredentialPropertiesOutput, FromJson, JsonFault, JsonRecord, RecordToJson,
+    ResidentKeyRequirement, ToJson, UserVerificationRequirement, read_back,
 };
 pub use passkey_options::{
     AttestationConveyancePreference, AttestationStatementFormatIdentifiers,
@@ -19,7 +22,8 @@ pub use passkey_options::{
 };
 pub use passkey_webauthn::{
     AuthenticationExtensionsPrfOutputs, AuthenticationExtensionsPrfValues, AuthenticatorTransport,
-    PublicKeyCredentialDescriptor, PublicKeyCredentialParameters, PublicKeyCredentialRpEntity,
-    PublicKeyCredentialType, PublicKeyCredentialUserEntity,
+    EnumNames, PublicKeyCredentialDescriptor, PublicKeyCredentialParameters,
+    PublicKeyCredentialRpEntity, PublicKeyCredentialType, PublicKeyCredentialUserEntity,
 };
 pub use passkey_well_known::WellKnown;
+pub use url::Url;

@@ -1,4 +1,4 @@
-//! Naming credentials.
+//! Credential descriptors.
 ghost use Rattle.std.specs.Prelude.{◌≡◌, ◌≢◌, ◌↔◌, ◌<◌, ◌⊎◌, length, IfOk, IsTrue, OnErr};
 ghost use Rattle.std.specs.Option.{IsSomeAnd};
 
@@ -13,14 +13,16 @@ use std::alloc::Global;
 pub struct PublicKeyCredentialDescriptor {
     /// The type of the credential.
     pub ty: PublicKeyCredentialType,
-    /// The credential's id.
+    /// The credential id: 16 to 1023 bytes (WebAuthn Level 3, section 4). The length isn't checked.
     pub id: Bytes,
-    /// How its authenticator can be reached, as far as is known.
+    /// How the client may reach its authenticator; `None` means the member is absent. Unknown
+    /// values must be ignored, so decoding skips them.
     pub transports: Option<List<AuthenticatorTransport>>,
 }
 
 impl PublicKeyCredentialDescriptor {
-    /// Whether the type of the credential is known here.
+    /// Whether the credential type is a known one. WebAuthn clients ignore descriptors of unknown
+    /// types.
     pub fn is_known(&self) -> bool
         ensures { IsTrue result ↔ (self.now.ty ≢ PublicKeyCredentialType.Unknown) }
     {
@@ -30,8 +32,8 @@ impl PublicKeyCredentialDescriptor {
         }
     }
 
-    /// An equal value. `OutOfMemory` where a growth was refused, which cannot be where the id is empty
-    /// and no transport is there.
+    /// Returns an equal value. `OutOfMemory` if an allocation fails, which can't happen if the id
+    /// is empty and there are no transports.
     pub fn try_clone(&self, alloc: Global) -> Result<PublicKeyCredentialDescriptor, OutOfMemory>
         ensures same { IfOk result (λ copy. copy ≡ self.now) }
         ensures grows { OnErr result ((0 < length self.now.id) ⊎ IsSomeAnd self.now.transports (λ ts. 0 < length ts)) }

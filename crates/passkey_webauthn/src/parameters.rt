@@ -1,4 +1,4 @@
-//! Which keys a relying party can use.
+//! Credential parameters.
 ghost use Rattle.std.specs.Prelude.{◌≡◌, IfOk};
 ghost use Rattle.passkey_webauthn.specs.Parameters.{default_parameters, public_keys_of};
 
@@ -8,19 +8,19 @@ use passkey_iana::Algorithm;
 use passkey_memory::OutOfMemory;
 use std::alloc::Global;
 
-/// A type of credential and an algorithm that a relying party can use (WebAuthn Level 3, section
+/// A credential type and an algorithm that a relying party supports (WebAuthn Level 3, section
 /// 5.3).
 #[derive(Clone, Copy, Debug, PartialEq, Eq)]
 pub struct PublicKeyCredentialParameters {
-    /// The type of the credential.
+    /// The credential type.
     pub ty: PublicKeyCredentialType,
-    /// The algorithm of its key.
+    /// The signature algorithm of the new key.
     pub alg: Algorithm,
 }
 
 impl PublicKeyCredentialParameters {
-    /// What stands for a list that a relying party leaves empty: public keys of ES256, then of RS256
-    /// (WebAuthn Level 3, section 5.1.3). `OutOfMemory` where a growth was refused.
+    /// What an empty list means: public keys of ES256, then of RS256 (WebAuthn Level 3, section
+    /// 5.1.3). `OutOfMemory` if an allocation fails.
     pub fn default_algorithms(
         alloc: Global,
     ) -> Result<List<PublicKeyCredentialParameters>, OutOfMemory>
@@ -36,7 +36,7 @@ impl PublicKeyCredentialParameters {
 impl From<Algorithm> for PublicKeyCredentialParameters {
     ghost from_gives = { λ algorithm parameters. parameters ≡ public_keys_of algorithm };
 
-    /// Public keys of the algorithm.
+    /// A public key of this algorithm.
     fn from(algorithm: Algorithm) -> PublicKeyCredentialParameters {
         PublicKeyCredentialParameters {
             ty: PublicKeyCredentialType::PublicKey,

@@ -1,4 +1,4 @@
-//! What the extension prf answers a relying party.
+//! Outputs of the extension prf.
 ghost use Rattle.std.specs.Prelude.{◌≡◌, ◌<◌, ◌⊎◌, length, IfOk, OnErr};
 ghost use Rattle.std.specs.Option.{IsSomeAnd};
 
@@ -6,18 +6,18 @@ use crate::prf_values::AuthenticationExtensionsPrfValues;
 use passkey_memory::OutOfMemory;
 use std::alloc::Global;
 
-/// What the extension prf answers (WebAuthn Level 3, section 10.1.4).
+/// What the extension prf returns to a relying party (WebAuthn Level 3, section 10.1.4).
 #[derive(Debug, Drop)]
 pub struct AuthenticationExtensionsPrfOutputs {
-    /// Whether the new credential has secrets; only where a credential is made.
+    /// Whether the new credential supports prf. Present only at a registration.
     pub enabled: Option<bool>,
-    /// What was made of the salts.
+    /// The outputs for the salts; `None` means the member is absent.
     pub results: Option<AuthenticationExtensionsPrfValues>,
 }
 
 impl AuthenticationExtensionsPrfOutputs {
-    /// An equal value. `OutOfMemory` where a growth was refused, which cannot be where there are no
-    /// results, or empty ones.
+    /// Returns an equal value. `OutOfMemory` if an allocation fails, which can't happen if there
+    /// are no results or empty ones.
     pub fn try_clone(
         &self,
         alloc: Global,

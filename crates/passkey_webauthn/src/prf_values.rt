@@ -1,4 +1,4 @@
-//! Salts of the extension prf, and what it makes of them.
+//! Salts and outputs of the extension prf.
 ghost use Rattle.std.specs.Prelude.{◌≡◌, ◌<◌, ◌⊎◌, length, IfOk, OnErr};
 ghost use Rattle.std.specs.Option.{IsSomeAnd};
 
@@ -6,19 +6,19 @@ use passkey_bytes::Bytes;
 use passkey_memory::OutOfMemory;
 use std::alloc::{AllocError, Global};
 
-/// One or two salts of the extension prf, or what it makes of them, as a relying party sees them
-/// (WebAuthn Level 3, section 10.1.4).
+/// One or two salts for the extension prf, or the outputs for them (WebAuthn Level 3, section
+/// 10.1.4).
 #[derive(Debug, Drop)]
 pub struct AuthenticationExtensionsPrfValues {
-    /// The first salt, or what is made of it.
+    /// The first salt or output.
     pub first: Bytes,
-    /// The second salt, or what is made of it.
+    /// The second salt or output; `None` means the member is absent.
     pub second: Option<Bytes>,
 }
 
 impl AuthenticationExtensionsPrfValues {
-    /// An equal value. `OutOfMemory` where a growth was refused, which cannot be where both are
-    /// empty or not there.
+    /// Returns an equal value. `OutOfMemory` if an allocation fails, which can't happen if both are
+    /// empty or absent.
     pub fn try_clone(&self, alloc: Global) -> Result<AuthenticationExtensionsPrfValues, OutOfMemory>
         ensures same { IfOk result (λ copy. copy ≡ self.now) }
         ensures grows { OnErr result (IsSomeAnd self.now.second (λ bytes. 0 < length bytes) ⊎ (0 < length self.now.first)) }

@@ -6,18 +6,19 @@ use passkey_bytes::Text;
 use passkey_memory::OutOfMemory;
 use std::alloc::Global;
 
-/// Whom a credential is for (WebAuthn Level 3, section 5.4.2).
+/// The relying party that a credential is for (WebAuthn Level 3, section 5.4.2).
 #[derive(Debug, Drop)]
 pub struct PublicKeyCredentialRpEntity {
-    /// The relying party's id, a domain; where there is none, the client takes its own origin's.
+    /// The relying party id, a domain; `None` means the effective domain of the caller's origin.
     pub id: Option<Text>,
-    /// A name for people to read.
+    /// A name for display. It is required, though many clients don't show it; the relying party id
+    /// is a safe choice.
     pub name: Text,
 }
 
 impl PublicKeyCredentialRpEntity {
-    /// An equal value. `OutOfMemory` where a growth was refused, which cannot be where both texts are
-    /// empty or not there.
+    /// Returns an equal value. `OutOfMemory` if an allocation fails, which can't happen if both
+    /// texts are empty or absent.
     pub fn try_clone(&self, alloc: Global) -> Result<PublicKeyCredentialRpEntity, OutOfMemory>
         ensures same { IfOk result (λ copy. copy ≡ self.now) }
         ensures grows { OnErr result (IsSomeAnd self.now.id (λ id. 0 < length id) ⊎ (0 < length self.now.name)) }

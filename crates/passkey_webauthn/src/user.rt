@@ -5,20 +5,21 @@ use passkey_bytes::{Bytes, Text};
 use passkey_memory::OutOfMemory;
 use std::alloc::Global;
 
-/// Whose credential it is (WebAuthn Level 3, section 5.4.3).
+/// The user account that a credential is for (WebAuthn Level 3, section 5.4.3).
 #[derive(Debug, Drop, PartialEq, Eq)]
 pub struct PublicKeyCredentialUserEntity {
-    /// The user's handle, which tells accounts of a relying party apart.
+    /// The user handle, which identifies the account: 1 to 64 bytes, without anything personal. The
+    /// length isn't checked.
     pub id: Bytes,
-    /// A name that the user chose, to be displayed.
+    /// A name for the user that is only for display. It may be empty.
     pub display_name: Text,
-    /// A name that tells accounts apart, as an address of electronic mail.
+    /// A name for display that tells accounts apart, such as an email address.
     pub name: Text,
 }
 
 impl PublicKeyCredentialUserEntity {
-    /// An equal value. `OutOfMemory` where a growth was refused, which cannot be where id and names
-    /// are empty.
+    /// Returns an equal value. `OutOfMemory` if an allocation fails, which can't happen if id and
+    /// names are empty.
     pub fn try_clone(&self, alloc: Global) -> Result<PublicKeyCredentialUserEntity, OutOfMemory>
         ensures same { IfOk result (λ copy. copy ≡ self.now) }
         ensures grows { OnErr result ((0 < length self.now.id) ⊎ (0 < length self.now.display_name) ⊎ (0 < length self.now.name)) }

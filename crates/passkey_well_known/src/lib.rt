@@ -1,4 +1,4 @@
-//! The document of the origins that may use a relying party's id.
+//! The document of related origins, which may use a relying party id.
 #![tactic(auto)]
 
 mod url_list;

@@ -14,7 +14,7 @@ pub(crate) const LONG_TEXT: usize = 1 << 30;
 
 /// Why no URLs were decoded from a JSON value.
 pub(crate) enum UrlFault {
-    /// It is no list of texts that are URLs.
+    /// The value is no list of texts that are URLs.
     Refused,
     /// One of the texts has `LONG_TEXT` bytes or more, and may be a URL of 4 GB or more.
     TooLong,
@@ -30,7 +30,7 @@ impl<T: Drop> From<AllocFailed<T>> for UrlFault {
     }
 }
 
-/// The URL that the JSON value is a text of.
+/// Decodes a URL from a text.
 fn read_url(alloc: Global, value: &Value) -> Result<Url, UrlFault>
     ensures { AnswersUrl (view value.now) result }
 {
@@ -46,7 +46,7 @@ fn read_url(alloc: Global, value: &Value) -> Result<Url, UrlFault>
     }
 }
 
-/// The URLs that the JSON value is a list of texts of.
+/// Decodes a list of URLs.
 pub(crate) fn read_urls(alloc: Global, value: &Value) -> Result<Vec<Url>, UrlFault>
     ensures { AnswersUrls (view value.now) result }
 {

@@ -1,4 +1,4 @@
-//! The document of the origins that may use a relying party's id.
+//! The document of related origins, which may use a relying party id.
 ghost use Rattle.std.specs.Prelude.{◌≡◌, IfOk, Some, codes};
 ghost use Rattle.passkey_json.specs.Kind.{list};
 ghost use Rattle.passkey_json.specs.Members.{in_object, judged};
@@ -7,20 +7,21 @@ ghost use Rattle.passkey_well_known.specs.WellKnown.{GivesUrls, origins_in, urls
 ghost use Rattle.serde_json.specs.View.{view};
 
 use crate::url_list::{UrlFault, read_urls};
-use passkey_json::{BytesForm, JsonFault, holds_float};
+use passkey_json::{JsonFault, holds_float};
 use passkey_memory::OutOfMemory;
 use serde_json::{Map, Value};
 use std::alloc::Global;
 use url::Url;
 
-/// Which origins may use a relying party's id (WebAuthn Level 3, section 5.11).
+/// The origins that may use a relying party id: the document at `/.well-known/webauthn` (WebAuthn
+/// Level 3, section 5.11).
 #[derive(Debug, Drop)]
 pub struct WellKnown {
     /// The origins, as the document lists them.
     pub origins: Vec<Url>,
 }
 
-/// The URLs of the member `origins`.
+/// Decodes the URLs of the member `origins`.
 fn origins_of(alloc: Global, value: &Value) -> Result<Vec<Url>, JsonFault>
     ensures { GivesUrls (Some (view value.now)) (λ urls. urls.items) (judged (list url) (codes "origins") (view value.now)) result }
 {
@@ -38,12 +39,12 @@ fn origins_of(alloc: Global, value: &Value) -> Result<Vec<Url>, JsonFault>
 }
 
 impl WellKnown {
-    /// The document that the JSON value stands for: an object whose member `origins` is a list of
-    /// texts, each of which the URL Standard reads as a URL. Other members are skipped.
-    /// `NotAnObject` if it is no object, `Missing` if there is no such member; if that is no such
-    /// list, `Float` if it holds a float and else `Refused`. `Refused` also if one of its texts has
-    /// 2^30 bytes or more and is a URL of 4 GB or more. `OutOfMemory` if an allocation fails, or a
-    /// shorter text makes such a URL; only if that member is a list.
+    /// Decodes the document from a JSON value: an object whose member `origins` is a list of texts
+    /// that the URL Standard parses as URLs. Other members are skipped. `NotAnObject` if the value
+    /// is no object, `Missing` if the member is absent; if it is no such list, `Float` if it holds
+    /// a float and else `Refused`. `Refused` also if one of its texts has 2^30 bytes or more and is
+    /// a URL of 4 GB or more. `OutOfMemory` if an allocation fails, or a shorter text makes such a
+    /// URL; only if the member is a list.
     #[tactic(auto, unfolding(crate::specs::WellKnown::well_known_in, passkey_json::specs::Members::required))]
     pub fn from_json(alloc: Global, value: &Value) -> Result<WellKnown, JsonFault>
         ensures { GivesUrls (origins_in (view value.now)) (λ document. document.origins.items) (in_object well_known_in (view value.now)) result }
@@ -60,9 +61,9 @@ impl WellKnown {
         }
     }
 
-    /// The object whose member `origins` is the list of the URLs' texts, in either form of bytes.
+    /// Encodes the document: an object whose member `origins` is the list of the URLs.
     /// `OutOfMemory` if an allocation fails.
-    pub fn to_json(&self, alloc: Global, _form: BytesForm) -> Result<Value, OutOfMemory>
+    pub fn to_json(&self, alloc: Global) -> Result<Value, OutOfMemory>
         ensures { IfOk result (λ v. view v ≡ well_known_json self.now.origins.items) }
     {
         let mut document = Map::new(alloc);

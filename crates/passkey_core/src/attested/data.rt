@@ -4,11 +4,11 @@ ghost use Rattle.std.specs.Prelude.{◌<◌, ◌^◌, length};
 use crate::aaguid::Aaguid;
 use passkey_cose::CoseKey;
 
-/// The credential that an authenticator made: whose model it is, the credential's id and its
-/// public key (WebAuthn Level 3, section 6.5.1).
+/// A new credential: its authenticator's AAGUID, its id and its public key (WebAuthn Level 3,
+/// section 6.5.1).
 #[derive(Debug, Drop)]
 pub struct AttestedCredentialData {
-    /// The authenticator's make and model.
+    /// The AAGUID of its authenticator.
     pub aaguid: Aaguid,
     pub(crate) credential_id: Vec<u8>,
     /// The credential's public key.

@@ -1,4 +1,4 @@
-//! Attested credential data, byte by byte.
+//! The bytes of attested credential data.
 ghost use Rattle.std.specs.Prelude.{◌≡◌, IfOk, IfErr, OnOk};
 ghost use Rattle.passkey_core.specs.DataNormal.{IsAttested};
 ghost use Rattle.passkey_core.specs.DataViews.{attested_parts};
@@ -12,9 +12,8 @@ use std::iter::FusedIterator;
 use std::marker::Model;
 use std::vec::IntoIter;
 
-/// The bytes that are left of attested credential data as they are written: the AAGUID, the
-/// credential id's length in two bytes, big-endian, the id, and the key (WebAuthn Level 3, section
-/// 6.5.1).
+/// The remaining bytes of encoded attested credential data: the AAGUID, the length of the
+/// credential id in two bytes, big-endian, the id, and the key (WebAuthn Level 3, section 6.5.1).
 #[derive(Drop)]
 pub struct AttestedCredentialDataIterator(IntoIter<u8>);
 
@@ -38,7 +37,7 @@ impl Iterator for AttestedCredentialDataIterator {
 
     ghost remaining = { λ left. at_most (length left) };
 
-    /// The next byte; none behind the last one, and from then on. It takes no memory.
+    /// The next byte; `None` at the end, and from then on. Allocates nothing.
     fn next(&mut self) -> Option<u8> {
         self.0.next()
     }
@@ -47,7 +46,7 @@ impl Iterator for AttestedCredentialDataIterator {
 impl FusedIterator for AttestedCredentialDataIterator {}
 
 impl AttestedCredentialData {
-    /// The data in bytes. `OutOfMemory` where a growth was refused.
+    /// Encodes the data. `OutOfMemory` if an allocation fails.
     pub(crate) fn to_vec(&self, alloc: Global) -> Result<Vec<u8>, OutOfMemory>
         ensures written { IfOk result (λ bytes. bytes.items ≡ attested_written (attested_parts self.now)) }
         ensures valid { OnOk result (IsAttested (attested_parts self.now)) }
@@ -61,8 +60,8 @@ impl AttestedCredentialData {
         Ok(bytes)
     }
 
-    /// An iterator over the data in bytes, which takes no more memory. Where a growth was refused,
-    /// the data come back.
+    /// Iterates over the encoded data, without further allocations. If an allocation fails, the
+    /// data come back.
     pub fn try_into_iter(
         self,
         alloc: Global,

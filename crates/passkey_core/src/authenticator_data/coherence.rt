@@ -1,4 +1,4 @@
-//! Whether authenticator data are read back as they were written.
+//! Whether the encoding of authenticator data decodes to the data.
 ghost use Rattle.std.specs.Prelude.{◌≡◌, option_map};
 ghost use Rattle.passkey_cbor.specs.View.{item_of};
 ghost use Rattle.passkey_cose.specs.KeyReadable.{is_key_readable};
@@ -11,7 +11,7 @@ use crate::authenticator_data::AuthenticatorData;
 use crate::flags::Flags;
 use passkey_cbor::Value;
 
-/// How many levels of items are read.
+/// The number of levels that are decoded.
 const MAX_DEPTH: usize = 256;
 
 fn are_extensions_readable(extensions: &Value) -> bool
@@ -42,10 +42,10 @@ fn extensions_agree(flagged: bool, extensions: &Option<Value>) -> bool
 }
 
 impl AuthenticatorData {
-    /// Whether what `to_vec` writes is read back: AT and ED are set exactly where attested
-    /// credential data and extensions are held, bits 1 and 5 of the flags are not set, the key's
-    /// type isn't written as 0, the extensions are a map, and the key and the extensions have at
-    /// most 256 levels each. It takes no memory.
+    /// Whether what `to_vec` returns decodes to these data: AT and ED are set exactly if attested
+    /// credential data and extensions are present, bits 1 and 5 of the flags are clear, the key's
+    /// type isn't the reserved number 0, the extensions are a map, and the key and the extensions
+    /// have at most 256 levels each. Allocates nothing.
     pub fn is_coherent(&self) -> bool
         ensures { result ≡ is_coherent (data_parts self.now) }
     {

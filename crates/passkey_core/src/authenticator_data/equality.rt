@@ -30,7 +30,7 @@ impl PartialEq for AuthenticatorData {
 
     ghost laws = { on_per data_parts (partial_equiv_from_equiv data_eq-equivalence) };
 
-    /// Whether the two have the same parts; no counter differs from 0.
+    /// Whether both have the same parts. An absent counter and a counter of 0 are different.
     #[tactic(auto, using(crate::specs::DataSame::data_Decides))]
     fn eq(&self, other: &AuthenticatorData) -> bool
         ensures value { result ≡ data_eq (data_parts self.now) (data_parts other.now) }

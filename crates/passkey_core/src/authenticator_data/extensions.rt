@@ -1,4 +1,4 @@
-//! Giving authenticator data what extensions answer.
+//! Setting the extension outputs of authenticator data.
 ghost use Rattle.std.specs.Prelude.{◌≡◌, IfOk, IfErr, OnErr, IsSome};
 ghost use Rattle.passkey_core.specs.DataViews.{data_parts};
 ghost use Rattle.passkey_core.specs.SignedOutputs.{creation_extensions, assertion_extensions, with_extensions};
@@ -13,8 +13,8 @@ use passkey_memory::OutOfMemory;
 use std::alloc::Global;
 
 impl AuthenticatorData {
-    /// The data with these extensions, as they were where there are none, or as they were and given
-    /// back where memory ran out.
+    /// The data with these extensions, unchanged if there are none; or the data back if memory ran
+    /// out.
     fn put_extensions(
         mut self,
         extensions: Result<Option<Value>, OutOfMemory>,
@@ -31,9 +31,9 @@ impl AuthenticatorData {
         }
     }
 
-    /// The data with what extensions answer of a credential that was made, in place of what was
-    /// held, and with ED set; as they were where no output is there. Where a growth was refused
-    /// the data come back as they were.
+    /// The data with these extension outputs of a registration, which replace those it has, and
+    /// with ED set; unchanged if no output is present. If an allocation fails, the data come back
+    /// unchanged.
     pub fn set_make_credential_extensions(
         self,
         alloc: Global,
@@ -46,9 +46,9 @@ impl AuthenticatorData {
         self.put_extensions(make_credential::to_extensions(alloc, outputs))
     }
 
-    /// The data with what extensions answer of a credential's use, in place of what was held, and
-    /// with ED set; as they were where no output is there. Where a growth was refused the data come
-    /// back as they were.
+    /// The data with these extension outputs of an assertion, which replace those it has, and with
+    /// ED set; unchanged if no output is present. If an allocation fails, the data come back
+    /// unchanged.
     pub fn set_assertion_extensions(
         self,
         alloc: Global,

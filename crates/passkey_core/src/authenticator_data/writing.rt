@@ -1,4 +1,4 @@
-//! Authenticator data to bytes.
+//! Encoding authenticator data.
 ghost use Rattle.std.specs.Prelude.{◌≡◌, ◌++◌, [], unwrap_or, option_map, IfOk, OnOk};
 ghost use Rattle.passkey_cbor.specs.View.{item_of};
 ghost use Rattle.passkey_cbor.specs.Writable.{IsWritable};
@@ -43,7 +43,7 @@ fn push_extensions(
 }
 
 impl AuthenticatorData {
-    /// The flags as they are written: AT is set where attested credential data is held.
+    /// The flags as they are encoded: AT is set if attested credential data is present.
     fn written_flags(&self) -> Flags
         ensures { result.0 ≡ flags_written (data_parts self.now).flags (data_parts self.now).attested }
     {
@@ -53,13 +53,12 @@ impl AuthenticatorData {
         }
     }
 
-    /// The data in bytes (WebAuthn Level 3, section 6.1): the hash, the flags, with AT set where
-    /// attested credential data is held, the counter in 4 bytes, big-endian, 0 where there is none,
-    /// the attested credential data and the extensions, each where it is held. `OutOfMemory` where a
-    /// growth was refused. CBOR can spell the key and the extensions of what is written, and no
-    /// member of the key is one that is refused when it is read.
+    /// Encodes the data (WebAuthn Level 3, section 6.1): the hash, the flags, with AT set if
+    /// attested credential data is present, the counter in 4 bytes, big-endian, 0 if it is absent,
+    /// then the attested credential data and the extensions, each if present. `OutOfMemory` if an
+    /// allocation fails. Decoding rejects no member of the key.
     ///
-    /// Data that aren't coherent are written so as well, though then the bytes may not be read back.
+    /// Data that aren't coherent are encoded all the same, but the bytes may not decode to them.
     pub fn to_vec(&self, alloc: Global) -> Result<Vec<u8>, OutOfMemory>
         ensures written { IfOk result (λ bytes. bytes.items ≡ data_written (data_parts self.now)) }
         ensures valid { OnOk result (IsData (data_parts self.now)) }

@@ -1,4 +1,4 @@
-//! The statuses that have a byte and no name.
+//! Status codes that have no name.
 ghost use Rattle.std.specs.Prelude.{◌≡◌, true, Some};
 ghost use Rattle.passkey_core.specs.StatusBytes.{is_in, unassigned, extension, vendor};
 ghost use Rattle.passkey_core.specs.Statuses.{Converts, code_in};
@@ -6,8 +6,8 @@ ghost use Rattle.passkey_core.specs.Statuses.{Converts, code_in};
 use super::CodeOutOfRange;
 use std::marker::Model;
 
-/// A status that CTAP 2.1 assigns to nothing: 0x07 to 0x09, 0x0C to 0x10, 0x13, 0x16, 0x1A to 0x20,
-/// 0x29, 0x2A, 0x38, 0x41 to 0x7E or 0x80 to 0xDF (section 8.2).
+/// A status code that CTAP 2.1 leaves unassigned: 0x07 to 0x09, 0x0C to 0x10, 0x13, 0x16, 0x1A to
+/// 0x20, 0x29, 0x2A, 0x38, 0x41 to 0x7E or 0x80 to 0xDF (section 8.2).
 #[derive(Debug, Drop, PartialEq, Eq)]
 pub struct UnknownSpecError(u8);
 
@@ -25,7 +25,7 @@ impl Model for UnknownSpecError {
 }
 
 impl UnknownSpecError {
-    /// The status of a byte that is known to be assigned to nothing.
+    /// The status code of a byte that is known to be unassigned.
     pub(super) fn of(byte: u8) -> UnknownSpecError
         requires { is_in unassigned byte ≡ true }
         ensures { result ≡ byte }
@@ -39,7 +39,7 @@ impl TryFrom<u8> for UnknownSpecError {
 
     ghost try_from_gives = { Converts (code_in unassigned) };
 
-    /// The status with this byte; `CodeOutOfRange` with the byte where it is none of these.
+    /// The status code of this byte. `CodeOutOfRange` with the byte if it isn't in this class.
     fn try_from(byte: u8) -> Result<UnknownSpecError, CodeOutOfRange<u8>> {
         match byte {
             0x07..=0x09
@@ -65,7 +65,7 @@ impl From<UnknownSpecError> for u8 {
     }
 }
 
-/// A status that an extension defines: 0xE0 to 0xEF (CTAP 2.1, section 8.2).
+/// A status code that an extension defines: 0xE0 to 0xEF (CTAP 2.1, section 8.2).
 #[derive(Debug, Drop, PartialEq, Eq)]
 pub struct ExtensionError(u8);
 
@@ -87,7 +87,7 @@ impl TryFrom<u8> for ExtensionError {
 
     ghost try_from_gives = { Converts (code_in extension) };
 
-    /// The status with this byte; `CodeOutOfRange` with the byte where it is none of these.
+    /// The status code of this byte. `CodeOutOfRange` with the byte if it isn't in this class.
     fn try_from(byte: u8) -> Result<ExtensionError, CodeOutOfRange<u8>> {
         match byte {
             0xE0..=0xEF => Ok(ExtensionError(byte)),
@@ -104,7 +104,7 @@ impl From<ExtensionError> for u8 {
     }
 }
 
-/// A status that an authenticator's vendor defines: 0xF0 to 0xFF (CTAP 2.1, section 8.2).
+/// A status code that a vendor defines: 0xF0 to 0xFF (CTAP 2.1, section 8.2).
 #[derive(Debug, Drop, PartialEq, Eq)]
 pub struct VendorError(u8);
 
@@ -126,7 +126,7 @@ impl TryFrom<u8> for VendorError {
 
     ghost try_from_gives = { Converts (code_in vendor) };
 
-    /// The status with this byte; `CodeOutOfRange` with the byte where it is none of these.
+    /// The status code of this byte. `CodeOutOfRange` with the byte if it isn't in this class.
     fn try_from(byte: u8) -> Result<VendorError, CodeOutOfRange<u8>> {
         match byte {
             0xF0..=0xFF => Ok(VendorError(byte)),

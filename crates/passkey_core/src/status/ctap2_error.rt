@@ -1,4 +1,4 @@
-//! The statuses that CTAP 2.1 names.
+//! CTAP 2.1's named status codes.
 ghost use Rattle.std.specs.Prelude.{◌≡◌, ◌↔◌, IsTrue, Some, nat_eq};
 ghost use Rattle.std.specs.Cmp.{partial_equiv_from_equiv, partial_order_from_own_ties, unsigned_ties};
 ghost use Rattle.std.specs.Cmp.Rules.{comparing};
@@ -10,100 +10,100 @@ use super::CodeOutOfRange;
 use passkey_cose::CoseKeyConversionError;
 use std::cmp::Ordering;
 
-/// A status that CTAP 2.1 names, by its byte (section 8.2). Their order is that of the bytes.
+/// A named status code (CTAP 2.1, section 8.2). They are ordered by their bytes.
 #[derive(Clone, Copy, Debug)]
 pub enum Ctap2Error {
-    /// Done.
+    /// Success.
     Ok = 0x00,
-    /// There is no such command.
+    /// The command is invalid.
     InvalidCommand = 0x01,
-    /// A parameter of the command is invalid.
+    /// A parameter is invalid.
     InvalidParameter = 0x02,
-    /// A message or an item has a wrong length.
+    /// A message or an item has an invalid length.
     InvalidLength = 0x03,
-    /// The messages come in a wrong order.
+    /// Message sequencing is invalid.
     InvalidSequence = 0x04,
-    /// The message took too long.
+    /// The message timed out.
     Timeout = 0x05,
-    /// The channel is in use; the command may be sent again later.
+    /// The channel is busy; the client should try again later.
     ChannelBusy = 0x06,
-    /// The command needs a locked channel.
+    /// The command requires a channel lock.
     LockRequired = 0x0A,
-    /// The command is not allowed on this channel.
+    /// The command isn't allowed on this channel.
     InvalidChannel = 0x0B,
-    /// An item of CBOR has another type than is wanted.
+    /// A CBOR item has an unexpected type.
     CborUnexpectedType = 0x11,
-    /// What was sent is no CBOR.
+    /// The CBOR is invalid.
     InvalidCbor = 0x12,
-    /// A required parameter is not there.
+    /// A required parameter is missing.
     MissingParameter = 0x14,
-    /// There are more items than are allowed.
+    /// The limit for the number of items is exceeded.
     LimitExceeded = 0x15,
-    /// No more fingerprints can be kept.
+    /// The fingerprint database is full.
     FingerprintDatabaseFull = 0x17,
-    /// No more large blobs can be kept.
+    /// The large blob storage is full.
     LargeBlobStorageFull = 0x18,
-    /// A credential of the exclude list is here.
+    /// A credential in the exclude list exists on this authenticator.
     CredentialExcluded = 0x19,
-    /// A long operation is under way.
+    /// Processing a lengthy operation.
     Processing = 0x21,
-    /// The credential is not this authenticator's.
+    /// The credential isn't valid for this authenticator.
     InvalidCredential = 0x22,
-    /// The user is waited for.
+    /// The authenticator waits for the user.
     UserActionPending = 0x23,
-    /// A long operation has not ended.
+    /// An operation is pending.
     OperationPending = 0x24,
-    /// No operation is under way.
+    /// No operation is pending.
     NoOperations = 0x25,
-    /// The algorithm is not supported.
+    /// The algorithm isn't supported.
     UnsupportedAlgorithm = 0x26,
-    /// The operation is not allowed.
+    /// The operation isn't authorized.
     OperationDenied = 0x27,
-    /// No more keys can be kept.
+    /// The key storage is full.
     KeyStoreFull = 0x28,
-    /// The option is not supported.
+    /// The option isn't supported.
     UnsupportedOption = 0x2B,
-    /// The option does not go with the operation.
+    /// The option isn't valid for the operation.
     InvalidOption = 0x2C,
-    /// The operation was cancelled while it was waited for.
+    /// A pending keep-alive was cancelled.
     KeepAliveCancel = 0x2D,
-    /// There is no credential that fits.
+    /// No valid credentials are available.
     NoCredentials = 0x2E,
-    /// The user took too long.
+    /// The user didn't act in time.
     UserActionTimeout = 0x2F,
-    /// A command that goes on with another is not allowed now.
+    /// A continuation command, such as authenticatorGetNextAssertion, isn't allowed.
     NotAllowed = 0x30,
     /// The PIN is wrong.
     PinInvalid = 0x31,
     /// The PIN is blocked.
     PinBlocked = 0x32,
-    /// What the PIN or the user verification vouches for is wrong.
+    /// The pinUvAuthParam is wrong.
     PinAuthInvalid = 0x33,
-    /// The PIN is blocked until power comes anew.
+    /// PIN authentication is blocked until the authenticator is powered up again.
     PinAuthBlocked = 0x34,
-    /// There is no PIN.
+    /// No PIN has been set.
     PinNotSet = 0x35,
-    /// A token of the PIN or of user verification is needed.
+    /// A pinUvAuthToken is required.
     PuatRequired = 0x36,
-    /// The PIN breaks a rule, as one on its length.
+    /// The PIN violates the policy, such as the minimum length.
     PinPolicyViolation = 0x37,
-    /// The request is too large for the authenticator's memory.
+    /// The request exceeds the authenticator's memory.
     RequestTooLarge = 0x39,
-    /// The operation took too long.
+    /// The current operation timed out.
     ActionTimeout = 0x3A,
-    /// The user has to be present.
+    /// User presence is required.
     UserPresenceRequired = 0x3B,
     /// Built-in user verification is blocked.
     UserVerificationBlocked = 0x3C,
-    /// A checksum is wrong.
+    /// An integrity check failed.
     IntegrityFailure = 0x3D,
-    /// There is no such subcommand.
+    /// The subcommand is invalid.
     InvalidSubcommand = 0x3E,
-    /// Built-in user verification failed; it may be tried again.
+    /// Built-in user verification failed; the platform may try again.
     UserVerificationInvalid = 0x3F,
-    /// A permission is asked for that is not granted.
+    /// A requested permission isn't granted.
     UnauthorizedPermission = 0x40,
-    /// Another error.
+    /// Another, unspecified error.
     Other = 0x7F,
 }
 
@@ -112,7 +112,7 @@ impl TryFrom<u8> for Ctap2Error {
 
     ghost try_from_gives = { Converts ctap2_error };
 
-    /// The status with this byte; `CodeOutOfRange` with the byte where none has it.
+    /// The status code of this byte. `CodeOutOfRange` with the byte if it has no name.
     fn try_from(byte: u8) -> Result<Ctap2Error, CodeOutOfRange<u8>> {
         let error = match byte {
             0x00 => Ctap2Error::Ok,

@@ -1,11 +1,11 @@
-//! Elements of an array that is written.
+//! The elements of an array that is being encoded.
 ghost use Rattle.std.specs.Prelude.{◌≡◌, false, map};
 ghost use Rattle.serde_json.specs.View.{items_of, view};
 ghost use Rattle.serde_json.specs.Written.{items_have_float};
 
 use serde_json::Value;
 
-/// The elements that are written of a list. None holds a float.
+/// The elements of an array that is being encoded. None holds a float.
 #[derive(Drop)]
 pub struct Elements {
     pub(super) values: Vec<Value>,

@@ -1,11 +1,11 @@
-//! Members that are written.
+//! The members of an object that is being encoded.
 ghost use Rattle.std.specs.Prelude.{◌≡◌, false};
 ghost use Rattle.serde_json.specs.View.{members_view};
 ghost use Rattle.serde_json.specs.Written.{members_have_float};
 
 use serde_json::{Map, Value};
 
-/// The members that are written of a record. None holds a float.
+/// The members of an object that is being encoded. None holds a float.
 #[derive(Drop)]
 pub struct Written {
     pub(super) members: Map<String, Value>,

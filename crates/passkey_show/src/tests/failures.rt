@@ -5,7 +5,7 @@ use std::io;
 use std::io::{ErrorKind, Read, Write};
 use std::process::Abort;
 
-// Gives its bytes one at a time, and fails at the read after so many others.
+// Returns its bytes one at a time, and fails at the read after this many.
 #[derive(Drop)]
 struct SlowReader {
     bytes: &'static [u8],
@@ -29,14 +29,14 @@ impl Read for SlowReader {
     }
 }
 
-// How a write ends that takes no byte.
+// How a write that takes no byte ends.
 #[derive(Clone, Copy, Debug)]
 enum Ending {
     Fails,
     TakesNone,
 }
 
-// Takes its bytes one at a time, with no allocation, and none at the write after so many others.
+// Takes bytes one at a time, without an allocation, and none at the write after this many.
 #[derive(Drop)]
 struct SlowWriter {
     taken: [u8; 512],
@@ -84,7 +84,7 @@ impl Write for SlowWriter {
     }
 }
 
-// Two reads give the bytes, and the third one their end.
+// Two reads return the bytes, and the third one the end.
 #[test]
 fn a_read_fails(rt: HostRuntime) {
     for reads in 0..3 {
@@ -148,7 +148,8 @@ fn an_unknown_kind_reads_nothing(rt: HostRuntime) {
     }
 }
 
-// The answer, or no memory and nothing written; and then the answer, if only one growth is refused.
+// The output, or `OutOfMemory` with nothing written; and then the output, if only one allocation
+// fails.
 fn assert_shows_unless_refused(rt: &(impl Abort + AllocGlobal), input: &str, want: &str) {
     let mut writer = SlowWriter::new(512, Ending::Fails);
     let answer = run(rt.alloc(), &mut input.as_bytes(), &mut writer, "cbor");
@@ -167,7 +168,7 @@ fn assert_shows_unless_refused(rt: &(impl Abort + AllocGlobal), input: &str, wan
     assert_eq!(rt; digits, want.as_bytes());
 }
 
-// For `rt try --test --fail-alloc N`, which refuses the Nth growth of each test.
+// For `rt try --test --fail-alloc N`, with which the Nth allocation of each test fails.
 #[test]
 fn indefinite_array(rt: HostRuntime) {
     assert_shows_unless_refused(&rt, "9f1801ff", "8101");

@@ -4,7 +4,7 @@ use std::env::FillError;
 use std::rt::Env;
 use std::test::Fail;
 
-// An environment of these words, the program's name first.
+// An environment with these arguments after the program's name.
 #[derive(Clone, Copy)]
 struct Words(&'static [&'static [u8]]);
 

@@ -23,7 +23,8 @@ returns-in_err-extra_data g c =
     let seen : view c.args.value.now ≡ object (members_view c.in-Object.members.entries) = ap view c.in-Object.is ∙ view-Object c.in-Object.members in
     let fixed = subst (λ (d : Data). in_object fixed_members_in d ≡ Ok c.in_ok-ty.field-0) seen c.in_ok-ty.ensures in
     let free = sym c.known_holds_float.ensures ∙ c.if-known_holds_float.false in
-    rw (seen, fixed, free) (fault_passed _ _ held _ c.in_err-extra_data.field-0.0 _ _ c.in_err-extra_data.ensures c.from_residual-in_err-extra_data.ensures.1 (λ h. or_left _ _ (or_right _ _ h)))
+    let extra = subst (λ (d : Data). Gives (IsTrue (takes_in g.E.ClientDataExtra.takes d)) (in_object g.E.ClientDataExtra.reads d) (Err c.in_err-extra_data.field-0.0)) seen c.in_err-extra_data.ensures in
+    rw (seen, fixed, free) (fault_passed _ _ held _ c.in_err-extra_data.field-0.0 _ _ extra c.from_residual-in_err-extra_data.ensures.1 (λ h. or_left _ _ (or_right _ _ h)))
 
 pub returns-in_err-unknown_keys : goal.returns-in_err-unknown_keys
 unfolding client_data_in
@@ -31,7 +32,8 @@ returns-in_err-unknown_keys g c =
     let seen : view c.args.value.now ≡ object (members_view c.in-Object.members.entries) = ap view c.in-Object.is ∙ view-Object c.in-Object.members in
     let fixed = subst (λ (d : Data). in_object fixed_members_in d ≡ Ok c.in_ok-ty.field-0) seen c.in_ok-ty.ensures in
     let free = sym c.known_holds_float.ensures ∙ c.if-known_holds_float.false in
-    rw (seen, fixed, free, c.in_ok-extra_data.ensures) (fault_passed _ _ held _ c.in_err-unknown_keys.field-0.0 _ _ c.in_err-unknown_keys.ensures c.from_residual-in_err-unknown_keys.ensures.1 (or_right _ _))
+    let extra = subst (λ (d : Data). in_object g.E.ClientDataExtra.reads d ≡ Ok c.in_ok-extra_data.extra_data) seen c.in_ok-extra_data.ensures in
+    rw (seen, fixed, free, extra) (fault_passed _ _ held _ c.in_err-unknown_keys.field-0.0 _ _ c.in_err-unknown_keys.ensures c.from_residual-in_err-unknown_keys.ensures.1 (or_right _ _))
 
 pub returns : goal.returns
 unfolding client_data_in
@@ -39,4 +41,5 @@ returns g c =
     let seen : view c.args.value.now ≡ object (members_view c.in-Object.members.entries) = ap view c.in-Object.is ∙ view-Object c.in-Object.members in
     let fixed = subst (λ (d : Data). in_object fixed_members_in d ≡ Ok c.in_ok-ty.field-0) seen c.in_ok-ty.ensures in
     let free = sym c.known_holds_float.ensures ∙ c.if-known_holds_float.false in
-    rw (seen, fixed, free, c.in_ok-extra_data.ensures, c.in_ok-unknown_keys.ensures) refl
+    let extra = subst (λ (d : Data). in_object g.E.ClientDataExtra.reads d ≡ Ok c.in_ok-extra_data.extra_data) seen c.in_ok-extra_data.ensures in
+    rw (seen, fixed, free, extra, c.in_ok-unknown_keys.ensures) refl
