@@ -5,10 +5,10 @@ use Rattle.std.specs.List.{concat}
 use Rattle.std.proofs.lemmas.List.{append-nil, length-append, length-drop}
 use Rattle.std.proofs.lemmas.Str.{IsUtf8-nil, IsUtf8-append, IsUtf8-from_is_utf8, is_utf8-from_IsUtf8}
 use Rattle.passkey_cbor.specs.Reading.{chunk, may_stand, step_at, list_at, string_at}
-use Rattle.passkey_cbor.specs.Walk.{Walk, ahead, raised, break_heads, IsInside}
+use Rattle.passkey_cbor.specs.Walk.{Walk, ahead, raised, break_heads, IsInside, Went}
 use Rattle.passkey_cbor.specs.Steps.{NoHead, PassesOver, ElementRead, EndRead, PieceRead, IsLengthOf, CountsAll, CountsSome, CountsSought}
 use Rattle.passkey_cbor.specs.Names.{begins_one, heads_until}
-use Rattle.passkey_cbor.specs.Building.{IsNotEmpty, total, some_bytes, Went, Makes}
+use Rattle.passkey_cbor.specs.Building.{IsNotEmpty, total, some_bytes, Makes}
 use Rattle.passkey_cbor.specs.declared.head.Head.{Head}
 use Rattle.passkey_cbor.specs.declared.error.CborError.TheVariants as error
 use Rattle.passkey_cbor.proofs.Binds.{some_is, none_is_some, bind_some}

@@ -4,9 +4,9 @@ use Rattle.std.proofs.Common.{Vec, Global}
 use Rattle.std.proofs.lemmas.List.{append-nil, length-drop, map-append}
 use Rattle.passkey_cbor.specs.HeadReading.{◌>>=◌, Read}
 use Rattle.passkey_cbor.specs.Reading.{Reader, Step, end, element, step_at, after_step, list_by, list_at}
-use Rattle.passkey_cbor.specs.Walk.{Walk, ahead, raised, IsInside, Passed, Stopped}
-use Rattle.passkey_cbor.specs.Steps.{NoHead, ElementRead, EndRead}
-use Rattle.passkey_cbor.specs.Building.{IsNotEmpty, total, Making, each_of, Went, Made, Makes}
+use Rattle.passkey_cbor.specs.Walk.{Walk, ahead, raised, IsInside, Passed, Stopped, Went}
+use Rattle.passkey_cbor.specs.Steps.{NoHead, ElementRead, EndRead, ReadsHead}
+use Rattle.passkey_cbor.specs.Building.{IsNotEmpty, total, Making, each_of, Made, Makes}
 use Rattle.passkey_cbor.specs.declared.head.Head.{Head}
 use Rattle.passkey_cbor.specs.declared.error.CborError.{CborError}
 use Rattle.passkey_cbor.specs.declared.error.CborError.TheVariants as error
@@ -32,6 +32,20 @@ went_then a b c p q = record {
   heads = omega (arith, p.heads, q.heads);
   nodes = omega (arith, p.nodes, q.nodes);
 }
+
+-- the cursor went on, and back to where it began
+pub went_back : (a b c : Walk) → IsInside a → Went a b → c ≡ record b { place = a.place } → Went a c
+went_back a b c inside p e = record {
+  same = ap (λ (w : Walk). w.bytes) e ∙ p.same;
+  within = omega (arith, inside, ap length p.same, ap (λ (w : Walk). length w.bytes) e, ap (λ (w : Walk). w.place) e);
+  forward = omega (arith, ap (λ (w : Walk). w.place) e);
+  heads = omega (arith, p.heads, ap (λ (w : Walk). w.heads) e);
+  nodes = omega (arith, p.nodes, ap (λ (w : Walk). w.nodes) e);
+}
+
+pub went_head : (a b : Walk) (found : Option Head) → ReadsHead a b found → Went a b
+went_head a b (Some h) r = went_passed a b r.passed
+went_head a b None r = went_stopped a b r.stopped
 
 -- at most one head for each byte that was passed
 pub passed_heads : (a b : Walk) → Passed a b → b.heads + length (ahead b) ≤ a.heads + length (ahead a)

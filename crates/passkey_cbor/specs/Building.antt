@@ -6,7 +6,7 @@ use Rattle.passkey_cbor.specs.Nodes.{nodes}
 use Rattle.passkey_cbor.specs.Grows.{Grows}
 use Rattle.passkey_cbor.specs.View.{item_of, pair_of}
 use Rattle.passkey_cbor.specs.HeadReading.{Read}
-use Rattle.passkey_cbor.specs.Walk.{Walk, ahead, raised}
+use Rattle.passkey_cbor.specs.Walk.{Walk, ahead, raised, Went}
 use Rattle.passkey_cbor.specs.declared.value.Value.{Value}
 use Rattle.passkey_cbor.specs.declared.error.CborError.{CborError}
 use Rattle.passkey_cbor.specs.declared.error.CborError.TheVariants as error
@@ -49,14 +49,6 @@ some_bytes = record { view = λ v. v.items; Takes = IsNotEmpty; size = λ s. 0 }
 -- a text
 abbrev pub a_text : Making (String Global) (List ℕ)
 a_text = record { view = string_bytes; Takes = λ s. Unit {0}; size = λ s. 0 }
-
--- The cursor is in the same bytes, no further back, and its counts didn't fall.
-pub record Went (old new : Walk) : Type 0 where
-  pub same : new.bytes ≡ old.bytes
-  pub within : new.place ≤ length new.bytes
-  pub forward : old.place ≤ new.place
-  pub heads : old.heads ≤ new.heads
-  pub nodes : old.nodes ≤ new.nodes
 
 -- Where this is what is read, it was made, and each item in it counted; or memory ran out, which only some of it lets
 -- happen.

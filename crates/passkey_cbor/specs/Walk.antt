@@ -47,3 +47,11 @@ pub record Stopped (old new : Walk) : Type 0 where
   pub rises : old.heads ≤ new.heads
   pub heads : new.heads ≤ old.heads + length (ahead old) + 1
   pub nodes : new.nodes ≡ old.nodes
+
+-- The cursor is in the same bytes, no further back, and its counts didn't fall.
+pub record Went (old new : Walk) : Type 0 where
+  pub same : new.bytes ≡ old.bytes
+  pub within : new.place ≤ length new.bytes
+  pub forward : old.place ≤ new.place
+  pub heads : old.heads ≤ new.heads
+  pub nodes : old.nodes ≤ new.nodes

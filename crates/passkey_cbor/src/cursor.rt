@@ -1,6 +1,6 @@
 //! A cursor that decodes borrowed bytes head by head.
 ghost use Rattle.std.specs.Prelude.{◌≡◌, ℕ, ◌+◌, ◌≤◌, min, None, option_map, IfNone, IfSome};
-ghost use Rattle.passkey_cbor.specs.Walk.{ahead, raised, IsInside, IsPlaced};
+ghost use Rattle.passkey_cbor.specs.Walk.{ahead, raised, IsInside, IsPlaced, Went};
 ghost use Rattle.passkey_cbor.specs.Found.{FindsHead};
 ghost use Rattle.passkey_cbor.specs.Item.{Item};
 ghost use Rattle.passkey_cbor.specs.Stands.{Stands, Opens, WalksOn};
@@ -89,7 +89,8 @@ impl<'a> Cursor<'a> {
 
     /// Raises the count of heads alone.
     pub(crate) fn add_heads(&mut self, heads: u128)
-        ensures { self.new ≡ record self.old { heads = min (self.old.heads + heads) u128.MAX } }
+        ensures raised { self.new ≡ record self.old { heads = min (self.old.heads + heads) u128.MAX } }
+        ensures rises { self.old.heads ≤ self.new.heads }
     {
         self.count.heads = self.count.heads.saturating_add(heads);
     }
@@ -101,6 +102,9 @@ impl<'a> Cursor<'a> {
 
         // Where an item stands, this is its head, and what follows it in the item lies ahead.
         ensures opens { (x : Item) (to : ℕ) → Stands x self.old.bytes self.old.place to → Opens x to self.new result }
+
+        // The counts never fall.
+        ensures went { Went self.old self.new }
     {
         self.decode()
     }
@@ -110,7 +114,10 @@ impl<'a> Cursor<'a> {
     /// decoded and counted: the cursor moves behind it if it is the break, and else stays.
     /// (RFC 8949, section 3.2.2.)
     pub fn more(&mut self, left: &mut Option<u64>) -> bool
-        ensures { WalksOn left.old left.new self.old self.new result }
+        ensures walks { WalksOn left.old left.new self.old self.new result }
+
+        // The counts never fall.
+        ensures went { Went self.old self.new }
     {
         let place = self.place;
         let known = *left;

@@ -1,5 +1,5 @@
 //! Which of some names a string is.
-ghost use Rattle.std.specs.Prelude.{◌≡◌, ◌++◌, ℕ, List, map, is_some, IfSome, MatchOption};
+ghost use Rattle.std.specs.Prelude.{◌≡◌, ◌≤◌, ◌++◌, ℕ, List, map, is_some, IfSome, MatchOption};
 ghost use Rattle.std.specs.List.{position};
 ghost use Rattle.std.specs.Str.{bytes_eq};
 ghost use Rattle.passkey_cbor.specs.Names.{begins, begins_one, IsNameOf, LooksFor};
@@ -92,6 +92,7 @@ pub(crate) fn name_of(
 ) -> Option<usize>
     ensures name { IsNameOf is_text (record { len = len; bytes = region.now }) (map (λ n. n.now) names.now) result }
     ensures looks { LooksFor is_text (map (λ n. n.now) names.now) (record { len = len; bytes = region.now }) cursor.old cursor.new }
+    ensures rises { cursor.old.heads ≤ cursor.new.heads }
 {
     match len {
         Some(_) => place_of(names, region),

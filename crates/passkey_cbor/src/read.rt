@@ -2,7 +2,7 @@
 ghost use Rattle.std.specs.Prelude.{◌≡◌, ◌<◌, ◌≤◌, ◌⊎◌, ◌↔◌, ℕ, map, string_bytes, true, Err, IfOk, IfErr, OnErr, IsOk};
 ghost use Rattle.std.specs.Str.{IsUtf8};
 ghost use Rattle.passkey_cbor.specs.Item as item;
-ghost use Rattle.passkey_cbor.specs.Walk.{ahead, IsInside};
+ghost use Rattle.passkey_cbor.specs.Walk.{ahead, IsInside, Went};
 ghost use Rattle.passkey_cbor.specs.Reading.{start, may_stand, piece_at, string_at, chunk, pair_by, simple_item, item_within, list_at};
 ghost use Rattle.passkey_cbor.specs.Steps.{IsHead, CountsChunks};
 ghost use Rattle.passkey_cbor.specs.Building.{Makes, an_item, a_counted_item, a_pair, each_of, some_bytes, a_text};
@@ -47,6 +47,9 @@ impl<'a> Cursor<'a> {
 
         // Where an item stands, it makes that item.
         ensures values { (x : Item) (to : ℕ) → Stands x self.old.bytes self.old.place to → Values x to self.old self.new result }
+
+        // The counts never fall.
+        ensures went { Went self.old self.new }
     {
         let place = self.place;
         if !self.skip() {

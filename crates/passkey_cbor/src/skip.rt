@@ -1,6 +1,6 @@
 //! Skipping data items.
 ghost use Rattle.std.specs.Prelude.{ℕ, ◌≤◌, None, is_some, IfSome, MatchOption};
-ghost use Rattle.passkey_cbor.specs.Walk.{ahead, raised, IsInside};
+ghost use Rattle.passkey_cbor.specs.Walk.{ahead, raised, IsInside, Went};
 ghost use Rattle.passkey_cbor.specs.Reading.{start, string_at, item_within, list_at};
 ghost use Rattle.passkey_cbor.specs.Steps.{Skips, IsLengthOf, entry_by};
 ghost use Rattle.passkey_cbor.specs.Skipped.{SkipsFront};
@@ -26,6 +26,9 @@ impl<'a> Cursor<'a> {
 
         // Where an item stands, it passes that item.
         ensures passes { (x : Item) (to : ℕ) → Stands x self.old.bytes self.old.place to → Passes to self.old self.new result }
+
+        // The counts never fall.
+        ensures went { Went self.old self.new }
     {
         let place = self.place;
         let found = self.skip_item(MAX_DEPTH);

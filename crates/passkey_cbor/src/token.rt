@@ -5,7 +5,7 @@ ghost use Rattle.passkey_cbor.specs.Lent.{LendsString, LendsStanding, LentWhole,
 ghost use Rattle.passkey_cbor.specs.Names.{IsNameOf, LooksFor};
 ghost use Rattle.passkey_cbor.specs.Steps.{ReadsRegion, ReadsString, CountsAll};
 ghost use Rattle.passkey_cbor.specs.Reading.{may_stand};
-ghost use Rattle.passkey_cbor.specs.Walk.{ahead, IsInside};
+ghost use Rattle.passkey_cbor.specs.Walk.{ahead, IsInside, Went};
 
 use crate::cursor::{Cursor, Next};
 use crate::names::name_of;
@@ -64,6 +64,9 @@ impl<'a> Cursor<'a> {
 
         // Where an item stands, it lends that item, exactly if it is a text string.
         ensures lends { LendsStanding true self.old self.new result }
+
+        // The counts never fall.
+        ensures went { Went self.old self.new }
     {
         match self.string(true) {
             None => None,
@@ -78,6 +81,9 @@ impl<'a> Cursor<'a> {
 
         // Where an item stands, it lends that item, exactly if it is a byte string.
         ensures lends { LendsStanding false self.old self.new result }
+
+        // The counts never fall.
+        ensures went { Went self.old self.new }
     {
         match self.string(false) {
             None => None,
@@ -90,6 +96,7 @@ impl<'a> Cursor<'a> {
     fn string(&mut self, is_text: bool) -> Option<(Option<u64>, &'a [u8], usize)>
         ensures front { LendsString is_text self.old self.new (option_map (λ r. record { len = r.0; bytes = r.1.now }) result) }
         ensures lends { LendsStanding is_text self.old self.new (option_map (λ r. record { len = r.0; bytes = r.1.now }) result) }
+        ensures went { Went self.old self.new }
         ensures size { IfSome result (λ r. IsSized is_text (record { len = r.0; bytes = r.1.now }) r.2) }
     {
         let place = self.place;
@@ -103,6 +110,7 @@ impl<'a> Cursor<'a> {
     // Passes a string of this kind, or stops where none stands.
     fn string_ahead(&mut self, is_text: bool) -> Option<(Option<u64>, &'a [u8], usize)>
         ensures reads { ReadsString is_text self.old self.new (option_map (λ r. record { len = r.0; bytes = r.1.now }) result) }
+        ensures went { Went self.old self.new }
         ensures size { IfSome result (λ r. IsSized is_text (record { len = r.0; bytes = r.1.now }) r.2) }
     {
         match self.decode() {
@@ -122,6 +130,7 @@ impl<'a> Cursor<'a> {
     fn region(&mut self, is_text: bool, len: Option<u64>) -> Option<(&'a [u8], usize)>
         requires { IsInside self.old }
         ensures reads { ReadsRegion is_text len self.old self.new (option_map (λ r. r.0.now) result) }
+        ensures went { Went self.old self.new }
         ensures size { IfSome result (λ r. IsSized is_text (record { len = len; bytes = r.0.now }) r.1) }
     {
         let bytes = self.bytes;
@@ -145,6 +154,7 @@ fn copy(
     ensures copies { Copies (λ v. v.items) is_text (record { len = len; bytes = region.now }) result }
     ensures stands { IfOk result (λ v. may_stand is_text v.items ≡ true) }
     ensures looks { LooksToCopy is_text (record { len = len; bytes = region.now }) cursor.old cursor.new result }
+    ensures rises { cursor.old.heads ≤ cursor.new.heads }
 {
     match len {
         Some(_) => {
@@ -206,6 +216,7 @@ fn fill_chunks(region: &[u8], cursor: &mut Cursor<'_>, into: &mut [u8])
     requires size { IsSized false (record { len = None; bytes = region.now }) (length into.old) }
     ensures filled { Tells false (record { len = None; bytes = region.now }) into.new }
     ensures looks { LooksAtAll false (record { len = None; bytes = region.now }) cursor.old cursor.new }
+    ensures rises { cursor.old.heads ≤ cursor.new.heads }
 {
     let mut chunks = Cursor::new(region);
     put_chunks(&mut chunks, into);
@@ -219,6 +230,7 @@ impl<'a> TextToken<'a> {
     pub fn eq_name(&self, name: &str, cursor: &mut Cursor<'_>) -> bool
         ensures same { IsNamed true self.now name.now result }
         ensures looks { LooksFor true (name.now ∷ []) self.now cursor.old cursor.new }
+        ensures rises { cursor.old.heads ≤ cursor.new.heads }
     {
         name_of(true, self.len, self.region, &[name], cursor).is_some()
     }
@@ -230,6 +242,7 @@ impl<'a> TextToken<'a> {
     pub fn name_of(&self, names: &[&str], cursor: &mut Cursor<'_>) -> Option<usize>
         ensures name { IsNameOf true self.now (map (λ n. n.now) names.now) result }
         ensures looks { LooksFor true (map (λ n. n.now) names.now) self.now cursor.old cursor.new }
+        ensures rises { cursor.old.heads ≤ cursor.new.heads }
     {
         name_of(true, self.len, self.region, names, cursor)
     }
@@ -240,6 +253,7 @@ impl<'a> TextToken<'a> {
     pub fn copy(&self, alloc: Global, cursor: &mut Cursor<'_>) -> Result<String, OutOfMemory>
         ensures copies { Copies string_bytes true self.now result }
         ensures looks { LooksToCopy true self.now cursor.old cursor.new result }
+        ensures rises { cursor.old.heads ≤ cursor.new.heads }
     {
         let bytes = copy(alloc, true, self.len, self.region, cursor)?;
         Ok(String::from_utf8(bytes).unwrap())
@@ -273,6 +287,7 @@ impl<'a> BytesToken<'a> {
     pub fn eq_name(&self, name: &str, cursor: &mut Cursor<'_>) -> bool
         ensures same { IsNamed false self.now name.now result }
         ensures looks { LooksFor false (name.now ∷ []) self.now cursor.old cursor.new }
+        ensures rises { cursor.old.heads ≤ cursor.new.heads }
     {
         name_of(false, self.len, self.region, &[name], cursor).is_some()
     }
@@ -284,6 +299,7 @@ impl<'a> BytesToken<'a> {
     pub fn name_of(&self, names: &[&str], cursor: &mut Cursor<'_>) -> Option<usize>
         ensures name { IsNameOf false self.now (map (λ n. n.now) names.now) result }
         ensures looks { LooksFor false (map (λ n. n.now) names.now) self.now cursor.old cursor.new }
+        ensures rises { cursor.old.heads ≤ cursor.new.heads }
     {
         name_of(false, self.len, self.region, names, cursor)
     }
@@ -294,6 +310,7 @@ impl<'a> BytesToken<'a> {
     pub fn copy(&self, alloc: Global, cursor: &mut Cursor<'_>) -> Result<Vec<u8>, OutOfMemory>
         ensures copies { Copies (λ v. v.items) false self.now result }
         ensures looks { LooksToCopy false self.now cursor.old cursor.new result }
+        ensures rises { cursor.old.heads ≤ cursor.new.heads }
     {
         copy(alloc, false, self.len, self.region, cursor)
     }
@@ -305,6 +322,7 @@ impl<'a> BytesToken<'a> {
     pub fn fill(&self, cursor: &mut Cursor<'_>, into: &mut [u8]) -> bool
         ensures filled { Fills self.now into.old into.new result }
         ensures looks { LooksToFill self.now cursor.old cursor.new result }
+        ensures rises { cursor.old.heads ≤ cursor.new.heads }
     {
         if self.size != into.len() {
             return false;

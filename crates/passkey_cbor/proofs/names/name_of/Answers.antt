@@ -12,7 +12,7 @@ pub returns-in-None-clause-name : goal.returns-in-None-clause-name
 returns-in-None-clause-name c = name_of_chunks c.args.is_text c.args.len c.args.region.now _ c.new-chunks.result c.place_of_joined-place.result c.in-None.is (ap ahead c.new-chunks.ensures) c.place_of_joined-place.ensures.place
 
 pub returns-in-None-clause-looks : goal.returns-in-None-clause-looks
-returns-in-None-clause-looks c = looks_for c.args.is_text _ c.args.len c.args.region.now c.new-chunks.result c.place_of_joined-place.new.chunks c.args.cursor.now c.add_heads.new.self c.in-None.is (ap ahead c.new-chunks.ensures) (ap (λ (w : Walk). w.heads) c.new-chunks.ensures) c.place_of_joined-place.ensures.counted (c.add_heads.ensures ∙ ap (λ (h : ℕ). record c.args.cursor.now { heads = min (c.args.cursor.now.heads + h) (2 ^ 128 - 1) }) c.count.ensures.heads)
+returns-in-None-clause-looks c = looks_for c.args.is_text _ c.args.len c.args.region.now c.new-chunks.result c.place_of_joined-place.new.chunks c.args.cursor.now c.add_heads.new.self c.in-None.is (ap ahead c.new-chunks.ensures) (ap (λ (w : Walk). w.heads) c.new-chunks.ensures) c.place_of_joined-place.ensures.counted (c.add_heads.ensures.raised ∙ ap (λ (h : ℕ). record c.args.cursor.now { heads = min (c.args.cursor.now.heads + h) (2 ^ 128 - 1) }) c.count.ensures.heads)
 
 pub returns-in-Some-clause-looks : goal.returns-in-Some-clause-looks
 returns-in-Some-clause-looks c = looks_for_none c.args.is_text _ c.args.len _ c.args.region.now c.args.cursor.now c.in-Some.is

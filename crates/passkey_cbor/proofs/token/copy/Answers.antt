@@ -22,13 +22,13 @@ pub returns-in-Ok-clause-copies : goal.returns-in-Ok-clause-copies
 returns-in-Ok-clause-copies c = copies_chunks c.args.is_text c.args.len c.args.region.now c.new-chunks.result c.build_chunks-bytes.new.self _ c.in-None.is (ap ahead c.new-chunks.ensures) c.in-Ok.ensures.made
 
 pub returns-in-Ok-clause-looks : goal.returns-in-Ok-clause-looks
-returns-in-Ok-clause-looks c = looks_at_all c.args.is_text c.args.len c.args.region.now c.new-chunks.result c.build_chunks-bytes.new.self c.args.cursor.now c.add_heads.new.self c.in-None.is (ap ahead c.new-chunks.ensures) (ap (λ (w : Walk). w.heads) c.new-chunks.ensures) c.in-Ok.ensures.counted (c.add_heads.ensures ∙ ap (λ (h : ℕ). record c.args.cursor.now { heads = min (c.args.cursor.now.heads + h) (2 ^ 128 - 1) }) c.count.ensures.heads)
+returns-in-Ok-clause-looks c = looks_at_all c.args.is_text c.args.len c.args.region.now c.new-chunks.result c.build_chunks-bytes.new.self c.args.cursor.now c.add_heads.new.self c.in-None.is (ap ahead c.new-chunks.ensures) (ap (λ (w : Walk). w.heads) c.new-chunks.ensures) c.in-Ok.ensures.counted (c.add_heads.ensures.raised ∙ ap (λ (h : ℕ). record c.args.cursor.now { heads = min (c.args.cursor.now.heads + h) (2 ^ 128 - 1) }) c.count.ensures.heads)
 
 pub returns-in-Err-clause-copies : goal.returns-in-Err-clause-copies
 returns-in-Err-clause-copies c = copies_chunks c.args.is_text c.args.len c.args.region.now c.new-chunks.result c.build_chunks-bytes.new.self _ c.in-None.is (ap ahead c.new-chunks.ensures) c.in-Err.ensures.made
 
 pub returns-in-Err-clause-looks : goal.returns-in-Err-clause-looks
-returns-in-Err-clause-looks c = looks_at_some c.args.is_text c.args.len c.args.region.now c.new-chunks.result c.build_chunks-bytes.new.self c.args.cursor.now c.add_heads.new.self c.in-None.is (ap ahead c.new-chunks.ensures) (ap (λ (w : Walk). w.heads) c.new-chunks.ensures) c.in-Err.ensures.counted (c.add_heads.ensures ∙ ap (λ (h : ℕ). record c.args.cursor.now { heads = min (c.args.cursor.now.heads + h) (2 ^ 128 - 1) }) c.count.ensures.heads)
+returns-in-Err-clause-looks c = looks_at_some c.args.is_text c.args.len c.args.region.now c.new-chunks.result c.build_chunks-bytes.new.self c.args.cursor.now c.add_heads.new.self c.in-None.is (ap ahead c.new-chunks.ensures) (ap (λ (w : Walk). w.heads) c.new-chunks.ensures) c.in-Err.ensures.counted (c.add_heads.ensures.raised ∙ ap (λ (h : ℕ). record c.args.cursor.now { heads = min (c.args.cursor.now.heads + h) (2 ^ 128 - 1) }) c.count.ensures.heads)
 
 pub returns-in_ok-extend_from_slice-in-Some-clause-looks : goal.returns-in_ok-extend_from_slice-in-Some-clause-looks
 returns-in_ok-extend_from_slice-in-Some-clause-looks c = looks_at_none c.args.is_text c.args.len _ c.args.region.now c.args.cursor.now c.in-Some.is
