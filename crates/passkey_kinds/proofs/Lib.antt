@@ -1,4 +1,8 @@
+pub mod Going
+pub mod Heads
+pub mod Lent
 pub mod Lists
+pub mod Leaves
 pub mod Arrays
 pub mod Maps
 pub mod Texts
@@ -25,3 +29,5 @@ pub mod RecordLevels
 pub mod NotNull
 pub mod Keeping
 pub mod DataBack
+pub mod Sizes
+pub mod Tokens

@@ -2,6 +2,7 @@
 use Rattle.std.specs.Prelude.{ℕ, ◌==◌, if◌then◌else◌, List, length, Some, None}
 use Rattle.std.specs.Result.{result_ok}
 use Rattle.passkey_cbor.specs.Item.{Item, byte_string}
+use Rattle.passkey_core.specs.DataNodes.{data_nodes}
 use Rattle.passkey_core.specs.DataParts.{DataParts}
 use Rattle.passkey_core.specs.DataRead.{read_data}
 use Rattle.passkey_core.specs.DataViews.{data_parts}
@@ -14,6 +15,11 @@ use Rattle.passkey_kinds.specs.Kind.{Kind}
 abbrev pub authenticator_data : Kind DataParts
 authenticator_data (byte_string s) = result_ok (read_data s)
 authenticator_data _ = None
+
+-- the data items of its key and its extensions
+abbrev pub authenticator_data_nodes : Item → ℕ
+authenticator_data_nodes (byte_string s) = data_nodes s
+authenticator_data_nodes _ = 0
 
 abbrev pub auth_data_tree : DataParts → Item
 auth_data_tree d = byte_string (data_written d)

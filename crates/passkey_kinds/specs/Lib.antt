@@ -3,6 +3,9 @@ pub mod Kind
 pub mod MapKind
 pub mod Table
 pub mod Reading
+pub mod Keeping
+pub mod Reader
+pub mod HeadValues
 pub mod Typed
 pub mod Record
 pub mod RecordReading

@@ -1,6 +1,11 @@
-//! Names of enumerations, read of items.
-ghost use Rattle.std.specs.Prelude.{false};
+//! Names of enumerations, decoded from data items.
+ghost use Rattle.std.specs.Prelude.{◌≡◌, ℕ, List, true, false, OnOk};
+ghost use Rattle.passkey_cbor.specs.Item.{Item};
+ghost use Rattle.passkey_cbor.specs.Lent.{IsRegion, Tells};
+ghost use Rattle.passkey_cbor.specs.Stands.{Stands};
+ghost use Rattle.passkey_kinds.specs.Reader.{Onward, Further, Decodes, LooksAtMost};
 ghost use Rattle.passkey_cbor.specs.View.{item_of};
+ghost use Rattle.passkey_kinds.specs.Keeping.{nothing};
 ghost use Rattle.passkey_kinds.specs.Kind.{AnswersAs, one_named};
 ghost use Rattle.passkey_webauthn.specs.CredentialType.{credential_type_named};
 ghost use Rattle.passkey_webauthn.specs.Transport.{transport_named};
@@ -8,9 +13,10 @@ ghost use Rattle.passkey_webauthn.specs.declared.credential_type.PublicKeyCreden
 ghost use Rattle.passkey_webauthn.specs.declared.transport.AuthenticatorTransport.{AuthenticatorTransport as Transport};
 
 use crate::from_cbor::FromCbor;
+use crate::read_cbor::ReadCbor;
 use crate::refusal::Refusal;
-use passkey_cbor::Value;
-use passkey_webauthn::{AuthenticatorTransport, EnumNames, PublicKeyCredentialType};
+use passkey_cbor::{Cursor, TextToken, Value};
+use passkey_webauthn::{AuthenticatorTransport, EnumNames, NameTable, PublicKeyCredentialType};
 use std::alloc::Global;
 
 fn read_name<T: EnumNames>(value: &Value) -> Result<T, Refusal>
@@ -19,6 +25,32 @@ fn read_name<T: EnumNames>(value: &Value) -> Result<T, Refusal>
     match value {
         Value::Text(name) => T::from_name(name.as_str()).ok_or(Refusal::Refused),
         _ => Err(Refusal::Refused),
+    }
+}
+
+/// The value of a text string that is a name.
+fn named<T: NameTable>(token: &TextToken<'_>, cursor: &mut Cursor<'_>) -> Option<T>
+    requires { IsRegion true token.now }
+    ensures named { (s : List ℕ) → Tells true token.now s → result ≡ T.named s }
+    ensures looks { LooksAtMost token.now cursor.old cursor.new }
+{
+    match token.lent() {
+        Some(name) => T::from_name(name),
+        None => match token.name_of(T::names(), cursor) {
+            Some(index) => T::named_at(index),
+            None => None,
+        },
+    }
+}
+
+fn read_named<T: NameTable>(cursor: &mut Cursor<'_>) -> Result<T, Refusal>
+    ensures reads { (i : Item) (to : ℕ) → Stands i cursor.old.bytes cursor.old.place to → Decodes (λ x. x) (one_named T.named i) ⊥ 2 0 to cursor.old cursor.new result }
+    ensures onward { Onward cursor.old cursor.new }
+    ensures further { OnOk result (Further cursor.old cursor.new) }
+{
+    match cursor.text() {
+        Some(token) => named(&token, cursor).ok_or(Refusal::Refused),
+        None => Err(Refusal::Refused),
     }
 }
 
@@ -36,6 +68,16 @@ impl FromCbor for PublicKeyCredentialType {
     }
 }
 
+impl ReadCbor for PublicKeyCredentialType {
+    ghost cost = { 2 };
+
+    ghost keeps = { nothing };
+
+    fn read(_alloc: Global, cursor: &mut Cursor<'_>) -> Result<PublicKeyCredentialType, Refusal> {
+        read_named(cursor)
+    }
+}
+
 impl FromCbor for AuthenticatorTransport {
     ghost Meaning = { Transport };
 
@@ -47,5 +89,15 @@ impl FromCbor for AuthenticatorTransport {
 
     fn from_value(_alloc: Global, value: &Value) -> Result<AuthenticatorTransport, Refusal> {
         read_name(value)
+    }
+}
+
+impl ReadCbor for AuthenticatorTransport {
+    ghost cost = { 2 };
+
+    ghost keeps = { nothing };
+
+    fn read(_alloc: Global, cursor: &mut Cursor<'_>) -> Result<AuthenticatorTransport, Refusal> {
+        read_named(cursor)
     }
 }

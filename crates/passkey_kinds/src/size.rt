@@ -1,12 +1,16 @@
 //! Sizes, read of items. They have more values than CBOR can spell, so that none are written here.
-ghost use Rattle.std.specs.Prelude.{◌≡◌, ℕ, false, option_map};
+ghost use Rattle.std.specs.Prelude.{◌≡◌, ℕ, pos, false, option_map};
 ghost use Rattle.std.specs.Int.NonZero.{non_zero_u128_get};
 ghost use Rattle.passkey_cbor.specs.Item.{number};
+ghost use Rattle.passkey_kinds.specs.Kind.{AnswersAs};
+ghost use Rattle.passkey_kinds.specs.Keeping.{nothing};
 ghost use Rattle.passkey_kinds.specs.Size.{size};
 
 use crate::from_cbor::FromCbor;
+use crate::head::read_unsigned;
+use crate::read_cbor::ReadCbor;
 use crate::refusal::Refusal;
-use passkey_cbor::{Integer, Value};
+use passkey_cbor::{Cursor, Integer, Value};
 use std::alloc::Global;
 use std::num::NonZeroU128;
 
@@ -14,6 +18,12 @@ fn positive(n: Integer) -> Option<NonZeroU128>
     ensures { option_map non_zero_u128_get result ≡ size (number n) }
 {
     NonZeroU128::new(u128::try_from(n.get()).ok()?)
+}
+
+fn not_zero(n: u64) -> Result<NonZeroU128, Refusal>
+    ensures { AnswersAs non_zero_u128_get (size (number (pos n))) ⊥ result }
+{
+    NonZeroU128::new(u128::from(n)).ok_or(Refusal::Refused)
 }
 
 impl FromCbor for NonZeroU128 {
@@ -29,6 +39,19 @@ impl FromCbor for NonZeroU128 {
         match value {
             Value::Integer(n) => positive(*n).ok_or(Refusal::Refused),
             _ => Err(Refusal::Refused),
+        }
+    }
+}
+
+impl ReadCbor for NonZeroU128 {
+    ghost cost = { 1 };
+
+    ghost keeps = { nothing };
+
+    fn read(_alloc: Global, cursor: &mut Cursor<'_>) -> Result<NonZeroU128, Refusal> {
+        match read_unsigned(cursor) {
+            Some(n) => not_zero(n),
+            None => Err(Refusal::Refused),
         }
     }
 }

@@ -1,0 +1,94 @@
+-- Strings that are lent at a cursor and looked at once more: what they are, and where that leads.
+use Rattle.std.specs.Option.{ok_or}
+use Rattle.std.proofs.Common.{◌≡◌, ◌∙◌, ℕ, suc, ◌+◌, ◌*◌, ◌≤◌, ◌<◌, arith, Bool, true, false, List, length, Option, Some, None, option_map, Result, Ok, Err, OnOk, refl, sym, ap, subst}
+use Rattle.std.proofs.Math.Nat.{mul-le-mul_left}
+use Rattle.passkey_cbor.specs.Inside.{Content}
+use Rattle.passkey_cbor.specs.Item as item
+use Rattle.passkey_cbor.specs.Item.{Item}
+use Rattle.passkey_cbor.specs.Lent.{Region, Tells, PassesString, LendsNothing, LentWhole}
+use Rattle.passkey_cbor.specs.Stands.{Stands}
+use Rattle.passkey_cbor.specs.Walk.{Walk, Went}
+use Rattle.passkey_kinds.specs.Kind.{AnswersAs, bytes}
+use Rattle.passkey_kinds.specs.Reader.{Onward, Further, Decodes, LooksAtMost}
+use Rattle.passkey_kinds.specs.declared.refusal.Refusal.{Refusal}
+use Rattle.passkey_kinds.specs.declared.refusal.Refusal.TheVariants.{Refused}
+use Rattle.passkey_kinds.proofs.Going.{eased, onward_of, onward_looks, stands_back, string_further}
+use Rattle.passkey_kinds.proofs.Lists.{answers_from}
+
+whole_is : (is_text : Bool) (len : Option ℕ) (bytes t s : List ℕ) → Some t ≡ option_map (λ (n : ℕ). bytes) len → Content is_text len s bytes → t ≡ s
+whole_is is_text None bytes t s e c = absurd cc
+whole_is is_text (Some n) bytes t s e c =
+    let same : t ≡ bytes = cc in
+    same ∙ c.1
+
+-- what is lent of a string in one piece is the string
+pub lent_is : (is_text : Bool) (r : Region) (t s : List ℕ) → LentWhole r (Some t) → Tells is_text r s → t ≡ s
+lent_is is_text r t s e tells = whole_is is_text r.len r.bytes t s e tells
+
+module _ (a b d : Walk) (r : Region) where
+  pub looked_onward : Went a b → LooksAtMost r b d → Onward a d
+  looked_onward went looks = onward_looks a b d (onward_of a b went) looks.bytes looks.place looks.nodes looks.rises
+
+  pub looked_further : (is_text : Bool) → PassesString is_text a b r → LooksAtMost r b d → Further a d
+  looked_further is_text p looks = omega (arith, string_further is_text a b r p, looks.place)
+
+-- ---- answers
+
+-- the value, or a refusal where there is none
+pub or_refused : {X : Type 0} (wanted found : Option X) (result : Result X Refusal) (takes : Type 0) → wanted ≡ found → result ≡ ok_or found Refused → AnswersAs (λ x. x) wanted takes result
+or_refused wanted (Some x) result takes e r = subst (λ (a : Result _ Refusal). AnswersAs (λ x. x) wanted takes a) (sym r) e
+or_refused wanted None result takes e r = subst (λ (a : Result _ Refusal). AnswersAs (λ x. x) wanted takes a) (sym r) e
+
+-- the same, where memory may be refused too
+pub decodes_from : {A M : Type 0} {takes may : Type 0} (view : A → M) (wanted : Option M) (cost kept to : ℕ) (a b : Walk) (result : Result A Refusal) → (takes → may) → Decodes view wanted takes cost kept to a b result → Decodes view wanted may cost kept to a b result
+decodes_from view wanted cost kept to a b result may d = record { answers = answers_from view result refl may d.answers; spends = d.spends; ends = d.ends }
+
+-- what costs this much costs no more than that
+pub decodes_dearer : {A M : Type 0} (view : A → M) (wanted : Option M) (takes : Type 0) (c d kept more to : ℕ) (a b : Walk) (result : Result A Refusal) → c ≤ d → kept ≤ more → a.place ≤ to → Decodes view wanted takes c kept to a b result → Decodes view wanted takes d more to a b result
+decodes_dearer view wanted takes c d kept more to a b result le few within r = record {
+  answers = r.answers;
+  spends = eased c d kept more to a b le few within r.spends;
+  ends = r.ends;
+}
+
+-- what stands there still does after one head that was none of its string's
+pub stands_missed : (i : Item) (a b : Walk) (to : ℕ) → LendsNothing a b → Stands i a.bytes a.place to → Stands i b.bytes b.place to
+stands_missed i a b to p l = stands_back i a b to p.bytes p.place l
+
+-- decoded after one head that was none of its string's
+pub missed_then : {A M : Type 0} (view : A → M) (wanted : Option M) (takes : Type 0) (cost kept to : ℕ) (a b d : Walk) (result : Result A Refusal) → LendsNothing a b → a.place < to → Decodes view wanted takes cost kept to b d result → Decodes view wanted takes (suc cost) kept to a d result
+missed_then view wanted takes cost kept to a b d result p less r = record {
+  answers = r.answers;
+  spends = record {
+    within = r.spends.within;
+    heads = omega (arith, r.spends.heads, p.heads, less, ap (λ (n : ℕ). cost * n) p.place);
+    nodes = omega (arith, r.spends.nodes, p.nodes);
+  };
+  ends = r.ends;
+}
+
+-- the elements of an array behind its head
+pub opened_then : {A M : Type 0} (view : A → M) (wanted : Option M) (takes : Type 0) (cost to : ℕ) (a b d : Walk) (result : Result A Refusal) → b.heads ≤ a.heads + 1 → a.place < b.place → b.nodes ≤ a.nodes → Decodes view wanted takes (suc cost) 0 to b d result → Decodes view wanted takes (suc cost) 0 to a d result
+opened_then view wanted takes cost to a b d result one less none r = record {
+  answers = r.answers;
+  spends = record {
+    within = r.spends.within;
+    heads = omega (arith, r.spends.heads, one, mul-le-mul_left {m = suc a.place} {n = b.place} (suc cost) less);
+    nodes = omega (arith, r.spends.nodes, none);
+  };
+  ends = r.ends;
+}
+
+-- ---- byte strings
+
+pub no_bytes : (i : Item) → ((s : List ℕ) → i ≡ item.byte_string s → ⊥) → ((s : List ℕ) → i ≡ item.text_string s → ⊥) → ((xs : item.Items) → i ≡ item.array xs → ⊥) → bytes i ≡ None
+no_bytes (item.number n) b t a = refl
+no_bytes (item.byte_string s) b t a = absurd (b s refl)
+no_bytes (item.text_string s) b t a = absurd (t s refl)
+no_bytes (item.array xs) b t a = absurd (a xs refl)
+no_bytes (item.map ps) b t a = refl
+no_bytes (item.tagged t x) b t2 a = refl
+no_bytes (item.boolean v) b t a = refl
+no_bytes item.null b t a = refl
+no_bytes (item.simple n) b t a = refl
+no_bytes (item.float f) b t a = refl

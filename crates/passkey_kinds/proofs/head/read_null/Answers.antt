@@ -1,0 +1,17 @@
+use Rattle.std.proofs.Common.{None, Some}
+use Rattle.passkey_kinds.proofs.Going.{onward_of, head_further}
+use Rattle.passkey_kinds.proofs.Heads.{null_read}
+use Rattle.passkey_kinds.proofs.head.read_null.Goals as goal
+
+pub returns-in-Some-clause-reads : goal.returns-in-Some-clause-reads
+returns-in-Some-clause-reads c = λ i to l.
+    null_read c.args.cursor.now c.head.new.self c.in-Some.head i to c.is_null.result c.is_null.ensures c.in-Some.ensures.found (c.in-Some.ensures.opens i to l) l
+
+pub returns-in-Some-clause-onward : goal.returns-in-Some-clause-onward
+returns-in-Some-clause-onward c = onward_of c.args.cursor.now c.head.new.self c.in-Some.ensures.went
+
+pub returns-in-None-clause-reads : goal.returns-in-None-clause-reads
+returns-in-None-clause-reads c = λ i to l. absurd (c.in-None.ensures.opens i to l)
+
+pub returns-in-None-clause-onward : goal.returns-in-None-clause-onward
+returns-in-None-clause-onward c = onward_of c.args.cursor.now c.head.new.self c.in-None.ensures.went

@@ -1,0 +1,147 @@
+//! Heads at a cursor, by what they say of their data item.
+ghost use Rattle.std.specs.Prelude.{◌≡◌, ℕ, Bool, true, false, Option, Some as There, None as Nothing, if◌then◌else◌, IfSome};
+ghost use Rattle.std.specs.Option.{option_and_then};
+ghost use Rattle.passkey_cbor.specs.Item.{Item};
+ghost use Rattle.passkey_webauthn.specs.NumberText.{signed_64};
+ghost use Rattle.passkey_cbor.specs.Stands.{Stands};
+ghost use Rattle.passkey_kinds.specs.HeadValues.{unsigned_in, integer_in, null_in, head_unsigned, head_integer, head_truth, head_null, head_array, head_map, ReadsFlat, OpensArray, OpensMap};
+ghost use Rattle.passkey_kinds.specs.Kind.{truth};
+ghost use Rattle.passkey_kinds.specs.Reader.{Onward, Further, Spends};
+
+use passkey_cbor::{Cursor, Head};
+
+fn unsigned(head: Head) -> Option<u64>
+    ensures { result ≡ head_unsigned head }
+{
+    match head {
+        Head::Unsigned(n) => Some(n),
+        _ => None,
+    }
+}
+
+fn integer(head: Head) -> Option<i64>
+    ensures { result ≡ option_and_then signed_64 (head_integer head) }
+{
+    match head {
+        Head::Unsigned(n) => i64::try_from(n).ok(),
+        Head::Negative(n) => match i64::try_from(n) {
+            Ok(n) => Some(-1 - n),
+            Err(_) => None,
+        },
+        _ => None,
+    }
+}
+
+fn truth(head: Head) -> Option<bool>
+    ensures { result ≡ head_truth head }
+{
+    match head {
+        Head::Simple(n) => match n {
+            20 => Some(false),
+            21 => Some(true),
+            _ => None,
+        },
+        _ => None,
+    }
+}
+
+fn is_null(head: Head) -> bool
+    ensures { result ≡ head_null head }
+{
+    match head {
+        Head::Simple(n) => n == 22 || n == 23,
+        _ => false,
+    }
+}
+
+fn array_len(head: Head) -> Option<Option<u64>>
+    ensures { result ≡ head_array head }
+{
+    match head {
+        Head::Array(left) => Some(left),
+        _ => None,
+    }
+}
+
+fn map_len(head: Head) -> Option<Option<u64>>
+    ensures { result ≡ head_map head }
+{
+    match head {
+        Head::Map(left) => Some(left),
+        _ => None,
+    }
+}
+
+/// Decodes the unsigned integer at the cursor, if one is there.
+pub(crate) fn read_unsigned(cursor: &mut Cursor<'_>) -> Option<u64>
+    ensures reads { (i : Item) (to : ℕ) → Stands i cursor.old.bytes cursor.old.place to → ReadsFlat (unsigned_in i) to cursor.old cursor.new result }
+    ensures onward { Onward cursor.old cursor.new }
+    ensures further { IfSome result (λ _. Further cursor.old cursor.new) }
+{
+    match cursor.head() {
+        Some(head) => unsigned(head),
+        None => None,
+    }
+}
+
+/// Decodes the integer at the cursor, if one is there that fits in 64 bits with its sign.
+pub(crate) fn read_integer(cursor: &mut Cursor<'_>) -> Option<i64>
+    ensures reads { (i : Item) (to : ℕ) → Stands i cursor.old.bytes cursor.old.place to → ReadsFlat (option_and_then signed_64 (integer_in i)) to cursor.old cursor.new result }
+    ensures onward { Onward cursor.old cursor.new }
+    ensures further { IfSome result (λ _. Further cursor.old cursor.new) }
+{
+    match cursor.head() {
+        Some(head) => integer(head),
+        None => None,
+    }
+}
+
+/// Decodes the boolean at the cursor, if one is there.
+pub(crate) fn read_truth(cursor: &mut Cursor<'_>) -> Option<bool>
+    ensures reads { (i : Item) (to : ℕ) → Stands i cursor.old.bytes cursor.old.place to → ReadsFlat (truth i) to cursor.old cursor.new result }
+    ensures onward { Onward cursor.old cursor.new }
+    ensures further { IfSome result (λ _. Further cursor.old cursor.new) }
+{
+    match cursor.head() {
+        Some(head) => truth(head),
+        None => None,
+    }
+}
+
+/// Decodes null or undefined at the cursor, if one is there.
+pub(crate) fn read_null(cursor: &mut Cursor<'_>) -> bool
+    ensures reads { (i : Item) (to : ℕ) → Stands i cursor.old.bytes cursor.old.place to → ReadsFlat (if null_in i then There true else Nothing) to cursor.old cursor.new (if result then There true else Nothing) }
+    ensures onward { Onward cursor.old cursor.new }
+    ensures further { result ≡ true → Further cursor.old cursor.new }
+{
+    match cursor.head() {
+        Some(head) => is_null(head),
+        None => false,
+    }
+}
+
+/// Decodes the head of the array at the cursor, if one is there, and returns its length.
+pub(crate) fn read_array(cursor: &mut Cursor<'_>) -> Option<Option<u64>>
+    ensures opens { (i : Item) (to : ℕ) → Stands i cursor.old.bytes cursor.old.place to → OpensArray i to cursor.new result }
+    ensures spends { (i : Item) (to : ℕ) → Stands i cursor.old.bytes cursor.old.place to → Spends 1 0 to cursor.old cursor.new }
+    ensures onward { Onward cursor.old cursor.new }
+    ensures further { IfSome result (λ _. Further cursor.old cursor.new) }
+{
+    match cursor.head() {
+        Some(head) => array_len(head),
+        None => None,
+    }
+}
+
+/// Decodes the head of the map at the cursor, if one is there, and returns its length.
+pub(crate) fn read_map(cursor: &mut Cursor<'_>) -> Option<Option<u64>>
+    ensures opens { (i : Item) (to : ℕ) → Stands i cursor.old.bytes cursor.old.place to → OpensMap i to cursor.new result }
+    ensures spends { (i : Item) (to : ℕ) → Stands i cursor.old.bytes cursor.old.place to → Spends 1 0 to cursor.old cursor.new }
+    ensures onward { Onward cursor.old cursor.new }
+    ensures further { IfSome result (λ _. Further cursor.old cursor.new) }
+{
+    match cursor.head() {
+        Some(head) => map_len(head),
+        None => None,
+    }
+}
