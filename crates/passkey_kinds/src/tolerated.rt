@@ -1,13 +1,14 @@
 //! Values that may be refused.
-ghost use Rattle.std.specs.Prelude.{Option, option_map};
+ghost use Rattle.std.specs.Prelude.{suc, Option, option_map};
 ghost use Rattle.passkey_kinds.specs.Kind.{tolerated};
 
 use crate::from_cbor::FromCbor;
+use crate::read_cbor::ReadCbor;
 use crate::refusal::Refusal;
-use passkey_cbor::Value;
+use passkey_cbor::{Cursor, Value};
 use std::alloc::Global;
 
-/// A value, or nothing where an item stood for none. Want of memory isn't tolerated.
+/// A value, or nothing if the item stands for none. Running out of memory isn't tolerated.
 #[derive(Debug, Drop)]
 pub struct Tolerated<T>(pub Option<T>);
 
@@ -24,6 +25,28 @@ impl<T: FromCbor> FromCbor for Tolerated<T> {
         match T::from_value(alloc, value) {
             Ok(read) => Ok(Tolerated(Some(read))),
             Err(Refusal::Refused) => Ok(Tolerated(None)),
+            Err(Refusal::OutOfMemory) => Err(Refusal::OutOfMemory),
+        }
+    }
+}
+
+impl<T: ReadCbor> ReadCbor for Tolerated<T> {
+    ghost cost = { suc T.cost };
+
+    ghost keeps = { T.keeps };
+
+    fn read(alloc: Global, cursor: &mut Cursor<'_>) -> Result<Tolerated<T>, Refusal> {
+        let start = cursor.place();
+        match T::read(alloc, cursor) {
+            Ok(read) => Ok(Tolerated(Some(read))),
+            Err(Refusal::Refused) => {
+                cursor.go_back(start);
+                if cursor.skip() {
+                    Ok(Tolerated(None))
+                } else {
+                    Err(Refusal::Refused)
+                }
+            }
             Err(Refusal::OutOfMemory) => Err(Refusal::OutOfMemory),
         }
     }
