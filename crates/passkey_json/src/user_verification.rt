@@ -17,7 +17,7 @@ use std::alloc::Global;
 /// Whether the relying party wants user verification (WebAuthn Level 3, section 5.8.6).
 #[derive(Clone, Copy, Debug, PartialEq, Eq)]
 pub enum UserVerificationRequirement {
-    /// Required: the client fails if the response lacks the flag UV.
+    /// Required: the ceremony fails if the response doesn't have the flag UV.
     Required,
     /// Preferably, if the authenticator can.
     Preferred,
