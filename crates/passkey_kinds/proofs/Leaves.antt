@@ -6,7 +6,8 @@ use Rattle.passkey_cbor.specs.Item.{Item}
 use Rattle.passkey_cbor.specs.Lent.{string_item}
 use Rattle.passkey_cbor.specs.Walk.{Walk}
 use Rattle.passkey_kinds.specs.HeadValues.{unsigned_in, null_in, ReadsFlat}
-use Rattle.passkey_kinds.specs.Kind.{Kind, AnswersAs, below, text, one_named, optional}
+use Rattle.passkey_kinds.specs.Data.{aaguid}
+use Rattle.passkey_kinds.specs.Kind.{Kind, AnswersAs, below, sized_bytes, text, one_named, optional}
 use Rattle.passkey_kinds.specs.Reader.{Spends, Decodes}
 use Rattle.passkey_kinds.specs.declared.refusal.Refusal.{Refusal}
 use Rattle.passkey_kinds.specs.declared.refusal.Refusal.TheVariants.{Refused, OutOfMemory}
@@ -91,3 +92,34 @@ other_item kind (item.float f) e = refl
 pub some_refused : {A M : Type 0} (view : A → M) (wanted : Option M) (given : Option (Option M)) (takes : Type 0) (e : Refusal) → given ≡ option_map Some wanted → AnswersAs view wanted takes (Err e) → AnswersAs (λ (o : Option A). option_map view o) given takes (Err e)
 some_refused view wanted given takes Refused same h = same ∙ ap (option_map Some) h
 some_refused view wanted given takes OutOfMemory same h = h
+
+-- ---- byte strings
+
+-- the refusal of a part is the whole's
+pub refused_as : {A B M : Type 0} (view : A → M) (seen : B → M) (wanted given : Option M) (may : Type 0) (e : Refusal) → given ≡ wanted → AnswersAs view wanted ⊥ (Err e) → AnswersAs seen given may (Err e)
+refused_as view seen wanted given may Refused same h = same ∙ h
+refused_as view seen wanted given may OutOfMemory same h = absurd h
+
+pub no_aaguid : (i : Item) → ((s : List ℕ) → i ≡ item.byte_string s → ⊥) → aaguid i ≡ None
+no_aaguid (item.number n) h = refl
+no_aaguid (item.byte_string s) h = absurd (h s refl)
+no_aaguid (item.text_string s) h = refl
+no_aaguid (item.array xs) h = refl
+no_aaguid (item.map ps) h = refl
+no_aaguid (item.tagged t x) h = refl
+no_aaguid (item.boolean b) h = refl
+no_aaguid item.null h = refl
+no_aaguid (item.simple n) h = refl
+no_aaguid (item.float f) h = refl
+
+pub no_sized : (n : ℕ) (i : Item) → ((s : List ℕ) → i ≡ item.byte_string s → ⊥) → ((xs : item.Items) → i ≡ item.array xs → ⊥) → sized_bytes n i ≡ None
+no_sized k (item.number n) h a = refl
+no_sized k (item.byte_string s) h a = absurd (h s refl)
+no_sized k (item.text_string s) h a = refl
+no_sized k (item.array xs) h a = absurd (a xs refl)
+no_sized k (item.map ps) h a = refl
+no_sized k (item.tagged t x) h a = refl
+no_sized k (item.boolean b) h a = refl
+no_sized k item.null h a = refl
+no_sized k (item.simple n) h a = refl
+no_sized k (item.float f) h a = refl

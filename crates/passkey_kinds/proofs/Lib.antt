@@ -31,3 +31,6 @@ pub mod Keeping
 pub mod DataBack
 pub mod Sizes
 pub mod Tokens
+pub mod DataReads
+pub mod Ahead
+pub mod Loops

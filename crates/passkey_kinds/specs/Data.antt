@@ -1,7 +1,8 @@
 -- Authenticator data and AAGUIDs (WebAuthn Level 3, sections 6.1 and 6.5.1).
-use Rattle.std.specs.Prelude.{ℕ, ◌==◌, if◌then◌else◌, List, length, Some, None}
+use Rattle.std.specs.Prelude.{◌≡◌, ℕ, ◌+◌, ◌*◌, ◌≤◌, ◌==◌, if◌then◌else◌, List, length, Some, None}
 use Rattle.std.specs.Result.{result_ok}
 use Rattle.passkey_cbor.specs.Item.{Item, byte_string}
+use Rattle.passkey_cbor.specs.Walk.{Walk}
 use Rattle.passkey_core.specs.DataNodes.{data_nodes}
 use Rattle.passkey_core.specs.DataParts.{DataParts}
 use Rattle.passkey_core.specs.DataRead.{read_data}
@@ -34,3 +35,13 @@ aaguid _ = None
 
 abbrev pub aaguid_tree : Aaguid → Item
 aaguid_tree a = byte_string a.0
+
+-- What decoding them costs, as it is counted at a cursor: at most four heads for each byte, and four
+-- more, and the data items that are made for the key and the extensions. The cursor stays.
+pub record CountsData (bytes : List ℕ) (old new : Walk) : Type 0 where
+  pub heads : new.heads ≤ old.heads + (4 * length bytes + 4)
+  pub nodes : new.nodes ≤ old.nodes + data_nodes bytes
+  pub heads_rise : old.heads ≤ new.heads
+  pub nodes_rise : old.nodes ≤ new.nodes
+  pub place : new.place ≡ old.place
+  pub same : new.bytes ≡ old.bytes

@@ -1,6 +1,8 @@
 //! Arrays of bytes, read of items and written as arrays of their numbers.
 ghost use Rattle.std.specs.Prelude.{◌==◌, ◌≡◌, ℕ, List, length, map, if◌then◌else◌, false, None};
+ghost use Rattle.passkey_cbor.specs.Lent.{IsRegion, Tells};
 ghost use Rattle.passkey_cbor.specs.View.{item_of};
+ghost use Rattle.passkey_kinds.specs.Reader.{LooksAtMost};
 ghost use Rattle.passkey_kinds.specs.Kind.{AnswersAs, each, below, sized_bytes};
 ghost use Rattle.passkey_kinds.specs.ReadBack.{AreBytes};
 ghost use Rattle.passkey_kinds.specs.Tree.{numbers_tree};
@@ -9,7 +11,7 @@ use crate::from_cbor::FromCbor;
 use crate::refusal::Refusal;
 use crate::to_cbor::ToCbor;
 use crate::written::write_each;
-use passkey_cbor::Value;
+use passkey_cbor::{BytesToken, Cursor, Value};
 use passkey_memory::OutOfMemory;
 use std::alloc::Global;
 
@@ -25,6 +27,23 @@ fn read_numbers(alloc: Global, elements: &[Value]) -> Result<[u8; 32], Refusal>
         bytes[i] = u8::from_value(alloc, element)?;
     }
     Ok(bytes)
+}
+
+/// The bytes of a byte string that has so many.
+pub(crate) fn filled<const N: usize>(
+    token: &BytesToken<'_>,
+    cursor: &mut Cursor<'_>,
+) -> Result<[u8; N], Refusal>
+    requires { IsRegion false token.now }
+    ensures answers { (s : List ℕ) → Tells false token.now s → AnswersAs (λ b. b) (if length s == N then Some s else None) ⊥ result }
+    ensures looks { LooksAtMost token.now cursor.old cursor.new }
+{
+    let mut bytes = [0; N];
+    if token.fill(cursor, &mut bytes) {
+        Ok(bytes)
+    } else {
+        Err(Refusal::Refused)
+    }
 }
 
 impl FromCbor for [u8; 32] {

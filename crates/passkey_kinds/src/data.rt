@@ -1,32 +1,53 @@
 //! Authenticator data and AAGUIDs, read of byte strings and written as them.
-ghost use Rattle.std.specs.Prelude.{◌≡◌, ℕ, true, false, length, List};
+ghost use Rattle.std.specs.Prelude.{◌≡◌, ℕ, ◌+◌, ◌*◌, ◌≤◌, true, false, length, List};
 ghost use Rattle.passkey_cbor.specs.Item.{byte_string};
+ghost use Rattle.passkey_core.specs.DataNodes.{data_nodes};
 ghost use Rattle.passkey_core.specs.DataNormal.{IsData};
 ghost use Rattle.passkey_core.specs.DataParts.{DataParts};
 ghost use Rattle.passkey_core.specs.DataViews.{data_parts};
-ghost use Rattle.passkey_kinds.specs.Data.{authenticator_data, data_tree, aaguid, aaguid_tree};
+ghost use Rattle.passkey_kinds.specs.Data.{CountsData, authenticator_data, authenticator_data_nodes, data_tree, aaguid, aaguid_tree};
+ghost use Rattle.passkey_kinds.specs.Keeping.{nothing, counted};
 ghost use Rattle.passkey_kinds.specs.Kind.{Answers};
 
+use crate::array::filled;
 use crate::from_cbor::FromCbor;
+use crate::read_cbor::ReadCbor;
 use crate::refusal::Refusal;
 use crate::to_cbor::ToCbor;
-use passkey_cbor::Value;
+use passkey_cbor::{Count, Cursor, Value};
 use passkey_core::{Aaguid, AuthenticatorData, laws};
 use passkey_cose::CoseError;
 use passkey_memory::OutOfMemory;
 use std::alloc::Global;
 
-/// The authenticator data of a byte string.
-fn read_data(alloc: Global, bytes: &[u8]) -> Result<AuthenticatorData, Refusal>
-    ensures { Answers data_parts authenticator_data true (byte_string bytes.now) result }
+/// The authenticator data of a byte string. What decoding them costs is added to the count.
+fn read_data(alloc: Global, bytes: &[u8], count: &mut Count) -> Result<AuthenticatorData, Refusal>
+    ensures answers { Answers data_parts authenticator_data true (byte_string bytes.now) result }
+    ensures heads { count.new.heads ≤ count.old.heads + (4 * length bytes.now + 4) }
+    ensures nodes { count.new.nodes ≤ count.old.nodes + data_nodes bytes.now }
 {
     laws::given_is_read();
     laws::one_reading();
-    match AuthenticatorData::from_slice(alloc, bytes) {
+    match AuthenticatorData::from_slice_counted(alloc, bytes, count) {
         Ok(data) => Ok(data),
         Err(CoseError::OutOfMemory) => Err(Refusal::OutOfMemory),
         Err(_) => Err(Refusal::Refused),
     }
+}
+
+/// The same, where the cost is counted at the cursor.
+fn read_counted(
+    alloc: Global,
+    bytes: &[u8],
+    cursor: &mut Cursor<'_>,
+) -> Result<AuthenticatorData, Refusal>
+    ensures answers { Answers data_parts authenticator_data true (byte_string bytes.now) result }
+    ensures counts { CountsData bytes.now cursor.old cursor.new }
+{
+    let mut count = Count { heads: 0, nodes: 0 };
+    let data = read_data(alloc, bytes, &mut count);
+    cursor.add(count);
+    data
 }
 
 impl FromCbor for AuthenticatorData {
@@ -40,8 +61,27 @@ impl FromCbor for AuthenticatorData {
 
     fn from_value(alloc: Global, value: &Value) -> Result<AuthenticatorData, Refusal> {
         match value {
-            Value::Bytes(bytes) => read_data(alloc, bytes),
+            Value::Bytes(bytes) => read_data(alloc, bytes, &mut Count { heads: 0, nodes: 0 }),
             _ => Err(Refusal::Refused),
+        }
+    }
+}
+
+impl ReadCbor for AuthenticatorData {
+    ghost cost = { 6 };
+
+    ghost keeps = { counted authenticator_data_nodes };
+
+    fn read(alloc: Global, cursor: &mut Cursor<'_>) -> Result<AuthenticatorData, Refusal> {
+        match cursor.bytes() {
+            Some(token) => match token.lent() {
+                Some(bytes) => read_counted(alloc, bytes, cursor),
+                None => {
+                    let bytes = token.copy(alloc, cursor)?;
+                    read_counted(alloc, &bytes, cursor)
+                }
+            },
+            None => Err(Refusal::Refused),
         }
     }
 }
@@ -79,6 +119,19 @@ impl FromCbor for Aaguid {
         match value {
             Value::Bytes(bytes) => read_aaguid(bytes),
             _ => Err(Refusal::Refused),
+        }
+    }
+}
+
+impl ReadCbor for Aaguid {
+    ghost cost = { 2 };
+
+    ghost keeps = { nothing };
+
+    fn read(_alloc: Global, cursor: &mut Cursor<'_>) -> Result<Aaguid, Refusal> {
+        match cursor.bytes() {
+            Some(token) => Ok(Aaguid(filled(&token, cursor)?)),
+            None => Err(Refusal::Refused),
         }
     }
 }

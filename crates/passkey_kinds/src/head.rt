@@ -1,5 +1,5 @@
 //! Heads at a cursor, by what they say of their data item.
-ghost use Rattle.std.specs.Prelude.{◌≡◌, ℕ, Bool, true, false, Option, Some as There, None as Nothing, if◌then◌else◌, IfSome};
+ghost use Rattle.std.specs.Prelude.{◌≡◌, ℕ, ◌+◌, ◌≤◌, Bool, true, false, Option, Some as There, None as Nothing, if◌then◌else◌, IfSome};
 ghost use Rattle.std.specs.Option.{option_and_then};
 ghost use Rattle.passkey_cbor.specs.Item.{Item};
 ghost use Rattle.passkey_webauthn.specs.NumberText.{signed_64};
@@ -124,6 +124,7 @@ pub(crate) fn read_null(cursor: &mut Cursor<'_>) -> bool
 pub(crate) fn read_array(cursor: &mut Cursor<'_>) -> Option<Option<u64>>
     ensures opens { (i : Item) (to : ℕ) → Stands i cursor.old.bytes cursor.old.place to → OpensArray i to cursor.new result }
     ensures spends { (i : Item) (to : ℕ) → Stands i cursor.old.bytes cursor.old.place to → Spends 1 0 to cursor.old cursor.new }
+    ensures counted { cursor.new.heads ≤ cursor.old.heads + 1 }
     ensures onward { Onward cursor.old cursor.new }
     ensures further { IfSome result (λ _. Further cursor.old cursor.new) }
 {
@@ -137,6 +138,7 @@ pub(crate) fn read_array(cursor: &mut Cursor<'_>) -> Option<Option<u64>>
 pub(crate) fn read_map(cursor: &mut Cursor<'_>) -> Option<Option<u64>>
     ensures opens { (i : Item) (to : ℕ) → Stands i cursor.old.bytes cursor.old.place to → OpensMap i to cursor.new result }
     ensures spends { (i : Item) (to : ℕ) → Stands i cursor.old.bytes cursor.old.place to → Spends 1 0 to cursor.old cursor.new }
+    ensures counted { cursor.new.heads ≤ cursor.old.heads + 1 }
     ensures onward { Onward cursor.old cursor.new }
     ensures further { IfSome result (λ _. Further cursor.old cursor.new) }
 {

@@ -1,13 +1,20 @@
 //! Lists of values.
-ghost use Rattle.std.specs.Prelude.{◌<◌, List as Items, length, map, Some, true};
+ghost use Rattle.std.specs.Prelude.{◌<◌, ℕ, suc, List as Items, length, map, Some, true};
 ghost use Rattle.std.specs.List.{filter_map};
 ghost use Rattle.passkey_cbor.specs.View.{item_of};
+ghost use Rattle.passkey_cbor.specs.Item.{Item};
+ghost use Rattle.passkey_cbor.specs.Stands.{StandItems};
+ghost use Rattle.passkey_kinds.specs.Keeping.{in_elements};
 ghost use Rattle.passkey_kinds.specs.Kind.{AnswersAs, each, list, accepted};
+ghost use Rattle.passkey_kinds.specs.Reader.{Onward, Decodes, kept_all};
 
 use crate::from_cbor::FromCbor;
+use crate::head::read_array;
+use crate::read_cbor::ReadCbor;
 use crate::refusal::Refusal;
+use crate::tolerated::Tolerated;
 use passkey_bytes::List;
-use passkey_cbor::Value;
+use passkey_cbor::{Cursor, Value};
 use std::alloc::Global;
 
 pub(crate) fn read_each<T: FromCbor>(alloc: Global, elements: &[Value]) -> Result<List<T>, Refusal>
@@ -34,6 +41,42 @@ fn read_accepted<T: FromCbor>(alloc: Global, elements: &[Value]) -> Result<Toler
     Ok(TolerantList(List::from(read)))
 }
 
+/// Decodes the elements of an array behind its head.
+pub(crate) fn read_elements<T: ReadCbor>(
+    alloc: Global,
+    mut left: Option<u64>,
+    cursor: &mut Cursor<'_>,
+) -> Result<List<T>, Refusal>
+    ensures reads { (is : Items Item) (to : ℕ) → StandItems left is cursor.old.bytes cursor.old.place to → Decodes (λ xs. map T.view xs) (each T.kind is) (0 < length is) (suc T.cost) (kept_all T.keeps is) to cursor.old cursor.new result }
+    ensures onward { Onward cursor.old cursor.new }
+{
+    let mut read = Vec::new(alloc);
+    while cursor.more(&mut left) {
+        read.push(T::read(alloc, cursor)?)?;
+    }
+    Ok(List::from(read))
+}
+
+/// Decodes those elements of an array behind its head that are accepted.
+fn read_accepted_elements<T: ReadCbor>(
+    alloc: Global,
+    mut left: Option<u64>,
+    cursor: &mut Cursor<'_>,
+) -> Result<TolerantList<T>, Refusal>
+    ensures reads { (is : Items Item) (to : ℕ) → StandItems left is cursor.old.bytes cursor.old.place to → Decodes (λ l. map T.view l.0) (Some (filter_map T.kind is)) (0 < length is) (suc (suc T.cost)) (kept_all T.keeps is) to cursor.old cursor.new result }
+    ensures onward { Onward cursor.old cursor.new }
+{
+    let mut read = Vec::new(alloc);
+    while cursor.more(&mut left) {
+        let element: Tolerated<T> = Tolerated::read(alloc, cursor)?;
+        match element.0 {
+            Some(accepted) => read.push(accepted)?,
+            None => {}
+        }
+    }
+    Ok(TolerantList(List::from(read)))
+}
+
 impl<T: FromCbor> FromCbor for List<T> {
     ghost Meaning = { Items T.Meaning };
 
@@ -51,8 +94,21 @@ impl<T: FromCbor> FromCbor for List<T> {
     }
 }
 
-/// The values of those elements of an array that stand for one, in their order. Want of memory
-/// isn't tolerated.
+impl<T: ReadCbor> ReadCbor for List<T> {
+    ghost cost = { suc T.cost };
+
+    ghost keeps = { in_elements T.keeps };
+
+    fn read(alloc: Global, cursor: &mut Cursor<'_>) -> Result<List<T>, Refusal> {
+        match read_array(cursor) {
+            Some(left) => read_elements(alloc, left, cursor),
+            None => Err(Refusal::Refused),
+        }
+    }
+}
+
+/// The values of those elements of an array that stand for one, in their order. Running out of
+/// memory isn't tolerated.
 #[derive(Debug, Drop)]
 pub struct TolerantList<T>(pub List<T>);
 
@@ -69,6 +125,19 @@ impl<T: FromCbor> FromCbor for TolerantList<T> {
         match value {
             Value::Array(elements) => read_accepted(alloc, elements),
             _ => Err(Refusal::Refused),
+        }
+    }
+}
+
+impl<T: ReadCbor> ReadCbor for TolerantList<T> {
+    ghost cost = { suc (suc T.cost) };
+
+    ghost keeps = { in_elements T.keeps };
+
+    fn read(alloc: Global, cursor: &mut Cursor<'_>) -> Result<TolerantList<T>, Refusal> {
+        match read_array(cursor) {
+            Some(left) => read_accepted_elements(alloc, left, cursor),
+            None => Err(Refusal::Refused),
         }
     }
 }
