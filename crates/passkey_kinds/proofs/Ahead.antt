@@ -37,7 +37,7 @@ decodes_in view cost kept many to a b d result same grows few further one none r
 
 -- ---- arrays
 
-kept_nothing : (is : List Item) → kept_all nothing is ≡ 0
+pub kept_nothing : (is : List Item) → kept_all nothing is ≡ 0
 kept_nothing [] = refl
 kept_nothing (i ∷ is) = ap (λ (n : ℕ). 0 + n) (kept_nothing is)
 

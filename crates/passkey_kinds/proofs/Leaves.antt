@@ -1,6 +1,6 @@
 -- Values of one head or one string, decoded at a cursor.
 use Rattle.std.specs.Option.{option_and_then}
-use Rattle.std.proofs.Common.{◌≡◌, ◌∙◌, ℕ, pos, negsuc, ◌≤◌, nat_lt, arith, Bool, true, false, if◌then◌else◌, List, Option, Some, None, option_map, Result, Ok, Err, OnOk, refl, sym, ap}
+use Rattle.std.proofs.Common.{◌≡◌, ◌∙◌, ℕ, pos, negsuc, ◌≤◌, nat_lt, arith, Bool, true, false, if◌then◌else◌, List, Option, Some, None, option_map, Result, Ok, Err, OnOk, refl, sym, ap, subst}
 use Rattle.passkey_cbor.specs.Item as item
 use Rattle.passkey_cbor.specs.Item.{Item}
 use Rattle.passkey_cbor.specs.Lent.{string_item}
@@ -123,3 +123,14 @@ no_sized k (item.boolean b) h a = refl
 no_sized k item.null h a = refl
 no_sized k (item.simple n) h a = refl
 no_sized k (item.float f) h a = refl
+
+-- an error is the same, whatever contracts see of a value
+pub seen_as : {A B M N : Type 0} (view : A → M) (seen : B → N) (wanted : Option M) (given : Option N) (takes : Type 0) (cost kept more to : ℕ) (a b : Walk) (e : Refusal) → kept ≡ more → (wanted ≡ None → given ≡ None) → Decodes view wanted takes cost kept to a b (Err e) → Decodes seen given takes cost more to a b (Err e)
+seen_as view seen wanted given takes cost kept more to a b e few none r = record {
+  answers = error e r.answers;
+  spends = subst (λ (k : ℕ). Spends cost k to a b) few r.spends;
+  ends = tt;
+} where
+  error : (e : Refusal) → AnswersAs view wanted takes (Err e) → AnswersAs seen given takes (Err e)
+  error Refused h = none h
+  error OutOfMemory h = h

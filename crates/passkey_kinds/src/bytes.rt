@@ -1,14 +1,22 @@
-//! Byte strings, read of items.
-ghost use Rattle.std.specs.Prelude.{◌<◌, ℕ, List, length, map, true, ⊤};
+//! Byte strings, decoded from data items.
+ghost use Rattle.std.specs.Prelude.{◌≡◌, ◌<◌, ℕ, List, length, map, true, ⊤};
+ghost use Rattle.std.specs.Str.{trim};
+ghost use Rattle.passkey_cbor.specs.Item.{Item};
+ghost use Rattle.passkey_cbor.specs.Lent.{IsRegion, Tells};
+ghost use Rattle.passkey_cbor.specs.Stands.{StandItems};
+ghost use Rattle.passkey_kinds.specs.Reader.{Onward, Decodes, LooksAtMost};
 ghost use Rattle.passkey_cbor.specs.View.{item_of};
 ghost use Rattle.passkey_bytes.specs.Encoding.{text_bytes};
+ghost use Rattle.passkey_kinds.specs.Keeping.{nothing};
 ghost use Rattle.passkey_kinds.specs.Kind.{AnswersAs, each, below, bytes};
 
 use crate::from_cbor::FromCbor;
-use crate::list::read_each;
+use crate::head::read_array;
+use crate::list::{read_each, read_elements};
+use crate::read_cbor::ReadCbor;
 use crate::refusal::Refusal;
-use passkey_bytes::{Bytes, BytesFault};
-use passkey_cbor::Value;
+use passkey_bytes::{Bytes, BytesFault, List as Numbers};
+use passkey_cbor::{Cursor, TextToken, Value};
 use std::alloc::Global;
 
 /// The bytes of a text in base64url or base64.
@@ -34,6 +42,46 @@ fn read_numbers(alloc: Global, elements: &[Value]) -> Result<Bytes, Refusal>
     }
 }
 
+/// The bytes of a text string in base64url or base64.
+fn read_base64(
+    alloc: Global,
+    token: &TextToken<'_>,
+    cursor: &mut Cursor<'_>,
+) -> Result<Bytes, Refusal>
+    requires { IsRegion true token.now }
+    ensures answers { (s : List ℕ) → Tells true token.now s → AnswersAs (λ b. b) (text_bytes (trim s)) ⊤ result }
+    ensures looks { LooksAtMost token.now cursor.old cursor.new }
+{
+    match token.lent() {
+        Some(text) => read_text(alloc, text.trim()),
+        None => {
+            let text = token.copy(alloc, cursor)?;
+            read_text(alloc, text.as_str().trim())
+        }
+    }
+}
+
+fn bytes_of(numbers: Numbers<u8>) -> Bytes
+    ensures { result ≡ numbers }
+{
+    Bytes::from(Vec::from(numbers))
+}
+
+/// The bytes of an array of their numbers, behind its head.
+fn read_numbers_ahead(
+    alloc: Global,
+    left: Option<u64>,
+    cursor: &mut Cursor<'_>,
+) -> Result<Bytes, Refusal>
+    ensures reads { (is : List Item) (to : ℕ) → StandItems left is cursor.old.bytes cursor.old.place to → Decodes (λ b. b) (each (below 256) is) (0 < length is) 2 0 to cursor.old cursor.new result }
+    ensures onward { Onward cursor.old cursor.new }
+{
+    match read_elements::<u8>(alloc, left, cursor) {
+        Ok(numbers) => Ok(bytes_of(numbers)),
+        Err(refusal) => Err(refusal),
+    }
+}
+
 impl FromCbor for Bytes {
     ghost Meaning = { List ℕ };
 
@@ -49,6 +97,25 @@ impl FromCbor for Bytes {
             Value::Array(elements) => read_numbers(alloc, elements),
             Value::Text(text) => read_text(alloc, text.as_str().trim()),
             _ => Err(Refusal::Refused),
+        }
+    }
+}
+
+impl ReadCbor for Bytes {
+    ghost cost = { 3 };
+
+    ghost keeps = { nothing };
+
+    fn read(alloc: Global, cursor: &mut Cursor<'_>) -> Result<Bytes, Refusal> {
+        if let Some(token) = cursor.bytes() {
+            return Ok(Bytes::from(token.copy(alloc, cursor)?));
+        }
+        if let Some(token) = cursor.text() {
+            return read_base64(alloc, &token, cursor);
+        }
+        match read_array(cursor) {
+            Some(left) => read_numbers_ahead(alloc, left, cursor),
+            None => Err(Refusal::Refused),
         }
     }
 }
