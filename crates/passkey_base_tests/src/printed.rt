@@ -23,8 +23,14 @@ fn refused_key() -> RefusedKey {
 fn failed_conversions_of_keys_are_printed(rt: HostRuntime) {
     let words = String::from_str(rt.alloc(), "no curve").expect(&rt, "memory");
     for (error, wanted) in [
-        (CoseKeyConversionError::UnsupportedAlgorithm, "UnsupportedAlgorithm"),
-        (CoseKeyConversionError::InvalidCredential, "InvalidCredential"),
+        (
+            CoseKeyConversionError::UnsupportedAlgorithm,
+            "UnsupportedAlgorithm",
+        ),
+        (
+            CoseKeyConversionError::InvalidCredential,
+            "InvalidCredential",
+        ),
         (CoseKeyConversionError::Other(words), "no curve"),
     ] {
         assert_printed(&rt, &error, wanted);

@@ -2,7 +2,7 @@
 //! WebAuthn are in `webauthn`.
 pub use passkey_json::{
     BytesForm, FromJson, JsonFault, JsonRecord, Member, Object, RecordToJson,
-    Refusal as JsonRefusal, ToJson, Tolerated, TolerantList, TruthText, Written, holds_float,
+    Refusal as JsonRefusal, ToJson, TolerantList, Tolerated, TruthText, Written, holds_float,
     read_back, read_name, read_nested, written_name,
 };
 pub use serde_json::{Map, Value};
