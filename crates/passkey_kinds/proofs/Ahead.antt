@@ -15,9 +15,9 @@ use Rattle.passkey_kinds.specs.declared.refusal.Refusal.TheVariants.{Refused, Ou
 use Rattle.passkey_kinds.proofs.Lists.{answers_from, each_more}
 
 -- an element's error is the list's
-pub failed : {A M B N : Type 0} (view : A → M) (seen : B → N) (one : Option M) (wanted : Option N) (takes may : Type 0) (e : Refusal) → (one ≡ None → wanted ≡ None) → may → AnswersAs view one takes (Err e) → AnswersAs seen wanted may (Err e)
-failed view seen one wanted takes may Refused none some h = none h
-failed view seen one wanted takes may OutOfMemory none some h = some
+pub failed : {A M B N : Type 0} (view : A → M) (seen : B → N) (one : Option M) (wanted : Option N) (takes may : Type 0) (e : Refusal) → (one ≡ None → wanted ≡ None) → (takes → may) → AnswersAs view one takes (Err e) → AnswersAs seen wanted may (Err e)
+failed view seen one wanted takes may Refused none grows h = none h
+failed view seen one wanted takes may OutOfMemory none grows h = grows h
 
 -- ---- the head before the elements
 

@@ -34,3 +34,4 @@ pub mod Tokens
 pub mod DataReads
 pub mod Ahead
 pub mod Loops
+pub mod PairsAhead

@@ -64,7 +64,7 @@ module _ {M : Type 0} (kind : Kind M) where
   put_first m k v None = refl
   put_first m k v (Some es) = refl
 
-  with_member : (m : ByteMap M) (x : Item × Item) (ms : List (Item × Item)) (k : List ℕ) (v : M) → bytes x.0 ≡ Some k → kind x.1 ≡ Some v → with_members kind m (x ∷ ms) ≡ with_members kind (fin.insert m k v) ms
+  pub with_member : (m : ByteMap M) (x : Item × Item) (ms : List (Item × Item)) (k : List ℕ) (v : M) → bytes x.0 ≡ Some k → kind x.1 ≡ Some v → with_members kind m (x ∷ ms) ≡ with_members kind (fin.insert m k v) ms
   with_member m x ms k v key value = rw (key, value) (put_first m k v (each (entry kind) ms))
 
   -- one more pair that is read

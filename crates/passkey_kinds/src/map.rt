@@ -1,18 +1,24 @@
 //! Maps from byte strings.
-ghost use Rattle.std.specs.Prelude.{◌≡◌, ◌<◌, length, map, true, IfOk, OnOk};
+ghost use Rattle.std.specs.Prelude.{◌≡◌, ◌<◌, ℕ, suc, max, List, length, map, true, IfOk, OnOk};
 ghost use Rattle.std.specs.FinMap as fin;
 ghost use Rattle.std.specs.List.{All};
 ghost use Rattle.passkey_bytes.specs.Map.{ByteMap};
 ghost use Rattle.passkey_cbor.specs.View.{pair_of};
 ghost use Rattle.passkey_kinds.specs.Kind.{AnswersAs};
+ghost use Rattle.passkey_cbor.specs.Item.{Item};
+ghost use Rattle.passkey_cbor.specs.Stands.{StandPairs};
+ghost use Rattle.passkey_kinds.specs.Keeping.{in_members};
 ghost use Rattle.passkey_kinds.specs.MapKind.{map_from_bytes, map_values, with_members};
+ghost use Rattle.passkey_kinds.specs.Reader.{Onward, Decodes, kept_values_of};
 ghost use Rattle.passkey_kinds.specs.Tree.{byte_map_tree, entry_tree};
 
 use crate::from_cbor::FromCbor;
+use crate::head::read_map;
+use crate::read_cbor::ReadCbor;
 use crate::refusal::Refusal;
 use crate::to_cbor::ToCbor;
 use passkey_bytes::{Bytes, Map};
-use passkey_cbor::Value;
+use passkey_cbor::{Cursor, Value};
 use passkey_memory::OutOfMemory;
 use std::alloc::Global;
 
@@ -25,6 +31,23 @@ fn read_entries<T: FromCbor>(
     let mut read = Map::empty(alloc);
     for (key, value) in pairs {
         read.insert(Bytes::from_value(alloc, key)?, T::from_value(alloc, value)?)?;
+    }
+    Ok(read)
+}
+
+/// Decodes the entries of a map behind its head.
+fn read_entries_ahead<T: ReadCbor>(
+    alloc: Global,
+    mut left: Option<u64>,
+    cursor: &mut Cursor<'_>,
+) -> Result<Map<Bytes, T>, Refusal>
+    ensures reads { (ms : List (Item × Item)) (to : ℕ) → StandPairs left ms cursor.old.bytes cursor.old.place to → Decodes (λ m. map_values T.view m) (with_members T.kind fin.empty ms) (0 < length ms) (suc (max 3 T.cost)) (kept_values_of T.keeps ms) to cursor.old cursor.new result }
+    ensures onward { Onward cursor.old cursor.new }
+{
+    let mut read = Map::empty(alloc);
+    while cursor.more(&mut left) {
+        let key = Bytes::read(alloc, cursor)?;
+        read.insert(key, T::read(alloc, cursor)?)?;
     }
     Ok(read)
 }
@@ -42,6 +65,19 @@ impl<T: FromCbor> FromCbor for Map<Bytes, T> {
         match value {
             Value::Map(pairs) => read_entries(alloc, pairs),
             _ => Err(Refusal::Refused),
+        }
+    }
+}
+
+impl<T: ReadCbor> ReadCbor for Map<Bytes, T> {
+    ghost cost = { suc (max 3 T.cost) };
+
+    ghost keeps = { in_members T.keeps };
+
+    fn read(alloc: Global, cursor: &mut Cursor<'_>) -> Result<Map<Bytes, T>, Refusal> {
+        match read_map(cursor) {
+            Some(left) => read_entries_ahead(alloc, left, cursor),
+            None => Err(Refusal::Refused),
         }
     }
 }

@@ -1,5 +1,5 @@
 use Rattle.std.specs.List.{filter_map}
-use Rattle.std.proofs.Common.{◌≡◌, ◌∙◌, ℕ, ◌+◌, true, false, List, [], ◌∷◌, ◌++◌, map, Option, Some, None, option_map, Ok, Err, sym, ap, refl, arith}
+use Rattle.std.proofs.Common.{◌∙◌, true, false, List, [], ◌∷◌, ◌++◌, map, Some, option_map, sym, ap, refl}
 use Rattle.std.proofs.lemmas.List.{append-nil, map_push}
 use Rattle.std.proofs.lemmas.Result.{err_from_is_err_and}
 use Rattle.passkey_kinds.specs.Keeping.{kept_of}
@@ -25,7 +25,7 @@ returns-in_err-element-clause-reads g c = λ is to l.
     let read = c.in_err-element.ensures.reads n.first n.middle n.here in
     let spent = element_spends _ _ _ _ is to start c.loop-alloc.left c.more.new.left a b d true refl walks.looks e n (kept_of g.T.ReadCbor.keeps n.first) refl (stands_long n.first b.bytes b.place n.middle n.here) read.spends in
     rw (p.1, p.2) (record {
-      answers = failed (λ (t : Tolerated g.row.T.Denot). option_map g.T.FromCbor.view t.0) (λ (l : TolerantList g.row.T.Denot). map g.T.FromCbor.view l.0) (Some (g.T.FromCbor.kind n.first)) (Some (filter_map g.T.FromCbor.kind is)) (MayGrow g.T.FromCbor.takes n.first) _ c.in_err-element.field-0.0 (λ none. absurd cc) (some_are _ _ _ _ is to start c.loop-alloc.left c.more.new.left a b e n) read.answers;
+      answers = failed (λ (t : Tolerated g.row.T.Denot). option_map g.T.FromCbor.view t.0) (λ (l : TolerantList g.row.T.Denot). map g.T.FromCbor.view l.0) (Some (g.T.FromCbor.kind n.first)) (Some (filter_map g.T.FromCbor.kind is)) (MayGrow g.T.FromCbor.takes n.first) _ c.in_err-element.field-0.0 (λ none. absurd cc) (λ h. some_are _ _ _ _ is to start c.loop-alloc.left c.more.new.left a b e n) read.answers;
       spends = spent_within _ _ _ to start c.more.new.left e.rest b d n spent;
       ends = tt;
     })

@@ -1,5 +1,4 @@
-use Rattle.std.proofs.Common.{◌≡◌, ◌∙◌, ◌<◌, length, true, Option, None, Err, sym, ap, subst, refl, arith}
-use Rattle.passkey_cbor.specs.Item.{Item}
+use Rattle.std.proofs.Common.{◌∙◌, ◌<◌, length, true, sym, ap, subst, arith}
 use Rattle.passkey_kinds.specs.Keeping.{kept_of, in_elements}
 use Rattle.passkey_kinds.specs.Kind.{list, MayGrow}
 use Rattle.passkey_kinds.specs.Reader.{kept_all}
