@@ -7,7 +7,7 @@ use Rattle.passkey_cbor.specs.Lent.{string_item}
 use Rattle.passkey_cbor.specs.Walk.{Walk}
 use Rattle.passkey_kinds.specs.HeadValues.{unsigned_in, null_in, ReadsFlat}
 use Rattle.passkey_kinds.specs.Data.{aaguid}
-use Rattle.passkey_kinds.specs.Kind.{Kind, AnswersAs, below, sized_bytes, text, one_named, optional}
+use Rattle.passkey_kinds.specs.Kind.{Kind, AnswersAs, below, text, one_named, optional}
 use Rattle.passkey_kinds.specs.Reader.{Spends, Decodes}
 use Rattle.passkey_kinds.specs.declared.refusal.Refusal.{Refusal}
 use Rattle.passkey_kinds.specs.declared.refusal.Refusal.TheVariants.{Refused, OutOfMemory}
@@ -111,18 +111,6 @@ no_aaguid (item.boolean b) h = refl
 no_aaguid item.null h = refl
 no_aaguid (item.simple n) h = refl
 no_aaguid (item.float f) h = refl
-
-pub no_sized : (n : ℕ) (i : Item) → ((s : List ℕ) → i ≡ item.byte_string s → ⊥) → ((xs : item.Items) → i ≡ item.array xs → ⊥) → sized_bytes n i ≡ None
-no_sized k (item.number n) h a = refl
-no_sized k (item.byte_string s) h a = absurd (h s refl)
-no_sized k (item.text_string s) h a = refl
-no_sized k (item.array xs) h a = absurd (a xs refl)
-no_sized k (item.map ps) h a = refl
-no_sized k (item.tagged t x) h a = refl
-no_sized k (item.boolean b) h a = refl
-no_sized k item.null h a = refl
-no_sized k (item.simple n) h a = refl
-no_sized k (item.float f) h a = refl
 
 -- an error is the same, whatever contracts see of a value
 pub seen_as : {A B M N : Type 0} (view : A → M) (seen : B → N) (wanted : Option M) (given : Option N) (takes : Type 0) (cost kept more to : ℕ) (a b : Walk) (e : Refusal) → kept ≡ more → (wanted ≡ None → given ≡ None) → Decodes view wanted takes cost kept to a b (Err e) → Decodes seen given takes cost more to a b (Err e)

@@ -10,8 +10,7 @@ use Rattle.passkey_cbor.specs.Stands.{Stands}
 use Rattle.passkey_cbor.specs.Walk.{Walk, ahead}
 use Rattle.passkey_cbor.proofs.Gathering.{raised-le}
 use Rattle.passkey_cbor.proofs.Lists.{each_long}
-use Rattle.passkey_cbor.proofs.Binds.{some_is}
-use Rattle.passkey_cbor.proofs.Strings.{AChunk, follows_chunk, string_again}
+use Rattle.passkey_cbor.proofs.Strings.{AChunk, follows_chunk}
 use Rattle.passkey_cbor.specs.Reading.{chunk}
 use Rattle.passkey_kinds.specs.Reader.{Spends, Decodes, LooksAtMost}
 use Rattle.passkey_kinds.specs.Kind.{AnswersAs, MayGrow}
@@ -42,11 +41,6 @@ until_few names joined (c ∷ cs) =
 sought_few : (is_text : Bool) (names : List (List ℕ)) (len : Option ℕ) (s bytes : List ℕ) (c : Content is_text len s bytes) → heads_sought is_text names len s bytes c ≤ length bytes
 sought_few is_text names (Some n) s bytes c = omega arith
 sought_few is_text names None s bytes c = omega (arith, until_few names [] c.first.0, chunks_long is_text s bytes c)
-
--- a region is that of one string
-pub tells_one : (is_text : Bool) (r : Region) (s t : List ℕ) → Tells is_text r s → Tells is_text r t → s ≡ t
-tells_one is_text r s t a b =
-    ap (λ (q : List ℕ × List ℕ). q.0) (some_is (s, []) (t, []) (sym (string_again is_text r.len s r.bytes [] a) ∙ string_again is_text r.len t r.bytes [] b))
 
 -- ---- looking again
 

@@ -35,3 +35,4 @@ pub mod DataReads
 pub mod Ahead
 pub mod Loops
 pub mod PairsAhead
+pub mod ArraysAhead

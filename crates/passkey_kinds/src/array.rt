@@ -1,13 +1,18 @@
-//! Arrays of bytes, read of items and written as arrays of their numbers.
-ghost use Rattle.std.specs.Prelude.{◌==◌, ◌≡◌, ℕ, List, length, map, if◌then◌else◌, false, None};
-ghost use Rattle.passkey_cbor.specs.Lent.{IsRegion, Tells};
+//! Arrays of bytes, decoded from data items and encoded as arrays of their numbers.
+ghost use Rattle.std.specs.Prelude.{◌==◌, ◌≡◌, ℕ, List, length, map, if◌then◌else◌, false, Some, None};
+ghost use Rattle.passkey_cbor.specs.Item.{Item};
+ghost use Rattle.passkey_cbor.specs.Lent.{Tells};
+ghost use Rattle.passkey_cbor.specs.Stands.{StandItems};
+ghost use Rattle.passkey_kinds.specs.Reader.{Onward, Decodes, LooksAtMost};
 ghost use Rattle.passkey_cbor.specs.View.{item_of};
-ghost use Rattle.passkey_kinds.specs.Reader.{LooksAtMost};
+ghost use Rattle.passkey_kinds.specs.Keeping.{nothing};
 ghost use Rattle.passkey_kinds.specs.Kind.{AnswersAs, each, below, sized_bytes};
 ghost use Rattle.passkey_kinds.specs.ReadBack.{AreBytes};
 ghost use Rattle.passkey_kinds.specs.Tree.{numbers_tree};
 
 use crate::from_cbor::FromCbor;
+use crate::head::read_array;
+use crate::read_cbor::ReadCbor;
 use crate::refusal::Refusal;
 use crate::to_cbor::ToCbor;
 use crate::written::write_each;
@@ -29,12 +34,36 @@ fn read_numbers(alloc: Global, elements: &[Value]) -> Result<[u8; 32], Refusal>
     Ok(bytes)
 }
 
+/// The bytes of 32 numbers behind the head of an array.
+fn read_numbers_ahead(
+    alloc: Global,
+    mut left: Option<u64>,
+    cursor: &mut Cursor<'_>,
+) -> Result<[u8; 32], Refusal>
+    ensures reads { (is : List Item) (to : ℕ) → StandItems left is cursor.old.bytes cursor.old.place to → Decodes (λ b. b) (if length is == 32 then each (below 256) is else None) ⊥ 2 0 to cursor.old cursor.new result }
+    ensures onward { Onward cursor.old cursor.new }
+{
+    let mut bytes = [0; 32];
+    let mut len = 0;
+    while cursor.more(&mut left) {
+        if len == 32 {
+            return Err(Refusal::Refused);
+        }
+        bytes[len] = u8::read(alloc, cursor)?;
+        len += 1;
+    }
+    if len == 32 {
+        Ok(bytes)
+    } else {
+        Err(Refusal::Refused)
+    }
+}
+
 /// The bytes of a byte string that has so many.
 pub(crate) fn filled<const N: usize>(
     token: &BytesToken<'_>,
     cursor: &mut Cursor<'_>,
 ) -> Result<[u8; N], Refusal>
-    requires { IsRegion false token.now }
     ensures answers { (s : List ℕ) → Tells false token.now s → AnswersAs (λ b. b) (if length s == N then Some s else None) ⊥ result }
     ensures looks { LooksAtMost token.now cursor.old cursor.new }
 {
@@ -60,6 +89,22 @@ impl FromCbor for [u8; 32] {
             Value::Bytes(bytes) => <[u8; 32]>::try_from(bytes.as_slice()).or(Err(Refusal::Refused)),
             Value::Array(elements) => read_numbers(alloc, elements),
             _ => Err(Refusal::Refused),
+        }
+    }
+}
+
+impl ReadCbor for [u8; 32] {
+    ghost cost = { 3 };
+
+    ghost keeps = { nothing };
+
+    fn read(alloc: Global, cursor: &mut Cursor<'_>) -> Result<[u8; 32], Refusal> {
+        match cursor.bytes() {
+            Some(token) => filled(&token, cursor),
+            None => match read_array(cursor) {
+                Some(left) => read_numbers_ahead(alloc, left, cursor),
+                None => Err(Refusal::Refused),
+            },
         }
     }
 }
