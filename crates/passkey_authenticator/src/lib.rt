@@ -2,7 +2,7 @@
 //! do what is asked, and encodes the response (CTAP 2.1, section 6.1.2).
 #![tactic(auto)]
 
-ghost use Rattle.std.specs.Prelude.{◌≢◌, ◌<◌, length, IfOk};
+ghost use Rattle.std.specs.Prelude.{◌≢◌, ◌<◌, length, IfErr, IfOk, IfSome};
 
 #[cfg(test)]
 mod tests;
@@ -29,8 +29,10 @@ fn status_of(fault: Fault) -> Ctap2Error
 }
 
 /// The first thing that this authenticator can't do of what is asked: it makes keys of ES256 alone,
-/// and it can't verify its user.
-fn refusal_of(request: &Request) -> Option<Ctap2Error> {
+/// and it can't verify its user. Never a status of success.
+fn refusal_of(request: &Request) -> Option<Ctap2Error>
+    ensures { IfSome result (λ status. status ≢ Ctap2Error.Ok) }
+{
     let mut offers_es256 = false;
     for parameters in request.pub_key_cred_params.iter() {
         offers_es256 |= parameters.alg == Algorithm::ES256;
@@ -44,24 +46,51 @@ fn refusal_of(request: &Request) -> Option<Ctap2Error> {
     None
 }
 
-/// The response with a credential that was made for the request, without attestation.
+/// The relying party's id of a request that is granted; else its status.
+fn rp_id_of(alloc: Global, request: &[u8]) -> Result<Text, Ctap2Error>
+    ensures { IfErr result (λ status. status ≢ Ctap2Error.Ok) }
+{
+    let request = match Request::from_slice(alloc, request) {
+        Ok((request, _len)) => request,
+        Err(fault) => return Err(status_of(fault)),
+    };
+    match refusal_of(&request) {
+        Some(status) => Err(status),
+        None => {
+            let rp = request.rp;
+            Ok(rp.id)
+        }
+    }
+}
+
+/// The response with a credential that was made for the relying party, without attestation.
 fn response(
     alloc: Global,
-    request: &Request,
+    rp_id: &str,
     credential: AttestedCredentialData,
 ) -> Result<Response, OutOfMemory> {
-    let data = AuthenticatorData::new(request.rp.id.as_str(), Some(0));
+    let fmt = Text::from_str(alloc, "none")?;
+    let data = AuthenticatorData::new(rp_id, Some(0));
     let data = data
         .set_flags(Flags::UP)
         .set_attested_credential_data(credential);
     Ok(Response {
-        fmt: Text::from_str(alloc, "none")?,
+        fmt,
         auth_data: data,
         att_stmt: Value::Map(Vec::new(alloc)),
         ep_att: None,
         large_blob_key: None,
         unsigned_extension_outputs: None,
     })
+}
+
+/// The encoding of that response.
+fn encoded(
+    alloc: Global,
+    rp_id: &str,
+    credential: AttestedCredentialData,
+) -> Result<Vec<u8>, WriteFault> {
+    response(alloc, rp_id, credential)?.to_vec(alloc)
 }
 
 /// The bytes that answer a request, with the credential that is made if it is granted: the status
@@ -73,16 +102,23 @@ pub fn answer(
 ) -> Result<Vec<u8>, WriteFault>
     ensures { IfOk result (λ message. 0 < length message.items) }
 {
-    let request = match Request::from_slice(alloc, request) {
-        Ok((request, _len)) => request,
-        Err(fault) => return status_alone(alloc, status_of(fault)),
-    };
-    if let Some(status) = refusal_of(&request) {
-        return status_alone(alloc, status);
+    match rp_id_of(alloc, request) {
+        Ok(rp_id) => granted(alloc, rp_id.as_str(), credential),
+        Err(status) => status_alone(alloc, status),
     }
-    let response = response(alloc, &request, credential)?;
+}
+
+/// A status byte of zero and then the response.
+fn granted(
+    alloc: Global,
+    rp_id: &str,
+    credential: AttestedCredentialData,
+) -> Result<Vec<u8>, WriteFault>
+    ensures { IfOk result (λ message. 0 < length message.items) }
+{
+    let response = encoded(alloc, rp_id, credential)?;
     let mut message = status_alone(alloc, Ctap2Error::Ok)?;
-    message.extend_from_slice(&response.to_vec(alloc)?)?;
+    message.extend_from_slice(&response)?;
     Ok(message)
 }
 
