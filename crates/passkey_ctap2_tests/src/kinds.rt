@@ -1,5 +1,7 @@
 //! Single values, texts, byte strings, lists and maps.
-use crate::tables::{assert_read, assert_refused, assert_rewritten, written};
+use crate::tables::{
+    assert_read, assert_read_both, assert_refused, assert_refused_both, assert_rewritten, written,
+};
 use passkey_bytes::{Bytes, List, Map, Text};
 use passkey_cbor::Value;
 use passkey_core::{Aaguid, AuthenticatorData};
@@ -12,45 +14,45 @@ use std::num::NonZeroU128;
 
 #[test]
 fn booleans_and_numbers(rt: HostRuntime) {
-    assert_read::<bool>(&rt, &[("f5", "Ok(true)"), ("f4", "Ok(false)")]);
+    assert_read_both::<bool>(&rt, &[("f5", "Ok(true)"), ("f4", "Ok(false)")]);
     assert_rewritten::<bool>(&rt, &[("f5", "f5"), ("f4", "f4")]);
-    assert_refused::<bool>(&rt, &["f6", "01"]);
-    assert_read::<u8>(&rt, &[("00", "Ok(0)"), ("18ff", "Ok(255)")]);
+    assert_refused_both::<bool>(&rt, &["f6", "01"]);
+    assert_read_both::<u8>(&rt, &[("00", "Ok(0)"), ("18ff", "Ok(255)")]);
     assert_rewritten::<u8>(&rt, &[("1900ff", "18ff")]);
     // 256, -1 and "1"
-    assert_refused::<u8>(&rt, &["190100", "20", "6131"]);
-    assert_read::<u32>(&rt, &[("1affffffff", "Ok(4294967295)")]);
+    assert_refused_both::<u8>(&rt, &["190100", "20", "6131"]);
+    assert_read_both::<u32>(&rt, &[("1affffffff", "Ok(4294967295)")]);
     assert_rewritten::<u32>(&rt, &[("1a00010000", "1a00010000")]);
     // 2^32 and false
-    assert_refused::<u32>(&rt, &["1b0000000100000000", "f4"]);
-    assert_read::<Option<u8>>(&rt, &[("f6", "Ok(None)"), ("05", "Ok(Some(5))")]);
+    assert_refused_both::<u32>(&rt, &["1b0000000100000000", "f4"]);
+    assert_read_both::<Option<u8>>(&rt, &[("f6", "Ok(None)"), ("05", "Ok(Some(5))")]);
     assert_rewritten::<Option<u8>>(&rt, &[("f6", "f6"), ("05", "05")]);
-    assert_refused::<Option<u8>>(&rt, &["20"]);
-    assert_read::<Tolerated<u8>>(
+    assert_refused_both::<Option<u8>>(&rt, &["20"]);
+    assert_read_both::<Tolerated<u8>>(
         &rt,
         &[
             ("01", "Ok(Tolerated(Some(1)))"),
             ("60", "Ok(Tolerated(None))"),
         ],
     );
-    assert_read::<NonZeroU128>(
+    assert_read_both::<NonZeroU128>(
         &rt,
         &[
             ("01", "Ok(1)"),
             ("1bffffffffffffffff", "Ok(18446744073709551615)"),
         ],
     );
-    assert_refused::<NonZeroU128>(&rt, &["00", "20", "f6"]);
+    assert_refused_both::<NonZeroU128>(&rt, &["00", "20", "f6"]);
 }
 
 #[test]
 fn texts_and_items(rt: HostRuntime) {
     // "a" and "b" in chunks
-    assert_read::<Text>(&rt, &[("7f61616162ff", "Ok(\"ab\")")]);
+    assert_read_both::<Text>(&rt, &[("7f61616162ff", "Ok(\"ab\")")]);
     assert_rewritten::<Text>(&rt, &[("7f61616162ff", "626162"), ("60", "60")]);
-    assert_refused::<Text>(&rt, &["4161"]);
+    assert_refused_both::<Text>(&rt, &["4161"]);
     // 1(undefined): undefined is decoded as null
-    assert_read::<Value>(&rt, &[("c1f7", "Ok(Tag(1, Null))")]);
+    assert_read_both::<Value>(&rt, &[("c1f7", "Ok(Tag(1, Null))")]);
     assert_rewritten::<Value>(&rt, &[("c1f7", "c1f6")]);
 }
 
@@ -65,10 +67,10 @@ fn byte_strings(rt: HostRuntime) {
         ("80", "Ok(Bytes([]))"),
         ("60", "Ok(Bytes([]))"),
     ];
-    assert_read::<Bytes>(&rt, &read);
+    assert_read_both::<Bytes>(&rt, &read);
     assert_rewritten::<Bytes>(&rt, &[("820118ff", "4201ff")]);
     // [256], [1, -1], "A", {}, 1(h'') and null
-    assert_refused::<Bytes>(&rt, &["81190100", "820120", "6141", "a0", "c140", "f6"]);
+    assert_refused_both::<Bytes>(&rt, &["81190100", "820120", "6141", "a0", "c140", "f6"]);
 }
 
 /// 32 bytes as a byte string, and as an array of numbers.
@@ -85,7 +87,7 @@ fn thirty_two_bytes(rt: HostRuntime) {
         "Ok([0, 8, 16, 24, 32, 40, 48, 56, 64, 72, 80, 88, 96, 104, 112, 120, ",
         "128, 136, 144, 152, 160, 168, 176, 184, 192, 200, 208, 216, 224, 232, 240, 248])",
     );
-    assert_read::<[u8; 32]>(&rt, &[(AS_BYTES, value), (AS_NUMBERS, value)]);
+    assert_read_both::<[u8; 32]>(&rt, &[(AS_BYTES, value), (AS_NUMBERS, value)]);
     assert_rewritten::<[u8; 32]>(&rt, &[(AS_BYTES, AS_NUMBERS)]);
     let refused = [
         // 31 bytes, 33 bytes, 31 numbers, 33 numbers
@@ -99,18 +101,18 @@ fn thirty_two_bytes(rt: HostRuntime) {
         // a text of 32 bytes
         "78203737373737373737373737373737373737373737373737373737373737373737",
     ];
-    assert_refused::<[u8; 32]>(&rt, &refused);
+    assert_refused_both::<[u8; 32]>(&rt, &refused);
 }
 
 #[test]
 fn lists(rt: HostRuntime) {
-    assert_read::<List<u8>>(&rt, &[("9f0102ff", "Ok([1, 2])"), ("80", "Ok([])")]);
+    assert_read_both::<List<u8>>(&rt, &[("9f0102ff", "Ok([1, 2])"), ("80", "Ok([])")]);
     assert_rewritten::<List<u8>>(&rt, &[("9f0102ff", "820102"), ("80", "80")]);
     // [1, -1] and {}
-    assert_refused::<List<u8>>(&rt, &["820120", "a0"]);
+    assert_refused_both::<List<u8>>(&rt, &["820120", "a0"]);
     // [1, -1, "", 2]
-    assert_read::<TolerantList<u8>>(&rt, &[("8401206002", "Ok(TolerantList([1, 2]))")]);
-    assert_refused::<TolerantList<u8>>(&rt, &["01"]);
+    assert_read_both::<TolerantList<u8>>(&rt, &[("8401206002", "Ok(TolerantList([1, 2]))")]);
+    assert_refused_both::<TolerantList<u8>>(&rt, &["01"]);
 }
 
 #[test]
@@ -123,21 +125,21 @@ fn maps_from_byte_strings(rt: HostRuntime) {
         ("a0", "a0"),
     ];
     assert_rewritten::<Map<Bytes, u8>>(&rt, &rewritten);
-    assert_read::<Map<Bytes, u8>>(&rt, &[("a1410702", "Ok({Bytes([7]): 2})")]);
+    assert_read_both::<Map<Bytes, u8>>(&rt, &[("a1410702", "Ok({Bytes([7]): 2})")]);
     // {h'07': ""}, {7: 1} and []
-    assert_refused::<Map<Bytes, u8>>(&rt, &["a1410760", "a10701", "80"]);
+    assert_refused_both::<Map<Bytes, u8>>(&rt, &["a1410760", "a10701", "80"]);
 }
 
 #[test]
 fn names(rt: HostRuntime) {
-    assert_read::<AuthenticatorTransport>(&rt, &[("63757362", "Ok(Usb)")]);
+    assert_read_both::<AuthenticatorTransport>(&rt, &[("63757362", "Ok(Usb)")]);
     assert_rewritten::<AuthenticatorTransport>(&rt, &[("63626c65", "63626c65")]);
     // h'757362', the bytes of "usb", and "x"
-    assert_refused::<AuthenticatorTransport>(&rt, &["43757362", "6178"]);
+    assert_refused_both::<AuthenticatorTransport>(&rt, &["43757362", "6178"]);
     let public_key = "6a7075626c69632d6b6579";
-    assert_read::<PublicKeyCredentialType>(&rt, &[(public_key, "Ok(PublicKey)")]);
+    assert_read_both::<PublicKeyCredentialType>(&rt, &[(public_key, "Ok(PublicKey)")]);
     assert_rewritten::<PublicKeyCredentialType>(&rt, &[(public_key, public_key)]);
-    assert_refused::<PublicKeyCredentialType>(&rt, &["60"]);
+    assert_refused_both::<PublicKeyCredentialType>(&rt, &["60"]);
     let unknown = written(&rt, &PublicKeyCredentialType::Unknown);
     assert_eq!(rt; unknown.as_str(), "67756e6b6e6f776e");
 }
@@ -178,7 +180,7 @@ fn authenticator_data(rt: HostRuntime) {
         "7, 8, 7, 8, 7, 8, 7, 8, 7, 8, 7, 8, 7, 8, 7, 8], flags: Flags(128), counter: Some(9), ",
         "attested_credential_data: None, extensions: Some(Map([])) })",
     );
-    assert_read::<AuthenticatorData>(&rt, &[(extended, value)]);
+    assert_read_both::<AuthenticatorData>(&rt, &[(extended, value)]);
     let least = "582500000000000000000000000000000000000000000000000000000000000000000000000000";
     assert_rewritten::<AuthenticatorData>(&rt, &[(extended, extended), (least, least)]);
     let refused = [
@@ -189,17 +191,17 @@ fn authenticator_data(rt: HostRuntime) {
         "782500000000000000000000000000000000000000000000000000000000000000000000000000",
         "40",
     ];
-    assert_refused::<AuthenticatorData>(&rt, &refused);
+    assert_refused_both::<AuthenticatorData>(&rt, &refused);
 }
 
 #[test]
 fn aaguids(rt: HostRuntime) {
     let item = "50000102030405060708090a0b0c0d0e0f";
     let value = "Ok(Aaguid([0, 1, 2, 3, 4, 5, 6, 7, 8, 9, 10, 11, 12, 13, 14, 15]))";
-    assert_read::<Aaguid>(&rt, &[(item, value)]);
+    assert_read_both::<Aaguid>(&rt, &[(item, value)]);
     assert_rewritten::<Aaguid>(&rt, &[(item, item)]);
     // 15 bytes, 17 bytes, and a text of 16
-    assert_refused::<Aaguid>(
+    assert_refused_both::<Aaguid>(
         &rt,
         &[
             "4f000000000000000000000000000000",

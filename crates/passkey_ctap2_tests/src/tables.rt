@@ -1,6 +1,6 @@
 //! Tables of items in hexadecimal, and what they decode to and are encoded as.
-use passkey_cbor::Value;
-use passkey_kinds::{FromCbor, ToCbor};
+use passkey_cbor::{Cursor, Value};
+use passkey_kinds::{FromCbor, ReadCbor, ToCbor};
 use std::fmt::Debug;
 use std::process::Abort;
 
@@ -41,6 +41,25 @@ pub(crate) fn assert_read<T: FromCbor + Debug>(
     }
 }
 
+/// Asserts the same, and that each item decodes to the same over a cursor, which is then behind it.
+pub(crate) fn assert_read_both<T: ReadCbor + Debug>(
+    rt: &(impl Abort + AllocGlobal),
+    rows: &[(&str, &str)],
+) {
+    assert_read::<T>(rt, rows);
+    for (item, wanted) in rows {
+        let bytes = bytes_of(rt, item);
+        let mut cursor = Cursor::new(bytes.as_slice());
+        let value = T::read(rt.alloc(), &mut cursor);
+        assert_eq!(rt;
+            shown(rt, &value).as_str(),
+            *wanted,
+            "of {item}, over a cursor"
+        );
+        assert_eq!(rt; cursor.place(), bytes.len(), "behind {item}");
+    }
+}
+
 /// Asserts what the value that each item decodes to is encoded as.
 pub(crate) fn assert_rewritten<T: FromCbor + ToCbor>(
     rt: &(impl Abort + AllocGlobal),
@@ -57,6 +76,23 @@ pub(crate) fn assert_refused<T: FromCbor + Debug>(rt: &(impl Abort + AllocGlobal
     for item in items {
         let value = T::from_value(rt.alloc(), &item_of(rt, item));
         assert_eq!(rt; shown(rt, &value).as_str(), "Err(Refused)", "of {item}");
+    }
+}
+
+/// Asserts the same, and that each item is rejected over a cursor too.
+pub(crate) fn assert_refused_both<T: ReadCbor + Debug>(
+    rt: &(impl Abort + AllocGlobal),
+    items: &[&str],
+) {
+    assert_refused::<T>(rt, items);
+    for item in items {
+        let bytes = bytes_of(rt, item);
+        let value = T::read(rt.alloc(), &mut Cursor::new(bytes.as_slice()));
+        assert_eq!(rt;
+            shown(rt, &value).as_str(),
+            "Err(Refused)",
+            "of {item}, over a cursor"
+        );
     }
 }
 
