@@ -43,6 +43,7 @@ impl ClientDataExtra for PackageName {
         name == "androidPackageName"
     }
 
+    #[tactic(auto, unfolding(passkey_json::specs::Members::required))]
     fn from_object(object: &Object<'_>) -> Result<PackageName, JsonFault> {
         Ok(PackageName(object.member("androidPackageName").required()?))
     }
