@@ -5,12 +5,13 @@ ghost use Rattle.passkey_entities.specs.MakeRp.{rp_tree, rp_fields, rp};
 ghost use Rattle.passkey_entities.specs.declared.rp.PublicKeyCredentialRpEntity.{PublicKeyCredentialRpEntity as RpEntity};
 ghost use Rattle.passkey_kinds.specs.ReadBack.{Any};
 ghost use Rattle.passkey_entities.specs.Entities.{rp_of_webauthn};
+ghost use Rattle.passkey_kinds.specs.RecordCost.{record_cost, record_keeps};
 
 use crate::MissingRpId;
 use passkey_bytes::Text;
-use passkey_cbor::Value;
+use passkey_cbor::{Cursor, Value};
 use passkey_kinds::{
-    FromCbor, ReadBack, Record, Refusal, Row, Shallow, Source, ToCbor, Written, nested_from_value,
+    FromCbor, ReadBack, Record, Refusal, Row, Shallow, Source, ToCbor, Written, nested_from_value, read_nested,
     set,
 };
 use passkey_memory::OutOfMemory;
@@ -105,8 +106,16 @@ impl FromCbor for PublicKeyCredentialRpEntity {
 
     ghost takes = { true };
 
+    ghost cost = { record_cost rp_fields };
+
+    ghost keeps = { record_keeps rp_fields };
+
     fn from_value(alloc: Global, value: &Value) -> Result<PublicKeyCredentialRpEntity, Refusal> {
         nested_from_value(alloc, value)
+    }
+
+    fn read(alloc: Global, cursor: &mut Cursor<'_>) -> Result<PublicKeyCredentialRpEntity, Refusal> {
+        read_nested(alloc, cursor)
     }
 }
 

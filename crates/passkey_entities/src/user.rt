@@ -6,11 +6,12 @@ ghost use Rattle.passkey_entities.specs.MakeUser.{user_tree, user_fields, user};
 ghost use Rattle.passkey_entities.specs.declared.user.PublicKeyCredentialUserEntity.{PublicKeyCredentialUserEntity as UserEntity};
 ghost use Rattle.passkey_kinds.specs.ReadBack.{Any};
 ghost use Rattle.passkey_entities.specs.Entities.{user_of_webauthn, webauthn_of_user};
+ghost use Rattle.passkey_kinds.specs.RecordCost.{record_cost, record_keeps};
 
 use passkey_bytes::{Bytes, Text};
-use passkey_cbor::Value;
+use passkey_cbor::{Cursor, Value};
 use passkey_kinds::{
-    FromCbor, ReadBack, Record, Refusal, Row, Shallow, Source, ToCbor, Written, nested_from_value,
+    FromCbor, ReadBack, Record, Refusal, Row, Shallow, Source, ToCbor, Written, nested_from_value, read_nested,
     set,
 };
 use passkey_memory::OutOfMemory;
@@ -148,8 +149,16 @@ impl FromCbor for PublicKeyCredentialUserEntity {
 
     ghost takes = { true };
 
+    ghost cost = { record_cost user_fields };
+
+    ghost keeps = { record_keeps user_fields };
+
     fn from_value(alloc: Global, value: &Value) -> Result<PublicKeyCredentialUserEntity, Refusal> {
         nested_from_value(alloc, value)
+    }
+
+    fn read(alloc: Global, cursor: &mut Cursor<'_>) -> Result<PublicKeyCredentialUserEntity, Refusal> {
+        read_nested(alloc, cursor)
     }
 }
 

@@ -1,10 +1,11 @@
 -- What extensions are given where a credential is made (CTAP 2.1, section 6.1).
 use Rattle.std.specs.Prelude.{[], ◌∷◌, Bool, Option, None, codes, false}
-use Rattle.passkey_extensions.specs.HmacInput.{HmacInputParts, hmac_input}
+use Rattle.passkey_extensions.specs.HmacInput.{HmacInputParts, hmac_input_fields}
 use Rattle.passkey_kinds.specs.Kind.{Kind}
 use Rattle.passkey_kinds.specs.Record.{Fields, default, record_kind}
-use Rattle.passkey_kinds.specs.Typed.{optional, truth, growing}
-use Rattle.passkey_extensions.specs.PrfInputs.{prf_inputs}
+use Rattle.passkey_kinds.specs.RecordCost.{nested}
+use Rattle.passkey_kinds.specs.Typed.{optional, truth}
+use Rattle.passkey_extensions.specs.PrfInputs.{prf_inputs, prf_inputs_fields}
 use Rattle.passkey_extensions.specs.declared.prf_inputs.AuthenticatorPrfInputs.{AuthenticatorPrfInputs}
 
 -- what contracts see of such inputs
@@ -18,8 +19,8 @@ make_extensions_fields = record {
   is_numbered = false;
   blank = record { hmac_secret = None; hmac_secret_mc = None; prf = None };
   rows = default 1 (codes "hmac-secret") (optional truth) (λ x r. record r { hmac_secret = x })
-      ∷ default 2 (codes "hmac-secret-mc") (optional (growing hmac_input)) (λ x r. record r { hmac_secret_mc = x })
-      ∷ default 3 (codes "prf") (optional (growing prf_inputs)) (λ x r. record r { prf = x })
+      ∷ default 2 (codes "hmac-secret-mc") (optional (nested hmac_input_fields)) (λ x r. record r { hmac_secret_mc = x })
+      ∷ default 3 (codes "prf") (optional (nested prf_inputs_fields)) (λ x r. record r { prf = x })
       ∷ [];
 }
 

@@ -2,8 +2,9 @@
 use Rattle.std.specs.Prelude.{[], ◌∷◌, None, codes, false}
 use Rattle.passkey_kinds.specs.Kind.{Kind}
 use Rattle.passkey_kinds.specs.Record.{Fields, required, default, record_kind}
-use Rattle.passkey_kinds.specs.Typed.{optional, truth, growing}
-use Rattle.passkey_extensions.specs.PrfValues.{prf_values}
+use Rattle.passkey_kinds.specs.RecordCost.{nested}
+use Rattle.passkey_kinds.specs.Typed.{optional, truth}
+use Rattle.passkey_extensions.specs.PrfValues.{prf_values_fields}
 use Rattle.passkey_extensions.specs.declared.prf_make_outputs.AuthenticatorPrfMakeOutputs.{AuthenticatorPrfMakeOutputs}
 
 abbrev pub prf_make_fields : Fields AuthenticatorPrfMakeOutputs
@@ -11,7 +12,7 @@ prf_make_fields = record {
   is_numbered = false;
   blank = record { enabled = false; results = None };
   rows = required 1 (codes "enabled") truth (λ x r. record r { enabled = x })
-      ∷ default 2 (codes "results") (optional (growing prf_values)) (λ x r. record r { results = x })
+      ∷ default 2 (codes "results") (optional (nested prf_values_fields)) (λ x r. record r { results = x })
       ∷ [];
 }
 

@@ -11,12 +11,13 @@ ghost use Rattle.passkey_extensions.specs.ExtensionTrees.{HmacInputFits, hmac_in
 ghost use Rattle.passkey_kinds.specs.Message.{ReadsMessage};
 ghost use Rattle.passkey_kinds.specs.Reading.{MayGrowAt, Reads};
 ghost use Rattle.passkey_kinds.specs.declared.write_fault.WriteFault.TheVariants.{OutOfMemory as NoMemory};
+ghost use Rattle.passkey_kinds.specs.RecordCost.{record_cost, record_keeps};
 
 use passkey_bytes::Bytes;
-use passkey_cbor::Value;
+use passkey_cbor::{Cursor, Value};
 use passkey_kinds::{
     Fault, FromCbor, ReadBack, Record, Refusal, Row, Source, ToCbor, WriteFault, Written,
-    message_from_slice, nested_from_value, record_from_value, set, write_message,
+    message_from_slice, nested_from_value, read_nested, record_from_value, set, write_message,
 };
 use passkey_memory::OutOfMemory;
 use std::alloc::Global;
@@ -143,8 +144,16 @@ impl FromCbor for HmacGetSecretInput {
 
     ghost takes = { true };
 
+    ghost cost = { record_cost hmac_input_fields };
+
+    ghost keeps = { record_keeps hmac_input_fields };
+
     fn from_value(alloc: Global, value: &Value) -> Result<HmacGetSecretInput, Refusal> {
         nested_from_value(alloc, value)
+    }
+
+    fn read(alloc: Global, cursor: &mut Cursor<'_>) -> Result<HmacGetSecretInput, Refusal> {
+        read_nested(alloc, cursor)
     }
 }
 

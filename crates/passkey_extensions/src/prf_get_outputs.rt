@@ -4,11 +4,12 @@ ghost use Rattle.passkey_extensions.specs.PrfGetOutputs.{prf_get_fields, prf_get
 ghost use Rattle.passkey_extensions.specs.declared.prf_get_outputs.AuthenticatorPrfGetOutputs.{AuthenticatorPrfGetOutputs as PrfGetOutputs};
 ghost use Rattle.passkey_extensions.specs.ExtensionTrees.{PrfGetFits, prf_get_tree};
 ghost use Rattle.passkey_extensions.specs.PrfWebauthn.{webauthn_used};
+ghost use Rattle.passkey_kinds.specs.RecordCost.{record_cost, record_keeps};
 
 use crate::prf_values::AuthenticatorPrfValues;
-use passkey_cbor::Value;
+use passkey_cbor::{Cursor, Value};
 use passkey_kinds::{
-    FromCbor, ReadBack, Record, Refusal, Row, Shallow, Source, ToCbor, Written, nested_from_value,
+    FromCbor, ReadBack, Record, Refusal, Row, Shallow, Source, ToCbor, Written, nested_from_value, read_nested,
     set,
 };
 use passkey_memory::OutOfMemory;
@@ -79,8 +80,16 @@ impl FromCbor for AuthenticatorPrfGetOutputs {
 
     ghost takes = { true };
 
+    ghost cost = { record_cost prf_get_fields };
+
+    ghost keeps = { record_keeps prf_get_fields };
+
     fn from_value(alloc: Global, value: &Value) -> Result<AuthenticatorPrfGetOutputs, Refusal> {
         nested_from_value(alloc, value)
+    }
+
+    fn read(alloc: Global, cursor: &mut Cursor<'_>) -> Result<AuthenticatorPrfGetOutputs, Refusal> {
+        read_nested(alloc, cursor)
     }
 }
 

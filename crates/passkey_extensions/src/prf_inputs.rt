@@ -5,12 +5,13 @@ ghost use Rattle.std.specs.Option.{IsSomeAnd};
 ghost use Rattle.passkey_extensions.specs.PrfInputs.{prf_inputs_fields, prf_inputs};
 ghost use Rattle.passkey_extensions.specs.declared.prf_inputs.AuthenticatorPrfInputs.{AuthenticatorPrfInputs as PrfInputs};
 ghost use Rattle.passkey_extensions.specs.ExtensionTrees.{PrfInputsFit, prf_inputs_tree};
+ghost use Rattle.passkey_kinds.specs.RecordCost.{record_cost, record_keeps};
 
 use crate::prf_values::AuthenticatorPrfValues;
 use passkey_bytes::{Bytes, Map};
-use passkey_cbor::Value;
+use passkey_cbor::{Cursor, Value};
 use passkey_kinds::{
-    FromCbor, ReadBack, Record, Refusal, Row, Shallow, Source, ToCbor, Written, nested_from_value,
+    FromCbor, ReadBack, Record, Refusal, Row, Shallow, Source, ToCbor, Written, nested_from_value, read_nested,
     set,
 };
 use passkey_memory::OutOfMemory;
@@ -108,8 +109,16 @@ impl FromCbor for AuthenticatorPrfInputs {
 
     ghost takes = { true };
 
+    ghost cost = { record_cost prf_inputs_fields };
+
+    ghost keeps = { record_keeps prf_inputs_fields };
+
     fn from_value(alloc: Global, value: &Value) -> Result<AuthenticatorPrfInputs, Refusal> {
         nested_from_value(alloc, value)
+    }
+
+    fn read(alloc: Global, cursor: &mut Cursor<'_>) -> Result<AuthenticatorPrfInputs, Refusal> {
+        read_nested(alloc, cursor)
     }
 }
 

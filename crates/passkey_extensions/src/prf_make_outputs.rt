@@ -4,11 +4,12 @@ ghost use Rattle.passkey_extensions.specs.PrfMakeOutputs.{prf_make_fields, prf_m
 ghost use Rattle.passkey_extensions.specs.declared.prf_make_outputs.AuthenticatorPrfMakeOutputs.{AuthenticatorPrfMakeOutputs as PrfMakeOutputs};
 ghost use Rattle.passkey_extensions.specs.ExtensionTrees.{PrfMakeFits, prf_make_tree};
 ghost use Rattle.passkey_extensions.specs.PrfWebauthn.{webauthn_made};
+ghost use Rattle.passkey_kinds.specs.RecordCost.{record_cost, record_keeps};
 
 use crate::prf_values::AuthenticatorPrfValues;
-use passkey_cbor::Value;
+use passkey_cbor::{Cursor, Value};
 use passkey_kinds::{
-    FromCbor, ReadBack, Record, Refusal, Row, Shallow, Source, ToCbor, Written, nested_from_value,
+    FromCbor, ReadBack, Record, Refusal, Row, Shallow, Source, ToCbor, Written, nested_from_value, read_nested,
     set,
 };
 use passkey_memory::OutOfMemory;
@@ -85,8 +86,16 @@ impl FromCbor for AuthenticatorPrfMakeOutputs {
 
     ghost takes = { true };
 
+    ghost cost = { record_cost prf_make_fields };
+
+    ghost keeps = { record_keeps prf_make_fields };
+
     fn from_value(alloc: Global, value: &Value) -> Result<AuthenticatorPrfMakeOutputs, Refusal> {
         nested_from_value(alloc, value)
+    }
+
+    fn read(alloc: Global, cursor: &mut Cursor<'_>) -> Result<AuthenticatorPrfMakeOutputs, Refusal> {
+        read_nested(alloc, cursor)
     }
 }
 

@@ -4,11 +4,12 @@ ghost use Rattle.passkey_extensions.specs.PrfValues.{prf_values_fields, prf_valu
 ghost use Rattle.passkey_extensions.specs.declared.prf_values.AuthenticatorPrfValues.{AuthenticatorPrfValues as PrfValues};
 ghost use Rattle.passkey_extensions.specs.ExtensionTrees.{PrfValuesFit, prf_values_tree};
 ghost use Rattle.passkey_extensions.specs.PrfWebauthn.{webauthn_values};
+ghost use Rattle.passkey_kinds.specs.RecordCost.{record_cost, record_keeps};
 
 use passkey_bytes::Bytes;
-use passkey_cbor::Value;
+use passkey_cbor::{Cursor, Value};
 use passkey_kinds::{
-    FromCbor, ReadBack, Record, Refusal, Row, Shallow, Source, ToCbor, Written, nested_from_value,
+    FromCbor, ReadBack, Record, Refusal, Row, Shallow, Source, ToCbor, Written, nested_from_value, read_nested,
     set,
 };
 use passkey_memory::OutOfMemory;
@@ -84,8 +85,16 @@ impl FromCbor for AuthenticatorPrfValues {
 
     ghost takes = { true };
 
+    ghost cost = { record_cost prf_values_fields };
+
+    ghost keeps = { record_keeps prf_values_fields };
+
     fn from_value(alloc: Global, value: &Value) -> Result<AuthenticatorPrfValues, Refusal> {
         nested_from_value(alloc, value)
+    }
+
+    fn read(alloc: Global, cursor: &mut Cursor<'_>) -> Result<AuthenticatorPrfValues, Refusal> {
+        read_nested(alloc, cursor)
     }
 }
 

@@ -4,14 +4,15 @@ use Rattle.passkey_cbor.specs.Depth.{depth}
 use Rattle.passkey_cbor.specs.Front.{max_depth}
 use Rattle.passkey_cbor.specs.Item.{Item, byte_string, text_string}
 use Rattle.passkey_core.specs.DataNormal.{Where}
-use Rattle.passkey_get_assertion.specs.GetOptions.{options, options_default, options_tree}
+use Rattle.passkey_get_assertion.specs.GetOptions.{options, options_default, options_tree, options_fields}
 use Rattle.passkey_get_assertion.specs.declared.options.Options.{Options}
 use Rattle.passkey_extensions.specs.ExtensionTrees.{get_extensions_tree, GetExtensionsFit}
-use Rattle.passkey_extensions.specs.GetExtensions.{GetExtensionsParts, get_extensions}
-use Rattle.passkey_kinds.specs.Descriptor.{descriptor}
+use Rattle.passkey_extensions.specs.GetExtensions.{GetExtensionsParts, get_extensions_fields}
+use Rattle.passkey_kinds.specs.Descriptor.{descriptor, descriptor_fields}
 use Rattle.passkey_kinds.specs.Record.{Fields, required, default, table_of, read_item}
+use Rattle.passkey_kinds.specs.RecordCost.{nested}
 use Rattle.passkey_kinds.specs.Table.{Table}
-use Rattle.passkey_kinds.specs.Typed.{below, optional, bytes, text, accepted, tolerated, growing}
+use Rattle.passkey_kinds.specs.Typed.{below, optional, bytes, text, accepted, tolerated}
 use Rattle.passkey_kinds.specs.ReadBack.{IsByte}
 use Rattle.passkey_kinds.specs.Tree.{Place, number_tree, list_tree, always, where_some, record_tree}
 use Rattle.passkey_kinds.specs.Trees.{descriptor_tree}
@@ -34,9 +35,9 @@ get_request_fields = record {
   blank = record { rp_id = []; client_data_hash = []; allow_list = None; extensions = None; options = options_default; pin_auth = None; pin_protocol = None };
   rows = required 1 (codes "rpId") text (λ x r. record r { rp_id = x })
       ∷ required 2 (codes "clientDataHash") bytes (λ x r. record r { client_data_hash = x })
-      ∷ default 3 (codes "allowList") (tolerated (accepted (growing descriptor))) (λ x r. record r { allow_list = x })
-      ∷ default 4 (codes "extensions") (tolerated (growing get_extensions)) (λ x r. record r { extensions = x })
-      ∷ default 5 (codes "options") (growing options) (λ x r. record r { options = x })
+      ∷ default 3 (codes "allowList") (tolerated (accepted (nested descriptor_fields))) (λ x r. record r { allow_list = x })
+      ∷ default 4 (codes "extensions") (tolerated (nested get_extensions_fields)) (λ x r. record r { extensions = x })
+      ∷ default 5 (codes "options") (nested options_fields) (λ x r. record r { options = x })
       ∷ default 6 (codes "pinAuth") (optional bytes) (λ x r. record r { pin_auth = x })
       ∷ default 7 (codes "pinProtocol") (optional (below 256)) (λ x r. record r { pin_protocol = x })
       ∷ [];

@@ -7,15 +7,16 @@ use Rattle.passkey_core.specs.Coherent.{is_coherent}
 use Rattle.passkey_core.specs.DataNormal.{IsData, Where, normal_data}
 use Rattle.passkey_core.specs.DataParts.{DataParts, bare_data}
 use Rattle.passkey_kinds.specs.Data.{auth_data_tree}
-use Rattle.passkey_entities.specs.MakeUser.{user, user_tree}
+use Rattle.passkey_entities.specs.MakeUser.{user, user_tree, user_fields}
 use Rattle.passkey_entities.specs.declared.user.PublicKeyCredentialUserEntity.{PublicKeyCredentialUserEntity}
 use Rattle.passkey_extensions.specs.ExtensionTrees.{used_tree, UsedFits}
-use Rattle.passkey_extensions.specs.GetUnsigned.{unsigned}
+use Rattle.passkey_extensions.specs.GetUnsigned.{unsigned, unsigned_fields}
 use Rattle.passkey_extensions.specs.declared.get_assertion.unsigned.UnsignedExtensionOutputs.{UnsignedExtensionOutputs}
-use Rattle.passkey_kinds.specs.Descriptor.{descriptor}
+use Rattle.passkey_kinds.specs.Descriptor.{descriptor, descriptor_fields}
 use Rattle.passkey_kinds.specs.Record.{Fields, required, default, table_of, read_item}
+use Rattle.passkey_kinds.specs.RecordCost.{nested}
 use Rattle.passkey_kinds.specs.Table.{Table}
-use Rattle.passkey_kinds.specs.Typed.{below, bytes, optional, truth, growing, authenticator_data}
+use Rattle.passkey_kinds.specs.Typed.{below, bytes, optional, truth, authenticator_data}
 use Rattle.passkey_kinds.specs.ReadBack.{IsByte}
 use Rattle.passkey_kinds.specs.Tree.{Place, number_tree, always, where_some, record_tree}
 use Rattle.passkey_kinds.specs.Trees.{descriptor_tree}
@@ -37,14 +38,14 @@ abbrev pub get_response_fields : Fields GetResponseParts
 get_response_fields = record {
   is_numbered = true;
   blank = record { credential = None; auth_data = bare_data (replicate 32 0) 24 None; signature = []; user = None; number_of_credentials = None; user_selected = None; large_blob_key = None; unsigned_extension_outputs = None };
-  rows = default 1 (codes "credential") (optional (growing descriptor)) (λ x r. record r { credential = x })
+  rows = default 1 (codes "credential") (optional (nested descriptor_fields)) (λ x r. record r { credential = x })
       ∷ required 2 (codes "authData") authenticator_data (λ x r. record r { auth_data = x })
       ∷ required 3 (codes "signature") bytes (λ x r. record r { signature = x })
-      ∷ default 4 (codes "user") (optional (growing user)) (λ x r. record r { user = x })
+      ∷ default 4 (codes "user") (optional (nested user_fields)) (λ x r. record r { user = x })
       ∷ default 5 (codes "numberOfCredentials") (optional (below 256)) (λ x r. record r { number_of_credentials = x })
       ∷ default 6 (codes "userSelected") (optional truth) (λ x r. record r { user_selected = x })
       ∷ default 7 (codes "largeBlobKey") (optional bytes) (λ x r. record r { large_blob_key = x })
-      ∷ default 8 (codes "unsignedExtensionOutputs") (optional (growing unsigned)) (λ x r. record r { unsigned_extension_outputs = x })
+      ∷ default 8 (codes "unsignedExtensionOutputs") (optional (nested unsigned_fields)) (λ x r. record r { unsigned_extension_outputs = x })
       ∷ [];
 }
 

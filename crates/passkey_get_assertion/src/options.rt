@@ -3,10 +3,11 @@ ghost use Rattle.std.specs.Prelude.{◌≡◌, true, false};
 ghost use Rattle.passkey_get_assertion.specs.GetOptions.{options_tree, options_fields, options, options_default};
 ghost use Rattle.passkey_get_assertion.specs.declared.options.Options.{Options as Asked};
 ghost use Rattle.passkey_kinds.specs.ReadBack.{Any};
+ghost use Rattle.passkey_kinds.specs.RecordCost.{record_cost, record_keeps};
 
-use passkey_cbor::Value;
+use passkey_cbor::{Cursor, Value};
 use passkey_kinds::{
-    FromCbor, ReadBack, Record, Refusal, Row, Shallow, Source, ToCbor, Written, nested_from_value,
+    FromCbor, ReadBack, Record, Refusal, Row, Shallow, Source, ToCbor, Written, nested_from_value, read_nested,
     set,
 };
 use passkey_memory::OutOfMemory;
@@ -70,8 +71,16 @@ impl FromCbor for Options {
 
     ghost takes = { true };
 
+    ghost cost = { record_cost options_fields };
+
+    ghost keeps = { record_keeps options_fields };
+
     fn from_value(alloc: Global, value: &Value) -> Result<Options, Refusal> {
         nested_from_value(alloc, value)
+    }
+
+    fn read(alloc: Global, cursor: &mut Cursor<'_>) -> Result<Options, Refusal> {
+        read_nested(alloc, cursor)
     }
 }
 

@@ -2,9 +2,11 @@
 use Rattle.std.specs.Prelude.{ℕ, ◌^◌, Bool, true, List, [], ◌∷◌, Option, None, codes, replicate, Result}
 use Rattle.passkey_cbor.specs.Item.{Item}
 use Rattle.passkey_get_info.specs.GetInfoNames.{version, extension}
-use Rattle.passkey_get_info.specs.GetInfoOptions.{options}
-use Rattle.passkey_kinds.specs.Parameters.{parameters}
+use Rattle.passkey_get_info.specs.GetInfoOptions.{options, options_fields}
+use Rattle.passkey_kinds.specs.Parameters.{parameters, parameters_fields}
+use Rattle.passkey_kinds.specs.Keeping.{nothing}
 use Rattle.passkey_kinds.specs.Record.{Fields, required, default, table_of, read_item}
+use Rattle.passkey_kinds.specs.RecordCost.{nested}
 use Rattle.passkey_kinds.specs.Table.{Table}
 use Rattle.passkey_kinds.specs.Typed.{aaguid, truth, below, size, text, one_named, optional, bytes, growing, list, accepted, tolerated}
 use Rattle.passkey_kinds.specs.declared.fault.Fault.{Fault}
@@ -79,14 +81,14 @@ abbrev pub get_info_fields : Fields GetInfoParts
 get_info_fields = record {
   is_numbered = true;
   blank = get_info_empty;
-  rows = required 1 (codes "versions") (list (growing version)) (λ x r. record r { versions = x })
-      ∷ default 2 (codes "extensions") (optional (list (growing extension))) (λ x r. record r { extensions = x })
+  rows = required 1 (codes "versions") (list (growing 2 nothing version)) (λ x r. record r { versions = x })
+      ∷ default 2 (codes "extensions") (optional (list (growing 2 nothing extension))) (λ x r. record r { extensions = x })
       ∷ required 3 (codes "aaguid") aaguid (λ x r. record r { aaguid = x })
-      ∷ default 4 (codes "options") (optional (growing options)) (λ x r. record r { options = x })
+      ∷ default 4 (codes "options") (optional (nested options_fields)) (λ x r. record r { options = x })
       ∷ default 5 (codes "maxMsgSize") (optional size) (λ x r. record r { max_msg_size = x })
       ∷ default 6 (codes "pinProtocols") (optional (list (below 256))) (λ x r. record r { pin_protocols = x })
       ∷ default 9 (codes "transports") (tolerated (accepted (one_named transport_named))) (λ x r. record r { transports = x })
-      ∷ default 10 (codes "algorithms") (tolerated (accepted (growing parameters))) (λ x r. record r { algorithms = x })
+      ∷ default 10 (codes "algorithms") (tolerated (accepted (nested parameters_fields))) (λ x r. record r { algorithms = x })
       ∷ default 11 (codes "macSerializedLargeBlobArray") (optional (below (2 ^ 32))) (λ x r. record r { mac_serialized_large_blob_array = x })
       ∷ default 12 (codes "forcePinChange") (optional truth) (λ x r. record r { force_pin_change = x })
       ∷ default 13 (codes "minPinLength") (optional (below (2 ^ 32))) (λ x r. record r { min_pin_length = x })

@@ -25,9 +25,6 @@ use Rattle.passkey_kinds.specs.Reader.{Onward, Further, Spends}
 pub onward_of : (a b : Walk) → Went a b → Onward a b
 onward_of a b w = record { same = w.same; within = λ h. w.within; forward = w.forward; heads = w.heads; nodes = w.nodes }
 
-pub onward_same : (a : Walk) → Onward a a
-onward_same a = record { same = refl; within = λ h. h; forward = omega arith; heads = omega arith; nodes = omega arith }
-
 pub onward_then : (a b c : Walk) → Onward a b → Onward b c → Onward a c
 onward_then a b c p q = record {
   same = q.same ∙ p.same;
@@ -66,7 +63,7 @@ stands_long x bytes from to l =
 head_spelled_long : (h : Head) (t : List ℕ) → SpellsHead h t → 0 < length t
 head_spelled_long h t s = omega (arith, head_long (t ++ []) h [] (head_again h t [] s), length-append t [])
 
-front_long : (x : Item) (bytes : List ℕ) (len : ℕ) → IsFront bytes x len → 0 < len
+pub front_long : (x : Item) (bytes : List ℕ) (len : ℕ) → IsFront bytes x len → 0 < len
 front_long x bytes len f =
     omega (arith, spelled_long (Within max_depth) (item_within max_depth) (follows_item max_depth) x (take len bytes) (f.shallow, f.spelled), length-take len bytes)
 

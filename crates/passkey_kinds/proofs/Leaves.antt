@@ -1,6 +1,6 @@
 -- Values of one head or one string, decoded at a cursor.
 use Rattle.std.specs.Option.{option_and_then}
-use Rattle.std.proofs.Common.{◌≡◌, ◌∙◌, ℕ, pos, negsuc, ◌≤◌, nat_lt, arith, Bool, true, false, if◌then◌else◌, List, Option, Some, None, option_map, Result, Ok, Err, OnOk, refl, sym, ap, subst}
+use Rattle.std.proofs.Common.{◌≡◌, ◌∙◌, ℕ, pos, negsuc, ◌≤◌, nat_lt, arith, Bool, true, false, if◌then◌else◌, List, Option, Some, None, option_map, Result, Ok, Err, OnOk, is_ok, refl, sym, ap, subst}
 use Rattle.passkey_cbor.specs.Item as item
 use Rattle.passkey_cbor.specs.Item.{Item}
 use Rattle.passkey_cbor.specs.Lent.{string_item}
@@ -12,6 +12,11 @@ use Rattle.passkey_kinds.specs.Reader.{Spends, Decodes}
 use Rattle.passkey_kinds.specs.declared.refusal.Refusal.{Refusal}
 use Rattle.passkey_kinds.specs.declared.refusal.Refusal.TheVariants.{Refused, OutOfMemory}
 use Rattle.passkey_kinds.proofs.Lists.{answers_from}
+
+-- what holds of success holds where it is known that there was one
+pub ok_ends : {A E P : Type 0} (r : Result A E) → OnOk r P → is_ok r ≡ true → P
+ok_ends (Ok x) h e = h
+ok_ends (Err x) h e = absurd cc
 
 pub on_ok : {T E P : Type 0} (r : Result T E) → P → OnOk r P
 on_ok (Ok x) h = h

@@ -36,3 +36,5 @@ pub mod Ahead
 pub mod Loops
 pub mod PairsAhead
 pub mod ArraysAhead
+pub mod Keys
+pub mod MembersAhead

@@ -33,7 +33,7 @@ break_one : (left : Option ℕ) → break_heads left ≤ 1
 break_one (Some n) = omega arith
 break_one None = omega arith
 
-one_looked : (before after : Option ℕ) (a b : Walk) (found : Bool) → Looks before after a b found → b.heads ≤ a.heads + 1
+pub one_looked : (before after : Option ℕ) (a b : Walk) (found : Bool) → Looks before after a b found → b.heads ≤ a.heads + 1
 one_looked before after a b found l = omega (arith, l.heads, raised-le a.heads (break_heads before), break_one before)
 
 -- one head to see whether there is an element, and the element's

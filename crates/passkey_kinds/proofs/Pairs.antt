@@ -1,57 +1,42 @@
 -- Members that are read one after the other.
 use Rattle.std.specs.List.{find}
 use Rattle.std.specs.Option.{option_or}
-use Rattle.std.proofs.Common.{◌≡◌, ◌∙◌, ◌<◌, ◌≤◌, ◌+◌, nat_lt, ℕ, zero, suc, add-one, arith, Bool, true, false, not, ◌&&◌, if◌then◌else◌, List, [], ◌∷◌, ◌++◌, length, map, replicate, take, drop, get_or, Option, Some, None, is_some, is_none, option_map, slice_get, inl, inr, refl, sym, ap, subst}
+use Rattle.std.proofs.Common.{◌≡◌, ◌∙◌, ◌<◌, ◌+◌, nat_lt, ℕ, suc, add-one, arith, Bool, true, false, not, ◌&&◌, if◌then◌else◌, List, [], ◌∷◌, ◌++◌, length, map, replicate, drop, get_or, Option, Some, None, is_some, is_none, option_map, slice_get, inl, inr, refl, sym, ap}
 use Rattle.std.proofs.lemmas.Bool.{and_parts, leb-true}
-use Rattle.std.proofs.lemmas.List.{drop_all, length-map, get_or-map, get_or-replicate, length-replicate}
-use Rattle.std.proofs.Math.Seq.{take-suc, drop-cons}
+use Rattle.std.proofs.lemmas.List.{length-map, get_or-map, get_or-replicate, length-replicate}
+use Rattle.std.proofs.Math.Seq.{drop-cons}
 use Rattle.std.proofs.lemmas.Option.{get_or_from_slice_get, slice_get-get_or}
 use Rattle.passkey_cbor.specs.Item.{Item}
 use Rattle.passkey_kinds.specs.Reading.{MayGrowBy, MayGrowIn, Marks, are_small, first_unmarked}
 use Rattle.passkey_kinds.specs.Table.{Entry, Table, entries, named, Members, found, bad_member, first_bad, first_missing}
 use Rattle.passkey_kinds.specs.declared.fault.Fault.{Fault}
 
--- a member at its place, between those before and those behind
-pub record IsAt (ms : Members) (i : ℕ) (m : Item × Item) : Type 0 where
-  pub before : take (i + 1) ms ≡ take i ms ++ m ∷ []
-  pub behind : drop i ms ≡ m ∷ drop (i + 1) ms
-
-pub member_at : {X : Type 0} (seen : X → Item × Item) (xs : List X) (i : ℕ) (x : X) → x ≡ get_or xs i x → i < length xs → IsAt (map seen xs) i (seen x)
+-- the member at an index, and those behind it
+pub member_at : {X : Type 0} (seen : X → Item × Item) (xs : List X) (i : ℕ) (x : X) → x ≡ get_or xs i x → i < length xs → drop i (map seen xs) ≡ seen x ∷ drop (i + 1) (map seen xs)
 member_at seen xs i x e within =
     let long : i < length (map seen xs) = omega (arith, within, length-map xs seen) in
     let here : get_or (map seen xs) i (seen x) ≡ seen x = get_or-map seen xs i x (seen x) within ∙ ap seen (sym e) in
-    record {
-      before = rw add-one (take-suc (map seen xs) i (seen x) long ∙ ap (λ (m : Item × Item). take i (map seen xs) ++ m ∷ []) here);
-      behind = rw add-one (drop-cons (map seen xs) i (seen x) long ∙ ap (λ (m : Item × Item). m ∷ drop (suc i) (map seen xs)) here);
-    }
+    rw add-one (drop-cons (map seen xs) i (seen x) long ∙ ap (λ (m : Item × Item). m ∷ drop (suc i) (map seen xs)) here)
 
 bad_here : (o : Option Fault) (f : Fault) (rest : Option Fault) → o ≡ Some f → option_or o rest ≡ Some f
 bad_here o f rest e = rw e refl
 
-grows_drop : (table : Table) (ms : Members) (i : ℕ) → MayGrowIn table (drop i ms) → MayGrowIn table ms
-grows_drop table [] i h = subst (MayGrowIn table) (drop_all i [] (omega arith)) h
-grows_drop table (m ∷ ms) zero h = h
-grows_drop table (m ∷ ms) (suc i) h = inr (grows_drop table ms i h)
-
-pub grows_in : (table : Table) (ms : Members) (i : ℕ) (m : Item × Item) (rest : Members) → drop i ms ≡ m ∷ rest → MayGrowBy table (named table m.0) m.1 → MayGrowIn table ms
-grows_in table ms i m rest e h = grows_drop table ms i (subst (MayGrowIn table) (sym e) (inl h))
+pub grows_behind : (table : Table) (earlier : Members) (m : Item × Item) (others : Members) → MayGrowBy table (named table m.0) m.1 → MayGrowIn table (earlier ++ m ∷ others)
+grows_behind table [] m others h = inl h
+grows_behind table (x ∷ xs) m others h = inr (grows_behind table xs m others h)
 
 pub none_marked : (n : ℕ) → n < 256 → slice_get (replicate 256 false) n ≡ Some false
 none_marked n small = slice_get-get_or (replicate 256 false) n false (omega (arith, small, length-replicate 256 false)) ∙ ap Some (get_or-replicate 256 n false false small)
 
 module _ (table : Table) where
-  pub first_is : (ms : Members) (i : ℕ) (m : Item × Item) (f : Fault) → IsAt ms i m → first_bad table [] ms ≡ first_bad table (take i ms) (drop i ms) → bad_member table (take i ms) m ≡ Some f → first_bad table [] ms ≡ Some f
-  first_is ms i m f at good bad = good ∙ ap (first_bad table (take i ms)) at.behind ∙ bad_here (bad_member table (take i ms) m) f _ bad
+  pub first_is : (ms earlier rest others : Members) (m : Item × Item) (f : Fault) → rest ≡ m ∷ others → first_bad table [] ms ≡ first_bad table earlier rest → bad_member table earlier m ≡ Some f → first_bad table [] ms ≡ Some f
+  first_is ms earlier rest others m f next good bad = good ∙ ap (first_bad table earlier) next ∙ bad_here (bad_member table earlier m) f _ bad
 
-  pub still_good : (ms : Members) (i : ℕ) (m : Item × Item) → IsAt ms i m → first_bad table [] ms ≡ first_bad table (take i ms) (drop i ms) → bad_member table (take i ms) m ≡ None → first_bad table [] ms ≡ first_bad table (take (i + 1) ms) (drop (i + 1) ms)
-  still_good ms i m at good none =
+  pub still_good : (ms earlier rest others : Members) (m : Item × Item) → rest ≡ m ∷ others → first_bad table [] ms ≡ first_bad table earlier rest → bad_member table earlier m ≡ None → first_bad table [] ms ≡ first_bad table (earlier ++ m ∷ []) others
+  still_good ms earlier rest others m next good none =
       good
-      ∙ ap (first_bad table (take i ms)) at.behind
-      ∙ ap (λ (o : Option Fault). option_or o (first_bad table (take i ms ++ m ∷ []) (drop (i + 1) ms))) none
-      ∙ ap (λ (before : Members). first_bad table before (drop (i + 1) ms)) (sym at.before)
-
-  pub none_bad : (ms : Members) (i : ℕ) → length ms ≤ i → first_bad table [] ms ≡ first_bad table (take i ms) (drop i ms) → first_bad table [] ms ≡ None
-  none_bad ms i past good = good ∙ ap (first_bad table (take i ms)) (drop_all i ms past)
+      ∙ ap (first_bad table earlier) next
+      ∙ ap (λ (o : Option Fault). option_or o (first_bad table (earlier ++ m ∷ []) others)) none
 
   same_missing : (ms : Members) (marks : List Bool) → Marks table ms marks → (es : List Entry) → are_small es ≡ true → find (λ (e : Entry). e.is_required && not (get_or marks e.number false)) es ≡ find (λ (e : Entry). e.is_required && is_none (found table ms e.number)) es
   same_missing ms marks marked [] small = refl

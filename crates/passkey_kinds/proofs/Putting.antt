@@ -1,17 +1,19 @@
 -- Records that are decoded one member after the other.
-use Rattle.std.proofs.Common.{◌≡◌, ◌∙◌, ◌≤◌, ◌+◌, ℕ, Bool, true, false, List, [], ◌∷◌, ◌++◌, length, replicate, slice_get, take, drop, Option, None, is_some, Result, Ok, Err, refl, sym, ap, subst}
-use Rattle.std.proofs.lemmas.List.{take_all}
+use Rattle.std.proofs.Common.{◌≡◌, ◌∙◌, ℕ, Bool, true, false, List, [], ◌∷◌, ◌++◌, replicate, slice_get, Option, Some, None, is_some, Result, Ok, Err, OnOk, refl, sym, ap, subst, append_assoc}
+use Rattle.std.proofs.lemmas.List.{append-nil}
+use Rattle.std.specs.Result.{result_ok}
+use Rattle.passkey_cbor.specs.Item as item
 use Rattle.passkey_cbor.specs.Item.{Item}
-use Rattle.passkey_kinds.specs.Kind.{Kind, MayGrow}
+use Rattle.passkey_kinds.specs.Kind.{Kind, MayGrow, AnswersAs}
 use Rattle.passkey_kinds.specs.Reading.{takes_at, MayGrowIn, Reads, Marks, Steps, are_small, first_unmarked}
-use Rattle.passkey_kinds.specs.Record.{Fields, set_with, rows_of, table_of, put_at, put_named, with_members, unless_missing, judged, read_members}
-use Rattle.passkey_kinds.specs.RecordReading.{Sets, Puts, HasRead, HasReadTo}
-use Rattle.passkey_kinds.specs.Table.{Naming, row, unknown, entries, named, Members, accepts_at, bad_member, first_bad, first_missing}
+use Rattle.passkey_kinds.specs.Record.{Fields, set_with, rows_of, table_of, put_at, put_named, with_members, unless_missing, judged, read_members, read_item}
+use Rattle.passkey_kinds.specs.RecordReading.{Sets, Puts, HasRead, HasReadTo, held_as}
+use Rattle.passkey_kinds.specs.Table.{Naming, row, unknown, wrong, entries, named, Members, accepts_at, bad_by, bad_member, first_bad, first_missing}
 use Rattle.passkey_kinds.specs.declared.fault.Fault.{Fault}
 use Rattle.passkey_kinds.specs.declared.fault.Fault.TheVariants as fault
 use Rattle.passkey_kinds.specs.declared.refusal.Refusal.{Refusal}
 use Rattle.passkey_kinds.specs.declared.refusal.Refusal.TheVariants as refusal
-use Rattle.passkey_kinds.proofs.Pairs.{IsAt, grows_in, none_marked, first_is, still_good, none_bad, missing_is}
+use Rattle.passkey_kinds.proofs.Pairs.{grows_behind, none_marked, first_is, still_good, missing_is}
 
 module _ {P : Type 0} (t : Fields P) where
   pub put_last : (ms : Members) (m : Item × Item) (r : P) → with_members t (ms ++ m ∷ []) r ≡ put_named t.rows (named (table_of t) m.0) m.1 (with_members t ms r)
@@ -35,8 +37,10 @@ module _ {P : Type 0} (t : Fields P) where
 
   -- ---- all members
 
-  pub has_begun : (ms : Members) (held : P) (marks : List Bool) → held ≡ t.blank → marks ≡ replicate 256 false → HasReadTo t ms 0 held marks
+  pub has_begun : (ms : Members) (held : P) (marks : List Bool) → held ≡ t.blank → marks ≡ replicate 256 false → HasReadTo t ms ms held marks
   has_begun ms held marks empty none = record {
+    earlier = [];
+    whole = refl;
     good = refl;
     holds = record {
       marked = λ n small. ap (λ (bs : List Bool). slice_get bs n) none ∙ none_marked n small;
@@ -44,26 +48,83 @@ module _ {P : Type 0} (t : Fields P) where
     };
   }
 
-  pub goes_on : (ms : Members) (i : ℕ) (m : Item × Item) (old new : P) (marks next : List Bool) → IsAt ms i m → HasReadTo t ms i old marks → bad_member (table_of t) (take i ms) m ≡ None → Marks (table_of t) (take i ms ++ m ∷ []) next → with_members t (take i ms ++ m ∷ []) t.blank ≡ new → HasReadTo t ms (i + 1) new next
-  goes_on ms i m old new marks next at h good marked made = record {
-    good = still_good (table_of t) ms i m at h.good good;
-    holds = subst (λ (before : Members). HasRead t before new next) (sym at.before) (record { marked = marked; made = made });
+  pub goes_on : (ms rest others : Members) (m : Item × Item) (old new : P) (marks next : List Bool) → rest ≡ m ∷ others → (h : HasReadTo t ms rest old marks) → bad_member (table_of t) h.earlier m ≡ None → Marks (table_of t) (h.earlier ++ m ∷ []) next → with_members t (h.earlier ++ m ∷ []) t.blank ≡ new → HasReadTo t ms others new next
+  goes_on ms rest others m old new marks next at h good marked made = record {
+    earlier = h.earlier ++ m ∷ [];
+    whole = h.whole ∙ ap (λ (r : Members). h.earlier ++ r) at ∙ sym (append_assoc h.earlier (m ∷ []) others);
+    good = still_good (table_of t) ms h.earlier rest others m at h.good good;
+    holds = record { marked = marked; made = made };
   }
 
-  pub fails : {A : Type 0} (view : A → P) (ms : Members) (i : ℕ) (m : Item × Item) (later : List Bool) (f : Fault) → IsAt ms i m → first_bad (table_of t) [] ms ≡ first_bad (table_of t) (take i ms) (drop i ms) → Steps (table_of t) (take i ms) m later (Err f) → Reads view (MayGrowIn (table_of t) ms) (read_members t ms) (Err f)
-  fails view ms i m later fault.DecodeFailed at good h = absurd h
-  fails view ms i m later fault.OutOfMemory at good h = grows_in (table_of t) ms i m _ at.behind h
-  fails view ms i m later fault.NotAMap at good h = absurd h
-  fails view ms i m later fault.BadKey at good h = ap (judged t ms) (first_is (table_of t) ms i m fault.BadKey at good h)
-  fails view ms i m later (fault.Repeated n) at good h = ap (judged t ms) (first_is (table_of t) ms i m (fault.Repeated n) at good h)
-  fails view ms i m later (fault.Refused n) at good h = ap (judged t ms) (first_is (table_of t) ms i m (fault.Refused n) at good h)
-  fails view ms i m later (fault.Missing n) at good h = absurd h
+  module _ {A : Type 0} (view : A → P) (ms rest others : Members) (m : Item × Item) (old : P) (marks : List Bool) (at : rest ≡ m ∷ others) (h : HasReadTo t ms rest old marks) where
+    bad_is : (f : Fault) → bad_member (table_of t) h.earlier m ≡ Some f → read_members t ms ≡ Err f
+    bad_is f bad = ap (judged t ms) (first_is (table_of t) ms h.earlier rest others m f at h.good bad)
 
-  pub all_read : (ms : Members) (i : ℕ) (held : P) (marks : List Bool) (missing : Option ℕ) → length ms ≤ i → HasReadTo t ms i held marks → are_small (entries (table_of t)) ≡ true → first_unmarked (entries (table_of t)) marks ≡ missing → read_members t ms ≡ unless_missing missing held
-  all_read ms i held marks missing past h small e =
-      let whole : HasRead t ms held marks = subst (λ (before : Members). HasRead t before held marks) (take_all i ms past) h.holds in
-      let none : first_missing (table_of t) ms ≡ missing = sym (missing_is (table_of t) ms marks whole.marked small) ∙ e in
-      ap (judged t ms) (none_bad (table_of t) ms i past h.good) ∙ (λ j. unless_missing (none j) (whole.made j))
+    pub key_fails : named (table_of t) m.0 ≡ wrong → Reads view (MayGrowIn (table_of t) ms) (read_members t ms) (Err fault.BadKey)
+    key_fails naming = bad_is fault.BadKey (ap (λ (n : Naming). bad_by (table_of t) h.earlier n m.1) naming)
+
+    pub fails : (later : List Bool) (f : Fault) → Steps (table_of t) h.earlier m later (Err f) → Reads view (MayGrowIn (table_of t) ms) (read_members t ms) (Err f)
+    fails later fault.DecodeFailed s = absurd s
+    fails later fault.OutOfMemory s = subst (MayGrowIn (table_of t)) (sym (h.whole ∙ ap (λ (r : Members). h.earlier ++ r) at)) (grows_behind (table_of t) h.earlier m others s)
+    fails later fault.NotAMap s = absurd s
+    fails later fault.BadKey s = bad_is fault.BadKey s
+    fails later (fault.Repeated n) s = bad_is (fault.Repeated n) s
+    fails later (fault.Refused n) s = bad_is (fault.Refused n) s
+    fails later (fault.Missing n) s = absurd s
+
+  pub reads_from : {A : Type 0} {takes may : Type 0} (view : A → P) (wanted other : Result P Fault) (r : Result A Fault) → wanted ≡ other → (takes → may) → Reads view takes other r → Reads view may wanted r
+  reads_from view wanted other (Ok x) same grows h = same ∙ h
+  reads_from view wanted other (Err fault.DecodeFailed) same grows h = absurd h
+  reads_from view wanted other (Err fault.OutOfMemory) same grows h = grows h
+  reads_from view wanted other (Err fault.NotAMap) same grows h = same ∙ h
+  reads_from view wanted other (Err fault.BadKey) same grows h = same ∙ h
+  reads_from view wanted other (Err (fault.Repeated n)) same grows h = same ∙ h
+  reads_from view wanted other (Err (fault.Refused n)) same grows h = same ∙ h
+  reads_from view wanted other (Err (fault.Missing n)) same grows h = same ∙ h
+
+  -- all members were decoded
+  pub all_read : {A : Type 0} (view : A → P) (ms rest : Members) (held : P) (marks : List Bool) (r : Result A Fault) → rest ≡ [] → HasReadTo t ms rest held marks → are_small (entries (table_of t)) ≡ true → Reads view ⊥ (unless_missing (first_unmarked (entries (table_of t)) marks) held) r → Reads view (MayGrowIn (table_of t) ms) (read_members t ms) r
+  all_read view ms rest held marks r ended h small told =
+      let same : h.earlier ≡ ms = sym (h.whole ∙ ap (λ (x : Members). h.earlier ++ x) ended ∙ append-nil h.earlier) in
+      let whole : HasRead t ms held marks = subst (λ (before : Members). HasRead t before held marks) same h.holds in
+      let good : first_bad (table_of t) [] ms ≡ None = h.good ∙ ap (first_bad (table_of t) h.earlier) ended in
+      let missing : first_missing (table_of t) ms ≡ first_unmarked (entries (table_of t)) marks = sym (missing_is (table_of t) ms marks whole.marked small) in
+      reads_from view (read_members t ms) (unless_missing (first_unmarked (entries (table_of t)) marks) held) r (ap (judged t ms) good ∙ (λ j. unless_missing (missing j) (whole.made j))) (λ none. absurd none) told
+
+-- what is no map is no record
+pub no_record : {P : Type 0} (t : Fields P) (i : Item) → ((ps : item.Pairs) → i ≡ item.map ps → ⊥) → read_item t i ≡ Err fault.NotAMap
+no_record t (item.map ps) h = absurd (h ps refl)
+no_record t (item.number n) h = refl
+no_record t (item.byte_string s) h = refl
+no_record t (item.text_string s) h = refl
+no_record t (item.array xs) h = refl
+no_record t (item.tagged n x) h = refl
+no_record t (item.boolean b) h = refl
+no_record t item.null h = refl
+no_record t (item.simple n) h = refl
+no_record t (item.float f) h = refl
+
+-- ---- records that are held in others
+
+pub held_answers : {A P : Type 0} {takes may : Type 0} (t : Fields P) (view : A → P) (wanted : Result P Fault) (r : Result A Fault) → (takes → may) → Reads view takes wanted r → AnswersAs view (result_ok wanted) may (held_as r)
+held_answers t view wanted (Ok x) grows h = ap result_ok h
+held_answers t view wanted (Err fault.DecodeFailed) grows h = absurd h
+held_answers t view wanted (Err fault.OutOfMemory) grows h = grows h
+held_answers t view wanted (Err fault.NotAMap) grows h = ap result_ok h
+held_answers t view wanted (Err fault.BadKey) grows h = ap result_ok h
+held_answers t view wanted (Err (fault.Repeated n)) grows h = ap result_ok h
+held_answers t view wanted (Err (fault.Refused n)) grows h = ap result_ok h
+held_answers t view wanted (Err (fault.Missing n)) grows h = ap result_ok h
+
+pub held_ok : {A : Type 0} (Q : Type 0) (r : Result A Fault) → OnOk r Q → OnOk (held_as r) Q
+held_ok Q (Ok x) h = h
+held_ok Q (Err fault.DecodeFailed) h = tt
+held_ok Q (Err fault.OutOfMemory) h = tt
+held_ok Q (Err fault.NotAMap) h = tt
+held_ok Q (Err fault.BadKey) h = tt
+held_ok Q (Err (fault.Repeated n)) h = tt
+held_ok Q (Err (fault.Refused n)) h = tt
+held_ok Q (Err (fault.Missing n)) h = tt
 
 pub puts_refused : {P : Type 0} (t : Fields P) (n : ℕ) (i : Item) (old new : P) (why : Refusal) → why ≡ refusal.Refused → Puts t n i old new (Err why) → accepts_at (rows_of t.rows) n i ≡ false
 puts_refused t n i old new why e h = subst (λ (w : Refusal). Puts t n i old new (Err w)) e h

@@ -8,8 +8,10 @@ pub mod Reader
 pub mod HeadValues
 pub mod Typed
 pub mod Record
+pub mod RecordCost
 pub mod RecordReading
 pub mod Rows
+pub mod SourceLaws
 pub mod Descriptor
 pub mod Tree
 pub mod ReadBack

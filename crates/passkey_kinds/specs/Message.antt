@@ -1,8 +1,12 @@
--- What reading a message from bytes answers.
-use Rattle.std.specs.Prelude.{◌≡◌, ℕ, List, Result, Ok, Err}
+-- What decoding a message from bytes does.
+use Rattle.std.specs.Prelude.{◌≡◌, ℕ, ◌+◌, ◌-◌, ◌*◌, ◌≤◌, List, length, Result, Ok, Err, OnErr}
 use Rattle.passkey_cbor.specs.Front.{IsFront, HasNoFront}
 use Rattle.passkey_cbor.specs.Item.{Item}
 use Rattle.passkey_cbor.specs.Reads.{HasGrowingFront}
+use Rattle.passkey_cbor.specs.Walk.{Walk, ahead, Went}
+use Rattle.passkey_kinds.specs.Reading.{MayGrowAt}
+use Rattle.passkey_kinds.specs.Record.{Fields, read_item, table_of}
+use Rattle.passkey_kinds.specs.RecordCost.{kept_in_map}
 use Rattle.passkey_kinds.specs.declared.fault.Fault.{Fault}
 use Rattle.passkey_kinds.specs.declared.fault.Fault.TheVariants as fault
 
@@ -25,3 +29,29 @@ ReadsMessage view read bytes (Err fault.BadKey) = Begins bytes (λ i len. read i
 ReadsMessage view read bytes (Err (fault.Repeated n)) = Begins bytes (λ i len. read i ≡ Err (fault.Repeated n))
 ReadsMessage view read bytes (Err (fault.Refused n)) = Begins bytes (λ i len. read i ≡ Err (fault.Refused n))
 ReadsMessage view read bytes (Err (fault.Missing n)) = Begins bytes (λ i len. read i ≡ Err (fault.Missing n))
+
+-- Memory may run out only for a member whose map key names a row that takes memory, and whose value
+-- does.
+abbrev pub GrowsMessage : {P : Type 0} → Fields P → List ℕ → Type 0
+GrowsMessage t bytes = Begins bytes (λ i len. MayGrowAt (table_of t) i)
+
+-- ---- at a cursor
+
+-- the result with the bytes that the cursor moved over
+abbrev pub with_length : {A : Type 0} → Walk → Walk → Result A Fault → Result (A × ℕ) Fault
+with_length old new (Ok message) = Ok (message, new.place - old.place)
+with_length old new (Err e) = Err e
+
+-- What decoding a message at a cursor does: its result is that of the bytes from there on, and the
+-- cursor moves behind the message, or stays if there is an error. It decodes at most so many heads
+-- for each byte of the data item that begins these bytes, and makes at most those data items as
+-- values that the table keeps; if none begins them, at most one head for each byte and one more.
+pub record ReadsHere {A P : Type 0} (view : A → P) (t : Fields P) (cost : ℕ) (old new : Walk) (result : Result A Fault) : Type 0 where
+  pub reads : ReadsMessage view (read_item t) (ahead old) (with_length old new result)
+  pub grows : result ≡ Err fault.OutOfMemory → GrowsMessage t (ahead old)
+  pub stays : OnErr result (new.place ≡ old.place)
+  pub went : Went old new
+  pub heads : (i : Item) (len : ℕ) → IsFront (ahead old) i len → new.heads ≤ old.heads + cost * len
+  pub nodes : (i : Item) (len : ℕ) → IsFront (ahead old) i len → new.nodes ≤ old.nodes + kept_in_map t i
+  pub few_heads : HasNoFront (ahead old) → new.heads ≤ old.heads + length (ahead old) + 1
+  pub no_nodes : HasNoFront (ahead old) → new.nodes ≡ old.nodes

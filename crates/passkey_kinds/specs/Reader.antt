@@ -1,5 +1,5 @@
 -- What decoding a value over a cursor does.
-use Rattle.std.specs.Prelude.{◌≡◌, ℕ, ◌+◌, ◌*◌, ◌≤◌, ◌<◌, Bool, List, [], ◌∷◌, length, Option, Result, OnOk}
+use Rattle.std.specs.Prelude.{◌≡◌, ℕ, ◌+◌, ◌*◌, ◌≤◌, ◌<◌, Bool, true, List, [], ◌∷◌, length, Option, Result, OnOk}
 use Rattle.passkey_cbor.specs.Item.{Item}
 use Rattle.passkey_cbor.specs.Lent.{Region}
 use Rattle.passkey_cbor.specs.Walk.{Walk}
@@ -37,6 +37,11 @@ pub record Decodes {A M : Type 0} (view : A → M) (wanted : Option M) (takes : 
 abbrev pub ReadsAs : {A M : Type 0} → (A → M) → Kind M → Bool → ℕ → Keeping → Item → ℕ → Walk → Walk → Result A Refusal → Type 0
 ReadsAs view kind takes cost keeps i to old new result =
     Decodes view (kind i) (MayGrow takes i) cost (kept_of keeps i) to old new result
+
+-- The cursor stands at most at this place, as above; if decoding succeeded, it is there.
+pub record Costs (cost : ℕ) (keeps : Keeping) (i : Item) (to : ℕ) (old new : Walk) (ok : Bool) : Type 0 where
+  pub spends : Spends cost (kept_of keeps i) to old new
+  pub ends : ok ≡ true → new.place ≡ to
 
 -- how many data items decoding each makes at most as values
 abbrev pub kept_all : Keeping → List Item → ℕ

@@ -41,11 +41,14 @@ Reads view takes wanted (Err (fault.Repeated n)) = wanted ≡ Err (fault.Repeate
 Reads view takes wanted (Err (fault.Refused n)) = wanted ≡ Err (fault.Refused n)
 Reads view takes wanted (Err (fault.Missing n)) = wanted ≡ Err (fault.Missing n)
 
--- what the code says of a key
-abbrev pub naming_of : Named → Naming
-naming_of (code.Row n) = row n
-naming_of code.Unknown = unknown
-naming_of code.Wrong = wrong
+-- what the code says of a map key
+abbrev pub named_as : Named → Naming
+named_as (code.Row n) = row n
+named_as code.Unknown = unknown
+
+abbrev pub naming_of : Option Named → Naming
+naming_of (Some key) = named_as key
+naming_of None = wrong
 
 -- one more item, under row n
 abbrev pub with_row : ℕ → Item → (ℕ → Option Item) → ℕ → Option Item

@@ -1,12 +1,17 @@
 -- What decoding a record does, step by step.
-use Rattle.std.specs.Prelude.{◌≡◌, ℕ, Bool, true, false, List, [], ◌∷◌, ◌++◌, take, drop, Some, None, Result, Ok, Err, OnOk}
+use Rattle.std.specs.Prelude.{◌≡◌, ℕ, Bool, true, false, List, [], ◌∷◌, ◌++◌, Option, Some, None, Result, Ok, Err, IfSome, OnOk}
 use Rattle.passkey_cbor.specs.Item.{Item}
+use Rattle.passkey_cbor.specs.Walk.{Walk}
 use Rattle.passkey_kinds.specs.Kind.{Kind, MayGrow}
-use Rattle.passkey_kinds.specs.Reading.{takes_at, Marks, Steps}
-use Rattle.passkey_kinds.specs.Record.{Fields, rows_of, table_of, put_at, with_members}
-use Rattle.passkey_kinds.specs.Table.{Members, accepts_at, first_bad}
+use Rattle.passkey_kinds.specs.Reader.{Spends}
+use Rattle.passkey_kinds.specs.Reading.{takes_at, MayGrowIn, MayGrowAt, Reads, Marks, Steps, naming_of}
+use Rattle.passkey_kinds.specs.Record.{Fields, rows_of, table_of, put_at, with_members, read_members, read_item}
+use Rattle.passkey_kinds.specs.RecordCost.{record_cost, kept_in, kept_in_map}
+use Rattle.passkey_kinds.specs.Table.{Naming, Members, accepts_at, first_bad}
 use Rattle.passkey_kinds.specs.declared.fault.Fault.{Fault}
+use Rattle.passkey_kinds.specs.declared.fault.Fault.TheVariants as fault
 use Rattle.passkey_kinds.specs.declared.refusal.Refusal.{Refusal}
+use Rattle.passkey_kinds.specs.declared.rows.Named.{Named}
 use Rattle.passkey_kinds.specs.declared.refusal.Refusal.TheVariants.{Refused, OutOfMemory}
 
 -- What a field holds after its value was decoded.
@@ -30,7 +35,40 @@ pub record HasRead {P : Type 0} (t : Fields P) (earlier : Members) (held : P) (m
 abbrev pub ReadsOne : {P : Type 0} → Fields P → Members → Item × Item → P → List Bool → Result (Unit {0}) Fault → Type 0
 ReadsOne t earlier m held marks result = Steps (table_of t) earlier m marks result × OnOk result (with_members t (earlier ++ m ∷ []) t.blank ≡ held)
 
--- The members before the i-th are good, and the record and the marks hold them.
-pub record HasReadTo {P : Type 0} (t : Fields P) (ms : Members) (i : ℕ) (held : P) (marks : List Bool) : Type 0 where
-  pub good : first_bad (table_of t) [] ms ≡ first_bad (table_of t) (take i ms) (drop i ms)
-  pub holds : HasRead t (take i ms) held marks
+-- The members before the rest are good, and the record and the marks hold them.
+pub record HasReadTo {P : Type 0} (t : Fields P) (ms rest : Members) (held : P) (marks : List Bool) : Type 0 where
+  pub earlier : Members
+  pub whole : ms ≡ earlier ++ rest
+  pub good : first_bad (table_of t) [] ms ≡ first_bad (table_of t) earlier rest
+  pub holds : HasRead t earlier held marks
+
+-- ---- over a cursor
+
+-- What a map key names, where it is encoded up to this place.
+pub record ReadsKey (wanted : Naming) (to : ℕ) (old new : Walk) (found : Option Named) : Type 0 where
+  pub is : naming_of found ≡ wanted
+  pub spends : Spends 3 0 to old new
+  pub ends : IfSome found (λ key. new.place ≡ to)
+
+-- What decoding a record does where a data item is encoded up to this place.
+pub record DecodesRecord {A P : Type 0} (view : A → P) (t : Fields P) (i : Item) (to : ℕ) (old new : Walk) (result : Result A Fault) : Type 0 where
+  pub answers : Reads view (MayGrowAt (table_of t) i) (read_item t i) result
+  pub spends : Spends (record_cost t) (kept_in_map t i) to old new
+  pub ends : OnOk result (new.place ≡ to)
+
+-- The same of the members behind a map's head.
+pub record DecodesMembers {A P : Type 0} (view : A → P) (t : Fields P) (ms : Members) (to : ℕ) (old new : Walk) (result : Result A Fault) : Type 0 where
+  pub answers : Reads view (MayGrowIn (table_of t) ms) (read_members t ms) result
+  pub spends : Spends (record_cost t) (kept_in t ms) to old new
+  pub ends : OnOk result (new.place ≡ to)
+
+-- What a record's result is where the record is held in another one: each fault refuses it.
+abbrev pub held_as : {A : Type 0} → Result A Fault → Result A Refusal
+held_as (Ok x) = Ok x
+held_as (Err fault.OutOfMemory) = Err OutOfMemory
+held_as (Err fault.DecodeFailed) = Err Refused
+held_as (Err fault.NotAMap) = Err Refused
+held_as (Err fault.BadKey) = Err Refused
+held_as (Err (fault.Repeated n)) = Err Refused
+held_as (Err (fault.Refused n)) = Err Refused
+held_as (Err (fault.Missing n)) = Err Refused

@@ -1,76 +1,84 @@
--- Kinds, each with whether decoding its values may take memory.
-use Rattle.std.specs.Prelude.{ℕ, Bool, true, false, List, Option}
+-- Kinds, each with what decoding its values takes.
+use Rattle.std.specs.Prelude.{ℕ, suc, max, Bool, true, false, List, Option}
 use Rattle.passkey_bytes.specs.Map.{ByteMap}
 use Rattle.passkey_cbor.specs.Item.{Item}
+use Rattle.passkey_cbor.specs.Nodes.{nodes}
 use Rattle.passkey_core.specs.DataParts.{DataParts}
 use Rattle.passkey_iana.specs.declared.algorithm.Algorithm.{Algorithm}
 use Rattle.passkey_kinds.specs.Algorithm as numbered
 use Rattle.passkey_kinds.specs.Data as core
+use Rattle.passkey_kinds.specs.Keeping.{Keeping, nothing, counted, in_elements, in_members}
 use Rattle.passkey_kinds.specs.Kind as kind
 use Rattle.passkey_kinds.specs.Kind.{Kind}
 use Rattle.passkey_kinds.specs.MapKind as mapped
 use Rattle.passkey_kinds.specs.Size as sized
 
+-- Whether decoding a value may take memory, how many heads it decodes at most for each byte of the
+-- data item, and which data items it makes as values.
 pub record Typed (M : Type 0) : Type 0 where
   pub of : Kind M
   pub takes : Bool
+  pub cost : ℕ
+  pub keeps : Keeping
 
--- a kind whose values take no memory
-abbrev pub fixed : {M : Type 0} → Kind M → Typed M
-fixed k = record { of = k; takes = false }
+-- a kind whose values take no memory, at so many heads for each byte
+abbrev pub fixed : {M : Type 0} → ℕ → Kind M → Typed M
+fixed cost k = record { of = k; takes = false; cost = cost; keeps = nothing }
 
--- a kind whose values may take memory, as a record that is held in another one
-abbrev pub growing : {M : Type 0} → Kind M → Typed M
-growing k = record { of = k; takes = true }
+-- a kind whose values may take memory
+abbrev pub growing : {M : Type 0} → ℕ → Keeping → Kind M → Typed M
+growing cost keeps k = record { of = k; takes = true; cost = cost; keeps = keeps }
 
 abbrev pub truth : Typed Bool
-truth = fixed kind.truth
+truth = fixed 1 kind.truth
 
 abbrev pub below : ℕ → Typed ℕ
-below limit = fixed (kind.below limit)
+below limit = fixed 1 (kind.below limit)
 
 abbrev pub size : Typed ℕ
-size = fixed sized.size
+size = fixed 1 sized.size
 
 abbrev pub one_named : {T : Type 0} → (List ℕ → Option T) → Typed T
-one_named named = fixed (kind.one_named named)
+one_named named = fixed 2 (kind.one_named named)
 
 abbrev pub algorithm : Typed Algorithm
-algorithm = fixed numbered.algorithm
+algorithm = fixed 2 numbered.algorithm
 
 abbrev pub aaguid : Typed (List ℕ)
-aaguid = fixed core.aaguid
+aaguid = fixed 2 core.aaguid
 
 abbrev pub sized_bytes : ℕ → Typed (List ℕ)
-sized_bytes n = fixed (kind.sized_bytes n)
+sized_bytes n = fixed 3 (kind.sized_bytes n)
 
 abbrev pub text : Typed (List ℕ)
-text = growing kind.text
+text = growing 2 nothing kind.text
 
 abbrev pub bytes : Typed (List ℕ)
-bytes = growing kind.bytes
+bytes = growing 3 nothing kind.bytes
 
 abbrev pub kept : Typed Item
-kept = growing kind.kept
+kept = growing 2 (counted nodes) kind.kept
 
 abbrev pub authenticator_data : Typed DataParts
-authenticator_data = growing core.authenticator_data
+authenticator_data = growing 6 (counted core.authenticator_data_nodes) core.authenticator_data
 
+-- what may be null: one more head, to see whether it is
 abbrev pub optional : {M : Type 0} → Typed M → Typed (Option M)
-optional k = record { of = kind.optional k.of; takes = k.takes }
+optional k = record { of = kind.optional k.of; takes = k.takes; cost = suc k.cost; keeps = k.keeps }
 
+-- what may be refused: one more pass over the item
 abbrev pub tolerated : {M : Type 0} → Typed M → Typed (Option M)
-tolerated k = record { of = kind.tolerated k.of; takes = k.takes }
+tolerated k = record { of = kind.tolerated k.of; takes = k.takes; cost = suc k.cost; keeps = k.keeps }
 
--- the value, or this one where the kind refuses
+-- the value, or this one if the kind refuses
 abbrev pub or_else : {M : Type 0} → M → Typed M → Typed M
-or_else default k = record { of = kind.or_else default k.of; takes = k.takes }
+or_else default k = record k { of = kind.or_else default k.of; cost = suc k.cost }
 
 abbrev pub list : {M : Type 0} → Typed M → Typed (List M)
-list k = growing (kind.list k.of)
+list k = growing (suc k.cost) (in_elements k.keeps) (kind.list k.of)
 
 abbrev pub accepted : {M : Type 0} → Typed M → Typed (List M)
-accepted k = growing (kind.accepted k.of)
+accepted k = growing (suc (suc k.cost)) (in_elements k.keeps) (kind.accepted k.of)
 
 abbrev pub map_from_bytes : {M : Type 0} → Typed M → Typed (ByteMap M)
-map_from_bytes k = growing (mapped.map_from_bytes k.of)
+map_from_bytes k = growing (suc (max 3 k.cost)) (in_members k.keeps) (mapped.map_from_bytes k.of)

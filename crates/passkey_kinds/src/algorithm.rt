@@ -5,6 +5,7 @@ ghost use Rattle.passkey_cbor.specs.View.{item_of};
 ghost use Rattle.passkey_iana.specs.Iana.{algorithm_named};
 ghost use Rattle.passkey_iana.specs.declared.algorithm.Algorithm.{Algorithm as Named};
 ghost use Rattle.passkey_kinds.specs.Algorithm.{algorithm, algorithm_tree};
+ghost use Rattle.passkey_kinds.specs.Keeping.{nothing};
 ghost use Rattle.passkey_kinds.specs.Kind.{AnswersAs};
 ghost use Rattle.passkey_webauthn.specs.NumberText.{signed_64};
 ghost use Rattle.passkey_kinds.specs.ReadBack.{Any};
@@ -12,7 +13,7 @@ ghost use Rattle.passkey_kinds.specs.ReadBack.{Any};
 use crate::from_cbor::FromCbor;
 use crate::refusal::Refusal;
 use crate::to_cbor::ToCbor;
-use passkey_cbor::{Integer, Value};
+use passkey_cbor::{Cursor, Integer, Value};
 use passkey_iana::{Algorithm, EnumI64};
 use passkey_memory::OutOfMemory;
 use passkey_webauthn::whole_part;
@@ -42,12 +43,20 @@ impl FromCbor for Algorithm {
 
     ghost takes = { false };
 
+    ghost cost = { 2 };
+
+    ghost keeps = { nothing };
+
     fn from_value(_alloc: Global, value: &Value) -> Result<Algorithm, Refusal> {
         match value {
             Value::Integer(n) => named(signed_64(*n)),
             Value::Text(text) => named(whole_part(text.as_str())),
             _ => Err(Refusal::Refused),
         }
+    }
+
+    fn read(_alloc: Global, _cursor: &mut Cursor<'_>) -> Result<Algorithm, Refusal> {
+        Err(Refusal::Refused)
     }
 }
 

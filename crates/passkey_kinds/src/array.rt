@@ -12,7 +12,6 @@ ghost use Rattle.passkey_kinds.specs.Tree.{numbers_tree};
 
 use crate::from_cbor::FromCbor;
 use crate::head::read_array;
-use crate::read_cbor::ReadCbor;
 use crate::refusal::Refusal;
 use crate::to_cbor::ToCbor;
 use crate::written::write_each;
@@ -84,6 +83,10 @@ impl FromCbor for [u8; 32] {
 
     ghost takes = { false };
 
+    ghost cost = { 3 };
+
+    ghost keeps = { nothing };
+
     fn from_value(alloc: Global, value: &Value) -> Result<[u8; 32], Refusal> {
         match value {
             Value::Bytes(bytes) => <[u8; 32]>::try_from(bytes.as_slice()).or(Err(Refusal::Refused)),
@@ -91,12 +94,6 @@ impl FromCbor for [u8; 32] {
             _ => Err(Refusal::Refused),
         }
     }
-}
-
-impl ReadCbor for [u8; 32] {
-    ghost cost = { 3 };
-
-    ghost keeps = { nothing };
 
     fn read(alloc: Global, cursor: &mut Cursor<'_>) -> Result<[u8; 32], Refusal> {
         match cursor.bytes() {

@@ -13,7 +13,6 @@ ghost use Rattle.passkey_kinds.specs.Kind.{AnswersAs, each, below, bytes};
 use crate::from_cbor::FromCbor;
 use crate::head::read_array;
 use crate::list::{read_each, read_elements};
-use crate::read_cbor::ReadCbor;
 use crate::refusal::Refusal;
 use passkey_bytes::{Bytes, BytesFault, List as Numbers};
 use passkey_cbor::{Cursor, TextToken, Value};
@@ -91,6 +90,10 @@ impl FromCbor for Bytes {
 
     ghost takes = { true };
 
+    ghost cost = { 3 };
+
+    ghost keeps = { nothing };
+
     fn from_value(alloc: Global, value: &Value) -> Result<Bytes, Refusal> {
         match value {
             Value::Bytes(bytes) => Ok(Bytes::from_slice(alloc, bytes)?),
@@ -99,12 +102,6 @@ impl FromCbor for Bytes {
             _ => Err(Refusal::Refused),
         }
     }
-}
-
-impl ReadCbor for Bytes {
-    ghost cost = { 3 };
-
-    ghost keeps = { nothing };
 
     fn read(alloc: Global, cursor: &mut Cursor<'_>) -> Result<Bytes, Refusal> {
         if let Some(token) = cursor.bytes() {

@@ -11,7 +11,6 @@ ghost use Rattle.passkey_kinds.specs.Kind.{Answers};
 
 use crate::array::filled;
 use crate::from_cbor::FromCbor;
-use crate::read_cbor::ReadCbor;
 use crate::refusal::Refusal;
 use crate::to_cbor::ToCbor;
 use passkey_cbor::{Count, Cursor, Value};
@@ -59,18 +58,16 @@ impl FromCbor for AuthenticatorData {
 
     ghost takes = { true };
 
+    ghost cost = { 6 };
+
+    ghost keeps = { counted authenticator_data_nodes };
+
     fn from_value(alloc: Global, value: &Value) -> Result<AuthenticatorData, Refusal> {
         match value {
             Value::Bytes(bytes) => read_data(alloc, bytes, &mut Count { heads: 0, nodes: 0 }),
             _ => Err(Refusal::Refused),
         }
     }
-}
-
-impl ReadCbor for AuthenticatorData {
-    ghost cost = { 6 };
-
-    ghost keeps = { counted authenticator_data_nodes };
 
     fn read(alloc: Global, cursor: &mut Cursor<'_>) -> Result<AuthenticatorData, Refusal> {
         match cursor.bytes() {
@@ -115,18 +112,16 @@ impl FromCbor for Aaguid {
 
     ghost takes = { false };
 
+    ghost cost = { 2 };
+
+    ghost keeps = { nothing };
+
     fn from_value(_alloc: Global, value: &Value) -> Result<Aaguid, Refusal> {
         match value {
             Value::Bytes(bytes) => read_aaguid(bytes),
             _ => Err(Refusal::Refused),
         }
     }
-}
-
-impl ReadCbor for Aaguid {
-    ghost cost = { 2 };
-
-    ghost keeps = { nothing };
 
     fn read(_alloc: Global, cursor: &mut Cursor<'_>) -> Result<Aaguid, Refusal> {
         match cursor.bytes() {

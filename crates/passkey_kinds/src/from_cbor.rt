@@ -1,15 +1,20 @@
-//! Values that are read of items.
-ghost use Rattle.std.specs.Prelude.{◌^◌, ℕ, Bool, true, false, List, Option, option_map};
+//! Values that are decoded from data items.
+ghost use Rattle.std.specs.Prelude.{◌^◌, ℕ, suc, nat_lt, Bool, true, false, if◌then◌else◌, List, Option, option_map, OnOk};
 ghost use Rattle.passkey_cbor.specs.Item.{Item};
+ghost use Rattle.passkey_cbor.specs.Nodes.{nodes};
+ghost use Rattle.passkey_cbor.specs.Stands.{Stands};
 ghost use Rattle.passkey_cbor.specs.View.{item_of};
-ghost use Rattle.passkey_kinds.specs.Kind.{Answers, truth, below, text, kept, optional};
+ghost use Rattle.passkey_kinds.specs.Keeping.{Keeping, nothing, counted};
+ghost use Rattle.passkey_kinds.specs.Kind.{Answers, AnswersAs, truth, below, text, kept, optional};
+ghost use Rattle.passkey_kinds.specs.Reader.{Onward, Further, ReadsAs};
 
+use crate::head::{read_null, read_truth, read_unsigned};
 use crate::refusal::Refusal;
 use passkey_bytes::Text;
-use passkey_cbor::Value;
+use passkey_cbor::{CborError, Cursor, Value};
 use std::alloc::Global;
 
-/// A type whose values are read of items.
+/// A type whose values are decoded from data items, in memory or at a cursor.
 pub trait FromCbor: Drop {
     /// What contracts see of a value.
     ghost Meaning: { Type 0 };
@@ -19,13 +24,41 @@ pub trait FromCbor: Drop {
     /// What each item stands for, where it stands for a value.
     ghost kind: { Item → Option Meaning };
 
-    /// Whether reading may take memory.
+    /// Whether decoding may take memory.
     ghost takes: { Bool };
 
-    /// The value that the item stands for. `Refused` exactly where it stands for none;
-    /// `OutOfMemory` where a growth was refused, which only an item lets happen that takes memory.
+    /// How many heads decoding over a cursor decodes at most for each byte of the item.
+    ghost cost: { ℕ };
+
+    /// Which data items decoding over a cursor makes as values: those that the result keeps.
+    ghost keeps: { Keeping };
+
+    /// Returns the value that the item stands for. `Refused` exactly if it stands for none;
+    /// `OutOfMemory` if an allocation fails, which only an item lets happen that takes memory.
     fn from_value(alloc: Global, value: &Value) -> Result<Self, Refusal>
         ensures { Answers view kind takes (item_of value.now) result };
+
+    /// Decodes the data item at the cursor, head by head and without making it, and moves behind it.
+    /// If one of at most 256 levels is there, the result is that of `from_value`. On an error the
+    /// cursor may then be anywhere in it, and its counts keep what was spent.
+    fn read(alloc: Global, cursor: &mut Cursor<'_>) -> Result<Self, Refusal>
+        ensures reads { (i : Item) (to : ℕ) → Stands i cursor.old.bytes cursor.old.place to → ReadsAs view kind takes cost keeps i to cursor.old cursor.new result }
+
+        // Whatever is there, the cursor doesn't move back, and its counts don't fall.
+        ensures onward { Onward cursor.old cursor.new }
+        ensures further { OnOk result (Further cursor.old cursor.new) };
+}
+
+fn byte(n: u64) -> Result<u8, Refusal>
+    ensures { AnswersAs (λ b. b) (if nat_lt n (2 ^ 8) then Some n else None) ⊥ result }
+{
+    u8::try_from(n).or(Err(Refusal::Refused))
+}
+
+fn word(n: u64) -> Result<u32, Refusal>
+    ensures { AnswersAs (λ w. w) (if nat_lt n (2 ^ 32) then Some n else None) ⊥ result }
+{
+    u32::try_from(n).or(Err(Refusal::Refused))
 }
 
 impl FromCbor for bool {
@@ -37,10 +70,21 @@ impl FromCbor for bool {
 
     ghost takes = { false };
 
+    ghost cost = { 1 };
+
+    ghost keeps = { nothing };
+
     fn from_value(_alloc: Global, value: &Value) -> Result<bool, Refusal> {
         match value {
             Value::Bool(b) => Ok(*b),
             _ => Err(Refusal::Refused),
+        }
+    }
+
+    fn read(_alloc: Global, cursor: &mut Cursor<'_>) -> Result<bool, Refusal> {
+        match read_truth(cursor) {
+            Some(b) => Ok(b),
+            None => Err(Refusal::Refused),
         }
     }
 }
@@ -54,10 +98,21 @@ impl FromCbor for u8 {
 
     ghost takes = { false };
 
+    ghost cost = { 1 };
+
+    ghost keeps = { nothing };
+
     fn from_value(_alloc: Global, value: &Value) -> Result<u8, Refusal> {
         match value {
             Value::Integer(n) => u8::try_from(n.get()).or(Err(Refusal::Refused)),
             _ => Err(Refusal::Refused),
+        }
+    }
+
+    fn read(_alloc: Global, cursor: &mut Cursor<'_>) -> Result<u8, Refusal> {
+        match read_unsigned(cursor) {
+            Some(n) => byte(n),
+            None => Err(Refusal::Refused),
         }
     }
 }
@@ -71,10 +126,21 @@ impl FromCbor for u32 {
 
     ghost takes = { false };
 
+    ghost cost = { 1 };
+
+    ghost keeps = { nothing };
+
     fn from_value(_alloc: Global, value: &Value) -> Result<u32, Refusal> {
         match value {
             Value::Integer(n) => u32::try_from(n.get()).or(Err(Refusal::Refused)),
             _ => Err(Refusal::Refused),
+        }
+    }
+
+    fn read(_alloc: Global, cursor: &mut Cursor<'_>) -> Result<u32, Refusal> {
+        match read_unsigned(cursor) {
+            Some(n) => word(n),
+            None => Err(Refusal::Refused),
         }
     }
 }
@@ -88,10 +154,21 @@ impl FromCbor for Text {
 
     ghost takes = { true };
 
+    ghost cost = { 2 };
+
+    ghost keeps = { nothing };
+
     fn from_value(alloc: Global, value: &Value) -> Result<Text, Refusal> {
         match value {
             Value::Text(text) => Ok(Text::from_str(alloc, text.as_str())?),
             _ => Err(Refusal::Refused),
+        }
+    }
+
+    fn read(alloc: Global, cursor: &mut Cursor<'_>) -> Result<Text, Refusal> {
+        match cursor.text() {
+            Some(token) => Ok(Text::from(token.copy(alloc, cursor)?)),
+            None => Err(Refusal::Refused),
         }
     }
 }
@@ -105,8 +182,21 @@ impl FromCbor for Value {
 
     ghost takes = { true };
 
+    ghost cost = { 2 };
+
+    ghost keeps = { counted nodes };
+
     fn from_value(alloc: Global, value: &Value) -> Result<Value, Refusal> {
         Ok(value.try_clone(alloc)?)
+    }
+
+    fn read(alloc: Global, cursor: &mut Cursor<'_>) -> Result<Value, Refusal> {
+        match cursor.value(alloc) {
+            Ok(value) => Ok(value),
+            Err(CborError::OutOfMemory) => Err(Refusal::OutOfMemory),
+            Err(CborError::DecodeFailed) => Err(Refusal::Refused),
+            Err(CborError::OutOfRangeIntegerValue) => Err(Refusal::Refused),
+        }
     }
 }
 
@@ -119,10 +209,23 @@ impl<T: FromCbor> FromCbor for Option<T> {
 
     ghost takes = { T.takes };
 
+    ghost cost = { suc T.cost };
+
+    ghost keeps = { T.keeps };
+
     fn from_value(alloc: Global, value: &Value) -> Result<Option<T>, Refusal> {
         match value {
             Value::Null => Ok(None),
             _ => Ok(Some(T::from_value(alloc, value)?)),
         }
+    }
+
+    fn read(alloc: Global, cursor: &mut Cursor<'_>) -> Result<Option<T>, Refusal> {
+        let start = cursor.place();
+        if read_null(cursor) {
+            return Ok(None);
+        }
+        cursor.go_back(start);
+        Ok(Some(T::read(alloc, cursor)?))
     }
 }

@@ -10,7 +10,6 @@ ghost use Rattle.passkey_kinds.specs.Reader.{Onward, Decodes, kept_all};
 
 use crate::from_cbor::FromCbor;
 use crate::head::read_array;
-use crate::read_cbor::ReadCbor;
 use crate::refusal::Refusal;
 use crate::tolerated::Tolerated;
 use passkey_bytes::List;
@@ -42,7 +41,7 @@ fn read_accepted<T: FromCbor>(alloc: Global, elements: &[Value]) -> Result<Toler
 }
 
 /// Decodes the elements of an array behind its head.
-pub(crate) fn read_elements<T: ReadCbor>(
+pub(crate) fn read_elements<T: FromCbor>(
     alloc: Global,
     mut left: Option<u64>,
     cursor: &mut Cursor<'_>,
@@ -58,7 +57,7 @@ pub(crate) fn read_elements<T: ReadCbor>(
 }
 
 /// Decodes those elements of an array behind its head that are accepted.
-fn read_accepted_elements<T: ReadCbor>(
+fn read_accepted_elements<T: FromCbor>(
     alloc: Global,
     mut left: Option<u64>,
     cursor: &mut Cursor<'_>,
@@ -86,18 +85,16 @@ impl<T: FromCbor> FromCbor for List<T> {
 
     ghost takes = { true };
 
+    ghost cost = { suc T.cost };
+
+    ghost keeps = { in_elements T.keeps };
+
     fn from_value(alloc: Global, value: &Value) -> Result<List<T>, Refusal> {
         match value {
             Value::Array(elements) => read_each(alloc, elements),
             _ => Err(Refusal::Refused),
         }
     }
-}
-
-impl<T: ReadCbor> ReadCbor for List<T> {
-    ghost cost = { suc T.cost };
-
-    ghost keeps = { in_elements T.keeps };
 
     fn read(alloc: Global, cursor: &mut Cursor<'_>) -> Result<List<T>, Refusal> {
         match read_array(cursor) {
@@ -121,18 +118,16 @@ impl<T: FromCbor> FromCbor for TolerantList<T> {
 
     ghost takes = { true };
 
+    ghost cost = { suc (suc T.cost) };
+
+    ghost keeps = { in_elements T.keeps };
+
     fn from_value(alloc: Global, value: &Value) -> Result<TolerantList<T>, Refusal> {
         match value {
             Value::Array(elements) => read_accepted(alloc, elements),
             _ => Err(Refusal::Refused),
         }
     }
-}
-
-impl<T: ReadCbor> ReadCbor for TolerantList<T> {
-    ghost cost = { suc (suc T.cost) };
-
-    ghost keeps = { in_elements T.keeps };
 
     fn read(alloc: Global, cursor: &mut Cursor<'_>) -> Result<TolerantList<T>, Refusal> {
         match read_array(cursor) {

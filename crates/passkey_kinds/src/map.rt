@@ -14,7 +14,6 @@ ghost use Rattle.passkey_kinds.specs.Tree.{byte_map_tree, entry_tree};
 
 use crate::from_cbor::FromCbor;
 use crate::head::read_map;
-use crate::read_cbor::ReadCbor;
 use crate::refusal::Refusal;
 use crate::to_cbor::ToCbor;
 use passkey_bytes::{Bytes, Map};
@@ -36,7 +35,7 @@ fn read_entries<T: FromCbor>(
 }
 
 /// Decodes the entries of a map behind its head.
-fn read_entries_ahead<T: ReadCbor>(
+fn read_entries_ahead<T: FromCbor>(
     alloc: Global,
     mut left: Option<u64>,
     cursor: &mut Cursor<'_>,
@@ -61,18 +60,16 @@ impl<T: FromCbor> FromCbor for Map<Bytes, T> {
 
     ghost takes = { true };
 
+    ghost cost = { suc (max 3 T.cost) };
+
+    ghost keeps = { in_members T.keeps };
+
     fn from_value(alloc: Global, value: &Value) -> Result<Map<Bytes, T>, Refusal> {
         match value {
             Value::Map(pairs) => read_entries(alloc, pairs),
             _ => Err(Refusal::Refused),
         }
     }
-}
-
-impl<T: ReadCbor> ReadCbor for Map<Bytes, T> {
-    ghost cost = { suc (max 3 T.cost) };
-
-    ghost keeps = { in_members T.keeps };
 
     fn read(alloc: Global, cursor: &mut Cursor<'_>) -> Result<Map<Bytes, T>, Refusal> {
         match read_map(cursor) {

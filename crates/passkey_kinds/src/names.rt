@@ -13,7 +13,6 @@ ghost use Rattle.passkey_webauthn.specs.declared.credential_type.PublicKeyCreden
 ghost use Rattle.passkey_webauthn.specs.declared.transport.AuthenticatorTransport.{AuthenticatorTransport as Transport};
 
 use crate::from_cbor::FromCbor;
-use crate::read_cbor::ReadCbor;
 use crate::refusal::Refusal;
 use passkey_cbor::{Cursor, TextToken, Value};
 use passkey_webauthn::{AuthenticatorTransport, EnumNames, NameTable, PublicKeyCredentialType};
@@ -63,15 +62,13 @@ impl FromCbor for PublicKeyCredentialType {
 
     ghost takes = { false };
 
-    fn from_value(_alloc: Global, value: &Value) -> Result<PublicKeyCredentialType, Refusal> {
-        read_name(value)
-    }
-}
-
-impl ReadCbor for PublicKeyCredentialType {
     ghost cost = { 2 };
 
     ghost keeps = { nothing };
+
+    fn from_value(_alloc: Global, value: &Value) -> Result<PublicKeyCredentialType, Refusal> {
+        read_name(value)
+    }
 
     fn read(_alloc: Global, cursor: &mut Cursor<'_>) -> Result<PublicKeyCredentialType, Refusal> {
         read_named(cursor)
@@ -87,15 +84,13 @@ impl FromCbor for AuthenticatorTransport {
 
     ghost takes = { false };
 
-    fn from_value(_alloc: Global, value: &Value) -> Result<AuthenticatorTransport, Refusal> {
-        read_name(value)
-    }
-}
-
-impl ReadCbor for AuthenticatorTransport {
     ghost cost = { 2 };
 
     ghost keeps = { nothing };
+
+    fn from_value(_alloc: Global, value: &Value) -> Result<AuthenticatorTransport, Refusal> {
+        read_name(value)
+    }
 
     fn read(_alloc: Global, cursor: &mut Cursor<'_>) -> Result<AuthenticatorTransport, Refusal> {
         read_named(cursor)

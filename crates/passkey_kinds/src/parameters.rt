@@ -4,15 +4,16 @@ ghost use Rattle.passkey_kinds.specs.Parameters.{parameters_fields, parameters};
 ghost use Rattle.passkey_kinds.specs.Trees.{parameters_tree};
 ghost use Rattle.passkey_webauthn.specs.declared.parameters.PublicKeyCredentialParameters.{PublicKeyCredentialParameters as Parameters};
 ghost use Rattle.passkey_kinds.specs.ReadBack.{Any};
+ghost use Rattle.passkey_kinds.specs.RecordCost.{record_cost, record_keeps};
 
 use crate::from_cbor::FromCbor;
-use crate::record::{Record, nested_from_value};
+use crate::record::{Record, nested_from_value, read_nested};
 use crate::refusal::Refusal;
 use crate::rows::Row;
 use crate::source::{Source, set, set_or};
 use crate::to_cbor::ToCbor;
 use crate::written::Written;
-use passkey_cbor::Value;
+use passkey_cbor::{Cursor, Value};
 use passkey_iana::Algorithm;
 use passkey_memory::OutOfMemory;
 use passkey_webauthn::{PublicKeyCredentialParameters, PublicKeyCredentialType};
@@ -63,8 +64,19 @@ impl FromCbor for PublicKeyCredentialParameters {
 
     ghost takes = { true };
 
+    ghost cost = { record_cost parameters_fields };
+
+    ghost keeps = { record_keeps parameters_fields };
+
     fn from_value(alloc: Global, value: &Value) -> Result<PublicKeyCredentialParameters, Refusal> {
         nested_from_value(alloc, value)
+    }
+
+    fn read(
+        alloc: Global,
+        cursor: &mut Cursor<'_>,
+    ) -> Result<PublicKeyCredentialParameters, Refusal> {
+        read_nested(alloc, cursor)
     }
 }
 

@@ -1,19 +1,24 @@
 //! Records, decoded member by member.
-ghost use Rattle.std.specs.Prelude.{◌≡◌, true, false, map, replicate};
+ghost use Rattle.std.specs.Prelude.{◌≡◌, ◌≤◌, ℕ, true, false, length, map, replicate, is_ok, OnOk};
 ghost use Rattle.passkey_cbor.specs.Item.{Item};
+ghost use Rattle.passkey_cbor.specs.Stands.{Stands, StandPairs};
 ghost use Rattle.passkey_cbor.specs.View.{item_of, pair_of};
 ghost use Rattle.passkey_kinds.specs.Kind.{Answers};
-ghost use Rattle.passkey_kinds.specs.Reading.{MayGrowIn, MayGrowAt, Reads, are_small, first_unmarked};
-ghost use Rattle.passkey_kinds.specs.Record.{Fields, table_of, read_members, read_item, record_kind};
-ghost use Rattle.passkey_kinds.specs.RecordReading.{Puts, HasRead, ReadsOne};
+ghost use Rattle.passkey_kinds.specs.Reader.{Onward, Further, ReadsAs};
+ghost use Rattle.passkey_kinds.specs.Reading.{MayGrowIn, MayGrowAt, Reads, are_small, first_unmarked, named_as};
+ghost use Rattle.passkey_kinds.specs.Record.{Fields, table_of, read_members, read_item, record_kind, unless_missing};
+ghost use Rattle.passkey_kinds.specs.RecordCost.{record_cost, record_keeps, cost_at, keeps_at, cost_by, keeps_by};
+ghost use Rattle.passkey_kinds.specs.RecordReading.{Puts, HasRead, ReadsOne, DecodesMembers, DecodesRecord, held_as};
 ghost use Rattle.passkey_kinds.specs.Rows.{entry_of};
-ghost use Rattle.passkey_kinds.specs.Table.{Members, entries};
+ghost use Rattle.passkey_kinds.specs.Table.{Members, entries, named};
 
 use crate::fault::Fault;
+use crate::head::read_map;
+use crate::key::read_key;
 use crate::refusal::Refusal;
 use crate::rows::{Named, Row, row_of};
 use crate::source::{Source, Tree};
-use passkey_cbor::Value;
+use passkey_cbor::{Cursor, Value};
 use std::alloc::Global;
 
 /// A record that is decoded member by member: each value is put into a record that begins with its
@@ -31,9 +36,10 @@ pub trait Record: Drop {
     fn is_numbered() -> bool
         ensures { result ≡ fields.is_numbered };
 
-    /// The table's rows.
+    /// The table's rows, at most 32.
     fn rows() -> &'static [Row]
         ensures rows { map entry_of result.now ≡ entries (table_of fields) }
+        ensures few { length result.now ≤ 32 }
         ensures small { are_small (entries (table_of fields)) ≡ true };
 
     /// The record before a member is decoded. It takes no memory.
@@ -44,28 +50,37 @@ pub trait Record: Drop {
     /// no row has the number; `OutOfMemory` if an allocation fails, which only an item lets happen
     /// that takes memory.
     fn put<S: Source>(&mut self, alloc: Global, number: u8, source: &mut S) -> Result<(), Refusal>
-        ensures { (i : Item) → S.At source.old i → Puts fields number i (parts self.old) (parts self.new) result };
+        ensures puts { (i : Item) (to : ℕ) → S.At source.old i to → Puts fields number i (parts self.old) (parts self.new) result }
+        ensures spends { (i : Item) (to : ℕ) → S.At source.old i to → S.Spent (cost_at fields.rows number) (keeps_at fields.rows number) i to source.old source.new (is_ok result) }
+        ensures onward { S.Goes source.old source.new };
 }
 
-/// Decodes one more member.
-fn read_member<R: Record>(
+/// Decodes the value of one more member, whose map key names this.
+fn read_member<R: Record, S: Source>(
     alloc: Global,
     read: &mut R,
     seen: &mut [bool; 256],
-    key: &Value,
-    value: &Value,
+    key: Named,
+    source: &mut S,
 ) -> Result<(), Fault>
-    ensures { (earlier : Members) → HasRead R.fields earlier (R.parts read.old) seen.old → ReadsOne R.fields earlier (item_of key.now, item_of value.now) (R.parts read.new) seen.new result }
+    ensures reads { (earlier : Members) (label value : Item) (to : ℕ) → named (table_of R.fields) label ≡ named_as key → S.At source.old value to → HasRead R.fields earlier (R.parts read.old) seen.old → ReadsOne R.fields earlier (label, value) (R.parts read.new) seen.new result }
+    ensures spends { (value : Item) (to : ℕ) → S.At source.old value to → S.Spent (cost_by R.fields.rows (named_as key)) (keeps_by R.fields.rows (named_as key)) value to source.old source.new (is_ok result) }
+    ensures onward { S.Goes source.old source.new }
 {
-    let number = match row_of(R::is_numbered(), R::rows(), key) {
+    let number = match key {
         Named::Row(number) => number,
-        Named::Unknown => return Ok(()),
-        Named::Wrong => return Err(Fault::BadKey),
+        Named::Unknown => {
+            if source.pass() {
+                return Ok(());
+            }
+            // That none is there doesn't happen in a map that is there as a whole.
+            return Err(Fault::DecodeFailed);
+        }
     };
     if seen[usize::from(number)] {
         return Err(Fault::Repeated(number));
     }
-    match read.put(alloc, number, &mut Tree(value)) {
+    match read.put(alloc, number, source) {
         Ok(()) => {
             seen[usize::from(number)] = true;
             Ok(())
@@ -94,18 +109,30 @@ fn no_marks() -> [bool; 256]
     [false; 256]
 }
 
+/// The record, unless a required row has no mark.
+fn finish<R: Record>(read: R, seen: &[bool; 256]) -> Result<R, Fault>
+    ensures reads { Reads R.parts ⊥ (unless_missing (first_unmarked (entries (table_of R.fields)) seen.now) (R.parts read)) result }
+    ensures small { are_small (entries (table_of R.fields)) ≡ true }
+{
+    match first_missing(R::rows(), seen) {
+        Some(number) => Err(Fault::Missing(number)),
+        None => Ok(read),
+    }
+}
+
 fn read_pairs<R: Record>(alloc: Global, pairs: &[(Value, Value)]) -> Result<R, Fault>
     ensures { Reads R.parts (MayGrowIn (table_of R.fields) (map pair_of pairs.now)) (read_members R.fields (map pair_of pairs.now)) result }
 {
     let mut read = R::blank(alloc);
     let mut seen = no_marks();
     for (key, value) in pairs {
-        read_member(alloc, &mut read, &mut seen, key, value)?;
+        let key = match row_of(R::is_numbered(), R::rows(), key) {
+            Some(key) => key,
+            None => return Err(Fault::BadKey),
+        };
+        read_member(alloc, &mut read, &mut seen, key, &mut Tree(value))?;
     }
-    match first_missing(R::rows(), &seen) {
-        Some(number) => Err(Fault::Missing(number)),
-        None => Ok(read),
-    }
+    finish(read, &seen)
 }
 
 /// Decodes a record from a map (CTAP 2.1, sections 6 and 8). `NotAMap` if the item is none; else the
@@ -121,15 +148,66 @@ pub fn record_from_value<R: Record>(alloc: Global, value: &Value) -> Result<R, F
     }
 }
 
+/// Decodes the members of a map behind its head.
+fn read_pairs_ahead<R: Record>(
+    alloc: Global,
+    mut left: Option<u64>,
+    cursor: &mut Cursor<'_>,
+) -> Result<R, Fault>
+    ensures reads { (ms : Members) (to : ℕ) → StandPairs left ms cursor.old.bytes cursor.old.place to → DecodesMembers R.parts R.fields ms to cursor.old cursor.new result }
+    ensures onward { Onward cursor.old cursor.new }
+{
+    let mut read = R::blank(alloc);
+    let mut seen = no_marks();
+    while cursor.more(&mut left) {
+        let key = match read_key(R::is_numbered(), R::rows(), cursor) {
+            Some(key) => key,
+            None => return Err(Fault::BadKey),
+        };
+        read_member(alloc, &mut read, &mut seen, key, cursor)?;
+    }
+    finish(read, &seen)
+}
+
+/// Decodes the record that is at the cursor, as `record_from_value` decodes a data item, and moves
+/// behind it. On an error the cursor may then be anywhere in it.
+pub(crate) fn read_record<R: Record>(alloc: Global, cursor: &mut Cursor<'_>) -> Result<R, Fault>
+    ensures reads { (i : Item) (to : ℕ) → Stands i cursor.old.bytes cursor.old.place to → DecodesRecord R.parts R.fields i to cursor.old cursor.new result }
+    ensures onward { Onward cursor.old cursor.new }
+    ensures further { OnOk result (Further cursor.old cursor.new) }
+{
+    match read_map(cursor) {
+        Some(left) => read_pairs_ahead::<R>(alloc, left, cursor),
+        None => Err(Fault::NotAMap),
+    }
+}
+
+/// The result for a record that is held in another one: each of its faults refuses it.
+fn held<R: Record>(read: Result<R, Fault>) -> Result<R, Refusal>
+    ensures { result ≡ held_as read }
+{
+    match read {
+        Ok(record) => Ok(record),
+        Err(Fault::OutOfMemory) => Err(Refusal::OutOfMemory),
+        Err(_) => Err(Refusal::Refused),
+    }
+}
+
 /// Decodes a record that is held in another one. `Refused` if it has a fault other than running out
 /// of memory, as `record_from_value` reports it; `OutOfMemory` if an allocation fails, which only an
 /// item lets happen that takes memory.
 pub fn nested_from_value<R: Record>(alloc: Global, value: &Value) -> Result<R, Refusal>
     ensures { Answers R.parts (record_kind R.fields) true (item_of value.now) result }
 {
-    match record_from_value::<R>(alloc, value) {
-        Ok(record) => Ok(record),
-        Err(Fault::OutOfMemory) => Err(Refusal::OutOfMemory),
-        Err(_) => Err(Refusal::Refused),
-    }
+    held(record_from_value::<R>(alloc, value))
+}
+
+/// Decodes the record that is at the cursor and is held in another one, as `nested_from_value`
+/// decodes a data item, and moves behind it. On an error the cursor may then be anywhere in it.
+pub fn read_nested<R: Record>(alloc: Global, cursor: &mut Cursor<'_>) -> Result<R, Refusal>
+    ensures reads { (i : Item) (to : ℕ) → Stands i cursor.old.bytes cursor.old.place to → ReadsAs R.parts (record_kind R.fields) true (record_cost R.fields) (record_keeps R.fields) i to cursor.old cursor.new result }
+    ensures onward { Onward cursor.old cursor.new }
+    ensures further { OnOk result (Further cursor.old cursor.new) }
+{
+    held(read_record::<R>(alloc, cursor))
 }

@@ -3,7 +3,7 @@ ghost use Rattle.std.specs.Prelude.{◌≡◌, ◌==◌, map};
 ghost use Rattle.std.specs.List.{find};
 ghost use Rattle.std.specs.Str.{bytes_eq};
 ghost use Rattle.passkey_cbor.specs.View.{item_of};
-ghost use Rattle.passkey_kinds.specs.Reading.{naming_of};
+ghost use Rattle.passkey_kinds.specs.Reading.{named_as, naming_of};
 ghost use Rattle.passkey_kinds.specs.Rows.{entry_of};
 ghost use Rattle.passkey_kinds.specs.Table.{names, number_names, row_named, row_or_unknown};
 
@@ -28,7 +28,7 @@ impl Row {
         }
     }
 
-    fn name(&self) -> &'static str
+    pub(crate) fn name(&self) -> &'static str
         ensures { result.now ≡ (entry_of self.now).name }
     {
         match self {
@@ -46,19 +46,17 @@ impl Row {
     }
 }
 
-/// What a key names.
+/// What a map key names.
 #[derive(Clone, Copy)]
 pub(crate) enum Named {
     /// The row with this number.
     Row(u8),
     /// Nothing that the table knows.
     Unknown,
-    /// It is no key.
-    Wrong,
 }
 
 fn with_number(rows: &[Row], number: u8) -> Named
-    ensures { naming_of result ≡ row_or_unknown (find (λ e. e.number == number) (map entry_of rows.now)) }
+    ensures { named_as result ≡ row_or_unknown (find (λ e. e.number == number) (map entry_of rows.now)) }
 {
     for row in rows {
         if row.number() == number {
@@ -68,8 +66,8 @@ fn with_number(rows: &[Row], number: u8) -> Named
     Named::Unknown
 }
 
-fn with_name(rows: &[Row], name: &[u8]) -> Named
-    ensures { naming_of result ≡ row_named (map entry_of rows.now) name.now }
+pub(crate) fn with_name(rows: &[Row], name: &[u8]) -> Named
+    ensures { named_as result ≡ row_named (map entry_of rows.now) name.now }
 {
     for row in rows {
         if row.name().as_bytes() == name {
@@ -79,23 +77,24 @@ fn with_name(rows: &[Row], name: &[u8]) -> Named
     Named::Unknown
 }
 
-fn of_number(is_numbered: bool, rows: &[Row], number: Option<u8>) -> Named
+/// What a number names: `None` if the members have no numbers, or if it isn't below 256.
+pub(crate) fn of_number(is_numbered: bool, rows: &[Row], number: Option<u8>) -> Option<Named>
     ensures { naming_of result ≡ number_names is_numbered number (map entry_of rows.now) }
 {
     match number {
-        Some(number) if is_numbered => with_number(rows, number),
-        _ => Named::Wrong,
+        Some(number) if is_numbered => Some(with_number(rows, number)),
+        _ => None,
     }
 }
 
-/// What the key names.
-pub(crate) fn row_of(is_numbered: bool, rows: &[Row], key: &Value) -> Named
+/// What the map key names, or `None` if it is no key of a record.
+pub(crate) fn row_of(is_numbered: bool, rows: &[Row], key: &Value) -> Option<Named>
     ensures { naming_of result ≡ names is_numbered (map entry_of rows.now) (item_of key.now) }
 {
     match key {
         Value::Integer(n) => of_number(is_numbered, rows, u8::try_from(n.get()).ok()),
-        Value::Text(name) => with_name(rows, name.as_bytes()),
-        Value::Bytes(name) => with_name(rows, name),
-        _ => Named::Wrong,
+        Value::Text(name) => Some(with_name(rows, name.as_bytes())),
+        Value::Bytes(name) => Some(with_name(rows, name)),
+        _ => None,
     }
 }

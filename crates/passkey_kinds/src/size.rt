@@ -8,7 +8,6 @@ ghost use Rattle.passkey_kinds.specs.Size.{size};
 
 use crate::from_cbor::FromCbor;
 use crate::head::read_unsigned;
-use crate::read_cbor::ReadCbor;
 use crate::refusal::Refusal;
 use passkey_cbor::{Cursor, Integer, Value};
 use std::alloc::Global;
@@ -35,18 +34,16 @@ impl FromCbor for NonZeroU128 {
 
     ghost takes = { false };
 
+    ghost cost = { 1 };
+
+    ghost keeps = { nothing };
+
     fn from_value(_alloc: Global, value: &Value) -> Result<NonZeroU128, Refusal> {
         match value {
             Value::Integer(n) => positive(*n).ok_or(Refusal::Refused),
             _ => Err(Refusal::Refused),
         }
     }
-}
-
-impl ReadCbor for NonZeroU128 {
-    ghost cost = { 1 };
-
-    ghost keeps = { nothing };
 
     fn read(_alloc: Global, cursor: &mut Cursor<'_>) -> Result<NonZeroU128, Refusal> {
         match read_unsigned(cursor) {

@@ -1,27 +1,50 @@
 //! Where a record's values are decoded from.
-ghost use Rattle.std.specs.Prelude.{◌≡◌, map, option_map, true};
+ghost use Rattle.std.specs.Prelude.{◌≡◌, ℕ, suc, map, option_map, is_ok, Bool, true, false};
 ghost use Rattle.passkey_cbor.specs.Item.{Item};
+ghost use Rattle.passkey_cbor.specs.Stands.{Stands};
 ghost use Rattle.passkey_cbor.specs.View.{item_of};
+ghost use Rattle.passkey_kinds.specs.Keeping.{Keeping, nothing, in_elements};
 ghost use Rattle.passkey_kinds.specs.Kind.{Answers, accepted, or_else, tolerated};
+ghost use Rattle.passkey_kinds.specs.Reader.{Onward, Costs};
 ghost use Rattle.passkey_kinds.specs.RecordReading.{Sets};
+ghost use Rattle.passkey_kinds.specs.SourceLaws.{costs_nothing, onward_same};
 
 use crate::from_cbor::FromCbor;
 use crate::list::TolerantList;
 use crate::refusal::Refusal;
 use crate::tolerated::Tolerated;
 use passkey_bytes::List;
-use passkey_cbor::Value;
+use passkey_cbor::{Cursor, Value};
 use std::alloc::Global;
 
 /// A data item that a value is decoded from.
 pub trait Source {
-    /// The data item is this one.
-    ghost At: { Self → Item → Type 0 };
+    /// The data item is this one, and it ends here.
+    ghost At: { Self → Item → ℕ → Type 0 };
+
+    /// What decoding the item took: at most so many heads for each byte, and these data items as
+    /// values. If it succeeded, the source is behind the item.
+    ghost Spent: { ℕ → Keeping → Item → ℕ → Self → Self → Bool → Type 0 };
+
+    /// The source was not moved back, and its counts didn't fall.
+    ghost Goes: { Self → Self → Type 0 };
 
     /// Decodes the item. `Refused` exactly if it stands for no value of the type; `OutOfMemory` if an
     /// allocation fails, which only an item lets happen that takes memory.
     fn read<T: FromCbor>(&mut self, alloc: Global) -> Result<T, Refusal>
-        ensures { (i : Item) → At self.old i → Answers T.view T.kind T.takes i result };
+        ensures answers { (i : Item) (to : ℕ) → At self.old i to → Answers T.view T.kind T.takes i result }
+        ensures spends { (i : Item) (to : ℕ) → At self.old i to → Spent T.cost T.keeps i to self.old self.new (is_ok result) }
+        ensures onward { Goes self.old self.new };
+
+    /// Skips the item, of an unknown member. It takes no memory.
+    fn pass(&mut self) -> bool
+        ensures passes { (i : Item) (to : ℕ) → At self.old i to → result ≡ true }
+        ensures spends { (i : Item) (to : ℕ) → At self.old i to → Spent 1 nothing i to self.old self.new true }
+        ensures onward { Goes self.old self.new };
+
+    ghost stays: { (cost : ℕ) (keeps : Keeping) (i : Item) (to : ℕ) (s : Self) → At s i to → Spent cost keeps i to s s false };
+
+    ghost still: { (s : Self) → Goes s s };
 }
 
 /// A data item in memory.
@@ -29,10 +52,43 @@ pub trait Source {
 pub struct Tree<'a>(pub &'a Value);
 
 impl<'a> Source for Tree<'a> {
-    ghost At = { λ t i. item_of t.0.now ≡ i };
+    ghost At = { λ t i to. item_of t.0.now ≡ i };
+
+    ghost Spent = { λ cost keeps i to old new ok. Unit {0} };
+
+    ghost Goes = { λ old new. Unit {0} };
+
+    ghost stays = { λ cost keeps i to s at. tt };
+
+    ghost still = { λ s. tt };
 
     fn read<T: FromCbor>(&mut self, alloc: Global) -> Result<T, Refusal> {
         T::from_value(alloc, self.0)
+    }
+
+    fn pass(&mut self) -> bool {
+        true
+    }
+}
+
+/// The data item at a cursor.
+impl<'a> Source for Cursor<'a> {
+    ghost At = { λ w i to. Stands i w.bytes w.place to };
+
+    ghost Spent = { Costs };
+
+    ghost Goes = { Onward };
+
+    ghost stays = { costs_nothing };
+
+    ghost still = { onward_same };
+
+    fn read<T: FromCbor>(&mut self, alloc: Global) -> Result<T, Refusal> {
+        T::read(alloc, self)
+    }
+
+    fn pass(&mut self) -> bool {
+        self.skip()
     }
 }
 
@@ -43,7 +99,9 @@ pub fn set<T: FromCbor, S: Source>(
     alloc: Global,
     source: &mut S,
 ) -> Result<(), Refusal>
-    ensures { (i : Item) → S.At source.old i → Sets T.view T.kind T.takes i field.new result }
+    ensures sets { (i : Item) (to : ℕ) → S.At source.old i to → Sets T.view T.kind T.takes i field.new result }
+    ensures spends { (i : Item) (to : ℕ) → S.At source.old i to → S.Spent T.cost T.keeps i to source.old source.new (is_ok result) }
+    ensures onward { S.Goes source.old source.new }
 {
     *field = source.read(alloc)?;
     Ok(())
@@ -56,7 +114,9 @@ pub fn set_tolerated<T: FromCbor, S: Source>(
     alloc: Global,
     source: &mut S,
 ) -> Result<(), Refusal>
-    ensures { (i : Item) → S.At source.old i → Sets (option_map T.view) (tolerated T.kind) T.takes i field.new result }
+    ensures sets { (i : Item) (to : ℕ) → S.At source.old i to → Sets (option_map T.view) (tolerated T.kind) T.takes i field.new result }
+    ensures spends { (i : Item) (to : ℕ) → S.At source.old i to → S.Spent (suc T.cost) T.keeps i to source.old source.new (is_ok result) }
+    ensures onward { S.Goes source.old source.new }
 {
     let read: Tolerated<T> = source.read(alloc)?;
     *field = read.0;
@@ -71,7 +131,9 @@ pub fn set_or<T: FromCbor, S: Source>(
     alloc: Global,
     source: &mut S,
 ) -> Result<(), Refusal>
-    ensures { (i : Item) → S.At source.old i → Sets T.view (or_else (T.view default) T.kind) T.takes i field.new result }
+    ensures sets { (i : Item) (to : ℕ) → S.At source.old i to → Sets T.view (or_else (T.view default) T.kind) T.takes i field.new result }
+    ensures spends { (i : Item) (to : ℕ) → S.At source.old i to → S.Spent (suc T.cost) T.keeps i to source.old source.new (is_ok result) }
+    ensures onward { S.Goes source.old source.new }
 {
     let read: Tolerated<T> = source.read(alloc)?;
     *field = read.0.unwrap_or(default);
@@ -85,7 +147,9 @@ pub fn set_accepted<T: FromCbor, S: Source>(
     alloc: Global,
     source: &mut S,
 ) -> Result<(), Refusal>
-    ensures { (i : Item) → S.At source.old i → Sets (λ xs. map T.view xs) (accepted T.kind) true i field.new result }
+    ensures sets { (i : Item) (to : ℕ) → S.At source.old i to → Sets (λ xs. map T.view xs) (accepted T.kind) true i field.new result }
+    ensures spends { (i : Item) (to : ℕ) → S.At source.old i to → S.Spent (suc (suc T.cost)) (in_elements T.keeps) i to source.old source.new (is_ok result) }
+    ensures onward { S.Goes source.old source.new }
 {
     let read: TolerantList<T> = source.read(alloc)?;
     *field = read.0;
@@ -98,7 +162,9 @@ pub fn set_accepted_or_none<T: FromCbor, S: Source>(
     alloc: Global,
     source: &mut S,
 ) -> Result<(), Refusal>
-    ensures { (i : Item) → S.At source.old i → Sets (λ o. option_map (λ xs. map T.view xs) o) (tolerated (accepted T.kind)) true i field.new result }
+    ensures sets { (i : Item) (to : ℕ) → S.At source.old i to → Sets (λ o. option_map (λ xs. map T.view xs) o) (tolerated (accepted T.kind)) true i field.new result }
+    ensures spends { (i : Item) (to : ℕ) → S.At source.old i to → S.Spent (suc (suc (suc T.cost))) (in_elements T.keeps) i to source.old source.new (is_ok result) }
+    ensures onward { S.Goes source.old source.new }
 {
     let read: Tolerated<TolerantList<T>> = source.read(alloc)?;
     *field = read.0.map(|list| list.0);

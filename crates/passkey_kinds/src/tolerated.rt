@@ -3,7 +3,6 @@ ghost use Rattle.std.specs.Prelude.{suc, Option, option_map};
 ghost use Rattle.passkey_kinds.specs.Kind.{tolerated};
 
 use crate::from_cbor::FromCbor;
-use crate::read_cbor::ReadCbor;
 use crate::refusal::Refusal;
 use passkey_cbor::{Cursor, Value};
 use std::alloc::Global;
@@ -21,6 +20,10 @@ impl<T: FromCbor> FromCbor for Tolerated<T> {
 
     ghost takes = { T.takes };
 
+    ghost cost = { suc T.cost };
+
+    ghost keeps = { T.keeps };
+
     fn from_value(alloc: Global, value: &Value) -> Result<Tolerated<T>, Refusal> {
         match T::from_value(alloc, value) {
             Ok(read) => Ok(Tolerated(Some(read))),
@@ -28,12 +31,6 @@ impl<T: FromCbor> FromCbor for Tolerated<T> {
             Err(Refusal::OutOfMemory) => Err(Refusal::OutOfMemory),
         }
     }
-}
-
-impl<T: ReadCbor> ReadCbor for Tolerated<T> {
-    ghost cost = { suc T.cost };
-
-    ghost keeps = { T.keeps };
 
     fn read(alloc: Global, cursor: &mut Cursor<'_>) -> Result<Tolerated<T>, Refusal> {
         let start = cursor.place();

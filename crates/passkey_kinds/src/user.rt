@@ -4,16 +4,17 @@ ghost use Rattle.passkey_kinds.specs.Trees.{webauthn_user_tree};
 ghost use Rattle.passkey_kinds.specs.User.{user_fields, user};
 ghost use Rattle.passkey_webauthn.specs.declared.user.PublicKeyCredentialUserEntity.{PublicKeyCredentialUserEntity as UserEntity};
 ghost use Rattle.passkey_kinds.specs.ReadBack.{Any};
+ghost use Rattle.passkey_kinds.specs.RecordCost.{record_cost, record_keeps};
 
 use crate::from_cbor::FromCbor;
-use crate::record::{Record, nested_from_value};
+use crate::record::{Record, nested_from_value, read_nested};
 use crate::refusal::Refusal;
 use crate::rows::Row;
 use crate::source::{Source, set};
 use crate::to_cbor::ToCbor;
 use crate::written::Written;
 use passkey_bytes::{Bytes, Text};
-use passkey_cbor::Value;
+use passkey_cbor::{Cursor, Value};
 use passkey_memory::OutOfMemory;
 use passkey_webauthn::PublicKeyCredentialUserEntity;
 use std::alloc::Global;
@@ -64,8 +65,19 @@ impl FromCbor for PublicKeyCredentialUserEntity {
 
     ghost takes = { true };
 
+    ghost cost = { record_cost user_fields };
+
+    ghost keeps = { record_keeps user_fields };
+
     fn from_value(alloc: Global, value: &Value) -> Result<PublicKeyCredentialUserEntity, Refusal> {
         nested_from_value(alloc, value)
+    }
+
+    fn read(
+        alloc: Global,
+        cursor: &mut Cursor<'_>,
+    ) -> Result<PublicKeyCredentialUserEntity, Refusal> {
+        read_nested(alloc, cursor)
     }
 }
 

@@ -4,19 +4,20 @@ use Rattle.passkey_cbor.specs.Depth.{depth}
 use Rattle.passkey_cbor.specs.Front.{max_depth}
 use Rattle.passkey_cbor.specs.Item.{Item, byte_string}
 use Rattle.passkey_core.specs.DataNormal.{Where}
-use Rattle.passkey_kinds.specs.Descriptor.{descriptor}
+use Rattle.passkey_kinds.specs.Descriptor.{descriptor, descriptor_fields}
 use Rattle.passkey_extensions.specs.ExtensionTrees.{make_extensions_tree, MakeExtensionsFit}
 use Rattle.passkey_kinds.specs.Record.{Fields, required, default, table_of, read_item}
+use Rattle.passkey_kinds.specs.RecordCost.{nested}
 use Rattle.passkey_kinds.specs.Table.{Table}
-use Rattle.passkey_kinds.specs.Typed.{below, optional, bytes, accepted, tolerated, growing}
-use Rattle.passkey_extensions.specs.MakeExtensions.{MakeExtensionsParts, make_extensions}
-use Rattle.passkey_make_credential.specs.MakeOptions.{options, options_default, options_tree, normal_options}
-use Rattle.passkey_entities.specs.MakeRp.{rp, rp_tree}
-use Rattle.passkey_kinds.specs.Parameters.{parameters}
+use Rattle.passkey_kinds.specs.Typed.{below, optional, bytes, accepted, tolerated}
+use Rattle.passkey_extensions.specs.MakeExtensions.{MakeExtensionsParts, make_extensions_fields}
+use Rattle.passkey_make_credential.specs.MakeOptions.{options, options_default, options_tree, normal_options, options_fields}
+use Rattle.passkey_entities.specs.MakeRp.{rp, rp_tree, rp_fields}
+use Rattle.passkey_kinds.specs.Parameters.{parameters, parameters_fields}
 use Rattle.passkey_kinds.specs.ReadBack.{IsByte}
 use Rattle.passkey_kinds.specs.Tree.{Place, number_tree, list_tree, always, where_some, record_tree}
 use Rattle.passkey_kinds.specs.Trees.{descriptor_tree, parameters_tree, webauthn_user_tree}
-use Rattle.passkey_kinds.specs.User.{user}
+use Rattle.passkey_kinds.specs.User.{user, user_fields}
 use Rattle.passkey_kinds.specs.declared.fault.Fault.{Fault}
 use Rattle.passkey_make_credential.specs.declared.options.Options.{Options}
 use Rattle.passkey_entities.specs.declared.rp.PublicKeyCredentialRpEntity.{PublicKeyCredentialRpEntity}
@@ -51,12 +52,12 @@ make_request_fields = record {
     pin_protocol = None;
   };
   rows = required 1 (codes "clientDataHash") bytes (λ x r. record r { client_data_hash = x })
-      ∷ required 2 (codes "rp") (growing rp) (λ x r. record r { rp = x })
-      ∷ required 3 (codes "user") (growing user) (λ x r. record r { user = x })
-      ∷ required 4 (codes "pubKeyCredParams") (accepted (growing parameters)) (λ x r. record r { pub_key_cred_params = x })
-      ∷ default 5 (codes "excludeList") (tolerated (accepted (growing descriptor))) (λ x r. record r { exclude_list = x })
-      ∷ default 6 (codes "extensions") (optional (growing make_extensions)) (λ x r. record r { extensions = x })
-      ∷ default 7 (codes "options") (growing options) (λ x r. record r { options = x })
+      ∷ required 2 (codes "rp") (nested rp_fields) (λ x r. record r { rp = x })
+      ∷ required 3 (codes "user") (nested user_fields) (λ x r. record r { user = x })
+      ∷ required 4 (codes "pubKeyCredParams") (accepted (nested parameters_fields)) (λ x r. record r { pub_key_cred_params = x })
+      ∷ default 5 (codes "excludeList") (tolerated (accepted (nested descriptor_fields))) (λ x r. record r { exclude_list = x })
+      ∷ default 6 (codes "extensions") (optional (nested make_extensions_fields)) (λ x r. record r { extensions = x })
+      ∷ default 7 (codes "options") (nested options_fields) (λ x r. record r { options = x })
       ∷ default 8 (codes "pinAuth") (optional bytes) (λ x r. record r { pin_auth = x })
       ∷ default 9 (codes "pinProtocol") (optional (below 256)) (λ x r. record r { pin_protocol = x })
       ∷ [];

@@ -9,9 +9,10 @@ use Rattle.passkey_core.specs.DataParts.{DataParts, bare_data}
 use Rattle.passkey_kinds.specs.Data.{auth_data_tree}
 use Rattle.passkey_extensions.specs.ExtensionTrees.{made_tree, MadeFits}
 use Rattle.passkey_kinds.specs.Record.{Fields, required, default, table_of, read_item}
+use Rattle.passkey_kinds.specs.RecordCost.{nested}
 use Rattle.passkey_kinds.specs.Table.{Table}
-use Rattle.passkey_kinds.specs.Typed.{bytes, kept, optional, text, truth, growing, authenticator_data}
-use Rattle.passkey_extensions.specs.MakeUnsigned.{unsigned}
+use Rattle.passkey_kinds.specs.Typed.{bytes, kept, optional, text, truth, authenticator_data}
+use Rattle.passkey_extensions.specs.MakeUnsigned.{unsigned, unsigned_fields}
 use Rattle.passkey_kinds.specs.Tree.{Place, number_tree, always, where_some, record_tree}
 use Rattle.passkey_kinds.specs.declared.fault.Fault.{Fault}
 use Rattle.passkey_extensions.specs.declared.make_credential.unsigned.UnsignedExtensionOutputs.{UnsignedExtensionOutputs}
@@ -34,7 +35,7 @@ make_response_fields = record {
       ∷ required 3 (codes "attStmt") kept (λ x r. record r { att_stmt = x })
       ∷ default 4 (codes "epAtt") (optional truth) (λ x r. record r { ep_att = x })
       ∷ default 5 (codes "largeBlobKey") (optional bytes) (λ x r. record r { large_blob_key = x })
-      ∷ default 6 (codes "unsignedExtensionOutputs") (optional (growing unsigned)) (λ x r. record r { unsigned_extension_outputs = x })
+      ∷ default 6 (codes "unsignedExtensionOutputs") (optional (nested unsigned_fields)) (λ x r. record r { unsigned_extension_outputs = x })
       ∷ [];
 }
 

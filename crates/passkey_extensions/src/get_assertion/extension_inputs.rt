@@ -5,11 +5,12 @@ ghost use Rattle.passkey_extensions.specs.GetExtensions.{GetExtensionsParts, get
 ghost use Rattle.passkey_extensions.specs.GetExtensionsView.{get_extensions_parts, no_get_extensions, has_get_extension};
 ghost use Rattle.passkey_extensions.specs.ExtensionTrees.{GetExtensionsFit, get_extensions_tree};
 ghost use Rattle.passkey_cbor.specs.Depth.{depth};
+ghost use Rattle.passkey_kinds.specs.RecordCost.{record_cost, record_keeps};
 
 use crate::{AuthenticatorPrfInputs, HmacGetSecretInput};
-use passkey_cbor::Value;
+use passkey_cbor::{Cursor, Value};
 use passkey_kinds::{
-    FromCbor, ReadBack, Record, Refusal, Row, Source, ToCbor, Written, nested_from_value,
+    FromCbor, ReadBack, Record, Refusal, Row, Source, ToCbor, Written, nested_from_value, read_nested,
     set_tolerated,
 };
 use passkey_memory::OutOfMemory;
@@ -96,8 +97,16 @@ impl FromCbor for ExtensionInputs {
 
     ghost takes = { true };
 
+    ghost cost = { record_cost get_extensions_fields };
+
+    ghost keeps = { record_keeps get_extensions_fields };
+
     fn from_value(alloc: Global, value: &Value) -> Result<ExtensionInputs, Refusal> {
         nested_from_value(alloc, value)
+    }
+
+    fn read(alloc: Global, cursor: &mut Cursor<'_>) -> Result<ExtensionInputs, Refusal> {
+        read_nested(alloc, cursor)
     }
 }
 

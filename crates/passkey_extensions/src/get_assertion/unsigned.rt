@@ -4,11 +4,12 @@ ghost use Rattle.passkey_core.specs.SignedOutputs.{where_some};
 ghost use Rattle.passkey_extensions.specs.GetUnsigned.{unsigned_fields, unsigned};
 ghost use Rattle.passkey_extensions.specs.declared.get_assertion.unsigned.UnsignedExtensionOutputs.{UnsignedExtensionOutputs as UnsignedOutputs};
 ghost use Rattle.passkey_extensions.specs.ExtensionTrees.{UsedFits, used_tree};
+ghost use Rattle.passkey_kinds.specs.RecordCost.{record_cost, record_keeps};
 
 use crate::AuthenticatorPrfGetOutputs;
-use passkey_cbor::Value;
+use passkey_cbor::{Cursor, Value};
 use passkey_kinds::{
-    FromCbor, ReadBack, Record, Refusal, Row, Shallow, Source, ToCbor, Written, nested_from_value,
+    FromCbor, ReadBack, Record, Refusal, Row, Shallow, Source, ToCbor, Written, nested_from_value, read_nested,
     set,
 };
 use passkey_memory::OutOfMemory;
@@ -76,8 +77,16 @@ impl FromCbor for UnsignedExtensionOutputs {
 
     ghost takes = { true };
 
+    ghost cost = { record_cost unsigned_fields };
+
+    ghost keeps = { record_keeps unsigned_fields };
+
     fn from_value(alloc: Global, value: &Value) -> Result<UnsignedExtensionOutputs, Refusal> {
         nested_from_value(alloc, value)
+    }
+
+    fn read(alloc: Global, cursor: &mut Cursor<'_>) -> Result<UnsignedExtensionOutputs, Refusal> {
+        read_nested(alloc, cursor)
     }
 }
 

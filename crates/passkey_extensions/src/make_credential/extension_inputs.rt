@@ -5,11 +5,12 @@ ghost use Rattle.passkey_extensions.specs.MakeExtensions.{MakeExtensionsParts, m
 ghost use Rattle.passkey_extensions.specs.MakeExtensionsView.{make_extensions_parts, no_make_extensions, has_make_extension};
 ghost use Rattle.passkey_extensions.specs.ExtensionTrees.{MakeExtensionsFit, make_extensions_tree};
 ghost use Rattle.passkey_cbor.specs.Depth.{depth};
+ghost use Rattle.passkey_kinds.specs.RecordCost.{record_cost, record_keeps};
 
 use crate::{AuthenticatorPrfInputs, HmacGetSecretInput};
-use passkey_cbor::Value;
+use passkey_cbor::{Cursor, Value};
 use passkey_kinds::{
-    FromCbor, ReadBack, Record, Refusal, Row, Source, ToCbor, Written, nested_from_value, set,
+    FromCbor, ReadBack, Record, Refusal, Row, Source, ToCbor, Written, nested_from_value, read_nested, set,
 };
 use passkey_memory::OutOfMemory;
 use std::alloc::Global;
@@ -102,8 +103,16 @@ impl FromCbor for ExtensionInputs {
 
     ghost takes = { true };
 
+    ghost cost = { record_cost make_extensions_fields };
+
+    ghost keeps = { record_keeps make_extensions_fields };
+
     fn from_value(alloc: Global, value: &Value) -> Result<ExtensionInputs, Refusal> {
         nested_from_value(alloc, value)
+    }
+
+    fn read(alloc: Global, cursor: &mut Cursor<'_>) -> Result<ExtensionInputs, Refusal> {
+        read_nested(alloc, cursor)
     }
 }
 

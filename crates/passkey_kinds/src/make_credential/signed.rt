@@ -4,15 +4,16 @@ ghost use Rattle.passkey_core.specs.declared.make_credential.SignedExtensionOutp
 ghost use Rattle.passkey_kinds.specs.MakeSigned.{signed_fields, signed};
 ghost use Rattle.passkey_core.specs.SignedOutputs.{creation_item};
 ghost use Rattle.passkey_kinds.specs.ReadBack.{Any};
+ghost use Rattle.passkey_kinds.specs.RecordCost.{record_cost, record_keeps};
 
 use crate::from_cbor::FromCbor;
 use crate::read_back::ReadBack;
-use crate::record::{Record, nested_from_value};
+use crate::record::{Record, nested_from_value, read_nested};
 use crate::refusal::Refusal;
 use crate::rows::Row;
 use crate::source::{Source, set};
 use crate::to_cbor::ToCbor;
-use passkey_cbor::Value;
+use passkey_cbor::{Cursor, Value};
 use passkey_core::make_credential::SignedExtensionOutputs;
 use passkey_memory::OutOfMemory;
 use std::alloc::Global;
@@ -60,8 +61,16 @@ impl FromCbor for SignedExtensionOutputs {
 
     ghost takes = { true };
 
+    ghost cost = { record_cost signed_fields };
+
+    ghost keeps = { record_keeps signed_fields };
+
     fn from_value(alloc: Global, value: &Value) -> Result<SignedExtensionOutputs, Refusal> {
         nested_from_value(alloc, value)
+    }
+
+    fn read(alloc: Global, cursor: &mut Cursor<'_>) -> Result<SignedExtensionOutputs, Refusal> {
+        read_nested(alloc, cursor)
     }
 }
 

@@ -23,7 +23,7 @@ returns-in_err-element-clause-reads g c = λ is to l.
     let e = c.loop-alloc.invariant.each is to l in
     let n = next_is _ _ _ _ is to start c.loop-alloc.left c.more.new.left a b true refl walks.items e in
     let read = c.in_err-element.ensures.reads n.first n.middle n.here in
-    let spent = element_spends _ _ _ _ is to start c.loop-alloc.left c.more.new.left a b d true refl walks.looks e n (kept_of g.T.ReadCbor.keeps n.first) refl (stands_long n.first b.bytes b.place n.middle n.here) read.spends in
+    let spent = element_spends _ _ _ _ is to start c.loop-alloc.left c.more.new.left a b d true refl walks.looks e n (kept_of g.T.FromCbor.keeps n.first) refl (stands_long n.first b.bytes b.place n.middle n.here) read.spends in
     rw (p.1, p.2) (record {
       answers = failed (λ (t : Tolerated g.row.T.Denot). option_map g.T.FromCbor.view t.0) (λ (l : TolerantList g.row.T.Denot). map g.T.FromCbor.view l.0) (Some (g.T.FromCbor.kind n.first)) (Some (filter_map g.T.FromCbor.kind is)) (MayGrow g.T.FromCbor.takes n.first) _ c.in_err-element.field-0.0 (λ none. absurd cc) (λ h. some_are _ _ _ _ is to start c.loop-alloc.left c.more.new.left a b e n) read.answers;
       spends = spent_within _ _ _ to start c.more.new.left e.rest b d n spent;
@@ -43,7 +43,7 @@ loop-alloc-preserved-in-Continue-branch-2 g c =
           let e = c.loop-alloc.invariant.each is to l in
           let n = next_is _ _ _ _ is to start c.loop-alloc.left c.more.new.left a b true refl walks.items e in
           let read = c.in_ok-element.ensures.reads n.first n.middle n.here in
-          let spent = element_spends _ _ _ _ is to start c.loop-alloc.left c.more.new.left a b d true refl walks.looks e n (kept_of g.T.ReadCbor.keeps n.first) refl (stands_long n.first b.bytes b.place n.middle n.here) read.spends in
+          let spent = element_spends _ _ _ _ is to start c.loop-alloc.left c.more.new.left a b d true refl walks.looks e n (kept_of g.T.FromCbor.keeps n.first) refl (stands_long n.first b.bytes b.place n.middle n.here) read.spends in
           let given = some_is (g.T.FromCbor.kind n.first) (option_map g.T.FromCbor.view c.in_ok-element.element.0) read.answers ∙ ap (option_map g.T.FromCbor.view) c.in-Some.is in
           let items = ap (map g.T.FromCbor.view) c.in_ok-push-in-Some.ensures.items ∙ map_push g.T.FromCbor.view c.loop-alloc.read.items _ ∙ ap (λ (x : g.row.T.Denot). map g.T.FromCbor.view c.loop-alloc.read.items ++ g.T.FromCbor.view x ∷ []) c.in-Some.accepted-is in
           one_more _ _ _ _ is to start _ c.loop-alloc.left c.more.new.left a b d e n spent read.ends c.in_ok-element.ensures.onward.same
@@ -65,7 +65,7 @@ loop-alloc-preserved g c =
           let e = c.loop-alloc.invariant.each is to l in
           let n = next_is _ _ _ _ is to start c.loop-alloc.left c.more.new.left a b true refl walks.items e in
           let read = c.in_ok-element.ensures.reads n.first n.middle n.here in
-          let spent = element_spends _ _ _ _ is to start c.loop-alloc.left c.more.new.left a b d true refl walks.looks e n (kept_of g.T.ReadCbor.keeps n.first) refl (stands_long n.first b.bytes b.place n.middle n.here) read.spends in
+          let spent = element_spends _ _ _ _ is to start c.loop-alloc.left c.more.new.left a b d true refl walks.looks e n (kept_of g.T.FromCbor.keeps n.first) refl (stands_long n.first b.bytes b.place n.middle n.here) read.spends in
           let given = some_is (g.T.FromCbor.kind n.first) (option_map g.T.FromCbor.view c.in_ok-element.element.0) read.answers ∙ ap (option_map g.T.FromCbor.view) c.in-None.is in
           one_more _ _ _ _ is to start _ c.loop-alloc.left c.more.new.left a b d e n spent read.ends c.in_ok-element.ensures.onward.same
           (refused_next g.T.FromCbor.kind (map g.T.FromCbor.view c.loop-alloc.read.items) n.first e.rest n.others n.whole given ∙ e.done);
@@ -82,7 +82,7 @@ returns-in_err-push-in-Some-clause-reads g c = λ is to l.
     let e = c.loop-alloc.invariant.each is to l in
     let n = next_is _ _ _ _ is to start c.loop-alloc.left c.more.new.left a b true refl walks.items e in
     let read = c.in_ok-element.ensures.reads n.first n.middle n.here in
-    let spent = element_spends _ _ _ _ is to start c.loop-alloc.left c.more.new.left a b d true refl walks.looks e n (kept_of g.T.ReadCbor.keeps n.first) refl (stands_long n.first b.bytes b.place n.middle n.here) read.spends in
+    let spent = element_spends _ _ _ _ is to start c.loop-alloc.left c.more.new.left a b d true refl walks.looks e n (kept_of g.T.FromCbor.keeps n.first) refl (stands_long n.first b.bytes b.place n.middle n.here) read.spends in
     rw (p.1, p.2) (record {
       answers = some_are _ _ _ _ is to start c.loop-alloc.left c.more.new.left a b e n;
       spends = spent_within _ _ _ to start c.more.new.left e.rest b d n spent;

@@ -19,7 +19,7 @@ returns-in_err-read-clause-reads g c = λ is to l.
     let e = c.loop-alloc.invariant.each is to l in
     let n = next_is _ _ _ _ is to start c.loop-alloc.left c.more.new.left a b true refl walks.items e in
     let read = c.in_err-read.ensures.reads n.first n.middle n.here in
-    let spent = element_spends _ _ _ _ is to start c.loop-alloc.left c.more.new.left a b d true refl walks.looks e n (kept_of g.T.ReadCbor.keeps n.first) refl (stands_long n.first b.bytes b.place n.middle n.here) read.spends in
+    let spent = element_spends _ _ _ _ is to start c.loop-alloc.left c.more.new.left a b d true refl walks.looks e n (kept_of g.T.FromCbor.keeps n.first) refl (stands_long n.first b.bytes b.place n.middle n.here) read.spends in
     rw (p.1, p.2) (record {
       answers = failed g.T.FromCbor.view (λ (xs : List g.row.T.Denot). map g.T.FromCbor.view xs) (g.T.FromCbor.kind n.first) (each g.T.FromCbor.kind is) (MayGrow g.T.FromCbor.takes n.first) _ c.in_err-read.field-0.0 (λ none. e.done ∙ each_refused g.T.FromCbor.kind (map g.T.FromCbor.view c.loop-alloc.read.items) n.first e.rest n.others n.whole none) (λ h. some_are _ _ _ _ is to start c.loop-alloc.left c.more.new.left a b e n) read.answers;
       spends = spent_within _ _ _ to start c.more.new.left e.rest b d n spent;
@@ -39,7 +39,7 @@ loop-alloc-preserved g c =
           let e = c.loop-alloc.invariant.each is to l in
           let n = next_is _ _ _ _ is to start c.loop-alloc.left c.more.new.left a b true refl walks.items e in
           let read = c.in_ok-read.ensures.reads n.first n.middle n.here in
-          let spent = element_spends _ _ _ _ is to start c.loop-alloc.left c.more.new.left a b d true refl walks.looks e n (kept_of g.T.ReadCbor.keeps n.first) refl (stands_long n.first b.bytes b.place n.middle n.here) read.spends in
+          let spent = element_spends _ _ _ _ is to start c.loop-alloc.left c.more.new.left a b d true refl walks.looks e n (kept_of g.T.FromCbor.keeps n.first) refl (stands_long n.first b.bytes b.place n.middle n.here) read.spends in
           let items = ap (map g.T.FromCbor.view) c.in_ok-push.ensures.items ∙ map_push g.T.FromCbor.view c.loop-alloc.read.items c.in_ok-read.field-0 in
           one_more _ _ _ _ is to start _ c.loop-alloc.left c.more.new.left a b d e n spent read.ends c.in_ok-read.ensures.onward.same
           (e.done
@@ -58,7 +58,7 @@ returns-in_err-push-clause-reads g c = λ is to l.
     let e = c.loop-alloc.invariant.each is to l in
     let n = next_is _ _ _ _ is to start c.loop-alloc.left c.more.new.left a b true refl walks.items e in
     let read = c.in_ok-read.ensures.reads n.first n.middle n.here in
-    let spent = element_spends _ _ _ _ is to start c.loop-alloc.left c.more.new.left a b d true refl walks.looks e n (kept_of g.T.ReadCbor.keeps n.first) refl (stands_long n.first b.bytes b.place n.middle n.here) read.spends in
+    let spent = element_spends _ _ _ _ is to start c.loop-alloc.left c.more.new.left a b d true refl walks.looks e n (kept_of g.T.FromCbor.keeps n.first) refl (stands_long n.first b.bytes b.place n.middle n.here) read.spends in
     rw (p.1, p.2) (record {
       answers = some_are _ _ _ _ is to start c.loop-alloc.left c.more.new.left a b e n;
       spends = spent_within _ _ _ to start c.more.new.left e.rest b d n spent;

@@ -1,9 +1,13 @@
-use Rattle.std.proofs.lemmas.List.{length-map}
-use Rattle.std.proofs.Common.{rules, ◌≡◌, ◌∙◌, map, Some, None, Err, sym, ap}
-use Rattle.passkey_cbor.specs.View.{pair_of}
-use Rattle.passkey_kinds.specs.Reading.{first_unmarked}
+use Rattle.std.proofs.lemmas.List.{length-map, drop_all}
+use Rattle.std.proofs.Common.{rules, ◌≡◌, ◌∙◌, ◌+◌, map, drop, Err, sym, ap, refl}
+use Rattle.passkey_cbor.specs.View.{item_of, pair_of}
+use Rattle.passkey_kinds.specs.Reading.{named_as}
+use Rattle.passkey_kinds.specs.Record.{table_of}
+use Rattle.passkey_kinds.specs.Rows.{entry_of}
+use Rattle.passkey_kinds.specs.Table.{wrong}
+use Rattle.passkey_kinds.proofs.Members.{key_names}
 use Rattle.passkey_kinds.proofs.Pairs.{member_at}
-use Rattle.passkey_kinds.proofs.Putting.{has_begun, goes_on, fails, all_read}
+use Rattle.passkey_kinds.proofs.Putting.{has_begun, goes_on, key_fails, fails, all_read}
 use Rattle.passkey_kinds.proofs.record.read_pairs.Goals as goal
 
 pub loop-key-init : goal.loop-key-init
@@ -14,23 +18,43 @@ loop-key-init g c =
 
 pub loop-key-preserved : goal.loop-key-preserved
 loop-key-preserved g c =
-    let at = member_at pair_of c.args.pairs.now c.loop-key.key-index c.loop-key-item.result c.loop-key-item.is c.loop-key-test.true in
-    let told = c.in_ok-read_member.ensures _ c.loop-key.invariant.holds in
-    goes_on g.R.Record.fields (map pair_of c.args.pairs.now) c.loop-key.key-index (pair_of c.loop-key-item.result) _ _ c.loop-key.seen c.read_member.new.seen at c.loop-key.invariant told.0.0 told.0.1 told.1
+    let t = g.R.Record.fields in
+    let ms = map pair_of c.args.pairs.now in
+    let m = pair_of c.loop-key-item.result in
+    let i = c.loop-key.key-index in
+    let at = member_at pair_of c.args.pairs.now i c.loop-key-item.result c.loop-key-item.is c.loop-key-test.true in
+    let h = c.loop-key.invariant in
+    let naming = key_names (table_of t) c.is_numbered.result (map entry_of c.rows.result.now) m.0 (named_as c.in-Some.key) c.is_numbered.ensures c.rows.ensures.rows c.in-Some.ensures in
+    let told = c.in_ok-read_member.ensures.reads h.earlier m.0 m.1 0 naming refl h.holds in
+    goes_on t ms (drop i ms) (drop (i + 1) ms) m _ _ c.loop-key.seen c.read_member.new.seen at h told.0.0 told.0.1 told.1
 
 pub returns-in_err-read_member : goal.returns-in_err-read_member
 returns-in_err-read_member g c =
-    let at = member_at pair_of c.args.pairs.now c.loop-key.key-index c.loop-key-item.result c.loop-key-item.is c.loop-key-test.true in
-    let told = c.in_err-read_member.ensures _ c.loop-key.invariant.holds in
+    let t = g.R.Record.fields in
+    let ms = map pair_of c.args.pairs.now in
+    let m = pair_of c.loop-key-item.result in
+    let i = c.loop-key.key-index in
+    let at = member_at pair_of c.args.pairs.now i c.loop-key-item.result c.loop-key-item.is c.loop-key-test.true in
+    let h = c.loop-key.invariant in
+    let naming = key_names (table_of t) c.is_numbered.result (map entry_of c.rows.result.now) m.0 (named_as c.in-Some.key) c.is_numbered.ensures c.rows.ensures.rows c.in-Some.ensures in
+    let told = c.in_err-read_member.ensures.reads h.earlier m.0 m.1 0 naming refl h.holds in
     let result : c.from_residual.result ≡ Err c.in_err-read_member.field-0.0 = search rules in
-    rw result (fails g.R.Record.fields g.R.Record.parts (map pair_of c.args.pairs.now) c.loop-key.key-index (pair_of c.loop-key-item.result) c.read_member.new.seen c.in_err-read_member.field-0.0 at c.loop-key.invariant.good told.0)
-
-pub returns-in-Some : goal.returns-in-Some
-returns-in-Some g c =
-    all_read g.R.Record.fields (map pair_of c.args.pairs.now) c.loop-key.key-index _ c.loop-key.seen (Some c.in-Some.number) (rw (length-map c.args.pairs.now pair_of) c.loop-key-test.false) c.loop-key.invariant c.rows.ensures.small
-    (ap (λ es. first_unmarked es c.loop-key.seen) (sym c.rows.ensures.rows) ∙ sym c.first_missing.ensures ∙ c.in-Some.is)
+    rw result (fails t g.R.Record.parts ms (drop i ms) (drop (i + 1) ms) m _ c.loop-key.seen at h c.read_member.new.seen c.in_err-read_member.field-0.0 told.0)
 
 pub returns-in-None : goal.returns-in-None
 returns-in-None g c =
-    all_read g.R.Record.fields (map pair_of c.args.pairs.now) c.loop-key.key-index _ c.loop-key.seen None (rw (length-map c.args.pairs.now pair_of) c.loop-key-test.false) c.loop-key.invariant c.rows.ensures.small
-    (ap (λ es. first_unmarked es c.loop-key.seen) (sym c.rows.ensures.rows) ∙ sym c.first_missing.ensures ∙ c.in-None.is)
+    let t = g.R.Record.fields in
+    let ms = map pair_of c.args.pairs.now in
+    let m = pair_of c.loop-key-item.result in
+    let i = c.loop-key.key-index in
+    let at = member_at pair_of c.args.pairs.now i c.loop-key-item.result c.loop-key-item.is c.loop-key-test.true in
+    let naming = key_names (table_of t) c.is_numbered.result (map entry_of c.rows.result.now) m.0 wrong c.is_numbered.ensures c.rows.ensures.rows c.in-None.ensures in
+    key_fails t g.R.Record.parts ms (drop i ms) (drop (i + 1) ms) m _ c.loop-key.seen at c.loop-key.invariant naming
+
+pub returns : goal.returns
+returns g c =
+    let t = g.R.Record.fields in
+    let ms = map pair_of c.args.pairs.now in
+    let i = c.loop-key.key-index in
+    let past = drop_all i ms (rw (length-map c.args.pairs.now pair_of) c.loop-key-test.false) in
+    all_read t g.R.Record.parts ms (drop i ms) _ c.loop-key.seen c.finish.result past c.loop-key.invariant c.finish.ensures.small c.finish.ensures.reads

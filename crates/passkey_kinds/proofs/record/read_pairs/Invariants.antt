@@ -1,7 +1,7 @@
-use Rattle.std.proofs.Common.{map}
+use Rattle.std.proofs.Common.{map, drop}
 use Rattle.passkey_cbor.specs.View.{pair_of}
 use Rattle.passkey_kinds.specs.RecordReading.{HasReadTo}
 use Rattle.passkey_kinds.proofs.record.read_pairs.Given as goal
 
 abbrev pub invariant-loop-key : goal.invariant-loop-key
-invariant-loop-key g l = HasReadTo g.R.Record.fields (map pair_of l.pairs) l.key-index (g.R.Record.parts l.read) l.seen
+invariant-loop-key g l = HasReadTo g.R.Record.fields (map pair_of l.pairs) (drop l.key-index (map pair_of l.pairs)) (g.R.Record.parts l.read) l.seen

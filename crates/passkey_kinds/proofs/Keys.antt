@@ -1,0 +1,75 @@
+-- The rows that names and map keys name.
+use Rattle.std.specs.List.{find, position, position_or_len}
+use Rattle.std.specs.Str.{bytes_eq}
+use Rattle.std.proofs.Common.{◌≡◌, ◌∙◌, ◌<◌, ◌≤◌, ℕ, ℤ, pos, negsuc, ◌⊎◌, inl, inr, arith, suc, if◌then◌else◌, Bool, true, false, not, ◌+◌, List, [], ◌∷◌, ◌++◌, length, map, take, set, get_or, Bor, add-one, Option, Some, None, cond, nat_lt, slice_get, refl, sym, ap}
+use Rattle.std.proofs.lemmas.Bool.{cases_lt, lt-ltb, le-ltb}
+use Rattle.std.proofs.lemmas.List.{length-map, map_push, take_more_set}
+use Rattle.std.proofs.Math.Seq.{take-suc}
+use Rattle.std.proofs.lemmas.Option.{slice_get_past}
+use Rattle.passkey_cbor.specs.Item as item
+use Rattle.passkey_cbor.specs.Item.{Item}
+use Rattle.passkey_kinds.specs.HeadValues.{unsigned_in}
+use Rattle.passkey_kinds.specs.Rows.{entry_of, row_at}
+use Rattle.passkey_kinds.specs.declared.rows.Row.{Row}
+use Rattle.passkey_kinds.specs.Table.{Entry, Naming, wrong, row_or_unknown, row_named, number_names, names}
+
+-- ---- the row at the index of its name
+
+one_and : (k : ℕ) → 1 + k ≡ suc k
+one_and k = omega arith
+
+at_first : (s : List ℕ) (es : List Entry) → slice_get es (position_or_len (λ n. bytes_eq n s) (map (λ (e : Entry). e.name) es)) ≡ find (λ (e : Entry). bytes_eq e.name s) es
+at_first s [] = refl
+at_first s (e ∷ es) =
+    elim (bytes_eq e.name s) as (λ (b : Bool). slice_get (e ∷ es) (cond (not b) (1 + position_or_len (λ n. bytes_eq n s) (map (λ (e : Entry). e.name) es)) 0) ≡ cond b (Some e) (find (λ (e : Entry). bytes_eq e.name s) es)) [
+      | true ↦ refl
+      | false ↦ ap (slice_get (e ∷ es)) (one_and (position_or_len (λ n. bytes_eq n s) (map (λ (e : Entry). e.name) es))) ∙ at_first s es
+    ]
+
+row_within : (es : List Entry) (k len : ℕ) → len ≡ length es → row_at es (cond (nat_lt k len) (Some k) None) ≡ row_or_unknown (slice_get es k)
+row_within es k len same = by_place (cases_lt k len) where
+  by_place : (k < len) ⊎ (len ≤ k) → row_at es (cond (nat_lt k len) (Some k) None) ≡ row_or_unknown (slice_get es k)
+  by_place (inl less) = ap (λ (b : Bool). row_at es (cond b (Some k) None)) (lt-ltb k len less)
+  by_place (inr past) =
+      ap (λ (b : Bool). row_at es (cond b (Some k) None)) (le-ltb k len past)
+      ∙ sym (ap row_or_unknown (slice_get_past es k (omega (arith, past, same))))
+
+pub row_of_name : (s : List ℕ) (es : List Entry) → row_at es (position (λ n. bytes_eq n s) (map (λ (e : Entry). e.name) es)) ≡ row_named es s
+row_of_name s es =
+    row_within es (position_or_len (λ n. bytes_eq n s) (map (λ (e : Entry). e.name) es)) (length (map (λ (e : Entry). e.name) es)) (length-map es (λ (e : Entry). e.name))
+    ∙ ap row_or_unknown (at_first s es)
+
+-- ---- the rows' names, one after the other
+
+pub one_more_name : (rows : List Row) (names : List (Bor (List ℕ))) (i : ℕ) (name : Bor (List ℕ)) (d : Row) → i < length rows → i < length names → name.now ≡ (entry_of (get_or rows i d)).name → map (λ (n : Bor (List ℕ)). n.now) (take i names) ≡ map (λ (e : Entry). e.name) (map entry_of (take i rows)) → map (λ (n : Bor (List ℕ)). n.now) (take (i + 1) (set names i name)) ≡ map (λ (e : Entry). e.name) (map entry_of (take (i + 1) rows))
+one_more_name rows names i name d less within is before =
+    ap (map (λ (n : Bor (List ℕ)). n.now)) (take_more_set names i name within)
+    ∙ map_push (λ (n : Bor (List ℕ)). n.now) (take i names) name
+    ∙ (λ j. before j ++ is j ∷ [])
+    ∙ sym (map_push (λ (e : Entry). e.name) (map entry_of (take i rows)) (entry_of (get_or rows i d)))
+    ∙ ap (map (λ (e : Entry). e.name)) (sym (map_push entry_of (take i rows) (get_or rows i d)))
+    ∙ ap (λ (rs : List Row). map (λ (e : Entry). e.name) (map entry_of rs)) (rw add-one (sym (take-suc rows i d less)))
+
+-- ---- what a map key names that is no string
+
+-- a number that fits in a byte
+abbrev pub fits_byte : Option ℕ → Option ℕ
+fits_byte (Some n) = if nat_lt n 256 then Some n else None
+fits_byte None = None
+
+pub none_wrong : (is_numbered : Bool) (es : List Entry) → wrong ≡ number_names is_numbered None es
+none_wrong true es = refl
+none_wrong false es = refl
+
+pub names_number : (is_numbered : Bool) (es : List Entry) (i : Item) → ((s : List ℕ) → i ≡ item.text_string s → ⊥) → ((s : List ℕ) → i ≡ item.byte_string s → ⊥) → names is_numbered es i ≡ number_names is_numbered (fits_byte (unsigned_in i)) es
+names_number b es (item.number (pos n)) t h = refl
+names_number b es (item.number (negsuc n)) t h = refl
+names_number b es (item.byte_string s) t h = absurd (h s refl)
+names_number b es (item.text_string s) t h = absurd (t s refl)
+names_number b es (item.array xs) t h = none_wrong b es
+names_number b es (item.map ps) t h = none_wrong b es
+names_number b es (item.tagged n x) t h = none_wrong b es
+names_number b es (item.boolean v) t h = none_wrong b es
+names_number b es item.null t h = none_wrong b es
+names_number b es (item.simple n) t h = none_wrong b es
+names_number b es (item.float f) t h = none_wrong b es

@@ -1,0 +1,61 @@
+use Rattle.std.proofs.Common.{◌∙◌, ℕ, true, false, List, None, Err, sym, subst, arith}
+use Rattle.std.proofs.lemmas.Result.{err_from_is_err_and}
+use Rattle.passkey_cbor.specs.Item.{byte_string}
+use Rattle.passkey_core.specs.DataViews.{data_parts}
+use Rattle.passkey_kinds.specs.Data.{authenticator_data, authenticator_data_nodes}
+use Rattle.passkey_kinds.specs.Kind.{MayGrow}
+use Rattle.passkey_kinds.specs.declared.refusal.Refusal.TheVariants.{OutOfMemory}
+use Rattle.passkey_kinds.proofs.DataReads.{data_decodes, data_further, no_data}
+use Rattle.passkey_kinds.proofs.Going.{stands_long}
+use Rattle.passkey_kinds.proofs.Leaves.{on_ok}
+use Rattle.passkey_kinds.proofs.Lent.{looks_all, looks_some, looks_none, lent_decodes, not_lent_decodes, bytes_grow}
+use Rattle.passkey_kinds.proofs.Tokens.{lent_is, decodes_dearer}
+use Rattle.passkey_kinds.proofs.data.AuthenticatorDataFromCbor.read.Goals as goal
+
+pub returns-in-None-clause-reads : goal.returns-in-None-clause-reads
+returns-in-None-clause-reads c = λ i to l.
+    let a = c.args.cursor.now in
+    let b = c.bytes.new.self in
+    let f = c.in-None.ensures.lends i to l in
+    decodes_dearer data_parts (authenticator_data i) (MayGrow true i) 6 6 0 (authenticator_data_nodes i) to a b _ (omega arith) (omega arith) (omega (arith, stands_long i a.bytes a.place to l))
+    (not_lent_decodes data_parts (authenticator_data i) (MayGrow true i) false 6 a b i to (omega arith) l f (no_data i f.0))
+
+pub returns-in_err-bytes-in-None-lent-clause-reads : goal.returns-in_err-bytes-in-None-lent-clause-reads
+returns-in_err-bytes-in-None-lent-clause-reads c = λ i to l.
+    let a = c.args.cursor.now in
+    let b = c.bytes.new.self in
+    let d = c.copy.new.cursor in
+    let r = c.in-Some.token in
+    let p = err_from_is_err_and c.from_residual.result c.from_residual.ensures.1 in
+    let f = c.in-Some.ensures.lends i to l in
+    let looks = looks_some r b d c.in_err-bytes-in-None-lent.ensures.rises false (f.0, f.1.1.tells) c.in_err-bytes-in-None-lent.ensures.looks in
+    rw (p.1, p.2) (decodes_dearer data_parts (authenticator_data i) (MayGrow true i) 2 6 0 (authenticator_data_nodes i) to a d (Err OutOfMemory) (omega arith) (omega arith) (omega (arith, stands_long i a.bytes a.place to l))
+    (lent_decodes data_parts (authenticator_data i) (MayGrow true i) false a b d r i to (Err OutOfMemory) l c.in-Some.ensures.front f looks (bytes_grow i f.0 f.1.0 (c.in_err-bytes-in-None-lent.ensures.copies f.0 f.1.1.tells))))
+
+pub returns-in-Some-lent-clause-reads : goal.returns-in-Some-lent-clause-reads
+returns-in-Some-lent-clause-reads c = λ i to l.
+    let b = c.bytes.new.self in
+    let r = c.in-Some.token in
+    let f = c.in-Some.ensures.lends i to l in
+    data_decodes c.args.cursor.now b b c.read_counted.new.cursor r i to c.in-Some-lent.bytes.now c.read_counted.result c.in-Some.ensures.front f (looks_none r b)
+    (lent_is false r c.in-Some-lent.bytes.now f.0 c.in-Some-lent.ensures f.1.1.tells) c.read_counted.ensures.counts c.read_counted.ensures.answers
+
+pub returns-in_ok-bytes-in-None-lent-clause-reads : goal.returns-in_ok-bytes-in-None-lent-clause-reads
+returns-in_ok-bytes-in-None-lent-clause-reads c = λ i to l.
+    let b = c.bytes.new.self in
+    let e = c.copy.new.cursor in
+    let r = c.in-Some.token in
+    let f = c.in-Some.ensures.lends i to l in
+    let looks = looks_all r b e c.in_ok-bytes-in-None-lent.ensures.rises false (f.0, f.1.1.tells) c.in_ok-bytes-in-None-lent.ensures.looks in
+    data_decodes c.args.cursor.now b e c.read_counted-in-None-lent.new.cursor r i to c.deref.result.now c.read_counted-in-None-lent.result c.in-Some.ensures.front f looks
+    (c.deref.ensures.value ∙ c.in_ok-bytes-in-None-lent.ensures.copies f.0 f.1.1.tells) c.read_counted-in-None-lent.ensures.counts c.read_counted-in-None-lent.ensures.answers
+
+pub returns-in_ok-bytes-in-None-lent-clause-further : goal.returns-in_ok-bytes-in-None-lent-clause-further
+returns-in_ok-bytes-in-None-lent-clause-further c =
+    let a = c.args.cursor.now in
+    let b = c.bytes.new.self in
+    let e = c.copy.new.cursor in
+    let r = c.in-Some.token in
+    let p = c.in-Some.ensures.front in
+    let looks = looks_all r b e c.in_ok-bytes-in-None-lent.ensures.rises false (p.content, p.tells) c.in_ok-bytes-in-None-lent.ensures.looks in
+    on_ok c.read_counted-in-None-lent.result (data_further a b e c.read_counted-in-None-lent.new.cursor r c.deref.result.now p looks c.read_counted-in-None-lent.ensures.counts)

@@ -1,8 +1,0 @@
-use Rattle.passkey_webauthn.specs.Transport.{transport_named}
-use Rattle.passkey_kinds.specs.Kind.{one_named}
-use Rattle.passkey_kinds.proofs.Tokens.{decodes_from}
-use Rattle.passkey_kinds.proofs.names.AuthenticatorTransportReadCbor.read.Goals as goal
-
-pub returns-clause-reads : goal.returns-clause-reads
-returns-clause-reads c = λ i to l.
-    decodes_from (λ x. x) (one_named transport_named i) 2 0 to c.args.cursor.now c.read_named.new.cursor c.read_named.result (λ h. absurd h) (c.read_named.ensures.reads i to l)

@@ -1,0 +1,8 @@
+use Rattle.passkey_webauthn.specs.CredentialType.{credential_type_named}
+use Rattle.passkey_kinds.specs.Kind.{one_named}
+use Rattle.passkey_kinds.proofs.Tokens.{decodes_from}
+use Rattle.passkey_kinds.proofs.names.PublicKeyCredentialTypeFromCbor.read.Goals as goal
+
+pub returns-clause-reads : goal.returns-clause-reads
+returns-clause-reads c = λ i to l.
+    decodes_from (λ x. x) (one_named credential_type_named i) 2 0 to c.args.cursor.now c.read_named.new.cursor c.read_named.result (λ h. absurd h) (c.read_named.ensures.reads i to l)

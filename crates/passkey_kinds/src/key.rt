@@ -1,0 +1,97 @@
+//! The keys of a map at a cursor, and the rows that they name.
+ghost use Rattle.std.specs.Prelude.{◌≡◌, ◌≤◌, ℕ, nat_lt, if◌then◌else◌, List, Option, length, map, take, true, false, IfSome};
+ghost use Rattle.passkey_cbor.specs.Item.{Item};
+ghost use Rattle.passkey_cbor.specs.Lent.{IsRegion, Tells};
+ghost use Rattle.passkey_cbor.specs.Stands.{Stands};
+ghost use Rattle.passkey_kinds.specs.Reader.{Onward, Further, LooksAtMost};
+ghost use Rattle.passkey_kinds.specs.Reading.{named_as};
+ghost use Rattle.passkey_kinds.specs.RecordReading.{ReadsKey};
+ghost use Rattle.passkey_kinds.specs.Rows.{entry_of, row_at};
+ghost use Rattle.passkey_kinds.specs.Table.{names, row_named};
+
+use crate::head::read_unsigned;
+use crate::rows::{Named, Row, of_number, with_name};
+use passkey_cbor::{BytesToken, Cursor, TextToken};
+
+/// The names of at most 32 rows, and then empty ones.
+fn names_of(rows: &[Row]) -> [&'static str; 32]
+    requires { length rows.now ≤ 32 }
+    ensures { map (λ n. n.now) (take (length rows.now) result) ≡ map (λ e. e.name) (map entry_of rows.now) }
+{
+    let mut names = [""; 32];
+    for (i, row) in rows.iter().enumerate() {
+        names[i] = row.name();
+    }
+    names
+}
+
+/// The row at this index.
+fn at_index(rows: &[Row], index: Option<usize>) -> Named
+    ensures { named_as result ≡ row_at (map entry_of rows.now) index }
+{
+    match index {
+        Some(index) => match rows.get(index) {
+            Some(row) => Named::Row(row.number()),
+            None => Named::Unknown,
+        },
+        None => Named::Unknown,
+    }
+}
+
+/// The row whose name is this text string. Chunks are compared without a copy, once for all rows.
+fn with_text(rows: &[Row], token: &TextToken<'_>, cursor: &mut Cursor<'_>) -> Named
+    requires region { IsRegion true token.now }
+    requires few { length rows.now ≤ 32 }
+    ensures names { (s : List ℕ) → Tells true token.now s → named_as result ≡ row_named (map entry_of rows.now) s }
+    ensures looks { LooksAtMost token.now cursor.old cursor.new }
+{
+    match token.lent() {
+        Some(name) => with_name(rows, name.as_bytes()),
+        None => {
+            let names = names_of(rows);
+            at_index(rows, token.name_of(&names[..rows.len()], cursor))
+        }
+    }
+}
+
+/// The row whose name is this byte string.
+fn with_bytes(rows: &[Row], token: &BytesToken<'_>, cursor: &mut Cursor<'_>) -> Named
+    requires region { IsRegion false token.now }
+    requires few { length rows.now ≤ 32 }
+    ensures names { (s : List ℕ) → Tells false token.now s → named_as result ≡ row_named (map entry_of rows.now) s }
+    ensures looks { LooksAtMost token.now cursor.old cursor.new }
+{
+    match token.lent() {
+        Some(name) => with_name(rows, name),
+        None => {
+            let names = names_of(rows);
+            at_index(rows, token.name_of(&names[..rows.len()], cursor))
+        }
+    }
+}
+
+fn byte(number: u64) -> Option<u8>
+    ensures { result ≡ (if nat_lt number 256 then Some number else None) }
+{
+    u8::try_from(number).ok()
+}
+
+/// What the map key at the cursor names, and the cursor is then behind it; or `None` if it is no key
+/// of a record.
+pub(crate) fn read_key(is_numbered: bool, rows: &[Row], cursor: &mut Cursor<'_>) -> Option<Named>
+    requires { length rows.now ≤ 32 }
+    ensures names { (key : Item) (to : ℕ) → Stands key cursor.old.bytes cursor.old.place to → ReadsKey (names is_numbered (map entry_of rows.now) key) to cursor.old cursor.new result }
+    ensures onward { Onward cursor.old cursor.new }
+    ensures further { IfSome result (λ _. Further cursor.old cursor.new) }
+{
+    match cursor.text() {
+        Some(token) => Some(with_text(rows, &token, cursor)),
+        None => match cursor.bytes() {
+            Some(token) => Some(with_bytes(rows, &token, cursor)),
+            None => match read_unsigned(cursor) {
+                Some(number) => of_number(is_numbered, rows, byte(number)),
+                None => None,
+            },
+        },
+    }
+}
