@@ -8,7 +8,8 @@ ghost use Rattle.passkey_cbor.specs.Written.{written};
 ghost use Rattle.passkey_extensions.specs.HmacInput.{HmacInputParts, hmac_input_fields, hmac_input_table, hmac_input, read_hmac_input};
 ghost use Rattle.passkey_extensions.specs.HmacInputView.{hmac_input_parts};
 ghost use Rattle.passkey_extensions.specs.ExtensionTrees.{HmacInputFits, hmac_input_tree, is_hmac_input_coherent};
-ghost use Rattle.passkey_kinds.specs.Message.{ReadsMessage};
+ghost use Rattle.passkey_kinds.specs.declared.fault.Fault.TheVariants.{OutOfMemory as NoRoom};
+ghost use Rattle.passkey_kinds.specs.Message.{ReadsMessage, ReadsHere, GrowsMessage};
 ghost use Rattle.passkey_kinds.specs.Reading.{MayGrowAt, Reads};
 ghost use Rattle.passkey_kinds.specs.declared.write_fault.WriteFault.TheVariants.{OutOfMemory as NoMemory};
 ghost use Rattle.passkey_kinds.specs.RecordCost.{record_cost, record_keeps};
@@ -17,7 +18,7 @@ use passkey_bytes::Bytes;
 use passkey_cbor::{Cursor, Value};
 use passkey_kinds::{
     Fault, FromCbor, ReadBack, Record, Refusal, Row, Source, ToCbor, WriteFault, Written,
-    message_from_slice, nested_from_value, read_nested, record_from_value, set, write_message,
+    message_from_slice, read_message, nested_from_value, read_nested, record_from_value, set, write_message,
 };
 use passkey_memory::OutOfMemory;
 use std::alloc::Global;
@@ -50,13 +51,24 @@ impl HmacGetSecretInput {
         })
     }
 
-    /// The inputs that begin the bytes, and how many bytes they have. `DecodeFailed` exactly where no
-    /// well-formed item of at most 256 levels begins them; else the fault that `from_value` tells of
-    /// the item; `OutOfMemory` where a growth was refused.
+    /// Decodes the inputs that begin the bytes, as `read` does, and returns them with the length of
+    /// their data item in bytes.
     pub fn from_slice(alloc: Global, bytes: &[u8]) -> Result<(HmacGetSecretInput, usize), Fault>
-        ensures { ReadsMessage hmac_input_parts read_hmac_input bytes.now result }
+        ensures reads { ReadsMessage hmac_input_parts read_hmac_input bytes.now result }
+        ensures grows { result ≡ Err NoRoom → GrowsMessage hmac_input_fields bytes.now }
     {
         message_from_slice(alloc, bytes)
+    }
+
+    /// Decodes the inputs at the cursor, head by head and without a data item in memory, and moves
+    /// behind them. `DecodeFailed` exactly if no well-formed data item of at most 256 levels is
+    /// there; else the fault that `from_value` returns for the item; `OutOfMemory` if an allocation
+    /// fails, which only a member lets happen that takes memory. On an error the cursor stays, and its
+    /// counts keep what was spent.
+    pub fn read(alloc: Global, cursor: &mut Cursor<'_>) -> Result<HmacGetSecretInput, Fault>
+        ensures { ReadsHere hmac_input_parts hmac_input_fields 16 cursor.old cursor.new result }
+    {
+        read_message(alloc, cursor)
     }
 
     /// The inputs that the item is. Else `NotAMap`, or the first fault of its members in their order

@@ -1,12 +1,13 @@
 //! Extensions of CTAP.
-ghost use Rattle.std.specs.Prelude.{◌≡◌, true, IfOk};
+ghost use Rattle.std.specs.Prelude.{◌≡◌, true};
 ghost use Rattle.passkey_get_info.specs.GetInfoNames.{extension_name, extension_named, extension, extension_tree, normal_extension};
+ghost use Rattle.passkey_kinds.specs.Keeping.{nothing};
 ghost use Rattle.passkey_kinds.specs.ReadBack.{Any};
 ghost use Rattle.passkey_get_info.specs.declared.extension.Extension.{Extension as Told};
 
 use passkey_bytes::Text;
-use passkey_cbor::Value;
-use passkey_kinds::{FromCbor, ReadBack, Refusal, Shallow, ToCbor};
+use passkey_cbor::{Cursor, Value};
+use passkey_kinds::{FromCbor, FromText, ReadBack, Refusal, Shallow, ToCbor, read_text_value};
 use passkey_memory::OutOfMemory;
 use std::alloc::Global;
 
@@ -25,17 +26,6 @@ pub enum Extension {
 }
 
 impl Extension {
-    fn from_name(alloc: Global, name: &str) -> Result<Extension, OutOfMemory>
-        ensures { IfOk result (λ e. e ≡ extension_named name.now) }
-    {
-        match name {
-            "hmac-secret" => Ok(Extension::HmacSecret),
-            "hmac-secret-mc" => Ok(Extension::HmacSecretMakeCredential),
-            "prf" => Ok(Extension::Prf),
-            _ => Ok(Extension::Unknown(Text::from_str(alloc, name)?)),
-        }
-    }
-
     fn name(&self) -> &str
         ensures { result.now ≡ extension_name self.now }
     {
@@ -44,6 +34,19 @@ impl Extension {
             Extension::HmacSecretMakeCredential => "hmac-secret-mc",
             Extension::Prf => "prf",
             Extension::Unknown(name) => name.as_str(),
+        }
+    }
+}
+
+impl FromText for Extension {
+    ghost of_text = { extension_named };
+
+    fn from_text(alloc: Global, text: &str) -> Result<Extension, OutOfMemory> {
+        match text {
+            "hmac-secret" => Ok(Extension::HmacSecret),
+            "hmac-secret-mc" => Ok(Extension::HmacSecretMakeCredential),
+            "prf" => Ok(Extension::Prf),
+            _ => Ok(Extension::Unknown(Text::from_str(alloc, text)?)),
         }
     }
 }
@@ -57,11 +60,19 @@ impl FromCbor for Extension {
 
     ghost takes = { true };
 
+    ghost cost = { 2 };
+
+    ghost keeps = { nothing };
+
     fn from_value(alloc: Global, value: &Value) -> Result<Extension, Refusal> {
         match value {
-            Value::Text(name) => Ok(Extension::from_name(alloc, name.as_str())?),
+            Value::Text(name) => Ok(Extension::from_text(alloc, name.as_str())?),
             _ => Err(Refusal::Refused),
         }
+    }
+
+    fn read(alloc: Global, cursor: &mut Cursor<'_>) -> Result<Extension, Refusal> {
+        read_text_value(alloc, cursor)
     }
 }
 

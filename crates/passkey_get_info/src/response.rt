@@ -3,15 +3,16 @@ ghost use Rattle.std.specs.Prelude.{◌≡◌};
 ghost use Rattle.passkey_cbor.specs.View.{item_of};
 ghost use Rattle.passkey_get_info.specs.GetInfo.{GetInfoParts, get_info_fields, get_info_table, read_get_info, get_info_empty};
 ghost use Rattle.passkey_get_info.specs.GetInfoView.{get_info_parts};
-ghost use Rattle.passkey_kinds.specs.Message.{ReadsMessage};
+ghost use Rattle.passkey_kinds.specs.declared.fault.Fault.TheVariants.{OutOfMemory as NoRoom};
+ghost use Rattle.passkey_kinds.specs.Message.{ReadsMessage, ReadsHere, GrowsMessage};
 ghost use Rattle.passkey_kinds.specs.Reading.{MayGrowAt, Reads};
 
 use crate::{Extension, Options, Version};
 use passkey_bytes::{Bytes, List, Text};
-use passkey_cbor::Value;
+use passkey_cbor::{Cursor, Value};
 use passkey_core::Aaguid;
 use passkey_kinds::{
-    Fault, Record, Refusal, Row, Source, message_from_slice, record_from_value, set,
+    Fault, Record, Refusal, Row, Source, message_from_slice, read_message, record_from_value, set,
     set_accepted_or_none,
 };
 use passkey_webauthn::{AuthenticatorTransport, PublicKeyCredentialParameters};
@@ -191,13 +192,24 @@ impl Response {
         }
     }
 
-    /// The response that begins the bytes, and how many bytes it has. `DecodeFailed` exactly where no
-    /// well-formed item of at most 256 levels begins them; else the fault that `from_value` tells of
-    /// the item; `OutOfMemory` where a growth was refused.
+    /// Decodes the response that begins the bytes, as `read` does, and returns it with the length of
+    /// its data item in bytes.
     pub fn from_slice(alloc: Global, bytes: &[u8]) -> Result<(Response, usize), Fault>
-        ensures { ReadsMessage get_info_parts read_get_info bytes.now result }
+        ensures reads { ReadsMessage get_info_parts read_get_info bytes.now result }
+        ensures grows { result ≡ Err NoRoom → GrowsMessage get_info_fields bytes.now }
     {
         message_from_slice(alloc, bytes)
+    }
+
+    /// Decodes the response at the cursor, head by head and without a data item in memory, and moves
+    /// behind it. `DecodeFailed` exactly if no well-formed data item of at most 256 levels is
+    /// there; else the fault that `from_value` returns for the item; `OutOfMemory` if an allocation
+    /// fails, which only a member lets happen that takes memory. On an error the cursor stays, and its
+    /// counts keep what was spent.
+    pub fn read(alloc: Global, cursor: &mut Cursor<'_>) -> Result<Response, Fault>
+        ensures { ReadsHere get_info_parts get_info_fields 16 cursor.old cursor.new result }
+    {
+        read_message(alloc, cursor)
     }
 
     /// The response that the item is. Else `NotAMap`, or the first fault of its members in their

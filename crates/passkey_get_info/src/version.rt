@@ -1,12 +1,13 @@
 //! Versions of CTAP.
-ghost use Rattle.std.specs.Prelude.{◌≡◌, true, IfOk};
+ghost use Rattle.std.specs.Prelude.{◌≡◌, true};
 ghost use Rattle.passkey_get_info.specs.GetInfoNames.{version_name, version_named, version, version_tree, normal_version};
+ghost use Rattle.passkey_kinds.specs.Keeping.{nothing};
 ghost use Rattle.passkey_kinds.specs.ReadBack.{Any};
 ghost use Rattle.passkey_get_info.specs.declared.version.Version.{Version as Told};
 
 use passkey_bytes::Text;
-use passkey_cbor::Value;
-use passkey_kinds::{FromCbor, ReadBack, Refusal, Shallow, ToCbor};
+use passkey_cbor::{Cursor, Value};
+use passkey_kinds::{FromCbor, FromText, ReadBack, Refusal, Shallow, ToCbor, read_text_value};
 use passkey_memory::OutOfMemory;
 use std::alloc::Global;
 
@@ -22,16 +23,6 @@ pub enum Version {
 }
 
 impl Version {
-    fn from_name(alloc: Global, name: &str) -> Result<Version, OutOfMemory>
-        ensures { IfOk result (λ v. v ≡ version_named name.now) }
-    {
-        match name {
-            "FIDO_2_0" => Ok(Version::FIDO_2_0),
-            "FIDO_2_1" => Ok(Version::FIDO_2_1),
-            _ => Ok(Version::Unknown(Text::from_str(alloc, name)?)),
-        }
-    }
-
     fn name(&self) -> &str
         ensures { result.now ≡ version_name self.now }
     {
@@ -39,6 +30,18 @@ impl Version {
             Version::FIDO_2_0 => "FIDO_2_0",
             Version::FIDO_2_1 => "FIDO_2_1",
             Version::Unknown(name) => name.as_str(),
+        }
+    }
+}
+
+impl FromText for Version {
+    ghost of_text = { version_named };
+
+    fn from_text(alloc: Global, text: &str) -> Result<Version, OutOfMemory> {
+        match text {
+            "FIDO_2_0" => Ok(Version::FIDO_2_0),
+            "FIDO_2_1" => Ok(Version::FIDO_2_1),
+            _ => Ok(Version::Unknown(Text::from_str(alloc, text)?)),
         }
     }
 }
@@ -52,11 +55,19 @@ impl FromCbor for Version {
 
     ghost takes = { true };
 
+    ghost cost = { 2 };
+
+    ghost keeps = { nothing };
+
     fn from_value(alloc: Global, value: &Value) -> Result<Version, Refusal> {
         match value {
-            Value::Text(name) => Ok(Version::from_name(alloc, name.as_str())?),
+            Value::Text(name) => Ok(Version::from_text(alloc, name.as_str())?),
             _ => Err(Refusal::Refused),
         }
+    }
+
+    fn read(alloc: Global, cursor: &mut Cursor<'_>) -> Result<Version, Refusal> {
+        read_text_value(alloc, cursor)
     }
 }
 

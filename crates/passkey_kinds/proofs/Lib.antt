@@ -38,3 +38,4 @@ pub mod PairsAhead
 pub mod ArraysAhead
 pub mod Keys
 pub mod MembersAhead
+pub mod NumberPieces

@@ -109,6 +109,7 @@ module _ {A P : Type 0} (view : A → P) (t : Fields P) (old s a b : Walk) (p : 
     grows = grows;
     stays = stays;
     went = went_here result decoded c bytes heads nodes forward within;
+    least = omega (arith, p.least, back.heads, on.heads, heads);
     heads = heads_here result decoded c bytes heads nodes;
     nodes = nodes_here result decoded c bytes heads nodes;
     few_heads = λ none. absurd (none p.item p.len p.front);
@@ -147,6 +148,7 @@ none_is view t cost old new f went = record {
   grows = λ e. absurd cc;
   stays = f.place;
   went = went;
+  least = f.least;
   heads = λ i len front. absurd (f.none i len front);
   nodes = λ i len front. absurd (f.none i len front);
   few_heads = λ none. f.heads;
@@ -160,6 +162,7 @@ here_cheaper view t c d old new result le h = record {
   grows = h.grows;
   stays = h.stays;
   went = h.went;
+  least = h.least;
   heads = λ i len front. omega (arith, h.heads i len front, mul-le-mul_left {m = c} {n = d} len le);
   nodes = h.nodes;
   few_heads = h.few_heads;

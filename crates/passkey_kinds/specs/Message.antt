@@ -3,7 +3,7 @@ use Rattle.std.specs.Prelude.{◌≡◌, ℕ, ◌+◌, ◌-◌, ◌*◌, ◌≤�
 use Rattle.passkey_cbor.specs.Front.{IsFront, HasNoFront}
 use Rattle.passkey_cbor.specs.Item.{Item}
 use Rattle.passkey_cbor.specs.Reads.{HasGrowingFront}
-use Rattle.passkey_cbor.specs.Walk.{Walk, ahead, Went}
+use Rattle.passkey_cbor.specs.Walk.{Walk, ahead, raised, Went}
 use Rattle.passkey_kinds.specs.Reading.{MayGrowAt}
 use Rattle.passkey_kinds.specs.Record.{Fields, read_item, table_of}
 use Rattle.passkey_kinds.specs.RecordCost.{kept_in_map}
@@ -43,14 +43,16 @@ with_length old new (Ok message) = Ok (message, new.place - old.place)
 with_length old new (Err e) = Err e
 
 -- What decoding a message at a cursor does: its result is that of the bytes from there on, and the
--- cursor moves behind the message, or stays if there is an error. It decodes at most so many heads
--- for each byte of the data item that begins these bytes, and makes at most those data items as
--- values that the table keeps; if none begins them, at most one head for each byte and one more.
+-- cursor moves behind the message, or stays if there is an error. It decodes at least one head, and at
+-- most so many for each byte of the data item that begins these bytes, and makes at most those data
+-- items as values that the table keeps; if none begins them, at most one head for each byte and one
+-- more. The counts keep what was spent, whatever the result.
 pub record ReadsHere {A P : Type 0} (view : A → P) (t : Fields P) (cost : ℕ) (old new : Walk) (result : Result A Fault) : Type 0 where
   pub reads : ReadsMessage view (read_item t) (ahead old) (with_length old new result)
   pub grows : result ≡ Err fault.OutOfMemory → GrowsMessage t (ahead old)
   pub stays : OnErr result (new.place ≡ old.place)
   pub went : Went old new
+  pub least : raised old.heads 1 ≤ new.heads
   pub heads : (i : Item) (len : ℕ) → IsFront (ahead old) i len → new.heads ≤ old.heads + cost * len
   pub nodes : (i : Item) (len : ℕ) → IsFront (ahead old) i len → new.nodes ≤ old.nodes + kept_in_map t i
   pub few_heads : HasNoFront (ahead old) → new.heads ≤ old.heads + length (ahead old) + 1

@@ -1,22 +1,25 @@
 //! Algorithms, read of items and written.
-ghost use Rattle.std.specs.Prelude.{◌≡◌, false, IfOk};
+ghost use Rattle.std.specs.Prelude.{◌≡◌, ℕ, List, true, false, IfOk};
 ghost use Rattle.std.specs.Option.{option_and_then};
+ghost use Rattle.passkey_cbor.specs.Lent.{IsRegion, Tells};
 ghost use Rattle.passkey_cbor.specs.View.{item_of};
 ghost use Rattle.passkey_iana.specs.Iana.{algorithm_named};
 ghost use Rattle.passkey_iana.specs.declared.algorithm.Algorithm.{Algorithm as Named};
 ghost use Rattle.passkey_kinds.specs.Algorithm.{algorithm, algorithm_tree};
 ghost use Rattle.passkey_kinds.specs.Keeping.{nothing};
 ghost use Rattle.passkey_kinds.specs.Kind.{AnswersAs};
-ghost use Rattle.passkey_webauthn.specs.NumberText.{signed_64};
+ghost use Rattle.passkey_kinds.specs.Reader.{LooksAtMost};
+ghost use Rattle.passkey_webauthn.specs.NumberText.{signed_64, whole_64};
 ghost use Rattle.passkey_kinds.specs.ReadBack.{Any};
 
 use crate::from_cbor::FromCbor;
+use crate::head::read_integer;
 use crate::refusal::Refusal;
 use crate::to_cbor::ToCbor;
-use passkey_cbor::{Cursor, Integer, Value};
+use passkey_cbor::{Cursor, Integer, TextToken, Value};
 use passkey_iana::{Algorithm, EnumI64};
 use passkey_memory::OutOfMemory;
-use passkey_webauthn::whole_part;
+use passkey_webauthn::{NumberText, whole_part};
 use std::alloc::Global;
 
 fn signed_64(n: Integer) -> Option<i64>
@@ -32,6 +35,22 @@ fn named(number: Option<i64>) -> Result<Algorithm, Refusal>
         Some(number) => Algorithm::from_i64(number).ok_or(Refusal::Refused),
         None => Err(Refusal::Refused),
     }
+}
+
+/// The whole part of a text string that is a number text. Its pieces aren't joined in memory.
+fn whole_of(token: &TextToken<'_>, cursor: &mut Cursor<'_>) -> Option<i64>
+    requires { IsRegion true token.now }
+    ensures whole { (s : List ℕ) → Tells true token.now s → result ≡ whole_64 s }
+    ensures looks { LooksAtMost token.now cursor.old cursor.new }
+{
+    // No count is above the greatest number, where it stops; so it doesn't fall.
+    prove!(cursor.count().heads <= u128::MAX);
+    let mut number = NumberText::new();
+    let mut pieces = token.chunks();
+    while let Some(piece) = pieces.next(cursor) {
+        number.push(piece);
+    }
+    number.whole()
 }
 
 impl FromCbor for Algorithm {
@@ -55,8 +74,11 @@ impl FromCbor for Algorithm {
         }
     }
 
-    fn read(_alloc: Global, _cursor: &mut Cursor<'_>) -> Result<Algorithm, Refusal> {
-        Err(Refusal::Refused)
+    fn read(_alloc: Global, cursor: &mut Cursor<'_>) -> Result<Algorithm, Refusal> {
+        match cursor.text() {
+            Some(token) => named(whole_of(&token, cursor)),
+            None => named(read_integer(cursor)),
+        }
     }
 }
 

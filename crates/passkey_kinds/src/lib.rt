@@ -8,6 +8,7 @@ mod data;
 mod descriptor;
 mod fault;
 mod from_cbor;
+mod from_text;
 mod get_assertion;
 mod head;
 mod key;
@@ -33,6 +34,7 @@ mod written;
 
 pub use fault::Fault;
 pub use from_cbor::FromCbor;
+pub use from_text::{FromText, read_text_value};
 pub use list::TolerantList;
 pub use message::{message_from_slice, read_message, write_message};
 pub use passkey_memory::OutOfMemory;

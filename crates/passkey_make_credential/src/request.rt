@@ -5,16 +5,17 @@ ghost use Rattle.passkey_cbor.specs.Writable.{IsWritable};
 ghost use Rattle.passkey_cbor.specs.Written.{written};
 ghost use Rattle.passkey_make_credential.specs.MakeRequest.{MakeRequestParts, make_request_fields, make_request_table, read_make_request, make_request_tree, MakeRequestFits, is_make_request_coherent};
 ghost use Rattle.passkey_make_credential.specs.MakeRequestView.{make_request_parts};
-ghost use Rattle.passkey_kinds.specs.Message.{ReadsMessage};
+ghost use Rattle.passkey_kinds.specs.declared.fault.Fault.TheVariants.{OutOfMemory as NoRoom};
+ghost use Rattle.passkey_kinds.specs.Message.{ReadsMessage, ReadsHere, GrowsMessage};
 ghost use Rattle.passkey_kinds.specs.Reading.{MayGrowAt, Reads};
 ghost use Rattle.passkey_kinds.specs.declared.write_fault.WriteFault.TheVariants.{OutOfMemory as NoMemory};
 
 use crate::{Options, PublicKeyCredentialRpEntity};
 use passkey_bytes::{Bytes, List, Text};
-use passkey_cbor::Value;
+use passkey_cbor::{Cursor, Value};
 use passkey_extensions::make_credential::ExtensionInputs;
 use passkey_kinds::{
-    Fault, Record, Refusal, Row, Source, ToCbor, WriteFault, Written, message_from_slice,
+    Fault, Record, Refusal, Row, Source, ToCbor, WriteFault, Written, message_from_slice, read_message,
     record_from_value, set, set_accepted, set_accepted_or_none, write_message,
 };
 use passkey_memory::OutOfMemory;
@@ -129,13 +130,24 @@ impl ToCbor for Request {
 }
 
 impl Request {
-    /// The request that begins the bytes, and how many bytes it has. `DecodeFailed` exactly where no
-    /// well-formed item of at most 256 levels begins them; else the fault that `from_value` tells of
-    /// the item; `OutOfMemory` where a growth was refused.
+    /// Decodes the request that begins the bytes, as `read` does, and returns it with the length of
+    /// its data item in bytes.
     pub fn from_slice(alloc: Global, bytes: &[u8]) -> Result<(Request, usize), Fault>
-        ensures { ReadsMessage make_request_parts read_make_request bytes.now result }
+        ensures reads { ReadsMessage make_request_parts read_make_request bytes.now result }
+        ensures grows { result ≡ Err NoRoom → GrowsMessage make_request_fields bytes.now }
     {
         message_from_slice(alloc, bytes)
+    }
+
+    /// Decodes the request at the cursor, head by head and without a data item in memory, and moves
+    /// behind it. `DecodeFailed` exactly if no well-formed data item of at most 256 levels is
+    /// there; else the fault that `from_value` returns for the item; `OutOfMemory` if an allocation
+    /// fails, which only a member lets happen that takes memory. On an error the cursor stays, and its
+    /// counts keep what was spent.
+    pub fn read(alloc: Global, cursor: &mut Cursor<'_>) -> Result<Request, Fault>
+        ensures { ReadsHere make_request_parts make_request_fields 16 cursor.old cursor.new result }
+    {
+        read_message(alloc, cursor)
     }
 
     /// The request that the item is. Else `NotAMap`, or the first fault of its members in their

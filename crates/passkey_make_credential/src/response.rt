@@ -7,16 +7,17 @@ ghost use Rattle.passkey_core.specs.DataNormal.{IsData};
 ghost use Rattle.passkey_core.specs.DataViews.{data_parts};
 ghost use Rattle.passkey_make_credential.specs.MakeResponse.{MakeResponseParts, make_response_fields, make_response_table, read_make_response, make_response_tree, MakeResponseFits, is_make_response_coherent, attestation_tree};
 ghost use Rattle.passkey_make_credential.specs.MakeResponseView.{make_response_parts};
-ghost use Rattle.passkey_kinds.specs.Message.{ReadsMessage};
+ghost use Rattle.passkey_kinds.specs.declared.fault.Fault.TheVariants.{OutOfMemory as NoRoom};
+ghost use Rattle.passkey_kinds.specs.Message.{ReadsMessage, ReadsHere, GrowsMessage};
 ghost use Rattle.passkey_kinds.specs.Reading.{MayGrowAt, Reads};
 ghost use Rattle.passkey_kinds.specs.declared.write_fault.WriteFault.TheVariants.{OutOfMemory as NoMemory};
 
 use passkey_bytes::{Bytes, Text};
-use passkey_cbor::Value;
+use passkey_cbor::{Cursor, Value};
 use passkey_core::AuthenticatorData;
 use passkey_extensions::make_credential::UnsignedExtensionOutputs;
 use passkey_kinds::{
-    Fault, Record, Refusal, Row, Source, ToCbor, WriteFault, Written, message_from_slice,
+    Fault, Record, Refusal, Row, Source, ToCbor, WriteFault, Written, message_from_slice, read_message,
     record_from_value, set, write_message,
 };
 use passkey_memory::OutOfMemory;
@@ -106,13 +107,24 @@ impl ToCbor for Response {
 }
 
 impl Response {
-    /// The response that begins the bytes, and how many bytes it has. `DecodeFailed` exactly where no
-    /// well-formed item of at most 256 levels begins them; else the fault that `from_value` tells of
-    /// the item; `OutOfMemory` where a growth was refused.
+    /// Decodes the response that begins the bytes, as `read` does, and returns it with the length of
+    /// its data item in bytes.
     pub fn from_slice(alloc: Global, bytes: &[u8]) -> Result<(Response, usize), Fault>
-        ensures { ReadsMessage make_response_parts read_make_response bytes.now result }
+        ensures reads { ReadsMessage make_response_parts read_make_response bytes.now result }
+        ensures grows { result ≡ Err NoRoom → GrowsMessage make_response_fields bytes.now }
     {
         message_from_slice(alloc, bytes)
+    }
+
+    /// Decodes the response at the cursor, head by head and without a data item in memory, and moves
+    /// behind it. `DecodeFailed` exactly if no well-formed data item of at most 256 levels is
+    /// there; else the fault that `from_value` returns for the item; `OutOfMemory` if an allocation
+    /// fails, which only a member lets happen that takes memory. On an error the cursor stays, and its
+    /// counts keep what was spent.
+    pub fn read(alloc: Global, cursor: &mut Cursor<'_>) -> Result<Response, Fault>
+        ensures { ReadsHere make_response_parts make_response_fields 16 cursor.old cursor.new result }
+    {
+        read_message(alloc, cursor)
     }
 
     /// The response that the item is. Else `NotAMap`, or the first fault of its members in their

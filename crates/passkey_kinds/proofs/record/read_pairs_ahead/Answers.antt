@@ -29,26 +29,26 @@ pub loop-alloc-preserved : goal.loop-alloc-preserved
 loop-alloc-preserved g c = record {
   onward = onward_then _ _ _ (onward_then _ _ _ (onward_then _ _ _ c.loop-alloc.invariant.onward (onward_of c.loop-alloc.cursor c.more.new.self c.loop-alloc-test.ensures.went)) c.in-Some.ensures.onward) c.in_ok-read_member.ensures.onward;
   each = λ ms to l.
-    let t = g.R.Record.fields in
-    let start = c.args.cursor.now in
-    let a = c.loop-alloc.cursor in
-    let b = c.more.new.self in
-    let walks = c.loop-alloc-test.ensures.walks in
-    let e = c.loop-alloc.invariant.each ms to l in
-    let n = next_is _ _ _ _ ms to start c.loop-alloc.left c.more.new.left a b true refl walks.pairs e in
-    let s = split (Within max_depth n.first.0) (Within max_depth n.first.1) b.bytes b.place n.middle n.here in
-    let long = stands_long n.first.0 b.bytes b.place s.middle s.front in
-    let d = c.read_key.new.cursor in
-    let key = c.in-Some.ensures.names n.first.0 s.middle s.front in
-    let f = c.read_member.new.source in
-    let there = stands_back n.first.1 (record b { place = s.middle }) d n.middle c.in-Some.ensures.onward.same key.ends s.back in
-    let naming = key_names (table_of t) c.is_numbered.result (map entry_of c.rows.result.now) n.first.0 (named_as c.in-Some.key) c.is_numbered.ensures c.rows.ensures.rows key.is in
-    let told = c.in_ok-read_member.ensures.reads e.done.earlier n.first.0 n.first.1 n.middle naming there e.done.holds in
-    let value = c.in_ok-read_member.ensures.spends n.first.1 n.middle there in
-    let cheap : cost_by t.rows (named_as c.in-Some.key) ≤ suc (3 + (record_cost t - 4)) = omega (arith, cost_by_le t.rows (named_as c.in-Some.key), at_least t.rows) in
-    let spent = member_spent t (record_cost t - 4) ms to start c.loop-alloc.left c.more.new.left a b e walks.looks n d s.middle long s.back.forward key.spends f (named_as c.in-Some.key) true (sym naming) key.ends cheap value in
-    one_more _ _ _ _ ms to start _ c.loop-alloc.left c.more.new.left a b f e n spent (value.ends refl) (c.in_ok-read_member.ensures.onward.same ∙ c.in-Some.ensures.onward.same)
-    (goes_on t ms e.rest n.others n.first _ _ c.loop-alloc.seen c.read_member.new.seen n.whole e.done told.0.0 told.0.1 told.1);
+      let t = g.R.Record.fields in
+      let start = c.args.cursor.now in
+      let a = c.loop-alloc.cursor in
+      let b = c.more.new.self in
+      let walks = c.loop-alloc-test.ensures.walks in
+      let e = c.loop-alloc.invariant.each ms to l in
+      let n = next_is _ _ _ _ ms to start c.loop-alloc.left c.more.new.left a b true refl walks.pairs e in
+      let s = split (Within max_depth n.first.0) (Within max_depth n.first.1) b.bytes b.place n.middle n.here in
+      let long = stands_long n.first.0 b.bytes b.place s.middle s.front in
+      let d = c.read_key.new.cursor in
+      let key = c.in-Some.ensures.names n.first.0 s.middle s.front in
+      let f = c.read_member.new.source in
+      let there = stands_back n.first.1 (record b { place = s.middle }) d n.middle c.in-Some.ensures.onward.same key.ends s.back in
+      let naming = key_names (table_of t) c.is_numbered.result (map entry_of c.rows.result.now) n.first.0 (named_as c.in-Some.key) c.is_numbered.ensures c.rows.ensures.rows key.is in
+      let told = c.in_ok-read_member.ensures.reads e.done.earlier n.first.0 n.first.1 n.middle naming there e.done.holds in
+      let value = c.in_ok-read_member.ensures.spends n.first.1 n.middle there in
+      let cheap : cost_by t.rows (named_as c.in-Some.key) ≤ suc (3 + (record_cost t - 4)) = omega (arith, cost_by_le t.rows (named_as c.in-Some.key), at_least t.rows) in
+      let spent = member_spent t (record_cost t - 4) ms to start c.loop-alloc.left c.more.new.left a b e walks.looks n d s.middle long s.back.forward key.spends f (named_as c.in-Some.key) true (sym naming) key.ends cheap value in
+      one_more _ _ _ _ ms to start _ c.loop-alloc.left c.more.new.left a b f e n spent (value.ends refl) (c.in_ok-read_member.ensures.onward.same ∙ c.in-Some.ensures.onward.same)
+      (goes_on t ms e.rest n.others n.first _ _ c.loop-alloc.seen c.read_member.new.seen n.whole e.done told.0.0 told.0.1 told.1);
 }
 
 pub returns-in-None-clause-reads : goal.returns-in-None-clause-reads

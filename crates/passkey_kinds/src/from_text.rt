@@ -1,0 +1,54 @@
+//! Values that any text string stands for.
+ghost use Rattle.std.specs.Prelude.{◌≡◌, ℕ, List, true, IfOk, OnOk};
+ghost use Rattle.passkey_cbor.specs.Item.{Item};
+ghost use Rattle.passkey_cbor.specs.Lent.{IsRegion, Tells};
+ghost use Rattle.passkey_cbor.specs.Stands.{Stands};
+ghost use Rattle.passkey_kinds.specs.Keeping.{nothing};
+ghost use Rattle.passkey_kinds.specs.Kind.{one_named};
+ghost use Rattle.passkey_kinds.specs.Reader.{Onward, Further, ReadsAs, LooksAtMost};
+
+use crate::refusal::Refusal;
+use passkey_cbor::{Cursor, TextToken};
+use passkey_memory::OutOfMemory;
+use std::alloc::Global;
+
+/// A type with a value for each text, such as names that are kept if they aren't known.
+pub trait FromText: Drop {
+    ghost of_text: { List ℕ → Self };
+
+    /// Returns the text's value.
+    fn from_text(alloc: Global, text: &str) -> Result<Self, OutOfMemory>
+        ensures { IfOk result (λ v. v ≡ of_text text.now) };
+}
+
+/// The value of a text string. One in chunks is copied first.
+fn text_value<T: FromText>(
+    alloc: Global,
+    token: &TextToken<'_>,
+    cursor: &mut Cursor<'_>,
+) -> Result<T, OutOfMemory>
+    requires { IsRegion true token.now }
+    ensures value { (s : List ℕ) → Tells true token.now s → IfOk result (λ v. v ≡ T.of_text s) }
+    ensures looks { LooksAtMost token.now cursor.old cursor.new }
+{
+    match token.lent() {
+        Some(text) => T::from_text(alloc, text),
+        None => {
+            let text = token.copy(alloc, cursor)?;
+            T::from_text(alloc, text.as_str())
+        }
+    }
+}
+
+/// Decodes the value of the text string at the cursor, and moves behind it. `Refused` if no text
+/// string is there; `OutOfMemory` if an allocation fails.
+pub fn read_text_value<T: FromText>(alloc: Global, cursor: &mut Cursor<'_>) -> Result<T, Refusal>
+    ensures reads { (i : Item) (to : ℕ) → Stands i cursor.old.bytes cursor.old.place to → ReadsAs (λ v. v) (one_named (λ s. Some (T.of_text s))) true 2 nothing i to cursor.old cursor.new result }
+    ensures onward { Onward cursor.old cursor.new }
+    ensures further { OnOk result (Further cursor.old cursor.new) }
+{
+    match cursor.text() {
+        Some(token) => Ok(text_value(alloc, &token, cursor)?),
+        None => Err(Refusal::Refused),
+    }
+}
