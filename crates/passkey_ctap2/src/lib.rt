@@ -9,5 +9,5 @@ pub mod laws;
 pub mod make_credential;
 
 pub use passkey_kinds::{
-    Fault, FromCbor, OutOfMemory, Refusal, ToCbor, TolerantList, Tolerated, WriteFault,
+    Fault, FromCbor, Message, OutOfMemory, Refusal, ToCbor, TolerantList, Tolerated, WriteFault,
 };

@@ -12,6 +12,8 @@ mod kinds;
 #[cfg(test)]
 mod make_credential;
 #[cfg(test)]
+mod messages;
+#[cfg(test)]
 mod records;
 #[cfg(test)]
 mod tables;

@@ -1,6 +1,6 @@
 //! Tables of items in hexadecimal, and what they decode to and are encoded as.
 use passkey_cbor::{Cursor, Value};
-use passkey_kinds::{FromCbor, ReadCbor, ToCbor};
+use passkey_kinds::{FromCbor, ToCbor};
 use std::fmt::Debug;
 use std::process::Abort;
 
@@ -42,7 +42,7 @@ pub(crate) fn assert_read<T: FromCbor + Debug>(
 }
 
 /// Asserts the same, and that each item decodes to the same over a cursor, which is then behind it.
-pub(crate) fn assert_read_both<T: ReadCbor + Debug>(
+pub(crate) fn assert_read_both<T: FromCbor + Debug>(
     rt: &(impl Abort + AllocGlobal),
     rows: &[(&str, &str)],
 ) {
@@ -80,7 +80,7 @@ pub(crate) fn assert_refused<T: FromCbor + Debug>(rt: &(impl Abort + AllocGlobal
 }
 
 /// Asserts the same, and that each item is rejected over a cursor too.
-pub(crate) fn assert_refused_both<T: ReadCbor + Debug>(
+pub(crate) fn assert_refused_both<T: FromCbor + Debug>(
     rt: &(impl Abort + AllocGlobal),
     items: &[&str],
 ) {

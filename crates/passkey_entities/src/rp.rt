@@ -11,8 +11,8 @@ use crate::MissingRpId;
 use passkey_bytes::Text;
 use passkey_cbor::{Cursor, Value};
 use passkey_kinds::{
-    FromCbor, ReadBack, Record, Refusal, Row, Shallow, Source, ToCbor, Written, nested_from_value, read_nested,
-    set,
+    FromCbor, ReadBack, Record, Refusal, Row, Shallow, Source, ToCbor, Written, nested_from_value,
+    read_nested, set,
 };
 use passkey_memory::OutOfMemory;
 use passkey_webauthn as webauthn;
@@ -114,7 +114,10 @@ impl FromCbor for PublicKeyCredentialRpEntity {
         nested_from_value(alloc, value)
     }
 
-    fn read(alloc: Global, cursor: &mut Cursor<'_>) -> Result<PublicKeyCredentialRpEntity, Refusal> {
+    fn read(
+        alloc: Global,
+        cursor: &mut Cursor<'_>,
+    ) -> Result<PublicKeyCredentialRpEntity, Refusal> {
         read_nested(alloc, cursor)
     }
 }

@@ -11,8 +11,8 @@ ghost use Rattle.passkey_kinds.specs.RecordCost.{record_cost, record_keeps};
 use passkey_bytes::{Bytes, Text};
 use passkey_cbor::{Cursor, Value};
 use passkey_kinds::{
-    FromCbor, ReadBack, Record, Refusal, Row, Shallow, Source, ToCbor, Written, nested_from_value, read_nested,
-    set,
+    FromCbor, ReadBack, Record, Refusal, Row, Shallow, Source, ToCbor, Written, nested_from_value,
+    read_nested, set,
 };
 use passkey_memory::OutOfMemory;
 use passkey_webauthn as webauthn;
@@ -157,7 +157,10 @@ impl FromCbor for PublicKeyCredentialUserEntity {
         nested_from_value(alloc, value)
     }
 
-    fn read(alloc: Global, cursor: &mut Cursor<'_>) -> Result<PublicKeyCredentialUserEntity, Refusal> {
+    fn read(
+        alloc: Global,
+        cursor: &mut Cursor<'_>,
+    ) -> Result<PublicKeyCredentialUserEntity, Refusal> {
         read_nested(alloc, cursor)
     }
 }

@@ -3,7 +3,6 @@ use Rattle.std.specs.Prelude.{[], ◌∷◌, None, codes, false, replicate}
 use Rattle.passkey_kinds.specs.Kind.{Kind}
 use Rattle.passkey_kinds.specs.Record.{Fields, required, record_kind}
 use Rattle.passkey_kinds.specs.RecordCost.{nested}
-
 use Rattle.passkey_extensions.specs.PrfValues.{prf_values_fields}
 use Rattle.passkey_extensions.specs.declared.prf_get_outputs.AuthenticatorPrfGetOutputs.{AuthenticatorPrfGetOutputs}
 

@@ -14,11 +14,13 @@ ghost use Rattle.passkey_kinds.specs.Reading.{MayGrowAt, Reads};
 ghost use Rattle.passkey_kinds.specs.declared.write_fault.WriteFault.TheVariants.{OutOfMemory as NoMemory};
 ghost use Rattle.passkey_kinds.specs.RecordCost.{record_cost, record_keeps};
 
+use crate::laws::read_hmac_input_is_coherent;
 use passkey_bytes::Bytes;
 use passkey_cbor::{Cursor, Value};
 use passkey_kinds::{
-    Fault, FromCbor, ReadBack, Record, Refusal, Row, Source, ToCbor, WriteFault, Written,
-    message_from_slice, read_message, nested_from_value, read_nested, record_from_value, set, write_message,
+    Fault, FromCbor, Message, ReadBack, Record, Refusal, Row, Source, ToCbor, WriteFault, Written,
+    message_from_slice, nested_from_value, read_message, read_nested, record_from_value, set,
+    write_message,
 };
 use passkey_memory::OutOfMemory;
 use std::alloc::Global;
@@ -189,4 +191,40 @@ impl ReadBack for HmacGetSecretInput {
 
     #[tactic(auto, using(crate::proofs::ExtensionBack::hmac_input_back))]
     fn read_back() {}
+}
+
+impl Message for HmacGetSecretInput {
+    ghost Parts = { HmacInputParts };
+
+    ghost parts = { hmac_input_parts };
+
+    ghost fields = { hmac_input_fields };
+
+    ghost tree = { hmac_input_tree };
+
+    ghost coherent = { is_hmac_input_coherent };
+
+    fn from_slice(alloc: Global, bytes: &[u8]) -> Result<(HmacGetSecretInput, usize), Fault> {
+        HmacGetSecretInput::from_slice(alloc, bytes)
+    }
+
+    fn read(alloc: Global, cursor: &mut Cursor<'_>) -> Result<HmacGetSecretInput, Fault> {
+        HmacGetSecretInput::read(alloc, cursor)
+    }
+
+    fn from_value(alloc: Global, value: &Value) -> Result<HmacGetSecretInput, Fault> {
+        HmacGetSecretInput::from_value(alloc, value)
+    }
+
+    fn to_vec(&self, alloc: Global) -> Result<Vec<u8>, WriteFault> {
+        HmacGetSecretInput::to_vec(self, alloc)
+    }
+
+    fn is_coherent(&self) -> bool {
+        HmacGetSecretInput::is_coherent(self)
+    }
+
+    fn decoded_is_coherent() {
+        read_hmac_input_is_coherent();
+    }
 }

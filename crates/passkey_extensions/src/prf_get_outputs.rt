@@ -9,8 +9,8 @@ ghost use Rattle.passkey_kinds.specs.RecordCost.{record_cost, record_keeps};
 use crate::prf_values::AuthenticatorPrfValues;
 use passkey_cbor::{Cursor, Value};
 use passkey_kinds::{
-    FromCbor, ReadBack, Record, Refusal, Row, Shallow, Source, ToCbor, Written, nested_from_value, read_nested,
-    set,
+    FromCbor, ReadBack, Record, Refusal, Row, Shallow, Source, ToCbor, Written, nested_from_value,
+    read_nested, set,
 };
 use passkey_memory::OutOfMemory;
 use passkey_webauthn::AuthenticationExtensionsPrfOutputs;

@@ -11,8 +11,8 @@ use crate::prf_values::AuthenticatorPrfValues;
 use passkey_bytes::{Bytes, Map};
 use passkey_cbor::{Cursor, Value};
 use passkey_kinds::{
-    FromCbor, ReadBack, Record, Refusal, Row, Shallow, Source, ToCbor, Written, nested_from_value, read_nested,
-    set,
+    FromCbor, ReadBack, Record, Refusal, Row, Shallow, Source, ToCbor, Written, nested_from_value,
+    read_nested, set,
 };
 use passkey_memory::OutOfMemory;
 use std::alloc::Global;

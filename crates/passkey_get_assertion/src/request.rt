@@ -11,12 +11,13 @@ ghost use Rattle.passkey_kinds.specs.Reading.{MayGrowAt, Reads};
 ghost use Rattle.passkey_kinds.specs.declared.write_fault.WriteFault.TheVariants.{OutOfMemory as NoMemory};
 
 use crate::Options;
+use crate::laws::read_get_request_is_coherent;
 use passkey_bytes::{Bytes, List, Text};
 use passkey_cbor::{Cursor, Value};
 use passkey_extensions::get_assertion::ExtensionInputs;
 use passkey_kinds::{
-    Fault, Record, Refusal, Row, Source, ToCbor, WriteFault, Written, message_from_slice, read_message,
-    record_from_value, set, set_accepted_or_none, set_tolerated, write_message,
+    Fault, Message, Record, Refusal, Row, Source, ToCbor, WriteFault, Written, message_from_slice,
+    read_message, record_from_value, set, set_accepted_or_none, set_tolerated, write_message,
 };
 use passkey_memory::OutOfMemory;
 use passkey_webauthn::PublicKeyCredentialDescriptor;
@@ -159,5 +160,41 @@ impl Request {
             Some(extensions) => extensions.fits_in_message(),
             None => true,
         }
+    }
+}
+
+impl Message for Request {
+    ghost Parts = { GetRequestParts };
+
+    ghost parts = { get_request_parts };
+
+    ghost fields = { get_request_fields };
+
+    ghost tree = { get_request_tree };
+
+    ghost coherent = { is_get_request_coherent };
+
+    fn from_slice(alloc: Global, bytes: &[u8]) -> Result<(Request, usize), Fault> {
+        Request::from_slice(alloc, bytes)
+    }
+
+    fn read(alloc: Global, cursor: &mut Cursor<'_>) -> Result<Request, Fault> {
+        Request::read(alloc, cursor)
+    }
+
+    fn from_value(alloc: Global, value: &Value) -> Result<Request, Fault> {
+        Request::from_value(alloc, value)
+    }
+
+    fn to_vec(&self, alloc: Global) -> Result<Vec<u8>, WriteFault> {
+        Request::to_vec(self, alloc)
+    }
+
+    fn is_coherent(&self) -> bool {
+        Request::is_coherent(self)
+    }
+
+    fn decoded_is_coherent() {
+        read_get_request_is_coherent();
     }
 }

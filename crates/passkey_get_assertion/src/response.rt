@@ -10,14 +10,15 @@ ghost use Rattle.passkey_kinds.specs.Message.{ReadsMessage, ReadsHere, GrowsMess
 ghost use Rattle.passkey_kinds.specs.Reading.{MayGrowAt, Reads};
 ghost use Rattle.passkey_kinds.specs.declared.write_fault.WriteFault.TheVariants.{OutOfMemory as NoMemory};
 
+use crate::laws::read_get_response_is_coherent;
 use passkey_bytes::Bytes;
 use passkey_cbor::{Cursor, Value};
 use passkey_core::AuthenticatorData;
 use passkey_entities::PublicKeyCredentialUserEntity;
 use passkey_extensions::get_assertion::UnsignedExtensionOutputs;
 use passkey_kinds::{
-    Fault, Record, Refusal, Row, Source, ToCbor, WriteFault, Written, message_from_slice, read_message,
-    record_from_value, set, write_message,
+    Fault, Message, Record, Refusal, Row, Source, ToCbor, WriteFault, Written, message_from_slice,
+    read_message, record_from_value, set, write_message,
 };
 use passkey_memory::OutOfMemory;
 use passkey_webauthn::PublicKeyCredentialDescriptor;
@@ -162,5 +163,41 @@ impl Response {
         ensures { result ≡ is_get_response_coherent (get_response_parts self.now) }
     {
         self.auth_data.is_coherent()
+    }
+}
+
+impl Message for Response {
+    ghost Parts = { GetResponseParts };
+
+    ghost parts = { get_response_parts };
+
+    ghost fields = { get_response_fields };
+
+    ghost tree = { get_response_tree };
+
+    ghost coherent = { is_get_response_coherent };
+
+    fn from_slice(alloc: Global, bytes: &[u8]) -> Result<(Response, usize), Fault> {
+        Response::from_slice(alloc, bytes)
+    }
+
+    fn read(alloc: Global, cursor: &mut Cursor<'_>) -> Result<Response, Fault> {
+        Response::read(alloc, cursor)
+    }
+
+    fn from_value(alloc: Global, value: &Value) -> Result<Response, Fault> {
+        Response::from_value(alloc, value)
+    }
+
+    fn to_vec(&self, alloc: Global) -> Result<Vec<u8>, WriteFault> {
+        Response::to_vec(self, alloc)
+    }
+
+    fn is_coherent(&self) -> bool {
+        Response::is_coherent(self)
+    }
+
+    fn decoded_is_coherent() {
+        read_get_response_is_coherent();
     }
 }

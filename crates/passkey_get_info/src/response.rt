@@ -2,18 +2,20 @@
 ghost use Rattle.std.specs.Prelude.{◌≡◌};
 ghost use Rattle.passkey_cbor.specs.View.{item_of};
 ghost use Rattle.passkey_get_info.specs.GetInfo.{GetInfoParts, get_info_fields, get_info_table, read_get_info, get_info_empty};
+ghost use Rattle.passkey_get_info.specs.GetInfoTree.{get_info_tree, is_get_info_coherent};
 ghost use Rattle.passkey_get_info.specs.GetInfoView.{get_info_parts};
 ghost use Rattle.passkey_kinds.specs.declared.fault.Fault.TheVariants.{OutOfMemory as NoRoom};
 ghost use Rattle.passkey_kinds.specs.Message.{ReadsMessage, ReadsHere, GrowsMessage};
 ghost use Rattle.passkey_kinds.specs.Reading.{MayGrowAt, Reads};
 
+use crate::laws::read_get_info_is_coherent;
 use crate::{Extension, Options, Version};
 use passkey_bytes::{Bytes, List, Text};
 use passkey_cbor::{Cursor, Value};
 use passkey_core::Aaguid;
 use passkey_kinds::{
-    Fault, Record, Refusal, Row, Source, message_from_slice, read_message, record_from_value, set,
-    set_accepted_or_none,
+    Fault, Message, Record, Refusal, Row, Source, WriteFault, message_from_slice, read_message,
+    record_from_value, set, set_accepted_or_none,
 };
 use passkey_webauthn::{AuthenticatorTransport, PublicKeyCredentialParameters};
 use std::alloc::Global;
@@ -220,5 +222,41 @@ impl Response {
         ensures { Reads get_info_parts (MayGrowAt get_info_table (item_of value.now)) (read_get_info (item_of value.now)) result }
     {
         record_from_value(alloc, value)
+    }
+}
+
+impl Message for Response {
+    ghost Parts = { GetInfoParts };
+
+    ghost parts = { get_info_parts };
+
+    ghost fields = { get_info_fields };
+
+    ghost tree = { get_info_tree };
+
+    ghost coherent = { is_get_info_coherent };
+
+    fn from_slice(alloc: Global, bytes: &[u8]) -> Result<(Response, usize), Fault> {
+        Response::from_slice(alloc, bytes)
+    }
+
+    fn read(alloc: Global, cursor: &mut Cursor<'_>) -> Result<Response, Fault> {
+        Response::read(alloc, cursor)
+    }
+
+    fn from_value(alloc: Global, value: &Value) -> Result<Response, Fault> {
+        Response::from_value(alloc, value)
+    }
+
+    fn to_vec(&self, alloc: Global) -> Result<Vec<u8>, WriteFault> {
+        Response::to_vec(self, alloc)
+    }
+
+    fn is_coherent(&self) -> bool {
+        Response::is_coherent(self)
+    }
+
+    fn decoded_is_coherent() {
+        read_get_info_is_coherent();
     }
 }

@@ -36,7 +36,7 @@ pub use fault::Fault;
 pub use from_cbor::FromCbor;
 pub use from_text::{FromText, read_text_value};
 pub use list::TolerantList;
-pub use message::{message_from_slice, read_message, write_message};
+pub use message::{Message, message_from_slice, read_message, write_message};
 pub use passkey_memory::OutOfMemory;
 pub use read_back::ReadBack;
 pub use record::{Record, nested_from_value, read_nested, record_from_value};

@@ -1,9 +1,13 @@
 //! Messages, read from bytes and written.
-ghost use Rattle.std.specs.Prelude.{◌≡◌, suc, IfOk, IfErr, OnOk};
+ghost use Rattle.std.specs.Prelude.{◌≡◌, suc, Bool, true, IfOk, IfErr, OnOk};
+ghost use Rattle.passkey_cbor.specs.Item.{Item};
+ghost use Rattle.passkey_cbor.specs.View.{item_of};
 ghost use Rattle.passkey_cbor.specs.Writable.{IsWritable};
 ghost use Rattle.passkey_cbor.specs.Written.{written};
 ghost use Rattle.passkey_kinds.specs.Message.{ReadsMessage, ReadsHere, GrowsMessage};
-ghost use Rattle.passkey_kinds.specs.Record.{read_item};
+ghost use Rattle.passkey_kinds.specs.MessageLaws.{ReadIsCoherent};
+ghost use Rattle.passkey_kinds.specs.Reading.{MayGrowAt, Reads};
+ghost use Rattle.passkey_kinds.specs.Record.{Fields, read_item, table_of};
 ghost use Rattle.passkey_kinds.specs.RecordCost.{record_cost};
 ghost use Rattle.passkey_kinds.specs.declared.fault.Fault.TheVariants.{OutOfMemory as NoRoom};
 ghost use Rattle.passkey_kinds.specs.declared.write_fault.WriteFault.TheVariants.{OutOfMemory as NoMemory};
@@ -12,8 +16,57 @@ use crate::fault::Fault;
 use crate::record::{Record, read_record};
 use crate::to_cbor::ToCbor;
 use crate::write_fault::WriteFault;
-use passkey_cbor::Cursor;
+use passkey_cbor::{Cursor, Value};
 use std::alloc::Global;
+
+/// A CTAP2 message: a map that is decoded from bytes, and encoded (CTAP 2.1, sections 6 and 8).
+pub trait Message: Drop {
+    /// What contracts see of a message.
+    ghost Parts: { Type 0 };
+
+    ghost parts: { Self → Parts };
+
+    /// Its members, as those of a record.
+    ghost fields: { Fields Parts };
+
+    /// The data item that a message is encoded as.
+    ghost tree: { Parts → Item };
+
+    /// Whether a message's encoding can be decoded again.
+    ghost coherent: { Parts → Bool };
+
+    /// Decodes the message that begins the bytes, as `read` does, and returns it with the length of
+    /// its data item in bytes.
+    fn from_slice(alloc: Global, bytes: &[u8]) -> Result<(Self, usize), Fault>
+        ensures reads { ReadsMessage parts (read_item fields) bytes.now result }
+        ensures grows { result ≡ Err NoRoom → GrowsMessage fields bytes.now };
+
+    /// Decodes the message at the cursor, and moves behind it. `DecodeFailed` exactly if no
+    /// well-formed data item of at most 256 levels is there; else the fault that `from_value` returns
+    /// for the item. On an error the cursor stays, and its counts keep what was spent.
+    fn read(alloc: Global, cursor: &mut Cursor<'_>) -> Result<Self, Fault>
+        ensures { ReadsHere parts fields 16 cursor.old cursor.new result };
+
+    /// Decodes the message from a data item. `NotAMap` if it is none; else the fault of its first bad
+    /// member (`BadKey`, `Repeated`, `Refused`), or `Missing` for the first required one that isn't
+    /// there; `OutOfMemory` if an allocation fails, which only a member lets happen that takes memory.
+    fn from_value(alloc: Global, value: &Value) -> Result<Self, Fault>
+        ensures { Reads parts (MayGrowAt (table_of fields) (item_of value.now)) (read_item fields (item_of value.now)) result };
+
+    /// Encodes the message. `OutOfMemory` if an allocation fails; there is no other error if the
+    /// message is coherent.
+    fn to_vec(&self, alloc: Global) -> Result<Vec<u8>, WriteFault>
+        ensures written { IfOk result (λ bytes. bytes.items ≡ written (tree (parts self.now))) }
+        ensures memory { coherent (parts self.now) ≡ true → IfErr result (λ e. e ≡ NoMemory) };
+
+    /// Whether the message's encoding can be decoded again. It takes no memory.
+    fn is_coherent(&self) -> bool
+        ensures { result ≡ coherent (parts self.now) };
+
+    /// A decoded message is coherent. It does nothing.
+    fn decoded_is_coherent()
+        ensures { ReadIsCoherent (read_item fields) coherent };
+}
 
 /// Decodes the message, a map, that is at the cursor, head by head and without a data item in memory,
 /// and moves behind it (CTAP 2.1, sections 6 and 8). `DecodeFailed` exactly if no well-formed item of

@@ -12,13 +12,14 @@ ghost use Rattle.passkey_kinds.specs.Message.{ReadsMessage, ReadsHere, GrowsMess
 ghost use Rattle.passkey_kinds.specs.Reading.{MayGrowAt, Reads};
 ghost use Rattle.passkey_kinds.specs.declared.write_fault.WriteFault.TheVariants.{OutOfMemory as NoMemory};
 
+use crate::laws::read_make_response_is_coherent;
 use passkey_bytes::{Bytes, Text};
 use passkey_cbor::{Cursor, Value};
 use passkey_core::AuthenticatorData;
 use passkey_extensions::make_credential::UnsignedExtensionOutputs;
 use passkey_kinds::{
-    Fault, Record, Refusal, Row, Source, ToCbor, WriteFault, Written, message_from_slice, read_message,
-    record_from_value, set, write_message,
+    Fault, Message, Record, Refusal, Row, Source, ToCbor, WriteFault, Written, message_from_slice,
+    read_message, record_from_value, set, write_message,
 };
 use passkey_memory::OutOfMemory;
 use std::alloc::Global;
@@ -169,5 +170,41 @@ impl Response {
         members.put(alloc, "attStmt", &no_statement)?;
         members.put(alloc, "authData", &self.auth_data)?;
         members.into_value().to_vec(alloc)
+    }
+}
+
+impl Message for Response {
+    ghost Parts = { MakeResponseParts };
+
+    ghost parts = { make_response_parts };
+
+    ghost fields = { make_response_fields };
+
+    ghost tree = { make_response_tree };
+
+    ghost coherent = { is_make_response_coherent };
+
+    fn from_slice(alloc: Global, bytes: &[u8]) -> Result<(Response, usize), Fault> {
+        Response::from_slice(alloc, bytes)
+    }
+
+    fn read(alloc: Global, cursor: &mut Cursor<'_>) -> Result<Response, Fault> {
+        Response::read(alloc, cursor)
+    }
+
+    fn from_value(alloc: Global, value: &Value) -> Result<Response, Fault> {
+        Response::from_value(alloc, value)
+    }
+
+    fn to_vec(&self, alloc: Global) -> Result<Vec<u8>, WriteFault> {
+        Response::to_vec(self, alloc)
+    }
+
+    fn is_coherent(&self) -> bool {
+        Response::is_coherent(self)
+    }
+
+    fn decoded_is_coherent() {
+        read_make_response_is_coherent();
     }
 }

@@ -4,7 +4,6 @@
 
 mod fault;
 mod kind;
-mod message;
 mod rewrite_bytes;
 mod rewrite_json;
 mod rewriting;

@@ -1,18 +1,18 @@
 //! Bytes in hexadecimal, decoded as a kind and encoded again.
 ghost use Rattle.std.specs.Prelude.{◌≡◌, ◌⊎◌, IfOk, IfErr, IsErr, string_bytes};
 ghost use Rattle.hex.specs.Hex.{decode_of};
+ghost use Rattle.passkey_kinds.specs.Record.{read_item};
 ghost use Rattle.passkey_rewrite.specs.Rewriting.{HasNoHex, IsMessageRefusal, IsRefusal, Rewrites, RewritesHex, RewritesMessage};
 ghost use Rattle.passkey_rewrite.specs.declared.fault.RunFault.TheVariants.{BadHex, OutOfMemory};
 
 use crate::fault::RunFault;
 use crate::kind::BytesKind;
-use crate::message::Message;
 use crate::trim::trim;
 use hex::FromHexError;
 use passkey_cbor::Value;
 use passkey_types::ctap2::extensions::HmacGetSecretInput;
 use passkey_types::ctap2::{
-    AuthenticatorData, WriteFault, get_assertion, get_info, make_credential,
+    AuthenticatorData, Message, WriteFault, get_assertion, get_info, make_credential,
 };
 use std::alloc::Global;
 
@@ -28,12 +28,12 @@ fn decode(alloc: Global, text: &[u8]) -> Result<Vec<u8>, RunFault>
 }
 
 fn rewrite_message<M: Message>(alloc: Global, bytes: &[u8]) -> Result<Vec<u8>, RunFault>
-    ensures ok { IfOk result (λ spelling. RewritesMessage M.read M.tree bytes.now spelling.items) }
-    ensures err { IfErr result (IsMessageRefusal M.read bytes.now) }
+    ensures ok { IfOk result (λ spelling. RewritesMessage (read_item M.fields) M.tree bytes.now spelling.items) }
+    ensures err { IfErr result (IsMessageRefusal (read_item M.fields) bytes.now) }
 {
-    let (message, _len) = M::read_bytes(alloc, bytes)?;
-    M::read_is_coherent();
-    match message.to_bytes(alloc) {
+    let (message, _len) = M::from_slice(alloc, bytes)?;
+    M::decoded_is_coherent();
+    match message.to_vec(alloc) {
         Ok(spelling) => Ok(spelling),
         Err(WriteFault::OutOfMemory) => Err(RunFault::OutOfMemory),
         Err(WriteFault::NumberTooLarge) => unreachable!(),

@@ -1,8 +1,12 @@
 //! `passkey_rows` reads rows from standard input, one a line: a kind, a space and an input. For
 //! each it prints the exit status of `passkey_show` on that input, a space, and the output or the
-//! fault's line. Empty lines, and lines that begin with `#`, are printed as they are.
+//! fault's line. Empty lines, and lines that begin with `#`, are printed as they are. Each message is
+//! decoded twice, over a cursor and from a data item; if the results differ, a line says so.
 #![tactic(auto)]
 
+mod alike;
+
+use crate::alike::are_decoded_alike;
 use anyhow::Result;
 use passkey_rewrite::{Kind, RunFault, rewrite};
 use std::alloc::Global;
@@ -14,6 +18,14 @@ fn output_of(alloc: Global, row: &str) -> Result<String, RunFault> {
     rewrite(alloc, kind, input.as_bytes())
 }
 
+fn is_decoded_alike(alloc: Global, row: &str) -> Result<bool> {
+    let (name, input) = row.split_once(' ').unwrap_or((row, ""));
+    match Kind::from_name(name) {
+        Some(Kind::Bytes(kind)) => are_decoded_alike(alloc, kind, input),
+        _ => Ok(true),
+    }
+}
+
 fn print_row<W: Write>(alloc: Global, writer: &mut W, row: &str) -> Result<()> {
     if row.is_empty() || row.starts_with('#') {
         writeln!(writer, "{row}")?;
@@ -22,6 +34,9 @@ fn print_row<W: Write>(alloc: Global, writer: &mut W, row: &str) -> Result<()> {
     match output_of(alloc, row) {
         Ok(output) => writeln!(writer, "0 {output}")?,
         Err(fault) => writeln!(writer, "{} {fault}", fault.status())?,
+    }
+    if !is_decoded_alike(alloc, row)? {
+        writeln!(writer, "! another result from the data item")?;
     }
     Ok(())
 }

@@ -11,5 +11,5 @@ pub use passkey_core::{
 };
 pub use passkey_cose::{CoseError, CoseKeyConversionError, RefusedKey};
 pub use passkey_ctap2::{
-    Fault, FromCbor, Refusal, ToCbor, TolerantList, Tolerated, WriteFault, laws,
+    Fault, FromCbor, Message, Refusal, ToCbor, TolerantList, Tolerated, WriteFault, laws,
 };
