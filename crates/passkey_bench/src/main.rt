@@ -1,26 +1,72 @@
-//! `passkey_bench CALL ROUNDS` reads an item on standard input, makes the call so many times over its
-//! bytes, and prints the sum of the lengths that were found. `bench/run` times it.
+//! `passkey_bench CALL ROUNDS` reads bytes on standard input, makes the call so many times over them,
+//! and prints the sum of the lengths that were found. `bench/run` measures it.
 #![tactic(auto)]
 
 use anyhow::{Result, bail};
 use passkey_cbor::{Value, item_len};
+use passkey_types::ctap2::{Message, get_assertion, get_info, make_credential};
 use std::alloc::Global;
 use std::env;
 use std::io::Read;
 use std::rt::Env;
+
+/// The messages that are measured.
+#[derive(Clone, Copy)]
+enum Kind {
+    Info,
+    MakeResponse,
+    GetRequest,
+}
 
 /// The calls that are measured.
 #[derive(Clone, Copy)]
 enum Call {
     Skip,
     FromSlice,
+    Rewrite,
+    Decode(Kind),
+    DecodeAndEncode(Kind),
 }
 
 fn call_named(name: &str) -> Option<Call> {
     match name {
         "skip" => Some(Call::Skip),
         "from_slice" => Some(Call::FromSlice),
+        "rewrite" => Some(Call::Rewrite),
+        "decode-info" => Some(Call::Decode(Kind::Info)),
+        "decode-mc-response" => Some(Call::Decode(Kind::MakeResponse)),
+        "decode-ga-request" => Some(Call::Decode(Kind::GetRequest)),
+        "rewrite-info" => Some(Call::DecodeAndEncode(Kind::Info)),
+        "rewrite-mc-response" => Some(Call::DecodeAndEncode(Kind::MakeResponse)),
+        "rewrite-ga-request" => Some(Call::DecodeAndEncode(Kind::GetRequest)),
         _ => None,
+    }
+}
+
+fn decoded<M: Message>(alloc: Global, bytes: &[u8]) -> usize {
+    match M::from_slice(alloc, bytes) {
+        Ok((_, len)) => len,
+        Err(_) => 0,
+    }
+}
+
+fn rewritten<M: Message>(alloc: Global, bytes: &[u8]) -> usize {
+    match M::from_slice(alloc, bytes) {
+        Ok((message, len)) => match message.to_vec(alloc) {
+            Ok(_) => len,
+            Err(_) => 0,
+        },
+        Err(_) => 0,
+    }
+}
+
+fn item_rewritten(alloc: Global, bytes: &[u8]) -> usize {
+    match Value::from_slice(alloc, bytes) {
+        Ok((value, len)) => match value.to_vec(alloc) {
+            Ok(_) => len,
+            Err(_) => 0,
+        },
+        Err(_) => 0,
     }
 }
 
@@ -32,6 +78,17 @@ fn len_found(alloc: Global, call: Call, bytes: &[u8]) -> usize {
             Ok((_, len)) => len,
             Err(_) => 0,
         },
+        Call::Rewrite => item_rewritten(alloc, bytes),
+        Call::Decode(Kind::Info) => decoded::<get_info::Response>(alloc, bytes),
+        Call::Decode(Kind::MakeResponse) => decoded::<make_credential::Response>(alloc, bytes),
+        Call::Decode(Kind::GetRequest) => decoded::<get_assertion::Request>(alloc, bytes),
+        Call::DecodeAndEncode(Kind::Info) => rewritten::<get_info::Response>(alloc, bytes),
+        Call::DecodeAndEncode(Kind::MakeResponse) => {
+            rewritten::<make_credential::Response>(alloc, bytes)
+        }
+        Call::DecodeAndEncode(Kind::GetRequest) => {
+            rewritten::<get_assertion::Request>(alloc, bytes)
+        }
     }
 }
 

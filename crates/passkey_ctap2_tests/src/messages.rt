@@ -21,8 +21,8 @@ fn from_item<M: Message>(
     }
 }
 
-fn outcome<T: Debug>(rt: &(impl Abort + AllocGlobal), result: &Result<T, Fault>) -> String {
-    match result {
+fn outcome<T: Debug>(rt: &(impl Abort + AllocGlobal), read: &Result<T, Fault>) -> String {
+    match read {
         Ok(_) => shown(rt, &"Ok"),
         Err(fault) => shown(rt, fault),
     }
@@ -154,38 +154,48 @@ fn inputs_of_hmac_secret(rt: HostRuntime) {
     assert_decoded::<HmacGetSecretInput>(&rt, 1, &there[..9], "DecodeFailed", 0);
 }
 
-/// {3: 16 bytes 00, 1: []}, CTAP 2.1, section 6.4
-const INFO: &str = "a20180035000000000000000000000000000000000";
-
-fn info_behind(rt: &(impl Abort + AllocGlobal), levels: usize) -> Vec<u8> {
-    let mut bytes = bytes_of(rt, "a307");
-    for _ in 0..levels {
-        bytes.push(0x81).expect(rt, "memory");
+/// {1: [], 3: 16 bytes 00} behind an unknown member of as many levels as there may be: CTAP 2.1,
+/// section 6.4.
+fn deepest_info() -> [u8; 277] {
+    let mut bytes = [0x81; 277];
+    bytes[0] = 0xa3;
+    bytes[1] = 0x07;
+    for i in 256..277 {
+        bytes[i] = 0;
     }
-    for byte in bytes_of(rt, "800180035000000000000000000000000000000000") {
-        bytes.push(byte).expect(rt, "memory");
-    }
+    bytes[256] = 0x80;
+    bytes[257] = 0x01;
+    bytes[258] = 0x80;
+    bytes[259] = 0x03;
+    bytes[260] = 0x50;
     bytes
 }
 
 #[test]
 fn responses_of_get_info(rt: HostRuntime) {
-    let deepest = info_behind(&rt, 254);
-    assert_decoded::<Response>(&rt, 0, deepest.as_slice(), "\"Ok\"", 0);
-    let deeper = info_behind(&rt, 255);
-    assert_decoded::<Response>(&rt, 0, deeper.as_slice(), "DecodeFailed", 0);
-    let mut followed = bytes_of(&rt, INFO);
-    for _ in 0..1000 {
-        followed.push(0).expect(&rt, "memory");
-    }
-    assert_decoded::<Response>(&rt, 0, followed.as_slice(), "\"Ok\"", 0);
-    let mut behind = bytes_of(&rt, "00");
-    for byte in bytes_of(&rt, INFO) {
-        behind.push(byte).expect(&rt, "memory");
-    }
+    let least = "a20180035000000000000000000000000000000000";
+    assert_all::<Response>(&rt, &[(least, "\"Ok\"", 0)]);
+    let deepest = deepest_info();
+    assert_decoded::<Response>(&rt, 0, &deepest, "\"Ok\"", 0);
+    let behind = bytes_of(&rt, "00a20180035000000000000000000000000000000000");
     assert_decoded::<Response>(&rt, 1, behind.as_slice(), "\"Ok\"", 0);
     let cut = bytes_of(&rt, "00a2010002");
     assert_decoded::<Response>(&rt, 1, cut.as_slice(), "DecodeFailed", 0);
+    // the same, and 1,000 bytes 00
+    let mut followed = [0; 1021];
+    followed[0] = 0xa2;
+    followed[1] = 0x01;
+    followed[2] = 0x80;
+    followed[3] = 0x03;
+    followed[4] = 0x50;
+    assert_decoded::<Response>(&rt, 0, &followed, "\"Ok\"", 0);
+}
+
+// Nothing that this response keeps takes memory, so it is decoded if the first allocation fails.
+#[test]
+fn a_response_without_memory(rt: HostRuntime) {
+    let bytes = deepest_info();
+    assert!(rt; Response::from_slice(rt.alloc(), &bytes).is_ok());
 }
 
 // CTAP 2.1, section 6.2, with descriptors that are refused, and that are not
