@@ -58,8 +58,8 @@ impl HmacGetSecretInput {
         })
     }
 
-    /// Decodes the input that the bytes begin with, as `read` does, and returns it with its length
-    /// in bytes. Bytes after it are ignored.
+    /// Decodes the input that the bytes begin with, and returns it with its length in bytes. Bytes
+    /// after it are ignored. The errors are those of `read`.
     pub fn from_slice(alloc: Global, bytes: &[u8]) -> Result<(HmacGetSecretInput, usize), Fault>
         ensures reads { ReadsMessage hmac_input_parts read_hmac_input bytes.now result }
         ensures grows { result ≡ Err NoRoom → GrowsMessage hmac_input_fields bytes.now }

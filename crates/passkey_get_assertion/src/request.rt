@@ -113,8 +113,8 @@ impl ToCbor for Request {
 }
 
 impl Request {
-    /// Decodes the request that the bytes begin with, as `read` does, and returns it with its
-    /// length in bytes. Bytes after it are ignored.
+    /// Decodes the request that the bytes begin with, and returns it with its length in bytes.
+    /// Bytes after it are ignored. The errors are those of `read`.
     pub fn from_slice(alloc: Global, bytes: &[u8]) -> Result<(Request, usize), Fault>
         ensures reads { ReadsMessage get_request_parts read_get_request bytes.now result }
         ensures grows { result ≡ Err NoRoom → GrowsMessage get_request_fields bytes.now }

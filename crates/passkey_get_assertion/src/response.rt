@@ -120,8 +120,8 @@ impl ToCbor for Response {
 }
 
 impl Response {
-    /// Decodes the response that the bytes begin with, as `read` does, and returns it with its
-    /// length in bytes. Bytes after it are ignored.
+    /// Decodes the response that the bytes begin with, and returns it with its length in bytes.
+    /// Bytes after it are ignored. The errors are those of `read`.
     pub fn from_slice(alloc: Global, bytes: &[u8]) -> Result<(Response, usize), Fault>
         ensures reads { ReadsMessage get_response_parts read_get_response bytes.now result }
         ensures grows { result ≡ Err NoRoom → GrowsMessage get_response_fields bytes.now }

@@ -200,8 +200,8 @@ impl Response {
         }
     }
 
-    /// Decodes the response that the bytes begin with, as `read` does, and returns it with its
-    /// length in bytes. Bytes after it are ignored.
+    /// Decodes the response that the bytes begin with, and returns it with its length in bytes.
+    /// Bytes after it are ignored. The errors are those of `read`.
     pub fn from_slice(alloc: Global, bytes: &[u8]) -> Result<(Response, usize), Fault>
         ensures reads { ReadsMessage get_info_parts read_get_info bytes.now result }
         ensures grows { result ≡ Err NoRoom → GrowsMessage get_info_fields bytes.now }

@@ -35,8 +35,8 @@ pub trait Message: Drop {
     /// Whether a message's encoding can be decoded again.
     ghost coherent: { Parts → Bool };
 
-    /// Decodes the message that the bytes begin with, as `read` does, and returns it with its
-    /// length in bytes. Bytes after it are ignored.
+    /// Decodes the message that the bytes begin with, and returns it with its length in bytes.
+    /// Bytes after it are ignored. The errors are those of `read`.
     fn from_slice(alloc: Global, bytes: &[u8]) -> Result<(Self, usize), Fault>
         ensures reads { ReadsMessage parts (read_item fields) bytes.now result }
         ensures grows { result ≡ Err NoRoom → GrowsMessage fields bytes.now };
@@ -91,8 +91,8 @@ pub fn read_message<R: Record>(alloc: Global, cursor: &mut Cursor<'_>) -> Result
     }
 }
 
-/// Decodes the message, a map, that the bytes begin with, as `read_message` does, and returns it
-/// with its length in bytes. Bytes after it are ignored.
+/// Decodes the message, a map, that the bytes begin with, and returns it with its length in bytes.
+/// Bytes after it are ignored. The errors are those of `read_message`.
 pub fn message_from_slice<R: Record>(alloc: Global, bytes: &[u8]) -> Result<(R, usize), Fault>
     ensures reads { ReadsMessage R.parts (read_item R.fields) bytes.now result }
     ensures grows { result ≡ Err NoRoom → GrowsMessage R.fields bytes.now }
