@@ -1,5 +1,5 @@
-//! The messages of CTAP2 between a platform and an authenticator (CTAP 2.1, section 6), each command
-//! under its name.
+//! CTAP2's messages between a platform and an authenticator (CTAP 2.1, section 6), in a module for
+//! each command.
 #![tactic(auto)]
 
 pub mod extensions;

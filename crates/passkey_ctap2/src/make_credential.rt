@@ -1,4 +1,4 @@
-//! Making a credential (CTAP 2.1, section 6.1).
+//! The messages of authenticatorMakeCredential (CTAP 2.1, section 6.1).
 pub use passkey_make_credential::{
     ExtensionInputs, MissingRpId, Options, PublicKeyCredentialRpEntity,
     PublicKeyCredentialUserEntity, Request, Response, SignedExtensionOutputs,

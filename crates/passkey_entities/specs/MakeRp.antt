@@ -1,4 +1,4 @@
--- Relying parties, as CTAP2 names them (CTAP 2.1, section 6.1).
+-- Relying parties in CTAP2's messages (CTAP 2.1, section 6.1).
 use Rattle.std.specs.Prelude.{List, [], ◌∷◌, None, codes, false}
 use Rattle.passkey_kinds.specs.Kind.{Kind}
 use Rattle.passkey_kinds.specs.Typed.{text, optional}

@@ -1,4 +1,4 @@
--- Users, as CTAP2 names them (CTAP 2.1, section 6.1).
+-- Users in CTAP2's messages (CTAP 2.1, section 6.1).
 use Rattle.std.specs.Prelude.{List, [], ◌∷◌, None, codes, false}
 use Rattle.passkey_kinds.specs.Kind.{Kind}
 use Rattle.passkey_kinds.specs.Typed.{bytes, text, optional}

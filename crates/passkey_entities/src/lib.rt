@@ -1,4 +1,4 @@
-//! The relying party and the user, as CTAP2 has them (CTAP 2.1, section 6.1).
+//! The relying party and the user in CTAP2's messages (CTAP 2.1, section 6.1).
 #![tactic(auto)]
 
 mod missing_rp_id;

@@ -1,9 +1,9 @@
-//! Why a relying party of WebAuthn is none of CTAP2.
+//! A relying party without an id.
 
 use passkey_bytes::Text;
 
-/// A relying party has no id. With its name and the client's effective domain one of CTAP2 can be
-/// made (WebAuthn Level 3, section 5.1.3).
+/// A WebAuthn relying party has no id, which CTAP2 requires. An absent id means the effective
+/// domain of the caller's origin (WebAuthn Level 3, section 5.1.3).
 #[derive(Debug, Drop)]
 pub struct MissingRpId {
     /// The relying party's name.

@@ -1,4 +1,4 @@
-//! Relying parties, as CTAP2 names them.
+//! Relying parties in CTAP2's messages.
 ghost use Rattle.std.specs.Prelude.{◌≡◌, ◌<◌, ◌⊎◌, length, true, IfOk, OnErr};
 ghost use Rattle.std.specs.Option.{IsSomeAnd};
 ghost use Rattle.passkey_entities.specs.MakeRp.{rp_tree, rp_fields, rp};
@@ -18,18 +18,18 @@ use passkey_memory::OutOfMemory;
 use passkey_webauthn as webauthn;
 use std::alloc::Global;
 
-/// Whom a credential is for (CTAP 2.1, section 6.1).
+/// The relying party that a credential is for (CTAP 2.1, section 6.1).
 #[derive(Debug, Drop, PartialEq, Eq)]
 pub struct PublicKeyCredentialRpEntity {
-    /// The relying party's id, a domain.
+    /// The relying party id, a domain.
     pub id: Text,
-    /// A name for people to read.
+    /// A name for display. `None` means the member is absent; null decodes to it, too.
     pub name: Option<Text>,
 }
 
 impl PublicKeyCredentialRpEntity {
-    /// An equal value. `OutOfMemory` where a growth was refused, which cannot be where both texts are
-    /// empty or not there.
+    /// Returns an equal value. `OutOfMemory` if an allocation fails, which can't happen if both
+    /// texts are empty or absent.
     pub fn try_clone(&self, alloc: Global) -> Result<PublicKeyCredentialRpEntity, OutOfMemory>
         ensures same { IfOk result (λ copy. copy ≡ self.now) }
         ensures grows { OnErr result ((0 < length self.now.id) ⊎ IsSomeAnd self.now.name (λ name. 0 < length name)) }
@@ -50,8 +50,8 @@ impl TryFrom<webauthn::PublicKeyCredentialRpEntity> for PublicKeyCredentialRpEnt
 
     ghost try_from_gives = { λ theirs result. result ≡ rp_of_webauthn theirs };
 
-    /// The relying party with its id and name; `MissingRpId` with the name exactly where it has no
-    /// id.
+    /// Returns the relying party with its id and name. `MissingRpId` with the name exactly if it
+    /// has no id.
     fn try_from(
         theirs: webauthn::PublicKeyCredentialRpEntity,
     ) -> Result<PublicKeyCredentialRpEntity, MissingRpId> {

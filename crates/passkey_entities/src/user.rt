@@ -1,4 +1,4 @@
-//! Users, as CTAP2 names them.
+//! Users in CTAP2's messages.
 ghost use Rattle.std.specs.Prelude.{◌≡◌, ◌<◌, ◌⊎◌, length, true, IfOk, OnErr, None, IfErr, codes};
 ghost use Rattle.std.specs.Result.{result_ok};
 ghost use Rattle.std.specs.Option.{IsSomeAnd};
@@ -18,16 +18,17 @@ use passkey_memory::OutOfMemory;
 use passkey_webauthn as webauthn;
 use std::alloc::Global;
 
-/// Whose credential it is (CTAP 2.1, section 6.1).
+/// The user account that a credential is for (CTAP 2.1, section 6.1). `None` means that a member is
+/// absent; null decodes to it, too.
 #[derive(Debug, Drop, PartialEq, Eq)]
 pub struct PublicKeyCredentialUserEntity {
-    /// The user's handle, which tells accounts of a relying party apart.
+    /// The user handle, which identifies the account: at most 64 bytes. The length isn't checked.
     pub id: Bytes,
-    /// A name that tells accounts apart, as an address of electronic mail.
+    /// A name for display that tells accounts apart, such as an email address.
     pub name: Option<Text>,
-    /// A name that the user chose, to be displayed.
+    /// `displayName`: a name for the user that is only for display.
     pub display_name: Option<Text>,
-    /// Where an image of the account is found: `icon`.
+    /// `icon`: the URL of an image of the user.
     pub icon_url: Option<Text>,
 }
 
@@ -42,8 +43,8 @@ fn copied(alloc: Global, text: &Option<Text>) -> Result<Option<Text>, OutOfMemor
 }
 
 impl PublicKeyCredentialUserEntity {
-    /// An equal value. `OutOfMemory` where a growth was refused, which cannot be where the id and the
-    /// texts are empty or not there.
+    /// Returns an equal value. `OutOfMemory` if an allocation fails, which can't happen if the id
+    /// and the texts are empty or absent.
     pub fn try_clone(&self, alloc: Global) -> Result<PublicKeyCredentialUserEntity, OutOfMemory>
         ensures same { IfOk result (λ copy. copy ≡ self.now) }
         ensures grows { OnErr result ((0 < length self.now.id) ⊎ IsSomeAnd self.now.name (λ t. 0 < length t) ⊎ IsSomeAnd self.now.display_name (λ t. 0 < length t) ⊎ IsSomeAnd self.now.icon_url (λ t. 0 < length t)) }
@@ -60,7 +61,7 @@ impl PublicKeyCredentialUserEntity {
 impl From<webauthn::PublicKeyCredentialUserEntity> for PublicKeyCredentialUserEntity {
     ghost from_gives = { λ theirs user. user ≡ user_of_webauthn theirs };
 
-    /// The user with both names and no icon.
+    /// Returns the user with both names and no icon.
     fn from(theirs: webauthn::PublicKeyCredentialUserEntity) -> PublicKeyCredentialUserEntity {
         PublicKeyCredentialUserEntity {
             id: theirs.id,
@@ -76,8 +77,8 @@ impl TryFrom<PublicKeyCredentialUserEntity> for webauthn::PublicKeyCredentialUse
 
     ghost try_from_gives = { λ user result. (result_ok result ≡ webauthn_of_user user) × IfErr result (λ text. text.now ≡ codes "PublicKeyCredentialUserEntity is missing one or more required fields: name, display_name") };
 
-    /// The user with both names, without the icon; a text that says so exactly where one of the
-    /// names isn't there.
+    /// Returns the user with both names and without the icon; an error text exactly if one of the
+    /// names is absent.
     fn try_from(
         user: PublicKeyCredentialUserEntity,
     ) -> Result<webauthn::PublicKeyCredentialUserEntity, &'static str> {

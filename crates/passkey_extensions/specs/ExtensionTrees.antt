@@ -1,4 +1,5 @@
--- What the extensions' records are written as (CTAP 2.1, section 12.5; WebAuthn Level 3, section 10.1.4).
+-- What the extensions' records are encoded as (CTAP 2.1, section 12.5; WebAuthn Level 3, section
+-- 10.1.4).
 use Rattle.std.specs.Prelude.{nat_le, Bool, List, [], ◌∷◌, codes}
 use Rattle.std.specs.FinMap as fin
 use Rattle.std.specs.List.{All}
@@ -32,7 +33,7 @@ hmac_input_places h =
 abbrev pub hmac_input_tree : HmacInputParts → Item
 hmac_input_tree h = record_tree (hmac_input_places h)
 
--- what is written has at most as many levels as are read
+-- the encoding has at most as many levels as are decoded
 abbrev pub is_hmac_input_coherent : HmacInputParts → Bool
 is_hmac_input_coherent h = nat_le (depth (hmac_input_tree h)) max_depth
 
@@ -89,7 +90,7 @@ EachFits m = All (λ e. PrfValuesFit e.1) (fin.entries m)
 abbrev pub PrfInputsFit : AuthenticatorPrfInputs → Type 0
 PrfInputsFit i = Where PrfValuesFit i.eval × Where EachFits i.eval_by_credential
 
--- ---- unsigned outputs, whose member is null where it is not there
+-- ---- unsigned outputs, whose member is encoded as null if it is absent
 
 abbrev pub made_places : creation.UnsignedExtensionOutputs → List Place
 made_places o = always (text_string (codes "prf")) (option_tree prf_make_tree) o.prf ∷ []
@@ -109,7 +110,7 @@ used_tree o = record_tree (used_places o)
 abbrev pub UsedFits : assertion.UnsignedExtensionOutputs → Type 0
 UsedFits o = Where PrfGetFits o.prf
 
--- ---- what extensions are given
+-- ---- extension inputs
 
 abbrev pub make_extensions_places : MakeExtensionsParts → List Place
 make_extensions_places e =

@@ -1,4 +1,4 @@
--- What extensions are given where a credential is used (CTAP 2.1, section 6.2).
+-- Extension inputs of authenticatorGetAssertion requests (CTAP 2.1, section 6.2).
 use Rattle.std.specs.Prelude.{[], ◌∷◌, Option, None, codes, false}
 use Rattle.passkey_extensions.specs.HmacInput.{HmacInputParts, hmac_input_fields}
 use Rattle.passkey_kinds.specs.Kind.{Kind}
@@ -8,7 +8,7 @@ use Rattle.passkey_kinds.specs.Typed.{tolerated}
 use Rattle.passkey_extensions.specs.PrfInputs.{prf_inputs, prf_inputs_fields}
 use Rattle.passkey_extensions.specs.declared.prf_inputs.AuthenticatorPrfInputs.{AuthenticatorPrfInputs}
 
--- what contracts see of such inputs
+-- what contracts see of the inputs
 pub record GetExtensionsParts : Type 0 where
   pub hmac_secret : Option HmacInputParts
   pub prf : Option AuthenticatorPrfInputs

@@ -7,7 +7,7 @@ use Rattle.passkey_kinds.specs.Table.{Table}
 use Rattle.passkey_kinds.specs.Typed.{below, bytes, kept, optional}
 use Rattle.passkey_kinds.specs.declared.fault.Fault.{Fault}
 
--- what contracts see of such inputs
+-- what contracts see of an input
 pub record HmacInputParts : Type 0 where
   pub key_agreement : Item
   pub salt_enc : List ℕ
@@ -31,6 +31,6 @@ hmac_input_table = table_of hmac_input_fields
 abbrev pub hmac_input : Kind HmacInputParts
 hmac_input = record_kind hmac_input_fields
 
--- the inputs that an item is, or its first fault
+-- the input that an item decodes to, or its first fault
 abbrev pub read_hmac_input : Item → Result HmacInputParts Fault
 read_hmac_input = read_item hmac_input_fields

@@ -1,4 +1,4 @@
--- What contracts see of inputs of the extension hmac-secret.
+-- What contracts see of an input of the extension hmac-secret.
 use Rattle.passkey_cbor.specs.View.{item_of}
 use Rattle.passkey_extensions.specs.HmacInput.{HmacInputParts}
 use Rattle.passkey_extensions.specs.declared.hmac_secret.HmacGetSecretInput.{HmacGetSecretInput}

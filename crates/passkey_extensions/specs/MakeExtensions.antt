@@ -1,4 +1,4 @@
--- What extensions are given where a credential is made (CTAP 2.1, section 6.1).
+-- Extension inputs of authenticatorMakeCredential requests (CTAP 2.1, section 6.1).
 use Rattle.std.specs.Prelude.{[], ◌∷◌, Bool, Option, None, codes, false}
 use Rattle.passkey_extensions.specs.HmacInput.{HmacInputParts, hmac_input_fields}
 use Rattle.passkey_kinds.specs.Kind.{Kind}
@@ -8,7 +8,7 @@ use Rattle.passkey_kinds.specs.Typed.{optional, truth}
 use Rattle.passkey_extensions.specs.PrfInputs.{prf_inputs, prf_inputs_fields}
 use Rattle.passkey_extensions.specs.declared.prf_inputs.AuthenticatorPrfInputs.{AuthenticatorPrfInputs}
 
--- what contracts see of such inputs
+-- what contracts see of the inputs
 pub record MakeExtensionsParts : Type 0 where
   pub hmac_secret : Option Bool
   pub hmac_secret_mc : Option HmacInputParts

@@ -1,4 +1,5 @@
--- What extensions answer unsigned where a credential is made (WebAuthn Level 3, section 9).
+-- Unsigned extension outputs of authenticatorMakeCredential responses (WebAuthn Level 3, section
+-- 9).
 use Rattle.std.specs.Prelude.{[], ◌∷◌, None, codes, false}
 use Rattle.passkey_kinds.specs.Kind.{Kind}
 use Rattle.passkey_kinds.specs.Record.{Fields, default, record_kind}

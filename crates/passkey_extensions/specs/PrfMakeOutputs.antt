@@ -1,4 +1,4 @@
--- What the extension prf answers where a credential is made (WebAuthn Level 3, section 10.1.4).
+-- Outputs of the extension prf at a registration (WebAuthn Level 3, section 10.1.4).
 use Rattle.std.specs.Prelude.{[], ◌∷◌, None, codes, false}
 use Rattle.passkey_kinds.specs.Kind.{Kind}
 use Rattle.passkey_kinds.specs.Record.{Fields, required, default, record_kind}

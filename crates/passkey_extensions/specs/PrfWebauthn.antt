@@ -1,4 +1,4 @@
--- What the extension prf's values and outputs are to a relying party (WebAuthn Level 3, section 10.1.4).
+-- The extension prf's values and outputs as WebAuthn has them (WebAuthn Level 3, section 10.1.4).
 use Rattle.std.specs.Prelude.{Some, None, option_map}
 use Rattle.passkey_extensions.specs.declared.prf_get_outputs.AuthenticatorPrfGetOutputs.{AuthenticatorPrfGetOutputs}
 use Rattle.passkey_extensions.specs.declared.prf_make_outputs.AuthenticatorPrfMakeOutputs.{AuthenticatorPrfMakeOutputs}
@@ -9,7 +9,7 @@ use Rattle.passkey_webauthn.specs.declared.prf_values.AuthenticationExtensionsPr
 abbrev pub webauthn_values : AuthenticatorPrfValues → AuthenticationExtensionsPrfValues
 webauthn_values v = record { first = v.first; second = v.second }
 
--- where a credential was made, whether it has secrets
+-- at a registration, with `enabled`
 abbrev pub webauthn_made : AuthenticatorPrfMakeOutputs → AuthenticationExtensionsPrfOutputs
 webauthn_made o = record { enabled = Some o.enabled; results = option_map webauthn_values o.results }
 

@@ -1,4 +1,5 @@
-//! What extensions are given and answer where a credential is used (CTAP 2.1, section 6.2).
+//! Extension inputs and unsigned extension outputs of authenticatorGetAssertion (CTAP 2.1, section
+//! 6.2).
 
 mod extension_inputs;
 mod unsigned;

@@ -25,22 +25,27 @@ use passkey_kinds::{
 use passkey_memory::OutOfMemory;
 use std::alloc::Global;
 
-/// The salts of which the extension hmac-secret is to make secrets (CTAP 2.1, section 12.5).
+/// The input of the extension hmac-secret: one or two encrypted salts, for which the authenticator
+/// returns outputs (CTAP 2.1, section 12.5).
 #[derive(Debug, Drop, PartialEq)]
 pub struct HmacGetSecretInput {
-    /// 0x01: the platform's public key, by which both sides agree on a secret of their own.
+    /// 0x01: `keyAgreement`, the platform's public key for the shared secret. It is kept as a data
+    /// item and not checked to be a COSE key.
     pub key_agreement: Value,
-    /// 0x02: one salt or two, encrypted.
+    /// 0x02: `saltEnc`, one or two salts of 32 bytes, encrypted with the shared secret. The length
+    /// isn't checked.
     pub salt_enc: Bytes,
-    /// 0x03: the authentication code of the encrypted salts.
+    /// 0x03: `saltAuth`, which authenticates `saltEnc` with the shared secret. The length isn't
+    /// checked.
     pub salt_auth: Bytes,
-    /// 0x04: which protocol of PIN and user verification both sides agreed by.
+    /// 0x04: the PIN/UV auth protocol of the shared secret. `None` means the member is absent;
+    /// platforms MUST send it unless it is 1. Null decodes to `None`, too.
     pub pin_uv_auth_protocol: Option<u8>,
 }
 
 impl HmacGetSecretInput {
-    /// An equal value. `OutOfMemory` where a growth was refused, which cannot be where the byte
-    /// strings are empty and the key takes no memory.
+    /// Returns an equal value. `OutOfMemory` if an allocation fails, which can't happen if both
+    /// byte strings are empty and the key takes no memory.
     pub fn try_clone(&self, alloc: Global) -> Result<HmacGetSecretInput, OutOfMemory>
         ensures same { IfOk result (λ copy. hmac_input_parts copy ≡ hmac_input_parts self.now) }
         ensures grows { OnErr result (Grows (item_of self.now.key_agreement) ⊎ (0 < length self.now.salt_enc) ⊎ (0 < length self.now.salt_auth)) }
@@ -53,8 +58,8 @@ impl HmacGetSecretInput {
         })
     }
 
-    /// Decodes the inputs that begin the bytes, as `read` does, and returns them with the length of
-    /// their data item in bytes.
+    /// Decodes the input that the bytes begin with, and returns it with its length in bytes. Bytes
+    /// after it are ignored. The errors are those of `read`.
     pub fn from_slice(alloc: Global, bytes: &[u8]) -> Result<(HmacGetSecretInput, usize), Fault>
         ensures reads { ReadsMessage hmac_input_parts read_hmac_input bytes.now result }
         ensures grows { result ≡ Err NoRoom → GrowsMessage hmac_input_fields bytes.now }
@@ -62,28 +67,29 @@ impl HmacGetSecretInput {
         message_from_slice(alloc, bytes)
     }
 
-    /// Decodes the inputs at the cursor, head by head and without a data item in memory, and moves
-    /// behind them. `DecodeFailed` exactly if no well-formed data item of at most 256 levels is
-    /// there; else the fault that `from_value` returns for the item; `OutOfMemory` if an allocation
-    /// fails, which only a member lets happen that takes memory. On an error the cursor stays, and its
-    /// counts keep what was spent.
+    /// Decodes the input at the cursor, head by head and without building a data item for the
+    /// whole, and moves behind it. `DecodeFailed` exactly if no well-formed data item of at most
+    /// 256 levels is there; otherwise the fault that `from_value` returns for the item;
+    /// `OutOfMemory` if an allocation fails, which can only happen for a member that takes memory.
+    /// On an error the cursor stays, and its counts include what was spent.
     pub fn read(alloc: Global, cursor: &mut Cursor<'_>) -> Result<HmacGetSecretInput, Fault>
         ensures { ReadsHere hmac_input_parts hmac_input_fields 16 cursor.old cursor.new result }
     {
         read_message(alloc, cursor)
     }
 
-    /// The inputs that the item is. Else `NotAMap`, or the first fault of its members in their order
-    /// (`BadKey`, `Repeated`, `Refused`), or the first required one that lacks (`Missing`);
-    /// `OutOfMemory` where a growth was refused. Unknown members are passed over.
+    /// Decodes the input from a data item. `NotAMap` if it isn't a map; otherwise the first fault
+    /// of its members in their order (`BadKey`, `Repeated`, `Refused`), or `Missing` for the first
+    /// required member that is absent; `OutOfMemory` if an allocation fails, which can only happen
+    /// for a member that takes memory. Unknown members are skipped.
     pub fn from_value(alloc: Global, value: &Value) -> Result<HmacGetSecretInput, Fault>
         ensures { Reads hmac_input_parts (MayGrowAt hmac_input_table (item_of value.now)) (read_hmac_input (item_of value.now)) result }
     {
         record_from_value(alloc, value)
     }
 
-    /// The inputs' bytes: members by their numbers in the table's order, the protocol where it is
-    /// there. `OutOfMemory` where a growth was refused.
+    /// Encodes the input: its members under their numbers, in ascending order, and the protocol
+    /// only if it is present. `OutOfMemory` if an allocation fails; there is no other error.
     pub fn to_vec(&self, alloc: Global) -> Result<Vec<u8>, WriteFault>
         ensures written { IfOk result (λ bytes. bytes.items ≡ written (hmac_input_tree (hmac_input_parts self.now))) }
         ensures writable { OnOk result (IsWritable (hmac_input_tree (hmac_input_parts self.now))) }
@@ -93,14 +99,15 @@ impl HmacGetSecretInput {
         write_message(alloc, self)
     }
 
-    /// Whether what `to_vec` writes is read back: it has at most 256 levels. It takes no memory.
+    /// Returns whether the encoding can be decoded again: it has at most 256 levels. Allocates
+    /// nothing.
     pub fn is_coherent(&self) -> bool
         ensures { result ≡ is_hmac_input_coherent (hmac_input_parts self.now) }
     {
         self.is_within(256)
     }
 
-    /// Whether they are written with at most so many levels.
+    /// Returns whether the encoding has at most this many levels.
     #[tactic(auto, using(crate::proofs::ExtensionLevels::input_within))]
     pub(crate) fn is_within(&self, levels: usize) -> bool
         ensures { result ≡ nat_le (depth (hmac_input_tree (hmac_input_parts self.now))) levels }

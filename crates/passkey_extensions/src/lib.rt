@@ -1,5 +1,5 @@
-//! What the extensions hmac-secret and prf are given, and what they answer (CTAP 2.1, section 12.5;
-//! WebAuthn Level 3, section 10.1.4).
+//! Inputs and outputs of the extensions hmac-secret and prf (CTAP 2.1, section 12.5; WebAuthn Level
+//! 3, section 10.1.4).
 #![tactic(auto)]
 
 pub mod get_assertion;

@@ -1,4 +1,5 @@
-//! What extensions are given and answer where a credential is made (CTAP 2.1, section 6.1).
+//! Extension inputs and unsigned extension outputs of authenticatorMakeCredential (CTAP 2.1,
+//! section 6.1).
 
 mod extension_inputs;
 mod unsigned;

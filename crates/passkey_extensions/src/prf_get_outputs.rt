@@ -1,4 +1,4 @@
-//! What the extension prf answers where a credential is used.
+//! Outputs of the extension prf at an assertion.
 ghost use Rattle.std.specs.Prelude.{true, ◌≡◌, IfOk};
 ghost use Rattle.passkey_extensions.specs.PrfGetOutputs.{prf_get_fields, prf_get};
 ghost use Rattle.passkey_extensions.specs.declared.prf_get_outputs.AuthenticatorPrfGetOutputs.{AuthenticatorPrfGetOutputs as PrfGetOutputs};
@@ -16,16 +16,16 @@ use passkey_memory::OutOfMemory;
 use passkey_webauthn::AuthenticationExtensionsPrfOutputs;
 use std::alloc::Global;
 
-/// What the extension prf answers where a credential is used (WebAuthn Level 3, section 10.1.4).
+/// The outputs of the extension prf at an assertion (WebAuthn Level 3, section 10.1.4).
 #[derive(Clone, Debug, Drop)]
 pub struct AuthenticatorPrfGetOutputs {
-    /// What was made of the salts.
+    /// The outputs for the salts.
     pub results: AuthenticatorPrfValues,
 }
 
 impl AuthenticatorPrfGetOutputs {
-    /// The outputs as a relying party sees them, without `enabled`. `OutOfMemory` where a growth was
-    /// refused.
+    /// Returns the outputs as WebAuthn has them, without `enabled`. `OutOfMemory` if an allocation
+    /// fails.
     pub fn to_webauthn(
         &self,
         alloc: Global,

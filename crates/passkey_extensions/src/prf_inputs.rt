@@ -17,12 +17,13 @@ use passkey_kinds::{
 use passkey_memory::OutOfMemory;
 use std::alloc::Global;
 
-/// Of which salts the extension prf is to make secrets (WebAuthn Level 3, section 10.1.4).
+/// The salts for which the extension prf is to return outputs (WebAuthn Level 3, section 10.1.4).
+/// `None` means that a member is absent; null decodes to it, too.
 #[derive(Debug, Drop, PartialEq, Eq)]
 pub struct AuthenticatorPrfInputs {
-    /// The salts for a credential that has none of its own.
+    /// The salts for credentials without salts of their own.
     pub eval: Option<AuthenticatorPrfValues>,
-    /// The salts for each credential, by its id.
+    /// The salts for single credentials, by their credential ids.
     pub eval_by_credential: Option<Map<Bytes, AuthenticatorPrfValues>>,
 }
 
@@ -49,7 +50,7 @@ fn copied_map(
 }
 
 impl AuthenticatorPrfInputs {
-    /// An equal value. `OutOfMemory` where a growth was refused, which cannot be where no
+    /// Returns an equal value. `OutOfMemory` if an allocation fails, which can't happen if no
     /// credential has salts of its own.
     pub fn try_clone(&self, alloc: Global) -> Result<AuthenticatorPrfInputs, OutOfMemory>
         ensures same { IfOk result (λ copy. copy ≡ self.now) }

@@ -1,4 +1,4 @@
-//! What the extension prf answers where a credential is made.
+//! Outputs of the extension prf at a registration.
 ghost use Rattle.std.specs.Prelude.{true, ◌≡◌, is_some, IfOk, OnErr};
 ghost use Rattle.passkey_extensions.specs.PrfMakeOutputs.{prf_make_fields, prf_make};
 ghost use Rattle.passkey_extensions.specs.declared.prf_make_outputs.AuthenticatorPrfMakeOutputs.{AuthenticatorPrfMakeOutputs as PrfMakeOutputs};
@@ -16,18 +16,18 @@ use passkey_memory::OutOfMemory;
 use passkey_webauthn::AuthenticationExtensionsPrfOutputs;
 use std::alloc::Global;
 
-/// What the extension prf answers where a credential is made (WebAuthn Level 3, section 10.1.4).
+/// The outputs of the extension prf at a registration (WebAuthn Level 3, section 10.1.4).
 #[derive(Clone, Debug, Drop)]
 pub struct AuthenticatorPrfMakeOutputs {
-    /// Whether secrets are derived for the credential.
+    /// Whether the new credential supports the extension.
     pub enabled: bool,
-    /// What was made of the salts.
+    /// The outputs for the salts. `None` means the member is absent; null decodes to it, too.
     pub results: Option<AuthenticatorPrfValues>,
 }
 
 impl AuthenticatorPrfMakeOutputs {
-    /// The outputs as a relying party sees them, with `enabled`. `OutOfMemory` where a growth was
-    /// refused, which cannot be where there are no results.
+    /// Returns the outputs as WebAuthn has them, with `enabled`. `OutOfMemory` if an allocation
+    /// fails, which can't happen if there are no results.
     pub fn to_webauthn(
         &self,
         alloc: Global,

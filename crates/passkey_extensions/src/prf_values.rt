@@ -16,18 +16,19 @@ use passkey_memory::OutOfMemory;
 use passkey_webauthn::AuthenticationExtensionsPrfValues;
 use std::alloc::Global;
 
-/// One or two salts of the extension prf, or what it makes of them (WebAuthn Level 3, section
-/// 10.1.4).
+/// One or two salts of the extension prf, or the outputs for them, 32 bytes each (WebAuthn Level 3,
+/// section 10.1.4). They are encoded as arrays of numbers, and decoded from byte strings, too.
 #[derive(Clone, Debug, Drop, PartialEq, Eq)]
 pub struct AuthenticatorPrfValues {
-    /// The first salt, or what is made of it.
+    /// The first salt, or the output for it.
     pub first: [u8; 32],
-    /// The second salt, or what is made of it.
+    /// The second salt, or the output for it. `None` means the member is absent; null decodes to
+    /// it, too.
     pub second: Option<[u8; 32]>,
 }
 
 impl AuthenticatorPrfValues {
-    /// The values as a relying party sees them. `OutOfMemory` where a growth was refused.
+    /// Returns the values as WebAuthn has them. `OutOfMemory` if an allocation fails.
     pub fn to_webauthn(
         &self,
         alloc: Global,

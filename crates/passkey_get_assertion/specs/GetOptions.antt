@@ -1,4 +1,4 @@
--- How a credential is to be used (CTAP 2.1, section 6.2).
+-- Options of authenticatorGetAssertion requests (CTAP 2.1, section 6.2).
 use Rattle.std.specs.Prelude.{List, [], ◌∷◌, true, false, codes}
 use Rattle.passkey_cbor.specs.Item.{Item, boolean, text_string}
 use Rattle.passkey_get_assertion.specs.declared.options.Options.{Options}

@@ -1,4 +1,4 @@
--- Requests to use a credential (CTAP 2.1, section 6.2).
+-- authenticatorGetAssertion requests (CTAP 2.1, section 6.2).
 use Rattle.std.specs.Prelude.{ℕ, nat_le, Bool, true, List, [], ◌∷◌, Option, None, codes, Result}
 use Rattle.passkey_cbor.specs.Depth.{depth}
 use Rattle.passkey_cbor.specs.Front.{max_depth}
@@ -46,11 +46,11 @@ get_request_fields = record {
 abbrev pub get_request_table : Table
 get_request_table = table_of get_request_fields
 
--- the request that an item is, or its first fault
+-- the request that an item decodes to, or its first fault
 abbrev pub read_get_request : Item → Result GetRequestParts Fault
 read_get_request = read_item get_request_fields
 
--- ---- what a request is written as
+-- ---- what a request is encoded as
 
 abbrev pub get_request_places : GetRequestParts → List Place
 get_request_places r =
@@ -70,6 +70,6 @@ get_request_tree r = record_tree (get_request_places r)
 abbrev pub GetRequestFits : GetRequestParts → Type 0
 GetRequestFits r = Where GetExtensionsFit r.extensions × Where IsByte r.pin_protocol
 
--- what is written has at most as many levels as are read
+-- the encoding has at most as many levels as are decoded
 abbrev pub is_get_request_coherent : GetRequestParts → Bool
 is_get_request_coherent r = nat_le (depth (get_request_tree r)) max_depth

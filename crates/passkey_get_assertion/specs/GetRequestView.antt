@@ -1,4 +1,4 @@
--- What contracts see of a request to use a credential.
+-- What contracts see of an authenticatorGetAssertion request.
 use Rattle.std.specs.Prelude.{option_map}
 use Rattle.passkey_get_assertion.specs.GetRequest.{GetRequestParts}
 use Rattle.passkey_get_assertion.specs.declared.request.Request.{Request}

@@ -1,4 +1,4 @@
--- What an authenticator answers to a request to use a credential (CTAP 2.1, section 6.2).
+-- authenticatorGetAssertion responses (CTAP 2.1, section 6.2).
 use Rattle.std.specs.Prelude.{ℕ, nat_le, Bool, true, ◌&&◌, List, [], ◌∷◌, Option, None, codes, Result, replicate}
 use Rattle.passkey_cbor.specs.Depth.{depth}
 use Rattle.passkey_cbor.specs.Front.{max_depth}
@@ -52,11 +52,11 @@ get_response_fields = record {
 abbrev pub get_response_table : Table
 get_response_table = table_of get_response_fields
 
--- the response that an item is, or its first fault
+-- the response that an item decodes to, or its first fault
 abbrev pub read_get_response : Item → Result GetResponseParts Fault
 read_get_response = read_item get_response_fields
 
--- ---- what a response is written as
+-- ---- what a response is encoded as
 
 abbrev pub get_response_places : GetResponseParts → List Place
 get_response_places r =
@@ -79,10 +79,10 @@ pub record GetResponseFits (r : GetResponseParts) : Type 0 where
   pub number_of_credentials : Where IsByte r.number_of_credentials
   pub unsigned_extension_outputs : Where UsedFits r.unsigned_extension_outputs
 
--- the authenticator data are read back, and what is written has at most as many levels as are read
+-- the authenticator data is coherent, and the encoding has at most as many levels as are decoded
 abbrev pub is_get_response_coherent : GetResponseParts → Bool
 is_get_response_coherent r = is_coherent r.auth_data && nat_le (depth (get_response_tree r)) max_depth
 
--- what is read of what is written
+-- what the encoding decodes to
 abbrev pub normal_get_response : GetResponseParts → GetResponseParts
 normal_get_response r = record r { auth_data = normal_data r.auth_data }

@@ -1,4 +1,4 @@
--- What contracts see of a response to a request to use a credential.
+-- What contracts see of an authenticatorGetAssertion response.
 use Rattle.passkey_core.specs.DataViews.{data_parts}
 use Rattle.passkey_get_assertion.specs.GetResponse.{GetResponseParts}
 use Rattle.passkey_get_assertion.specs.declared.response.Response.{Response}

@@ -1,4 +1,4 @@
-//! Using a credential (CTAP 2.1, section 6.2).
+//! The messages of authenticatorGetAssertion (CTAP 2.1, section 6.2).
 #![tactic(auto)]
 
 pub mod laws;

@@ -1,4 +1,4 @@
-//! How a credential is to be used.
+//! Options of authenticatorGetAssertion requests.
 ghost use Rattle.std.specs.Prelude.{◌≡◌, true, false};
 ghost use Rattle.passkey_get_assertion.specs.GetOptions.{options_tree, options_fields, options, options_default};
 ghost use Rattle.passkey_get_assertion.specs.declared.options.Options.{Options as Asked};
@@ -13,19 +13,20 @@ use passkey_kinds::{
 use passkey_memory::OutOfMemory;
 use std::alloc::Global;
 
-/// How a credential is to be used (CTAP 2.1, section 6.2).
+/// The options of an authenticatorGetAssertion request (CTAP 2.1, section 6.2). Each is its default
+/// if it is absent.
 #[derive(Clone, Debug, Drop, PartialEq, Eq)]
 pub struct Options {
-    /// Whether the user is to be there.
+    /// Whether user presence is required. True by default.
     pub up: bool,
-    /// Whether the user is to be verified.
+    /// Whether user verification is required. False by default.
     pub uv: bool,
 }
 
 impl Default for Options {
     ghost is_default = { λ options. options ≡ options_default };
 
-    /// The user is to be there, and nothing else.
+    /// Returns the defaults: `up` is true, `uv` is false.
     fn default() -> Options {
         Options {
             up: true,

@@ -1,4 +1,4 @@
-//! Requests to use a credential.
+//! authenticatorGetAssertion requests.
 ghost use Rattle.std.specs.Prelude.{◌≡◌, IfOk, IfErr, OnOk};
 ghost use Rattle.passkey_cbor.specs.View.{item_of};
 ghost use Rattle.passkey_cbor.specs.Writable.{IsWritable};
@@ -23,23 +23,25 @@ use passkey_memory::OutOfMemory;
 use passkey_webauthn::PublicKeyCredentialDescriptor;
 use std::alloc::Global;
 
-/// A request to use a credential (CTAP 2.1, section 6.2).
+/// An authenticatorGetAssertion request (CTAP 2.1, section 6.2). `None` means that a member is
+/// absent; null decodes to it, too.
 #[derive(Debug, Drop)]
 pub struct Request {
-    /// 0x01: whom the credential is for.
+    /// 0x01: the relying party id.
     pub rp_id: Text,
-    /// 0x02: the hash of the client data, which the signature is of.
+    /// 0x02: the SHA-256 hash of the client data, 32 bytes. The length isn't checked.
     pub client_data_hash: Bytes,
-    /// 0x03: the credentials that may be used; where none is given, those that the authenticator
-    /// finds without their ids.
+    /// 0x03: the credentials that may be used; without the list, any discoverable one of the
+    /// relying party. Platforms MUST NOT send an empty list. Decoding drops elements that can't be
+    /// decoded, and gives `None` for a value that isn't an array.
     pub allow_list: Option<List<PublicKeyCredentialDescriptor>>,
-    /// 0x04: what extensions are given.
+    /// 0x04: the extension inputs. Decoding gives `None` for a value that isn't accepted.
     pub extensions: Option<ExtensionInputs>,
-    /// 0x05: how the credential is to be used.
+    /// 0x05: the options, or their defaults if the member is absent.
     pub options: Options,
-    /// 0x06: the authentication code by a PIN or a user verification.
+    /// 0x06: `pinUvAuthParam`, which authenticates the client data hash with the pinUvAuthToken.
     pub pin_auth: Option<Bytes>,
-    /// 0x07: which protocol the code was made by.
+    /// 0x07: the PIN/UV auth protocol of `pin_auth`.
     pub pin_protocol: Option<u8>,
 }
 
@@ -111,8 +113,8 @@ impl ToCbor for Request {
 }
 
 impl Request {
-    /// Decodes the request that begins the bytes, as `read` does, and returns it with the length of
-    /// its data item in bytes.
+    /// Decodes the request that the bytes begin with, and returns it with its length in bytes.
+    /// Bytes after it are ignored. The errors are those of `read`.
     pub fn from_slice(alloc: Global, bytes: &[u8]) -> Result<(Request, usize), Fault>
         ensures reads { ReadsMessage get_request_parts read_get_request bytes.now result }
         ensures grows { result ≡ Err NoRoom → GrowsMessage get_request_fields bytes.now }
@@ -120,29 +122,31 @@ impl Request {
         message_from_slice(alloc, bytes)
     }
 
-    /// Decodes the request at the cursor, head by head and without a data item in memory, and moves
-    /// behind it. `DecodeFailed` exactly if no well-formed data item of at most 256 levels is
-    /// there; else the fault that `from_value` returns for the item; `OutOfMemory` if an allocation
-    /// fails, which only a member lets happen that takes memory. On an error the cursor stays, and its
-    /// counts keep what was spent.
+    /// Decodes the request at the cursor, head by head and without building a data item for the
+    /// whole, and moves behind it. `DecodeFailed` exactly if no well-formed data item of at most
+    /// 256 levels is there; otherwise the fault that `from_value` returns for the item;
+    /// `OutOfMemory` if an allocation fails, which can only happen for a member that takes memory.
+    /// On an error the cursor stays, and its counts include what was spent.
     pub fn read(alloc: Global, cursor: &mut Cursor<'_>) -> Result<Request, Fault>
         ensures { ReadsHere get_request_parts get_request_fields 16 cursor.old cursor.new result }
     {
         read_message(alloc, cursor)
     }
 
-    /// The request that the item is. Else `NotAMap`, or the first fault of its members in their
-    /// order (`BadKey`, `Repeated`, `Refused`), or the first required one that lacks (`Missing`);
-    /// `OutOfMemory` where a growth was refused. Unknown members, descriptors and extensions that
-    /// are refused, and an allow list that is no list are passed over.
+    /// Decodes the request from a data item. `NotAMap` if it isn't a map; otherwise the first fault
+    /// of its members in their order (`BadKey`, `Repeated`, `Refused`), or `Missing` for the first
+    /// required member that is absent; `OutOfMemory` if an allocation fails, which can only happen
+    /// for a member that takes memory. Unknown members are skipped, and so are descriptors and
+    /// extension inputs that can't be decoded, and an allow list that isn't an array.
     pub fn from_value(alloc: Global, value: &Value) -> Result<Request, Fault>
         ensures { Reads get_request_parts (MayGrowAt get_request_table (item_of value.now)) (read_get_request (item_of value.now)) result }
     {
         record_from_value(alloc, value)
     }
 
-    /// The request's bytes: members by their numbers in the table's order, each where it is there,
-    /// the options always. `OutOfMemory` where a growth was refused.
+    /// Encodes the request: its members under their numbers, in ascending order, each if it is
+    /// present, and the options always. `OutOfMemory` if an allocation fails; there is no other
+    /// error.
     pub fn to_vec(&self, alloc: Global) -> Result<Vec<u8>, WriteFault>
         ensures written { IfOk result (λ bytes. bytes.items ≡ written (get_request_tree (get_request_parts self.now))) }
         ensures writable { OnOk result (IsWritable (get_request_tree (get_request_parts self.now))) }
@@ -152,7 +156,8 @@ impl Request {
         write_message(alloc, self)
     }
 
-    /// Whether what `to_vec` writes is read back: it has at most 256 levels. It takes no memory.
+    /// Returns whether the encoding can be decoded again: it has at most 256 levels. Allocates
+    /// nothing.
     pub fn is_coherent(&self) -> bool
         ensures { result ≡ is_get_request_coherent (get_request_parts self.now) }
     {

@@ -1,4 +1,4 @@
-//! Responses to requests to use a credential.
+//! authenticatorGetAssertion responses.
 ghost use Rattle.std.specs.Prelude.{◌≡◌, IfOk, IfErr, OnOk};
 ghost use Rattle.passkey_cbor.specs.View.{item_of};
 ghost use Rattle.passkey_cbor.specs.Writable.{IsWritable};
@@ -24,24 +24,27 @@ use passkey_memory::OutOfMemory;
 use passkey_webauthn::PublicKeyCredentialDescriptor;
 use std::alloc::Global;
 
-/// What an authenticator answers to a request to use a credential (CTAP 2.1, section 6.2).
+/// An authenticatorGetAssertion response (CTAP 2.1, section 6.2). `None` means that a member is
+/// absent; null decodes to it, too.
 #[derive(Debug, Drop)]
 pub struct Response {
-    /// 0x01: which credential was used; it may lack where one was allowed.
+    /// 0x01: the descriptor of the credential that was used. It may be absent if the allow list had
+    /// exactly one.
     pub credential: Option<PublicKeyCredentialDescriptor>,
-    /// 0x02: what the authenticator says of the credential's use.
+    /// 0x02: the authenticator data.
     pub auth_data: AuthenticatorData,
-    /// 0x03: the signature of the authenticator data and the hash of the client data.
+    /// 0x03: the signature of the authenticator data and the client data hash.
     pub signature: Bytes,
-    /// 0x04: whose the credential is.
+    /// 0x04: the user account of the credential. Without user verification, the authenticator MUST
+    /// NOT return its names and icon.
     pub user: Option<PublicKeyCredentialUserEntity>,
-    /// 0x05: how many credentials there are for the relying party.
+    /// 0x05: the number of credentials for the relying party. Absent means 1.
     pub number_of_credentials: Option<u8>,
-    /// 0x06: whether the user chose the credential.
+    /// 0x06: whether the user selected the credential at the authenticator. Absent means false.
     pub user_selected: Option<bool>,
-    /// 0x07: the key of the credential's large blob.
+    /// 0x07: the key of the credential's large blob, if the extension largeBlobKey asked for it.
     pub large_blob_key: Option<Bytes>,
-    /// 0x08: what extensions answer beside the authenticator data (CTAP 2.2).
+    /// 0x08: the extension outputs that are outside the authenticator data (CTAP 2.2).
     pub unsigned_extension_outputs: Option<UnsignedExtensionOutputs>,
 }
 
@@ -117,8 +120,8 @@ impl ToCbor for Response {
 }
 
 impl Response {
-    /// Decodes the response that begins the bytes, as `read` does, and returns it with the length of
-    /// its data item in bytes.
+    /// Decodes the response that the bytes begin with, and returns it with its length in bytes.
+    /// Bytes after it are ignored. The errors are those of `read`.
     pub fn from_slice(alloc: Global, bytes: &[u8]) -> Result<(Response, usize), Fault>
         ensures reads { ReadsMessage get_response_parts read_get_response bytes.now result }
         ensures grows { result ≡ Err NoRoom → GrowsMessage get_response_fields bytes.now }
@@ -126,28 +129,29 @@ impl Response {
         message_from_slice(alloc, bytes)
     }
 
-    /// Decodes the response at the cursor, head by head and without a data item in memory, and moves
-    /// behind it. `DecodeFailed` exactly if no well-formed data item of at most 256 levels is
-    /// there; else the fault that `from_value` returns for the item; `OutOfMemory` if an allocation
-    /// fails, which only a member lets happen that takes memory. On an error the cursor stays, and its
-    /// counts keep what was spent.
+    /// Decodes the response at the cursor, head by head and without building a data item for the
+    /// whole, and moves behind it. `DecodeFailed` exactly if no well-formed data item of at most
+    /// 256 levels is there; otherwise the fault that `from_value` returns for the item;
+    /// `OutOfMemory` if an allocation fails, which can only happen for a member that takes memory.
+    /// On an error the cursor stays, and its counts include what was spent.
     pub fn read(alloc: Global, cursor: &mut Cursor<'_>) -> Result<Response, Fault>
         ensures { ReadsHere get_response_parts get_response_fields 16 cursor.old cursor.new result }
     {
         read_message(alloc, cursor)
     }
 
-    /// The response that the item is. Else `NotAMap`, or the first fault of its members in their
-    /// order (`BadKey`, `Repeated`, `Refused`), or the first required one that lacks (`Missing`);
-    /// `OutOfMemory` where a growth was refused. Unknown members are passed over.
+    /// Decodes the response from a data item. `NotAMap` if it isn't a map; otherwise the first
+    /// fault of its members in their order (`BadKey`, `Repeated`, `Refused`), or `Missing` for the
+    /// first required member that is absent; `OutOfMemory` if an allocation fails, which can only
+    /// happen for a member that takes memory. Unknown members are skipped.
     pub fn from_value(alloc: Global, value: &Value) -> Result<Response, Fault>
         ensures { Reads get_response_parts (MayGrowAt get_response_table (item_of value.now)) (read_get_response (item_of value.now)) result }
     {
         record_from_value(alloc, value)
     }
 
-    /// The response's bytes: members by their numbers in the table's order, each where it is there.
-    /// `OutOfMemory` where a growth was refused.
+    /// Encodes the response: its members under their numbers, in ascending order, each if it is
+    /// present. `OutOfMemory` if an allocation fails; there is no other error.
     pub fn to_vec(&self, alloc: Global) -> Result<Vec<u8>, WriteFault>
         ensures written { IfOk result (λ bytes. bytes.items ≡ written (get_response_tree (get_response_parts self.now))) }
         ensures writable { OnOk result (IsWritable (get_response_tree (get_response_parts self.now))) }
@@ -157,8 +161,8 @@ impl Response {
         write_message(alloc, self)
     }
 
-    /// Whether what `to_vec` writes is read back: the authenticator data are coherent. All else is
-    /// written with few levels. It takes no memory.
+    /// Returns whether the encoding can be decoded again: the authenticator data is coherent. All
+    /// other members have few levels. Allocates nothing.
     pub fn is_coherent(&self) -> bool
         ensures { result ≡ is_get_response_coherent (get_response_parts self.now) }
     {

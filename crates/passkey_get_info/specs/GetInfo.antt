@@ -1,4 +1,4 @@
--- What an authenticator tells of itself (CTAP 2.1, section 6.4).
+-- authenticatorGetInfo responses (CTAP 2.1, section 6.4).
 use Rattle.std.specs.Prelude.{ℕ, ◌^◌, Bool, true, List, [], ◌∷◌, Option, None, codes, replicate, Result}
 use Rattle.passkey_cbor.specs.Item.{Item}
 use Rattle.passkey_get_info.specs.GetInfoNames.{version, extension}
@@ -46,7 +46,7 @@ pub record GetInfoParts : Type 0 where
   pub pin_complexity_policy_url : Option (List ℕ)
   pub max_pin_length : Option ℕ
 
--- one of no versions, with the AAGUID of zeros
+-- no versions, an AAGUID of zeros, and no other member
 abbrev pub get_info_empty : GetInfoParts
 get_info_empty = record {
   versions = [];
@@ -113,6 +113,6 @@ get_info_fields = record {
 abbrev pub get_info_table : Table
 get_info_table = table_of get_info_fields
 
--- the response that an item is, or its first fault
+-- the response that an item decodes to, or its first fault
 abbrev pub read_get_info : Item → Result GetInfoParts Fault
 read_get_info = read_item get_info_fields

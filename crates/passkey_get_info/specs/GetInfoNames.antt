@@ -1,4 +1,4 @@
--- Versions and extensions that an authenticator tells of, by their names (CTAP 2.1, section 6.4).
+-- The names of versions and extensions that an authenticator supports (CTAP 2.1, section 6.4).
 use Rattle.std.specs.Prelude.{ℕ, List, [], ◌∷◌, Some, codes, unwrap_or}
 use Rattle.passkey_cbor.specs.Item.{Item, text_string}
 use Rattle.passkey_kinds.specs.Kind.{Kind, one_named}
@@ -13,7 +13,7 @@ version_name versions.FIDO_2_0 = codes "FIDO_2_0"
 version_name versions.FIDO_2_1 = codes "FIDO_2_1"
 version_name (versions.Unknown name) = name
 
--- each name is a version's
+-- each name is that of a version
 abbrev pub version_named : List ℕ → Version
 version_named name = unwrap_or (named_in version_name (versions.FIDO_2_0 ∷ versions.FIDO_2_1 ∷ []) name) (versions.Unknown name)
 
@@ -23,7 +23,7 @@ version = one_named (λ name. Some (version_named name))
 abbrev pub version_tree : Version → Item
 version_tree v = text_string (version_name v)
 
--- an unknown version of a known name is the known one
+-- an unknown version with a known name is the known one
 abbrev pub normal_version : Version → Version
 normal_version v = version_named (version_name v)
 
@@ -33,7 +33,7 @@ extension_name extensions.HmacSecretMakeCredential = codes "hmac-secret-mc"
 extension_name extensions.Prf = codes "prf"
 extension_name (extensions.Unknown name) = name
 
--- each name is an extension's
+-- each name is that of an extension
 abbrev pub extension_named : List ℕ → Extension
 extension_named name = unwrap_or (named_in extension_name (extensions.HmacSecret ∷ extensions.HmacSecretMakeCredential ∷ extensions.Prf ∷ []) name) (extensions.Unknown name)
 

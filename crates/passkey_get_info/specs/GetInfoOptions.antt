@@ -1,4 +1,4 @@
--- What an authenticator can do (CTAP 2.1, section 6.4).
+-- Options of authenticatorGetInfo responses (CTAP 2.1, section 6.4).
 use Rattle.std.specs.Prelude.{List, [], ◌∷◌, true, false, None, codes}
 use Rattle.passkey_cbor.specs.Item.{Item, boolean, text_string}
 use Rattle.passkey_kinds.specs.Kind.{Kind}
@@ -59,7 +59,7 @@ options_fields = record {
 abbrev pub options : Kind Options
 options = record_kind options_fields
 
--- ---- what they are written as
+-- ---- what they are encoded as
 
 abbrev pub options_places : Options → List Place
 options_places o =

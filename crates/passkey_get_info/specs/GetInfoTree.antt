@@ -1,4 +1,4 @@
--- What a response is written as (CTAP 2.1, section 6.4).
+-- What an authenticatorGetInfo response is encoded as (CTAP 2.1, section 6.4).
 use Rattle.std.specs.Prelude.{◌≡◌, ◌<◌, ◌^◌, nat_lt, nat_le, ℕ, Bool, true, ◌&&◌, if◌then◌else◌, List, [], ◌∷◌, ◌++◌, map, length, Option, Some, None, option_map}
 use Rattle.std.specs.List.{All}
 use Rattle.passkey_cbor.specs.Depth.{depth}
@@ -14,7 +14,7 @@ use Rattle.passkey_kinds.specs.Trees.{parameters_tree, transport_tree}
 use Rattle.passkey_kinds.specs.declared.write_fault.WriteFault.{WriteFault}
 use Rattle.passkey_kinds.specs.declared.write_fault.WriteFault.TheVariants.{OutOfMemory, NumberTooLarge}
 
--- what it can do
+-- what the authenticator supports
 abbrev pub capability_places : GetInfoParts → List Place
 capability_places r =
     always (number_tree 1) (list_tree version_tree) r.versions
@@ -27,7 +27,7 @@ capability_places r =
     ∷ where_some (number_tree 10) (list_tree parameters_tree) r.algorithms
     ∷ []
 
--- how much it takes, and in which state it is
+-- its limits and its state
 abbrev pub limit_places : GetInfoParts → List Place
 limit_places r =
     where_some (number_tree 11) number_tree r.mac_serialized_large_blob_array
@@ -85,21 +85,21 @@ pub record LimitsFit (r : GetInfoParts) : Type 0 where
 abbrev pub GetInfoFits : GetInfoParts → Type 0
 GetInfoFits r = CapabilitiesFit r × LimitsFit r
 
--- ---- what can be written, and is read back
+-- ---- what can be encoded, and decoded again
 
--- CBOR spells numbers below 2^64 alone (RFC 8949, section 3.1)
+-- CBOR's unsigned integers are below 2^64 (RFC 8949, section 3.1)
 abbrev pub is_spelled : Option ℕ → Bool
 is_spelled None = true
 is_spelled (Some n) = nat_lt n (2 ^ 64)
 
--- why a response is not written: its size can't be, or else memory was refused
+-- why a response isn't encoded: its size is too large, or else an allocation failed
 abbrev pub fault_of_size : Option ℕ → WriteFault
 fault_of_size size = if is_spelled size then OutOfMemory else NumberTooLarge
 
--- the size can be written, and what is written has at most as many levels as are read
+-- the size can be encoded, and the encoding has at most as many levels as are decoded
 abbrev pub is_get_info_coherent : GetInfoParts → Bool
 is_get_info_coherent r = is_spelled r.max_msg_size && nat_le (depth (get_info_tree r)) max_depth
 
--- what is read of what is written
+-- what the encoding decodes to
 abbrev pub normal_get_info : GetInfoParts → GetInfoParts
 normal_get_info r = record r { versions = map normal_version r.versions; extensions = option_map (map normal_extension) r.extensions }

@@ -1,4 +1,4 @@
--- What contracts see of a response.
+-- What contracts see of an authenticatorGetInfo response.
 use Rattle.std.specs.Prelude.{option_map}
 use Rattle.std.specs.Int.NonZero.{non_zero_u128_get}
 use Rattle.passkey_get_info.specs.GetInfo.{GetInfoParts}

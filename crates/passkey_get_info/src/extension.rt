@@ -1,4 +1,4 @@
-//! Extensions of CTAP.
+//! Extensions that an authenticator supports.
 ghost use Rattle.std.specs.Prelude.{◌≡◌, true};
 ghost use Rattle.passkey_get_info.specs.GetInfoNames.{extension_name, extension_named, extension, extension_tree, normal_extension};
 ghost use Rattle.passkey_kinds.specs.Keeping.{nothing};
@@ -14,14 +14,13 @@ use std::alloc::Global;
 /// An extension that an authenticator supports (CTAP 2.1, section 6.4).
 #[derive(Debug, Drop, PartialEq, Eq)]
 pub enum Extension {
-    /// `hmac-secret`: secrets of a credential (CTAP 2.1, section 12.5).
+    /// `hmac-secret` (CTAP 2.1, section 12.5).
     HmacSecret,
-    /// `hmac-secret-mc` (CTAP 2.2): the same where the credential is made.
+    /// `hmac-secret-mc`: hmac-secret at registration (CTAP 2.2).
     HmacSecretMakeCredential,
-    /// `prf`: the same by the names of WebAuthn (WebAuthn Level 3, section 10.1.4).
+    /// `prf` (WebAuthn Level 3, section 10.1.4).
     Prf,
-    /// One of another name. Where it holds one of the names above, it is read back as that
-    /// extension.
+    /// Another name. If it holds one of the names above, its encoding decodes to that extension.
     Unknown(Text),
 }
 

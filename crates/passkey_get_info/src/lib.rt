@@ -1,4 +1,4 @@
-//! What an authenticator tells of itself (CTAP 2.1, section 6.4).
+//! authenticatorGetInfo responses (CTAP 2.1, section 6.4).
 #![tactic(auto)]
 
 mod extension;

@@ -1,4 +1,4 @@
-//! What an authenticator can do.
+//! Options of authenticatorGetInfo responses.
 ghost use Rattle.std.specs.Prelude.{◌≡◌, true};
 ghost use Rattle.passkey_get_info.specs.GetInfoOptions.{options_fields, options, options_default, options_tree};
 ghost use Rattle.passkey_kinds.specs.ReadBack.{Any};
@@ -13,54 +13,61 @@ use passkey_kinds::{
 use passkey_memory::OutOfMemory;
 use std::alloc::Global;
 
-/// What an authenticator can do, and how it is set up (CTAP 2.1, section 6.4). An option that is
-/// nothing is one that the authenticator doesn't have.
+/// The options of an authenticatorGetInfo response: what the authenticator supports, and how it is
+/// configured (CTAP 2.1, section 6.4). `None` means that an option is absent, and so not supported;
+/// null decodes to it, too.
 #[derive(Debug, Drop, PartialEq, Eq)]
 pub struct Options {
-    /// `plat`: whether it is part of the platform, and can't be removed and used on another one.
+    /// `plat`: whether it is a platform authenticator, which can't be removed from the client
+    /// device. False by default.
     pub plat: bool,
-    /// `rk`: whether it can keep credentials, so that they are found without their ids.
+    /// `rk`: whether it can create discoverable credentials. False by default.
     pub rk: bool,
-    /// `clientPin`: whether a PIN is set, where it can take one.
+    /// `clientPin`: whether a PIN is set, if it supports PINs.
     pub client_pin: Option<bool>,
-    /// `up`: whether it can test that the user is there.
+    /// `up`: whether it can test user presence. True by default.
     pub up: bool,
-    /// `uv`: whether its own verification of the user is set up, where it has one.
+    /// `uv`: whether its built-in user verification is configured, if it has one.
     pub uv: Option<bool>,
-    /// `pinUvAuthToken`: whether it gives tokens of permissions for a PIN or a user verification.
+    /// `pinUvAuthToken`: whether it issues pinUvAuthTokens with permissions.
     pub pin_uv_auth_token: Option<bool>,
-    /// `noMcGaPermissionsWithClientPin`: whether a token for a PIN lacks the permissions to make and to use credentials.
+    /// `noMcGaPermissionsWithClientPin`: whether a pinUvAuthToken that was obtained by PIN can't
+    /// have the permissions for authenticatorMakeCredential and authenticatorGetAssertion.
     pub no_mc_ga_permissions_with_client_pin: Option<bool>,
-    /// `largeBlobs`: whether it keeps large blobs.
+    /// `largeBlobs`: whether it supports authenticatorLargeBlobs.
     pub large_blobs: Option<bool>,
-    /// `ep`: whether enterprise attestation is enabled, where it has one.
+    /// `ep`: whether enterprise attestation is enabled, if it supports that.
     pub ep: Option<bool>,
-    /// `bioEnroll`: whether a biometric template is enrolled, where it can enroll some.
+    /// `bioEnroll`: whether a biometric template is enrolled, if it supports
+    /// authenticatorBioEnrollment.
     pub bio_enroll: Option<bool>,
-    /// `userVerificationMgmtPreview`: the same by the command of `FIDO_2_1_PRE`.
+    /// `userVerificationMgmtPreview`: the same for the prototype command of `FIDO_2_1_PRE`.
     pub user_verification_mgmt_preview: Option<bool>,
-    /// `uvBioEnroll`: whether a user verification can give the permission to enroll.
+    /// `uvBioEnroll`: whether built-in user verification can grant the permission to enroll
+    /// templates.
     pub uv_bio_enroll: Option<bool>,
-    /// `authnrCfg`: whether it can be configured.
+    /// `authnrCfg`: whether it supports authenticatorConfig.
     pub authnr_cfg: Option<bool>,
-    /// `uvAcfg`: whether a user verification can give the permission to configure it.
+    /// `uvAcfg`: whether built-in user verification can grant the permission for
+    /// authenticatorConfig.
     pub uv_acfg: Option<bool>,
-    /// `credMgmt`: whether its credentials can be managed.
+    /// `credMgmt`: whether it supports authenticatorCredentialManagement.
     pub cred_mgmt: Option<bool>,
-    /// `credentialMgmtPreview`: the same by the command of `FIDO_2_1_PRE`.
+    /// `credentialMgmtPreview`: the same for the prototype command of `FIDO_2_1_PRE`.
     pub credential_mgmt_preview: Option<bool>,
-    /// `setMinPINLength`: whether the least length of a PIN can be set.
+    /// `setMinPINLength`: whether it supports the subcommand setMinPINLength.
     pub set_min_pin_length: Option<bool>,
-    /// `makeCredUvNotRqd`: whether credentials that are not kept can be made without verifying the user.
+    /// `makeCredUvNotRqd`: whether it creates non-discoverable credentials without user
+    /// verification.
     pub make_cred_uv_not_rqd: Option<bool>,
-    /// `alwaysUv`: whether it always verifies the user, where that can be chosen.
+    /// `alwaysUv`: whether user verification is always required, if it supports that setting.
     pub always_uv: Option<bool>,
 }
 
 impl Default for Options {
     ghost is_default = { λ options. options ≡ options_default };
 
-    /// It can test that the user is there, and nothing else.
+    /// Returns the defaults: `up` is true, `plat` and `rk` are false, the others are absent.
     fn default() -> Options {
         Options {
             plat: false,

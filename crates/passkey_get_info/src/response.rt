@@ -1,4 +1,4 @@
-//! What an authenticator tells of itself.
+//! authenticatorGetInfo responses.
 ghost use Rattle.std.specs.Prelude.{◌≡◌};
 ghost use Rattle.passkey_cbor.specs.View.{item_of};
 ghost use Rattle.passkey_get_info.specs.GetInfo.{GetInfoParts, get_info_fields, get_info_table, read_get_info, get_info_empty};
@@ -21,61 +21,67 @@ use passkey_webauthn::{AuthenticatorTransport, PublicKeyCredentialParameters};
 use std::alloc::Global;
 use std::num::NonZeroU128;
 
-/// What an authenticator tells of itself (CTAP 2.1, section 6.4; the members from 0x16 on are of CTAP
-/// 2.2). What is nothing, it doesn't tell.
+/// An authenticatorGetInfo response (CTAP 2.1, section 6.4; the members from 0x16 on are of CTAP
+/// 2.2). `None` means that a member is absent; null decodes to it, too.
 #[derive(Debug, Drop, PartialEq, Eq)]
 pub struct Response {
-    /// 0x01: the versions of CTAP that it supports.
+    /// 0x01: the supported versions of CTAP.
     pub versions: List<Version>,
-    /// 0x02: the extensions that it supports.
+    /// 0x02: the supported extensions.
     pub extensions: Option<List<Extension>>,
-    /// 0x03: its model.
+    /// 0x03: the AAGUID, 16 bytes.
     pub aaguid: Aaguid,
-    /// 0x04: what it can do, and how it is set up.
+    /// 0x04: the options.
     pub options: Option<Options>,
-    /// 0x05: how many bytes the longest message has that it takes.
+    /// 0x05: the maximum size of a message, in bytes. Without it, platforms MUST NOT send more than
+    /// 1024 (section 8).
     pub max_msg_size: Option<NonZeroU128>,
-    /// 0x06: the PIN/UV auth protocols that it supports.
+    /// 0x06: the supported PIN/UV auth protocols, the preferred first.
     pub pin_protocols: Option<List<u8>>,
-    /// 0x09: the ways to it.
+    /// 0x09: the supported transports. Decoding drops unknown ones.
     pub transports: Option<List<AuthenticatorTransport>>,
-    /// 0x0A: which keys it makes, the best first.
+    /// 0x0A: the supported credential types and algorithms, the preferred first. Decoding drops
+    /// elements that can't be decoded, such as unknown algorithms.
     pub algorithms: Option<List<PublicKeyCredentialParameters>>,
-    /// 0x0B: how many bytes its array of large blobs may have.
+    /// 0x0B: the maximum size of the serialized large-blob array, in bytes.
     pub mac_serialized_large_blob_array: Option<u32>,
-    /// 0x0C: whether the PIN has to be changed before it is used.
+    /// 0x0C: whether the PIN must be changed before a pinUvAuthToken is issued for it.
     pub force_pin_change: Option<bool>,
-    /// 0x0D: how many code points a PIN has at least.
+    /// 0x0D: the minimum PIN length, in Unicode code points.
     pub min_pin_length: Option<u32>,
-    /// 0x0E: the version of its firmware.
+    /// 0x0E: the firmware version.
     pub firmware_version: Option<u32>,
-    /// 0x0F: how many bytes a credential's blob may have.
+    /// 0x0F: the maximum length of a credBlob, in bytes.
     pub max_cred_blob_length: Option<u32>,
-    /// 0x10: how many relying parties can be told the least length of a PIN.
+    /// 0x10: the maximum number of relying party ids that setMinPINLength takes.
     pub max_rpids_for_set_min_pin_length: Option<u32>,
-    /// 0x11: how often a user verification is to be tried before a PIN is asked for.
+    /// 0x11: how many attempts at built-in user verification the platform should make before it
+    /// asks for a PIN.
     pub preferred_platform_uv_attempts: Option<u32>,
-    /// 0x12: how it verifies the user, as flags of FIDO's registry.
+    /// 0x12: the user verification methods, as flags of FIDO's registry of predefined values.
     pub uv_modality: Option<u32>,
-    /// 0x14: for how many more credentials it has room.
+    /// 0x14: how many more discoverable credentials can be stored, an estimate.
     pub remaining_discoverable_credentials: Option<u32>,
-    /// 0x15: the vendor's commands of its configuration.
+    /// 0x15: the ids of the vendor's authenticatorConfig subcommands. Decoding drops elements that
+    /// can't be decoded.
     pub vendor_prototype_config_commands: Option<List<u32>>,
-    /// 0x16: the formats of its attestations.
+    /// 0x16: the supported attestation statement formats. Decoding drops elements that can't be
+    /// decoded.
     pub attestation_formats: Option<List<Text>>,
-    /// 0x17: how many user verifications there were since a PIN was entered.
+    /// 0x17: the number of built-in user verifications since the last PIN entry.
     pub uv_count_since_last_pin_entry: Option<u32>,
-    /// 0x18: whether a reset wants a long touch.
+    /// 0x18: whether authenticatorReset requires a long touch.
     pub long_touch_for_reset: Option<bool>,
-    /// 0x19: its identifier, encrypted.
+    /// 0x19: the encrypted device identifier.
     pub enc_identifier: Option<Bytes>,
-    /// 0x1A: the ways over which it takes a reset.
+    /// 0x1A: the transports over which authenticatorReset is supported. Decoding drops unknown
+    /// ones.
     pub transports_for_reset: Option<List<AuthenticatorTransport>>,
-    /// 0x1B: whether PINs have to follow a policy beside their length.
+    /// 0x1B: whether a PIN must meet a policy beyond the minimum length.
     pub pin_complexity_policy: Option<bool>,
-    /// 0x1C: where to read of that policy.
+    /// 0x1C: a URL that describes this policy, as bytes.
     pub pin_complexity_policy_url: Option<Bytes>,
-    /// 0x1D: how many code points a PIN has at most.
+    /// 0x1D: the maximum PIN length, in Unicode code points.
     pub max_pin_length: Option<u32>,
 }
 
@@ -159,8 +165,8 @@ impl Record for Response {
 }
 
 impl Response {
-    /// What an authenticator tells that supports nothing: no versions, the AAGUID of zeros, and
-    /// nothing else. It takes no memory.
+    /// Returns a response without versions, with an AAGUID of zeros, and with all other members
+    /// absent. Allocates nothing.
     pub fn empty(alloc: Global) -> Response
         ensures { get_info_parts result ≡ get_info_empty }
     {
@@ -194,8 +200,8 @@ impl Response {
         }
     }
 
-    /// Decodes the response that begins the bytes, as `read` does, and returns it with the length of
-    /// its data item in bytes.
+    /// Decodes the response that the bytes begin with, and returns it with its length in bytes.
+    /// Bytes after it are ignored. The errors are those of `read`.
     pub fn from_slice(alloc: Global, bytes: &[u8]) -> Result<(Response, usize), Fault>
         ensures reads { ReadsMessage get_info_parts read_get_info bytes.now result }
         ensures grows { result ≡ Err NoRoom → GrowsMessage get_info_fields bytes.now }
@@ -203,21 +209,23 @@ impl Response {
         message_from_slice(alloc, bytes)
     }
 
-    /// Decodes the response at the cursor, head by head and without a data item in memory, and moves
-    /// behind it. `DecodeFailed` exactly if no well-formed data item of at most 256 levels is
-    /// there; else the fault that `from_value` returns for the item; `OutOfMemory` if an allocation
-    /// fails, which only a member lets happen that takes memory. On an error the cursor stays, and its
-    /// counts keep what was spent.
+    /// Decodes the response at the cursor, head by head and without building a data item for the
+    /// whole, and moves behind it. `DecodeFailed` exactly if no well-formed data item of at most
+    /// 256 levels is there; otherwise the fault that `from_value` returns for the item;
+    /// `OutOfMemory` if an allocation fails, which can only happen for a member that takes memory.
+    /// On an error the cursor stays, and its counts include what was spent.
     pub fn read(alloc: Global, cursor: &mut Cursor<'_>) -> Result<Response, Fault>
         ensures { ReadsHere get_info_parts get_info_fields 16 cursor.old cursor.new result }
     {
         read_message(alloc, cursor)
     }
 
-    /// The response that the item is. Else `NotAMap`, or the first fault of its members in their
-    /// order (`BadKey`, `Repeated`, `Refused`), or the first required one that lacks (`Missing`);
-    /// `OutOfMemory` where a growth was refused. Unknown members are passed over, and of the lists
-    /// 0x09, 0x0A, 0x15, 0x16 and 0x1A the elements that are refused, or all that is no list.
+    /// Decodes the response from a data item. `NotAMap` if it isn't a map; otherwise the first
+    /// fault of its members in their order (`BadKey`, `Repeated`, `Refused`), or `Missing` for the
+    /// first required member that is absent; `OutOfMemory` if an allocation fails, which can only
+    /// happen for a member that takes memory. Unknown members are skipped. The lists 0x09, 0x0A,
+    /// 0x15, 0x16 and 0x1A lose elements that can't be decoded, and are `None` if the value isn't
+    /// an array.
     pub fn from_value(alloc: Global, value: &Value) -> Result<Response, Fault>
         ensures { Reads get_info_parts (MayGrowAt get_info_table (item_of value.now)) (read_get_info (item_of value.now)) result }
     {

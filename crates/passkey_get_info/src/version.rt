@@ -1,4 +1,4 @@
-//! Versions of CTAP.
+//! Versions of CTAP that an authenticator supports.
 ghost use Rattle.std.specs.Prelude.{◌≡◌, true};
 ghost use Rattle.passkey_get_info.specs.GetInfoNames.{version_name, version_named, version, version_tree, normal_version};
 ghost use Rattle.passkey_kinds.specs.Keeping.{nothing};
@@ -18,7 +18,7 @@ pub enum Version {
     FIDO_2_0,
     /// CTAP 2.1.
     FIDO_2_1,
-    /// One of another name. Where it holds one of the names above, it is read back as that version.
+    /// Another name. If it holds one of the names above, its encoding decodes to that version.
     Unknown(Text),
 }
 

@@ -1,4 +1,4 @@
-//! What an authenticator tells of itself, written.
+//! Encoding authenticatorGetInfo responses.
 ghost use Rattle.std.specs.Prelude.{◌≡◌, ◌^◌, nat_lt, pos, true, false, if◌then◌else◌, option_map, Some as There, None as Nothing, IfOk, IfErr, OnOk};
 ghost use Rattle.std.specs.Int.NonZero.{non_zero_u128_get};
 ghost use Rattle.passkey_cbor.specs.View.{item_of};
@@ -18,14 +18,14 @@ use passkey_memory::OutOfMemory;
 use std::alloc::Global;
 use std::num::NonZeroU128;
 
-/// The size, where CBOR can spell it.
+/// Returns the size as an integer, or `None` if it is 2^64 or more.
 fn spelled(size: NonZeroU128) -> Option<Integer>
     ensures { result ≡ (if nat_lt (non_zero_u128_get size) (2 ^ 64) then There (pos (non_zero_u128_get size)) else Nothing) }
 {
     Integer::new(i128::try_from(size.get()).ok()?).ok()
 }
 
-/// The size as an item. `NumberTooLarge` exactly where CBOR can't spell it.
+/// Returns the size as a data item. `NumberTooLarge` exactly if it is 2^64 or more.
 fn size_item(size: Option<NonZeroU128>) -> Result<Option<Value>, WriteFault>
     ensures item { IfOk result (λ item. option_map item_of item ≡ option_map number_tree (option_map non_zero_u128_get size)) }
     ensures fits { OnOk result (Where IsPositive (option_map non_zero_u128_get size)) }
@@ -85,9 +85,9 @@ impl Response {
         Ok(())
     }
 
-    /// The response's bytes: members by their numbers in the table's order, each where it is there.
-    /// `NumberTooLarge` exactly where `max_msg_size` is 2^64 or more; else `OutOfMemory` where a
-    /// growth was refused.
+    /// Encodes the response: its members under their numbers, in ascending order, each if it is
+    /// present. `NumberTooLarge` exactly if `max_msg_size` is 2^64 or more; otherwise `OutOfMemory`
+    /// if an allocation fails.
     pub fn to_vec(&self, alloc: Global) -> Result<Vec<u8>, WriteFault>
         ensures written { IfOk result (λ bytes. bytes.items ≡ written (get_info_tree (get_info_parts self.now))) }
         ensures writable { OnOk result (IsWritable (get_info_tree (get_info_parts self.now))) }
@@ -101,7 +101,8 @@ impl Response {
         Ok(members.into_value().to_vec(alloc)?)
     }
 
-    /// Whether what `to_vec` writes is read back: `max_msg_size` is below 2^64. It takes no memory.
+    /// Returns whether the response can be encoded, and the encoding can be decoded again:
+    /// `max_msg_size` is below 2^64. Allocates nothing.
     pub fn is_coherent(&self) -> bool
         ensures { result ≡ is_get_info_coherent (get_info_parts self.now) }
     {

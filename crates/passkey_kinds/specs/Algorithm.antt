@@ -1,4 +1,4 @@
--- Algorithms, by their numbers (RFC 9053, section 2; IANA's registry of COSE algorithms).
+-- COSE algorithm identifiers (RFC 9053, section 2; IANA's COSE Algorithms registry).
 use Rattle.std.specs.Prelude.{None}
 use Rattle.std.specs.Option.{option_and_then}
 use Rattle.passkey_cbor.specs.Item.{Item, number, text_string}
@@ -7,7 +7,7 @@ use Rattle.passkey_iana.specs.declared.algorithm.Algorithm.{Algorithm}
 use Rattle.passkey_kinds.specs.Kind.{Kind}
 use Rattle.passkey_webauthn.specs.NumberText.{signed_64, whole_64}
 
--- a number, or a text of one, cut to its whole part
+-- a number, or a text string with a number, of which the whole part counts
 abbrev pub algorithm : Kind Algorithm
 algorithm (number z) = option_and_then algorithm_named (signed_64 z)
 algorithm (text_string s) = option_and_then algorithm_named (whole_64 s)

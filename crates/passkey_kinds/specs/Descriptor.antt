@@ -1,4 +1,4 @@
--- Credentials, by their ids (WebAuthn Level 3, section 5.8.3).
+-- Credential descriptors (WebAuthn Level 3, section 5.8.3).
 use Rattle.std.specs.Prelude.{[], ◌∷◌, None, codes, false}
 use Rattle.passkey_kinds.specs.Kind.{Kind}
 use Rattle.passkey_kinds.specs.Record.{Fields, required, default, record_kind}

@@ -45,13 +45,13 @@ abbrev pub head_map : Head → Option (Option ℕ)
 head_map (head.Map left) = Some left
 head_map _ = None
 
--- One head was decoded; if it is the whole of the item that is wanted, the cursor is behind that.
+-- One head was decoded. If it is the whole of the wanted item, the cursor is behind the item.
 pub record ReadsFlat {X : Type 0} (wanted : Option X) (to : ℕ) (old new : Walk) (found : Option X) : Type 0 where
   pub is : found ≡ wanted
   pub spends : Spends 1 0 to old new
   pub ends : (x : X) → found ≡ Some x → new.place ≡ to
 
--- One head was decoded: an array's, with its elements ahead, or that of no array.
+-- One head was decoded: that of an array, whose elements are ahead, or of an item that is no array.
 abbrev pub OpensArray : Item → ℕ → Walk → Option (Option ℕ) → Type 0
 OpensArray i to new (Some left) = (is : List Item) × ((i ≡ item.array (items_of is)) × StandItems left is new.bytes new.place to)
 OpensArray i to new None = (xs : item.Items) → (i ≡ item.array xs) → ⊥

@@ -1,4 +1,4 @@
--- What items mean: a kind accepts some items, and gives each of them a value.
+-- What data items decode to: a kind accepts some items, and gives a value for each of them.
 use Rattle.std.specs.Prelude.{◌≡◌, ◌==◌, ℕ, pos, nat_lt, length, Bool, IsTrue, if◌then◌else◌, List, [], ◌∷◌, Option, Some, None, option_map, unwrap_or, Result, Ok, Err}
 use Rattle.std.specs.List.{filter_map}
 use Rattle.std.specs.Option.{option_and_then}
@@ -12,18 +12,18 @@ use Rattle.passkey_kinds.specs.declared.refusal.Refusal.TheVariants.{Refused, Ou
 abbrev pub Kind : Type 0 → Type 0
 Kind M = Item → Option M
 
--- What a reader answers: what is wanted, as contracts see it, or that nothing is; or memory was
--- refused, where it may be.
+-- The result of decoding: the wanted value, as contracts see it; or `Refused`, if there is none; or
+-- `OutOfMemory`, if memory may be taken.
 abbrev pub AnswersAs : {A M : Type 0} → (A → M) → Option M → Type 0 → Result A Refusal → Type 0
 AnswersAs view wanted takes (Ok x) = wanted ≡ Some (view x)
 AnswersAs view wanted takes (Err Refused) = wanted ≡ None
 AnswersAs view wanted takes (Err OutOfMemory) = takes
 
--- such an item lets memory be refused, where the kind takes some
+-- the kind takes memory, and this item does
 abbrev pub MayGrow : Bool → Item → Type 0
 MayGrow takes i = IsTrue takes × Grows i
 
--- the same, at an item
+-- the same by the kind and the item
 abbrev pub Answers : {A M : Type 0} → (A → M) → Kind M → Bool → Item → Result A Refusal → Type 0
 Answers view kind takes i = AnswersAs view (kind i) (MayGrow takes i)
 
@@ -31,7 +31,7 @@ abbrev pub truth : Kind Bool
 truth (boolean b) = Some b
 truth _ = None
 
--- whole numbers below a limit
+-- unsigned integers below a limit
 abbrev pub below : ℕ → Kind ℕ
 below limit (number (pos n)) = if nat_lt n limit then Some n else None
 below limit _ = None
@@ -40,16 +40,16 @@ abbrev pub text : Kind (List ℕ)
 text (text_string s) = Some s
 text _ = None
 
--- one of some names
+-- a text string that is one of some names
 abbrev pub one_named : {T : Type 0} → (List ℕ → Option T) → Kind T
 one_named named (text_string s) = named s
 one_named named _ = None
 
--- any item, kept
+-- any item, kept as it is
 abbrev pub kept : Kind Item
 kept i = Some i
 
--- null is nothing
+-- null decodes to `None`
 abbrev pub optional : {M : Type 0} → Kind M → Kind (Option M)
 optional kind null = Some None
 optional kind (number z) = option_map Some (kind (number z))
@@ -62,19 +62,20 @@ optional kind (boolean b) = option_map Some (kind (boolean b))
 optional kind (simple n) = option_map Some (kind (simple n))
 optional kind (float f) = option_map Some (kind (float f))
 
--- the value of each element, where each has one
+-- the values of all elements, if each has one
 abbrev pub each : {X M : Type 0} → (X → Option M) → List X → Option (List M)
 each kind [] = Some []
 each kind (i ∷ is) = option_and_then (λ x. option_map (λ xs. x ∷ xs) (each kind is)) (kind i)
 
--- a byte string; numbers of one byte; or a text in base64url or base64 between white space
+-- a byte string; an array of numbers of one byte; or a text string in base64url or base64, between
+-- white space
 abbrev pub bytes : Kind (List ℕ)
 bytes (byte_string s) = Some s
 bytes (array xs) = each (below 256) (elements xs)
 bytes (text_string s) = text_bytes (trim s)
 bytes _ = None
 
--- a byte string or numbers of one byte, exactly so many
+-- a byte string or an array of numbers of one byte, of exactly this length
 abbrev pub sized_bytes : ℕ → Kind (List ℕ)
 sized_bytes n (byte_string s) = if length s == n then Some s else None
 sized_bytes n (array xs) = if length (elements xs) == n then each (below 256) (elements xs) else None
@@ -89,10 +90,10 @@ abbrev pub accepted : {M : Type 0} → Kind M → Kind (List M)
 accepted kind (array xs) = Some (filter_map kind (elements xs))
 accepted kind _ = None
 
--- the value, or nothing where the kind refuses
+-- the value, or `None` if the kind refuses the item
 abbrev pub tolerated : {M : Type 0} → Kind M → Kind (Option M)
 tolerated kind i = Some (kind i)
 
--- the value, or this one where the kind refuses
+-- the value, or this default if the kind refuses the item
 abbrev pub or_else : {M : Type 0} → M → Kind M → Kind M
 or_else default kind i = Some (unwrap_or (kind i) default)

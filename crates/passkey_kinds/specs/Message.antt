@@ -10,16 +10,16 @@ use Rattle.passkey_kinds.specs.RecordCost.{kept_in_map}
 use Rattle.passkey_kinds.specs.declared.fault.Fault.{Fault}
 use Rattle.passkey_kinds.specs.declared.fault.Fault.TheVariants as fault
 
--- an item begins the bytes, and this holds of it and its length
+-- The bytes begin with a data item, and this holds of it and its length.
 pub record Begins (bytes : List ℕ) (Holds : Item → ℕ → Type 0) : Type 0 where
   pub item : Item
   pub len : ℕ
   pub front : IsFront bytes item len
   pub holds : Holds item len
 
--- The message that the item is that begins the bytes, and the item's length; or the item's first
--- fault; or no item begins the bytes; or memory was refused, which only an item that takes memory
--- lets happen.
+-- The result of decoding a message from bytes: the message and the length of its data item; or the
+-- item's first fault; or `DecodeFailed`, if the bytes don't begin with an item; or `OutOfMemory`,
+-- which only an item that takes memory can cause.
 abbrev pub ReadsMessage : {A M : Type 0} → (A → M) → (Item → Result M Fault) → List ℕ → Result (A × ℕ) Fault → Type 0
 ReadsMessage view read bytes (Ok r) = Begins bytes (λ i len. (len ≡ r.1) × (read i ≡ Ok (view r.0)))
 ReadsMessage view read bytes (Err fault.DecodeFailed) = HasNoFront bytes
@@ -31,22 +31,22 @@ ReadsMessage view read bytes (Err (fault.Refused n)) = Begins bytes (λ i len. r
 ReadsMessage view read bytes (Err (fault.Missing n)) = Begins bytes (λ i len. read i ≡ Err (fault.Missing n))
 
 -- Memory may run out only for a member whose map key names a row that takes memory, and whose value
--- does.
+-- takes memory.
 abbrev pub GrowsMessage : {P : Type 0} → Fields P → List ℕ → Type 0
 GrowsMessage t bytes = Begins bytes (λ i len. MayGrowAt (table_of t) i)
 
 -- ---- at a cursor
 
--- the result with the bytes that the cursor moved over
+-- the result, with the number of bytes that the cursor moved over
 abbrev pub with_length : {A : Type 0} → Walk → Walk → Result A Fault → Result (A × ℕ) Fault
 with_length old new (Ok message) = Ok (message, new.place - old.place)
 with_length old new (Err e) = Err e
 
--- What decoding a message at a cursor does: its result is that of the bytes from there on, and the
--- cursor moves behind the message, or stays if there is an error. It decodes at least one head, and at
--- most so many for each byte of the data item that begins these bytes, and makes at most those data
--- items as values that the table keeps; if none begins them, at most one head for each byte and one
--- more. The counts keep what was spent, whatever the result.
+-- What decoding a message at a cursor does. The result is that of decoding the bytes ahead, and the
+-- cursor moves behind the message, or stays if there is an error. If the bytes ahead begin with a
+-- data item, at most `cost` heads are decoded for each of its bytes, and at most the data items
+-- that the table keeps are made as values. Otherwise at most one head is decoded for each byte, and
+-- one more. At least one head is decoded. The counts include what was spent, whatever the result.
 pub record ReadsHere {A P : Type 0} (view : A → P) (t : Fields P) (cost : ℕ) (old new : Walk) (result : Result A Fault) : Type 0 where
   pub reads : ReadsMessage view (read_item t) (ahead old) (with_length old new result)
   pub grows : result ≡ Err fault.OutOfMemory → GrowsMessage t (ahead old)

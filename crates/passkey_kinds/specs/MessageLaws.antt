@@ -1,4 +1,5 @@
--- Laws of messages: what is written is read back, what is read can be written so, and which bytes are read alike.
+-- Laws about messages: what was encoded is decoded again, decoded messages are coherent, and some
+-- bytes decode alike.
 use Rattle.std.specs.Prelude.{◌≡◌, ◌≢◌, ◌↔◌, ℕ, List, ◌++◌, length, Bool, true, Result, Ok, Err}
 use Rattle.passkey_cbor.specs.Front.{IsFront}
 use Rattle.passkey_cbor.specs.Item.{Item}
@@ -8,26 +9,26 @@ use Rattle.passkey_kinds.specs.Message.{Begins, ReadsMessage}
 use Rattle.passkey_kinds.specs.declared.fault.Fault.{Fault}
 use Rattle.passkey_kinds.specs.declared.fault.Fault.TheVariants.{OutOfMemory}
 
--- What is written of a coherent message begins the bytes, whatever follows, and is read as the message's normal form.
+-- The encoding of a coherent message, whatever bytes follow, decodes to the message's normal form.
 abbrev pub WrittenIsReadBack : {P : Type 0} → (Item → Result P Fault) → (P → Item) → (P → Type 0) → (P → Bool) → (P → P) → Type 0
 WrittenIsReadBack {P} read tree Fits is_coherent normal = (p : P) (rest : List ℕ) → Fits p → IsWritable (tree p) → is_coherent p ≡ true → IsFront (written (tree p) ++ rest) (tree p) (length (written (tree p))) × (read (tree p) ≡ Ok (normal p))
 
--- What is read of bytes is coherent.
+-- Decoded messages are coherent.
 abbrev pub ReadIsCoherent : {P : Type 0} → (Item → Result P Fault) → (P → Bool) → Type 0
 ReadIsCoherent {P} read is_coherent = (bytes : List ℕ) (p : P) → Begins bytes (λ i len. read i ≡ Ok p) → is_coherent p ≡ true
 
--- ---- bytes that are read alike
+-- ---- bytes that decode alike
 
--- the same value, with this length in the second answer, or the same fault
+-- the same value, with this length in the second result, or the same fault
 abbrev pub SameButForLength : {A M : Type 0} → (A → M) → ℕ → Result (A × ℕ) Fault → Result (A × ℕ) Fault → Type 0
 SameButForLength view len (Ok r) (Ok s) = (view r.0 ≡ view s.0) × (s.1 ≡ len)
 SameButForLength view len (Ok r) (Err f) = ⊥
 SameButForLength view len (Err e) (Ok s) = ⊥
 SameButForLength view len (Err e) (Err f) = e ≡ f
 
--- Where reading the bytes may give the first answer, reading the others may give the second exactly
--- where that is the same but for the length, which is this one. Out of memory aside, which may be
--- answered wherever an item takes memory.
+-- If decoding the bytes may return the first result, then decoding the others may return the second
+-- exactly if it is the same but for the length, which is this one. `OutOfMemory` is left out: it
+-- may be returned for any item that takes memory.
 abbrev pub AnswersCarryOver : {A M : Type 0} → (A → M) → (Item → Result M Fault) → List ℕ → List ℕ → ℕ → Type 0
 AnswersCarryOver {A} view read bytes others len =
     (first second : Result (A × ℕ) Fault) →
@@ -36,8 +37,8 @@ AnswersCarryOver {A} view read bytes others len =
     ReadsMessage view read bytes first →
     (ReadsMessage view read others second ↔ SameButForLength view len first second)
 
--- Whatever bytes begin with the two items, in any spelling and with anything behind, what is read
--- of them differs in the length alone.
+-- Any bytes that begin with the two items, in any encoding and whatever follows, decode to results
+-- that differ only in the length.
 abbrev pub DifferInLength : {A M : Type 0} → (A → M) → (Item → Result M Fault) → Item → Item → Type 0
 DifferInLength view read x y =
     (bytes others : List ℕ) (n m : ℕ) →
@@ -45,6 +46,6 @@ DifferInLength view read x y =
     IsFront others y m →
     AnswersCarryOver view read bytes others m × AnswersCarryOver view read others bytes n
 
--- Items that are read alike differ in the length alone.
+-- Items that decode to the same result differ only in the length.
 abbrev pub AlikeDifferInLength : {A M : Type 0} → (A → M) → (Item → Result M Fault) → Type 0
 AlikeDifferInLength view read = (x y : Item) → read x ≡ read y → DifferInLength view read x y

@@ -1,4 +1,4 @@
--- What the faults are called.
+-- The names of the faults.
 use Rattle.std.specs.Prelude.{ℕ, List, ◌++◌, codes}
 use Rattle.std.specs.Fmt.{decimal}
 use Rattle.passkey_kinds.specs.declared.fault.Fault.{Fault}

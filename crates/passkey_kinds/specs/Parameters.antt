@@ -1,4 +1,4 @@
--- Which keys a relying party can use (WebAuthn Level 3, section 5.3).
+-- Credential parameters (WebAuthn Level 3, section 5.3).
 use Rattle.std.specs.Prelude.{[], ◌∷◌, codes, false}
 use Rattle.passkey_iana.specs.declared.algorithm.Algorithm.TheVariants.{ES256}
 use Rattle.passkey_kinds.specs.Kind.{Kind}

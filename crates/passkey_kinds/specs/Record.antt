@@ -16,8 +16,8 @@ pub record Member (P : Type 0) : Type 1 where
   pub kind : Typed Of
   pub set : Of → P → P
 
--- A record's members, and what it is before one is decoded: its defaults, and anything in place of
--- what is required.
+-- A record's members, and what it is before one is decoded: its defaults, with some value for each
+-- required member.
 pub record Fields (P : Type 0) : Type 1 where
   pub is_numbered : Bool
   pub blank : P
@@ -44,7 +44,7 @@ abbrev pub set_with : {M P : Type 0} → (M → P → P) → Option M → P → 
 set_with set (Some v) r = set v r
 set_with set None r = r
 
--- the record with an item under row n
+-- the record with an item decoded for row n
 abbrev pub put_at : {P : Type 0} → List (Member P) → ℕ → Item → P → P
 put_at [] n i r = r
 put_at (m ∷ ms) n i r = if m.entry.number == n then set_with m.set (m.kind.of i) r else put_at ms n i r
@@ -54,7 +54,7 @@ put_named rows (row n) i r = put_at rows n i r
 put_named rows unknown i r = r
 put_named rows wrong i r = r
 
--- the record with the members, one after the other
+-- the record with the members decoded one after the other
 abbrev pub with_members : {P : Type 0} → Fields P → Members → P → P
 with_members t [] r = r
 with_members t (m ∷ ms) r = with_members t ms (put_named t.rows (named (table_of t) m.0) m.1 r)
@@ -67,11 +67,12 @@ abbrev pub judged : {P : Type 0} → Fields P → Members → Option Fault → R
 judged t ms (Some f) = Err f
 judged t ms None = unless_missing (first_missing (table_of t) ms) (with_members t ms t.blank)
 
--- The fault of the first bad member, or of the first required row that is missing, or the record.
+-- The fault of the first bad member; otherwise that of the first required row that is missing;
+-- otherwise the record.
 abbrev pub read_members : {P : Type 0} → Fields P → Members → Result P Fault
 read_members t ms = judged t ms (first_bad (table_of t) [] ms)
 
--- the record that an item is, or the first fault
+-- the record that an item decodes to, or its first fault
 abbrev pub read_item : {P : Type 0} → Fields P → Item → Result P Fault
 read_item t (item.map ps) = read_members t (members ps)
 read_item t _ = Err NotAMap

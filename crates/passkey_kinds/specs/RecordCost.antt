@@ -1,4 +1,4 @@
--- What decoding a record over a cursor takes.
+-- What decoding a record over a cursor costs.
 use Rattle.std.specs.Prelude.{ℕ, suc, ◌+◌, max, ◌==◌, Bool, true, false, ◌&&◌, if◌then◌else◌, List, [], ◌∷◌}
 use Rattle.passkey_cbor.specs.Item as item
 use Rattle.passkey_cbor.specs.Item.{Item, members}
@@ -7,7 +7,7 @@ use Rattle.passkey_kinds.specs.Record.{Fields, Member, table_of, record_kind}
 use Rattle.passkey_kinds.specs.Table.{Naming, row, unknown, wrong, named, Members}
 use Rattle.passkey_kinds.specs.Typed.{Typed, growing}
 
--- the greatest cost of the values, and at least 4: that of a map key, and of a look for the map's end
+-- the greatest cost of a value, and at least 4: 3 for a map key, and 1 to look for the map's end
 abbrev pub greatest_cost : {P : Type 0} → List (Member P) → ℕ
 greatest_cost [] = 4
 greatest_cost (m ∷ ms) = max m.kind.cost (greatest_cost ms)
@@ -20,12 +20,12 @@ abbrev pub cost_at : {P : Type 0} → List (Member P) → ℕ → ℕ
 cost_at [] n = 0
 cost_at (m ∷ ms) n = if m.entry.number == n then m.kind.cost else cost_at ms n
 
--- which data items it makes as values
+-- which data items decoding it makes as values
 abbrev pub keeps_at : {P : Type 0} → List (Member P) → ℕ → Keeping
 keeps_at [] n = nothing
 keeps_at (m ∷ ms) n = if m.entry.number == n then m.kind.keeps else keeps_at ms n
 
--- the same behind a map key: an unknown member is skipped
+-- the same by what the map key names: an unknown member is skipped
 abbrev pub cost_by : {P : Type 0} → List (Member P) → Naming → ℕ
 cost_by rows (row n) = cost_at rows n
 cost_by rows unknown = 1
@@ -56,6 +56,6 @@ none_keeps (m ∷ ms) = keeps_nothing m.kind.keeps && none_keeps ms
 abbrev pub record_keeps : {P : Type 0} → Fields P → Keeping
 record_keeps t = if none_keeps t.rows then nothing else counted (kept_in_map t)
 
--- a record that is held in another one
+-- a record inside another one
 abbrev pub nested : {P : Type 0} → Fields P → Typed P
 nested t = growing (record_cost t) (record_keeps t) (record_kind t)

@@ -1,4 +1,5 @@
--- Laws of records: which members and elements change nothing, which are decoded alike, and which faults an item hasn't.
+-- Laws about records: which members and elements change nothing, which decode alike, and which
+-- faults no item has.
 use Rattle.std.specs.Prelude.{◌≡◌, ◌≢◌, ℕ, List, [], ◌∷◌, ◌++◌, Option, Some, None, Result, Err}
 use Rattle.std.specs.List.{All, filter_map}
 use Rattle.passkey_cbor.specs.Item.{Item, Pairs, array, map, items_of}
@@ -18,38 +19,39 @@ RefusedElementIsPassedOver M = (kind : Kind M) (before behind : List Item) (x : 
 abbrev pub UnknownMemberIsPassedOver : {P : Type 0} → Fields P → Type 0
 UnknownMemberIsPassedOver t = (before behind : Members) (key value : Item) → named (table_of t) key ≡ unknown → read_members t (before ++ (key, value) ∷ behind) ≡ read_members t (before ++ behind)
 
--- ---- members that are decoded alike
+-- ---- members that decode alike
 
 abbrev pub known_member : Naming → Item → Option (ℕ × Item)
 known_member (row n) i = Some (n, i)
 known_member unknown i = None
 known_member wrong i = None
 
--- the rows that the keys name, in the order of the members, each with the item that stands there
+-- the rows that the keys name, in the order of the members, each with the member's item
 abbrev pub known : Table → Members → List (ℕ × Item)
 known table ms = filter_map (λ (m : Item × Item). known_member (named table m.0) m.1) ms
 
 abbrev pub HasNoWrongKey : Table → Members → Type 0
 HasNoWrongKey table ms = All (λ (m : Item × Item). named table m.0 ≢ wrong) ms
 
--- Row n answers the same at two items: it accepts both or neither, and puts the same value.
+-- Row n decodes two items alike: it accepts both or neither, and puts the same value.
 pub record AnswersAlike {P : Type 0} (t : Fields P) (n : ℕ) (i j : Item) : Type 0 where
   pub accepts : accepts_at (rows_of t.rows) n i ≡ accepts_at (rows_of t.rows) n j
   pub puts : (r : P) → put_at t.rows n i r ≡ put_at t.rows n j r
 
--- the same rows in the same order, with the same answers
+-- the same rows in the same order, with items that they decode alike
 abbrev pub SameAnswers : {P : Type 0} → Fields P → List (ℕ × Item) → List (ℕ × Item) → Type 0
 SameAnswers t [] [] = Unit {0}
 SameAnswers t [] (y ∷ ys) = ⊥
 SameAnswers t (x ∷ xs) [] = ⊥
 SameAnswers t (x ∷ xs) (y ∷ ys) = (x.0 ≡ y.0) × AnswersAlike t x.0 x.1 y.1 × SameAnswers t xs ys
 
--- Members without a wrong key that give the same rows the same answers in the same order are
--- decoded alike: it doesn't matter how a key is encoded, nor which unknown ones are between them.
+-- Members without a wrong key decode to the same result if they name the same rows in the same
+-- order, with items that these rows decode alike. It doesn't matter how a key is encoded, or which
+-- unknown members are between them.
 abbrev pub SameAnswersReadAlike : {P : Type 0} → Fields P → Type 0
 SameAnswersReadAlike t = (ms ns : Members) → HasNoWrongKey (table_of t) ms → HasNoWrongKey (table_of t) ns → SameAnswers t (known (table_of t) ms) (known (table_of t) ns) → read_members t ms ≡ read_members t ns
 
--- A map with one member more, under a key that the table doesn't know, differs in the length alone
+-- A map with one more member, under a key that the table doesn't know, differs only in the length
 -- from the map without it, wherever the member is.
 abbrev pub PassesOverUnknown : {A P : Type 0} → (A → P) → Fields P → Type 0
 PassesOverUnknown view t =
@@ -57,12 +59,12 @@ PassesOverUnknown view t =
     named (table_of t) key ≡ unknown →
     DifferInLength view (read_item t) (map_tree (before ++ behind)) (map_tree (before ++ (key, value) ∷ behind))
 
--- ---- faults that an item hasn't
+-- ---- faults that no item has
 
--- No item has the fault that no item is there, nor that of running out of memory.
+-- No item has the fault `DecodeFailed` or `OutOfMemory`.
 abbrev pub KnowsItems : {M : Type 0} → (Item → Result M Fault) → Type 0
 KnowsItems read = (i : Item) → (read i ≢ Err DecodeFailed) × (read i ≢ Err OutOfMemory)
 
--- No map has the fault that it is none, whatever its members.
+-- No map has the fault `NotAMap`, whatever its members.
 abbrev pub KnowsMaps : {M : Type 0} → (Item → Result M Fault) → Type 0
 KnowsMaps read = (ps : Pairs) → read (map ps) ≢ Err NotAMap

@@ -20,13 +20,13 @@ Sets view kind takes i new (Ok x) = kind i ≡ Some (view new)
 Sets view kind takes i new (Err Refused) = kind i ≡ None
 Sets view kind takes i new (Err OutOfMemory) = MayGrow takes i
 
--- What putting an item under row n into a record does.
+-- What decoding an item for row n into a record does.
 abbrev pub Puts : {P : Type 0} → Fields P → ℕ → Item → P → P → Result (Unit {0}) Refusal → Type 0
 Puts t n i old new (Ok x) = (accepts_at (rows_of t.rows) n i ≡ true) × (put_at t.rows n i old ≡ new)
 Puts t n i old new (Err Refused) = accepts_at (rows_of t.rows) n i ≡ false
 Puts t n i old new (Err OutOfMemory) = MayGrow (takes_at (rows_of t.rows) n) i
 
--- A record, and marks, that hold what the earlier members gave.
+-- The record and the marks hold what the earlier members gave.
 pub record HasRead {P : Type 0} (t : Fields P) (earlier : Members) (held : P) (marks : List Bool) : Type 0 where
   pub marked : Marks (table_of t) earlier marks
   pub made : with_members t earlier t.blank ≡ held
@@ -44,25 +44,25 @@ pub record HasReadTo {P : Type 0} (t : Fields P) (ms rest : Members) (held : P) 
 
 -- ---- over a cursor
 
--- What a map key names, where it is encoded up to this place.
+-- What decoding a map key does if one is encoded up to this place.
 pub record ReadsKey (wanted : Naming) (to : ℕ) (old new : Walk) (found : Option Named) : Type 0 where
   pub is : naming_of found ≡ wanted
   pub spends : Spends 3 0 to old new
   pub ends : IfSome found (λ key. new.place ≡ to)
 
--- What decoding a record does where a data item is encoded up to this place.
+-- What decoding a record does if a data item is encoded up to this place.
 pub record DecodesRecord {A P : Type 0} (view : A → P) (t : Fields P) (i : Item) (to : ℕ) (old new : Walk) (result : Result A Fault) : Type 0 where
   pub answers : Reads view (MayGrowAt (table_of t) i) (read_item t i) result
   pub spends : Spends (record_cost t) (kept_in_map t i) to old new
   pub ends : OnOk result (new.place ≡ to)
 
--- The same of the members behind a map's head.
+-- The same for the members behind a map's head.
 pub record DecodesMembers {A P : Type 0} (view : A → P) (t : Fields P) (ms : Members) (to : ℕ) (old new : Walk) (result : Result A Fault) : Type 0 where
   pub answers : Reads view (MayGrowIn (table_of t) ms) (read_members t ms) result
   pub spends : Spends (record_cost t) (kept_in t ms) to old new
   pub ends : OnOk result (new.place ≡ to)
 
--- What a record's result is where the record is held in another one: each fault refuses it.
+-- The result for a record inside another one, where each fault becomes `Refused`.
 abbrev pub held_as : {A : Type 0} → Result A Fault → Result A Refusal
 held_as (Ok x) = Ok x
 held_as (Err fault.OutOfMemory) = Err OutOfMemory

@@ -1,4 +1,4 @@
--- Records as tables of members.
+-- Tables of members.
 use Rattle.std.specs.Prelude.{ℕ, ◌==◌, Bool, true, false, ◌&&◌, if◌then◌else◌, List, [], ◌∷◌, ◌++◌, map, Option, Some, None, is_some, is_none, option_map}
 use Rattle.std.specs.List.{find}
 use Rattle.std.specs.Option.{option_or}
@@ -8,7 +8,7 @@ use Rattle.passkey_kinds.specs.Kind.{below}
 use Rattle.passkey_kinds.specs.declared.fault.Fault.{Fault}
 use Rattle.passkey_kinds.specs.declared.fault.Fault.TheVariants.{BadKey, Repeated, Refused}
 
--- what a table says of a member, but for its kind
+-- what a table says of a member, except its kind
 pub record Entry : Type 0 where
   pub number : ℕ
   pub name : List ℕ
@@ -27,7 +27,8 @@ pub record Table : Type 0 where
 abbrev pub entries : Table → List Entry
 entries table = map (λ r. r.entry) table.rows
 
--- What a key names: a row by its number, or nothing that the table knows; or it is no key.
+-- What a map key names: a row, by its number; or nothing that the table knows; or it is a wrong
+-- key.
 pub data Naming : Type 0 where
   row : ℕ → Naming
   unknown : Naming
@@ -40,7 +41,7 @@ row_or_unknown None = unknown
 abbrev pub row_named : List Entry → List ℕ → Naming
 row_named rows name = row_or_unknown (find (λ e. bytes_eq e.name name) rows)
 
--- a number of one byte names a row where members have numbers
+-- a number of one byte names a row if members have numbers
 abbrev pub number_names : Bool → Option ℕ → List Entry → Naming
 number_names true (Some n) rows = row_or_unknown (find (λ e. e.number == n) rows)
 number_names true None rows = wrong
@@ -63,7 +64,7 @@ is_row n (row m) = n == m
 is_row n unknown = false
 is_row n wrong = false
 
--- the value that stands under row n
+-- the value of the first member that names row n
 abbrev pub found : Table → Members → ℕ → Option Item
 found table [] n = None
 found table (m ∷ ms) n = if is_row n (named table m.0) then Some m.1 else found table ms n
@@ -73,7 +74,7 @@ abbrev pub accepts_at : List Row → ℕ → Item → Bool
 accepts_at [] n i = false
 accepts_at (r ∷ rs) n i = if r.entry.number == n then r.accepts i else accepts_at rs n i
 
--- what is bad of a member with such a key, behind the earlier members
+-- what is wrong with a member whose key names this, after the earlier members
 abbrev pub bad_by : Table → Members → Naming → Item → Option Fault
 bad_by table earlier wrong value = Some BadKey
 bad_by table earlier unknown value = None
@@ -84,7 +85,7 @@ bad_by table earlier (row n) value =
 abbrev pub bad_member : Table → Members → Item × Item → Option Fault
 bad_member table earlier m = bad_by table earlier (named table m.0) m.1
 
--- the fault of the first bad member, of those behind the earlier ones
+-- the fault of the first bad member, after the earlier ones
 abbrev pub first_bad : Table → Members → Members → Option Fault
 first_bad table earlier [] = None
 first_bad table earlier (m ∷ ms) = option_or (bad_member table earlier m) (first_bad table (earlier ++ m ∷ []) ms)

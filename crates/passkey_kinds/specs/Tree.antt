@@ -1,4 +1,4 @@
--- What values are written as; a record's members are laid one behind the other.
+-- What values are encoded as; a record's members come one after the other.
 use Rattle.std.specs.Prelude.{ℕ, pos, Bool, true, if◌then◌else◌, List, [], ◌∷◌, ◌++◌, map as each, Option, Some, None, option_map}
 use Rattle.std.specs.FinMap as fin
 use Rattle.passkey_bytes.specs.Map.{ByteMap}
@@ -8,7 +8,7 @@ use Rattle.passkey_kinds.specs.Table.{Members}
 abbrev pub number_tree : ℕ → Item
 number_tree n = number (pos n)
 
--- nothing is written as null
+-- `None` is encoded as null
 abbrev pub option_tree : {A : Type 0} → (A → Item) → Option A → Item
 option_tree tree None = null
 option_tree tree (Some x) = tree x
@@ -16,7 +16,7 @@ option_tree tree (Some x) = tree x
 abbrev pub list_tree : {A : Type 0} → (A → Item) → List A → Item
 list_tree tree xs = array (items_of (each tree xs))
 
--- bytes as an array of their numbers
+-- bytes as an array of numbers
 abbrev pub numbers_tree : List ℕ → Item
 numbers_tree bytes = list_tree number_tree bytes
 
@@ -31,7 +31,7 @@ entry_tree tree e = (byte_string e.0, tree e.1)
 abbrev pub byte_map_tree : {A : Type 0} → (A → Item) → ByteMap A → Item
 byte_map_tree tree m = map_tree (each (entry_tree tree) (fin.entries m))
 
--- A key, and what is written under it, if anything.
+-- A map key, and what is encoded under it, if anything.
 abbrev pub Place : Type 0
 Place = Item × Option Item
 
@@ -48,7 +48,7 @@ abbrev pub under : Item → Option Item → Members
 under key None = []
 under key (Some x) = (let m : Item × Item = (key, x) in m) ∷ []
 
--- the members of the places, behind others
+-- the members of the places, after others
 abbrev pub laid : Members → List Place → Members
 laid ms [] = ms
 laid ms (p ∷ ps) = laid (ms ++ under p.0 p.1) ps

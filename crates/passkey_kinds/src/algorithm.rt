@@ -1,4 +1,4 @@
-//! Algorithms, read of items and written.
+//! COSE algorithm identifiers, decoded from data items and encoded.
 ghost use Rattle.std.specs.Prelude.{◌≡◌, ℕ, List, true, false, IfOk};
 ghost use Rattle.std.specs.Option.{option_and_then};
 ghost use Rattle.passkey_cbor.specs.Lent.{IsRegion, Tells};
@@ -37,13 +37,14 @@ fn named(number: Option<i64>) -> Result<Algorithm, Refusal>
     }
 }
 
-/// The whole part of a text string that is a number text. Its pieces aren't joined in memory.
+/// Returns the whole part of the number in a text string, or `None` if the text is no number or the
+/// whole part doesn't fit in `i64`. Chunks aren't joined in memory.
 fn whole_of(token: &TextToken<'_>, cursor: &mut Cursor<'_>) -> Option<i64>
     requires { IsRegion true token.now }
     ensures whole { (s : List ℕ) → Tells true token.now s → result ≡ whole_64 s }
     ensures looks { LooksAtMost token.now cursor.old cursor.new }
 {
-    // No count is above the greatest number, where it stops; so it doesn't fall.
+    // The count of heads stops at this bound, so adding to it never lowers it.
     prove!(cursor.count().heads <= u128::MAX);
     let mut number = NumberText::new();
     let mut pieces = token.chunks();

@@ -1,4 +1,4 @@
-//! Arrays of bytes, decoded from data items and encoded as arrays of their numbers.
+//! Arrays of 32 bytes, decoded from data items and encoded as arrays of numbers.
 ghost use Rattle.std.specs.Prelude.{◌==◌, ◌≡◌, ℕ, List, length, map, if◌then◌else◌, false, Some, None};
 ghost use Rattle.passkey_cbor.specs.Item.{Item};
 ghost use Rattle.passkey_cbor.specs.Lent.{Tells};
@@ -19,7 +19,8 @@ use passkey_cbor::{BytesToken, Cursor, Value};
 use passkey_memory::OutOfMemory;
 use std::alloc::Global;
 
-/// The bytes of 32 numbers. `Refused` exactly where there are more or fewer, or one isn't a byte.
+/// Decodes the bytes from an array of numbers. `Refused` exactly if it doesn't have 32 elements or
+/// one of them isn't a byte.
 fn read_numbers(alloc: Global, elements: &[Value]) -> Result<[u8; 32], Refusal>
     ensures { AnswersAs (λ b. b) (if length elements.now == 32 then each (below 256) (map item_of elements.now) else None) ⊥ result }
 {
@@ -33,7 +34,7 @@ fn read_numbers(alloc: Global, elements: &[Value]) -> Result<[u8; 32], Refusal>
     Ok(bytes)
 }
 
-/// The bytes of 32 numbers behind the head of an array.
+/// Decodes the bytes from the elements of an array, behind its head.
 fn read_numbers_ahead(
     alloc: Global,
     mut left: Option<u64>,
@@ -58,7 +59,7 @@ fn read_numbers_ahead(
     }
 }
 
-/// The bytes of a byte string that has so many.
+/// Copies a byte string of exactly `N` bytes. `Refused` if its length differs.
 pub(crate) fn filled<const N: usize>(
     token: &BytesToken<'_>,
     cursor: &mut Cursor<'_>,

@@ -1,4 +1,4 @@
-//! Byte strings, decoded from data items.
+//! Byte strings, decoded from byte strings, arrays of numbers, and text strings in base64.
 ghost use Rattle.std.specs.Prelude.{◌≡◌, ◌<◌, ℕ, List, length, map, true, ⊤};
 ghost use Rattle.std.specs.Str.{trim};
 ghost use Rattle.passkey_cbor.specs.Item.{Item};
@@ -18,7 +18,7 @@ use passkey_bytes::{Bytes, BytesFault, List as Numbers};
 use passkey_cbor::{Cursor, TextToken, Value};
 use std::alloc::Global;
 
-/// The bytes of a text in base64url or base64.
+/// Decodes a text in base64url or base64. `Refused` if it is neither.
 fn read_text(alloc: Global, text: &str) -> Result<Bytes, Refusal>
     ensures { AnswersAs (λ b. b) (text_bytes text.now) ⊤ result }
 {
@@ -29,7 +29,7 @@ fn read_text(alloc: Global, text: &str) -> Result<Bytes, Refusal>
     }
 }
 
-/// The bytes of an array of their numbers.
+/// Decodes the bytes from an array of numbers. `Refused` if an element isn't a byte.
 #[tactic(auto, using(crate::proofs::Lists::map_same))]
 fn read_numbers(alloc: Global, elements: &[Value]) -> Result<Bytes, Refusal>
     ensures { AnswersAs (λ b. b) (each (below 256) (map item_of elements.now)) (0 < length elements.now) result }
@@ -41,7 +41,7 @@ fn read_numbers(alloc: Global, elements: &[Value]) -> Result<Bytes, Refusal>
     }
 }
 
-/// The bytes of a text string in base64url or base64.
+/// Decodes a text string in base64url or base64, which may have white space at its ends.
 fn read_base64(
     alloc: Global,
     token: &TextToken<'_>,
@@ -66,7 +66,7 @@ fn bytes_of(numbers: Numbers<u8>) -> Bytes
     Bytes::from(Vec::from(numbers))
 }
 
-/// The bytes of an array of their numbers, behind its head.
+/// Decodes the bytes from the elements of an array, behind its head.
 fn read_numbers_ahead(
     alloc: Global,
     left: Option<u64>,

@@ -1,4 +1,4 @@
-//! Authenticator data and AAGUIDs, read of byte strings and written as them.
+//! Authenticator data and AAGUIDs, decoded from byte strings and encoded as them.
 ghost use Rattle.std.specs.Prelude.{◌≡◌, ℕ, ◌+◌, ◌*◌, ◌≤◌, true, false, length, List};
 ghost use Rattle.passkey_cbor.specs.Item.{byte_string};
 ghost use Rattle.passkey_core.specs.DataNodes.{data_nodes};
@@ -19,7 +19,8 @@ use passkey_cose::CoseError;
 use passkey_memory::OutOfMemory;
 use std::alloc::Global;
 
-/// The authenticator data of a byte string. What decoding them costs is added to the count.
+/// Decodes the content of a byte string as authenticator data, and adds what that costs to the
+/// count.
 fn read_data(alloc: Global, bytes: &[u8], count: &mut Count) -> Result<AuthenticatorData, Refusal>
     ensures answers { Answers data_parts authenticator_data true (byte_string bytes.now) result }
     ensures heads { count.new.heads ≤ count.old.heads + (4 * length bytes.now + 4) }
@@ -34,7 +35,7 @@ fn read_data(alloc: Global, bytes: &[u8], count: &mut Count) -> Result<Authentic
     }
 }
 
-/// The same, where the cost is counted at the cursor.
+/// Does the same, and adds the cost to the cursor's counts.
 fn read_counted(
     alloc: Global,
     bytes: &[u8],
@@ -93,7 +94,7 @@ impl ToCbor for AuthenticatorData {
     }
 }
 
-/// The AAGUID of a byte string.
+/// Decodes the content of a byte string as an AAGUID. `Refused` unless it has 16 bytes.
 fn read_aaguid(bytes: &[u8]) -> Result<Aaguid, Refusal>
     ensures { Answers (λ a. a.0) aaguid false (byte_string bytes.now) result }
 {

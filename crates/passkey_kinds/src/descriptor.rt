@@ -1,4 +1,4 @@
-//! Descriptors, read of items.
+//! Credential descriptors, decoded from data items and encoded.
 ghost use Rattle.std.specs.Prelude.{true};
 ghost use Rattle.passkey_kinds.specs.Descriptor.{descriptor_fields, descriptor};
 ghost use Rattle.passkey_webauthn.specs.declared.descriptor.PublicKeyCredentialDescriptor.{PublicKeyCredentialDescriptor as Descriptor};

@@ -1,4 +1,4 @@
-//! Why no message was read.
+//! Why a message was not decoded.
 ghost use Rattle.std.specs.Prelude.{◌≡◌, Some};
 ghost use Rattle.passkey_kinds.specs.Names.{fault_name};
 ghost use Rattle.passkey_kinds.specs.declared.fault.Fault.TheVariants.{OutOfMemory as NoMemory};
@@ -8,23 +8,23 @@ use std::alloc::{AllocError, AllocFailed};
 use std::error::Error;
 use std::fmt;
 
-/// Why no message was read. A member is told by its number in the message.
+/// Why a message was not decoded. A member is given by its number in the message.
 #[derive(Clone, Copy, Debug, PartialEq, Eq)]
 pub enum Fault {
-    /// No well-formed item of at most 256 levels begins the bytes.
+    /// The bytes don't begin with a well-formed data item of at most 256 levels.
     DecodeFailed,
-    /// A growth was refused.
+    /// An allocation failed.
     OutOfMemory,
-    /// The item is no map.
+    /// The data item isn't a map.
     NotAMap,
-    /// A key is neither a text nor a byte string nor, where members have numbers, a number up to
-    /// 255.
+    /// A map key is neither a text string nor a byte string nor, if members have numbers, an
+    /// unsigned integer up to 255.
     BadKey,
-    /// This member stands twice.
+    /// This member is present twice.
     Repeated(u8),
-    /// This member's value isn't one of its kind.
+    /// The value of this member isn't accepted.
     Refused(u8),
-    /// This member is required, and isn't there.
+    /// This required member is absent.
     Missing(u8),
 }
 

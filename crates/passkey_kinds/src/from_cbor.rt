@@ -21,30 +21,32 @@ pub trait FromCbor: Drop {
 
     ghost view: { Self → Meaning };
 
-    /// What each item stands for, where it stands for a value.
+    /// The value that each data item decodes to, if it decodes to one.
     ghost kind: { Item → Option Meaning };
 
     /// Whether decoding may take memory.
     ghost takes: { Bool };
 
-    /// How many heads decoding over a cursor decodes at most for each byte of the item.
+    /// The most heads that `read` decodes for each byte of the data item.
     ghost cost: { ℕ };
 
-    /// Which data items decoding over a cursor makes as values: those that the result keeps.
+    /// Which data items `read` makes as values: those that the result keeps.
     ghost keeps: { Keeping };
 
-    /// Returns the value that the item stands for. `Refused` exactly if it stands for none;
-    /// `OutOfMemory` if an allocation fails, which only an item lets happen that takes memory.
+    /// Decodes the value from a data item. `Refused` exactly if the type accepts no such item;
+    /// `OutOfMemory` if an allocation fails, which can only happen for a tag, a text string, or a
+    /// byte string, array or map that isn't empty.
     fn from_value(alloc: Global, value: &Value) -> Result<Self, Refusal>
         ensures { Answers view kind takes (item_of value.now) result };
 
-    /// Decodes the data item at the cursor, head by head and without making it, and moves behind it.
-    /// If one of at most 256 levels is there, the result is that of `from_value`. On an error the
-    /// cursor may then be anywhere in it, and its counts keep what was spent.
+    /// Decodes the data item at the cursor, head by head and without building it, and moves behind
+    /// it. If a well-formed item of at most 256 levels is there, the result is that of
+    /// `from_value`. After an error the cursor may be anywhere in the item, and its counts include
+    /// what was spent.
     fn read(alloc: Global, cursor: &mut Cursor<'_>) -> Result<Self, Refusal>
         ensures reads { (i : Item) (to : ℕ) → Stands i cursor.old.bytes cursor.old.place to → ReadsAs view kind takes cost keeps i to cursor.old cursor.new result }
 
-        // Whatever is there, the cursor doesn't move back, and its counts don't fall.
+        // Whatever the bytes are, the cursor doesn't move back, and its counts don't fall.
         ensures onward { Onward cursor.old cursor.new }
         ensures further { OnOk result (Further cursor.old cursor.new) };
 }

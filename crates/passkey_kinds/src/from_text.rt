@@ -1,4 +1,4 @@
-//! Values that any text string stands for.
+//! Values that are decoded from any text string.
 ghost use Rattle.std.specs.Prelude.{◌≡◌, ℕ, List, true, IfOk, OnOk};
 ghost use Rattle.passkey_cbor.specs.Item.{Item};
 ghost use Rattle.passkey_cbor.specs.Lent.{IsRegion, Tells};
@@ -12,16 +12,17 @@ use passkey_cbor::{Cursor, TextToken};
 use passkey_memory::OutOfMemory;
 use std::alloc::Global;
 
-/// A type with a value for each text, such as names that are kept if they aren't known.
+/// A type with a value for each text, such as names of which unknown ones are kept.
 pub trait FromText: Drop {
+    /// The value of each text.
     ghost of_text: { List ℕ → Self };
 
-    /// Returns the text's value.
+    /// Returns the text's value. `OutOfMemory` if an allocation fails.
     fn from_text(alloc: Global, text: &str) -> Result<Self, OutOfMemory>
         ensures { IfOk result (λ v. v ≡ of_text text.now) };
 }
 
-/// The value of a text string. One in chunks is copied first.
+/// Returns the value of a text string. Chunks are first joined in a copy.
 fn text_value<T: FromText>(
     alloc: Global,
     token: &TextToken<'_>,

@@ -1,3 +1,3 @@
-//! What is asked and answered where a credential is used (CTAP 2.1, section 6.2).
+//! Extension outputs of authenticatorGetAssertion (CTAP 2.1, section 6.2).
 
 mod signed;

@@ -1,4 +1,4 @@
-//! Heads at a cursor, by what they say of their data item.
+//! Heads at a cursor, by the type of data item that they begin.
 ghost use Rattle.std.specs.Prelude.{◌≡◌, ℕ, ◌+◌, ◌≤◌, Bool, true, false, Option, Some as There, None as Nothing, if◌then◌else◌, IfSome};
 ghost use Rattle.std.specs.Option.{option_and_then};
 ghost use Rattle.passkey_cbor.specs.Item.{Item};
@@ -72,7 +72,7 @@ fn map_len(head: Head) -> Option<Option<u64>>
     }
 }
 
-/// Decodes the unsigned integer at the cursor, if one is there.
+/// Decodes the unsigned integer at the cursor, or returns `None` if none is there.
 pub(crate) fn read_unsigned(cursor: &mut Cursor<'_>) -> Option<u64>
     ensures reads { (i : Item) (to : ℕ) → Stands i cursor.old.bytes cursor.old.place to → ReadsFlat (unsigned_in i) to cursor.old cursor.new result }
     ensures onward { Onward cursor.old cursor.new }
@@ -84,7 +84,7 @@ pub(crate) fn read_unsigned(cursor: &mut Cursor<'_>) -> Option<u64>
     }
 }
 
-/// Decodes the integer at the cursor, if one is there that fits in 64 bits with its sign.
+/// Decodes the integer at the cursor, or returns `None` if none is there that fits in `i64`.
 pub(crate) fn read_integer(cursor: &mut Cursor<'_>) -> Option<i64>
     ensures reads { (i : Item) (to : ℕ) → Stands i cursor.old.bytes cursor.old.place to → ReadsFlat (option_and_then signed_64 (integer_in i)) to cursor.old cursor.new result }
     ensures onward { Onward cursor.old cursor.new }
@@ -96,7 +96,7 @@ pub(crate) fn read_integer(cursor: &mut Cursor<'_>) -> Option<i64>
     }
 }
 
-/// Decodes the boolean at the cursor, if one is there.
+/// Decodes the boolean at the cursor, or returns `None` if none is there.
 pub(crate) fn read_truth(cursor: &mut Cursor<'_>) -> Option<bool>
     ensures reads { (i : Item) (to : ℕ) → Stands i cursor.old.bytes cursor.old.place to → ReadsFlat (truth i) to cursor.old cursor.new result }
     ensures onward { Onward cursor.old cursor.new }
@@ -108,7 +108,7 @@ pub(crate) fn read_truth(cursor: &mut Cursor<'_>) -> Option<bool>
     }
 }
 
-/// Decodes null or undefined at the cursor, if one is there.
+/// Decodes null or undefined at the cursor, and returns whether one is there.
 pub(crate) fn read_null(cursor: &mut Cursor<'_>) -> bool
     ensures reads { (i : Item) (to : ℕ) → Stands i cursor.old.bytes cursor.old.place to → ReadsFlat (if null_in i then There true else Nothing) to cursor.old cursor.new (if result then There true else Nothing) }
     ensures onward { Onward cursor.old cursor.new }
@@ -120,7 +120,7 @@ pub(crate) fn read_null(cursor: &mut Cursor<'_>) -> bool
     }
 }
 
-/// Decodes the head of the array at the cursor, if one is there, and returns its length.
+/// Decodes the head of the array at the cursor and returns its length; `None` if no array is there.
 pub(crate) fn read_array(cursor: &mut Cursor<'_>) -> Option<Option<u64>>
     ensures opens { (i : Item) (to : ℕ) → Stands i cursor.old.bytes cursor.old.place to → OpensArray i to cursor.new result }
     ensures spends { (i : Item) (to : ℕ) → Stands i cursor.old.bytes cursor.old.place to → Spends 1 0 to cursor.old cursor.new }
@@ -134,7 +134,7 @@ pub(crate) fn read_array(cursor: &mut Cursor<'_>) -> Option<Option<u64>>
     }
 }
 
-/// Decodes the head of the map at the cursor, if one is there, and returns its length.
+/// Decodes the head of the map at the cursor and returns its length; `None` if no map is there.
 pub(crate) fn read_map(cursor: &mut Cursor<'_>) -> Option<Option<u64>>
     ensures opens { (i : Item) (to : ℕ) → Stands i cursor.old.bytes cursor.old.place to → OpensMap i to cursor.new result }
     ensures spends { (i : Item) (to : ℕ) → Stands i cursor.old.bytes cursor.old.place to → Spends 1 0 to cursor.old cursor.new }

@@ -1,4 +1,4 @@
-//! The keys of a map at a cursor, and the rows that they name.
+//! Map keys at a cursor, and the rows that they name.
 ghost use Rattle.std.specs.Prelude.{◌≡◌, ◌≤◌, ℕ, nat_lt, if◌then◌else◌, List, Option, length, map, take, true, false, IfSome};
 ghost use Rattle.passkey_cbor.specs.Item.{Item};
 ghost use Rattle.passkey_cbor.specs.Lent.{IsRegion, Tells};
@@ -13,7 +13,7 @@ use crate::head::read_unsigned;
 use crate::rows::{Named, Row, of_number, with_name};
 use passkey_cbor::{BytesToken, Cursor, TextToken};
 
-/// The names of at most 32 rows, and then empty ones.
+/// Returns the names of at most 32 rows, followed by empty ones.
 fn names_of(rows: &[Row]) -> [&'static str; 32]
     requires { length rows.now ≤ 32 }
     ensures { map (λ n. n.now) (take (length rows.now) result) ≡ map (λ e. e.name) (map entry_of rows.now) }
@@ -25,7 +25,7 @@ fn names_of(rows: &[Row]) -> [&'static str; 32]
     names
 }
 
-/// The row at this index.
+/// Returns the row at this index.
 fn at_index(rows: &[Row], index: Option<usize>) -> Named
     ensures { named_as result ≡ row_at (map entry_of rows.now) index }
 {
@@ -38,7 +38,8 @@ fn at_index(rows: &[Row], index: Option<usize>) -> Named
     }
 }
 
-/// The row whose name is this text string. Chunks are compared without a copy, once for all rows.
+/// Finds the row whose name is this text string. Chunks are compared with all names at once,
+/// without a copy.
 fn with_text(rows: &[Row], token: &TextToken<'_>, cursor: &mut Cursor<'_>) -> Named
     requires region { IsRegion true token.now }
     requires few { length rows.now ≤ 32 }
@@ -54,7 +55,7 @@ fn with_text(rows: &[Row], token: &TextToken<'_>, cursor: &mut Cursor<'_>) -> Na
     }
 }
 
-/// The row whose name is this byte string.
+/// Finds the row whose name is this byte string.
 fn with_bytes(rows: &[Row], token: &BytesToken<'_>, cursor: &mut Cursor<'_>) -> Named
     requires region { IsRegion false token.now }
     requires few { length rows.now ≤ 32 }
@@ -76,8 +77,8 @@ fn byte(number: u64) -> Option<u8>
     u8::try_from(number).ok()
 }
 
-/// What the map key at the cursor names, and the cursor is then behind it; or `None` if it is no key
-/// of a record.
+/// Decodes the map key at the cursor, moves behind it and returns what it names; `None` if a record
+/// can't have such a key.
 pub(crate) fn read_key(is_numbered: bool, rows: &[Row], cursor: &mut Cursor<'_>) -> Option<Named>
     requires { length rows.now ≤ 32 }
     ensures names { (key : Item) (to : ℕ) → Stands key cursor.old.bytes cursor.old.place to → ReadsKey (names is_numbered (map entry_of rows.now) key) to cursor.old cursor.new result }

@@ -1,4 +1,5 @@
-//! How the members of CTAP2's messages are read from items and written as items.
+//! How the members of CTAP2's messages are decoded from CBOR data items and encoded as them (CTAP
+//! 2.1, section 8).
 #![tactic(auto)]
 
 mod algorithm;

@@ -1,4 +1,4 @@
-//! Lists of values.
+//! Lists, decoded from arrays.
 ghost use Rattle.std.specs.Prelude.{◌<◌, ℕ, suc, List as Items, length, map, Some, true};
 ghost use Rattle.std.specs.List.{filter_map};
 ghost use Rattle.passkey_cbor.specs.View.{item_of};
@@ -40,7 +40,7 @@ fn read_accepted<T: FromCbor>(alloc: Global, elements: &[Value]) -> Result<Toler
     Ok(TolerantList(List::from(read)))
 }
 
-/// Decodes the elements of an array behind its head.
+/// Decodes the elements of an array, behind its head.
 pub(crate) fn read_elements<T: FromCbor>(
     alloc: Global,
     mut left: Option<u64>,
@@ -56,7 +56,7 @@ pub(crate) fn read_elements<T: FromCbor>(
     Ok(List::from(read))
 }
 
-/// Decodes those elements of an array behind its head that are accepted.
+/// Decodes the elements of an array, behind its head, and skips those that aren't accepted.
 fn read_accepted_elements<T: FromCbor>(
     alloc: Global,
     mut left: Option<u64>,
@@ -104,8 +104,8 @@ impl<T: FromCbor> FromCbor for List<T> {
     }
 }
 
-/// The values of those elements of an array that stand for one, in their order. Running out of
-/// memory isn't tolerated.
+/// A list in which elements that can't be decoded are left out; the others keep their order.
+/// Running out of memory is still an error.
 #[derive(Debug, Drop)]
 pub struct TolerantList<T>(pub List<T>);
 

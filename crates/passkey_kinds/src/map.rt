@@ -1,4 +1,4 @@
-//! Maps from byte strings.
+//! Maps from byte strings, decoded from maps and encoded as them.
 ghost use Rattle.std.specs.Prelude.{◌≡◌, ◌<◌, ℕ, suc, max, List, length, map, true, IfOk, OnOk};
 ghost use Rattle.std.specs.FinMap as fin;
 ghost use Rattle.std.specs.List.{All};
@@ -34,7 +34,7 @@ fn read_entries<T: FromCbor>(
     Ok(read)
 }
 
-/// Decodes the entries of a map behind its head.
+/// Decodes the entries of a map, behind its head.
 fn read_entries_ahead<T: FromCbor>(
     alloc: Global,
     mut left: Option<u64>,

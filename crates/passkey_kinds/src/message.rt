@@ -1,4 +1,4 @@
-//! Messages, read from bytes and written.
+//! Messages, decoded from bytes and encoded.
 ghost use Rattle.std.specs.Prelude.{◌≡◌, suc, Bool, true, IfOk, IfErr, OnOk};
 ghost use Rattle.passkey_cbor.specs.Item.{Item};
 ghost use Rattle.passkey_cbor.specs.View.{item_of};
@@ -19,7 +19,7 @@ use crate::write_fault::WriteFault;
 use passkey_cbor::{Cursor, Value};
 use std::alloc::Global;
 
-/// A CTAP2 message: a map that is decoded from bytes, and encoded (CTAP 2.1, sections 6 and 8).
+/// A CTAP2 message: a map that is decoded from bytes and encoded (CTAP 2.1, sections 6 and 8).
 pub trait Message: Drop {
     /// What contracts see of a message.
     ghost Parts: { Type 0 };
@@ -35,44 +35,45 @@ pub trait Message: Drop {
     /// Whether a message's encoding can be decoded again.
     ghost coherent: { Parts → Bool };
 
-    /// Decodes the message that begins the bytes, as `read` does, and returns it with the length of
-    /// its data item in bytes.
+    /// Decodes the message that the bytes begin with, and returns it with its length in bytes.
+    /// Bytes after it are ignored. The errors are those of `read`.
     fn from_slice(alloc: Global, bytes: &[u8]) -> Result<(Self, usize), Fault>
         ensures reads { ReadsMessage parts (read_item fields) bytes.now result }
         ensures grows { result ≡ Err NoRoom → GrowsMessage fields bytes.now };
 
-    /// Decodes the message at the cursor, and moves behind it. `DecodeFailed` exactly if no
-    /// well-formed data item of at most 256 levels is there; else the fault that `from_value` returns
-    /// for the item. On an error the cursor stays, and its counts keep what was spent.
+    /// Decodes the message at the cursor and moves behind it. `DecodeFailed` exactly if no
+    /// well-formed data item of at most 256 levels is there; otherwise the errors of `from_value`.
+    /// On an error the cursor stays, and its counts include what was spent.
     fn read(alloc: Global, cursor: &mut Cursor<'_>) -> Result<Self, Fault>
         ensures { ReadsHere parts fields 16 cursor.old cursor.new result };
 
-    /// Decodes the message from a data item. `NotAMap` if it is none; else the fault of its first bad
-    /// member (`BadKey`, `Repeated`, `Refused`), or `Missing` for the first required one that isn't
-    /// there; `OutOfMemory` if an allocation fails, which only a member lets happen that takes memory.
+    /// Decodes the message from a data item. `NotAMap` if it isn't a map; otherwise the fault of
+    /// its first bad member (`BadKey`, `Repeated`, `Refused`), or `Missing` for the first required
+    /// member that is absent; `OutOfMemory` if an allocation fails, which can only happen for a
+    /// member that takes memory.
     fn from_value(alloc: Global, value: &Value) -> Result<Self, Fault>
         ensures { Reads parts (MayGrowAt (table_of fields) (item_of value.now)) (read_item fields (item_of value.now)) result };
 
-    /// Encodes the message. `OutOfMemory` if an allocation fails; there is no other error if the
-    /// message is coherent.
+    /// Encodes the message. `OutOfMemory` if an allocation fails, which is the only error for a
+    /// coherent message.
     fn to_vec(&self, alloc: Global) -> Result<Vec<u8>, WriteFault>
         ensures written { IfOk result (λ bytes. bytes.items ≡ written (tree (parts self.now))) }
         ensures memory { coherent (parts self.now) ≡ true → IfErr result (λ e. e ≡ NoMemory) };
 
-    /// Whether the message's encoding can be decoded again. It takes no memory.
+    /// Returns whether the message's encoding can be decoded again. Allocates nothing.
     fn is_coherent(&self) -> bool
         ensures { result ≡ coherent (parts self.now) };
 
-    /// A decoded message is coherent. It does nothing.
+    /// A decoded message is coherent. Does nothing.
     fn decoded_is_coherent()
         ensures { ReadIsCoherent (read_item fields) coherent };
 }
 
-/// Decodes the message, a map, that is at the cursor, head by head and without a data item in memory,
-/// and moves behind it (CTAP 2.1, sections 6 and 8). `DecodeFailed` exactly if no well-formed item of
-/// at most 256 levels is there; else the item's first fault, as `record_from_value` reports it;
-/// `OutOfMemory` if an allocation fails, which only a member lets happen that takes memory. On an
-/// error the cursor stays, and its counts keep what was spent.
+/// Decodes the message, a map, at the cursor, head by head and without building a data item, and
+/// moves behind it (CTAP 2.1, sections 6 and 8). `DecodeFailed` exactly if no well-formed data item
+/// of at most 256 levels is there; otherwise the fault that `record_from_value` returns for the
+/// item; `OutOfMemory` if an allocation fails, which can only happen for a member that takes
+/// memory. On an error the cursor stays, and its counts include what was spent.
 pub fn read_message<R: Record>(alloc: Global, cursor: &mut Cursor<'_>) -> Result<R, Fault>
     ensures { ReadsHere R.parts R.fields (suc (record_cost R.fields)) cursor.old cursor.new result }
 {
@@ -90,8 +91,8 @@ pub fn read_message<R: Record>(alloc: Global, cursor: &mut Cursor<'_>) -> Result
     }
 }
 
-/// Decodes the message, a map, that begins the bytes, as `read_message` does, and returns its length
-/// with it.
+/// Decodes the message, a map, that the bytes begin with, and returns it with its length in bytes.
+/// Bytes after it are ignored. The errors are those of `read_message`.
 pub fn message_from_slice<R: Record>(alloc: Global, bytes: &[u8]) -> Result<(R, usize), Fault>
     ensures reads { ReadsMessage R.parts (read_item R.fields) bytes.now result }
     ensures grows { result ≡ Err NoRoom → GrowsMessage R.fields bytes.now }
@@ -101,8 +102,8 @@ pub fn message_from_slice<R: Record>(alloc: Global, bytes: &[u8]) -> Result<(R, 
     Ok((message, cursor.place()))
 }
 
-/// The message's bytes: shortest heads, definite lengths, members in the table's order (RFC 8949,
-/// section 4.1). `OutOfMemory` where a growth was refused.
+/// Encodes the message with shortest heads and definite lengths (RFC 8949, section 4.1), and with
+/// its members in the table's order. `OutOfMemory` if an allocation fails; there is no other error.
 pub fn write_message<T: ToCbor>(alloc: Global, message: &T) -> Result<Vec<u8>, WriteFault>
     ensures written { IfOk result (λ bytes. bytes.items ≡ written (T.tree message.now)) }
     ensures writable { OnOk result (IsWritable (T.tree message.now)) }

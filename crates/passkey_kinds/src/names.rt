@@ -27,7 +27,7 @@ fn read_name<T: EnumNames>(value: &Value) -> Result<T, Refusal>
     }
 }
 
-/// The value of a text string that is a name.
+/// Returns the value whose name is this text string.
 fn named<T: NameTable>(token: &TextToken<'_>, cursor: &mut Cursor<'_>) -> Option<T>
     requires { IsRegion true token.now }
     ensures named { (s : List ℕ) → Tells true token.now s → result ≡ T.named s }

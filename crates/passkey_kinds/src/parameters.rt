@@ -1,4 +1,4 @@
-//! Parameters of credentials, read of items and written.
+//! Credential parameters, decoded from data items and encoded.
 ghost use Rattle.std.specs.Prelude.{true};
 ghost use Rattle.passkey_kinds.specs.Parameters.{parameters_fields, parameters};
 ghost use Rattle.passkey_kinds.specs.Trees.{parameters_tree};

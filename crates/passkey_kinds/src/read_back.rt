@@ -1,4 +1,4 @@
-//! What is written is read back.
+//! Encodings that decode to the value again.
 ghost use Rattle.std.specs.Prelude.{◌≡◌, None};
 ghost use Rattle.passkey_cbor.specs.Item.{null};
 ghost use Rattle.passkey_kinds.specs.ReadBack.{IsReadBack};
@@ -13,12 +13,12 @@ use passkey_webauthn::{
     PublicKeyCredentialType,
 };
 
-/// A type whose values are read back from what they are written as, and which null is no value of.
+/// A type whose encoded values can be decoded again, and of which null encodes no value.
 pub trait ReadBack: FromCbor + ToCbor {
-    /// The value whose view is read of what a value is written as.
+    /// The value that the encoding of each value decodes to.
     ghost normal: { Self → Self };
 
-    /// What is written of a value is read as its normal form.
+    /// The encoding of a value decodes to its normal form. Does nothing.
     fn read_back()
         ensures back { IsReadBack Self.kind Self.tree Self.fits (λ x. Self.view (normal x)) }
         ensures not_null { Self.kind null ≡ None };

@@ -21,8 +21,8 @@ use crate::source::{Source, Tree};
 use passkey_cbor::{Cursor, Value};
 use std::alloc::Global;
 
-/// A record that is decoded member by member: each value is put into a record that begins with its
-/// defaults.
+/// A record, decoded member by member from a map: it starts with its defaults, and each decoded
+/// value is put into it.
 pub trait Record: Drop {
     /// What contracts see of the record.
     ghost Parts: { Type 0 };
@@ -32,30 +32,30 @@ pub trait Record: Drop {
     /// Its rows, and what it holds before a member is decoded.
     ghost fields: { Fields Parts };
 
-    /// Whether members have numbers beside their names.
+    /// Returns whether members have numbers in addition to their names.
     fn is_numbered() -> bool
         ensures { result ≡ fields.is_numbered };
 
-    /// The table's rows, at most 32.
+    /// Returns the table's rows, at most 32.
     fn rows() -> &'static [Row]
         ensures rows { map entry_of result.now ≡ entries (table_of fields) }
         ensures few { length result.now ≤ 32 }
         ensures small { are_small (entries (table_of fields)) ≡ true };
 
-    /// The record before a member is decoded. It takes no memory.
+    /// Returns the record before a member is decoded. Allocates nothing.
     fn blank(alloc: Global) -> Self
         ensures { parts result ≡ fields.blank };
 
-    /// Puts the value of the row with this number. `Refused` if it isn't one of the row's kind, or
-    /// no row has the number; `OutOfMemory` if an allocation fails, which only an item lets happen
-    /// that takes memory.
+    /// Decodes the value of the row with this number and puts it into the record. `Refused` if the
+    /// row doesn't accept the value, or no row has the number; `OutOfMemory` if an allocation
+    /// fails, which can only happen for an item that takes memory.
     fn put<S: Source>(&mut self, alloc: Global, number: u8, source: &mut S) -> Result<(), Refusal>
         ensures puts { (i : Item) (to : ℕ) → S.At source.old i to → Puts fields number i (parts self.old) (parts self.new) result }
         ensures spends { (i : Item) (to : ℕ) → S.At source.old i to → S.Spent (cost_at fields.rows number) (keeps_at fields.rows number) i to source.old source.new (is_ok result) }
         ensures onward { S.Goes source.old source.new };
 }
 
-/// Decodes the value of one more member, whose map key names this.
+/// Decodes the value of the next member, whose map key names this.
 fn read_member<R: Record, S: Source>(
     alloc: Global,
     read: &mut R,
@@ -73,7 +73,7 @@ fn read_member<R: Record, S: Source>(
             if source.pass() {
                 return Ok(());
             }
-            // That none is there doesn't happen in a map that is there as a whole.
+            // A well-formed map has a value after each key, so this isn't reached for one.
             return Err(Fault::DecodeFailed);
         }
     };
@@ -90,7 +90,7 @@ fn read_member<R: Record, S: Source>(
     }
 }
 
-/// The number of the first required row that has no mark.
+/// Returns the number of the first required row that isn't marked.
 fn first_missing(rows: &[Row], seen: &[bool; 256]) -> Option<u8>
     ensures { result ≡ first_unmarked (map entry_of rows.now) seen.now }
 {
@@ -102,14 +102,14 @@ fn first_missing(rows: &[Row], seen: &[bool; 256]) -> Option<u8>
     None
 }
 
-/// Marks of no rows.
+/// Returns marks for no rows.
 fn no_marks() -> [bool; 256]
     ensures { result ≡ replicate 256 false }
 {
     [false; 256]
 }
 
-/// The record, unless a required row has no mark.
+/// Returns the record, or `Missing` for the first required row that isn't marked.
 fn finish<R: Record>(read: R, seen: &[bool; 256]) -> Result<R, Fault>
     ensures reads { Reads R.parts ⊥ (unless_missing (first_unmarked (entries (table_of R.fields)) seen.now) (R.parts read)) result }
     ensures small { are_small (entries (table_of R.fields)) ≡ true }
@@ -135,10 +135,11 @@ fn read_pairs<R: Record>(alloc: Global, pairs: &[(Value, Value)]) -> Result<R, F
     finish(read, &seen)
 }
 
-/// Decodes a record from a map (CTAP 2.1, sections 6 and 8). `NotAMap` if the item is none; else the
-/// first fault of its members in the order of the pairs (`BadKey`, `Repeated`, `Refused`), else
-/// `Missing` for the first required member in the table's order that isn't there, else the record.
-/// `OutOfMemory` if an allocation fails, which only a member lets happen that takes memory.
+/// Decodes a record from a map (CTAP 2.1, sections 6 and 8). `NotAMap` if the item isn't one;
+/// otherwise the first fault of its members in the order of the pairs (`BadKey`, `Repeated`,
+/// `Refused`); otherwise `Missing` for the first required member, in the table's order, that is
+/// absent. `OutOfMemory` if an allocation fails, which can only happen for a member that takes
+/// memory.
 pub fn record_from_value<R: Record>(alloc: Global, value: &Value) -> Result<R, Fault>
     ensures { Reads R.parts (MayGrowAt (table_of R.fields) (item_of value.now)) (read_item R.fields (item_of value.now)) result }
 {
@@ -148,7 +149,7 @@ pub fn record_from_value<R: Record>(alloc: Global, value: &Value) -> Result<R, F
     }
 }
 
-/// Decodes the members of a map behind its head.
+/// Decodes the members of a map, behind its head.
 fn read_pairs_ahead<R: Record>(
     alloc: Global,
     mut left: Option<u64>,
@@ -169,8 +170,8 @@ fn read_pairs_ahead<R: Record>(
     finish(read, &seen)
 }
 
-/// Decodes the record that is at the cursor, as `record_from_value` decodes a data item, and moves
-/// behind it. On an error the cursor may then be anywhere in it.
+/// Decodes the record at the cursor, as `record_from_value` decodes a data item, and moves behind
+/// it. After an error the cursor may be anywhere in it.
 pub(crate) fn read_record<R: Record>(alloc: Global, cursor: &mut Cursor<'_>) -> Result<R, Fault>
     ensures reads { (i : Item) (to : ℕ) → Stands i cursor.old.bytes cursor.old.place to → DecodesRecord R.parts R.fields i to cursor.old cursor.new result }
     ensures onward { Onward cursor.old cursor.new }
@@ -182,7 +183,7 @@ pub(crate) fn read_record<R: Record>(alloc: Global, cursor: &mut Cursor<'_>) -> 
     }
 }
 
-/// The result for a record that is held in another one: each of its faults refuses it.
+/// Returns the result for a record inside another one, where each of its faults becomes `Refused`.
 fn held<R: Record>(read: Result<R, Fault>) -> Result<R, Refusal>
     ensures { result ≡ held_as read }
 {
@@ -193,17 +194,17 @@ fn held<R: Record>(read: Result<R, Fault>) -> Result<R, Refusal>
     }
 }
 
-/// Decodes a record that is held in another one. `Refused` if it has a fault other than running out
-/// of memory, as `record_from_value` reports it; `OutOfMemory` if an allocation fails, which only an
-/// item lets happen that takes memory.
+/// Decodes a record inside another one. `Refused` if `record_from_value` returns any fault but
+/// `OutOfMemory`; `OutOfMemory` if an allocation fails, which can only happen for an item that
+/// takes memory.
 pub fn nested_from_value<R: Record>(alloc: Global, value: &Value) -> Result<R, Refusal>
     ensures { Answers R.parts (record_kind R.fields) true (item_of value.now) result }
 {
     held(record_from_value::<R>(alloc, value))
 }
 
-/// Decodes the record that is at the cursor and is held in another one, as `nested_from_value`
-/// decodes a data item, and moves behind it. On an error the cursor may then be anywhere in it.
+/// Decodes the record at the cursor that is inside another one, as `nested_from_value` decodes a
+/// data item, and moves behind it. After an error the cursor may be anywhere in it.
 pub fn read_nested<R: Record>(alloc: Global, cursor: &mut Cursor<'_>) -> Result<R, Refusal>
     ensures reads { (i : Item) (to : ℕ) → Stands i cursor.old.bytes cursor.old.place to → ReadsAs R.parts (record_kind R.fields) true (record_cost R.fields) (record_keeps R.fields) i to cursor.old cursor.new result }
     ensures onward { Onward cursor.old cursor.new }

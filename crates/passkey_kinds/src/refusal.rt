@@ -1,4 +1,4 @@
-//! Why no value was read of an item.
+//! Why a value was not decoded from a data item.
 ghost use Rattle.std.specs.Prelude.{◌≡◌, Some};
 ghost use Rattle.passkey_kinds.specs.Names.{refusal_name};
 ghost use Rattle.passkey_kinds.specs.declared.refusal.Refusal.TheVariants.{OutOfMemory as NoMemory};
@@ -8,12 +8,12 @@ use std::alloc::{AllocError, AllocFailed};
 use std::error::Error;
 use std::fmt;
 
-/// Why no value was read of an item.
+/// Why a value was not decoded from a data item.
 #[derive(Clone, Copy, Debug, PartialEq, Eq)]
 pub enum Refusal {
-    /// The item stands for no such value.
+    /// The type doesn't accept the data item.
     Refused,
-    /// A growth was refused.
+    /// An allocation failed.
     OutOfMemory,
 }
 

@@ -9,13 +9,13 @@ ghost use Rattle.passkey_kinds.specs.Table.{names, number_names, row_named, row_
 
 use passkey_cbor::Value;
 
-/// A member that a table knows, by its number and its name; where members have names alone the
-/// number is the place in the table.
+/// A member of a table, with its number and its name. If members have only names, the number is the
+/// place in the table.
 #[derive(Clone, Copy)]
 pub enum Row {
-    /// It has to be there.
+    /// The member is required.
     Required(u8, &'static str),
-    /// It may lack.
+    /// The member is optional.
     Optional(u8, &'static str),
 }
 
@@ -51,7 +51,7 @@ impl Row {
 pub(crate) enum Named {
     /// The row with this number.
     Row(u8),
-    /// Nothing that the table knows.
+    /// No row of the table.
     Unknown,
 }
 
@@ -77,7 +77,7 @@ pub(crate) fn with_name(rows: &[Row], name: &[u8]) -> Named
     Named::Unknown
 }
 
-/// What a number names: `None` if the members have no numbers, or if it isn't below 256.
+/// Returns what a number names; `None` if the members have no numbers, or if it isn't below 256.
 pub(crate) fn of_number(is_numbered: bool, rows: &[Row], number: Option<u8>) -> Option<Named>
     ensures { naming_of result ≡ number_names is_numbered number (map entry_of rows.now) }
 {
@@ -87,7 +87,7 @@ pub(crate) fn of_number(is_numbered: bool, rows: &[Row], number: Option<u8>) -> 
     }
 }
 
-/// What the map key names, or `None` if it is no key of a record.
+/// Returns what the map key names; `None` if a record can't have such a key.
 pub(crate) fn row_of(is_numbered: bool, rows: &[Row], key: &Value) -> Option<Named>
     ensures { naming_of result ≡ names is_numbered (map entry_of rows.now) (item_of key.now) }
 {

@@ -1,4 +1,4 @@
-//! How many levels values are written with.
+//! The greatest depth of an encoding.
 ghost use Rattle.std.specs.Prelude.{ℕ, suc, ◌≤◌};
 ghost use Rattle.passkey_cbor.specs.Depth.{depth};
 
@@ -11,12 +11,12 @@ use passkey_webauthn::{
     PublicKeyCredentialType,
 };
 
-/// A type whose values are all written with few levels of arrays and maps.
+/// A type whose encodings all have at most a fixed number of levels.
 pub trait Shallow: ToCbor {
-    /// The most levels that a value is written with.
+    /// The most levels of arrays, maps and tags that a value's encoding has.
     ghost levels: { ℕ };
 
-    /// No value is written with more levels.
+    /// No value's encoding has more levels. Does nothing.
     fn shallow()
         ensures { (x : Self) → depth (Self.tree x) ≤ levels };
 }

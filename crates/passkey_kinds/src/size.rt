@@ -1,4 +1,5 @@
-//! Sizes, read of items. They have more values than CBOR can spell, so that none are written here.
+//! Sizes, decoded from data items. They aren't encoded here, since CBOR has no integer above 2^64 -
+//! 1.
 ghost use Rattle.std.specs.Prelude.{◌≡◌, ℕ, pos, false, option_map};
 ghost use Rattle.std.specs.Int.NonZero.{non_zero_u128_get};
 ghost use Rattle.passkey_cbor.specs.Item.{number};

@@ -17,26 +17,27 @@ use passkey_bytes::List;
 use passkey_cbor::{Cursor, Value};
 use std::alloc::Global;
 
-/// A data item that a value is decoded from.
+/// The place of a data item that is decoded: in memory, or at a cursor.
 pub trait Source {
     /// The data item is this one, and it ends here.
     ghost At: { Self → Item → ℕ → Type 0 };
 
-    /// What decoding the item took: at most so many heads for each byte, and these data items as
-    /// values. If it succeeded, the source is behind the item.
+    /// What decoding the item cost: at most this many heads for each byte, and at most these data
+    /// items as values. If it succeeded, the source is behind the item.
     ghost Spent: { ℕ → Keeping → Item → ℕ → Self → Self → Bool → Type 0 };
 
-    /// The source was not moved back, and its counts didn't fall.
+    /// The source didn't move back, and its counts didn't fall.
     ghost Goes: { Self → Self → Type 0 };
 
-    /// Decodes the item. `Refused` exactly if it stands for no value of the type; `OutOfMemory` if an
-    /// allocation fails, which only an item lets happen that takes memory.
+    /// Decodes the item. `Refused` exactly if the type doesn't accept it; `OutOfMemory` if an
+    /// allocation fails, which can only happen for an item that takes memory.
     fn read<T: FromCbor>(&mut self, alloc: Global) -> Result<T, Refusal>
         ensures answers { (i : Item) (to : ℕ) → At self.old i to → Answers T.view T.kind T.takes i result }
         ensures spends { (i : Item) (to : ℕ) → At self.old i to → Spent T.cost T.keeps i to self.old self.new (is_ok result) }
         ensures onward { Goes self.old self.new };
 
-    /// Skips the item, of an unknown member. It takes no memory.
+    /// Skips the item, the value of an unknown member, and returns whether it is there. Allocates
+    /// nothing.
     fn pass(&mut self) -> bool
         ensures passes { (i : Item) (to : ℕ) → At self.old i to → result ≡ true }
         ensures spends { (i : Item) (to : ℕ) → At self.old i to → Spent 1 nothing i to self.old self.new true }
@@ -92,8 +93,8 @@ impl<'a> Source for Cursor<'a> {
     }
 }
 
-/// Decodes the item into the field. `Refused` exactly if it stands for no value of the type;
-/// `OutOfMemory` if an allocation fails, which only an item lets happen that takes memory.
+/// Decodes the item into the field. `Refused` exactly if the type doesn't accept it; `OutOfMemory`
+/// if an allocation fails, which can only happen for an item that takes memory.
 pub fn set<T: FromCbor, S: Source>(
     field: &mut T,
     alloc: Global,
@@ -107,8 +108,8 @@ pub fn set<T: FromCbor, S: Source>(
     Ok(())
 }
 
-/// Decodes the item into the field, which becomes `None` if the item is refused. Running out of
-/// memory isn't tolerated.
+/// Decodes the item into the field, which becomes `None` if the type doesn't accept the item.
+/// Running out of memory is still an error.
 pub fn set_tolerated<T: FromCbor, S: Source>(
     field: &mut Option<T>,
     alloc: Global,
@@ -123,8 +124,8 @@ pub fn set_tolerated<T: FromCbor, S: Source>(
     Ok(())
 }
 
-/// Decodes the item into the field, which becomes this default if the item is refused. Running out of
-/// memory isn't tolerated.
+/// Decodes the item into the field, which becomes this default if the type doesn't accept the item.
+/// Running out of memory is still an error.
 pub fn set_or<T: FromCbor, S: Source>(
     field: &mut T,
     default: T,
@@ -140,8 +141,8 @@ pub fn set_or<T: FromCbor, S: Source>(
     Ok(())
 }
 
-/// Decodes those elements of an array into the field that stand for a value of the type, in their
-/// order. `Refused` if the item is no array. Running out of memory isn't tolerated.
+/// Decodes the elements of an array into the field, in their order, and skips those that the type
+/// doesn't accept. `Refused` if the item isn't an array. Running out of memory is still an error.
 pub fn set_accepted<T: FromCbor, S: Source>(
     field: &mut List<T>,
     alloc: Global,
@@ -156,7 +157,7 @@ pub fn set_accepted<T: FromCbor, S: Source>(
     Ok(())
 }
 
-/// The same for a field that becomes `None` if the item is no array.
+/// Does the same for a field that becomes `None` if the item isn't an array.
 pub fn set_accepted_or_none<T: FromCbor, S: Source>(
     field: &mut Option<List<T>>,
     alloc: Global,

@@ -1,4 +1,4 @@
-//! Values that are written as items.
+//! Values that are encoded as data items.
 ghost use Rattle.std.specs.Prelude.{◌≡◌, ◌<◌, ◌^◌, ℕ, IfOk, OnOk};
 ghost use Rattle.passkey_cbor.specs.Item.{Item, boolean, byte_string, text_string};
 ghost use Rattle.passkey_cbor.specs.View.{item_of};
@@ -13,15 +13,15 @@ use passkey_memory::OutOfMemory;
 use passkey_webauthn::{AuthenticatorTransport, EnumNames, PublicKeyCredentialType};
 use std::alloc::Global;
 
-/// A type whose values are written as items.
+/// A type whose values are encoded as data items.
 pub trait ToCbor {
-    /// The item that each value is written as.
+    /// The data item that each value is encoded as.
     ghost tree: { Self → Item };
 
-    /// What holds of each value that is written.
+    /// What holds of each encoded value.
     ghost fits: { Self → Type 0 };
 
-    /// The item that the value is written as. `OutOfMemory` where a growth was refused.
+    /// Returns the data item that the value is encoded as. `OutOfMemory` if an allocation fails.
     fn to_value(&self, alloc: Global) -> Result<Value, OutOfMemory>
         ensures tree { IfOk result (λ v. item_of v ≡ tree self.now) }
         ensures fits { OnOk result (fits self.now) };

@@ -1,4 +1,4 @@
-//! Values that may be refused.
+//! Values that become `None` if they can't be decoded.
 ghost use Rattle.std.specs.Prelude.{suc, Option, option_map};
 ghost use Rattle.passkey_kinds.specs.Kind.{tolerated};
 
@@ -7,7 +7,8 @@ use crate::refusal::Refusal;
 use passkey_cbor::{Cursor, Value};
 use std::alloc::Global;
 
-/// A value, or nothing if the item stands for none. Running out of memory isn't tolerated.
+/// A value, or `None` if the data item can't be decoded as one. Running out of memory is still an
+/// error.
 #[derive(Debug, Drop)]
 pub struct Tolerated<T>(pub Option<T>);
 

@@ -1,4 +1,4 @@
-//! Users, read of items and written.
+//! Users, decoded from data items and encoded.
 ghost use Rattle.std.specs.Prelude.{true};
 ghost use Rattle.passkey_kinds.specs.Trees.{webauthn_user_tree};
 ghost use Rattle.passkey_kinds.specs.User.{user_fields, user};

@@ -1,4 +1,4 @@
-//! Why no message was written.
+//! Why a message was not encoded.
 ghost use Rattle.std.specs.Prelude.{◌≡◌, Some};
 ghost use Rattle.passkey_kinds.specs.Names.{write_fault_name};
 ghost use Rattle.passkey_kinds.specs.declared.write_fault.WriteFault.TheVariants.{OutOfMemory as NoMemory};
@@ -8,12 +8,12 @@ use std::alloc::{AllocError, AllocFailed};
 use std::error::Error;
 use std::fmt;
 
-/// Why no message was written.
+/// Why a message was not encoded.
 #[derive(Clone, Copy, Debug, PartialEq, Eq)]
 pub enum WriteFault {
-    /// A growth was refused.
+    /// An allocation failed.
     OutOfMemory,
-    /// CBOR can't spell the number: it is 2^64 or more (RFC 8949, section 3.1).
+    /// A number is 2^64 or more, so no CBOR integer holds it (RFC 8949, section 3.1).
     NumberTooLarge,
 }
 

@@ -1,4 +1,4 @@
-//! Lists and maps that are written.
+//! Lists and maps that are encoded.
 ghost use Rattle.std.specs.Prelude.{◌≡◌, ◌++◌, [], true, None, if◌then◌else◌, Some, map, option_map, IfOk, OnOk};
 ghost use Rattle.std.specs.List.{All};
 ghost use Rattle.passkey_cbor.specs.Item.{Item, boolean};
@@ -34,14 +34,14 @@ impl<T: ToCbor> ToCbor for List<T> {
     }
 }
 
-/// Members in the order in which they are written.
+/// The members of a map, in the order in which they are encoded.
 #[derive(Drop)]
 pub struct Written {
     members: Vec<(Value, Value)>,
 }
 
 impl Written {
-    /// No members. It takes no memory.
+    /// Returns no members. Allocates nothing.
     pub fn new(alloc: Global) -> Written
         ensures { members_of result ≡ [] }
     {
@@ -50,8 +50,7 @@ impl Written {
         }
     }
 
-    /// A member under this key, a name or a number, behind the others. `OutOfMemory` where a growth
-    /// was refused.
+    /// Appends a member under this key, a name or a number. `OutOfMemory` if an allocation fails.
     pub fn put<K: ToCbor + Drop, T: ToCbor>(
         &mut self,
         alloc: Global,
@@ -66,7 +65,8 @@ impl Written {
         Ok(())
     }
 
-    /// A member under this key, where there is one. `OutOfMemory` where a growth was refused.
+    /// Appends a member under this key if the value is present. `OutOfMemory` if an allocation
+    /// fails.
     pub fn put_some<K: ToCbor + Drop, T: ToCbor>(
         &mut self,
         alloc: Global,
@@ -82,7 +82,7 @@ impl Written {
         Ok(())
     }
 
-    /// A member under this key, where it is true. `OutOfMemory` where a growth was refused.
+    /// Appends a member under this key if the value is true. `OutOfMemory` if an allocation fails.
     pub fn put_true<K: ToCbor + Drop>(
         &mut self,
         alloc: Global,
@@ -97,7 +97,7 @@ impl Written {
         Ok(())
     }
 
-    /// The map of the members.
+    /// Returns the map of the members.
     pub fn into_value(self) -> Value
         ensures { item_of result ≡ map_tree (members_of self) }
     {

@@ -1,4 +1,4 @@
--- How a credential is to be made (CTAP 2.1, section 6.1).
+-- Options of authenticatorMakeCredential requests (CTAP 2.1, section 6.1).
 use Rattle.std.specs.Prelude.{[], ◌∷◌, true, false, codes, List}
 use Rattle.passkey_kinds.specs.Kind.{Kind}
 use Rattle.passkey_kinds.specs.Record.{Fields, default, record_kind}
@@ -23,7 +23,7 @@ options_fields = record {
 abbrev pub options : Kind Options
 options = record_kind options_fields
 
--- that the user is to be there is the default, and is written where it is so
+-- `up` is true by default, and is encoded only if it is true
 abbrev pub options_places : Options → List Place
 options_places o =
     always (text_string (codes "rk")) boolean o.rk
@@ -34,6 +34,6 @@ options_places o =
 abbrev pub options_tree : Options → Item
 options_tree o = record_tree (options_places o)
 
--- that the user is not to be there can't be written
+-- an `up` that is false isn't encoded, and so decodes to true
 abbrev pub normal_options : Options → Options
 normal_options o = record o { up = true }

@@ -1,4 +1,4 @@
--- Requests to make a credential (CTAP 2.1, section 6.1).
+-- authenticatorMakeCredential requests (CTAP 2.1, section 6.1).
 use Rattle.std.specs.Prelude.{ℕ, nat_le, Bool, true, List, [], ◌∷◌, Option, None, codes, Result}
 use Rattle.passkey_cbor.specs.Depth.{depth}
 use Rattle.passkey_cbor.specs.Front.{max_depth}
@@ -66,11 +66,11 @@ make_request_fields = record {
 abbrev pub make_request_table : Table
 make_request_table = table_of make_request_fields
 
--- the request that an item is, or its first fault
+-- the request that an item decodes to, or its first fault
 abbrev pub read_make_request : Item → Result MakeRequestParts Fault
 read_make_request = read_item make_request_fields
 
--- ---- what a request is written as
+-- ---- what a request is encoded as
 
 abbrev pub make_request_places : MakeRequestParts → List Place
 make_request_places r =
@@ -92,10 +92,10 @@ make_request_tree r = record_tree (make_request_places r)
 abbrev pub MakeRequestFits : MakeRequestParts → Type 0
 MakeRequestFits r = Where MakeExtensionsFit r.extensions × Where IsByte r.pin_protocol
 
--- what is written has at most as many levels as are read
+-- the encoding has at most as many levels as are decoded
 abbrev pub is_make_request_coherent : MakeRequestParts → Bool
 is_make_request_coherent r = nat_le (depth (make_request_tree r)) max_depth
 
--- what is read of what is written
+-- what the encoding decodes to
 abbrev pub normal_make_request : MakeRequestParts → MakeRequestParts
 normal_make_request r = record r { options = normal_options r.options }

@@ -1,4 +1,4 @@
--- What contracts see of a request to make a credential.
+-- What contracts see of an authenticatorMakeCredential request.
 use Rattle.std.specs.Prelude.{option_map}
 use Rattle.passkey_extensions.specs.MakeExtensionsView.{make_extensions_parts}
 use Rattle.passkey_make_credential.specs.MakeRequest.{MakeRequestParts}

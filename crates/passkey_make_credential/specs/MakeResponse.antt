@@ -1,4 +1,4 @@
--- What an authenticator answers to a request to make a credential (CTAP 2.1, section 6.1).
+-- authenticatorMakeCredential responses (CTAP 2.1, section 6.1).
 use Rattle.std.specs.Prelude.{ℕ, nat_le, Bool, true, ◌&&◌, List, [], ◌∷◌, Option, None, codes, Result, replicate}
 use Rattle.passkey_cbor.specs.Depth.{depth}
 use Rattle.passkey_cbor.specs.Front.{max_depth}
@@ -42,11 +42,11 @@ make_response_fields = record {
 abbrev pub make_response_table : Table
 make_response_table = table_of make_response_fields
 
--- the response that an item is, or its first fault
+-- the response that an item decodes to, or its first fault
 abbrev pub read_make_response : Item → Result MakeResponseParts Fault
 read_make_response = read_item make_response_fields
 
--- ---- what a response is written as
+-- ---- what a response is encoded as
 
 abbrev pub make_response_places : MakeResponseParts → List Place
 make_response_places r =
@@ -65,15 +65,15 @@ make_response_tree r = record_tree (make_response_places r)
 abbrev pub MakeResponseFits : MakeResponseParts → Type 0
 MakeResponseFits r = IsData r.auth_data × Where MadeFits r.unsigned_extension_outputs
 
--- the authenticator data are read back, and what is written has at most as many levels as are read
+-- the authenticator data is coherent, and the encoding has at most as many levels as are decoded
 abbrev pub is_make_response_coherent : MakeResponseParts → Bool
 is_make_response_coherent r = is_coherent r.auth_data && nat_le (depth (make_response_tree r)) max_depth
 
--- what is read of what is written
+-- what the encoding decodes to
 abbrev pub normal_make_response : MakeResponseParts → MakeResponseParts
 normal_make_response r = record r { auth_data = normal_data r.auth_data }
 
--- ---- the same for a relying party, without attestation (WebAuthn Level 3, section 6.5.4)
+-- ---- the attestation object, without attestation (WebAuthn Level 3, section 6.5.4)
 
 abbrev pub no_statement : Item
 no_statement = map no_pairs
@@ -88,7 +88,7 @@ attestation_places d =
 abbrev pub attestation_tree : DataParts → Item
 attestation_tree d = record_tree (attestation_places d)
 
--- a response of these data and no attestation
+-- a response with this authenticator data and without attestation
 abbrev pub unattested : DataParts → MakeResponseParts
 unattested d = record {
   fmt = codes "none";

@@ -1,4 +1,4 @@
--- What contracts see of a response to a request to make a credential.
+-- What contracts see of an authenticatorMakeCredential response.
 use Rattle.passkey_cbor.specs.View.{item_of}
 use Rattle.passkey_core.specs.DataViews.{data_parts}
 use Rattle.passkey_make_credential.specs.MakeResponse.{MakeResponseParts}

@@ -1,4 +1,5 @@
-//! Laws of the messages of making a credential, each the contract of a function without effect.
+//! Laws about the messages of authenticatorMakeCredential, each the contract of a function that
+//! does nothing.
 ghost use Rattle.passkey_core.specs.Coherent.{is_coherent};
 ghost use Rattle.passkey_core.specs.DataNormal.{IsData, normal_data};
 ghost use Rattle.passkey_make_credential.specs.MakeRequest.{make_request_fields, read_make_request, make_request_tree, MakeRequestFits, is_make_request_coherent, normal_make_request};
@@ -9,21 +10,21 @@ ghost use Rattle.passkey_kinds.specs.MessageLaws.{WrittenIsReadBack, ReadIsCoher
 ghost use Rattle.passkey_kinds.specs.RecordLaws.{PassesOverUnknown};
 ghost use Rattle.passkey_kinds.specs.RecordLaws.{KnowsMaps};
 
-/// What is written of a coherent request to make a credential, whatever bytes follow, is read as the
-/// request with options that ask for the user to be there.
+/// The encoding of a coherent request, whatever bytes follow, decodes to the request with the
+/// option `up` set to true.
 pub fn written_make_request_is_read_back()
     ensures { WrittenIsReadBack read_make_request make_request_tree MakeRequestFits is_make_request_coherent normal_make_request }
 {
     passkey_cbor::laws::written_is_front();
 }
 
-/// Requests to make a credential that were read of bytes are coherent.
+/// Decoded requests are coherent.
 pub fn read_make_request_is_coherent()
     ensures { ReadIsCoherent read_make_request is_make_request_coherent }
 {}
 
-/// What is written of a coherent response to a request to make a credential, whatever bytes follow,
-/// is read as the response with its authenticator data's normal form.
+/// The encoding of a coherent response, whatever bytes follow, decodes to the response with the
+/// normal form of its authenticator data.
 pub fn written_make_response_is_read_back()
     ensures { WrittenIsReadBack read_make_response make_response_tree MakeResponseFits is_make_response_coherent normal_make_response }
 {
@@ -32,15 +33,15 @@ pub fn written_make_response_is_read_back()
     passkey_core::laws::read_is_given();
 }
 
-/// Responses to requests to make a credential that were read of bytes are coherent.
+/// Decoded responses are coherent.
 pub fn read_make_response_is_coherent()
     ensures { ReadIsCoherent read_make_response is_make_response_coherent }
 {
     passkey_core::laws::given_data_are_coherent();
 }
 
-/// The attestation object that is written of coherent authenticator data, whatever bytes follow, is
-/// read as a response of their normal form, the format "none" and an empty statement.
+/// The attestation object of coherent authenticator data, whatever bytes follow, decodes to a
+/// response with their normal form, the format "none" and an empty statement.
 pub fn written_attestation_is_read_back()
     ensures { WrittenIsReadBack read_make_response (λ r. attestation_tree r.auth_data) (λ r. IsData r.auth_data) (λ r. is_coherent r.auth_data) (λ r. unattested (normal_data r.auth_data)) }
 {
@@ -49,26 +50,28 @@ pub fn written_attestation_is_read_back()
     passkey_core::laws::read_is_given();
 }
 
-/// Where a request to make a credential is read, `NotAMap` is told of no map.
+/// No map decodes to `NotAMap` as a request.
 pub fn read_make_request_knows_maps()
     ensures { KnowsMaps read_make_request }
 {}
 
-/// Where a response to a request to make a credential is read, `NotAMap` is told of no map.
+/// No map decodes to `NotAMap` as a response.
 pub fn read_make_response_knows_maps()
     ensures { KnowsMaps read_make_response }
 {}
 
-/// A member under an unknown key may stand anywhere in a request to make a credential, while the map
-/// has at most 256 levels with it: what is read of bytes differs in the length alone.
+/// A member under an unknown key may be anywhere in a request, as long as the map has at most 256
+/// levels with it: for any encodings with and without the member, the results differ only in the
+/// length in bytes.
 pub fn read_make_request_passes_over_unknown()
     ensures { PassesOverUnknown make_request_parts make_request_fields }
 {
     passkey_cbor::laws::at_most_one_front();
 }
 
-/// A member under an unknown key may stand anywhere in a response to a request to make a credential,
-/// while the map has at most 256 levels with it: what is read of bytes differs in the length alone.
+/// A member under an unknown key may be anywhere in a response, as long as the map has at most 256
+/// levels with it: for any encodings with and without the member, the results differ only in the
+/// length in bytes.
 pub fn read_make_response_passes_over_unknown()
     ensures { PassesOverUnknown make_response_parts make_response_fields }
 {

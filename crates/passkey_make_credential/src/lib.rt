@@ -1,4 +1,4 @@
-//! Making a credential (CTAP 2.1, section 6.1).
+//! The messages of authenticatorMakeCredential (CTAP 2.1, section 6.1).
 #![tactic(auto)]
 
 pub mod laws;

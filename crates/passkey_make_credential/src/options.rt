@@ -1,4 +1,4 @@
-//! How a credential is to be made.
+//! Options of authenticatorMakeCredential requests.
 ghost use Rattle.std.specs.Prelude.{◌≡◌, true, false};
 ghost use Rattle.passkey_make_credential.specs.MakeOptions.{options_tree, normal_options, options_fields, options, options_default};
 ghost use Rattle.passkey_make_credential.specs.declared.options.Options.{Options as Made};
@@ -13,21 +13,24 @@ use passkey_kinds::{
 use passkey_memory::OutOfMemory;
 use std::alloc::Global;
 
-/// How a credential is to be made (CTAP 2.1, section 6.1).
+/// The options of an authenticatorMakeCredential request (CTAP 2.1, section 6.1). Each is its
+/// default if it is absent.
 #[derive(Clone, Debug, Drop, PartialEq, Eq)]
 pub struct Options {
-    /// Whether the authenticator is to keep the credential, so that it is found without its id.
+    /// Whether the credential is to be discoverable, so that it is found without its id. False by
+    /// default.
     pub rk: bool,
-    /// Whether the user is to be there.
+    /// Whether user presence is required. True by default. Platforms MUST NOT send false, so only
+    /// true is encoded.
     pub up: bool,
-    /// Whether the user is to be verified.
+    /// Whether user verification is required. False by default.
     pub uv: bool,
 }
 
 impl Default for Options {
     ghost is_default = { λ options. options ≡ options_default };
 
-    /// The user is to be there, and nothing else.
+    /// Returns the defaults: `up` is true, the others are false.
     fn default() -> Options {
         Options {
             rk: false,

@@ -1,4 +1,4 @@
-//! Responses to requests to make a credential.
+//! authenticatorMakeCredential responses.
 ghost use Rattle.std.specs.Prelude.{◌≡◌, IfOk, IfErr, OnOk};
 ghost use Rattle.passkey_cbor.specs.View.{item_of};
 ghost use Rattle.passkey_cbor.specs.Writable.{IsWritable};
@@ -24,23 +24,24 @@ use passkey_kinds::{
 use passkey_memory::OutOfMemory;
 use std::alloc::Global;
 
-/// How many levels of items are read.
+/// The number of levels that are decoded.
 const MAX_DEPTH: usize = 256;
 
-/// What an authenticator answers to a request to make a credential (CTAP 2.1, section 6.1).
+/// An authenticatorMakeCredential response (CTAP 2.1, section 6.1). `None` means that a member is
+/// absent; null decodes to it, too.
 #[derive(Debug, Drop)]
 pub struct Response {
-    /// 0x01: which format the attestation statement has.
+    /// 0x01: the attestation statement format identifier.
     pub fmt: Text,
-    /// 0x02: what the authenticator says of the credential.
+    /// 0x02: the authenticator data.
     pub auth_data: AuthenticatorData,
-    /// 0x03: the attestation statement.
+    /// 0x03: the attestation statement, kept as a data item.
     pub att_stmt: Value,
-    /// 0x04: whether it is an enterprise attestation.
+    /// 0x04: whether an enterprise attestation was returned. Absent means false.
     pub ep_att: Option<bool>,
-    /// 0x05: the key of the credential's large blob.
+    /// 0x05: the key of the credential's large blob, if the extension largeBlobKey asked for it.
     pub large_blob_key: Option<Bytes>,
-    /// 0x06: what extensions answer beside the authenticator data (CTAP 2.2).
+    /// 0x06: the extension outputs that are outside the authenticator data (CTAP 2.2).
     pub unsigned_extension_outputs: Option<UnsignedExtensionOutputs>,
 }
 
@@ -108,8 +109,8 @@ impl ToCbor for Response {
 }
 
 impl Response {
-    /// Decodes the response that begins the bytes, as `read` does, and returns it with the length of
-    /// its data item in bytes.
+    /// Decodes the response that the bytes begin with, and returns it with its length in bytes.
+    /// Bytes after it are ignored. The errors are those of `read`.
     pub fn from_slice(alloc: Global, bytes: &[u8]) -> Result<(Response, usize), Fault>
         ensures reads { ReadsMessage make_response_parts read_make_response bytes.now result }
         ensures grows { result ≡ Err NoRoom → GrowsMessage make_response_fields bytes.now }
@@ -117,28 +118,29 @@ impl Response {
         message_from_slice(alloc, bytes)
     }
 
-    /// Decodes the response at the cursor, head by head and without a data item in memory, and moves
-    /// behind it. `DecodeFailed` exactly if no well-formed data item of at most 256 levels is
-    /// there; else the fault that `from_value` returns for the item; `OutOfMemory` if an allocation
-    /// fails, which only a member lets happen that takes memory. On an error the cursor stays, and its
-    /// counts keep what was spent.
+    /// Decodes the response at the cursor, head by head and without building a data item for the
+    /// whole, and moves behind it. `DecodeFailed` exactly if no well-formed data item of at most
+    /// 256 levels is there; otherwise the fault that `from_value` returns for the item;
+    /// `OutOfMemory` if an allocation fails, which can only happen for a member that takes memory.
+    /// On an error the cursor stays, and its counts include what was spent.
     pub fn read(alloc: Global, cursor: &mut Cursor<'_>) -> Result<Response, Fault>
         ensures { ReadsHere make_response_parts make_response_fields 16 cursor.old cursor.new result }
     {
         read_message(alloc, cursor)
     }
 
-    /// The response that the item is. Else `NotAMap`, or the first fault of its members in their
-    /// order (`BadKey`, `Repeated`, `Refused`), or the first required one that lacks (`Missing`);
-    /// `OutOfMemory` where a growth was refused. Unknown members are passed over.
+    /// Decodes the response from a data item. `NotAMap` if it isn't a map; otherwise the first
+    /// fault of its members in their order (`BadKey`, `Repeated`, `Refused`), or `Missing` for the
+    /// first required member that is absent; `OutOfMemory` if an allocation fails, which can only
+    /// happen for a member that takes memory. Unknown members are skipped.
     pub fn from_value(alloc: Global, value: &Value) -> Result<Response, Fault>
         ensures { Reads make_response_parts (MayGrowAt make_response_table (item_of value.now)) (read_make_response (item_of value.now)) result }
     {
         record_from_value(alloc, value)
     }
 
-    /// The response's bytes: members by their numbers in the table's order, each where it is there.
-    /// `OutOfMemory` where a growth was refused.
+    /// Encodes the response: its members under their numbers, in ascending order, each if it is
+    /// present. `OutOfMemory` if an allocation fails; there is no other error.
     pub fn to_vec(&self, alloc: Global) -> Result<Vec<u8>, WriteFault>
         ensures written { IfOk result (λ bytes. bytes.items ≡ written (make_response_tree (make_response_parts self.now))) }
         ensures writable { OnOk result (IsWritable (make_response_tree (make_response_parts self.now))) }
@@ -148,17 +150,18 @@ impl Response {
         write_message(alloc, self)
     }
 
-    /// Whether what `to_vec` writes is read back: the authenticator data are coherent, and the
-    /// statement has fewer than 256 levels, so that the response has at most 256. It takes no memory.
+    /// Returns whether the encoding can be decoded again: the authenticator data is coherent, and
+    /// the attestation statement has at most 255 levels, so that the response has at most 256.
+    /// Allocates nothing.
     pub fn is_coherent(&self) -> bool
         ensures { result ≡ is_make_response_coherent (make_response_parts self.now) }
     {
         self.auth_data.is_coherent() && self.att_stmt.depth() < MAX_DEPTH
     }
 
-    /// The attestation object without attestation, in bytes (WebAuthn Level 3, section 6.5.4): a map
-    /// of "fmt", which is "none", "attStmt", an empty map, and "authData", the authenticator data,
-    /// whatever format and statement the response has. `OutOfMemory` where a growth was refused.
+    /// Encodes an attestation object without attestation (WebAuthn Level 3, section 6.5.4): a map
+    /// of `fmt`, which is "none", `attStmt`, an empty map, and `authData`, the authenticator data.
+    /// The response's own format and statement are left out. `OutOfMemory` if an allocation fails.
     pub fn as_webauthn_bytes(&self, alloc: Global) -> Result<Vec<u8>, OutOfMemory>
         ensures written { IfOk result (λ bytes. bytes.items ≡ written (attestation_tree (data_parts self.now.auth_data))) }
         ensures writable { OnOk result (IsWritable (attestation_tree (data_parts self.now.auth_data))) }

@@ -1,4 +1,4 @@
--- What the program says of a fault: its status, and its line on standard error.
+-- The exit status of each fault, and its line on standard error.
 use Rattle.std.specs.Prelude.{ℕ, List, Option, Some, codes}
 use Rattle.passkey_cose.specs.CoseErrors.{cose_error_name}
 use Rattle.passkey_cose.specs.declared.error.CoseError.{CoseError}
@@ -35,17 +35,17 @@ line_of OutOfMemory = Some (codes "OutOfMemory")
 line_of InputFailed = Some (codes "input failed")
 line_of OutputFailed = Some (codes "output failed")
 
--- what a fault of the library is for the program: memory that ran out is no refusal
+-- the fault for an error of the library: running out of memory isn't a rejection
 abbrev pub fault_of : CoseError → RunFault
 fault_of error.OutOfMemory = OutOfMemory
 fault_of refusal = Refused refusal
 
--- the same of a message
+-- the same for a message
 abbrev pub message_fault_of : Fault → RunFault
 message_fault_of message.OutOfMemory = OutOfMemory
 message_fault_of refusal = MessageRefused refusal
 
--- the same of a JSON value
+-- the same for a JSON value
 abbrev pub json_fault_of : JsonFault → RunFault
 json_fault_of json.OutOfMemory = OutOfMemory
 json_fault_of refusal = JsonRefused refusal

@@ -1,4 +1,4 @@
--- What a kind makes of an input, and why it makes nothing of one.
+-- What a kind rewrites an input as, and why it doesn't.
 use Rattle.std.specs.Prelude.{◌≡◌, ℕ, List, Result, Ok, Err, IsErr, ⊤}
 use Rattle.hex.specs.Hex.{decode_of, encode_lower}
 use Rattle.passkey_cbor.specs.Item.{Item}
@@ -29,26 +29,26 @@ use Rattle.passkey_rewrite.specs.declared.kind.Kind.TheVariants.{Bytes, Json}
 use Rattle.passkey_rewrite.specs.declared.fault.RunFault.{RunFault}
 use Rattle.passkey_rewrite.specs.declared.fault.RunFault.TheVariants.{Refused, MessageRefused, BadHex, OutOfMemory}
 
--- The item that begins the bytes, and its one written spelling.
+-- The encoding of the data item that the bytes begin with.
 pub record RewritesFront (bytes spelling : List ℕ) : Type 0 where
   pub front : Item
   pub len : ℕ
   pub begins : IsFront bytes front len
   pub rewritten : spelling ≡ written front
 
--- The authenticator data that the bytes are read as, written.
+-- The encoding of the authenticator data that the bytes decode to.
 pub record RewritesData (bytes spelling : List ℕ) : Type 0 where
   pub parts : DataParts
   pub reads : ReadsData bytes (Ok parts)
   pub rewritten : spelling ≡ data_written parts
 
--- The message that the item is that begins the bytes, in its one spelling.
+-- The encoding of the message that the bytes begin with.
 pub record RewritesMessage {P : Type 0} (read : Item → Result P Fault) (tree : P → Item) (bytes spelling : List ℕ) : Type 0 where
   pub parts : P
   pub begins : Begins bytes (λ i len. read i ≡ Ok parts)
   pub rewritten : spelling ≡ written (tree parts)
 
--- what a kind makes of the decoded bytes
+-- what a kind rewrites the decoded bytes as
 unfoldable pub Rewrites : BytesKind → List ℕ → List ℕ → Type 0
 Rewrites Cbor bytes spelling = RewritesFront bytes spelling
 Rewrites Auth bytes spelling = RewritesData bytes spelling
@@ -59,7 +59,7 @@ Rewrites GetResponse bytes spelling = RewritesMessage read_get_response get_resp
 Rewrites Info bytes spelling = RewritesMessage read_get_info get_info_tree bytes spelling
 Rewrites HmacInput bytes spelling = RewritesMessage read_hmac_input hmac_input_tree bytes spelling
 
--- why a kind refuses the decoded bytes
+-- why a kind rejects the decoded bytes
 unfoldable pub Refuses : BytesKind → List ℕ → CoseError → Type 0
 Refuses Cbor bytes error.DecodeFailed = HasNoFront bytes
 Refuses Cbor bytes _ = ⊥
@@ -67,13 +67,13 @@ Refuses Auth bytes error.OutOfMemory = ⊥
 Refuses Auth bytes refusal = ReadsData bytes (Err refusal)
 Refuses _ bytes refusal = ⊥
 
--- no item begins the bytes, or it is no message for this reason
+-- the bytes don't begin with a data item, or the item has this fault as a message
 abbrev pub RefusesMessage : {P : Type 0} → (Item → Result P Fault) → List ℕ → Fault → Type 0
 RefusesMessage read bytes message.DecodeFailed = HasNoFront bytes
 RefusesMessage read bytes message.OutOfMemory = ⊥
 RefusesMessage read bytes fault = Begins bytes (λ i len. read i ≡ Err fault)
 
--- why a kind of message refuses the decoded bytes
+-- why a kind of message rejects the decoded bytes
 unfoldable pub RefusesAs : BytesKind → List ℕ → Fault → Type 0
 RefusesAs MakeRequest bytes fault = RefusesMessage read_make_request bytes fault
 RefusesAs MakeResponse bytes fault = RefusesMessage read_make_response bytes fault
@@ -83,20 +83,21 @@ RefusesAs Info bytes fault = RefusesMessage read_get_info bytes fault
 RefusesAs HmacInput bytes fault = RefusesMessage read_hmac_input bytes fault
 RefusesAs _ bytes fault = ⊥
 
--- why no message is made of the decoded bytes; memory can run out at any
+-- why the decoded bytes aren't rewritten as a message; memory may run out for any
 abbrev pub IsMessageRefusal : {P : Type 0} → (Item → Result P Fault) → List ℕ → RunFault → Type 0
 IsMessageRefusal read bytes (MessageRefused fault) = RefusesMessage read bytes fault
 IsMessageRefusal read bytes OutOfMemory = ⊤
 IsMessageRefusal read bytes _ = ⊥
 
--- why nothing is made of the decoded bytes; memory can run out at any
+-- why the decoded bytes aren't rewritten; memory may run out for any
 abbrev pub IsRefusal : BytesKind → List ℕ → RunFault → Type 0
 IsRefusal kind bytes (Refused refusal) = Refuses kind bytes refusal
 IsRefusal kind bytes (MessageRefused fault) = RefusesAs kind bytes fault
 IsRefusal kind bytes OutOfMemory = ⊤
 IsRefusal kind bytes _ = ⊥
 
--- What the kind makes of the bytes that the input tells in hexadecimal, in lower-case hexadecimal.
+-- What the kind rewrites the input's bytes as, in lower-case hexadecimal; the input is in
+-- hexadecimal.
 pub record RewritesHex (kind : BytesKind) (input text : List ℕ) : Type 0 where
   pub bytes : List ℕ
   pub decoded : decode_of (trimmed input) ≡ Ok bytes
@@ -104,13 +105,13 @@ pub record RewritesHex (kind : BytesKind) (input text : List ℕ) : Type 0 where
   pub rewritten : Rewrites kind bytes spelling
   pub shown : text ≡ encode_lower spelling
 
--- The kind refuses the input's bytes.
+-- The kind rejects the input's bytes.
 pub record IsRefused (kind : BytesKind) (input : List ℕ) (fault : RunFault) : Type 0 where
   pub bytes : List ℕ
   pub decoded : decode_of (trimmed input) ≡ Ok bytes
   pub refused : IsRefusal kind bytes fault
 
--- why no bytes are rewritten; memory can run out at any input
+-- why an input of bytes isn't rewritten; memory may run out for any
 abbrev pub HasNoHex : BytesKind → List ℕ → RunFault → Type 0
 HasNoHex kind input (Refused refusal) = IsRefused kind input (Refused refusal)
 HasNoHex kind input (MessageRefused fault) = IsRefused kind input (MessageRefused fault)
@@ -118,12 +119,12 @@ HasNoHex kind input BadHex = IsErr (decode_of (trimmed input))
 HasNoHex kind input OutOfMemory = ⊤
 HasNoHex kind input _ = ⊥
 
--- what the kind makes of the input
+-- what the kind rewrites the input as
 abbrev pub Shown : Kind → List ℕ → List ℕ → Type 0
 Shown (Bytes kind) input text = RewritesHex kind input text
 Shown (Json kind) input text = RewritesJson (json_rewritten kind) input text
 
--- why the kind makes nothing of the input
+-- why the kind doesn't rewrite the input
 abbrev pub HasNoOutput : Kind → List ℕ → RunFault → Type 0
 HasNoOutput (Bytes kind) input fault = HasNoHex kind input fault
 HasNoOutput (Json kind) input fault = IsJsonRefusal (json_rewritten kind) input fault

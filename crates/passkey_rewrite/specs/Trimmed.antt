@@ -6,12 +6,12 @@ use Rattle.std.specs.List.{AllPass}
 abbrev pub is_space : ℕ → Bool
 is_space byte = byte == 9 || byte == 10 || byte == 13 || byte == 32
 
--- without the white space that it begins with
+-- without the white space at its start
 abbrev pub trimmed_start : List ℕ → List ℕ
 trimmed_start [] = []
 trimmed_start (byte ∷ rest) = if is_space byte then trimmed_start rest else byte ∷ rest
 
--- without the white space that it ends with
+-- without the white space at its end
 abbrev pub trimmed_end : List ℕ → List ℕ
 trimmed_end text = reverse (trimmed_start (reverse text))
 
@@ -19,7 +19,8 @@ trimmed_end text = reverse (trimmed_start (reverse text))
 abbrev pub trimmed : List ℕ → List ℕ
 trimmed text = trimmed_end (trimmed_start text)
 
--- White space stands before and after the core of a text, and not at the core's own ends.
+-- A text is its core with white space before and after it. The core itself neither begins nor ends
+-- with white space.
 pub record IsCore (text core : List ℕ) : Type 0 where
   pub before : List ℕ
   pub after : List ℕ

@@ -1,4 +1,4 @@
-//! Why a run didn't write its output.
+//! Why a run failed.
 ghost use Rattle.std.specs.Prelude.{◌≡◌};
 ghost use Rattle.passkey_cose.specs.CoseErrors.{cose_error_of};
 ghost use Rattle.passkey_rewrite.specs.Fault.{status_of, line_of, fault_of, json_fault_of, message_fault_of};
@@ -12,33 +12,35 @@ use std::alloc::{AllocError, AllocFailed};
 use std::error::Error;
 use std::fmt;
 
-/// Why a run didn't write its output. Each has an exit status and a line on standard error.
+/// Why a run failed. Each fault has an exit status and a line on standard error.
 #[derive(Clone, Copy, Debug, PartialEq, Eq)]
 pub enum RunFault {
-    /// The decoded bytes are rejected: the line is the error's name, the status 1.
+    /// The bytes are no data item, or no authenticator data. The line is the error's name; status
+    /// 1.
     Refused(CoseError),
-    /// The decoded bytes are no message of the kind: the line is the fault's name with the member's
-    /// number, if it has one (`Repeated(1)`), the status 1.
+    /// The bytes are no message of the kind. The line is the fault's name with the member's number,
+    /// if it has one, such as `Repeated(1)`; status 1.
     MessageRefused(Fault),
-    /// The JSON value is rejected by the kind: the line is the fault's name with the member's, if
-    /// it has one (`Missing("challenge")`), the status 1.
+    /// The kind rejects the JSON value. The line is the fault's name with the member's, if it has
+    /// one, such as `Missing("challenge")`; status 1.
     JsonRefused(JsonFault),
-    /// The input isn't hexadecimal: `BadHex`, 1.
+    /// The input isn't hexadecimal. The line is `BadHex`; status 1.
     BadHex,
-    /// The input isn't a JSON text: `BadJson`, 1.
+    /// The input isn't a JSON text. The line is `BadJson`; status 1.
     BadJson,
-    /// There isn't exactly one argument, or it names no kind: `unknown kind`, 2.
+    /// There isn't exactly one argument, or it names no kind. The line is `unknown kind`; status 2.
     UnknownKind,
-    /// An allocation failed: `OutOfMemory`, 3.
+    /// An allocation failed. The line is `OutOfMemory`; status 3.
     OutOfMemory,
-    /// Reading failed, or the input has no end: `input failed`, 4.
+    /// Reading failed, or the input didn't end within 2^32 - 1 reads. The line is `input failed`;
+    /// status 4.
     InputFailed,
-    /// Writing failed, or a write took no byte: `output failed`, 4.
+    /// Writing failed, or a write took no byte. The line is `output failed`; status 4.
     OutputFailed,
 }
 
 impl RunFault {
-    /// The exit status, 1 to 4.
+    /// Returns the exit status, 1 to 4.
     pub fn status(&self) -> u8
         ensures { result ≡ status_of self.now }
     {
@@ -76,7 +78,7 @@ impl fmt::Display for RunFault {
 
 impl Error for RunFault {}
 
-/// Running out of memory is no rejection.
+/// Running out of memory isn't a rejection.
 impl From<CoseError> for RunFault {
     ghost from_gives = { λ error fault. fault ≡ fault_of error };
 

@@ -2,7 +2,7 @@
 ghost use Rattle.std.specs.Prelude.{◌≡◌};
 ghost use Rattle.passkey_rewrite.specs.Kind.{kind_named};
 
-/// What the bytes that the input has in hexadecimal are decoded as.
+/// What bytes, given in hexadecimal, are decoded as.
 #[derive(Clone, Copy, Debug, PartialEq, Eq)]
 pub enum BytesKind {
     /// A CBOR data item.
@@ -23,7 +23,7 @@ pub enum BytesKind {
     HmacInput,
 }
 
-/// What a JSON input is decoded as.
+/// What a JSON text is decoded as.
 #[derive(Clone, Copy, Debug, PartialEq, Eq)]
 pub enum JsonKind {
     /// The options of a registration.
@@ -48,7 +48,7 @@ pub enum Kind {
 }
 
 impl Kind {
-    /// The kind that a word names.
+    /// Returns the kind that a word names, or `None` if it names none.
     pub fn from_name(name: &str) -> Option<Kind>
         ensures { result ≡ kind_named name.now }
     {

@@ -1,5 +1,5 @@
-//! What the programs make of their input: bytes in hexadecimal, or a JSON text, decoded as one of the library's types
-//! and encoded again.
+//! What the programs do with their input, bytes in hexadecimal or a JSON text: they decode it as
+//! one of the library's types and encode it again.
 #![tactic(auto)]
 
 mod fault;

@@ -64,9 +64,9 @@ fn rewrite(alloc: Global, kind: BytesKind, bytes: &[u8]) -> Result<Vec<u8>, RunF
 }
 
 /// Decodes the bytes as the kind and encodes the result, in lower-case hexadecimal. The input is
-/// hexadecimal of either case, with tabs, line feeds, carriage returns and spaces at its ends.
+/// hexadecimal in either case, with tabs, line feeds, carriage returns and spaces at its ends.
 /// `BadHex` if the input isn't hexadecimal; if the kind rejects the bytes, `MessageRefused` for a
-/// message and else `Refused`; `OutOfMemory` if an allocation fails.
+/// message and otherwise `Refused`; `OutOfMemory` if an allocation fails.
 pub fn rewrite_hex(alloc: Global, kind: BytesKind, input: &[u8]) -> Result<String, RunFault>
     ensures ok { IfOk result (λ text. RewritesHex kind input.now (string_bytes text)) }
     ensures err { IfErr result (HasNoHex kind input.now) }

@@ -47,7 +47,7 @@ fn rewrite_client_data(alloc: Global, input: &[u8]) -> Result<String, RunFault>
 }
 
 /// Decodes the JSON text as the kind and encodes the result, as compact JSON with bytes in
-/// base64url. `BadJson` if the input isn't UTF-8 or no JSON text of at most 127 levels;
+/// base64url. `BadJson` if the input isn't a JSON text in UTF-8 of at most 127 levels;
 /// `JsonRefused` if the kind rejects its value; `OutOfMemory` if an allocation fails.
 #[tactic(auto, unfolding(crate::specs::RewritesJson::json_rewritten))]
 pub fn rewrite_json(alloc: Global, kind: JsonKind, input: &[u8]) -> Result<String, RunFault>

@@ -9,9 +9,9 @@ use crate::rewrite_json::rewrite_json;
 use std::alloc::Global;
 
 /// Decodes the input as this kind and encodes the result: bytes as lower-case hexadecimal, JSON as
-/// compact JSON with bytes in base64url. An input of bytes is hexadecimal of either case, with
+/// compact JSON with bytes in base64url. An input of bytes is hexadecimal in either case, with
 /// tabs, line feeds, carriage returns and spaces at its ends. `BadHex` if it isn't hexadecimal;
-/// `BadJson` if a JSON input isn't UTF-8 or no JSON text of at most 127 levels; `Refused`,
+/// `BadJson` if a JSON input isn't a JSON text in UTF-8 of at most 127 levels; `Refused`,
 /// `MessageRefused` or `JsonRefused` if the kind rejects it; `OutOfMemory` if an allocation fails.
 pub fn rewrite(alloc: Global, kind: Kind, input: &[u8]) -> Result<String, RunFault>
     ensures ok { IfOk result (λ text. Shown kind input.now (string_bytes text)) }

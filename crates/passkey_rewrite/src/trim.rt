@@ -2,7 +2,7 @@
 ghost use Rattle.std.specs.Prelude.{◌≡◌};
 ghost use Rattle.passkey_rewrite.specs.Trimmed.{is_space, trimmed_start, trimmed_end, trimmed, IsCore};
 
-/// The text without the tabs, line feeds, carriage returns and spaces at its ends.
+/// Returns the text without the tabs, line feeds, carriage returns and spaces at its ends.
 pub fn trim(text: &[u8]) -> &[u8]
     ensures value { result.now ≡ trimmed text.now }
     ensures core { IsCore text.now result.now }

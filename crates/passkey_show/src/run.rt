@@ -51,15 +51,15 @@ fn output(alloc: Global, kind: Kind, input: &[u8]) -> Result<String, RunFault>
     Ok(text)
 }
 
-/// Reads the input to its end, decodes it as the kind, and writes what that is encoded as, with a
-/// line feed: lower-case hexadecimal for bytes, which the input has in hexadecimal of either case
-/// with tabs, line feeds, carriage returns and spaces at its ends; compact JSON with bytes in
-/// base64url for JSON.
+/// Reads the input to its end, decodes it as the kind, and writes its encoding and a line feed.
+/// Bytes are given in hexadecimal of either case, with tabs, line feeds, carriage returns and
+/// spaces at the ends, and written in lower case. JSON is written as compact JSON with bytes in
+/// base64url.
 ///
 /// `UnknownKind` exactly if the word names no kind; then nothing is read. `InputFailed` if reading
-/// fails or the input has no end; `OutOfMemory` if an allocation fails; else a fault of `rewrite`.
-/// In all of these cases nothing is written. `OutputFailed` if writing fails or a write takes no
-/// byte; then not all of the output was written.
+/// fails or the input doesn't end within 2^32 - 1 reads; `OutOfMemory` if an allocation fails;
+/// otherwise the errors of `rewrite`. In all of these cases nothing is written. `OutputFailed` if
+/// writing fails or a write takes no byte; then not all of the output was written.
 pub fn run<R: Read, W: Write>(
     alloc: Global,
     reader: &mut R,

@@ -1,4 +1,4 @@
-//! Runs over readers and writers that fail, and over inputs that fit no row of `passkey_rows`.
+//! Runs with readers and writers that fail, and with inputs that are no row of `passkey_rows`.
 
 mod failures;
 mod inputs;
@@ -18,7 +18,8 @@ fn assert_shows(rt: &(impl Abort + AllocGlobal), input: &str, want: &str) -> Res
     Ok(())
 }
 
-// A run of this kind over the input returns the fault with this line and the status 1, and writes nothing.
+// A run of this kind over the input returns a fault with this line and status 1, and writes
+// nothing.
 fn assert_fails(
     rt: &(impl Abort + AllocGlobal),
     kind: &str,

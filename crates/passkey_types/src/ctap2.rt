@@ -1,4 +1,5 @@
-//! What a platform and an authenticator exchange (CTAP 2.1).
+//! What a platform and an authenticator exchange (CTAP 2.1): messages, authenticator data, status
+//! codes and extensions.
 pub mod extensions;
 pub mod get_assertion;
 pub mod get_info;

@@ -1,5 +1,5 @@
-//! How JSON values are decoded and encoded: what a record of one's own needs. The records of
-//! WebAuthn are in `webauthn`.
+//! Decoding and encoding JSON values: what a JSON record of your own needs. WebAuthn's records are
+//! in `webauthn`.
 pub use passkey_json::{
     BytesForm, FromJson, JsonFault, JsonRecord, Member, Object, RecordToJson,
     Refusal as JsonRefusal, ToJson, TolerantList, Tolerated, TruthText, Written, holds_float,

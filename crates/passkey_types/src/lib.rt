@@ -1,5 +1,6 @@
-//! The messages of passkeys: what a relying party, a browser and an authenticator exchange (WebAuthn
-//! Level 3; CTAP 2.1). Everything that users name is here, down to CBOR data items and COSE keys.
+//! The messages of passkeys: what a relying party, a browser and an authenticator exchange
+//! (WebAuthn Level 3; CTAP 2.1). This crate re-exports what callers need, down to CBOR data items
+//! and COSE keys.
 #![tactic(auto)]
 
 pub mod cose;
@@ -7,8 +8,8 @@ pub mod ctap2;
 pub mod json;
 pub mod webauthn;
 
-/// The crate with the trait of sets of flags. `use passkey_types::bitflags::Flags as _;` makes its
-/// calls, such as `contains`, available on `ctap2::Flags`.
+/// The crate with the trait `Flags` for sets of flags. `use passkey_types::bitflags::Flags as _;`
+/// makes its calls, such as `contains`, available on `ctap2::Flags`.
 pub use bitflags;
 pub use passkey_bytes::{
     Bytes, BytesFault, Key, List, Map, NotBase64Encoded, OutOfMemory, Text, encoding,

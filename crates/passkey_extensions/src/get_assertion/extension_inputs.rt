@@ -1,4 +1,4 @@
-//! What extensions are given where a credential is used.
+//! Extension inputs of authenticatorGetAssertion requests.
 ghost use Rattle.std.specs.Prelude.{nat_le, ◌≡◌, true};
 ghost use Rattle.passkey_core.specs.SignedOutputs.{where_some};
 ghost use Rattle.passkey_extensions.specs.GetExtensions.{GetExtensionsParts, get_extensions_fields, get_extensions};
@@ -16,18 +16,18 @@ use passkey_kinds::{
 use passkey_memory::OutOfMemory;
 use std::alloc::Global;
 
-/// What extensions are given where a credential is used (CTAP 2.1, section 6.2). An input that is
-/// none of its kind is read as if it weren't there.
+/// The extension inputs of an authenticatorGetAssertion request (CTAP 2.1, section 6.2). `None`
+/// means that an input is absent; one that can't be decoded, such as null, becomes `None`.
 #[derive(Debug, Drop)]
 pub struct ExtensionInputs {
-    /// `hmac-secret`: the salts of the secrets, encrypted.
+    /// `hmac-secret`: one or two salts, encrypted.
     pub hmac_secret: Option<HmacGetSecretInput>,
-    /// `prf`: the salts, as they are.
+    /// `prf`: the salts, unencrypted.
     pub prf: Option<AuthenticatorPrfInputs>,
 }
 
 impl ExtensionInputs {
-    /// No extension is given anything.
+    /// Returns no inputs.
     pub fn empty() -> ExtensionInputs
         ensures { result ≡ no_get_extensions }
     {
@@ -37,8 +37,8 @@ impl ExtensionInputs {
         }
     }
 
-    /// Whether they are written with at most 255 levels, so that a message that holds them has at
-    /// most 256. It takes no memory.
+    /// Returns whether the inputs are encoded with at most 255 levels, so that the message around
+    /// them has at most 256. Allocates nothing.
     pub fn fits_in_message(&self) -> bool
         ensures { result ≡ nat_le (depth (get_extensions_tree (get_extensions_parts self.now))) 255 }
     {
@@ -48,7 +48,7 @@ impl ExtensionInputs {
         }
     }
 
-    /// The inputs themselves, exactly where one is there.
+    /// Returns the inputs, or `None` if all are absent.
     pub fn zip_contents(self) -> Option<ExtensionInputs>
         ensures { result ≡ where_some (has_get_extension self) self }
     {

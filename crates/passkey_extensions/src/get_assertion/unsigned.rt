@@ -1,4 +1,4 @@
-//! What extensions answer unsigned where a credential is used.
+//! Unsigned extension outputs of authenticatorGetAssertion responses.
 ghost use Rattle.std.specs.Prelude.{◌≡◌, true, is_some, None};
 ghost use Rattle.passkey_core.specs.SignedOutputs.{where_some};
 ghost use Rattle.passkey_extensions.specs.GetUnsigned.{unsigned_fields, unsigned};
@@ -15,25 +15,25 @@ use passkey_kinds::{
 use passkey_memory::OutOfMemory;
 use std::alloc::Global;
 
-/// What extensions answer beside the authenticator data of a credential's use (WebAuthn
-/// Level 3, section 9).
+/// The extension outputs of an authenticatorGetAssertion response that are outside its
+/// authenticator data (WebAuthn Level 3, section 9).
 #[derive(Debug, Drop)]
 pub struct UnsignedExtensionOutputs {
-    /// What `prf` answers.
+    /// `prf`: the outputs for the salts. `None` means there are none; it is encoded as null.
     pub prf: Option<AuthenticatorPrfGetOutputs>,
 }
 
 impl Default for UnsignedExtensionOutputs {
     ghost is_default = { λ outputs. outputs.prf ≡ None };
 
-    /// No extension answers.
+    /// Returns no outputs.
     fn default() -> UnsignedExtensionOutputs {
         UnsignedExtensionOutputs { prf: None }
     }
 }
 
 impl UnsignedExtensionOutputs {
-    /// The outputs themselves, exactly where one is there.
+    /// Returns the outputs, or `None` if there are none.
     pub fn zip_contents(self) -> Option<UnsignedExtensionOutputs>
         ensures { result ≡ where_some (is_some self.prf) self }
     {

@@ -1,4 +1,4 @@
-//! What extensions are given where a credential is made.
+//! Extension inputs of authenticatorMakeCredential requests.
 ghost use Rattle.std.specs.Prelude.{nat_le, ◌≡◌, true};
 ghost use Rattle.passkey_core.specs.SignedOutputs.{where_some};
 ghost use Rattle.passkey_extensions.specs.MakeExtensions.{MakeExtensionsParts, make_extensions_fields, make_extensions};
@@ -16,19 +16,20 @@ use passkey_kinds::{
 use passkey_memory::OutOfMemory;
 use std::alloc::Global;
 
-/// What extensions are given where a credential is made (CTAP 2.1, section 6.1).
+/// The extension inputs of an authenticatorMakeCredential request (CTAP 2.1, section 6.1). `None`
+/// means that an input is absent; null decodes to it, too.
 #[derive(Debug, Drop, PartialEq)]
 pub struct ExtensionInputs {
-    /// `hmac-secret`: whether secrets are to be derived for the credential.
+    /// `hmac-secret`: whether the new credential is to support the extension.
     pub hmac_secret: Option<bool>,
-    /// `hmac-secret-mc` (CTAP 2.2): the salts of the first secrets.
+    /// `hmac-secret-mc` (CTAP 2.2): one or two salts, encrypted, for outputs at the registration.
     pub hmac_secret_mc: Option<HmacGetSecretInput>,
-    /// `prf`: the salts, as they are.
+    /// `prf`: the salts, unencrypted.
     pub prf: Option<AuthenticatorPrfInputs>,
 }
 
 impl ExtensionInputs {
-    /// No extension is given anything.
+    /// Returns no inputs.
     pub fn empty() -> ExtensionInputs
         ensures { result ≡ no_make_extensions }
     {
@@ -39,8 +40,8 @@ impl ExtensionInputs {
         }
     }
 
-    /// Whether they are written with at most 255 levels, so that a message that holds them has at
-    /// most 256. It takes no memory.
+    /// Returns whether the inputs are encoded with at most 255 levels, so that the message around
+    /// them has at most 256. Allocates nothing.
     pub fn fits_in_message(&self) -> bool
         ensures { result ≡ nat_le (depth (make_extensions_tree (make_extensions_parts self.now))) 255 }
     {
@@ -50,7 +51,7 @@ impl ExtensionInputs {
         }
     }
 
-    /// The inputs themselves, exactly where one is there.
+    /// Returns the inputs, or `None` if all are absent.
     pub fn zip_contents(self) -> Option<ExtensionInputs>
         ensures { result ≡ where_some (has_make_extension self) self }
     {

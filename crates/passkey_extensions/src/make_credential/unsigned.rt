@@ -1,4 +1,4 @@
-//! What extensions answer unsigned where a credential is made.
+//! Unsigned extension outputs of authenticatorMakeCredential responses.
 ghost use Rattle.std.specs.Prelude.{◌≡◌, true, is_some, None};
 ghost use Rattle.passkey_core.specs.SignedOutputs.{where_some};
 ghost use Rattle.passkey_extensions.specs.MakeUnsigned.{unsigned_fields, unsigned};
@@ -15,25 +15,26 @@ use passkey_kinds::{
 use passkey_memory::OutOfMemory;
 use std::alloc::Global;
 
-/// What extensions answer beside the authenticator data of a credential that was made (WebAuthn
-/// Level 3, section 9).
+/// The extension outputs of an authenticatorMakeCredential response that are outside its
+/// authenticator data (WebAuthn Level 3, section 9).
 #[derive(Debug, Drop)]
 pub struct UnsignedExtensionOutputs {
-    /// What `prf` answers.
+    /// `prf`: whether it is enabled, and the outputs for the salts. `None` means there are none; it
+    /// is encoded as null.
     pub prf: Option<AuthenticatorPrfMakeOutputs>,
 }
 
 impl Default for UnsignedExtensionOutputs {
     ghost is_default = { λ outputs. outputs.prf ≡ None };
 
-    /// No extension answers.
+    /// Returns no outputs.
     fn default() -> UnsignedExtensionOutputs {
         UnsignedExtensionOutputs { prf: None }
     }
 }
 
 impl UnsignedExtensionOutputs {
-    /// The outputs themselves, exactly where one is there.
+    /// Returns the outputs, or `None` if there are none.
     pub fn zip_contents(self) -> Option<UnsignedExtensionOutputs>
         ensures { result ≡ where_some (is_some self.prf) self }
     {

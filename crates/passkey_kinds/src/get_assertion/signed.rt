@@ -1,4 +1,5 @@
-//! What extensions answer in the authenticator data of a credential's use, read of items.
+//! Extension outputs in the authenticator data of an assertion, decoded from data items and
+//! encoded.
 ghost use Rattle.std.specs.Prelude.{true};
 ghost use Rattle.passkey_core.specs.declared.get_assertion.SignedExtensionOutputs.{SignedExtensionOutputs as SignedOutputs};
 ghost use Rattle.passkey_kinds.specs.GetSigned.{signed_fields, signed};

@@ -1,4 +1,5 @@
-//! What extensions answer in the authenticator data of a credential that was made, read of items.
+//! Extension outputs in the authenticator data of a registration, decoded from data items and
+//! encoded.
 ghost use Rattle.std.specs.Prelude.{true};
 ghost use Rattle.passkey_core.specs.declared.make_credential.SignedExtensionOutputs.{SignedExtensionOutputs as SignedOutputs};
 ghost use Rattle.passkey_kinds.specs.MakeSigned.{signed_fields, signed};

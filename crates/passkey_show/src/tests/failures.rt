@@ -84,7 +84,7 @@ impl Write for SlowWriter {
     }
 }
 
-// Two reads return the bytes, and the third one the end.
+// Two reads return the bytes, and the third returns the end.
 #[test]
 fn a_read_fails(rt: HostRuntime) {
     for reads in 0..3 {
@@ -148,8 +148,8 @@ fn an_unknown_kind_reads_nothing(rt: HostRuntime) {
     }
 }
 
-// The output, or `OutOfMemory` with nothing written; and then the output, if only one allocation
-// fails.
+// The run writes the output, or returns `OutOfMemory` and writes nothing. In that case a second run
+// writes it, if only one allocation fails.
 fn assert_shows_unless_refused(rt: &(impl Abort + AllocGlobal), input: &str, want: &str) {
     let mut writer = SlowWriter::new(512, Ending::Fails);
     let answer = run(rt.alloc(), &mut input.as_bytes(), &mut writer, "cbor");

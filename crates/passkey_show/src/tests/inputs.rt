@@ -2,7 +2,7 @@ use super::{assert_fails, assert_shows};
 use passkey_rewrite::RunFault;
 use std::test::Fail;
 
-// An array of items of every type in each of their encodings, and what it is encoded as.
+// An array with items of every type and every form of head, and what it is encoded as.
 pub(super) const EVERY_KIND: (&str, &str) = (
     concat!(
         "9822",
@@ -95,7 +95,7 @@ fn shows_inputs_with_line_feeds(rt: HostRuntime) -> Result<(), Fail> {
     Ok(())
 }
 
-// No complete item, no hexadecimal, and no JSON text in UTF-8.
+// No complete data item, no hexadecimal, and no JSON text in UTF-8.
 const REFUSED: &[(&str, &[u8], &str)] = &[
     ("cbor", b"", "DecodeFailed"),
     ("cbor", b"\n", "DecodeFailed"),
@@ -115,7 +115,7 @@ fn refuses_inputs(rt: HostRuntime) -> Result<(), Fail> {
     Ok(())
 }
 
-// Faults of the program alone, which no row has.
+// Faults of the program itself, which no row has.
 #[test]
 fn faults_have_lines_and_statuses(rt: HostRuntime) -> Result<(), Fail> {
     for (fault, line, status) in [
