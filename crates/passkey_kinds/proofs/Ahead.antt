@@ -1,15 +1,15 @@
 -- Arrays, lists and maps whose head was decoded at a cursor.
 use Rattle.std.specs.List.{filter_map, cons_option}
 use Rattle.std.specs.Option.{option_and_then}
-use Rattle.std.proofs.Common.{◌≡◌, ◌∙◌, ℕ, suc, ◌+◌, ◌*◌, ◌≤◌, ◌<◌, arith, true, List, [], ◌∷◌, ◌++◌, length, map, Option, Some, None, option_map, Result, Ok, Err, OnOk, refl, sym, ap, append_assoc}
+use Rattle.std.proofs.Common.{◌≡◌, ◌∙◌, ℕ, suc, ◌+◌, ◌≤◌, ◌<◌, arith, true, List, [], ◌∷◌, ◌++◌, length, Option, Some, None, option_map, Result, Err, refl, sym, ap, append_assoc}
 use Rattle.std.proofs.Math.Nat.{mul-le-mul_left}
 use Rattle.passkey_cbor.specs.Item as item
 use Rattle.passkey_cbor.specs.Item.{Item, array, items_of, pairs_of}
 use Rattle.passkey_cbor.specs.Walk.{Walk}
-use Rattle.passkey_cose.proofs.KeyLists.{elements-items_of, members-pairs_of}
-use Rattle.passkey_kinds.specs.Keeping.{Keeping, nothing, counted, kept_of, kept_each, kept_values, in_elements, in_members}
+use Rattle.passkey_cose.proofs.KeyLists.{elements-items_of}
+use Rattle.passkey_kinds.specs.Keeping.{Keeping, nothing, counted, kept_of, kept_each, in_elements}
 use Rattle.passkey_kinds.specs.Kind.{Kind, AnswersAs, MayGrow, each, list, accepted}
-use Rattle.passkey_kinds.specs.Reader.{Spends, Decodes, kept_all, kept_values_of}
+use Rattle.passkey_kinds.specs.Reader.{Spends, Decodes, kept_all}
 use Rattle.passkey_kinds.specs.declared.refusal.Refusal.{Refusal}
 use Rattle.passkey_kinds.specs.declared.refusal.Refusal.TheVariants.{Refused, OutOfMemory}
 use Rattle.passkey_kinds.proofs.Lists.{answers_from, each_more}

@@ -1,10 +1,9 @@
 -- Arrays of bytes that are decoded at a cursor.
-use Rattle.std.proofs.Common.{◌≡◌, ◌∙◌, ℕ, ◌+◌, ◌*◌, ◌≤◌, ◌<◌, ◌==◌, arith, Bool, true, false, if◌then◌else◌, List, [], length, Option, Some, None, refl, sym, ap}
+use Rattle.std.proofs.Common.{◌≡◌, ◌∙◌, ℕ, ◌<◌, ◌==◌, arith, Bool, true, false, if◌then◌else◌, List, [], Option, None, refl, sym, ap}
 use Rattle.std.proofs.lemmas.Bool.{ne_eqb}
 use Rattle.passkey_cbor.specs.Item as item
 use Rattle.passkey_cbor.specs.Item.{Item}
 use Rattle.passkey_cbor.specs.Lent.{Region, Tells, LendsNothing}
-use Rattle.passkey_cbor.specs.Reading.{string_at}
 use Rattle.passkey_cbor.specs.Walk.{Walk}
 use Rattle.passkey_cbor.proofs.Binds.{some_is}
 use Rattle.passkey_cbor.proofs.Strings.{string_again}

@@ -1,14 +1,13 @@
 -- Authenticator data, decoded from a byte string at a cursor.
 use Rattle.std.specs.List.{concat}
-use Rattle.std.proofs.Common.{◌≡◌, ◌∙◌, ℕ, ◌+◌, ◌*◌, ◌≤◌, ◌<◌, arith, true, false, List, [], ◌∷◌, ◌++◌, length, take, Option, Some, None, Result, refl, sym, ap, subst}
+use Rattle.std.proofs.Common.{◌≡◌, ◌∙◌, ℕ, ◌+◌, ◌≤◌, ◌<◌, arith, true, false, List, [], ◌∷◌, ◌++◌, length, Option, Some, None, Result, refl, sym, ap, subst}
 use Rattle.std.proofs.lemmas.List.{length-append, length-take}
 use Rattle.passkey_cbor.specs.Inside.{Content}
 use Rattle.passkey_cbor.specs.Item as item
 use Rattle.passkey_cbor.specs.Item.{Item, byte_string}
 use Rattle.passkey_cbor.specs.Languages.{Each}
-use Rattle.passkey_cbor.specs.Lent.{Region, Tells, PassesString, LendsFrom, string_head}
+use Rattle.passkey_cbor.specs.Lent.{Region, PassesString, LendsFrom, string_head}
 use Rattle.passkey_cbor.specs.Spelling.{Definite}
-use Rattle.passkey_cbor.specs.Stands.{Stands}
 use Rattle.passkey_cbor.specs.Walk.{Walk, ahead, Went}
 use Rattle.passkey_cbor.proofs.HeadAgain.{head_again}
 use Rattle.passkey_cbor.proofs.Lists.{head_long}

@@ -1,14 +1,13 @@
 -- Heads, and what they say of their data items.
 use Rattle.std.specs.Option.{option_and_then}
-use Rattle.std.proofs.Common.{◌≡◌, ◌∙◌, ℕ, ℤ, pos, negsuc, ◌⊎◌, inl, inr, ◌+◌, ◌≤◌, ◌<◌, ◌==◌, ◌||◌, nat_lt, arith, Bool, true, false, if◌then◌else◌, List, [], length, Option, Some, None, refl, sym, ap, subst}
+use Rattle.std.proofs.Common.{◌≡◌, ◌∙◌, ℕ, ℤ, pos, negsuc, ◌⊎◌, inl, inr, ◌≤◌, ◌<◌, ◌==◌, nat_lt, arith, Bool, true, false, if◌then◌else◌, List, [], length, Option, Some, None, refl, sym, ap, subst}
 use Rattle.std.proofs.lemmas.Bool.{cases_eq, cases_lt, le-ltb, ne_eqb}
 use Rattle.passkey_cbor.specs.Item as item
 use Rattle.passkey_cbor.specs.Item.{Item, items_of, pairs_of}
 use Rattle.passkey_cbor.specs.Found.{FindsHead}
-use Rattle.passkey_cbor.specs.Inside.{Within, PairWithin, Inside}
-use Rattle.passkey_cbor.specs.Languages.{Language, Is, Where}
+use Rattle.passkey_cbor.specs.Inside.{Inside}
 use Rattle.passkey_cbor.specs.Reading.{simple_item}
-use Rattle.passkey_cbor.specs.Stands.{Lies, Stands, Opens}
+use Rattle.passkey_cbor.specs.Stands.{Stands, Opens}
 use Rattle.passkey_cbor.specs.Walk.{Walk}
 use Rattle.passkey_cbor.specs.declared.head.Head.{Head}
 use Rattle.passkey_cbor.specs.declared.head.Head.TheVariants as head

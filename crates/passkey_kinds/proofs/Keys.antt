@@ -1,7 +1,7 @@
 -- The rows that names and map keys name.
 use Rattle.std.specs.List.{find, position, position_or_len}
 use Rattle.std.specs.Str.{bytes_eq}
-use Rattle.std.proofs.Common.{◌≡◌, ◌∙◌, ◌<◌, ◌≤◌, ℕ, ℤ, pos, negsuc, ◌⊎◌, inl, inr, arith, suc, if◌then◌else◌, Bool, true, false, not, ◌+◌, List, [], ◌∷◌, ◌++◌, length, map, take, set, get_or, Bor, add-one, Option, Some, None, cond, nat_lt, slice_get, refl, sym, ap}
+use Rattle.std.proofs.Common.{◌≡◌, ◌∙◌, ◌<◌, ◌≤◌, ℕ, pos, negsuc, ◌⊎◌, inl, inr, arith, suc, if◌then◌else◌, Bool, true, false, not, ◌+◌, List, [], ◌∷◌, ◌++◌, length, map, take, set, get_or, Bor, add-one, Option, Some, None, cond, nat_lt, slice_get, refl, sym, ap}
 use Rattle.std.proofs.lemmas.Bool.{cases_lt, lt-ltb, le-ltb}
 use Rattle.std.proofs.lemmas.List.{length-map, map_push, take_more_set}
 use Rattle.std.proofs.Math.Seq.{take-suc}
@@ -11,7 +11,7 @@ use Rattle.passkey_cbor.specs.Item.{Item}
 use Rattle.passkey_kinds.specs.HeadValues.{unsigned_in}
 use Rattle.passkey_kinds.specs.Rows.{entry_of, row_at}
 use Rattle.passkey_kinds.specs.declared.rows.Row.{Row}
-use Rattle.passkey_kinds.specs.Table.{Entry, Naming, wrong, row_or_unknown, row_named, number_names, names}
+use Rattle.passkey_kinds.specs.Table.{Entry, wrong, row_or_unknown, row_named, number_names, names}
 
 -- ---- the row at the index of its name
 

@@ -1,9 +1,8 @@
 -- Values of one head or one string, decoded at a cursor.
 use Rattle.std.specs.Option.{option_and_then}
-use Rattle.std.proofs.Common.{◌≡◌, ◌∙◌, ℕ, pos, negsuc, ◌≤◌, nat_lt, arith, Bool, true, false, if◌then◌else◌, List, Option, Some, None, option_map, Result, Ok, Err, OnOk, is_ok, refl, sym, ap, subst}
+use Rattle.std.proofs.Common.{◌≡◌, ◌∙◌, ℕ, pos, negsuc, nat_lt, true, if◌then◌else◌, List, Option, Some, None, option_map, Result, Ok, Err, OnOk, is_ok, refl, ap, subst}
 use Rattle.passkey_cbor.specs.Item as item
 use Rattle.passkey_cbor.specs.Item.{Item}
-use Rattle.passkey_cbor.specs.Lent.{string_item}
 use Rattle.passkey_cbor.specs.Walk.{Walk}
 use Rattle.passkey_kinds.specs.HeadValues.{unsigned_in, null_in, ReadsFlat}
 use Rattle.passkey_kinds.specs.Data.{aaguid}
@@ -11,7 +10,6 @@ use Rattle.passkey_kinds.specs.Kind.{Kind, AnswersAs, below, text, one_named, op
 use Rattle.passkey_kinds.specs.Reader.{Spends, Decodes}
 use Rattle.passkey_kinds.specs.declared.refusal.Refusal.{Refusal}
 use Rattle.passkey_kinds.specs.declared.refusal.Refusal.TheVariants.{Refused, OutOfMemory}
-use Rattle.passkey_kinds.proofs.Lists.{answers_from}
 
 -- what holds of success holds where it is known that there was one
 pub ok_ends : {A E P : Type 0} (r : Result A E) → OnOk r P → is_ok r ≡ true → P

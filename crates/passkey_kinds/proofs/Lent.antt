@@ -1,10 +1,10 @@
 -- Strings that are lent at a cursor: what it costs to decode them and to look at their chunks again.
-use Rattle.std.proofs.Common.{◌≡◌, ◌∙◌, ℕ, suc, ◌+◌, ◌-◌, ◌*◌, ◌≤◌, ◌<◌, arith, Bool, true, false, cond, List, [], ◌∷◌, ◌++◌, length, take, Option, Some, None, option_map, Result, Ok, Err, OnOk, refl, sym, ap, subst}
+use Rattle.std.proofs.Common.{◌≡◌, ◌∙◌, ℕ, ◌+◌, ◌≤◌, ◌<◌, arith, Bool, true, false, cond, List, [], ◌∷◌, ◌++◌, length, Option, Some, None, Result, Ok, Err, refl, sym, ap, subst}
 use Rattle.std.proofs.lemmas.List.{length-append, length-take}
 use Rattle.passkey_cbor.specs.Item.{Item, byte_string, text_string}
 use Rattle.passkey_cbor.specs.Grows.{Grows}
 use Rattle.passkey_cbor.specs.Inside.{Content}
-use Rattle.passkey_cbor.specs.Lent.{Region, string_item, Tells, PassesString, LendsFrom, LooksAtAll, LooksAtSome, LooksToCopy, LooksToFill, IsRegion, heads_in, Copies}
+use Rattle.passkey_cbor.specs.Lent.{Region, PassesString, LendsFrom, LooksAtAll, LooksAtSome, LooksToCopy, LooksToFill, IsRegion, heads_in}
 use Rattle.passkey_cbor.specs.Names.{LooksFor, heads_until, heads_sought, begins_one}
 use Rattle.passkey_cbor.specs.Stands.{Stands}
 use Rattle.passkey_cbor.specs.Walk.{Walk, ahead}

@@ -1,10 +1,10 @@
 -- A loop over what is left of a list at a cursor: of an array's elements, or of a map's members.
-use Rattle.std.proofs.Common.{◌≡◌, ◌∙◌, ℕ, suc, ◌+◌, ◌*◌, ◌≤◌, ◌<◌, arith, Bool, true, false, List, [], ◌∷◌, length, Option, Some, None, refl, sym, ap, subst}
+use Rattle.std.proofs.Common.{◌≡◌, ◌∙◌, ℕ, suc, ◌+◌, ◌*◌, ◌≤◌, ◌<◌, arith, Bool, true, false, List, [], ◌∷◌, length, Option, Some, None, sym, ap, subst}
 use Rattle.std.proofs.Math.Nat.{mul-le-mul_left}
 use Rattle.passkey_cbor.specs.Languages.{Language}
 use Rattle.passkey_cbor.specs.Inside.{Left}
 use Rattle.passkey_cbor.specs.Stands.{Lies, Next, NextIf, Walks, Looks}
-use Rattle.passkey_cbor.specs.Walk.{Walk, raised, break_heads}
+use Rattle.passkey_cbor.specs.Walk.{Walk, break_heads}
 use Rattle.passkey_cbor.proofs.Gathering.{raised-le}
 use Rattle.passkey_kinds.specs.Reader.{Spends}
 

@@ -1,8 +1,8 @@
 -- Messages that begin bytes, and messages at a cursor.
-use Rattle.std.proofs.Common.{◌≡◌, ◌∙◌, ℕ, suc, ◌+◌, ◌-◌, ◌*◌, ◌≤◌, arith, List, ◌++◌, length, take, drop, Result, Ok, Err, OnErr, refl, sym, ap, subst}
+use Rattle.std.proofs.Common.{◌≡◌, ◌∙◌, ℕ, suc, ◌+◌, ◌*◌, ◌≤◌, arith, List, ◌++◌, length, take, drop, Result, Ok, Err, OnErr, refl, sym, ap, subst}
 use Rattle.std.proofs.lemmas.List.{take-append-drop, drop-drop, length-drop}
 use Rattle.std.proofs.Math.Nat.{mul-le-mul_left}
-use Rattle.passkey_cbor.specs.Front.{IsFront, HasNoFront}
+use Rattle.passkey_cbor.specs.Front.{IsFront}
 use Rattle.passkey_cbor.specs.Grows.{Grows}
 use Rattle.passkey_cbor.specs.Item as item
 use Rattle.passkey_cbor.specs.Item.{Item, Pairs, no_pairs, pair}
@@ -10,7 +10,7 @@ use Rattle.passkey_cbor.specs.Skipped.{PassesFront, FindsNoFront}
 use Rattle.passkey_cbor.specs.Stands.{Stands}
 use Rattle.passkey_cbor.specs.Walk.{Walk, ahead, Went}
 use Rattle.passkey_cbor.proofs.Standing.{only_one}
-use Rattle.passkey_kinds.specs.Message.{ReadsMessage, Begins, GrowsMessage, ReadsHere, with_length}
+use Rattle.passkey_kinds.specs.Message.{ReadsMessage, GrowsMessage, ReadsHere, with_length}
 use Rattle.passkey_kinds.specs.Reader.{Onward}
 use Rattle.passkey_kinds.specs.Reading.{MayGrowAt, Reads}
 use Rattle.passkey_kinds.specs.Record.{Fields, table_of, read_item}

@@ -1,7 +1,7 @@
 -- A map's members that are decoded at a cursor, each a key and then its value.
 use Rattle.std.specs.FinMap as fin
 use Rattle.std.specs.Option.{option_and_then, option_zip}
-use Rattle.std.proofs.Common.{◌≡◌, ◌∙◌, ℕ, suc, max, ◌+◌, ◌*◌, ◌≤◌, ◌<◌, arith, true, List, [], ◌∷◌, length, Option, Some, None, option_map, refl, sym, ap}
+use Rattle.std.proofs.Common.{◌≡◌, ◌∙◌, ℕ, max, ◌+◌, ◌≤◌, ◌<◌, arith, true, List, [], ◌∷◌, length, Option, Some, None, option_map, refl, sym, ap}
 use Rattle.std.proofs.Math.Nat.{mul-le-mul_left}
 use Rattle.passkey_bytes.specs.Map.{ByteMap, put_each}
 use Rattle.passkey_cbor.specs.Item as item

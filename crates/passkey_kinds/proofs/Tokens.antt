@@ -1,6 +1,6 @@
 -- Strings that are lent at a cursor and looked at once more: what they are, and where that leads.
 use Rattle.std.specs.Option.{ok_or}
-use Rattle.std.proofs.Common.{◌≡◌, ◌∙◌, ℕ, suc, ◌+◌, ◌*◌, ◌≤◌, ◌<◌, arith, Bool, true, false, List, length, Option, Some, None, option_map, Result, Ok, Err, OnOk, refl, sym, ap, subst}
+use Rattle.std.proofs.Common.{◌≡◌, ◌∙◌, ℕ, suc, ◌+◌, ◌*◌, ◌≤◌, ◌<◌, arith, Bool, List, Option, Some, None, option_map, Result, refl, sym, ap, subst}
 use Rattle.std.proofs.Math.Nat.{mul-le-mul_left}
 use Rattle.passkey_cbor.specs.Inside.{Content}
 use Rattle.passkey_cbor.specs.Item as item

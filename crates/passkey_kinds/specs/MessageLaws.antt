@@ -27,8 +27,8 @@ SameButForLength view len (Err e) (Ok s) = ⊥
 SameButForLength view len (Err e) (Err f) = e ≡ f
 
 -- If decoding the bytes may return the first result, then decoding the others may return the second
--- exactly if it is the same but for the length, which is this one. `OutOfMemory` is left out: it
--- may be returned for any item that takes memory.
+-- exactly if it is the same but for the length, which is this one. `OutOfMemory` is left out: here
+-- it may be returned for any item that takes memory (`GrowsMessage` says more).
 abbrev pub AnswersCarryOver : {A M : Type 0} → (A → M) → (Item → Result M Fault) → List ℕ → List ℕ → ℕ → Type 0
 AnswersCarryOver {A} view read bytes others len =
     (first second : Result (A × ℕ) Fault) →

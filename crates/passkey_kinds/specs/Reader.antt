@@ -62,10 +62,3 @@ pub record LooksAtMost (r : Region) (old new : Walk) : Type 0 where
   pub place : new.place ≡ old.place
   pub nodes : new.nodes ≡ old.nodes
   pub bytes : new.bytes ≡ old.bytes
-
--- The cursor stays, and its count of heads didn't fall.
-pub record Stays (old new : Walk) : Type 0 where
-  pub rises : old.heads ≤ new.heads
-  pub place : new.place ≡ old.place
-  pub nodes : new.nodes ≡ old.nodes
-  pub bytes : new.bytes ≡ old.bytes

@@ -1,5 +1,5 @@
 -- What decoding a record over a cursor costs.
-use Rattle.std.specs.Prelude.{ℕ, suc, ◌+◌, max, ◌==◌, Bool, true, false, ◌&&◌, if◌then◌else◌, List, [], ◌∷◌}
+use Rattle.std.specs.Prelude.{ℕ, ◌+◌, max, ◌==◌, Bool, true, false, ◌&&◌, if◌then◌else◌, List, [], ◌∷◌}
 use Rattle.passkey_cbor.specs.Item as item
 use Rattle.passkey_cbor.specs.Item.{Item, members}
 use Rattle.passkey_kinds.specs.Keeping.{Keeping, nothing, counted, kept_of}

@@ -1,5 +1,5 @@
 -- What holds of a cursor that decodes nothing.
-use Rattle.std.proofs.Common.{◌≡◌, ℕ, ◌*◌, ◌≤◌, arith, true, false, refl}
+use Rattle.std.proofs.Common.{ℕ, arith, false, refl}
 use Rattle.std.proofs.Math.Nat.{mul-le-mul_left}
 use Rattle.passkey_cbor.specs.Item.{Item}
 use Rattle.passkey_cbor.specs.Stands.{Stands}

@@ -30,7 +30,8 @@ pub trait FromCbor: Drop {
     /// The most heads that `read` decodes for each byte of the data item.
     ghost cost: { ℕ };
 
-    /// Which data items `read` makes as values: those that the result keeps.
+    /// Which data items `read` makes as values at most: those that the result keeps, and in
+    /// authenticator data that of the key and that of the extensions.
     ghost keeps: { Keeping };
 
     /// Decodes the value from a data item. `Refused` exactly if the type accepts no such item;
@@ -40,9 +41,9 @@ pub trait FromCbor: Drop {
         ensures { Answers view kind takes (item_of value.now) result };
 
     /// Decodes the data item at the cursor, head by head and without building it, and moves behind
-    /// it. If a well-formed item of at most 256 levels is there, the result is that of
-    /// `from_value`. After an error the cursor may be anywhere in the item, and its counts include
-    /// what was spent.
+    /// it. If a well-formed item of at most 256 levels is there, the result is one that `from_value`
+    /// may return for it. After an error the cursor may be anywhere in the item, and its counts
+    /// include what was spent.
     fn read(alloc: Global, cursor: &mut Cursor<'_>) -> Result<Self, Refusal>
         ensures reads { (i : Item) (to : ℕ) → Stands i cursor.old.bytes cursor.old.place to → ReadsAs view kind takes cost keeps i to cursor.old cursor.new result }
 

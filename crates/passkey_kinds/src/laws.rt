@@ -14,7 +14,7 @@ pub fn unknown_member_is_passed_over<R: Record>()
 /// A member under a key that a message's table doesn't know may be anywhere, as long as the map has
 /// at most 256 levels with it: for any encodings of the map with the member and without it, the
 /// messages differ only in their length in bytes, and a fault is the same. `OutOfMemory` is left
-/// out, since it may be returned for any map that isn't empty.
+/// out: `ReadsMessage` allows it for any map that isn't empty, and `GrowsMessage` says more.
 pub fn unknown_member_changes_the_length_alone<R: Record>()
     ensures { PassesOverUnknown R.parts R.fields }
 {

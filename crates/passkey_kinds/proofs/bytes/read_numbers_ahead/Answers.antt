@@ -1,4 +1,4 @@
-use Rattle.std.proofs.Common.{◌∙◌, ◌^◌, ℕ, List, length, map, ◌<◌, Some, sym, ap, subst}
+use Rattle.std.proofs.Common.{◌∙◌, ℕ, List, length, map, ◌<◌, Some, sym, ap, subst}
 use Rattle.passkey_kinds.specs.Keeping.{nothing}
 use Rattle.passkey_kinds.specs.Kind.{each, below}
 use Rattle.passkey_kinds.specs.Reader.{Spends, kept_all}

@@ -1,4 +1,4 @@
-use Rattle.std.proofs.Common.{None, Some}
+use Rattle.std.proofs.Common.{Some}
 use Rattle.passkey_kinds.proofs.Going.{onward_of, head_further, if_some, head_spends}
 use Rattle.passkey_kinds.proofs.Heads.{map_opened}
 use Rattle.passkey_kinds.proofs.head.read_map.Goals as goal

@@ -1,5 +1,4 @@
-use Rattle.std.proofs.Common.{None, Some}
-use Rattle.passkey_kinds.proofs.Going.{onward_of, head_further}
+use Rattle.passkey_kinds.proofs.Going.{onward_of}
 use Rattle.passkey_kinds.proofs.Heads.{null_read}
 use Rattle.passkey_kinds.proofs.head.read_null.Goals as goal
 

@@ -1,4 +1,3 @@
-use Rattle.std.proofs.Common.{None, Some}
 use Rattle.passkey_kinds.proofs.Going.{onward_of, head_further, if_some}
 use Rattle.passkey_kinds.proofs.Heads.{unsigned_read}
 use Rattle.passkey_kinds.proofs.head.read_unsigned.Goals as goal

@@ -1,4 +1,4 @@
-use Rattle.std.proofs.Common.{◌≡◌, ◌∙◌, ◌<◌, ℕ, Bor, List, length, map, take, ap, sym, arith}
+use Rattle.std.proofs.Common.{◌≡◌, ◌∙◌, ℕ, Bor, List, length, map, take, ap, sym, arith}
 use Rattle.std.proofs.lemmas.List.{length-set, take_all}
 use Rattle.passkey_kinds.specs.Rows.{entry_of}
 use Rattle.passkey_kinds.specs.Table.{Entry}

@@ -1,6 +1,4 @@
-use Rattle.std.proofs.Common.{◌≡◌, ◌∙◌, ◌<◌, ◌≤◌, ◌+◌, ◌*◌, Some, None, false, true, map, sym, ap, refl, arith, IfSome}
-use Rattle.passkey_cbor.specs.Lent.{LendsFrom}
-use Rattle.passkey_kinds.specs.HeadValues.{unsigned_in}
+use Rattle.std.proofs.Common.{◌∙◌, ◌*◌, false, true, map, sym, ap, refl, arith}
 use Rattle.passkey_kinds.specs.Rows.{entry_of}
 use Rattle.passkey_kinds.specs.Table.{names, number_names}
 use Rattle.passkey_kinds.proofs.Going.{eased, if_some, stands_long}

@@ -1,4 +1,4 @@
-use Rattle.std.proofs.Common.{◌≡◌, ◌∙◌, true, List, ap, map}
+use Rattle.std.proofs.Common.{◌∙◌, true, ap, map}
 use Rattle.passkey_cbor.specs.Names.{place_of}
 use Rattle.passkey_kinds.specs.Rows.{entry_of, row_at}
 use Rattle.passkey_kinds.proofs.Keys.{row_of_name}

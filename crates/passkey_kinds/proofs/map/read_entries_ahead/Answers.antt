@@ -1,10 +1,9 @@
 use Rattle.std.specs.FinMap as fin
-use Rattle.std.proofs.Common.{◌≡◌, ◌∙◌, ◌<◌, ℕ, max, ◌+◌, ◌*◌, true, false, List, [], ◌∷◌, length, map, Option, Some, None, option_map, Ok, Err, sym, ap, refl, arith}
+use Rattle.std.proofs.Common.{◌∙◌, ℕ, true, false, List, sym, ap, refl, arith}
 use Rattle.std.proofs.lemmas.Result.{err_from_is_err_and}
 use Rattle.passkey_bytes.specs.Map.{ByteMap}
 use Rattle.passkey_cbor.specs.Front.{max_depth}
 use Rattle.passkey_cbor.specs.Inside.{Within}
-use Rattle.passkey_cbor.specs.Item.{Item}
 use Rattle.passkey_cbor.proofs.More.{split}
 use Rattle.passkey_kinds.specs.Keeping.{kept_of}
 use Rattle.passkey_kinds.specs.Kind.{bytes, MayGrow}

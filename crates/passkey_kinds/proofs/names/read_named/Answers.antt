@@ -1,4 +1,4 @@
-use Rattle.std.proofs.Common.{◌∙◌, true, None, sym, ap, refl, arith}
+use Rattle.std.proofs.Common.{◌∙◌, true, sym, ap, arith}
 use Rattle.std.specs.Option.{option_and_then}
 use Rattle.passkey_kinds.specs.Kind.{one_named}
 use Rattle.passkey_kinds.proofs.Leaves.{named_text, no_text}

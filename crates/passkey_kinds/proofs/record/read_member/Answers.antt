@@ -3,7 +3,6 @@ use Rattle.std.proofs.Common.{rules, get_or, ◌≡◌, ◌<◌, ◌∙◌, fals
 use Rattle.std.proofs.lemmas.Bool.{true≢false}
 use Rattle.passkey_kinds.specs.Reading.{named_as}
 use Rattle.passkey_kinds.specs.Record.{table_of, rows_of}
-use Rattle.passkey_kinds.specs.RecordCost.{cost_by, keeps_by}
 use Rattle.passkey_kinds.specs.Table.{accepts_at}
 use Rattle.passkey_kinds.proofs.Members.{was_repeated, was_refused, was_good, was_unknown, marked_as, stays, marks_one}
 use Rattle.passkey_kinds.proofs.Putting.{passes, puts, puts_refused}

@@ -1,6 +1,4 @@
-use Rattle.std.proofs.Common.{refl, arith, sym, subst, OnOk}
-use Rattle.passkey_kinds.specs.Kind.{MayGrow}
-use Rattle.passkey_kinds.specs.Reading.{MayGrowAt}
+use Rattle.std.proofs.Common.{refl, arith}
 use Rattle.passkey_kinds.specs.Record.{table_of, read_item}
 use Rattle.passkey_kinds.specs.RecordCost.{record_cost, record_keeps, kept_in_map}
 use Rattle.passkey_kinds.specs.Keeping.{kept_of}

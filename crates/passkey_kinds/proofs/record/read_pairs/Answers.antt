@@ -1,6 +1,6 @@
 use Rattle.std.proofs.lemmas.List.{length-map, drop_all}
-use Rattle.std.proofs.Common.{rules, ◌≡◌, ◌∙◌, ◌+◌, map, drop, Err, sym, ap, refl}
-use Rattle.passkey_cbor.specs.View.{item_of, pair_of}
+use Rattle.std.proofs.Common.{rules, ◌≡◌, ◌+◌, map, drop, Err, refl}
+use Rattle.passkey_cbor.specs.View.{pair_of}
 use Rattle.passkey_kinds.specs.Reading.{named_as}
 use Rattle.passkey_kinds.specs.Record.{table_of}
 use Rattle.passkey_kinds.specs.Rows.{entry_of}

@@ -1,4 +1,4 @@
-use Rattle.std.proofs.Common.{◌≡◌, ◌∙◌, ◌≤◌, ◌+◌, ◌-◌, ℕ, suc, true, false, List, [], map, Ok, Err, sym, refl, arith}
+use Rattle.std.proofs.Common.{◌∙◌, ◌≤◌, ◌+◌, ◌-◌, suc, true, false, [], map, sym, refl, arith}
 use Rattle.std.proofs.lemmas.Result.{err_from_is_err_and}
 use Rattle.passkey_cbor.specs.Front.{max_depth}
 use Rattle.passkey_cbor.specs.Inside.{Within}

@@ -1,4 +1,4 @@
-use Rattle.std.proofs.Common.{◌≡◌, ◌∙◌, ◌+◌, ◌*◌, ◌<◌, ◌≤◌, ◌^◌, ℕ, length, true, false, Some, None, Ok, Err, OnOk, refl, sym, ap, subst, arith}
+use Rattle.std.proofs.Common.{◌≡◌, ◌∙◌, ◌^◌, true, false, Some, Ok, Err, sym, ap, subst, arith}
 use Rattle.std.proofs.lemmas.Result.{err_from_is_err_and}
 use Rattle.passkey_cose.proofs.KeyLists.{elements-items_of}
 use Rattle.passkey_kinds.specs.Kind.{bytes, each, below, MayGrow}

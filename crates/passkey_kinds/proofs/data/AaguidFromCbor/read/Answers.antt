@@ -1,4 +1,4 @@
-use Rattle.std.proofs.Common.{◌∙◌, ◌==◌, List, ℕ, length, if◌then◌else◌, Option, Some, None, Ok, Err, false, ap, arith}
+use Rattle.std.proofs.Common.{◌∙◌, ◌==◌, List, ℕ, length, if◌then◌else◌, Option, Some, None, Err, false, ap, arith}
 use Rattle.std.proofs.lemmas.Result.{err_from_is_err_and}
 use Rattle.passkey_core.specs.declared.aaguid.Aaguid.{Aaguid}
 use Rattle.passkey_kinds.specs.Data.{aaguid}

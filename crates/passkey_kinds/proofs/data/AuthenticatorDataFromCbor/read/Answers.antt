@@ -1,6 +1,5 @@
-use Rattle.std.proofs.Common.{◌∙◌, ℕ, true, false, List, None, Err, sym, subst, arith}
+use Rattle.std.proofs.Common.{◌∙◌, true, false, Err, arith}
 use Rattle.std.proofs.lemmas.Result.{err_from_is_err_and}
-use Rattle.passkey_cbor.specs.Item.{byte_string}
 use Rattle.passkey_core.specs.DataViews.{data_parts}
 use Rattle.passkey_kinds.specs.Data.{authenticator_data, authenticator_data_nodes}
 use Rattle.passkey_kinds.specs.Kind.{MayGrow}

@@ -1,8 +1,7 @@
-use Rattle.std.proofs.Common.{◌≡◌, ◌∙◌, true, Some, None, Ok, Err, sym, ap, arith}
+use Rattle.std.proofs.Common.{◌∙◌, true, Some, Ok, Err, sym, ap, arith}
 use Rattle.std.proofs.lemmas.Result.{err_from_is_err_and}
 use Rattle.passkey_kinds.specs.Kind.{text, MayGrow}
 use Rattle.passkey_kinds.specs.declared.refusal.Refusal.TheVariants.{OutOfMemory}
-use Rattle.passkey_kinds.proofs.Going.{eased, stands_long}
 use Rattle.passkey_kinds.proofs.Leaves.{no_text}
 use Rattle.passkey_kinds.proofs.Lent.{looks_all, looks_some, lent_decodes, not_lent_decodes, text_grows}
 use Rattle.passkey_kinds.proofs.from_cbor.TextFromCbor.read.Goals as goal

@@ -1,4 +1,4 @@
-use Rattle.std.proofs.Common.{ℕ, Some, Ok, Err, true, ap, sym, subst, refl, arith}
+use Rattle.std.proofs.Common.{Some, Err, ap, sym, subst, refl, arith}
 use Rattle.passkey_cbor.specs.Nodes.{nodes}
 use Rattle.passkey_cbor.specs.Stands.{Values, NotValued}
 use Rattle.passkey_cbor.specs.declared.error.CborError.{CborError}

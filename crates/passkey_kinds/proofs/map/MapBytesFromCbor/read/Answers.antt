@@ -1,4 +1,4 @@
-use Rattle.std.proofs.Common.{◌≡◌, ◌∙◌, ◌<◌, max, length, true, Option, None, Err, sym, ap, subst, refl, arith}
+use Rattle.std.proofs.Common.{◌∙◌, ◌<◌, max, length, true, sym, ap, subst, arith}
 use Rattle.passkey_kinds.specs.Keeping.{kept_of, in_members}
 use Rattle.passkey_kinds.specs.Kind.{MayGrow}
 use Rattle.passkey_kinds.specs.MapKind.{map_from_bytes}

@@ -1,4 +1,3 @@
-use Rattle.std.proofs.Common.{Result, Ok, Err, true}
 use Rattle.passkey_kinds.proofs.Leaves.{ok_ends}
 use Rattle.passkey_kinds.proofs.source.CursorSource.read.Goals as goal
 
