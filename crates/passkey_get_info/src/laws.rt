@@ -7,8 +7,8 @@ ghost use Rattle.passkey_kinds.specs.RecordLaws.{PassesOverUnknown};
 ghost use Rattle.passkey_kinds.specs.RecordLaws.{KnowsMaps};
 
 /// What is written of what an authenticator tells of itself, where that is coherent, is read as the
-/// response with the known variants of unknown versions and extensions of known names, whatever
-/// bytes follow.
+/// response with the known variants of unknown versions and extensions of known names, and without
+/// certifications that are null, whatever bytes follow.
 pub fn written_get_info_is_read_back()
     ensures { WrittenIsReadBack read_get_info get_info_tree GetInfoFits is_get_info_coherent normal_get_info }
 {

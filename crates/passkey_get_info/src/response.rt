@@ -57,6 +57,9 @@ pub struct Response {
     pub preferred_platform_uv_attempts: Option<u32>,
     /// 0x12: how it verifies the user, as flags of FIDO's registry.
     pub uv_modality: Option<u32>,
+    /// 0x13: its certifications, a map from their names to levels, kept as a data item; `None` if the
+    /// member is absent.
+    pub certifications: Option<Value>,
     /// 0x14: for how many more credentials it has room.
     pub remaining_discoverable_credentials: Option<u32>,
     /// 0x15: the vendor's commands of its configuration.
@@ -108,6 +111,7 @@ impl Record for Response {
             Row::Optional(0x10, "maxRpidsForSetMinPinLength"),
             Row::Optional(0x11, "preferredPlatformUvAttempts"),
             Row::Optional(0x12, "uvModality"),
+            Row::Optional(0x13, "certifications"),
             Row::Optional(0x14, "remainingDiscoverableCredentials"),
             Row::Optional(0x15, "vendorPrototypeConfigCommands"),
             Row::Optional(0x16, "attestationFormats"),
@@ -143,6 +147,7 @@ impl Record for Response {
             0x10 => set(&mut self.max_rpids_for_set_min_pin_length, alloc, source),
             0x11 => set(&mut self.preferred_platform_uv_attempts, alloc, source),
             0x12 => set(&mut self.uv_modality, alloc, source),
+            0x13 => set(&mut self.certifications, alloc, source),
             0x14 => set(&mut self.remaining_discoverable_credentials, alloc, source),
             0x15 => set_accepted_or_none(&mut self.vendor_prototype_config_commands, alloc, source),
             0x16 => set_accepted_or_none(&mut self.attestation_formats, alloc, source),
@@ -181,6 +186,7 @@ impl Response {
             max_rpids_for_set_min_pin_length: None,
             preferred_platform_uv_attempts: None,
             uv_modality: None,
+            certifications: None,
             remaining_discoverable_credentials: None,
             vendor_prototype_config_commands: None,
             attestation_formats: None,
