@@ -1,8 +1,13 @@
 -- What an authenticator tells of itself is read back from what it is written as.
-use Rattle.std.proofs.Common.{refl}
+use Rattle.std.specs.Option.{option_and_then}
+use Rattle.std.proofs.Common.{◌≡◌, Option, Some, None, unwrap_or, refl, ap}
+use Rattle.passkey_cbor.specs.Item.{Item, number, byte_string, text_string, array, map, tagged, boolean, null, simple, float}
 use Rattle.passkey_get_info.specs.GetInfoNames.{version, version_tree, normal_version, extension, extension_tree, normal_extension}
 use Rattle.passkey_get_info.specs.GetInfoOptions.{options_fields, options, options_places, options_tree}
+use Rattle.passkey_get_info.specs.GetInfoTree.{unless_null}
+use Rattle.passkey_kinds.specs.Kind.{kept, optional}
 use Rattle.passkey_kinds.specs.ReadBack.{IsReadBack, Any}
+use Rattle.passkey_kinds.proofs.Back.{Falls, accepts_it}
 use Rattle.passkey_kinds.proofs.LeafBack.{truth_back, anything, optional_place}
 use Rattle.passkey_kinds.proofs.RowsBack.{puts_value, puts_default, ◌▸◌, no_more, kind_back}
 
@@ -11,6 +16,23 @@ version_back = record { back = λ v h. refl }
 
 pub extension_back : IsReadBack extension extension_tree Any normal_extension
 extension_back = record { back = λ e h. refl }
+
+-- what is kept and may be null
+kept_or_null : (i : Item) → optional kept i ≡ Some (unless_null i)
+kept_or_null (number z) = refl
+kept_or_null (byte_string s) = refl
+kept_or_null (text_string s) = refl
+kept_or_null (array xs) = refl
+kept_or_null (map ps) = refl
+kept_or_null (tagged t x) = refl
+kept_or_null (boolean b) = refl
+kept_or_null null = refl
+kept_or_null (simple n) = refl
+kept_or_null (float f) = refl
+
+pub kept_place : (o : Option Item) → Falls (optional kept) None o (option_and_then unless_null o)
+kept_place None = record { value = refl; accepted = λ i e. absurd cc }
+kept_place (Some i) = record { value = ap (λ (o : Option (Option Item)). unwrap_or o None) (kept_or_null i); accepted = accepts_it (optional kept) i (unless_null i) (kept_or_null i) }
 
 pub options_back : IsReadBack options options_tree Any (λ o. o)
 options_back = record {

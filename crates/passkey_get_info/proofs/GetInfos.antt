@@ -1,6 +1,7 @@
 -- Responses of get_info: reading back what is written, and its levels.
-use Rattle.std.proofs.Common.{◌≡◌, ◌∙◌, ℕ, pos, negsuc, ◌^◌, ◌≤◌, nat_lt, nat_le, arith, le-leb, leb-true, ltb-true, Bool, true, false, ◌&&◌, if◌then◌else◌, List, Option, Some, None, option_map, unwrap_or, Result, Ok, Err, is_ok, OnOk, IfErr, refl, sym, ap}
-use Rattle.std.proofs.lemmas.Bool.{and_parts}
+use Rattle.std.proofs.Common.{◌≡◌, ◌∙◌, ℕ, pos, negsuc, ◌^◌, ◌<◌, ◌≤◌, nat_lt, nat_le, arith, le-leb, leb-true, lt-ltb, ltb-true, Bool, true, false, ◌&&◌, if◌then◌else◌, List, Option, Some, None, option_map, unwrap_or, Result, Ok, Err, is_ok, OnOk, IfErr, refl, sym, ap, subst}
+use Rattle.std.proofs.lemmas.Bool.{and_parts, and_from}
+use Rattle.passkey_bytes.specs.SameMaps.{same_tests}
 use Rattle.passkey_cbor.specs.Depth.{depth}
 use Rattle.passkey_cbor.specs.Front.{max_depth}
 use Rattle.passkey_cbor.specs.Item as item
@@ -8,10 +9,10 @@ use Rattle.passkey_cbor.specs.Item.{Item, boolean, byte_string, text_string, mem
 use Rattle.passkey_cbor.specs.Laws.{WrittenIsFront}
 use Rattle.passkey_core.specs.DataNormal.{Where}
 use Rattle.passkey_get_info.specs.GetInfo.{GetInfoParts, get_info_fields, read_get_info}
-use Rattle.passkey_get_info.specs.GetInfoTree.{get_info_places, get_info_tree, IsPositive, GetInfoFits, is_spelled, is_get_info_coherent, normal_get_info}
+use Rattle.passkey_get_info.specs.GetInfoTree.{get_info_places, get_info_tree, IsPositive, GetInfoFits, is_spelled, has_room, is_get_info_coherent, normal_get_info}
 use Rattle.passkey_get_info.specs.GetInfoNames.{version_tree, extension_tree}
 use Rattle.passkey_get_info.specs.GetInfoOptions.{options_tree}
-use Rattle.passkey_kinds.specs.Kind.{optional}
+use Rattle.passkey_kinds.specs.Kind.{optional, kept as kept_item}
 use Rattle.passkey_kinds.specs.MessageLaws.{WrittenIsReadBack, ReadIsCoherent}
 use Rattle.passkey_kinds.specs.Size.{size, IsSize}
 use Rattle.passkey_kinds.specs.Tree.{number_tree, list_tree}
@@ -21,12 +22,13 @@ use Rattle.passkey_kinds.specs.declared.write_fault.WriteFault.TheVariants.{Numb
 use Rattle.passkey_kinds.proofs.Back.{option_place}
 use Rattle.passkey_kinds.proofs.Keeping as kept
 use Rattle.passkey_kinds.proofs.Keeping.{◌▹◌, record_keeps}
+use Rattle.passkey_kinds.proofs.NotNull.{not_null}
 use Rattle.passkey_kinds.proofs.RowsBack.{puts_value, puts_default, ◌▸◌, no_more, rows_back}
 use Rattle.passkey_kinds.proofs.SizedBack.{size_back, aaguid_back}
-use Rattle.passkey_get_info.proofs.GetInfoBack.{version_back, extension_back, options_back}
+use Rattle.passkey_get_info.proofs.GetInfoBack.{version_back, extension_back, kept_place, options_back}
 use Rattle.passkey_get_info.proofs.GetInfoLevels.{options_levels}
 use Rattle.passkey_kinds.proofs.LeafBack.{list_same, truth_back, byte_back, word_back, text_back, bytes_back, transport_back, list_back, optional_back, anything, all_of_anything, optional_place, accepted_place}
-use Rattle.passkey_kinds.proofs.Levels.{PlaceWithin, record_within, list_within, option_within}
+use Rattle.passkey_kinds.proofs.Levels.{PlaceWithin, record_within, of_record, list_within, option_within}
 use Rattle.passkey_kinds.proofs.RecordBack.{parameters_back}
 use Rattle.passkey_kinds.proofs.RecordLevels.{parameters_levels}
 
@@ -56,6 +58,7 @@ response_back r fits spelled =
     puts_default (optional_place word_back refl r.max_rpids_for_set_min_pin_length fits.1.max_rpids_for_set_min_pin_length) refl ▸
     puts_default (optional_place word_back refl r.preferred_platform_uv_attempts fits.1.preferred_platform_uv_attempts) refl ▸
     puts_default (optional_place word_back refl r.uv_modality fits.1.uv_modality) refl ▸
+    puts_default (kept_place r.certifications) refl ▸
     puts_default (optional_place word_back refl r.remaining_discoverable_credentials fits.1.remaining_discoverable_credentials) refl ▸
     puts_default (accepted_place word_back r.vendor_prototype_config_commands fits.1.vendor_prototype_config_commands) refl ▸
     puts_default (accepted_place text_back r.attestation_formats (all_of_anything r.attestation_formats)) refl ▸
@@ -73,31 +76,44 @@ get_info_returns law r rest fits writable coherent =
     let both = and_parts (is_spelled r.max_msg_size) (nat_le (depth (get_info_tree r)) max_depth) coherent in
     (law (get_info_tree r) rest writable (leb-true (depth (get_info_tree r)) max_depth both.1), response_back r fits both.0)
 
--- ---- a response has few levels
+-- ---- only the certifications may have many levels
 
-word : (n : ℕ) (o : Option ℕ) → PlaceWithin 2 (number_tree n) (option_map number_tree o)
-word n o = option_within number_tree 2 (number_tree n) (omega arith) (λ k. omega arith) o
+word : (n : ℕ) (o : Option ℕ) → PlaceWithin 255 (number_tree n) (option_map number_tree o)
+word n o = option_within number_tree 255 (number_tree n) (omega arith) (λ k. omega arith) o
 
-truth : (n : ℕ) (o : Option Bool) → PlaceWithin 2 (number_tree n) (option_map boolean o)
-truth n o = option_within boolean 2 (number_tree n) (omega arith) (λ b. omega arith) o
+truth : (n : ℕ) (o : Option Bool) → PlaceWithin 255 (number_tree n) (option_map boolean o)
+truth n o = option_within boolean 255 (number_tree n) (omega arith) (λ b. omega arith) o
 
-string : (n : ℕ) (o : Option (List ℕ)) → PlaceWithin 2 (number_tree n) (option_map byte_string o)
-string n o = option_within byte_string 2 (number_tree n) (omega arith) (λ b. omega arith) o
+string : (n : ℕ) (o : Option (List ℕ)) → PlaceWithin 255 (number_tree n) (option_map byte_string o)
+string n o = option_within byte_string 255 (number_tree n) (omega arith) (λ b. omega arith) o
 
-lists : {A : Type 0} (tree : A → Item) → ((x : A) → depth (tree x) ≤ 1) → (n : ℕ) (o : Option (List A)) → PlaceWithin 2 (number_tree n) (option_map (list_tree tree) o)
-lists tree each n o = option_within (list_tree tree) 2 (number_tree n) (omega arith) (list_within tree 1 each) o
+lists : {A : Type 0} (tree : A → Item) → ((x : A) → depth (tree x) ≤ 1) → (n : ℕ) (o : Option (List A)) → PlaceWithin 255 (number_tree n) (option_map (list_tree tree) o)
+lists tree each n o = option_within (list_tree tree) 255 (number_tree n) (omega arith) (λ xs. omega (arith, list_within tree 1 each xs)) o
 
-get_info_levels : (r : GetInfoParts) → depth (get_info_tree r) ≤ 3
-get_info_levels r =
-    record_within 2 (get_info_places r)
-    ((omega arith, list_within version_tree 1 (λ v. omega arith) r.versions), (lists extension_tree (λ e. omega arith) 2 r.extensions, ((omega arith, omega arith), (option_within options_tree 2 (number_tree 4) (omega arith) (λ o. omega (arith, options_levels o)) r.options, (word 5 r.max_msg_size, (lists number_tree (λ k. omega arith) 6 r.pin_protocols, (lists transport_tree (λ x. omega arith) 9 r.transports, (lists parameters_tree parameters_levels 10 r.algorithms, (word 11 r.mac_serialized_large_blob_array, (truth 12 r.force_pin_change, (word 13 r.min_pin_length, (word 14 r.firmware_version, (word 15 r.max_cred_blob_length, (word 16 r.max_rpids_for_set_min_pin_length, (word 17 r.preferred_platform_uv_attempts, (word 18 r.uv_modality, (word 20 r.remaining_discoverable_credentials, (lists number_tree (λ k. omega arith) 21 r.vendor_prototype_config_commands, (lists text_string (λ s. omega arith) 22 r.attestation_formats, (word 23 r.uv_count_since_last_pin_entry, (truth 24 r.long_touch_for_reset, (string 25 r.enc_identifier, (lists transport_tree (λ x. omega arith) 26 r.transports_for_reset, (truth 27 r.pin_complexity_policy, (string 28 r.pin_complexity_policy_url, (word 29 r.max_pin_length, tt))))))))))))))))))))))))))
+get_info_up : (r : GetInfoParts) → PlaceWithin 255 (number_tree 19) r.certifications → depth (get_info_tree r) ≤ 256
+get_info_up r certifications =
+    record_within 255 (get_info_places r)
+    ((omega arith, omega (arith, list_within version_tree 1 (λ v. omega arith) r.versions)), (lists extension_tree (λ e. omega arith) 2 r.extensions, ((omega arith, omega arith), (option_within options_tree 255 (number_tree 4) (omega arith) (λ o. omega (arith, options_levels o)) r.options, (word 5 r.max_msg_size, (lists number_tree (λ k. omega arith) 6 r.pin_protocols, (lists transport_tree (λ x. omega arith) 9 r.transports, (lists parameters_tree parameters_levels 10 r.algorithms, (word 11 r.mac_serialized_large_blob_array, (truth 12 r.force_pin_change, (word 13 r.min_pin_length, (word 14 r.firmware_version, (word 15 r.max_cred_blob_length, (word 16 r.max_rpids_for_set_min_pin_length, (word 17 r.preferred_platform_uv_attempts, (word 18 r.uv_modality, (certifications, (word 20 r.remaining_discoverable_credentials, (lists number_tree (λ k. omega arith) 21 r.vendor_prototype_config_commands, (lists text_string (λ s. omega arith) 22 r.attestation_formats, (word 23 r.uv_count_since_last_pin_entry, (truth 24 r.long_touch_for_reset, (string 25 r.enc_identifier, (lists transport_tree (λ x. omega arith) 26 r.transports_for_reset, (truth 27 r.pin_complexity_policy, (string 28 r.pin_complexity_policy_url, (word 29 r.max_pin_length, tt)))))))))))))))))))))))))))
 
-and_true : (b : Bool) → b ≡ (b && true)
-and_true true = refl
-and_true false = refl
+get_info_down : (r : GetInfoParts) → depth (get_info_tree r) ≤ 256 → PlaceWithin 255 (number_tree 19) r.certifications
+get_info_down r within = (of_record 255 (get_info_places r) within).1.1.1.1.1.1.1.1.1.1.1.1.1.1.1.1.0
 
-pub spelled_coherent : (r : GetInfoParts) → is_spelled r.max_msg_size ≡ is_get_info_coherent r
-spelled_coherent r = and_true (is_spelled r.max_msg_size) ∙ ap (λ (b : Bool). is_spelled r.max_msg_size && b) (sym (le-leb (depth (get_info_tree r)) 256 (omega (arith, get_info_levels r))))
+room_up : (n : ℕ) (o : Option Item) → has_room o ≡ true → PlaceWithin 255 (number_tree n) o
+room_up n None h = tt
+room_up n (Some i) h = (omega arith, omega (arith, ltb-true (depth i) 256 h))
+
+room_down : (n : ℕ) (o : Option Item) → PlaceWithin 255 (number_tree n) o → has_room o ≡ true
+room_down n None h = refl
+room_down n (Some i) h = lt-ltb (depth i) 256 (omega (arith, h.1))
+
+room_decides : (r : GetInfoParts) → has_room r.certifications ≡ nat_le (depth (get_info_tree r)) max_depth
+room_decides r =
+    same_tests (has_room r.certifications) (nat_le (depth (get_info_tree r)) max_depth)
+    (λ t. le-leb (depth (get_info_tree r)) max_depth (get_info_up r (room_up 19 r.certifications t)))
+    (λ t. room_down 19 r.certifications (get_info_down r (leb-true (depth (get_info_tree r)) max_depth t)))
+
+pub parts_decide : (r : GetInfoParts) → (is_spelled r.max_msg_size && has_room r.certifications) ≡ is_get_info_coherent r
+parts_decide r = ap (λ (b : Bool). is_spelled r.max_msg_size && b) (room_decides r)
 
 -- whether there was an item tells whether the size can be written
 pub told : {X : Type 0} (spelled : Bool) (r : Result X WriteFault) → OnOk r (spelled ≡ true) → IfErr r (λ e. (e ≡ NumberTooLarge) × (spelled ≡ false)) → is_ok r ≡ spelled
@@ -125,19 +141,27 @@ spelled_item item.null = refl
 spelled_item (item.simple n) = refl
 spelled_item (item.float f) = refl
 
-abbrev SizeIsSpelled : GetInfoParts → Type 0
-SizeIsSpelled r = is_spelled r.max_msg_size ≡ true
+-- a kept item has fewer levels
+abbrev IsBelow : ℕ → Option Item → Type 0
+IsBelow n o = (i : Item) → o ≡ Some i → depth i < n
 
-read_coherent : (i : Item) (r : GetInfoParts) → read_get_info i ≡ Ok r → is_get_info_coherent r ≡ true
-read_coherent i r read =
-    sym (spelled_coherent r)
-    ∙ record_keeps get_info_fields SizeIsSpelled i r read (λ d. refl)
+below_up : (n : ℕ) (o : Option Item) → n ≤ 256 → IsBelow n o → has_room o ≡ true
+below_up n None small h = refl
+below_up n (Some i) small h = lt-ltb (depth i) 256 (omega (arith, h i refl, small))
+
+-- the size can be written, and the certifications have fewer levels than the response
+abbrev PartsAreGood : ℕ → GetInfoParts → Type 0
+PartsAreGood n r = (is_spelled r.max_msg_size ≡ true) × IsBelow n r.certifications
+
+read_good : (i : Item) (r : GetInfoParts) → read_get_info i ≡ Ok r → PartsAreGood (depth i) r
+read_good whole r read =
+    record_keeps get_info_fields (PartsAreGood (depth whole)) whole r read (λ d. (refl, λ i is. absurd cc))
     (
     (λ i v r less e h. h) ▹
     (λ i v r less e h. h) ▹
     (λ i v r less e h. h) ▹
     (λ i v r less e h. h) ▹
-    (λ i v r less e h. ap (λ (o : Option (Option ℕ)). is_spelled (unwrap_or o None)) (sym e) ∙ spelled_item i) ▹
+    (λ i v r less e h. (ap (λ (o : Option (Option ℕ)). is_spelled (unwrap_or o None)) (sym e) ∙ spelled_item i, h.1)) ▹
     (λ i v r less e h. h) ▹
     (λ i v r less e h. h) ▹
     (λ i v r less e h. h) ▹
@@ -149,6 +173,7 @@ read_coherent i r read =
     (λ i v r less e h. h) ▹
     (λ i v r less e h. h) ▹
     (λ i v r less e h. h) ▹
+    (λ i v r less e h. (h.0, λ k is. let same : i ≡ k = (let there : kept_item i ≡ Some k = not_null kept_item i k (e ∙ ap Some is) in cc) in subst (λ x. depth x < depth whole) same less)) ▹
     (λ i v r less e h. h) ▹
     (λ i v r less e h. h) ▹
     (λ i v r less e h. h) ▹
@@ -162,4 +187,6 @@ read_coherent i r read =
     kept.no_more)
 
 pub get_info_coherent : ReadIsCoherent read_get_info is_get_info_coherent
-get_info_coherent bytes r begins = read_coherent begins.item r begins.holds
+get_info_coherent bytes r begins =
+    let good = read_good begins.item r begins.holds in
+    sym (parts_decide r) ∙ and_from (is_spelled r.max_msg_size) (has_room r.certifications) good.0 (below_up (depth begins.item) r.certifications begins.front.shallow good.1)

@@ -2,13 +2,13 @@
 use Rattle.std.specs.Prelude.{ℕ, ◌^◌, Bool, true, List, [], ◌∷◌, Option, None, codes, replicate, Result}
 use Rattle.passkey_cbor.specs.Item.{Item}
 use Rattle.passkey_get_info.specs.GetInfoNames.{version, extension}
-use Rattle.passkey_get_info.specs.GetInfoOptions.{options, options_fields}
-use Rattle.passkey_kinds.specs.Parameters.{parameters, parameters_fields}
+use Rattle.passkey_get_info.specs.GetInfoOptions.{options_fields}
+use Rattle.passkey_kinds.specs.Parameters.{parameters_fields}
 use Rattle.passkey_kinds.specs.Keeping.{nothing}
 use Rattle.passkey_kinds.specs.Record.{Fields, required, default, table_of, read_item}
 use Rattle.passkey_kinds.specs.RecordCost.{nested}
 use Rattle.passkey_kinds.specs.Table.{Table}
-use Rattle.passkey_kinds.specs.Typed.{aaguid, truth, below, size, text, one_named, optional, bytes, growing, list, accepted, tolerated}
+use Rattle.passkey_kinds.specs.Typed.{aaguid, truth, below, size, text, one_named, optional, bytes, kept, growing, list, accepted, tolerated}
 use Rattle.passkey_kinds.specs.declared.fault.Fault.{Fault}
 use Rattle.passkey_get_info.specs.declared.extension.Extension.{Extension}
 use Rattle.passkey_get_info.specs.declared.options.Options.{Options}
@@ -35,6 +35,7 @@ pub record GetInfoParts : Type 0 where
   pub max_rpids_for_set_min_pin_length : Option ℕ
   pub preferred_platform_uv_attempts : Option ℕ
   pub uv_modality : Option ℕ
+  pub certifications : Option Item
   pub remaining_discoverable_credentials : Option ℕ
   pub vendor_prototype_config_commands : Option (List ℕ)
   pub attestation_formats : Option (List (List ℕ))
@@ -65,6 +66,7 @@ get_info_empty = record {
   max_rpids_for_set_min_pin_length = None;
   preferred_platform_uv_attempts = None;
   uv_modality = None;
+  certifications = None;
   remaining_discoverable_credentials = None;
   vendor_prototype_config_commands = None;
   attestation_formats = None;
@@ -97,6 +99,7 @@ get_info_fields = record {
       ∷ default 16 (codes "maxRpidsForSetMinPinLength") (optional (below (2 ^ 32))) (λ x r. record r { max_rpids_for_set_min_pin_length = x })
       ∷ default 17 (codes "preferredPlatformUvAttempts") (optional (below (2 ^ 32))) (λ x r. record r { preferred_platform_uv_attempts = x })
       ∷ default 18 (codes "uvModality") (optional (below (2 ^ 32))) (λ x r. record r { uv_modality = x })
+      ∷ default 19 (codes "certifications") (optional kept) (λ x r. record r { certifications = x })
       ∷ default 20 (codes "remainingDiscoverableCredentials") (optional (below (2 ^ 32))) (λ x r. record r { remaining_discoverable_credentials = x })
       ∷ default 21 (codes "vendorPrototypeConfigCommands") (tolerated (accepted (below (2 ^ 32)))) (λ x r. record r { vendor_prototype_config_commands = x })
       ∷ default 22 (codes "attestationFormats") (tolerated (accepted text)) (λ x r. record r { attestation_formats = x })

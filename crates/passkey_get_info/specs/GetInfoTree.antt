@@ -1,9 +1,10 @@
 -- What an authenticatorGetInfo response is encoded as (CTAP 2.1, section 6.4).
 use Rattle.std.specs.Prelude.{◌≡◌, ◌<◌, ◌^◌, nat_lt, nat_le, ℕ, Bool, true, ◌&&◌, if◌then◌else◌, List, [], ◌∷◌, ◌++◌, map, length, Option, Some, None, option_map}
 use Rattle.std.specs.List.{All}
+use Rattle.std.specs.Option.{option_and_then}
 use Rattle.passkey_cbor.specs.Depth.{depth}
 use Rattle.passkey_cbor.specs.Front.{max_depth}
-use Rattle.passkey_cbor.specs.Item.{Item, boolean, byte_string, text_string}
+use Rattle.passkey_cbor.specs.Item.{Item, boolean, byte_string, text_string, null}
 use Rattle.passkey_core.specs.DataNormal.{Where}
 use Rattle.passkey_get_info.specs.GetInfo.{GetInfoParts}
 use Rattle.passkey_get_info.specs.GetInfoNames.{version_tree, normal_version, extension_tree, normal_extension}
@@ -13,6 +14,10 @@ use Rattle.passkey_kinds.specs.Tree.{Place, number_tree, list_tree, always, wher
 use Rattle.passkey_kinds.specs.Trees.{parameters_tree, transport_tree}
 use Rattle.passkey_kinds.specs.declared.write_fault.WriteFault.{WriteFault}
 use Rattle.passkey_kinds.specs.declared.write_fault.WriteFault.TheVariants.{OutOfMemory, NumberTooLarge}
+
+-- a kept item, encoded as it is
+abbrev pub where_kept : Item → Option Item → Place
+where_kept key o = (key, o)
 
 -- what the authenticator supports
 abbrev pub capability_places : GetInfoParts → List Place
@@ -38,6 +43,7 @@ limit_places r =
     ∷ where_some (number_tree 16) number_tree r.max_rpids_for_set_min_pin_length
     ∷ where_some (number_tree 17) number_tree r.preferred_platform_uv_attempts
     ∷ where_some (number_tree 18) number_tree r.uv_modality
+    ∷ where_kept (number_tree 19) r.certifications
     ∷ where_some (number_tree 20) number_tree r.remaining_discoverable_credentials
     ∷ where_some (number_tree 21) (list_tree number_tree) r.vendor_prototype_config_commands
     ∷ where_some (number_tree 22) (list_tree text_string) r.attestation_formats
@@ -96,10 +102,24 @@ is_spelled (Some n) = nat_lt n (2 ^ 64)
 abbrev pub fault_of_size : Option ℕ → WriteFault
 fault_of_size size = if is_spelled size then OutOfMemory else NumberTooLarge
 
+-- the item has fewer levels than are decoded, so that a message may hold it
+abbrev pub has_room : Option Item → Bool
+has_room None = true
+has_room (Some i) = nat_lt (depth i) max_depth
+
 -- the size can be encoded, and the encoding has at most as many levels as are decoded
 abbrev pub is_get_info_coherent : GetInfoParts → Bool
 is_get_info_coherent r = is_spelled r.max_msg_size && nat_le (depth (get_info_tree r)) max_depth
 
+-- null decodes to no item
+abbrev pub unless_null : Item → Option Item
+unless_null null = None
+unless_null i = Some i
+
 -- what the encoding decodes to
 abbrev pub normal_get_info : GetInfoParts → GetInfoParts
-normal_get_info r = record r { versions = map normal_version r.versions; extensions = option_map (map normal_extension) r.extensions }
+normal_get_info r = record r {
+  versions = map normal_version r.versions;
+  extensions = option_map (map normal_extension) r.extensions;
+  certifications = option_and_then unless_null r.certifications;
+}

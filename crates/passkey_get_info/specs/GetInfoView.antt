@@ -1,6 +1,7 @@
 -- What contracts see of an authenticatorGetInfo response.
 use Rattle.std.specs.Prelude.{option_map}
 use Rattle.std.specs.Int.NonZero.{non_zero_u128_get}
+use Rattle.passkey_cbor.specs.View.{item_of}
 use Rattle.passkey_get_info.specs.GetInfo.{GetInfoParts}
 use Rattle.passkey_get_info.specs.declared.response.Response.{Response}
 
@@ -22,6 +23,7 @@ get_info_parts r = record {
   max_rpids_for_set_min_pin_length = r.max_rpids_for_set_min_pin_length;
   preferred_platform_uv_attempts = r.preferred_platform_uv_attempts;
   uv_modality = r.uv_modality;
+  certifications = option_map item_of r.certifications;
   remaining_discoverable_credentials = r.remaining_discoverable_credentials;
   vendor_prototype_config_commands = r.vendor_prototype_config_commands;
   attestation_formats = r.attestation_formats;

@@ -7,7 +7,8 @@ ghost use Rattle.passkey_kinds.specs.RecordLaws.{PassesOverUnknown};
 ghost use Rattle.passkey_kinds.specs.RecordLaws.{KnowsMaps};
 
 /// The encoding of a coherent response, whatever bytes follow, decodes to the response, in which an
-/// unknown version or extension with a known name becomes the known one.
+/// unknown version or extension with a known name becomes the known one, and certifications that are
+/// null become `None`.
 pub fn written_get_info_is_read_back()
     ensures { WrittenIsReadBack read_get_info get_info_tree GetInfoFits is_get_info_coherent normal_get_info }
 {

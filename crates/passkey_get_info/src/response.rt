@@ -60,6 +60,9 @@ pub struct Response {
     pub preferred_platform_uv_attempts: Option<u32>,
     /// 0x12: the user verification methods, as flags of FIDO's registry of predefined values.
     pub uv_modality: Option<u32>,
+    /// 0x13: the authenticator's certifications, a map from their names to levels. Any data item is
+    /// kept as it is.
+    pub certifications: Option<Value>,
     /// 0x14: how many more discoverable credentials can be stored, an estimate.
     pub remaining_discoverable_credentials: Option<u32>,
     /// 0x15: the ids of the vendor's authenticatorConfig subcommands. Decoding drops elements that
@@ -114,6 +117,7 @@ impl Record for Response {
             Row::Optional(0x10, "maxRpidsForSetMinPinLength"),
             Row::Optional(0x11, "preferredPlatformUvAttempts"),
             Row::Optional(0x12, "uvModality"),
+            Row::Optional(0x13, "certifications"),
             Row::Optional(0x14, "remainingDiscoverableCredentials"),
             Row::Optional(0x15, "vendorPrototypeConfigCommands"),
             Row::Optional(0x16, "attestationFormats"),
@@ -149,6 +153,7 @@ impl Record for Response {
             0x10 => set(&mut self.max_rpids_for_set_min_pin_length, alloc, source),
             0x11 => set(&mut self.preferred_platform_uv_attempts, alloc, source),
             0x12 => set(&mut self.uv_modality, alloc, source),
+            0x13 => set(&mut self.certifications, alloc, source),
             0x14 => set(&mut self.remaining_discoverable_credentials, alloc, source),
             0x15 => set_accepted_or_none(&mut self.vendor_prototype_config_commands, alloc, source),
             0x16 => set_accepted_or_none(&mut self.attestation_formats, alloc, source),
@@ -187,6 +192,7 @@ impl Response {
             max_rpids_for_set_min_pin_length: None,
             preferred_platform_uv_attempts: None,
             uv_modality: None,
+            certifications: None,
             remaining_discoverable_credentials: None,
             vendor_prototype_config_commands: None,
             attestation_formats: None,

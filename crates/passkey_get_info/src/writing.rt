@@ -5,7 +5,7 @@ ghost use Rattle.passkey_cbor.specs.View.{item_of};
 ghost use Rattle.passkey_cbor.specs.Writable.{IsWritable};
 ghost use Rattle.passkey_cbor.specs.Written.{written};
 ghost use Rattle.passkey_core.specs.DataNormal.{Where};
-ghost use Rattle.passkey_get_info.specs.GetInfoTree.{capability_places, limit_places, get_info_tree, IsPositive, CapabilitiesFit, LimitsFit, GetInfoFits, is_spelled, fault_of_size, is_get_info_coherent};
+ghost use Rattle.passkey_get_info.specs.GetInfoTree.{capability_places, limit_places, get_info_tree, IsPositive, CapabilitiesFit, LimitsFit, GetInfoFits, is_spelled, fault_of_size, has_room, is_get_info_coherent};
 ghost use Rattle.passkey_get_info.specs.GetInfoView.{get_info_parts};
 ghost use Rattle.passkey_kinds.specs.Tree.{number_tree, laid};
 ghost use Rattle.passkey_kinds.specs.Written.{members_of};
@@ -17,6 +17,9 @@ use passkey_kinds::{WriteFault, Written};
 use passkey_memory::OutOfMemory;
 use std::alloc::Global;
 use std::num::NonZeroU128;
+
+/// How many levels of data items are decoded.
+const MAX_DEPTH: usize = 256;
 
 /// Returns the size as an integer, or `None` if it is 2^64 or more.
 fn spelled(size: NonZeroU128) -> Option<Integer>
@@ -38,6 +41,16 @@ fn size_item(size: Option<NonZeroU128>) -> Result<Option<Value>, WriteFault>
             None => Err(WriteFault::NumberTooLarge),
         },
         None => Ok(None),
+    }
+}
+
+/// Whether the item, if there is one, has fewer than 256 levels, so that a message may hold it.
+fn fits_in_message(item: &Option<Value>) -> bool
+    ensures { result ≡ has_room (option_map item_of item.now) }
+{
+    match item {
+        Some(item) => item.depth() < MAX_DEPTH,
+        None => true,
     }
 }
 
@@ -72,6 +85,7 @@ impl Response {
         members.put_some(alloc, 0x10_u8, &self.max_rpids_for_set_min_pin_length)?;
         members.put_some(alloc, 0x11_u8, &self.preferred_platform_uv_attempts)?;
         members.put_some(alloc, 0x12_u8, &self.uv_modality)?;
+        members.put_some(alloc, 0x13_u8, &self.certifications)?;
         members.put_some(alloc, 0x14_u8, &self.remaining_discoverable_credentials)?;
         members.put_some(alloc, 0x15_u8, &self.vendor_prototype_config_commands)?;
         members.put_some(alloc, 0x16_u8, &self.attestation_formats)?;
@@ -102,10 +116,11 @@ impl Response {
     }
 
     /// Returns whether the response can be encoded, and the encoding can be decoded again:
-    /// `max_msg_size` is below 2^64. Allocates nothing.
+    /// `max_msg_size` is below 2^64, and `certifications` have fewer than 256 levels. Allocates
+    /// nothing.
     pub fn is_coherent(&self) -> bool
         ensures { result ≡ is_get_info_coherent (get_info_parts self.now) }
     {
-        size_item(self.max_msg_size).is_ok()
+        size_item(self.max_msg_size).is_ok() && fits_in_message(&self.certifications)
     }
 }
