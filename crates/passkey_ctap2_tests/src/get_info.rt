@@ -90,10 +90,10 @@ fn options(rt: HostRuntime) {
 
 /// A response with every member. A number or byte under a member is the member's own number plus 32.
 const RESPONSE: &str = concat!(
-    "b81a0181684649444f5f325f3102816370726603500102030405060708090a0b0c0d0e0f1004a364706c6174f462726b",
+    "b81b0181684649444f5f325f3102816370726603500102030405060708090a0b0c0d0e0f1004a364706c6174f462726b",
     "f5627570f5051825068202010981637573620a81a264747970656a7075626c69632d6b657963616c67260b182b0cf40d",
-    "182d0e182e0f182f10183011183112183214183415821affffffff001681667061636b65641718371818f51819413918",
-    "1a81636e6663181bf4181c413c181d183d",
+    "182d0e182e0f182f10183011183112183213f514183415821affffffff001681667061636b65641718371818f518194139",
+    "181a81636e6663181bf4181c413c181d183d",
 );
 
 const RESPONSE_SHOWN: &str = concat!(
@@ -108,11 +108,12 @@ const RESPONSE_SHOWN: &str = concat!(
     "algorithms: Some([PublicKeyCredentialParameters { ty: PublicKey, alg: ES256 }]), ",
     "mac_serialized_large_blob_array: Some(43), force_pin_change: Some(false), min_pin_length: Some(45), ",
     "firmware_version: Some(46), max_cred_blob_length: Some(47), max_rpids_for_set_min_pin_length: Some(48), ",
-    "preferred_platform_uv_attempts: Some(49), uv_modality: Some(50), remaining_discoverable_credentials: Some(52), ",
+    "preferred_platform_uv_attempts: Some(49), uv_modality: Some(50), certifications: Some(Bool(true)), ",
+    "remaining_discoverable_credentials: Some(52), ",
     "vendor_prototype_config_commands: Some([4294967295, 0]), attestation_formats: Some([\"packed\"]), ",
     "uv_count_since_last_pin_entry: Some(55), long_touch_for_reset: Some(true), enc_identifier: Some(Bytes([57])), ",
     "transports_for_reset: Some([Nfc]), pin_complexity_policy: Some(false), ",
-    "pin_complexity_policy_url: Some(Bytes([60])), max_pin_length: Some(61) }, 161))",
+    "pin_complexity_policy_url: Some(Bytes([60])), max_pin_length: Some(61) }, 163))",
 );
 
 fn read_response(rt: &(impl Abort + AllocGlobal), item: &str) -> String {
