@@ -174,7 +174,26 @@ fn deepest_info() -> [u8; 277] {
 #[test]
 fn responses_of_get_info(rt: HostRuntime) {
     let least = "a20180035000000000000000000000000000000000";
-    assert_all::<Response>(&rt, &[(least, "\"Ok\"", 0)]);
+    let rows = [
+        (least, "\"Ok\"", 0),
+        // certifications: a map, null, and twice
+        (
+            "a3018003500000000000000000000000000000000013a1616102",
+            "\"Ok\"",
+            3,
+        ),
+        (
+            "a3018003500000000000000000000000000000000013f6",
+            "\"Ok\"",
+            0,
+        ),
+        (
+            "a4018003500000000000000000000000000000000013f66e63657274696669636174696f6e73f6",
+            "Repeated(19)",
+            0,
+        ),
+    ];
+    assert_all::<Response>(&rt, &rows);
     let deepest = deepest_info();
     assert_decoded::<Response>(&rt, 0, &deepest, "\"Ok\"", 0);
     let behind = bytes_of(&rt, "00a20180035000000000000000000000000000000000");
