@@ -1,10 +1,14 @@
 //! Messages that are decoded from bytes, and from the data item that begins the bytes.
 use anyhow::Result;
 use passkey_rewrite::BytesKind;
-use passkey_types::cbor::{CborError, Value};
+use passkey_types::cbor::{CborError, Value, item_len};
 use passkey_types::ctap2::extensions::HmacGetSecretInput;
 use passkey_types::ctap2::{Fault, Message, get_assertion, get_info, make_credential};
 use std::alloc::Global;
+
+// Bytes that decide much as a head: a number, what isn't well formed, an indefinite text string, array
+// and map, and the break.
+const HEADS: [u8; 6] = [0x00, 0x1c, 0x7f, 0x9f, 0xbf, 0xff];
 
 fn from_item<M: Message>(alloc: Global, bytes: &[u8]) -> Result<(M, usize), Fault> {
     match Value::from_slice(alloc, bytes) {
@@ -15,10 +19,7 @@ fn from_item<M: Message>(alloc: Global, bytes: &[u8]) -> Result<(M, usize), Faul
 }
 
 fn are_alike<M: Message>(alloc: Global, bytes: &[u8]) -> Result<bool> {
-    match (
-        M::from_slice(alloc, bytes),
-        from_item::<M>(alloc, bytes),
-    ) {
+    match (M::from_slice(alloc, bytes), from_item::<M>(alloc, bytes)) {
         (Ok((message, len)), Ok((other, other_len))) => {
             let encoding = message.to_vec(alloc)?;
             let other_encoding = other.to_vec(alloc)?;
@@ -29,19 +30,64 @@ fn are_alike<M: Message>(alloc: Global, bytes: &[u8]) -> Result<bool> {
     }
 }
 
-/// Whether the bytes are decoded to the same message, of the same length, or with the same fault,
-/// over a cursor and by way of a data item in memory. True for what is no message.
+fn is_cut_off<M: Message>(alloc: Global, bytes: &[u8]) -> bool {
+    matches!(M::from_slice(alloc, bytes), Err(Fault::DecodeFailed))
+}
+
+fn are_cut_off<M: Message>(alloc: Global, item: &[u8]) -> bool {
+    for len in 0..item.len() {
+        if !is_cut_off::<M>(alloc, &item[..len]) {
+            return false;
+        }
+    }
+    true
+}
+
+fn are_changed_alike<M: Message>(alloc: Global, item: &[u8], at: usize) -> Result<bool> {
+    for head in HEADS {
+        let mut changed = Vec::from_slice(alloc, item)?;
+        if let Some(byte) = changed.get_mut(at) {
+            *byte = head;
+        }
+        if !are_alike::<M>(alloc, &changed)? {
+            return Ok(false);
+        }
+    }
+    Ok(true)
+}
+
+fn is_decoded_alike<M: Message>(alloc: Global, bytes: &[u8]) -> Result<bool> {
+    if !are_alike::<M>(alloc, bytes)? {
+        return Ok(false);
+    }
+    let Some(item) = item_len(bytes).and_then(|len| bytes.get(..len)) else {
+        return Ok(true);
+    };
+    if !are_cut_off::<M>(alloc, item) {
+        return Ok(false);
+    }
+    for at in 0..item.len() {
+        if !are_changed_alike::<M>(alloc, item, at)? {
+            return Ok(false);
+        }
+    }
+    Ok(true)
+}
+
+/// Whether a message's bytes are decoded to the same message of the same length, or with the same
+/// fault, over a cursor and by way of a data item in memory. Its item is also cut off at each byte,
+/// which must be `DecodeFailed`, and has each byte replaced by some others. True for what is no message.
 pub fn are_decoded_alike(alloc: Global, kind: BytesKind, input: &str) -> Result<bool> {
     let Ok(bytes) = hex::decode(alloc, input.trim().as_bytes()) else {
         return Ok(true);
     };
     match kind {
         BytesKind::Cbor | BytesKind::Auth => Ok(true),
-        BytesKind::MakeRequest => are_alike::<make_credential::Request>(alloc, &bytes),
-        BytesKind::MakeResponse => are_alike::<make_credential::Response>(alloc, &bytes),
-        BytesKind::GetRequest => are_alike::<get_assertion::Request>(alloc, &bytes),
-        BytesKind::GetResponse => are_alike::<get_assertion::Response>(alloc, &bytes),
-        BytesKind::Info => are_alike::<get_info::Response>(alloc, &bytes),
-        BytesKind::HmacInput => are_alike::<HmacGetSecretInput>(alloc, &bytes),
+        BytesKind::MakeRequest => is_decoded_alike::<make_credential::Request>(alloc, &bytes),
+        BytesKind::MakeResponse => is_decoded_alike::<make_credential::Response>(alloc, &bytes),
+        BytesKind::GetRequest => is_decoded_alike::<get_assertion::Request>(alloc, &bytes),
+        BytesKind::GetResponse => is_decoded_alike::<get_assertion::Response>(alloc, &bytes),
+        BytesKind::Info => is_decoded_alike::<get_info::Response>(alloc, &bytes),
+        BytesKind::HmacInput => is_decoded_alike::<HmacGetSecretInput>(alloc, &bytes),
     }
 }
