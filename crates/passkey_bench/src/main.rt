@@ -1,9 +1,10 @@
 //! `passkey_bench CALL ROUNDS` reads bytes on standard input, makes the call so many times over them,
-//! and prints the sum of the lengths that were found. `bench/run` measures it.
+//! and prints the sum of the lengths that were found. `bench/run` measures it. A call `count-..` is made
+//! once, and prints whether a message was decoded, its heads and its nodes.
 #![tactic(auto)]
 
 use anyhow::{Result, bail};
-use passkey_cbor::{Value, item_len};
+use passkey_cbor::{Cursor, Value, item_len};
 use passkey_types::ctap2::{Message, get_assertion, get_info, make_credential};
 use std::alloc::Global;
 use std::env;
@@ -26,6 +27,7 @@ enum Call {
     Rewrite,
     Decode(Kind),
     DecodeAndEncode(Kind),
+    Count(Kind),
 }
 
 fn call_named(name: &str) -> Option<Call> {
@@ -36,6 +38,9 @@ fn call_named(name: &str) -> Option<Call> {
         "decode-info" => Some(Call::Decode(Kind::Info)),
         "decode-mc-response" => Some(Call::Decode(Kind::MakeResponse)),
         "decode-ga-request" => Some(Call::Decode(Kind::GetRequest)),
+        "count-info" => Some(Call::Count(Kind::Info)),
+        "count-mc-response" => Some(Call::Count(Kind::MakeResponse)),
+        "count-ga-request" => Some(Call::Count(Kind::GetRequest)),
         "rewrite-info" => Some(Call::DecodeAndEncode(Kind::Info)),
         "rewrite-mc-response" => Some(Call::DecodeAndEncode(Kind::MakeResponse)),
         "rewrite-ga-request" => Some(Call::DecodeAndEncode(Kind::GetRequest)),
@@ -58,6 +63,14 @@ fn rewritten<M: Message>(alloc: Global, bytes: &[u8]) -> usize {
         },
         Err(_) => 0,
     }
+}
+
+fn counted<M: Message>(alloc: Global, bytes: &[u8]) -> Result<String> {
+    let mut cursor = Cursor::new(bytes);
+    let is_decoded = M::read(alloc, &mut cursor).is_ok();
+    let count = cursor.count();
+    let (heads, nodes) = (count.heads, count.nodes);
+    Ok(format!(in alloc; "{is_decoded} {heads} {nodes}")?)
 }
 
 fn item_rewritten(alloc: Global, bytes: &[u8]) -> usize {
@@ -89,6 +102,7 @@ fn len_found(alloc: Global, call: Call, bytes: &[u8]) -> usize {
         Call::DecodeAndEncode(Kind::GetRequest) => {
             rewritten::<get_assertion::Request>(alloc, bytes)
         }
+        Call::Count(_) => 0,
     }
 }
 
@@ -98,6 +112,18 @@ fn sum_of(alloc: Global, call: Call, rounds: u32, bytes: &[u8]) -> usize {
         sum = sum.wrapping_add(len_found(alloc, call, bytes));
     }
     sum
+}
+
+fn output_of(alloc: Global, call: Call, rounds: u32, bytes: &[u8]) -> Result<String> {
+    match call {
+        Call::Count(Kind::Info) => counted::<get_info::Response>(alloc, bytes),
+        Call::Count(Kind::MakeResponse) => counted::<make_credential::Response>(alloc, bytes),
+        Call::Count(Kind::GetRequest) => counted::<get_assertion::Request>(alloc, bytes),
+        _ => {
+            let sum = sum_of(alloc, call, rounds, bytes);
+            Ok(format!(in alloc; "{sum}")?)
+        }
+    }
 }
 
 fn words_of(rt: &(impl Env + AllocGlobal)) -> Result<(Call, u32)> {
@@ -118,6 +144,9 @@ fn main(rt: HostRuntime) -> Result<()> {
     let (call, rounds) = words_of(&rt)?;
     let mut bytes = Vec::new(rt.alloc());
     let _ = rt.stdin().read_to_end(&mut bytes)?;
-    println!(rt; "{}", sum_of(rt.alloc(), call, rounds, bytes.as_slice()))?;
+    println!(rt;
+        "{}",
+        output_of(rt.alloc(), call, rounds, bytes.as_slice())?
+    )?;
     Ok(())
 }
