@@ -89,4 +89,5 @@ def main():
             print(row(name, call, size, measured, counted), flush=True)
 
 
-main()
+if __name__ == "__main__":
+    main()
