@@ -68,90 +68,93 @@ fn assert_all<M: Message + Debug>(rt: &(impl Abort + AllocGlobal), rows: &[(&str
     }
 }
 
-// CTAP 2.1, section 12.5: keyAgreement (1), saltEnc (2), saltAuth (3), pinUvAuthProtocol (4).
+/// CTAP 2.1, section 12.5: keyAgreement (1), saltEnc (2), saltAuth (3), pinUvAuthProtocol (4). Each with what
+/// is decoded and the nodes that it makes.
+const INPUTS: &[(&str, &str, u128)] = &[
+    ("a301a1010202400340", "\"Ok\"", 3),
+    // lengths and numbers in other encodings
+    ("bf01a1010202400340ff", "\"Ok\"", 3),
+    ("b9000301a1010202400340", "\"Ok\"", 3),
+    ("a31801a1010202400340", "\"Ok\"", 3),
+    ("a3190001a1010202400340", "\"Ok\"", 3),
+    ("a31b0000000000000001a1010202400340", "\"Ok\"", 3),
+    // keyAgreement by its name: a text string, a byte string, both in chunks, of one byte, and empty
+    ("a36c6b657941677265656d656e74a1010202400340", "\"Ok\"", 3),
+    ("a34c6b657941677265656d656e74a1010202400340", "\"Ok\"", 3),
+    (
+        "a37f636b65796941677265656d656e74ffa1010202400340",
+        "\"Ok\"",
+        3,
+    ),
+    (
+        "a35f436b65794941677265656d656e74ffa1010202400340",
+        "\"Ok\"",
+        3,
+    ),
+    (
+        "a37f616b6165617961416167617261656165616d6165616e6174ffa1010202400340",
+        "\"Ok\"",
+        3,
+    ),
+    (
+        "a37f60636b6579606941677265656d656e7460ffa1010202400340",
+        "\"Ok\"",
+        3,
+    ),
+    // unknown members in front, between and behind: a number, texts, byte strings, in chunks
+    ("a4050001a1010202400340", "\"Ok\"", 3),
+    ("a401a1010218ff8002400340", "\"Ok\"", 3),
+    ("a401a10102024003406178a0", "\"Ok\"", 3),
+    ("a47f6178ff8181810001a1010202400340", "\"Ok\"", 3),
+    ("a4410082a0a001a1010202400340", "\"Ok\"", 3),
+    ("a45f4100ff7f6161ff01a1010202400340", "\"Ok\"", 3),
+    ("a46b6b657941677265656d656e0001a1010202400340", "\"Ok\"", 3),
+    // what is no key of a member
+    ("a401a101021901000002400340", "BadKey", 3),
+    ("a1200000", "BadKey", 0),
+    ("a1f500", "BadKey", 0),
+    ("a18000", "BadKey", 0),
+    ("a1c00100", "BadKey", 0),
+    ("a1f600", "BadKey", 0),
+    // a member that is there twice
+    ("a401a001a002400340", "Repeated(1)", 1),
+    ("a401a06c6b657941677265656d656e7401", "DecodeFailed", 0),
+    ("a201a06c6b657941677265656d656e7401", "Repeated(1)", 1),
+    ("a201a07f636b65796941677265656d656e74ff01", "Repeated(1)", 1),
+    ("a204f60401", "Repeated(4)", 0),
+    // byte strings: in chunks, as numbers, as a text in base64url, and what is none
+    ("a301a0025f41014102ff0340", "\"Ok\"", 1),
+    ("a301a0028201020340", "\"Ok\"", 1),
+    ("a301a0026241510340", "\"Ok\"", 1),
+    ("a301a0027f61416151ff0340", "\"Ok\"", 1),
+    ("a301a00261210340", "Refused(2)", 1),
+    ("a301a002000340", "Refused(2)", 1),
+    ("a301a0024003c040", "Refused(3)", 1),
+    // the protocol
+    ("a401a0024003400401", "\"Ok\"", 1),
+    ("a401a00240034004f6", "\"Ok\"", 1),
+    ("a401a00240034004190100", "Refused(4)", 1),
+    // any item is kept as the key
+    ("a301c00102400340", "\"Ok\"", 2),
+    ("a301f9020002400340", "\"Ok\"", 1),
+    // what is missing, and the first fault
+    ("a201a00240", "Missing(3)", 1),
+    ("a0", "Missing(1)", 0),
+    ("80", "NotAMap", 0),
+    ("c0a0", "NotAMap", 0),
+    ("a202002000", "Refused(2)", 0),
+    ("a2020001", "DecodeFailed", 0),
+    ("a301a10102024003", "DecodeFailed", 0),
+    ("", "DecodeFailed", 0),
+];
+
 #[test]
 fn inputs_of_hmac_secret(rt: HostRuntime) {
-    let rows = [
-        ("a301a1010202400340", "\"Ok\"", 3),
-        // lengths and numbers in other encodings
-        ("bf01a1010202400340ff", "\"Ok\"", 3),
-        ("b9000301a1010202400340", "\"Ok\"", 3),
-        ("a31801a1010202400340", "\"Ok\"", 3),
-        ("a3190001a1010202400340", "\"Ok\"", 3),
-        ("a31b0000000000000001a1010202400340", "\"Ok\"", 3),
-        // keyAgreement by its name: a text string, a byte string, both in chunks, of one byte, and empty
-        ("a36c6b657941677265656d656e74a1010202400340", "\"Ok\"", 3),
-        ("a34c6b657941677265656d656e74a1010202400340", "\"Ok\"", 3),
-        (
-            "a37f636b65796941677265656d656e74ffa1010202400340",
-            "\"Ok\"",
-            3,
-        ),
-        (
-            "a35f436b65794941677265656d656e74ffa1010202400340",
-            "\"Ok\"",
-            3,
-        ),
-        (
-            "a37f616b6165617961416167617261656165616d6165616e6174ffa1010202400340",
-            "\"Ok\"",
-            3,
-        ),
-        (
-            "a37f60636b6579606941677265656d656e7460ffa1010202400340",
-            "\"Ok\"",
-            3,
-        ),
-        // unknown members in front, between and behind: a number, texts, byte strings, in chunks
-        ("a4050001a1010202400340", "\"Ok\"", 3),
-        ("a401a1010218ff8002400340", "\"Ok\"", 3),
-        ("a401a10102024003406178a0", "\"Ok\"", 3),
-        ("a47f6178ff8181810001a1010202400340", "\"Ok\"", 3),
-        ("a4410082a0a001a1010202400340", "\"Ok\"", 3),
-        ("a45f4100ff7f6161ff01a1010202400340", "\"Ok\"", 3),
-        ("a46b6b657941677265656d656e0001a1010202400340", "\"Ok\"", 3),
-        // what is no key of a member
-        ("a401a101021901000002400340", "BadKey", 3),
-        ("a1200000", "BadKey", 0),
-        ("a1f500", "BadKey", 0),
-        ("a18000", "BadKey", 0),
-        ("a1c00100", "BadKey", 0),
-        ("a1f600", "BadKey", 0),
-        // a member that is there twice
-        ("a401a001a002400340", "Repeated(1)", 1),
-        ("a401a06c6b657941677265656d656e7401", "DecodeFailed", 0),
-        ("a201a06c6b657941677265656d656e7401", "Repeated(1)", 1),
-        ("a201a07f636b65796941677265656d656e74ff01", "Repeated(1)", 1),
-        ("a204f60401", "Repeated(4)", 0),
-        // byte strings: in chunks, as numbers, as a text in base64url, and what is none
-        ("a301a0025f41014102ff0340", "\"Ok\"", 1),
-        ("a301a0028201020340", "\"Ok\"", 1),
-        ("a301a0026241510340", "\"Ok\"", 1),
-        ("a301a0027f61416151ff0340", "\"Ok\"", 1),
-        ("a301a00261210340", "Refused(2)", 1),
-        ("a301a002000340", "Refused(2)", 1),
-        ("a301a0024003c040", "Refused(3)", 1),
-        // the protocol
-        ("a401a0024003400401", "\"Ok\"", 1),
-        ("a401a00240034004f6", "\"Ok\"", 1),
-        ("a401a00240034004190100", "Refused(4)", 1),
-        // any item is kept as the key
-        ("a301c00102400340", "\"Ok\"", 2),
-        ("a301f9020002400340", "\"Ok\"", 1),
-        // what is missing, and the first fault
-        ("a201a00240", "Missing(3)", 1),
-        ("a0", "Missing(1)", 0),
-        ("80", "NotAMap", 0),
-        ("c0a0", "NotAMap", 0),
-        ("a202002000", "Refused(2)", 0),
-        ("a2020001", "DecodeFailed", 0),
-        ("a301a10102024003", "DecodeFailed", 0),
-        ("", "DecodeFailed", 0),
-    ];
-    assert_all::<HmacGetSecretInput>(&rt, &rows);
+    assert_all::<HmacGetSecretInput>(&rt, INPUTS);
     let there = bytes_of(&rt, "00a301a1010202400340");
     assert_decoded::<HmacGetSecretInput>(&rt, 1, there.as_slice(), "\"Ok\"", 3);
-    assert_decoded::<HmacGetSecretInput>(&rt, 1, &there[..9], "DecodeFailed", 0);
+    let cut = bytes_of(&rt, "00a301a10102024003");
+    assert_decoded::<HmacGetSecretInput>(&rt, 1, cut.as_slice(), "DecodeFailed", 0);
 }
 
 /// {1: [], 3: 16 bytes 00} behind an unknown member of as many levels as there may be: CTAP 2.1,
