@@ -19,9 +19,9 @@ use std::fmt;
 /// 5.4.6).
 #[derive(Clone, Copy, Debug, PartialEq, Eq)]
 pub enum ResidentKeyRequirement {
-    /// Preferably not, but a discoverable credential is accepted.
+    /// Discouraged, but a discoverable credential is accepted.
     Discouraged,
-    /// Preferably, if the authenticator can make one.
+    /// Preferred, if the authenticator can make one.
     Preferred,
     /// Required: the client fails if no authenticator can make one.
     Required,

@@ -20,9 +20,9 @@ use std::fmt;
 pub enum UserVerificationRequirement {
     /// Required: the ceremony fails if the response doesn't have the flag UV.
     Required,
-    /// Preferably, if the authenticator can.
+    /// Preferred: the ceremony doesn't fail without it.
     Preferred,
-    /// Preferably not.
+    /// Discouraged: the relying party prefers to do without.
     Discouraged,
 }
 
