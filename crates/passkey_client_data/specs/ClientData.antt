@@ -1,4 +1,4 @@
--- Client data (WebAuthn Level 3, section 5.8.1), read of an object.
+-- Client data (WebAuthn Level 3, section 5.8.1), decoded from an object.
 use Rattle.std.specs.Prelude.{ℕ, Bool, List, Option, None, Result, Ok, Err, codes, [], ◌∷◌, ◌||◌}
 use Rattle.passkey_client_data.specs.ClientDataType.{client_data_type_named}
 use Rattle.passkey_client_data.specs.ExtraData.{is_unknown}
@@ -22,14 +22,14 @@ fixed_members_in names = do
   cross_origin ← or_default None (optional truth) (member (codes "crossOrigin") names)
   Ok (record { ty = ty; challenge = challenge; origin = origin; cross_origin = cross_origin })
 
--- whether one of them is there that may take memory to decode
+-- whether one of them is present that may take memory to decode
 unfoldable pub fixed_members_takes : Object → Bool
 fixed_members_takes = takes_any (
     (codes "challenge", is_text)
     ∷ (codes "origin", is_text)
     ∷ [])
 
--- what client data holds: beside the fixed members a value of its user's, and the members that neither knows
+-- what client data holds: the fixed members, the caller's value, and the members that neither knows
 pub record ClientData (E : Type 0) : Type 0 where
   pub ty : ClientDataType
   pub challenge : List ℕ

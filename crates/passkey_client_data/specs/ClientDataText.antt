@@ -1,4 +1,4 @@
--- The text that client data is written as (WebAuthn Level 3, section 5.8.1.1).
+-- The text that client data is encoded as (WebAuthn Level 3, section 5.8.1.1).
 use Rattle.std.specs.Prelude.{ℕ, List, [], ◌∷◌, ◌++◌, false, unwrap_or, Result, Ok, codes}
 use Rattle.passkey_client_data.specs.ClientData.{ClientData}
 use Rattle.passkey_client_data.specs.ClientDataType.{client_data_type_name}

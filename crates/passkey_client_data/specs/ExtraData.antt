@@ -1,4 +1,4 @@
--- Members of client data that a type of its user's knows.
+-- The further members of client data, which the caller's type knows.
 use Rattle.std.specs.Prelude.{ℕ, Bool, true, ◌&&◌, ◌||◌, not, List, codes}
 use Rattle.std.specs.Str.{bytes_eq}
 use Rattle.passkey_client_data.specs.MemberLists.{has_name}
@@ -12,7 +12,7 @@ is_fixed name = bytes_eq name (codes "type") || bytes_eq name (codes "challenge"
 abbrev pub is_unknown : (List ℕ → Bool) → List ℕ → Bool
 is_unknown has name = not (is_fixed name) && not (has name)
 
--- each name is one of the type's and none of all client data, and no name stands twice
+-- each name is the type's and not one that all client data has, and no name occurs twice
 abbrev pub are_extra : (List ℕ → Bool) → Members → Bool
 are_extra has no_members = true
 are_extra has (member name d ms) = has name && not (is_fixed name) && not (has_name name ms) && are_extra has ms

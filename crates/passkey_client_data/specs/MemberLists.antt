@@ -10,7 +10,7 @@ abbrev pub members_where : (List ℕ → Bool) → Members → Members
 members_where test no_members = no_members
 members_where test (member name d ms) = if test name then member name d (members_where test ms) else members_where test ms
 
--- whether any member is there
+-- whether there is a member
 abbrev pub any_member : Members → Bool
 any_member no_members = false
 any_member (member name d ms) = true
@@ -25,13 +25,13 @@ abbrev pub has_name : List ℕ → Members → Bool
 has_name name no_members = false
 has_name name (member other d ms) = bytes_eq name other || has_name name ms
 
--- the members, where no float stands in any of them
+-- the members, if none of them holds a float
 abbrev pub without_floats : List ℕ → Members → Result Members Fault
 without_floats name ms = if members_have_float ms then Err (float name) else Ok ms
 
 -- ---- for private clauses
 
--- the members with d at the name: it stays where it stands, and goes last where it is new
+-- the members with d at the name: in the place of the name's member, or last if there is none
 abbrev pub added : List ℕ → Data → Members → Members
 added name d no_members = member name d no_members
 added name d (member other e ms) = if bytes_eq name other then member other d ms else member other e (added name d ms)

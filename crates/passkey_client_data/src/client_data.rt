@@ -29,9 +29,9 @@ pub struct CollectedClientData<E = ()> {
     /// Whether the caller's origin wasn't the same as its ancestors'; `None` means the member is
     /// absent.
     pub cross_origin: Option<bool>,
-    /// The further members that `E` knows.
+    /// The further members, which `E` knows.
     pub extra_data: E,
-    /// The members that neither `E` knows nor all client data has.
+    /// The unknown members: those that `E` doesn't know and not all client data has.
     pub unknown_keys: IndexMap<String, Value>,
 }
 
@@ -70,7 +70,7 @@ impl<E: ClientDataExtra> CollectedClientData<E> {
         })
     }
 
-    /// Returns a copy that holds the same. `OutOfMemory` if an allocation fails.
+    /// Returns an equal value. `OutOfMemory` if an allocation fails.
     pub fn try_clone(&self, alloc: Global) -> Result<CollectedClientData<E>, OutOfMemory>
         ensures { IfOk result (λ copy. held copy ≡ held self.now) }
     {

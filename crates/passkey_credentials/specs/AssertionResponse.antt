@@ -1,4 +1,4 @@
--- What an authenticator answers to a sign-in (WebAuthn Level 3, section 5.2.2).
+-- The response to a sign-in (WebAuthn Level 3, section 5.2.2).
 use Rattle.std.specs.Prelude.{List, [], ◌∷◌, None, Result, Ok, codes, Bool}
 use Rattle.passkey_credentials.specs.declared.assertion_response.AuthenticatorAssertionResponse.{AuthenticatorAssertionResponse}
 use Rattle.passkey_json.specs.Fault.{Fault}
@@ -17,7 +17,7 @@ assertion_response_in object = do
   attestation_object ← or_default None (optional bytes) (member (codes "attestationObject") object)
   Ok (record { client_data_json = client_data_json; authenticator_data = authenticator_data; signature = signature; user_handle = user_handle; attestation_object = attestation_object })
 
--- whether a member is there that may take memory to decode
+-- whether a member is present that may take memory to decode
 unfoldable pub assertion_response_takes : Object → Bool
 assertion_response_takes = takes_any (
     (codes "clientDataJSON", is_text_or_array)

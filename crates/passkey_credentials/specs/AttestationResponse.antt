@@ -1,4 +1,4 @@
--- What an authenticator answers when it makes a credential (WebAuthn Level 3, section 5.2.1).
+-- The response to a registration (WebAuthn Level 3, section 5.2.1).
 use Rattle.std.specs.Prelude.{List, [], ◌∷◌, None, Result, Ok, codes, Bool}
 use Rattle.passkey_credentials.specs.declared.attestation_response.AuthenticatorAttestationResponse.{AuthenticatorAttestationResponse}
 use Rattle.passkey_json.specs.Fault.{Fault}
@@ -19,7 +19,7 @@ attestation_response_in object = do
   transports ← or_default None (optional (list (one_named transport_named))) (member (codes "transports") object)
   Ok (record { client_data_json = client_data_json; authenticator_data = authenticator_data; public_key = public_key; public_key_algorithm = public_key_algorithm; attestation_object = attestation_object; transports = transports })
 
--- whether a member is there that may take memory to decode
+-- whether a member is present that may take memory to decode
 unfoldable pub attestation_response_takes : Object → Bool
 attestation_response_takes = takes_any (
     (codes "clientDataJSON", is_text_or_array)

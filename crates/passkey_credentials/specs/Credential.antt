@@ -1,4 +1,4 @@
--- Credentials that a client hands back (WebAuthn Level 3, section 5.1).
+-- Credentials that a browser returns (WebAuthn Level 3, section 5.1).
 use Rattle.std.specs.Prelude.{List, [], ◌∷◌, None, Result, Ok, codes, Bool}
 use Rattle.passkey_credentials.specs.declared.credential.PublicKeyCredential.{PublicKeyCredential}
 use Rattle.passkey_json.specs.Attachment.{attachment_name, attachment_named}
@@ -22,7 +22,7 @@ credential_in kind object = do
   results ← or_default no_outputs (record_kind client_outputs_in) (member (codes "clientExtensionResults") object)
   Ok (record { id = id; raw_id = raw_id; ty = ty; response = response; authenticator_attachment = attachment; client_extension_results = results })
 
--- whether a member is there that may take memory to decode, where a response may that passes the test
+-- whether a member is present that may take memory to decode, as a response that passes the test may
 unfoldable pub credential_takes : (Data → Bool) → Object → Bool
 credential_takes response_takes = takes_any (
     (codes "id", is_text)
@@ -41,6 +41,6 @@ credential_rows json form x =
     ∷ row (codes "clientExtensionResults") (client_outputs_json form x.client_extension_results)
     ∷ []
 
--- a credential, whose response is written by `json`
+-- a credential whose response is encoded by `json`
 abbrev pub credential_json : {R : Type 0} → (BytesForm → R → Data) → BytesForm → PublicKeyCredential R → Data
 credential_json json form x = written (credential_rows json form x)

@@ -23,8 +23,8 @@ pub struct AuthenticatorAttestationResponse {
     /// The authenticator data, as in the attestation object. A relying party should take it from
     /// there, where the attestation signs it.
     pub authenticator_data: Bytes,
-    /// The new key as a DER SubjectPublicKeyInfo; `None` if the client doesn't support its
-    /// algorithm.
+    /// The new key as a DER SubjectPublicKeyInfo; `None` means the member is absent, since the client
+    /// doesn't support the key's algorithm.
     pub public_key: Option<Bytes>,
     /// The COSE number of the key's algorithm.
     pub public_key_algorithm: i64,

@@ -4,7 +4,7 @@ use crate::attestation_response::AuthenticatorAttestationResponse;
 use passkey_json::{FromJson, JsonRecord, RecordToJson};
 
 mod sealed {
-    /// The responses that there are.
+    /// The two types of responses.
     pub trait Sealed {}
 }
 

@@ -1,4 +1,4 @@
--- What a relying party asks of extensions (WebAuthn Level 3, section 9.3).
+-- Client extension inputs (WebAuthn Level 3, section 9.3).
 use Rattle.std.specs.Prelude.{List, [], ◌∷◌, Bool, ◌||◌, Option, Some, None, is_some, Result, Ok, codes, if◌then◌else◌}
 use Rattle.passkey_json.specs.Fault.{Fault}
 use Rattle.passkey_json.specs.Kind.{truth, optional}
@@ -16,7 +16,7 @@ client_inputs_in object = do
   prf_already_hashed ← or_default None (optional (record_kind prf_inputs_in)) (member (codes "prfAlreadyHashed") object)
   Ok (record { cred_props = cred_props; prf = prf; prf_already_hashed = prf_already_hashed })
 
--- whether a member is there that may take memory to decode
+-- whether a member is present that may take memory to decode
 unfoldable pub client_inputs_takes : Object → Bool
 client_inputs_takes = takes_any (
     (codes "prf", takes_in prf_inputs_takes)
@@ -36,10 +36,10 @@ client_inputs_json form x = written (client_inputs_rows form x)
 abbrev pub no_inputs : AuthenticationExtensionsClientInputs
 no_inputs = record { cred_props = None; prf = None; prf_already_hashed = None }
 
--- whether anything is asked of an extension
+-- whether a member is present
 abbrev pub has_input : AuthenticationExtensionsClientInputs → Bool
 has_input x = is_some x.cred_props || is_some x.prf || is_some x.prf_already_hashed
 
--- the inputs, where one is there
+-- the inputs, if a member is present
 abbrev pub where_any : AuthenticationExtensionsClientInputs → Option AuthenticationExtensionsClientInputs
 where_any x = if has_input x then Some x else None

@@ -1,4 +1,4 @@
--- What extensions answer a relying party (WebAuthn Level 3, section 9.4).
+-- Client extension outputs (WebAuthn Level 3, section 9.4).
 use Rattle.std.specs.Prelude.{List, [], ◌∷◌, None, Result, Ok, codes, Bool}
 use Rattle.passkey_json.specs.Fault.{Fault}
 use Rattle.passkey_json.specs.Kind.{optional}
@@ -16,7 +16,7 @@ client_outputs_in object = do
   prf ← or_default None (optional (record_kind prf_outputs_in)) (member (codes "prf") object)
   Ok (record { cred_props = cred_props; prf = prf })
 
--- whether a member is there that may take memory to decode
+-- whether a member is present that may take memory to decode
 unfoldable pub client_outputs_takes : Object → Bool
 client_outputs_takes = takes_any (
     (codes "prf", takes_in prf_outputs_takes)

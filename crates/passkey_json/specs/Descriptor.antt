@@ -18,7 +18,7 @@ descriptor_in object = do
   transports ← accepted_list (one_named transport_named) (member (codes "transports") object)
   Ok (record { ty = ty; id = id; transports = transports })
 
--- whether a member is there that may take memory to decode
+-- whether a member is present that may take memory to decode
 unfoldable pub descriptor_takes : Object → Bool
 descriptor_takes = takes_any (
     (codes "id", is_text_or_array)

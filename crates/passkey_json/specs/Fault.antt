@@ -1,11 +1,11 @@
--- The faults of records, and what a reader answers.
+-- The faults of records, and what decoding one returns.
 use Rattle.std.specs.Prelude.{◌≡◌, ℕ, List, Result, Ok, Err}
 use Rattle.passkey_json.specs.declared.json_fault.JsonFault.{JsonFault}
 use Rattle.passkey_json.specs.declared.json_fault.JsonFault.TheVariants as json_fault
 use Rattle.passkey_json.specs.declared.refusal.Refusal.{Refusal}
 use Rattle.passkey_json.specs.declared.refusal.Refusal.TheVariants as refusal
 
--- what is wrong with a JSON value, by the name of the member that it is wrong in
+-- what is wrong with a JSON value, by the name of the faulty member
 pub data Fault : Type 0 where
   no_object : Fault
   missing : List ℕ → Fault
@@ -13,8 +13,8 @@ pub data Fault : Type 0 where
   float : List ℕ → Fault
   repeated : List ℕ → Fault
 
--- What a reader answers: what is wanted, the value or the fault; or memory was refused, where reading
--- takes some.
+-- The result is what is wanted, the value or the fault; or `OutOfMemory`, only if decoding takes
+-- memory.
 abbrev pub Gives : {A : Type 0} → Type 0 → Result A Fault → Result A JsonFault → Type 0
 Gives Takes wanted (Ok x) = wanted ≡ Ok x
 Gives Takes wanted (Err json_fault.OutOfMemory) = Takes
@@ -24,7 +24,7 @@ Gives Takes wanted (Err (json_fault.Refused name)) = wanted ≡ Err (refused nam
 Gives Takes wanted (Err (json_fault.Float name)) = wanted ≡ Err (float name.now)
 Gives Takes wanted (Err (json_fault.Repeated name)) = wanted ≡ Err (repeated name.now)
 
--- what a record's fault is where the record stands inside another
+-- the fault of a record inside another
 abbrev pub refusal_of : JsonFault → Refusal
 refusal_of json_fault.OutOfMemory = refusal.OutOfMemory
 refusal_of json_fault.NotAnObject = refusal.Refused

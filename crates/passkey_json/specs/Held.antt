@@ -1,4 +1,4 @@
--- What objects and members hold, and what their steps answer.
+-- What objects and members hold, and what decoding them returns.
 use Rattle.std.specs.Prelude.{◌≡◌, Result, Ok, Err, option_map}
 use Rattle.passkey_json.specs.Fault.{Fault, Gives}
 use Rattle.passkey_json.specs.Members.{Object, Member}
@@ -11,19 +11,19 @@ use Rattle.passkey_json.specs.declared.refusal.Refusal.TheVariants as refusal
 use Rattle.serde_json.specs.Find.{get}
 use Rattle.serde_json.specs.View.{view}
 
--- what stands at each name of the object
+-- the value at each name of the object, if any
 abbrev pub names_of : ObjectHeld → Object
 names_of o name = get name (view o.value.now)
 
 abbrev pub found : MemberHeld → Member
 found m = record { name = m.name.now; value = option_map (λ v. view v.now) m.value }
 
--- The same as `Gives`, through what is seen of a value.
+-- The same as `Gives`, for what contracts see of a value.
 abbrev pub GivesAs : {A M : Type 0} → Type 0 → (A → M) → Result M Fault → Result A JsonFault → Type 0
 GivesAs Takes seen wanted (Ok x) = wanted ≡ Ok (seen x)
 GivesAs Takes seen wanted (Err e) = Gives Takes wanted (Err e)
 
--- the value, or the default where it was refused
+-- the value, or the default if it was rejected
 abbrev pub IsUnlessRefused : {A : Type 0} → A → Result A Refusal → Result A JsonFault → Type 0
 IsUnlessRefused default (Ok x) result = result ≡ Ok x
 IsUnlessRefused default (Err refusal.Refused) result = result ≡ Ok default

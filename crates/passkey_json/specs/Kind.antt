@@ -14,8 +14,8 @@ use Rattle.serde_json.specs.Find.{as_str, as_array, as_object, as_i64}
 abbrev pub Kind : Type 0 → Type 0
 Kind A = Data → Option A
 
--- What a reader answers: the value, or that there is none; or memory was refused, where the JSON
--- value is one that takes some.
+-- The result is the value, or `Refused` if there is none; or `OutOfMemory`, only for a JSON value that
+-- takes memory.
 abbrev pub Answers : {A : Type 0} → Kind A → (Data → Bool) → Data → Result A Refusal → Type 0
 Answers kind takes d (Ok x) = kind d ≡ Some x
 Answers kind takes d (Err Refused) = kind d ≡ None
@@ -41,11 +41,11 @@ abbrev pub text : Kind (List ℕ)
 text (string s) = Some s
 text _ = None
 
--- the truth that a text names
+-- the boolean that a text names
 abbrev pub truth_named : List ℕ → Option Bool
 truth_named s = if bytes_eq s (codes "true") then Some true else (if bytes_eq s (codes "false") then Some false else None)
 
--- a truth, or its name
+-- a boolean, or its name
 abbrev pub truth_text : Kind Bool
 truth_text (boolean b) = Some b
 truth_text (string s) = truth_named s
@@ -63,12 +63,12 @@ abbrev pub natural_below : ℕ → ℤ → Option ℕ
 natural_below limit (pos n) = if nat_lt n limit then Some n else None
 natural_below limit (negsuc n) = None
 
--- a whole number in 64 bits with its sign
+-- a signed integer of 64 bits
 abbrev pub whole : Kind ℤ
 whole (number n) = as_i64 n
 whole _ = None
 
--- such a number, or a text of one, cut to its whole part
+-- such an integer, or a text of a number, cut towards zero
 abbrev pub numeral : Kind ℤ
 numeral (number n) = as_i64 n
 numeral (string s) = whole_64 s
@@ -84,14 +84,14 @@ word d = option_and_then (natural_below (2 ^ 32)) (numeral d)
 unfoldable pub algorithm : Kind Algorithm
 algorithm d = option_and_then algorithm_named (numeral d)
 
--- ---- lists, and what may lack
+-- ---- lists and options
 
--- null is nothing
+-- null is `None`
 abbrev pub optional : {A : Type 0} → Kind A → Kind (Option A)
 optional kind null = Some None
 optional kind d = option_map Some (kind d)
 
--- the value of each element, where each has one
+-- the value of each element, if each has one
 abbrev pub each : {A : Type 0} → Kind A → Items → Option (List A)
 each kind no_items = Some []
 each kind (item d ds) = option_and_then (λ x. option_map (λ xs. x ∷ xs) (each kind ds)) (kind d)
@@ -113,11 +113,11 @@ abbrev pub accepted : {A : Type 0} → Kind A → Kind (List A)
 accepted kind (array ds) = Some (accepted_of kind ds)
 accepted kind _ = None
 
--- the value, or nothing where the kind refuses
+-- the value, or `None` if the kind rejects it
 abbrev pub tolerated : {A : Type 0} → Kind A → Kind (Option A)
 tolerated kind d = Some (kind d)
 
--- a text in base64url or base64 between white space, or an array of bytes
+-- a text in base64url or base64, surrounding white space aside, or an array of bytes
 abbrev pub bytes : Kind (List ℕ)
 bytes (string s) = text_bytes (trim s)
 bytes (array ds) = each byte ds

@@ -1,4 +1,4 @@
--- Maps from texts, read of objects and written.
+-- Maps from texts, decoded from objects and encoded.
 use Rattle.std.specs.FinMap as fin
 use Rattle.std.specs.Option.{option_and_then}
 use Rattle.std.specs.Prelude.{ℕ, List, [], ◌∷◌, Option, Some, None}
@@ -6,7 +6,7 @@ use Rattle.passkey_bytes.specs.Map.{ByteMap}
 use Rattle.passkey_json.specs.Kind.{Kind}
 use Rattle.serde_json.specs.Data.{Data, object, Members, no_members, member}
 
--- the map with the members' values, where each is accepted
+-- the map with the members' values, if each is accepted
 abbrev pub with_members : {A : Type 0} → Kind A → ByteMap A → Members → Option (ByteMap A)
 with_members kind m no_members = Some m
 with_members kind m (member name d ms) = option_and_then (λ x. with_members kind (fin.insert m name x) ms) (kind d)
@@ -16,7 +16,7 @@ abbrev pub map_from_texts : {A : Type 0} → Kind A → Kind (ByteMap A)
 map_from_texts kind (object ms) = with_members kind fin.empty ms
 map_from_texts kind _ = None
 
--- the members that entries are written as
+-- the members that entries are encoded as
 abbrev pub members_json : {A : Type 0} → (A → Data) → List (List ℕ × A) → Members
 members_json json [] = no_members
 members_json json (e ∷ es) = member e.0 (json e.1) (members_json json es)

@@ -1,4 +1,4 @@
--- Reading an object member by member, in the order of a table.
+-- Decoding an object member by member, in the order of a table.
 use Rattle.std.specs.Prelude.{ℕ, List, Option, Some, None, Result, Ok, Err, option_map, option_and_then, unwrap_or, if◌then◌else◌, Bool, false, IsTrue}
 use Rattle.std.specs.List.{list_any}
 use Rattle.std.specs.Option.{ok_or, option_map_or}
@@ -9,28 +9,28 @@ use Rattle.serde_json.specs.Data.{Data}
 use Rattle.serde_json.specs.Find.{get}
 use Rattle.serde_json.specs.Written.{has_float}
 
--- the answer that follows from a value, or the fault
+-- the result that follows from a value, or the fault
 infixl 10 ◌>>=◌
 abbrev pub ◌>>=◌ : {A B : Type 0} → Result A Fault → (A → Result B Fault) → Result B Fault
 (Ok x) >>= f = f x
 (Err e) >>= f = Err e
 
--- what stands at each name
+-- the value at each name, if any
 abbrev pub Object : Type 0
 Object = List ℕ → Option Data
 
 abbrev pub object_of : Data → Result Object Fault
 object_of d = if is_object d then Ok (λ name. get name d) else Err no_object
 
--- what reading members answers of what is an object
+-- what the members of an object decode to; other values are no object
 abbrev pub in_object : {A : Type 0} → (Object → Result A Fault) → Data → Result A Fault
 in_object members d = object_of d >>= members
 
--- a record inside another, where any fault refuses it
+-- a record inside another, which is rejected for any fault
 abbrev pub record_kind : {A : Type 0} → (Object → Result A Fault) → Kind A
 record_kind members d = result_ok (in_object members d)
 
--- a member's name, and what stands there
+-- a member's name, and its value, if it is present
 pub record Member : Type 0 where
   pub name : List ℕ
   pub value : Option Data
@@ -43,19 +43,19 @@ member name object = under name (object name)
 
 -- ---- where decoding may take memory
 
--- something is there that may take memory to decode
+-- a value is present, and may take memory to decode
 abbrev pub takes_at : {A : Type 0} → (A → Bool) → Option A → Bool
 takes_at takes found = option_map_or takes found false
 
--- a member is there whose value may take memory to decode
+-- the member is present, and its value may take memory to decode
 abbrev pub MemberTakes : (Data → Bool) → Member → Type 0
 MemberTakes takes m = IsTrue (takes_at takes m.value)
 
--- names of members, and which values there may take memory to decode
+-- names of members, and which of their values may take memory to decode
 abbrev pub Costs : Type 0
 Costs = List (List ℕ × (Data → Bool))
 
--- one of these members is there, with such a value
+-- one of these members is present with such a value
 unfoldable pub takes_any : Costs → Object → Bool
 takes_any costs object = list_any (λ cost. takes_at cost.1 (object cost.0)) costs
 
@@ -70,11 +70,11 @@ one_of name (Some d) (Some e) = Err (repeated name)
 one_of name (Some d) None = Ok (under name (Some d))
 one_of name None found = Ok (under name found)
 
--- a member with another name, of which one may stand
+-- a member with two names, present under one of them at most
 abbrev pub aliased : List ℕ → List ℕ → Object → Result Member Fault
 aliased name other object = one_of name (object name) (object other)
 
--- a value that is refused, for a float or for something else
+-- the fault of a rejected value, by whether it holds a float
 abbrev pub fault_of : List ℕ → Data → Fault
 fault_of name d = if has_float d then float name else refused name
 
@@ -89,26 +89,26 @@ abbrev pub may : {A : Type 0} → Kind A → A → List ℕ → Option Data → 
 may kind default name (Some d) = judged kind name d
 may kind default name None = Ok default
 
--- the value, which must be there
+-- the value, which is required
 unfoldable pub required : {A : Type 0} → Kind A → Member → Result A Fault
 required kind m = must kind m.name m.value
 
--- the value, or a default where none is there
+-- the value, or the default if it is absent
 unfoldable pub or_default : {A : Type 0} → A → Kind A → Member → Result A Fault
 or_default default kind m = may kind default m.name m.value
 
--- some value, where one is there
+-- the value, or `None` if it is absent
 unfoldable pub given : {A : Type 0} → Kind A → Member → Result (Option A) Fault
 given kind m = may (λ d. option_map Some (kind d)) None m.name m.value
 
--- the value, or a default where none is there or it is refused
+-- the value, or the default if it is absent or rejected
 unfoldable pub tolerated : {A : Type 0} → A → Kind A → Member → Result A Fault
 tolerated default kind m = Ok (unwrap_or (option_and_then kind m.value) default)
 
--- the value, which must be there, or a default where it is refused
+-- the value, which is required, or the default if it is rejected
 unfoldable pub required_tolerated : {A : Type 0} → A → Kind A → Member → Result A Fault
 required_tolerated default kind m = must (λ d. Some (unwrap_or (kind d) default)) m.name m.value
 
--- the accepted elements of a list, where one is there
+-- the accepted elements of an array, or `None` if it is absent or no array
 unfoldable pub accepted_list : {A : Type 0} → Kind A → Member → Result (Option (List A)) Fault
 accepted_list kind m = Ok (option_and_then (accepted kind) m.value)

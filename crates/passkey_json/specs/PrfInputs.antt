@@ -1,4 +1,4 @@
--- What a relying party asks of the extension prf (WebAuthn Level 3, section 10.1.4).
+-- Inputs of the extension prf (WebAuthn Level 3, section 10.1.4).
 use Rattle.std.specs.Prelude.{List, [], ◌∷◌, None, Result, Ok, codes, Bool}
 use Rattle.passkey_json.specs.Fault.{Fault}
 use Rattle.passkey_json.specs.Kind.{optional, is_object}
@@ -16,7 +16,7 @@ prf_inputs_in object = do
   eval_by_credential ← or_default None (optional (map_from_texts (record_kind prf_values_in))) (member (codes "evalByCredential") object)
   Ok (record { eval = eval; eval_by_credential = eval_by_credential })
 
--- whether a member is there that may take memory to decode
+-- whether a member is present that may take memory to decode
 unfoldable pub prf_inputs_takes : Object → Bool
 prf_inputs_takes = takes_any (
     (codes "eval", takes_in prf_values_takes)

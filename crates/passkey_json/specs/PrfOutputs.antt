@@ -1,4 +1,4 @@
--- What the extension prf answers (WebAuthn Level 3, section 10.1.4).
+-- Outputs of the extension prf (WebAuthn Level 3, section 10.1.4).
 use Rattle.std.specs.Prelude.{List, [], ◌∷◌, None, Result, Ok, codes, Bool}
 use Rattle.passkey_json.specs.Fault.{Fault}
 use Rattle.passkey_json.specs.Kind.{truth, optional}
@@ -15,7 +15,7 @@ prf_outputs_in object = do
   results ← or_default None (optional (record_kind prf_values_in)) (member (codes "results") object)
   Ok (record { enabled = enabled; results = results })
 
--- whether a member is there that may take memory to decode
+-- whether a member is present that may take memory to decode
 unfoldable pub prf_outputs_takes : Object → Bool
 prf_outputs_takes = takes_any (
     (codes "results", takes_in prf_values_takes)

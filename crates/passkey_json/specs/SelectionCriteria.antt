@@ -1,4 +1,4 @@
--- What a relying party asks of an authenticator (WebAuthn Level 3, section 5.4.4).
+-- A relying party's requirements for the authenticator (WebAuthn Level 3, section 5.4.4).
 use Rattle.std.specs.Prelude.{List, [], ◌∷◌, None, Result, Ok, codes}
 use Rattle.passkey_json.specs.Fault.{Fault}
 use Rattle.passkey_json.specs.Kind.{optional, one_named, truth_text}
@@ -32,6 +32,6 @@ selection_criteria_rows form x =
 abbrev pub selection_criteria_json : BytesForm → AuthenticatorSelectionCriteria → Data
 selection_criteria_json form x = written (selection_criteria_rows form x)
 
--- any authenticator, which verifies its user where it can
+-- any authenticator, with user verification preferred
 abbrev pub any_authenticator : AuthenticatorSelectionCriteria
 any_authenticator = record { authenticator_attachment = None; resident_key = None; require_resident_key = false; user_verification = Preferred }

@@ -1,4 +1,4 @@
--- What values are written as.
+-- What values are encoded as.
 use Rattle.std.specs.Prelude.{◌≡◌, ℕ, ℤ, Bool, true, ◌&&◌, not, List, [], ◌∷◌, map, Option, Some, None, IfSome, option_map, if◌then◌else◌}
 use Rattle.std.specs.List.{list_any}
 use Rattle.std.specs.Str.{bytes_eq}
@@ -15,12 +15,12 @@ use Rattle.serde_json.specs.Data.{Data, number, unsigned, string, array, object,
 use Rattle.serde_json.specs.Find.{of_integer}
 use Rattle.serde_json.specs.View.{items_of, members_view, view}
 
--- The JSON value reads as the value, also where null is read as nothing.
+-- The JSON value decodes to the value, also where null decodes to `None`.
 pub record ReadsBack {A : Type 0} (kind : Kind A) (x : A) (d : Data) : Type 0 where
   pub plain : kind d ≡ Some x
   pub some : optional kind d ≡ Some (Some x)
 
--- Where there is a value, what it is written as reads as it.
+-- If there is a value, its encoding decodes to it.
 pub record ReadsBackIf {A : Type 0} (kind : Kind A) (json : A → Data) (o : Option A) : Type 0 where
   pub there : IfSome o (λ x. ReadsBack kind x (json x))
 
@@ -40,20 +40,20 @@ abbrev pub bytes_json : BytesForm → List ℕ → Data
 bytes_json form.Numbers bytes = list_json natural_json bytes
 bytes_json form.Base64Url bytes = string (encode_of url_safe_no_pad bytes)
 
--- the elements that are written so far
+-- the elements encoded so far
 abbrev pub elements_so_far : Elements → List Data
 elements_so_far e = map view e.values.items
 
 -- ---- objects
 
--- a name, and what is written there
+-- a member's name, and its encoded value, if it is present
 abbrev pub Row : Type 0
 Row = List ℕ × Option Data
 
 abbrev pub row : List ℕ → Data → Row
 row name d = (name, Some d)
 
--- nothing is written where there is no value
+-- the member of an option, absent for `None`
 abbrev pub row_if : {A : Type 0} → List ℕ → (A → Data) → Option A → Row
 row_if name json o = (name, option_map json o)
 
@@ -69,17 +69,17 @@ put_rows ms (w ∷ ws) = put_rows (put_if w.0 w.1 ms) ws
 abbrev pub written : List Row → Data
 written ws = object (put_rows no_members ws)
 
--- the members that are written so far
+-- the members encoded so far
 abbrev pub so_far : Holder → Members
 so_far w = members_view w.members.entries
 
--- ---- looking up what was written
+-- ---- looking up encoded members
 
 abbrev pub at_name : List Row → List ℕ → Option Data
 at_name [] name = None
 at_name (w ∷ ws) name = if bytes_eq name w.0 then w.1 else at_name ws name
 
--- no name stands twice
+-- no name occurs twice
 abbrev pub are_apart : List Row → Bool
 are_apart [] = true
 are_apart (w ∷ ws) = not (list_any (λ (v : Row). bytes_eq w.0 v.0) ws) && are_apart ws

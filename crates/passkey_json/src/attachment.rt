@@ -1,5 +1,5 @@
 //! Authenticator attachment, decoded from JSON values and encoded.
-ghost use Rattle.std.specs.Prelude.{false};
+ghost use Rattle.std.specs.Prelude.{false, Some};
 ghost use Rattle.passkey_json.specs.Kind.{one_named};
 ghost use Rattle.passkey_json.specs.Attachment.{attachment_name, attachment_named, attachment_own};
 ghost use Rattle.serde_json.specs.Data.{string};
@@ -13,6 +13,7 @@ use passkey_memory::OutOfMemory;
 use passkey_webauthn::EnumNames;
 use serde_json::Value;
 use std::alloc::Global;
+use std::fmt;
 
 /// Authenticator attachment (WebAuthn Level 3, section 5.4.5).
 #[derive(Clone, Copy, Debug, PartialEq, Eq)]
@@ -43,6 +44,15 @@ impl EnumNames for AuthenticatorAttachment {
             AuthenticatorAttachment::Platform => "platform",
             AuthenticatorAttachment::CrossPlatform => "cross-platform",
         }
+    }
+}
+
+impl fmt::Display for AuthenticatorAttachment {
+    ghost output = { λ x. Some (attachment_name x) };
+
+    /// The attachment as WebAuthn Level 3 names it.
+    fn fmt<W: fmt::Write>(&self, f: &mut fmt::Formatter<W>) -> fmt::Result {
+        f.write_str(self.name())
     }
 }
 

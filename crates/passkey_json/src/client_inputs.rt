@@ -21,17 +21,18 @@ use std::alloc::Global;
 /// 9.3).
 #[derive(Debug, Drop)]
 pub struct AuthenticationExtensionsClientInputs {
-    /// credProps: whether properties of the new credential are asked for; `None` means the member
-    /// is absent.
+    /// credProps: whether the relying party asks for properties of the new credential; `None` means
+    /// the member is absent.
     pub cred_props: Option<bool>,
-    /// prf: its salts; `None` means the member is absent.
+    /// prf: the salts; `None` means the member is absent.
     pub prf: Option<AuthenticationExtensionsPrfInputs>,
-    /// prfAlreadyHashed: the same, with salts that are hashed already.
+    /// prfAlreadyHashed, which WebAuthn Level 3 doesn't define: the same, with salts that are hashed
+    /// already; `None` means the member is absent.
     pub prf_already_hashed: Option<AuthenticationExtensionsPrfInputs>,
 }
 
 impl AuthenticationExtensionsClientInputs {
-    /// No extension is asked for anything.
+    /// Inputs without members.
     pub fn empty() -> AuthenticationExtensionsClientInputs
         ensures { result ≡ no_inputs }
     {
@@ -42,7 +43,7 @@ impl AuthenticationExtensionsClientInputs {
         }
     }
 
-    /// `Some` with the inputs if one is present.
+    /// The inputs, or `None` if no member is present.
     pub fn zip_contents(self) -> Option<AuthenticationExtensionsClientInputs>
         ensures { result ≡ where_any self }
     {

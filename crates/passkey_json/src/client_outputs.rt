@@ -29,7 +29,7 @@ pub struct AuthenticationExtensionsClientOutputs {
 }
 
 impl AuthenticationExtensionsClientOutputs {
-    /// No extension returned anything.
+    /// Outputs without members.
     pub fn empty() -> AuthenticationExtensionsClientOutputs
         ensures { result ≡ no_outputs }
     {

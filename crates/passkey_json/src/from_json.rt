@@ -24,7 +24,8 @@ pub trait FromJson: Drop {
         ensures { Answers kind takes (view value.now) result };
 }
 
-/// The number that the JSON value is, or that its text has.
+/// The integer that the JSON value is; of a text, the number that it writes, cut towards zero. `None`
+/// for a float, another value, or a number that doesn't fit.
 pub(crate) fn numeral(value: &Value) -> Option<i64>
     ensures { result ≡ numeral (view value.now) }
 {

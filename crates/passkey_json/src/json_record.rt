@@ -15,17 +15,18 @@ use std::alloc::Global;
 /// A record that is decoded from an object, member by member. Members that it doesn't know are
 /// skipped.
 pub trait JsonRecord: Drop {
-    /// The record that an object stands for, or the first fault in the order of its members.
+    /// The record that an object decodes to, or the first fault in the order of the record's
+    /// members.
     ghost members: { Names → Result Self Fault };
 
     /// Whether decoding an object's members may take memory.
     ghost takes: { Names → Bool };
 
-    /// Decodes the record from an object, or returns the first fault in the order of its members:
-    /// `Repeated` for a member that is present under two names; `Float` or `Refused` for a value
-    /// that isn't of its kind, `Float` if it holds a float; `Missing` for an absent required
-    /// member. `OutOfMemory` if an allocation fails, and only if the object has a member that the
-    /// record knows and whose value takes memory to decode (`takes`).
+    /// Decodes the record from an object, or returns the first fault in the order of the record's
+    /// members: `Repeated` for a member that is present under two names; `Float` for a rejected
+    /// value that holds a float, `Refused` for any other; `Missing` for an absent required member.
+    /// `OutOfMemory` if an allocation fails, and only if the object has a member that the record
+    /// knows and whose value takes memory to decode (`takes`).
     fn from_object(object: &Object<'_>) -> Result<Self, JsonFault>
         ensures { Gives (IsTrue (takes (names_of object.now))) (members (names_of object.now)) result };
 

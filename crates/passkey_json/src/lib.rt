@@ -1,4 +1,4 @@
-//! How WebAuthn's types are decoded from JSON values and encoded as such.
+//! WebAuthn's types, decoded from JSON values and encoded.
 #![tactic(auto)]
 
 mod algorithm;

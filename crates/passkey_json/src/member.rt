@@ -63,7 +63,7 @@ impl<'a> Member<'a> {
     }
 
     /// Decodes a required member: `Missing` if it is absent. `Float` or `Refused` if its value
-    /// isn't one of the kind, `Float` if it holds a float. `OutOfMemory` if an allocation fails,
+    /// isn't of the kind, `Float` if it holds a float. `OutOfMemory` if an allocation fails,
     /// and only if the value takes memory to decode.
     #[tactic(auto, unfolding(crate::specs::Members::required))]
     pub fn required<T: FromJson>(self) -> Result<T, JsonFault>
@@ -76,7 +76,7 @@ impl<'a> Member<'a> {
     }
 
     /// Decodes a member, or returns the default if it is absent. `Float` or `Refused` if its value
-    /// isn't one of the kind, `Float` if it holds a float. `OutOfMemory` if an allocation fails,
+    /// isn't of the kind, `Float` if it holds a float. `OutOfMemory` if an allocation fails,
     /// and only if the value takes memory to decode.
     #[tactic(auto, unfolding(crate::specs::Members::or_default))]
     pub fn or_default<T: FromJson>(self, default: T) -> Result<T, JsonFault>
@@ -88,7 +88,7 @@ impl<'a> Member<'a> {
         }
     }
 
-    /// Decodes a member; `None` if it is absent. `Float` or `Refused` if its value isn't one of the
+    /// Decodes a member; `None` if it is absent. `Float` or `Refused` if its value isn't of the
     /// kind, `Float` if it holds a float. `OutOfMemory` if an allocation fails, and only if the
     /// value takes memory to decode.
     #[tactic(auto, unfolding(crate::specs::Members::given))]

@@ -27,12 +27,12 @@ pub struct AuthenticationExtensionsPrfInputs {
     pub eval: Option<AuthenticationExtensionsPrfValues>,
     /// evalByCredential: salts for single credentials, by their ids in base64url. Only a sign-in
     /// with a list of allowed credentials may have it; else the client fails with
-    /// NotSupportedError.
+    /// NotSupportedError. `None` means the member is absent.
     pub eval_by_credential: Option<Map<Text, AuthenticationExtensionsPrfValues>>,
 }
 
 impl AuthenticationExtensionsPrfInputs {
-    /// No salts.
+    /// Inputs without salts.
     pub fn empty() -> AuthenticationExtensionsPrfInputs
         ensures { result ≡ no_prf_inputs }
     {

@@ -1,4 +1,4 @@
-//! What the extension prf answers, decoded from JSON objects and encoded.
+//! Outputs of the extension prf, decoded from JSON objects and encoded.
 ghost use Rattle.passkey_json.specs.Members.{record_kind, takes_in};
 ghost use Rattle.passkey_json.specs.PrfOutputs.{prf_outputs_in, prf_outputs_json, prf_outputs_takes};
 

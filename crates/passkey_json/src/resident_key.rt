@@ -1,5 +1,5 @@
 //! Resident key requirements, decoded from JSON values and encoded.
-ghost use Rattle.std.specs.Prelude.{false};
+ghost use Rattle.std.specs.Prelude.{false, Some};
 ghost use Rattle.passkey_json.specs.Kind.{one_named};
 ghost use Rattle.passkey_json.specs.ResidentKey.{resident_key_name, resident_key_named, resident_key_own};
 ghost use Rattle.serde_json.specs.Data.{string};
@@ -13,14 +13,15 @@ use passkey_memory::OutOfMemory;
 use passkey_webauthn::EnumNames;
 use serde_json::Value;
 use std::alloc::Global;
+use std::fmt;
 
 /// Whether the relying party wants a client-side discoverable credential (WebAuthn Level 3, section
 /// 5.4.6).
 #[derive(Clone, Copy, Debug, PartialEq, Eq)]
 pub enum ResidentKeyRequirement {
-    /// Preferably not, but a discoverable credential is accepted.
+    /// Discouraged, but a discoverable credential is accepted.
     Discouraged,
-    /// Preferably, if the authenticator can make one.
+    /// Preferred, if the authenticator can make one.
     Preferred,
     /// Required: the client fails if no authenticator can make one.
     Required,
@@ -48,6 +49,15 @@ impl EnumNames for ResidentKeyRequirement {
             ResidentKeyRequirement::Preferred => "preferred",
             ResidentKeyRequirement::Required => "required",
         }
+    }
+}
+
+impl fmt::Display for ResidentKeyRequirement {
+    ghost output = { λ x. Some (resident_key_name x) };
+
+    /// The requirement as WebAuthn Level 3 names it.
+    fn fmt<W: fmt::Write>(&self, f: &mut fmt::Formatter<W>) -> fmt::Result {
+        f.write_str(self.name())
     }
 }
 

@@ -24,15 +24,18 @@ use std::alloc::Global;
 /// 3, section 5.4.4).
 #[derive(Debug, Drop)]
 pub struct AuthenticatorSelectionCriteria {
-    /// The attachment; `None` allows any.
+    /// The attachment; `None` means the member is absent, and allows any. Decoding ignores an unknown
+    /// value.
     pub authenticator_attachment: Option<AuthenticatorAttachment>,
-    /// Whether a discoverable credential is wanted; `None` means `required` if
-    /// `require_resident_key` is true, else `discouraged`.
+    /// Whether the relying party wants a discoverable credential; `None` means the member is absent:
+    /// `required` if `require_resident_key` is true, else `discouraged`. Decoding ignores an unknown
+    /// value.
     pub resident_key: Option<ResidentKeyRequirement>,
-    /// The same for Level 1; relying parties should set it to true exactly if `resident_key` is
-    /// `required`.
+    /// The same for clients of WebAuthn Level 1: a relying party should set it to true exactly if
+    /// `resident_key` is `required`. An absent value is decoded as false.
     pub require_resident_key: bool,
-    /// Whether user verification is wanted.
+    /// Whether the relying party wants user verification. An absent or unknown value is decoded as
+    /// `Preferred`.
     pub user_verification: UserVerificationRequirement,
 }
 

@@ -1,5 +1,5 @@
 //! User verification requirements, decoded from JSON values and encoded.
-ghost use Rattle.std.specs.Prelude.{false};
+ghost use Rattle.std.specs.Prelude.{false, Some};
 ghost use Rattle.passkey_json.specs.Kind.{one_named};
 ghost use Rattle.passkey_json.specs.UserVerification.{user_verification_name, user_verification_named, user_verification_own};
 ghost use Rattle.serde_json.specs.Data.{string};
@@ -13,15 +13,16 @@ use passkey_memory::OutOfMemory;
 use passkey_webauthn::EnumNames;
 use serde_json::Value;
 use std::alloc::Global;
+use std::fmt;
 
 /// Whether the relying party wants user verification (WebAuthn Level 3, section 5.8.6).
 #[derive(Clone, Copy, Debug, PartialEq, Eq)]
 pub enum UserVerificationRequirement {
     /// Required: the ceremony fails if the response doesn't have the flag UV.
     Required,
-    /// Preferably, if the authenticator can.
+    /// Preferred: the ceremony doesn't fail without it.
     Preferred,
-    /// Preferably not.
+    /// Discouraged: the relying party prefers to do without.
     Discouraged,
 }
 
@@ -47,6 +48,15 @@ impl EnumNames for UserVerificationRequirement {
             UserVerificationRequirement::Preferred => "preferred",
             UserVerificationRequirement::Discouraged => "discouraged",
         }
+    }
+}
+
+impl fmt::Display for UserVerificationRequirement {
+    ghost output = { λ x. Some (user_verification_name x) };
+
+    /// The requirement as WebAuthn Level 3 names it.
+    fn fmt<W: fmt::Write>(&self, f: &mut fmt::Formatter<W>) -> fmt::Result {
+        f.write_str(self.name())
     }
 }
 

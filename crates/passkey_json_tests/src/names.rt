@@ -1,5 +1,5 @@
 //! The names of values in WebAuthn Level 3.
-use crate::json::{assert_shows, debugged};
+use crate::json::{assert_shows, debugged, displayed};
 use passkey_client_data::ClientDataType;
 use passkey_json::{
     AuthenticatorAttachment, ResidentKeyRequirement, UserVerificationRequirement as Verification,
@@ -9,13 +9,25 @@ use passkey_options::{
     PublicKeyCredentialHints as Hint,
 };
 use passkey_webauthn::EnumNames;
-use std::fmt::Debug;
+use std::fmt::{Debug, Display};
 use std::process::Abort;
 
-/// Asserts what `{:?}` prints of the value that each name stands for.
-fn assert_finds<T: EnumNames + Debug>(rt: &(impl Abort + AllocGlobal), cases: &[(&str, &str)]) {
+/// Asserts that `{}` prints the value's name.
+fn assert_prints<T: Display>(rt: &(impl Abort + AllocGlobal), value: &T, want: &str) {
+    assert_shows(rt, want, displayed(rt, value), want);
+}
+
+/// Asserts what `{:?}` prints of the value with each name, if any, and that `{}` prints that name.
+fn assert_finds<T: EnumNames + Debug + Display>(
+    rt: &(impl Abort + AllocGlobal),
+    cases: &[(&str, &str)],
+) {
     for (name, want) in cases {
-        assert_shows(rt, name, debugged(rt, &T::from_name(name)), want);
+        let found = T::from_name(name);
+        assert_shows(rt, name, debugged(rt, &found), want);
+        if let Some(value) = &found {
+            assert_prints(rt, value, name);
+        }
     }
 }
 

@@ -13,7 +13,7 @@ conveyance_name conveyance.Enterprise = codes "enterprise"
 abbrev pub conveyance_named : List ℕ → Option AttestationConveyancePreference
 conveyance_named = named_in conveyance_name (conveyance.None ∷ conveyance.Indirect ∷ conveyance.Direct ∷ conveyance.Enterprise ∷ [])
 
--- each value is found by its own name
+-- each value's name finds the value
 pub conveyance_own : (x : AttestationConveyancePreference) → conveyance_named (conveyance_name x) ≡ Some x
 conveyance_own conveyance.None = refl
 conveyance_own conveyance.Indirect = refl

@@ -20,7 +20,7 @@ every_format =
 abbrev pub format_named : List ℕ → Option AttestationStatementFormatIdentifiers
 format_named = named_in format_name every_format
 
--- each value is found by its own name
+-- each value's name finds the value
 pub format_own : (x : AttestationStatementFormatIdentifiers) → format_named (format_name x) ≡ Some x
 format_own format.Packed = refl
 format_own format.Tpm = refl

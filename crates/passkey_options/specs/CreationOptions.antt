@@ -1,4 +1,4 @@
--- What a relying party asks for where a credential is made (WebAuthn Level 3, section 5.4).
+-- The options of a registration (WebAuthn Level 3, section 5.4).
 use Rattle.std.specs.Prelude.{List, [], ◌∷◌, None, Result, Ok, codes, Bool, ◌||◌}
 use Rattle.passkey_json.specs.ClientInputs.{client_inputs_in, client_inputs_json, client_inputs_takes}
 use Rattle.passkey_json.specs.Descriptor.{descriptor_in, descriptor_json}
@@ -59,7 +59,7 @@ creation_options_in object = do
     extensions = extensions;
   })
 
--- ---- whether a member is there that may take memory to decode
+-- ---- whether a member is present that may take memory to decode
 
 unfoldable pub required_members_takes : Object → Bool
 required_members_takes = takes_any (

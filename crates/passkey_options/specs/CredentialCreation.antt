@@ -1,4 +1,4 @@
--- What a page asks of the browser where a credential is made (WebAuthn Level 3, section 5.1.1).
+-- The argument of `navigator.credentials.create()` (WebAuthn Level 3, section 5.1.1).
 use Rattle.std.specs.Prelude.{List, [], ◌∷◌, Result, Ok, codes, Bool}
 use Rattle.passkey_json.specs.Fault.{Fault}
 use Rattle.passkey_json.specs.Members.{◌>>=◌, Object, member, record_kind, required, takes_any, takes_in}
@@ -13,7 +13,7 @@ credential_creation_in object = do
   public_key ← required (record_kind creation_options_in) (member (codes "publicKey") object)
   Ok (record { public_key = public_key })
 
--- whether a member is there that may take memory to decode
+-- whether a member is present that may take memory to decode
 unfoldable pub credential_creation_takes : Object → Bool
 credential_creation_takes = takes_any (
     (codes "publicKey", takes_in creation_options_takes)

@@ -1,4 +1,4 @@
--- What a page asks of the browser where a user signs in (WebAuthn Level 3, section 5.1.2).
+-- The argument of `navigator.credentials.get()` (WebAuthn Level 3, section 5.1.2).
 use Rattle.std.specs.Prelude.{List, [], ◌∷◌, Result, Ok, codes, Bool}
 use Rattle.passkey_json.specs.Fault.{Fault}
 use Rattle.passkey_json.specs.Members.{◌>>=◌, Object, member, record_kind, required, takes_any, takes_in}
@@ -13,7 +13,7 @@ credential_request_in object = do
   public_key ← required (record_kind request_options_in) (member (codes "publicKey") object)
   Ok (record { public_key = public_key })
 
--- whether a member is there that may take memory to decode
+-- whether a member is present that may take memory to decode
 unfoldable pub credential_request_takes : Object → Bool
 credential_request_takes = takes_any (
     (codes "publicKey", takes_in request_options_takes)

@@ -1,4 +1,4 @@
--- Which authenticator a user will probably take (WebAuthn Level 3, section 5.8.8).
+-- Which kind of authenticator the user will probably use (WebAuthn Level 3, section 5.8.8).
 use Rattle.std.specs.Prelude.{◌≡◌, ℕ, List, [], ◌∷◌, Option, Some, codes, refl}
 use Rattle.passkey_options.specs.declared.hints.PublicKeyCredentialHints.{PublicKeyCredentialHints}
 use Rattle.passkey_options.specs.declared.hints.PublicKeyCredentialHints.TheVariants as hint
@@ -12,7 +12,7 @@ hint_name hint.Hybrid = codes "hybrid"
 abbrev pub hint_named : List ℕ → Option PublicKeyCredentialHints
 hint_named = named_in hint_name (hint.SecurityKey ∷ hint.ClientDevice ∷ hint.Hybrid ∷ [])
 
--- each value is found by its own name
+-- each value's name finds the value
 pub hint_own : (x : PublicKeyCredentialHints) → hint_named (hint_name x) ≡ Some x
 hint_own hint.SecurityKey = refl
 hint_own hint.ClientDevice = refl

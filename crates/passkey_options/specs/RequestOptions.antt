@@ -1,4 +1,4 @@
--- What a relying party asks for where a user signs in (WebAuthn Level 3, section 5.5).
+-- The options of a sign-in (WebAuthn Level 3, section 5.5).
 use Rattle.std.specs.Prelude.{List, [], ◌∷◌, None, Result, Ok, codes, Bool, ◌||◌}
 use Rattle.passkey_json.specs.ClientInputs.{client_inputs_in, client_inputs_json, client_inputs_takes}
 use Rattle.passkey_json.specs.Descriptor.{descriptor_in, descriptor_json}
@@ -49,7 +49,7 @@ request_options_in object = do
     extensions = extensions;
   })
 
--- ---- whether a member is there that may take memory to decode
+-- ---- whether a member is present that may take memory to decode
 
 unfoldable pub credential_members_takes : Object → Bool
 credential_members_takes = takes_any (

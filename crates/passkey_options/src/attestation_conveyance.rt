@@ -1,5 +1,5 @@
 //! Attestation conveyance preferences, decoded from JSON values and encoded.
-ghost use Rattle.std.specs.Prelude.{false};
+ghost use Rattle.std.specs.Prelude.{false, Some};
 ghost use Rattle.passkey_json.specs.Kind.{one_named};
 ghost use Rattle.passkey_options.specs.AttestationConveyance.{conveyance_name, conveyance_named, conveyance_own};
 ghost use Rattle.serde_json.specs.Data.{string};
@@ -9,6 +9,7 @@ use passkey_memory::OutOfMemory;
 use passkey_webauthn::EnumNames;
 use serde_json::Value;
 use std::alloc::Global;
+use std::fmt;
 
 /// Which attestation the relying party wants (WebAuthn Level 3, section 5.4.7).
 #[derive(Clone, Copy, Debug, PartialEq, Eq)]
@@ -47,6 +48,15 @@ impl EnumNames for AttestationConveyancePreference {
             AttestationConveyancePreference::Direct => "direct",
             AttestationConveyancePreference::Enterprise => "enterprise",
         }
+    }
+}
+
+impl fmt::Display for AttestationConveyancePreference {
+    ghost output = { λ x. Some (conveyance_name x) };
+
+    /// The preference as WebAuthn Level 3 names it.
+    fn fmt<W: fmt::Write>(&self, f: &mut fmt::Formatter<W>) -> fmt::Result {
+        f.write_str(self.name())
     }
 }
 

@@ -1,5 +1,5 @@
 //! Attestation statement formats, decoded from JSON values and encoded.
-ghost use Rattle.std.specs.Prelude.{false};
+ghost use Rattle.std.specs.Prelude.{false, Some};
 ghost use Rattle.passkey_json.specs.Kind.{one_named};
 ghost use Rattle.passkey_options.specs.AttestationFormat.{format_name, format_named, format_own};
 ghost use Rattle.serde_json.specs.Data.{string};
@@ -9,6 +9,7 @@ use passkey_memory::OutOfMemory;
 use passkey_webauthn::EnumNames;
 use serde_json::Value;
 use std::alloc::Global;
+use std::fmt;
 
 /// An attestation statement format (WebAuthn Level 3, section 8.1).
 #[derive(Clone, Copy, Debug, PartialEq, Eq)]
@@ -59,6 +60,15 @@ impl EnumNames for AttestationStatementFormatIdentifiers {
             AttestationStatementFormatIdentifiers::Apple => "apple",
             AttestationStatementFormatIdentifiers::None => "none",
         }
+    }
+}
+
+impl fmt::Display for AttestationStatementFormatIdentifiers {
+    ghost output = { λ x. Some (format_name x) };
+
+    /// The format's identifier in WebAuthn Level 3.
+    fn fmt<W: fmt::Write>(&self, f: &mut fmt::Formatter<W>) -> fmt::Result {
+        f.write_str(self.name())
     }
 }
 

@@ -11,8 +11,13 @@ use passkey_json::{JsonFault, JsonRecord, Object};
 /// and 5.5).
 #[derive(Drop)]
 pub struct AttestationMembers {
+    /// Which kinds of authenticator the user will probably use, the likeliest first; `None` means
+    /// the member is absent or no array.
     pub hints: Option<List<PublicKeyCredentialHints>>,
+    /// Which attestation the relying party wants.
     pub attestation: AttestationConveyancePreference,
+    /// The formats of attestation statements that the relying party prefers, the most preferred
+    /// first; `None` means the member is absent or no array.
     pub attestation_formats: Option<List<AttestationStatementFormatIdentifiers>>,
 }
 

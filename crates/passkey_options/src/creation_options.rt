@@ -30,21 +30,29 @@ pub struct PublicKeyCredentialCreationOptions {
     /// The challenge: at least 16 random bytes (WebAuthn Level 3, section 13.4.3). The length isn't
     /// checked.
     pub challenge: Bytes,
-    /// The credential types and algorithms that the relying party supports, the most preferred
-    /// first. Decoding skips elements that it doesn't know; an empty list means ES256 and RS256
-    /// (WebAuthn Level 3, section 5.1.3).
+    /// The credential types and algorithms that the relying party accepts, the most preferred
+    /// first; an empty list means ES256 and RS256 (WebAuthn Level 3, section 5.1.3). Decoding drops
+    /// an element without `type` or without a known `alg`, so also one whose `alg` is a float, such
+    /// as -7.0. An unknown `type` is decoded as `Unknown`.
     pub pub_key_cred_params: List<PublicKeyCredentialParameters>,
-    /// The time that the client should wait, in milliseconds. It is a hint.
+    /// How long the client should wait, in milliseconds. It is a hint; `None` means the member is
+    /// absent.
     pub timeout: Option<u32>,
-    /// The user's existing credentials: the client fails if an authenticator has one of them.
+    /// The user's existing credentials: the client fails if an authenticator has one of them. `None`
+    /// means the member is absent, and excludes none. Decoding drops rejected elements, and ignores
+    /// a value that is no array.
     pub exclude_credentials: Option<List<PublicKeyCredentialDescriptor>>,
-    /// The requirements for the authenticator; `None` allows any.
+    /// The requirements for the authenticator; `None` means the member is absent, and allows any.
     pub authenticator_selection: Option<AuthenticatorSelectionCriteria>,
-    /// Which kinds of authenticator the user will probably use, the likeliest first.
+    /// Which kinds of authenticator the user will probably use, the likeliest first; `None` means
+    /// the member is absent. Decoding drops unknown hints, and ignores a value that is no array.
     pub hints: Option<List<PublicKeyCredentialHints>>,
-    /// Which attestation the relying party wants.
+    /// Which attestation the relying party wants. An absent or unknown value is decoded as
+    /// `AttestationConveyancePreference::None`.
     pub attestation: AttestationConveyancePreference,
-    /// The preferred formats of the attestation statement, the most preferred first.
+    /// The formats of attestation statements that the relying party prefers, the most preferred
+    /// first; `None` means the member is absent. Decoding drops unknown formats, and ignores a value
+    /// that is no array.
     pub attestation_formats: Option<List<AttestationStatementFormatIdentifiers>>,
     /// The client extension inputs; `None` means the member is absent.
     pub extensions: Option<AuthenticationExtensionsClientInputs>,
@@ -79,7 +87,7 @@ impl JsonRecord for RequiredMembers {
     }
 }
 
-/// The members about which authenticators are accepted, and for how long.
+/// The members about the authenticators that are accepted, and the timeout.
 #[derive(Drop)]
 struct ChoiceMembers {
     timeout: Option<u32>,

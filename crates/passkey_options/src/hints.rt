@@ -1,5 +1,5 @@
 //! Hints about authenticators, decoded from JSON values and encoded.
-ghost use Rattle.std.specs.Prelude.{false};
+ghost use Rattle.std.specs.Prelude.{false, Some};
 ghost use Rattle.passkey_json.specs.Kind.{one_named};
 ghost use Rattle.passkey_options.specs.Hints.{hint_name, hint_named, hint_own};
 ghost use Rattle.serde_json.specs.Data.{string};
@@ -9,6 +9,7 @@ use passkey_memory::OutOfMemory;
 use passkey_webauthn::EnumNames;
 use serde_json::Value;
 use std::alloc::Global;
+use std::fmt;
 
 /// Which kind of authenticator the user will probably use (WebAuthn Level 3, section 5.8.8).
 #[derive(Clone, Copy, Debug, PartialEq, Eq)]
@@ -43,6 +44,15 @@ impl EnumNames for PublicKeyCredentialHints {
             PublicKeyCredentialHints::ClientDevice => "client-device",
             PublicKeyCredentialHints::Hybrid => "hybrid",
         }
+    }
+}
+
+impl fmt::Display for PublicKeyCredentialHints {
+    ghost output = { λ x. Some (hint_name x) };
+
+    /// The hint as WebAuthn Level 3 names it.
+    fn fmt<W: fmt::Write>(&self, f: &mut fmt::Formatter<W>) -> fmt::Result {
+        f.write_str(self.name())
     }
 }
 

@@ -22,22 +22,31 @@ pub struct PublicKeyCredentialRequestOptions {
     /// The challenge: at least 16 random bytes (WebAuthn Level 3, section 13.4.3). The length isn't
     /// checked.
     pub challenge: Bytes,
-    /// The time that the client should wait, in milliseconds. It is a hint.
+    /// How long the client should wait, in milliseconds. It is a hint; `None` means the member is
+    /// absent.
     pub timeout: Option<u32>,
-    /// The relying party id; `None` means the effective domain of the caller's origin.
+    /// The relying party id; `None` means the member is absent, and the id is the effective domain of
+    /// the caller's origin.
     pub rp_id: Option<Text>,
-    /// The credentials that are accepted; without a list, or with an empty one, any discoverable
-    /// one. Also decoded from `allowList`.
+    /// The credentials that are accepted; `None`, which means the member is absent, or an empty list
+    /// accepts any discoverable one. Also decoded from `allowList`; both members together are the
+    /// fault `Repeated`. Decoding drops rejected elements, and ignores a value that is no array.
     pub allow_credentials: Option<List<PublicKeyCredentialDescriptor>>,
-    /// Whether user verification is wanted.
+    /// Whether the relying party wants user verification. An absent or unknown value is decoded as
+    /// `Preferred`.
     pub user_verification: UserVerificationRequirement,
-    /// Which kinds of authenticator the user will probably use, the likeliest first.
+    /// Which kinds of authenticator the user will probably use, the likeliest first; `None` means
+    /// the member is absent. Decoding drops unknown hints, and ignores a value that is no array.
     pub hints: Option<List<PublicKeyCredentialHints>>,
-    /// Which attestation the relying party wants.
+    /// Which attestation the relying party wants. An absent or unknown value is decoded as
+    /// `AttestationConveyancePreference::None`.
     pub attestation: AttestationConveyancePreference,
-    /// The preferred formats of the attestation statement, the most preferred first.
+    /// The formats of attestation statements that the relying party prefers, the most preferred
+    /// first; `None` means the member is absent. Decoding drops unknown formats, and ignores a value
+    /// that is no array.
     pub attestation_formats: Option<List<AttestationStatementFormatIdentifiers>>,
-    /// The client extension inputs; `None` means the member is absent.
+    /// The client extension inputs; `None` means the member is absent. Decoding ignores a rejected
+    /// value.
     pub extensions: Option<AuthenticationExtensionsClientInputs>,
 }
 

@@ -86,7 +86,7 @@ pub fn creation_options(
     Ok(json.to_string(alloc)?)
 }
 
-/// Checks what the browser answered to options with this challenge, and returns the new passkey.
+/// Checks the browser's answer to options with this challenge, and returns the new passkey.
 /// Its credential id has at most 1023 bytes (WebAuthn Level 3, section 7.1).
 pub fn register(alloc: Global, challenge: &[u8], answer: &str) -> Result<NewPasskey, Rejected>
     ensures { IfOk result (λ new. length new.credential_id ≤ 1023) }

@@ -5,4 +5,5 @@ pub use passkey_json::{
     Refusal as JsonRefusal, ToJson, TolerantList, Tolerated, TruthText, Written, holds_float,
     read_back, read_name, read_nested, written_name,
 };
+pub use passkey_webauthn::EnumNames;
 pub use serde_json::{Map, Value};

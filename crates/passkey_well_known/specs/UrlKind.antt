@@ -1,4 +1,4 @@
--- URLs, read of JSON values, and what their readers answer.
+-- URLs, decoded from JSON values, and what decoding them returns.
 use Rattle.std.specs.Prelude.{◌≡◌, nat_le, Bool, false, ◌||◌, IsTrue, List, length, Some, None, Result, Ok, Err}
 use Rattle.std.specs.Result.{result_ok}
 use Rattle.std.specs.declared.alloc.Global.{Global}
@@ -11,7 +11,7 @@ use Rattle.serde_json.specs.Data.{Data, string, array, Items, no_items, item}
 use Rattle.url.specs.Parser.{parse_url}
 use Rattle.url.specs.Parts.{Parts}
 
--- the URL that a text is, after the URL Standard
+-- the URL that the URL Standard parses a text as
 abbrev pub url : Kind Parts
 url (string s) = result_ok (parse_url None s)
 url _ = None
@@ -25,19 +25,20 @@ abbrev pub any_long : Items → Bool
 any_long no_items = false
 any_long (item d ds) = is_long d || any_long ds
 
--- a list in which such a text stands
+-- a list with such a text
 abbrev pub has_long : Data → Bool
 has_long (array ds) = any_long ds
 has_long _ = false
 
--- The URL of the text, or that there is none; or there was no room for it.
+-- The result is the URL of the text, or `Refused` if there is none; or there was no room for it.
 abbrev pub AnswersUrl : Data → Result Parts UrlFault → Type 0
 AnswersUrl d (Ok u) = url d ≡ Some u
 AnswersUrl d (Err Refused) = url d ≡ None
 AnswersUrl d (Err TooLong) = IsTrue (is_long d)
 AnswersUrl d (Err OutOfMemory) = IsTrue (is_text d)
 
--- The URLs of the list's texts, or that there are none such; or there was no room for one of them.
+-- The result is the URLs of the list's texts, or `Refused` if it is no such list; or there was no room
+-- for one of them.
 abbrev pub AnswersUrls : Data → Result (Vec Parts Global) UrlFault → Type 0
 AnswersUrls d (Ok us) = list url d ≡ Some us.items
 AnswersUrls d (Err Refused) = list url d ≡ None

@@ -1,4 +1,4 @@
--- Which origins may use a relying party's id (WebAuthn Level 3, section 5.11).
+-- Which origins may use a relying party id (WebAuthn Level 3, section 5.11).
 use Rattle.std.specs.Prelude.{◌≡◌, ℕ, IsTrue, List, [], ◌∷◌, Option, Result, Ok, Err, codes}
 use Rattle.std.specs.Option.{IsSomeAnd}
 use Rattle.passkey_json.specs.Fault.{Fault, Gives, refused}
@@ -15,17 +15,17 @@ use Rattle.url.specs.Parts.{Parts, serialize}
 unfoldable pub well_known_in : Object → Result (List Parts) Fault
 well_known_in object = required (list url) (member (codes "origins") object)
 
--- what stands at the member `origins`, where something does
+-- the value of the member `origins`, if it is present
 abbrev pub origins_in : Data → Option Data
 origins_in d = get (codes "origins") d
 
--- What is refused is so; or these are URLs, of which one has a long text.
+-- The fault `Refused` is the wanted one; or the member is a list of URLs, of which one has a long text.
 abbrev pub IsRefused : Option Data → Result (List Parts) Fault → List ℕ → Type 0
 IsRefused origins (Ok urls) name = IsSomeAnd origins (λ d. IsTrue (has_long d)) × (name ≡ codes "origins")
 IsRefused origins (Err fault) name = fault ≡ refused name
 
--- What a reader of the origins answers, which may refuse URLs for the length of a text; or memory was
--- refused for a list.
+-- The result is what is wanted, though URLs may be refused for the length of a text; or `OutOfMemory`,
+-- only for a list.
 abbrev pub GivesUrls : {A : Type 0} → Option Data → (A → List Parts) → Result (List Parts) Fault → Result A JsonFault → Type 0
 GivesUrls origins seen wanted (Ok x) = wanted ≡ Ok (seen x)
 GivesUrls origins seen wanted (Err (json_fault.Refused name)) = IsRefused origins wanted name.now
