@@ -24,9 +24,9 @@ user = record_kind user_fields
 abbrev pub user_places : PublicKeyCredentialUserEntity → List Place
 user_places u =
     always (text_string (codes "id")) byte_string u.id
+    ∷ where_some (text_string (codes "icon")) text_string u.icon_url
     ∷ where_some (text_string (codes "name")) text_string u.name
     ∷ where_some (text_string (codes "displayName")) text_string u.display_name
-    ∷ where_some (text_string (codes "icon")) text_string u.icon_url
     ∷ []
 
 abbrev pub user_tree : PublicKeyCredentialUserEntity → Item

@@ -174,9 +174,9 @@ impl ToCbor for PublicKeyCredentialUserEntity {
     fn to_value(&self, alloc: Global) -> Result<Value, OutOfMemory> {
         let mut members = Written::new(alloc);
         members.put(alloc, "id", &self.id)?;
+        members.put_some(alloc, "icon", &self.icon_url)?;
         members.put_some(alloc, "name", &self.name)?;
         members.put_some(alloc, "displayName", &self.display_name)?;
-        members.put_some(alloc, "icon", &self.icon_url)?;
         Ok(members.into_value())
     }
 }

@@ -1,6 +1,6 @@
 -- The extensions' records are read back.
 use Rattle.std.specs.Result.{result_ok}
-use Rattle.std.proofs.Common.{◌≡◌, ◌∙◌, Some, Ok, refl, ap}
+use Rattle.std.proofs.Common.{◌≡◌, ◌∙◌, Some, Ok, refl, ap, [], ◌∷◌}
 use Rattle.passkey_cbor.specs.Item.{Item}
 use Rattle.passkey_extensions.specs.ExtensionTrees.{hmac_input_places, hmac_input_tree, HmacInputFits, prf_values_places, prf_values_tree, PrfValuesFit, prf_make_places, prf_make_tree, PrfMakeFits, prf_get_places, prf_get_tree, PrfGetFits, made_places, made_tree, MadeFits, used_places, used_tree, UsedFits, EachFits, prf_inputs_places, prf_inputs_tree, PrfInputsFit, make_extensions_places, make_extensions_tree, MakeExtensionsFit, get_extensions_places, get_extensions_tree, GetExtensionsFit}
 use Rattle.passkey_extensions.specs.GetExtensions.{GetExtensionsParts, get_extensions_fields, get_extensions}
@@ -29,7 +29,7 @@ use Rattle.passkey_kinds.proofs.LeafBack.{truth_back, byte_back, bytes_back, kep
 use Rattle.passkey_kinds.proofs.SizedBack.{numbers_back}
 use Rattle.passkey_kinds.proofs.MapBack.{map_back}
 use Rattle.passkey_kinds.proofs.Maps.{map_values_same}
-use Rattle.passkey_kinds.proofs.RowsBack.{puts_value, puts_default, kind_back, rows_back, ◌▸◌, no_more}
+use Rattle.passkey_kinds.proofs.RowsBack.{puts_value, puts_default, kind_back, ordered_back, rows_back, ◌▸◌, no_more}
 
 -- the same of what contracts see of a value
 pub seen_back : {A P M : Type 0} {kind : Kind M} {tree : P → Item} {Fits : P → Type 0} {normal : P → M} → (seen : A → P) → IsReadBack kind tree Fits normal → IsReadBack kind (λ x. tree (seen x)) (λ x. Fits (seen x)) (λ x. normal (seen x))
@@ -108,10 +108,10 @@ pub make_parts_back : IsReadBack make_extensions make_extensions_tree MakeExtens
 make_parts_back = record { back = λ e fits. read e fits } where
   read : (e : MakeExtensionsParts) → MakeExtensionsFit e → make_extensions (make_extensions_tree e) ≡ Some e
   read e fits =
-      kind_back make_extensions_fields (make_extensions_places e) e refl refl
-      (puts_default (optional_place truth_back refl e.hmac_secret (anything e.hmac_secret)) refl ▸
+      ordered_back make_extensions_fields (3 ∷ 1 ∷ 2 ∷ []) (make_extensions_places e) e refl refl refl
+      (puts_default (optional_place prf_inputs_back refl e.prf fits.1) refl ▸
+      puts_default (optional_place truth_back refl e.hmac_secret (anything e.hmac_secret)) refl ▸
       puts_default (optional_place hmac_parts_back refl e.hmac_secret_mc fits.0) refl ▸
-      puts_default (optional_place prf_inputs_back refl e.prf fits.1) refl ▸
       no_more)
 
 pub make_extensions_back : IsReadBack make_extensions (λ e. make_extensions_tree (make_extensions_parts e)) (λ e. MakeExtensionsFit (make_extensions_parts e)) make_extensions_parts
@@ -121,9 +121,9 @@ pub get_parts_back : IsReadBack get_extensions get_extensions_tree GetExtensions
 get_parts_back = record { back = λ e fits. read e fits } where
   read : (e : GetExtensionsParts) → GetExtensionsFit e → get_extensions (get_extensions_tree e) ≡ Some e
   read e fits =
-      kind_back get_extensions_fields (get_extensions_places e) e refl refl
-      (puts_default (tolerated_place hmac_parts_back e.hmac_secret fits.0) refl ▸
-      puts_default (tolerated_place prf_inputs_back e.prf fits.1) refl ▸
+      ordered_back get_extensions_fields (2 ∷ 1 ∷ []) (get_extensions_places e) e refl refl refl
+      (puts_default (tolerated_place prf_inputs_back e.prf fits.1) refl ▸
+      puts_default (tolerated_place hmac_parts_back e.hmac_secret fits.0) refl ▸
       no_more)
 
 pub get_extensions_back : IsReadBack get_extensions (λ e. get_extensions_tree (get_extensions_parts e)) (λ e. GetExtensionsFit (get_extensions_parts e)) get_extensions_parts

@@ -75,7 +75,7 @@ prf_within : (i : AuthenticatorPrfInputs) → depth (prf_inputs_tree i) ≤ 254
 prf_within i = omega (arith, prf_inputs_levels i)
 
 made_up : (e : MakeExtensionsParts) → PlaceWithin 254 (text_string (codes "hmac-secret-mc")) (option_map hmac_input_tree e.hmac_secret_mc) → depth (make_extensions_tree e) ≤ 255
-made_up e salts = record_within 254 (make_extensions_places e) (option_within boolean 254 (text_string (codes "hmac-secret")) (omega arith) (λ b. omega arith) e.hmac_secret, (salts, (option_within prf_inputs_tree 254 (text_string (codes "prf")) (omega arith) prf_within e.prf, tt)))
+made_up e salts = record_within 254 (make_extensions_places e) (option_within prf_inputs_tree 254 (text_string (codes "prf")) (omega arith) prf_within e.prf, (option_within boolean 254 (text_string (codes "hmac-secret")) (omega arith) (λ b. omega arith) e.hmac_secret, (salts, tt)))
 
 pub made_without : (e : MakeExtensionsParts) → e.hmac_secret_mc ≡ None → true ≡ nat_le (depth (make_extensions_tree e)) 255
 made_without e is = sym (le-leb (depth (make_extensions_tree e)) 255 (made_up e (none_within hmac_input_tree 254 (text_string (codes "hmac-secret-mc")) e.hmac_secret_mc is)))
@@ -84,10 +84,10 @@ pub made_with : (e : MakeExtensionsParts) (h : HmacInputParts) → e.hmac_secret
 made_with e h is =
     same_tests (nat_le (depth (hmac_input_tree h)) 254) (nat_le (depth (make_extensions_tree e)) 255)
     (λ t. le-leb (depth (make_extensions_tree e)) 255 (made_up e (some_within hmac_input_tree 254 (text_string (codes "hmac-secret-mc")) e.hmac_secret_mc h (omega arith) is (leb-true (depth (hmac_input_tree h)) 254 t))))
-    (λ t. le-leb (depth (hmac_input_tree h)) 254 (of_some hmac_input_tree 254 (text_string (codes "hmac-secret-mc")) e.hmac_secret_mc h is (of_record 254 (make_extensions_places e) (leb-true (depth (make_extensions_tree e)) 255 t)).1.0))
+    (λ t. le-leb (depth (hmac_input_tree h)) 254 (of_some hmac_input_tree 254 (text_string (codes "hmac-secret-mc")) e.hmac_secret_mc h is (of_record 254 (make_extensions_places e) (leb-true (depth (make_extensions_tree e)) 255 t)).1.1.0))
 
 used_up : (e : GetExtensionsParts) → PlaceWithin 254 (text_string (codes "hmac-secret")) (option_map hmac_input_tree e.hmac_secret) → depth (get_extensions_tree e) ≤ 255
-used_up e salts = record_within 254 (get_extensions_places e) (salts, (option_within prf_inputs_tree 254 (text_string (codes "prf")) (omega arith) prf_within e.prf, tt))
+used_up e salts = record_within 254 (get_extensions_places e) (option_within prf_inputs_tree 254 (text_string (codes "prf")) (omega arith) prf_within e.prf, (salts, tt))
 
 pub used_without : (e : GetExtensionsParts) → e.hmac_secret ≡ None → true ≡ nat_le (depth (get_extensions_tree e)) 255
 used_without e is = sym (le-leb (depth (get_extensions_tree e)) 255 (used_up e (none_within hmac_input_tree 254 (text_string (codes "hmac-secret")) e.hmac_secret is)))
@@ -96,4 +96,4 @@ pub used_with : (e : GetExtensionsParts) (h : HmacInputParts) → e.hmac_secret 
 used_with e h is =
     same_tests (nat_le (depth (hmac_input_tree h)) 254) (nat_le (depth (get_extensions_tree e)) 255)
     (λ t. le-leb (depth (get_extensions_tree e)) 255 (used_up e (some_within hmac_input_tree 254 (text_string (codes "hmac-secret")) e.hmac_secret h (omega arith) is (leb-true (depth (hmac_input_tree h)) 254 t))))
-    (λ t. le-leb (depth (hmac_input_tree h)) 254 (of_some hmac_input_tree 254 (text_string (codes "hmac-secret")) e.hmac_secret h is (of_record 254 (get_extensions_places e) (leb-true (depth (get_extensions_tree e)) 255 t)).0))
+    (λ t. le-leb (depth (hmac_input_tree h)) 254 (of_some hmac_input_tree 254 (text_string (codes "hmac-secret")) e.hmac_secret h is (of_record 254 (get_extensions_places e) (leb-true (depth (get_extensions_tree e)) 255 t)).1.0))

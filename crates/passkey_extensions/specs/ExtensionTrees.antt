@@ -114,9 +114,9 @@ UsedFits o = Where PrfGetFits o.prf
 
 abbrev pub make_extensions_places : MakeExtensionsParts → List Place
 make_extensions_places e =
-    where_some (text_string (codes "hmac-secret")) boolean e.hmac_secret
+    where_some (text_string (codes "prf")) prf_inputs_tree e.prf
+    ∷ where_some (text_string (codes "hmac-secret")) boolean e.hmac_secret
     ∷ where_some (text_string (codes "hmac-secret-mc")) hmac_input_tree e.hmac_secret_mc
-    ∷ where_some (text_string (codes "prf")) prf_inputs_tree e.prf
     ∷ []
 
 abbrev pub make_extensions_tree : MakeExtensionsParts → Item
@@ -127,8 +127,8 @@ MakeExtensionsFit e = Where HmacInputFits e.hmac_secret_mc × Where PrfInputsFit
 
 abbrev pub get_extensions_places : GetExtensionsParts → List Place
 get_extensions_places e =
-    where_some (text_string (codes "hmac-secret")) hmac_input_tree e.hmac_secret
-    ∷ where_some (text_string (codes "prf")) prf_inputs_tree e.prf
+    where_some (text_string (codes "prf")) prf_inputs_tree e.prf
+    ∷ where_some (text_string (codes "hmac-secret")) hmac_input_tree e.hmac_secret
     ∷ []
 
 abbrev pub get_extensions_tree : GetExtensionsParts → Item

@@ -63,25 +63,25 @@ options = record_kind options_fields
 
 abbrev pub options_places : Options → List Place
 options_places o =
-    always (text_string (codes "plat")) boolean o.plat
+    where_some (text_string (codes "ep")) boolean o.ep
     ∷ always (text_string (codes "rk")) boolean o.rk
-    ∷ where_some (text_string (codes "clientPin")) boolean o.client_pin
     ∷ always (text_string (codes "up")) boolean o.up
     ∷ where_some (text_string (codes "uv")) boolean o.uv
-    ∷ where_some (text_string (codes "pinUvAuthToken")) boolean o.pin_uv_auth_token
-    ∷ where_some (text_string (codes "noMcGaPermissionsWithClientPin")) boolean o.no_mc_ga_permissions_with_client_pin
-    ∷ where_some (text_string (codes "largeBlobs")) boolean o.large_blobs
-    ∷ where_some (text_string (codes "ep")) boolean o.ep
-    ∷ where_some (text_string (codes "bioEnroll")) boolean o.bio_enroll
-    ∷ where_some (text_string (codes "userVerificationMgmtPreview")) boolean o.user_verification_mgmt_preview
-    ∷ where_some (text_string (codes "uvBioEnroll")) boolean o.uv_bio_enroll
-    ∷ where_some (text_string (codes "authnrCfg")) boolean o.authnr_cfg
+    ∷ always (text_string (codes "plat")) boolean o.plat
     ∷ where_some (text_string (codes "uvAcfg")) boolean o.uv_acfg
+    ∷ where_some (text_string (codes "alwaysUv")) boolean o.always_uv
     ∷ where_some (text_string (codes "credMgmt")) boolean o.cred_mgmt
-    ∷ where_some (text_string (codes "credentialMgmtPreview")) boolean o.credential_mgmt_preview
+    ∷ where_some (text_string (codes "authnrCfg")) boolean o.authnr_cfg
+    ∷ where_some (text_string (codes "bioEnroll")) boolean o.bio_enroll
+    ∷ where_some (text_string (codes "clientPin")) boolean o.client_pin
+    ∷ where_some (text_string (codes "largeBlobs")) boolean o.large_blobs
+    ∷ where_some (text_string (codes "uvBioEnroll")) boolean o.uv_bio_enroll
+    ∷ where_some (text_string (codes "pinUvAuthToken")) boolean o.pin_uv_auth_token
     ∷ where_some (text_string (codes "setMinPINLength")) boolean o.set_min_pin_length
     ∷ where_some (text_string (codes "makeCredUvNotRqd")) boolean o.make_cred_uv_not_rqd
-    ∷ where_some (text_string (codes "alwaysUv")) boolean o.always_uv
+    ∷ where_some (text_string (codes "credentialMgmtPreview")) boolean o.credential_mgmt_preview
+    ∷ where_some (text_string (codes "userVerificationMgmtPreview")) boolean o.user_verification_mgmt_preview
+    ∷ where_some (text_string (codes "noMcGaPermissionsWithClientPin")) boolean o.no_mc_ga_permissions_with_client_pin
     ∷ []
 
 abbrev pub options_tree : Options → Item

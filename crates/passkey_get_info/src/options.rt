@@ -191,37 +191,33 @@ impl ToCbor for Options {
 
     fn to_value(&self, alloc: Global) -> Result<Value, OutOfMemory> {
         let mut members = Written::new(alloc);
-        members.put(alloc, "plat", &self.plat)?;
+        members.put_some(alloc, "ep", &self.ep)?;
         members.put(alloc, "rk", &self.rk)?;
-        members.put_some(alloc, "clientPin", &self.client_pin)?;
         members.put(alloc, "up", &self.up)?;
         members.put_some(alloc, "uv", &self.uv)?;
-        members.put_some(alloc, "pinUvAuthToken", &self.pin_uv_auth_token)?;
-        members.put_some(
-            alloc,
-            "noMcGaPermissionsWithClientPin",
-            &self.no_mc_ga_permissions_with_client_pin,
-        )?;
-        members.put_some(alloc, "largeBlobs", &self.large_blobs)?;
-        members.put_some(alloc, "ep", &self.ep)?;
+        members.put(alloc, "plat", &self.plat)?;
+        members.put_some(alloc, "uvAcfg", &self.uv_acfg)?;
+        members.put_some(alloc, "alwaysUv", &self.always_uv)?;
+        members.put_some(alloc, "credMgmt", &self.cred_mgmt)?;
+        members.put_some(alloc, "authnrCfg", &self.authnr_cfg)?;
         members.put_some(alloc, "bioEnroll", &self.bio_enroll)?;
+        members.put_some(alloc, "clientPin", &self.client_pin)?;
+        members.put_some(alloc, "largeBlobs", &self.large_blobs)?;
+        members.put_some(alloc, "uvBioEnroll", &self.uv_bio_enroll)?;
+        members.put_some(alloc, "pinUvAuthToken", &self.pin_uv_auth_token)?;
+        members.put_some(alloc, "setMinPINLength", &self.set_min_pin_length)?;
+        members.put_some(alloc, "makeCredUvNotRqd", &self.make_cred_uv_not_rqd)?;
+        members.put_some(alloc, "credentialMgmtPreview", &self.credential_mgmt_preview)?;
         members.put_some(
             alloc,
             "userVerificationMgmtPreview",
             &self.user_verification_mgmt_preview,
         )?;
-        members.put_some(alloc, "uvBioEnroll", &self.uv_bio_enroll)?;
-        members.put_some(alloc, "authnrCfg", &self.authnr_cfg)?;
-        members.put_some(alloc, "uvAcfg", &self.uv_acfg)?;
-        members.put_some(alloc, "credMgmt", &self.cred_mgmt)?;
         members.put_some(
             alloc,
-            "credentialMgmtPreview",
-            &self.credential_mgmt_preview,
+            "noMcGaPermissionsWithClientPin",
+            &self.no_mc_ga_permissions_with_client_pin,
         )?;
-        members.put_some(alloc, "setMinPINLength", &self.set_min_pin_length)?;
-        members.put_some(alloc, "makeCredUvNotRqd", &self.make_cred_uv_not_rqd)?;
-        members.put_some(alloc, "alwaysUv", &self.always_uv)?;
         Ok(members.into_value())
     }
 }

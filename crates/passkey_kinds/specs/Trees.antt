@@ -1,4 +1,4 @@
--- What the records are encoded as (CTAP 2.1, section 6; WebAuthn Level 3, section 5).
+-- What the records are encoded as, with their keys in CTAP2's order (CTAP 2.1, section 6; WebAuthn Level 3, section 5).
 use Rattle.std.specs.Prelude.{List, [], ◌∷◌, codes}
 use Rattle.passkey_cbor.specs.Item.{Item, byte_string, text_string}
 use Rattle.passkey_kinds.specs.Algorithm.{algorithm_tree}
@@ -19,8 +19,8 @@ transport_tree t = text_string (transport_name t)
 
 abbrev pub descriptor_places : PublicKeyCredentialDescriptor → List Place
 descriptor_places d =
-    always (text_string (codes "type")) credential_type_tree d.ty
-    ∷ always (text_string (codes "id")) byte_string d.id
+    always (text_string (codes "id")) byte_string d.id
+    ∷ always (text_string (codes "type")) credential_type_tree d.ty
     ∷ where_some (text_string (codes "transports")) (list_tree transport_tree) d.transports
     ∷ []
 
@@ -29,8 +29,8 @@ descriptor_tree d = record_tree (descriptor_places d)
 
 abbrev pub parameters_places : PublicKeyCredentialParameters → List Place
 parameters_places p =
-    always (text_string (codes "type")) credential_type_tree p.ty
-    ∷ always (text_string (codes "alg")) algorithm_tree p.alg
+    always (text_string (codes "alg")) algorithm_tree p.alg
+    ∷ always (text_string (codes "type")) credential_type_tree p.ty
     ∷ []
 
 abbrev pub parameters_tree : PublicKeyCredentialParameters → Item
@@ -39,8 +39,8 @@ parameters_tree p = record_tree (parameters_places p)
 abbrev pub webauthn_user_places : webauthn.PublicKeyCredentialUserEntity → List Place
 webauthn_user_places u =
     always (text_string (codes "id")) byte_string u.id
-    ∷ always (text_string (codes "displayName")) text_string u.display_name
     ∷ always (text_string (codes "name")) text_string u.name
+    ∷ always (text_string (codes "displayName")) text_string u.display_name
     ∷ []
 
 abbrev pub webauthn_user_tree : webauthn.PublicKeyCredentialUserEntity → Item

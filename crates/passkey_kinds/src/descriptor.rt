@@ -93,8 +93,8 @@ impl ToCbor for PublicKeyCredentialDescriptor {
 
     fn to_value(&self, alloc: Global) -> Result<Value, OutOfMemory> {
         let mut members = Written::new(alloc);
-        members.put(alloc, "type", &self.ty)?;
         members.put(alloc, "id", &self.id)?;
+        members.put(alloc, "type", &self.ty)?;
         members.put_some(alloc, "transports", &self.transports)?;
         Ok(members.into_value())
     }

@@ -87,8 +87,8 @@ impl ToCbor for PublicKeyCredentialParameters {
 
     fn to_value(&self, alloc: Global) -> Result<Value, OutOfMemory> {
         let mut members = Written::new(alloc);
-        members.put(alloc, "type", &self.ty)?;
         members.put(alloc, "alg", &self.alg)?;
+        members.put(alloc, "type", &self.ty)?;
         Ok(members.into_value())
     }
 }

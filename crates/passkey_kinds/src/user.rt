@@ -89,8 +89,8 @@ impl ToCbor for PublicKeyCredentialUserEntity {
     fn to_value(&self, alloc: Global) -> Result<Value, OutOfMemory> {
         let mut members = Written::new(alloc);
         members.put(alloc, "id", &self.id)?;
-        members.put(alloc, "displayName", &self.display_name)?;
         members.put(alloc, "name", &self.name)?;
+        members.put(alloc, "displayName", &self.display_name)?;
         Ok(members.into_value())
     }
 }

@@ -118,8 +118,8 @@ impl ToCbor for ExtensionInputs {
     #[tactic(auto, using(passkey_kinds::proofs::Lists::option_twice, passkey_kinds::proofs::Lists::where_twice))]
     fn to_value(&self, alloc: Global) -> Result<Value, OutOfMemory> {
         let mut members = Written::new(alloc);
-        members.put_some(alloc, "hmac-secret", &self.hmac_secret)?;
         members.put_some(alloc, "prf", &self.prf)?;
+        members.put_some(alloc, "hmac-secret", &self.hmac_secret)?;
         Ok(members.into_value())
     }
 }
