@@ -12,9 +12,6 @@ use crate::head::Head;
 use std::marker::Model;
 use std::str;
 
-/// How many levels of arrays, maps and tags are read.
-pub(crate) const MAX_DEPTH: u16 = 256;
-
 /// An offset in borrowed bytes, from which heads are decoded one by one. Each attempt to decode a
 /// head is counted, failed ones too.
 #[derive(Drop)]

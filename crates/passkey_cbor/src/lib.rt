@@ -3,6 +3,7 @@
 #![tactic(auto)]
 
 mod clone;
+mod convert;
 mod count;
 mod cursor;
 mod depth;
@@ -25,6 +26,7 @@ mod write;
 
 pub use count::Count;
 pub use cursor::Cursor;
+pub use depth::MAX_DEPTH;
 pub use error::CborError;
 pub use float::Float;
 pub use head::Head;
