@@ -10,6 +10,7 @@ ghost use Rattle.passkey_cose.specs.KeyLabels.{is_label, has_label};
 ghost use Rattle.passkey_cose.specs.Seen.{Holds, labels_of};
 
 use crate::error::CoseError;
+use crate::search::find;
 use crate::seen::Seen;
 use passkey_cbor::{Integer, Value};
 use std::alloc::Global;
@@ -18,8 +19,8 @@ use std::alloc::Global;
 /// earlier ones are kept in an ordered set.
 const FEW: usize = 16;
 
-/// The number as 64 signed bits; `None` if it is outside their range.
-pub(super) fn signed_64(n: Integer) -> Option<i64>
+/// Returns the integer as 64 signed bits; `None` if it is not from -2^63 to 2^63 - 1.
+pub fn signed_64(n: Integer) -> Option<i64>
     ensures { result ≡ (if is_signed_64 n then Some n else None) }
 {
     let n = n.get();
@@ -71,12 +72,7 @@ fn check_bytes(value: &Value) -> Result<(), CoseError>
 fn stands_in(op: &Value, ops: &[Value]) -> bool
     ensures { result ≡ list_any (item_eq (item_of op.now)) (map item_of ops.now) }
 {
-    for other in ops {
-        if op == other {
-            return true;
-        }
-    }
-    false
+    ops.contains(op)
 }
 
 /// Whether the operation repeats an earlier one. It is added to those.
@@ -145,12 +141,7 @@ fn check_value(alloc: Global, label: &Value, value: &Value) -> Result<(), CoseEr
 fn is_taken(label: &Value, members: &[(Value, Value)]) -> bool
     ensures { result ≡ has_label (map pair_of members.now) (item_of label.now) }
 {
-    for (other, _) in members {
-        if label == other {
-            return true;
-        }
-    }
-    false
+    find(label, members).is_some()
 }
 
 /// Whether the label repeats an earlier one. It is added to those.

@@ -11,19 +11,8 @@ use crate::iana::{Algorithm, KeyOperation, KeyType};
 use crate::key::CoseKey;
 use crate::label::Label;
 use crate::registered::Registered;
+use crate::search::find;
 use passkey_cbor::Value;
-
-/// The value of the parameter with this label; `None` if there is none.
-fn value_at<'a>(label: &Label, params: &'a [(Label, Value)]) -> Option<&'a Value>
-    ensures { option_map (λ v. item_of v.now) result ≡ value_at (label_item label.now) (params_of params.now) }
-{
-    for (other, value) in params {
-        if label == other {
-            return Some(value);
-        }
-    }
-    None
-}
 
 impl CoseKey {
     /// The key type (`kty`, label 1).
@@ -82,11 +71,12 @@ impl CoseKey {
             None => &[],
         }
     }
+
     /// The value of the further parameter with this label; `None` if the key has none, and for the
     /// labels of the common parameters, 1 to 5.
     pub fn param(&self, label: &Label) -> Option<&Value>
         ensures { option_map (λ v. item_of v.now) result ≡ value_at (label_item label.now) (key_parts self.now).params }
     {
-        value_at(label, self.params())
+        find(label, self.params())
     }
 }

@@ -20,6 +20,7 @@ use crate::iana::{EnumI64, KeyOperation, KeyType};
 use crate::key::CoseKey;
 use crate::label::Label;
 use crate::registered::Registered;
+use crate::search::find;
 use passkey_cbor::Value;
 use passkey_memory::OutOfMemory;
 use std::alloc::Global;
@@ -28,12 +29,7 @@ use std::alloc::Global;
 fn value_under(members: &[(Value, Value)], label: u8) -> Option<&Value>
     ensures { option_map (λ v. item_of v.now) result ≡ under label (map pair_of members.now) }
 {
-    for (other, value) in members {
-        if is_label_of(other, label) {
-            return Some(value);
-        }
-    }
-    None
+    find(&Value::from(label), members)
 }
 
 /// The registry's value, if the item is one.

@@ -19,6 +19,7 @@ use crate::label::Label;
 use crate::names::{label_is_name, ops_are_names, value_is_name};
 use crate::refused::RefusedKey;
 use crate::registered::Registered;
+use crate::search::find;
 use passkey_cbor::Value;
 use std::alloc::{AllocError, Global};
 
@@ -80,12 +81,7 @@ fn is_common_label(label: &Label) -> bool
 fn stands_among(label: &Label, params: &[(Label, Value)]) -> bool
     ensures { result ≡ has_label (params_of params.now) (label_item label.now) }
 {
-    for (other, _) in params {
-        if label == other {
-            return true;
-        }
-    }
-    false
+    find(label, params).is_some()
 }
 
 fn push_param(
