@@ -1,12 +1,13 @@
 //! Finding the first bad member of a map that is decoded as a key.
 ghost use Rattle.std.specs.Prelude.{◌≡◌, if◌then◌else◌, [], ◌∷◌, ◌++◌, map, Some, None, OnOk};
 ghost use Rattle.std.specs.List.{list_any};
+ghost use Rattle.passkey_cbor.specs.Item.{number};
 ghost use Rattle.passkey_cbor.specs.Same.{item_eq};
 ghost use Rattle.passkey_cbor.specs.View.{item_of, pair_of};
 ghost use Rattle.passkey_cose.specs.KeyChecks.{Checks};
 ghost use Rattle.passkey_iana.specs.Signed64.{is_signed_64};
 ghost use Rattle.passkey_cose.specs.KeyFaults.{name_fault, bytes_fault, op_fault, first_op_fault, ops_fault, value_fault, member_fault, first_fault};
-ghost use Rattle.passkey_cose.specs.KeyLabels.{is_label, has_label};
+ghost use Rattle.passkey_cose.specs.KeyLabels.{is_label, is_common, has_label};
 ghost use Rattle.passkey_cose.specs.Seen.{Holds, labels_of};
 
 use crate::error::CoseError;
@@ -28,6 +29,13 @@ pub fn signed_64(n: Integer) -> Option<i64>
         return None;
     }
     Some(n as i64)
+}
+
+/// Whether the number is the label of a common parameter, 1 to 5 (RFC 9052, section 7.1).
+pub(super) fn is_common_number(n: i128) -> bool
+    ensures { result ≡ is_common (number n) }
+{
+    n == 1 || n == 2 || n == 3 || n == 4 || n == 5
 }
 
 /// Whether the label is this number.

@@ -14,7 +14,7 @@ ghost use Rattle.passkey_cose.specs.KeyReading.{name_in, bytes_in, ops_in, under
 ghost use Rattle.passkey_cose.specs.Label.{label_item};
 ghost use Rattle.passkey_cose.specs.Registered.{named_of, IsText};
 
-use crate::checking::{check_members, is_label_of, signed_64};
+use crate::checking::{check_members, is_common_number, signed_64};
 use crate::error::CoseError;
 use crate::iana::{EnumI64, KeyOperation, KeyType};
 use crate::key::CoseKey;
@@ -107,11 +107,10 @@ fn read_ops_under(
 fn is_common_label_of(label: &Value) -> bool
     ensures { result ≡ is_common (item_of label.now) }
 {
-    is_label_of(label, 1)
-        || is_label_of(label, 2)
-        || is_label_of(label, 3)
-        || is_label_of(label, 4)
-        || is_label_of(label, 5)
+    match label {
+        Value::Integer(n) => is_common_number(n.get()),
+        _ => false,
+    }
 }
 
 fn read_label(alloc: Global, label: &Value) -> Result<Label, OutOfMemory>
