@@ -31,7 +31,7 @@ impl<'a> Model for Cursor<'a> {
     ghost invariant = { λ c. IsPlaced c.bytes.now c.place };
 }
 
-/// What stands next in a list: an element, whose head this is, the list's end, or no head.
+/// What comes next in a list: an element, whose head this is, the list's end, or no head.
 #[derive(Clone, Copy)]
 pub(crate) enum Next {
     Element(Head),

@@ -39,7 +39,7 @@ impl<'a> Cursor<'a> {
         found
     }
 
-    /// Passes one item of at most so many levels, or stops where none stands.
+    /// Skips one item of at most so many levels, or stops where none is.
     #[cycle(skip)]
     pub(crate) fn skip_item(&mut self, levels: usize) -> bool
         requires { IsInside self.old }

@@ -22,7 +22,7 @@ impl CoseKey {
         &self.kty
     }
 
-    /// The key identifier (`kid`, label 2).
+    /// The key identifier (`kid`, label 2), one byte or more; `None` means the parameter is absent.
     pub fn key_id(&self) -> Option<&[u8]>
         ensures { option_map (λ s. s.now) result ≡ (key_parts self.now).key_id }
     {
@@ -32,15 +32,16 @@ impl CoseKey {
         }
     }
 
-    /// The algorithm that the key is restricted to (`alg`, label 3).
+    /// The algorithm that the key is restricted to (`alg`, label 3); `None` means the parameter is
+    /// absent.
     pub fn alg(&self) -> Option<&Registered<Algorithm>>
         ensures { option_map (λ a. named_of a.now) result ≡ (key_parts self.now).alg }
     {
         self.alg.as_ref()
     }
 
-    /// The operations that the key is restricted to (`key_ops`, label 4); if empty, it may be used
-    /// for any.
+    /// The operations that the key is restricted to (`key_ops`, label 4), each of them once. An empty
+    /// list means the parameter is absent: the key may be used for any.
     pub fn key_ops(&self) -> &[Registered<KeyOperation>]
         ensures { map named_of result.now ≡ (key_parts self.now).key_ops }
     {
@@ -50,7 +51,7 @@ impl CoseKey {
         }
     }
 
-    /// The Base IV (label 5).
+    /// The Base IV (label 5), one byte or more; `None` means the parameter is absent.
     pub fn base_iv(&self) -> Option<&[u8]>
         ensures { option_map (λ s. s.now) result ≡ (key_parts self.now).base_iv }
     {
