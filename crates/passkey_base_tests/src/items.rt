@@ -1,7 +1,8 @@
 //! Items as values, and which numbers they hold.
-use crate::checks::{assert_same, assert_same_bytes};
+use crate::checks::{assert_same, assert_same_bytes, assert_shown};
 use passkey_cbor::{CborError, Float, Integer, Simple, Value};
 use std::process::Abort;
+use std::test::Fail;
 
 /// Items of RFC 8949, appendix A, and some around them: in bytes, and how many levels they have
 /// and how their values are printed.
@@ -146,4 +147,86 @@ fn numbers_have_their_ranges(rt: HostRuntime) {
         Integer::new(1 << 64),
         Err(CborError::OutOfRangeIntegerValue)
     );
+}
+
+fn assert_value(rt: &(impl Abort + AllocGlobal), value: Value, wanted: &str) {
+    assert_shown(rt, &value, wanted);
+}
+
+fn assert_numbers_made(rt: &(impl Abort + AllocGlobal)) {
+    assert_value(rt, Value::from(255u8), "Integer(Integer { value: 255 })");
+    assert_value(
+        rt,
+        Value::from(65535u16),
+        "Integer(Integer { value: 65535 })",
+    );
+    assert_value(
+        rt,
+        Value::from(4294967295u32),
+        "Integer(Integer { value: 4294967295 })",
+    );
+    assert_value(
+        rt,
+        Value::from(18446744073709551615u64),
+        "Integer(Integer { value: 18446744073709551615 })",
+    );
+    assert_value(rt, Value::from(-128i8), "Integer(Integer { value: -128 })");
+    assert_value(
+        rt,
+        Value::from(-32768i16),
+        "Integer(Integer { value: -32768 })",
+    );
+    assert_value(
+        rt,
+        Value::from(-2147483648i32),
+        "Integer(Integer { value: -2147483648 })",
+    );
+    assert_value(
+        rt,
+        Value::from(-9223372036854775808i64),
+        "Integer(Integer { value: -9223372036854775808 })",
+    );
+}
+
+fn assert_wide_numbers_made(rt: &(impl Abort + AllocGlobal)) {
+    let least = Value::try_from(-18446744073709551616i128).expect(rt, "in range");
+    assert_value(
+        rt,
+        least,
+        "Integer(Integer { value: -18446744073709551616 })",
+    );
+    let most = Value::try_from(18446744073709551615u128).expect(rt, "in range");
+    assert_value(rt, most, "Integer(Integer { value: 18446744073709551615 })");
+    let low = Value::try_from(-18446744073709551617i128);
+    assert_eq!(rt; low.err(), Some(CborError::OutOfRangeIntegerValue));
+    let high = Value::try_from(18446744073709551616u128);
+    assert_eq!(rt; high.err(), Some(CborError::OutOfRangeIntegerValue));
+}
+
+#[test]
+fn values_are_made_of_numbers_and_strings(rt: HostRuntime) -> Result<(), Fail> {
+    assert_numbers_made(&rt);
+    assert_wide_numbers_made(&rt);
+    let integer = Integer::new(-1)?;
+    assert_value(&rt, Value::from(integer), "Integer(Integer { value: -1 })");
+    let simple = Simple::new(16)?;
+    assert_value(&rt, Value::from(simple), "Simple(Simple { value: 16 })");
+    let float = Float::new(2, 15872)?;
+    assert_value(
+        &rt,
+        Value::from(float),
+        "Float(Float { width: 2, bits: 15872 })",
+    );
+    assert_value(&rt, Value::from(true), "Bool(true)");
+    assert_value(&rt, Value::from_text(rt.alloc(), "IETF")?, "Text(\"IETF\")");
+    assert_value(
+        &rt,
+        Value::from_bytes(rt.alloc(), &[1, 2])?,
+        "Bytes([1, 2])",
+    );
+    let text = String::from_str(rt.alloc(), "a")?;
+    assert_value(&rt, Value::from(text), "Text(\"a\")");
+    let bytes = [1u8, 2].to_vec(rt.alloc())?;
+    assert_value(&rt, Value::from(bytes), "Bytes([1, 2])");
+    Ok(())
 }

@@ -2,7 +2,7 @@
 use crate::checks::{assert_same, check_text};
 use passkey_cose::iana::{Algorithm, EnumI64, KeyOperation, KeyType};
 use passkey_webauthn::{AuthenticatorTransport, EnumNames, PublicKeyCredentialType, whole_part};
-use std::fmt::Debug;
+use std::fmt::{Debug, Display};
 use std::process::Abort;
 
 // The value with this number, and the number that it has.
@@ -70,12 +70,12 @@ fn numbers_are_those_of_the_registries(rt: HostRuntime) {
     assert_numbers::<KeyOperation>(&rt, KEY_OPERATIONS);
 }
 
-// The value of this name, and the name that it has.
-fn named<T: EnumNames + Debug>(rt: &(impl Abort + AllocGlobal), name: &str) -> String {
+// The value of this name, the name that it has, and what it prints.
+fn named<T: EnumNames + Debug + Display>(rt: &(impl Abort + AllocGlobal), name: &str) -> String {
     let shown = match T::from_name(name) {
         Some(value) => {
             let own = value.name();
-            format!(in rt.alloc(); "{value:?} {own}")
+            format!(in rt.alloc(); "{value:?} {own} {value}")
         }
         None => String::from_str(rt.alloc(), "none"),
     };
@@ -84,8 +84,8 @@ fn named<T: EnumNames + Debug>(rt: &(impl Abort + AllocGlobal), name: &str) -> S
 
 /// WebAuthn Level 3, section 5.8.2.
 const CREDENTIAL_TYPES: &[(&str, &str)] = &[
-    ("public-key", "PublicKey public-key"),
-    ("unknown", "Unknown unknown"),
+    ("public-key", "PublicKey public-key public-key"),
+    ("unknown", "Unknown unknown unknown"),
     ("", "none"),
     ("PUBLIC-KEY", "none"),
     ("Public-Key", "none"),
@@ -100,12 +100,12 @@ const CREDENTIAL_TYPES: &[(&str, &str)] = &[
 
 /// WebAuthn Level 3, section 5.8.4. `cable` is an earlier name.
 const TRANSPORTS: &[(&str, &str)] = &[
-    ("usb", "Usb usb"),
-    ("nfc", "Nfc nfc"),
-    ("ble", "Ble ble"),
-    ("hybrid", "Hybrid hybrid"),
-    ("cable", "Hybrid hybrid"),
-    ("internal", "Internal internal"),
+    ("usb", "Usb usb usb"),
+    ("nfc", "Nfc nfc nfc"),
+    ("ble", "Ble ble ble"),
+    ("hybrid", "Hybrid hybrid hybrid"),
+    ("cable", "Hybrid hybrid hybrid"),
+    ("internal", "Internal internal internal"),
     ("", "none"),
     ("USB", "none"),
     ("Nfc", "none"),
@@ -120,7 +120,10 @@ const TRANSPORTS: &[(&str, &str)] = &[
     ("public-key", "none"),
 ];
 
-fn assert_names<T: EnumNames + Debug>(rt: &(impl Abort + AllocGlobal), table: &[(&str, &str)]) {
+fn assert_names<T: EnumNames + Debug + Display>(
+    rt: &(impl Abort + AllocGlobal),
+    table: &[(&str, &str)],
+) {
     for (name, wanted) in table {
         assert_same(rt, named::<T>(rt, name).as_str(), wanted);
     }

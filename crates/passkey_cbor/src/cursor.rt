@@ -12,9 +12,6 @@ use crate::head::Head;
 use std::marker::Model;
 use std::str;
 
-/// How many levels of arrays, maps and tags are read.
-pub(crate) const MAX_DEPTH: u16 = 256;
-
 /// An offset in borrowed bytes, from which heads are decoded one by one. Each attempt to decode a
 /// head is counted, failed ones too.
 #[derive(Drop)]
@@ -34,7 +31,7 @@ impl<'a> Model for Cursor<'a> {
     ghost invariant = { λ c. IsPlaced c.bytes.now c.place };
 }
 
-/// What stands next in a list: an element, whose head this is, the list's end, or no head.
+/// What comes next in a list: an element, whose head this is, the list's end, or no head.
 #[derive(Clone, Copy)]
 pub(crate) enum Next {
     Element(Head),

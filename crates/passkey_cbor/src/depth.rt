@@ -5,6 +5,9 @@ ghost use Rattle.passkey_cbor.specs.View.{item_of, items_view, pairs_view};
 
 use crate::value::Value;
 
+/// How many nesting levels of arrays, maps and tags the decoders accept (RFC 8949, section 10).
+pub const MAX_DEPTH: usize = 256;
+
 #[cycle(depth)]
 fn depth_of(value: &Value) -> usize
     ensures { result ≡ min (depth (item_of value.now)) usize.MAX }
@@ -48,7 +51,7 @@ fn pairs_depth_of(pairs: &[(Value, Value)]) -> usize
 impl Value {
     /// Returns the number of nesting levels: each array, map and tag counts one, so a number or a
     /// string has none and an empty array has one. At most `usize::MAX`. Decoders limit nesting
-    /// (RFC 8949, section 10); those of this crate accept 256 levels.
+    /// (RFC 8949, section 10); those of this crate accept `MAX_DEPTH` levels.
     pub fn depth(&self) -> usize
         ensures { result ≡ min (depth (item_of self.now)) usize.MAX }
     {

@@ -45,6 +45,15 @@ impl Integer {
     }
 
     /// The number n.
+    pub(crate) fn signed(n: i64) -> Integer
+        ensures { result ≡ n }
+    {
+        Integer {
+            value: i128::from(n),
+        }
+    }
+
+    /// The number n.
     pub(crate) fn unsigned(n: u64) -> Integer
         ensures { result ≡ pos n }
     {

@@ -4,6 +4,7 @@
 
 mod canonical;
 mod clone;
+mod convert;
 mod count;
 mod cursor;
 mod depth;
@@ -28,6 +29,7 @@ mod write;
 pub use canonical::is_canonical;
 pub use count::Count;
 pub use cursor::Cursor;
+pub use depth::MAX_DEPTH;
 pub use error::CborError;
 pub use float::Float;
 pub use head::Head;

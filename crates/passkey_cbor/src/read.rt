@@ -14,7 +14,8 @@ ghost use Rattle.passkey_cbor.specs.Stands.{Stands, Values};
 ghost use Rattle.passkey_cbor.specs.Item.{Item};
 
 use crate::count::Count;
-use crate::cursor::{Cursor, MAX_DEPTH, Next};
+use crate::cursor::{Cursor, Next};
+use crate::depth::MAX_DEPTH;
 use crate::error::CborError;
 use crate::head::Head;
 use crate::integer::Integer;
@@ -67,7 +68,7 @@ impl<'a> Cursor<'a> {
 
     // Makes the item at the place, of at most so many levels.
     #[cycle(build)]
-    fn build_item(&mut self, alloc: Global, levels: u16) -> Result<Value, CborError>
+    fn build_item(&mut self, alloc: Global, levels: usize) -> Result<Value, CborError>
         requires { IsInside self.old }
         ensures { Makes an_item (start (item_within levels) (ahead self.old)) self.old self.new result }
     {
@@ -79,7 +80,7 @@ impl<'a> Cursor<'a> {
 
     // Makes an item whose head was read, and counts it.
     #[cycle(build)]
-    fn build_behind(&mut self, alloc: Global, head: Head, levels: u16) -> Result<Value, CborError>
+    fn build_behind(&mut self, alloc: Global, head: Head, levels: usize) -> Result<Value, CborError>
         requires inside { IsInside self.old }
         requires head { IsHead head }
         ensures { Makes an_item (item_within levels head (ahead self.old)) self.old self.new result }
@@ -90,7 +91,7 @@ impl<'a> Cursor<'a> {
 
     // Makes an item whose head was read, and which was counted.
     #[cycle(build)]
-    fn build_inside(&mut self, alloc: Global, head: Head, levels: u16) -> Result<Value, CborError>
+    fn build_inside(&mut self, alloc: Global, head: Head, levels: usize) -> Result<Value, CborError>
         requires inside { IsInside self.old }
         requires head { IsHead head }
         ensures { Makes a_counted_item (item_within levels head (ahead self.old)) self.old self.new result }
@@ -131,7 +132,7 @@ impl<'a> Cursor<'a> {
         &mut self,
         alloc: Global,
         len: Option<u64>,
-        levels: u16,
+        levels: usize,
     ) -> Result<Vec<Value>, CborError>
         requires { IsInside self.old }
         ensures { Makes (each_of an_item) (list_at (item_within levels) len (ahead self.old)) self.old self.new result }
@@ -153,7 +154,7 @@ impl<'a> Cursor<'a> {
         &mut self,
         alloc: Global,
         len: Option<u64>,
-        levels: u16,
+        levels: usize,
     ) -> Result<Vec<(Value, Value)>, CborError>
         requires { IsInside self.old }
         ensures { Makes (each_of a_pair) (list_at (pair_by (item_within levels)) len (ahead self.old)) self.old self.new result }
@@ -175,7 +176,7 @@ impl<'a> Cursor<'a> {
         &mut self,
         alloc: Global,
         head: Head,
-        levels: u16,
+        levels: usize,
     ) -> Result<(Value, Value), CborError>
         requires inside { IsInside self.old }
         requires head { IsHead head }

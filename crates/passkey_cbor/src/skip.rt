@@ -8,7 +8,8 @@ ghost use Rattle.passkey_cbor.specs.Stands.{Stands, Passes};
 ghost use Rattle.passkey_cbor.specs.Item.{Item};
 ghost use Rattle.passkey_cbor.specs.Front.{IsFront, HasNoFront};
 
-use crate::cursor::{Cursor, MAX_DEPTH, Next};
+use crate::cursor::{Cursor, Next};
+use crate::depth::MAX_DEPTH;
 use crate::head::Head;
 
 /// What the elements of a list are: the items of an array, or the pairs of a map.
@@ -38,9 +39,9 @@ impl<'a> Cursor<'a> {
         found
     }
 
-    /// Passes one item of at most so many levels, or stops where none stands.
+    /// Skips one item of at most so many levels, or stops where none is.
     #[cycle(skip)]
-    pub(crate) fn skip_item(&mut self, levels: u16) -> bool
+    pub(crate) fn skip_item(&mut self, levels: usize) -> bool
         requires { IsInside self.old }
         ensures skips { Skips (start (item_within levels) (ahead self.old)) self.old self.new result }
         ensures least { raised self.old.heads 1 ≤ self.new.heads }
@@ -53,7 +54,7 @@ impl<'a> Cursor<'a> {
 
     // Passes an item whose head was read.
     #[cycle(skip)]
-    fn skip_behind(&mut self, head: Head, levels: u16) -> bool
+    fn skip_behind(&mut self, head: Head, levels: usize) -> bool
         requires { IsInside self.old }
         ensures { Skips (item_within levels head (ahead self.old)) self.old self.new result }
     {
@@ -73,7 +74,7 @@ impl<'a> Cursor<'a> {
 
     // Passes the elements of a list whose head was read, and its end.
     #[cycle(skip)]
-    fn skip_list(&mut self, entry: Entry, len: Option<u64>, levels: u16) -> bool
+    fn skip_list(&mut self, entry: Entry, len: Option<u64>, levels: usize) -> bool
         requires { IsInside self.old }
         ensures { Skips (list_at (entry_by levels entry) len (ahead self.old)) self.old self.new result }
     {
@@ -93,7 +94,7 @@ impl<'a> Cursor<'a> {
 
     // Passes an element of a list, whose first head was read.
     #[cycle(skip)]
-    fn skip_entry(&mut self, entry: Entry, head: Head, levels: u16) -> bool
+    fn skip_entry(&mut self, entry: Entry, head: Head, levels: usize) -> bool
         requires { IsInside self.old }
         ensures { Skips (entry_by levels entry head (ahead self.old)) self.old self.new result }
     {

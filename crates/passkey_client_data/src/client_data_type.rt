@@ -3,7 +3,7 @@ ghost use Rattle.std.specs.Prelude.{false, Some};
 ghost use Rattle.passkey_client_data.specs.ClientDataType.{client_data_type_name, client_data_type_named, client_data_type_own};
 ghost use Rattle.passkey_json.specs.Kind.{one_named};
 
-use passkey_json::{FromJson, Refusal, read_name};
+use passkey_json::{FromJson, JsonRefusal, read_name};
 use passkey_webauthn::EnumNames;
 use serde_json::Value;
 use std::alloc::Global;
@@ -60,7 +60,7 @@ impl FromJson for ClientDataType {
 
     ghost takes = { λ _. false };
 
-    fn from_value(_alloc: Global, value: &Value) -> Result<ClientDataType, Refusal> {
+    fn from_value(_alloc: Global, value: &Value) -> Result<ClientDataType, JsonRefusal> {
         read_name(value)
     }
 }

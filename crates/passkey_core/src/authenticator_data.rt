@@ -24,13 +24,13 @@ pub struct AuthenticatorData {
     rp_id_hash: [u8; 32],
     /// The flags: user present, user verified, backup state, and which parts follow.
     pub flags: Flags,
-    /// The signature counter. `None` is encoded as 0, which means that the authenticator keeps
-    /// none.
+    /// The signature counter. `None` means that the authenticator keeps none, and is encoded as 0.
+    /// Decoding never returns `None`.
     pub counter: Option<u32>,
-    /// The new credential; `None` at an assertion.
+    /// The new credential; `None` means the part is absent, as it is at an assertion.
     pub attested_credential_data: Option<AttestedCredentialData>,
-    /// The extension outputs: a map from extension identifiers. Another item is encoded as it is,
-    /// but then the data aren't coherent.
+    /// The extension outputs: a map from extension identifiers; `None` means the part is absent.
+    /// Another item is encoded as it is, but then the data aren't coherent.
     pub extensions: Option<Value>,
 }
 

@@ -17,7 +17,7 @@ pub struct SignedExtensionOutputs {
 }
 
 impl SignedExtensionOutputs {
-    /// `Some` with the outputs if one is present.
+    /// `Some` with the outputs if one is present; `None` if all are absent.
     pub fn zip_contents(self) -> Option<SignedExtensionOutputs>
         ensures { result ≡ where_some (has_assertion_member self) self }
     {

@@ -1,10 +1,9 @@
--- The end of comparing two lists.
+-- Comparing two lists by what their elements are seen as.
 use Rattle.std.specs.Cmp.Lexicographic.{pointwise}
-use Rattle.std.proofs.Common.{◌≡◌, ℕ, ◌≤◌, ◌==◌, Bool, List, [], ◌∷◌, length, map, drop, refl}
-use Rattle.std.proofs.lemmas.List.{drop_all}
-use Rattle.passkey_memory.proofs.Emptiness.{not_none}
+use Rattle.std.proofs.Common.{◌≡◌, ◌&&◌, Bool, List, [], ◌∷◌, map, refl, ap}
 
--- when the first list is at its end, the rest of the other decides
-pub pointwise-end : {X A : Type 0} (seen : X → A) (E : A → A → Bool) (xs rest : List X) (i : ℕ) → length xs ≤ i → (length rest == 0) ≡ pointwise E (map seen (drop i xs)) (map seen rest)
-pointwise-end seen E xs [] i le = rw (drop_all i xs le) refl
-pointwise-end seen E xs (y ∷ ys) i le = rw (drop_all i xs le) (not_none (length ys))
+pub pointwise-map : {X A : Type 0} (seen : X → A) (E : A → A → Bool) (xs ys : List X) → pointwise (λ x y. E (seen x) (seen y)) xs ys ≡ pointwise E (map seen xs) (map seen ys)
+pointwise-map seen E [] [] = refl
+pointwise-map seen E [] (y ∷ ys) = refl
+pointwise-map seen E (x ∷ xs) [] = refl
+pointwise-map seen E (x ∷ xs) (y ∷ ys) = ap (λ b. E (seen x) (seen y) && b) (pointwise-map seen E xs ys)

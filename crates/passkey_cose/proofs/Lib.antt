@@ -12,3 +12,4 @@ pub mod KeyGood
 pub mod KeyBack
 pub mod KeyReadable
 pub mod SeenNames
+pub mod Searching

@@ -1,15 +1,17 @@
 //! Finding the first bad member of a map that is decoded as a key.
 ghost use Rattle.std.specs.Prelude.{◌≡◌, if◌then◌else◌, [], ◌∷◌, ◌++◌, map, Some, None, OnOk};
 ghost use Rattle.std.specs.List.{list_any};
+ghost use Rattle.passkey_cbor.specs.Item.{number};
 ghost use Rattle.passkey_cbor.specs.Same.{item_eq};
 ghost use Rattle.passkey_cbor.specs.View.{item_of, pair_of};
 ghost use Rattle.passkey_cose.specs.KeyChecks.{Checks};
 ghost use Rattle.passkey_iana.specs.Signed64.{is_signed_64};
 ghost use Rattle.passkey_cose.specs.KeyFaults.{name_fault, bytes_fault, op_fault, first_op_fault, ops_fault, value_fault, member_fault, first_fault};
-ghost use Rattle.passkey_cose.specs.KeyLabels.{is_label, has_label};
+ghost use Rattle.passkey_cose.specs.KeyLabels.{is_label, is_common, has_label};
 ghost use Rattle.passkey_cose.specs.Seen.{Holds, labels_of};
 
 use crate::error::CoseError;
+use crate::search::find;
 use crate::seen::Seen;
 use passkey_cbor::{Integer, Value};
 use std::alloc::Global;
@@ -18,8 +20,8 @@ use std::alloc::Global;
 /// earlier ones are kept in an ordered set.
 const FEW: usize = 16;
 
-/// The number as 64 signed bits; `None` if it is outside their range.
-pub(super) fn signed_64(n: Integer) -> Option<i64>
+/// Returns the integer as 64 signed bits; `None` if it is not from -2^63 to 2^63 - 1.
+pub fn signed_64(n: Integer) -> Option<i64>
     ensures { result ≡ (if is_signed_64 n then Some n else None) }
 {
     let n = n.get();
@@ -27,6 +29,13 @@ pub(super) fn signed_64(n: Integer) -> Option<i64>
         return None;
     }
     Some(n as i64)
+}
+
+/// Whether the number is the label of a common parameter, 1 to 5 (RFC 9052, section 7.1).
+pub(super) fn is_common_number(n: i128) -> bool
+    ensures { result ≡ is_common (number n) }
+{
+    n == 1 || n == 2 || n == 3 || n == 4 || n == 5
 }
 
 /// Whether the label is this number.
@@ -71,12 +80,7 @@ fn check_bytes(value: &Value) -> Result<(), CoseError>
 fn stands_in(op: &Value, ops: &[Value]) -> bool
     ensures { result ≡ list_any (item_eq (item_of op.now)) (map item_of ops.now) }
 {
-    for other in ops {
-        if op == other {
-            return true;
-        }
-    }
-    false
+    ops.contains(op)
 }
 
 /// Whether the operation repeats an earlier one. It is added to those.
@@ -145,12 +149,7 @@ fn check_value(alloc: Global, label: &Value, value: &Value) -> Result<(), CoseEr
 fn is_taken(label: &Value, members: &[(Value, Value)]) -> bool
     ensures { result ≡ has_label (map pair_of members.now) (item_of label.now) }
 {
-    for (other, _) in members {
-        if label == other {
-            return true;
-        }
-    }
-    false
+    find(label, members).is_some()
 }
 
 /// Whether the label repeats an earlier one. It is added to those.

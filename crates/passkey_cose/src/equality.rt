@@ -1,87 +1,43 @@
 //! Equality of keys.
-ghost use Rattle.std.specs.Prelude.{◌≡◌, ◌↔◌, IsTrue, map, option_map};
+ghost use Rattle.std.specs.Prelude.{◌≡◌, ◌↔◌, IsTrue, map};
 ghost use Rattle.std.specs.Cmp.{on_equiv, on_per, partial_equiv_from_equiv};
 ghost use Rattle.std.specs.Cmp.Lexicographic.{pointwise};
-ghost use Rattle.std.specs.Option.{option_eq};
 ghost use Rattle.std.specs.Ordering.{on};
-ghost use Rattle.std.specs.Str.{bytes_eq};
-ghost use Rattle.passkey_iana.specs.Iana.{algorithm_number, key_operation_number};
+ghost use Rattle.passkey_iana.specs.Iana.{key_operation_number};
 ghost use Rattle.passkey_cose.specs.Key.{key_parts};
 ghost use Rattle.passkey_cose.specs.KeyParams.{params_of};
 ghost use Rattle.passkey_cose.specs.KeySame.{member_eq, strings_eq, names_eq, parts_eq};
 ghost use Rattle.passkey_cose.specs.KeySameLaws.{parts_eq-equivalence};
 ghost use Rattle.passkey_cose.specs.Registered.{named_of, named_eq};
 
-use crate::iana::{Algorithm, KeyOperation};
+use crate::iana::KeyOperation;
 use crate::key::CoseKey;
 use crate::label::Label;
 use crate::registered::Registered;
 use passkey_cbor::Value;
 
-fn are_strings_equal(a: Option<&[u8]>, b: Option<&[u8]>) -> bool
-    ensures { result ≡ option_eq bytes_eq (option_map (λ s. s.now) a.entry) (option_map (λ s. s.now) b.entry) }
-{
-    match (a, b) {
-        (Some(a), Some(b)) => a == b,
-        (None, None) => true,
-        _ => false,
-    }
-}
-
-fn are_algs_equal(a: Option<&Registered<Algorithm>>, b: Option<&Registered<Algorithm>>) -> bool
-    ensures { result ≡ option_eq (named_eq algorithm_number) (option_map (λ x. named_of x.now) a.entry) (option_map (λ x. named_of x.now) b.entry) }
-{
-    match (a, b) {
-        (Some(a), Some(b)) => a == b,
-        (None, None) => true,
-        _ => false,
-    }
-}
-
 fn are_ops_equal(a: &[Registered<KeyOperation>], b: &[Registered<KeyOperation>]) -> bool
     ensures { result ≡ pointwise (named_eq key_operation_number) (map named_of a.now) (map named_of b.now) }
 {
-    let mut rest = b;
-    for op in a {
-        let Some((other, behind)) = rest.split_first() else {
-            return false;
-        };
-        if op != other {
-            return false;
-        }
-        rest = behind;
-    }
-    rest.is_empty()
+    a == b
 }
 
 fn are_params_equal(a: &[(Label, Value)], b: &[(Label, Value)]) -> bool
     ensures { result ≡ pointwise member_eq (params_of a.now) (params_of b.now) }
 {
-    let mut rest = b;
-    for (label, value) in a {
-        let Some(((other_label, other_value), behind)) = rest.split_first() else {
-            return false;
-        };
-        if label != other_label || value != other_value {
-            return false;
-        }
-        rest = behind;
-    }
-    rest.is_empty()
+    a == b
 }
 
 fn have_equal_strings(a: &CoseKey, b: &CoseKey) -> bool
     ensures { result ≡ strings_eq (key_parts a.now) (key_parts b.now) }
 {
-    are_strings_equal(a.key_id(), b.key_id()) && are_strings_equal(a.base_iv(), b.base_iv())
+    a.key_id() == b.key_id() && a.base_iv() == b.base_iv()
 }
 
 fn have_equal_names(a: &CoseKey, b: &CoseKey) -> bool
     ensures { result ≡ names_eq (key_parts a.now) (key_parts b.now) }
 {
-    a.kty() == b.kty()
-        && are_algs_equal(a.alg(), b.alg())
-        && are_ops_equal(a.key_ops(), b.key_ops())
+    a.kty() == b.kty() && a.alg() == b.alg() && are_ops_equal(a.key_ops(), b.key_ops())
 }
 
 fn are_equal(a: &CoseKey, b: &CoseKey) -> bool

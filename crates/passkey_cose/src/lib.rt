@@ -16,10 +16,12 @@ mod readable;
 mod reading;
 mod refused;
 mod registered;
+mod search;
 mod seen;
 mod with;
 mod writing;
 
+pub use checking::signed_64;
 pub use error::{CoseError, CoseKeyConversionError};
 pub use key::CoseKey;
 pub use label::Label;

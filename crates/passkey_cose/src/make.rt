@@ -1,7 +1,5 @@
 //! Making keys.
 ghost use Rattle.std.specs.Prelude.{◌≡◌, IfOk};
-ghost use Rattle.passkey_cbor.specs.Item.{number};
-ghost use Rattle.passkey_cbor.specs.View.{item_of};
 ghost use Rattle.passkey_cose.specs.Key.{key_parts};
 ghost use Rattle.passkey_cose.specs.KeyParams.{params_of};
 ghost use Rattle.passkey_cose.specs.KeyParts.{new_key, ec2_members, ec2_key};
@@ -12,15 +10,9 @@ use crate::key::CoseKey;
 use crate::label::Label;
 use crate::names::value_is_name;
 use crate::registered::Registered;
-use passkey_cbor::{Integer, Value};
+use passkey_cbor::Value;
 use passkey_memory::OutOfMemory;
 use std::alloc::Global;
-
-pub(super) fn integer(n: i64) -> Value
-    ensures { item_of result ≡ number n }
-{
-    Value::Integer(Integer::new(i128::from(n)).unwrap())
-}
 
 fn ec2_params(
     alloc: Global,
@@ -31,7 +23,7 @@ fn ec2_params(
     ensures { IfOk result (λ ps. params_of ps.items ≡ ec2_members curve x.items y.items) }
 {
     let mut params = Vec::with_capacity(alloc, 3)?;
-    params.push((Label::Int(-1), integer(curve)))?;
+    params.push((Label::Int(-1), Value::from(curve)))?;
     params.push((Label::Int(-2), Value::Bytes(x)))?;
     params.push((Label::Int(-3), Value::Bytes(y)))?;
     Ok(params)

@@ -11,19 +11,8 @@ use crate::iana::{Algorithm, KeyOperation, KeyType};
 use crate::key::CoseKey;
 use crate::label::Label;
 use crate::registered::Registered;
+use crate::search::find;
 use passkey_cbor::Value;
-
-/// The value of the parameter with this label; `None` if there is none.
-fn value_at<'a>(label: &Label, params: &'a [(Label, Value)]) -> Option<&'a Value>
-    ensures { option_map (λ v. item_of v.now) result ≡ value_at (label_item label.now) (params_of params.now) }
-{
-    for (other, value) in params {
-        if label == other {
-            return Some(value);
-        }
-    }
-    None
-}
 
 impl CoseKey {
     /// The key type (`kty`, label 1).
@@ -33,7 +22,7 @@ impl CoseKey {
         &self.kty
     }
 
-    /// The key identifier (`kid`, label 2).
+    /// The key identifier (`kid`, label 2), one byte or more; `None` means the parameter is absent.
     pub fn key_id(&self) -> Option<&[u8]>
         ensures { option_map (λ s. s.now) result ≡ (key_parts self.now).key_id }
     {
@@ -43,15 +32,16 @@ impl CoseKey {
         }
     }
 
-    /// The algorithm that the key is restricted to (`alg`, label 3).
+    /// The algorithm that the key is restricted to (`alg`, label 3); `None` means the parameter is
+    /// absent.
     pub fn alg(&self) -> Option<&Registered<Algorithm>>
         ensures { option_map (λ a. named_of a.now) result ≡ (key_parts self.now).alg }
     {
         self.alg.as_ref()
     }
 
-    /// The operations that the key is restricted to (`key_ops`, label 4); if empty, it may be used
-    /// for any.
+    /// The operations that the key is restricted to (`key_ops`, label 4), each of them once. An empty
+    /// list means the parameter is absent: the key may be used for any.
     pub fn key_ops(&self) -> &[Registered<KeyOperation>]
         ensures { map named_of result.now ≡ (key_parts self.now).key_ops }
     {
@@ -61,7 +51,7 @@ impl CoseKey {
         }
     }
 
-    /// The Base IV (label 5).
+    /// The Base IV (label 5), one byte or more; `None` means the parameter is absent.
     pub fn base_iv(&self) -> Option<&[u8]>
         ensures { option_map (λ s. s.now) result ≡ (key_parts self.now).base_iv }
     {
@@ -82,11 +72,12 @@ impl CoseKey {
             None => &[],
         }
     }
+
     /// The value of the further parameter with this label; `None` if the key has none, and for the
     /// labels of the common parameters, 1 to 5.
     pub fn param(&self, label: &Label) -> Option<&Value>
         ensures { option_map (λ v. item_of v.now) result ≡ value_at (label_item label.now) (key_parts self.now).params }
     {
-        value_at(label, self.params())
+        find(label, self.params())
     }
 }

@@ -12,10 +12,7 @@ use crate::iana::{KeyOperation, KeyType};
 use crate::key::CoseKey;
 use crate::label::Label;
 use crate::registered::Registered;
-use passkey_cbor::Value;
-
-/// The number of levels that are decoded.
-const MAX_DEPTH: usize = 256;
+use passkey_cbor::{MAX_DEPTH, Value};
 
 fn params_depth(params: &[(Label, Value)]) -> usize
     ensures { result ≡ min (pairs_depth (pairs_of (params_of params.now))) usize.MAX }

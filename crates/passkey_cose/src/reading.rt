@@ -14,12 +14,13 @@ ghost use Rattle.passkey_cose.specs.KeyReading.{name_in, bytes_in, ops_in, under
 ghost use Rattle.passkey_cose.specs.Label.{label_item};
 ghost use Rattle.passkey_cose.specs.Registered.{named_of, IsText};
 
-use crate::checking::{check_members, is_label_of, signed_64};
+use crate::checking::{check_members, is_common_number, signed_64};
 use crate::error::CoseError;
 use crate::iana::{EnumI64, KeyOperation, KeyType};
 use crate::key::CoseKey;
 use crate::label::Label;
 use crate::registered::Registered;
+use crate::search::find;
 use passkey_cbor::Value;
 use passkey_memory::OutOfMemory;
 use std::alloc::Global;
@@ -28,12 +29,7 @@ use std::alloc::Global;
 fn value_under(members: &[(Value, Value)], label: u8) -> Option<&Value>
     ensures { option_map (λ v. item_of v.now) result ≡ under label (map pair_of members.now) }
 {
-    for (other, value) in members {
-        if is_label_of(other, label) {
-            return Some(value);
-        }
-    }
-    None
+    find(&Value::from(label), members)
 }
 
 /// The registry's value, if the item is one.
@@ -111,11 +107,10 @@ fn read_ops_under(
 fn is_common_label_of(label: &Value) -> bool
     ensures { result ≡ is_common (item_of label.now) }
 {
-    is_label_of(label, 1)
-        || is_label_of(label, 2)
-        || is_label_of(label, 3)
-        || is_label_of(label, 4)
-        || is_label_of(label, 5)
+    match label {
+        Value::Integer(n) => is_common_number(n.get()),
+        _ => false,
+    }
 }
 
 fn read_label(alloc: Global, label: &Value) -> Result<Label, OutOfMemory>

@@ -12,6 +12,7 @@ ghost use Rattle.passkey_cose.specs.KeyWith.{has_repeat, key_ops_fault, param_fa
 ghost use Rattle.passkey_cose.specs.Label.{label_item};
 ghost use Rattle.passkey_cose.specs.Registered.{named_of, named_item};
 
+use crate::checking::is_common_number;
 use crate::error::CoseError;
 use crate::iana::{Algorithm, EnumI64, KeyOperation};
 use crate::key::CoseKey;
@@ -19,6 +20,7 @@ use crate::label::Label;
 use crate::names::{label_is_name, ops_are_names, value_is_name};
 use crate::refused::RefusedKey;
 use crate::registered::Registered;
+use crate::search::find;
 use passkey_cbor::Value;
 use std::alloc::{AllocError, Global};
 
@@ -72,7 +74,7 @@ fn is_common_label(label: &Label) -> bool
     ensures { result ≡ is_common (label_item label.now) }
 {
     match label {
-        Label::Int(n) => *n == 1 || *n == 2 || *n == 3 || *n == 4 || *n == 5,
+        Label::Int(n) => is_common_number(i128::from(*n)),
         Label::Text(_) => false,
     }
 }
@@ -80,12 +82,7 @@ fn is_common_label(label: &Label) -> bool
 fn stands_among(label: &Label, params: &[(Label, Value)]) -> bool
     ensures { result ≡ has_label (params_of params.now) (label_item label.now) }
 {
-    for (other, _) in params {
-        if label == other {
-            return true;
-        }
-    }
-    false
+    find(label, params).is_some()
 }
 
 fn push_param(

@@ -15,7 +15,6 @@ ghost use Rattle.passkey_cose.specs.Registered.{named_of, named_item};
 use crate::iana::{Algorithm, EnumI64, KeyOperation};
 use crate::key::CoseKey;
 use crate::label::Label;
-use crate::make::integer;
 use crate::registered::Registered;
 use passkey_cbor::Value;
 use passkey_memory::OutOfMemory;
@@ -31,7 +30,7 @@ fn label_value(alloc: Global, label: &Label) -> Result<Value, OutOfMemory>
     ensures { IfOk result (λ v. item_of v ≡ label_item label.now) }
 {
     match label {
-        Label::Int(n) => Ok(integer(*n)),
+        Label::Int(n) => Ok(Value::from(*n)),
         Label::Text(text) => text_value(alloc, text),
     }
 }
@@ -40,8 +39,8 @@ fn name_value<T: EnumI64>(alloc: Global, name: &Registered<T>) -> Result<Value, 
     ensures { IfOk result (λ v. item_of v ≡ named_item T.number_of (named_of name.now)) }
 {
     match name {
-        Registered::Assigned(value) => Ok(integer(value.to_i64())),
-        Registered::Other(n) => Ok(integer(*n)),
+        Registered::Assigned(value) => Ok(Value::from(value.to_i64())),
+        Registered::Other(n) => Ok(Value::from(*n)),
         Registered::Text(text) => text_value(alloc, text),
     }
 }
@@ -94,7 +93,7 @@ fn push_member(
     ensures { OnOk result (map pair_of pairs.new.items ≡ map pair_of pairs.old.items ++ member label (option_map item_of value)) }
 {
     if let Some(value) = value {
-        pairs.push((integer(i64::from(label)), value))?;
+        pairs.push((Value::from(label), value))?;
     }
     Ok(())
 }

@@ -4,8 +4,8 @@ ghost use Rattle.passkey_json.specs.Members.{record_kind, takes_in};
 
 use passkey_bytes::Bytes;
 use passkey_json::{
-    BytesForm, FromJson, JsonFault, JsonRecord, Object, RecordToJson, Refusal, ToJson, Written,
-    read_nested,
+    BytesForm, FromJson, JsonFault, JsonRecord, JsonRefusal, Object, ObjectWriter, RecordToJson,
+    ToJson, read_nested,
 };
 use passkey_memory::OutOfMemory;
 use serde_json::Value;
@@ -49,7 +49,10 @@ impl FromJson for AuthenticatorAssertionResponse {
 
     ghost takes = { takes_in assertion_response_takes };
 
-    fn from_value(alloc: Global, value: &Value) -> Result<AuthenticatorAssertionResponse, Refusal> {
+    fn from_value(
+        alloc: Global,
+        value: &Value,
+    ) -> Result<AuthenticatorAssertionResponse, JsonRefusal> {
         read_nested(alloc, value)
     }
 }
@@ -58,7 +61,7 @@ impl ToJson for AuthenticatorAssertionResponse {
     ghost json = { assertion_response_json };
 
     fn to_json(&self, alloc: Global, form: BytesForm) -> Result<Value, OutOfMemory> {
-        let mut members = Written::new(alloc);
+        let mut members = ObjectWriter::new(alloc);
         members.put(alloc, form, "clientDataJSON", &self.client_data_json)?;
         members.put(alloc, form, "authenticatorData", &self.authenticator_data)?;
         members.put(alloc, form, "signature", &self.signature)?;

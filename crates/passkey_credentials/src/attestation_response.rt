@@ -6,8 +6,8 @@ ghost use Rattle.passkey_json.specs.Members.{record_kind, takes_in};
 
 use passkey_bytes::{Bytes, List};
 use passkey_json::{
-    BytesForm, FromJson, JsonFault, JsonRecord, Object, RecordToJson, Refusal, ToJson, Written,
-    read_nested,
+    BytesForm, FromJson, JsonFault, JsonRecord, JsonRefusal, Object, ObjectWriter, RecordToJson,
+    ToJson, read_nested,
 };
 use passkey_memory::OutOfMemory;
 use passkey_webauthn::AuthenticatorTransport;
@@ -88,7 +88,7 @@ impl FromJson for AuthenticatorAttestationResponse {
     fn from_value(
         alloc: Global,
         value: &Value,
-    ) -> Result<AuthenticatorAttestationResponse, Refusal> {
+    ) -> Result<AuthenticatorAttestationResponse, JsonRefusal> {
         read_nested(alloc, value)
     }
 }
@@ -97,7 +97,7 @@ impl ToJson for AuthenticatorAttestationResponse {
     ghost json = { attestation_response_json };
 
     fn to_json(&self, alloc: Global, form: BytesForm) -> Result<Value, OutOfMemory> {
-        let mut members = Written::new(alloc);
+        let mut members = ObjectWriter::new(alloc);
         members.put(alloc, form, "clientDataJSON", &self.client_data_json)?;
         members.put(alloc, form, "authenticatorData", &self.authenticator_data)?;
         members.put_some(alloc, form, "publicKey", &self.public_key)?;

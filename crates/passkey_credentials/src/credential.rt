@@ -8,7 +8,7 @@ use crate::response::AuthenticatorResponse;
 use passkey_bytes::{Bytes, Text};
 use passkey_json::{
     AuthenticationExtensionsClientOutputs, AuthenticatorAttachment, BytesForm, FromJson, JsonFault,
-    JsonRecord, Object, RecordToJson, Refusal, ToJson, Written, read_nested,
+    JsonRecord, JsonRefusal, Object, ObjectWriter, RecordToJson, ToJson, read_nested,
 };
 use passkey_memory::OutOfMemory;
 use passkey_webauthn::PublicKeyCredentialType;
@@ -65,7 +65,7 @@ impl<R: AuthenticatorResponse> FromJson for PublicKeyCredential<R> {
 
     ghost takes = { takes_in (credential_takes R.FromJson.takes) };
 
-    fn from_value(alloc: Global, value: &Value) -> Result<PublicKeyCredential<R>, Refusal> {
+    fn from_value(alloc: Global, value: &Value) -> Result<PublicKeyCredential<R>, JsonRefusal> {
         read_nested(alloc, value)
     }
 }
@@ -74,7 +74,7 @@ impl<R: AuthenticatorResponse> ToJson for PublicKeyCredential<R> {
     ghost json = { credential_json R.ToJson.json };
 
     fn to_json(&self, alloc: Global, form: BytesForm) -> Result<Value, OutOfMemory> {
-        let mut members = Written::new(alloc);
+        let mut members = ObjectWriter::new(alloc);
         members.put(alloc, form, "id", &self.id)?;
         members.put(alloc, form, "rawId", &self.raw_id)?;
         members.put(alloc, form, "type", &self.ty)?;

@@ -6,11 +6,26 @@ use passkey_bytes::{Bytes, List, Map, Text};
 use passkey_cbor::Value;
 use passkey_core::{Aaguid, AuthenticatorData};
 use passkey_iana::Algorithm;
-use passkey_kinds::{ReadBack, Shallow, TolerantList, Tolerated, laws};
+use passkey_kinds::{ReadBack, Refusal, Shallow, TolerantList, Tolerated, WriteFault, laws};
 use passkey_webauthn::{
     AuthenticatorTransport, PublicKeyCredentialDescriptor, PublicKeyCredentialType,
 };
+use std::fmt::Display;
 use std::num::NonZeroU128;
+use std::process::Abort;
+
+fn assert_printed<T: Display>(rt: &(impl Abort + AllocGlobal), value: &T, wanted: &str) {
+    let printed = format!(in rt.alloc(); "{value}").expect(rt, "memory");
+    assert_eq!(rt; printed.as_str(), wanted);
+}
+
+#[test]
+fn faults_are_printed_by_name(rt: HostRuntime) {
+    assert_printed(&rt, &Refusal::Refused, "Refused");
+    assert_printed(&rt, &Refusal::OutOfMemory, "OutOfMemory");
+    assert_printed(&rt, &WriteFault::OutOfMemory, "OutOfMemory");
+    assert_printed(&rt, &WriteFault::NumberTooLarge, "NumberTooLarge");
+}
 
 #[test]
 fn booleans_and_numbers(rt: HostRuntime) {

@@ -7,7 +7,7 @@ pub trait EnumI64: Copy {
 
     ghost named: { ℤ → Option Self };
 
-    /// The value with this number, or nothing where no value has it.
+    /// Returns the value with this number; `None` if no value has it.
     fn from_i64(number: i64) -> Option<Self>
         ensures { result ≡ named number };
 

@@ -4,7 +4,7 @@ use Rattle.std.specs.Option.{option_and_then}
 use Rattle.passkey_json.proofs.Looking.{standing}
 use Rattle.passkey_json.specs.Fault.{Fault}
 use Rattle.passkey_json.specs.Kind.{Kind, optional, each, list, accepted_of, kept}
-use Rattle.passkey_json.specs.Members.{Object, under, one_of, required, required_tolerated, or_default, given, tolerated, accepted_list, in_object, record_kind}
+use Rattle.passkey_json.specs.Members.{Object, under, one_of, required, required_tolerated, or_default, if_present, tolerated, accepted_list, in_object, record_kind}
 use Rattle.passkey_json.specs.Written.{ReadsBack, ReadsBackIf, Row, list_json, written, at_name, are_apart}
 use Rattle.serde_json.specs.Data.{Data, Items, no_items, item}
 use Rattle.serde_json.specs.View.{items_of}
@@ -29,10 +29,10 @@ module _ {A : Type 0} {kind : Kind A} {x : A} {d : Data} (back : ReadsBack kind 
 -- ---- members that may lack
 
 module _ {A : Type 0} (kind : Kind A) (json : A → Data) where
-  given_at : (o : Option A) → IfSome o (λ x. ReadsBack kind x (json x)) → (name : List ℕ) → given kind (under name (option_map json o)) ≡ Ok o
-  unfolding given
-  given_at None back name = refl
-  given_at (Some x) back name = rw back.plain refl
+  if_present_at : (o : Option A) → IfSome o (λ x. ReadsBack kind x (json x)) → (name : List ℕ) → if_present kind (under name (option_map json o)) ≡ Ok o
+  unfolding if_present
+  if_present_at None back name = refl
+  if_present_at (Some x) back name = rw back.plain refl
 
   optional_at : (o : Option A) → IfSome o (λ x. ReadsBack kind x (json x)) → (name : List ℕ) → or_default None (optional kind) (under name (option_map json o)) ≡ Ok o
   unfolding or_default
@@ -45,8 +45,8 @@ module _ {A : Type 0} (kind : Kind A) (json : A → Data) where
   tolerated_optional_at (Some x) back name = rw back.some refl
 
 module _ {A : Type 0} {kind : Kind A} {json : A → Data} {o : Option A} (back : ReadsBackIf kind json o) where
-  pub given_back : (name : List ℕ) → given kind (under name (option_map json o)) ≡ Ok o
-  given_back name = given_at kind json o back.there name
+  pub if_present_back : (name : List ℕ) → if_present kind (under name (option_map json o)) ≡ Ok o
+  if_present_back name = if_present_at kind json o back.there name
 
   pub optional_back : (name : List ℕ) → or_default None (optional kind) (under name (option_map json o)) ≡ Ok o
   optional_back name = optional_at kind json o back.there name

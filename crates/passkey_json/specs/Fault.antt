@@ -2,8 +2,8 @@
 use Rattle.std.specs.Prelude.{◌≡◌, ℕ, List, Result, Ok, Err}
 use Rattle.passkey_json.specs.declared.json_fault.JsonFault.{JsonFault}
 use Rattle.passkey_json.specs.declared.json_fault.JsonFault.TheVariants as json_fault
-use Rattle.passkey_json.specs.declared.refusal.Refusal.{Refusal}
-use Rattle.passkey_json.specs.declared.refusal.Refusal.TheVariants as refusal
+use Rattle.passkey_json.specs.declared.json_refusal.JsonRefusal.{JsonRefusal}
+use Rattle.passkey_json.specs.declared.json_refusal.JsonRefusal.TheVariants as refusal
 
 -- what is wrong with a JSON value, by the name of the faulty member
 pub data Fault : Type 0 where
@@ -25,7 +25,7 @@ Gives Takes wanted (Err (json_fault.Float name)) = wanted ≡ Err (float name.no
 Gives Takes wanted (Err (json_fault.Repeated name)) = wanted ≡ Err (repeated name.now)
 
 -- the fault of a record inside another
-abbrev pub refusal_of : JsonFault → Refusal
+abbrev pub refusal_of : JsonFault → JsonRefusal
 refusal_of json_fault.OutOfMemory = refusal.OutOfMemory
 refusal_of json_fault.NotAnObject = refusal.Refused
 refusal_of (json_fault.Missing name) = refusal.Refused

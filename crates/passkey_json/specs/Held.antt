@@ -6,8 +6,8 @@ use Rattle.passkey_json.specs.declared.json_fault.JsonFault.{JsonFault}
 use Rattle.passkey_json.specs.declared.json_fault.JsonFault.TheVariants as json_fault
 use Rattle.passkey_json.specs.declared.member.Member.{Member as MemberHeld}
 use Rattle.passkey_json.specs.declared.object.Object.{Object as ObjectHeld}
-use Rattle.passkey_json.specs.declared.refusal.Refusal.{Refusal}
-use Rattle.passkey_json.specs.declared.refusal.Refusal.TheVariants as refusal
+use Rattle.passkey_json.specs.declared.json_refusal.JsonRefusal.{JsonRefusal}
+use Rattle.passkey_json.specs.declared.json_refusal.JsonRefusal.TheVariants as refusal
 use Rattle.serde_json.specs.Find.{get}
 use Rattle.serde_json.specs.View.{view}
 
@@ -24,7 +24,7 @@ GivesAs Takes seen wanted (Ok x) = wanted ≡ Ok (seen x)
 GivesAs Takes seen wanted (Err e) = Gives Takes wanted (Err e)
 
 -- the value, or the default if it was rejected
-abbrev pub IsUnlessRefused : {A : Type 0} → A → Result A Refusal → Result A JsonFault → Type 0
+abbrev pub IsUnlessRefused : {A : Type 0} → A → Result A JsonRefusal → Result A JsonFault → Type 0
 IsUnlessRefused default (Ok x) result = result ≡ Ok x
 IsUnlessRefused default (Err refusal.Refused) result = result ≡ Ok default
 IsUnlessRefused default (Err refusal.OutOfMemory) result = result ≡ Err json_fault.OutOfMemory

@@ -5,8 +5,8 @@ use Rattle.std.specs.Str.{bytes_eq, trim}
 use Rattle.passkey_bytes.specs.Encoding.{text_bytes}
 use Rattle.passkey_iana.specs.Iana.{algorithm_named}
 use Rattle.passkey_iana.specs.declared.algorithm.Algorithm.{Algorithm}
-use Rattle.passkey_json.specs.declared.refusal.Refusal.{Refusal}
-use Rattle.passkey_json.specs.declared.refusal.Refusal.TheVariants.{Refused, OutOfMemory}
+use Rattle.passkey_json.specs.declared.json_refusal.JsonRefusal.{JsonRefusal}
+use Rattle.passkey_json.specs.declared.json_refusal.JsonRefusal.TheVariants.{Refused, OutOfMemory}
 use Rattle.passkey_webauthn.specs.NumberText.{whole_64}
 use Rattle.serde_json.specs.Data.{Data, null, boolean, number, string, array, Items, no_items, item}
 use Rattle.serde_json.specs.Find.{as_str, as_array, as_object, as_i64}
@@ -16,7 +16,7 @@ Kind A = Data → Option A
 
 -- The result is the value, or `Refused` if there is none; or `OutOfMemory`, only for a JSON value that
 -- takes memory.
-abbrev pub Answers : {A : Type 0} → Kind A → (Data → Bool) → Data → Result A Refusal → Type 0
+abbrev pub Answers : {A : Type 0} → Kind A → (Data → Bool) → Data → Result A JsonRefusal → Type 0
 Answers kind takes d (Ok x) = kind d ≡ Some x
 Answers kind takes d (Err Refused) = kind d ≡ None
 Answers kind takes d (Err OutOfMemory) = IsTrue (takes d)

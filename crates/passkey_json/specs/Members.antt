@@ -98,8 +98,8 @@ unfoldable pub or_default : {A : Type 0} → A → Kind A → Member → Result 
 or_default default kind m = may kind default m.name m.value
 
 -- the value, or `None` if it is absent
-unfoldable pub given : {A : Type 0} → Kind A → Member → Result (Option A) Fault
-given kind m = may (λ d. option_map Some (kind d)) None m.name m.value
+unfoldable pub if_present : {A : Type 0} → Kind A → Member → Result (Option A) Fault
+if_present kind m = may (λ d. option_map Some (kind d)) None m.name m.value
 
 -- the value, or the default if it is absent or rejected
 unfoldable pub tolerated : {A : Type 0} → A → Kind A → Member → Result A Fault

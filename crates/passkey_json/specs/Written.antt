@@ -10,7 +10,7 @@ use Rattle.passkey_json.specs.Kind.{Kind, optional}
 use Rattle.passkey_json.specs.declared.bytes_form.BytesForm.{BytesForm}
 use Rattle.passkey_json.specs.declared.bytes_form.BytesForm.TheVariants as form
 use Rattle.passkey_json.specs.declared.elements.held.Elements.{Elements}
-use Rattle.passkey_json.specs.declared.written.held.Written.{Written as Holder}
+use Rattle.passkey_json.specs.declared.written.held.ObjectWriter.{ObjectWriter as Holder}
 use Rattle.serde_json.specs.Data.{Data, number, unsigned, string, array, object, Members, no_members, put}
 use Rattle.serde_json.specs.Find.{of_integer}
 use Rattle.serde_json.specs.View.{items_of, members_view, view}

@@ -6,8 +6,8 @@ ghost use Rattle.serde_json.specs.Data.{string};
 
 use crate::bytes_form::BytesForm;
 use crate::from_json::FromJson;
+use crate::json_refusal::JsonRefusal;
 use crate::names::{read_name, written_name};
-use crate::refusal::Refusal;
 use crate::to_json::ToJson;
 use passkey_memory::OutOfMemory;
 use passkey_webauthn::EnumNames;
@@ -61,7 +61,7 @@ impl FromJson for AuthenticatorAttachment {
 
     ghost takes = { λ _. false };
 
-    fn from_value(_alloc: Global, value: &Value) -> Result<AuthenticatorAttachment, Refusal> {
+    fn from_value(_alloc: Global, value: &Value) -> Result<AuthenticatorAttachment, JsonRefusal> {
         read_name(value)
     }
 }

@@ -9,7 +9,7 @@ ghost use Rattle.serde_json.specs.Written.{has_float};
 use crate::bytes_form::BytesForm;
 use crate::elements::Elements;
 use crate::from_json::FromJson;
-use crate::refusal::Refusal;
+use crate::json_refusal::JsonRefusal;
 use crate::to_json::ToJson;
 use passkey_bytes::encoding::base64url;
 use passkey_bytes::{Bytes, BytesFault, List};
@@ -22,18 +22,18 @@ impl FromJson for Bytes {
 
     ghost takes = { is_text_or_array };
 
-    fn from_value(alloc: Global, value: &Value) -> Result<Bytes, Refusal> {
+    fn from_value(alloc: Global, value: &Value) -> Result<Bytes, JsonRefusal> {
         match value {
             Value::String(text) => match Bytes::try_from(alloc, text.as_str().trim()) {
                 Ok(bytes) => Ok(bytes),
-                Err(BytesFault::NotBase64Encoded(_)) => Err(Refusal::Refused),
-                Err(BytesFault::OutOfMemory) => Err(Refusal::OutOfMemory),
+                Err(BytesFault::NotBase64Encoded(_)) => Err(JsonRefusal::Refused),
+                Err(BytesFault::OutOfMemory) => Err(JsonRefusal::OutOfMemory),
             },
             Value::Array(_) => {
                 let numbers = <List<u8> as FromJson>::from_value(alloc, value)?;
                 Ok(Bytes::from(Vec::from(numbers)))
             }
-            _ => Err(Refusal::Refused),
+            _ => Err(JsonRefusal::Refused),
         }
     }
 }

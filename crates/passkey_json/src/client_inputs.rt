@@ -7,12 +7,12 @@ use crate::bytes_form::BytesForm;
 use crate::from_json::FromJson;
 use crate::json_fault::JsonFault;
 use crate::json_record::{JsonRecord, read_nested};
+use crate::json_refusal::JsonRefusal;
 use crate::object::Object;
 use crate::prf_inputs::AuthenticationExtensionsPrfInputs;
 use crate::record_to_json::RecordToJson;
-use crate::refusal::Refusal;
 use crate::to_json::ToJson;
-use crate::written::Written;
+use crate::written::ObjectWriter;
 use passkey_memory::OutOfMemory;
 use serde_json::Value;
 use std::alloc::Global;
@@ -78,7 +78,7 @@ impl FromJson for AuthenticationExtensionsClientInputs {
     fn from_value(
         alloc: Global,
         value: &Value,
-    ) -> Result<AuthenticationExtensionsClientInputs, Refusal> {
+    ) -> Result<AuthenticationExtensionsClientInputs, JsonRefusal> {
         read_nested(alloc, value)
     }
 }
@@ -87,7 +87,7 @@ impl ToJson for AuthenticationExtensionsClientInputs {
     ghost json = { client_inputs_json };
 
     fn to_json(&self, alloc: Global, form: BytesForm) -> Result<Value, OutOfMemory> {
-        let mut members = Written::new(alloc);
+        let mut members = ObjectWriter::new(alloc);
         members.put_some(alloc, form, "credProps", &self.cred_props)?;
         members.put_some(alloc, form, "prf", &self.prf)?;
         members.put_some(alloc, form, "prfAlreadyHashed", &self.prf_already_hashed)?;

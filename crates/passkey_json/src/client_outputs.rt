@@ -8,11 +8,11 @@ use crate::credential_properties::CredentialPropertiesOutput;
 use crate::from_json::FromJson;
 use crate::json_fault::JsonFault;
 use crate::json_record::{JsonRecord, read_nested};
+use crate::json_refusal::JsonRefusal;
 use crate::object::Object;
 use crate::record_to_json::RecordToJson;
-use crate::refusal::Refusal;
 use crate::to_json::ToJson;
-use crate::written::Written;
+use crate::written::ObjectWriter;
 use passkey_memory::OutOfMemory;
 use passkey_webauthn::AuthenticationExtensionsPrfOutputs;
 use serde_json::Value;
@@ -64,7 +64,7 @@ impl FromJson for AuthenticationExtensionsClientOutputs {
     fn from_value(
         alloc: Global,
         value: &Value,
-    ) -> Result<AuthenticationExtensionsClientOutputs, Refusal> {
+    ) -> Result<AuthenticationExtensionsClientOutputs, JsonRefusal> {
         read_nested(alloc, value)
     }
 }
@@ -73,7 +73,7 @@ impl ToJson for AuthenticationExtensionsClientOutputs {
     ghost json = { client_outputs_json };
 
     fn to_json(&self, alloc: Global, form: BytesForm) -> Result<Value, OutOfMemory> {
-        let mut members = Written::new(alloc);
+        let mut members = ObjectWriter::new(alloc);
         members.put_some(alloc, form, "credProps", &self.cred_props)?;
         members.put_some(alloc, form, "prf", &self.prf)?;
         Ok(members.into_value())

@@ -7,11 +7,11 @@ use crate::bytes_form::BytesForm;
 use crate::from_json::FromJson;
 use crate::json_fault::JsonFault;
 use crate::json_record::{JsonRecord, read_nested};
+use crate::json_refusal::JsonRefusal;
 use crate::object::Object;
 use crate::record_to_json::RecordToJson;
-use crate::refusal::Refusal;
 use crate::to_json::ToJson;
-use crate::written::Written;
+use crate::written::ObjectWriter;
 use passkey_memory::OutOfMemory;
 use serde_json::Value;
 use std::alloc::Global;
@@ -42,7 +42,7 @@ impl FromJson for CredentialPropertiesOutput {
 
     ghost takes = { λ _. false };
 
-    fn from_value(alloc: Global, value: &Value) -> Result<CredentialPropertiesOutput, Refusal> {
+    fn from_value(alloc: Global, value: &Value) -> Result<CredentialPropertiesOutput, JsonRefusal> {
         read_nested(alloc, value)
     }
 }
@@ -51,7 +51,7 @@ impl ToJson for CredentialPropertiesOutput {
     ghost json = { credential_properties_json };
 
     fn to_json(&self, alloc: Global, form: BytesForm) -> Result<Value, OutOfMemory> {
-        let mut members = Written::new(alloc);
+        let mut members = ObjectWriter::new(alloc);
         members.put_some(alloc, form, "rk", &self.discoverable)?;
         Ok(members.into_value())
     }

@@ -6,11 +6,11 @@ use crate::bytes_form::BytesForm;
 use crate::from_json::FromJson;
 use crate::json_fault::JsonFault;
 use crate::json_record::{JsonRecord, read_nested};
+use crate::json_refusal::JsonRefusal;
 use crate::object::Object;
 use crate::record_to_json::RecordToJson;
-use crate::refusal::Refusal;
 use crate::to_json::ToJson;
-use crate::written::Written;
+use crate::written::ObjectWriter;
 use passkey_memory::OutOfMemory;
 use passkey_webauthn::{PublicKeyCredentialDescriptor, PublicKeyCredentialType};
 use serde_json::Value;
@@ -38,7 +38,10 @@ impl FromJson for PublicKeyCredentialDescriptor {
 
     ghost takes = { takes_in descriptor_takes };
 
-    fn from_value(alloc: Global, value: &Value) -> Result<PublicKeyCredentialDescriptor, Refusal> {
+    fn from_value(
+        alloc: Global,
+        value: &Value,
+    ) -> Result<PublicKeyCredentialDescriptor, JsonRefusal> {
         read_nested(alloc, value)
     }
 }
@@ -47,7 +50,7 @@ impl ToJson for PublicKeyCredentialDescriptor {
     ghost json = { descriptor_json };
 
     fn to_json(&self, alloc: Global, form: BytesForm) -> Result<Value, OutOfMemory> {
-        let mut members = Written::new(alloc);
+        let mut members = ObjectWriter::new(alloc);
         members.put(alloc, form, "type", &self.ty)?;
         members.put(alloc, form, "id", &self.id)?;
         members.put_some(alloc, form, "transports", &self.transports)?;

@@ -4,7 +4,7 @@ ghost use Rattle.passkey_json.specs.Kind.{Answers, truth, text, whole, numeral, 
 ghost use Rattle.serde_json.specs.Data.{Data};
 ghost use Rattle.serde_json.specs.View.{view};
 
-use crate::refusal::Refusal;
+use crate::json_refusal::JsonRefusal;
 use passkey_bytes::Text;
 use passkey_webauthn::whole_part;
 use serde_json::Value;
@@ -20,7 +20,7 @@ pub trait FromJson: Drop {
 
     /// Decodes the JSON value. `Refused` exactly if it decodes to no value of this type;
     /// `OutOfMemory` if an allocation fails, and only for a JSON value that takes memory (`takes`).
-    fn from_value(alloc: Global, value: &Value) -> Result<Self, Refusal>
+    fn from_value(alloc: Global, value: &Value) -> Result<Self, JsonRefusal>
         ensures { Answers kind takes (view value.now) result };
 }
 
@@ -40,8 +40,8 @@ impl FromJson for bool {
 
     ghost takes = { λ _. false };
 
-    fn from_value(_alloc: Global, value: &Value) -> Result<bool, Refusal> {
-        value.as_bool().ok_or(Refusal::Refused)
+    fn from_value(_alloc: Global, value: &Value) -> Result<bool, JsonRefusal> {
+        value.as_bool().ok_or(JsonRefusal::Refused)
     }
 }
 
@@ -50,10 +50,10 @@ impl FromJson for Text {
 
     ghost takes = { is_text };
 
-    fn from_value(alloc: Global, value: &Value) -> Result<Text, Refusal> {
+    fn from_value(alloc: Global, value: &Value) -> Result<Text, JsonRefusal> {
         match value {
             Value::String(text) => Ok(Text::from_str(alloc, text.as_str())?),
-            _ => Err(Refusal::Refused),
+            _ => Err(JsonRefusal::Refused),
         }
     }
 }
@@ -63,10 +63,10 @@ impl FromJson for u8 {
 
     ghost takes = { λ _. false };
 
-    fn from_value(_alloc: Global, value: &Value) -> Result<u8, Refusal> {
+    fn from_value(_alloc: Global, value: &Value) -> Result<u8, JsonRefusal> {
         match value.as_i64() {
-            Some(n) => u8::try_from(n).or(Err(Refusal::Refused)),
-            None => Err(Refusal::Refused),
+            Some(n) => u8::try_from(n).or(Err(JsonRefusal::Refused)),
+            None => Err(JsonRefusal::Refused),
         }
     }
 }
@@ -77,10 +77,10 @@ impl FromJson for u32 {
     ghost takes = { λ _. false };
 
     #[tactic(auto, unfolding(crate::specs::Kind::word))]
-    fn from_value(_alloc: Global, value: &Value) -> Result<u32, Refusal> {
+    fn from_value(_alloc: Global, value: &Value) -> Result<u32, JsonRefusal> {
         match numeral(value) {
-            Some(n) => u32::try_from(n).or(Err(Refusal::Refused)),
-            None => Err(Refusal::Refused),
+            Some(n) => u32::try_from(n).or(Err(JsonRefusal::Refused)),
+            None => Err(JsonRefusal::Refused),
         }
     }
 }
@@ -90,8 +90,8 @@ impl FromJson for i64 {
 
     ghost takes = { λ _. false };
 
-    fn from_value(_alloc: Global, value: &Value) -> Result<i64, Refusal> {
-        value.as_i64().ok_or(Refusal::Refused)
+    fn from_value(_alloc: Global, value: &Value) -> Result<i64, JsonRefusal> {
+        value.as_i64().ok_or(JsonRefusal::Refused)
     }
 }
 
@@ -100,7 +100,7 @@ impl<T: FromJson> FromJson for Option<T> {
 
     ghost takes = { T.takes };
 
-    fn from_value(alloc: Global, value: &Value) -> Result<Option<T>, Refusal> {
+    fn from_value(alloc: Global, value: &Value) -> Result<Option<T>, JsonRefusal> {
         match value {
             Value::Null => Ok(None),
             _ => Ok(Some(T::from_value(alloc, value)?)),

@@ -7,8 +7,8 @@ ghost use Rattle.passkey_json.specs.Members.{Object as Names, in_object, record_
 ghost use Rattle.serde_json.specs.View.{view};
 
 use crate::json_fault::JsonFault;
+use crate::json_refusal::JsonRefusal;
 use crate::object::Object;
-use crate::refusal::Refusal;
 use serde_json::Value;
 use std::alloc::Global;
 
@@ -41,7 +41,7 @@ pub trait JsonRecord: Drop {
 }
 
 /// Decodes a record inside another. `Refused` for any fault but `OutOfMemory`, which is passed on.
-pub fn read_nested<R: JsonRecord>(alloc: Global, value: &Value) -> Result<R, Refusal>
+pub fn read_nested<R: JsonRecord>(alloc: Global, value: &Value) -> Result<R, JsonRefusal>
     ensures { Answers (record_kind R.members) (takes_in R.takes) (view value.now) result }
 {
     Ok(R::from_json(alloc, value)?)

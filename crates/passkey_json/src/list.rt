@@ -3,7 +3,7 @@ ghost use Rattle.std.specs.Prelude.{◌≡◌};
 ghost use Rattle.passkey_json.specs.Kind.{list, accepted, is_array};
 
 use crate::from_json::FromJson;
-use crate::refusal::Refusal;
+use crate::json_refusal::JsonRefusal;
 use passkey_bytes::List;
 use serde_json::Value;
 use std::alloc::Global;
@@ -14,9 +14,9 @@ impl<T: FromJson> FromJson for List<T> {
 
     ghost takes = { is_array };
 
-    fn from_value(alloc: Global, value: &Value) -> Result<List<T>, Refusal> {
+    fn from_value(alloc: Global, value: &Value) -> Result<List<T>, JsonRefusal> {
         let Value::Array(elements) = value else {
-            return Err(Refusal::Refused);
+            return Err(JsonRefusal::Refused);
         };
         let mut read = Vec::new(alloc);
         for element in elements {
@@ -53,16 +53,16 @@ impl<T: FromJson> FromJson for TolerantList<T> {
 
     ghost takes = { is_array };
 
-    fn from_value(alloc: Global, value: &Value) -> Result<TolerantList<T>, Refusal> {
+    fn from_value(alloc: Global, value: &Value) -> Result<TolerantList<T>, JsonRefusal> {
         let Value::Array(elements) = value else {
-            return Err(Refusal::Refused);
+            return Err(JsonRefusal::Refused);
         };
         let mut read = Vec::new(alloc);
         for element in elements {
             match T::from_value(alloc, element) {
                 Ok(accepted) => read.push(accepted)?,
-                Err(Refusal::Refused) => {}
-                Err(Refusal::OutOfMemory) => return Err(Refusal::OutOfMemory),
+                Err(JsonRefusal::Refused) => {}
+                Err(JsonRefusal::OutOfMemory) => return Err(JsonRefusal::OutOfMemory),
             }
         }
         Ok(TolerantList(List::from(read)))

@@ -6,9 +6,9 @@ ghost use Rattle.serde_json.specs.View.{members_view};
 
 use crate::bytes_form::BytesForm;
 use crate::from_json::FromJson;
-use crate::refusal::Refusal;
+use crate::json_refusal::JsonRefusal;
 use crate::to_json::ToJson;
-use crate::written::Written;
+use crate::written::ObjectWriter;
 use passkey_bytes::{Map, Text};
 use passkey_memory::OutOfMemory;
 use serde_json::{Map as Members, Value};
@@ -17,7 +17,7 @@ use std::alloc::Global;
 fn read_members<T: FromJson>(
     alloc: Global,
     members: &Members<String, Value>,
-) -> Result<Map<Text, T>, Refusal>
+) -> Result<Map<Text, T>, JsonRefusal>
     ensures { Answers (map_from_texts T.kind) is_object (object (members_view members.now.entries)) result }
 {
     let mut read = Map::empty(alloc);
@@ -33,10 +33,10 @@ impl<T: FromJson> FromJson for Map<Text, T> {
 
     ghost takes = { is_object };
 
-    fn from_value(alloc: Global, value: &Value) -> Result<Map<Text, T>, Refusal> {
+    fn from_value(alloc: Global, value: &Value) -> Result<Map<Text, T>, JsonRefusal> {
         match value {
             Value::Object(members) => read_members(alloc, members),
-            _ => Err(Refusal::Refused),
+            _ => Err(JsonRefusal::Refused),
         }
     }
 }
@@ -45,7 +45,7 @@ impl<T: ToJson> ToJson for Map<Text, T> {
     ghost json = { λ form. map_json (T.json form) };
 
     fn to_json(&self, alloc: Global, form: BytesForm) -> Result<Value, OutOfMemory> {
-        let mut members = Written::new(alloc);
+        let mut members = ObjectWriter::new(alloc);
         for (name, member) in self {
             members.put(alloc, form, name.as_str(), member)?;
         }

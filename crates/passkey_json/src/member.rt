@@ -3,14 +3,14 @@ ghost use Rattle.std.specs.Prelude.{◌≡◌, Err, IsTrue, option_map};
 ghost use Rattle.passkey_json.specs.Fault.{Gives};
 ghost use Rattle.passkey_json.specs.Held.{IsUnlessRefused, found};
 ghost use Rattle.passkey_json.specs.Kind.{is_array};
-ghost use Rattle.passkey_json.specs.Members.{MemberTakes, under, fault_of, judged, required, or_default, given, tolerated, required_tolerated, accepted_list};
+ghost use Rattle.passkey_json.specs.Members.{MemberTakes, under, fault_of, judged, required, or_default, if_present, tolerated, required_tolerated, accepted_list};
 ghost use Rattle.serde_json.specs.View.{view};
 
 use crate::floats::holds_float;
 use crate::from_json::FromJson;
 use crate::json_fault::JsonFault;
+use crate::json_refusal::JsonRefusal;
 use crate::list::TolerantList;
-use crate::refusal::Refusal;
 use passkey_bytes::List;
 use serde_json::Value;
 use std::alloc::Global;
@@ -32,18 +32,18 @@ fn judged<T: FromJson>(alloc: Global, name: &'static str, value: &Value) -> Resu
 {
     match T::from_value(alloc, value) {
         Ok(read) => Ok(read),
-        Err(Refusal::Refused) => Err(fault_of(name, value)),
-        Err(Refusal::OutOfMemory) => Err(JsonFault::OutOfMemory),
+        Err(JsonRefusal::Refused) => Err(fault_of(name, value)),
+        Err(JsonRefusal::OutOfMemory) => Err(JsonFault::OutOfMemory),
     }
 }
 
-fn unless_refused<T: Drop>(read: Result<T, Refusal>, default: T) -> Result<T, JsonFault>
+fn unless_refused<T: Drop>(read: Result<T, JsonRefusal>, default: T) -> Result<T, JsonFault>
     ensures { IsUnlessRefused default read result }
 {
     match read {
         Ok(read) => Ok(read),
-        Err(Refusal::Refused) => Ok(default),
-        Err(Refusal::OutOfMemory) => Err(JsonFault::OutOfMemory),
+        Err(JsonRefusal::Refused) => Ok(default),
+        Err(JsonRefusal::OutOfMemory) => Err(JsonFault::OutOfMemory),
     }
 }
 
@@ -91,9 +91,9 @@ impl<'a> Member<'a> {
     /// Decodes a member; `None` if it is absent. `Float` or `Refused` if its value isn't of the
     /// kind, `Float` if it holds a float. `OutOfMemory` if an allocation fails, and only if the
     /// value takes memory to decode.
-    #[tactic(auto, unfolding(crate::specs::Members::given))]
-    pub fn given<T: FromJson>(self) -> Result<Option<T>, JsonFault>
-        ensures { Gives (MemberTakes T.takes (found self.entry)) (given T.kind (found self.entry)) result }
+    #[tactic(auto, unfolding(crate::specs::Members::if_present))]
+    pub fn if_present<T: FromJson>(self) -> Result<Option<T>, JsonFault>
+        ensures { Gives (MemberTakes T.takes (found self.entry)) (if_present T.kind (found self.entry)) result }
     {
         match self.value {
             Some(value) => Ok(Some(judged(self.alloc, self.name, value)?)),
@@ -139,8 +139,8 @@ impl<'a> Member<'a> {
         };
         match <TolerantList<T> as FromJson>::from_value(self.alloc, value) {
             Ok(accepted) => Ok(Some(accepted.into_list())),
-            Err(Refusal::Refused) => Ok(None),
-            Err(Refusal::OutOfMemory) => Err(JsonFault::OutOfMemory),
+            Err(JsonRefusal::Refused) => Ok(None),
+            Err(JsonRefusal::OutOfMemory) => Err(JsonFault::OutOfMemory),
         }
     }
 }

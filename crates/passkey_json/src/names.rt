@@ -8,7 +8,7 @@ ghost use Rattle.serde_json.specs.View.{view};
 
 use crate::bytes_form::BytesForm;
 use crate::from_json::FromJson;
-use crate::refusal::Refusal;
+use crate::json_refusal::JsonRefusal;
 use crate::to_json::ToJson;
 use passkey_memory::OutOfMemory;
 use passkey_webauthn::{AuthenticatorTransport, EnumNames, PublicKeyCredentialType};
@@ -16,12 +16,12 @@ use serde_json::Value;
 use std::alloc::Global;
 
 /// Decodes the value that a text names. `Refused` if the JSON value isn't a text that names one.
-pub fn read_name<T: EnumNames>(value: &Value) -> Result<T, Refusal>
+pub fn read_name<T: EnumNames>(value: &Value) -> Result<T, JsonRefusal>
     ensures { Answers (one_named T.named) (λ _. false) (view value.now) result }
 {
     match value {
-        Value::String(name) => T::from_name(name.as_str()).ok_or(Refusal::Refused),
-        _ => Err(Refusal::Refused),
+        Value::String(name) => T::from_name(name.as_str()).ok_or(JsonRefusal::Refused),
+        _ => Err(JsonRefusal::Refused),
     }
 }
 
@@ -30,7 +30,7 @@ impl FromJson for PublicKeyCredentialType {
 
     ghost takes = { λ _. false };
 
-    fn from_value(_alloc: Global, value: &Value) -> Result<PublicKeyCredentialType, Refusal> {
+    fn from_value(_alloc: Global, value: &Value) -> Result<PublicKeyCredentialType, JsonRefusal> {
         read_name(value)
     }
 }
@@ -40,7 +40,7 @@ impl FromJson for AuthenticatorTransport {
 
     ghost takes = { λ _. false };
 
-    fn from_value(_alloc: Global, value: &Value) -> Result<AuthenticatorTransport, Refusal> {
+    fn from_value(_alloc: Global, value: &Value) -> Result<AuthenticatorTransport, JsonRefusal> {
         read_name(value)
     }
 }

@@ -7,11 +7,11 @@ use crate::bytes_form::BytesForm;
 use crate::from_json::FromJson;
 use crate::json_fault::JsonFault;
 use crate::json_record::{JsonRecord, read_nested};
+use crate::json_refusal::JsonRefusal;
 use crate::object::Object;
 use crate::record_to_json::RecordToJson;
-use crate::refusal::Refusal;
 use crate::to_json::ToJson;
-use crate::written::Written;
+use crate::written::ObjectWriter;
 use passkey_memory::OutOfMemory;
 use passkey_webauthn::{PublicKeyCredentialParameters, PublicKeyCredentialType};
 use serde_json::Value;
@@ -38,7 +38,10 @@ impl FromJson for PublicKeyCredentialParameters {
 
     ghost takes = { λ _. false };
 
-    fn from_value(alloc: Global, value: &Value) -> Result<PublicKeyCredentialParameters, Refusal> {
+    fn from_value(
+        alloc: Global,
+        value: &Value,
+    ) -> Result<PublicKeyCredentialParameters, JsonRefusal> {
         read_nested(alloc, value)
     }
 }
@@ -47,7 +50,7 @@ impl ToJson for PublicKeyCredentialParameters {
     ghost json = { parameters_json };
 
     fn to_json(&self, alloc: Global, form: BytesForm) -> Result<Value, OutOfMemory> {
-        let mut members = Written::new(alloc);
+        let mut members = ObjectWriter::new(alloc);
         members.put(alloc, form, "type", &self.ty)?;
         members.put(alloc, form, "alg", &self.alg)?;
         Ok(members.into_value())

@@ -9,11 +9,11 @@ use crate::bytes_form::BytesForm;
 use crate::from_json::FromJson;
 use crate::json_fault::JsonFault;
 use crate::json_record::{JsonRecord, read_nested};
+use crate::json_refusal::JsonRefusal;
 use crate::object::Object;
 use crate::record_to_json::RecordToJson;
-use crate::refusal::Refusal;
 use crate::to_json::ToJson;
-use crate::written::Written;
+use crate::written::ObjectWriter;
 use passkey_bytes::{Map, Text};
 use passkey_memory::OutOfMemory;
 use passkey_webauthn::AuthenticationExtensionsPrfValues;
@@ -95,7 +95,7 @@ impl FromJson for AuthenticationExtensionsPrfInputs {
     fn from_value(
         alloc: Global,
         value: &Value,
-    ) -> Result<AuthenticationExtensionsPrfInputs, Refusal> {
+    ) -> Result<AuthenticationExtensionsPrfInputs, JsonRefusal> {
         read_nested(alloc, value)
     }
 }
@@ -104,7 +104,7 @@ impl ToJson for AuthenticationExtensionsPrfInputs {
     ghost json = { prf_inputs_json };
 
     fn to_json(&self, alloc: Global, form: BytesForm) -> Result<Value, OutOfMemory> {
-        let mut members = Written::new(alloc);
+        let mut members = ObjectWriter::new(alloc);
         members.put_some(alloc, form, "eval", &self.eval)?;
         members.put_some(alloc, form, "evalByCredential", &self.eval_by_credential)?;
         Ok(members.into_value())

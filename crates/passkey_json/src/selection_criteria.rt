@@ -8,14 +8,14 @@ use crate::bytes_form::BytesForm;
 use crate::from_json::FromJson;
 use crate::json_fault::JsonFault;
 use crate::json_record::{JsonRecord, read_nested};
+use crate::json_refusal::JsonRefusal;
 use crate::object::Object;
 use crate::record_to_json::RecordToJson;
-use crate::refusal::Refusal;
 use crate::resident_key::ResidentKeyRequirement;
 use crate::to_json::ToJson;
 use crate::truth_text::TruthText;
 use crate::user_verification::UserVerificationRequirement;
-use crate::written::Written;
+use crate::written::ObjectWriter;
 use passkey_memory::OutOfMemory;
 use serde_json::Value;
 use std::alloc::Global;
@@ -79,7 +79,10 @@ impl FromJson for AuthenticatorSelectionCriteria {
 
     ghost takes = { λ _. false };
 
-    fn from_value(alloc: Global, value: &Value) -> Result<AuthenticatorSelectionCriteria, Refusal> {
+    fn from_value(
+        alloc: Global,
+        value: &Value,
+    ) -> Result<AuthenticatorSelectionCriteria, JsonRefusal> {
         read_nested(alloc, value)
     }
 }
@@ -88,7 +91,7 @@ impl ToJson for AuthenticatorSelectionCriteria {
     ghost json = { selection_criteria_json };
 
     fn to_json(&self, alloc: Global, form: BytesForm) -> Result<Value, OutOfMemory> {
-        let mut members = Written::new(alloc);
+        let mut members = ObjectWriter::new(alloc);
         members.put_some(
             alloc,
             form,

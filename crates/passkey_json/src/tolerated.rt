@@ -3,7 +3,7 @@ ghost use Rattle.std.specs.Prelude.{◌≡◌};
 ghost use Rattle.passkey_json.specs.Kind.{tolerated};
 
 use crate::from_json::FromJson;
-use crate::refusal::Refusal;
+use crate::json_refusal::JsonRefusal;
 use serde_json::Value;
 use std::alloc::Global;
 use std::marker::Model;
@@ -26,11 +26,11 @@ impl<T: FromJson> FromJson for Tolerated<T> {
 
     ghost takes = { T.takes };
 
-    fn from_value(alloc: Global, value: &Value) -> Result<Tolerated<T>, Refusal> {
+    fn from_value(alloc: Global, value: &Value) -> Result<Tolerated<T>, JsonRefusal> {
         match T::from_value(alloc, value) {
             Ok(read) => Ok(Tolerated(Some(read))),
-            Err(Refusal::Refused) => Ok(Tolerated(None)),
-            Err(Refusal::OutOfMemory) => Err(Refusal::OutOfMemory),
+            Err(JsonRefusal::Refused) => Ok(Tolerated(None)),
+            Err(JsonRefusal::OutOfMemory) => Err(JsonRefusal::OutOfMemory),
         }
     }
 }

@@ -5,7 +5,7 @@ ghost use Rattle.serde_json.specs.Data.{boolean};
 
 use crate::bytes_form::BytesForm;
 use crate::from_json::FromJson;
-use crate::refusal::Refusal;
+use crate::json_refusal::JsonRefusal;
 use crate::to_json::ToJson;
 use passkey_memory::OutOfMemory;
 use serde_json::Value;
@@ -49,7 +49,7 @@ impl FromJson for TruthText {
 
     ghost takes = { λ _. false };
 
-    fn from_value(_alloc: Global, value: &Value) -> Result<TruthText, Refusal> {
+    fn from_value(_alloc: Global, value: &Value) -> Result<TruthText, JsonRefusal> {
         let truth = match value {
             Value::Bool(truth) => Some(*truth),
             Value::String(name) => truth_named(name.as_str()),
@@ -57,7 +57,7 @@ impl FromJson for TruthText {
         };
         match truth {
             Some(truth) => Ok(TruthText(truth)),
-            None => Err(Refusal::Refused),
+            None => Err(JsonRefusal::Refused),
         }
     }
 }

@@ -6,11 +6,11 @@ use crate::bytes_form::BytesForm;
 use crate::from_json::FromJson;
 use crate::json_fault::JsonFault;
 use crate::json_record::{JsonRecord, read_nested};
+use crate::json_refusal::JsonRefusal;
 use crate::object::Object;
 use crate::record_to_json::RecordToJson;
-use crate::refusal::Refusal;
 use crate::to_json::ToJson;
-use crate::written::Written;
+use crate::written::ObjectWriter;
 use passkey_memory::OutOfMemory;
 use passkey_webauthn::PublicKeyCredentialUserEntity;
 use serde_json::Value;
@@ -36,7 +36,10 @@ impl FromJson for PublicKeyCredentialUserEntity {
 
     ghost takes = { takes_in user_takes };
 
-    fn from_value(alloc: Global, value: &Value) -> Result<PublicKeyCredentialUserEntity, Refusal> {
+    fn from_value(
+        alloc: Global,
+        value: &Value,
+    ) -> Result<PublicKeyCredentialUserEntity, JsonRefusal> {
         read_nested(alloc, value)
     }
 }
@@ -45,7 +48,7 @@ impl ToJson for PublicKeyCredentialUserEntity {
     ghost json = { user_json };
 
     fn to_json(&self, alloc: Global, form: BytesForm) -> Result<Value, OutOfMemory> {
-        let mut members = Written::new(alloc);
+        let mut members = ObjectWriter::new(alloc);
         members.put(alloc, form, "id", &self.id)?;
         members.put(alloc, form, "displayName", &self.display_name)?;
         members.put(alloc, form, "name", &self.name)?;

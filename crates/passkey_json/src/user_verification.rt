@@ -6,8 +6,8 @@ ghost use Rattle.serde_json.specs.Data.{string};
 
 use crate::bytes_form::BytesForm;
 use crate::from_json::FromJson;
+use crate::json_refusal::JsonRefusal;
 use crate::names::{read_name, written_name};
-use crate::refusal::Refusal;
 use crate::to_json::ToJson;
 use passkey_memory::OutOfMemory;
 use passkey_webauthn::EnumNames;
@@ -65,7 +65,10 @@ impl FromJson for UserVerificationRequirement {
 
     ghost takes = { λ _. false };
 
-    fn from_value(_alloc: Global, value: &Value) -> Result<UserVerificationRequirement, Refusal> {
+    fn from_value(
+        _alloc: Global,
+        value: &Value,
+    ) -> Result<UserVerificationRequirement, JsonRefusal> {
         read_name(value)
     }
 }

@@ -15,7 +15,7 @@ use std::alloc::Global;
 
 mod held;
 
-pub use held::Written;
+pub use held::ObjectWriter;
 
 impl<T: ToJson> ToJson for List<T> {
     ghost json = { λ form. list_json (T.json form) };
@@ -44,12 +44,12 @@ fn put_member(
     Ok(())
 }
 
-impl Written {
+impl ObjectWriter {
     /// No members. Allocates nothing.
-    pub fn new(alloc: Global) -> Written
+    pub fn new(alloc: Global) -> ObjectWriter
         ensures { so_far result ≡ no_members }
     {
-        Written {
+        ObjectWriter {
             members: Map::new(alloc),
         }
     }

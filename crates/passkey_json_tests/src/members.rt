@@ -9,7 +9,7 @@ use std::process::Abort;
 fn aliased(alloc: Global, value: &Value) -> Result<Option<bool>, JsonFault> {
     Object::of(alloc, value)?
         .aliased("list", "old")?
-        .given::<bool>()
+        .if_present::<bool>()
 }
 
 /// What `{:?}` prints of that member of a JSON text.

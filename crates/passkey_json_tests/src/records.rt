@@ -5,6 +5,7 @@ use passkey_json::BytesForm::{Base64Url, Numbers};
 use passkey_json::{
     AuthenticationExtensionsClientInputs, AuthenticationExtensionsClientOutputs,
     AuthenticationExtensionsPrfInputs, AuthenticatorSelectionCriteria, JsonFault, JsonRecord,
+    WithoutBytes,
 };
 use passkey_webauthn::{
     AuthenticationExtensionsPrfOutputs, AuthenticationExtensionsPrfValues,
@@ -272,4 +273,17 @@ fn members_that_take_no_memory_are_decoded_without_any(rt: HostRuntime) {
     let text = r#"{"residentKey":"required","requireResidentKey":"true","x":["y"]}"#;
     let criteria = AuthenticatorSelectionCriteria::from_json(rt.alloc(), &parsed(&rt, text));
     assert!(rt; criteria.is_ok(), "criteria");
+}
+
+#[test]
+fn records_without_bytes_need_no_form(rt: HostRuntime) {
+    let criteria = AuthenticatorSelectionCriteria::default();
+    let json = criteria.to_plain_json(rt.alloc()).expect(&rt, "memory");
+    let text = json.to_string(rt.alloc()).expect(&rt, "memory");
+    assert_shows(
+        &rt,
+        "criteria",
+        text,
+        r#"{"requireResidentKey":false,"userVerification":"preferred"}"#,
+    );
 }

@@ -9,7 +9,7 @@ ghost use Rattle.passkey_kinds.specs.Algorithm.{algorithm, algorithm_tree};
 ghost use Rattle.passkey_kinds.specs.Keeping.{nothing};
 ghost use Rattle.passkey_kinds.specs.Kind.{AnswersAs};
 ghost use Rattle.passkey_kinds.specs.Reader.{LooksAtMost};
-ghost use Rattle.passkey_webauthn.specs.NumberText.{signed_64, whole_64};
+ghost use Rattle.passkey_webauthn.specs.NumberText.{whole_64};
 ghost use Rattle.passkey_kinds.specs.ReadBack.{Any};
 
 use crate::from_cbor::FromCbor;
@@ -17,16 +17,11 @@ use crate::head::read_integer;
 use crate::refusal::Refusal;
 use crate::to_cbor::ToCbor;
 use passkey_cbor::{Cursor, Integer, TextToken, Value};
+use passkey_cose::signed_64;
 use passkey_iana::{Algorithm, EnumI64};
 use passkey_memory::OutOfMemory;
 use passkey_webauthn::{NumberText, whole_part};
 use std::alloc::Global;
-
-fn signed_64(n: Integer) -> Option<i64>
-    ensures { result ≡ signed_64 n }
-{
-    i64::try_from(n.get()).ok()
-}
 
 fn named(number: Option<i64>) -> Result<Algorithm, Refusal>
     ensures { AnswersAs (λ a. a) (option_and_then algorithm_named number) ⊥ result }

@@ -1,34 +1,21 @@
 //! Why a value was not decoded from a data item.
-ghost use Rattle.std.specs.Prelude.{◌≡◌, Some};
-ghost use Rattle.passkey_kinds.specs.Names.{refusal_name};
+ghost use Rattle.std.specs.Prelude.{◌≡◌};
 ghost use Rattle.passkey_kinds.specs.declared.refusal.Refusal.TheVariants.{OutOfMemory as NoMemory};
 
 use passkey_memory::OutOfMemory;
 use std::alloc::{AllocError, AllocFailed};
-use std::error::Error;
-use std::fmt;
+use thiserror::Error;
 
 /// Why a value was not decoded from a data item.
-#[derive(Clone, Copy, Debug, PartialEq, Eq)]
+#[derive(Clone, Copy, Debug, Error, PartialEq, Eq)]
 pub enum Refusal {
     /// The type doesn't accept the data item.
+    #[error("Refused")]
     Refused,
     /// An allocation failed.
+    #[error("OutOfMemory")]
     OutOfMemory,
 }
-
-impl fmt::Display for Refusal {
-    ghost output = { λ e. Some (refusal_name e) };
-
-    fn fmt<W: fmt::Write>(&self, f: &mut fmt::Formatter<W>) -> fmt::Result {
-        f.write_str(match self {
-            Refusal::Refused => "Refused",
-            Refusal::OutOfMemory => "OutOfMemory",
-        })
-    }
-}
-
-impl Error for Refusal {}
 
 impl From<AllocError> for Refusal {
     ghost from_gives = { λ _ e. e ≡ NoMemory };

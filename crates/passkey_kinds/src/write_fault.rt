@@ -1,34 +1,21 @@
 //! Why a message was not encoded.
-ghost use Rattle.std.specs.Prelude.{◌≡◌, Some};
-ghost use Rattle.passkey_kinds.specs.Names.{write_fault_name};
+ghost use Rattle.std.specs.Prelude.{◌≡◌};
 ghost use Rattle.passkey_kinds.specs.declared.write_fault.WriteFault.TheVariants.{OutOfMemory as NoMemory};
 
 use passkey_memory::OutOfMemory;
 use std::alloc::{AllocError, AllocFailed};
-use std::error::Error;
-use std::fmt;
+use thiserror::Error;
 
 /// Why a message was not encoded.
-#[derive(Clone, Copy, Debug, PartialEq, Eq)]
+#[derive(Clone, Copy, Debug, Error, PartialEq, Eq)]
 pub enum WriteFault {
     /// An allocation failed.
+    #[error("OutOfMemory")]
     OutOfMemory,
     /// A number is 2^64 or more, so no CBOR integer holds it (RFC 8949, section 3.1).
+    #[error("NumberTooLarge")]
     NumberTooLarge,
 }
-
-impl fmt::Display for WriteFault {
-    ghost output = { λ e. Some (write_fault_name e) };
-
-    fn fmt<W: fmt::Write>(&self, f: &mut fmt::Formatter<W>) -> fmt::Result {
-        f.write_str(match self {
-            WriteFault::OutOfMemory => "OutOfMemory",
-            WriteFault::NumberTooLarge => "NumberTooLarge",
-        })
-    }
-}
-
-impl Error for WriteFault {}
 
 impl From<AllocError> for WriteFault {
     ghost from_gives = { λ _ e. e ≡ NoMemory };

@@ -4,7 +4,7 @@ use Rattle.passkey_json.specs.ClientInputs.{client_inputs_in, client_inputs_json
 use Rattle.passkey_json.specs.Descriptor.{descriptor_in, descriptor_json}
 use Rattle.passkey_json.specs.Fault.{Fault}
 use Rattle.passkey_json.specs.Kind.{bytes, word, optional, accepted, is_array, is_text_or_array}
-use Rattle.passkey_json.specs.Members.{◌>>=◌, Object, member, record_kind, required, given, or_default, accepted_list, takes_any, takes_in}
+use Rattle.passkey_json.specs.Members.{◌>>=◌, Object, member, record_kind, required, if_present, or_default, accepted_list, takes_any, takes_in}
 use Rattle.passkey_json.specs.Parameters.{parameters_in, parameters_json}
 use Rattle.passkey_json.specs.Rp.{rp_in, rp_json, rp_takes}
 use Rattle.passkey_json.specs.SelectionCriteria.{selection_criteria_in, selection_criteria_json}
@@ -30,7 +30,7 @@ required_members_in object = do
 
 unfoldable pub choice_members_in : Object → Result ChoiceMembers Fault
 choice_members_in object = do
-  timeout ← given word (member (codes "timeout") object)
+  timeout ← if_present word (member (codes "timeout") object)
   exclude_credentials ← accepted_list (record_kind descriptor_in) (member (codes "excludeCredentials") object)
   authenticator_selection ← or_default None (optional (record_kind selection_criteria_in)) (member (codes "authenticatorSelection") object)
   Ok (record {

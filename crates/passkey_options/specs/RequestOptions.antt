@@ -4,7 +4,7 @@ use Rattle.passkey_json.specs.ClientInputs.{client_inputs_in, client_inputs_json
 use Rattle.passkey_json.specs.Descriptor.{descriptor_in, descriptor_json}
 use Rattle.passkey_json.specs.Fault.{Fault}
 use Rattle.passkey_json.specs.Kind.{bytes, text, word, optional, one_named, is_array, is_text, is_text_or_array}
-use Rattle.passkey_json.specs.Members.{◌>>=◌, Object, member, aliased, record_kind, required, given, or_default, tolerated, accepted_list, takes_any, takes_in}
+use Rattle.passkey_json.specs.Members.{◌>>=◌, Object, member, aliased, record_kind, required, if_present, or_default, tolerated, accepted_list, takes_any, takes_in}
 use Rattle.passkey_json.specs.UserVerification.{user_verification_name, user_verification_named}
 use Rattle.passkey_json.specs.Written.{Row, written, row, row_if, list_json, bytes_json, natural_json}
 use Rattle.passkey_json.specs.declared.bytes_form.BytesForm.{BytesForm}
@@ -20,7 +20,7 @@ use Rattle.serde_json.specs.Data.{Data, string}
 unfoldable pub credential_members_in : Object → Result CredentialMembers Fault
 credential_members_in object = do
   challenge ← required bytes (member (codes "challenge") object)
-  timeout ← given word (member (codes "timeout") object)
+  timeout ← if_present word (member (codes "timeout") object)
   rp_id ← or_default None (optional text) (member (codes "rpId") object)
   allowed ← aliased (codes "allowCredentials") (codes "allowList") object
   allow_credentials ← accepted_list (record_kind descriptor_in) allowed

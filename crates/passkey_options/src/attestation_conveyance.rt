@@ -4,7 +4,7 @@ ghost use Rattle.passkey_json.specs.Kind.{one_named};
 ghost use Rattle.passkey_options.specs.AttestationConveyance.{conveyance_name, conveyance_named, conveyance_own};
 ghost use Rattle.serde_json.specs.Data.{string};
 
-use passkey_json::{BytesForm, FromJson, Refusal, ToJson, read_name, written_name};
+use passkey_json::{BytesForm, FromJson, JsonRefusal, ToJson, read_name, written_name};
 use passkey_memory::OutOfMemory;
 use passkey_webauthn::EnumNames;
 use serde_json::Value;
@@ -68,7 +68,7 @@ impl FromJson for AttestationConveyancePreference {
     fn from_value(
         _alloc: Global,
         value: &Value,
-    ) -> Result<AttestationConveyancePreference, Refusal> {
+    ) -> Result<AttestationConveyancePreference, JsonRefusal> {
         read_name(value)
     }
 }

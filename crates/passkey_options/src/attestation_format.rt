@@ -4,7 +4,7 @@ ghost use Rattle.passkey_json.specs.Kind.{one_named};
 ghost use Rattle.passkey_options.specs.AttestationFormat.{format_name, format_named, format_own};
 ghost use Rattle.serde_json.specs.Data.{string};
 
-use passkey_json::{BytesForm, FromJson, Refusal, ToJson, read_name, written_name};
+use passkey_json::{BytesForm, FromJson, JsonRefusal, ToJson, read_name, written_name};
 use passkey_memory::OutOfMemory;
 use passkey_webauthn::EnumNames;
 use serde_json::Value;
@@ -80,7 +80,7 @@ impl FromJson for AttestationStatementFormatIdentifiers {
     fn from_value(
         _alloc: Global,
         value: &Value,
-    ) -> Result<AttestationStatementFormatIdentifiers, Refusal> {
+    ) -> Result<AttestationStatementFormatIdentifiers, JsonRefusal> {
         read_name(value)
     }
 }

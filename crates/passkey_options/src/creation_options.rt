@@ -9,7 +9,7 @@ use crate::hints::PublicKeyCredentialHints;
 use passkey_bytes::{Bytes, List};
 use passkey_json::{
     AuthenticationExtensionsClientInputs, AuthenticatorSelectionCriteria, BytesForm, FromJson,
-    JsonFault, JsonRecord, Object, RecordToJson, Refusal, ToJson, TolerantList, Written,
+    JsonFault, JsonRecord, JsonRefusal, Object, ObjectWriter, RecordToJson, ToJson, TolerantList,
     read_nested,
 };
 use passkey_memory::OutOfMemory;
@@ -102,7 +102,7 @@ impl JsonRecord for ChoiceMembers {
 
     fn from_object(object: &Object<'_>) -> Result<ChoiceMembers, JsonFault> {
         Ok(ChoiceMembers {
-            timeout: object.member("timeout").given()?,
+            timeout: object.member("timeout").if_present()?,
             exclude_credentials: object.member("excludeCredentials").accepted_list()?,
             authenticator_selection: object.member("authenticatorSelection").or_default(None)?,
         })
@@ -143,7 +143,7 @@ impl FromJson for PublicKeyCredentialCreationOptions {
     fn from_value(
         alloc: Global,
         value: &Value,
-    ) -> Result<PublicKeyCredentialCreationOptions, Refusal> {
+    ) -> Result<PublicKeyCredentialCreationOptions, JsonRefusal> {
         read_nested(alloc, value)
     }
 }
@@ -152,7 +152,7 @@ impl ToJson for PublicKeyCredentialCreationOptions {
     ghost json = { creation_options_json };
 
     fn to_json(&self, alloc: Global, form: BytesForm) -> Result<Value, OutOfMemory> {
-        let mut members = Written::new(alloc);
+        let mut members = ObjectWriter::new(alloc);
         members.put(alloc, form, "rp", &self.rp)?;
         members.put(alloc, form, "user", &self.user)?;
         members.put(alloc, form, "challenge", &self.challenge)?;

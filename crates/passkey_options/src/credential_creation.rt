@@ -4,8 +4,8 @@ ghost use Rattle.passkey_options.specs.CredentialCreation.{credential_creation_i
 
 use crate::creation_options::PublicKeyCredentialCreationOptions;
 use passkey_json::{
-    BytesForm, FromJson, JsonFault, JsonRecord, Object, RecordToJson, Refusal, ToJson, Written,
-    read_nested,
+    BytesForm, FromJson, JsonFault, JsonRecord, JsonRefusal, Object, ObjectWriter, RecordToJson,
+    ToJson, read_nested,
 };
 use passkey_memory::OutOfMemory;
 use serde_json::Value;
@@ -36,7 +36,7 @@ impl FromJson for CredentialCreationOptions {
 
     ghost takes = { takes_in credential_creation_takes };
 
-    fn from_value(alloc: Global, value: &Value) -> Result<CredentialCreationOptions, Refusal> {
+    fn from_value(alloc: Global, value: &Value) -> Result<CredentialCreationOptions, JsonRefusal> {
         read_nested(alloc, value)
     }
 }
@@ -45,7 +45,7 @@ impl ToJson for CredentialCreationOptions {
     ghost json = { credential_creation_json };
 
     fn to_json(&self, alloc: Global, form: BytesForm) -> Result<Value, OutOfMemory> {
-        let mut members = Written::new(alloc);
+        let mut members = ObjectWriter::new(alloc);
         members.put(alloc, form, "publicKey", &self.public_key)?;
         Ok(members.into_value())
     }

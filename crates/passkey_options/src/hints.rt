@@ -4,7 +4,7 @@ ghost use Rattle.passkey_json.specs.Kind.{one_named};
 ghost use Rattle.passkey_options.specs.Hints.{hint_name, hint_named, hint_own};
 ghost use Rattle.serde_json.specs.Data.{string};
 
-use passkey_json::{BytesForm, FromJson, Refusal, ToJson, read_name, written_name};
+use passkey_json::{BytesForm, FromJson, JsonRefusal, ToJson, read_name, written_name};
 use passkey_memory::OutOfMemory;
 use passkey_webauthn::EnumNames;
 use serde_json::Value;
@@ -61,7 +61,7 @@ impl FromJson for PublicKeyCredentialHints {
 
     ghost takes = { λ _. false };
 
-    fn from_value(_alloc: Global, value: &Value) -> Result<PublicKeyCredentialHints, Refusal> {
+    fn from_value(_alloc: Global, value: &Value) -> Result<PublicKeyCredentialHints, JsonRefusal> {
         read_name(value)
     }
 }

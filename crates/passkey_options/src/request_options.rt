@@ -8,8 +8,8 @@ use crate::attestation_members::AttestationMembers;
 use crate::hints::PublicKeyCredentialHints;
 use passkey_bytes::{Bytes, List, Text};
 use passkey_json::{
-    AuthenticationExtensionsClientInputs, BytesForm, FromJson, JsonFault, JsonRecord, Object,
-    RecordToJson, Refusal, ToJson, UserVerificationRequirement, Written, read_nested,
+    AuthenticationExtensionsClientInputs, BytesForm, FromJson, JsonFault, JsonRecord, JsonRefusal,
+    Object, ObjectWriter, RecordToJson, ToJson, UserVerificationRequirement, read_nested,
 };
 use passkey_memory::OutOfMemory;
 use passkey_webauthn::PublicKeyCredentialDescriptor;
@@ -69,7 +69,7 @@ impl JsonRecord for CredentialMembers {
     fn from_object(object: &Object<'_>) -> Result<CredentialMembers, JsonFault> {
         Ok(CredentialMembers {
             challenge: object.member("challenge").required()?,
-            timeout: object.member("timeout").given()?,
+            timeout: object.member("timeout").if_present()?,
             rp_id: object.member("rpId").or_default(None)?,
             allow_credentials: object
                 .aliased("allowCredentials", "allowList")?
@@ -112,7 +112,7 @@ impl FromJson for PublicKeyCredentialRequestOptions {
     fn from_value(
         alloc: Global,
         value: &Value,
-    ) -> Result<PublicKeyCredentialRequestOptions, Refusal> {
+    ) -> Result<PublicKeyCredentialRequestOptions, JsonRefusal> {
         read_nested(alloc, value)
     }
 }
@@ -121,7 +121,7 @@ impl ToJson for PublicKeyCredentialRequestOptions {
     ghost json = { request_options_json };
 
     fn to_json(&self, alloc: Global, form: BytesForm) -> Result<Value, OutOfMemory> {
-        let mut members = Written::new(alloc);
+        let mut members = ObjectWriter::new(alloc);
         members.put(alloc, form, "challenge", &self.challenge)?;
         members.put_some(alloc, form, "timeout", &self.timeout)?;
         members.put_some(alloc, form, "rpId", &self.rp_id)?;

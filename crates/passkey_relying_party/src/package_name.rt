@@ -23,11 +23,11 @@ impl Model for PackageName {
 impl ClientDataExtra for PackageName {
     ghost use Rattle.std.specs.Prelude.{codes};
     ghost use Rattle.passkey_json.specs.Kind.{text, is_text};
-    ghost use Rattle.passkey_json.specs.Members.{given, member, takes_at};
+    ghost use Rattle.passkey_json.specs.Members.{if_present, member, takes_at};
 
     ghost has = { is_package_name };
 
-    ghost reads = { λ object. given text (member (codes "androidPackageName") object) };
+    ghost reads = { λ object. if_present text (member (codes "androidPackageName") object) };
 
     ghost takes = { λ object. takes_at is_text (object (codes "androidPackageName")) };
 
@@ -37,9 +37,9 @@ impl ClientDataExtra for PackageName {
         name == "androidPackageName"
     }
 
-    #[tactic(auto, unfolding(passkey_json::specs::Members::given))]
+    #[tactic(auto, unfolding(passkey_json::specs::Members::if_present))]
     fn from_object(object: &Object<'_>) -> Result<PackageName, JsonFault> {
-        Ok(PackageName(object.member("androidPackageName").given()?))
+        Ok(PackageName(object.member("androidPackageName").if_present()?))
     }
 
     fn members(&self, alloc: Global) -> Result<Vec<(String, Value)>, OutOfMemory> {

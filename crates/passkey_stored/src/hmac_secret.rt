@@ -13,7 +13,8 @@ use std::fmt;
 pub struct StoredHmacSecret {
     /// The secret for requests with user verification (CredRandomWithUV).
     pub cred_with_uv: Bytes,
-    /// The secret for requests without user verification (CredRandomWithoutUV).
+    /// The secret for requests without user verification (CredRandomWithoutUV); `None` if there is
+    /// none.
     pub cred_without_uv: Option<Bytes>,
 }
 

@@ -25,11 +25,11 @@ pub struct Passkey {
     pub credential_id: Bytes,
     /// The relying party id.
     pub rp_id: Text,
-    /// The user handle, if it is stored.
+    /// The user handle, 1 to 64 bytes; `None` if none is stored. The length isn't checked.
     pub user_handle: Option<Bytes>,
-    /// The user's name, if it is stored.
+    /// The user's name; `None` if none is stored.
     pub username: Option<Text>,
-    /// The user's display name, if it is stored.
+    /// The user's display name; `None` if none is stored.
     pub user_display_name: Option<Text>,
     /// The signature counter; `None` if the authenticator keeps none for this passkey.
     pub counter: Option<u32>,

@@ -1,9 +1,9 @@
 //! Decoding and encoding JSON values: what a JSON record of your own needs. WebAuthn's records are
 //! in `webauthn`.
 pub use passkey_json::{
-    BytesForm, FromJson, JsonFault, JsonRecord, Member, Object, RecordToJson,
-    Refusal as JsonRefusal, ToJson, TolerantList, Tolerated, TruthText, Written, holds_float,
-    read_back, read_name, read_nested, written_name,
+    BytesForm, FromJson, JsonFault, JsonRecord, JsonRefusal, Member, Object, ObjectWriter,
+    RecordToJson, ToJson, TolerantList, Tolerated, TruthText, WithoutBytes, holds_float, read_back,
+    read_name, read_nested, written_name,
 };
 pub use passkey_webauthn::EnumNames;
 pub use serde_json::{Map, Value};

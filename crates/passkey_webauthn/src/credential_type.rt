@@ -1,8 +1,10 @@
 //! Types of credentials.
+ghost use Rattle.std.specs.Prelude.{Some};
 ghost use Rattle.passkey_webauthn.specs.CredentialType.{credential_type_at, credential_type_name, credential_type_named, credential_type_names};
 ghost use Rattle.passkey_webauthn.specs.NameLaws.{credential_type_by_index, credential_type_own};
 
 use crate::names::{EnumNames, NameTable};
+use std::fmt;
 
 /// The type of a credential (WebAuthn Level 3, section 5.8.2).
 #[derive(Clone, Copy, Debug, PartialEq, Eq)]
@@ -33,6 +35,15 @@ impl EnumNames for PublicKeyCredentialType {
             PublicKeyCredentialType::PublicKey => "public-key",
             PublicKeyCredentialType::Unknown => "unknown",
         }
+    }
+}
+
+impl fmt::Display for PublicKeyCredentialType {
+    ghost output = { λ x. Some (credential_type_name x) };
+
+    /// The type as WebAuthn Level 3 names it.
+    fn fmt<W: fmt::Write>(&self, f: &mut fmt::Formatter<W>) -> fmt::Result {
+        f.write_str(self.name())
     }
 }
 

@@ -8,7 +8,7 @@ pub trait EnumNames: Copy {
 
     ghost named: { List ℕ → Option Self };
 
-    /// The value of this name, or nothing where no value has it.
+    /// Returns the value with this name; `None` if no value has it.
     fn from_name(name: &str) -> Option<Self>
         ensures { result ≡ named name.now };
 
@@ -30,7 +30,7 @@ pub trait NameTable: EnumNames {
     fn names() -> &'static [&'static str]
         ensures { map (λ n. n.now) result.now ≡ all_names };
 
-    /// The value of the name at this index of `names`, or `None` past its end.
+    /// Returns the value of the name at this index of `names`; `None` past its end.
     fn named_at(index: usize) -> Option<Self>
         ensures { result ≡ at_index index };
 

@@ -9,7 +9,8 @@ use std::alloc::Global;
 /// What the extension prf returns to a relying party (WebAuthn Level 3, section 10.1.4).
 #[derive(Debug, Drop)]
 pub struct AuthenticationExtensionsPrfOutputs {
-    /// Whether the new credential supports prf. Present only at a registration.
+    /// Whether the new credential supports prf. `None` means the member is absent, as it is at a
+    /// sign-in.
     pub enabled: Option<bool>,
     /// The outputs for the salts; `None` means the member is absent.
     pub results: Option<AuthenticationExtensionsPrfValues>,

@@ -9,7 +9,8 @@ use std::alloc::Global;
 /// The relying party that a credential is for (WebAuthn Level 3, section 5.4.2).
 #[derive(Debug, Drop)]
 pub struct PublicKeyCredentialRpEntity {
-    /// The relying party id, a domain; `None` means the effective domain of the caller's origin.
+    /// The relying party id, a domain. `None` means the member is absent; the id is then the
+    /// effective domain of the caller's origin.
     pub id: Option<Text>,
     /// A name for display. It is required, though many clients don't show it; the relying party id
     /// is a safe choice.

@@ -1,11 +1,13 @@
 //! Ways to an authenticator.
+ghost use Rattle.std.specs.Prelude.{Some};
 ghost use Rattle.passkey_webauthn.specs.NameLaws.{transport_by_index, transport_own};
 ghost use Rattle.passkey_webauthn.specs.Transport.{transport_at, transport_name, transport_named, transport_names};
 
 use crate::names::{EnumNames, NameTable};
+use std::fmt;
 
-/// How a client can reach an authenticator (WebAuthn Level 3, section 5.8.4). Other names that the
-/// specification has, as `smart-card`, are none here.
+/// How a client can reach an authenticator (WebAuthn Level 3, section 5.8.4). `smart-card`, which
+/// the standard has as well, is an unknown name here.
 #[derive(Clone, Copy, Debug, PartialEq, Eq)]
 pub enum AuthenticatorTransport {
     /// Over a removable USB device.
@@ -47,6 +49,15 @@ impl EnumNames for AuthenticatorTransport {
             AuthenticatorTransport::Hybrid => "hybrid",
             AuthenticatorTransport::Internal => "internal",
         }
+    }
+}
+
+impl fmt::Display for AuthenticatorTransport {
+    ghost output = { λ x. Some (transport_name x) };
+
+    /// The transport as WebAuthn Level 3 names it.
+    fn fmt<W: fmt::Write>(&self, f: &mut fmt::Formatter<W>) -> fmt::Result {
+        f.write_str(self.name())
     }
 }
 

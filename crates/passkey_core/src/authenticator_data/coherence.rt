@@ -9,10 +9,7 @@ ghost use Rattle.passkey_core.specs.DataViews.{attested_parts, data_parts};
 use crate::attested::AttestedCredentialData;
 use crate::authenticator_data::AuthenticatorData;
 use crate::flags::Flags;
-use passkey_cbor::Value;
-
-/// The number of levels that are decoded.
-const MAX_DEPTH: usize = 256;
+use passkey_cbor::{MAX_DEPTH, Value};
 
 fn are_extensions_readable(extensions: &Value) -> bool
     ensures { result ≡ are_extensions_readable (item_of extensions.now) }

@@ -13,8 +13,8 @@ use passkey_memory::OutOfMemory;
 use std::alloc::Global;
 
 impl AuthenticatorData {
-    /// The data with these extensions, unchanged if there are none; or the data back if memory ran
-    /// out.
+    /// The data with these extensions, unchanged if there are none. If an allocation fails, the data
+    /// come back unchanged.
     fn put_extensions(
         mut self,
         extensions: Result<Option<Value>, OutOfMemory>,

@@ -175,22 +175,22 @@ fn read_extensions_where<'a>(
 }
 
 impl AuthenticatorData {
-    /// The data that the bytes begin with (WebAuthn Level 3, section 6.1): 32 bytes of hash, one
-    /// of flags, a counter of 4 bytes, big-endian; where AT is set attested credential data, which
-    /// is 16 bytes of AAGUID, a length of 2 bytes, big-endian, a credential id of that length, and a
-    /// key; and where ED is set a map. Bytes behind the last part are passed over.
+    /// Decodes the data that the bytes begin with (WebAuthn Level 3, section 6.1): 32 bytes of hash,
+    /// one of flags, a counter of 4 bytes, big-endian; if AT is set, attested credential data, which
+    /// are 16 bytes of AAGUID, a length of 2 bytes, big-endian, a credential id of that length, and
+    /// a key; and if ED is set, a map. Bytes after the last part are ignored.
     ///
-    /// `DecodeFailed` where fewer than 37 bytes are there, the attested credential data are cut off,
-    /// or no item of CBOR stands where a key or the extensions should be;
-    /// `OutOfRangeIntegerValue` where bit 1 or 5 of the flags is set; the fault of
-    /// `CoseKey::from_value` where the item is no key; `UnexpectedItem` where the extensions are no
-    /// map. The first fault is returned: the length's, the flags', and then from the first byte to
-    /// the last.
+    /// `DecodeFailed` if there are fewer than 37 bytes, the attested credential data are cut off, or
+    /// no well-formed data item of at most 256 levels is where the key or the extensions should be;
+    /// `OutOfRangeIntegerValue` if bit 1 or 5 of the flags is set; the error of
+    /// `CoseKey::from_value` if the item is no key; `UnexpectedItem` if the extensions are no map.
+    /// The first fault is returned: that of the length, that of the flags, and then from the first
+    /// byte to the last.
     ///
-    /// `OutOfMemory` where memory ran out for an item that stands there whole as the key or as the
-    /// extensions, where AT or ED names it and no fault stands before it. As the item is made before
-    /// it is judged, `OutOfMemory` may hide that it is no key or no map. Never where neither AT nor
-    /// ED is set.
+    /// `OutOfMemory` if an allocation fails for a well-formed item that is there as the key or the
+    /// extensions, with AT or ED set and no fault before it. The item is decoded before it is
+    /// checked, so `OutOfMemory` may hide that it is no key or no map. Never if neither AT nor ED is
+    /// set.
     pub fn from_slice(alloc: Global, bytes: &[u8]) -> Result<AuthenticatorData, CoseError>
         ensures { Gives (DataGrow bytes.now) data_parts (ReadsData bytes.now) result }
     {

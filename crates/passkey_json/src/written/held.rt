@@ -7,7 +7,7 @@ use serde_json::{Map, Value};
 
 /// The members of an object that is being encoded. None holds a float.
 #[derive(Drop)]
-pub struct Written {
+pub struct ObjectWriter {
     pub(super) members: Map<String, Value>,
     ghost without_floats: { members_have_float (members_view members.entries) ≡ false },
 }

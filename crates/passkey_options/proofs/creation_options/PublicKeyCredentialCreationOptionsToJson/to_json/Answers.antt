@@ -1,5 +1,5 @@
 use Rattle.std.proofs.Common.{refl}
-use Rattle.passkey_json.proofs.MembersBack.{record_back, required_back, given_back, optional_back, accepted_list_back, tolerated_back}
+use Rattle.passkey_json.proofs.MembersBack.{record_back, required_back, if_present_back, optional_back, accepted_list_back, tolerated_back}
 use Rattle.passkey_json.specs.Descriptor.{descriptor_in, descriptor_json}
 use Rattle.passkey_json.specs.Kind.{one_named}
 use Rattle.passkey_json.specs.Members.{record_kind}
@@ -20,7 +20,7 @@ returns-clause-reads_back c =
       required_back c.in_ok-put-2.ensures.reads_back,
       required_back c.in_ok-put-3.ensures.reads_back,
       required_list_back (record_kind parameters_in) (parameters_json c.args.form) c.in_ok-put-4.ensures.reads_back,
-      given_back c.in_ok-put_some.ensures.reads_back,
+      if_present_back c.in_ok-put_some.ensures.reads_back,
       accepted_list_back (record_kind descriptor_in) (descriptor_json c.args.form) c.in_ok-put_some-2.ensures.reads_back,
       optional_back c.in_ok-put_some-3.ensures.reads_back,
       accepted_list_back (one_named hint_named) (λ h. string (hint_name h)) c.in_ok-put_some-4.ensures.reads_back,

@@ -11,20 +11,20 @@ unfolding credential_members_in credential_members_takes
 returns-in_err-required c =
     rw (sym c.member.ensures) (first_fault_passed _ _ _ c.in_err-required.field-0.0 _ _ c.in_err-required.ensures c.from_residual.ensures.1 (takes_known _ _ 0 _ c.member.ensures))
 
-pub returns-in_err-given : goal.returns-in_err-given
+pub returns-in_err-if_present : goal.returns-in_err-if_present
 unfolding credential_members_in credential_members_takes
-returns-in_err-given c =
+returns-in_err-if_present c =
     rw (
       rw c.member.ensures at c.in_ok-required.ensures,
       ← c.member-2.ensures,
-    ) (first_fault_passed _ _ _ c.in_err-given.field-0.0 _ _ c.in_err-given.ensures c.from_residual-in_err-given.ensures.1 (λ h. absurd (takes_none _ h)))
+    ) (first_fault_passed _ _ _ c.in_err-if_present.field-0.0 _ _ c.in_err-if_present.ensures c.from_residual-in_err-if_present.ensures.1 (λ h. absurd (takes_none _ h)))
 
 pub returns-in_err-or_default : goal.returns-in_err-or_default
 unfolding credential_members_in credential_members_takes
 returns-in_err-or_default c =
     rw (
       rw c.member.ensures at c.in_ok-required.ensures,
-      rw c.member-2.ensures at c.in_ok-given.ensures,
+      rw c.member-2.ensures at c.in_ok-if_present.ensures,
       ← c.member-3.ensures,
     ) (first_fault_passed _ _ _ c.in_err-or_default.field-0.0 _ _ c.in_err-or_default.ensures c.from_residual-in_err-or_default.ensures.1 (takes_known _ _ 1 _ c.member-3.ensures))
 
@@ -33,7 +33,7 @@ unfolding credential_members_in credential_members_takes
 returns-in_err-aliased c =
     rw (
       rw c.member.ensures at c.in_ok-required.ensures,
-      rw c.member-2.ensures at c.in_ok-given.ensures,
+      rw c.member-2.ensures at c.in_ok-if_present.ensures,
       rw c.member-3.ensures at c.in_ok-or_default.ensures,
     ) (first_fault_passed _ _ _ c.in_err-aliased.field-0.0 _ _ c.in_err-aliased.ensures c.from_residual-in_err-aliased.ensures.1 (λ h. absurd h))
 
@@ -42,7 +42,7 @@ unfolding credential_members_in credential_members_takes takes_any
 returns-in_err-accepted_list c =
     rw (
       rw c.member.ensures at c.in_ok-required.ensures,
-      rw c.member-2.ensures at c.in_ok-given.ensures,
+      rw c.member-2.ensures at c.in_ok-if_present.ensures,
       rw c.member-3.ensures at c.in_ok-or_default.ensures,
       c.in_ok-aliased.ensures,
     ) (first_fault_passed _ _ _ c.in_err-accepted_list.field-0.0 _ _ c.in_err-accepted_list.ensures c.from_residual-in_err-accepted_list.ensures.1 (λ h. or_right _ _ (or_right _ _ (takes_aliased _ _ _ _ _ _ c.in_ok-aliased.ensures h))))
@@ -52,7 +52,7 @@ unfolding credential_members_in
 returns c =
     rw (
       rw c.member.ensures at c.in_ok-required.ensures,
-      rw c.member-2.ensures at c.in_ok-given.ensures,
+      rw c.member-2.ensures at c.in_ok-if_present.ensures,
       rw c.member-3.ensures at c.in_ok-or_default.ensures,
       c.in_ok-aliased.ensures,
       c.in_ok-accepted_list.ensures,

@@ -1,5 +1,5 @@
 use Rattle.std.proofs.Common.{refl}
-use Rattle.passkey_json.proofs.MembersBack.{record_back, required_back, given_back, optional_back, one_of_back, accepted_list_back, tolerated_back, tolerated_optional_back}
+use Rattle.passkey_json.proofs.MembersBack.{record_back, required_back, if_present_back, optional_back, one_of_back, accepted_list_back, tolerated_back, tolerated_optional_back}
 use Rattle.passkey_json.specs.Descriptor.{descriptor_in, descriptor_json}
 use Rattle.passkey_json.specs.Kind.{one_named}
 use Rattle.passkey_json.specs.Members.{record_kind}
@@ -15,7 +15,7 @@ unfolding request_options_in credential_members_in attestation_members_in
 returns-clause-reads_back c =
     record_back request_options_in (request_options_rows c.args.form c.args.self.now) c.args.self.now refl (rw (
       required_back c.in_ok-put.ensures.reads_back,
-      given_back c.in_ok-put_some.ensures.reads_back,
+      if_present_back c.in_ok-put_some.ensures.reads_back,
       optional_back c.in_ok-put_some-2.ensures.reads_back,
       one_of_back,
       accepted_list_back (record_kind descriptor_in) (descriptor_json c.args.form) c.in_ok-put_some-3.ensures.reads_back,

@@ -1,7 +1,7 @@
 //! Why no value was decoded from a JSON value.
 ghost use Rattle.std.specs.Prelude.{◌≡◌};
 ghost use Rattle.passkey_json.specs.Fault.{refusal_of};
-ghost use Rattle.passkey_json.specs.declared.refusal.Refusal.TheVariants.{OutOfMemory as NoMemory};
+ghost use Rattle.passkey_json.specs.declared.json_refusal.JsonRefusal.TheVariants.{OutOfMemory as NoMemory};
 
 use crate::json_fault::JsonFault;
 use passkey_memory::OutOfMemory;
@@ -10,7 +10,7 @@ use thiserror::Error;
 
 /// Why no value was decoded from a JSON value.
 #[derive(Clone, Copy, Debug, Error, PartialEq, Eq)]
-pub enum Refusal {
+pub enum JsonRefusal {
     /// The JSON value decodes to no value of the type.
     #[error("Refused")]
     Refused,
@@ -19,38 +19,38 @@ pub enum Refusal {
     OutOfMemory,
 }
 
-impl From<AllocError> for Refusal {
+impl From<AllocError> for JsonRefusal {
     ghost from_gives = { λ _ e. e ≡ NoMemory };
 
-    fn from(_error: AllocError) -> Refusal {
-        Refusal::OutOfMemory
+    fn from(_error: AllocError) -> JsonRefusal {
+        JsonRefusal::OutOfMemory
     }
 }
 
-impl<T: Drop> From<AllocFailed<T>> for Refusal {
+impl<T: Drop> From<AllocFailed<T>> for JsonRefusal {
     ghost from_gives = { λ _ e. e ≡ NoMemory };
 
-    fn from(_error: AllocFailed<T>) -> Refusal {
-        Refusal::OutOfMemory
+    fn from(_error: AllocFailed<T>) -> JsonRefusal {
+        JsonRefusal::OutOfMemory
     }
 }
 
-impl From<OutOfMemory> for Refusal {
+impl From<OutOfMemory> for JsonRefusal {
     ghost from_gives = { λ _ e. e ≡ NoMemory };
 
-    fn from(_error: OutOfMemory) -> Refusal {
-        Refusal::OutOfMemory
+    fn from(_error: OutOfMemory) -> JsonRefusal {
+        JsonRefusal::OutOfMemory
     }
 }
 
-impl From<JsonFault> for Refusal {
+impl From<JsonFault> for JsonRefusal {
     ghost from_gives = { λ fault e. e ≡ refusal_of fault };
 
     /// A record that has a fault is refused if it is inside another.
-    fn from(fault: JsonFault) -> Refusal {
+    fn from(fault: JsonFault) -> JsonRefusal {
         match fault {
-            JsonFault::OutOfMemory => Refusal::OutOfMemory,
-            _ => Refusal::Refused,
+            JsonFault::OutOfMemory => JsonRefusal::OutOfMemory,
+            _ => JsonRefusal::Refused,
         }
     }
 }
