@@ -276,3 +276,67 @@ fn some_data_are_coherent(rt: HostRuntime) {
         );
     }
 }
+
+/// What data decode to after they were encoded as these bytes behind the hash: their extensions, or the error.
+fn reread(rt: &(impl Abort + AllocGlobal), behind: &[u8]) -> String {
+    let text = match AuthenticatorData::from_slice(rt.alloc(), with_hash(rt, behind).as_slice()) {
+        Ok(data) => format!(in rt.alloc(); "{:?}", &data.extensions),
+        Err(error) => format!(in rt.alloc(); "{error}"),
+    };
+    text.expect(rt, "memory")
+}
+
+/// Asserts that the data aren't coherent, what they are encoded as, and what that decodes to.
+fn assert_incoherent(
+    rt: &(impl Abort + AllocGlobal),
+    data: AuthenticatorData,
+    behind: &[u8],
+    wanted: &str,
+) {
+    check(rt, !data.is_coherent(), "coherent", behind);
+    assert_encoded(rt, &data, behind);
+    assert_same(rt, reread(rt, behind).as_str(), wanted);
+}
+
+fn with_flags(flags: Flags) -> AuthenticatorData {
+    AuthenticatorData::new("abc", None).set_flags(flags)
+}
+
+fn with_extensions(flags: Flags, extensions: Value) -> AuthenticatorData {
+    let mut data = with_flags(flags);
+    data.extensions = Some(extensions);
+    data
+}
+
+fn with_default_key(rt: &(impl Abort + AllocGlobal)) -> AuthenticatorData {
+    let mut credential = attested(rt, &[9]);
+    credential.key = CoseKey::default();
+    AuthenticatorData::new("abc", None).set_attested_credential_data(credential)
+}
+
+// A flag alone makes nothing follow, and what follows without its flag isn't decoded (WebAuthn Level 3, section 6.1).
+#[test]
+fn data_that_are_not_coherent(rt: HostRuntime) {
+    let map = Value::Map(Vec::new(rt.alloc()));
+    let flags = Flags::BE | Flags::BS;
+    assert_incoherent(
+        &rt,
+        with_extensions(flags, map),
+        b"\x18\0\0\0\0\xa0",
+        "None",
+    );
+    let wanted = b"\x98\0\0\0\0";
+    assert_incoherent(&rt, with_flags(Flags::ED), wanted, "DecodeFailed");
+    let wanted = b"\x58\0\0\0\0";
+    assert_incoherent(&rt, with_flags(Flags::AT), wanted, "DecodeFailed");
+    let wanted = b"\x98\0\0\0\0\xf6";
+    assert_incoherent(
+        &rt,
+        with_extensions(Flags::ED, Value::Null),
+        wanted,
+        "UnexpectedItem",
+    );
+    let wanted =
+        b"\x58\0\0\0\0\x07\x07\x07\x07\x07\x07\x07\x07\x07\x07\x07\x07\x07\x07\x07\x07\0\x01\x09\xa1\x01\0";
+    assert_incoherent(&rt, with_default_key(&rt), wanted, "UnexpectedItem");
+}

@@ -2,7 +2,9 @@
 use crate::tables::{
     assert_read, assert_refused, assert_rewritten, bytes_of, hexadecimal, item_of, read, shown,
 };
-use passkey_bytes::Bytes;
+use passkey_bytes::{Bytes, Text};
+use passkey_cbor::Value;
+use passkey_core::AuthenticatorData;
 use passkey_make_credential::{
     Options, PublicKeyCredentialRpEntity, PublicKeyCredentialUserEntity, Request, Response,
 };
@@ -198,4 +200,69 @@ fn responses(rt: HostRuntime) {
         attestation_object(&rt, RESPONSE).as_str(),
         ATTESTATION_OBJECT
     );
+}
+
+/// So many arrays, one inside the other.
+fn arrays(rt: &(impl Abort + AllocGlobal), levels: usize) -> Value {
+    let mut item = Value::Array(Vec::new(rt.alloc()));
+    for _ in 1..levels {
+        item = Value::Array(vec![in rt.alloc(); item].expect(rt, "memory"));
+    }
+    item
+}
+
+/// A response whose statement is so many arrays.
+fn stating(rt: &(impl Abort + AllocGlobal), levels: usize) -> Response {
+    Response {
+        fmt: Text::empty(rt.alloc()),
+        auth_data: AuthenticatorData::empty(),
+        att_stmt: arrays(rt, levels),
+        ep_att: None,
+        large_blob_key: None,
+        unsigned_extension_outputs: None,
+    }
+}
+
+/// {1: "", 2: data of flags 18, 3: so many arrays}
+fn stating_written(rt: &(impl Abort + AllocGlobal), levels: usize) -> String {
+    let front =
+        "a301600258250000000000000000000000000000000000000000000000000000000000000000180000000003";
+    let mut text = String::from_str(rt.alloc(), front).expect(rt, "memory");
+    for _ in 1..levels {
+        text.push_str("81").expect(rt, "memory");
+    }
+    text.push_str("80").expect(rt, "memory");
+    text
+}
+
+/// What the response in hexadecimal is encoded as, or why it isn't decoded.
+fn reread(rt: &(impl Abort + AllocGlobal), item: &str) -> String {
+    match Response::from_slice(rt.alloc(), bytes_of(rt, item).as_slice()) {
+        Ok((response, _)) => {
+            let bytes = response.to_vec(rt.alloc()).expect(rt, "memory");
+            hexadecimal(rt, bytes.as_slice())
+        }
+        Err(fault) => shown(rt, &fault),
+    }
+}
+
+// The map around the statement is one more level (RFC 8949, section 5.3.1: nesting may be limited).
+#[test]
+fn statements_of_255_levels_cohere(rt: HostRuntime) {
+    for (levels, coheres) in [(255, true), (256, false)] {
+        let response = stating(&rt, levels);
+        let wanted = stating_written(&rt, levels);
+        let bytes = response.to_vec(rt.alloc()).expect(&rt, "memory");
+        assert_eq!(rt; response.is_coherent(), coheres);
+        assert_eq!(rt;
+            hexadecimal(&rt, bytes.as_slice()).as_str(),
+            wanted.as_str()
+        );
+        let read = if coheres {
+            wanted.as_str()
+        } else {
+            "DecodeFailed"
+        };
+        assert_eq!(rt; reread(&rt, wanted.as_str()).as_str(), read);
+    }
 }

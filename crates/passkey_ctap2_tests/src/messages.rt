@@ -6,6 +6,7 @@ use passkey_extensions::HmacGetSecretInput;
 use passkey_get_assertion::Request;
 use passkey_get_info::Response;
 use passkey_kinds::{Fault, Message};
+use passkey_make_credential as make_credential;
 use std::fmt::Debug;
 use std::process::Abort;
 
@@ -241,4 +242,44 @@ fn requests_to_get_assertions(rt: HostRuntime) {
         ("a30161610240039b0000000100000000", "DecodeFailed", 0),
     ];
     assert_all::<Request>(&rt, &rows);
+}
+
+/// Requests to get assertions that are rejected before anything of them takes memory: lengths that no memory has, and an
+/// item that is cut off behind an allow list.
+const REJECTED: &[&[u8]] = &[
+    b"\xa2\x01\x61\x61\x02\x5b\xff\xff\xff\xff\xff\xff\xff\xff",
+    b"\xa3\x01\x61\x61\x02\x40\x03\x9b\0\0\0\x01\0\0\0\0",
+    b"\xa3\x01\x61\x61\x02\x41\x07\x03\x81\xa2\x62id\x41\x07\x64type\x6apublic-ke",
+    b"\xa3\x01\x61\x61\x02",
+];
+
+// They are rejected alike if the first allocation fails.
+#[test]
+fn messages_without_memory(rt: HostRuntime) {
+    for bytes in REJECTED {
+        let read = Request::from_slice(rt.alloc(), bytes);
+        assert!(rt; matches!(read, Err(Fault::DecodeFailed)));
+        let read = Request::read(rt.alloc(), &mut Cursor::new(bytes));
+        assert!(rt; matches!(read, Err(Fault::DecodeFailed)));
+    }
+    let read = Request::from_slice(rt.alloc(), b"\xa2\x01\0\x02\x41\x07");
+    assert!(rt; matches!(read, Err(Fault::Refused(1))));
+}
+
+// CTAP 2.1, section 6.1.2: fmt (1), authData (2), attStmt (3); the data are 37 bytes in two chunks (RFC 8949, section 3.2.3).
+#[test]
+fn responses_with_data_in_chunks(rt: HostRuntime) {
+    let chunked =
+        "a30160025f58200000000000000000000000000000000000000000000000000000000000000000450000000000ff03a0";
+    assert_all::<make_credential::Response>(&rt, &[(chunked, "\"Ok\"", 1)]);
+    let bytes = bytes_of(&rt, chunked);
+    let (response, len) = make_credential::Response::from_slice(
+        rt.alloc(),
+        bytes.as_slice(),
+    ).expect(&rt, "a response");
+    assert_eq!(rt; len, 48);
+    let written = response.to_vec(rt.alloc()).expect(&rt, "memory");
+    let wanted =
+        "a301600258250000000000000000000000000000000000000000000000000000000000000000000000000003a0";
+    assert_eq!(rt; written.as_slice(), bytes_of(&rt, wanted).as_slice());
 }

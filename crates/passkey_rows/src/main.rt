@@ -1,21 +1,36 @@
 //! `passkey_rows` reads rows from standard input, one a line: a kind, a space and an input. For
 //! each it prints the exit status of `passkey_show` on that input, a space, and the output or the
-//! fault's line. Empty lines, and lines that begin with `#`, are printed as they are. Each message is
+//! fault's line. Rows of further kinds make the calls that may run out of memory and that `passkey_show`
+//! doesn't make (`again.rt`); if one runs out of memory, it is made again, and the status is 3. Empty lines, and lines that begin with `#`, are printed as they are. Each message is
 //! decoded twice, over a cursor and from a data item; if the results differ, a line says so.
 #![tactic(auto)]
 
+mod again;
+mod again_bytes;
+mod again_json;
 mod alike;
+mod building;
+mod hexadecimal;
+mod making;
+mod parts;
+mod setting;
+mod tries;
+mod well_known;
 
+use crate::again::answer;
 use crate::alike::are_decoded_alike;
+use crate::tries::Tries;
 use anyhow::Result;
 use passkey_rewrite::{Kind, RunFault, rewrite};
 use std::alloc::Global;
 use std::io::{BufRead, BufReader, BufWriter, Write};
 
-fn output_of(alloc: Global, row: &str) -> Result<String, RunFault> {
+fn output_of(alloc: Global, tries: &mut Tries, row: &str) -> Result<String, RunFault> {
     let (name, input) = row.split_once(' ').unwrap_or((row, ""));
-    let kind = Kind::from_name(name).ok_or(RunFault::UnknownKind)?;
-    rewrite(alloc, kind, input.as_bytes())
+    match Kind::from_name(name) {
+        Some(kind) => rewrite(alloc, kind, input.as_bytes()),
+        None => answer(alloc, tries, name, input),
+    }
 }
 
 fn is_decoded_alike(alloc: Global, row: &str) -> Result<bool> {
@@ -31,12 +46,16 @@ fn print_row<W: Write>(alloc: Global, writer: &mut W, row: &str) -> Result<()> {
         writeln!(writer, "{row}")?;
         return Ok(());
     }
-    match output_of(alloc, row) {
-        Ok(output) => writeln!(writer, "0 {output}")?,
+    let mut tries = Tries::new();
+    match output_of(alloc, &mut tries, row) {
+        Ok(output) => writeln!(writer, "{} {output}", tries.status())?,
         Err(fault) => writeln!(writer, "{} {fault}", fault.status())?,
     }
     if !is_decoded_alike(alloc, row)? {
         writeln!(writer, "! another result from the data item")?;
+    }
+    if tries.is_different() {
+        writeln!(writer, "! a copy isn't equal to its original")?;
     }
     Ok(())
 }

@@ -1,0 +1,295 @@
+//! Data items, authenticator data and messages that are decoded, and encoded with copies of their parts.
+use crate::hexadecimal::{decode, encode};
+use crate::tries::Tries;
+use passkey_rewrite::{BytesKind, RunFault};
+use passkey_types::OutOfMemory;
+use passkey_types::cbor::Value;
+use passkey_types::cose::{CoseError, CoseKey};
+use passkey_types::ctap2::extensions::{
+    AuthenticatorPrfInputs, AuthenticatorPrfValues, HmacGetSecretInput,
+};
+use passkey_types::ctap2::{
+    AuthenticatorData, Message, WriteFault, get_assertion, get_info, make_credential,
+};
+use std::alloc::Global;
+
+/// A message some of whose parts can be copied.
+trait Copied: Message {
+    /// Puts a copy in the place of each part that can be copied.
+    fn replace_parts(&mut self, alloc: Global, tries: &mut Tries) -> Result<(), OutOfMemory>;
+}
+
+impl Copied for HmacGetSecretInput {
+    fn replace_parts(&mut self, alloc: Global, tries: &mut Tries) -> Result<(), OutOfMemory> {
+        tries.replace_equal(alloc, self)
+    }
+}
+
+fn replace_make_inputs(
+    alloc: Global,
+    tries: &mut Tries,
+    inputs: &mut make_credential::ExtensionInputs,
+) -> Result<(), OutOfMemory> {
+    tries.replace_some(alloc, &mut inputs.hmac_secret_mc)?;
+    tries.replace_some(alloc, &mut inputs.prf)
+}
+
+fn replace_get_inputs(
+    alloc: Global,
+    tries: &mut Tries,
+    inputs: &mut get_assertion::ExtensionInputs,
+) -> Result<(), OutOfMemory> {
+    tries.replace_some(alloc, &mut inputs.hmac_secret)?;
+    replace_prf(alloc, tries, &mut inputs.prf)
+}
+
+fn replace_prf(
+    alloc: Global,
+    tries: &mut Tries,
+    inputs: &mut Option<AuthenticatorPrfInputs>,
+) -> Result<(), OutOfMemory> {
+    match inputs {
+        Some(inputs) => tries.replace_equal(alloc, inputs),
+        None => Ok(()),
+    }
+}
+
+impl Copied for make_credential::Request {
+    fn replace_parts(&mut self, alloc: Global, tries: &mut Tries) -> Result<(), OutOfMemory> {
+        tries.replace_equal(alloc, &mut self.rp)?;
+        tries.replace_equal(alloc, &mut self.user)?;
+        if let Some(list) = &mut self.exclude_list {
+            tries.replace_each(alloc, list.as_mut_vec())?;
+        }
+        match &mut self.extensions {
+            Some(inputs) => replace_make_inputs(alloc, tries, inputs),
+            None => Ok(()),
+        }
+    }
+}
+
+/// The attested credential data, and the key in its copy.
+fn replace_attested(
+    alloc: Global,
+    tries: &mut Tries,
+    data: &mut AuthenticatorData,
+) -> Result<(), OutOfMemory> {
+    match &mut data.attested_credential_data {
+        Some(attested) => {
+            tries.replace_equal(alloc, attested)?;
+            tries.replace_equal(alloc, &mut attested.key)?;
+            replace_key_by_item(alloc, tries, &mut attested.key)
+        }
+        None => Ok(()),
+    }
+}
+
+/// Puts the key that its item decodes to in the key's place. The item is made again if there is no memory for it.
+fn replace_key_by_item(
+    alloc: Global,
+    tries: &mut Tries,
+    key: &mut CoseKey,
+) -> Result<(), OutOfMemory> {
+    let item = match key.to_value(alloc) {
+        Ok(item) => item,
+        Err(OutOfMemory) => {
+            tries.refuse();
+            key.to_value(alloc)?
+        }
+    };
+    match CoseKey::from_value(alloc, &item) {
+        Ok(other) => *key = other,
+        Err(CoseError::OutOfMemory) => return Err(OutOfMemory),
+        Err(_) => tries.compare(false),
+    }
+    Ok(())
+}
+
+/// Compares the first result with that of the outputs as WebAuthn has them, which are made again if there is no memory
+/// for them.
+fn compare_values(
+    alloc: Global,
+    tries: &mut Tries,
+    values: &AuthenticatorPrfValues,
+) -> Result<(), OutOfMemory> {
+    let others = match values.to_webauthn(alloc) {
+        Ok(others) => others,
+        Err(OutOfMemory) => {
+            tries.refuse();
+            values.to_webauthn(alloc)?
+        }
+    };
+    tries.compare(others.first.eq_slice(&values.first));
+    Ok(())
+}
+
+fn compare_make_outputs(
+    alloc: Global,
+    tries: &mut Tries,
+    outputs: &make_credential::UnsignedExtensionOutputs,
+) -> Result<(), OutOfMemory> {
+    match &outputs.prf {
+        Some(outputs) => {
+            let others = outputs.to_webauthn(alloc)?;
+            tries.compare(others.results.is_some() == outputs.results.is_some());
+            match &outputs.results {
+                Some(values) => compare_values(alloc, tries, values),
+                None => Ok(()),
+            }
+        }
+        None => Ok(()),
+    }
+}
+
+fn compare_get_outputs(
+    alloc: Global,
+    tries: &mut Tries,
+    outputs: &get_assertion::UnsignedExtensionOutputs,
+) -> Result<(), OutOfMemory> {
+    match &outputs.prf {
+        Some(outputs) => {
+            let others = outputs.to_webauthn(alloc)?;
+            tries.compare(others.results.is_some());
+            compare_values(alloc, tries, &outputs.results)
+        }
+        None => Ok(()),
+    }
+}
+
+impl Copied for make_credential::Response {
+    fn replace_parts(&mut self, alloc: Global, tries: &mut Tries) -> Result<(), OutOfMemory> {
+        if let Some(outputs) = &self.unsigned_extension_outputs {
+            compare_make_outputs(alloc, tries, outputs)?;
+        }
+        tries.replace(alloc, &mut self.fmt)?;
+        tries.replace(alloc, &mut self.att_stmt)?;
+        tries.replace_some(alloc, &mut self.large_blob_key)?;
+        replace_attested(alloc, tries, &mut self.auth_data)
+    }
+}
+
+impl Copied for get_assertion::Request {
+    fn replace_parts(&mut self, alloc: Global, tries: &mut Tries) -> Result<(), OutOfMemory> {
+        tries.replace(alloc, &mut self.rp_id)?;
+        if let Some(list) = &mut self.allow_list {
+            tries.replace_each(alloc, list.as_mut_vec())?;
+        }
+        match &mut self.extensions {
+            Some(inputs) => replace_get_inputs(alloc, tries, inputs),
+            None => Ok(()),
+        }
+    }
+}
+
+impl Copied for get_assertion::Response {
+    fn replace_parts(&mut self, alloc: Global, tries: &mut Tries) -> Result<(), OutOfMemory> {
+        if let Some(outputs) = &self.unsigned_extension_outputs {
+            compare_get_outputs(alloc, tries, outputs)?;
+        }
+        tries.replace_some(alloc, &mut self.credential)?;
+        tries.replace(alloc, &mut self.signature)?;
+        match &mut self.user {
+            Some(user) => tries.replace_equal(alloc, user),
+            None => Ok(()),
+        }
+    }
+}
+
+impl Copied for get_info::Response {
+    fn replace_parts(&mut self, alloc: Global, tries: &mut Tries) -> Result<(), OutOfMemory> {
+        tries.replace_some(alloc, &mut self.attestation_formats)?;
+        tries.replace_some(alloc, &mut self.certifications)?;
+        tries.replace_some(alloc, &mut self.enc_identifier)
+    }
+}
+
+/// The encoding. No decoded message has a number that is too large; it would be seen as no bytes.
+fn encoding<M: Message>(alloc: Global, message: &M) -> Result<Vec<u8>, OutOfMemory> {
+    match message.to_vec(alloc) {
+        Ok(bytes) => Ok(bytes),
+        Err(WriteFault::OutOfMemory) => Err(OutOfMemory),
+        Err(WriteFault::NumberTooLarge) => Ok(Vec::new(alloc)),
+    }
+}
+
+fn message_again<M: Copied>(
+    alloc: Global,
+    tries: &mut Tries,
+    bytes: &[u8],
+) -> Result<Vec<u8>, RunFault> {
+    let (mut message, _len) = M::from_slice(alloc, bytes)?;
+    message.replace_parts(alloc, tries)?;
+    match encoding(alloc, &message) {
+        Ok(bytes) => Ok(bytes),
+        Err(OutOfMemory) => {
+            tries.refuse();
+            Ok(encoding(alloc, &message)?)
+        }
+    }
+}
+
+fn item_again(alloc: Global, tries: &mut Tries, bytes: &[u8]) -> Result<Vec<u8>, RunFault> {
+    let (mut item, _len) = Value::from_slice(alloc, bytes)?;
+    tries.replace_equal(alloc, &mut item)?;
+    match item.to_vec(alloc) {
+        Ok(bytes) => Ok(bytes),
+        Err(OutOfMemory) => {
+            tries.refuse();
+            Ok(item.to_vec(alloc)?)
+        }
+    }
+}
+
+/// The encoding of authenticator data, which is tried again.
+pub fn data_again(
+    alloc: Global,
+    tries: &mut Tries,
+    data: &AuthenticatorData,
+) -> Result<Vec<u8>, OutOfMemory> {
+    match data.to_vec(alloc) {
+        Ok(bytes) => Ok(bytes),
+        Err(OutOfMemory) => {
+            tries.refuse();
+            data.to_vec(alloc)
+        }
+    }
+}
+
+fn auth_again(alloc: Global, tries: &mut Tries, bytes: &[u8]) -> Result<Vec<u8>, RunFault> {
+    let mut data = AuthenticatorData::from_slice(alloc, bytes)?;
+    replace_attested(alloc, tries, &mut data)?;
+    tries.replace_some(alloc, &mut data.extensions)?;
+    Ok(data_again(alloc, tries, &data)?)
+}
+
+fn bytes_again(
+    alloc: Global,
+    tries: &mut Tries,
+    kind: BytesKind,
+    bytes: &[u8],
+) -> Result<Vec<u8>, RunFault> {
+    match kind {
+        BytesKind::Cbor => item_again(alloc, tries, bytes),
+        BytesKind::Auth => auth_again(alloc, tries, bytes),
+        BytesKind::MakeRequest => { message_again::<make_credential::Request>(alloc, tries, bytes) }
+        BytesKind::MakeResponse => {
+            message_again::<make_credential::Response>(alloc, tries, bytes)
+        }
+        BytesKind::GetRequest => message_again::<get_assertion::Request>(alloc, tries, bytes),
+        BytesKind::GetResponse => message_again::<get_assertion::Response>(alloc, tries, bytes),
+        BytesKind::Info => message_again::<get_info::Response>(alloc, tries, bytes),
+        BytesKind::HmacInput => message_again::<HmacGetSecretInput>(alloc, tries, bytes),
+    }
+}
+
+/// Decodes the bytes as the kind, puts copies in the place of parts, and encodes the result.
+pub fn hex_again(
+    alloc: Global,
+    tries: &mut Tries,
+    kind: BytesKind,
+    input: &str,
+) -> Result<String, RunFault> {
+    let bytes = decode(alloc, input)?;
+    let encoded = bytes_again(alloc, tries, kind, &bytes)?;
+    encode(alloc, &encoded)
+}

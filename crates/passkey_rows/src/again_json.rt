@@ -1,0 +1,174 @@
+//! Records over JSON that are decoded, and encoded with copies of their parts, in both forms of bytes.
+use crate::tries::Tries;
+use passkey_rewrite::{JsonKind, RunFault};
+use passkey_types::OutOfMemory;
+use passkey_types::json::Value;
+use passkey_types::webauthn::{
+    AuthenticatedPublicKeyCredential, AuthenticationExtensionsClientInputs,
+    AuthenticationExtensionsClientOutputs, BytesForm, CollectedClientData,
+    CreatedPublicKeyCredential, CredentialCreationOptions, CredentialRequestOptions, JsonFault,
+    JsonRecord, PublicKeyCredentialCreationOptions, ToJson,
+};
+use serde_json::error::Category;
+use std::alloc::Global;
+
+/// A record some of whose parts can be copied.
+trait CopiedRecord: JsonRecord + ToJson {
+    /// Puts a copy in the place of each part that can be copied.
+    fn replace_parts(&mut self, alloc: Global, tries: &mut Tries) -> Result<(), OutOfMemory>;
+}
+
+fn replace_inputs(
+    alloc: Global,
+    tries: &mut Tries,
+    inputs: &mut Option<AuthenticationExtensionsClientInputs>,
+) -> Result<(), OutOfMemory> {
+    match inputs {
+        Some(inputs) => {
+            tries.replace_some(alloc, &mut inputs.prf)?;
+            tries.replace_some(alloc, &mut inputs.prf_already_hashed)
+        }
+        None => Ok(()),
+    }
+}
+
+fn replace_outputs(
+    alloc: Global,
+    tries: &mut Tries,
+    outputs: &mut AuthenticationExtensionsClientOutputs,
+) -> Result<(), OutOfMemory> {
+    tries.replace_some(alloc, &mut outputs.prf)
+}
+
+fn replace_creation(
+    alloc: Global,
+    tries: &mut Tries,
+    options: &mut PublicKeyCredentialCreationOptions,
+) -> Result<(), OutOfMemory> {
+    tries.replace(alloc, &mut options.rp)?;
+    tries.replace_equal(alloc, &mut options.user)?;
+    if let Some(list) = &mut options.exclude_credentials {
+        tries.replace_each(alloc, list.as_mut_vec())?;
+    }
+    replace_inputs(alloc, tries, &mut options.extensions)
+}
+
+impl CopiedRecord for CredentialCreationOptions {
+    fn replace_parts(&mut self, alloc: Global, tries: &mut Tries) -> Result<(), OutOfMemory> {
+        replace_creation(alloc, tries, &mut self.public_key)
+    }
+}
+
+impl CopiedRecord for CredentialRequestOptions {
+    fn replace_parts(&mut self, alloc: Global, tries: &mut Tries) -> Result<(), OutOfMemory> {
+        if let Some(list) = &mut self.public_key.allow_credentials {
+            tries.replace_each(alloc, list.as_mut_vec())?;
+        }
+        replace_inputs(alloc, tries, &mut self.public_key.extensions)
+    }
+}
+
+impl CopiedRecord for CreatedPublicKeyCredential {
+    fn replace_parts(&mut self, alloc: Global, tries: &mut Tries) -> Result<(), OutOfMemory> {
+        tries.replace(alloc, &mut self.response)?;
+        replace_outputs(alloc, tries, &mut self.client_extension_results)
+    }
+}
+
+impl CopiedRecord for AuthenticatedPublicKeyCredential {
+    fn replace_parts(&mut self, alloc: Global, tries: &mut Tries) -> Result<(), OutOfMemory> {
+        replace_outputs(alloc, tries, &mut self.client_extension_results)
+    }
+}
+
+pub fn parsed(alloc: Global, text: &str) -> Result<Value, RunFault> {
+    match Value::from_str(alloc, text) {
+        Ok(value) => Ok(value),
+        Err(error) if error.classify() == Category::Memory => Err(RunFault::OutOfMemory),
+        Err(_) => Err(RunFault::BadJson),
+    }
+}
+
+fn decoded<R: JsonRecord>(alloc: Global, text: &str) -> Result<R, RunFault> {
+    let value = parsed(alloc, text)?;
+    Ok(R::from_json(alloc, &value)?)
+}
+
+fn encoding<R: ToJson>(alloc: Global, record: &R, form: BytesForm) -> Result<String, OutOfMemory> {
+    let json = record.to_json(alloc, form)?;
+    Ok(json.to_string(alloc)?)
+}
+
+/// The encoding, which is tried again.
+fn encoding_again<R: ToJson>(
+    alloc: Global,
+    tries: &mut Tries,
+    record: &R,
+    form: BytesForm,
+) -> Result<String, OutOfMemory> {
+    match encoding(alloc, record, form) {
+        Ok(text) => Ok(text),
+        Err(OutOfMemory) => {
+            tries.refuse();
+            encoding(alloc, record, form)
+        }
+    }
+}
+
+/// The record's text with bytes as numbers, which is decoded to the same record.
+fn in_numbers<R: CopiedRecord>(
+    alloc: Global,
+    tries: &mut Tries,
+    text: &str,
+) -> Result<String, RunFault> {
+    let mut record = decoded::<R>(alloc, text)?;
+    record.replace_parts(alloc, tries)?;
+    Ok(encoding_again(alloc, tries, &record, BytesForm::Numbers)?)
+}
+
+fn record_again<R: CopiedRecord>(
+    alloc: Global,
+    tries: &mut Tries,
+    text: &str,
+) -> Result<String, RunFault> {
+    let numbers = in_numbers::<R>(alloc, tries, text)?;
+    let record = decoded::<R>(alloc, numbers.as_str())?;
+    Ok(encoding_again(alloc, tries, &record, BytesForm::Base64Url)?)
+}
+
+fn client_data_text(alloc: Global, data: &CollectedClientData) -> Result<String, JsonFault> {
+    let text = data.to_text(alloc)?;
+    Ok(String::from_str(alloc, text.as_str())?)
+}
+
+fn client_data_again(alloc: Global, tries: &mut Tries, text: &str) -> Result<String, RunFault> {
+    let value = parsed(alloc, text)?;
+    let mut data: CollectedClientData = CollectedClientData::from_json(alloc, &value)?;
+    tries.replace(alloc, &mut data)?;
+    match client_data_text(alloc, &data) {
+        Err(JsonFault::OutOfMemory) => {
+            tries.refuse();
+            Ok(client_data_text(alloc, &data)?)
+        }
+        other => Ok(other?),
+    }
+}
+
+/// Decodes the text as the kind, puts copies in the place of parts, and encodes the result with bytes as numbers;
+/// that text is decoded again, and encoded with bytes in base64url. Client data have no bytes.
+pub fn json_again(
+    alloc: Global,
+    tries: &mut Tries,
+    kind: JsonKind,
+    text: &str,
+) -> Result<String, RunFault> {
+    match kind {
+        JsonKind::Creation => record_again::<CredentialCreationOptions>(alloc, tries, text),
+        JsonKind::Request => record_again::<CredentialRequestOptions>(alloc, tries, text),
+        JsonKind::Created => record_again::<CreatedPublicKeyCredential>(alloc, tries, text),
+        JsonKind::Authenticated => {
+            record_again::<AuthenticatedPublicKeyCredential>(alloc, tries, text)
+        }
+        JsonKind::ClientData => client_data_again(alloc, tries, text),
+    }
+}

@@ -1,0 +1,99 @@
+//! Passkeys that are built.
+use crate::hexadecimal::encode;
+use crate::tries::Tries;
+use passkey_rewrite::RunFault;
+use passkey_types::cose::iana::KeyType;
+use passkey_types::cose::{CoseKey, Registered};
+use passkey_types::{Bytes, OutOfMemory, Passkey, PasskeyBuilder, StoredHmacSecret, Text};
+use rand_chacha::ChaCha20Rng;
+use rand_core::SeedableRng;
+use std::alloc::Global;
+
+/// A builder with a generator whose seed is 32 zero bytes.
+fn builder(alloc: Global, rp_id: &str) -> Result<PasskeyBuilder<ChaCha20Rng>, OutOfMemory> {
+    let rp_id = Text::from_str(alloc, rp_id)?;
+    let key = CoseKey::new(Registered::Assigned(KeyType::EC2));
+    let rng = ChaCha20Rng::from_seed([0; 32]);
+    Passkey::mock(alloc, rp_id, key, rng)
+}
+
+fn with_id(
+    alloc: Global,
+    tries: &mut Tries,
+    builder: PasskeyBuilder<ChaCha20Rng>,
+) -> Result<PasskeyBuilder<ChaCha20Rng>, OutOfMemory> {
+    match builder.credential_id(alloc, 4) {
+        Ok(builder) => Ok(builder),
+        Err(back) => {
+            tries.refuse();
+            match back.value.credential_id(alloc, 4) {
+                Ok(builder) => Ok(builder),
+                Err(_) => Err(OutOfMemory),
+            }
+        }
+    }
+}
+
+fn with_handle(
+    alloc: Global,
+    tries: &mut Tries,
+    builder: PasskeyBuilder<ChaCha20Rng>,
+) -> Result<PasskeyBuilder<ChaCha20Rng>, OutOfMemory> {
+    match builder.user_handle(alloc, Some(8)) {
+        Ok(builder) => Ok(builder),
+        Err(back) => {
+            tries.refuse();
+            match back.value.user_handle(alloc, Some(8)) {
+                Ok(builder) => Ok(builder),
+                Err(_) => Err(OutOfMemory),
+            }
+        }
+    }
+}
+
+fn secrets(alloc: Global) -> Result<StoredHmacSecret, OutOfMemory> {
+    let cred_without_uv = Some(Bytes::from_slice(alloc, &[3])?);
+    Ok(StoredHmacSecret {
+        cred_with_uv: Bytes::from_slice(alloc, &[1, 2])?,
+        cred_without_uv,
+    })
+}
+
+/// The same passkey with a name and secrets.
+fn named(alloc: Global, mut passkey: Passkey) -> Result<Passkey, OutOfMemory> {
+    passkey.username = Some(Text::from_str(alloc, "user")?);
+    passkey.extensions.hmac_secret = Some(secrets(alloc)?);
+    Ok(passkey)
+}
+
+fn built(alloc: Global, tries: &mut Tries, rp_id: &str) -> Result<Passkey, OutOfMemory> {
+    let builder = builder(alloc, rp_id)?;
+    let builder = with_id(alloc, tries, builder)?;
+    let builder = with_handle(alloc, tries, builder)?;
+    named(alloc, builder.build())
+}
+
+fn printed(
+    alloc: Global,
+    rp_id: &Text,
+    id: &Bytes,
+    handle: &Option<Bytes>,
+) -> Result<String, RunFault> {
+    let mut text = String::from_str(alloc, rp_id.as_str())?;
+    text.push_str(" ")?;
+    text.push_str(encode(alloc, id.as_slice())?.as_str())?;
+    if let Some(handle) = handle {
+        text.push_str(" ")?;
+        text.push_str(encode(alloc, handle.as_slice())?.as_str())?;
+    }
+    Ok(text)
+}
+
+/// `RPID`: the relying party's id, the credential's id and the user handle of a copy of a passkey whose id was drawn
+/// with 16 bytes, then with 4, and whose user handle was drawn with 8.
+pub fn build(alloc: Global, tries: &mut Tries, input: &str) -> Result<String, RunFault> {
+    let mut passkey = built(alloc, tries, input)?;
+    tries.replace_equal(alloc, &mut passkey)?;
+    let descriptor = passkey.descriptor(alloc)?;
+    printed(alloc, &passkey.rp_id, &descriptor.id, &passkey.user_handle)
+}
