@@ -3,7 +3,8 @@ ghost use Rattle.std.specs.Prelude.{◌≡◌, ◌<◌, ◌↔◌, None, length,
 ghost use Rattle.passkey_cbor.specs.Canonical.{IsCanonical, ComesAfter};
 ghost use Rattle.passkey_cbor.specs.CanonicalReading.{Leaves, BeginsItem, BeginsContent, BeginsItems, BeginsPairs, BeginsString};
 
-use crate::cursor::{MAX_DEPTH, piece_of};
+use crate::cursor::piece_of;
+use crate::depth::MAX_DEPTH;
 use crate::head::Head;
 use crate::order::ctap2_order;
 use std::cmp::Ordering;
@@ -23,7 +24,7 @@ pub fn is_canonical(bytes: &[u8]) -> bool
 
 /// The bytes behind the canonical item of at most so many levels that begins these.
 #[cycle(canonical)]
-fn behind_item(bytes: &[u8], levels: u16) -> Option<&[u8]>
+fn behind_item(bytes: &[u8], levels: usize) -> Option<&[u8]>
     ensures { Leaves (BeginsItem levels bytes.now) (option_map (λ r. r.now) result) }
 {
     match Head::decode_shortest(bytes) {
@@ -34,7 +35,7 @@ fn behind_item(bytes: &[u8], levels: u16) -> Option<&[u8]>
 
 // The bytes behind the content of one whose head was decoded.
 #[cycle(canonical)]
-fn behind_content(head: Head, bytes: &[u8], levels: u16) -> Option<&[u8]>
+fn behind_content(head: Head, bytes: &[u8], levels: usize) -> Option<&[u8]>
     ensures { Leaves (BeginsContent levels head bytes.now) (option_map (λ r. r.now) result) }
 {
     match head {
@@ -56,7 +57,7 @@ fn behind_content(head: Head, bytes: &[u8], levels: u16) -> Option<&[u8]>
 
 // The bytes behind so many canonical items.
 #[cycle(canonical)]
-fn behind_items(bytes: &[u8], count: u64, levels: u16) -> Option<&[u8]>
+fn behind_items(bytes: &[u8], count: u64, levels: usize) -> Option<&[u8]>
     ensures { Leaves (BeginsItems levels count bytes.now) (option_map (λ r. r.now) result) }
 {
     let mut rest = bytes;
@@ -70,7 +71,7 @@ fn behind_items(bytes: &[u8], count: u64, levels: u16) -> Option<&[u8]>
 
 // The bytes behind so many pairs of canonical items whose keys ascend.
 #[cycle(canonical)]
-fn behind_pairs(bytes: &[u8], count: u64, levels: u16) -> Option<&[u8]>
+fn behind_pairs(bytes: &[u8], count: u64, levels: usize) -> Option<&[u8]>
     ensures { Leaves (BeginsPairs levels count None bytes.now) (option_map (λ r. r.now) result) }
 {
     let mut rest = bytes;
