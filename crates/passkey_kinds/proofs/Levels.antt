@@ -4,6 +4,7 @@ use Rattle.std.proofs.Common.{◌≡◌, ℕ, suc, ◌≤◌, max, arith, List, 
 use Rattle.passkey_bytes.specs.Map.{ByteMap}
 use Rattle.passkey_cbor.specs.Depth.{depth, items_depth, pairs_depth}
 use Rattle.passkey_cbor.specs.Item.{Item, items_of, pairs_of}
+use Rattle.passkey_kinds.specs.ShortFirst.{short_first}
 use Rattle.passkey_kinds.specs.Table.{Members}
 use Rattle.passkey_kinds.specs.Tree.{Place, list_tree, entry_tree, byte_map_tree, under, record_tree}
 use Rattle.passkey_kinds.proofs.Back.{spread, laid_spread}
@@ -71,7 +72,7 @@ entries_within tree n each (e ∷ es) = both_within (max 0 (depth (tree e.1))) (
 
 -- a map has one level more than its values
 pub map_within : {A : Type 0} (tree : A → Item) (n : ℕ) → ((x : A) → depth (tree x) ≤ n) → (m : ByteMap A) → depth (byte_map_tree tree m) ≤ suc n
-map_within tree n each m = omega (arith, entries_within tree n each (fin.entries m))
+map_within tree n each m = omega (arith, entries_within tree n each (short_first (fin.entries m)))
 
 pub option_within : {A : Type 0} (tree : A → Item) (n : ℕ) (key : Item) → depth key ≤ n → ((x : A) → depth (tree x) ≤ n) → (o : Option A) → PlaceWithin n key (option_map tree o)
 option_within tree n key keyed each None = tt

@@ -39,3 +39,6 @@ pub mod ArraysAhead
 pub mod Keys
 pub mod MembersAhead
 pub mod NumberPieces
+pub mod ByteKeys
+pub mod ShortFirst
+pub mod ByteMaps

@@ -13,6 +13,7 @@ pub mod RecordReading
 pub mod Rows
 pub mod SourceLaws
 pub mod Descriptor
+pub mod ShortFirst
 pub mod Tree
 pub mod ReadBack
 pub mod Trees

@@ -1,8 +1,9 @@
 -- What values are encoded as; a record's members come one after the other.
-use Rattle.std.specs.Prelude.{ℕ, pos, Bool, true, if◌then◌else◌, List, [], ◌∷◌, ◌++◌, map as each, Option, Some, None, option_map}
+use Rattle.std.specs.Prelude.{ℕ, pos, Bool, true, length, if◌then◌else◌, List, [], ◌∷◌, ◌++◌, map as each, Option, Some, None, option_map}
 use Rattle.std.specs.FinMap as fin
 use Rattle.passkey_bytes.specs.Map.{ByteMap}
-use Rattle.passkey_cbor.specs.Item.{Item, number, byte_string, array, map, boolean, null, items_of, pairs_of}
+use Rattle.passkey_cbor.specs.Item.{Item, number, byte_string, text_string, array, map, tagged, boolean, null, simple, float, items_of, pairs_of}
+use Rattle.passkey_kinds.specs.ShortFirst.{short_first}
 use Rattle.passkey_kinds.specs.Table.{Members}
 
 abbrev pub number_tree : ℕ → Item
@@ -27,9 +28,22 @@ map_tree ms = map (pairs_of ms)
 abbrev pub entry_tree : {A : Type 0} → (A → Item) → List ℕ × A → Item × Item
 entry_tree tree e = (byte_string e.0, tree e.1)
 
--- a map from byte strings, in the order of the keys' bytes
+-- a map from byte strings, with its keys in CTAP2's order
 abbrev pub byte_map_tree : {A : Type 0} → (A → Item) → ByteMap A → Item
-byte_map_tree tree m = map_tree (each (entry_tree tree) (fin.entries m))
+byte_map_tree tree m = map_tree (each (entry_tree tree) (short_first (fin.entries m)))
+
+-- the number of bytes of a byte string
+abbrev pub key_size : Item → ℕ
+key_size (number z) = 0
+key_size (byte_string s) = length s
+key_size (text_string s) = 0
+key_size (array xs) = 0
+key_size (map ps) = 0
+key_size (tagged t x) = 0
+key_size (boolean b) = 0
+key_size null = 0
+key_size (simple n) = 0
+key_size (float f) = 0
 
 -- A map key, and what is encoded under it, if anything.
 abbrev pub Place : Type 0

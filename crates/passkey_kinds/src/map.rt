@@ -3,14 +3,15 @@ ghost use Rattle.std.specs.Prelude.{◌≡◌, ◌<◌, ℕ, suc, max, List, len
 ghost use Rattle.std.specs.FinMap as fin;
 ghost use Rattle.std.specs.List.{All};
 ghost use Rattle.passkey_bytes.specs.Map.{ByteMap};
-ghost use Rattle.passkey_cbor.specs.View.{pair_of};
+ghost use Rattle.passkey_cbor.specs.View.{item_of, pair_of};
 ghost use Rattle.passkey_kinds.specs.Kind.{AnswersAs};
 ghost use Rattle.passkey_cbor.specs.Item.{Item};
 ghost use Rattle.passkey_cbor.specs.Stands.{StandPairs};
 ghost use Rattle.passkey_kinds.specs.Keeping.{in_members};
 ghost use Rattle.passkey_kinds.specs.MapKind.{map_from_bytes, map_values, with_members};
 ghost use Rattle.passkey_kinds.specs.Reader.{Onward, Decodes, kept_values_of};
-ghost use Rattle.passkey_kinds.specs.Tree.{byte_map_tree, entry_tree};
+ghost use Rattle.passkey_kinds.specs.ShortFirst.{sorted_by};
+ghost use Rattle.passkey_kinds.specs.Tree.{byte_map_tree, entry_tree, key_size};
 
 use crate::from_cbor::FromCbor;
 use crate::head::read_map;
@@ -19,7 +20,7 @@ use crate::to_cbor::ToCbor;
 use passkey_bytes::{Bytes, Map};
 use passkey_cbor::{Cursor, Value};
 use passkey_memory::OutOfMemory;
-use std::alloc::Global;
+use std::alloc::{AllocError, Global};
 
 fn read_entries<T: FromCbor>(
     alloc: Global,
@@ -94,12 +95,33 @@ fn write_entries<T: ToCbor>(
     Ok(pairs)
 }
 
+// How many bytes a key has that is a byte string.
+fn key_len(key: &Value) -> usize
+    ensures { result ≡ key_size (item_of key.now) }
+{
+    match key {
+        Value::Bytes(bytes) => bytes.len(),
+        _ => 0,
+    }
+}
+
+// Moves pairs with shorter keys to the front, as CTAP2 asks; those with keys of one length keep
+// their order.
+fn sort_pairs(pairs: &mut Vec<(Value, Value)>) -> Result<(), AllocError>
+    ensures { OnOk result (pairs.new.items ≡ sorted_by (λ p. key_size (item_of p.0)) pairs.old.items) }
+{
+    pairs.sort_by_key(|pair| key_len(&pair.0))?;
+    Ok(())
+}
+
 impl<T: ToCbor> ToCbor for Map<Bytes, T> {
     ghost tree = { λ m. byte_map_tree T.tree m };
 
     ghost fits = { λ m. All (λ e. T.fits e.1) (fin.entries m) };
 
     fn to_value(&self, alloc: Global) -> Result<Value, OutOfMemory> {
-        Ok(Value::Map(write_entries(alloc, self)?))
+        let mut pairs = write_entries(alloc, self)?;
+        sort_pairs(&mut pairs)?;
+        Ok(Value::Map(pairs))
     }
 }

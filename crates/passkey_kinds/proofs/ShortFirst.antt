@@ -1,0 +1,187 @@
+-- Sorting by numbers: a stable sort gives `sorted_by`.
+use Rattle.std.specs.Cmp.{nat_cmp_is}
+use Rattle.std.specs.List.{AllByRecursion, filter}
+use Rattle.std.specs.Fn.{ComputesKey, Called, Mut}
+use Rattle.std.specs.List.Sorted.{IsNonDecreasingBy, IsSortedByKey, IsStableByKey, ties}
+use Rattle.std.specs.Prelude.{slice_index_or}
+use Rattle.std.specs.Ordering.{nat_cmp, is_lt}
+use Rattle.std.specs.declared.cmp.Ordering.{Ordering}
+use Rattle.std.specs.declared.cmp.Ordering.TheVariants.{Less, Equal, Greater}
+use Rattle.std.proofs.Common.{◌≡◌, ◌⊎◌, ℕ, zero, suc, ◌+◌, ◌<◌, ◌≤◌, ◌==◌, nat_le, Bool, true, false, cond, List, [], ◌∷◌, length, map, refl, sym, ap, subst, ◌∙◌, arith, inl, inr, Bor}
+use Rattle.std.proofs.lemmas.Fn.{always_returns_same}
+use Rattle.std.proofs.lemmas.List.Sorted.{IsNonDecreasingBy-from_sort_by_key}
+use Rattle.std.proofs.lemmas.Bool.{cases_lt, cases_eq}
+use Rattle.std.proofs.lemmas.Bool.Decides.{nat_tests}
+use Rattle.passkey_kinds.specs.ShortFirst.{put_by, sorted_by}
+
+-- ---- numbers
+
+same_number : (n m : ℕ) → n ≡ m → (n == m) ≡ true
+same_number n m e = grind (arith, nat_tests)
+
+other_number : (n m : ℕ) → (n < m) ⊎ (m < n) → (n == m) ≡ false
+other_number n m (inl lt) = grind (arith, nat_tests)
+other_number n m (inr lt) = grind (arith, nat_tests)
+
+pub at_most : (n m : ℕ) → n ≤ m → nat_le n m ≡ true
+at_most n m le = grind (arith, nat_tests)
+
+pub above : (n m : ℕ) → m < n → nat_le n m ≡ false
+above n m lt = grind (arith, nat_tests)
+
+tie_of : (n m : ℕ) → ties (λ a b. is_lt (nat_cmp a b)) n m ≡ (m == n)
+tie_of n m = elim (cases_lt n m) [
+  | inl lt ↦ rw (sym (nat_cmp_is n m Less lt), other_number m n (inr lt)) refl
+  | inr le ↦ elim (cases_lt m n) [
+    | inl lt ↦ rw (sym (nat_cmp_is n m Greater lt), sym (nat_cmp_is m n Less lt), other_number m n (inl lt)) refl
+    | inr ge ↦ (let e : n ≡ m = omega (arith, le, ge) in rw (sym (nat_cmp_is n m Equal e), sym (nat_cmp_is m n Equal (sym e)), same_number m n (sym e)) refl)
+  ]
+]
+
+module _ {X : Type 0} (number : X → ℕ) where
+  -- those with this number
+  abbrev pub of : ℕ → List X → List X
+  of n xs = filter (λ y. number y == n) xs
+
+  abbrev kept : Bool → X → List X → List X
+  kept true x xs = x ∷ xs
+  kept false x xs = xs
+
+  of-cons : (n : ℕ) (x : X) (xs : List X) → of n (x ∷ xs) ≡ kept (number x == n) x (of n xs)
+  of-cons n x xs = by (number x == n) refl where
+    by : (b : Bool) → (number x == n) ≡ b → of n (x ∷ xs) ≡ kept b x (of n xs)
+    by true e = rw e refl
+    by false e = rw e refl
+
+  -- two with different numbers change places
+  swapped : (n : ℕ) (x y : X) (xs : List X) → number y < number x → kept (number y == n) y (kept (number x == n) x xs) ≡ kept (number x == n) x (kept (number y == n) y xs)
+  swapped n x y xs lt = elim (cases_eq (number x) n) [
+    | inl e ↦ rw (other_number (number y) n (inl (omega (arith, lt, e)))) refl
+    | inr d ↦ rw (other_number (number x) n (split d)) refl
+  ] where
+    split : (number x ≡ n → ⊥) → (number x < n) ⊎ (n < number x)
+    split d = elim (cases_lt (number x) n) [ inl l ↦ inl l | inr g ↦ inr (omega (arith, g, d)) ]
+
+  of-put_by : (n : ℕ) (x : X) (ys : List X) → of n (put_by number x ys) ≡ kept (number x == n) x (of n ys)
+  of-put_by n x [] = of-cons n x []
+  of-put_by n x (y ∷ ys) = elim (cases_lt (number y) (number x)) [
+    | inr le ↦ rw (at_most (number x) (number y) le) (of-cons n x (y ∷ ys))
+    | inl lt ↦ rw (above (number x) (number y) lt)
+      (of-cons n y (put_by number x ys) ∙ ap (kept (number y == n) y) (of-put_by n x ys)
+      ∙ swapped n x y (of n ys) lt ∙ ap (kept (number x == n) x) (sym (of-cons n y ys)))
+  ]
+
+  of-sorted_by : (n : ℕ) (xs : List X) → of n (sorted_by number xs) ≡ of n xs
+  of-sorted_by n [] = refl
+  of-sorted_by n (x ∷ xs) = of-put_by n x (sorted_by number xs) ∙ ap (kept (number x == n) x) (of-sorted_by n xs) ∙ sym (of-cons n x xs)
+
+  -- ---- rising numbers
+
+  abbrev pub Rising : ℕ → List X → Type 0
+  Rising low [] = Unit {0}
+  Rising low (x ∷ xs) = (low ≤ number x) × Rising (number x) xs
+
+  put_by-rising : (low : ℕ) (x : X) (ys : List X) → low ≤ number x → Rising low ys → Rising low (put_by number x ys)
+  put_by-rising low x [] le r = (le, tt)
+  put_by-rising low x (y ∷ ys) le r = elim (cases_lt (number y) (number x)) [
+    | inr ge ↦ rw (at_most (number x) (number y) ge) (le, (ge, r.1))
+    | inl lt ↦ rw (above (number x) (number y) lt) (r.0, put_by-rising (number y) x ys (omega (arith, lt)) r.1)
+  ]
+
+  sorted_by-rising : (xs : List X) → Rising 0 (sorted_by number xs)
+  sorted_by-rising [] = tt
+  sorted_by-rising (x ∷ xs) = put_by-rising 0 x (sorted_by number xs) (omega arith) (sorted_by-rising xs)
+
+  none_below : (n low : ℕ) (xs : List X) → n < low → Rising low xs → of n xs ≡ []
+  none_below n low [] lt r = refl
+  none_below n low (x ∷ xs) lt r =
+      of-cons n x xs ∙ rw (other_number (number x) n (inr (omega (arith, lt, r.0)))) (none_below n (number x) xs (omega (arith, lt, r.0)) r.1)
+
+  first_is : (x y : X) (xs ys : List X) → x ∷ xs ≡ y ∷ ys → (x ≡ y) × (xs ≡ ys)
+  first_is x y xs ys e = (cc, cc)
+
+  not_none : (x : X) (xs : List X) → x ∷ xs ≡ [] → ⊥
+  not_none x xs e = absurd cc
+
+  of-first : (x : X) (xs : List X) → of (number x) (x ∷ xs) ≡ x ∷ of (number x) xs
+  of-first x xs = of-cons (number x) x xs ∙ rw (same_number (number x) (number x) refl) refl
+
+  same_kept : (b : Bool) (x : X) (xs ys : List X) → kept b x xs ≡ kept b x ys → xs ≡ ys
+  same_kept true x xs ys e = (first_is x x xs ys e).1
+  same_kept false x xs ys e = e
+
+  tied : (x y : X) (xs ys : List X) → Rising (number x) xs → Rising (number y) ys → ((z : X) → of (number z) (x ∷ xs) ≡ of (number z) (y ∷ ys)) → number x ≡ number y → (Rising (number x) xs → Rising (number x) ys → ((z : X) → of (number z) xs ≡ of (number z) ys) → xs ≡ ys) → x ∷ xs ≡ y ∷ ys
+  tied x y xs ys r s same e others_same =
+      let heads = first_is x y (of (number x) xs) (of (number x) ys) (sym (of-first x xs) ∙ same x ∙ ap (λ n. of n (y ∷ ys)) e ∙ of-first y ys ∙ ap (λ n. y ∷ of n ys) (sym e)) in
+      let others : (z : X) → of (number z) xs ≡ of (number z) ys = λ z.
+        same_kept (number x == number z) x (of (number z) xs) (of (number z) ys)
+        (sym (of-cons (number z) x xs) ∙ same z ∙ of-cons (number z) y ys ∙ ap (λ w. kept (number w == number z) w (of (number z) ys)) (sym heads.0)) in
+      let tails = others_same r (subst (λ n. Rising n ys) (sym e) s) others in
+      ap (λ z. z ∷ xs) heads.0 ∙ ap (λ zs. y ∷ zs) tails
+
+  -- rising lists that have the same elements of each number, in the same order, are one
+  rising_same : (low : ℕ) (xs ys : List X) → Rising low xs → Rising low ys → ((z : X) → of (number z) xs ≡ of (number z) ys) → xs ≡ ys
+  rising_same low [] [] r s same = refl
+  rising_same low [] (y ∷ ys) r s same = absurd (not_none y (of (number y) ys) (sym (of-first y ys) ∙ sym (same y)))
+  rising_same low (x ∷ xs) [] r s same = absurd (not_none x (of (number x) xs) (sym (of-first x xs) ∙ same x))
+  rising_same low (x ∷ xs) (y ∷ ys) r s same = elim (cases_lt (number x) (number y)) [
+    | inl lt ↦ absurd (not_none x (of (number x) xs) (sym (of-first x xs) ∙ same x ∙ none_below (number x) (number y) (y ∷ ys) lt (omega arith, s.1)))
+    | inr ge ↦ elim (cases_lt (number y) (number x)) [
+      | inl lt ↦ absurd (not_none y (of (number y) ys) (sym (of-first y ys) ∙ sym (same y) ∙ none_below (number y) (number x) (x ∷ xs) lt (omega arith, r.1)))
+      | inr le ↦ tied x y xs ys r.1 s.1 same (omega (arith, ge, le)) (rising_same (number x) xs ys)
+    ]
+  ]
+
+  -- ---- what a stable sort gives
+
+  rising_from : (low : ℕ) (xs : List X) → ((d : X) → 0 < length xs → low ≤ number (slice_index_or xs 0 d)) → IsNonDecreasingBy number xs → Rising low xs
+  rising_from low [] first rises = tt
+  rising_from low (x ∷ xs) first rises =
+      (first x (omega arith), rising_from (number x) xs (λ d some. rises 0 1 d (omega arith) (omega (arith, some))) (λ i j d le lt. rises (suc i) (suc j) d (omega (arith, le)) (omega (arith, lt))))
+
+  filter_same : (p q : X → Bool) (xs : List X) → ((x : X) → p x ≡ q x) → filter p xs ≡ filter q xs
+  filter_same p q [] same = refl
+  filter_same p q (x ∷ xs) same = rw (same x) (ap (λ zs. cond (q x) (x ∷ zs) zs) (filter_same p q xs same))
+
+  stable_of : (xs ys : List X) → IsStableByKey number nat_cmp xs ys → (x : X) → of (number x) ys ≡ of (number x) xs
+  stable_of xs ys stable x =
+      filter_same (λ y. number y == number x) (ties (λ a b. is_lt (nat_cmp (number a) (number b))) x) ys (λ y. sym (tie_of (number x) (number y)))
+      ∙ stable x
+      ∙ filter_same (ties (λ a b. is_lt (nat_cmp (number a) (number b))) x) (λ y. number y == number x) xs (λ y. tie_of (number x) (number y))
+
+  -- what `sort_by_key` ensures, where each call gives the number
+  pub sorted_is : {F : Type 0} {g : Mut F (Bor X × Unit {0}) ℕ} {f : F} (xs ys : List X)
+      → ((key : X → ℕ) → ComputesKey g key f → IsSortedByKey key nat_cmp ys)
+      → ((key : X → ℕ) → ComputesKey g key f → IsStableByKey key nat_cmp xs ys)
+      → ((a : Bor X × Unit {0}) (r : ℕ) (f' : F) → Called g f a r f' → (r ≡ number a.0.now) × (f' ≡ f)) → ys ≡ sorted_by number xs
+  sorted_is {g = g} {f = f} xs ys up stable calls =
+      let rises = IsNonDecreasingBy-from_sort_by_key number ys up calls in
+      rising_same 0 ys (sorted_by number xs)
+      (rising_from 0 ys (λ d some. omega arith) rises)
+      (sorted_by-rising xs)
+      (λ z. stable_of xs ys (stable number (always_returns_same g (λ a r. r ≡ number a.0.now) f calls)) z ∙ sym (of-sorted_by (number z) xs))
+
+-- sorting images by their numbers
+put_by-map : {X Y : Type 0} (f : X → Y) (number : Y → ℕ) (x : X) (ys : List X) → map f (put_by (λ z. number (f z)) x ys) ≡ put_by number (f x) (map f ys)
+put_by-map f number x [] = refl
+put_by-map f number x (y ∷ ys) = elim (cases_lt (number (f y)) (number (f x))) [
+  | inr le ↦ rw (at_most (number (f x)) (number (f y)) le) refl
+  | inl lt ↦ rw (above (number (f x)) (number (f y)) lt) (ap (λ zs. f y ∷ zs) (put_by-map f number x ys))
+]
+
+pub sorted_by-map : {X Y : Type 0} (f : X → Y) (number : Y → ℕ) (xs : List X) → map f (sorted_by (λ z. number (f z)) xs) ≡ sorted_by number (map f xs)
+sorted_by-map f number [] = refl
+sorted_by-map f number (x ∷ xs) = put_by-map f number x (sorted_by (λ z. number (f z)) xs) ∙ ap (put_by number (f x)) (sorted_by-map f number xs)
+
+-- what holds of each element
+module _ {X : Type 0} (number : X → ℕ) (P : X → Type 0) where
+  put_by-each : (x : X) (ys : List X) → P x → AllByRecursion P ys → AllByRecursion P (put_by number x ys)
+  put_by-each x [] h hs = (h, tt)
+  put_by-each x (y ∷ ys) h hs = elim (cases_lt (number y) (number x)) [
+    | inr le ↦ rw (at_most (number x) (number y) le) (h, hs)
+    | inl lt ↦ rw (above (number x) (number y) lt) (hs.0, put_by-each x ys h hs.1)
+  ]
+
+  pub sorted_by-each : (xs : List X) → AllByRecursion P xs → AllByRecursion P (sorted_by number xs)
+  sorted_by-each [] hs = tt
+  sorted_by-each (x ∷ xs) hs = put_by-each x (sorted_by number xs) hs.0 (sorted_by-each xs hs.1)
