@@ -5,6 +5,7 @@ use crate::tables::{
 use passkey_bytes::{Bytes, List, Map, Text};
 use passkey_cbor::Value;
 use passkey_core::{Aaguid, AuthenticatorData};
+use passkey_entities::MissingRpId;
 use passkey_iana::Algorithm;
 use passkey_kinds::{ReadBack, Refusal, Shallow, TolerantList, Tolerated, WriteFault, laws};
 use passkey_webauthn::{
@@ -25,6 +26,8 @@ fn faults_are_printed_by_name(rt: HostRuntime) {
     assert_printed(&rt, &Refusal::OutOfMemory, "OutOfMemory");
     assert_printed(&rt, &WriteFault::OutOfMemory, "OutOfMemory");
     assert_printed(&rt, &WriteFault::NumberTooLarge, "NumberTooLarge");
+    let rp_name = Text::from_str(rt.alloc(), "Example").expect(&rt, "memory");
+    assert_printed(&rt, &MissingRpId { rp_name }, "MissingRpId");
 }
 
 #[test]
