@@ -59,12 +59,20 @@ Rewrites GetResponse bytes spelling = RewritesMessage read_get_response get_resp
 Rewrites Info bytes spelling = RewritesMessage read_get_info get_info_tree bytes spelling
 Rewrites HmacInput bytes spelling = RewritesMessage read_hmac_input hmac_input_tree bytes spelling
 
+-- the bytes don't begin with a data item
+abbrev pub RefusesFront : List ℕ → CoseError → Type 0
+RefusesFront bytes error.DecodeFailed = HasNoFront bytes
+RefusesFront bytes _ = ⊥
+
+-- the bytes have this fault as authenticator data
+abbrev pub RefusesData : List ℕ → CoseError → Type 0
+RefusesData bytes error.OutOfMemory = ⊥
+RefusesData bytes refusal = ReadsData bytes (Err refusal)
+
 -- why a kind rejects the decoded bytes
 unfoldable pub Refuses : BytesKind → List ℕ → CoseError → Type 0
-Refuses Cbor bytes error.DecodeFailed = HasNoFront bytes
-Refuses Cbor bytes _ = ⊥
-Refuses Auth bytes error.OutOfMemory = ⊥
-Refuses Auth bytes refusal = ReadsData bytes (Err refusal)
+Refuses Cbor bytes refusal = RefusesFront bytes refusal
+Refuses Auth bytes refusal = RefusesData bytes refusal
 Refuses _ bytes refusal = ⊥
 
 -- the bytes don't begin with a data item, or the item has this fault as a message
@@ -83,7 +91,19 @@ RefusesAs Info bytes fault = RefusesMessage read_get_info bytes fault
 RefusesAs HmacInput bytes fault = RefusesMessage read_hmac_input bytes fault
 RefusesAs _ bytes fault = ⊥
 
--- why the decoded bytes aren't rewritten as a message; memory may run out for any
+-- why the decoded bytes aren't rewritten as a data item; memory may run out for any
+abbrev pub IsCborRefusal : List ℕ → RunFault → Type 0
+IsCborRefusal bytes (Refused refusal) = RefusesFront bytes refusal
+IsCborRefusal bytes OutOfMemory = ⊤
+IsCborRefusal bytes _ = ⊥
+
+-- the same for authenticator data
+abbrev pub IsDataRefusal : List ℕ → RunFault → Type 0
+IsDataRefusal bytes (Refused refusal) = RefusesData bytes refusal
+IsDataRefusal bytes OutOfMemory = ⊤
+IsDataRefusal bytes _ = ⊥
+
+-- the same for a message
 abbrev pub IsMessageRefusal : {P : Type 0} → (Item → Result P Fault) → List ℕ → RunFault → Type 0
 IsMessageRefusal read bytes (MessageRefused fault) = RefusesMessage read bytes fault
 IsMessageRefusal read bytes OutOfMemory = ⊤

@@ -2,7 +2,7 @@
 ghost use Rattle.std.specs.Prelude.{◌≡◌, ◌⊎◌, IfOk, IfErr, IsErr, string_bytes};
 ghost use Rattle.hex.specs.Hex.{decode_of};
 ghost use Rattle.passkey_kinds.specs.Record.{read_item};
-ghost use Rattle.passkey_rewrite.specs.Rewriting.{HasNoHex, IsMessageRefusal, IsRefusal, Rewrites, RewritesHex, RewritesMessage};
+ghost use Rattle.passkey_rewrite.specs.Rewriting.{HasNoHex, IsCborRefusal, IsDataRefusal, IsMessageRefusal, IsRefusal, Rewrites, RewritesData, RewritesFront, RewritesHex, RewritesMessage};
 ghost use Rattle.passkey_rewrite.specs.declared.fault.RunFault.TheVariants.{BadHex, OutOfMemory};
 
 use crate::fault::RunFault;
@@ -40,20 +40,29 @@ fn rewrite_message<M: Message>(alloc: Global, bytes: &[u8]) -> Result<Vec<u8>, R
     }
 }
 
-#[tactic(auto, unfolding(crate::specs::Rewriting::Rewrites, crate::specs::Rewriting::Refuses, crate::specs::Rewriting::RefusesAs))]
+fn rewrite_item(alloc: Global, bytes: &[u8]) -> Result<Vec<u8>, RunFault>
+    ensures ok { IfOk result (λ spelling. RewritesFront bytes.now spelling.items) }
+    ensures err { IfErr result (IsCborRefusal bytes.now) }
+{
+    let (front, _) = Value::from_slice(alloc, bytes)?;
+    Ok(front.to_vec(alloc)?)
+}
+
+fn rewrite_data(alloc: Global, bytes: &[u8]) -> Result<Vec<u8>, RunFault>
+    ensures ok { IfOk result (λ spelling. RewritesData bytes.now spelling.items) }
+    ensures err { IfErr result (IsDataRefusal bytes.now) }
+{
+    let data = AuthenticatorData::from_slice(alloc, bytes)?;
+    Ok(data.to_vec(alloc)?)
+}
+
 fn rewrite(alloc: Global, kind: BytesKind, bytes: &[u8]) -> Result<Vec<u8>, RunFault>
     ensures ok { IfOk result (λ spelling. Rewrites kind bytes.now spelling.items) }
     ensures err { IfErr result (IsRefusal kind bytes.now) }
 {
     match kind {
-        BytesKind::Cbor => {
-            let (front, _) = Value::from_slice(alloc, bytes)?;
-            Ok(front.to_vec(alloc)?)
-        }
-        BytesKind::Auth => {
-            let data = AuthenticatorData::from_slice(alloc, bytes)?;
-            Ok(data.to_vec(alloc)?)
-        }
+        BytesKind::Cbor => rewrite_item(alloc, bytes),
+        BytesKind::Auth => rewrite_data(alloc, bytes),
         BytesKind::MakeRequest => rewrite_message::<make_credential::Request>(alloc, bytes),
         BytesKind::MakeResponse => rewrite_message::<make_credential::Response>(alloc, bytes),
         BytesKind::GetRequest => rewrite_message::<get_assertion::Request>(alloc, bytes),
