@@ -20,12 +20,13 @@ use Rattle.passkey_extensions.specs.HmacInput.{read_hmac_input}
 use Rattle.passkey_kinds.specs.Message.{Begins}
 use Rattle.passkey_kinds.specs.declared.fault.Fault.{Fault}
 use Rattle.passkey_kinds.specs.declared.fault.Fault.TheVariants as message
+use Rattle.passkey_rewrite.specs.Checking.{IsChecked, HasNoBytes}
 use Rattle.passkey_rewrite.specs.Trimmed.{trimmed}
 use Rattle.passkey_rewrite.specs.RewritesJson.{RewritesJson, IsJsonRefusal, json_rewritten}
 use Rattle.passkey_rewrite.specs.declared.kind.BytesKind.{BytesKind}
 use Rattle.passkey_rewrite.specs.declared.kind.BytesKind.TheVariants.{Cbor, Auth, MakeRequest, MakeResponse, GetRequest, GetResponse, Info, HmacInput}
 use Rattle.passkey_rewrite.specs.declared.kind.Kind.{Kind}
-use Rattle.passkey_rewrite.specs.declared.kind.Kind.TheVariants.{Bytes, Json}
+use Rattle.passkey_rewrite.specs.declared.kind.Kind.TheVariants.{Bytes, Json, Check}
 use Rattle.passkey_rewrite.specs.declared.fault.RunFault.{RunFault}
 use Rattle.passkey_rewrite.specs.declared.fault.RunFault.TheVariants.{Refused, MessageRefused, BadHex, OutOfMemory}
 
@@ -139,12 +140,14 @@ HasNoHex kind input BadHex = IsErr (decode_of (trimmed input))
 HasNoHex kind input OutOfMemory = ⊤
 HasNoHex kind input _ = ⊥
 
--- what the kind rewrites the input as
+-- what the kind makes of the input
 abbrev pub Shown : Kind → List ℕ → List ℕ → Type 0
 Shown (Bytes kind) input text = RewritesHex kind input text
 Shown (Json kind) input text = RewritesJson (json_rewritten kind) input text
+Shown Check input text = IsChecked input text
 
--- why the kind doesn't rewrite the input
+-- why the kind makes nothing of it
 abbrev pub HasNoOutput : Kind → List ℕ → RunFault → Type 0
 HasNoOutput (Bytes kind) input fault = HasNoHex kind input fault
 HasNoOutput (Json kind) input fault = IsJsonRefusal (json_rewritten kind) input fault
+HasNoOutput Check input fault = HasNoBytes input fault
