@@ -16,7 +16,7 @@ ghost use Rattle.passkey_kinds.specs.RecordCost.{record_cost, record_keeps};
 
 use crate::laws::read_hmac_input_is_coherent;
 use passkey_bytes::Bytes;
-use passkey_cbor::{Cursor, Value};
+use passkey_cbor::{Cursor, MAX_DEPTH, Value};
 use passkey_kinds::{
     Fault, FromCbor, Message, ReadBack, Record, Refusal, Row, Source, ToCbor, WriteFault, Written,
     message_from_slice, nested_from_value, read_message, read_nested, record_from_value, set,
@@ -104,7 +104,7 @@ impl HmacGetSecretInput {
     pub fn is_coherent(&self) -> bool
         ensures { result ≡ is_hmac_input_coherent (hmac_input_parts self.now) }
     {
-        self.is_within(256)
+        self.is_within(MAX_DEPTH)
     }
 
     /// Returns whether the encoding has at most this many levels.

@@ -12,14 +12,11 @@ ghost use Rattle.passkey_kinds.specs.Written.{members_of};
 ghost use Rattle.passkey_kinds.specs.declared.write_fault.WriteFault.TheVariants.{NumberTooLarge as TooLarge};
 
 use crate::Response;
-use passkey_cbor::{Integer, Value};
+use passkey_cbor::{Integer, MAX_DEPTH, Value};
 use passkey_kinds::{WriteFault, Written};
 use passkey_memory::OutOfMemory;
 use std::alloc::Global;
 use std::num::NonZeroU128;
-
-/// How many levels of data items are decoded.
-const MAX_DEPTH: usize = 256;
 
 /// Returns the size as an integer, or `None` if it is 2^64 or more.
 fn spelled(size: NonZeroU128) -> Option<Integer>

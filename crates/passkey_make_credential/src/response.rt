@@ -14,7 +14,7 @@ ghost use Rattle.passkey_kinds.specs.declared.write_fault.WriteFault.TheVariants
 
 use crate::laws::read_make_response_is_coherent;
 use passkey_bytes::{Bytes, Text};
-use passkey_cbor::{Cursor, Value};
+use passkey_cbor::{Cursor, MAX_DEPTH, Value};
 use passkey_core::AuthenticatorData;
 use passkey_extensions::make_credential::UnsignedExtensionOutputs;
 use passkey_kinds::{
@@ -23,9 +23,6 @@ use passkey_kinds::{
 };
 use passkey_memory::OutOfMemory;
 use std::alloc::Global;
-
-/// The number of levels that are decoded.
-const MAX_DEPTH: usize = 256;
 
 /// An authenticatorMakeCredential response (CTAP 2.1, section 6.1). `None` means that a member is
 /// absent; null decodes to it, too.

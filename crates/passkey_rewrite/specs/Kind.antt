@@ -4,7 +4,7 @@ use Rattle.std.specs.Str.{bytes_eq}
 use Rattle.passkey_rewrite.specs.declared.kind.BytesKind.TheVariants.{Cbor, Auth, MakeRequest, MakeResponse, GetRequest, GetResponse, Info, HmacInput}
 use Rattle.passkey_rewrite.specs.declared.kind.JsonKind.TheVariants.{Creation, Request, Created, Authenticated, ClientData}
 use Rattle.passkey_rewrite.specs.declared.kind.Kind.{Kind}
-use Rattle.passkey_rewrite.specs.declared.kind.Kind.TheVariants.{Bytes, Json}
+use Rattle.passkey_rewrite.specs.declared.kind.Kind.TheVariants.{Bytes, Json, Check}
 
 -- the kind that a word names
 abbrev pub kind_named : List ℕ → Option Kind
@@ -22,4 +22,5 @@ kind_named word =
     else if bytes_eq word (codes "created") then Some (Json Created)
     else if bytes_eq word (codes "authenticated") then Some (Json Authenticated)
     else if bytes_eq word (codes "client-data") then Some (Json ClientData)
+    else if bytes_eq word (codes "check") then Some Check
     else None

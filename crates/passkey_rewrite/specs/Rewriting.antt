@@ -20,12 +20,13 @@ use Rattle.passkey_extensions.specs.HmacInput.{read_hmac_input}
 use Rattle.passkey_kinds.specs.Message.{Begins}
 use Rattle.passkey_kinds.specs.declared.fault.Fault.{Fault}
 use Rattle.passkey_kinds.specs.declared.fault.Fault.TheVariants as message
+use Rattle.passkey_rewrite.specs.Checking.{IsChecked, HasNoBytes}
 use Rattle.passkey_rewrite.specs.Trimmed.{trimmed}
 use Rattle.passkey_rewrite.specs.RewritesJson.{RewritesJson, IsJsonRefusal, json_rewritten}
 use Rattle.passkey_rewrite.specs.declared.kind.BytesKind.{BytesKind}
 use Rattle.passkey_rewrite.specs.declared.kind.BytesKind.TheVariants.{Cbor, Auth, MakeRequest, MakeResponse, GetRequest, GetResponse, Info, HmacInput}
 use Rattle.passkey_rewrite.specs.declared.kind.Kind.{Kind}
-use Rattle.passkey_rewrite.specs.declared.kind.Kind.TheVariants.{Bytes, Json}
+use Rattle.passkey_rewrite.specs.declared.kind.Kind.TheVariants.{Bytes, Json, Check}
 use Rattle.passkey_rewrite.specs.declared.fault.RunFault.{RunFault}
 use Rattle.passkey_rewrite.specs.declared.fault.RunFault.TheVariants.{Refused, MessageRefused, BadHex, OutOfMemory}
 
@@ -59,12 +60,20 @@ Rewrites GetResponse bytes spelling = RewritesMessage read_get_response get_resp
 Rewrites Info bytes spelling = RewritesMessage read_get_info get_info_tree bytes spelling
 Rewrites HmacInput bytes spelling = RewritesMessage read_hmac_input hmac_input_tree bytes spelling
 
+-- the bytes don't begin with a data item
+abbrev pub RefusesFront : List ℕ → CoseError → Type 0
+RefusesFront bytes error.DecodeFailed = HasNoFront bytes
+RefusesFront bytes _ = ⊥
+
+-- the bytes have this fault as authenticator data
+abbrev pub RefusesData : List ℕ → CoseError → Type 0
+RefusesData bytes error.OutOfMemory = ⊥
+RefusesData bytes refusal = ReadsData bytes (Err refusal)
+
 -- why a kind rejects the decoded bytes
 unfoldable pub Refuses : BytesKind → List ℕ → CoseError → Type 0
-Refuses Cbor bytes error.DecodeFailed = HasNoFront bytes
-Refuses Cbor bytes _ = ⊥
-Refuses Auth bytes error.OutOfMemory = ⊥
-Refuses Auth bytes refusal = ReadsData bytes (Err refusal)
+Refuses Cbor bytes refusal = RefusesFront bytes refusal
+Refuses Auth bytes refusal = RefusesData bytes refusal
 Refuses _ bytes refusal = ⊥
 
 -- the bytes don't begin with a data item, or the item has this fault as a message
@@ -83,7 +92,19 @@ RefusesAs Info bytes fault = RefusesMessage read_get_info bytes fault
 RefusesAs HmacInput bytes fault = RefusesMessage read_hmac_input bytes fault
 RefusesAs _ bytes fault = ⊥
 
--- why the decoded bytes aren't rewritten as a message; memory may run out for any
+-- why the decoded bytes aren't rewritten as a data item; memory may run out for any
+abbrev pub IsCborRefusal : List ℕ → RunFault → Type 0
+IsCborRefusal bytes (Refused refusal) = RefusesFront bytes refusal
+IsCborRefusal bytes OutOfMemory = ⊤
+IsCborRefusal bytes _ = ⊥
+
+-- the same for authenticator data
+abbrev pub IsDataRefusal : List ℕ → RunFault → Type 0
+IsDataRefusal bytes (Refused refusal) = RefusesData bytes refusal
+IsDataRefusal bytes OutOfMemory = ⊤
+IsDataRefusal bytes _ = ⊥
+
+-- the same for a message
 abbrev pub IsMessageRefusal : {P : Type 0} → (Item → Result P Fault) → List ℕ → RunFault → Type 0
 IsMessageRefusal read bytes (MessageRefused fault) = RefusesMessage read bytes fault
 IsMessageRefusal read bytes OutOfMemory = ⊤
@@ -119,12 +140,14 @@ HasNoHex kind input BadHex = IsErr (decode_of (trimmed input))
 HasNoHex kind input OutOfMemory = ⊤
 HasNoHex kind input _ = ⊥
 
--- what the kind rewrites the input as
+-- what the kind makes of the input
 abbrev pub Shown : Kind → List ℕ → List ℕ → Type 0
 Shown (Bytes kind) input text = RewritesHex kind input text
 Shown (Json kind) input text = RewritesJson (json_rewritten kind) input text
+Shown Check input text = IsChecked input text
 
--- why the kind doesn't rewrite the input
+-- why the kind makes nothing of it
 abbrev pub HasNoOutput : Kind → List ℕ → RunFault → Type 0
 HasNoOutput (Bytes kind) input fault = HasNoHex kind input fault
 HasNoOutput (Json kind) input fault = IsJsonRefusal (json_rewritten kind) input fault
+HasNoOutput Check input fault = HasNoBytes input fault

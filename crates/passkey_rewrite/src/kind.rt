@@ -38,13 +38,15 @@ pub enum JsonKind {
     ClientData,
 }
 
-/// What the input is decoded as.
+/// What the input is, and what is made of it.
 #[derive(Clone, Copy, Debug, PartialEq, Eq)]
 pub enum Kind {
-    /// Bytes, in hexadecimal.
+    /// Bytes, in hexadecimal, that are decoded and encoded again.
     Bytes(BytesKind),
-    /// A JSON text.
+    /// A JSON text that is decoded and encoded again.
     Json(JsonKind),
+    /// Bytes, in hexadecimal, that are checked for CTAP2's canonical form.
+    Check,
 }
 
 impl Kind {
@@ -66,6 +68,7 @@ impl Kind {
             "created" => Some(Kind::Json(JsonKind::Created)),
             "authenticated" => Some(Kind::Json(JsonKind::Authenticated)),
             "client-data" => Some(Kind::Json(JsonKind::ClientData)),
+            "check" => Some(Kind::Check),
             _ => None,
         }
     }

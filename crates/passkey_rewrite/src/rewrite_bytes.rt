@@ -1,31 +1,17 @@
 //! Bytes in hexadecimal, decoded as a kind and encoded again.
-ghost use Rattle.std.specs.Prelude.{◌≡◌, ◌⊎◌, IfOk, IfErr, IsErr, string_bytes};
-ghost use Rattle.hex.specs.Hex.{decode_of};
+ghost use Rattle.std.specs.Prelude.{IfOk, IfErr, string_bytes};
 ghost use Rattle.passkey_kinds.specs.Record.{read_item};
-ghost use Rattle.passkey_rewrite.specs.Rewriting.{HasNoHex, IsMessageRefusal, IsRefusal, Rewrites, RewritesHex, RewritesMessage};
-ghost use Rattle.passkey_rewrite.specs.declared.fault.RunFault.TheVariants.{BadHex, OutOfMemory};
+ghost use Rattle.passkey_rewrite.specs.Rewriting.{HasNoHex, IsCborRefusal, IsDataRefusal, IsMessageRefusal, IsRefusal, Rewrites, RewritesData, RewritesFront, RewritesHex, RewritesMessage};
 
 use crate::fault::RunFault;
+use crate::hexadecimal::decode_hex;
 use crate::kind::BytesKind;
-use crate::trim::trim;
-use hex::FromHexError;
 use passkey_cbor::Value;
 use passkey_types::ctap2::extensions::HmacGetSecretInput;
 use passkey_types::ctap2::{
     AuthenticatorData, Message, WriteFault, get_assertion, get_info, make_credential,
 };
 use std::alloc::Global;
-
-fn decode(alloc: Global, text: &[u8]) -> Result<Vec<u8>, RunFault>
-    ensures ok { IfOk result (λ bytes. decode_of text.now ≡ Ok bytes.items) }
-    ensures err { IfErr result (λ fault. (fault ≡ OutOfMemory) ⊎ ((fault ≡ BadHex) × IsErr (decode_of text.now))) }
-{
-    match hex::decode(alloc, text) {
-        Ok(bytes) => Ok(bytes),
-        Err(FromHexError::OutOfMemory) => Err(RunFault::OutOfMemory),
-        Err(_) => Err(RunFault::BadHex),
-    }
-}
 
 fn rewrite_message<M: Message>(alloc: Global, bytes: &[u8]) -> Result<Vec<u8>, RunFault>
     ensures ok { IfOk result (λ spelling. RewritesMessage (read_item M.fields) M.tree bytes.now spelling.items) }
@@ -40,20 +26,29 @@ fn rewrite_message<M: Message>(alloc: Global, bytes: &[u8]) -> Result<Vec<u8>, R
     }
 }
 
-#[tactic(auto, unfolding(crate::specs::Rewriting::Rewrites, crate::specs::Rewriting::Refuses, crate::specs::Rewriting::RefusesAs))]
+fn rewrite_item(alloc: Global, bytes: &[u8]) -> Result<Vec<u8>, RunFault>
+    ensures ok { IfOk result (λ spelling. RewritesFront bytes.now spelling.items) }
+    ensures err { IfErr result (IsCborRefusal bytes.now) }
+{
+    let (front, _) = Value::from_slice(alloc, bytes)?;
+    Ok(front.to_vec(alloc)?)
+}
+
+fn rewrite_data(alloc: Global, bytes: &[u8]) -> Result<Vec<u8>, RunFault>
+    ensures ok { IfOk result (λ spelling. RewritesData bytes.now spelling.items) }
+    ensures err { IfErr result (IsDataRefusal bytes.now) }
+{
+    let data = AuthenticatorData::from_slice(alloc, bytes)?;
+    Ok(data.to_vec(alloc)?)
+}
+
 fn rewrite(alloc: Global, kind: BytesKind, bytes: &[u8]) -> Result<Vec<u8>, RunFault>
     ensures ok { IfOk result (λ spelling. Rewrites kind bytes.now spelling.items) }
     ensures err { IfErr result (IsRefusal kind bytes.now) }
 {
     match kind {
-        BytesKind::Cbor => {
-            let (front, _) = Value::from_slice(alloc, bytes)?;
-            Ok(front.to_vec(alloc)?)
-        }
-        BytesKind::Auth => {
-            let data = AuthenticatorData::from_slice(alloc, bytes)?;
-            Ok(data.to_vec(alloc)?)
-        }
+        BytesKind::Cbor => rewrite_item(alloc, bytes),
+        BytesKind::Auth => rewrite_data(alloc, bytes),
         BytesKind::MakeRequest => rewrite_message::<make_credential::Request>(alloc, bytes),
         BytesKind::MakeResponse => rewrite_message::<make_credential::Response>(alloc, bytes),
         BytesKind::GetRequest => rewrite_message::<get_assertion::Request>(alloc, bytes),
@@ -71,7 +66,7 @@ pub fn rewrite_hex(alloc: Global, kind: BytesKind, input: &[u8]) -> Result<Strin
     ensures ok { IfOk result (λ text. RewritesHex kind input.now (string_bytes text)) }
     ensures err { IfErr result (HasNoHex kind input.now) }
 {
-    let bytes = decode(alloc, trim(input))?;
+    let bytes = decode_hex(alloc, input)?;
     let spelling = rewrite(alloc, kind, bytes.as_slice())?;
     Ok(hex::encode(alloc, spelling.as_slice())?)
 }

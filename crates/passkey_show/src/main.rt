@@ -1,6 +1,7 @@
 //! `passkey_show KIND` reads standard input, bytes in hexadecimal or a JSON text, decodes it as the
-//! kind, encodes the result and writes it to standard output in the same form. The exit status is
-//! 0, or that of a fault, whose line goes to standard error.
+//! kind, encodes the result and writes it to standard output in the same form. The kind `check`
+//! writes whether the bytes are in CTAP2's canonical form. The exit status is 0, or that of a fault,
+//! whose line goes to standard error.
 #![tactic(auto)]
 
 mod run;

@@ -54,7 +54,7 @@ fn output(alloc: Global, kind: Kind, input: &[u8]) -> Result<String, RunFault>
 /// Reads the input to its end, decodes it as the kind, and writes its encoding and a line feed.
 /// Bytes are given in hexadecimal of either case, with tabs, line feeds, carriage returns and
 /// spaces at the ends, and written in lower case. JSON is written as compact JSON with bytes in
-/// base64url.
+/// base64url. The kind `check` writes `canonical` or `not canonical`.
 ///
 /// `UnknownKind` exactly if the word names no kind; then nothing is read. `InputFailed` if reading
 /// fails or the input doesn't end within 2^32 - 1 reads; `OutOfMemory` if an allocation fails;
