@@ -21,6 +21,8 @@ mod entities;
 #[cfg(test)]
 mod items;
 #[cfg(test)]
+mod key_order;
+#[cfg(test)]
 mod names;
 #[cfg(test)]
 mod printed;
