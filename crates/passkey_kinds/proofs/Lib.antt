@@ -42,3 +42,5 @@ pub mod NumberPieces
 pub mod ByteKeys
 pub mod ShortFirst
 pub mod ByteMaps
+pub mod Ordered
+pub mod RecordOrdered

@@ -1,6 +1,7 @@
 -- Laws about messages: what was encoded is decoded again, decoded messages are coherent, and some
 -- bytes decode alike.
-use Rattle.std.specs.Prelude.{◌≡◌, ◌≢◌, ◌↔◌, ℕ, List, ◌++◌, length, Bool, true, Result, Ok, Err}
+use Rattle.std.specs.Prelude.{◌≡◌, ◌≢◌, ◌↔◌, ℕ, List, [], ◌∷◌, ◌++◌, length, Bool, true, Result, Ok, Err}
+use Rattle.passkey_cbor.specs.Canonical.{IsCanonical}
 use Rattle.passkey_cbor.specs.Front.{IsFront}
 use Rattle.passkey_cbor.specs.Item.{Item}
 use Rattle.passkey_cbor.specs.Writable.{IsWritable}
@@ -49,3 +50,15 @@ DifferInLength view read x y =
 -- Items that decode to the same result differ only in the length.
 abbrev pub AlikeDifferInLength : {A M : Type 0} → (A → M) → (Item → Result M Fault) → Type 0
 AlikeDifferInLength view read = (x y : Item) → read x ≡ read y → DifferInLength view read x y
+
+-- ---- canonical encodings
+
+-- each item's encoding is canonical
+abbrev pub AllCanonical : List Item → Type 0
+AllCanonical [] = Unit {0}
+AllCanonical (i ∷ is) = IsCanonical (written i) × AllCanonical is
+
+-- The encoding of a coherent message is canonical, if the encodings of the values that it keeps are.
+abbrev pub WrittenIsCanonical : {P : Type 0} → (P → Item) → (P → Bool) → (P → List Item) → Type 0
+WrittenIsCanonical {P} tree is_coherent kept =
+    (p : P) → IsWritable (tree p) → is_coherent p ≡ true → AllCanonical (kept p) → IsCanonical (written (tree p))

@@ -2,6 +2,7 @@
 use Rattle.std.specs.Prelude.{ℕ, pos, Bool, true, length, if◌then◌else◌, List, [], ◌∷◌, ◌++◌, map as each, Option, Some, None, option_map}
 use Rattle.std.specs.FinMap as fin
 use Rattle.passkey_bytes.specs.Map.{ByteMap}
+use Rattle.passkey_cbor.specs.Canonical.{Ascend}
 use Rattle.passkey_cbor.specs.Item.{Item, number, byte_string, text_string, array, map, tagged, boolean, null, simple, float, items_of, pairs_of}
 use Rattle.passkey_kinds.specs.ShortFirst.{short_first}
 use Rattle.passkey_kinds.specs.Table.{Members}
@@ -69,3 +70,7 @@ laid ms (p ∷ ps) = laid (ms ++ under p.0 p.1) ps
 
 abbrev pub record_tree : List Place → Item
 record_tree ps = map_tree (laid [] ps)
+
+-- the keys of the members that are encoded ascend in CTAP2's order
+abbrev pub KeysAscend : {A : Type 0} → (A → List Place) → Type 0
+KeysAscend {A} places = (x : A) → Ascend (pairs_of (laid [] (places x)))

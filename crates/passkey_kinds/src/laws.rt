@@ -1,9 +1,18 @@
 //! Laws about decoding records and lists, each the contract of a function that does nothing.
 ghost use Rattle.passkey_kinds.specs.MessageLaws.{AlikeDifferInLength};
 ghost use Rattle.passkey_kinds.specs.Record.{read_item};
+ghost use Rattle.passkey_kinds.specs.Tree.{KeysAscend};
+ghost use Rattle.passkey_kinds.specs.Trees.{descriptor_places, parameters_places, webauthn_user_places};
 ghost use Rattle.passkey_kinds.specs.RecordLaws.{KnowsItems, KnowsMaps, RefusedElementIsPassedOver, SameAnswersReadAlike, PassesOverUnknown, UnknownMemberIsPassedOver};
 
 use crate::record::Record;
+
+/// Records with names are encoded with their keys in CTAP2's order (CTAP 2.1, section 8).
+pub fn written_keys_ascend()
+    ensures descriptor { KeysAscend descriptor_places }
+    ensures parameters { KeysAscend parameters_places }
+    ensures user { KeysAscend webauthn_user_places }
+{}
 
 /// A member under a key that a record's table doesn't know may be anywhere: the record or the fault
 /// is the same without it.

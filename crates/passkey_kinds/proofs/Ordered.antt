@@ -1,0 +1,146 @@
+-- Records whose keys ascend are ordered, where what is written under their keys is; and what is
+-- written of an ordered item is canonical.
+use Rattle.std.specs.FinMap as fin
+use Rattle.std.specs.Ordering.{is_lt}
+use Rattle.std.specs.declared.cmp.Ordering.{Ordering}
+use Rattle.std.specs.declared.cmp.Ordering.TheVariants.{Less, Equal, Greater}
+use Rattle.std.proofs.Common.{◌≡◌, ◌∙◌, ℕ, ◌≤◌, Bool, true, false, ◌&&◌, List, [], ◌∷◌, ◌++◌, length, map, Option, Some, None, option_map, refl, sym, ap, subst, arith}
+use Rattle.std.proofs.lemmas.Bool.{and_parts}
+use Rattle.passkey_bytes.specs.Map.{ByteMap}
+use Rattle.passkey_cbor.specs.Canonical.{ComesAfter, AscendFrom, Ascend, IsOrdered, AreOrdered, ArePairsOrdered, IsCanonical}
+use Rattle.passkey_cbor.specs.Depth.{depth}
+use Rattle.passkey_cbor.specs.Front.{max_depth, IsFront}
+use Rattle.passkey_cbor.specs.Item.{Item, items_of, pairs_of}
+use Rattle.passkey_cbor.specs.Laws.{AtMostOneFront, WrittenIsFront}
+use Rattle.passkey_cbor.specs.Order.{ctap2_order}
+use Rattle.passkey_cbor.specs.Writable.{IsWritable, ArePairsWritable}
+use Rattle.passkey_cbor.specs.Written.{written}
+use Rattle.passkey_kinds.specs.ShortFirst.{short_first}
+use Rattle.passkey_kinds.specs.Table.{Members}
+use Rattle.passkey_kinds.specs.Tree.{Place, list_tree, entry_tree, byte_map_tree, under, laid, record_tree}
+use Rattle.passkey_kinds.proofs.Back.{spread, laid_spread}
+use Rattle.passkey_kinds.proofs.ByteMaps.{entries_ascend}
+
+-- ---- keys that ascend
+
+less_is : (o : Ordering) → is_lt o ≡ true → o ≡ Less
+less_is Less h = refl
+less_is Equal h = absurd cc
+less_is Greater h = absurd cc
+
+-- the key comes before those of the places
+abbrev pub leads : Item → List Place → Bool
+leads key [] = true
+leads key (p ∷ ps) = is_lt (ctap2_order (written key) (written p.0)) && leads key ps
+
+-- each key comes before those behind it
+abbrev pub ascend : List Place → Bool
+ascend [] = true
+ascend (p ∷ ps) = leads p.0 ps && ascend ps
+
+-- any of the keys may come next
+abbrev AllAfter : Option (List ℕ) → List Place → Type 0
+AllAfter before [] = Unit {0}
+AllAfter before (p ∷ ps) = ComesAfter before (written p.0) × AllAfter before ps
+
+led : (key : Item) (ps : List Place) → leads key ps ≡ true → AllAfter (Some (written key)) ps
+led key [] h = tt
+led key (p ∷ ps) h =
+    let parts = and_parts (is_lt (ctap2_order (written key) (written p.0))) (leads key ps) h in
+    (less_is (ctap2_order (written key) (written p.0)) parts.0, led key ps parts.1)
+
+under_ascends : (before : Option (List ℕ)) (key : Item) (o : Option Item) (ms : Members) → ComesAfter before (written key) → AscendFrom before (pairs_of ms) → AscendFrom (Some (written key)) (pairs_of ms) → AscendFrom before (pairs_of (under key o ++ ms))
+under_ascends before key None ms here without rest = without
+under_ascends before key (Some x) ms here without rest = (here, rest)
+
+spread_ascends : (before : Option (List ℕ)) (ps : List Place) → ascend ps ≡ true → AllAfter before ps → AscendFrom before (pairs_of (spread ps))
+spread_ascends before [] h after = tt
+spread_ascends before (p ∷ ps) h after =
+    let parts = and_parts (leads p.0 ps) (ascend ps) h in
+    under_ascends before p.0 p.1 (spread ps) after.0
+    (spread_ascends before ps parts.1 after.1)
+    (spread_ascends (Some (written p.0)) ps parts.1 (led p.0 ps parts.0))
+
+none_before : (ps : List Place) → AllAfter None ps
+none_before [] = tt
+none_before (p ∷ ps) = (tt, none_before ps)
+
+pub keys_ascend : (ps : List Place) → ascend ps ≡ true → Ascend (pairs_of (laid [] ps))
+keys_ascend ps h =
+    subst (λ (ms : Members). Ascend (pairs_of ms)) (sym (laid_spread [] ps)) (spread_ascends None ps h (none_before ps))
+
+-- ---- what is written under them
+
+abbrev pub PlaceOrdered : Item → Option Item → Type 0
+PlaceOrdered key None = Unit {0}
+PlaceOrdered key (Some x) = IsOrdered key × IsOrdered x
+
+abbrev pub AllOrdered : List Place → Type 0
+AllOrdered [] = Unit {0}
+AllOrdered (p ∷ ps) = PlaceOrdered p.0 p.1 × AllOrdered ps
+
+under_ordered : (key : Item) (o : Option Item) (ms : Members) → PlaceOrdered key o → ArePairsOrdered (pairs_of ms) → ArePairsOrdered (pairs_of (under key o ++ ms))
+under_ordered key None ms here rest = rest
+under_ordered key (Some x) ms here rest = (here, rest)
+
+spread_ordered : (ps : List Place) → AllOrdered ps → ArePairsOrdered (pairs_of (spread ps))
+spread_ordered [] h = tt
+spread_ordered (p ∷ ps) h = under_ordered p.0 p.1 (spread ps) h.0 (spread_ordered ps h.1)
+
+pub record_ordered : (ps : List Place) → ascend ps ≡ true → AllOrdered ps → IsOrdered (record_tree ps)
+record_ordered ps h all =
+    (keys_ascend ps h, subst (λ (ms : Members). ArePairsOrdered (pairs_of ms)) (sym (laid_spread [] ps)) (spread_ordered ps all))
+
+pub option_ordered : {A : Type 0} (tree : A → Item) (key : Item) → IsOrdered key → ((x : A) → IsOrdered (tree x)) → (o : Option A) → PlaceOrdered key (option_map tree o)
+option_ordered tree key keyed each None = tt
+option_ordered tree key keyed each (Some x) = (keyed, each x)
+
+items_ordered : {A : Type 0} (tree : A → Item) → ((x : A) → IsOrdered (tree x)) → (xs : List A) → AreOrdered (items_of (map tree xs))
+items_ordered tree each [] = tt
+items_ordered tree each (x ∷ xs) = (each x, items_ordered tree each xs)
+
+pub list_ordered : {A : Type 0} (tree : A → Item) → ((x : A) → IsOrdered (tree x)) → (xs : List A) → IsOrdered (list_tree tree xs)
+list_ordered tree each xs = items_ordered tree each xs
+
+entries_ordered : {A : Type 0} (tree : A → Item) → ((x : A) → IsOrdered (tree x)) → (es : List (List ℕ × A)) → ArePairsOrdered (pairs_of (map (entry_tree tree) es))
+entries_ordered tree each [] = tt
+entries_ordered tree each (e ∷ es) = ((tt, each e.1), entries_ordered tree each es)
+
+pub map_ordered : {A : Type 0} (tree : A → Item) → ((x : A) → IsOrdered (tree x)) → (m : ByteMap A) → IsOrdered (byte_map_tree tree m)
+map_ordered tree each m = (entries_ascend tree m, entries_ordered tree each (short_first (fin.entries m)))
+
+-- ---- what is kept in a record that can be written
+
+abbrev pub PlaceWritable : Option Item → Type 0
+PlaceWritable None = Unit {0}
+PlaceWritable (Some x) = IsWritable x
+
+abbrev pub AllWritable : List Place → Type 0
+AllWritable [] = Unit {0}
+AllWritable (p ∷ ps) = PlaceWritable p.1 × AllWritable ps
+
+of_under : (key : Item) (o : Option Item) (ms : Members) → ArePairsWritable (pairs_of (under key o ++ ms)) → PlaceWritable o × ArePairsWritable (pairs_of ms)
+of_under key None ms h = (tt, h)
+of_under key (Some x) ms h = (h.0.1, h.1)
+
+of_spread : (ps : List Place) → ArePairsWritable (pairs_of (spread ps)) → AllWritable ps
+of_spread [] h = tt
+of_spread (p ∷ ps) h =
+    let parts = of_under p.0 p.1 (spread ps) h in
+    (parts.0, of_spread ps parts.1)
+
+pub of_record : (ps : List Place) → IsWritable (record_tree ps) → AllWritable ps
+of_record ps h = of_spread ps (subst (λ (ms : Members). ArePairsWritable (pairs_of ms)) (laid_spread [] ps) h.1)
+
+-- ---- canonical encodings
+
+pub canonical_of : (x : Item) → IsWritable x → depth x ≤ max_depth → IsOrdered x → IsCanonical (written x)
+canonical_of x w d o = record { item = x; writable = w; shallow = d; ordered = o; whole = refl }
+
+-- a value is ordered if its encoding is canonical
+pub ordered_of : AtMostOneFront → WrittenIsFront → (x : Item) → IsWritable x → depth x ≤ max_depth → IsCanonical (written x) → IsOrdered x
+ordered_of one front x w d c =
+    let mine = front x [] w d in
+    let its = front c.item [] c.writable c.shallow in
+    let same = one (written x ++ []) x c.item (length (written x)) (length (written c.item)) mine (subst (λ (s : List ℕ). IsFront (s ++ []) c.item (length (written c.item))) (sym c.whole) its) in
+    subst IsOrdered (sym same.0) c.ordered

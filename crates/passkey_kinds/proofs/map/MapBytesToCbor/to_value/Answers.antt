@@ -1,0 +1,20 @@
+use Rattle.std.specs.FinMap as fin
+use Rattle.std.proofs.Common.{◌∙◌, map, sym, ap}
+use Rattle.passkey_cbor.specs.Item as item
+use Rattle.passkey_cbor.specs.Item.{pairs_of}
+use Rattle.passkey_cbor.specs.View.{pair_of}
+use Rattle.passkey_cbor.proofs.Views.{item_of-Map}
+use Rattle.passkey_kinds.specs.ShortFirst.{sorted_by}
+use Rattle.passkey_kinds.specs.Table.{Members}
+use Rattle.passkey_kinds.specs.Tree.{entry_tree, key_size}
+use Rattle.passkey_kinds.proofs.ShortFirst.{sorted_by-map}
+use Rattle.passkey_kinds.proofs.map.MapBytesToCbor.to_value.Goals as goal
+
+pub returns-clause-tree : goal.returns-clause-tree
+returns-clause-tree g c =
+    item_of-Map c.sort_pairs.new.pairs
+    ∙ ap (λ (ms : Members). item.map (pairs_of ms))
+    (ap (map pair_of) c.in_ok-sort_pairs.ensures
+    ∙ sorted_by-map pair_of (λ m. key_size m.0) c.in_ok-pairs.pairs.items
+    ∙ ap (sorted_by (λ m. key_size m.0)) c.in_ok-pairs.ensures.trees
+    ∙ sym (sorted_by-map (entry_tree g.T.ToCbor.tree) (λ m. key_size m.0) (fin.entries c.args.self.now)))
