@@ -1,9 +1,8 @@
 -- Putting the chunks of a byte string into a slice.
-use Rattle.std.proofs.Common.{◌≡◌, ℕ, ◌+◌, ◌≤◌, false, List, [], ◌∷◌, ◌++◌, length, take, drop, Option, Some, None, refl, sym, ap, subst, ◌∙◌, append_assoc, arith}
+use Rattle.std.proofs.Common.{◌≡◌, ℕ, ◌+◌, ◌≤◌, false, List, [], ◌∷◌, ◌++◌, length, take, drop, Option, Some, None, sym, ap, ◌∙◌, append_assoc, arith}
 use Rattle.std.specs.List.{concat}
 use Rattle.std.proofs.lemmas.List.{length-append, length-take, length-drop, take_at, take_all}
 use Rattle.passkey_cbor.specs.Inside.{Content}
-use Rattle.passkey_cbor.specs.Lent.{IsRegion, IsSized, Tells}
 use Rattle.passkey_cbor.specs.Reading.{chunk, step_at, list_at}
 use Rattle.passkey_cbor.specs.Steps.{NoHead, ElementRead, EndRead, PieceRead}
 use Rattle.passkey_cbor.specs.Walk.{Walk, ahead}

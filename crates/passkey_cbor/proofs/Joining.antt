@@ -1,10 +1,10 @@
 -- Looking at the chunks of a string again: what they join to, and which of some names that is.
-use Rattle.std.proofs.Common.{◌≡◌, ℕ, zero, suc, ◌+◌, ◌-◌, ◌^◌, ◌<◌, ◌≤◌, min, Bool, false, List, [], ◌∷◌, ◌++◌, length, Option, Some, None, Result, Ok, Err, refl, sym, ap, subst, ◌∙◌, append_assoc, arith}
+use Rattle.std.proofs.Common.{◌≡◌, ℕ, zero, suc, ◌+◌, ◌-◌, ◌^◌, ◌<◌, min, Bool, false, List, [], ◌∷◌, ◌++◌, length, Option, Some, None, Result, Ok, Err, refl, sym, ap, subst, ◌∙◌, append_assoc, arith}
 use Rattle.std.proofs.Common.{Vec, Global}
 use Rattle.std.specs.List.{concat}
 use Rattle.std.proofs.lemmas.List.{append-nil}
 use Rattle.passkey_cbor.specs.Reading.{chunk, step_at, list_at, string_at}
-use Rattle.passkey_cbor.specs.Walk.{Walk, ahead, raised, break_heads}
+use Rattle.passkey_cbor.specs.Walk.{Walk, ahead, raised}
 use Rattle.passkey_cbor.specs.Steps.{NoHead, ElementRead, EndRead, PieceRead, AreSought, CountsAll, CountsSome, CountsSought}
 use Rattle.passkey_cbor.specs.Building.{IsNotEmpty, some_bytes, Makes}
 use Rattle.passkey_cbor.specs.Inside.{MayStand, Content}

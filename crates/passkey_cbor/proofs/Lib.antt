@@ -30,3 +30,5 @@ pub mod Joining
 pub mod Pieces
 pub mod MapMembers
 pub mod Reach
+pub mod Shortest
+pub mod CanonicalItems

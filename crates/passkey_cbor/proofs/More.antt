@@ -11,7 +11,7 @@ use Rattle.passkey_cbor.specs.Reading.{Reader, is_break, pair_by, item_within}
 use Rattle.passkey_cbor.specs.Inside.{Within, PairWithin, Left}
 use Rattle.passkey_cbor.specs.HeadSpelling.{SpellsHead}
 use Rattle.passkey_cbor.specs.Found.{PassesHead}
-use Rattle.passkey_cbor.specs.Walk.{Walk, ahead, raised, break_heads, IsInside, IsPlaced}
+use Rattle.passkey_cbor.specs.Walk.{Walk, ahead, raised, IsInside, IsPlaced}
 use Rattle.passkey_cbor.specs.Steps.{HeadRead, NoHead}
 use Rattle.passkey_cbor.specs.Stands.{Lies, Next, Walks, Looks, WalksOn, goes_on, left_after}
 use Rattle.passkey_cbor.specs.declared.head.Head.{Head}

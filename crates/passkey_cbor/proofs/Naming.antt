@@ -1,5 +1,5 @@
 -- Names: which of them begin with some bytes, and which are these bytes.
-use Rattle.std.proofs.Common.{◌≡◌, ℕ, suc, ◌+◌, ◌<◌, ◌≤◌, Bool, true, false, cond, nat_lt, not, ◌||◌, List, [], ◌∷◌, ◌++◌, length, map, drop, get_or, take, Option, Some, None, Bor, refl, sym, ap, subst, ◌∙◌, arith}
+use Rattle.std.proofs.Common.{◌≡◌, ℕ, suc, ◌+◌, ◌<◌, ◌≤◌, Bool, true, false, cond, nat_lt, not, ◌||◌, List, [], ◌∷◌, ◌++◌, length, map, drop, get_or, take, Some, None, Bor, refl, sym, ap, ◌∙◌, arith}
 use Rattle.std.specs.List.{position, position_or_len}
 use Rattle.std.specs.Str.{bytes_eq}
 use Rattle.std.proofs.lemmas.Bool.Decides.{nat_tests}

@@ -13,7 +13,7 @@ use Rattle.passkey_cbor.specs.Written.{shortest_head, float_head, simple_head, w
 use Rattle.passkey_cbor.specs.Writable.{IsWritable, AreWritable, ArePairsWritable}
 use Rattle.passkey_cbor.specs.Laws.{WrittenSpells, WrittenIsFront}
 
-shortest_head-spelled : (major n : ℕ) → n < 2 ^ 64 → Heads major n (shortest_head major n)
+pub shortest_head-spelled : (major n : ℕ) → n < 2 ^ 64 → Heads major n (shortest_head major n)
 unfolding shortest_head
 shortest_head-spelled major n fits =
     elim (cases_lt n 24) [
@@ -34,7 +34,7 @@ shortest_head-spelled major n fits =
 float_cases : (w bits : ℕ) → IsFloat w bits → ((w ≡ 2) × (bits < 2 ^ 16)) ⊎ (((w ≡ 4) × (bits < 2 ^ 32)) ⊎ ((w ≡ 8) × (bits < 2 ^ 64)))
 float_cases w bits h = grind (arith, nat_tests)
 
-float_head-spelled : (f : FloatParts) → IsFloat f.width f.bits → FloatHeads f (float_head f)
+pub float_head-spelled : (f : FloatParts) → IsFloat f.width f.bits → FloatHeads f (float_head f)
 unfolding float_head
 float_head-spelled f h =
     elim (float_cases f.width f.bits h) [
@@ -43,7 +43,7 @@ float_head-spelled f h =
       | inr (inr a) ↦ rw a.0 (inr (inr ((refl, a.1), refl)))
     ]
 
-simple_cases : (n : ℕ) → IsSimple n → (n < 20) ⊎ ((32 ≤ n) × (n < 256))
+pub simple_cases : (n : ℕ) → IsSimple n → (n < 20) ⊎ ((32 ≤ n) × (n < 256))
 simple_cases n h = grind (arith, nat_tests)
 
 simple_head-spelled : (n : ℕ) → IsSimple n → Simples n (simple_head n)
@@ -53,7 +53,7 @@ simple_head-spelled n h =
       | inr a ↦ rw (le-ltb n 20 (omega arith)) (inr (a, refl))
     ]
 
-number_fits : (n : ℕ) → IsTrue (nat_lt n (2 ^ 64)) → n < 2 ^ 64
+pub number_fits : (n : ℕ) → IsTrue (nat_lt n (2 ^ 64)) → n < 2 ^ 64
 number_fits n h = grind (arith, nat_tests)
 
 mutual

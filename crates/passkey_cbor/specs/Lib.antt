@@ -34,3 +34,6 @@ pub mod Lent
 pub mod Names
 pub mod Pieces
 pub mod Members
+pub mod Order
+pub mod Canonical
+pub mod CanonicalReading

@@ -228,7 +228,7 @@ impl<'a> Cursor<'a> {
 
 // The first bytes, so many of them, where they may stand in a string of this kind, and the rest.
 #[tactic(auto, unfolding(crate::specs::Reading::piece_at))]
-fn piece_of(is_text: bool, len: u64, bytes: &[u8]) -> Option<(&[u8], &[u8])>
+pub(crate) fn piece_of(is_text: bool, len: u64, bytes: &[u8]) -> Option<(&[u8], &[u8])>
     ensures { option_map (λ r. (r.0.now, r.1.now)) result ≡ piece_at is_text len bytes.now }
 {
     let len = len as usize;

@@ -1,8 +1,10 @@
 //! Heads.
-ghost use Rattle.std.specs.Prelude.{◌≡◌, ◌<◌, ◌^◌, option_map, IfSome};
+ghost use Rattle.std.specs.Prelude.{◌≡◌, ◌<◌, ◌^◌, ℕ, length, option_map, IfSome};
 ghost use Rattle.passkey_cbor.specs.Heads.{one, two, four, eight};
 ghost use Rattle.passkey_cbor.specs.HeadReading.{number_at, argument_at, with_argument, without_argument, simple_at, head_behind, head_at};
 ghost use Rattle.passkey_cbor.specs.Reading.{is_break, chunk_len, string_len};
+ghost use Rattle.passkey_cbor.specs.CanonicalReading.{DecodesShortest, head_written};
+ghost use Rattle.passkey_cbor.specs.Written.{shortest_head, float_head};
 
 use crate::float::Float;
 
@@ -41,6 +43,37 @@ impl Head {
     {
         let (initial, rest) = bytes.split_first()?;
         Head::behind(*initial / 32, *initial % 32, rest)
+    }
+
+    /// The head that begins the bytes in its shortest encoding, and the bytes behind it.
+    pub(crate) fn decode_shortest(bytes: &[u8]) -> Option<(Head, &[u8])>
+        ensures { DecodesShortest bytes.now (option_map (λ r. (r.0, r.1.now)) result) }
+    {
+        match Head::decode(bytes) {
+            None => None,
+            Some((head, rest)) => {
+                if bytes.len() - rest.len() != head.shortest_len() {
+                    return None;
+                }
+                Some((head, rest))
+            }
+        }
+    }
+
+    // How many bytes its shortest encoding has.
+    fn shortest_len(&self) -> usize
+        ensures { result ≡ length (head_written self.now) }
+    {
+        match self {
+            Head::Unsigned(n) | Head::Negative(n) | Head::Tag(n) => argument_len(*n),
+            Head::Bytes(len) | Head::Text(len) | Head::Array(len) | Head::Map(len) => match len {
+                None => 1,
+                Some(n) => argument_len(*n),
+            },
+            Head::Simple(n) => { if *n < 24 { 1 } else { 2 } }
+            Head::Float(f) => float_len(*f),
+            Head::Break => 1,
+        }
     }
 
     // The head whose initial byte has this major type and this additional information.
@@ -196,4 +229,34 @@ fn eight_bytes(bytes: &[u8]) -> Option<(u64, &[u8])>
 {
     let (front, rest) = bytes.split_first_chunk::<8>()?;
     Some((u64::from_be_bytes(*front), rest))
+}
+
+// How many bytes the shortest head with this argument has.
+#[tactic(auto, unfolding(crate::specs::Written::shortest_head))]
+fn argument_len(argument: u64) -> usize
+    ensures { (major : ℕ) → result ≡ length (shortest_head major argument) }
+{
+    if argument < 24 {
+        1
+    } else if argument < 0x100 {
+        2
+    } else if argument < 0x1_0000 {
+        3
+    } else if argument < 0x1_0000_0000 {
+        5
+    } else {
+        9
+    }
+}
+
+// How many bytes the head of a float has.
+#[tactic(auto, unfolding(crate::specs::Written::float_head))]
+fn float_len(f: Float) -> usize
+    ensures { result ≡ length (float_head f) }
+{
+    match f.width() {
+        2 => 3,
+        4 => 5,
+        _ => 9,
+    }
 }

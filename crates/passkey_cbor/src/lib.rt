@@ -2,6 +2,7 @@
 //! encoded in one.
 #![tactic(auto)]
 
+mod canonical;
 mod clone;
 mod count;
 mod cursor;
@@ -15,6 +16,7 @@ pub mod laws;
 mod map;
 mod member;
 mod names;
+mod order;
 mod read;
 mod simple;
 mod skip;
@@ -23,6 +25,7 @@ mod token;
 mod value;
 mod write;
 
+pub use canonical::is_canonical;
 pub use count::Count;
 pub use cursor::Cursor;
 pub use error::CborError;
@@ -31,6 +34,7 @@ pub use head::Head;
 pub use integer::Integer;
 pub use map::members;
 pub use member::Members;
+pub use order::ctap2_order;
 pub use passkey_memory::OutOfMemory;
 pub use simple::Simple;
 pub use skip::item_len;

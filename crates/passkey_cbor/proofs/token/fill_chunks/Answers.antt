@@ -1,5 +1,4 @@
-use Rattle.std.proofs.Common.{◌∙◌, ℕ, ◌+◌, ◌-◌, ◌^◌, ◌≤◌, min, false, None, refl, sym, ap, subst, arith, List, length}
-use Rattle.passkey_cbor.specs.Lent.{IsRegion, IsSized, Tells}
+use Rattle.std.proofs.Common.{◌∙◌, ℕ, ◌+◌, ◌-◌, ◌^◌, min, false, None, refl, ap}
 use Rattle.passkey_cbor.specs.Walk.{Walk, ahead}
 use Rattle.passkey_cbor.proofs.Joining.{looks_at_all}
 use Rattle.passkey_cbor.proofs.token.fill_chunks.Goals as goal

@@ -1,5 +1,5 @@
-use Rattle.std.proofs.Common.{◌≡◌, ◌+◌, ◌≤◌, ◌++◌, ◌∙◌, false, length, take, drop, List, ℕ, None, refl, sym, ap, subst, arith}
-use Rattle.std.proofs.lemmas.List.{length-take, length-drop, length-append}
+use Rattle.std.proofs.Common.{◌≡◌, ◌+◌, ◌≤◌, ◌∙◌, false, length, take, List, ℕ, None, refl, sym, subst, arith}
+use Rattle.std.proofs.lemmas.List.{length-take}
 use Rattle.passkey_cbor.specs.Inside.{Content}
 use Rattle.passkey_cbor.specs.Walk.{ahead}
 use Rattle.passkey_cbor.proofs.Chunks.{collects_start, collects_on, counts_end}

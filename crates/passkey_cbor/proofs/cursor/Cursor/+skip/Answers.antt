@@ -1,16 +1,15 @@
-use Rattle.std.proofs.Common.{◌-◌, true, false, None, refl, arith}
-use Rattle.std.specs.List.{concat}
+use Rattle.std.proofs.Common.{◌-◌, true, false, refl, arith}
 use Rattle.std.proofs.lemmas.Bool.{le-ltb}
 use Rattle.passkey_cbor.specs.Item.{number, float, array, map, tagged, items_of, pairs_of}
 use Rattle.std.specs.Prelude.{pos, negsuc}
 use Rattle.passkey_cbor.specs.Walk.{ahead}
-use Rattle.passkey_cbor.specs.Reading.{start, string_at, list_at, chunk, pair_by, simple_item, item_by, item_within}
+use Rattle.passkey_cbor.specs.Reading.{start, string_at, list_at, pair_by, simple_item, item_by, item_within}
 use Rattle.passkey_cbor.specs.Steps.{entry_by}
 use Rattle.passkey_cbor.specs.Lent.{string_item}
 use Rattle.passkey_cbor.specs.declared.head.Head.TheVariants as head
 use Rattle.passkey_cbor.specs.declared.skip.Entry.TheVariants as entry
 use Rattle.passkey_cbor.proofs.Skipping.{goes_start, goes_end, goes_malformed, goes_stuck, goes_on}
-use Rattle.passkey_cbor.proofs.Behind.{by_flat, by_string, by_array, by_map, by_tag, by_nothing, by_break, flat_skipped, none_skipped, made_skipped, pair_skipped, no_pair, piece_skipped, string_piece, string_chunks, entry_skipped}
+use Rattle.passkey_cbor.proofs.Behind.{by_flat, by_string, by_array, by_map, by_tag, by_nothing, by_break, flat_skipped, none_skipped, made_skipped, pair_skipped, no_pair, entry_skipped}
 use Rattle.passkey_cbor.proofs.cursor.Cursor.+skip.Goals as goal
 
 pub skip_behind-returns-in-Unsigned : goal.skip_behind-returns-in-Unsigned

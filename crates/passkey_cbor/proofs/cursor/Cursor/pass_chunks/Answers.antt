@@ -1,7 +1,5 @@
-use Rattle.std.proofs.Common.{◌+◌, arith}
-use Rattle.std.specs.List.{concat}
-use Rattle.passkey_cbor.specs.Walk.{ahead}
-use Rattle.passkey_cbor.specs.Reading.{chunk, list_at}
+use Rattle.std.proofs.Common.{arith}
+use Rattle.passkey_cbor.specs.Reading.{chunk}
 use Rattle.passkey_cbor.proofs.Chunks.{measures_start, measures_on, measured, chunk_passed, chunks_passed, chunks_missed}
 use Rattle.passkey_cbor.proofs.Skipping.{goes_end, goes_malformed, goes_stuck}
 use Rattle.passkey_cbor.proofs.cursor.Cursor.pass_chunks.Goals as goal

@@ -1,4 +1,4 @@
-use Rattle.std.proofs.Common.{◌≡◌, ◌-◌, length, None}
+use Rattle.std.proofs.Common.{◌-◌, length}
 use Rattle.passkey_cbor.proofs.Chunks.{Measures}
 use Rattle.passkey_cbor.proofs.cursor.Cursor.pass_chunks.Given as goal
 

@@ -1,4 +1,4 @@
-use Rattle.std.proofs.Common.{◌≡◌, ◌∙◌, List, ℕ, length, ap, sym}
+use Rattle.std.proofs.Common.{◌∙◌, List, ℕ, length, ap, sym}
 use Rattle.passkey_cbor.specs.Walk.{ahead}
 use Rattle.passkey_cbor.proofs.Behind.{string_piece}
 use Rattle.passkey_cbor.proofs.Binds.{some_is}

@@ -1,4 +1,4 @@
-use Rattle.std.proofs.Common.{◌≡◌, ◌∙◌, ℕ, List, Bor, Option, ap, subst}
+use Rattle.std.proofs.Common.{◌≡◌, ℕ, List, Bor, Option, ap, subst}
 use Rattle.passkey_cbor.specs.Walk.{Walk, IsPlaced}
 use Rattle.passkey_cbor.specs.Lent.{Region}
 use Rattle.passkey_cbor.proofs.Gathering.{went_back}

@@ -1,6 +1,6 @@
 use Rattle.std.proofs.Common.{sym}
 use Rattle.passkey_cbor.proofs.Walks.{head_passed}
-use Rattle.passkey_cbor.proofs.Lending.{string_read, no_string_head, string_cut}
+use Rattle.passkey_cbor.proofs.Lending.{string_read, string_cut}
 use Rattle.passkey_cbor.proofs.cursor.Cursor.string_ahead.Goals as goal
 
 pub returns-in-Some-region-clause-reads : goal.returns-in-Some-region-clause-reads

@@ -1,4 +1,4 @@
-use Rattle.std.proofs.Common.{◌≡◌, ◌∙◌, false, length, List, ℕ, Option, sym, subst, arith}
+use Rattle.std.proofs.Common.{false, ℕ, Option, sym, subst, arith}
 use Rattle.passkey_cbor.specs.Lent.{Region, IsRegion, IsSized, Tells}
 use Rattle.passkey_cbor.proofs.token.BytesToken.fill.Goals as goal
 
