@@ -5,9 +5,9 @@ ghost use Rattle.passkey_rewrite.specs.Fault.{status_of, line_of, fault_of, json
 ghost use Rattle.passkey_rewrite.specs.declared.fault.RunFault.TheVariants.{OutOfMemory as NoMemory};
 
 use passkey_cbor::CborError;
-use passkey_types::cose::CoseError;
-use passkey_types::ctap2::Fault;
-use passkey_types::webauthn::JsonFault;
+use passkey_cose::CoseError;
+use passkey_json::JsonFault;
+use passkey_kinds::Fault;
 use std::alloc::{AllocError, AllocFailed};
 use std::error::Error;
 use std::fmt;

@@ -7,10 +7,9 @@ use crate::fault::RunFault;
 use crate::hexadecimal::decode_hex;
 use crate::kind::BytesKind;
 use passkey_cbor::Value;
-use passkey_types::ctap2::extensions::HmacGetSecretInput;
-use passkey_types::ctap2::{
-    AuthenticatorData, Message, WriteFault, get_assertion, get_info, make_credential,
-};
+use passkey_core::AuthenticatorData;
+use passkey_extensions::HmacGetSecretInput;
+use passkey_kinds::{Message, WriteFault};
 use std::alloc::Global;
 
 fn rewrite_message<M: Message>(alloc: Global, bytes: &[u8]) -> Result<Vec<u8>, RunFault>
@@ -49,11 +48,13 @@ fn rewrite(alloc: Global, kind: BytesKind, bytes: &[u8]) -> Result<Vec<u8>, RunF
     match kind {
         BytesKind::Cbor => rewrite_item(alloc, bytes),
         BytesKind::Auth => rewrite_data(alloc, bytes),
-        BytesKind::MakeRequest => rewrite_message::<make_credential::Request>(alloc, bytes),
-        BytesKind::MakeResponse => rewrite_message::<make_credential::Response>(alloc, bytes),
-        BytesKind::GetRequest => rewrite_message::<get_assertion::Request>(alloc, bytes),
-        BytesKind::GetResponse => rewrite_message::<get_assertion::Response>(alloc, bytes),
-        BytesKind::Info => rewrite_message::<get_info::Response>(alloc, bytes),
+        BytesKind::MakeRequest => rewrite_message::<passkey_make_credential::Request>(alloc, bytes),
+        BytesKind::MakeResponse => rewrite_message::<passkey_make_credential::Response>(
+            alloc, bytes,
+        ),
+        BytesKind::GetRequest => rewrite_message::<passkey_get_assertion::Request>(alloc, bytes),
+        BytesKind::GetResponse => rewrite_message::<passkey_get_assertion::Response>(alloc, bytes),
+        BytesKind::Info => rewrite_message::<passkey_get_info::Response>(alloc, bytes),
         BytesKind::HmacInput => rewrite_message::<HmacGetSecretInput>(alloc, bytes),
     }
 }

@@ -7,10 +7,10 @@ ghost use Rattle.serde_json.specs.View.{view};
 
 use crate::fault::RunFault;
 use crate::kind::JsonKind;
-use passkey_types::webauthn::{
-    AuthenticatedPublicKeyCredential, BytesForm, CollectedClientData, CreatedPublicKeyCredential,
-    CredentialCreationOptions, CredentialRequestOptions, JsonRecord, ToJson,
-};
+use passkey_client_data::CollectedClientData;
+use passkey_credentials::{AuthenticatedPublicKeyCredential, CreatedPublicKeyCredential};
+use passkey_json::{BytesForm, JsonRecord, ToJson};
+use passkey_options::{CredentialCreationOptions, CredentialRequestOptions};
 use serde_json::Value;
 use serde_json::error::Category;
 use std::alloc::Global;
