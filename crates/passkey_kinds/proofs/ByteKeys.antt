@@ -72,11 +72,11 @@ types_tie a b = sym (nat_cmp_is _ _ Equal (key_type_is a ∙ sym (key_type_is b)
 pub byte_keys : (a b : List ℕ) → IsShortFirst a b → IsBefore (written (byte_string a)) (written (byte_string b))
 byte_keys a b (inl less) =
     let shorter : length (written (byte_string a)) < length (written (byte_string b)) =
-        omega (arith, less, encoded_long a, encoded_long b, behind_rises (length a) (length b) (omega (arith, less))) in
+    omega (arith, less, encoded_long a, encoded_long b, behind_rises (length a) (length b) (omega (arith, less))) in
     rw (types_tie a b, sym (nat_cmp_is _ _ Less shorter)) refl
 byte_keys a b (inr tie) =
     let same : length (written (byte_string a)) ≡ length (written (byte_string b)) =
-        encoded_long a ∙ ap (λ (n : ℕ). 1 + behind n + n) tie.0 ∙ sym (encoded_long b) in
+    encoded_long a ∙ ap (λ (n : ℕ). 1 + behind n + n) tie.0 ∙ sym (encoded_long b) in
     rw (types_tie a b, sym (nat_cmp_is _ _ Equal same))
     (ap (λ (n : ℕ). slice_cmp nat_cmp (shortest_head 2 (length a) ++ a) (shortest_head 2 n ++ b)) (sym tie.0)
     ∙ behind_common (shortest_head 2 (length a)) a b

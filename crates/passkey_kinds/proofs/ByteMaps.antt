@@ -70,11 +70,11 @@ one_key q j k v w o apart false b e f = refl
 
 inserts_swap : {V : Type 0} (m : ByteMap V) (j k : List ℕ) (v w : V) → j ≢ k → fin.insert (fin.insert m j v) k w ≡ fin.insert (fin.insert m k w) j v
 inserts_swap m j k v w apart = fin.same_map nat_list_cmp_total same_bytes _ _ (λ q.
-  fin.get-insert nat_list_cmp_total (fin.insert m j v) k w q
-  ∙ ap (cond (eq_by_cmp (slice_cmp nat_cmp) q k) (Some w)) (fin.get-insert nat_list_cmp_total m j v q)
-  ∙ one_key q j k v w (fin.get m q) apart _ _ refl refl
-  ∙ sym (fin.get-insert nat_list_cmp_total (fin.insert m k w) j v q
-  ∙ ap (cond (eq_by_cmp (slice_cmp nat_cmp) q j) (Some v)) (fin.get-insert nat_list_cmp_total m k w q)))
+    fin.get-insert nat_list_cmp_total (fin.insert m j v) k w q
+    ∙ ap (cond (eq_by_cmp (slice_cmp nat_cmp) q k) (Some w)) (fin.get-insert nat_list_cmp_total m j v q)
+    ∙ one_key q j k v w (fin.get m q) apart _ _ refl refl
+    ∙ sym (fin.get-insert nat_list_cmp_total (fin.insert m k w) j v q
+    ∙ ap (cond (eq_by_cmp (slice_cmp nat_cmp) q j) (Some v)) (fin.get-insert nat_list_cmp_total m k w q)))
 
 module _ {V : Type 0} where
   abbrev size : List ℕ × V → ℕ
@@ -85,8 +85,8 @@ module _ {V : Type 0} where
   put_by-placed m e (f ∷ fs) apart = elim (cases_lt (length f.0) (length e.0)) [
     | inr le ↦ rw (at_most (length e.0) (length f.0) le) refl
     | inl lt ↦ rw (above (length e.0) (length f.0) lt)
-      (put_by-placed (fin.insert m f.0 f.1) e fs apart.1
-      ∙ ap (λ (n : ByteMap V). put_each n fs) (sym (inserts_swap m e.0 f.0 e.1 f.1 apart.0)))
+        (put_by-placed (fin.insert m f.0 f.1) e fs apart.1
+        ∙ ap (λ (n : ByteMap V). put_each n fs) (sym (inserts_swap m e.0 f.0 e.1 f.1 apart.0)))
   ]
 
   differ : (k : List ℕ) (es : List (List ℕ × V)) → Below k es → AllByRecursion (λ (f : List ℕ × V). k ≢ f.0) es

@@ -67,8 +67,8 @@ module _ {X : Type 0} (number : X → ℕ) where
   of-put_by n x (y ∷ ys) = elim (cases_lt (number y) (number x)) [
     | inr le ↦ rw (at_most (number x) (number y) le) (of-cons n x (y ∷ ys))
     | inl lt ↦ rw (above (number x) (number y) lt)
-      (of-cons n y (put_by number x ys) ∙ ap (kept (number y == n) y) (of-put_by n x ys)
-      ∙ swapped n x y (of n ys) lt ∙ ap (kept (number x == n) x) (sym (of-cons n y ys)))
+        (of-cons n y (put_by number x ys) ∙ ap (kept (number y == n) y) (of-put_by n x ys)
+        ∙ swapped n x y (of n ys) lt ∙ ap (kept (number x == n) x) (sym (of-cons n y ys)))
   ]
 
   of-sorted_by : (n : ℕ) (xs : List X) → of n (sorted_by number xs) ≡ of n xs
@@ -114,8 +114,8 @@ module _ {X : Type 0} (number : X → ℕ) where
   tied x y xs ys r s same e others_same =
       let heads = first_is x y (of (number x) xs) (of (number x) ys) (sym (of-first x xs) ∙ same x ∙ ap (λ n. of n (y ∷ ys)) e ∙ of-first y ys ∙ ap (λ n. y ∷ of n ys) (sym e)) in
       let others : (z : X) → of (number z) xs ≡ of (number z) ys = λ z.
-        same_kept (number x == number z) x (of (number z) xs) (of (number z) ys)
-        (sym (of-cons (number z) x xs) ∙ same z ∙ of-cons (number z) y ys ∙ ap (λ w. kept (number w == number z) w (of (number z) ys)) (sym heads.0)) in
+      same_kept (number x == number z) x (of (number z) xs) (of (number z) ys)
+      (sym (of-cons (number z) x xs) ∙ same z ∙ of-cons (number z) y ys ∙ ap (λ w. kept (number w == number z) w (of (number z) ys)) (sym heads.0)) in
       let tails = others_same r (subst (λ n. Rising n ys) (sym e) s) others in
       ap (λ z. z ∷ xs) heads.0 ∙ ap (λ zs. y ∷ zs) tails
 
