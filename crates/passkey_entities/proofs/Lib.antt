@@ -1,2 +1,3 @@
 pub mod MakeBack
 pub mod MakeLevels
+pub mod EntitiesOrdered
