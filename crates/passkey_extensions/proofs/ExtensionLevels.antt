@@ -50,7 +50,7 @@ pub input_up : (h : HmacInputParts) (n : ℕ) → depth h.key_agreement < n → 
 input_up h zero less = absurd (omega arith)
 input_up h (suc n) less = record_within n (hmac_input_places h) ((omega arith, omega arith), ((omega arith, omega arith), ((omega arith, omega arith), (option_within number_tree n (number_tree 4) (omega arith) (λ k. omega arith) h.pin_uv_auth_protocol, tt))))
 
-input_down : (h : HmacInputParts) (n : ℕ) → depth (hmac_input_tree h) ≤ n → depth h.key_agreement < n
+pub input_down : (h : HmacInputParts) (n : ℕ) → depth (hmac_input_tree h) ≤ n → depth h.key_agreement < n
 input_down h zero within = absurd (omega (arith, within))
 input_down h (suc n) within = omega (arith, (of_record n (hmac_input_places h) within).0.1)
 

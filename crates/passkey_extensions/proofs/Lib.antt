@@ -2,3 +2,4 @@ pub mod ExtensionBack
 pub mod ExtensionLevels
 pub mod Keys
 pub mod HmacInputLaws
+pub mod ExtensionOrdered

@@ -1,6 +1,6 @@
 -- What the extensions' records are encoded as (CTAP 2.1, section 12.5; WebAuthn Level 3, section
 -- 10.1.4).
-use Rattle.std.specs.Prelude.{nat_le, Bool, List, [], ◌∷◌, codes}
+use Rattle.std.specs.Prelude.{nat_le, Bool, List, [], ◌∷◌, Option, Some, None, codes}
 use Rattle.std.specs.FinMap as fin
 use Rattle.std.specs.List.{All}
 use Rattle.passkey_bytes.specs.Map.{ByteMap}
@@ -36,6 +36,14 @@ hmac_input_tree h = record_tree (hmac_input_places h)
 -- the encoding has at most as many levels as are decoded
 abbrev pub is_hmac_input_coherent : HmacInputParts → Bool
 is_hmac_input_coherent h = nat_le (depth (hmac_input_tree h)) max_depth
+
+-- the value that it keeps as it was decoded: the platform's key
+abbrev pub hmac_input_kept : HmacInputParts → List Item
+hmac_input_kept h = h.key_agreement ∷ []
+
+abbrev pub inputs_kept : Option HmacInputParts → List Item
+inputs_kept None = []
+inputs_kept (Some h) = hmac_input_kept h
 
 abbrev pub HmacInputFits : HmacInputParts → Type 0
 HmacInputFits h = Where IsByte h.pin_uv_auth_protocol
@@ -122,6 +130,10 @@ make_extensions_places e =
 abbrev pub make_extensions_tree : MakeExtensionsParts → Item
 make_extensions_tree e = record_tree (make_extensions_places e)
 
+abbrev pub make_extensions_kept : Option MakeExtensionsParts → List Item
+make_extensions_kept None = []
+make_extensions_kept (Some e) = inputs_kept e.hmac_secret_mc
+
 abbrev pub MakeExtensionsFit : MakeExtensionsParts → Type 0
 MakeExtensionsFit e = Where HmacInputFits e.hmac_secret_mc × Where PrfInputsFit e.prf
 
@@ -133,6 +145,10 @@ get_extensions_places e =
 
 abbrev pub get_extensions_tree : GetExtensionsParts → Item
 get_extensions_tree e = record_tree (get_extensions_places e)
+
+abbrev pub get_extensions_kept : Option GetExtensionsParts → List Item
+get_extensions_kept None = []
+get_extensions_kept (Some e) = inputs_kept e.hmac_secret
 
 abbrev pub GetExtensionsFit : GetExtensionsParts → Type 0
 GetExtensionsFit e = Where HmacInputFits e.hmac_secret × Where PrfInputsFit e.prf

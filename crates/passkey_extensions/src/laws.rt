@@ -1,10 +1,11 @@
 //! Laws about the extensions' records, each the contract of a function that does nothing.
-ghost use Rattle.passkey_extensions.specs.ExtensionTrees.{hmac_input_tree, HmacInputFits, is_hmac_input_coherent};
+ghost use Rattle.passkey_extensions.specs.ExtensionTrees.{hmac_input_tree, HmacInputFits, is_hmac_input_coherent, hmac_input_kept, prf_values_places, prf_make_places, prf_inputs_places, make_extensions_places, get_extensions_places};
 ghost use Rattle.passkey_extensions.specs.HmacInput.{hmac_input_fields, read_hmac_input};
 ghost use Rattle.passkey_extensions.specs.HmacInputView.{hmac_input_parts};
-ghost use Rattle.passkey_kinds.specs.MessageLaws.{WrittenIsReadBack, ReadIsCoherent};
+ghost use Rattle.passkey_kinds.specs.MessageLaws.{WrittenIsReadBack, ReadIsCoherent, WrittenIsCanonical};
 ghost use Rattle.passkey_kinds.specs.RecordLaws.{PassesOverUnknown};
 ghost use Rattle.passkey_kinds.specs.RecordLaws.{KnowsMaps};
+ghost use Rattle.passkey_kinds.specs.Tree.{KeysAscend};
 
 /// The encoding of a coherent hmac-secret input, whatever bytes follow, decodes to the input.
 pub fn written_hmac_input_is_read_back()
@@ -12,6 +13,25 @@ pub fn written_hmac_input_is_read_back()
 {
     passkey_cbor::laws::written_is_front();
 }
+
+/// The encoding of a coherent hmac-secret input is in CTAP2's canonical form, if that of its key is
+/// (CTAP 2.1, section 8).
+pub fn written_hmac_input_is_canonical()
+    ensures { WrittenIsCanonical hmac_input_tree is_hmac_input_coherent hmac_input_kept }
+{
+    passkey_cbor::laws::at_most_one_front();
+    passkey_cbor::laws::written_is_front();
+}
+
+/// Records with two names or more are encoded with their keys in CTAP2's order (CTAP 2.1, section
+/// 8).
+pub fn written_keys_ascend()
+    ensures prf_values { KeysAscend prf_values_places }
+    ensures prf_outputs { KeysAscend prf_make_places }
+    ensures prf_inputs { KeysAscend prf_inputs_places }
+    ensures creation { KeysAscend make_extensions_places }
+    ensures assertion { KeysAscend get_extensions_places }
+{}
 
 /// Decoded hmac-secret inputs are coherent.
 pub fn read_hmac_input_is_coherent()

@@ -1,3 +1,4 @@
 pub mod GetBack
 pub mod GetRequests
 pub mod GetResponses
+pub mod GetOrdered

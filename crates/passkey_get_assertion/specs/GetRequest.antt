@@ -6,7 +6,7 @@ use Rattle.passkey_cbor.specs.Item.{Item, byte_string, text_string}
 use Rattle.passkey_core.specs.DataNormal.{Where}
 use Rattle.passkey_get_assertion.specs.GetOptions.{options, options_default, options_tree, options_fields}
 use Rattle.passkey_get_assertion.specs.declared.options.Options.{Options}
-use Rattle.passkey_extensions.specs.ExtensionTrees.{get_extensions_tree, GetExtensionsFit}
+use Rattle.passkey_extensions.specs.ExtensionTrees.{get_extensions_tree, GetExtensionsFit, get_extensions_kept}
 use Rattle.passkey_extensions.specs.GetExtensions.{GetExtensionsParts, get_extensions_fields}
 use Rattle.passkey_kinds.specs.Descriptor.{descriptor, descriptor_fields}
 use Rattle.passkey_kinds.specs.Record.{Fields, required, default, table_of, read_item}
@@ -65,6 +65,10 @@ get_request_places r =
 
 abbrev pub get_request_tree : GetRequestParts → Item
 get_request_tree r = record_tree (get_request_places r)
+
+-- the value that it keeps as it was decoded, if there is one
+abbrev pub get_request_kept : GetRequestParts → List Item
+get_request_kept r = get_extensions_kept r.extensions
 
 -- what holds of each request
 abbrev pub GetRequestFits : GetRequestParts → Type 0

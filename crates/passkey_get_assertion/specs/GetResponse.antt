@@ -73,6 +73,10 @@ get_response_places r =
 abbrev pub get_response_tree : GetResponseParts → Item
 get_response_tree r = record_tree (get_response_places r)
 
+-- it keeps no value as it was decoded
+abbrev pub get_response_kept : GetResponseParts → List Item
+get_response_kept r = []
+
 -- what holds of each response
 pub record GetResponseFits (r : GetResponseParts) : Type 0 where
   pub auth_data : IsData r.auth_data

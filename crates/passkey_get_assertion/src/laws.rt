@@ -1,10 +1,12 @@
 //! Laws about the messages of authenticatorGetAssertion, each the contract of a function that does
 //! nothing.
-ghost use Rattle.passkey_get_assertion.specs.GetRequest.{get_request_fields, read_get_request, get_request_tree, GetRequestFits, is_get_request_coherent};
+ghost use Rattle.passkey_get_assertion.specs.GetRequest.{get_request_fields, read_get_request, get_request_tree, GetRequestFits, is_get_request_coherent, get_request_kept};
 ghost use Rattle.passkey_get_assertion.specs.GetRequestView.{get_request_parts};
-ghost use Rattle.passkey_get_assertion.specs.GetResponse.{get_response_fields, read_get_response, get_response_tree, GetResponseFits, is_get_response_coherent, normal_get_response};
+ghost use Rattle.passkey_get_assertion.specs.GetResponse.{get_response_fields, read_get_response, get_response_tree, GetResponseFits, is_get_response_coherent, normal_get_response, get_response_kept};
 ghost use Rattle.passkey_get_assertion.specs.GetResponseView.{get_response_parts};
-ghost use Rattle.passkey_kinds.specs.MessageLaws.{WrittenIsReadBack, ReadIsCoherent};
+ghost use Rattle.passkey_get_assertion.specs.GetOptions.{options_places};
+ghost use Rattle.passkey_kinds.specs.Tree.{KeysAscend};
+ghost use Rattle.passkey_kinds.specs.MessageLaws.{WrittenIsReadBack, ReadIsCoherent, WrittenIsCanonical};
 ghost use Rattle.passkey_kinds.specs.RecordLaws.{PassesOverUnknown};
 ghost use Rattle.passkey_kinds.specs.RecordLaws.{KnowsMaps};
 
@@ -64,3 +66,22 @@ pub fn read_get_response_passes_over_unknown()
 {
     passkey_cbor::laws::at_most_one_front();
 }
+
+/// The encoding of a coherent request is in CTAP2's canonical form, if that of the key in its input
+/// of hmac-secret is (CTAP 2.1, section 8).
+pub fn written_get_request_is_canonical()
+    ensures { WrittenIsCanonical get_request_tree is_get_request_coherent get_request_kept }
+{
+    passkey_cbor::laws::at_most_one_front();
+    passkey_cbor::laws::written_is_front();
+}
+
+/// The encoding of a coherent response is in CTAP2's canonical form (CTAP 2.1, section 8).
+pub fn written_get_response_is_canonical()
+    ensures { WrittenIsCanonical get_response_tree is_get_response_coherent get_response_kept }
+{}
+
+/// Options are encoded with their keys in CTAP2's order (CTAP 2.1, section 8).
+pub fn written_keys_ascend()
+    ensures { KeysAscend options_places }
+{}

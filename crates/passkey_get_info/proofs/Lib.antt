@@ -1,3 +1,4 @@
 pub mod GetInfoBack
 pub mod GetInfoLevels
 pub mod GetInfos
+pub mod GetInfoOrdered

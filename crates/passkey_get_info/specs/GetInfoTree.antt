@@ -62,6 +62,14 @@ get_info_places r = capability_places r ++ limit_places r
 abbrev pub get_info_tree : GetInfoParts → Item
 get_info_tree r = record_tree (get_info_places r)
 
+-- the value that it keeps as it was decoded, if there is one
+abbrev pub certifications_kept : Option Item → List Item
+certifications_kept None = []
+certifications_kept (Some i) = i ∷ []
+
+abbrev pub get_info_kept : GetInfoParts → List Item
+get_info_kept r = certifications_kept r.certifications
+
 -- ---- what holds of each response
 
 abbrev pub IsWord : ℕ → Type 0

@@ -1,10 +1,12 @@
 //! Laws about authenticatorGetInfo responses, each the contract of a function that does nothing.
 ghost use Rattle.passkey_get_info.specs.GetInfo.{get_info_fields, read_get_info};
 ghost use Rattle.passkey_get_info.specs.GetInfoView.{get_info_parts};
-ghost use Rattle.passkey_get_info.specs.GetInfoTree.{get_info_tree, GetInfoFits, is_get_info_coherent, normal_get_info};
-ghost use Rattle.passkey_kinds.specs.MessageLaws.{WrittenIsReadBack, ReadIsCoherent};
+ghost use Rattle.passkey_get_info.specs.GetInfoTree.{get_info_tree, GetInfoFits, is_get_info_coherent, normal_get_info, get_info_kept};
+ghost use Rattle.passkey_kinds.specs.MessageLaws.{WrittenIsReadBack, ReadIsCoherent, WrittenIsCanonical};
 ghost use Rattle.passkey_kinds.specs.RecordLaws.{PassesOverUnknown};
 ghost use Rattle.passkey_kinds.specs.RecordLaws.{KnowsMaps};
+ghost use Rattle.passkey_get_info.specs.GetInfoOptions.{options_places};
+ghost use Rattle.passkey_kinds.specs.Tree.{KeysAscend};
 
 /// The encoding of a coherent response, whatever bytes follow, decodes to the response, in which an
 /// unknown version or extension with a known name becomes the known one, and certifications that are
@@ -33,3 +35,17 @@ pub fn read_get_info_passes_over_unknown()
 {
     passkey_cbor::laws::at_most_one_front();
 }
+
+/// The encoding of a coherent response is in CTAP2's canonical form, if that of its certifications
+/// is (CTAP 2.1, section 8).
+pub fn written_get_info_is_canonical()
+    ensures { WrittenIsCanonical get_info_tree is_get_info_coherent get_info_kept }
+{
+    passkey_cbor::laws::at_most_one_front();
+    passkey_cbor::laws::written_is_front();
+}
+
+/// Options are encoded with their keys in CTAP2's order (CTAP 2.1, section 8).
+pub fn written_keys_ascend()
+    ensures { KeysAscend options_places }
+{}

@@ -5,7 +5,7 @@ use Rattle.passkey_cbor.specs.Front.{max_depth}
 use Rattle.passkey_cbor.specs.Item.{Item, byte_string}
 use Rattle.passkey_core.specs.DataNormal.{Where}
 use Rattle.passkey_kinds.specs.Descriptor.{descriptor, descriptor_fields}
-use Rattle.passkey_extensions.specs.ExtensionTrees.{make_extensions_tree, MakeExtensionsFit}
+use Rattle.passkey_extensions.specs.ExtensionTrees.{make_extensions_tree, MakeExtensionsFit, make_extensions_kept}
 use Rattle.passkey_kinds.specs.Record.{Fields, required, default, table_of, read_item}
 use Rattle.passkey_kinds.specs.RecordCost.{nested}
 use Rattle.passkey_kinds.specs.Table.{Table}
@@ -87,6 +87,10 @@ make_request_places r =
 
 abbrev pub make_request_tree : MakeRequestParts → Item
 make_request_tree r = record_tree (make_request_places r)
+
+-- the value that it keeps as it was decoded, if there is one
+abbrev pub make_request_kept : MakeRequestParts → List Item
+make_request_kept r = make_extensions_kept r.extensions
 
 -- what holds of each request
 abbrev pub MakeRequestFits : MakeRequestParts → Type 0

@@ -61,6 +61,10 @@ make_response_places r =
 abbrev pub make_response_tree : MakeResponseParts → Item
 make_response_tree r = record_tree (make_response_places r)
 
+-- the value that it keeps as it was decoded: the attestation statement
+abbrev pub make_response_kept : MakeResponseParts → List Item
+make_response_kept r = r.att_stmt ∷ []
+
 -- what holds of each response
 abbrev pub MakeResponseFits : MakeResponseParts → Type 0
 MakeResponseFits r = IsData r.auth_data × Where MadeFits r.unsigned_extension_outputs

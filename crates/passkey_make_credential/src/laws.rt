@@ -2,13 +2,17 @@
 //! does nothing.
 ghost use Rattle.passkey_core.specs.Coherent.{is_coherent};
 ghost use Rattle.passkey_core.specs.DataNormal.{IsData, normal_data};
-ghost use Rattle.passkey_make_credential.specs.MakeRequest.{make_request_fields, read_make_request, make_request_tree, MakeRequestFits, is_make_request_coherent, normal_make_request};
+ghost use Rattle.passkey_make_credential.specs.MakeRequest.{make_request_fields, read_make_request, make_request_tree, MakeRequestFits, is_make_request_coherent, normal_make_request, make_request_kept};
 ghost use Rattle.passkey_make_credential.specs.MakeRequestView.{make_request_parts};
-ghost use Rattle.passkey_make_credential.specs.MakeResponse.{make_response_fields, read_make_response, make_response_tree, MakeResponseFits, is_make_response_coherent, normal_make_response, attestation_tree, unattested};
+ghost use Rattle.passkey_make_credential.specs.MakeResponse.{make_response_fields, read_make_response, make_response_tree, MakeResponseFits, is_make_response_coherent, normal_make_response, attestation_tree, unattested, make_response_kept};
 ghost use Rattle.passkey_make_credential.specs.MakeResponseView.{make_response_parts};
-ghost use Rattle.passkey_kinds.specs.MessageLaws.{WrittenIsReadBack, ReadIsCoherent};
+ghost use Rattle.passkey_make_credential.specs.MakeOptions.{options_places};
+ghost use Rattle.passkey_kinds.specs.Tree.{KeysAscend};
+ghost use Rattle.passkey_kinds.specs.MessageLaws.{WrittenIsReadBack, ReadIsCoherent, WrittenIsCanonical};
 ghost use Rattle.passkey_kinds.specs.RecordLaws.{PassesOverUnknown};
 ghost use Rattle.passkey_kinds.specs.RecordLaws.{KnowsMaps};
+
+pub use passkey_entities::laws::written_keys_ascend as written_entity_keys_ascend;
 
 /// The encoding of a coherent request, whatever bytes follow, decodes to the request with the
 /// option `up` set to true.
@@ -77,3 +81,26 @@ pub fn read_make_response_passes_over_unknown()
 {
     passkey_cbor::laws::at_most_one_front();
 }
+
+/// The encoding of a coherent request is in CTAP2's canonical form, if that of the key in its input
+/// of hmac-secret-mc is (CTAP 2.1, section 8).
+pub fn written_make_request_is_canonical()
+    ensures { WrittenIsCanonical make_request_tree is_make_request_coherent make_request_kept }
+{
+    passkey_cbor::laws::at_most_one_front();
+    passkey_cbor::laws::written_is_front();
+}
+
+/// The encoding of a coherent response is in CTAP2's canonical form, if that of its attestation
+/// statement is (CTAP 2.1, section 8).
+pub fn written_make_response_is_canonical()
+    ensures { WrittenIsCanonical make_response_tree is_make_response_coherent make_response_kept }
+{
+    passkey_cbor::laws::at_most_one_front();
+    passkey_cbor::laws::written_is_front();
+}
+
+/// Options are encoded with their keys in CTAP2's order (CTAP 2.1, section 8).
+pub fn written_keys_ascend()
+    ensures { KeysAscend options_places }
+{}
