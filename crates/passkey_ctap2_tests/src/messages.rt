@@ -266,7 +266,8 @@ fn messages_without_memory(rt: HostRuntime) {
     assert!(rt; matches!(read, Err(Fault::Refused(1))));
 }
 
-// CTAP 2.1, section 6.1.2: fmt (1), authData (2), attStmt (3); the data are 37 bytes in two chunks (RFC 8949, section 3.2.3).
+// CTAP 2.1, section 6.1.2: fmt (1), authData (2), attStmt (3); the data are 37 bytes in two chunks (RFC 8949, section
+// 3.2.3).
 #[test]
 fn responses_with_data_in_chunks(rt: HostRuntime) {
     let chunked =
