@@ -20,9 +20,10 @@ rp_keys r = keys_ascend (rp_places r) (rp_ascends r)
 
 pub rp_ordered : (r : PublicKeyCredentialRpEntity) → IsOrdered (rp_tree r)
 rp_ordered r =
-    record_ordered (rp_places r) (rp_ascends r)
-    ((tt, tt),
-    (option_ordered text_string (text_string (codes "name")) tt (λ t. tt) r.name, tt))
+    record_ordered (rp_places r) (rp_ascends r) (
+      (tt, tt),
+      (option_ordered text_string (text_string (codes "name")) tt (λ t. tt) r.name, tt),
+    )
 
 user_ascends : (u : PublicKeyCredentialUserEntity) → ascend (user_places u) ≡ true
 unfolding shortest_head
@@ -33,8 +34,13 @@ user_keys u = keys_ascend (user_places u) (user_ascends u)
 
 pub user_ordered : (u : PublicKeyCredentialUserEntity) → IsOrdered (user_tree u)
 user_ordered u =
-    record_ordered (user_places u) (user_ascends u)
-    ((tt, tt),
-    (option_ordered text_string (text_string (codes "icon")) tt (λ t. tt) u.icon_url,
-    (option_ordered text_string (text_string (codes "name")) tt (λ t. tt) u.name,
-    (option_ordered text_string (text_string (codes "displayName")) tt (λ t. tt) u.display_name, tt))))
+    record_ordered (user_places u) (user_ascends u) (
+      (tt, tt),
+      (
+        option_ordered text_string (text_string (codes "icon")) tt (λ t. tt) u.icon_url,
+        (
+          option_ordered text_string (text_string (codes "name")) tt (λ t. tt) u.name,
+          (option_ordered text_string (text_string (codes "displayName")) tt (λ t. tt) u.display_name, tt),
+        ),
+      ),
+    )

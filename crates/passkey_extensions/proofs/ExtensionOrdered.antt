@@ -36,9 +36,10 @@ prf_values_keys v = keys_ascend (prf_values_places v) (prf_values_ascends v)
 
 prf_values_ordered : (v : AuthenticatorPrfValues) → IsOrdered (prf_values_tree v)
 prf_values_ordered v =
-    record_ordered (prf_values_places v) (prf_values_ascends v)
-    ((tt, numbers_ordered v.first),
-    (option_ordered numbers_tree (text_string (codes "second")) tt numbers_ordered v.second, tt))
+    record_ordered (prf_values_places v) (prf_values_ascends v) (
+      (tt, numbers_ordered v.first),
+      (option_ordered numbers_tree (text_string (codes "second")) tt numbers_ordered v.second, tt),
+    )
 
 prf_make_ascends : (o : AuthenticatorPrfMakeOutputs) → ascend (prf_make_places o) ≡ true
 unfolding shortest_head
@@ -49,9 +50,10 @@ prf_make_keys o = keys_ascend (prf_make_places o) (prf_make_ascends o)
 
 prf_make_ordered : (o : AuthenticatorPrfMakeOutputs) → IsOrdered (prf_make_tree o)
 prf_make_ordered o =
-    record_ordered (prf_make_places o) (prf_make_ascends o)
-    ((tt, tt),
-    (option_ordered prf_values_tree (text_string (codes "results")) tt prf_values_ordered o.results, tt))
+    record_ordered (prf_make_places o) (prf_make_ascends o) (
+      (tt, tt),
+      (option_ordered prf_values_tree (text_string (codes "results")) tt prf_values_ordered o.results, tt),
+    )
 
 prf_get_ascends : (o : AuthenticatorPrfGetOutputs) → ascend (prf_get_places o) ≡ true
 unfolding shortest_head
@@ -87,9 +89,10 @@ prf_inputs_keys i = keys_ascend (prf_inputs_places i) (prf_inputs_ascends i)
 
 prf_inputs_ordered : (i : AuthenticatorPrfInputs) → IsOrdered (prf_inputs_tree i)
 prf_inputs_ordered i =
-    record_ordered (prf_inputs_places i) (prf_inputs_ascends i)
-    (option_ordered prf_values_tree (text_string (codes "eval")) tt prf_values_ordered i.eval,
-    (option_ordered (byte_map_tree prf_values_tree) (text_string (codes "eval_by_credential")) tt (map_ordered prf_values_tree prf_values_ordered) i.eval_by_credential, tt))
+    record_ordered (prf_inputs_places i) (prf_inputs_ascends i) (
+      option_ordered prf_values_tree (text_string (codes "eval")) tt prf_values_ordered i.eval,
+      (option_ordered (byte_map_tree prf_values_tree) (text_string (codes "eval_by_credential")) tt (map_ordered prf_values_tree prf_values_ordered) i.eval_by_credential, tt),
+    )
 
 -- ---- hmac-secret, whose key is kept
 
@@ -99,11 +102,16 @@ hmac_input_ascends h = refl
 
 hmac_input_ordered : (h : HmacInputParts) → IsOrdered h.key_agreement → IsOrdered (hmac_input_tree h)
 hmac_input_ordered h key =
-    record_ordered (hmac_input_places h) (hmac_input_ascends h)
-    ((tt, key),
-    ((tt, tt),
-    ((tt, tt),
-    (option_ordered number_tree (number_tree 4) tt (λ n. tt) h.pin_uv_auth_protocol, tt))))
+    record_ordered (hmac_input_places h) (hmac_input_ascends h) (
+      (tt, key),
+      (
+        (tt, tt),
+        (
+          (tt, tt),
+          (option_ordered number_tree (number_tree 4) tt (λ n. tt) h.pin_uv_auth_protocol, tt),
+        ),
+      ),
+    )
 
 pub hmac_input_canonical : AtMostOneFront → WrittenIsFront → WrittenIsCanonical hmac_input_tree is_hmac_input_coherent hmac_input_kept
 hmac_input_canonical one front h w coherent kept =
@@ -129,11 +137,16 @@ pub make_extensions_place : AtMostOneFront → WrittenIsFront → (key : Item) �
 make_extensions_place one front key keyed None w d kept = tt
 make_extensions_place one front key keyed (Some e) w d kept =
     let writable = of_record (make_extensions_places e) w in
-    let levels = levels_of 254 (make_extensions_places e) d.1 in
-    (keyed, record_ordered (make_extensions_places e) (make_extensions_ascends e)
-    (option_ordered prf_inputs_tree (text_string (codes "prf")) tt prf_inputs_ordered e.prf,
-    (option_ordered boolean (text_string (codes "hmac-secret")) tt (λ b. tt) e.hmac_secret,
-    (inputs_place one front (text_string (codes "hmac-secret-mc")) tt e.hmac_secret_mc writable.1.1.0 levels.1.1.0 kept, tt))))
+    let levels = levels_of 254 (make_extensions_places e) d.1 in (
+      keyed,
+      record_ordered (make_extensions_places e) (make_extensions_ascends e) (
+        option_ordered prf_inputs_tree (text_string (codes "prf")) tt prf_inputs_ordered e.prf,
+        (
+          option_ordered boolean (text_string (codes "hmac-secret")) tt (λ b. tt) e.hmac_secret,
+          (inputs_place one front (text_string (codes "hmac-secret-mc")) tt e.hmac_secret_mc writable.1.1.0 levels.1.1.0 kept, tt),
+        ),
+      ),
+    )
 
 get_extensions_ascends : (e : GetExtensionsParts) → ascend (get_extensions_places e) ≡ true
 unfolding shortest_head
@@ -146,7 +159,10 @@ pub get_extensions_place : AtMostOneFront → WrittenIsFront → (key : Item) �
 get_extensions_place one front key keyed None w d kept = tt
 get_extensions_place one front key keyed (Some e) w d kept =
     let writable = of_record (get_extensions_places e) w in
-    let levels = levels_of 254 (get_extensions_places e) d.1 in
-    (keyed, record_ordered (get_extensions_places e) (get_extensions_ascends e)
-    (option_ordered prf_inputs_tree (text_string (codes "prf")) tt prf_inputs_ordered e.prf,
-    (inputs_place one front (text_string (codes "hmac-secret")) tt e.hmac_secret writable.1.0 levels.1.0 kept, tt)))
+    let levels = levels_of 254 (get_extensions_places e) d.1 in (
+      keyed,
+      record_ordered (get_extensions_places e) (get_extensions_ascends e) (
+        option_ordered prf_inputs_tree (text_string (codes "prf")) tt prf_inputs_ordered e.prf,
+        (inputs_place one front (text_string (codes "hmac-secret")) tt e.hmac_secret writable.1.0 levels.1.0 kept, tt),
+      ),
+    )

@@ -45,14 +45,25 @@ get_request_canonical one front r w coherent kept =
     let writable = of_record (get_request_places r) w in
     let levels = levels_of 255 (get_request_places r) shallow in
     canonical_of (get_request_tree r) w shallow
-    (record_ordered (get_request_places r) (request_ascends r)
-    ((tt, tt),
-    ((tt, tt),
-    (option_ordered (list_tree descriptor_tree) (number_tree 3) tt (list_ordered descriptor_tree descriptor_ordered) r.allow_list,
-    (get_extensions_place one front (number_tree 4) tt r.extensions writable.1.1.1.0 levels.1.1.1.0 kept,
-    ((tt, options_ordered r.options),
-    (option_ordered byte_string (number_tree 6) tt (λ b. tt) r.pin_auth,
-    (option_ordered number_tree (number_tree 7) tt (λ n. tt) r.pin_protocol, tt))))))))
+    (record_ordered (get_request_places r) (request_ascends r) (
+      (tt, tt),
+      (
+        (tt, tt),
+        (
+          option_ordered (list_tree descriptor_tree) (number_tree 3) tt (list_ordered descriptor_tree descriptor_ordered) r.allow_list,
+          (
+            get_extensions_place one front (number_tree 4) tt r.extensions writable.1.1.1.0 levels.1.1.1.0 kept,
+            (
+              (tt, options_ordered r.options),
+              (
+                option_ordered byte_string (number_tree 6) tt (λ b. tt) r.pin_auth,
+                (option_ordered number_tree (number_tree 7) tt (λ n. tt) r.pin_protocol, tt),
+              ),
+            ),
+          ),
+        ),
+      ),
+    ))
 
 -- ---- responses
 
@@ -64,12 +75,25 @@ pub get_response_canonical : WrittenIsCanonical get_response_tree is_get_respons
 get_response_canonical r w coherent kept =
     let parts = and_parts (is_coherent r.auth_data) (nat_le (depth (get_response_tree r)) max_depth) coherent in
     canonical_of (get_response_tree r) w (leb-true (depth (get_response_tree r)) max_depth parts.1)
-    (record_ordered (get_response_places r) (response_ascends r)
-    (option_ordered descriptor_tree (number_tree 1) tt descriptor_ordered r.credential,
-    ((tt, tt),
-    ((tt, tt),
-    (option_ordered user_tree (number_tree 4) tt user_ordered r.user,
-    (option_ordered number_tree (number_tree 5) tt (λ n. tt) r.number_of_credentials,
-    (option_ordered boolean (number_tree 6) tt (λ b. tt) r.user_selected,
-    (option_ordered byte_string (number_tree 7) tt (λ b. tt) r.large_blob_key,
-    (option_ordered used_tree (number_tree 8) tt used_ordered r.unsigned_extension_outputs, tt)))))))))
+    (record_ordered (get_response_places r) (response_ascends r) (
+      option_ordered descriptor_tree (number_tree 1) tt descriptor_ordered r.credential,
+      (
+        (tt, tt),
+        (
+          (tt, tt),
+          (
+            option_ordered user_tree (number_tree 4) tt user_ordered r.user,
+            (
+              option_ordered number_tree (number_tree 5) tt (λ n. tt) r.number_of_credentials,
+              (
+                option_ordered boolean (number_tree 6) tt (λ b. tt) r.user_selected,
+                (
+                  option_ordered byte_string (number_tree 7) tt (λ b. tt) r.large_blob_key,
+                  (option_ordered used_tree (number_tree 8) tt used_ordered r.unsigned_extension_outputs, tt),
+                ),
+              ),
+            ),
+          ),
+        ),
+      ),
+    ))

@@ -207,7 +207,11 @@ impl ToCbor for Options {
         members.put_some(alloc, "pinUvAuthToken", &self.pin_uv_auth_token)?;
         members.put_some(alloc, "setMinPINLength", &self.set_min_pin_length)?;
         members.put_some(alloc, "makeCredUvNotRqd", &self.make_cred_uv_not_rqd)?;
-        members.put_some(alloc, "credentialMgmtPreview", &self.credential_mgmt_preview)?;
+        members.put_some(
+            alloc,
+            "credentialMgmtPreview",
+            &self.credential_mgmt_preview,
+        )?;
         members.put_some(
             alloc,
             "userVerificationMgmtPreview",

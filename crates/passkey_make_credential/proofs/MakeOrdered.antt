@@ -53,16 +53,31 @@ make_request_canonical one front r w coherent kept =
     let writable = of_record (make_request_places r) w in
     let levels = levels_of 255 (make_request_places r) shallow in
     canonical_of (make_request_tree r) w shallow
-    (record_ordered (make_request_places r) (request_ascends r)
-    ((tt, tt),
-    ((tt, rp_ordered r.rp),
-    ((tt, user_ordered r.user),
-    ((tt, list_ordered parameters_tree parameters_ordered r.pub_key_cred_params),
-    (option_ordered (list_tree descriptor_tree) (number_tree 5) tt (list_ordered descriptor_tree descriptor_ordered) r.exclude_list,
-    (make_extensions_place one front (number_tree 6) tt r.extensions writable.1.1.1.1.1.0 levels.1.1.1.1.1.0 kept,
-    ((tt, options_ordered r.options),
-    (option_ordered byte_string (number_tree 8) tt (λ b. tt) r.pin_auth,
-    (option_ordered number_tree (number_tree 9) tt (λ n. tt) r.pin_protocol, tt))))))))))
+    (record_ordered (make_request_places r) (request_ascends r) (
+      (tt, tt),
+      (
+        (tt, rp_ordered r.rp),
+        (
+          (tt, user_ordered r.user),
+          (
+            (tt, list_ordered parameters_tree parameters_ordered r.pub_key_cred_params),
+            (
+              option_ordered (list_tree descriptor_tree) (number_tree 5) tt (list_ordered descriptor_tree descriptor_ordered) r.exclude_list,
+              (
+                make_extensions_place one front (number_tree 6) tt r.extensions writable.1.1.1.1.1.0 levels.1.1.1.1.1.0 kept,
+                (
+                  (tt, options_ordered r.options),
+                  (
+                    option_ordered byte_string (number_tree 8) tt (λ b. tt) r.pin_auth,
+                    (option_ordered number_tree (number_tree 9) tt (λ n. tt) r.pin_protocol, tt),
+                  ),
+                ),
+              ),
+            ),
+          ),
+        ),
+      ),
+    ))
 
 -- ---- responses
 
@@ -77,10 +92,19 @@ make_response_canonical one front r w coherent kept =
     let writable = of_record (make_response_places r) w in
     let levels = levels_of 255 (make_response_places r) shallow in
     canonical_of (make_response_tree r) w shallow
-    (record_ordered (make_response_places r) (response_ascends r)
-    ((tt, tt),
-    ((tt, tt),
-    ((tt, ordered_of one front r.att_stmt writable.1.1.0 (omega (arith, levels.1.1.0.1)) kept.0),
-    (option_ordered boolean (number_tree 4) tt (λ b. tt) r.ep_att,
-    (option_ordered byte_string (number_tree 5) tt (λ b. tt) r.large_blob_key,
-    (option_ordered made_tree (number_tree 6) tt made_ordered r.unsigned_extension_outputs, tt)))))))
+    (record_ordered (make_response_places r) (response_ascends r) (
+      (tt, tt),
+      (
+        (tt, tt),
+        (
+          (tt, ordered_of one front r.att_stmt writable.1.1.0 (omega (arith, levels.1.1.0.1)) kept.0),
+          (
+            option_ordered boolean (number_tree 4) tt (λ b. tt) r.ep_att,
+            (
+              option_ordered byte_string (number_tree 5) tt (λ b. tt) r.large_blob_key,
+              (option_ordered made_tree (number_tree 6) tt made_ordered r.unsigned_extension_outputs, tt),
+            ),
+          ),
+        ),
+      ),
+    ))
