@@ -136,8 +136,8 @@ fn lists(rt: HostRuntime) {
 #[test]
 fn maps_from_byte_strings(rt: HostRuntime) {
     let rewritten = [
-        // encoded in the order of the keys' bytes: h'', h'01', h'0100', h'02'
-        ("a4410201410102420100034004", "a4400441010242010003410201"),
+        // encoded with shorter keys first: h'', h'01', h'02', h'0100'
+        ("a4410201410102420100034004", "a4400441010241020142010003"),
         // of the keys h'07' and [7] the last one counts
         ("a2410701810702", "a1410702"),
         ("a0", "a0"),
