@@ -19,6 +19,8 @@ fn kind_again(
     match kind {
         Kind::Bytes(kind) => hex_again(alloc, tries, kind, input),
         Kind::Json(kind) => json_again(alloc, tries, kind, input),
+        // A check makes nothing of which there could be a copy.
+        Kind::Check => Err(RunFault::UnknownKind),
     }
 }
 
