@@ -13,7 +13,7 @@ use serde_json::error::Category;
 use std::alloc::Global;
 
 /// A record some of whose parts can be copied.
-trait CopiedRecord: JsonRecord + ToJson {
+trait CopiedRecord {
     /// Puts a copy in the place of each part that can be copied.
     fn replace_parts(&mut self, alloc: Global, tries: &mut Tries) -> Result<(), OutOfMemory>;
 }
@@ -116,7 +116,7 @@ fn encoding_again<R: ToJson>(
 }
 
 /// The record's text with bytes as numbers, which is decoded to the same record.
-fn in_numbers<R: CopiedRecord>(
+fn in_numbers<R: JsonRecord + ToJson + CopiedRecord>(
     alloc: Global,
     tries: &mut Tries,
     text: &str,
@@ -126,7 +126,7 @@ fn in_numbers<R: CopiedRecord>(
     Ok(encoding_again(alloc, tries, &record, BytesForm::Numbers)?)
 }
 
-fn record_again<R: CopiedRecord>(
+fn record_again<R: JsonRecord + ToJson + CopiedRecord>(
     alloc: Global,
     tries: &mut Tries,
     text: &str,
