@@ -1,5 +1,5 @@
-//! An authenticator answers authenticatorMakeCredential: it decodes the request, checks that it can
-//! do what is asked, and encodes the response (CTAP 2.1, section 6.1.2).
+//! An authenticator that handles authenticatorMakeCredential: it decodes the request, checks
+//! whether it can do what is asked, and encodes the response (CTAP 2.1, section 6.1.2).
 #![tactic(auto)]
 
 ghost use Rattle.std.specs.Prelude.{◌≢◌, ◌<◌, length, IfErr, IfOk, IfSome};
@@ -16,7 +16,7 @@ use passkey_types::ctap2::{
 use passkey_types::{OutOfMemory, Text};
 use std::alloc::Global;
 
-/// The status of a request that wasn't decoded. It never says that all went well.
+/// Returns the status of a request that wasn't decoded. It is never the status of success.
 fn status_of(fault: Fault) -> Ctap2Error
     ensures { result ≢ Ctap2Error.Ok }
 {
@@ -28,8 +28,8 @@ fn status_of(fault: Fault) -> Ctap2Error
     }
 }
 
-/// The first thing that this authenticator can't do of what is asked: it makes keys of ES256 alone,
-/// and it can't verify its user. Never a status of success.
+/// Returns the status for the first thing asked that this authenticator can't do: it only makes
+/// ES256 keys, and it can't verify its user. It is never the status of success.
 fn refusal_of(request: &Request) -> Option<Ctap2Error>
     ensures { IfSome result (λ status. status ≢ Ctap2Error.Ok) }
 {
@@ -46,7 +46,7 @@ fn refusal_of(request: &Request) -> Option<Ctap2Error>
     None
 }
 
-/// The relying party's id of a request that is granted; else its status.
+/// Returns the relying party id of a request that is granted, or else the request's status.
 fn rp_id_of(alloc: Global, request: &[u8]) -> Result<Text, Ctap2Error>
     ensures { IfErr result (λ status. status ≢ Ctap2Error.Ok) }
 {
@@ -63,7 +63,7 @@ fn rp_id_of(alloc: Global, request: &[u8]) -> Result<Text, Ctap2Error>
     }
 }
 
-/// The response with a credential that was made for the relying party, without attestation.
+/// Returns the response with a new credential for the relying party, without attestation.
 fn response(
     alloc: Global,
     rp_id: &str,
@@ -84,7 +84,7 @@ fn response(
     })
 }
 
-/// The encoding of that response.
+/// Returns the encoding of that response.
 fn encoded(
     alloc: Global,
     rp_id: &str,
@@ -93,8 +93,8 @@ fn encoded(
     response(alloc, rp_id, credential)?.to_vec(alloc)
 }
 
-/// The bytes that answer a request, with the credential that is made if it is granted: the status
-/// byte alone, or a status byte of zero and then the response (CTAP 2.1, section 8.1).
+/// Returns the message that answers a request, with the new credential if the request is granted: a
+/// status byte alone, or a zero status byte and then the response (CTAP 2.1, section 8.1).
 pub fn answer(
     alloc: Global,
     request: &[u8],
@@ -108,7 +108,7 @@ pub fn answer(
     }
 }
 
-/// A status byte of zero and then the response.
+/// Returns a zero status byte and then the response.
 fn granted(
     alloc: Global,
     rp_id: &str,
@@ -122,7 +122,7 @@ fn granted(
     Ok(message)
 }
 
-/// A message of a status byte alone.
+/// Returns a message of a status byte alone.
 fn status_alone(alloc: Global, status: Ctap2Error) -> Result<Vec<u8>, WriteFault>
     ensures { IfOk result (λ message. 0 < length message.items) }
 {

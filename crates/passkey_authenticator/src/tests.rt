@@ -1,4 +1,4 @@
-//! The key is the one of RFC 9052, appendix C.7.1; the hash is that of the relying party id "a"; the
+//! The key is that of RFC 9052, appendix C.7.1; the hash is that of the relying party id "a"; the
 //! rest of the response was worked out by hand.
 use crate::answer;
 use passkey_types::cose::iana::Algorithm;
@@ -26,7 +26,7 @@ fn credential(rt: &(impl Abort + AllocGlobal)) -> AttestedCredentialData {
     )
 }
 
-/// The answer in hexadecimal.
+/// Returns the answer in hexadecimal.
 fn answered(rt: &(impl Abort + AllocGlobal), request: &str) -> String {
     let request = bytes(rt, request);
     let message = answer(rt.alloc(), request.as_slice(), credential(rt)).expect(rt, "memory");
@@ -41,7 +41,7 @@ const REQUEST: &str = concat!(
     "0481a264747970656a7075626c69632d6b657963616c6726",
 );
 
-/// A status of zero, and {1: "none", 2: the authenticator data, 3: {}}.
+/// A zero status, and {1: "none", 2: the authenticator data, 3: {}}.
 const RESPONSE: &str = concat!(
     "00a301646e6f6e65025886ca",
     "978112ca1bbdcafac231b39a23dc4da786eff8147c4e72b9807785afee48bb5900000000000000000000000000",

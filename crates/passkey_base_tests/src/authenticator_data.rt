@@ -1,4 +1,4 @@
-//! Authenticator data, whose bytes were put together by hand from WebAuthn Level 3, sections 6.1 and 6.5.1.
+//! Authenticator data, with bytes composed by hand from WebAuthn Level 3, sections 6.1 and 6.5.1.
 use crate::checks::{assert_same, assert_same_bytes, bytes, check};
 use bitflags::Flags as _;
 use passkey_bytes::Bytes;
@@ -27,7 +27,8 @@ fn assert_encoded(rt: &(impl Abort + AllocGlobal), data: &AuthenticatorData, beh
     assert_same_bytes(rt, encoded.as_slice(), with_hash(rt, behind).as_slice());
 }
 
-/// The bytes after the hash, and the flags, counter, attested credential data and extensions that they decode to.
+/// The bytes after the hash, and the flags, counter, attested credential data and extensions that
+/// they decode to.
 const DATA: &[(&[u8], &str)] = &[
     (b"\x00\0\0\0\0", "0, Some(0), no credential, None"),
     (
@@ -58,7 +59,7 @@ fn credential(rt: &(impl Abort + AllocGlobal), data: &AuthenticatorData) -> Stri
     text.expect(rt, "memory")
 }
 
-// The data are encoded as before.
+// The data is encoded as the same bytes.
 fn described(rt: &(impl Abort + AllocGlobal), behind: &[u8]) -> String {
     let data = AuthenticatorData::from_slice(rt.alloc(), with_hash(rt, behind).as_slice());
     let data = data.expect(rt, "authenticator data");
@@ -79,9 +80,10 @@ fn data_are_decoded_and_encoded(rt: HostRuntime) {
     }
 }
 
-/// What follows the hash, whether that is authenticator data, and how many heads and nodes decoding it counts. Each
-/// head of the key and of the extensions counts twice, since an item is passed over and then made; if no well-formed
-/// item is there, the heads up to the one that can't be decoded count once (RFC 8949, section 3).
+/// What follows the hash, whether that is authenticator data, and how many heads and nodes decoding
+/// it counts. Each head of the key and of the extensions counts twice, because an item is first
+/// skipped and then made as a value; if no well-formed item is there, the heads up to the one that
+/// can't be decoded count once (RFC 8949, section 3).
 const COUNTS: &[(&[u8], bool, u128, u128)] = &[
     (b"\x00\0\0\0\0", true, 0, 0),
     (b"\xc5\0\0\0", false, 0, 0),
@@ -234,8 +236,8 @@ fn attested_credential_data_are_gone_over(rt: HostRuntime) {
     assert_same_bytes(&rt, gone_over(&rt, &[1, 2, 3]).as_slice(), wanted);
 }
 
-// Whether data with these flags are coherent that hold attested credential data, or extensions that are a map or an
-// array.
+// Whether data with these flags is coherent, with attested credential data, or with extensions that
+// are a map or an array.
 fn is_coherent(
     rt: &(impl Abort + AllocGlobal),
     flags: u8,
@@ -277,7 +279,8 @@ fn some_data_are_coherent(rt: HostRuntime) {
     }
 }
 
-/// What data decode to after they were encoded as these bytes behind the hash: their extensions, or the error.
+/// What data decodes to whose encoding has these bytes after the hash: its extensions, or the
+/// error.
 fn reread(rt: &(impl Abort + AllocGlobal), behind: &[u8]) -> String {
     let text = match AuthenticatorData::from_slice(rt.alloc(), with_hash(rt, behind).as_slice()) {
         Ok(data) => format!(in rt.alloc(); "{:?}", &data.extensions),
@@ -286,7 +289,7 @@ fn reread(rt: &(impl Abort + AllocGlobal), behind: &[u8]) -> String {
     text.expect(rt, "memory")
 }
 
-/// Asserts that the data aren't coherent, what they are encoded as, and what that decodes to.
+/// Asserts that the data isn't coherent, and asserts its encoding and what the encoding decodes to.
 fn assert_incoherent(
     rt: &(impl Abort + AllocGlobal),
     data: AuthenticatorData,
@@ -314,7 +317,8 @@ fn with_default_key(rt: &(impl Abort + AllocGlobal)) -> AuthenticatorData {
     AuthenticatorData::new("abc", None).set_attested_credential_data(credential)
 }
 
-// A flag alone makes nothing follow, and what follows without its flag isn't decoded (WebAuthn Level 3, section 6.1).
+// A flag alone adds nothing to the encoding, and what is there without its flag isn't decoded
+// (WebAuthn Level 3, section 6.1).
 #[test]
 fn data_that_are_not_coherent(rt: HostRuntime) {
     let map = Value::Map(Vec::new(rt.alloc()));

@@ -4,7 +4,7 @@ use passkey_bytes::encoding::{base64, base64url, try_from_base64url};
 use passkey_bytes::{Bytes, BytesFault, NotBase64Encoded};
 use std::process::Abort;
 
-/// Bytes and their base64 and base64url alike: RFC 4648, section 10.
+/// Bytes and their encoding, which is the same in base64 and base64url: RFC 4648, section 10.
 const VECTORS: &[(&str, &str)] = &[
     ("", ""),
     ("f", "Zg=="),
@@ -15,7 +15,7 @@ const VECTORS: &[(&str, &str)] = &[
     ("foobar", "Zm9vYmFy"),
 ];
 
-/// The bytes whose symbols are the values 0 to 63 in order.
+/// The bytes that are encoded as the symbols of the values 0 to 63, in this order.
 const ALL_VALUES: &[u8] = &[
     0x00, 0x10, 0x83, 0x10, 0x51, 0x87, 0x20, 0x92, 0x8b, 0x30, 0xd3, 0x8f, 0x41, 0x14, 0x93, 0x51,
     0x55, 0x97, 0x61, 0x96, 0x9b, 0x71, 0xd7, 0x9f, 0x82, 0x18, 0xa3, 0x92, 0x59, 0xa7, 0xa2, 0x9a,
@@ -73,8 +73,8 @@ fn the_alphabets_are_those_of_the_rfc(rt: HostRuntime) {
     assert_same_bytes(&rt, decoded(&rt, URL_SAFE_ALPHABET).as_slice(), ALL_VALUES);
 }
 
-/// Texts that are base64url, and their bytes: of two symbols the last four bits count for nothing, of three the last
-/// two (RFC 4648, section 3.5).
+/// Texts that are base64url, and their bytes: the last four bits of two symbols, and the last two
+/// bits of three symbols, are ignored (RFC 4648, section 3.5).
 const URL_TEXTS: &[(&str, &[u8])] = &[
     ("_w", &[0xff]),
     ("_x", &[0xff]),
@@ -134,7 +134,8 @@ fn base64url_is_decoded(rt: HostRuntime) {
     }
 }
 
-/// Texts that are base64url, or else base64 whose last symbol has no bit set past the last byte, and their bytes.
+/// Texts that are base64url, or else base64 in which the last symbol has no bit set after the last
+/// byte, and their bytes.
 const TEXTS: &[(&str, &[u8])] = &[
     ("", &[]),
     ("====", &[]),
@@ -155,7 +156,7 @@ const OTHER_TEXTS: &[&str] = &[
     "_w\t", "=_w", "_w..",
 ];
 
-/// The id of a credential.
+/// A credential id.
 const IDENTIFIER: &[u8] = &[
     0x65, 0xc3, 0xd4, 0xa1, 0xbf, 0x70, 0x4b, 0xbd, 0x98, 0x34, 0x79, 0x11, 0x3e, 0x71, 0x72, 0xa4,
 ];

@@ -1,4 +1,4 @@
-//! What the tests share.
+//! Helpers of the tests.
 use passkey_bytes::{Bytes, Text};
 use std::fmt::Debug;
 use std::process::Abort;
@@ -21,7 +21,7 @@ pub(crate) fn assert_same_bytes(rt: &impl Abort, found: &[u8], wanted: &[u8]) {
     assert_eq!(rt; found, wanted);
 }
 
-/// How the value is printed by `Debug`.
+/// Asserts how `Debug` prints the value.
 pub(crate) fn assert_shown<T: Debug>(rt: &(impl Abort + AllocGlobal), value: &T, wanted: &str) {
     let shown = format!(in rt.alloc(); "{value:?}").expect(rt, "memory");
     assert_same(rt, shown.as_str(), wanted);

@@ -8,7 +8,7 @@ use std::alloc::Global;
 use std::collections::{BTreeMap, HashMap};
 use std::process::Abort;
 
-// A caller's clause speaks of the bytes alone.
+// A caller's clause is about the bytes alone.
 fn append_seven(bytes: &mut Bytes) -> Result<(), OutOfMemory>
     ensures { OnOk result (bytes.new ≡ bytes.old ++ 7 ∷ []) }
 {
@@ -73,7 +73,7 @@ fn a_list_of_numbers_is_changed_and_gone_over(rt: HostRuntime) {
     assert_eq!(rt; sum, 3 * 8);
 }
 
-// A copy of a list whose items' copies are equal to them is equal to it.
+// A copy of a list is equal to it if the copies of its items are equal to them.
 fn copied_list(list: &List<Bytes>, alloc: Global) -> Result<List<Bytes>, OutOfMemory>
     ensures { IfOk result (λ copy. copy ≡ list.now) }
 {
@@ -104,7 +104,7 @@ fn two_ages(rt: &(impl Abort + AllocGlobal)) -> Map<Text, u32> {
     ages
 }
 
-// A caller's clause speaks of the finite map alone.
+// A caller's clause is about the finite map alone.
 fn put_seven(ages: &mut Map<Text, u32>, name: Text) -> Result<(), OutOfMemory>
     ensures { OnOk result (ages.new ≡ fin.insert ages.old name 7) }
 {
@@ -143,7 +143,7 @@ fn a_map_of_texts_is_gone_over(rt: HostRuntime) {
     assert_eq!(rt; sum, 3 * 43);
 }
 
-// A copy of a map whose values' copies are equal to them is equal to it.
+// A copy of a map is equal to it if the copies of its values are equal to them.
 fn copied_map(
     map: &Map<Bytes, List<Text>>,
     alloc: Global,

@@ -1,4 +1,4 @@
-//! COSE keys. Their encodings were put together by hand, from RFC 9052, section 7, and RFC 8949.
+//! COSE keys, with encodings composed by hand from RFC 9052, section 7, and RFC 8949.
 use crate::checks::{assert_same, assert_same_bytes};
 use passkey_cbor::{Cursor, Value};
 use passkey_cose::iana::{Algorithm, KeyOperation, KeyType};
@@ -78,7 +78,8 @@ fn parameters_are_found_by_their_labels(rt: HostRuntime) {
     }
 }
 
-// Type, name, algorithm, operations, Base IV and further parameters of a copy; the key is encoded as before.
+// Type, name, algorithm, operations, Base IV and further parameters of a copy; the key is encoded
+// as the same bytes.
 fn described(rt: &(impl Abort + AllocGlobal), bytes: &[u8]) -> String {
     let value = Cursor::new(bytes).value(rt.alloc()).expect(rt, "an item");
     let key = CoseKey::from_value(rt.alloc(), &value).expect(rt, "a key");
@@ -90,7 +91,7 @@ fn described(rt: &(impl Abort + AllocGlobal), bytes: &[u8]) -> String {
     shown.expect(rt, "memory")
 }
 
-/// Keys in bytes, and their parts.
+/// The encodings of keys, and the keys' parts.
 const KEYS: &[(&[u8], &str)] = &[
     (
         POINT,

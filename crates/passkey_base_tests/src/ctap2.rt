@@ -35,21 +35,21 @@ fn flags_have_bits_and_names(rt: HostRuntime) {
     }
 }
 
-/// Two are equal exactly if their bytes are.
+/// Returns whether two values are equal, which they are exactly if their bytes are.
 fn are_equal(a: &Flags, b: &Flags) -> bool
     ensures { IsTrue result ↔ (a.now.0 ≡ b.now.0) }
 {
     a == b
 }
 
-/// Two are equal exactly if their bytes are.
+/// Returns whether two values are equal, which they are exactly if their bytes are.
 fn are_equal_aaguids(a: &Aaguid, b: &Aaguid) -> bool
     ensures { IsTrue result ↔ (a.now.0 ≡ b.now.0) }
 {
     a == b
 }
 
-// What the crate `bitflags` provides over the table of flags.
+// What the crate `bitflags` provides for the table of flags.
 #[test]
 fn flags_are_sets_and_compared(rt: HostRuntime) {
     let flags = Flags::UP | Flags::AT;
@@ -74,7 +74,7 @@ const FIRST: [u8; 32] = [1; 32];
 
 const SECOND: [u8; 32] = [2; 32];
 
-// For this many bytes: whether there is a second salt, if they are salts.
+// Whether there is a second salt in this many bytes, if they are salts.
 fn has_second(bytes: &[u8]) -> Option<bool> {
     match HmacSecretSaltOrOutput::try_from(bytes) {
         Ok(salts) => Some(salts.second().is_some()),

@@ -36,7 +36,7 @@ fn heads_are_decoded(rt: HostRuntime) {
     }
 }
 
-/// Bytes, the length of the item that begins them, and how many items it consists of.
+/// Bytes, the length of their leading data item, and how many items it consists of.
 const FRONTS: &[(&[u8], Option<usize>, u128)] = &[
     (&[0x01, 0x02], Some(1), 1),
     (&[0x82, 0x01, 0x02, 0x03], Some(3), 3),
@@ -53,7 +53,8 @@ const FRONTS: &[(&[u8], Option<usize>, u128)] = &[
     (&[0xff], None, 0),
 ];
 
-// At most one head for each byte of an item, and at most one more than there are bytes if they begin with no item.
+// At most one head for each byte of an item, or if there is no leading data item, at most one more
+// than there are bytes.
 #[test]
 fn items_are_skipped(rt: HostRuntime) {
     for (bytes, len, _nodes) in FRONTS {
@@ -115,7 +116,7 @@ fn elements_are_walked_over(rt: HostRuntime) {
 
 const TWO_MEMBERS: &[(&[u8], &[u8])] = &[(&[0x01], &[0x80]), (&[0x61, 0x61], &[0xf5])];
 
-/// Maps and their members. Some are followed by bytes that would be another member.
+/// Maps and their members. Some maps are followed by bytes that would be another member.
 const MAPS: &[(&[u8], &[(&[u8], &[u8])])] = &[
     (&[0xa2, 0x01, 0x80, 0x61, 0x61, 0xf5], TWO_MEMBERS),
     (&[0xbf, 0x01, 0x80, 0x61, 0x61, 0xf5, 0xff], TWO_MEMBERS),

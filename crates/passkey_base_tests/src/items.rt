@@ -1,11 +1,11 @@
-//! Items as values, and which numbers they hold.
+//! Data items as values, and the numbers that they can contain.
 use crate::checks::{assert_same, assert_same_bytes, assert_shown};
 use passkey_cbor::{CborError, Float, Integer, Simple, Value};
 use std::process::Abort;
 use std::test::Fail;
 
-/// Items of RFC 8949, appendix A, and some around them: in bytes, and how many levels they have
-/// and how their values are printed.
+/// Items of RFC 8949, appendix A, and similar ones: their encodings, nesting levels, and how their
+/// values are printed.
 const ITEMS: &[(&[u8], &str)] = &[
     (&[0x00], "0: Integer(Integer { value: 0 })"),
     (&[0x17], "0: Integer(Integer { value: 23 })"),
@@ -72,7 +72,7 @@ const ITEMS: &[(&[u8], &str)] = &[
     ),
 ];
 
-// How many levels the item has, and its copy; it is encoded as before.
+// The item's nesting levels, and its copy; it is encoded as the same bytes.
 fn described(rt: &(impl Abort + AllocGlobal), bytes: &[u8]) -> String {
     let (value, _len) = Value::from_slice(rt.alloc(), bytes).expect(rt, "an item");
     let encoded = value.to_vec(rt.alloc()).expect(rt, "memory");

@@ -3,16 +3,16 @@ use crate::checks::check;
 use passkey_cbor::ctap2_order;
 use std::cmp::Ordering;
 
-// The first key comes before the second one (CTAP 2.1, section 8).
+// Pairs of keys, the first of which comes before the second (CTAP 2.1, section 8).
 const KEYS: &[(&[u8], &[u8])] = &[
-    // The lower major type, whatever the lengths are.
+    // The lower major type comes first, whatever the lengths are.
     (&[0x1a, 0xff, 0xff, 0xff, 0xff], &[0x20]),
     (&[0x42, 0xff, 0xff], &[0x60]),
-    // The shorter, whatever the bytes are.
+    // The shorter key comes first, whatever the bytes are.
     (&[0x18, 0xff], &[0x19, 0x01, 0x00]),
     (&[0x62, 0x75, 0x76], &[0x64, 0x70, 0x6c, 0x61, 0x74]),
     (&[0x41, 0x62], &[0x42, 0x61, 0x61]),
-    // The lower bytes.
+    // The lower bytes come first.
     (&[0x01], &[0x02]),
     (&[0x62, 0x72, 0x6b], &[0x62, 0x75, 0x70]),
 ];

@@ -1,5 +1,5 @@
-//! The tests of `passkey_cbor`, `passkey_bytes`, `passkey_cose`, `passkey_core` and `passkey_webauthn`: values from
-//! the standards, printed text, and calls that need memory.
+//! Tests of `passkey_cbor`, `passkey_bytes`, `passkey_cose`, `passkey_core` and `passkey_webauthn`:
+//! values from the standards, printed texts, and calls that need memory.
 #![tactic(auto)]
 
 #[cfg(test)]

@@ -5,7 +5,7 @@ use passkey_webauthn::{AuthenticatorTransport, EnumNames, PublicKeyCredentialTyp
 use std::fmt::{Debug, Display};
 use std::process::Abort;
 
-// The value with this number, and the number that it has.
+// The value with this number, and the value's number.
 fn numbered<T: EnumI64 + Debug>(rt: &(impl Abort + AllocGlobal), number: i64) -> String {
     let shown = match T::from_i64(number) {
         Some(value) => {
@@ -70,7 +70,7 @@ fn numbers_are_those_of_the_registries(rt: HostRuntime) {
     assert_numbers::<KeyOperation>(&rt, KEY_OPERATIONS);
 }
 
-// The value of this name, the name that it has, and what it prints.
+// The value with this name, the value's name, and its printed text.
 fn named<T: EnumNames + Debug + Display>(rt: &(impl Abort + AllocGlobal), name: &str) -> String {
     let shown = match T::from_name(name) {
         Some(value) => {
@@ -135,7 +135,7 @@ fn names_are_those_of_webauthn(rt: HostRuntime) {
     assert_names::<AuthenticatorTransport>(&rt, TRANSPORTS);
 }
 
-/// Texts of numbers and their whole parts, which are cut towards zero and have 64 bits.
+/// Texts of numbers and their whole parts, which are truncated towards zero and fit in 64 bits.
 const NUMBER_TEXTS: &[(&str, Option<i64>)] = &[
     ("0", Some(0)),
     ("-0", Some(0)),

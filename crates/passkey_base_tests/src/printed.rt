@@ -1,4 +1,4 @@
-//! Printed texts, most of which no contract gives.
+//! Printed texts, most of which aren't in a contract.
 use crate::checks::{assert_same, assert_shown, bytes, text};
 use passkey_bytes::{Bytes, BytesFault, List, Map, NotBase64Encoded, Text};
 use passkey_cbor::{CborError, OutOfMemory};

@@ -5,8 +5,8 @@ use std::process::Abort;
 
 const NAMES: &[&str] = &["r", "rp", "rpId", "", "rpIds", "rpId", ""];
 
-/// Encodings of texts, the text of those in one piece, the whole text, its first place among the names, and how
-/// many heads one look for the names decodes.
+/// Encodings of texts, the text if it is in one piece, the whole text, its first index among the
+/// names, and how many heads looking for the names decodes.
 const TEXTS: &[(&[u8], Option<&str>, &str, Option<usize>, u128)] = &[
     (
         &[0x64, 0x72, 0x70, 0x49, 0x64],
@@ -71,98 +71,98 @@ const BYTE_STRINGS: &[(&[u8], Option<&[u8]>, &[u8], Option<usize>, u128)] = &[
     (&[0x5f, 0xff], None, b"", Some(3), 1),
 ];
 
-fn copied_text(rt: &(impl Abort + AllocGlobal), spelled: &[u8]) -> String {
-    let mut cursor = Cursor::new(spelled);
+fn copied_text(rt: &(impl Abort + AllocGlobal), encoded: &[u8]) -> String {
+    let mut cursor = Cursor::new(encoded);
     let token = cursor.text().expect(rt, "a text");
     token.copy(rt.alloc(), &mut cursor).expect(rt, "memory")
 }
 
-fn copied_bytes(rt: &(impl Abort + AllocGlobal), spelled: &[u8]) -> Vec<u8> {
-    let mut cursor = Cursor::new(spelled);
+fn copied_bytes(rt: &(impl Abort + AllocGlobal), encoded: &[u8]) -> Vec<u8> {
+    let mut cursor = Cursor::new(encoded);
     let token = cursor.bytes().expect(rt, "a byte string");
     token.copy(rt.alloc(), &mut cursor).expect(rt, "memory")
 }
 
-// A search for the names, which decodes this many heads again.
-fn check_names(rt: &impl Abort, spelled: &[u8], whole: &str, place: Option<usize>, heads: u128) {
-    let mut cursor = Cursor::new(spelled);
+// Looks for the names, which decodes this many heads again.
+fn check_names(rt: &impl Abort, encoded: &[u8], whole: &str, place: Option<usize>, heads: u128) {
+    let mut cursor = Cursor::new(encoded);
     let token = cursor.text().expect(rt, "a text");
     let passed = cursor.count().heads;
-    check(rt, passed <= spelled.len() as u128, "heads", spelled);
+    check(rt, passed <= encoded.len() as u128, "heads", encoded);
     check(
         rt,
         token.name_of(NAMES, &mut cursor) == place,
         "place of the name",
-        spelled,
+        encoded,
     );
     check(
         rt,
         cursor.count().heads.saturating_sub(passed) == heads,
         "heads again",
-        spelled,
+        encoded,
     );
-    check(rt, token.eq_name(whole, &mut cursor), "own name", spelled);
-    check(rt, cursor.place() == spelled.len(), "place", spelled);
+    check(rt, token.eq_name(whole, &mut cursor), "own name", encoded);
+    check(rt, cursor.place() == encoded.len(), "place", encoded);
 }
 
-fn check_lent(rt: &impl Abort, spelled: &[u8], lent: Option<&str>) {
-    let mut cursor = Cursor::new(spelled);
+fn check_lent(rt: &impl Abort, encoded: &[u8], lent: Option<&str>) {
+    let mut cursor = Cursor::new(encoded);
     let token = cursor.text().expect(rt, "a text");
-    check(rt, token.lent() == lent, "lent", spelled);
+    check(rt, token.lent() == lent, "lent", encoded);
     check(
         rt,
         !token.eq_name("rpIe", &mut cursor),
         "other name",
-        spelled,
+        encoded,
     );
 }
 
 #[test]
 fn texts_are_lent(rt: HostRuntime) {
-    for (spelled, lent, whole, place, heads) in TEXTS {
-        check_names(&rt, spelled, whole, *place, *heads);
-        check_lent(&rt, spelled, *lent);
-        assert_same(&rt, copied_text(&rt, spelled).as_str(), whole);
+    for (encoded, lent, whole, place, heads) in TEXTS {
+        check_names(&rt, encoded, whole, *place, *heads);
+        check_lent(&rt, encoded, *lent);
+        assert_same(&rt, copied_text(&rt, encoded).as_str(), whole);
     }
 }
 
-fn check_names_of_bytes(rt: &impl Abort, spelled: &[u8], place: Option<usize>, heads: u128) {
-    let mut cursor = Cursor::new(spelled);
+fn check_names_of_bytes(rt: &impl Abort, encoded: &[u8], place: Option<usize>, heads: u128) {
+    let mut cursor = Cursor::new(encoded);
     let token = cursor.bytes().expect(rt, "a byte string");
     let passed = cursor.count().heads;
-    check(rt, passed <= spelled.len() as u128, "heads", spelled);
+    check(rt, passed <= encoded.len() as u128, "heads", encoded);
     check(
         rt,
         token.name_of(NAMES, &mut cursor) == place,
         "place of the name",
-        spelled,
+        encoded,
     );
     check(
         rt,
         cursor.count().heads.saturating_sub(passed) == heads,
         "heads again",
-        spelled,
+        encoded,
     );
     check(
         rt,
         token.eq_name("rpId", &mut cursor) == (place == Some(2)),
         "name",
-        spelled,
+        encoded,
     );
-    check(rt, cursor.place() == spelled.len(), "place", spelled);
+    check(rt, cursor.place() == encoded.len(), "place", encoded);
 }
 
-fn check_lent_bytes(rt: &impl Abort, spelled: &[u8], lent: Option<&[u8]>) {
-    let token = Cursor::new(spelled).bytes().expect(rt, "a byte string");
-    check(rt, token.lent() == lent, "lent", spelled);
+fn check_lent_bytes(rt: &impl Abort, encoded: &[u8], lent: Option<&[u8]>) {
+    let token = Cursor::new(encoded).bytes().expect(rt, "a byte string");
+    check(rt, token.lent() == lent, "lent", encoded);
 }
 
 #[test]
 fn byte_strings_are_lent(rt: HostRuntime) {
-    for (spelled, lent, whole, place, heads) in BYTE_STRINGS {
-        check_names_of_bytes(&rt, spelled, *place, *heads);
-        check_lent_bytes(&rt, spelled, *lent);
-        assert_same_bytes(&rt, copied_bytes(&rt, spelled).as_slice(), whole);
+    for (encoded, lent, whole, place, heads) in BYTE_STRINGS {
+        check_names_of_bytes(&rt, encoded, *place, *heads);
+        check_lent_bytes(&rt, encoded, *lent);
+        assert_same_bytes(&rt, copied_bytes(&rt, encoded).as_slice(), whole);
     }
 }
 
@@ -203,8 +203,8 @@ fn other_items_are_not_lent(rt: HostRuntime) {
     }
 }
 
-fn heads_of_copy(rt: &(impl Abort + AllocGlobal), spelled: &[u8]) -> u128 {
-    let mut cursor = Cursor::new(spelled);
+fn heads_of_copy(rt: &(impl Abort + AllocGlobal), encoded: &[u8]) -> u128 {
+    let mut cursor = Cursor::new(encoded);
     let token = cursor.bytes().expect(rt, "a byte string");
     let passed = cursor.count().heads;
     let _copy = token.copy(rt.alloc(), &mut cursor).expect(rt, "memory");
@@ -225,7 +225,7 @@ fn copies_count_each_chunk(rt: HostRuntime) {
     }
 }
 
-// Encodings of byte strings, their bytes, and how many heads it takes to put these into a slice.
+// Encodings of byte strings, their bytes, and how many heads copying them into a slice decodes.
 #[test]
 fn slices_are_filled(rt: HostRuntime) {
     let cases: [(&[u8], &[u8], u128); 4] = [
@@ -242,13 +242,13 @@ fn slices_are_filled(rt: HostRuntime) {
         ),
         (&[0x5f, 0x41, 0x72, 0xff], b"r", 2),
     ];
-    for (spelled, wanted, heads) in cases {
-        let mut cursor = Cursor::new(spelled);
+    for (encoded, wanted, heads) in cases {
+        let mut cursor = Cursor::new(encoded);
         let token = cursor.bytes().expect(&rt, "a byte string");
         let passed = cursor.count().heads;
         let mut four = [9; 4];
         let is_filled = token.fill(&mut cursor, &mut four);
-        check(&rt, is_filled == (wanted.len() == 4), "filled", spelled);
+        check(&rt, is_filled == (wanted.len() == 4), "filled", encoded);
         check(
             &rt,
             if is_filled {
@@ -257,14 +257,14 @@ fn slices_are_filled(rt: HostRuntime) {
                 four == [9, 9, 9, 9]
             },
             "slice",
-            spelled,
+            encoded,
         );
         let looked = cursor.count().heads.saturating_sub(passed);
         check(
             &rt,
             looked == if is_filled { heads } else { 0 },
             "heads",
-            spelled,
+            encoded,
         );
     }
 }

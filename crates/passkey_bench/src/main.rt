@@ -1,6 +1,6 @@
-//! `passkey_bench CALL ROUNDS` reads bytes on standard input, makes the call so many times over them,
-//! and prints the sum of the lengths that were found. `bench/run` measures it. A call `count-..` is made
-//! once, and prints whether a message was decoded, its heads and its nodes.
+//! `passkey_bench CALL ROUNDS` reads bytes from standard input, makes the call over them this many
+//! times, and prints the sum of the lengths that were found. `bench/run` measures it. A call
+//! `count-..` is made once, and prints whether a message was decoded, its heads and its nodes.
 #![tactic(auto)]
 
 use anyhow::{Result, bail};
@@ -83,7 +83,7 @@ fn item_rewritten(alloc: Global, bytes: &[u8]) -> usize {
     }
 }
 
-// The length of the item that begins the bytes, or 0 where the call finds none.
+// The length of the leading data item of the bytes, or 0 if the call finds none.
 fn len_found(alloc: Global, call: Call, bytes: &[u8]) -> usize {
     match call {
         Call::Skip => item_len(bytes).unwrap_or(0),

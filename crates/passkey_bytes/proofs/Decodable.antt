@@ -1,4 +1,4 @@
--- A text is base64 where each of its groups is, and the bytes of a text with symbols are some.
+-- A text is base64 exactly if each of its groups is, and a text with symbols decodes to at least one byte.
 use Rattle.std.specs.Io.KnownBytes.{prepend_known}
 use Rattle.std.specs.Result.{result_ok}
 use Rattle.std.proofs.Common.{◌≡◌, ◌<◌, ◌*◌, ◌/◌, ◌==◌, ℕ, zero, suc, Bool, true, false, ◌&&◌, nat_lt, if◌then◌else◌, is_some, is_ok, List, [], ◌∷◌, ◌++◌, length, take, drop, Option, Some, None, Result, Ok, Err, arith, refl, sym, ap, subst, ◌∙◌, length-append}
@@ -16,13 +16,16 @@ use Rattle.passkey_bytes.specs.Encoding.{window, ReadsZeros}
 
 -- ---- the first group, and the rest as a text of its own
 
-bad_outcome : (lone group suffix : Option DecodeError) (x : DecodeError) (bytes : List ℕ) → group ≡ Some x → is_ok (decode_outcome (or_else lone (or_else group suffix)) bytes) ≡ false
+bad_outcome : (lone group suffix : Option DecodeError) (x : DecodeError) (bytes : List ℕ) → group ≡ Some x
+    → is_ok (decode_outcome (or_else lone (or_else group suffix)) bytes) ≡ false
 bad_outcome None group suffix x bytes e = rw e refl
 bad_outcome (Some y) group suffix x bytes e = refl
 
-bad_group : (e : GeneralPurpose) (s : List ℕ) (x : DecodeError) → 4 < length s → groups_error_of e s 1 ≡ Some x → is_ok (decode_of e s) ≡ false
+bad_group : (e : GeneralPurpose) (s : List ℕ) (x : DecodeError) → 4 < length s → groups_error_of e s 1 ≡ Some x
+    → is_ok (decode_of e s) ≡ false
 bad_group e s x long bad =
-    let all : groups_error e.decode_table s (groups_before_last (length s)) ≡ Some x = groups_error_first e.decode_table s 1 (groups_before_last (length s)) x bad (omega arith) in
+    let all : groups_error e.decode_table s (groups_before_last (length s)) ≡ Some x =
+    groups_error_first e.decode_table s 1 (groups_before_last (length s)) x bad (omega arith) in
     bad_outcome _ _ _ x _ all
 
 some_prepended : (xs : List ℕ) (o : Option (List ℕ)) → is_some (prepend_known xs o) ≡ is_some o
@@ -37,22 +40,32 @@ some_decoded : (e : GeneralPurpose) (s : List ℕ) → is_some (decoded_of e s) 
 unfolding decoded_of
 some_decoded e s = some_ok (decode_of e s)
 
-good_group : (e : GeneralPurpose) (s : List ℕ) → 4 < length s → groups_error_of e s 1 ≡ None → is_ok (decode_of e s) ≡ is_ok (decode_of e (drop 4 s))
+good_group : (e : GeneralPurpose) (s : List ℕ) → 4 < length s → groups_error_of e s 1 ≡ None
+    → is_ok (decode_of e s) ≡ is_ok (decode_of e (drop 4 s))
 good_group e s long good =
-    let pieces : decoded_of e (s ++ []) ≡ prepend_known (groups_bytes_of e s 1) (decoded_of e (drop 4 s ++ [])) = decoded_of-groups e s [] 1 long good in
-    let whole : decoded_of e s ≡ prepend_known (groups_bytes_of e s 1) (decoded_of e (drop 4 s)) = rw (append-nil s, append-nil (drop 4 s)) at pieces in
-    sym (some_decoded e s) ∙ ap is_some whole ∙ some_prepended (groups_bytes_of e s 1) (decoded_of e (drop 4 s)) ∙ some_decoded e (drop 4 s)
+    let pieces : decoded_of e (s ++ []) ≡ prepend_known (groups_bytes_of e s 1) (decoded_of e (drop 4 s ++ [])) =
+    decoded_of-groups e s [] 1 long good in
+    let whole : decoded_of e s ≡ prepend_known (groups_bytes_of e s 1) (decoded_of e (drop 4 s)) =
+    rw (append-nil s, append-nil (drop 4 s)) at pieces in
+    sym (some_decoded e s) ∙ ap is_some whole ∙ some_prepended (groups_bytes_of e s 1) (decoded_of e (drop 4 s))
+    ∙ some_decoded e (drop 4 s)
 
 same_group : (dec s : List ℕ) → groups_error dec (window s) 1 ≡ groups_error dec s 1
 unfolding groups_error
 same_group dec s = refl
 
--- a text decodes where its first group does, with two symbols of value zero behind it, and the rest
-pub group_by_group : (e : GeneralPurpose) (s : List ℕ) → ReadsZeros e → 4 < length s → is_ok (decode_of e s) ≡ (is_ok (decode_of e (window s)) && is_ok (decode_of e (drop 4 s)))
+-- a text decodes exactly if its first group, followed by two symbols of value zero, and the rest do
+pub group_by_group : (e : GeneralPurpose) (s : List ℕ) → ReadsZeros e → 4 < length s
+    → is_ok (decode_of e s) ≡ (is_ok (decode_of e (window s)) && is_ok (decode_of e (drop 4 s)))
 group_by_group e s zeros long =
-    (elim (groups_error_of e s 1) as (λ (o : Option DecodeError). groups_error_of e s 1 ≡ o → is_ok (decode_of e s) ≡ (is_ok (decode_of e (window s)) && is_ok (decode_of e (drop 4 s)))) [
-      | Some x ↦ λ bad. rw (bad_group e s x long bad, bad_group e (window s) x (omega arith) (same_group e.decode_table s ∙ bad)) refl
-      | None ↦ λ good. rw (good_group e (window s) (omega arith) (same_group e.decode_table s ∙ good), zeros) (good_group e s long good)
+    (elim (groups_error_of e s 1) as (λ (o : Option DecodeError). groups_error_of e s 1 ≡ o
+    → is_ok (decode_of e s) ≡ (is_ok (decode_of e (window s)) && is_ok (decode_of e (drop 4 s)))) [
+      | Some x ↦ λ bad. rw (
+        bad_group e s x long bad,
+        bad_group e (window s) x (omega arith) (same_group e.decode_table s ∙ bad),
+      ) refl
+      | None ↦ λ good. rw (good_group e (window s) (omega arith) (same_group e.decode_table s ∙ good), zeros)
+          (good_group e s long good)
     ]) refl
 
 -- ---- the bytes of a text with symbols
@@ -73,7 +86,8 @@ not_few : (b : Bool) (x : DecodeError) (y : Option DecodeError) → (if b then S
 not_few true x y e = cc
 not_few false x y e = refl
 
-some_suffix : (is_empty : Bool) (at : ℕ) (allow : Bool) (mode : DecodePaddingMode) (r : Result _ DecodeError) → is_empty ≡ false → scan_error is_empty at allow mode r ≡ None → 0 < length (scan_bytes r)
+some_suffix : (is_empty : Bool) (at : ℕ) (allow : Bool) (mode : DecodePaddingMode) (r : Result _ DecodeError)
+    → is_empty ≡ false → scan_error is_empty at allow mode r ≡ None → 0 < length (scan_bytes r)
 some_suffix is_empty at allow mode (Err e) some good = cc
 some_suffix true at allow mode (Ok st) some good = absurd (true≢false some)
 some_suffix false at allow mode (Ok st) some good =
@@ -87,7 +101,11 @@ some_bytes e s b some is =
     let pad = e.padding.value in
     let last = groups_before_last (length s) in
     let outcome = outcome_ok _ _ b is in
-    let suffix : suffix_error dec pad e.config.decode_allow_trailing_bits e.config.decode_padding_mode (4 * last) s ≡ None = none_of (groups_error dec s last) _ (none_of (lone_error dec pad s) _ outcome.0) in
+    let suffix : suffix_error dec pad e.config.decode_allow_trailing_bits e.config.decode_padding_mode (4 * last) s
+    ≡ None = none_of (groups_error dec s last) _ (none_of (lone_error dec pad s) _ outcome.0) in
     let filled : (length s == 0) ≡ false = ne_eqb _ _ (λ e. omega arith) in
-    let more : 0 < length (suffix_bytes dec pad (4 * last) s) = some_suffix (length s == 0) (4 * last) e.config.decode_allow_trailing_bits e.config.decode_padding_mode (scan_last dec pad (4 * last) s) filled suffix in
-    subst (λ (bytes : List ℕ). 0 < length bytes) outcome.1 (omega (arith, length-append (groups_bytes dec s last) (suffix_bytes dec pad (4 * last) s)))
+    let more : 0 < length (suffix_bytes dec pad (4 * last) s) =
+    some_suffix (length s == 0) (4 * last) e.config.decode_allow_trailing_bits e.config.decode_padding_mode
+    (scan_last dec pad (4 * last) s) filled suffix in
+    subst (λ (bytes : List ℕ). 0 < length bytes) outcome.1
+    (omega (arith, length-append (groups_bytes dec s last) (suffix_bytes dec pad (4 * last) s)))

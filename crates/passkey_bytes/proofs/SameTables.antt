@@ -1,4 +1,4 @@
--- Two engines of one alphabet decode by the same table.
+-- Two engines with the same alphabet have the same decoding table.
 use Rattle.std.proofs.Common.{◌≡◌, ℕ, ◌<◌, List, length, slice_index, sym, ◌∙◌, ap, subst, true, arith, inl, inr}
 use Rattle.std.proofs.lemmas.Grind.{same_number_lists}
 use Rattle.base64.specs.declared.engine.general_purpose.GeneralPurpose.{GeneralPurpose}
@@ -6,7 +6,7 @@ use Rattle.base64.specs.GeneralPurpose.{SameEngine, engine_config, engine_paddin
 use Rattle.base64.specs.Tables.{is_inverse}
 use Rattle.base64.proofs.Tables.{are_tables_inverse, decode-encode_table, encode-decode_table}
 
--- a byte that the table d takes to a place, each other table takes to the same place
+-- if the table d decodes a byte to an index, every other table decodes it to the same index
 same_place : (symbols d e : List ℕ) (x : ℕ) → is_inverse symbols e ≡ true → slice_index d x < 64
     → slice_index symbols (slice_index d x) ≡ x → slice_index d x ≡ slice_index e x
 same_place symbols d e x inverse below back =

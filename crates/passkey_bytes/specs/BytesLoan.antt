@@ -1,4 +1,4 @@
--- What becomes of a `Bytes` whose vector was lent.
+-- The effect on a `Bytes` of borrowing its vector mutably.
 use Rattle.std.specs.Prelude.{ℕ, List}
 use Rattle.std.specs.Borrow.{Fml, Lends, MutBor, RattleType, u8}
 use Rattle.std.specs.contracts.alloc.Global as global
@@ -8,10 +8,10 @@ use Rattle.std.specs.declared.alloc.Global.{Global}
 use Rattle.std.specs.declared.vec.Vec.{Vec}
 use Rattle.passkey_bytes.specs.contracts.bytes.Bytes.{the_row}
 
--- `Vec<u8>`, as the logic names it
+-- the type `Vec<u8>` in the logic
 abbrev pub byte_vec : RattleType
 byte_vec = vec.the_row u8 global.the_row ghosts
 
--- once the loan ends, the bytes are the items of the vector as it was left
+-- once the borrow ends, the byte string has the items that the vector was left with
 abbrev pub LendsVec : MutBor (List ℕ) → MutBor (Vec ℕ Global) → Fml
 LendsVec bytes lent = Lends the_row byte_vec bytes lent (λ left. left.items)

@@ -1,4 +1,4 @@
--- The laws of the equality of finite maps.
+-- The equality of finite maps is a partial equivalence, or an equivalence, if that of their values is.
 use Rattle.std.specs.Prelude.{◌≡◌, ℕ, Bool, true, false, List, [], ◌∷◌, Option, None, Some, is_some, refl, ◌⊎◌}
 use Rattle.std.specs.Cmp.{IsEquivalence, IsPartialEquivalence, equiv, partial_equiv_from_equiv}
 use Rattle.std.specs.Cmp.Lexicographic.{bytes_decides, options_equiv, slice_cmp, texts_ties}
@@ -35,7 +35,7 @@ some_or_none : {V : Type 0} (found : Option V) (b : Bool) → is_some found ≡ 
 some_or_none None b e = inr refl
 some_or_none (Some v) b e = inl (sym e)
 
--- the map has the key, or nothing at it
+-- the map has the key, or looking it up returns `None`
 key_or_none : {V : Type 0} (m : ByteMap V) (q : List ℕ)
     → (list_any (eq_by_cmp (slice_cmp nat_cmp) q) (fin.keys m) ≡ true) ⊎ (fin.get m q ≡ None)
 key_or_none m q = some_or_none (fin.get m q) _ (fin.contains_key-keys m q)
@@ -78,7 +78,8 @@ module _ {V : Type 0} (E : V → V → Bool) where
   maps_eq-partial p = record {
     symm = λ m n. same_tests (maps_eq E m n) (maps_eq E n m) (maps_eq-turned p m n) (maps_eq-turned p n m);
     trans = λ l m n a b. maps_eq-from_agree l n
-        (λ q. option_eq-joined p.trans (fin.get l q) (fin.get m q) (fin.get n q) (agree-from_maps_eq l m a q) (agree-from_maps_eq m n b q));
+        (λ q. option_eq-joined p.trans (fin.get l q) (fin.get m q) (fin.get n q) (agree-from_maps_eq l m a q)
+        (agree-from_maps_eq m n b q));
   }
 
   pub maps_eq-equivalence : IsEquivalence E → IsEquivalence (maps_eq E)

@@ -29,8 +29,7 @@ use std::slice::Iter;
 use std::vec::IntoIter;
 use thiserror::Error;
 
-/// A byte string. Byte strings are ordered byte by byte; one that another begins with comes before
-/// it.
+/// A byte string. Byte strings are in lexicographic order.
 #[derive(Debug, Drop)]
 pub struct Bytes(Vec<u8>);
 
@@ -78,9 +77,9 @@ impl Bytes {
     /// `encoding::try_from_base64url` does, then as base64 whose last symbol has no bit set beyond
     /// the last byte.
     ///
-    /// `NotBase64Encoded` if the text is neither: without the `=` at its end it has 4k + 1 symbols,
-    /// or it has a symbol outside the alphabet, such as white space. `OutOfMemory` if an allocation
-    /// fails, which can't happen if the text is neither or decodes to no bytes.
+    /// `NotBase64Encoded` if the text is neither: for example, it has 4k + 1 symbols before the `=`
+    /// at its end, or a symbol outside both alphabets, such as white space. `OutOfMemory` if an
+    /// allocation fails, which can't happen if the text is neither or decodes to no bytes.
     pub fn try_from(alloc: Global, text: &str) -> Result<Bytes, BytesFault>
         ensures { ReadsText text.now result }
     {
@@ -109,8 +108,8 @@ impl Bytes {
         self.0.as_slice()
     }
 
-    /// Borrows the bytes as a vector that can be changed. The byte string is then whatever the
-    /// vector is left as.
+    /// Borrows the bytes as a vector that can be changed. The byte string then has the bytes that
+    /// the vector is left with.
     pub fn as_mut_vec(&mut self) -> &mut Vec<u8>
         ensures* writes_back { sem 𝓛 (LendsVec self.entry result) }
         ensures value { result.now.items ≡ self.old }
@@ -255,7 +254,7 @@ impl Hash for Bytes {
     }
 }
 
-/// Why a text wasn't decoded to `Bytes`.
+/// Why decoding a text to `Bytes` failed.
 #[derive(Clone, Copy, Debug, Error, PartialEq, Eq)]
 pub enum BytesFault {
     /// The text is neither base64url nor base64.

@@ -91,8 +91,10 @@ fn decode(
     symbols: &[u8],
 ) -> Result<Option<Vec<u8>>, OutOfMemory>
     requires { ReadsZeros engine.now }
-    ensures same { IfOk result (λ found. option_map (λ v. v.items) found ≡ result_ok (decode_of engine.now symbols.now)) }
-    ensures grows { OnErr result (IsSomeAnd (result_ok (decode_of engine.now symbols.now)) (λ bytes. 0 < length bytes)) }
+    ensures same { IfOk result
+        (λ found. option_map (λ v. v.items) found ≡ result_ok (decode_of engine.now symbols.now)) }
+    ensures grows { OnErr result
+        (IsSomeAnd (result_ok (decode_of engine.now symbols.now)) (λ bytes. 0 < length bytes)) }
 {
     if symbols.is_empty() {
         return Ok(Some(Vec::new(alloc)));

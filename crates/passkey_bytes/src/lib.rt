@@ -1,5 +1,4 @@
-//! Byte strings, texts, lists and maps, of which the messages of passkeys are made, and base64 (RFC
-//! 4648).
+//! Byte strings, texts, lists and maps for the messages of passkeys, and base64 (RFC 4648).
 #![tactic(auto)]
 
 mod bytes;

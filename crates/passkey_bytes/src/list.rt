@@ -17,7 +17,7 @@ use std::marker::Model;
 use std::slice::Iter;
 use std::vec::IntoIter;
 
-/// A list of items. Contracts see it as that list.
+/// A list of items. Contracts see it as the list of these items.
 #[derive(Drop)]
 pub struct List<T>(Vec<T>);
 
@@ -44,8 +44,8 @@ impl<T> List<T> {
         self.0.as_slice()
     }
 
-    /// Borrows the items as a vector that can be changed. The list is then whatever the vector is
-    /// left as.
+    /// Borrows the items as a vector that can be changed. The list then has the items that the
+    /// vector is left with.
     pub fn as_mut_vec(&mut self) -> &mut Vec<T>
         ensures* writes_back { sem 𝓛 (LendsVec T.row self.entry result) }
         ensures value { result.now.items ≡ self.old }

@@ -13,8 +13,8 @@ use std::collections::btree_map::{IntoIter, Iter};
 use std::fmt;
 use std::marker::Model;
 
-/// What a `Map` may have as keys: values that are ordered by their bytes, and are equal exactly if
-/// their bytes are.
+/// A type of keys for a `Map`: its values are ordered by their bytes, and equal exactly if their
+/// bytes are.
 pub trait Key: Ord + Clone {
     ghost use Rattle.std.specs.Prelude.{◌≡◌, List, ℕ};
     ghost use Rattle.std.specs.Cmp.Lexicographic.{slice_cmp};
@@ -100,9 +100,8 @@ impl<K: Key, V> Map<K, V> {
         self.0.contains_key(key)
     }
 
-    /// Sets the key's value, and returns the one that it replaces. If an allocation fails, which
-    /// can happen only for a new key, the map is unchanged, and the error holds the key and the
-    /// value.
+    /// Sets the key's value, and returns the previous one. If an allocation fails, which can happen
+    /// only for a new key, the map is unchanged, and the error contains the key and the value.
     #[tactic(auto, using(crate::proofs::MapChanges::changes))]
     pub fn insert(&mut self, key: K, value: V) -> Result<Option<V>, AllocFailed<(K, V)>>
         ensures before { IfOk result (λ before. before ≡ fin.get self.old (K.key_bytes key)) }

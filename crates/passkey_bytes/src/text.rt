@@ -18,8 +18,8 @@ use std::fmt;
 use std::hash::{Hash, Hasher};
 use std::marker::Model;
 
-/// A text string in UTF-8. Contracts see it as the list of its bytes. Text strings are ordered byte
-/// by byte; one that another begins with comes before it.
+/// A text string in UTF-8. Contracts see it as the list of its bytes. Text strings are in
+/// lexicographic order of their bytes.
 #[derive(Drop)]
 pub struct Text(String);
 

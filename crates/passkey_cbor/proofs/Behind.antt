@@ -1,9 +1,9 @@
--- Passing over what is behind the head of an item.
+-- Skipping what follows the head of a data item.
 use Rattle.std.proofs.Common.{◌≡◌, ℕ, zero, suc, ◌-◌, ◌<◌, Bool, true, false, List, Option, Some, None, refl, sym, ap, subst, ◌∙◌, arith}
 use Rattle.std.specs.Prelude.{is_some, option_map}
 use Rattle.std.specs.List.{concat}
 use Rattle.passkey_cbor.specs.Item.{Item, array, map, tagged, items_of, pairs_of}
-use Rattle.passkey_cbor.specs.HeadReading.{◌>>=◌, Read}
+use Rattle.passkey_cbor.specs.HeadReading.{◌>>=◌, Read, head_at}
 use Rattle.passkey_cbor.specs.Reading.{Reader, start, string_at, list_at, pair_by, item_by, item_within, chunk, piece_at}
 use Rattle.passkey_cbor.specs.Lent.{string_item, string_head}
 use Rattle.passkey_cbor.specs.Walk.{Walk, ahead, IsInside}
@@ -14,7 +14,7 @@ use Rattle.passkey_cbor.specs.declared.head.Head.TheVariants as head
 use Rattle.passkey_cbor.proofs.Binds.{bind_at}
 use Rattle.passkey_cbor.proofs.Skipping.{passed_none, stopped_none, skips_after, skips_made, skips_stuck}
 
--- the reader of so many levels, by what reads one level deeper
+-- the reader for this many levels, from the reader for one level deeper
 within_by : (levels : ℕ) → (inner : Option (Reader Item)) × (item_within levels ≡ item_by inner)
 unfolding item_within
 within_by zero = (None, refl)
@@ -29,81 +29,137 @@ unfolding item_within
 within_suc levels = refl
 
 deeper : (levels : ℕ) → 0 < levels → item_within levels ≡ item_by (Some (item_within (levels - 1)))
-deeper levels some = let one : levels ≡ suc (levels - 1) = omega arith in ap item_within one ∙ within_suc (levels - 1)
+deeper levels some = let one : levels ≡ suc (levels - 1) =
+    omega arith in ap item_within one ∙ within_suc (levels - 1)
 
--- ---- what is behind each head, by the head
+-- ---- what follows each head
 
-pub by_flat : (levels : ℕ) (h g : Head) (x : Item) (bytes : List ℕ) → h ≡ g → ((inner : Option (Reader Item)) → item_by inner g bytes ≡ Some (x, bytes)) → item_within levels h bytes ≡ Some (x, bytes)
-by_flat levels h g x bytes is flat = ap (λ (k : Head). item_within levels k bytes) is ∙ ap (λ (r : Reader Item). r g bytes) (within_by levels).1 ∙ flat (within_by levels).0
+pub by_flat : (levels : ℕ) (h g : Head) (x : Item) (bytes : List ℕ) → h ≡ g → ((inner : Option (Reader Item))
+    → item_by inner g bytes ≡ Some (x, bytes)) → item_within levels h bytes ≡ Some (x, bytes)
+by_flat levels h g x bytes is flat = ap (λ (k : Head). item_within levels k bytes) is
+    ∙ ap (λ (r : Reader Item). r g bytes) (within_by levels).1 ∙ flat (within_by levels).0
 
-by_string_head : (inner : Option (Reader Item)) (is_text : Bool) (len : Option ℕ) (bytes : List ℕ) → item_by inner (string_head is_text len) bytes ≡ (string_at is_text len bytes >>= λ s. Some (string_item is_text s.0, s.1))
+by_string_head : (inner : Option (Reader Item)) (is_text : Bool) (len : Option ℕ) (bytes : List ℕ) → item_by inner
+    (string_head is_text len) bytes ≡ (string_at is_text len bytes >>= λ s. Some (string_item is_text s.0, s.1))
 unfolding item_by
 by_string_head inner false len bytes = refl
 by_string_head inner true len bytes = refl
 
-pub by_string : (levels : ℕ) (is_text : Bool) (len : Option ℕ) (h : Head) (bytes : List ℕ) → h ≡ string_head is_text len → item_within levels h bytes ≡ (string_at is_text len bytes >>= λ s. Some (string_item is_text s.0, s.1))
+pub by_string : (levels : ℕ) (is_text : Bool) (len : Option ℕ) (h : Head) (bytes : List ℕ) → h ≡ string_head is_text
+    len → item_within levels h bytes ≡ (string_at is_text len bytes >>= λ s. Some (string_item is_text s.0, s.1))
 by_string levels is_text len h bytes is =
-    ap (λ (k : Head). item_within levels k bytes) is ∙ ap (λ (r : Reader Item). r (string_head is_text len) bytes) (within_by levels).1 ∙ by_string_head (within_by levels).0 is_text len bytes
+    ap (λ (k : Head). item_within levels k bytes) is ∙ ap (λ (r : Reader Item). r (string_head is_text len) bytes)
+    (within_by levels).1 ∙ by_string_head (within_by levels).0 is_text len bytes
 
-pub by_array : (levels : ℕ) (len : Option ℕ) (h : Head) (bytes : List ℕ) → 0 < levels → h ≡ head.Array len → item_within levels h bytes ≡ (list_at (item_within (levels - 1)) len bytes >>= λ xs. Some (array (items_of xs.0), xs.1))
+pub by_array : (levels : ℕ) (len : Option ℕ) (h : Head) (bytes : List ℕ) → 0 < levels → h ≡ head.Array len
+    → item_within levels h bytes
+    ≡ (list_at (item_within (levels - 1)) len bytes >>= λ xs. Some (array (items_of xs.0), xs.1))
 unfolding item_by
 by_array levels len h bytes some is =
-    ap (λ (k : Head). item_within levels k bytes) is ∙ ap (λ (r : Reader Item). r (head.Array len) bytes) (deeper levels some)
+    ap (λ (k : Head). item_within levels k bytes) is
+    ∙ ap (λ (r : Reader Item). r (head.Array len) bytes) (deeper levels some)
 
-pub by_map : (levels : ℕ) (len : Option ℕ) (h : Head) (bytes : List ℕ) → 0 < levels → h ≡ head.Map len → item_within levels h bytes ≡ (list_at (pair_by (item_within (levels - 1))) len bytes >>= λ ps. Some (map (pairs_of ps.0), ps.1))
+pub by_map : (levels : ℕ) (len : Option ℕ) (h : Head) (bytes : List ℕ) → 0 < levels → h ≡ head.Map len
+    → item_within levels h bytes
+    ≡ (list_at (pair_by (item_within (levels - 1))) len bytes >>= λ ps. Some (map (pairs_of ps.0), ps.1))
 unfolding item_by
 by_map levels len h bytes some is =
-    ap (λ (k : Head). item_within levels k bytes) is ∙ ap (λ (r : Reader Item). r (head.Map len) bytes) (deeper levels some)
+    ap (λ (k : Head). item_within levels k bytes) is
+    ∙ ap (λ (r : Reader Item). r (head.Map len) bytes) (deeper levels some)
 
-pub by_tag : (levels n : ℕ) (h : Head) (bytes : List ℕ) → 0 < levels → h ≡ head.Tag n → item_within levels h bytes ≡ (start (item_within (levels - 1)) bytes >>= λ x. Some (tagged n x.0, x.1))
+pub by_tag : (levels n : ℕ) (h : Head) (bytes : List ℕ) → 0 < levels → h ≡ head.Tag n
+    → item_within levels h bytes ≡ (start (item_within (levels - 1)) bytes >>= λ x. Some (tagged n x.0, x.1))
 unfolding item_by
 by_tag levels n h bytes some is =
-    ap (λ (k : Head). item_within levels k bytes) is ∙ ap (λ (r : Reader Item). r (head.Tag n) bytes) (deeper levels some)
+    ap (λ (k : Head). item_within levels k bytes) is
+    ∙ ap (λ (r : Reader Item). r (head.Tag n) bytes) (deeper levels some)
 
--- what is deeper than the levels that are left is not read, nor is a break
-pub by_nothing : (levels : ℕ) (h g : Head) (bytes : List ℕ) → levels ≡ 0 → h ≡ g → item_by None g bytes ≡ None → item_within levels h bytes ≡ None
+-- data items beyond the levels that are left aren't decoded, nor is a break
+pub by_nothing : (levels : ℕ) (h g : Head) (bytes : List ℕ) → levels ≡ 0 → h ≡ g → item_by None g bytes ≡ None
+    → item_within levels h bytes ≡ None
 by_nothing levels h g bytes none is e =
-    ap (λ (k : Head). item_within levels k bytes) is ∙ ap (λ (l : ℕ). item_within l g bytes) none ∙ ap (λ (r : Reader Item). r g bytes) within_zero ∙ e
+    ap (λ (k : Head). item_within levels k bytes) is ∙ ap (λ (l : ℕ). item_within l g bytes) none
+    ∙ ap (λ (r : Reader Item). r g bytes) within_zero ∙ e
 
 pub by_break : (levels : ℕ) (h : Head) (bytes : List ℕ) → h ≡ head.Break → item_within levels h bytes ≡ None
 unfolding item_by
-by_break levels h bytes is = ap (λ (k : Head). item_within levels k bytes) is ∙ ap (λ (r : Reader Item). r head.Break bytes) (within_by levels).1
+by_break levels h bytes is = ap (λ (k : Head). item_within levels k bytes) is
+    ∙ ap (λ (r : Reader Item). r head.Break bytes) (within_by levels).1
 
--- ---- passing over it
+-- ---- skipping it
 
-pub flat_skipped : {A : Type 0} (read : Read A) (x : A) (a : Walk) → IsInside a → read ≡ Some (x, ahead a) → PassesOver read a a
+pub flat_skipped : {A : Type 0} (read : Read A) (x : A) (a : Walk) → IsInside a → read ≡ Some (x, ahead a)
+    → PassesOver read a a
 flat_skipped read x a inside e = record { value = x; reads = e; passed = passed_none a inside }
 
 pub none_skipped : {A : Type 0} (read : Read A) (a : Walk) → IsInside a → read ≡ None → NoHead read a a
 none_skipped read a inside e = record { reads = e; stopped = stopped_none a inside }
 
-pub made_skipped : {A B : Type 0} (read : Read A) (whole : Read B) (make : A → B) (a b : Walk) (found : Bool) → IsInside a → whole ≡ (read >>= λ x. Some (make x.0, x.1)) → Skips read a b found → Skips whole a b found
+pub made_skipped : {A B : Type 0} (read : Read A) (whole : Read B) (make : A → B) (a b : Walk) (found : Bool)
+    → IsInside a → whole ≡ (read >>= λ x. Some (make x.0, x.1)) → Skips read a b found → Skips whole a b found
 made_skipped read whole make a b found inside e s =
-    skips_after (read >>= λ x. Some (make x.0, x.1)) whole a a b found (passed_none a inside) e (skips_made read make a b found s)
+    skips_after (read >>= λ x. Some (make x.0, x.1)) whole a a b found (passed_none a inside) e
+    (skips_made read make a b found s)
 
--- two items: one whose head was read, and another
-pub pair_skipped : (read : Reader Item) (h : Head) (a b c : Walk) (found : Bool) → PassesOver (read h (ahead a)) a b → Skips (start read (ahead b)) b c found → Skips (pair_by read h (ahead a)) a c found
+-- two data items: the first one's head is decoded already
+pub pair_skipped : (read : Reader Item) (h : Head) (a b c : Walk) (found : Bool) → PassesOver (read h (ahead a)) a b
+    → Skips (start read (ahead b)) b c found → Skips (pair_by read h (ahead a)) a c found
 pair_skipped read h a b c found p s =
-    let key : pair_by read h (ahead a) ≡ (start read (ahead b) >>= λ v. Some ((p.value, v.0), v.1)) = bind_at (read h (ahead a)) (p.value, ahead b) (λ k. start read k.1 >>= λ v. Some ((k.0, v.0), v.1)) p.reads in
-    skips_after _ (pair_by read h (ahead a)) a b c found p.passed key (skips_made (start read (ahead b)) (λ (v : Item). let both : Item × Item = (p.value, v) in both) b c found s)
+    let key : pair_by read h (ahead a) ≡ (start read (ahead b) >>= λ v. Some ((p.value, v.0), v.1)) = bind_at
+    (read h (ahead a)) (p.value, ahead b) (λ k. start read k.1 >>= λ v. Some ((k.0, v.0), v.1)) p.reads in
+    skips_after _ (pair_by read h (ahead a)) a b c found p.passed key (skips_made (start read (ahead b))
+    (λ (v : Item). let both : Item × Item = (p.value, v) in both) b c found s)
 
-pub no_pair : (read : Reader Item) (h : Head) (a b : Walk) → NoHead (read h (ahead a)) a b → NoHead (pair_by read h (ahead a)) a b
+pub no_pair : (read : Reader Item) (h : Head) (a b : Walk) → NoHead (read h (ahead a)) a b
+    → NoHead (pair_by read h (ahead a)) a b
 no_pair read h a b s = skips_stuck (read h (ahead a)) (λ k. start read k.1 >>= λ v. Some ((k.0, v.0), v.1)) a b s
 
 -- the bytes of a string or of a chunk
-pub piece_skipped : {B : Type 0} (now : B → List ℕ) (is_text : Bool) (read : Read (List ℕ)) (a b : Walk) (piece : Option B) → ReadsPiece is_text read a b (option_map now piece) → Skips read a b (is_some piece)
+pub piece_skipped : {B : Type 0} (now : B → List ℕ) (is_text : Bool) (read : Read (List ℕ)) (a b : Walk)
+    (piece : Option B) → ReadsPiece is_text read a b (option_map now piece) → Skips read a b (is_some piece)
 piece_skipped now is_text read a b (Some s) p = record { value = now s; reads = p.reads; passed = p.passed }
 piece_skipped now is_text read a b None p = p
 
--- a string whose head was read
-pub string_piece : (is_text : Bool) (len : Option ℕ) (n : ℕ) (bytes : List ℕ) → len ≡ Some n → string_at is_text len bytes ≡ piece_at is_text n bytes
+-- a string whose head is decoded already
+pub string_piece : (is_text : Bool) (len : Option ℕ) (n : ℕ) (bytes : List ℕ) → len ≡ Some n
+    → string_at is_text len bytes ≡ piece_at is_text n bytes
 unfolding string_at
 string_piece is_text len n bytes is = ap (λ (l : Option ℕ). string_at is_text l bytes) is
 
-pub string_chunks : (is_text : Bool) (len : Option ℕ) (bytes : List ℕ) → len ≡ None → string_at is_text len bytes ≡ (list_at (chunk is_text) None bytes >>= λ cs. Some (concat cs.0, cs.1))
+pub string_chunks : (is_text : Bool) (len : Option ℕ) (bytes : List ℕ) → len ≡ None
+    → string_at is_text len bytes ≡ (list_at (chunk is_text) None bytes >>= λ cs. Some (concat cs.0, cs.1))
 unfolding string_at
 string_chunks is_text len bytes is = ap (λ (l : Option ℕ). string_at is_text l bytes) is
 
 -- an element of a list
-pub entry_skipped : (levels : ℕ) (e g : Entry) (h : Head) (a b : Walk) (found : Bool) → e ≡ g → Skips (entry_by levels g h (ahead a)) a b found → Skips (entry_by levels e h (ahead a)) a b found
-entry_skipped levels e g h a b found is s = subst (λ (k : Entry). Skips (entry_by levels k h (ahead a)) a b found) (sym is) s
+pub entry_skipped : (levels : ℕ) (e g : Entry) (h : Head) (a b : Walk) (found : Bool) → e ≡ g
+    → Skips (entry_by levels g h (ahead a)) a b found → Skips (entry_by levels e h (ahead a)) a b found
+entry_skipped levels e g h a b found is s =
+    subst (λ (k : Entry). Skips (entry_by levels k h (ahead a)) a b found) (sym is) s
+
+-- ---- an element of a list, from its first head on
+
+pair_begun : (read : Reader Item) (o : Read Head) → (o >>= λ h. pair_by read h.0 h.1)
+    ≡ ((o >>= λ h. read h.0 h.1) >>= λ k. start read k.1 >>= λ v. Some ((k.0, v.0), v.1))
+pair_begun read None = refl
+pair_begun read (Some h) = refl
+
+pub whole_pair : (read : Reader Item) (a b c : Walk) (found : Bool) → PassesOver (start read (ahead a)) a b
+    → Skips (start read (ahead b)) b c found → Skips (start (pair_by read) (ahead a)) a c found
+whole_pair read a b c found p s =
+    let key : start (pair_by read) (ahead a) ≡ (start read (ahead b) >>= λ v. Some ((p.value, v.0), v.1)) =
+    pair_begun read (head_at (ahead a)) ∙ bind_at (start read (ahead a)) (p.value, ahead b)
+    (λ k. start read k.1 >>= λ v. Some ((k.0, v.0), v.1)) p.reads in
+    skips_after _ (start (pair_by read) (ahead a)) a b c found p.passed key (skips_made (start read (ahead b))
+    (λ (v : Item). let both : Item × Item = (p.value, v) in both) b c found s)
+
+pub no_key : (read : Reader Item) (a b : Walk) → NoHead (start read (ahead a)) a b
+    → NoHead (start (pair_by read) (ahead a)) a b
+no_key read a b s =
+    let stuck = skips_stuck (start read (ahead a)) (λ k. start read k.1 >>= λ v. Some ((k.0, v.0), v.1)) a b s in
+    record { reads = pair_begun read (head_at (ahead a)) ∙ stuck.reads; stopped = stuck.stopped }
+
+pub whole_entry : (levels : ℕ) (e g : Entry) (a b : Walk) (found : Bool) → e ≡ g
+    → Skips (start (entry_by levels g) (ahead a)) a b found → Skips (start (entry_by levels e) (ahead a)) a b found
+whole_entry levels e g a b found is s =
+    subst (λ (k : Entry). Skips (start (entry_by levels k) (ahead a)) a b found) (sym is) s

@@ -1,4 +1,4 @@
--- Copying takes memory only where the copied item does.
+-- Copying takes memory only if the copied data item does.
 use Rattle.std.proofs.Common.{◌≡◌, List, [], ◌∷◌, length, refl, false, IsTrue}
 use Rattle.passkey_cbor.specs.Item as spec
 use Rattle.passkey_cbor.specs.View.{items_view, pairs_view}

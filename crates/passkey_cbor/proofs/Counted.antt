@@ -1,4 +1,4 @@
--- How many items are made.
+-- How many data items are built.
 use Rattle.std.proofs.Common.{◌≡◌, ◌⊎◌, ℕ, ◌+◌, ◌-◌, ◌<◌, ◌≤◌, min, ◌^◌, List, [], ◌∷◌, length, Result, Ok, Err, refl, ap, ◌∙◌, arith, inl, inr}
 use Rattle.std.proofs.lemmas.Bool.{cases_eq, cases_lt, lt-ltb, le-ltb, ne_eqb}
 use Rattle.passkey_cbor.specs.Item.{Item, number, byte_string, text_string, array, map, tagged, boolean, null, simple, float, items_of, pairs_of}
@@ -31,7 +31,7 @@ pairs_nodes-pairs_of : (ms : List (Item × Item)) → pairs_nodes (pairs_of ms) 
 pairs_nodes-pairs_of [] = refl
 pairs_nodes-pairs_of (m ∷ ms) = ap (λ (k : ℕ). (nodes m.0 + nodes m.1) + k) (pairs_nodes-pairs_of ms)
 
--- ---- the items inside an item
+-- ---- the data items inside a data item
 
 pub array_size : (xs : List Item) → nodes (array (items_of xs)) - 1 ≡ total nodes xs
 array_size xs = omega (arith, items_nodes-items_of xs)
@@ -45,8 +45,18 @@ tag_size t x = omega arith
 simple_nodes : (n : ℕ) → nodes (simple_item n) ≡ 1
 simple_nodes n = by_20 (cases_lt n 20) where
   by_24 : 22 ≤ n → (n < 24) ⊎ (24 ≤ n) → nodes (simple_item n) ≡ 1
-  by_24 le (inl lt) = rw (le-ltb n 20 (omega arith), ne_eqb n 20 (λ (q : n ≡ 20). omega arith), ne_eqb n 21 (λ (q : n ≡ 21). omega arith), lt-ltb n 24 lt) refl
-  by_24 le (inr ge) = rw (le-ltb n 20 (omega arith), ne_eqb n 20 (λ (q : n ≡ 20). omega arith), ne_eqb n 21 (λ (q : n ≡ 21). omega arith), le-ltb n 24 ge) refl
+  by_24 le (inl lt) = rw (
+    le-ltb n 20 (omega arith),
+    ne_eqb n 20 (λ (q : n ≡ 20). omega arith),
+    ne_eqb n 21 (λ (q : n ≡ 21). omega arith),
+    lt-ltb n 24 lt,
+  ) refl
+  by_24 le (inr ge) = rw (
+    le-ltb n 20 (omega arith),
+    ne_eqb n 20 (λ (q : n ≡ 20). omega arith),
+    ne_eqb n 21 (λ (q : n ≡ 21). omega arith),
+    le-ltb n 24 ge,
+  ) refl
 
   by_21 : 20 ≤ n → (n ≡ 20 → ⊥) → (n ≡ 21) ⊎ (n ≡ 21 → ⊥) → nodes (simple_item n) ≡ 1
   by_21 le ne (inl q) = ap (λ (k : ℕ). nodes (simple_item k)) q
@@ -54,27 +64,34 @@ simple_nodes n = by_20 (cases_lt n 20) where
 
   by_20 : (n < 20) ⊎ (20 ≤ n) → nodes (simple_item n) ≡ 1
   by_20 (inl lt) = rw (lt-ltb n 20 lt) refl
-  by_20 (inr le) = elim (cases_eq n 20) [ inl q ↦ ap (λ (k : ℕ). nodes (simple_item k)) q | inr ne ↦ by_21 le ne (cases_eq n 21) ]
+  by_20 (inr le) = elim (cases_eq n 20)
+      [ inl q ↦ ap (λ (k : ℕ). nodes (simple_item k)) q | inr ne ↦ by_21 le ne (cases_eq n 21) ]
 
 pub simple_size : (n : ℕ) → nodes (simple_item n) - 1 ≡ 0
 simple_size n = omega (arith, simple_nodes n)
 
--- ---- an item is counted once
+-- ---- a data item is counted once
 
--- one more item was counted
+-- one more data item was counted
 abbrev pub one_more : Walk → Walk
 one_more a = record a { heads = min (a.heads + 0) (2 ^ 128 - 1); nodes = min (a.nodes + 1) (2 ^ 128 - 1) }
 
-counted : (x : Item) (rest : List ℕ) (a b c : Walk) (result : Result Value CborError) → b ≡ one_more a → Made a_counted_item x rest b c result → Made an_item x rest a c result
+counted : (x : Item) (rest : List ℕ) (a b c : Walk) (result : Result Value CborError) → b ≡ one_more a
+    → Made a_counted_item x rest b c result → Made an_item x rest a c result
 counted x rest a b c (Ok v) e k =
     let up : b.nodes ≡ raised a.nodes 1 = ap (λ (w : Walk). w.nodes) e in
-    let sum : 1 + (nodes x - 1) ≡ nodes x = omega (arith, nodes-pos x) in
-    (k.0, k.1, k.2 ∙ ap (λ (n : ℕ). raised n (nodes x - 1)) up ∙ raised-raised a.nodes 1 (nodes x - 1) ∙ ap (raised a.nodes) sum)
+    let sum : 1 + (nodes x - 1) ≡ nodes x = omega (arith, nodes-pos x) in (
+      k.0,
+      k.1,
+      k.2 ∙ ap (λ (n : ℕ). raised n (nodes x - 1)) up ∙ raised-raised a.nodes 1 (nodes x - 1)
+          ∙ ap (raised a.nodes) sum,
+    )
 counted x rest a b c (Err f) e k =
     let up : b.nodes ≡ min (a.nodes + 1) (2 ^ 128 - 1) = ap (λ (w : Walk). w.nodes) e in
     fails_within a_counted_item an_item x x rest rest a b c f (λ t. t) (omega (arith, up, nodes-pos x)) k
 
-pub counted_once : (read : Read Item) (a b c : Walk) (result : Result Value CborError) → b ≡ one_more a → a.heads ≤ b.heads → a.nodes ≤ b.nodes → Makes a_counted_item read b c result → Makes an_item read a c result
+pub counted_once : (read : Read Item) (a b c : Walk) (result : Result Value CborError) → b ≡ one_more a
+    → a.heads ≤ b.heads → a.nodes ≤ b.nodes → Makes a_counted_item read b c result → Makes an_item read a c result
 counted_once read a b c result e heads nodes k =
     let bytes_are : b.bytes ≡ a.bytes = ap (λ (w : Walk). w.bytes) e in
     let place_is : b.place ≡ a.place = ap (λ (w : Walk). w.place) e in
@@ -87,5 +104,6 @@ counted_once read a b c result e heads nodes k =
         nodes = omega (arith, k.went.nodes, nodes);
       };
       made = λ x rest f. counted x rest a b c result e (k.made x rest f);
-      heads = λ x rest f. omega (arith, k.heads x rest f, ap (λ (w : Walk). w.heads) e, ap (λ (w : Walk). length (ahead w)) e);
+      heads = λ x rest f. omega
+          (arith, k.heads x rest f, ap (λ (w : Walk). w.heads) e, ap (λ (w : Walk). length (ahead w)) e);
     }

@@ -1,44 +1,47 @@
--- Strings that are passed and lent.
+-- Strings that a cursor passes and borrows.
 use Rattle.std.proofs.Common.{◌≡◌, ℕ, ◌+◌, ◌-◌, ◌<◌, ◌≤◌, Bool, true, false, List, ◌++◌, length, take, drop, Option, Some, None, option_map, is_some, refl, sym, ap, subst, ◌∙◌, append_assoc, arith}
 use Rattle.std.proofs.lemmas.List.{length-append, length-drop, take-append-drop, take_at}
 use Rattle.passkey_cbor.specs.Bytes.{IsBytes}
 use Rattle.passkey_cbor.specs.Item.{Item}
 use Rattle.passkey_cbor.specs.Depth.{depth}
 use Rattle.passkey_cbor.specs.Languages.{Then}
-use Rattle.passkey_cbor.specs.Spelling.{Spells, Strings}
-use Rattle.passkey_cbor.specs.Front.{max_depth, IsFront}
-use Rattle.passkey_cbor.specs.HeadSpelling.{LengthHeads, SpellsHead}
-use Rattle.passkey_cbor.specs.Inside.{MayStand, major_type, Content}
+use Rattle.passkey_cbor.specs.Encoding.{IsEncoding, Strings}
+use Rattle.passkey_cbor.specs.LeadingItem.{max_depth, IsLeadingItem}
+use Rattle.passkey_cbor.specs.HeadEncoding.{LengthHeads, IsEncodingOfHead}
+use Rattle.passkey_cbor.specs.Inside.{IsAllowed, major_type, Content}
 use Rattle.passkey_cbor.specs.HeadReading.{head_at}
 use Rattle.passkey_cbor.specs.Reading.{start, string_len, string_at, string_by, item_within}
 use Rattle.passkey_cbor.specs.Walk.{Walk, ahead, raised, IsInside}
 use Rattle.passkey_cbor.specs.Steps.{NoHead, HeadRead, PassesOver, RegionRead, NoStringRead, ReadsString, IsLengthOf}
 use Rattle.passkey_cbor.specs.Found.{PassesHead}
-use Rattle.passkey_cbor.specs.Lent.{Region, string_item, string_head, PassesString, LendsString, LendsStanding, IsSized}
+use Rattle.passkey_cbor.specs.Lent.{Region, string_item, string_head, PassesString, LendsString, LendsEncoded, IsSized}
 use Rattle.passkey_cbor.specs.declared.head.Head.{Head}
 use Rattle.passkey_cbor.specs.declared.head.Head.TheVariants as head
 use Rattle.passkey_cbor.proofs.Binds.{some_is, none_is_some, bind_at, bind_none}
-use Rattle.passkey_cbor.proofs.Strings.{starts, spells_string_head, string_head_spells, string_again, string_takes, string_headed, headed_string}
-use Rattle.passkey_cbor.proofs.Standing.{stands_front, only_one}
-use Rattle.passkey_cbor.proofs.Fronts.{front_again}
+use Rattle.passkey_cbor.proofs.Strings.{starts, encodes_string_head, string_head_encodes, string_again, string_takes, string_headed, headed_string}
+use Rattle.passkey_cbor.proofs.EncodedFrom.{stands_front, only_one}
+use Rattle.passkey_cbor.proofs.LeadingItems.{front_again}
 use Rattle.passkey_cbor.proofs.Behind.{by_string}
 use Rattle.passkey_cbor.proofs.Skipping.{stopped_then}
 
--- ---- strings as items
+-- ---- strings as data items
 
-string_spelled : (is_text : Bool) (s t : List ℕ) → Strings (MayStand is_text) (major_type is_text) s t → Spells (string_item is_text s) t
-string_spelled false s t p = p
-string_spelled true s t p = p
+string_encoded : (is_text : Bool) (s t : List ℕ) → Strings (IsAllowed is_text) (major_type is_text) s t
+    → IsEncoding (string_item is_text s) t
+string_encoded false s t p = p
+string_encoded true s t p = p
 
-spelled_string : (is_text : Bool) (s t : List ℕ) → Spells (string_item is_text s) t → Strings (MayStand is_text) (major_type is_text) s t
-spelled_string false s t p = p
-spelled_string true s t p = p
+encoded_string : (is_text : Bool) (s t : List ℕ) → IsEncoding (string_item is_text s) t
+    → Strings (IsAllowed is_text) (major_type is_text) s t
+encoded_string false s t p = p
+encoded_string true s t p = p
 
 string_shallow : (is_text : Bool) (s : List ℕ) → depth (string_item is_text s) ≤ max_depth
 string_shallow false s = omega arith
 string_shallow true s = omega arith
 
-pub string_len-is : (is_text : Bool) (h : Head) (len : Option ℕ) → string_len is_text h ≡ Some len → h ≡ string_head is_text len
+pub string_len-is : (is_text : Bool) (h : Head) (len : Option ℕ) → string_len is_text h ≡ Some len
+    → h ≡ string_head is_text len
 string_len-is is_text (head.Unsigned m) len e = absurd (none_is_some len e)
 string_len-is is_text (head.Negative m) len e = absurd (none_is_some len e)
 string_len-is false (head.Bytes l) len e = ap head.Bytes (some_is l len e)
@@ -52,42 +55,70 @@ string_len-is is_text (head.Simple m) len e = absurd (none_is_some len e)
 string_len-is is_text (head.Float f) len e = absurd (none_is_some len e)
 string_len-is is_text head.Break len e = absurd (none_is_some len e)
 
-string_by_head : (is_text : Bool) (len : Option ℕ) (bytes : List ℕ) → string_by is_text (string_head is_text len) bytes ≡ string_at is_text len bytes
+string_by_head : (is_text : Bool) (len : Option ℕ) (bytes : List ℕ)
+    → string_by is_text (string_head is_text len) bytes ≡ string_at is_text len bytes
 string_by_head false len bytes = refl
 string_by_head true len bytes = refl
 
--- ---- what was passed
+-- ---- a string was passed
 
--- what stands behind the head of a string
-pub region_read : (is_text : Bool) (len : Option ℕ) (a b : Walk) (region : List ℕ) → IsInside a → IsBytes (ahead a) → PassesOver (string_at is_text len (ahead a)) a b → region ≡ take (b.place - a.place) (ahead a) → RegionRead is_text len a b region
+-- the bytes after a string's head
+pub region_read : (is_text : Bool) (len : Option ℕ) (a b : Walk) (region : List ℕ) → IsInside a → IsBytes (ahead a)
+    → PassesOver (string_at is_text len (ahead a)) a b → region ≡ take (b.place - a.place) (ahead a)
+    → RegionRead is_text len a b region
 region_read is_text len a b region inside fits p is =
     let t = string_takes is_text len (ahead a) p.value (ahead b) fits p.reads in
     let same : length b.bytes ≡ length a.bytes = ap length p.passed.same in
     let long : length t.text ≡ b.place - a.place =
-    omega (arith, same, inside, ap length t.parts, length-append t.text (ahead b), p.passed.forward, p.passed.within, length-drop a.place a.bytes, length-drop b.place b.bytes) in
-    let whole : region ≡ t.text = is ∙ ap (take (b.place - a.place)) t.parts ∙ take_at t.text (ahead b) (b.place - a.place) long in
+    omega (
+      arith,
+      same,
+      inside,
+      ap length t.parts,
+      length-append t.text (ahead b),
+      p.passed.forward,
+      p.passed.within,
+      length-drop a.place a.bytes,
+      length-drop b.place b.bytes,
+    ) in
+    let whole : region ≡ t.text =
+    is ∙ ap (take (b.place - a.place)) t.parts ∙ take_at t.text (ahead b) (b.place - a.place) long in
     record {
       content = p.value;
-      tells = subst (Content is_text len p.value) (sym whole) t.spelled;
+      tells = subst (Content is_text len p.value) (sym whole) t.encoded;
       parts = t.parts ∙ ap (λ (r : List ℕ). r ++ ahead b) (sym whole);
       passed = p.passed;
     }
 
--- how many bytes the string of a region has
-pub region_sized : (is_text : Bool) (len : Option ℕ) (a b : Walk) (region : List ℕ) (size : ℕ) → RegionRead is_text len a b region → IsLengthOf (string_at is_text len (ahead a)) size → IsSized is_text (record { len = len; bytes = region }) size
-region_sized is_text len a b region size r sized s c = sized s (ahead b) (ap (string_at is_text len) r.parts ∙ string_again is_text len s region (ahead b) c)
+-- the length of a region's string
+pub region_sized : (is_text : Bool) (len : Option ℕ) (a b : Walk) (region : List ℕ) (size : ℕ)
+    → RegionRead is_text len a b region → IsLengthOf (string_at is_text len (ahead a)) size
+    → IsSized is_text (record { len = len; bytes = region }) size
+region_sized is_text len a b region size r sized s c =
+    sized s (ahead b) (ap (string_at is_text len) r.parts ∙ string_again is_text len s region (ahead b) c)
 
 -- a string with its head
-pub string_read : (is_text : Bool) (len : Option ℕ) (a b c : Walk) (h : Head) (region : List ℕ) → IsInside a → PassesHead a b h → a.place < b.place → string_len is_text h ≡ Some len → RegionRead is_text len b c region → PassesString is_text a c (record { len = len; bytes = region })
+pub string_read : (is_text : Bool) (len : Option ℕ) (a b c : Walk) (h : Head) (region : List ℕ) → IsInside a
+    → PassesHead a b h → a.place < b.place → string_len is_text h ≡ Some len → RegionRead is_text len b c region
+    → PassesString is_text a c (record { len = len; bytes = region })
 string_read is_text len a b c h region inside p further is r =
-    let spelled : SpellsHead (string_head is_text len) p.text = subst (λ (g : Head). SpellsHead g p.text) (string_len-is is_text h len is) p.spelled in
-    let whole : ahead a ≡ (p.text ++ region) ++ ahead c = p.parts ∙ ap (λ (t : List ℕ). p.text ++ t) r.parts ∙ sym (append_assoc p.text region (ahead c)) in
+    let encoded : IsEncodingOfHead (string_head is_text len) p.text =
+    subst (λ (g : Head). IsEncodingOfHead g p.text) (string_len-is is_text h len is) p.encoded in
+    let whole : ahead a ≡ (p.text ++ region) ++ ahead c =
+    p.parts ∙ ap (λ (t : List ℕ). p.text ++ t) r.parts ∙ sym (append_assoc p.text region (ahead c)) in
     let size : length (ahead a) ≡ length p.text + length region + length (ahead c) =
     omega (arith, ap length whole, length-append (p.text ++ region) (ahead c), length-append p.text region) in
     let taken : take (length p.text + length region) (ahead a) ≡ p.text ++ region =
-    ap (take (length p.text + length region)) whole ∙ take_at (p.text ++ region) (ahead c) (length p.text + length region) (length-append p.text region) in
+    ap (take (length p.text + length region)) whole
+    ∙ take_at (p.text ++ region) (ahead c) (length p.text + length region) (length-append p.text region) in
     let headed : Then (LengthHeads (major_type is_text) len) (Content is_text len r.content) (p.text ++ region) =
-    record { front = p.text; back = region; first = string_head_spells is_text len p.text spelled; second = r.tells; whole = refl } in
+    record {
+      front = p.text;
+      back = region;
+      first = string_head_encodes is_text len p.text encoded;
+      second = r.tells;
+      whole = refl;
+    } in
     let same : length c.bytes ≡ length a.bytes = ap length (r.passed.same ∙ p.bytes) in
     let place : c.place ≡ a.place + (length p.text + length region) =
     omega (arith, size, same, inside, r.passed.within, length-drop a.place a.bytes, length-drop c.place c.bytes) in
@@ -96,10 +127,11 @@ string_read is_text len a b c h region inside p further is r =
       len = length p.text + length region;
       front = record {
         within = omega (arith, size);
-        spelled = subst (Spells (string_item is_text r.content)) (sym taken) (string_spelled is_text r.content (p.text ++ region) (headed_string is_text r.content (p.text ++ region) len headed));
+        encoded = subst (IsEncoding (string_item is_text r.content)) (sym taken) (string_encoded is_text r.content
+            (p.text ++ region) (headed_string is_text r.content (p.text ++ region) len headed));
         shallow = string_shallow is_text r.content;
       };
-      headed = record { front = p.text; back = region; first = spelled; second = refl; whole = taken };
+      headed = record { front = p.text; back = region; first = encoded; second = refl; whole = taken };
       tells = r.tells;
       place = place;
       least = omega (arith, p.heads, r.passed.rises);
@@ -108,39 +140,49 @@ string_read is_text len a b c h region inside p further is r =
       bytes = r.passed.same ∙ p.bytes;
     }
 
--- ---- where nothing was passed
+-- ---- no string was passed
 
--- no head of such a string stands there, and one was decoded
-pub no_string_head : (is_text : Bool) (a b : Walk) → NoHead (start (string_by is_text) (ahead a)) a b → b.heads ≡ raised a.heads 1 → NoStringRead is_text a b
+-- the next head isn't that of a string of this kind, and one head was decoded
+pub no_string_head : (is_text : Bool) (a b : Walk) → NoHead (start (string_by is_text) (ahead a)) a b
+    → b.heads ≡ raised a.heads 1 → NoStringRead is_text a b
 no_string_head is_text a b n one = record { no_string = n; least = omega (arith, one); one = λ x rest e. one }
 
--- one does, and the string isn't read: so no item is
-pub string_cut : (is_text : Bool) (len : Option ℕ) (a b c : Walk) (h : Head) → HeadRead a b h → string_len is_text h ≡ Some len → NoHead (string_at is_text len (ahead b)) b c → NoStringRead is_text a c
+-- the head is a string's, but the string isn't well-formed: so there is no leading data item
+pub string_cut : (is_text : Bool) (len : Option ℕ) (a b c : Walk) (h : Head) → HeadRead a b h
+    → string_len is_text h ≡ Some len → NoHead (string_at is_text len (ahead b)) b c → NoStringRead is_text a c
 string_cut is_text len a b c h r is n =
     let head_is : h ≡ string_head is_text len = string_len-is is_text h len is in
-    let no_item : start (item_within max_depth) (ahead a) ≡ None = bind_at (head_at (ahead a)) (h, ahead b) (λ h. item_within max_depth h.0 h.1) r.reads ∙ by_string max_depth is_text len h (ahead b) head_is ∙ bind_none (string_at is_text len (ahead b)) (λ s. Some (string_item is_text s.0, s.1)) n.reads in
+    let no_item : start (item_within max_depth) (ahead a) ≡ None = bind_at (head_at (ahead a)) (h, ahead b)
+    (λ h. item_within max_depth h.0 h.1) r.reads ∙ by_string max_depth is_text len h (ahead b) head_is
+    ∙ bind_none (string_at is_text len (ahead b)) (λ s. Some (string_item is_text s.0, s.1)) n.reads in
     record {
       no_string = record {
-        reads = bind_at (head_at (ahead a)) (h, ahead b) (λ h. string_by is_text h.0 h.1) r.reads ∙ ap (λ (g : Head). string_by is_text g (ahead b)) head_is ∙ string_by_head is_text len (ahead b) ∙ n.reads;
+        reads = bind_at (head_at (ahead a)) (h, ahead b) (λ h. string_by is_text h.0 h.1) r.reads ∙ ap
+            (λ (g : Head). string_by is_text g (ahead b)) head_is ∙ string_by_head is_text len (ahead b) ∙ n.reads;
         stopped = stopped_then a b c r.passed n.stopped;
       };
       least = omega (arith, r.counted, n.stopped.rises);
       one = λ x rest e. absurd (none_is_some (x, rest) (sym no_item ∙ e));
     }
 
-string_again_headed : (is_text : Bool) (bytes s : List ℕ) (k : ℕ) → IsFront bytes (string_item is_text s) k → start (string_by is_text) bytes ≡ Some (s, drop k bytes)
+string_again_headed : (is_text : Bool) (bytes s : List ℕ) (k : ℕ) → IsLeadingItem bytes (string_item is_text s) k
+    → start (string_by is_text) bytes ≡ Some (s, drop k bytes)
 string_again_headed is_text bytes s k f =
-    let h = string_headed is_text s (take k bytes) (spelled_string is_text s (take k bytes) f.spelled) in
+    let h = string_headed is_text s (take k bytes) (encoded_string is_text s (take k bytes) f.encoded) in
     let p = h.parts in
     ap (start (string_by is_text)) (sym (take-append-drop k bytes))
-    ∙ starts (string_by is_text) (string_head is_text h.len) p.front p.back (take k bytes) (drop k bytes) (spells_string_head is_text h.len p.front p.first) p.whole
+    ∙ starts (string_by is_text) (string_head is_text h.len) p.front p.back (take k bytes) (drop k bytes)
+    (encodes_string_head is_text h.len p.front p.first) p.whole
     ∙ string_by_head is_text h.len (p.back ++ drop k bytes)
     ∙ string_again is_text h.len s p.back (drop k bytes) p.second
 
-pub string_missed : {T : Type 0} (region : T → Region) (is_text : Bool) (a b : Walk) (place : ℕ) (found : Option T) → is_some found ≡ false → place ≡ a.place → ReadsString is_text a b (option_map region found) → LendsString is_text a (record b { place = place }) (option_map region found)
+pub string_missed : {T : Type 0} (region : T → Region) (is_text : Bool) (a b : Walk) (place : ℕ) (found : Option T)
+    → is_some found ≡ false → place ≡ a.place → ReadsString is_text a b (option_map region found)
+    → LendsString is_text a (record b { place = place }) (option_map region found)
 string_missed region is_text a b place (Some r) none back n = absurd cc
 string_missed region is_text a b place None none back n = record {
-  none = λ s k f. none_is_some (s, drop k (ahead a)) (sym n.no_string.reads ∙ string_again_headed is_text (ahead a) s k f);
+  none = λ s k f. none_is_some (s, drop k (ahead a))
+      (sym n.no_string.reads ∙ string_again_headed is_text (ahead a) s k f);
   place = back;
   one = λ x k f. n.one x (drop k (ahead a)) (front_again (ahead a) x k f);
   least = n.least;
@@ -149,15 +191,38 @@ string_missed region is_text a b place None none back n = record {
   bytes = n.no_string.stopped.same;
 }
 
-pub string_found : {T : Type 0} (region : T → Region) (is_text : Bool) (a b : Walk) (found : Option T) → is_some found ≡ true → ReadsString is_text a b (option_map region found) → LendsString is_text a b (option_map region found)
+pub string_found : {T : Type 0} (region : T → Region) (is_text : Bool) (a b : Walk) (found : Option T)
+    → is_some found ≡ true → ReadsString is_text a b (option_map region found)
+    → LendsString is_text a b (option_map region found)
 string_found region is_text a b (Some r) some p = p
 string_found region is_text a b None some p = absurd cc
 
--- ---- by the item that stands there
+-- ---- by the data item that is encoded at the cursor
 
-pub lends : (is_text : Bool) (a b : Walk) (found : Option Region) → LendsString is_text a b found → LendsStanding is_text a b found
+pub lends : (is_text : Bool) (a b : Walk) (found : Option Region) → LendsString is_text a b found
+    → LendsEncoded is_text a b found
 lends is_text a b (Some r) p x to l =
-    let same = only_one x (string_item is_text p.content) a.bytes a.place to p.len l p.front in
-    (p.content, (sym same.0, record { tells = p.tells; place = omega (arith, p.place, same.1, l.forward); least = p.least; heads = omega (arith, p.heads, same.1, l.forward); nodes = p.nodes; bytes = p.bytes }))
-lends is_text a b None n x to l =
-    (λ s is. n.none s (to - a.place) (subst (λ (y : Item). IsFront (ahead a) y (to - a.place)) is (stands_front x a.bytes a.place to l)), record { place = n.place; heads = n.one x (to - a.place) (stands_front x a.bytes a.place to l); nodes = n.nodes; bytes = n.bytes })
+    let same = only_one x (string_item is_text p.content) a.bytes a.place to p.len l p.front in (
+      p.content,
+      (
+        sym same.0,
+        record {
+          tells = p.tells;
+          place = omega (arith, p.place, same.1, l.forward);
+          least = p.least;
+          heads = omega (arith, p.heads, same.1, l.forward);
+          nodes = p.nodes;
+          bytes = p.bytes;
+        },
+      ),
+    )
+lends is_text a b None n x to l = (
+  λ s is. n.none s (to - a.place) (subst (λ (y : Item). IsLeadingItem (ahead a) y (to - a.place)) is
+      (stands_front x a.bytes a.place to l)),
+  record {
+    place = n.place;
+    heads = n.one x (to - a.place) (stands_front x a.bytes a.place to l);
+    nodes = n.nodes;
+    bytes = n.bytes;
+  },
+)

@@ -6,23 +6,22 @@ pub mod Lists
 pub mod Strings
 pub mod Items
 pub mod Filling
-pub mod Fronts
+pub mod LeadingItems
 pub mod Walks
 pub mod Skipping
-pub mod Measures
 pub mod Behind
 pub mod Cloning
 pub mod Comparing
 pub mod Deepest
 pub mod Views
 pub mod Writing
-pub mod WrittenSpells
+pub mod WrittenIsEncoding
 pub mod Gathering
 pub mod Chunks
 pub mod Valuing
 pub mod Shrinking
 pub mod Counted
-pub mod Standing
+pub mod EncodedFrom
 pub mod More
 pub mod Lending
 pub mod Naming
@@ -32,3 +31,5 @@ pub mod MapMembers
 pub mod Reach
 pub mod Shortest
 pub mod CanonicalItems
+mod ShortHeads
+mod Leaves

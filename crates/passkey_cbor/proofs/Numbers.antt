@@ -1,4 +1,4 @@
--- Big-endian numbers, written and read.
+-- Big-endian numbers, encoded and decoded.
 use Rattle.std.proofs.Common.{◌≡◌, ◌⊎◌, ℕ, suc, ◌+◌, ◌<◌, ◌≤◌, List, [], ◌∷◌, ◌++◌, length, take, drop, Some, refl, sym, ap, subst, ◌∙◌, arith, inl, inr}
 use Rattle.std.specs.Int.{byte_len, to_be_bytes, from_be_bytes}
 use Rattle.std.proofs.lemmas.Bool.{cases_lt, lt-ltb, le-ltb}
@@ -32,7 +32,11 @@ length-to_be_bytes eight n = refl
 
 pub taken_again : (t u : List ℕ) → taken_at (length t) (t ++ u) ≡ Some (t, u)
 taken_again t u =
-    rw (le-ltb (length (t ++ u)) (length t) (omega (arith, length-append t u)), take_at t u (length t) refl, drop_at t u (length t) refl) refl
+    rw (
+      le-ltb (length (t ++ u)) (length t) (omega (arith, length-append t u)),
+      take_at t u (length t) refl,
+      drop_at t u (length t) refl,
+    ) refl
 
 -- what was taken, and what is left of the bytes
 pub record Taken (n : ℕ) (bytes t u : List ℕ) : Type 0 where
@@ -51,7 +55,8 @@ taken_is n bytes t u fits e = by_test (cases_lt (length bytes) n) where
       let u_is : drop n bytes ≡ u = ap (λ (p : List ℕ × List ℕ). p.1) parts in
       record {
         long = ap length (sym t_is) ∙ length-take-le n bytes le;
-        parts = sym (take-append-drop n bytes) ∙ ap (λ (p : List ℕ). p ++ drop n bytes) t_is ∙ ap (λ (p : List ℕ). t ++ p) u_is;
+        parts = sym (take-append-drop n bytes) ∙ ap (λ (p : List ℕ). p ++ drop n bytes) t_is
+            ∙ ap (λ (p : List ℕ). t ++ p) u_is;
         fits = subst IsBytes t_is (IsBytes-take n bytes fits);
         rest_fits = subst IsBytes u_is (IsBytes-drop n bytes fits);
       }
@@ -64,15 +69,18 @@ from_be_bytes-to_be_bytes two n lt = from_be_bytes-to_be_bytes_2 n lt
 from_be_bytes-to_be_bytes four n lt = from_be_bytes-to_be_bytes_4 n lt
 from_be_bytes-to_be_bytes eight n lt = from_be_bytes-to_be_bytes_8 n lt
 
-pub number_again : (s : Size) (n : ℕ) (u : List ℕ) → n < limit s → number_at s (to_be_bytes (width s) n ++ u) ≡ Some (n, u)
+pub number_again : (s : Size) (n : ℕ) (u : List ℕ) → n < limit s
+    → number_at s (to_be_bytes (width s) n ++ u) ≡ Some (n, u)
 unfolding number_at
 number_again s n u lt =
     let bytes = to_be_bytes (width s) n in
     let taken : taken_at (byte_len (width s)) (bytes ++ u) ≡ Some (bytes, u) =
     ap (λ (k : ℕ). taken_at k (bytes ++ u)) (sym (length-to_be_bytes s n)) ∙ taken_again bytes u in
-    ap (λ (o : Read (List ℕ)). o >>= λ t. Some (from_be_bytes (width s) t.0, t.1)) taken ∙ ap (λ (m : ℕ). Some (m, u)) (from_be_bytes-to_be_bytes s n lt)
+    ap (λ (o : Read (List ℕ)). o >>= λ t. Some (from_be_bytes (width s) t.0, t.1)) taken
+    ∙ ap (λ (m : ℕ). Some (m, u)) (from_be_bytes-to_be_bytes s n lt)
 
-to_be_bytes-from_be_bytes : (s : Size) (t : List ℕ) → length t ≡ byte_len (width s) → IsBytes t → to_be_bytes (width s) (from_be_bytes (width s) t) ≡ t
+to_be_bytes-from_be_bytes : (s : Size) (t : List ℕ) → length t ≡ byte_len (width s) → IsBytes t
+    → to_be_bytes (width s) (from_be_bytes (width s) t) ≡ t
 to_be_bytes-from_be_bytes one [] long fits = absurd (omega arith)
 to_be_bytes-from_be_bytes one (b ∷ []) long fits = ap (λ (c : ℕ). c ∷ []) (omega (arith, fits 0))
 to_be_bytes-from_be_bytes one (b ∷ c ∷ t) long fits = absurd (omega arith)
@@ -91,16 +99,19 @@ pub record NumberTaken (s : Size) (bytes : List ℕ) (n : ℕ) (u : List ℕ) : 
   pub parts : bytes ≡ to_be_bytes (width s) n ++ u
   pub rest_fits : IsBytes u
 
-pub number_is : (s : Size) (bytes : List ℕ) (n : ℕ) (u : List ℕ) → IsBytes bytes → number_at s bytes ≡ Some (n, u) → NumberTaken s bytes n u
+pub number_is : (s : Size) (bytes : List ℕ) (n : ℕ) (u : List ℕ) → IsBytes bytes → number_at s bytes ≡ Some (n, u)
+    → NumberTaken s bytes n u
 unfolding number_at
 number_is s bytes n u fits e =
-    let b = bind_some (taken_at (byte_len (width s)) bytes) (λ t. Some (from_be_bytes (width s) t.0, t.1)) (n, u) e in
+    let b =
+    bind_some (taken_at (byte_len (width s)) bytes) (λ t. Some (from_be_bytes (width s) t.0, t.1)) (n, u) e in
     let t = taken_is (byte_len (width s)) bytes b.0.0 b.0.1 fits b.1 in
     let made = some_is (from_be_bytes (width s) b.0.0, b.0.1) (n, u) b.2 in
     let n_is : from_be_bytes (width s) b.0.0 ≡ n = ap (λ (p : ℕ × List ℕ). p.0) made in
     let u_is : b.0.1 ≡ u = ap (λ (p : ℕ × List ℕ). p.1) made in
     record {
       below = subst (λ (m : ℕ). m < limit s) n_is (from_be_bytes-lt s b.0.0 t.fits);
-      parts = t.parts ∙ ap (λ (p : List ℕ). p ++ b.0.1) (sym (to_be_bytes-from_be_bytes s b.0.0 t.long t.fits) ∙ ap (to_be_bytes (width s)) n_is) ∙ ap (λ (p : List ℕ). to_be_bytes (width s) n ++ p) u_is;
+      parts = t.parts ∙ ap (λ (p : List ℕ). p ++ b.0.1) (sym (to_be_bytes-from_be_bytes s b.0.0 t.long t.fits)
+          ∙ ap (to_be_bytes (width s)) n_is) ∙ ap (λ (p : List ℕ). to_be_bytes (width s) n ++ p) u_is;
       rest_fits = subst IsBytes u_is t.rest_fits;
     }

@@ -8,7 +8,7 @@ use Rattle.passkey_cbor.specs.CanonicalReading.{length_head, head_written, Begin
 use Rattle.passkey_cbor.specs.FloatParts.{FloatParts}
 use Rattle.passkey_cbor.specs.HeadReading.{head_at}
 use Rattle.passkey_cbor.specs.Heads.{Size, one, two, four, eight, width, information, Heads, within, behind, FloatHeads}
-use Rattle.passkey_cbor.specs.HeadSpelling.{SpellsHead, LengthHeads}
+use Rattle.passkey_cbor.specs.HeadEncoding.{IsEncodingOfHead, LengthHeads}
 use Rattle.passkey_cbor.specs.Written.{shortest_head, float_head}
 use Rattle.passkey_cbor.specs.declared.head.Head.{Head}
 use Rattle.passkey_cbor.specs.declared.head.Head.TheVariants as head
@@ -16,11 +16,11 @@ use Rattle.passkey_cbor.proofs.Binds.{some_is}
 use Rattle.passkey_cbor.proofs.HeadAgain.{head_again}
 use Rattle.passkey_cbor.proofs.HeadTakes.{head_takes}
 use Rattle.passkey_cbor.proofs.Numbers.{length-to_be_bytes}
-use Rattle.passkey_cbor.proofs.WrittenSpells.{shortest_head-spelled}
+use Rattle.passkey_cbor.proofs.WrittenIsEncoding.{shortest_head-encoded}
 
--- ---- the encoding of that length is the shortest
+-- ---- an encoding with the shortest length is the shortest encoding
 
--- the size that takes so many bytes
+-- the size with this many bytes
 size_by : ℕ → Size
 size_by n = if n == 1 then one else if n == 2 then two else if n == 4 then four else eight
 
@@ -37,7 +37,7 @@ some_bytes two = omega arith
 some_bytes four = omega arith
 some_bytes eight = omega arith
 
--- two encodings of an argument of one length are one
+-- two encodings of an argument with the same length are equal
 heads_same : (major n : ℕ) (t u : List ℕ) → Heads major n t → Heads major n u → length t ≡ length u → t ≡ u
 heads_same major n t u (within a p) (within b q) e = p ∙ sym q
 heads_same major n t u (within a p) (behind s b q) e =
@@ -60,10 +60,13 @@ heads_fit major n t (behind two a p) = omega arith
 heads_fit major n t (behind four a p) = omega arith
 heads_fit major n t (behind eight a p) = a
 
-heads_shortest : (major n : ℕ) (t : List ℕ) → Heads major n t → length t ≡ length (shortest_head major n) → t ≡ shortest_head major n
-heads_shortest major n t s e = heads_same major n t (shortest_head major n) s (shortest_head-spelled major n (heads_fit major n t s)) e
+heads_shortest : (major n : ℕ) (t : List ℕ) → Heads major n t → length t ≡ length (shortest_head major n)
+    → t ≡ shortest_head major n
+heads_shortest major n t s e =
+    heads_same major n t (shortest_head major n) s (shortest_head-encoded major n (heads_fit major n t s)) e
 
-length_shortest : (major : ℕ) (len : Option ℕ) (t : List ℕ) → LengthHeads major len t → length t ≡ length (length_head major len) → t ≡ length_head major len
+length_shortest : (major : ℕ) (len : Option ℕ) (t : List ℕ) → LengthHeads major len t
+    → length t ≡ length (length_head major len) → t ≡ length_head major len
 length_shortest major (Some n) t s e = heads_shortest major n t s e
 length_shortest major None t s e = s
 
@@ -73,7 +76,8 @@ float_is f t (inl s) = rw s.0.0 s.1
 float_is f t (inr (inl s)) = rw s.0.0 s.1
 float_is f t (inr (inr s)) = rw s.0.0 s.1
 
-pub shortest_is : (h : Head) (t : List ℕ) → SpellsHead h t → length t ≡ length (head_written h) → t ≡ head_written h
+pub shortest_is : (h : Head) (t : List ℕ) → IsEncodingOfHead h t → length t ≡ length (head_written h)
+    → t ≡ head_written h
 shortest_is (head.Unsigned n) t s e = heads_shortest 0 n t s e
 shortest_is (head.Negative n) t s e = heads_shortest 1 n t s e
 shortest_is (head.Bytes len) t s e = length_shortest 2 len t s e
@@ -86,34 +90,38 @@ shortest_is (head.Simple n) t (inr s) e = rw (le-ltb n 24 (omega (arith, s.0.0))
 shortest_is (head.Float f) t s e = float_is f t s
 shortest_is head.Break t s e = s
 
--- ---- what decoding a head gives
+-- ---- the result of decoding a head
 
 pub record HeadLeft (bytes : List ℕ) (h : Head) (rest : List ℕ) : Type 0 where
   pub shorter : length rest ≤ length bytes
   pub begins : length bytes - length rest ≡ length (head_written h) → BeginsShortest h bytes rest
 
-pub head_left : (bytes : List ℕ) (h : Head) (rest : List ℕ) → IsBytes bytes → head_at bytes ≡ Some (h, rest) → HeadLeft bytes h rest
+pub head_left : (bytes : List ℕ) (h : Head) (rest : List ℕ) → IsBytes bytes → head_at bytes ≡ Some (h, rest)
+    → HeadLeft bytes h rest
 head_left bytes h rest fits e =
     let t = head_takes bytes h rest fits e in
     let long : length bytes ≡ length t.text + length rest = ap length t.parts ∙ length-append t.text rest in
     record {
       shorter = omega (arith, long);
       begins = λ q.
-          let is : t.text ≡ head_written h = shortest_is h t.text t.spelled (omega (arith, long, q)) in
+          let is : t.text ≡ head_written h = shortest_is h t.text t.encoded (omega (arith, long, q)) in
           record {
-            spelled = subst (SpellsHead h) is t.spelled;
+            encoded = subst (IsEncodingOfHead h) is t.encoded;
             parts = t.parts ∙ ap (λ (s : List ℕ). s ++ rest) is;
           };
     }
 
-pub begins_once : (bytes : List ℕ) (h : Head) (rest : List ℕ) → BeginsShortest h bytes rest → head_at bytes ≡ Some (h, rest)
-begins_once bytes h rest b = ap head_at b.parts ∙ head_again h (head_written h) rest b.spelled
+pub begins_once : (bytes : List ℕ) (h : Head) (rest : List ℕ) → BeginsShortest h bytes rest
+    → head_at bytes ≡ Some (h, rest)
+begins_once bytes h rest b = ap head_at b.parts ∙ head_again h (head_written h) rest b.encoded
 
 -- a head that is longer than its shortest encoding
-pub not_shortest : (bytes : List ℕ) (h : Head) (rest : List ℕ) → head_at bytes ≡ Some (h, rest) → (length bytes - length rest ≡ length (head_written h) → ⊥) → (g : Head) (u : List ℕ) → BeginsShortest g bytes u → ⊥
+pub not_shortest : (bytes : List ℕ) (h : Head) (rest : List ℕ) → head_at bytes ≡ Some (h, rest) → (length bytes
+    - length rest ≡ length (head_written h) → ⊥) → (g : Head) (u : List ℕ) → BeginsShortest g bytes u → ⊥
 not_shortest bytes h rest e longer g u b =
     let same = some_is (g, u) (h, rest) (sym (begins_once bytes g u b) ∙ e) in
-    let long : length bytes ≡ length (head_written g) + length u = ap length b.parts ∙ length-append (head_written g) u in
+    let long : length bytes ≡ length (head_written g) + length u =
+    ap length b.parts ∙ length-append (head_written g) u in
     let heads : g ≡ h = ap (λ (p : Head × List ℕ). p.0) same in
     let rests : u ≡ rest = ap (λ (p : Head × List ℕ). p.1) same in
     longer (omega (arith, long, ap length rests) ∙ ap (λ (k : Head). length (head_written k)) heads)

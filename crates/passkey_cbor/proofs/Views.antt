@@ -1,4 +1,4 @@
--- What each kind of value stands for.
+-- The data item that each kind of value represents.
 use Rattle.std.proofs.Common.{◌≡◌, ℕ, ℤ, rules, Vec, Global, Box, String, string_bytes}
 use Rattle.passkey_cbor.specs.FloatParts.{FloatParts}
 use Rattle.passkey_cbor.specs.Item as item

@@ -1,4 +1,4 @@
--- What the calls of a cursor that make values answer, in terms of reading what is ahead.
+-- The results of a cursor's calls that build values, in terms of decoding the bytes ahead.
 use Rattle.std.specs.Prelude.{◌≡◌, ℕ, ◌+◌, ◌-◌, ◌≤◌, List, [], ◌∷◌, length, map, Some, Result, Ok, Err, Vec, String, string_bytes}
 use Rattle.std.specs.Global.{Global}
 use Rattle.passkey_cbor.specs.Item.{Item}
@@ -15,30 +15,31 @@ abbrev pub IsNotEmpty : {A : Type 0} → List A → Type 0
 IsNotEmpty [] = ⊥
 IsNotEmpty (x ∷ xs) = Unit {0}
 
--- a number for each, added up
+-- the sum of the elements' sizes
 abbrev pub total : {A : Type 0} → (A → ℕ) → List A → ℕ
 total size [] = 0
 total size (x ∷ xs) = size x + total size xs
 
--- What is made: how a value shows what was read, what of it takes memory, and how many items it makes.
+-- What is built: which decoded content a value represents, which content takes memory, and how many data items
+-- are counted for it.
 pub record Making (V X : Type 0) : Type 1 where
   pub view : V → X
   pub Takes : X → Type 0
   pub size : X → ℕ
 
--- an item
+-- a data item
 abbrev pub an_item : Making Value Item
 an_item = record { view = item_of; Takes = Grows; size = nodes }
 
--- an item, which was counted already
+-- a data item that was itself counted already
 abbrev pub a_counted_item : Making Value Item
 a_counted_item = record { view = item_of; Takes = Grows; size = λ x. nodes x - 1 }
 
--- a pair of items
+-- a pair of data items
 abbrev pub a_pair : Making (Value × Value) (Item × Item)
 a_pair = record { view = pair_of; Takes = λ m. Unit {0}; size = λ m. nodes m.0 + nodes m.1 }
 
--- what each shows of a list
+-- a list of what m builds
 abbrev pub each_of : {V X : Type 0} → Making V X → Making (Vec V Global) (List X)
 each_of m = record { view = λ v. map m.view v.items; Takes = IsNotEmpty; size = total m.size }
 
@@ -50,16 +51,18 @@ some_bytes = record { view = λ v. v.items; Takes = IsNotEmpty; size = λ s. 0 }
 abbrev pub a_text : Making (String Global) (List ℕ)
 a_text = record { view = string_bytes; Takes = λ s. Unit {0}; size = λ s. 0 }
 
--- Where this is what is read, it was made, and each item in it counted; or memory ran out, which only some of it lets
--- happen.
+-- If the bytes decode to x, then x was built, and each data item in it counted; or memory ran out, which
+-- happens only if x takes memory.
 abbrev pub Made : {V X : Type 0} → Making V X → X → List ℕ → Walk → Walk → Result V CborError → Type 0
 Made m x rest old new (Ok v) = (m.view v ≡ x) × (ahead new ≡ rest) × (new.nodes ≡ raised old.nodes (m.size x))
 Made m x rest old new (Err error.DecodeFailed) = ⊥
 Made m x rest old new (Err error.OutOfMemory) = m.Takes x × (new.nodes ≤ old.nodes + m.size x)
 Made m x rest old new (Err error.OutOfRangeIntegerValue) = ⊥
 
--- What reading gives is made, if it gives anything, with at most one head for each byte of it.
-pub record Makes {V X : Type 0} (m : Making V X) (read : Read X) (old new : Walk) (result : Result V CborError) : Type 0 where
+-- If the bytes decode, their content is built, and at most one head is counted for each byte of it.
+pub record Makes {V X : Type 0} (m : Making V X) (read : Read X) (old new : Walk) (result : Result V CborError) :
+    Type 0 where
   pub went : Went old new
   pub made : (x : X) (rest : List ℕ) → read ≡ Some (x, rest) → Made m x rest old new result
-  pub heads : (x : X) (rest : List ℕ) → read ≡ Some (x, rest) → new.heads + length rest ≤ old.heads + length (ahead old)
+  pub heads : (x : X) (rest : List ℕ) → read ≡ Some (x, rest)
+      → new.heads + length rest ≤ old.heads + length (ahead old)

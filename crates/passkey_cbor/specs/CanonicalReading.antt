@@ -1,18 +1,18 @@
--- What is behind canonical items that begin bytes.
+-- The bytes that follow a canonical data item at the beginning of a byte list.
 use Rattle.std.specs.Prelude.{◌≡◌, ◌≢◌, ℕ, ◌+◌, ◌-◌, ◌*◌, ◌≤◌, pos, negsuc, nat_lt, List, [], ◌∷◌, ◌++◌, length, Bool, true, false, if◌then◌else◌, Option, Some, None}
 use Rattle.passkey_cbor.specs.Canonical.{AscendFrom, IsOrdered, AreOrdered, ArePairsOrdered}
 use Rattle.passkey_cbor.specs.Depth.{depth, items_depth, pairs_depth}
-use Rattle.passkey_cbor.specs.HeadSpelling.{SpellsHead}
+use Rattle.passkey_cbor.specs.HeadEncoding.{IsEncodingOfHead}
 use Rattle.passkey_cbor.specs.Heads.{indefinite, break}
-use Rattle.passkey_cbor.specs.Inside.{MayStand}
+use Rattle.passkey_cbor.specs.Inside.{IsAllowed}
 use Rattle.passkey_cbor.specs.Item.{Item, number, byte_string, text_string, array, map, tagged, boolean, null, simple, float, Items, Pairs}
-use Rattle.passkey_cbor.specs.Spelling.{items_len, pairs_len}
+use Rattle.passkey_cbor.specs.Encoding.{items_len, pairs_len}
 use Rattle.passkey_cbor.specs.Writable.{IsWritable, AreWritable, ArePairsWritable}
 use Rattle.passkey_cbor.specs.Written.{shortest_head, float_head, written, items_written, pairs_written}
 use Rattle.passkey_cbor.specs.declared.head.Head.{Head}
 use Rattle.passkey_cbor.specs.declared.head.Head.TheVariants as head
 
--- The rest that there is; or there is none.
+-- `Some`: the rest satisfies `Rest`; `None`: no rest does
 abbrev pub Leaves : (List ℕ → Type 0) → Option (List ℕ) → Type 0
 Leaves Rest (Some rest) = Rest rest
 Leaves Rest None = (rest : List ℕ) → Rest rest → ⊥
@@ -23,7 +23,7 @@ abbrev pub length_head : ℕ → Option ℕ → List ℕ
 length_head major (Some n) = shortest_head major n
 length_head major None = indefinite major ∷ []
 
--- a head in its shortest encoding
+-- the shortest encoding of a head
 abbrev pub head_written : Head → List ℕ
 head_written (head.Unsigned n) = shortest_head 0 n
 head_written (head.Negative n) = shortest_head 1 n
@@ -36,9 +36,9 @@ head_written (head.Simple n) = if nat_lt n 24 then (32 * 7 + n) ∷ [] else 248 
 head_written (head.Float f) = float_head f
 head_written head.Break = break ∷ []
 
--- The bytes begin with this head in its shortest encoding.
+-- The bytes begin with the shortest encoding of this head.
 pub record BeginsShortest (h : Head) (bytes rest : List ℕ) : Type 0 where
-  pub spelled : SpellsHead h (head_written h)
+  pub encoded : IsEncodingOfHead h (head_written h)
   pub parts : bytes ≡ head_written h ++ rest
 
 abbrev pub DecodesShortest : List ℕ → Option (Head × List ℕ) → Type 0
@@ -47,7 +47,7 @@ DecodesShortest bytes None = (h : Head) (rest : List ℕ) → BeginsShortest h b
 
 -- ---- items
 
--- an item's head, and what follows it in the item's encoding
+-- a data item's head, and what follows the head in the item's encoding
 abbrev pub boolean_value : Bool → ℕ
 boolean_value false = 20
 boolean_value true = 21
@@ -77,7 +77,7 @@ content_of null = []
 content_of (simple n) = []
 content_of (float f) = []
 
--- A canonical item of at most so many levels begins the bytes.
+-- The bytes begin with a canonical data item of at most `levels` levels.
 pub record BeginsItem (levels : ℕ) (bytes rest : List ℕ) : Type 0 where
   pub item : Item
   pub writable : IsWritable item
@@ -85,7 +85,7 @@ pub record BeginsItem (levels : ℕ) (bytes rest : List ℕ) : Type 0 where
   pub shallow : depth item ≤ levels
   pub parts : bytes ≡ written item ++ rest
 
--- So many of them, one after the other.
+-- They begin with `count` such items, one after the other.
 pub record BeginsItems (levels count : ℕ) (bytes rest : List ℕ) : Type 0 where
   pub items : Items
   pub counted : items_len items ≡ count
@@ -94,7 +94,7 @@ pub record BeginsItems (levels count : ℕ) (bytes rest : List ℕ) : Type 0 whe
   pub shallow : items_depth items ≤ levels
   pub parts : bytes ≡ items_written items ++ rest
 
--- So many pairs of them, whose keys ascend from the one before.
+-- They begin with `count` pairs of such items, whose keys ascend, the first after the key `before`.
 pub record BeginsPairs (levels count : ℕ) (before : Option (List ℕ)) (bytes rest : List ℕ) : Type 0 where
   pub pairs : Pairs
   pub counted : pairs_len pairs ≡ count
@@ -106,14 +106,14 @@ pub record BeginsPairs (levels count : ℕ) (before : Option (List ℕ)) (bytes 
 
 -- ---- what follows a head
 
--- A string of so many bytes.
+-- The content of a string of `len` bytes.
 pub record BeginsString (is_text : Bool) (len : ℕ) (bytes rest : List ℕ) : Type 0 where
   pub content : List ℕ
   pub long : length content ≡ len
-  pub stands : MayStand is_text content
+  pub stands : IsAllowed is_text content
   pub parts : bytes ≡ content ++ rest
 
--- The content of a canonical item, behind its head.
+-- What follows the head of a canonical data item.
 abbrev pub BeginsContent : ℕ → Head → List ℕ → List ℕ → Type 0
 BeginsContent levels (head.Unsigned n) bytes rest = rest ≡ bytes
 BeginsContent levels (head.Negative n) bytes rest = rest ≡ bytes

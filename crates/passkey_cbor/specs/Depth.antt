@@ -1,4 +1,5 @@
--- How many levels of arrays, maps and tags an item has (a limit on nesting: RFC 8949, section 10).
+-- The number of nesting levels of arrays, maps and tags in a data item (a limit on nesting: RFC 8949, section
+-- 10).
 use Rattle.std.specs.Prelude.{ℕ, suc, max}
 use Rattle.passkey_cbor.specs.Item.{Item, number, byte_string, text_string, array, map, tagged, boolean, null, simple, float, Items, no_items, item, Pairs, no_pairs, pair}
 

@@ -1,4 +1,4 @@
--- The names of errors, as they are printed.
+-- The names of errors, as they are displayed.
 use Rattle.std.specs.Prelude.{ℕ, List, codes}
 use Rattle.passkey_cbor.specs.declared.error.CborError.{CborError}
 use Rattle.passkey_cbor.specs.declared.error.CborError.TheVariants as error

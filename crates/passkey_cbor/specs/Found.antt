@@ -1,22 +1,22 @@
--- What decoding the head ahead answers (RFC 8949, section 3).
+-- The result of decoding the next head (RFC 8949, section 3).
 use Rattle.std.specs.Prelude.{◌≡◌, ℕ, ◌+◌, List, ◌++◌, length, Option, Some, None}
-use Rattle.passkey_cbor.specs.HeadSpelling.{SpellsHead}
+use Rattle.passkey_cbor.specs.HeadEncoding.{IsEncodingOfHead}
 use Rattle.passkey_cbor.specs.Walk.{Walk, ahead, raised}
 use Rattle.passkey_cbor.specs.declared.head.Head.{Head}
 
--- The cursor passed the head ahead, and counted it.
+-- The cursor passed the next head, and counted it.
 pub record PassesHead (old new : Walk) (h : Head) : Type 0 where
   pub text : List ℕ
-  pub spelled : SpellsHead h text
+  pub encoded : IsEncodingOfHead h text
   pub parts : ahead old ≡ text ++ ahead new
   pub place : new.place ≡ old.place + length text
   pub heads : new.heads ≡ raised old.heads 1
   pub nodes : new.nodes ≡ old.nodes
   pub bytes : new.bytes ≡ old.bytes
 
--- No whole, well-formed head stands ahead; one was counted all the same, and the cursor stays.
+-- No well-formed head follows; one head is counted all the same, and the cursor doesn't move.
 pub record FindsNoHead (old new : Walk) : Type 0 where
-  pub none : (h : Head) (text rest : List ℕ) → SpellsHead h text → ahead old ≡ text ++ rest → ⊥
+  pub none : (h : Head) (text rest : List ℕ) → IsEncodingOfHead h text → ahead old ≡ text ++ rest → ⊥
   pub place : new.place ≡ old.place
   pub heads : new.heads ≡ raised old.heads 1
   pub nodes : new.nodes ≡ old.nodes

@@ -1,4 +1,5 @@
--- The items that take memory to hold: a tag, a text string, and a byte string, array or map that isn't empty.
+-- The data items that take memory to hold: a tag, a text string (even an empty one), and a byte string, array
+-- or map that isn't empty.
 use Rattle.std.specs.Prelude.{[], ◌∷◌}
 use Rattle.passkey_cbor.specs.Item.{Item, number, byte_string, text_string, array, map, tagged, boolean, null, simple, float, no_items, item, no_pairs, pair}
 

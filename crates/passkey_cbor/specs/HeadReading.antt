@@ -1,4 +1,5 @@
--- Reading a head from left to right, as `item_within` does. Public clauses speak of heads by their spellings.
+-- Decoding a head from left to right, as `item_within` does. Public clauses describe heads by their encodings
+-- instead.
 use Rattle.std.specs.Prelude.{ℕ, zero, suc, ◌/◌, ◌%◌, List, [], ◌∷◌, length, take, drop, nat_lt, ◌==◌, if◌then◌else◌, Option, Some, None}
 use Rattle.std.specs.Int.{byte_len, from_be_bytes}
 use Rattle.passkey_cbor.specs.Heads.{Size, one, two, four, eight, width}
@@ -10,15 +11,15 @@ abbrev pub ◌>>=◌ : {A B : Type 0} → Option A → (A → Option B) → Opti
 None >>= f = None
 (Some x) >>= f = f x
 
--- what reading gives: a value, and the bytes after it
+-- the result of decoding: a value and the bytes after it; `None` if decoding fails
 abbrev pub Read : Type 0 → Type 0
 Read A = Option (A × List ℕ)
 
--- the first so many bytes
+-- the first n bytes; `None` if there are fewer
 abbrev pub take_at : ℕ → List ℕ → Read (List ℕ)
 take_at n bytes = if nat_lt (length bytes) n then None else Some (take n bytes, drop n bytes)
 
--- a big-endian number
+-- a big-endian number of this size
 unfoldable pub number_at : Size → List ℕ → Read ℕ
 number_at s bytes = do
   t ← take_at (byte_len (width s)) bytes
@@ -35,7 +36,7 @@ size_of info =
 unfoldable pub argument_at : ℕ → List ℕ → Read ℕ
 argument_at info bytes = if nat_lt info 24 then Some (info, bytes) else (size_of info >>= λ s. number_at s bytes)
 
--- the head of a major type with an argument
+-- the head with this major type, other than 7, and this argument
 abbrev pub with_argument : ℕ → ℕ → Option Head
 with_argument zero n = Some (head.Unsigned n)
 with_argument (suc zero) n = Some (head.Negative n)
@@ -46,7 +47,7 @@ with_argument (suc (suc (suc (suc (suc zero))))) n = Some (head.Map (Some n))
 with_argument (suc (suc (suc (suc (suc (suc zero)))))) n = Some (head.Tag n)
 with_argument (suc (suc (suc (suc (suc (suc (suc m))))))) n = None
 
--- the head of a major type with the additional information 31
+-- the head with this major type and the additional information 31
 abbrev pub without_argument : ℕ → Option Head
 without_argument zero = None
 without_argument (suc zero) = None
@@ -58,7 +59,7 @@ without_argument (suc (suc (suc (suc (suc (suc zero)))))) = None
 without_argument (suc (suc (suc (suc (suc (suc (suc zero))))))) = Some head.Break
 without_argument (suc (suc (suc (suc (suc (suc (suc (suc m)))))))) = None
 
--- in major type 7: a simple value behind the initial byte, or the bits of a float
+-- in major type 7: a simple value in the byte after the initial byte, or the bits of a float
 abbrev pub simple_or_float : Size → ℕ → Option Head
 simple_or_float one n = if nat_lt n 32 then None else Some (head.Simple n)
 simple_or_float two n = Some (head.Float (record { width = 2; bits = n }))
@@ -70,7 +71,7 @@ simple_at info bytes =
     if nat_lt info 24 then Some (head.Simple info, bytes)
     else (size_of info >>= λ s. number_at s bytes >>= λ n. simple_or_float s n.0 >>= λ h. Some (h, n.1))
 
--- the head whose initial byte has this major type and additional information
+-- the head whose initial byte has this major type and additional information, and is followed by these bytes
 unfoldable pub head_behind : ℕ → ℕ → List ℕ → Read Head
 head_behind major info bytes =
     if info == 31 then (without_argument major >>= λ h. Some (h, bytes))

@@ -1,9 +1,9 @@
--- The trees that CBOR spells (RFC 8949, section 2).
+-- Data items, as trees (RFC 8949, section 2).
 use Rattle.std.specs.Prelude.{ℕ, ℤ, List, [], ◌∷◌, Bool}
 use Rattle.passkey_cbor.specs.FloatParts.{FloatParts}
 
--- A string is its bytes, however it is cut into chunks, and a number has no width.
--- Items and Pairs are lists, since a data type cannot hold a list of itself.
+-- A string is its content, however it is cut into chunks; a number has no encoding width. Items and Pairs are
+-- lists, written out because a data type can't contain a list of itself.
 mutual
   pub data Item : Type 0 where
     number : ℤ → Item
@@ -25,7 +25,7 @@ mutual
     no_pairs : Pairs
     pair : Item → Item → Pairs → Pairs
 
--- the items of an array, and the pairs of a map, in their order
+-- the elements of an array, and the members of a map, in their order
 abbrev pub elements : Items → List Item
 elements no_items = []
 elements (item x xs) = x ∷ elements xs
@@ -34,7 +34,7 @@ abbrev pub members : Pairs → List (Item × Item)
 members no_pairs = []
 members (pair k v ps) = (let m : Item × Item = (k, v) in m) ∷ members ps
 
--- the same lists, made into the parts of an item
+-- the inverses: the elements and the members, from a list
 abbrev pub items_of : List Item → Items
 items_of [] = no_items
 items_of (x ∷ xs) = item x (items_of xs)

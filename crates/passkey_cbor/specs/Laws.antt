@@ -1,38 +1,44 @@
 -- Laws of the definitions.
 use Rattle.std.specs.Prelude.{◌≡◌, ℕ, ◌<◌, ◌≤◌, List, ◌++◌, length, take, drop, Some}
 use Rattle.passkey_cbor.specs.Item.{Item}
-use Rattle.passkey_cbor.specs.Spelling.{Spells}
+use Rattle.passkey_cbor.specs.Encoding.{IsEncoding}
 use Rattle.passkey_cbor.specs.Bytes.{IsBytes}
 use Rattle.passkey_cbor.specs.Depth.{depth}
-use Rattle.passkey_cbor.specs.Front.{max_depth, IsFront, HasNoFront}
-use Rattle.passkey_cbor.specs.FrontAt.{front_at, IsFrontOf}
+use Rattle.passkey_cbor.specs.LeadingItem.{max_depth, IsLeadingItem, HasNoLeadingItem}
+use Rattle.passkey_cbor.specs.LeadingItemAt.{leading_item_at, IsLeadingItemOf}
 use Rattle.passkey_cbor.specs.Written.{written}
 use Rattle.passkey_cbor.specs.Writable.{IsWritable}
 
--- At most one item begins a byte list, and it has one length.
-abbrev pub AtMostOneFront : Type 0
-AtMostOneFront = (bytes : List ℕ) (x y : Item) (j k : ℕ) → IsFront bytes x j → IsFront bytes y k → (x ≡ y) × (j ≡ k)
+-- A byte list has at most one leading data item, with only one length.
+abbrev pub AtMostOneLeadingItem : Type 0
+AtMostOneLeadingItem = (bytes : List ℕ) (x y : Item) (j k : ℕ) → IsLeadingItem bytes x j → IsLeadingItem bytes y k
+    → (x ≡ y) × (j ≡ k)
 
--- Where an item of length k begins the bytes, none begins a shorter beginning of its bytes.
-abbrev pub NoShorterFront : Type 0
-NoShorterFront = (bytes : List ℕ) (x : Item) (k j : ℕ) → IsFront bytes x k → j < k → HasNoFront (take j bytes)
+-- If the leading data item has k bytes, then no prefix of fewer than k bytes has a leading data item.
+abbrev pub NoShorterLeadingItem : Type 0
+NoShorterLeadingItem = (bytes : List ℕ) (x : Item) (k j : ℕ) → IsLeadingItem bytes x k → j < k
+    → HasNoLeadingItem (take j bytes)
 
--- Where an item begins the bytes, front_at gives it and what is behind it.
-abbrev pub FrontIsGiven : Type 0
-FrontIsGiven = (bytes : List ℕ) (x : Item) (len : ℕ) → IsFront bytes x len → front_at bytes ≡ Some (x, drop len bytes)
+-- If there is a leading data item, `leading_item_at` returns it and the bytes after it.
+abbrev pub LeadingItemIsFound : Type 0
+LeadingItemIsFound = (bytes : List ℕ) (x : Item) (len : ℕ) → IsLeadingItem bytes x len
+    → leading_item_at bytes ≡ Some (x, drop len bytes)
 
--- What front_at gives of bytes begins them; where it gives nothing, nothing does.
-abbrev pub GivenIsFront : Type 0
-GivenIsFront = (bytes : List ℕ) → IsBytes bytes → IsFrontOf bytes (front_at bytes)
+-- What `leading_item_at` returns is the leading data item; if it returns `None`, there is none.
+abbrev pub FoundIsLeadingItem : Type 0
+FoundIsLeadingItem = (bytes : List ℕ) → IsBytes bytes → IsLeadingItemOf bytes (leading_item_at bytes)
 
--- What front_at gives has at most as many levels as are read, whatever the numbers are.
+-- What `leading_item_at` returns has at most 256 levels, even if some numbers in the list aren't bytes.
 abbrev pub GivenIsShallow : Type 0
-GivenIsShallow = (bytes : List ℕ) (x : Item) (rest : List ℕ) → front_at bytes ≡ Some (x, rest) → depth x ≤ max_depth
+GivenIsShallow = (bytes : List ℕ) (x : Item) (rest : List ℕ) → leading_item_at bytes ≡ Some (x, rest)
+    → depth x ≤ max_depth
 
--- What is written spells the item.
-abbrev pub WrittenSpells : Type 0
-WrittenSpells = (x : Item) → IsWritable x → Spells x (written x)
+-- The written bytes are an encoding of the data item.
+abbrev pub WrittenIsEncoding : Type 0
+WrittenIsEncoding = (x : Item) → IsWritable x → IsEncoding x (written x)
 
--- What is written of an item of at most 256 levels is read back as it, whatever follows.
-abbrev pub WrittenIsFront : Type 0
-WrittenIsFront = (x : Item) (rest : List ℕ) → IsWritable x → depth x ≤ max_depth → IsFront (written x ++ rest) x (length (written x))
+-- Bytes that begin with the written encoding of a data item of at most 256 levels have it as their leading data
+-- item.
+abbrev pub WrittenIsLeadingItem : Type 0
+WrittenIsLeadingItem = (x : Item) (rest : List ℕ) → IsWritable x → depth x ≤ max_depth
+    → IsLeadingItem (written x ++ rest) x (length (written x))

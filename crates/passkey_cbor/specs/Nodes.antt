@@ -1,4 +1,4 @@
--- How many items there are in an item, itself among them.
+-- The number of data items in a data item, itself included.
 use Rattle.std.specs.Prelude.{ℕ, suc, ◌+◌}
 use Rattle.passkey_cbor.specs.Item.{Item, number, byte_string, text_string, array, map, tagged, boolean, null, simple, float, Items, no_items, item, Pairs, no_pairs, pair}
 

@@ -9,7 +9,7 @@ use Rattle.std.specs.declared.cmp.Ordering.TheVariants.{Less}
 abbrev pub key_type : List ℕ → ℕ
 key_type key = slice_index key 0 / 32
 
--- the lower major type first, then the shorter encoding, then the lower bytes
+-- the lower major type first, then the shorter encoding, then the lower bytes in lexicographic order
 abbrev pub ctap2_order : List ℕ → List ℕ → Ordering
 ctap2_order a b =
     ordering_then (nat_cmp (key_type a) (key_type b))

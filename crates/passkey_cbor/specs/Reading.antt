@@ -1,4 +1,5 @@
--- Reading an item from left to right. Public clauses speak of items by their spellings, but for what a law gives as a function (FrontAt) and what follows a head in an item (Inside).
+-- Decoding a data item from left to right. Public clauses describe items by their encodings instead, except for
+-- a law's function (LeadingItemAt) and for what follows the head of an item (Inside).
 use Rattle.std.specs.Prelude.{ℕ, zero, suc, pos, negsuc, List, [], ◌∷◌, length, Bool, true, false, nat_lt, ◌==◌, if◌then◌else◌, Option, Some, None}
 use Rattle.std.specs.List.{concat}
 use Rattle.std.specs.Str.{is_utf8}
@@ -7,7 +8,7 @@ use Rattle.passkey_cbor.specs.HeadReading.{◌>>=◌, Read, take_at, head_at}
 use Rattle.passkey_cbor.specs.declared.head.Head.{Head}
 use Rattle.passkey_cbor.specs.declared.head.Head.TheVariants as head
 
--- reads a value whose first head was read
+-- decodes a value whose first head is decoded already
 abbrev pub Reader : Type 0 → Type 0
 Reader A = Head → List ℕ → Read A
 
@@ -28,12 +29,12 @@ is_break (head.Simple n) = false
 is_break (head.Float f) = false
 is_break head.Break = true
 
--- ---- lists: as many elements as are left, or, where none says how many, up to a break
+-- ---- lists: as many elements as are left, or, with indefinite length, up to a break
 
 pub data Step : Type 0 where
-  -- no more: what follows the list
+  -- the list ends; the bytes after it
   end : List ℕ → Step
-  -- how many are left after the next element, its first head, and the bytes behind that
+  -- how many elements are left after the next one, its first head, and the bytes after that head
   element : Option ℕ → Head → List ℕ → Step
 
 unfoldable pub step_at : Option ℕ → List ℕ → Option Step
@@ -48,28 +49,28 @@ after_step read others (element left h rest) = do
   xs ← others left x.1
   Some (x.0 ∷ xs.0, xs.1)
 
--- the fuel is a bound on the number of steps
+-- the fuel bounds the number of steps
 unfoldable pub list_by : {A : Type 0} → Reader A → ℕ → Option ℕ → List ℕ → Read (List A)
 list_by read zero left bytes = None
 list_by read (suc fuel) left bytes = step_at left bytes >>= after_step read (list_by read fuel)
 
--- each element has a byte, so this is fuel enough
+-- each element has at least one byte, so this fuel is enough
 abbrev pub list_at : {A : Type 0} → Reader A → Option ℕ → List ℕ → Read (List A)
 list_at read left bytes = list_by read (suc (length bytes)) left bytes
 
 -- ---- strings
 
-abbrev pub may_stand : Bool → List ℕ → Bool
-may_stand false s = true
-may_stand true s = is_utf8 s
+abbrev pub is_allowed : Bool → List ℕ → Bool
+is_allowed false s = true
+is_allowed true s = is_utf8 s
 
--- so many bytes, in UTF-8 where they are a text
+-- the first n bytes, which must be UTF-8 in a text string
 unfoldable pub piece_at : Bool → ℕ → List ℕ → Read (List ℕ)
 piece_at is_text n bytes = do
   t ← take_at n bytes
-  if may_stand is_text t.0 then Some t else None
+  if is_allowed is_text t.0 then Some t else None
 
--- the length that a chunk of this kind of string has
+-- the length of a chunk with this head; `None` if the head is no chunk's in this kind of string
 abbrev pub chunk_len : Bool → Head → Option ℕ
 chunk_len is_text (head.Unsigned n) = None
 chunk_len is_text (head.Negative n) = None
@@ -85,14 +86,14 @@ chunk_len is_text head.Break = None
 abbrev pub chunk : Bool → Reader (List ℕ)
 chunk is_text h bytes = chunk_len is_text h >>= λ n. piece_at is_text n bytes
 
--- a string whose head was read
+-- a string whose head is decoded already
 unfoldable pub string_at : Bool → Option ℕ → List ℕ → Read (List ℕ)
 string_at is_text (Some n) bytes = piece_at is_text n bytes
 string_at is_text None bytes = do
   chunks ← list_at (chunk is_text) None bytes
   Some (concat chunks.0, chunks.1)
 
--- the length that the head of a string of this kind says
+-- the length in the head of a string of this kind (`Some None`: indefinite length); `None` for any other head
 abbrev pub string_len : Bool → Head → Option (Option ℕ)
 string_len is_text (head.Unsigned n) = None
 string_len is_text (head.Negative n) = None
@@ -118,27 +119,29 @@ simple_item n =
     else if nat_lt n 24 then null
     else simple n
 
--- two items, of which the first one's head was read
+-- two data items, where the first one's head is decoded already
 abbrev pub pair_by : Reader Item → Reader (Item × Item)
 pair_by read h bytes = do
   k ← read h bytes
   v ← start read k.1
   Some ((k.0, v.0), v.1)
 
--- `inner` reads what is one level deeper, where there may be such
+-- `inner` decodes the items one level deeper; `None` if no deeper level is allowed
 unfoldable pub item_by : Option (Reader Item) → Reader Item
 item_by inner (head.Unsigned n) bytes = Some (number (pos n), bytes)
 item_by inner (head.Negative n) bytes = Some (number (negsuc n), bytes)
 item_by inner (head.Bytes len) bytes = string_at false len bytes >>= λ s. Some (byte_string s.0, s.1)
 item_by inner (head.Text len) bytes = string_at true len bytes >>= λ s. Some (text_string s.0, s.1)
-item_by inner (head.Array len) bytes = inner >>= λ read. list_at read len bytes >>= λ xs. Some (array (items_of xs.0), xs.1)
-item_by inner (head.Map len) bytes = inner >>= λ read. list_at (pair_by read) len bytes >>= λ ps. Some (map (pairs_of ps.0), ps.1)
+item_by inner (head.Array len) bytes =
+    inner >>= λ read. list_at read len bytes >>= λ xs. Some (array (items_of xs.0), xs.1)
+item_by inner (head.Map len) bytes =
+    inner >>= λ read. list_at (pair_by read) len bytes >>= λ ps. Some (map (pairs_of ps.0), ps.1)
 item_by inner (head.Tag n) bytes = inner >>= λ read. start read bytes >>= λ x. Some (tagged n x.0, x.1)
 item_by inner (head.Simple n) bytes = Some (simple_item n, bytes)
 item_by inner (head.Float f) bytes = Some (float f, bytes)
 item_by inner head.Break bytes = None
 
--- an item of at most so many levels
+-- a data item of at most this many levels
 unfoldable pub item_within : ℕ → Reader Item
 item_within zero = item_by None
 item_within (suc levels) = item_by (Some (item_within levels))

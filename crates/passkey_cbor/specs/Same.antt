@@ -1,11 +1,10 @@
--- Whether two items are equal, as a test.
+-- The equality of data items, as a test.
 use Rattle.std.specs.Prelude.{◌==◌, ◌&&◌, Bool, true, false}
 use Rattle.std.specs.Ordering.{int_eq}
 use Rattle.std.specs.Str.{bytes_eq}
 use Rattle.passkey_cbor.specs.FloatParts.{FloatParts}
 use Rattle.passkey_cbor.specs.Item.{Item, number, byte_string, text_string, array, map, tagged, boolean, null, simple, float, Items, no_items, item, Pairs, no_pairs, pair}
 
--- both true, or both false
 abbrev pub boolean_eq : Bool → Bool → Bool
 boolean_eq true b = b
 boolean_eq false true = false
@@ -15,7 +14,7 @@ boolean_eq false false = true
 abbrev pub float_eq : FloatParts → FloatParts → Bool
 float_eq f g = f.width == g.width && f.bits == g.bits
 
--- the same kind with the same parts, in the same order
+-- the same kind, with equal parts in the same order
 abbrev mutual
   pub item_eq : Item → Item → Bool
   item_eq (number z) (number w) = int_eq z w

@@ -1,4 +1,4 @@
--- The test of items tells whether they are equal: proofs that the impls of PartialEq and Eq cite.
+-- `item_eq` decides whether two data items are equal: proofs that the impls of PartialEq and Eq cite.
 use Rattle.std.proofs.Common.{◌≡◌, ◌==◌, ◌&&◌, Bool, true, false, refl, sym, ap, subst, ◌∙◌}
 use Rattle.std.specs.Bool.{Decides}
 use Rattle.std.specs.Cmp.{IsEquivalence, decided, first_so, second_so, signed_Decides, unsigned_Decides}
@@ -75,7 +75,8 @@ mutual
   item_own (boolean b) = boolean_own b
   item_own null = refl
   item_own (simple n) = (unsigned_Decides n n).1 refl
-  item_own (float f) = both_true (f.width == f.width) (f.bits == f.bits) ((unsigned_Decides f.width f.width).1 refl) ((unsigned_Decides f.bits f.bits).1 refl)
+  item_own (float f) = both_true (f.width == f.width) (f.bits == f.bits) ((unsigned_Decides f.width f.width).1 refl)
+      ((unsigned_Decides f.bits f.bits).1 refl)
 
   items_own : (xs : Items) → items_eq xs xs ≡ true
   items_own no_items = refl
@@ -83,7 +84,8 @@ mutual
 
   pairs_own : (ps : Pairs) → pairs_eq ps ps ≡ true
   pairs_own no_pairs = refl
-  pairs_own (pair k v ps) = both_true (item_eq k k && item_eq v v) (pairs_eq ps ps) (both_true (item_eq k k) (item_eq v v) (item_own k) (item_own v)) (pairs_own ps)
+  pairs_own (pair k v ps) = both_true (item_eq k k && item_eq v v) (pairs_eq ps ps)
+      (both_true (item_eq k k) (item_eq v v) (item_own k) (item_own v)) (pairs_own ps)
 
 pub item_Decides : (x y : Item) → Decides (item_eq x y) (x ≡ y)
 item_Decides x y = (item_same x y, λ e. subst (λ (z : Item). item_eq x z ≡ true) e (item_own x))

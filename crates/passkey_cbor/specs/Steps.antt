@@ -1,9 +1,9 @@
--- What the calls of a cursor answer, in terms of reading what is ahead.
+-- The results of a cursor's calls, in terms of decoding the bytes ahead.
 use Rattle.std.specs.Prelude.{◌≡◌, ◌⊎◌, ℕ, ◌+◌, ◌<◌, ◌≤◌, List, [], ◌++◌, length, Bool, true, false, Option, Some, None, Result, Ok, Err}
 use Rattle.passkey_cbor.specs.Item.{Item}
 use Rattle.passkey_cbor.specs.HeadReading.{Read, head_at}
-use Rattle.passkey_cbor.specs.Reading.{Reader, start, end, element, step_at, may_stand, chunk, list_at, string_at, string_by, pair_by, item_within}
-use Rattle.passkey_cbor.specs.Front.{max_depth}
+use Rattle.passkey_cbor.specs.Reading.{Reader, start, end, element, step_at, is_allowed, chunk, list_at, string_at, string_by, pair_by, item_within}
+use Rattle.passkey_cbor.specs.LeadingItem.{max_depth}
 use Rattle.passkey_cbor.specs.Walk.{Walk, ahead, raised, break_heads, Passed, Stopped}
 use Rattle.passkey_cbor.specs.Inside.{Content}
 use Rattle.passkey_cbor.specs.Lent.{Region, PassesString}
@@ -17,7 +17,7 @@ use Rattle.passkey_cbor.specs.declared.skip.Entry.TheVariants as entry
 
 -- ---- one head
 
--- a simple value is none of 24 to 31
+-- a simple value isn't between 24 and 31
 abbrev pub IsHead : Head → Type 0
 IsHead (head.Unsigned n) = Unit {0}
 IsHead (head.Negative n) = Unit {0}
@@ -41,7 +41,7 @@ pub record NoHead {A : Type 0} (read : Option A) (old new : Walk) : Type 0 where
   pub reads : read ≡ None
   pub stopped : Stopped old new
 
--- the head ahead was read, or none stands there
+-- the next head was decoded, or no well-formed head follows
 abbrev pub ReadsHead : Walk → Walk → Option Head → Type 0
 ReadsHead old new (Some h) = HeadRead old new h
 ReadsHead old new None = NoHead (head_at (ahead old)) old new
@@ -71,25 +71,25 @@ pub record PieceRead (is_text : Bool) (read : Read (List ℕ)) (old new : Walk) 
   pub reads : read ≡ Some (s, ahead new)
   pub passed : Passed old new
   pub uncounted : new.heads ≡ old.heads
-  pub stands : may_stand is_text s ≡ true
+  pub stands : is_allowed is_text s ≡ true
 
 abbrev pub ReadsPiece : Bool → Read (List ℕ) → Walk → Walk → Option (List ℕ) → Type 0
 ReadsPiece is_text read old new (Some s) = PieceRead is_text read old new s
 ReadsPiece is_text read old new None = NoHead read old new
 
--- ---- passing over what is read
+-- ---- skipping what is decoded
 
 pub record PassesOver {A : Type 0} (read : Read A) (old new : Walk) : Type 0 where
   pub value : A
   pub reads : read ≡ Some (value, ahead new)
   pub passed : Passed old new
 
--- The cursor passed what reading gives, or stopped where it gives nothing.
+-- The cursor passed what was decoded; or decoding failed, and it stopped.
 abbrev pub Skips : {A : Type 0} → Read A → Walk → Walk → Bool → Type 0
 Skips read old new true = PassesOver read old new
 Skips read old new false = NoHead read old new
 
--- what the elements of a list are
+-- the elements of a list: items in an array, pairs in a map
 abbrev pub Entered : Entry → Type 0
 Entered entry.Item = Item
 Entered entry.Pair = Item × Item
@@ -98,9 +98,9 @@ abbrev pub entry_by : ℕ → (e : Entry) → Reader (Entered e)
 entry_by levels entry.Item = item_within levels
 entry_by levels entry.Pair = pair_by (item_within levels)
 
--- ---- strings that are lent
+-- ---- borrowed strings
 
--- what stands behind the head of a string
+-- the bytes after a string's head
 pub record RegionRead (is_text : Bool) (len : Option ℕ) (old new : Walk) (region : List ℕ) : Type 0 where
   pub content : List ℕ
   pub tells : Content is_text len content region
@@ -111,37 +111,42 @@ abbrev pub ReadsRegion : Bool → Option ℕ → Walk → Walk → Option (List 
 ReadsRegion is_text len old new (Some region) = RegionRead is_text len old new region
 ReadsRegion is_text len old new None = NoHead (string_at is_text len (ahead old)) old new
 
--- the place of the first of the names that the chunks ahead join to
+-- the index of the first of the names that equals the string that the chunks ahead join to
 abbrev pub AreSought : Bool → List (List ℕ) → Walk → Option ℕ → Type 0
-AreSought is_text names old place = (s rest : List ℕ) → string_at is_text None (ahead old) ≡ Some (s, rest) → place ≡ place_of s names
+AreSought is_text names old place = (s rest : List ℕ) → string_at is_text None (ahead old) ≡ Some (s, rest)
+    → place ≡ place_of s names
 
--- So many bytes are in the string that is read.
+-- The decoded string has n bytes.
 abbrev pub IsLengthOf : Read (List ℕ) → ℕ → Type 0
 IsLengthOf read n = (s rest : List ℕ) → read ≡ Some (s, rest) → length s ≡ n
 
--- The chunks ahead were looked at, each and the break.
+-- The head of every chunk ahead was counted, and the break.
 abbrev pub CountsAll : Bool → Walk → Walk → Type 0
-CountsAll is_text old new = (chunks : List (List ℕ)) (rest : List ℕ) → list_at (chunk is_text) None (ahead old) ≡ Some (chunks, rest) → new.heads ≡ raised old.heads (length chunks + 1)
+CountsAll is_text old new = (chunks : List (List ℕ)) (rest : List ℕ) → list_at (chunk is_text) None (ahead old)
+    ≡ Some (chunks, rest) → new.heads ≡ raised old.heads (length chunks + 1)
 
--- One head or more was looked at, at most each chunk's and the break.
+-- At least one head was counted, and at most those of the chunks and the break.
 pub record CountsSome (is_text : Bool) (old new : Walk) : Type 0 where
   pub least : raised old.heads 1 ≤ new.heads
-  pub heads : (chunks : List (List ℕ)) (rest : List ℕ) → list_at (chunk is_text) None (ahead old) ≡ Some (chunks, rest) → new.heads ≤ old.heads + length chunks + 1
+  pub heads : (chunks : List (List ℕ)) (rest : List ℕ)
+      → list_at (chunk is_text) None (ahead old) ≡ Some (chunks, rest) → new.heads ≤ old.heads + length chunks + 1
 
--- All of them to join the chunks, some where they weren't joined.
+-- All of them if the chunks were joined, and some if they weren't.
 abbrev pub CountsChunks : {T E : Type 0} → Bool → Walk → Walk → Result T E → Type 0
 CountsChunks is_text old new (Ok v) = CountsAll is_text old new
 CountsChunks is_text old new (Err e) = CountsSome is_text old new
 
--- The chunks ahead were looked at, as long as a name begins so.
+-- The heads of the chunks ahead were counted until no name begins with what was joined so far.
 abbrev pub CountsSought : Bool → List (List ℕ) → Walk → Walk → Type 0
-CountsSought is_text names old new = (chunks : List (List ℕ)) (rest : List ℕ) → list_at (chunk is_text) None (ahead old) ≡ Some (chunks, rest) → new.heads ≡ raised old.heads (heads_until names [] chunks)
+CountsSought is_text names old new = (chunks : List (List ℕ)) (rest : List ℕ) → list_at (chunk is_text) None
+    (ahead old) ≡ Some (chunks, rest) → new.heads ≡ raised old.heads (heads_until names [] chunks)
 
--- No string with its head was read; where another item is, its head alone was decoded.
+-- No string of this kind was decoded; if another data item leads, only its head was decoded.
 pub record NoStringRead (is_text : Bool) (old new : Walk) : Type 0 where
   pub no_string : NoHead (start (string_by is_text) (ahead old)) old new
   pub least : raised old.heads 1 ≤ new.heads
-  pub one : (x : Item) (rest : List ℕ) → start (item_within max_depth) (ahead old) ≡ Some (x, rest) → new.heads ≡ raised old.heads 1
+  pub one : (x : Item) (rest : List ℕ) → start (item_within max_depth) (ahead old) ≡ Some (x, rest)
+      → new.heads ≡ raised old.heads 1
 
 -- a string with its head
 abbrev pub ReadsString : Bool → Walk → Walk → Option Region → Type 0

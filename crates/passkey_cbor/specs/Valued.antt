@@ -1,31 +1,33 @@
--- What making the value of the item ahead answers.
+-- The result of decoding the leading data item to a `Value`.
 use Rattle.std.specs.Prelude.{◌≡◌, ℕ, ◌+◌, ◌*◌, ◌≤◌, Result, Ok, Err}
 use Rattle.passkey_cbor.specs.Item.{Item}
 use Rattle.passkey_cbor.specs.Nodes.{nodes}
-use Rattle.passkey_cbor.specs.Front.{IsFront}
+use Rattle.passkey_cbor.specs.LeadingItem.{IsLeadingItem}
 use Rattle.passkey_cbor.specs.Grows.{Grows}
 use Rattle.passkey_cbor.specs.View.{item_of}
 use Rattle.passkey_cbor.specs.Walk.{Walk, ahead, raised}
-use Rattle.passkey_cbor.specs.Skipped.{FindsNoFront}
+use Rattle.passkey_cbor.specs.Skipped.{FindsNoLeadingItem}
 use Rattle.passkey_cbor.specs.declared.value.Value.{Value}
 use Rattle.passkey_cbor.specs.declared.error.CborError.{CborError}
 use Rattle.passkey_cbor.specs.declared.error.CborError.TheVariants as error
 
--- The cursor passed the item ahead and made it, with at least one head, and at most two for each of its bytes; each item in it is counted.
-pub record MakesFront (old new : Walk) (x : Item) : Type 0 where
+-- The cursor decoded the leading data item and passed it. It counted at least one head, and at most two for
+-- each of the item's bytes; and it counted the item and every item in it.
+pub record MakesLeadingItem (old new : Walk) (x : Item) : Type 0 where
   pub len : ℕ
-  pub front : IsFront (ahead old) x len
+  pub front : IsLeadingItem (ahead old) x len
   pub place : new.place ≡ old.place + len
   pub least : raised old.heads 1 ≤ new.heads
   pub heads : new.heads ≤ old.heads + 2 * len
   pub nodes : new.nodes ≡ raised old.nodes (nodes x)
   pub bytes : new.bytes ≡ old.bytes
 
--- An item that takes memory stands ahead, and there was none; the cursor stays, and its counts don't fall.
+-- The leading data item takes memory, and an allocation failed; the cursor doesn't move, and its counts don't
+-- decrease.
 pub record FindsNoMemory (old new : Walk) : Type 0 where
   pub item : Item
   pub len : ℕ
-  pub front : IsFront (ahead old) item len
+  pub front : IsLeadingItem (ahead old) item len
   pub grows : Grows item
   pub place : new.place ≡ old.place
   pub least : raised old.heads 1 ≤ new.heads
@@ -35,7 +37,7 @@ pub record FindsNoMemory (old new : Walk) : Type 0 where
   pub bytes : new.bytes ≡ old.bytes
 
 abbrev pub ReadsValue : Walk → Walk → Result Value CborError → Type 0
-ReadsValue old new (Ok v) = MakesFront old new (item_of v)
-ReadsValue old new (Err error.DecodeFailed) = FindsNoFront old new
+ReadsValue old new (Ok v) = MakesLeadingItem old new (item_of v)
+ReadsValue old new (Err error.DecodeFailed) = FindsNoLeadingItem old new
 ReadsValue old new (Err error.OutOfMemory) = FindsNoMemory old new
 ReadsValue old new (Err error.OutOfRangeIntegerValue) = ⊥

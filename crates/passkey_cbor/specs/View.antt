@@ -1,11 +1,11 @@
--- The item that a value stands for.
+-- The data item that a `Value` represents.
 use Rattle.std.specs.Prelude.{List, map, string_bytes}
 use Rattle.passkey_cbor.specs.Item as item
 use Rattle.passkey_cbor.specs.Item.{Item, Items, Pairs, items_of, pairs_of}
 use Rattle.passkey_cbor.specs.declared.value.Value.{Value, fold-Value}
 use Rattle.passkey_cbor.specs.declared.value.Value.TheOpen.{Value-F}
 
--- one level, where each value inside is already seen as its item
+-- one level of a value, where each value inside is already replaced by its data item
 abbrev pub item_step : Value-F Item → Item
 item_step (Value-F.Integer z) = item.number z
 item_step (Value-F.Bytes v) = item.byte_string v.items
@@ -24,7 +24,7 @@ item_of = fold-Value Item item_step
 abbrev pub pair_of : Value × Value → Item × Item
 pair_of p = (item_of p.0, item_of p.1)
 
--- the items of an array's values, and the pairs of a map's
+-- the elements of an array, and the members of a map, from their values
 abbrev pub items_view : List Value → Items
 items_view vs = items_of (map item_of vs)
 

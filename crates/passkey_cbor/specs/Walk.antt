@@ -1,4 +1,4 @@
--- Where a cursor stands in its bytes, and what it has counted.
+-- Where a cursor is in its bytes, and what it has counted.
 use Rattle.std.specs.Prelude.{◌≡◌, ℕ, zero, suc, ◌+◌, ◌-◌, ◌^◌, ◌≤◌, min, List, length, drop, Option, Some, None}
 use Rattle.passkey_cbor.specs.Bytes.{IsBytes}
 
@@ -8,21 +8,22 @@ pub record Walk : Type 0 where
   pub heads : ℕ
   pub nodes : ℕ
 
--- the bytes from the place on
+-- the bytes from the cursor's offset on
 abbrev pub ahead : Walk → List ℕ
 ahead w = drop w.place w.bytes
 
--- a count that was raised, and stops at the greatest number
+-- a count raised by k, saturating at 2^128 - 1
 abbrev pub raised : ℕ → ℕ → ℕ
 raised n zero = n
 raised n (suc k) = min (n + suc k) (2 ^ 128 - 1)
 
--- how many heads are decoded to see whether a list goes on: none where its length is known, else one, which may be its break
+-- how many heads are decoded to see whether a list goes on: none if its length is definite, and else one, which
+-- may be the break
 abbrev pub break_heads : Option ℕ → ℕ
 break_heads (Some n) = 0
 break_heads None = 1
 
--- What holds of every cursor: its place is in the bytes, and these are bytes.
+-- What holds of every cursor: its offset is within the bytes, and every number in them is a byte.
 pub record IsPlaced (bytes : List ℕ) (place : ℕ) : Type 0 where
   pub within : place ≤ length bytes
   pub fits : IsBytes bytes
@@ -30,7 +31,7 @@ pub record IsPlaced (bytes : List ℕ) (place : ℕ) : Type 0 where
 abbrev pub IsInside : Walk → Type 0
 IsInside w = w.place ≤ length w.bytes
 
--- The cursor went forward, with at most one head for each byte that it passed, and made nothing.
+-- The cursor moved forward, and counted at most one head for each byte that it passed, and no data items.
 pub record Passed (old new : Walk) : Type 0 where
   pub same : new.bytes ≡ old.bytes
   pub within : new.place ≤ length new.bytes
@@ -39,7 +40,7 @@ pub record Passed (old new : Walk) : Type 0 where
   pub heads : new.heads + old.place ≤ old.heads + new.place
   pub nodes : new.nodes ≡ old.nodes
 
--- The cursor stopped somewhere, with at most one head for each byte ahead and one more, and made nothing.
+-- The cursor stopped, and counted at most one head more than there were bytes ahead, and no data items.
 pub record Stopped (old new : Walk) : Type 0 where
   pub same : new.bytes ≡ old.bytes
   pub within : new.place ≤ length new.bytes
@@ -48,7 +49,7 @@ pub record Stopped (old new : Walk) : Type 0 where
   pub heads : new.heads ≤ old.heads + length (ahead old) + 1
   pub nodes : new.nodes ≡ old.nodes
 
--- The cursor is in the same bytes, no further back, and its counts didn't fall.
+-- The cursor has the same bytes and hasn't moved back, and its counts didn't decrease.
 pub record Went (old new : Walk) : Type 0 where
   pub same : new.bytes ≡ old.bytes
   pub within : new.place ≤ length new.bytes

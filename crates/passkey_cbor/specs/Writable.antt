@@ -1,10 +1,11 @@
--- The items that CBOR can spell: numbers, lengths and tags of at most 64 bits, texts in UTF-8 (RFC 8949, section 3).
+-- The data items that CBOR can encode: integers, lengths and tag numbers of at most 64 bits, and text strings
+-- in UTF-8 (RFC 8949, section 3).
 use Rattle.std.specs.Prelude.{◌^◌, ◌<◌, length}
 use Rattle.std.specs.Str.{IsUtf8}
 use Rattle.passkey_cbor.specs.FloatParts.{IsFloat}
 use Rattle.passkey_cbor.specs.Ranges.{IsInteger, IsSimple}
 use Rattle.passkey_cbor.specs.Item.{Item, number, byte_string, text_string, array, map, tagged, boolean, null, simple, float, Items, no_items, item, Pairs, no_pairs, pair}
-use Rattle.passkey_cbor.specs.Spelling.{items_len, pairs_len}
+use Rattle.passkey_cbor.specs.Encoding.{items_len, pairs_len}
 
 abbrev mutual
   pub IsWritable : Item → Type 0

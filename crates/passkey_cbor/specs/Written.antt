@@ -1,11 +1,12 @@
--- The one spelling that is written: shortest heads and definite lengths (RFC 8949, section 4.1).
+-- The one encoding that is written: shortest heads and definite lengths (RFC 8949, section 4.1), and each float
+-- in its own width.
 use Rattle.std.specs.Prelude.{ℕ, ◌+◌, ◌*◌, ◌^◌, pos, negsuc, List, [], ◌∷◌, ◌++◌, length, nat_lt, ◌==◌, if◌then◌else◌}
 use Rattle.std.specs.Int.{w8, w16, w32, w64, to_be_bytes}
 use Rattle.passkey_cbor.specs.FloatParts.{FloatParts}
 use Rattle.passkey_cbor.specs.Item.{Item, number, byte_string, text_string, array, map, tagged, boolean, null, simple, float, Items, no_items, item, Pairs, no_pairs, pair}
-use Rattle.passkey_cbor.specs.Spelling.{items_len, pairs_len, boolean_byte}
+use Rattle.passkey_cbor.specs.Encoding.{items_len, pairs_len, boolean_byte}
 
--- the shortest head
+-- the shortest encoding of a head
 unfoldable pub shortest_head : ℕ → ℕ → List ℕ
 shortest_head major n =
     if nat_lt n 24 then (32 * major + n) ∷ []

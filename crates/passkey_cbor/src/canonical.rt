@@ -9,10 +9,10 @@ use crate::head::Head;
 use crate::order::ctap2_order;
 use std::cmp::Ordering;
 
-/// Returns whether the bytes are exactly one data item in CTAP2's canonical form, of at most 256
-/// levels: shortest heads and definite lengths, each float in the width that it has, neither
-/// undefined nor a tag, and the keys of each map in ascending order (`ctap2_order`), so no key
-/// twice. Decodes the bytes once, and allocates nothing. (CTAP 2.1, section 8.)
+/// Returns whether the bytes are exactly one data item of at most 256 levels in CTAP2's canonical
+/// form: shortest heads, definite lengths, floats of any width, neither undefined nor tags, and the
+/// keys of each map in ascending order (`ctap2_order`), so without duplicates. Decodes the bytes
+/// once, and allocates nothing. (CTAP 2.1, section 8.)
 pub fn is_canonical(bytes: &[u8]) -> bool
     ensures { IsTrue result ↔ IsCanonical bytes.now }
 {
@@ -22,7 +22,8 @@ pub fn is_canonical(bytes: &[u8]) -> bool
     }
 }
 
-/// The bytes behind the canonical item of at most so many levels that begins these.
+/// The bytes after the canonical data item of at most `levels` levels at the beginning of these;
+/// `None` if there is none.
 #[cycle(canonical)]
 fn behind_item(bytes: &[u8], levels: usize) -> Option<&[u8]>
     ensures { Leaves (BeginsItem levels bytes.now) (option_map (λ r. r.now) result) }
@@ -33,7 +34,7 @@ fn behind_item(bytes: &[u8], levels: usize) -> Option<&[u8]>
     }
 }
 
-// The bytes behind the content of one whose head was decoded.
+// The bytes after the content of a canonical data item whose head is decoded already.
 #[cycle(canonical)]
 fn behind_content(head: Head, bytes: &[u8], levels: usize) -> Option<&[u8]>
     ensures { Leaves (BeginsContent levels head bytes.now) (option_map (λ r. r.now) result) }
@@ -43,7 +44,7 @@ fn behind_content(head: Head, bytes: &[u8], levels: usize) -> Option<&[u8]>
         Head::Negative(_) => Some(bytes),
         Head::Float(_) => Some(bytes),
         Head::Simple(n) => {
-            // Undefined has no place in the canonical form, since it is encoded as null.
+            // Undefined isn't canonical, since it is encoded as null.
             if n == 23 { None } else { Some(bytes) }
         }
         Head::Bytes(len) => behind_string(false, len?, bytes),
@@ -55,7 +56,7 @@ fn behind_content(head: Head, bytes: &[u8], levels: usize) -> Option<&[u8]>
     }
 }
 
-// The bytes behind so many canonical items.
+// The bytes after `count` canonical data items.
 #[cycle(canonical)]
 fn behind_items(bytes: &[u8], count: u64, levels: usize) -> Option<&[u8]>
     ensures { Leaves (BeginsItems levels count bytes.now) (option_map (λ r. r.now) result) }
@@ -69,7 +70,7 @@ fn behind_items(bytes: &[u8], count: u64, levels: usize) -> Option<&[u8]>
     Some(rest)
 }
 
-// The bytes behind so many pairs of canonical items whose keys ascend.
+// The bytes after `count` pairs of canonical data items with ascending keys.
 #[cycle(canonical)]
 fn behind_pairs(bytes: &[u8], count: u64, levels: usize) -> Option<&[u8]>
     ensures { Leaves (BeginsPairs levels count None bytes.now) (option_map (λ r. r.now) result) }
@@ -90,7 +91,7 @@ fn behind_pairs(bytes: &[u8], count: u64, levels: usize) -> Option<&[u8]>
     Some(rest)
 }
 
-// Whether a key may follow the one before it, if there is one.
+// Whether the key may follow the previous one, if there is one.
 fn comes_after(before: Option<&[u8]>, key: &[u8]) -> bool
     requires before { IfSome before (λ k. 0 < length k.now) }
     requires key { 0 < length key.now }
@@ -102,7 +103,7 @@ fn comes_after(before: Option<&[u8]>, key: &[u8]) -> bool
     }
 }
 
-// The bytes behind the content of a string of this length.
+// The bytes after the content of a string of this length.
 fn behind_string(is_text: bool, len: u64, bytes: &[u8]) -> Option<&[u8]>
     ensures { Leaves (BeginsString is_text len bytes.now) (option_map (λ r. r.now) result) }
 {

@@ -63,8 +63,9 @@ fn copy(alloc: Global, value: &Value) -> Result<Value, OutOfMemory>
 }
 
 impl Value {
-    /// Returns an equal value. `OutOfMemory` if an allocation fails, which can't happen for numbers,
-    /// floats, booleans, null, other simple values, and empty byte strings, arrays and maps.
+    /// Returns an equal value. `OutOfMemory` if an allocation fails, which can't happen for
+    /// integers, floats, booleans, null, other simple values, and empty byte strings, arrays and
+    /// maps.
     pub fn try_clone(&self, alloc: Global) -> Result<Value, OutOfMemory>
         ensures same { IfOk result (λ v. item_of v ≡ item_of self.now) }
         ensures grows { OnErr result (Grows (item_of self.now)) }

@@ -1,4 +1,4 @@
-//! Values of numbers, booleans and strings.
+//! Values from numbers, booleans and strings.
 ghost use Rattle.std.specs.Prelude.{◌≡◌, ◌↔◌, pos, string_bytes, IsOk, IfOk, IfErr};
 ghost use Rattle.passkey_cbor.specs.Item as item;
 ghost use Rattle.passkey_cbor.specs.Ranges.{IsInteger};
@@ -14,14 +14,14 @@ use passkey_memory::OutOfMemory;
 use std::alloc::Global;
 
 impl Value {
-    /// Returns the text string with a copy of this text. `OutOfMemory` if the allocation fails.
+    /// Returns a text string with a copy of the text. `OutOfMemory` if the allocation fails.
     pub fn from_text(alloc: Global, text: &str) -> Result<Value, OutOfMemory>
         ensures { IfOk result (λ v. item_of v ≡ item.text_string text.now) }
     {
         Ok(Value::Text(String::from_str(alloc, text)?))
     }
 
-    /// Returns the byte string with a copy of these bytes. `OutOfMemory` if the allocation fails.
+    /// Returns a byte string with a copy of the bytes. `OutOfMemory` if the allocation fails.
     pub fn from_bytes(alloc: Global, bytes: &[u8]) -> Result<Value, OutOfMemory>
         ensures { IfOk result (λ v. item_of v ≡ item.byte_string bytes.now) }
     {
@@ -149,7 +149,7 @@ impl TryFrom<i128> for Value {
         × IfOk result (λ v. item_of v ≡ item.number n)
         × IfErr result (λ e. e ≡ OutOfRangeIntegerValue) };
 
-    /// The integer. `OutOfRangeIntegerValue` exactly if it is not from -2^64 to 2^64 - 1.
+    /// The integer. `OutOfRangeIntegerValue` if it is below -2^64 or above 2^64 - 1.
     fn try_from(n: i128) -> Result<Value, CborError> {
         Ok(Value::Integer(Integer::new(n)?))
     }
@@ -163,7 +163,7 @@ impl TryFrom<u128> for Value {
         × IfOk result (λ v. item_of v ≡ item.number (pos n))
         × IfErr result (λ e. e ≡ OutOfRangeIntegerValue) };
 
-    /// The integer. `OutOfRangeIntegerValue` exactly if it is above 2^64 - 1.
+    /// The integer. `OutOfRangeIntegerValue` if it is above 2^64 - 1.
     fn try_from(n: u128) -> Result<Value, CborError> {
         match u64::try_from(n) {
             Ok(n) => Ok(Value::from(n)),

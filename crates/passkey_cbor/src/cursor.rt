@@ -1,19 +1,19 @@
 //! A cursor that decodes borrowed bytes head by head.
-ghost use Rattle.std.specs.Prelude.{◌≡◌, ℕ, ◌+◌, ◌≤◌, min, None, option_map, IfNone, IfSome};
+ghost use Rattle.std.specs.Prelude.{◌≡◌, ℕ, ◌+◌, ◌≤◌, length, min, None, option_map, IfNone, IfSome};
 ghost use Rattle.passkey_cbor.specs.Walk.{ahead, raised, IsInside, IsPlaced, Went};
 ghost use Rattle.passkey_cbor.specs.Found.{FindsHead};
 ghost use Rattle.passkey_cbor.specs.Item.{Item};
-ghost use Rattle.passkey_cbor.specs.Stands.{Stands, Opens, WalksOn};
+ghost use Rattle.passkey_cbor.specs.EncodedAt.{IsEncodedAt, Opens, WalksOn};
 ghost use Rattle.passkey_cbor.specs.Steps.{ReadsHead, ReadsStep, ReadsPiece};
-ghost use Rattle.passkey_cbor.specs.Reading.{may_stand, piece_at, chunk};
+ghost use Rattle.passkey_cbor.specs.Reading.{is_allowed, piece_at, chunk};
 
 use crate::count::Count;
 use crate::head::Head;
 use std::marker::Model;
 use std::str;
 
-/// An offset in borrowed bytes, from which heads are decoded one by one. Each attempt to decode a
-/// head is counted, failed ones too.
+/// An offset in borrowed bytes, at which heads are decoded one by one. Each attempt to decode a
+/// head is counted, even if it fails.
 #[derive(Drop)]
 pub struct Cursor<'a> {
     pub(crate) bytes: &'a [u8],
@@ -31,7 +31,7 @@ impl<'a> Model for Cursor<'a> {
     ghost invariant = { λ c. IsPlaced c.bytes.now c.place };
 }
 
-/// What comes next in a list: an element, whose head this is, the list's end, or no head.
+/// What comes next in a list: an element with this head, the list's end, or no well-formed head.
 #[derive(Clone, Copy)]
 pub(crate) enum Next {
     Element(Head),
@@ -51,14 +51,14 @@ impl<'a> Cursor<'a> {
         }
     }
 
-    /// Returns the offset: how many bytes lie before the cursor.
+    /// Returns the offset: the number of bytes before the cursor.
     pub fn place(&self) -> usize
         ensures { result ≡ self.now.place }
     {
         self.place
     }
 
-    /// Moves back to an earlier offset. The counts stay.
+    /// Moves back to an earlier offset. The counts don't change.
     pub fn go_back(&mut self, to: usize)
         requires { to ≤ self.old.place }
         ensures { self.new ≡ record self.old { place = to } }
@@ -66,7 +66,7 @@ impl<'a> Cursor<'a> {
         self.place = to;
     }
 
-    /// Returns the heads decoded and the data items made so far.
+    /// Returns the numbers of heads decoded and of data items built so far.
     pub fn count(&self) -> Count
         ensures heads { result.heads ≡ self.now.heads }
         ensures nodes { result.nodes ≡ self.now.nodes }
@@ -74,9 +74,12 @@ impl<'a> Cursor<'a> {
         self.count
     }
 
-    /// Adds to the counts, each of which stops at `u128::MAX`.
+    /// Adds to the counts, each of which saturates at `u128::MAX`.
     pub fn add(&mut self, count: Count)
-        ensures raised { self.new ≡ record self.old { heads = min (self.old.heads + count.heads) u128.MAX; nodes = min (self.old.nodes + count.nodes) u128.MAX } }
+        ensures raised { self.new ≡ record self.old {
+          heads = min (self.old.heads + count.heads) u128.MAX;
+          nodes = min (self.old.nodes + count.nodes) u128.MAX;
+        } }
         ensures heads { self.old.heads ≤ self.new.heads }
         ensures nodes { self.old.nodes ≤ self.new.nodes }
     {
@@ -84,7 +87,7 @@ impl<'a> Cursor<'a> {
         self.count.nodes = self.count.nodes.saturating_add(count.nodes);
     }
 
-    /// Raises the count of heads alone.
+    /// Adds to the count of heads only.
     pub(crate) fn add_heads(&mut self, heads: u128)
         ensures raised { self.new ≡ record self.old { heads = min (self.old.heads + heads) u128.MAX } }
         ensures rises { self.old.heads ≤ self.new.heads }
@@ -92,28 +95,45 @@ impl<'a> Cursor<'a> {
         self.count.heads = self.count.heads.saturating_add(heads);
     }
 
-    /// Decodes the head at the cursor and moves behind it. Returns `None` and stays if no complete,
-    /// well-formed head is there. Counts one head either way. (RFC 8949, section 3.)
+    /// Passes this many bytes, and counts one head.
+    pub(crate) fn pass_leaf(&mut self, len: usize)
+        requires { self.old.place + len ≤ length self.old.bytes }
+        ensures passed { self.new ≡ record self.old {
+          place = self.old.place + len;
+          heads = min (self.old.heads + 1) u128.MAX;
+        } }
+        ensures rises { self.old.heads ≤ self.new.heads }
+    {
+        self.add_heads(1);
+        self.place += len;
+    }
+
+    /// Decodes the head at the cursor and moves past it. Returns `None`, and the cursor doesn't
+    /// move, if no complete, well-formed head follows. Counts one head in both cases. (RFC 8949,
+    /// section 3.)
     pub fn head(&mut self) -> Option<Head>
         ensures found { FindsHead self.old self.new result }
 
-        // Where an item stands, this is its head, and what follows it in the item lies ahead.
-        ensures opens { (x : Item) (to : ℕ) → Stands x self.old.bytes self.old.place to → Opens x to self.new result }
+        // If a data item is encoded at the cursor, this is its head, and the rest of the item
+        // follows.
+        ensures opens { (x : Item) (to : ℕ) → IsEncodedAt x self.old.bytes self.old.place to
+            → Opens x to self.new result }
 
-        // The counts never fall.
+        // The counts never decrease.
         ensures went { Went self.old self.new }
     {
         self.decode()
     }
 
-    /// Returns whether an array or a map has more elements, where `left` is the length in its head. A
-    /// definite length is counted down, and the cursor stays. For an indefinite one the next head is
-    /// decoded and counted: the cursor moves behind it if it is the break, and else stays.
-    /// (RFC 8949, section 3.2.2.)
+    /// Returns whether an array or a map has more elements, where `left` is the length in its head.
+    /// A definite length is counted down, and the cursor doesn't move. For an indefinite length,
+    /// the next head is decoded and counted: at the break, the cursor moves past it and the result
+    /// is false; otherwise the cursor doesn't move and the result is true, even if no well-formed
+    /// head follows. (RFC 8949, section 3.2.2.)
     pub fn more(&mut self, left: &mut Option<u64>) -> bool
         ensures walks { WalksOn left.old left.new self.old self.new result }
 
-        // The counts never fall.
+        // The counts never decrease.
         ensures went { Went self.old self.new }
     {
         let place = self.place;
@@ -139,7 +159,7 @@ impl<'a> Cursor<'a> {
         }
     }
 
-    // The head at the place, as reading finds it.
+    // Decodes the head at the cursor, as `head` does.
     pub(crate) fn decode(&mut self) -> Option<Head>
         ensures reads { ReadsHead self.old self.new result }
         ensures counted { self.new.heads ≡ raised self.old.heads 1 }
@@ -158,13 +178,13 @@ impl<'a> Cursor<'a> {
         }
     }
 
-    /// One step in a list of which so many elements are left, or, where none says how many,
-    /// all of them up to a break.
+    /// One step in a list with `left` elements left, or, with indefinite length, elements up to a
+    /// break.
     pub(crate) fn step(&mut self, left: &mut Option<u64>) -> Next
         requires { IsInside self.old }
         ensures reads { ReadsStep left.old left.new self.old self.new result }
 
-        // Where none says how many are left, one head is counted.
+        // With indefinite length, one head is counted.
         ensures counted { left.old ≡ None → (left.new ≡ None) × (self.new.heads ≡ raised self.old.heads 1) }
     {
         let known = *left;
@@ -192,10 +212,11 @@ impl<'a> Cursor<'a> {
         }
     }
 
-    /// So many bytes at the place, and on behind them: a string in one piece, or a chunk of one.
-    /// Where they are a text, they are UTF-8.
+    /// Passes and returns the next `len` bytes: a string of definite length, or a chunk's content.
+    /// `None` if there are fewer bytes, or if a text's aren't UTF-8.
     pub(crate) fn piece(&mut self, is_text: bool, len: u64) -> Option<&'a [u8]>
-        ensures reads { ReadsPiece is_text (piece_at is_text len (ahead self.old)) self.old self.new (option_map (λ s. s.now) result) }
+        ensures reads { ReadsPiece is_text (piece_at is_text len (ahead self.old)) self.old self.new
+            (option_map (λ s. s.now) result) }
         ensures uncounted { self.new.heads ≡ self.old.heads }
         ensures fits { IfSome result (λ _. self.new.place ≤ usize.MAX) }
     {
@@ -209,10 +230,12 @@ impl<'a> Cursor<'a> {
         }
     }
 
-    /// The bytes of a chunk whose head was read, of a string of this kind, and on behind them.
+    /// Passes and returns the content of a chunk of this kind of string, whose head is decoded
+    /// already.
     pub(crate) fn chunk(&mut self, is_text: bool, head: Head) -> Option<&'a [u8]>
         requires { IsInside self.old }
-        ensures reads { ReadsPiece is_text (chunk is_text head (ahead self.old)) self.old self.new (option_map (λ s. s.now) result) }
+        ensures reads { ReadsPiece is_text (chunk is_text head (ahead self.old)) self.old self.new
+            (option_map (λ s. s.now) result) }
         ensures uncounted { self.new.heads ≡ self.old.heads }
         ensures fits { IfSome result (λ _. self.new.place ≤ usize.MAX) }
     {
@@ -223,7 +246,7 @@ impl<'a> Cursor<'a> {
     }
 }
 
-// The first bytes, so many of them, where they may stand in a string of this kind, and the rest.
+// The first `len` bytes, if they are allowed in a string of this kind, and the rest.
 #[tactic(auto, unfolding(crate::specs::Reading::piece_at))]
 pub(crate) fn piece_of(is_text: bool, len: u64, bytes: &[u8]) -> Option<(&[u8], &[u8])>
     ensures { option_map (λ r. (r.0.now, r.1.now)) result ≡ piece_at is_text len bytes.now }
@@ -233,15 +256,15 @@ pub(crate) fn piece_of(is_text: bool, len: u64, bytes: &[u8]) -> Option<(&[u8], 
         return None;
     }
     let (front, rest) = bytes.split_at(len);
-    if !may_stand(is_text, front) {
+    if !is_allowed(is_text, front) {
         return None;
     }
     Some((front, rest))
 }
 
-// Whether these bytes may stand in a string of this kind: in a text, if they are UTF-8.
-fn may_stand(is_text: bool, bytes: &[u8]) -> bool
-    ensures { result ≡ may_stand is_text bytes.now }
+// Whether a string of this kind may contain these bytes: a text must be UTF-8.
+pub(crate) fn is_allowed(is_text: bool, bytes: &[u8]) -> bool
+    ensures { result ≡ is_allowed is_text bytes.now }
 {
     if is_text {
         str::from_utf8(bytes).is_ok()

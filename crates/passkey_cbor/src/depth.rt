@@ -1,11 +1,12 @@
-//! How deep items are nested.
+//! The nesting depth of data items.
 ghost use Rattle.std.specs.Prelude.{◌≡◌, min};
 ghost use Rattle.passkey_cbor.specs.Depth.{depth, items_depth, pairs_depth};
 ghost use Rattle.passkey_cbor.specs.View.{item_of, items_view, pairs_view};
 
 use crate::value::Value;
 
-/// How many nesting levels of arrays, maps and tags the decoders accept (RFC 8949, section 10).
+/// The number of nesting levels of arrays, maps and tags that the decoders accept (RFC 8949,
+/// section 10).
 pub const MAX_DEPTH: usize = 256;
 
 #[cycle(depth)]
@@ -50,8 +51,8 @@ fn pairs_depth_of(pairs: &[(Value, Value)]) -> usize
 
 impl Value {
     /// Returns the number of nesting levels: each array, map and tag counts one, so a number or a
-    /// string has none and an empty array has one. At most `usize::MAX`. Decoders limit nesting
-    /// (RFC 8949, section 10); those of this crate accept `MAX_DEPTH` levels.
+    /// string has 0, and an empty array 1. At most `usize::MAX`. Decoders limit nesting (RFC 8949,
+    /// section 10); those of this crate accept `MAX_DEPTH` levels.
     pub fn depth(&self) -> usize
         ensures { result ≡ min (depth (item_of self.now)) usize.MAX }
     {

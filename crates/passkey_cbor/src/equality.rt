@@ -66,8 +66,8 @@ impl PartialEq for Value {
 
     ghost laws = { on_per item_of (partial_equiv_from_equiv item_eq-equivalence) };
 
-    /// Whether both are the same data item. Floats of different widths are different items, and so
-    /// are maps whose pairs come in different orders.
+    /// Whether both are the same data item. Floats of different widths are different data items,
+    /// and so are maps whose members are in different orders.
     #[tactic(auto, using(crate::specs::SameItems::item_Decides))]
     fn eq(&self, other: &Value) -> bool
         ensures value { result ≡ item_eq (item_of self.now) (item_of other.now) }

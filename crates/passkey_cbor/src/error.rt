@@ -1,4 +1,4 @@
-//! Why a data item was not decoded or made.
+//! The errors of decoding data items and constructing values.
 ghost use Rattle.std.specs.Prelude.{◌≡◌, Some};
 ghost use Rattle.passkey_cbor.specs.ErrorNames.{cbor_error_name};
 ghost use Rattle.passkey_cbor.specs.declared.error.CborError.TheVariants.{OutOfMemory as NoMemory};
@@ -8,14 +8,14 @@ use std::alloc::{AllocError, AllocFailed};
 use std::error::Error;
 use std::fmt;
 
-/// Why a data item was not decoded or made.
+/// Why decoding a data item or constructing a value failed.
 #[derive(Clone, Copy, Debug, PartialEq, Eq)]
 pub enum CborError {
     /// The bytes don't begin with a well-formed data item of at most 256 levels.
     DecodeFailed,
     /// An allocation failed.
     OutOfMemory,
-    /// A number is outside its range.
+    /// A number is out of its type's range.
     OutOfRangeIntegerValue,
 }
 

@@ -8,7 +8,7 @@ use std::marker::Model;
 
 /// A floating-point number as it is encoded: its width in bytes, and its bits as a big-endian
 /// number (RFC 8949, section 3.3). There is no arithmetic, and floats of different widths are
-/// different numbers.
+/// unequal, even if they have the same value.
 #[derive(Clone, Copy, Debug, PartialEq, Eq)]
 pub struct Float {
     width: u8,
@@ -28,8 +28,8 @@ impl Model for Float {
 }
 
 impl Float {
-    /// Returns the float of this width, 2, 4 or 8 bytes, with these bits. `OutOfRangeIntegerValue`
-    /// for another width, or if the bits don't fit.
+    /// Returns the float of this width in bytes with these bits. `OutOfRangeIntegerValue` if the
+    /// width isn't 2, 4 or 8, or the bits don't fit in it.
     pub fn new(width: u8, bits: u64) -> Result<Float, CborError>
         ensures { MadeWhere (IsFloat width bits) (record { width = width; bits = bits }) result }
     {

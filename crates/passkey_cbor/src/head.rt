@@ -1,5 +1,5 @@
 //! Heads.
-ghost use Rattle.std.specs.Prelude.{◌≡◌, ◌<◌, ◌^◌, ℕ, length, option_map, IfSome};
+ghost use Rattle.std.specs.Prelude.{◌≡◌, ◌<◌, ◌^◌, ℕ, List, ◌∷◌, Some as There, length, option_map, IfSome};
 ghost use Rattle.passkey_cbor.specs.Heads.{one, two, four, eight};
 ghost use Rattle.passkey_cbor.specs.HeadReading.{number_at, argument_at, with_argument, without_argument, simple_at, head_behind, head_at};
 ghost use Rattle.passkey_cbor.specs.Reading.{is_break, chunk_len, string_len};
@@ -9,7 +9,7 @@ ghost use Rattle.passkey_cbor.specs.Written.{shortest_head, float_head};
 use crate::float::Float;
 
 /// A head: the initial byte of a data item and its argument (RFC 8949, section 3). `None` as a
-/// length means an indefinite one.
+/// length means indefinite length.
 #[derive(Clone, Copy, Debug, PartialEq, Eq)]
 pub enum Head {
     /// An unsigned integer n (major type 0).
@@ -24,19 +24,19 @@ pub enum Head {
     Array(Option<u64>),
     /// A map of this many pairs, or of pairs up to a break (major type 5).
     Map(Option<u64>),
-    /// A tag number, with the tag content behind it (major type 6).
+    /// A tag number, followed by the tag content (major type 6).
     Tag(u64),
     /// A simple value, 0 to 23 or 32 to 255 (major type 7).
     Simple(u8),
     /// A floating-point number (major type 7).
     Float(Float),
-    /// The break that ends an item of indefinite length (section 3.2.1).
+    /// The "break" stop code, which ends an item of indefinite length (section 3.2.1).
     Break,
 }
 
 impl Head {
-    /// The head that begins the bytes, and the bytes behind it; none where no whole,
-    /// well-formed one begins them.
+    /// The head at the beginning of the bytes, and the bytes after it; `None` if the bytes don't
+    /// begin with a complete, well-formed head.
     #[tactic(auto, unfolding(crate::specs::HeadReading::head_at))]
     pub(crate) fn decode(bytes: &[u8]) -> Option<(Head, &[u8])>
         ensures { option_map (λ r. (r.0, r.1.now)) result ≡ head_at bytes.now }
@@ -45,7 +45,23 @@ impl Head {
         Head::behind(*initial / 32, *initial % 32, rest)
     }
 
-    /// The head that begins the bytes in its shortest encoding, and the bytes behind it.
+    /// The head of this one byte, if its argument is in its additional information, below 24
+    /// (RFC 8949, section 3).
+    pub(crate) fn short(initial: u8) -> Option<Head>
+        ensures { IfSome result (λ h. (rest : List ℕ) → head_at (initial ∷ rest) ≡ There (h, rest)) }
+    {
+        let info = initial % 32;
+        if info >= 24 {
+            return None;
+        }
+        if initial / 32 == 7 {
+            return Some(Head::Simple(info));
+        }
+        Head::with_argument(initial / 32, u64::from(info))
+    }
+
+    /// The head at the beginning of the bytes, and the bytes after it, if the head has its shortest
+    /// encoding.
     pub(crate) fn decode_shortest(bytes: &[u8]) -> Option<(Head, &[u8])>
         ensures { DecodesShortest bytes.now (option_map (λ r. (r.0, r.1.now)) result) }
     {
@@ -60,7 +76,7 @@ impl Head {
         }
     }
 
-    // How many bytes its shortest encoding has.
+    // The length in bytes of the head's shortest encoding.
     fn shortest_len(&self) -> usize
         ensures { result ≡ length (head_written self.now) }
     {
@@ -76,7 +92,8 @@ impl Head {
         }
     }
 
-    // The head whose initial byte has this major type and this additional information.
+    // The head whose initial byte has this major type and additional information, and is followed
+    // by these bytes; and the bytes after it.
     #[tactic(auto, unfolding(crate::specs::HeadReading::head_behind))]
     fn behind(major: u8, info: u8, bytes: &[u8]) -> Option<(Head, &[u8])>
         ensures { option_map (λ r. (r.0, r.1.now)) result ≡ head_behind major info bytes.now }
@@ -121,7 +138,7 @@ impl Head {
         }
     }
 
-    // A head of major type 7. Simple values below 32 are not well formed in two bytes.
+    // A head of major type 7. Simple values below 32 aren't well-formed in two bytes.
     #[tactic(auto, unfolding(crate::specs::HeadReading::simple_at))]
     fn simple_or_float(info: u8, bytes: &[u8]) -> Option<(Head, &[u8])>
         ensures { option_map (λ r. (r.0, r.1.now)) result ≡ simple_at info bytes.now }
@@ -152,7 +169,7 @@ impl Head {
         }
     }
 
-    /// The length that a chunk of this kind of string has, where the head is a chunk's.
+    /// The length of the chunk; `None` if the head isn't that of a chunk in this kind of string.
     pub(crate) fn chunk_len(&self, is_text: bool) -> Option<u64>
         ensures { result ≡ chunk_len is_text self.now }
     {
@@ -163,7 +180,7 @@ impl Head {
         }
     }
 
-    /// The length that the head of a string of this kind says, where the head is such a one's.
+    /// The length of the string; `None` if the head isn't that of this kind of string.
     pub(crate) fn string_len(&self, is_text: bool) -> Option<Option<u64>>
         ensures { result ≡ string_len is_text self.now }
     {
@@ -181,7 +198,7 @@ impl Head {
     }
 }
 
-// The argument that this additional information says.
+// The argument for this additional information, and the bytes after it.
 #[tactic(auto, unfolding(crate::specs::HeadReading::argument_at))]
 fn argument(info: u8, bytes: &[u8]) -> Option<(u64, &[u8])>
     ensures { option_map (λ r. (r.0, r.1.now)) result ≡ argument_at info bytes.now }
@@ -231,7 +248,7 @@ fn eight_bytes(bytes: &[u8]) -> Option<(u64, &[u8])>
     Some((u64::from_be_bytes(*front), rest))
 }
 
-// How many bytes the shortest head with this argument has.
+// The length in bytes of the shortest head with this argument.
 #[tactic(auto, unfolding(crate::specs::Written::shortest_head))]
 fn argument_len(argument: u64) -> usize
     ensures { (major : ℕ) → result ≡ length (shortest_head major argument) }
@@ -249,7 +266,7 @@ fn argument_len(argument: u64) -> usize
     }
 }
 
-// How many bytes the head of a float has.
+// The length in bytes of the head of a float.
 #[tactic(auto, unfolding(crate::specs::Written::float_head))]
 fn float_len(f: Float) -> usize
     ensures { result ≡ length (float_head f) }

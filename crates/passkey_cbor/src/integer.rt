@@ -1,4 +1,4 @@
-//! Whole numbers.
+//! Integers.
 ghost use Rattle.std.specs.Prelude.{◌≡◌, pos, negsuc};
 ghost use Rattle.passkey_cbor.specs.Ranges.{IsInteger};
 ghost use Rattle.passkey_cbor.specs.Made.{MadeWhere};
@@ -26,7 +26,7 @@ impl Model for Integer {
 }
 
 impl Integer {
-    /// Returns the integer. `OutOfRangeIntegerValue` if it is not from -2^64 to 2^64 - 1.
+    /// Returns the integer. `OutOfRangeIntegerValue` if it is below -2^64 or above 2^64 - 1.
     pub fn new(value: i128) -> Result<Integer, CborError>
         ensures { MadeWhere (IsInteger value) value result }
     {
@@ -36,7 +36,7 @@ impl Integer {
         Ok(Integer { value })
     }
 
-    /// Returns the number.
+    /// Returns the integer as a number.
     pub fn get(&self) -> i128
         ensures value { result ≡ self.now }
         ensures range { IsInteger self.now }
@@ -44,7 +44,7 @@ impl Integer {
         self.value
     }
 
-    /// The number n.
+    /// The integer n.
     pub(crate) fn signed(n: i64) -> Integer
         ensures { result ≡ n }
     {
@@ -53,7 +53,7 @@ impl Integer {
         }
     }
 
-    /// The number n.
+    /// The integer n.
     pub(crate) fn unsigned(n: u64) -> Integer
         ensures { result ≡ pos n }
     {
@@ -62,7 +62,7 @@ impl Integer {
         }
     }
 
-    /// The number -1 - n.
+    /// The integer -1 - n.
     pub(crate) fn negative(n: u64) -> Integer
         ensures { result ≡ negsuc n }
     {

@@ -1,39 +1,40 @@
-//! Laws of the definitions, each the contract of a function without effect.
-ghost use Rattle.passkey_cbor.specs.Laws.{AtMostOneFront, NoShorterFront, FrontIsGiven, GivenIsFront, GivenIsShallow, WrittenSpells, WrittenIsFront};
+//! Laws of the definitions, each the contract of a function that does nothing.
+ghost use Rattle.passkey_cbor.specs.Laws.{AtMostOneLeadingItem, NoShorterLeadingItem, LeadingItemIsFound, FoundIsLeadingItem, GivenIsShallow, WrittenIsEncoding, WrittenIsLeadingItem};
 
-/// Bytes begin with at most one data item, of one length: no encoding is a proper beginning of
-/// another one (RFC 8949, section 3).
-pub fn at_most_one_front()
-    ensures { AtMostOneFront }
+/// Bytes have at most one leading data item, with only one length: no encoding is a proper prefix
+/// of another one (RFC 8949, section 3).
+pub fn at_most_one_leading_item()
+    ensures { AtMostOneLeadingItem }
 {}
 
-/// If bytes begin with a data item of length k, their first bytes, if fewer than k, begin with none.
-pub fn no_shorter_front()
-    ensures { NoShorterFront }
+/// If the leading data item has k bytes, then no prefix of fewer than k bytes has a leading data
+/// item.
+pub fn no_shorter_leading_item()
+    ensures { NoShorterLeadingItem }
 {}
 
-/// If bytes begin with a data item, `front_at` gives that item and the bytes after it.
-pub fn front_is_given()
-    ensures { FrontIsGiven }
+/// If bytes have a leading data item, `leading_item_at` returns it and the bytes after it.
+pub fn leading_item_is_found()
+    ensures { LeadingItemIsFound }
 {}
 
-/// What `front_at` gives begins the bytes; where it gives nothing, they begin with no data item.
-pub fn given_is_front()
-    ensures { GivenIsFront }
+/// What `leading_item_at` returns is the leading data item; if it returns `None`, there is none.
+pub fn found_is_leading_item()
+    ensures { FoundIsLeadingItem }
 {}
 
-/// A data item that `front_at` gives has at most 256 levels.
+/// A data item that `leading_item_at` returns has at most 256 levels.
 pub fn given_is_shallow()
     ensures { GivenIsShallow }
 {}
 
-/// What an item is encoded as is one of its encodings.
-pub fn written_spells()
-    ensures { WrittenSpells }
+/// The bytes that are written for a data item are one of its encodings.
+pub fn written_is_encoding()
+    ensures { WrittenIsEncoding }
 {}
 
-/// The encoding of an item of at most 256 levels, whatever bytes follow, is decoded as that item and
-/// no further.
-pub fn written_is_front()
-    ensures { WrittenIsFront }
+/// Bytes that begin with the written encoding of a data item of at most 256 levels have it as their
+/// leading data item.
+pub fn written_is_leading_item()
+    ensures { WrittenIsLeadingItem }
 {}

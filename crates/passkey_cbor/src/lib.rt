@@ -1,5 +1,5 @@
-//! CBOR (RFC 8949): data items, decoded from every well-formed encoding of at most 256 levels and
-//! encoded in one.
+//! CBOR (RFC 8949): decodes data items from every well-formed encoding of at most 256 levels, and
+//! encodes each in one way.
 #![tactic(auto)]
 
 mod canonical;
@@ -14,6 +14,7 @@ mod float;
 mod head;
 mod integer;
 pub mod laws;
+mod leaf;
 mod map;
 mod member;
 mod names;

@@ -1,8 +1,8 @@
 //! The members of a map, as slices of its bytes.
 ghost use Rattle.std.specs.Prelude.{◌≡◌, ℕ, ◌-◌, length};
 ghost use Rattle.passkey_cbor.specs.Item.{Item};
-ghost use Rattle.passkey_cbor.specs.Stands.{Stands};
-ghost use Rattle.passkey_cbor.specs.Members.{Lends};
+ghost use Rattle.passkey_cbor.specs.EncodedAt.{IsEncodedAt};
+ghost use Rattle.passkey_cbor.specs.Members.{LendsSlice};
 
 use crate::cursor::Cursor;
 use std::iter::FusedIterator;
@@ -15,7 +15,7 @@ pub struct Members<'a> {
     pub(crate) bytes: &'a [u8],
     pub(crate) cursor: Cursor<'a>,
 
-    /// How many are left, as `Cursor::more` counts them.
+    /// How many members are left, as `Cursor::more` counts them.
     pub(crate) left: Option<u64>,
 }
 
@@ -27,7 +27,8 @@ impl<'a> Model for Members<'a> {
 
     ghost view = { λ m. record { bytes = m.bytes.now; place = m.cursor.place; left = m.left } };
 
-    ghost invariant = { λ m. (m.cursor.bytes ≡ m.bytes.now) × SomeLeft (record { bytes = m.bytes.now; place = m.cursor.place; left = m.left }) };
+    ghost invariant = { λ m. (m.cursor.bytes ≡ m.bytes.now)
+        × SomeLeft (record { bytes = m.bytes.now; place = m.cursor.place; left = m.left }) };
 }
 
 impl<'a> Iterator for Members<'a> {
@@ -41,11 +42,11 @@ impl<'a> Iterator for Members<'a> {
 
     ghost remaining = { λ m. at_most (length m.bytes - m.place) };
 
-    /// Returns the encodings of the next key and of its value, each one whole data item; `None` after
-    /// the last member, and from then on.
+    /// Returns the encodings of the next member's key and value, each a complete data item; `None`
+    /// after the last member, and on every later call.
     fn next(&mut self) -> Option<(&'a [u8], &'a [u8])> {
         if !self.cursor.more(&mut self.left) {
-            // Else a call after a break would take what follows the map for a member.
+            // Otherwise a call after the break would take the bytes after the map for a member.
             self.left = Some(0);
             return None;
         }
@@ -57,11 +58,12 @@ impl<'a> Iterator for Members<'a> {
 
 impl<'a> FusedIterator for Members<'a> {}
 
-// The bytes of the item at the cursor's place, and on behind it; none where no item stands there.
+// The bytes of the data item at the cursor, which moves past it; `None` if none follows.
 fn pass_item<'a>(bytes: &'a [u8], cursor: &mut Cursor<'a>) -> Option<&'a [u8]>
     requires { cursor.old.bytes ≡ bytes.now }
     ensures same { cursor.new.bytes ≡ cursor.old.bytes }
-    ensures lends { (x : Item) (to : ℕ) → Stands x cursor.old.bytes cursor.old.place to → Lends x to cursor.old cursor.new result }
+    ensures lends { (x : Item) (to : ℕ) → IsEncodedAt x cursor.old.bytes cursor.old.place to
+        → LendsSlice x to cursor.old cursor.new result }
 {
     let from = cursor.place();
     if !cursor.skip() {

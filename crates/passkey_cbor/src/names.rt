@@ -1,4 +1,4 @@
-//! Which of some names a string is.
+//! Which of several names a string is.
 ghost use Rattle.std.specs.Prelude.{◌≡◌, ◌≤◌, ◌++◌, ℕ, List, map, is_some, IfSome, MatchOption};
 ghost use Rattle.std.specs.List.{position};
 ghost use Rattle.std.specs.Str.{bytes_eq};
@@ -8,9 +8,10 @@ ghost use Rattle.passkey_cbor.specs.Walk.{IsInside};
 
 use crate::cursor::{Cursor, Next};
 
-// The bytes behind these, where they begin with them.
+// The bytes after `front`, if they begin with it.
 fn behind<'b>(bytes: &'b [u8], front: &[u8]) -> Option<&'b [u8]>
-    ensures { MatchOption result ((rest : List ℕ) → bytes.now ≡ front.now ++ rest → ⊥) (λ rest. bytes.now ≡ front.now ++ rest.now) }
+    ensures { MatchOption result ((rest : List ℕ) → bytes.now ≡ front.now ++ rest → ⊥)
+        (λ rest. bytes.now ≡ front.now ++ rest.now) }
 {
     if bytes.len() < front.len() {
         return None;
@@ -22,7 +23,7 @@ fn behind<'b>(bytes: &'b [u8], front: &[u8]) -> Option<&'b [u8]>
     Some(rest)
 }
 
-// How the name begins, where it begins with these bytes and then those.
+// `front` followed by `more`, as a prefix of the name; `None` if the name doesn't begin so.
 fn begin_of<'n>(name: &'n [u8], front: &[u8], more: &[u8]) -> Option<&'n [u8]>
     ensures begins { is_some result ≡ begins (front.now ++ more.now) name.now }
     ensures same { IfSome result (λ s. s.now ≡ front.now ++ more.now) }
@@ -36,7 +37,7 @@ fn begin_of<'n>(name: &'n [u8], front: &[u8], more: &[u8]) -> Option<&'n [u8]>
     }
 }
 
-// What was joined so far and one more piece, as one of the names begins; none where none does.
+// `joined` followed by `piece`, as a prefix of one of the names; `None` if no name begins so.
 fn longer<'n>(names: &[&'n str], joined: &[u8], piece: &[u8]) -> Option<&'n [u8]>
     ensures begins { is_some result ≡ begins_one (joined.now ++ piece.now) (map (λ n. n.now) names.now) }
     ensures same { IfSome result (λ s. s.now ≡ joined.now ++ piece.now) }
@@ -50,15 +51,15 @@ fn longer<'n>(names: &[&'n str], joined: &[u8], piece: &[u8]) -> Option<&'n [u8]
     None
 }
 
-// The place of the first of the names that is these bytes.
+// The index of the first of the names that equals these bytes.
 fn place_of(names: &[&str], bytes: &[u8]) -> Option<usize>
     ensures { result ≡ position (λ n. bytes_eq n.now bytes.now) names.now }
 {
     names.iter().position(|name| name.as_bytes() == bytes)
 }
 
-// The place of the first of the names that the chunks ahead, up to their break, join to. What was
-// joined so far is how one of the names begins, so it takes no memory.
+// The index of the first of the names that the chunks ahead, up to their break, join to. The chunks
+// joined so far are borrowed as a prefix of a name, so nothing is allocated.
 fn place_of_joined(chunks: &mut Cursor<'_>, is_text: bool, names: &[&str]) -> Option<usize>
     requires { IsInside chunks.old }
     ensures place { AreSought is_text (map (λ n. n.now) names.now) chunks.old result }
@@ -81,8 +82,8 @@ fn place_of_joined(chunks: &mut Cursor<'_>, is_text: bool, names: &[&str]) -> Op
     }
 }
 
-/// The place of the first of the names that a string is, by its region. The heads of chunks are
-/// counted at the cursor.
+/// The index of the first of the names that a string equals, given its region. The heads of chunks
+/// are counted at the cursor.
 pub(crate) fn name_of(
     is_text: bool,
     len: Option<u64>,
@@ -91,7 +92,8 @@ pub(crate) fn name_of(
     cursor: &mut Cursor<'_>,
 ) -> Option<usize>
     ensures name { IsNameOf is_text (record { len = len; bytes = region.now }) (map (λ n. n.now) names.now) result }
-    ensures looks { LooksFor is_text (map (λ n. n.now) names.now) (record { len = len; bytes = region.now }) cursor.old cursor.new }
+    ensures looks { LooksFor is_text (map (λ n. n.now) names.now) (record { len = len; bytes = region.now })
+        cursor.old cursor.new }
     ensures rises { cursor.old.heads ≤ cursor.new.heads }
 {
     match len {

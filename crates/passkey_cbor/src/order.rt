@@ -5,8 +5,8 @@ ghost use Rattle.passkey_cbor.specs.Order.{ctap2_order};
 use std::cmp::Ordering;
 
 /// Compares two map keys by their encodings, neither of which may be empty: the lower major type
-/// comes first, then the shorter encoding, then the lower bytes. Allocates nothing. (CTAP 2.1,
-/// section 8.)
+/// comes first, then the shorter encoding, then the lower bytes in lexicographic order. Allocates
+/// nothing. (CTAP 2.1, section 8.)
 pub fn ctap2_order(a: &[u8], b: &[u8]) -> Ordering
     requires first { 0 < length a.now }
     requires second { 0 < length b.now }

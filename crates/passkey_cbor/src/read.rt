@@ -1,16 +1,17 @@
 //! Decoding data items to values.
-ghost use Rattle.std.specs.Prelude.{◌≡◌, ◌<◌, ◌≤◌, ◌⊎◌, ◌↔◌, ℕ, map, string_bytes, true, Err, IfOk, IfErr, OnErr, IsOk};
+ghost use Rattle.std.specs.Prelude.{◌≡◌, ◌<◌, ◌≤◌, ◌⊎◌, ◌↔◌, ℕ, [], map, string_bytes, true, Err, IfOk, IfErr, OnErr, IsOk};
+ghost use Rattle.std.specs.Option.{IsSomeAnd};
 ghost use Rattle.std.specs.Str.{IsUtf8};
 ghost use Rattle.passkey_cbor.specs.Item as item;
 ghost use Rattle.passkey_cbor.specs.Walk.{ahead, IsInside, Went};
-ghost use Rattle.passkey_cbor.specs.Reading.{start, may_stand, piece_at, string_at, chunk, pair_by, simple_item, item_within, list_at};
+ghost use Rattle.passkey_cbor.specs.Reading.{start, is_allowed, piece_at, string_at, chunk, pair_by, simple_item, item_within, list_at};
 ghost use Rattle.passkey_cbor.specs.Steps.{IsHead, CountsChunks};
 ghost use Rattle.passkey_cbor.specs.Building.{Makes, an_item, a_counted_item, a_pair, each_of, some_bytes, a_text};
 ghost use Rattle.passkey_cbor.specs.Grows.{Grows};
 ghost use Rattle.passkey_cbor.specs.View.{item_of, pair_of};
-ghost use Rattle.passkey_cbor.specs.Reads.{ReadsFront};
+ghost use Rattle.passkey_cbor.specs.Reads.{ReadsLeadingItem};
 ghost use Rattle.passkey_cbor.specs.Valued.{ReadsValue};
-ghost use Rattle.passkey_cbor.specs.Stands.{Stands, Values};
+ghost use Rattle.passkey_cbor.specs.EncodedAt.{IsEncodedAt, Values};
 ghost use Rattle.passkey_cbor.specs.Item.{Item};
 
 use crate::count::Count;
@@ -21,16 +22,17 @@ use crate::head::Head;
 use crate::integer::Integer;
 use crate::simple::Simple;
 use crate::value::Value;
+use passkey_memory::OutOfMemory;
 use std::alloc::Global;
 
 impl Value {
-    /// Decodes the data item that begins the bytes, and returns it with its length; bytes after it
-    /// are ignored. `DecodeFailed` if the bytes don't begin with a well-formed item of at most 256
-    /// levels. `OutOfMemory` if an allocation fails, which can happen only where they do, and the
-    /// item is a tag, a text string, or a byte string, array or map that isn't empty. A length that
-    /// a head claims reserves nothing before its bytes are there. (RFC 8949, section 3.)
+    /// Decodes the leading data item, and returns it with its length in bytes; bytes after it are
+    /// ignored. `DecodeFailed` if the bytes don't begin with a well-formed data item of at most 256
+    /// levels. `OutOfMemory` if an allocation fails, which can happen only if they do, and the data
+    /// item is a tag, a text string, or a byte string, array or map that isn't empty. No memory is
+    /// reserved for the length in a head before its content is present. (RFC 8949, section 3.)
     pub fn from_slice(alloc: Global, bytes: &[u8]) -> Result<(Value, usize), CborError>
-        ensures { ReadsFront bytes.now result }
+        ensures { ReadsLeadingItem bytes.now result }
     {
         let mut cursor = Cursor::new(bytes);
         let value = cursor.value(alloc)?;
@@ -38,18 +40,31 @@ impl Value {
     }
 }
 
+// An empty list with room for this many elements, if the number is known.
+fn room_for<T>(alloc: Global, len: Option<u64>) -> Result<Vec<T>, OutOfMemory>
+    ensures empty { IfOk result (λ list. list.items ≡ []) }
+    ensures some { OnErr result (IsSomeAnd len (λ n. 0 < n)) }
+{
+    match len {
+        Some(len) => Ok(Vec::with_capacity(alloc, len as usize)?),
+        None => Ok(Vec::new(alloc)),
+    }
+}
+
 impl<'a> Cursor<'a> {
-    /// Decodes the data item at the cursor and moves behind it. `DecodeFailed` if no well-formed item
-    /// of at most 256 levels is there. `OutOfMemory` if an allocation fails, which can happen only
-    /// where one is, and it is a tag, a text string, or a byte string, array or map that isn't empty.
-    /// The cursor stays on both. Each item that is made counts one node. (RFC 8949, section 3.)
+    /// Decodes the data item at the cursor and moves past it. `DecodeFailed` if no well-formed data
+    /// item of at most 256 levels follows. `OutOfMemory` if an allocation fails, which can happen
+    /// only if one follows, and it is a tag, a text string, or a byte string, array or map that
+    /// isn't empty. On either error the cursor doesn't move. Each data item that is built is
+    /// counted in `Count::nodes`. (RFC 8949, section 3.)
     pub fn value(&mut self, alloc: Global) -> Result<Value, CborError>
         ensures front { ReadsValue self.old self.new result }
 
-        // Where an item stands, it makes that item.
-        ensures values { (x : Item) (to : ℕ) → Stands x self.old.bytes self.old.place to → Values x to self.old self.new result }
+        // If a data item is encoded at the cursor, its value is returned.
+        ensures values { (x : Item) (to : ℕ) → IsEncodedAt x self.old.bytes self.old.place to
+            → Values x to self.old self.new result }
 
-        // The counts never fall.
+        // The counts never decrease.
         ensures went { Went self.old self.new }
     {
         let place = self.place;
@@ -66,7 +81,7 @@ impl<'a> Cursor<'a> {
         }
     }
 
-    // Makes the item at the place, of at most so many levels.
+    // Builds the data item at the cursor, of at most `levels` levels.
     #[cycle(build)]
     fn build_item(&mut self, alloc: Global, levels: usize) -> Result<Value, CborError>
         requires { IsInside self.old }
@@ -78,7 +93,7 @@ impl<'a> Cursor<'a> {
         }
     }
 
-    // Makes an item whose head was read, and counts it.
+    // Builds a data item whose head is decoded already, and counts it.
     #[cycle(build)]
     fn build_behind(&mut self, alloc: Global, head: Head, levels: usize) -> Result<Value, CborError>
         requires inside { IsInside self.old }
@@ -89,7 +104,7 @@ impl<'a> Cursor<'a> {
         self.build_inside(alloc, head, levels)
     }
 
-    // Makes an item whose head was read, and which was counted.
+    // Builds a data item whose head is decoded and which is counted already.
     #[cycle(build)]
     fn build_inside(&mut self, alloc: Global, head: Head, levels: usize) -> Result<Value, CborError>
         requires inside { IsInside self.old }
@@ -126,7 +141,7 @@ impl<'a> Cursor<'a> {
         }
     }
 
-    // Makes the items of an array whose head was read.
+    // Builds the items of an array whose head is decoded already.
     #[cycle(build)]
     fn build_items(
         &mut self,
@@ -135,9 +150,10 @@ impl<'a> Cursor<'a> {
         levels: usize,
     ) -> Result<Vec<Value>, CborError>
         requires { IsInside self.old }
-        ensures { Makes (each_of an_item) (list_at (item_within levels) len (ahead self.old)) self.old self.new result }
+        ensures { Makes (each_of an_item) (list_at (item_within levels) len (ahead self.old)) self.old self.new
+            result }
     {
-        let mut items = Vec::new(alloc);
+        let mut items = room_for(alloc, len)?;
         let mut left = len;
         loop {
             match self.step(&mut left) {
@@ -148,7 +164,7 @@ impl<'a> Cursor<'a> {
         }
     }
 
-    // Makes the pairs of a map whose head was read.
+    // Builds the pairs of a map whose head is decoded already.
     #[cycle(build)]
     fn build_pairs(
         &mut self,
@@ -157,9 +173,10 @@ impl<'a> Cursor<'a> {
         levels: usize,
     ) -> Result<Vec<(Value, Value)>, CborError>
         requires { IsInside self.old }
-        ensures { Makes (each_of a_pair) (list_at (pair_by (item_within levels)) len (ahead self.old)) self.old self.new result }
+        ensures { Makes (each_of a_pair) (list_at (pair_by (item_within levels)) len (ahead self.old)) self.old
+            self.new result }
     {
-        let mut pairs = Vec::new(alloc);
+        let mut pairs = room_for(alloc, len)?;
         let mut left = len;
         loop {
             match self.step(&mut left) {
@@ -170,7 +187,7 @@ impl<'a> Cursor<'a> {
         }
     }
 
-    // Makes a pair whose key's head was read.
+    // Builds a pair, where the key's head is decoded already.
     #[cycle(build)]
     fn build_pair(
         &mut self,
@@ -187,16 +204,17 @@ impl<'a> Cursor<'a> {
         Ok((key, value))
     }
 
-    // Makes a text whose head was read. Its bytes are UTF-8, since its pieces are.
+    // Builds a text whose head is decoded already. Its bytes are UTF-8, since each piece is.
     fn build_text(&mut self, alloc: Global, len: Option<u64>) -> Result<String, CborError>
         requires { IsInside self.old }
         ensures { Makes a_text (string_at true len (ahead self.old)) self.old self.new result }
     {
         let bytes = self.build_bytes(alloc, true, len)?;
-        Ok(String::from_utf8(bytes).unwrap())
+        // SAFETY: each piece was found to be UTF-8, and so are all of them together.
+        Ok(unsafe { String::from_utf8_unchecked(bytes) })
     }
 
-    // Makes the bytes of a string whose head was read.
+    // Builds the bytes of a string whose head is decoded already.
     fn build_bytes(
         &mut self,
         alloc: Global,
@@ -205,7 +223,7 @@ impl<'a> Cursor<'a> {
     ) -> Result<Vec<u8>, CborError>
         requires { IsInside self.old }
         ensures made { Makes some_bytes (string_at is_text len (ahead self.old)) self.old self.new result }
-        ensures stands { IfOk result (λ v. may_stand is_text v.items ≡ true) }
+        ensures stands { IfOk result (λ v. is_allowed is_text v.items ≡ true) }
     {
         match len {
             Some(len) => self.build_piece(alloc, is_text, len),
@@ -213,11 +231,11 @@ impl<'a> Cursor<'a> {
         }
     }
 
-    // Makes the bytes of a string in one piece.
+    // Builds the bytes of a string of definite length.
     fn build_piece(&mut self, alloc: Global, is_text: bool, len: u64) -> Result<Vec<u8>, CborError>
         requires { IsInside self.old }
         ensures made { Makes some_bytes (piece_at is_text len (ahead self.old)) self.old self.new result }
-        ensures stands { IfOk result (λ v. may_stand is_text v.items ≡ true) }
+        ensures stands { IfOk result (λ v. is_allowed is_text v.items ≡ true) }
     {
         let mut bytes = Vec::new(alloc);
         match self.piece(is_text, len) {
@@ -227,7 +245,7 @@ impl<'a> Cursor<'a> {
         Ok(bytes)
     }
 
-    /// Makes the bytes of a string in chunks.
+    /// Builds the bytes of a string in chunks.
     pub(crate) fn build_chunks(
         &mut self,
         alloc: Global,
@@ -235,7 +253,7 @@ impl<'a> Cursor<'a> {
     ) -> Result<Vec<u8>, CborError>
         requires { IsInside self.old }
         ensures made { Makes some_bytes (string_at is_text None (ahead self.old)) self.old self.new result }
-        ensures stands { IfOk result (λ v. may_stand is_text v.items ≡ true) }
+        ensures stands { IfOk result (λ v. is_allowed is_text v.items ≡ true) }
         ensures counted { CountsChunks is_text self.old self.new result }
     {
         let mut bytes = Vec::new(alloc);
@@ -253,7 +271,7 @@ impl<'a> Cursor<'a> {
     }
 }
 
-// The value of a simple value's head.
+// The value for the head of a simple value.
 fn simple_value(n: u8) -> Value
     requires { (n < 24) ⊎ (32 ≤ n) }
     ensures { item_of result ≡ simple_item n }

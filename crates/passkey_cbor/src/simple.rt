@@ -27,7 +27,7 @@ impl Model for Simple {
 }
 
 impl Simple {
-    /// Returns the simple value. `OutOfRangeIntegerValue` if it is not 0 to 19 or 32 to 255.
+    /// Returns the simple value. `OutOfRangeIntegerValue` if it is 20 to 31.
     pub fn new(value: u8) -> Result<Simple, CborError>
         ensures { MadeWhere (IsSimple value) value result }
     {
@@ -38,7 +38,7 @@ impl Simple {
         }
     }
 
-    /// Returns the number.
+    /// Returns the simple value as a number.
     pub fn get(&self) -> u8
         ensures value { result ≡ self.now }
         ensures range { IsSimple self.now }

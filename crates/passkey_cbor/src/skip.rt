@@ -1,18 +1,19 @@
 //! Skipping data items.
-ghost use Rattle.std.specs.Prelude.{ℕ, ◌≤◌, None, is_some, IfSome, MatchOption};
+ghost use Rattle.std.specs.Prelude.{ℕ, ◌≤◌, None, Some as There, is_some, IfSome, MatchOption};
 ghost use Rattle.passkey_cbor.specs.Walk.{ahead, raised, IsInside, Went};
 ghost use Rattle.passkey_cbor.specs.Reading.{start, string_at, item_within, list_at};
 ghost use Rattle.passkey_cbor.specs.Steps.{Skips, IsLengthOf, entry_by};
-ghost use Rattle.passkey_cbor.specs.Skipped.{SkipsFront};
-ghost use Rattle.passkey_cbor.specs.Stands.{Stands, Passes};
+ghost use Rattle.passkey_cbor.specs.Skipped.{SkipsLeadingItem};
+ghost use Rattle.passkey_cbor.specs.EncodedAt.{IsEncodedAt, Passes};
 ghost use Rattle.passkey_cbor.specs.Item.{Item};
-ghost use Rattle.passkey_cbor.specs.Front.{IsFront, HasNoFront};
+ghost use Rattle.passkey_cbor.specs.LeadingItem.{IsLeadingItem, HasNoLeadingItem};
 
 use crate::cursor::{Cursor, Next};
 use crate::depth::MAX_DEPTH;
 use crate::head::Head;
+use crate::leaf::leaf_len;
 
-/// What the elements of a list are: the items of an array, or the pairs of a map.
+/// The elements of a list: the items of an array, or the pairs of a map.
 #[derive(Clone, Copy)]
 pub(crate) enum Entry {
     Item,
@@ -20,15 +21,17 @@ pub(crate) enum Entry {
 }
 
 impl<'a> Cursor<'a> {
-    /// Skips the data item at the cursor, of at most 256 levels, and returns true. Returns false and
-    /// stays if no well-formed one is there. Allocates nothing. (RFC 8949, section 3.)
+    /// Skips the data item at the cursor and returns true. Returns false, and the cursor doesn't
+    /// move, if no well-formed data item of at most 256 levels follows. Allocates nothing. (RFC
+    /// 8949, section 3.)
     pub fn skip(&mut self) -> bool
-        ensures front { SkipsFront self.old self.new result }
+        ensures front { SkipsLeadingItem self.old self.new result }
 
-        // Where an item stands, it passes that item.
-        ensures passes { (x : Item) (to : ℕ) → Stands x self.old.bytes self.old.place to → Passes to self.old self.new result }
+        // If a data item is encoded at the cursor, `skip` passes it.
+        ensures passes { (x : Item) (to : ℕ) → IsEncodedAt x self.old.bytes self.old.place to
+            → Passes to self.old self.new result }
 
-        // The counts never fall.
+        // The counts never decrease.
         ensures went { Went self.old self.new }
     {
         let place = self.place;
@@ -39,20 +42,26 @@ impl<'a> Cursor<'a> {
         found
     }
 
-    /// Skips one item of at most so many levels, or stops where none is.
+    /// Skips one data item of at most `levels` levels. Returns false, and stops somewhere, if none
+    /// follows.
     #[cycle(skip)]
     pub(crate) fn skip_item(&mut self, levels: usize) -> bool
         requires { IsInside self.old }
         ensures skips { Skips (start (item_within levels) (ahead self.old)) self.old self.new result }
         ensures least { raised self.old.heads 1 ≤ self.new.heads }
     {
+        let len = leaf_len(&self.bytes[self.place..]);
+        if len > 0 {
+            self.pass_leaf(len);
+            return true;
+        }
         match self.decode() {
             None => false,
             Some(head) => self.skip_behind(head, levels),
         }
     }
 
-    // Passes an item whose head was read.
+    // Skips the rest of a data item whose head is decoded already.
     #[cycle(skip)]
     fn skip_behind(&mut self, head: Head, levels: usize) -> bool
         requires { IsInside self.old }
@@ -72,19 +81,59 @@ impl<'a> Cursor<'a> {
         }
     }
 
-    // Passes the elements of a list whose head was read, and its end.
+    // Skips the elements of a list whose head is decoded already, and its end.
     #[cycle(skip)]
     fn skip_list(&mut self, entry: Entry, len: Option<u64>, levels: usize) -> bool
         requires { IsInside self.old }
         ensures { Skips (list_at (entry_by levels entry) len (ahead self.old)) self.old self.new result }
     {
+        match len {
+            Some(len) => self.skip_entries(entry, len, levels),
+            None => self.skip_to_break(entry, levels),
+        }
+    }
+
+    // Skips this many elements.
+    #[cycle(skip)]
+    fn skip_entries(&mut self, entry: Entry, len: u64, levels: usize) -> bool
+        requires { IsInside self.old }
+        ensures { Skips (list_at (entry_by levels entry) (There len) (ahead self.old)) self.old self.new result }
+    {
         let mut left = len;
+        while left > 0 {
+            if !self.skip_entry(entry, levels) {
+                return false;
+            }
+            left -= 1;
+        }
+        true
+    }
+
+    // Skips an element.
+    #[cycle(skip)]
+    fn skip_entry(&mut self, entry: Entry, levels: usize) -> bool
+        requires { IsInside self.old }
+        ensures { Skips (start (entry_by levels entry) (ahead self.old)) self.old self.new result }
+    {
+        match entry {
+            Entry::Item => self.skip_item(levels),
+            Entry::Pair => self.skip_item(levels) && self.skip_item(levels),
+        }
+    }
+
+    // Skips the elements up to a break, and the break.
+    #[cycle(skip)]
+    fn skip_to_break(&mut self, entry: Entry, levels: usize) -> bool
+        requires { IsInside self.old }
+        ensures { Skips (list_at (entry_by levels entry) None (ahead self.old)) self.old self.new result }
+    {
+        let mut left = None;
         loop {
             match self.step(&mut left) {
                 Next::Malformed => return false,
                 Next::End => return true,
                 Next::Element(head) => {
-                    if !self.skip_entry(entry, head, levels) {
+                    if !self.skip_entry_behind(entry, head, levels) {
                         return false;
                     }
                 }
@@ -92,9 +141,9 @@ impl<'a> Cursor<'a> {
         }
     }
 
-    // Passes an element of a list, whose first head was read.
+    // Skips the rest of an element whose first head is decoded already.
     #[cycle(skip)]
-    fn skip_entry(&mut self, entry: Entry, head: Head, levels: usize) -> bool
+    fn skip_entry_behind(&mut self, entry: Entry, head: Head, levels: usize) -> bool
         requires { IsInside self.old }
         ensures { Skips (entry_by levels entry head (ahead self.old)) self.old self.new result }
     {
@@ -104,7 +153,8 @@ impl<'a> Cursor<'a> {
         }
     }
 
-    /// Passes a string whose head was read: how many bytes the string has.
+    /// Skips the rest of a string whose head is decoded already; returns the string's length in
+    /// bytes.
     pub(crate) fn pass_string(&mut self, is_text: bool, len: Option<u64>) -> Option<usize>
         requires { IsInside self.old }
         ensures skips { Skips (string_at is_text len (ahead self.old)) self.old self.new (is_some result) }
@@ -119,7 +169,7 @@ impl<'a> Cursor<'a> {
         }
     }
 
-    // Passes the chunks of a string and their break: how many bytes they have together.
+    // Skips the chunks of a string and the break; returns the total length of the chunks in bytes.
     fn pass_chunks(&mut self, is_text: bool) -> Option<usize>
         requires { IsInside self.old }
         ensures skips { Skips (string_at is_text None (ahead self.old)) self.old self.new (is_some result) }
@@ -140,10 +190,10 @@ impl<'a> Cursor<'a> {
     }
 }
 
-/// Returns the length of the data item that begins the bytes, or `None` if they don't begin with a
-/// well-formed one of at most 256 levels. Allocates nothing. (RFC 8949, section 3.)
+/// Returns the length in bytes of the leading data item, or `None` if the bytes don't begin with a
+/// well-formed data item of at most 256 levels. Allocates nothing. (RFC 8949, section 3.)
 pub fn item_len(bytes: &[u8]) -> Option<usize>
-    ensures { MatchOption result (HasNoFront bytes.now) (λ len. (x : Item) × IsFront bytes.now x len) }
+    ensures { MatchOption result (HasNoLeadingItem bytes.now) (λ len. (x : Item) × IsLeadingItem bytes.now x len) }
 {
     let mut cursor = Cursor::new(bytes);
     if cursor.skip() {

@@ -1,4 +1,4 @@
-//! The pieces of a text string, lent one after the other.
+//! The pieces of a text string, borrowed one after the other.
 ghost use Rattle.std.specs.Prelude.{true, None, option_map};
 ghost use Rattle.passkey_cbor.specs.Lent.{IsRegion};
 ghost use Rattle.passkey_cbor.specs.Pieces.{LendsNext, LooksAhead, SplitsChunk};
@@ -7,8 +7,8 @@ use crate::cursor::{Cursor, Next};
 use std::marker::Model;
 use std::str;
 
-/// What is left of a text string: all of it, in one piece, or the chunks that weren't lent yet and
-/// their break (RFC 8949, section 3.2.3).
+/// The remaining pieces of a text string: the string itself if its length is definite, or else the
+/// remaining chunks (RFC 8949, section 3.2.3).
 #[derive(Drop)]
 pub struct TextChunks<'a> {
     pub(crate) len: Option<u64>,
@@ -26,8 +26,8 @@ impl<'a> Model for TextChunks<'a> {
     ghost invariant = { λ t. IsRegion true (record { len = t.len; bytes = t.region.now }) };
 }
 
-// The first chunk of a text string in chunks, by its region, and the region behind it. `None` at
-// the break.
+// The first chunk's text, and the bytes after that chunk, in the region of a text string in chunks.
+// `None` at the break.
 fn first_chunk(region: &[u8]) -> Option<(&str, &[u8])>
     requires { IsRegion true (record { len = None; bytes = region.now }) }
     ensures { SplitsChunk true region.now (option_map (λ r. (r.0.now, r.1.now)) result) }
@@ -35,7 +35,7 @@ fn first_chunk(region: &[u8]) -> Option<(&str, &[u8])>
     let mut chunks = Cursor::new(region);
     let mut left = None;
     match chunks.step(&mut left) {
-        // The chunks of a token are well formed.
+        // A token's chunks are well-formed.
         Next::Malformed => None,
         Next::End => None,
         Next::Element(head) => match chunks.chunk(true, head) {
@@ -49,10 +49,10 @@ fn first_chunk(region: &[u8]) -> Option<(&str, &[u8])>
 }
 
 impl<'a> TextChunks<'a> {
-    /// The next piece of the text, or `None` after the last one. A text of definite length is one
-    /// piece, if it isn't empty, and a text in chunks has each chunk as a piece. For a text in chunks
-    /// the head that is decoded is counted at the cursor, which stays: one for each chunk, and one
-    /// for the break.
+    /// Returns the next piece of the text, or `None` after the last one. A text string of definite
+    /// length is one piece, unless it is empty; of a string in chunks, each chunk is a piece. For
+    /// each chunk and for the break, one head is decoded and counted at `cursor`, which doesn't
+    /// move.
     pub fn next(&mut self, cursor: &mut Cursor<'_>) -> Option<&'a str>
         ensures piece { LendsNext true self.old self.new (option_map (λ s. s.now) result) }
         ensures looks { LooksAhead self.old cursor.old cursor.new }

@@ -1,10 +1,10 @@
-//! Strings that are lent without a copy, in one piece or in chunks.
+//! Strings that are borrowed without a copy, in one piece or in chunks.
 ghost use Rattle.std.specs.Prelude.{◌≡◌, ◌+◌, ◌≤◌, true, false, List, [], ◌∷◌, ◌++◌, take, drop, length, map, option_map, IfOk, IfSome, None};
 ghost use Rattle.std.specs.String.{string_bytes};
-ghost use Rattle.passkey_cbor.specs.Lent.{LendsString, LendsStanding, LentWhole, LooksToCopy, LooksAtAll, LooksToFill, IsNamed, Copies, Fills, IsRegion, IsSized, Tells};
+ghost use Rattle.passkey_cbor.specs.Lent.{LendsString, LendsEncoded, LentWhole, LooksToCopy, LooksAtAll, LooksToFill, IsNamed, Copies, Fills, IsRegion, IsSized, Tells};
 ghost use Rattle.passkey_cbor.specs.Names.{IsNameOf, LooksFor};
 ghost use Rattle.passkey_cbor.specs.Steps.{ReadsRegion, ReadsString, CountsAll};
-ghost use Rattle.passkey_cbor.specs.Reading.{may_stand};
+ghost use Rattle.passkey_cbor.specs.Reading.{is_allowed};
 ghost use Rattle.passkey_cbor.specs.Walk.{ahead, IsInside, Went};
 
 use crate::cursor::{Cursor, Next};
@@ -15,7 +15,7 @@ use std::alloc::Global;
 use std::marker::Model;
 use std::str;
 
-/// A text string that a cursor moved behind: it borrows the string's bytes, or its chunks with their
+/// A text string that a cursor passed. It borrows the string's bytes, or its chunks with their
 /// break (RFC 8949, section 3.2.3).
 #[derive(Drop)]
 pub struct TextToken<'a> {
@@ -34,7 +34,7 @@ impl<'a> Model for TextToken<'a> {
     ghost invariant = { λ t. IsRegion true (record { len = t.len; bytes = t.region.now }) };
 }
 
-/// A byte string that a cursor moved behind: it borrows the string's bytes, or its chunks with their
+/// A byte string that a cursor passed. It borrows the string's bytes, or its chunks with their
 /// break (RFC 8949, section 3.2.3).
 #[derive(Drop)]
 pub struct BytesToken<'a> {
@@ -53,19 +53,21 @@ impl<'a> Model for BytesToken<'a> {
 
     ghost view = { λ t. record { len = t.len; bytes = t.region.now } };
 
-    ghost invariant = { λ t. IsRegion false (record { len = t.len; bytes = t.region.now }) × IsSized false (record { len = t.len; bytes = t.region.now }) t.size };
+    ghost invariant = { λ t. IsRegion false (record { len = t.len; bytes = t.region.now })
+        × IsSized false (record { len = t.len; bytes = t.region.now }) t.size };
 }
 
 impl<'a> Cursor<'a> {
-    /// Moves behind the text string at the cursor and lends it. Returns `None` and stays if no
-    /// well-formed text string is there. (RFC 8949, section 3.1, major type 3.)
+    /// Moves past the text string at the cursor and returns it, borrowed. Returns `None`, and the
+    /// cursor doesn't move, if no well-formed text string follows. (RFC 8949, section 3.1, major
+    /// type 3.)
     pub fn text(&mut self) -> Option<TextToken<'a>>
         ensures front { LendsString true self.old self.new result }
 
-        // Where an item stands, it lends that item, exactly if it is a text string.
-        ensures lends { LendsStanding true self.old self.new result }
+        // If a data item is encoded at the cursor, it is returned exactly if it is a text string.
+        ensures lends { LendsEncoded true self.old self.new result }
 
-        // The counts never fall.
+        // The counts never decrease.
         ensures went { Went self.old self.new }
     {
         match self.string(true) {
@@ -74,15 +76,16 @@ impl<'a> Cursor<'a> {
         }
     }
 
-    /// Moves behind the byte string at the cursor and lends it. Returns `None` and stays if no
-    /// well-formed byte string is there. (RFC 8949, section 3.1, major type 2.)
+    /// Moves past the byte string at the cursor and returns it, borrowed. Returns `None`, and the
+    /// cursor doesn't move, if no well-formed byte string follows. (RFC 8949, section 3.1, major
+    /// type 2.)
     pub fn bytes(&mut self) -> Option<BytesToken<'a>>
         ensures front { LendsString false self.old self.new result }
 
-        // Where an item stands, it lends that item, exactly if it is a byte string.
-        ensures lends { LendsStanding false self.old self.new result }
+        // If a data item is encoded at the cursor, it is returned exactly if it is a byte string.
+        ensures lends { LendsEncoded false self.old self.new result }
 
-        // The counts never fall.
+        // The counts never decrease.
         ensures went { Went self.old self.new }
     {
         match self.string(false) {
@@ -91,11 +94,13 @@ impl<'a> Cursor<'a> {
         }
     }
 
-    // Passes a string of this kind, or stays where none stands: the length that its head says, what
-    // stands behind the head, and how many bytes the string has.
+    // Passes a string of this kind; returns the length in its head, the bytes after the head, and
+    // the string's length in bytes. `None`, and the cursor doesn't move, if none follows.
     fn string(&mut self, is_text: bool) -> Option<(Option<u64>, &'a [u8], usize)>
-        ensures front { LendsString is_text self.old self.new (option_map (λ r. record { len = r.0; bytes = r.1.now }) result) }
-        ensures lends { LendsStanding is_text self.old self.new (option_map (λ r. record { len = r.0; bytes = r.1.now }) result) }
+        ensures front { LendsString is_text self.old self.new
+            (option_map (λ r. record { len = r.0; bytes = r.1.now }) result) }
+        ensures lends { LendsEncoded is_text self.old self.new
+            (option_map (λ r. record { len = r.0; bytes = r.1.now }) result) }
         ensures went { Went self.old self.new }
         ensures size { IfSome result (λ r. IsSized is_text (record { len = r.0; bytes = r.1.now }) r.2) }
     {
@@ -107,9 +112,10 @@ impl<'a> Cursor<'a> {
         found
     }
 
-    // Passes a string of this kind, or stops where none stands.
+    // The same, but the cursor may stop anywhere if no string of this kind follows.
     fn string_ahead(&mut self, is_text: bool) -> Option<(Option<u64>, &'a [u8], usize)>
-        ensures reads { ReadsString is_text self.old self.new (option_map (λ r. record { len = r.0; bytes = r.1.now }) result) }
+        ensures reads { ReadsString is_text self.old self.new
+            (option_map (λ r. record { len = r.0; bytes = r.1.now }) result) }
         ensures went { Went self.old self.new }
         ensures size { IfSome result (λ r. IsSized is_text (record { len = r.0; bytes = r.1.now }) r.2) }
     {
@@ -125,8 +131,8 @@ impl<'a> Cursor<'a> {
         }
     }
 
-    // Passes what stands behind the head of a string that says this length: that, and how many bytes
-    // the string has.
+    // Passes the bytes after a string's head, given the length in the head; returns these bytes and
+    // the string's length in bytes.
     fn region(&mut self, is_text: bool, len: Option<u64>) -> Option<(&'a [u8], usize)>
         requires { IsInside self.old }
         ensures reads { ReadsRegion is_text len self.old self.new (option_map (λ r. r.0.now) result) }
@@ -142,7 +148,7 @@ impl<'a> Cursor<'a> {
     }
 }
 
-// A copy of a string, by its region. The heads of chunks are counted at the cursor.
+// A copy of a string, given its region. The heads of chunks are counted at the cursor.
 fn copy(
     alloc: Global,
     is_text: bool,
@@ -152,7 +158,7 @@ fn copy(
 ) -> Result<Vec<u8>, OutOfMemory>
     requires { IsRegion is_text (record { len = len; bytes = region.now }) }
     ensures copies { Copies (λ v. v.items) is_text (record { len = len; bytes = region.now }) result }
-    ensures stands { IfOk result (λ v. may_stand is_text v.items ≡ true) }
+    ensures stands { IfOk result (λ v. is_allowed is_text v.items ≡ true) }
     ensures looks { LooksToCopy is_text (record { len = len; bytes = region.now }) cursor.old cursor.new result }
     ensures rises { cursor.old.heads ≤ cursor.new.heads }
 {
@@ -168,14 +174,14 @@ fn copy(
             cursor.add_heads(chunks.count().heads);
             match bytes {
                 Ok(bytes) => Ok(bytes),
-                // The chunks of a token are well formed.
+                // A token's chunks are well-formed.
                 Err(_) => Err(OutOfMemory),
             }
         }
     }
 }
 
-// Puts the piece into the slice, at a place.
+// Copies the piece into the slice at this index.
 fn put(into: &mut [u8], at: usize, piece: &[u8])
     requires { at + length piece.now ≤ length into.old }
     ensures { into.new ≡ take at into.old ++ (piece.now ++ drop (at + length piece.now) into.old) }
@@ -183,7 +189,7 @@ fn put(into: &mut [u8], at: usize, piece: &[u8])
     into[at..at + piece.len()].copy_from_slice(piece);
 }
 
-// Puts the chunks ahead, up to their break, into a slice of as many bytes as they have.
+// Copies the chunks ahead, up to their break, into a slice of their total length.
 fn put_chunks(chunks: &mut Cursor<'_>, into: &mut [u8])
     requires inside { IsInside chunks.old }
     requires region { IsRegion false (record { len = None; bytes = ahead chunks.old }) }
@@ -195,7 +201,7 @@ fn put_chunks(chunks: &mut Cursor<'_>, into: &mut [u8])
     let mut at = 0;
     loop {
         match chunks.step(&mut left) {
-            // They are those of a token, which are well formed.
+            // These are a token's chunks, which are well-formed.
             Next::Malformed => return,
             Next::End => return,
             Next::Element(head) => match chunks.chunk(false, head) {
@@ -209,7 +215,7 @@ fn put_chunks(chunks: &mut Cursor<'_>, into: &mut [u8])
     }
 }
 
-// Puts the bytes of a byte string in chunks, by its region, into a slice of as many. The heads are
+// Copies a byte string in chunks, given its region, into a slice of its length. The heads are
 // counted at the cursor.
 fn fill_chunks(region: &[u8], cursor: &mut Cursor<'_>, into: &mut [u8])
     requires region { IsRegion false (record { len = None; bytes = region.now }) }
@@ -224,9 +230,9 @@ fn fill_chunks(region: &[u8], cursor: &mut Cursor<'_>, into: &mut [u8])
 }
 
 impl<'a> TextToken<'a> {
-    /// Returns whether the text equals this name. For a string in chunks the heads that are decoded
-    /// again are counted at the cursor, which stays: one for each chunk as long as the name begins
-    /// with what they join to, and then one for the break.
+    /// Returns whether the text equals the name. If the string is in chunks, heads are decoded
+    /// again and counted at `cursor`, which doesn't move: one for each chunk, until the joined
+    /// chunks aren't a prefix of the name, or else up to and including the break.
     pub fn eq_name(&self, name: &str, cursor: &mut Cursor<'_>) -> bool
         ensures same { IsNamed true self.now name.now result }
         ensures looks { LooksFor true (name.now ∷ []) self.now cursor.old cursor.new }
@@ -235,10 +241,10 @@ impl<'a> TextToken<'a> {
         name_of(true, self.len, self.region, &[name], cursor).is_some()
     }
 
-    /// Returns the index of the first name that the text equals, or `None`. All names are compared in
-    /// one pass. For a string in chunks the heads that are decoded again are counted at the cursor,
-    /// which stays: one for each chunk as long as one of the names begins with what they join to,
-    /// and then one for the break.
+    /// Returns the index of the first of the names that equals the text, or `None`. All names are
+    /// compared in one pass. If the string is in chunks, heads are decoded again and counted at
+    /// `cursor`, which doesn't move: one for each chunk, until the joined chunks aren't a prefix of
+    /// any name, or else up to and including the break.
     pub fn name_of(&self, names: &[&str], cursor: &mut Cursor<'_>) -> Option<usize>
         ensures name { IsNameOf true self.now (map (λ n. n.now) names.now) result }
         ensures looks { LooksFor true (map (λ n. n.now) names.now) self.now cursor.old cursor.new }
@@ -247,9 +253,10 @@ impl<'a> TextToken<'a> {
         name_of(true, self.len, self.region, names, cursor)
     }
 
-    /// Copies the text. `OutOfMemory` if an allocation fails, which can't happen for an empty text.
-    /// For a string in chunks the heads that are decoded again are counted at the cursor, which
-    /// stays: one for each chunk and one for the break, or fewer if it runs out of memory.
+    /// Returns a copy of the text. `OutOfMemory` if an allocation fails, which can't happen for an
+    /// empty text. If the string is in chunks, heads are decoded again and counted at `cursor`,
+    /// which doesn't move: one for each chunk and one for the break, or fewer if an allocation
+    /// fails.
     pub fn copy(&self, alloc: Global, cursor: &mut Cursor<'_>) -> Result<String, OutOfMemory>
         ensures copies { Copies string_bytes true self.now result }
         ensures looks { LooksToCopy true self.now cursor.old cursor.new result }
@@ -259,7 +266,8 @@ impl<'a> TextToken<'a> {
         Ok(String::from_utf8(bytes).unwrap())
     }
 
-    /// The text's pieces: itself if its length is definite, or else its chunks in their order.
+    /// Returns the text's pieces: the text itself if its length is definite, or else its chunks in
+    /// order.
     pub fn chunks(&self) -> TextChunks<'a>
         ensures { result ≡ self.now }
     {
@@ -269,7 +277,7 @@ impl<'a> TextToken<'a> {
         }
     }
 
-    /// Returns the text if its length is definite, and `None` if it is in chunks.
+    /// Returns the text if its length is definite, or `None` if it is in chunks.
     pub fn lent(&self) -> Option<&'a str>
         ensures { LentWhole self.now (option_map (λ s. s.now) result) }
     {
@@ -281,9 +289,9 @@ impl<'a> TextToken<'a> {
 }
 
 impl<'a> BytesToken<'a> {
-    /// Returns whether the bytes are those of this name. For a string in chunks the heads that are
-    /// decoded again are counted at the cursor, which stays: one for each chunk as long as the name
-    /// begins with what they join to, and then one for the break.
+    /// Returns whether the bytes equal the name's. If the string is in chunks, heads are decoded
+    /// again and counted at `cursor`, which doesn't move: one for each chunk, until the joined
+    /// chunks aren't a prefix of the name, or else up to and including the break.
     pub fn eq_name(&self, name: &str, cursor: &mut Cursor<'_>) -> bool
         ensures same { IsNamed false self.now name.now result }
         ensures looks { LooksFor false (name.now ∷ []) self.now cursor.old cursor.new }
@@ -292,10 +300,10 @@ impl<'a> BytesToken<'a> {
         name_of(false, self.len, self.region, &[name], cursor).is_some()
     }
 
-    /// Returns the index of the first name whose bytes these are, or `None`. All names are compared in
-    /// one pass. For a string in chunks the heads that are decoded again are counted at the cursor,
-    /// which stays: one for each chunk as long as one of the names begins with what they join to,
-    /// and then one for the break.
+    /// Returns the index of the first of the names whose bytes equal these, or `None`. All names
+    /// are compared in one pass. If the string is in chunks, heads are decoded again and counted at
+    /// `cursor`, which doesn't move: one for each chunk, until the joined chunks aren't a prefix of
+    /// any name, or else up to and including the break.
     pub fn name_of(&self, names: &[&str], cursor: &mut Cursor<'_>) -> Option<usize>
         ensures name { IsNameOf false self.now (map (λ n. n.now) names.now) result }
         ensures looks { LooksFor false (map (λ n. n.now) names.now) self.now cursor.old cursor.new }
@@ -304,9 +312,10 @@ impl<'a> BytesToken<'a> {
         name_of(false, self.len, self.region, names, cursor)
     }
 
-    /// Copies the bytes. `OutOfMemory` if an allocation fails, which can't happen for an empty string.
-    /// For a string in chunks the heads that are decoded again are counted at the cursor, which
-    /// stays: one for each chunk and one for the break, or fewer if it runs out of memory.
+    /// Returns a copy of the bytes. `OutOfMemory` if an allocation fails, which can't happen for an
+    /// empty string. If the string is in chunks, heads are decoded again and counted at `cursor`,
+    /// which doesn't move: one for each chunk and one for the break, or fewer if an allocation
+    /// fails.
     pub fn copy(&self, alloc: Global, cursor: &mut Cursor<'_>) -> Result<Vec<u8>, OutOfMemory>
         ensures copies { Copies (λ v. v.items) false self.now result }
         ensures looks { LooksToCopy false self.now cursor.old cursor.new result }
@@ -315,10 +324,10 @@ impl<'a> BytesToken<'a> {
         copy(alloc, false, self.len, self.region, cursor)
     }
 
-    /// Copies the bytes into the slice and returns true if it has their length. Returns false and
-    /// leaves the slice as it was if it hasn't. Allocates nothing. For a string in chunks the heads
-    /// that are decoded again are counted at the cursor, which stays: one for each chunk and one for
-    /// the break, and none if it returns false.
+    /// Copies the bytes into the slice and returns true if the slice has their length; else leaves
+    /// it unchanged and returns false. Allocates nothing. If the string is in chunks and is copied,
+    /// heads are decoded again and counted at `cursor`, which doesn't move: one for each chunk and
+    /// one for the break.
     pub fn fill(&self, cursor: &mut Cursor<'_>, into: &mut [u8]) -> bool
         ensures filled { Fills self.now into.old into.new result }
         ensures looks { LooksToFill self.now cursor.old cursor.new result }
@@ -334,7 +343,7 @@ impl<'a> BytesToken<'a> {
         true
     }
 
-    /// Returns the bytes if their length is definite, and `None` if they are in chunks.
+    /// Returns the bytes if their length is definite, or `None` if they are in chunks.
     pub fn lent(&self) -> Option<&'a [u8]>
         ensures { LentWhole self.now (option_map (λ s. s.now) result) }
     {

@@ -4,9 +4,9 @@ use crate::float::Float;
 use crate::integer::Integer;
 use crate::simple::Simple;
 
-/// A data item (RFC 8949, section 2). Of its encoding it doesn't keep the length of heads, the chunks
-/// of strings, and whether lengths were definite. The pairs of a map keep their order, equal keys
-/// too.
+/// A data item (RFC 8949, section 2). It doesn't record how it was encoded: the size of heads, the
+/// chunks of strings, and whether lengths were definite. The members of a map keep their order,
+/// duplicate keys included.
 #[derive(Debug, Drop)]
 pub enum Value {
     /// An integer: major types 0 and 1.
@@ -19,7 +19,7 @@ pub enum Value {
     Text(String),
     /// False or true.
     Bool(bool),
-    /// Null; undefined is decoded as null, too.
+    /// Null. Undefined is decoded as null, too.
     Null,
     /// Any other simple value.
     Simple(Simple),

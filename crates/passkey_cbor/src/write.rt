@@ -14,7 +14,7 @@ use crate::value::Value;
 use passkey_memory::OutOfMemory;
 use std::alloc::{AllocError, Global};
 
-/// Appends an initial byte and what follows it.
+/// Appends an initial byte and the bytes after it.
 fn push_bytes(out: &mut Vec<u8>, initial: u8, behind: &[u8]) -> Result<(), AllocError>
     ensures { OnOk result (out.new.items ≡ out.old.items ++ initial ∷ behind.now) }
 {
@@ -22,7 +22,7 @@ fn push_bytes(out: &mut Vec<u8>, initial: u8, behind: &[u8]) -> Result<(), Alloc
     out.extend_from_slice(behind)
 }
 
-/// Appends the shortest head.
+/// Appends the shortest encoding of a head.
 #[tactic(auto, unfolding(crate::specs::Written::shortest_head))]
 fn push_head(out: &mut Vec<u8>, major: u8, argument: u64) -> Result<(), AllocError>
     requires { major < 8 }
@@ -81,7 +81,8 @@ fn push_simple(out: &mut Vec<u8>, s: Simple) -> Result<(), AllocError>
 
 fn push_string(out: &mut Vec<u8>, major: u8, bytes: &[u8]) -> Result<(), AllocError>
     requires { major < 8 }
-    ensures written { OnOk result (out.new.items ≡ out.old.items ++ (shortest_head major (length bytes.now) ++ bytes.now)) }
+    ensures written { OnOk result
+        (out.new.items ≡ out.old.items ++ (shortest_head major (length bytes.now) ++ bytes.now)) }
     ensures writable { length bytes.now < 2 ^ 64 }
 {
     push_head(out, major, bytes.len() as u64)?;
@@ -143,8 +144,9 @@ fn push_value(out: &mut Vec<u8>, value: &Value) -> Result<(), AllocError>
 }
 
 impl Value {
-    /// Encodes the data item with shortest heads and definite lengths (RFC 8949, section 4.1); floats
-    /// keep their width, and pairs their order. `OutOfMemory` if an allocation fails.
+    /// Encodes the data item with shortest heads and definite lengths (RFC 8949, section 4.1);
+    /// floats keep their width, and the members of maps their order. `OutOfMemory` if an allocation
+    /// fails.
     pub fn to_vec(&self, alloc: Global) -> Result<Vec<u8>, OutOfMemory>
         ensures written { IfOk result (λ bytes. bytes.items ≡ written (item_of self.now)) }
         ensures writable { OnOk result (IsWritable (item_of self.now)) }

@@ -22,14 +22,15 @@ fixed_members_in names = do
   cross_origin ← or_default None (optional truth) (member (codes "crossOrigin") names)
   Ok (record { ty = ty; challenge = challenge; origin = origin; cross_origin = cross_origin })
 
--- whether one of them is present that may take memory to decode
+-- whether one of these members is present whose decoding may take memory
 unfoldable pub fixed_members_takes : Object → Bool
 fixed_members_takes = takes_any (
     (codes "challenge", is_text)
     ∷ (codes "origin", is_text)
     ∷ [])
 
--- what client data holds: the fixed members, the caller's value, and the members that neither knows
+-- client data as contracts see it: the members that all client data has, the caller's value, and
+-- the members that neither knows
 pub record ClientData (E : Type 0) : Type 0 where
   pub ty : ClientDataType
   pub challenge : List ℕ
@@ -39,18 +40,32 @@ pub record ClientData (E : Type 0) : Type 0 where
   pub unknown_keys : Members
 
 abbrev pub held : {E : Type 0} → CollectedClientData E → ClientData E
-held x = record { ty = x.ty; challenge = x.challenge; origin = x.origin; cross_origin = x.cross_origin; extra_data = x.extra_data; unknown_keys = members_view x.unknown_keys.entries }
+held x = record {
+  ty = x.ty;
+  challenge = x.challenge;
+  origin = x.origin;
+  cross_origin = x.cross_origin;
+  extra_data = x.extra_data;
+  unknown_keys = members_view x.unknown_keys.entries;
+}
 
 module _ {E : Type 0} (has : List ℕ → Bool) (reads : Object → Result E Fault) where
-  -- The fixed members first; then the value, whose members hold no float; then the unknown members,
-  -- which hold none either.
+  -- First the members that all client data has; then the caller's value, whose members contain no
+  -- float; then the unknown members, which contain no float either.
   unfoldable pub client_data_in : Members → Result (ClientData E) Fault
   client_data_in ms = do
     fixed ← fixed_members_in (λ name. get_member name ms)
     extra_members ← without_floats (codes "extra_data") (members_where has ms)
     extra_data ← reads (λ name. get_member name ms)
     unknown_keys ← without_floats (codes "unknown_keys") (members_where (is_unknown has) ms)
-    Ok (record { ty = fixed.ty; challenge = fixed.challenge; origin = fixed.origin; cross_origin = fixed.cross_origin; extra_data = extra_data; unknown_keys = unknown_keys })
+    Ok (record {
+      ty = fixed.ty;
+      challenge = fixed.challenge;
+      origin = fixed.origin;
+      cross_origin = fixed.cross_origin;
+      extra_data = extra_data;
+      unknown_keys = unknown_keys;
+    })
 
   -- client data is an object
   abbrev pub client_data : Data → Result (ClientData E) Fault
@@ -61,12 +76,14 @@ module _ {E : Type 0} (has : List ℕ → Bool) (reads : Object → Result E Fau
   client_data (array ds) = Err no_object
   client_data (object ms) = client_data_in ms
 
--- ---- where decoding may take memory
+-- ---- when decoding may take memory
 
 module _ (has : List ℕ → Bool) (takes : Object → Bool) where
-  -- such a fixed member, a value that may take memory, or a member that is copied since neither knows it
+  -- one of the fixed members takes memory, or the caller's value does, or there is an unknown
+  -- member, which is copied
   abbrev pub members_take : Members → Bool
-  members_take ms = fixed_members_takes (λ name. get_member name ms) || takes (λ name. get_member name ms) || any_member (members_where (is_unknown has) ms)
+  members_take ms = fixed_members_takes (λ name. get_member name ms) || takes (λ name. get_member name ms)
+      || any_member (members_where (is_unknown has) ms)
 
   -- an object with such members
   abbrev pub client_data_takes : Data → Bool

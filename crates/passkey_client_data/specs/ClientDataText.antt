@@ -1,4 +1,4 @@
--- The text that client data is encoded as (WebAuthn Level 3, section 5.8.1.1).
+-- The JSON text that client data is encoded as (WebAuthn Level 3, section 5.8.1.1).
 use Rattle.std.specs.Prelude.{ℕ, List, [], ◌∷◌, ◌++◌, false, unwrap_or, Result, Ok, codes}
 use Rattle.passkey_client_data.specs.ClientData.{ClientData}
 use Rattle.passkey_client_data.specs.ClientDataType.{client_data_type_name}
@@ -9,7 +9,7 @@ use Rattle.serde_json.specs.Data.{Data, boolean, string, object, Members, no_mem
 use Rattle.serde_json.specs.Written.{compact_text}
 
 module _ {E : Type 0} where
-  -- the fixed members, and then these
+  -- the members that all client data has, and then these
   abbrev pub with_fixed : ClientData E → Members → Members
   with_fixed x ms =
       member (codes "type") (string (client_data_type_name x.ty))
@@ -18,7 +18,8 @@ module _ {E : Type 0} where
       (member (codes "crossOrigin") (boolean (unwrap_or x.cross_origin false))
       ms)))
 
-  -- the object of the fixed members, those of the value and the unknown ones, in this order, with no space
+  -- the object of the fixed members, those of the caller's value and the unknown ones, in this
+  -- order, without white space
   unfoldable pub client_data_text : (E → Members) → ClientData E → Result (List ℕ) Fault
   client_data_text written x = do
     extra_members ← without_floats (codes "extra_data") (written x.extra_data)
@@ -27,16 +28,16 @@ module _ {E : Type 0} where
 
 -- ---- for private clauses
 
--- the text of a member behind others
+-- the text of a member that follows another one
 abbrev pub member_text : List ℕ → Data → List ℕ
 member_text name d = 44 ∷ (compact_text (string name) ++ 58 ∷ compact_text d)
 
--- the text of members behind others
+-- the text of members that follow another one
 abbrev pub later_text : Members → List ℕ
 later_text no_members = []
 later_text (member name d ms) = member_text name d ++ later_text ms
 
--- the text of the fixed members, with the opening bracket
+-- the text of the fixed members, with the opening brace
 abbrev pub fixed_text : {E : Type 0} → ClientData E → List ℕ
 fixed_text x =
     codes "{\"type\":" ++ compact_text (string (client_data_type_name x.ty))

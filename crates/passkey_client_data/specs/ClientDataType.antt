@@ -10,7 +10,8 @@ client_data_type_name client_data_type.Get = codes "webauthn.get"
 client_data_type_name client_data_type.PaymentGet = codes "payment.get"
 
 abbrev pub client_data_type_named : List ℕ → Option ClientDataType
-client_data_type_named = named_in client_data_type_name (client_data_type.Create ∷ client_data_type.Get ∷ client_data_type.PaymentGet ∷ [])
+client_data_type_named = named_in client_data_type_name
+    (client_data_type.Create ∷ client_data_type.Get ∷ client_data_type.PaymentGet ∷ [])
 
 -- each value's name finds the value
 pub client_data_type_own : (x : ClientDataType) → client_data_type_named (client_data_type_name x) ≡ Some x

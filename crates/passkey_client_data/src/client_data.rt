@@ -15,8 +15,8 @@ use passkey_memory::OutOfMemory;
 use serde_json::Value;
 use std::alloc::Global;
 
-/// The client data that an authenticator signs the hash of (WebAuthn Level 3, section 5.8.1). `E`
-/// holds the further members that the caller knows.
+/// The client data whose hash an authenticator signs (WebAuthn Level 3, section 5.8.1). `E` has the
+/// further members that the caller knows.
 #[derive(Debug, Drop)]
 pub struct CollectedClientData<E = ()> {
     /// `webauthn.create` for a registration, `webauthn.get` for a sign-in.
@@ -26,25 +26,27 @@ pub struct CollectedClientData<E = ()> {
     pub challenge: Text,
     /// The caller's origin. A relying party must compare it.
     pub origin: Text,
-    /// Whether the caller's origin wasn't the same as its ancestors'; `None` means the member is
-    /// absent.
+    /// Whether the caller's origin differs from that of one of its ancestors; `None` means the
+    /// member is absent.
     pub cross_origin: Option<bool>,
-    /// The further members, which `E` knows.
+    /// The further members that `E` knows.
     pub extra_data: E,
-    /// The unknown members: those that `E` doesn't know and not all client data has.
+    /// The unknown members: those that `E` doesn't know and that not all client data has.
     pub unknown_keys: IndexMap<String, Value>,
 }
 
 impl<E: ClientDataExtra> CollectedClientData<E> {
-    /// Decodes client data. `NotAnObject` if the JSON value is no object; else the first fault of
-    /// `type`, `challenge`, `origin` and `crossOrigin`, in this order; then `Float("extra_data")`
-    /// if a member that `E` knows holds a float; then `E`'s fault; then `Float("unknown_keys")` if
-    /// an unknown member holds a float. Unknown members are ordered by name. `OutOfMemory` if an
-    /// allocation fails, and only if the value is an object whose `challenge` or `origin` is a
-    /// text, whose members take memory as `E` decodes them, or that has an unknown member.
+    /// Decodes client data. Returns `NotAnObject` if the JSON value isn't an object; else the first
+    /// fault of `type`, `challenge`, `origin` and `crossOrigin`, in this order; then
+    /// `Float("extra_data")` if a member that `E` knows contains a float; then `E`'s fault; then
+    /// `Float("unknown_keys")` if an unknown member contains a float. Unknown members are ordered
+    /// by name. Returns `OutOfMemory` if an allocation fails, which can only happen for an object
+    /// whose `challenge` or `origin` is a text, which `E` takes memory to decode, or which has an
+    /// unknown member.
     #[tactic(auto, unfolding(crate::specs::ClientData::client_data_in))]
     pub fn from_json(alloc: Global, value: &Value) -> Result<CollectedClientData<E>, JsonFault>
-        ensures { GivesAs (IsTrue (client_data_takes E.has E.takes (view value.now))) held (client_data E.has E.reads (view value.now)) result }
+        ensures { GivesAs (IsTrue (client_data_takes E.has E.takes (view value.now))) held
+            (client_data E.has E.reads (view value.now)) result }
     {
         let Value::Object(members) = value else {
             return Err(JsonFault::NotAnObject);
@@ -70,7 +72,7 @@ impl<E: ClientDataExtra> CollectedClientData<E> {
         })
     }
 
-    /// Returns an equal value. `OutOfMemory` if an allocation fails.
+    /// Returns an equal value. Returns `OutOfMemory` if an allocation fails.
     pub fn try_clone(&self, alloc: Global) -> Result<CollectedClientData<E>, OutOfMemory>
         ensures { IfOk result (λ copy. held copy ≡ held self.now) }
     {

@@ -26,9 +26,9 @@ fn parse(alloc: Global, bytes: &[u8]) -> Result<Value, ClientDataFault>
 
 impl<E: ClientDataExtra> CollectedClientData<E> {
     /// Decodes client data from its JSON text, such as a response's `client_data_json` (WebAuthn
-    /// Level 3, section 5.8.1.1). `BadJson` if the bytes aren't UTF-8 or no JSON text of at most
-    /// 127 levels; else `Refused` with the fault of `from_json` for its value. `OutOfMemory` if an
-    /// allocation fails.
+    /// Level 3, section 5.8.1.1). Returns `BadJson` if the bytes aren't UTF-8, or aren't a JSON
+    /// text of at most 127 nesting levels; else `Refused` with the fault of `from_json` for its
+    /// value. Returns `OutOfMemory` if an allocation fails.
     pub fn from_slice(
         alloc: Global,
         bytes: &[u8],

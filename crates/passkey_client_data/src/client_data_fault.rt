@@ -11,7 +11,7 @@ use thiserror::Error;
 /// Why client data wasn't decoded from bytes.
 #[derive(Clone, Copy, Debug, Error, PartialEq, Eq)]
 pub enum ClientDataFault {
-    /// The bytes aren't UTF-8, or no JSON text of at most 127 levels (RFC 8259).
+    /// The bytes aren't UTF-8, or aren't a JSON text of at most 127 nesting levels (RFC 8259).
     #[error("BadJson")]
     BadJson,
     /// The JSON value is rejected with this fault, which is never `OutOfMemory`.

@@ -40,9 +40,10 @@ fn unknown_holds_float(members: &IndexMap<String, Value>) -> bool
     false
 }
 
-/// Appends the value.
+/// Appends a value.
 fn put_value(alloc: Global, text: &mut String, value: &Value) -> Result<(), OutOfMemory>
-    ensures { has_float (view value.now) ≡ false → OnOk result (string_bytes text.new ≡ string_bytes text.old ++ compact_text (view value.now)) }
+    ensures { has_float (view value.now) ≡ false
+        → OnOk result (string_bytes text.new ≡ string_bytes text.old ++ compact_text (view value.now)) }
 {
     let value = value.to_string(alloc)?;
     text.push_str(value.as_str())?;
@@ -63,7 +64,8 @@ fn put_member(
     name: &str,
     value: &Value,
 ) -> Result<(), OutOfMemory>
-    ensures { has_float (view value.now) ≡ false → OnOk result (string_bytes text.new ≡ string_bytes text.old ++ member_text name.now (view value.now)) }
+    ensures { has_float (view value.now) ≡ false
+        → OnOk result (string_bytes text.new ≡ string_bytes text.old ++ member_text name.now (view value.now)) }
 {
     text.push_str(",")?;
     put_string(alloc, text, name)?;
@@ -78,7 +80,8 @@ fn put_string_member(
     name: &str,
     member: &str,
 ) -> Result<(), OutOfMemory>
-    ensures { OnOk result (string_bytes text.new ≡ string_bytes text.old ++ member_text name.now (string member.now)) }
+    ensures { OnOk result
+        (string_bytes text.new ≡ string_bytes text.old ++ member_text name.now (string member.now)) }
 {
     put_member(alloc, text, name, &Value::try_from_str(alloc, member)?)
 }
@@ -100,7 +103,8 @@ fn put_extra(
     text: &mut String,
     members: &[(String, Value)],
 ) -> Result<(), OutOfMemory>
-    ensures { members_have_float (members_view members.now) ≡ false → OnOk result (string_bytes text.new ≡ string_bytes text.old ++ later_text (members_view members.now)) }
+    ensures { members_have_float (members_view members.now) ≡ false
+        → OnOk result (string_bytes text.new ≡ string_bytes text.old ++ later_text (members_view members.now)) }
 {
     for (name, value) in members {
         put_member(alloc, text, name.as_str(), value)?;
@@ -113,7 +117,8 @@ fn put_unknown(
     text: &mut String,
     members: &IndexMap<String, Value>,
 ) -> Result<(), OutOfMemory>
-    ensures { members_have_float (members_view members.now.entries) ≡ false → OnOk result (string_bytes text.new ≡ string_bytes text.old ++ later_text (members_view members.now.entries)) }
+    ensures { members_have_float (members_view members.now.entries) ≡ false → OnOk result
+        (string_bytes text.new ≡ string_bytes text.old ++ later_text (members_view members.now.entries)) }
 {
     for (name, value) in members.iter() {
         put_member(alloc, text, name.as_str(), value)?;
@@ -122,7 +127,7 @@ fn put_unknown(
 }
 
 impl<E: ClientDataExtra> CollectedClientData<E> {
-    /// The text of the members that all client data has.
+    /// Returns the text of the members that all client data has.
     fn fixed_text(&self, alloc: Global) -> Result<String, OutOfMemory>
         ensures { IfOk result (λ text. string_bytes text ≡ fixed_text (held self.now)) }
     {
@@ -135,17 +140,18 @@ impl<E: ClientDataExtra> CollectedClientData<E> {
         Ok(text)
     }
 
-    /// Encodes the client data as JSON text without white space: `type`, `challenge`, `origin`,
-    /// `crossOrigin` (false if it is absent), in this order (WebAuthn Level 3, section 5.8.1.1),
-    /// then the members of `extra_data`, then `unknown_keys`.
+    /// Encodes the client data as JSON text without white space: first `type`, `challenge`,
+    /// `origin` and `crossOrigin` (false if it is absent), in this order (WebAuthn Level 3, section
+    /// 5.8.1.1), then the members of `extra_data`, then `unknown_keys`.
     ///
-    /// `Float("extra_data")` if one of the former members holds a float, else
-    /// `Float("unknown_keys")` if one of the latter does. `OutOfMemory` if an allocation fails.
+    /// Returns `Float("extra_data")` if a member of `extra_data` contains a float, else
+    /// `Float("unknown_keys")` if one of `unknown_keys` does. Returns `OutOfMemory` if an
+    /// allocation fails.
     ///
-    /// The members of an object within a member are ordered by name, and `unknown_keys` were so
-    /// when they were decoded. So client data that was decoded and encoded again may not hash to
-    /// what the authenticator signed: keep the bytes that came in, and verify the signature with
-    /// those.
+    /// The members of an object inside a member are ordered by name, and decoding orders
+    /// `unknown_keys` by name, too. So if client data is decoded and encoded again, its hash may
+    /// differ from the one that the authenticator signed: keep the bytes that were received, and
+    /// verify the signature over those.
     #[tactic(auto, unfolding(crate::specs::ClientDataText::client_data_text))]
     pub fn to_text(&self, alloc: Global) -> Result<Text, JsonFault>
         ensures { Gives ⊤ (client_data_text E.written (held self.now)) result }

@@ -9,8 +9,8 @@ use serde_json::Value;
 use std::alloc::Global;
 use std::fmt;
 
-/// What client data is for (WebAuthn Level 3, section 5.8.1). `PaymentGet` comes from Secure
-/// Payment Confirmation.
+/// What client data is for (WebAuthn Level 3, section 5.8.1). `PaymentGet` is from Secure Payment
+/// Confirmation.
 #[derive(Clone, Copy, Debug, PartialEq, Eq)]
 pub enum ClientDataType {
     /// A registration: `webauthn.create`.
@@ -29,12 +29,14 @@ impl EnumNames for ClientDataType {
     ghost name_is_own = { client_data_type_own };
 
     fn from_name(name: &str) -> Option<ClientDataType> {
-        match name {
-            "webauthn.create" => Some(ClientDataType::Create),
-            "webauthn.get" => Some(ClientDataType::Get),
-            "payment.get" => Some(ClientDataType::PaymentGet),
-            _ => None,
-        }
+        [
+            ClientDataType::Create,
+            ClientDataType::Get,
+            ClientDataType::PaymentGet,
+        ]
+        .iter()
+        .copied()
+        .find(|value| value.name() == name)
     }
 
     fn name(self) -> &'static str {

@@ -1,5 +1,5 @@
 //! Collected client data: what a client adds to what an authenticator signs, such as the challenge
-//! and the origin (WebAuthn Level 3, section 5.8.1), decoded from JSON and encoded as JSON texts.
+//! and the origin (WebAuthn Level 3, section 5.8.1), decoded from JSON and encoded as JSON text.
 #![tactic(auto)]
 
 mod client_data;

@@ -1,4 +1,4 @@
-//! The members of client data that a type knows, and unknown ones.
+//! Known and unknown members of client data.
 ghost use Rattle.std.specs.Prelude.{◌≡◌, IfOk, OnOk, codes, IsTrue, OnErr};
 ghost use Rattle.passkey_client_data.specs.ExtraData.{is_fixed, is_unknown};
 ghost use Rattle.passkey_client_data.specs.MemberLists.{added, members_where, without_floats, any_member};
@@ -25,7 +25,7 @@ fn is_unknown<E: ClientDataExtra>(name: &str) -> bool
     !is_fixed(name) && !E::is_member(name)
 }
 
-/// Whether a member that the type knows holds a float.
+/// Returns whether a member that the type knows contains a float.
 pub(crate) fn known_holds_float<E: ClientDataExtra>(members: &Map<String, Value>) -> bool
     ensures { result ≡ members_have_float (members_where E.has (members_view members.now.entries)) }
 {
@@ -54,7 +54,8 @@ fn put_copy(
     name: &str,
     value: &Value,
 ) -> Result<(), OutOfMemory>
-    ensures { OnOk result (members_view copies.new.entries ≡ added name.now (view value.now) (members_view copies.old.entries)) }
+    ensures { OnOk result
+        (members_view copies.new.entries ≡ added name.now (view value.now) (members_view copies.old.entries)) }
 {
     let copy = value.clone()?;
     copies.insert(String::from_str(alloc, name)?, copy)?;
@@ -65,8 +66,10 @@ fn copy_unknown<E: ClientDataExtra>(
     alloc: Global,
     members: &Map<String, Value>,
 ) -> Result<IndexMap<String, Value>, OutOfMemory>
-    ensures same { IfOk result (λ copies. members_view copies.entries ≡ members_where (is_unknown E.has) (members_view members.now.entries)) }
-    ensures grows { OnErr result (IsTrue (any_member (members_where (is_unknown E.has) (members_view members.now.entries)))) }
+    ensures same { IfOk result (λ copies. members_view copies.entries
+        ≡ members_where (is_unknown E.has) (members_view members.now.entries)) }
+    ensures grows { OnErr result
+        (IsTrue (any_member (members_where (is_unknown E.has) (members_view members.now.entries)))) }
 {
     let mut copies = IndexMap::new(alloc);
     for (name, value) in members.iter() {
@@ -77,13 +80,15 @@ fn copy_unknown<E: ClientDataExtra>(
     Ok(copies)
 }
 
-/// Copies of the unknown members, in their order. `OutOfMemory` if an allocation fails, and only if
-/// there is one.
+/// Returns copies of the unknown members, in their order. Returns `OutOfMemory` if an allocation
+/// fails, which can only happen if there is an unknown member.
 pub(crate) fn unknown_members<E: ClientDataExtra>(
     alloc: Global,
     members: &Map<String, Value>,
 ) -> Result<IndexMap<String, Value>, JsonFault>
-    ensures { GivesAs (IsTrue (any_member (members_where (is_unknown E.has) (members_view members.now.entries)))) (λ copies. members_view copies.entries) (without_floats (codes "unknown_keys") (members_where (is_unknown E.has) (members_view members.now.entries))) result }
+    ensures { GivesAs (IsTrue (any_member (members_where (is_unknown E.has) (members_view members.now.entries))))
+        (λ copies. members_view copies.entries) (without_floats (codes "unknown_keys")
+        (members_where (is_unknown E.has) (members_view members.now.entries))) result }
 {
     if unknown_holds_float::<E>(members) {
         return Err(JsonFault::Float("unknown_keys"));

@@ -1,8 +1,8 @@
--- What decoding authenticator data adds to the counts, step after step.
+-- What decoding authenticator data adds to the counts, step by step.
 use Rattle.std.proofs.Common.{◌≡◌, ◌∙◌, ℕ, ◌+◌, ◌*◌, ◌-◌, ◌^◌, ◌<◌, ◌≤◌, min, List, length, Bool, true, Option, Some, Result, Ok, Err, Bor, sym, ap, subst, arith}
 use Rattle.passkey_cbor.specs.Walk.{raised}
 use Rattle.passkey_cbor.specs.declared.count.Count.{Count}
-use Rattle.passkey_cbor.proofs.Fronts.{front_given}
+use Rattle.passkey_cbor.proofs.LeadingItems.{front_given}
 use Rattle.passkey_cose.specs.declared.error.CoseError.{CoseError}
 use Rattle.passkey_core.specs.DataCounts.{Counts}
 use Rattle.passkey_core.specs.DataFlags.{attested_flag, extensions_flag, has_flag}
@@ -13,7 +13,7 @@ use Rattle.passkey_core.specs.DataReading.{Begun, ◌>>=◌, fixed_at, ids_at, R
 use Rattle.passkey_core.proofs.DataGiven.{attested_where_given}
 use Rattle.passkey_core.proofs.DataShrinking.{fixed_shrink}
 
--- what decoding the bytes added
+-- what decoding the bytes adds
 pub record Totals (bytes : List ℕ) (old new : Count) : Type 0 where
   pub heads : new.heads ≤ old.heads + (4 * length bytes + 4)
   pub nodes : new.nodes ≤ old.nodes + data_nodes bytes
@@ -21,14 +21,18 @@ pub record Totals (bytes : List ℕ) (old new : Count) : Type 0 where
   pub heads_rise : old.heads ≤ new.heads
   pub nodes_rise : old.nodes ≤ new.nodes
 
--- ---- the parts of fixed length have a fault
+-- ---- an error in the parts of fixed length
 
-nothing_behind : (each : List ℕ → ℕ) (bytes : List ℕ) (e : CoseError) → fixed_at bytes ≡ Err e → count_data each bytes ≡ 0
+nothing_behind : (each : List ℕ → ℕ) (bytes : List ℕ) (e : CoseError) → fixed_at bytes ≡ Err e
+    → count_data each bytes ≡ 0
 unfolding count_data
 nothing_behind each bytes e h =
-    ap (λ (begun : Begun DataParts). count_behind begun (λ fixed. count_where (has_flag attested_flag fixed.0.flags) (count_key each) fixed.1 + count_behind (where_at (has_flag attested_flag fixed.0.flags) attested_at fixed.1) (λ attested. count_where (has_flag extensions_flag fixed.0.flags) each attested.1))) h
+    ap (λ (begun : Begun DataParts). count_behind begun (λ fixed. count_where (has_flag attested_flag fixed.0.flags)
+    (count_key each) fixed.1 + count_behind (where_at (has_flag attested_flag fixed.0.flags) attested_at
+    fixed.1) (λ attested. count_where (has_flag extensions_flag fixed.0.flags) each attested.1))) h
 
-pub totals_fixed : (bytes : List ℕ) (e : CoseError) (count : Count) → fixed_at bytes ≡ Err e → Totals bytes count count
+pub totals_fixed : (bytes : List ℕ) (e : CoseError) (count : Count) → fixed_at bytes ≡ Err e
+    → Totals bytes count count
 totals_fixed bytes e count h = record {
   heads = omega arith;
   nodes = omega arith;
@@ -37,32 +41,47 @@ totals_fixed bytes e count h = record {
   nodes_rise = omega arith;
 }
 
--- ---- attested credential data have a fault
+-- ---- an error in attested credential data
 
--- what is counted behind them
+-- what is counted after attested credential data
 abbrev behind_attested : (List ℕ → ℕ) → DataParts → Begun (Option AttestedParts) → ℕ
-behind_attested each fixed begun = count_behind begun (λ attested. count_where (has_flag extensions_flag fixed.flags) each attested.1)
+behind_attested each fixed begun =
+    count_behind begun (λ attested. count_where (has_flag extensions_flag fixed.flags) each attested.1)
 
-parts_of : (each : List ℕ → ℕ) (bytes : List ℕ) (fixed : DataParts) (rest : List ℕ) → Ok (fixed, rest) ≡ fixed_at bytes → count_data each bytes ≡ count_where (has_flag attested_flag fixed.flags) (count_key each) rest + behind_attested each fixed (where_at (has_flag attested_flag fixed.flags) attested_at rest)
+parts_of : (each : List ℕ → ℕ) (bytes : List ℕ) (fixed : DataParts) (rest : List ℕ) → Ok (fixed, rest)
+    ≡ fixed_at bytes → count_data each bytes ≡ count_where (has_flag attested_flag fixed.flags) (count_key each)
+    rest + behind_attested each fixed (where_at (has_flag attested_flag fixed.flags) attested_at rest)
 unfolding count_data
 parts_of each bytes fixed rest h =
-    ap (λ (begun : Begun DataParts). count_behind begun (λ fixed. count_where (has_flag attested_flag fixed.0.flags) (count_key each) fixed.1 + count_behind (where_at (has_flag attested_flag fixed.0.flags) attested_at fixed.1) (λ attested. count_where (has_flag extensions_flag fixed.0.flags) each attested.1))) (sym h)
+    ap (λ (begun : Begun DataParts). count_behind begun (λ fixed. count_where (has_flag attested_flag fixed.0.flags)
+    (count_key each) fixed.1 + count_behind (where_at (has_flag attested_flag fixed.0.flags) attested_at
+    fixed.1) (λ attested. count_where (has_flag extensions_flag fixed.0.flags) each attested.1))) (sym h)
 
--- where an item is looked for, the key is looked for
-by_ids : (fixed : DataParts) (ids : Begun (List ℕ × List ℕ)) (next : (List ℕ × List ℕ) × List ℕ → Begun AttestedParts) → 0 < count_behind ids (λ p. one p.1) + behind_attested one fixed (ids >>= next >>= λ p. Ok (Some p.0, p.1)) → 0 < count_behind ids (λ p. one p.1)
+-- if a data item is decoded, the key is
+by_ids : (fixed : DataParts) (ids : Begun (List ℕ × List ℕ))
+    (next : (List ℕ × List ℕ) × List ℕ → Begun AttestedParts) → 0 < count_behind ids (λ p. one p.1)
+    + behind_attested one fixed (ids >>= next >>= λ p. Ok (Some p.0, p.1)) → 0 < count_behind ids (λ p. one p.1)
 by_ids fixed (Ok p) next some = omega arith
 by_ids fixed (Err e) next some = some
 
-key_first : (fixed : DataParts) (rest : List ℕ) → 0 < count_key one rest + behind_attested one fixed (where_at true attested_at rest) → 0 < count_key one rest
+key_first : (fixed : DataParts) (rest : List ℕ)
+    → 0 < count_key one rest + behind_attested one fixed (where_at true attested_at rest) → 0 < count_key one rest
 unfolding count_key attested_at
 key_first fixed rest some = by_ids fixed (ids_at rest) _ some
 
-part_first : (fixed : DataParts) (rest : List ℕ) (is_there : Bool) → is_there ≡ true → 0 < count_where is_there (count_key one) rest + behind_attested one fixed (where_at is_there attested_at rest) → 0 < count_where is_there (count_key one) rest
+part_first : (fixed : DataParts) (rest : List ℕ) (is_there : Bool) → is_there ≡ true
+    → 0 < count_where is_there (count_key one) rest + behind_attested one fixed (where_at is_there attested_at rest)
+    → 0 < count_where is_there (count_key one) rest
 part_first fixed rest is_there there = rw there (key_first fixed rest)
 
-pub totals_attested : {A : Type 0} (bytes : List ℕ) (fixed : DataParts) (rest : List ℕ) (is_attested : Bool) (e : CoseError) (old new : Count) → Ok (fixed, rest) ≡ fixed_at bytes → is_attested ≡ has_flag attested_flag fixed.flags → is_attested ≡ true → Counts {A = A} (λ each. count_where is_attested (count_key each) rest) rest old new (Err e) → Totals bytes old new
+pub totals_attested : {A : Type 0} (bytes : List ℕ) (fixed : DataParts) (rest : List ℕ) (is_attested : Bool)
+    (e : CoseError) (old new : Count) → Ok (fixed, rest) ≡ fixed_at bytes
+    → is_attested ≡ has_flag attested_flag fixed.flags → is_attested ≡ true → Counts {A = A}
+    (λ each. count_where is_attested (count_key each) rest) rest old new (Err e) → Totals bytes old new
 totals_attested bytes fixed rest is_attested e old new is_fixed flag there h =
-    let parts : (each : List ℕ → ℕ) → count_data each bytes ≡ count_where is_attested (count_key each) rest + behind_attested each fixed (where_at is_attested attested_at rest) = λ each. rw flag (parts_of each bytes fixed rest is_fixed) in
+    let parts : (each : List ℕ → ℕ) → count_data each bytes ≡ count_where is_attested (count_key each) rest
+    + behind_attested each fixed (where_at is_attested attested_at rest) =
+    λ each. rw flag (parts_of each bytes fixed rest is_fixed) in
     record {
       heads = omega (arith, h.heads, fixed_shrink bytes fixed rest is_fixed);
       nodes = omega (arith, h.nodes, parts front_nodes);
@@ -71,46 +90,88 @@ totals_attested bytes fixed rest is_attested e old new is_fixed flag there h =
       nodes_rise = h.nodes_rise;
     }
 
--- ---- and the extensions
+-- ---- then the extensions
 
-counts_of : (each : List ℕ → ℕ) (bytes : List ℕ) (fixed : DataParts) (rest : List ℕ) (attested : Option AttestedParts) (behind : List ℕ) → Ok (fixed, rest) ≡ fixed_at bytes → ReadsWhere (has_flag attested_flag fixed.flags) ReadsAttested rest (Ok (attested, behind)) → count_data each bytes ≡ count_where (has_flag attested_flag fixed.flags) (count_key each) rest + count_where (has_flag extensions_flag fixed.flags) each behind
+counts_of : (each : List ℕ → ℕ) (bytes : List ℕ) (fixed : DataParts) (rest : List ℕ)
+    (attested : Option AttestedParts) (behind : List ℕ) → Ok (fixed, rest) ≡ fixed_at bytes
+    → ReadsWhere (has_flag attested_flag fixed.flags) ReadsAttested rest (Ok (attested, behind))
+    → count_data each bytes ≡ count_where (has_flag attested_flag fixed.flags) (count_key each) rest
+    + count_where (has_flag extensions_flag fixed.flags) each behind
 counts_of each bytes fixed rest attested behind is_fixed reads =
-    let given : where_at (has_flag attested_flag fixed.flags) attested_at rest ≡ Ok (attested, behind) = attested_where_given front_given (has_flag attested_flag fixed.flags) rest (attested, behind) reads in
-    parts_of each bytes fixed rest is_fixed ∙ ap (λ (begun : Begun (Option AttestedParts)). count_where (has_flag attested_flag fixed.flags) (count_key each) rest + behind_attested each fixed begun) given
+    let given : where_at (has_flag attested_flag fixed.flags) attested_at rest ≡ Ok (attested, behind) =
+    attested_where_given front_given (has_flag attested_flag fixed.flags) rest (attested, behind) reads in
+    parts_of each bytes fixed rest is_fixed ∙ ap (λ (begun : Begun (Option AttestedParts)). count_where
+    (has_flag attested_flag fixed.flags) (count_key each) rest + behind_attested each fixed begun) given
 
--- the counts of one step and then another
-least_of : (m n old mid new : ℕ) → (0 < m → raised old 1 ≤ mid) → (0 < n → raised mid 1 ≤ new) → old ≤ mid → mid ≤ new → 0 < m + n → raised old 1 ≤ new
+-- at least one head over two steps
+least_of : (m n old mid new : ℕ) → (0 < m → raised old 1 ≤ mid) → (0 < n → raised mid 1 ≤ new) → old ≤ mid
+    → mid ≤ new → 0 < m + n → raised old 1 ≤ new
 least_of m n old mid new first second up rise some = grind arith
 
--- both steps, and what is counted at them
-record Steps {A B : Type 0} (bytes : List ℕ) (fixed : DataParts) (rest : List ℕ) (x : A) (behind : Bor (List ℕ)) (old mid new : Count) (last : Result (B × Bor (List ℕ)) CoseError) : Type 0 where
-  first : Counts (λ each. count_where (has_flag attested_flag fixed.flags) (count_key each) rest) rest old mid (Ok (x, behind))
-  second : Counts (λ each. count_where (has_flag extensions_flag fixed.flags) each behind.now) behind.now mid new last
-  both : (each : List ℕ → ℕ) → count_data each bytes ≡ count_where (has_flag attested_flag fixed.flags) (count_key each) rest + count_where (has_flag extensions_flag fixed.flags) each behind.now
+-- both steps, and what they count
+record Steps {A B : Type 0} (bytes : List ℕ) (fixed : DataParts) (rest : List ℕ) (x : A) (behind : Bor (List ℕ))
+    (old mid new : Count) (last : Result (B × Bor (List ℕ)) CoseError) : Type 0 where
+  first : Counts (λ each. count_where (has_flag attested_flag fixed.flags) (count_key each) rest) rest old mid
+      (Ok (x, behind))
+  second :
+      Counts (λ each. count_where (has_flag extensions_flag fixed.flags) each behind.now) behind.now mid new last
+  both : (each : List ℕ → ℕ) → count_data each bytes ≡ count_where (has_flag attested_flag fixed.flags)
+      (count_key each) rest + count_where (has_flag extensions_flag fixed.flags) each behind.now
   shorter : length rest ≤ length bytes
 
-steps : {A B : Type 0} (bytes : List ℕ) (fixed : DataParts) (rest : List ℕ) (is_attested has_extensions : Bool) (attested : Option AttestedParts) (x : A) (behind : Bor (List ℕ)) (old mid new : Count) (last : Result (B × Bor (List ℕ)) CoseError) → Ok (fixed, rest) ≡ fixed_at bytes → is_attested ≡ has_flag attested_flag fixed.flags → has_extensions ≡ has_flag extensions_flag fixed.flags → ReadsWhere is_attested ReadsAttested rest (Ok (attested, behind.now)) → Counts (λ each. count_where is_attested (count_key each) rest) rest old mid (Ok (x, behind)) → Counts (λ each. count_where has_extensions each behind.now) behind.now mid new last → Steps bytes fixed rest x behind old mid new last
-steps bytes fixed rest is_attested has_extensions attested x behind old mid new last is_fixed at ed reads first second =
-    let reads_attested : ReadsWhere (has_flag attested_flag fixed.flags) ReadsAttested rest (Ok (attested, behind.now)) = subst (λ (b : Bool). ReadsWhere b ReadsAttested rest (Ok (attested, behind.now))) at reads in
+steps : {A B : Type 0} (bytes : List ℕ) (fixed : DataParts) (rest : List ℕ) (is_attested has_extensions : Bool)
+    (attested : Option AttestedParts) (x : A) (behind : Bor (List ℕ)) (old mid new : Count)
+    (last : Result (B × Bor (List ℕ)) CoseError) → Ok (fixed, rest) ≡ fixed_at bytes
+    → is_attested ≡ has_flag attested_flag fixed.flags → has_extensions ≡ has_flag extensions_flag fixed.flags
+    → ReadsWhere is_attested ReadsAttested rest (Ok (attested, behind.now))
+    → Counts (λ each. count_where is_attested (count_key each) rest) rest old mid (Ok (x, behind))
+    → Counts (λ each. count_where has_extensions each behind.now) behind.now mid new last
+    → Steps bytes fixed rest x behind old mid new last
+steps bytes fixed rest is_attested has_extensions attested x behind old mid new last is_fixed at ed reads first
+    second =
+    let reads_attested : ReadsWhere (has_flag attested_flag fixed.flags) ReadsAttested rest (Ok (
+      attested,
+      behind.now,
+    )) = subst (λ (b : Bool). ReadsWhere b ReadsAttested rest (Ok (attested, behind.now))) at reads in
     record {
-      first = subst (λ (b : Bool). Counts (λ each. count_where b (count_key each) rest) rest old mid (Ok (x, behind))) at first;
-      second = subst (λ (b : Bool). Counts (λ each. count_where b each behind.now) behind.now mid new last) ed second;
+      first = subst (λ (b : Bool). Counts (λ each. count_where b (count_key each) rest) rest old mid
+          (Ok (x, behind))) at first;
+      second =
+          subst (λ (b : Bool). Counts (λ each. count_where b each behind.now) behind.now mid new last) ed second;
       both = λ each. counts_of each bytes fixed rest attested behind.now is_fixed reads_attested;
       shorter = fixed_shrink bytes fixed rest is_fixed;
     }
 
-pub totals : {A B : Type 0} (bytes : List ℕ) (fixed : DataParts) (rest : List ℕ) (is_attested has_extensions : Bool) (attested : Option AttestedParts) (x : A) (behind : Bor (List ℕ)) (old mid new : Count) (last : Result (B × Bor (List ℕ)) CoseError) → Ok (fixed, rest) ≡ fixed_at bytes → is_attested ≡ has_flag attested_flag fixed.flags → has_extensions ≡ has_flag extensions_flag fixed.flags → ReadsWhere is_attested ReadsAttested rest (Ok (attested, behind.now)) → Counts (λ each. count_where is_attested (count_key each) rest) rest old mid (Ok (x, behind)) → Counts (λ each. count_where has_extensions each behind.now) behind.now mid new last → Totals bytes old new
-totals bytes fixed rest is_attested has_extensions attested x behind old mid new last is_fixed at ed reads first second =
-    let s = steps bytes fixed rest is_attested has_extensions attested x behind old mid new last is_fixed at ed reads first second in
+pub totals : {A B : Type 0} (bytes : List ℕ) (fixed : DataParts) (rest : List ℕ) (is_attested has_extensions : Bool)
+    (attested : Option AttestedParts) (x : A) (behind : Bor (List ℕ)) (old mid new : Count)
+    (last : Result (B × Bor (List ℕ)) CoseError) → Ok (fixed, rest) ≡ fixed_at bytes
+    → is_attested ≡ has_flag attested_flag fixed.flags → has_extensions ≡ has_flag extensions_flag fixed.flags
+    → ReadsWhere is_attested ReadsAttested rest (Ok (attested, behind.now))
+    → Counts (λ each. count_where is_attested (count_key each) rest) rest old mid (Ok (x, behind))
+    → Counts (λ each. count_where has_extensions each behind.now) behind.now mid new last → Totals bytes old new
+totals bytes fixed rest is_attested has_extensions attested x behind old mid new last is_fixed at ed reads first
+    second =
+    let s = steps bytes fixed rest is_attested has_extensions attested x behind old mid new last is_fixed at ed
+    reads first second in
     record {
       heads = omega (arith, s.first.heads, s.second.heads, s.shorter);
       nodes = omega (arith, s.first.nodes, s.second.nodes, s.both front_nodes);
-      least = λ some. least_of _ _ old.heads mid.heads new.heads s.first.least s.second.least s.first.heads_rise s.second.heads_rise (rw (sym (s.both one)) some);
+      least = λ some. least_of _ _ old.heads mid.heads new.heads s.first.least s.second.least s.first.heads_rise
+          s.second.heads_rise (rw (sym (s.both one)) some);
       heads_rise = omega (arith, s.first.heads_rise, s.second.heads_rise);
       nodes_rise = omega (arith, s.first.nodes_rise, s.second.nodes_rise);
     }
 
-pub all_counted : {A B : Type 0} (bytes : List ℕ) (fixed : DataParts) (rest : List ℕ) (is_attested has_extensions : Bool) (attested : Option AttestedParts) (x : A) (behind : Bor (List ℕ)) (old mid new : Count) (y : B × Bor (List ℕ)) → Ok (fixed, rest) ≡ fixed_at bytes → is_attested ≡ has_flag attested_flag fixed.flags → has_extensions ≡ has_flag extensions_flag fixed.flags → ReadsWhere is_attested ReadsAttested rest (Ok (attested, behind.now)) → Counts (λ each. count_where is_attested (count_key each) rest) rest old mid (Ok (x, behind)) → Counts (λ each. count_where has_extensions each behind.now) behind.now mid new (Ok y) → min (old.nodes + data_nodes bytes) (2 ^ 128 - 1) ≤ new.nodes
-all_counted bytes fixed rest is_attested has_extensions attested x behind old mid new y is_fixed at ed reads first second =
-    let s = steps bytes fixed rest is_attested has_extensions attested x behind old mid new (Ok y) is_fixed at ed reads first second in
+pub all_counted : {A B : Type 0} (bytes : List ℕ) (fixed : DataParts) (rest : List ℕ)
+    (is_attested has_extensions : Bool) (attested : Option AttestedParts) (x : A) (behind : Bor (List ℕ))
+    (old mid new : Count) (y : B × Bor (List ℕ)) → Ok (fixed, rest) ≡ fixed_at bytes
+    → is_attested ≡ has_flag attested_flag fixed.flags → has_extensions ≡ has_flag extensions_flag fixed.flags
+    → ReadsWhere is_attested ReadsAttested rest (Ok (attested, behind.now))
+    → Counts (λ each. count_where is_attested (count_key each) rest) rest old mid (Ok (x, behind))
+    → Counts (λ each. count_where has_extensions each behind.now) behind.now mid new (Ok y)
+    → min (old.nodes + data_nodes bytes) (2 ^ 128 - 1) ≤ new.nodes
+all_counted bytes fixed rest is_attested has_extensions attested x behind old mid new y is_fixed at ed reads first
+    second =
+    let s = steps bytes fixed rest is_attested has_extensions attested x behind old mid new (Ok y) is_fixed at ed
+    reads first second in
     omega (arith, s.first.all, s.second.all, s.both front_nodes)

@@ -1,4 +1,4 @@
--- Each byte has exactly one status: looked up at every byte.
+-- Each byte has exactly one status: a test of every byte.
 use Rattle.std.specs.Cmp.{unsigned_Decides}
 use Rattle.std.specs.Option.{option_to_list}
 use Rattle.std.proofs.Common.{arith, ◌≡◌, ◌==◌, ◌<◌, ◌∙◌, ℕ, Bool, true, false, List, [], ◌∷◌, ◌++◌, length, Some, None, option_map, if◌then◌else◌, refl, sym, ap, append_assoc, zero, suc, ◌&&◌, subst}
@@ -11,7 +11,7 @@ use Rattle.passkey_core.specs.StatusBytes.{is_in, unassigned, extension, vendor}
 use Rattle.passkey_core.specs.Statuses.{ctap2_error, code_in, statuses, IsStatus}
 use Rattle.passkey_core.proofs.StatusTable.{ctap2_error_has}
 
--- a test at every number below this one
+-- a test of every number below this one
 abbrev holds_below : (ℕ → Bool) → ℕ → Bool
 holds_below p zero = true
 holds_below p (suc n) = p n && holds_below p n
@@ -31,8 +31,9 @@ has_one byte = length (statuses byte) == 1
 one : (byte : ℕ) → byte < 256 → length (statuses byte) ≡ 1
 one byte small = (unsigned_Decides (length (statuses byte)) 1).0 (holds_at has_one 256 byte refl small)
 
--- what stands in a list of one is all of it
-alone : (before : List StatusCode) (x : StatusCode) (after : List StatusCode) → length (before ++ x ∷ after) ≡ 1 → before ++ x ∷ after ≡ x ∷ []
+-- an element of a list of length one is the whole list
+alone : (before : List StatusCode) (x : StatusCode) (after : List StatusCode) → length (before ++ x ∷ after) ≡ 1
+    → before ++ x ∷ after ≡ x ∷ []
 alone [] x [] h = refl
 alone [] x (y ∷ ys) h = absurd (omega arith)
 alone (y ∷ []) x after h = absurd (omega arith)
@@ -46,7 +47,8 @@ code_in_has ranges byte x =
       | false ↦ λ h. cc
     ]
 
-alone_as : {xs : List StatusCode} (before : List StatusCode) (x : StatusCode) (after : List StatusCode) → xs ≡ before ++ x ∷ after → length xs ≡ 1 → xs ≡ x ∷ []
+alone_as : {xs : List StatusCode} (before : List StatusCode) (x : StatusCode) (after : List StatusCode)
+    → xs ≡ before ++ x ∷ after → length xs ≡ 1 → xs ≡ x ∷ []
 alone_as before x after e h = e ∙ alone before x after (ap length (sym e) ∙ h)
 
 module _ (byte : ℕ) (small : byte < 256) where
@@ -64,27 +66,38 @@ module _ (byte : ℕ) (small : byte < 256) where
 
   pub known_is : (error : Ctap2Error) → ctap2_error byte ≡ Some error → IsStatus byte (status.Known error)
   known_is error is =
-      let here : k ≡ status.Known error ∷ [] = ap (λ c. option_to_list (option_map status.Known c)) is in
-      (alone_as [] (status.Known error) (o ++ e ++ v) (ap (λ xs. xs ++ o ++ e ++ v) here) (one byte small), ctap2_error_has byte error is)
+      let here : k ≡ status.Known error ∷ [] = ap (λ c. option_to_list (option_map status.Known c)) is in (
+        alone_as [] (status.Known error) (o ++ e ++ v) (ap (λ xs. xs ++ o ++ e ++ v) here) (one byte small),
+        ctap2_error_has byte error is,
+      )
 
   pub other_is : (x : ℕ) → code_in unassigned byte ≡ Some x → IsStatus byte (status.Other x)
   other_is x is =
       let here : o ≡ status.Other x ∷ [] = ap (λ c. option_to_list (option_map status.Other c)) is in
-      let before : k ++ o ++ e ++ v ≡ k ++ (status.Other x ∷ []) ++ e ++ v = ap (λ xs. k ++ xs ++ e ++ v) here in
-      (alone_as k (status.Other x) (e ++ v) (before ∙ append_assoc (k ++ status.Other x ∷ []) e v ∙ append_assoc k (status.Other x ∷ []) (e ++ v)) (one byte small), code_in_has unassigned byte x is)
+      let before : k ++ o ++ e ++ v ≡ k ++ (status.Other x ∷ []) ++ e ++ v = ap (λ xs. k ++ xs ++ e ++ v) here in (
+        alone_as k (status.Other x) (e ++ v) (before ∙ append_assoc (k ++ status.Other x ∷ []) e v
+            ∙ append_assoc k (status.Other x ∷ []) (e ++ v)) (one byte small),
+        code_in_has unassigned byte x is,
+      )
 
   pub extension_is : (x : ℕ) → code_in extension byte ≡ Some x → IsStatus byte (status.Extension x)
   extension_is x is =
-      let here : e ≡ status.Extension x ∷ [] = ap (λ c. option_to_list (option_map status.Extension c)) is in
-      (alone_as (k ++ o) (status.Extension x) v (ap (λ xs. k ++ o ++ xs ++ v) here ∙ append_assoc (k ++ o) (status.Extension x ∷ []) v) (one byte small), code_in_has extension byte x is)
+      let here : e ≡ status.Extension x ∷ [] = ap (λ c. option_to_list (option_map status.Extension c)) is in (
+        alone_as (k ++ o) (status.Extension x) v (ap (λ xs. k ++ o ++ xs ++ v) here
+            ∙ append_assoc (k ++ o) (status.Extension x ∷ []) v) (one byte small),
+        code_in_has extension byte x is,
+      )
 
   pub vendor_is : (x : ℕ) → code_in vendor byte ≡ Some x → IsStatus byte (status.Vendor x)
   vendor_is x is =
-      let here : v ≡ status.Vendor x ∷ [] = ap (λ c. option_to_list (option_map status.Vendor c)) is in
-      (alone_as (k ++ o ++ e) (status.Vendor x) [] (ap (λ xs. k ++ o ++ e ++ xs) here) (one byte small), code_in_has vendor byte x is)
+      let here : v ≡ status.Vendor x ∷ [] = ap (λ c. option_to_list (option_map status.Vendor c)) is in (
+        alone_as (k ++ o ++ e) (status.Vendor x) [] (ap (λ xs. k ++ o ++ e ++ xs) here) (one byte small),
+        code_in_has vendor byte x is,
+      )
 
-  -- what has no name and is of neither other class
-  pub left_is_unassigned : ctap2_error byte ≡ None → code_in extension byte ≡ None → code_in vendor byte ≡ None → is_in unassigned byte ≡ true
+  -- a byte that has no name and is in neither other class
+  pub left_is_unassigned : ctap2_error byte ≡ None → code_in extension byte ≡ None → code_in vendor byte ≡ None
+      → is_in unassigned byte ≡ true
   left_is_unassigned no_name no_extension no_vendor =
       (elim (is_in unassigned byte) as (λ (t : Bool). is_in unassigned byte ≡ t → is_in unassigned byte ≡ true) [
         | true ↦ λ h. h

@@ -1,4 +1,4 @@
--- The bytes of the named statuses tell them apart: proofs that the clauses on Ctap2Error cite.
+-- No two named statuses have the same byte: proofs that the clauses on Ctap2Error cite.
 use Rattle.std.specs.Cmp.{unsigned_Decides}
 use Rattle.std.proofs.Common.{◌≡◌, ◌∙◌, ℕ, nat_eq, Some, refl, sym, ap}
 use Rattle.passkey_iana.specs.TableLaws.{numbered_has}

@@ -1,4 +1,4 @@
--- Authenticator data that are read back as they were written.
+-- Authenticator data that can be read back after it is written.
 use Rattle.std.specs.Prelude.{◌==◌, Bool, true, false, not, ◌&&◌, Option, Some, None}
 use Rattle.std.specs.Int.RustNames.{bit_and}
 use Rattle.passkey_cbor.specs.Item.{Item, map}
@@ -14,7 +14,7 @@ is_map _ = false
 abbrev pub are_extensions_readable : Item → Bool
 are_extensions_readable x = is_map x && is_shallow x
 
--- a part is held, and is readable, exactly where its flag is set
+-- a part is present, and readable, exactly if its flag is set
 abbrev pub agrees : {X : Type 0} → (X → Bool) → Bool → Option X → Bool
 agrees is_readable flagged (Some x) = flagged && is_readable x
 agrees is_readable flagged None = not flagged

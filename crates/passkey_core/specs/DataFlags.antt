@@ -1,4 +1,4 @@
--- The flags that tell which parts authenticator data have (WebAuthn Level 3, section 6.1).
+-- The flags that say which parts authenticator data has (WebAuthn Level 3, section 6.1).
 use Rattle.std.specs.Prelude.{ℕ, ◌==◌, Bool}
 use Rattle.std.specs.Int.RustNames.{bit_and}
 
@@ -10,6 +10,6 @@ attested_flag = 64
 abbrev pub extensions_flag : ℕ
 extensions_flag = 128
 
--- whether the flags have all bits of this one
+-- whether every bit of `flag` is set in `flags`
 abbrev pub has_flag : ℕ → ℕ → Bool
 has_flag flag flags = bit_and flags flag == flag

@@ -9,26 +9,27 @@ use Rattle.passkey_core.specs.DataRead.{read_data}
 use Rattle.passkey_core.specs.DataReading.{ReadsData}
 use Rattle.passkey_core.specs.DataWritten.{data_written}
 
--- Bytes are read as one thing: these data, or this fault.
+-- Bytes have only one reading: certain data, or a certain error.
 abbrev pub OneReading : Type 0
 OneReading = (bytes : List ℕ) (a b : Result DataParts CoseError) → ReadsData bytes a → ReadsData bytes b → a ≡ b
 
--- What read_data gives of bytes, data or a fault, is what they are read as.
+-- What `read_data` returns for bytes, data or an error, is their reading.
 abbrev pub GivenIsRead : Type 0
 GivenIsRead = (bytes : List ℕ) → IsBytes bytes → ReadsData bytes (read_data bytes)
 
--- Data that are read are what read_data gives.
+-- If bytes are read as data, `read_data` returns it.
 abbrev pub ReadIsGiven : Type 0
 ReadIsGiven = (bytes : List ℕ) (d : DataParts) → ReadsData bytes (Ok d) → read_data bytes ≡ Ok d
 
--- What read_data gives is coherent.
+-- What `read_data` returns is coherent.
 abbrev pub GivenIsCoherent : Type 0
 GivenIsCoherent = (bytes : List ℕ) (d : DataParts) → read_data bytes ≡ Ok d → is_coherent d ≡ true
 
--- What is read is coherent.
+-- Data that is read is coherent.
 abbrev pub ReadIsCoherent : Type 0
 ReadIsCoherent = (bytes : List ℕ) (d : DataParts) → ReadsData bytes (Ok d) → is_coherent d ≡ true
 
--- What is written of coherent data is read as their normal form, whatever bytes follow.
+-- Coherent data, when written, is read as its normal form, whatever bytes follow.
 abbrev pub WrittenDataAreReadBack : Type 0
-WrittenDataAreReadBack = (d : DataParts) (rest : List ℕ) → IsData d → is_coherent d ≡ true → ReadsData (data_written d ++ rest) (Ok (normal_data d))
+WrittenDataAreReadBack = (d : DataParts) (rest : List ℕ) → IsData d → is_coherent d ≡ true
+    → ReadsData (data_written d ++ rest) (Ok (normal_data d))

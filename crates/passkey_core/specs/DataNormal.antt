@@ -1,4 +1,4 @@
--- What authenticator data are read back as.
+-- The normal form of authenticator data: what is read back after it is written.
 use Rattle.std.specs.Prelude.{◌≡◌, ◌<◌, ◌^◌, length, Option, Some, None, option_map, unwrap_or}
 use Rattle.passkey_cbor.specs.Writable.{IsWritable}
 use Rattle.passkey_cose.specs.KeyNormal.{normal_key, IsKey}
@@ -8,25 +8,28 @@ use Rattle.passkey_core.specs.DataParts.{AttestedParts, DataParts}
 abbrev pub normal_attested : AttestedParts → AttestedParts
 normal_attested a = record a { key = normal_key a.key }
 
--- no counter is read as 0
+-- an absent counter is read as 0
 abbrev pub normal_data : DataParts → DataParts
-normal_data d = record d { counter = Some (unwrap_or d.counter 0); attested = option_map normal_attested d.attested }
+normal_data d =
+    record d { counter = Some (unwrap_or d.counter 0); attested = option_map normal_attested d.attested }
 
--- The parts have the sizes that they are written in, no member of the key is bad, and CBOR can spell it.
+-- The AAGUID and the credential id have lengths that fit their encoding, no member of the key is bad, and CBOR
+-- can encode the key.
 pub record IsAttested (a : AttestedParts) : Type 0 where
   pub aaguid : length a.aaguid ≡ 16
   pub credential_id : length a.credential_id < 2 ^ 16
   pub key : IsKey a.key
   pub writable : IsWritable (key_item a.key)
 
--- what holds of what is there
-abbrev pub Where : {X : Type 0} → (X → Type 0) → Option X → Type 0
-Where Holds None = Unit {0}
-Where Holds (Some x) = Holds x
+-- the property holds if the part is present
+abbrev pub IfPresent : {X : Type 0} → (X → Type 0) → Option X → Type 0
+IfPresent Holds None = Unit {0}
+IfPresent Holds (Some x) = Holds x
 
--- The parts have the sizes that they are written in, the key is one that is read, and CBOR can spell it and the extensions.
+-- The hash and the counter fit their encoding, attested credential data is as above, and CBOR can encode the
+-- extensions.
 pub record IsData (d : DataParts) : Type 0 where
   pub rp_id_hash : length d.rp_id_hash ≡ 32
   pub counter : unwrap_or d.counter 0 < 2 ^ 32
-  pub attested : Where IsAttested d.attested
-  pub extensions : Where IsWritable d.extensions
+  pub attested : IfPresent IsAttested d.attested
+  pub extensions : IfPresent IsWritable d.extensions

@@ -1,4 +1,4 @@
--- What extensions answer in authenticator data (WebAuthn Level 3, section 9.2; CTAP 2.1, section 12.5).
+-- The extension outputs in authenticator data (WebAuthn Level 3, section 9.5; CTAP 2.1, section 12.5).
 use Rattle.std.specs.Prelude.{ℕ, List, [], ◌∷◌, ◌++◌, codes, if◌then◌else◌, ◌||◌, is_some, Bool, Option, Some, None, option_map}
 use Rattle.std.specs.Int.RustNames.{bit_or}
 use Rattle.passkey_cbor.specs.Item as item
@@ -9,7 +9,7 @@ use Rattle.passkey_core.specs.DataFlags.{extensions_flag}
 use Rattle.passkey_core.specs.declared.get_assertion.SignedExtensionOutputs as assertion
 use Rattle.passkey_core.specs.declared.make_credential.SignedExtensionOutputs as creation
 
--- the member of this name, where there is one
+-- the member with this name; none if the value is absent
 abbrev pub named : List ℕ → Option Item → Members
 named name None = []
 named name (Some x) = (let m : Item × Item = (text_string name, x) in m) ∷ []
@@ -21,12 +21,13 @@ abbrev pub hmac_secret_mc : List ℕ
 hmac_secret_mc = codes "hmac-secret-mc"
 
 abbrev pub creation_item : creation.SignedExtensionOutputs → Item
-creation_item o = item.map (pairs_of (named hmac_secret (option_map boolean o.hmac_secret) ++ named hmac_secret_mc (option_map byte_string o.hmac_secret_mc)))
+creation_item o = item.map (pairs_of (named hmac_secret (option_map boolean o.hmac_secret)
+    ++ named hmac_secret_mc (option_map byte_string o.hmac_secret_mc)))
 
 abbrev pub assertion_item : assertion.SignedExtensionOutputs → Item
 assertion_item o = item.map (pairs_of (named hmac_secret (option_map byte_string o.hmac_secret)))
 
--- a value that has a member
+-- the value if it has a member
 abbrev pub where_some : {X : Type 0} → Bool → X → Option X
 where_some has_member x = if has_member then Some x else None
 
@@ -36,7 +37,7 @@ has_creation_member o = is_some o.hmac_secret || is_some o.hmac_secret_mc
 abbrev pub has_assertion_member : assertion.SignedExtensionOutputs → Bool
 has_assertion_member o = is_some o.hmac_secret
 
--- the extensions of outputs that have a member
+-- the extension outputs as a map; `None` if no output is present
 abbrev pub creation_extensions : Option creation.SignedExtensionOutputs → Option Item
 creation_extensions None = None
 creation_extensions (Some o) = if has_creation_member o then Some (creation_item o) else None
@@ -45,7 +46,7 @@ abbrev pub assertion_extensions : Option assertion.SignedExtensionOutputs → Op
 assertion_extensions None = None
 assertion_extensions (Some o) = if has_assertion_member o then Some (assertion_item o) else None
 
--- the data with these extensions and ED set, or as they are
+-- the data with these extensions and the flag ED set; unchanged if there are none
 abbrev pub with_extensions : DataParts → Option Item → DataParts
 with_extensions d None = d
 with_extensions d (Some x) = record d { extensions = Some x; flags = bit_or d.flags extensions_flag }

@@ -61,17 +61,27 @@ ctap2_error_byte error.UnauthorizedPermission = 0x40
 ctap2_error_byte error.Other = 0x7F
 
 abbrev pub ctap2_errors : List Ctap2Error
-ctap2_errors = error.Ok ∷ error.InvalidCommand ∷ error.InvalidParameter ∷ error.InvalidLength ∷ error.InvalidSequence ∷ error.Timeout ∷ error.ChannelBusy ∷ error.LockRequired ∷ error.InvalidChannel ∷ error.CborUnexpectedType ∷ error.InvalidCbor ∷ error.MissingParameter ∷ error.LimitExceeded ∷ error.FingerprintDatabaseFull ∷ error.LargeBlobStorageFull ∷ error.CredentialExcluded ∷ error.Processing ∷ error.InvalidCredential ∷ error.UserActionPending ∷ error.OperationPending ∷ error.NoOperations ∷ error.UnsupportedAlgorithm ∷ error.OperationDenied ∷ error.KeyStoreFull ∷ error.UnsupportedOption ∷ error.InvalidOption ∷ error.KeepAliveCancel ∷ error.NoCredentials ∷ error.UserActionTimeout ∷ error.NotAllowed ∷ error.PinInvalid ∷ error.PinBlocked ∷ error.PinAuthInvalid ∷ error.PinAuthBlocked ∷ error.PinNotSet ∷ error.PuatRequired ∷ error.PinPolicyViolation ∷ error.RequestTooLarge ∷ error.ActionTimeout ∷ error.UserPresenceRequired ∷ error.UserVerificationBlocked ∷ error.IntegrityFailure ∷ error.InvalidSubcommand ∷ error.UserVerificationInvalid ∷ error.UnauthorizedPermission ∷ error.Other ∷ []
+ctap2_errors = error.Ok ∷ error.InvalidCommand ∷ error.InvalidParameter ∷ error.InvalidLength
+    ∷ error.InvalidSequence ∷ error.Timeout ∷ error.ChannelBusy ∷ error.LockRequired ∷ error.InvalidChannel
+    ∷ error.CborUnexpectedType ∷ error.InvalidCbor ∷ error.MissingParameter ∷ error.LimitExceeded
+    ∷ error.FingerprintDatabaseFull ∷ error.LargeBlobStorageFull ∷ error.CredentialExcluded ∷ error.Processing
+    ∷ error.InvalidCredential ∷ error.UserActionPending ∷ error.OperationPending ∷ error.NoOperations
+    ∷ error.UnsupportedAlgorithm ∷ error.OperationDenied ∷ error.KeyStoreFull ∷ error.UnsupportedOption
+    ∷ error.InvalidOption ∷ error.KeepAliveCancel ∷ error.NoCredentials ∷ error.UserActionTimeout ∷ error.NotAllowed
+    ∷ error.PinInvalid ∷ error.PinBlocked ∷ error.PinAuthInvalid ∷ error.PinAuthBlocked ∷ error.PinNotSet
+    ∷ error.PuatRequired ∷ error.PinPolicyViolation ∷ error.RequestTooLarge ∷ error.ActionTimeout
+    ∷ error.UserPresenceRequired ∷ error.UserVerificationBlocked ∷ error.IntegrityFailure ∷ error.InvalidSubcommand
+    ∷ error.UserVerificationInvalid ∷ error.UnauthorizedPermission ∷ error.Other ∷ []
 
--- the status with this byte, where it has a name
+-- the named status with this byte, if there is one
 abbrev pub ctap2_error : ℕ → Option Ctap2Error
 ctap2_error = numbered nat_eq ctap2_error_byte ctap2_errors
 
--- the byte as a code of these ranges, where it is in one of them
+-- the byte, if it is in one of these ranges
 abbrev pub code_in : List (ℕ × ℕ) → ℕ → Option ℕ
 code_in ranges byte = if is_in ranges byte then Some byte else None
 
--- every status that a byte has: one by its name, or one of a class
+-- all statuses of a byte: a named one, or one of a class
 abbrev pub statuses : ℕ → List StatusCode
 statuses byte =
     option_to_list (option_map status.Known (ctap2_error byte))
@@ -85,16 +95,16 @@ status_byte (status.Other byte) = byte
 status_byte (status.Extension byte) = byte
 status_byte (status.Vendor byte) = byte
 
--- the byte has this status and no other, and the status this byte
+-- this is the only status of the byte, and the status has this byte
 abbrev pub IsStatus : ℕ → StatusCode → Type 0
 IsStatus byte code = (statuses byte ≡ code ∷ []) × (status_byte code ≡ byte)
 
--- what the conversion of a byte answers: the code, or the byte where it has none
+-- the result of converting a byte: the code, or else the byte itself
 abbrev pub Converts : {T : Type 0} → (ℕ → Option T) → ℕ → Result T (CodeOutOfRange ℕ) → Type 0
 Converts code_of byte (Ok code) = code_of byte ≡ Some code
 Converts code_of byte (Err fault) = (code_of byte ≡ None) × (fault.0 ≡ byte)
 
--- what is told of a key that was not converted
+-- the status for a key that could not be converted
 abbrev pub ctap2_error_of : CoseKeyConversionError → Ctap2Error
 ctap2_error_of reason.UnsupportedAlgorithm = error.UnsupportedAlgorithm
 ctap2_error_of reason.InvalidCredential = error.InvalidCredential

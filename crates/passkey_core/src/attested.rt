@@ -20,8 +20,8 @@ pub use data::AttestedCredentialData;
 pub use iter::AttestedCredentialDataIterator;
 
 impl AttestedCredentialData {
-    /// Attested credential data with these parts. `TryFromIntError` exactly if the credential id
-    /// has more than 65535 bytes, since its length is encoded in two. (Relying parties should
+    /// Returns attested credential data with these parts. `TryFromIntError` if the credential id
+    /// has more than 65535 bytes, since its length is encoded in two bytes. (Relying parties should
     /// reject more than 1023: WebAuthn Level 3, section 7.1.)
     pub fn new(
         aaguid: Aaguid,
@@ -29,7 +29,8 @@ impl AttestedCredentialData {
         key: CoseKey,
     ) -> Result<AttestedCredentialData, TryFromIntError>
         ensures range { IsOk result ↔ (length credential_id.items < 2 ^ 16) }
-        ensures value { IfOk result (λ made. attested_parts made ≡ record { aaguid = aaguid.0; credential_id = credential_id.items; key = key_parts key }) }
+        ensures value { IfOk result (λ made. attested_parts made
+            ≡ record { aaguid = aaguid.0; credential_id = credential_id.items; key = key_parts key }) }
     {
         u16::try_from(credential_id.len())?;
         Ok(AttestedCredentialData {
@@ -47,11 +48,12 @@ impl AttestedCredentialData {
         self.credential_id.as_slice()
     }
 
-    /// Returns equal data. `OutOfMemory` if an allocation fails, which can't happen if the id is
-    /// empty and the key takes no memory.
+    /// Returns equal data. `OutOfMemory` if an allocation fails, which can't happen if the
+    /// credential id is empty and the key takes no memory.
     pub fn try_clone(&self, alloc: Global) -> Result<AttestedCredentialData, OutOfMemory>
         ensures same { IfOk result (λ copy. attested_parts copy ≡ attested_parts self.now) }
-        ensures grows { OnErr result ((0 < length (attested_parts self.now).credential_id) ⊎ TakesMemory (attested_parts self.now).key) }
+        ensures grows { OnErr result
+            ((0 < length (attested_parts self.now).credential_id) ⊎ TakesMemory (attested_parts self.now).key) }
     {
         let mut credential_id = Vec::new(alloc);
         credential_id.extend_from_slice(&self.credential_id)?;

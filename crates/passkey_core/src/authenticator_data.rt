@@ -27,16 +27,16 @@ pub struct AuthenticatorData {
     /// The signature counter. `None` means that the authenticator keeps none, and is encoded as 0.
     /// Decoding never returns `None`.
     pub counter: Option<u32>,
-    /// The new credential; `None` means the part is absent, as it is at an assertion.
+    /// The new credential; `None` means the part is absent, as in an assertion.
     pub attested_credential_data: Option<AttestedCredentialData>,
     /// The extension outputs: a map from extension identifiers; `None` means the part is absent.
-    /// Another item is encoded as it is, but then the data aren't coherent.
+    /// Another data item is encoded as it is, but then the data isn't coherent.
     pub extensions: Option<Value>,
 }
 
 impl AuthenticatorData {
-    /// Authenticator data for this relying party id, of which it holds the SHA-256 hash, with the
-    /// flags BE and BS and without further parts.
+    /// Returns authenticator data for this relying party id, of which it holds the SHA-256 hash,
+    /// with the flags BE and BS and without other parts.
     pub fn new(rp_id: &str, counter: Option<u32>) -> AuthenticatorData
         ensures { data_parts result ≡ bare_data (sha256 rp_id.now) 24 counter }
     {
@@ -49,8 +49,8 @@ impl AuthenticatorData {
         }
     }
 
-    /// Authenticator data with a hash of 32 zero bytes, the flags BE and BS, no counter and no
-    /// further parts.
+    /// Returns authenticator data with a hash of 32 zero bytes, the flags BE and BS, no counter and
+    /// no other parts.
     pub fn empty() -> AuthenticatorData
         ensures { data_parts result ≡ bare_data (replicate 32 0) 24 None }
     {
@@ -70,7 +70,7 @@ impl AuthenticatorData {
         &self.rp_id_hash
     }
 
-    /// The data with these flags set in addition.
+    /// Returns the data with these flags set in addition to its own.
     pub fn set_flags(mut self, flags: Flags) -> AuthenticatorData
         ensures { data_parts result ≡ record (data_parts self) { flags = bit_or self.flags.0 flags.0 } }
     {
@@ -78,12 +78,13 @@ impl AuthenticatorData {
         self
     }
 
-    /// The data with this attested credential data, and the flag AT set.
+    /// Returns the data with this attested credential data, and with the flag AT set.
     pub fn set_attested_credential_data(
         mut self,
         attested: AttestedCredentialData,
     ) -> AuthenticatorData
-        ensures { data_parts result ≡ record (data_parts self) { attested = Some (attested_parts attested); flags = bit_or self.flags.0 attested_flag } }
+        ensures { data_parts result ≡ record (data_parts self)
+            { attested = Some (attested_parts attested); flags = bit_or self.flags.0 attested_flag } }
     {
         self.attested_credential_data = Some(attested);
         self.set_flags(Flags::AT)

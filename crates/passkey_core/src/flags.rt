@@ -8,8 +8,8 @@ use std::ops::{
     BitAnd, BitAndAssign, BitOr, BitOrAssign, BitXor, BitXorAssign, Not, Sub, SubAssign,
 };
 
-/// The flags of authenticator data, one byte. Bits 1 and 5 are reserved. They are set only in a
-/// value that `from_bits_retain` of `bitflags::Flags` made (WebAuthn Level 3, section 6.1).
+/// The flags of authenticator data, one byte. The reserved bits 1 and 5 are set only in a value
+/// from `from_bits_retain` of `bitflags::Flags` (WebAuthn Level 3, section 6.1).
 #[derive(Clone, Copy, Debug, PartialEq, Eq)]
 pub struct Flags(u8);
 
@@ -143,7 +143,7 @@ impl Sub for Flags {
 
     ghost sub_gives = { λ a b left. left.0 ≡ bit_and a.0 (255 - b.0) };
 
-    /// The bits of this value that the other one lacks.
+    /// The bits of this value that aren't set in the other one.
     fn sub(self, other: Flags) -> Flags {
         Flags(self.0 & !other.0)
     }
@@ -162,7 +162,7 @@ impl Not for Flags {
 
     ghost not_gives = { λ a lacking. lacking.0 ≡ bit_and (255 - a.0) known_flags };
 
-    /// The flags that aren't set, without reserved bits.
+    /// The flags that aren't set; reserved bits are left out.
     fn not(self) -> Flags {
         Flags(!self.0 & Flags::KNOWN)
     }
@@ -190,7 +190,7 @@ impl TryFrom<u8> for Flags {
 
     ghost try_from_gives = { λ byte flags. (IsOk flags ↔ (bit_and byte reserved_flags ≡ 0)) × IfOk flags (λ made. made.0 ≡ byte) };
 
-    /// The flags of a byte; `()` exactly if bit 1 or 5 is set.
+    /// The flags in a byte; `Err(())` if bit 1 or 5 is set.
     fn try_from(byte: u8) -> Result<Flags, ()> {
         if byte & !Flags::KNOWN == 0 {
             Ok(Flags(byte))

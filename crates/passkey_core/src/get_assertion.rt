@@ -9,7 +9,7 @@ use passkey_cbor::Value;
 use passkey_memory::OutOfMemory;
 use std::alloc::Global;
 
-/// Extension outputs in the authenticator data of an assertion (WebAuthn Level 3, section 9.2).
+/// Extension outputs in the authenticator data of an assertion (WebAuthn Level 3, section 9.5).
 #[derive(Debug, Drop)]
 pub struct SignedExtensionOutputs {
     /// `hmac-secret`: the encrypted outputs; `None` means the member is absent.

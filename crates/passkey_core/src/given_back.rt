@@ -1,10 +1,10 @@
-//! Values that come back if memory runs out.
+//! Values that are returned if memory runs out.
 
 use passkey_cose::CoseError;
 use passkey_memory::OutOfMemory;
 use thiserror::Error;
 
-/// An allocation failed; the value that the call would have consumed comes back unchanged.
+/// An allocation failed; the value that the call would have consumed is returned unchanged.
 #[derive(Debug, Drop, Error)]
 #[error("OutOfMemory")]
 pub struct GivenBack<T> {

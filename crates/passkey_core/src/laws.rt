@@ -1,28 +1,29 @@
 //! Laws about authenticator data, each the contract of a function that does nothing.
 ghost use Rattle.passkey_core.specs.DataLaws.{OneReading, GivenIsRead, ReadIsGiven, GivenIsCoherent, ReadIsCoherent, WrittenDataAreReadBack};
 
-/// Bytes decode to one result: these data, or this error (WebAuthn Level 3, section 6.1).
+/// Bytes decode to only one result: certain data, or a certain error (WebAuthn Level 3, section
+/// 6.1).
 pub fn one_reading()
     ensures { OneReading }
 {
-    passkey_cbor::laws::at_most_one_front();
+    passkey_cbor::laws::at_most_one_leading_item();
 }
 
-/// What `read_data` gives for bytes, data or an error, is what they decode to.
+/// What `read_data` returns for bytes, data or an error, is what they decode to.
 pub fn given_is_read()
     ensures { GivenIsRead }
 {
-    passkey_cbor::laws::given_is_front();
+    passkey_cbor::laws::found_is_leading_item();
 }
 
-/// What bytes decode to is what `read_data` gives for them.
+/// If bytes decode to data, `read_data` returns it.
 pub fn read_is_given()
     ensures { ReadIsGiven }
 {
-    passkey_cbor::laws::front_is_given();
+    passkey_cbor::laws::leading_item_is_found();
 }
 
-/// What `read_data` gives for any list of numbers is coherent.
+/// Data that `read_data` returns for any list of numbers is coherent.
 pub fn given_data_are_coherent()
     ensures { GivenIsCoherent }
 {
@@ -30,7 +31,7 @@ pub fn given_data_are_coherent()
     passkey_cose::laws::read_key_is_readable();
 }
 
-/// Decoded data are coherent.
+/// Decoded data is coherent.
 pub fn read_data_is_coherent()
     ensures { ReadIsCoherent }
 {
@@ -38,11 +39,11 @@ pub fn read_data_is_coherent()
     given_data_are_coherent();
 }
 
-/// The encoding of coherent data decodes to these data, whatever bytes follow, with 0 for an absent
+/// The encoding of coherent data decodes to this data, whatever bytes follow, with 0 for an absent
 /// counter, and with assigned numbers in the key as the registry's values.
 pub fn written_data_are_read_back()
     ensures { WrittenDataAreReadBack }
 {
-    passkey_cbor::laws::written_is_front();
+    passkey_cbor::laws::written_is_leading_item();
     passkey_cose::laws::written_key_is_read_back();
 }

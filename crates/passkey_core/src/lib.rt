@@ -1,6 +1,6 @@
-//! What messages are made of: byte strings, texts, lists, maps, COSE keys (RFC 9052, section 7),
-//! authenticator data and attested credential data (WebAuthn Level 3, sections 6.1 and 6.5.1), and
-//! CTAP2's status codes and commands.
+//! The parts of WebAuthn and CTAP2 messages: byte strings, texts, lists, maps, COSE keys (RFC 9052,
+//! section 7), authenticator data and attested credential data (WebAuthn Level 3, sections 6.1 and
+//! 6.5.1), and CTAP2's status codes and commands.
 #![tactic(auto)]
 
 mod aaguid;

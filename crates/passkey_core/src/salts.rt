@@ -1,11 +1,11 @@
-//! The salts of the extension hmac-secret (CTAP 2.1, section 12.5).
+//! The salts of the hmac-secret extension (CTAP 2.1, section 12.5).
 ghost use Rattle.std.specs.Prelude.{◌≡◌, option_map, take};
 ghost use Rattle.passkey_core.specs.Salts.{AreSalts, JoinsSalts, ReadsSalt, ReadsSalts, salts_of, second_salt};
 
 use std::marker::Model;
 use thiserror::Error;
 
-/// One or two salts of 32 bytes: inputs of the extension hmac-secret, or its outputs for them (CTAP
+/// One or two salts of 32 bytes: inputs of the hmac-secret extension, or its outputs for them (CTAP
 /// 2.1, section 12.5).
 #[derive(Debug, Clone, Drop)]
 pub struct HmacSecretSaltOrOutput(Salts);
@@ -44,7 +44,7 @@ impl HmacSecretSaltOrOutput {
         }
     }
 
-    /// One or two salts from slices. `TryFromSliceError` exactly if one of them hasn't 32 bytes.
+    /// One or two salts from slices. `TryFromSliceError` if one of them doesn't have 32 bytes.
     pub fn try_new(
         first: &[u8],
         second: Option<&[u8]>,
@@ -58,7 +58,7 @@ impl HmacSecretSaltOrOutput {
         }
     }
 
-    /// The salts one after the other: 32 bytes or 64.
+    /// The salts, one after the other: 32 or 64 bytes.
     pub fn as_slice(&self) -> &[u8]
         ensures value { result.now ≡ self.now }
         ensures length { AreSalts self.now }
@@ -88,7 +88,7 @@ impl HmacSecretSaltOrOutput {
     }
 }
 
-/// A salt of 32 bytes.
+/// A salt of 32 bytes; an error for any other length.
 fn salt(bytes: &[u8]) -> Result<[u8; 32], TryFromSliceError>
     ensures { ReadsSalt bytes.now result }
 {
@@ -131,7 +131,7 @@ impl TryFrom<&[u8]> for HmacSecretSaltOrOutput {
     }
 }
 
-/// A slice hasn't the length of a salt, or of one or two salts.
+/// A slice doesn't have the length of a salt, or of one or two salts.
 #[derive(Clone, Copy, Debug, Error, PartialEq, Eq)]
 #[error("TryFromSliceError")]
 pub struct TryFromSliceError;

@@ -9,7 +9,7 @@ use passkey_cbor::Value;
 use passkey_memory::OutOfMemory;
 use std::alloc::Global;
 
-/// The bytes as an item, if present.
+/// The bytes as a data item, if present.
 pub(crate) fn bytes_value(
     alloc: Global,
     bytes: &Option<Bytes>,
@@ -23,14 +23,15 @@ pub(crate) fn bytes_value(
     }
 }
 
-/// Adds the member after the others, if present.
+/// Appends the output as a member with this name, if present.
 pub(crate) fn push_output(
     alloc: Global,
     outputs: &mut Vec<(Value, Value)>,
     name: &str,
     output: Option<Value>,
 ) -> Result<(), OutOfMemory>
-    ensures pushed { OnOk result (map pair_of outputs.new.items ≡ map pair_of outputs.old.items ++ named name.now (option_map item_of output)) }
+    ensures pushed { OnOk result (map pair_of outputs.new.items
+        ≡ map pair_of outputs.old.items ++ named name.now (option_map item_of output)) }
     ensures grows { OnErr result (IsSome output) }
 {
     if let Some(output) = output {

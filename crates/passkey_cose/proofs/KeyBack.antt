@@ -1,4 +1,4 @@
--- What is written of a key is read as it, but for numbers that the registries assign.
+-- A key, when written, is read back with assigned numbers as the registries' values.
 use Rattle.std.specs.List.{filter_map, cons_option}
 use Rattle.std.specs.Option.{option_and_then}
 use Rattle.std.specs.Result.{result_map_both}
@@ -28,22 +28,30 @@ use Rattle.passkey_cose.proofs.KeySorted.{sorted, under_1, under_2, under_3, und
 
 -- ---- names
 
-number_back : {T : Type 0} (number_of : T → ℤ) (named : ℤ → Option T) → NumbersName number_of named → (a : T) → assigned_or_other (number_of a) (named (number_of a)) ≡ assigned a
+number_back : {T : Type 0} (number_of : T → ℤ) (named : ℤ → Option T) → NumbersName number_of named → (a : T)
+    → assigned_or_other (number_of a) (named (number_of a)) ≡ assigned a
 number_back {T = T} number_of named law a = ap (assigned_or_other (number_of a)) ((law (number_of a) a).1 refl)
 
-signed_back : {T : Type 0} (named : ℤ → Option T) (z : ℤ) → name_fault (number z) ≡ None → name_in named (number z) ≡ Some (assigned_or_other z (named z))
+signed_back : {T : Type 0} (named : ℤ → Option T) (z : ℤ) → name_fault (number z) ≡ None
+    → name_in named (number z) ≡ Some (assigned_or_other z (named z))
 signed_back named z e =
-    (elim (is_signed_64 z) as (λ (b : Bool). (if b then None else Some OutOfRangeIntegerValue) ≡ None → (if b then Some (assigned_or_other z (named z)) else None) ≡ Some (assigned_or_other z (named z))) [
+    (elim (is_signed_64 z) as (λ (b : Bool). (if b then None else Some OutOfRangeIntegerValue) ≡ None
+    → (if b then Some (assigned_or_other z (named z)) else None) ≡ Some (assigned_or_other z (named z))) [
       | true ↦ λ h. refl
       | false ↦ λ h. cc
     ]) e
 
-name_back : {T : Type 0} (number_of : T → ℤ) (named : ℤ → Option T) → NumbersName number_of named → (x : Named T) → name_fault (named_item number_of x) ≡ None → name_in named (named_item number_of x) ≡ Some (normal_named named x)
-name_back number_of named law (assigned a) e = signed_back named (number_of a) e ∙ ap Some (number_back number_of named law a)
+name_back : {T : Type 0} (number_of : T → ℤ) (named : ℤ → Option T) → NumbersName number_of named → (x : Named T)
+    → name_fault (named_item number_of x) ≡ None
+    → name_in named (named_item number_of x) ≡ Some (normal_named named x)
+name_back number_of named law (assigned a) e =
+    signed_back named (number_of a) e ∙ ap Some (number_back number_of named law a)
 name_back number_of named law (other z) e = signed_back named z e
 name_back number_of named law (text s) e = refl
 
-names_back : {T : Type 0} (number_of : T → ℤ) (named : ℤ → Option T) → NumbersName number_of named → (o : Option (Named T)) → IsGoodName (option_map (named_item number_of) o) → option_and_then (name_in named) (option_map (named_item number_of) o) ≡ option_map (normal_named named) o
+names_back : {T : Type 0} (number_of : T → ℤ) (named : ℤ → Option T) → NumbersName number_of named
+    → (o : Option (Named T)) → IsGoodName (option_map (named_item number_of) o)
+    → option_and_then (name_in named) (option_map (named_item number_of) o) ≡ option_map (normal_named named) o
 names_back number_of named law None e = refl
 names_back number_of named law (Some x) e = name_back number_of named law x e
 
@@ -53,27 +61,34 @@ strings_back (Some s) = refl
 
 -- ---- operations
 
-each_op_back : (earlier : List Item) (os : List (Named KeyOperation)) → first_op_fault earlier (map op_item os) ≡ None → filter_map (name_in key_operation_named) (map op_item os) ≡ map (normal_named key_operation_named) os
+each_op_back : (earlier : List Item) (os : List (Named KeyOperation)) → first_op_fault earlier (map op_item os)
+    ≡ None → filter_map (name_in key_operation_named) (map op_item os) ≡ map (normal_named key_operation_named) os
 each_op_back earlier [] e = refl
 each_op_back earlier (o ∷ os) e =
-    let parts = none_either (op_fault earlier (op_item o)) (first_op_fault (earlier ++ op_item o ∷ []) (map op_item os)) e in
+    let parts = none_either (op_fault earlier (op_item o))
+    (first_op_fault (earlier ++ op_item o ∷ []) (map op_item os)) e in
     let name = none_either (name_fault (op_item o)) _ parts.0 in
-    let here : name_in key_operation_named (op_item o) ≡ Some (normal_named key_operation_named o) = name_back key_operation_number key_operation_named key_operation_named-number o name.0 in
+    let here : name_in key_operation_named (op_item o) ≡ Some (normal_named key_operation_named o) =
+    name_back key_operation_number key_operation_named key_operation_named-number o name.0 in
     let behind = each_op_back (earlier ++ op_item o ∷ []) os parts.1 in
     λ i. cons_option (here i) (behind i)
 
-ops_back : (os : List (Named KeyOperation)) → AreGoodOps (ops_item os) → unwrap_or (option_map ops_in (ops_item os)) [] ≡ map (normal_named key_operation_named) os
+ops_back : (os : List (Named KeyOperation)) → AreGoodOps (ops_item os)
+    → unwrap_or (option_map ops_in (ops_item os)) [] ≡ map (normal_named key_operation_named) os
 ops_back [] e = refl
 ops_back (o ∷ os) e =
     let some : 0 < length (map op_item (o ∷ os)) = omega arith in
-    let good : first_op_fault [] (map op_item (o ∷ os)) ≡ None = sym (ops_fault-array (map op_item (o ∷ os)) some) ∙ e in
+    let good : first_op_fault [] (map op_item (o ∷ os)) ≡ None =
+    sym (ops_fault-array (map op_item (o ∷ os)) some) ∙ e in
     ops_in-array (map op_item (o ∷ os)) ∙ each_op_back [] (o ∷ os) good
 
 -- ---- the type
 
-other_type : (z : ℤ) → is_reserved (other z) ≡ false → key_type (Some (normal_named key_type_named (other z))) ≡ Ok (normal_named key_type_named (other z))
+other_type : (z : ℤ) → is_reserved (other z) ≡ false
+    → key_type (Some (normal_named key_type_named (other z))) ≡ Ok (normal_named key_type_named (other z))
 other_type z e =
-    (elim (key_type_named z) as (λ (o : Option KeyType). key_type_named z ≡ o → key_type (Some (assigned_or_other z o)) ≡ Ok (assigned_or_other z o)) [
+    (elim (key_type_named z) as (λ (o : Option KeyType). key_type_named z ≡ o
+    → key_type (Some (assigned_or_other z o)) ≡ Ok (assigned_or_other z o)) [
       | None ↦ λ h. refl
       | Some t ↦ λ h. given_type t h
     ]) refl
@@ -81,14 +96,16 @@ other_type z e =
     given_type : (t : KeyType) → key_type_named z ≡ Some t → key_type (Some (assigned t)) ≡ Ok (assigned t)
     given_type Reserved h =
         let same : pos 0 ≡ z = (key_type_named-number z Reserved).0 h in
-        let never : is_reserved (other (pos 0)) ≡ false = subst (λ (w : ℤ). is_reserved (other w) ≡ false) (sym same) e in
+        let never : is_reserved (other (pos 0)) ≡ false =
+        subst (λ (w : ℤ). is_reserved (other w) ≡ false) (sym same) e in
         absurd (true≢false never)
     given_type OKP h = refl
     given_type EC2 h = refl
     given_type RSA h = refl
     given_type Symmetric h = refl
 
-type_back : (kty : Named KeyType) → is_reserved kty ≡ false → key_type (Some (normal_named key_type_named kty)) ≡ Ok (normal_named key_type_named kty)
+type_back : (kty : Named KeyType) → is_reserved kty ≡ false
+    → key_type (Some (normal_named key_type_named kty)) ≡ Ok (normal_named key_type_named kty)
 type_back (assigned Reserved) e = cc
 type_back (assigned OKP) e = refl
 type_back (assigned EC2) e = refl
@@ -117,13 +134,39 @@ key_back k valid typed =
     let good_1 : IsGoodName a = subst IsGoodName at_1 (under_good 1 [] ms valid.good) in
     let good_3 : IsGoodName c = subst IsGoodName at_3 (under_good 3 [] ms valid.good) in
     let good_4 : AreGoodOps d = subst AreGoodOps at_4 (under_good 4 [] ms valid.good) in
-    let types : option_and_then (name_in key_type_named) (under 1 ms) ≡ Some (normal_named key_type_named k.kty) = ap (option_and_then (name_in key_type_named)) at_1 ∙ name_back key_type_number key_type_named key_type_named-number k.kty good_1 in
-    let ids : option_and_then bytes_in (under 2 ms) ≡ k.key_id = ap (option_and_then bytes_in) at_2 ∙ strings_back k.key_id in
-    let algs : option_and_then (name_in algorithm_named) (under 3 ms) ≡ option_map (normal_named algorithm_named) k.alg = ap (option_and_then (name_in algorithm_named)) at_3 ∙ names_back algorithm_number algorithm_named algorithm_named-number k.alg good_3 in
-    let ops : unwrap_or (option_map ops_in (under 4 ms)) [] ≡ map (normal_named key_operation_named) k.key_ops = ap (λ o. unwrap_or (option_map ops_in o) []) at_4 ∙ ops_back k.key_ops good_4 in
-    let ivs : option_and_then bytes_in (under 5 ms) ≡ k.base_iv = ap (option_and_then bytes_in) at_5 ∙ strings_back k.base_iv in
-    let others : further ms ≡ k.params = ap further same ∙ further_sorted a b c d e k.params ∙ further_own k.params valid.separate in
-    let made : Named KeyType → KeyParts = λ kty. record { kty = kty; key_id = k.key_id; alg = option_map (normal_named algorithm_named) k.alg; key_ops = map (normal_named key_operation_named) k.key_ops; base_iv = k.base_iv; params = k.params } in
-    let read : judged ms None ≡ result_map_both made (λ (f : CoseError). f) (key_type (Some (normal_named key_type_named k.kty))) =
-    λ i. result_map_both (λ (kty : Named KeyType). (let l : KeyParts = record { kty = kty; key_id = ids i; alg = algs i; key_ops = ops i; base_iv = ivs i; params = others i } in l)) (λ (f : CoseError). f) (key_type (types i)) in
-    read_key-map ms ∙ ap (judged ms) valid.good ∙ read ∙ ap (result_map_both made (λ (f : CoseError). f)) (type_back k.kty typed)
+    let types : option_and_then (name_in key_type_named) (under 1 ms) ≡ Some (normal_named key_type_named k.kty) =
+    ap (option_and_then (name_in key_type_named)) at_1
+    ∙ name_back key_type_number key_type_named key_type_named-number k.kty good_1 in
+    let ids : option_and_then bytes_in (under 2 ms) ≡ k.key_id =
+    ap (option_and_then bytes_in) at_2 ∙ strings_back k.key_id in
+    let algs : option_and_then (name_in algorithm_named) (under 3 ms)
+    ≡ option_map (normal_named algorithm_named) k.alg = ap (option_and_then (name_in algorithm_named)) at_3
+    ∙ names_back algorithm_number algorithm_named algorithm_named-number k.alg good_3 in
+    let ops : unwrap_or (option_map ops_in (under 4 ms)) [] ≡ map (normal_named key_operation_named) k.key_ops =
+    ap (λ o. unwrap_or (option_map ops_in o) []) at_4 ∙ ops_back k.key_ops good_4 in
+    let ivs : option_and_then bytes_in (under 5 ms) ≡ k.base_iv =
+    ap (option_and_then bytes_in) at_5 ∙ strings_back k.base_iv in
+    let others : further ms ≡ k.params =
+    ap further same ∙ further_sorted a b c d e k.params ∙ further_own k.params valid.separate in
+    let made : Named KeyType → KeyParts =
+    λ kty. record {
+      kty = kty;
+      key_id = k.key_id;
+      alg = option_map (normal_named algorithm_named) k.alg;
+      key_ops = map (normal_named key_operation_named) k.key_ops;
+      base_iv = k.base_iv;
+      params = k.params;
+    } in
+    let read : judged ms None
+    ≡ result_map_both made (λ (f : CoseError). f) (key_type (Some (normal_named key_type_named k.kty))) =
+    λ i. result_map_both (λ (kty : Named KeyType). (let l : KeyParts = record {
+      kty = kty;
+      key_id = ids i;
+      alg = algs i;
+      key_ops = ops i;
+      base_iv = ivs i;
+      params = others i;
+    } in l)) (λ (f : CoseError). f)
+    (key_type (types i)) in
+    read_key-map ms ∙ ap (judged ms) valid.good ∙ read
+    ∙ ap (result_map_both made (λ (f : CoseError). f)) (type_back k.kty typed)

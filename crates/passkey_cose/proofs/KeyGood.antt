@@ -1,4 +1,4 @@
--- A key whose written members are good stays one where a part of it changes.
+-- If no written member of a key is bad, none is after a part of it changes.
 use Rattle.std.specs.List.{list_any}
 use Rattle.std.proofs.Common.{◌≡◌, ◌∙◌, ◌<◌, arith, length, ℕ, true, false, ◌||◌, List, [], ◌∷◌, ◌++◌, map, Some, None, option_map, refl, sym, ap, subst}
 use Rattle.std.proofs.lemmas.Bool.{or_parts, or_from}
@@ -54,9 +54,11 @@ parts_good k valid =
 further_of : (k : KeyParts) → are_separate k.params ≡ true → further (key_members k) ≡ k.params
 unfolding members_of
 further_of k separate =
-    ap further (members_sorted k separate) ∙ further_sorted (Some (named_item key_type_number k.kty)) (option_map byte_string k.key_id) (option_map (named_item algorithm_number) k.alg) (ops_item k.key_ops) (option_map byte_string k.base_iv) k.params ∙ further_own k.params separate
+    ap further (members_sorted k separate) ∙ further_sorted (Some (named_item key_type_number k.kty))
+    (option_map byte_string k.key_id) (option_map (named_item algorithm_number) k.alg) (ops_item k.key_ops)
+    (option_map byte_string k.base_iv) k.params ∙ further_own k.params separate
 
--- the further parameters are the same, and the common ones are good
+-- if the further parameters are unchanged and the common ones are good, no member is bad
 good_again : (k l : KeyParts) → IsKey k → l.params ≡ k.params → AreGood l → first_fault [] (key_members l) ≡ None
 unfolding members_of
 good_again k l valid params good =
@@ -68,30 +70,38 @@ good_again k l valid params good =
     let e = option_map byte_string l.base_iv in
     let own : further ms ≡ k.params = further_of k valid.separate in
     let separate : are_separate (further ms) ≡ true = ap are_separate own ∙ valid.separate in
-    let all : first_fault [] (sorted a b c d e ms) ≡ None = sorted_good a b c d e ms good.kty good.key_id good.alg good.key_ops good.base_iv valid.good separate in
+    let all : first_fault [] (sorted a b c d e ms) ≡ None =
+    sorted_good a b c d e ms good.kty good.key_id good.alg good.key_ops good.base_iv valid.good separate in
     let kept : are_separate l.params ≡ true = ap are_separate params ∙ valid.separate in
     let others : further l.params ≡ further ms = further_own l.params kept ∙ params ∙ sym own in
-    let same : key_members l ≡ sorted a b c d e ms = members_sorted l kept ∙ ap (λ (ps : Members). member 1 a ++ (member 2 b ++ (member 3 c ++ (member 4 d ++ (member 5 e ++ ps))))) others in
+    let same : key_members l ≡ sorted a b c d e ms = members_sorted l kept ∙ ap (λ (ps : Members). member 1 a
+    ++ (member 2 b ++ (member 3 c ++ (member 4 d ++ (member 5 e ++ ps))))) others in
     ap (first_fault []) same ∙ all
 
-pub good_algorithm : (k : KeyParts) (alg : Named Algorithm) → IsKey k → name_fault (named_item algorithm_number alg) ≡ None → first_fault [] (key_members (record k { alg = Some alg })) ≡ None
+pub good_algorithm : (k : KeyParts) (alg : Named Algorithm) → IsKey k → name_fault (named_item algorithm_number alg)
+    ≡ None → first_fault [] (key_members (record k { alg = Some alg })) ≡ None
 good_algorithm k alg valid good =
     let g = parts_good k valid in
-    good_again k (record k { alg = Some alg }) valid refl (record { kty = g.kty; key_id = g.key_id; alg = good; key_ops = g.key_ops; base_iv = g.base_iv })
+    good_again k (record k { alg = Some alg }) valid refl
+    (record { kty = g.kty; key_id = g.key_id; alg = good; key_ops = g.key_ops; base_iv = g.base_iv })
 
-pub good_name : (k : KeyParts) (id : List ℕ) → IsKey k → string_fault id ≡ None → first_fault [] (key_members (record k { key_id = Some id })) ≡ None
+pub good_name : (k : KeyParts) (id : List ℕ) → IsKey k → string_fault id ≡ None
+    → first_fault [] (key_members (record k { key_id = Some id })) ≡ None
 good_name k id valid good =
     let g = parts_good k valid in
-    good_again k (record k { key_id = Some id }) valid refl (record { kty = g.kty; key_id = good; alg = g.alg; key_ops = g.key_ops; base_iv = g.base_iv })
+    good_again k (record k { key_id = Some id }) valid refl
+    (record { kty = g.kty; key_id = good; alg = g.alg; key_ops = g.key_ops; base_iv = g.base_iv })
 
-pub good_iv : (k : KeyParts) (iv : List ℕ) → IsKey k → string_fault iv ≡ None → first_fault [] (key_members (record k { base_iv = Some iv })) ≡ None
+pub good_iv : (k : KeyParts) (iv : List ℕ) → IsKey k → string_fault iv ≡ None
+    → first_fault [] (key_members (record k { base_iv = Some iv })) ≡ None
 good_iv k iv valid good =
     let g = parts_good k valid in
-    good_again k (record k { base_iv = Some iv }) valid refl (record { kty = g.kty; key_id = g.key_id; alg = g.alg; key_ops = g.key_ops; base_iv = good })
+    good_again k (record k { base_iv = Some iv }) valid refl
+    (record { kty = g.kty; key_id = g.key_id; alg = g.alg; key_ops = g.key_ops; base_iv = good })
 
 -- ---- operations
 
--- each is a name, and none stands before
+-- each is a name, and doesn't occur before
 abbrev AreFresh : List Item → List Item → Type 0
 AreFresh earlier [] = Unit {0}
 AreFresh earlier (x ∷ xs) = (name_fault x ≡ None) × (list_any (item_eq x) earlier ≡ false) × AreFresh earlier xs
@@ -100,37 +110,46 @@ fresh : (xs : List Item) → AreNames xs → AreFresh [] xs
 fresh [] names = tt
 fresh (x ∷ xs) names = (names.0, refl, fresh xs names.1)
 
-any_push : (earlier : List Item) (x y : Item) → list_any (item_eq y) earlier ≡ false → item_eq y x ≡ false → list_any (item_eq y) (earlier ++ x ∷ []) ≡ false
+any_push : (earlier : List Item) (x y : Item) → list_any (item_eq y) earlier ≡ false → item_eq y x ≡ false
+    → list_any (item_eq y) (earlier ++ x ∷ []) ≡ false
 any_push earlier x y old new =
-    list_any-append (item_eq y) earlier (x ∷ []) ∙ or_from (list_any (item_eq y) earlier) (item_eq y x || false) old (or_from (item_eq y x) false new refl)
+    list_any-append (item_eq y) earlier (x ∷ [])
+    ∙ or_from (list_any (item_eq y) earlier) (item_eq y x || false) old (or_from (item_eq y x) false new refl)
 
-still_fresh : (earlier : List Item) (x : Item) (xs : List Item) → list_any (item_eq x) xs ≡ false → AreFresh earlier xs → AreFresh (earlier ++ x ∷ []) xs
+still_fresh : (earlier : List Item) (x : Item) (xs : List Item) → list_any (item_eq x) xs ≡ false
+    → AreFresh earlier xs → AreFresh (earlier ++ x ∷ []) xs
 still_fresh earlier x [] e h = tt
 still_fresh earlier x (y ∷ ys) e h =
     let parts = or_parts (item_eq x y) (list_any (item_eq x) ys) e in
     (h.0, any_push earlier x y h.1 (unequal_flip x y parts.0), still_fresh earlier x ys parts.1 h.2)
 
-fresh_good : (earlier xs : List Item) → has_repeat xs ≡ false → AreFresh earlier xs → first_op_fault earlier xs ≡ None
+fresh_good : (earlier xs : List Item) → has_repeat xs ≡ false → AreFresh earlier xs
+    → first_op_fault earlier xs ≡ None
 fresh_good earlier [] e h = refl
 fresh_good earlier (x ∷ xs) e h =
     let parts = or_parts (list_any (item_eq x) xs) (has_repeat xs) e in
     let rest = fresh_good (earlier ++ x ∷ []) xs parts.1 (still_fresh earlier x xs parts.0 h.2) in
     rw (h.0, h.1) rest
 
-ops_good : (os : List (Named KeyOperation)) → AreNames (map op_item os) → has_repeat (map op_item os) ≡ false → AreGoodOps (ops_item os)
+ops_good : (os : List (Named KeyOperation)) → AreNames (map op_item os) → has_repeat (map op_item os) ≡ false
+    → AreGoodOps (ops_item os)
 ops_good [] names e = tt
 ops_good (o ∷ os) names e =
     let some : 0 < length (map op_item (o ∷ os)) = omega arith in
-    ops_fault-array (map op_item (o ∷ os)) some ∙ fresh_good [] (map op_item (o ∷ os)) e (fresh (map op_item (o ∷ os)) names)
+    ops_fault-array (map op_item (o ∷ os)) some
+    ∙ fresh_good [] (map op_item (o ∷ os)) e (fresh (map op_item (o ∷ os)) names)
 
-pub good_ops : (k : KeyParts) (os : List (Named KeyOperation)) → IsKey k → AreNames (map op_item os) → has_repeat (map op_item os) ≡ false → first_fault [] (key_members (record k { key_ops = os })) ≡ None
+pub good_ops : (k : KeyParts) (os : List (Named KeyOperation)) → IsKey k → AreNames (map op_item os)
+    → has_repeat (map op_item os) ≡ false → first_fault [] (key_members (record k { key_ops = os })) ≡ None
 good_ops k os valid names e =
     let g = parts_good k valid in
-    good_again k (record k { key_ops = os }) valid refl (record { kty = g.kty; key_id = g.key_id; alg = g.alg; key_ops = ops_good os names e; base_iv = g.base_iv })
+    good_again k (record k { key_ops = os }) valid refl
+    (record { kty = g.kty; key_id = g.key_id; alg = g.alg; key_ops = ops_good os names e; base_iv = g.base_iv })
 
 -- ---- one more further parameter
 
-first_push : (earlier ms : Members) (m : Item × Item) → first_fault earlier ms ≡ None → member_fault (earlier ++ ms) m ≡ None → first_fault earlier (ms ++ m ∷ []) ≡ None
+first_push : (earlier ms : Members) (m : Item × Item) → first_fault earlier ms ≡ None
+    → member_fault (earlier ++ ms) m ≡ None → first_fault earlier (ms ++ m ∷ []) ≡ None
 first_push earlier [] m e h =
     let here : member_fault earlier m ≡ None = rw append-nil at h in
     rw here refl
@@ -140,7 +159,8 @@ first_push earlier (n ∷ ns) m e h =
     let rest = first_push (earlier ++ n ∷ []) ns m parts.1 (ap (λ (es : Members). member_fault es m) moved ∙ h) in
     rw parts.0 rest
 
-label_new : (k : KeyParts) (label : Item) → is_common label ≡ false → has_label k.params label ≡ false → has_label (key_members k) label ≡ false
+label_new : (k : KeyParts) (label : Item) → is_common label ≡ false → has_label k.params label ≡ false
+    → has_label (key_members k) label ≡ false
 label_new k label common new =
     let u = uncommon label common in
     let a = member 1 (Some (named_item key_type_number k.kty)) in
@@ -152,14 +172,19 @@ label_new k label common new =
     (has_label-split (a ++ b ++ c ++ d) e label
     (has_label-split (a ++ b ++ c) d label
     (has_label-split (a ++ b) c label
-    (has_label-split a b label (has_label-member 1 (Some (named_item key_type_number k.kty)) label u.not_1) (has_label-member 2 (option_map byte_string k.key_id) label u.not_2))
+    (has_label-split a b label (has_label-member 1 (Some (named_item key_type_number k.kty)) label u.not_1)
+    (has_label-member 2 (option_map byte_string k.key_id) label u.not_2))
     (has_label-member 3 (option_map (named_item algorithm_number) k.alg) label u.not_3))
     (has_label-member 4 (ops_item k.key_ops) label u.not_4))
     (has_label-member 5 (option_map byte_string k.base_iv) label u.not_5))
     new
 
-pub good_push : (k : KeyParts) (m : Item × Item) → IsKey k → name_fault m.0 ≡ None → is_common m.0 ≡ false → has_label k.params m.0 ≡ false → first_fault [] (key_members (record k { params = k.params ++ m ∷ [] })) ≡ None
+pub good_push : (k : KeyParts) (m : Item × Item) → IsKey k → name_fault m.0 ≡ None → is_common m.0 ≡ false
+    → has_label k.params m.0 ≡ false
+    → first_fault [] (key_members (record k { params = k.params ++ m ∷ [] })) ≡ None
 good_push k m valid name common new =
-    let flat : key_members (record k { params = k.params ++ m ∷ [] }) ≡ key_members k ++ m ∷ [] = simp append_assoc in
-    let good : member_fault (key_members k) m ≡ None = rw (name, label_new k m.0 common new, uncommon_value m.0 m.1 (uncommon m.0 common)) refl in
+    let flat : key_members (record k { params = k.params ++ m ∷ [] }) ≡ key_members k ++ m ∷ [] =
+    simp append_assoc in
+    let good : member_fault (key_members k) m ≡ None =
+    rw (name, label_new k m.0 common new, uncommon_value m.0 m.1 (uncommon m.0 common)) refl in
     ap (first_fault []) flat ∙ first_push [] (key_members k) m valid.good good

@@ -1,4 +1,4 @@
--- The lists that arrays and maps hold.
+-- The lists of elements and of members in arrays and maps.
 use Rattle.std.specs.List.{filter_map}
 use Rattle.std.proofs.Common.{arith, ◌≡◌, ◌<◌, List, [], ◌∷◌, length, refl, ap}
 use Rattle.passkey_cbor.specs.Item.{Item, array, map, elements, members, items_of, pairs_of}

@@ -1,4 +1,4 @@
--- The members that a key is written with, in their order.
+-- The members of a written key, in their order.
 use Rattle.std.proofs.Common.{◌≡◌, true, not, ◌&&◌, [], ◌∷◌, ◌++◌, Some, option_map, refl, sym, ap, ◌∙◌}
 use Rattle.std.proofs.lemmas.Bool.{and_parts, not-true}
 use Rattle.std.proofs.lemmas.List.{append_assoc}
@@ -18,7 +18,8 @@ further_own (m ∷ ms) e =
     rw (not-true (is_common m.0) heads.0) (ap (λ (ns : Members). m ∷ ns) (further_own ms parts.1))
 
 unfoldable pub members_of : KeyParts → Members
-members_of k = sorted (Some (named_item key_type_number k.kty)) (option_map byte_string k.key_id) (option_map (named_item algorithm_number) k.alg) (ops_item k.key_ops) (option_map byte_string k.base_iv) k.params
+members_of k = sorted (Some (named_item key_type_number k.kty)) (option_map byte_string k.key_id) (option_map
+    (named_item algorithm_number) k.alg) (ops_item k.key_ops) (option_map byte_string k.base_iv) k.params
 
 pub members_sorted : (k : KeyParts) → are_separate k.params ≡ true → key_members k ≡ members_of k
 unfolding members_of
@@ -28,5 +29,6 @@ members_sorted k e =
     let algs = member 3 (option_map (named_item algorithm_number) k.alg) in
     let ops = member 4 (ops_item k.key_ops) in
     let ivs = member 5 (option_map byte_string k.base_iv) in
-    let flat : key_members k ≡ types ++ ids ++ algs ++ ops ++ ivs ++ further k.params = ap (λ (ps : Members). types ++ ids ++ algs ++ ops ++ ivs ++ ps) (sym (further_own k.params e)) in
+    let flat : key_members k ≡ types ++ ids ++ algs ++ ops ++ ivs ++ further k.params =
+    ap (λ (ps : Members). types ++ ids ++ algs ++ ops ++ ivs ++ ps) (sym (further_own k.params e)) in
     flat ∙ simp append_assoc

@@ -1,4 +1,4 @@
--- What was read as a key is written, and read as the same key.
+-- A key that was read, when written, is read as the same key.
 use Rattle.std.specs.Option.{option_and_then}
 use Rattle.std.specs.Result.{result_map_both}
 use Rattle.std.proofs.Common.{◌≡◌, ◌++◌, [], Option, Some, None, option_map, unwrap_or, Result, Ok, Err, refl, sym, ap, subst, ◌∙◌}
@@ -25,20 +25,27 @@ sorted_of ms = sorted (under 1 ms) (under 2 ms) (under 3 ms) (under 4 ms) (under
 unfoldable pub type_of : Members → Option (Named KeyType)
 type_of ms = option_and_then (name_in key_type_named) (under 1 ms)
 
--- the members that are written of a key that was read
-pub written_members : (ms : Members) (kty : Named KeyType) → first_fault [] ms ≡ None → type_of ms ≡ Some kty → key_members (key_from ms kty) ≡ sorted_of ms
+-- the members that are written for a key that was read
+pub written_members : (ms : Members) (kty : Named KeyType) → first_fault [] ms ≡ None → type_of ms ≡ Some kty
+    → key_members (key_from ms kty) ≡ sorted_of ms
 unfolding sorted_of type_of
 written_members ms kty good named =
-    let types : option_map (named_item key_type_number) (Some kty) ≡ under 1 ms = ap (option_map (named_item key_type_number)) (sym named) ∙ names_written key_type_number key_type_named key_type_named-number (under 1 ms) (under_good 1 [] ms good) in
+    let types : option_map (named_item key_type_number) (Some kty) ≡ under 1 ms =
+    ap (option_map (named_item key_type_number)) (sym named) ∙ names_written key_type_number key_type_named
+    key_type_named-number (under 1 ms) (under_good 1 [] ms good) in
     let ids = strings_written (under 2 ms) (under_good 2 [] ms good) in
-    let algs = names_written algorithm_number algorithm_named algorithm_named-number (under 3 ms) (under_good 3 [] ms good) in
+    let algs = names_written algorithm_number algorithm_named algorithm_named-number (under 3 ms)
+    (under_good 3 [] ms good) in
     let ops = all_ops_written (under 4 ms) (under_good 4 [] ms good) in
     let ivs = strings_written (under 5 ms) (under_good 5 [] ms good) in
-    let flat : key_members (key_from ms kty) ≡ member 1 (under 1 ms) ++ member 2 (under 2 ms) ++ member 3 (under 3 ms) ++ member 4 (under 4 ms) ++ member 5 (under 5 ms) ++ further ms = λ i. member 1 (types i) ++ member 2 (ids i) ++ member 3 (algs i) ++ member 4 (ops i) ++ member 5 (ivs i) ++ further ms in
+    let flat : key_members (key_from ms kty) ≡ member 1 (under 1 ms) ++ member 2 (under 2 ms) ++ member 3
+    (under 3 ms) ++ member 4 (under 4 ms) ++ member 5 (under 5 ms) ++ further ms = λ i. member 1 (types i)
+    ++ member 2 (ids i) ++ member 3 (algs i) ++ member 4 (ops i) ++ member 5 (ivs i) ++ further ms in
     flat ∙ simp append_assoc
 
--- members are read alike where the same stands under the common labels, and the others are the same
-judged_alike : (ms ns : Members) → under 1 ms ≡ under 1 ns → under 2 ms ≡ under 2 ns → under 3 ms ≡ under 3 ns → under 4 ms ≡ under 4 ns → under 5 ms ≡ under 5 ns → further ms ≡ further ns → judged ms None ≡ judged ns None
+-- members are read alike if their values under the common labels and their other members are the same
+judged_alike : (ms ns : Members) → under 1 ms ≡ under 1 ns → under 2 ms ≡ under 2 ns → under 3 ms ≡ under 3 ns
+    → under 4 ms ≡ under 4 ns → under 5 ms ≡ under 5 ns → further ms ≡ further ns → judged ms None ≡ judged ns None
 judged_alike ms ns types ids algs ops ivs others =
     λ i. result_map_both
     (λ (kty : Named KeyType). let k : KeyParts = record {
@@ -60,35 +67,45 @@ sorted_alike ms =
     let c = under 3 ms in
     let d = under 4 ms in
     let e = under 5 ms in
-    judged_alike (sorted a b c d e ms) ms (under_1 a b c d e ms) (under_2 a b c d e ms) (under_3 a b c d e ms) (under_4 a b c d e ms) (under_5 a b c d e ms) (further_sorted a b c d e ms)
+    judged_alike (sorted a b c d e ms) ms (under_1 a b c d e ms) (under_2 a b c d e ms) (under_3 a b c d e ms)
+    (under_4 a b c d e ms) (under_5 a b c d e ms) (further_sorted a b c d e ms)
 
 sorted_first : (ms : Members) → first_fault [] ms ≡ None → first_fault [] (sorted_of ms) ≡ None
 unfolding sorted_of
 sorted_first ms good =
-    sorted_good (under 1 ms) (under 2 ms) (under 3 ms) (under 4 ms) (under 5 ms) ms (under_good 1 [] ms good) (under_good 2 [] ms good) (under_good 3 [] ms good) (under_good 4 [] ms good) (under_good 5 [] ms good) good (further_separate [] ms good refl)
+    sorted_good (under 1 ms) (under 2 ms) (under 3 ms) (under 4 ms) (under 5 ms) ms (under_good 1 [] ms good)
+    (under_good 2 [] ms good) (under_good 3 [] ms good) (under_good 4 [] ms good) (under_good 5 [] ms good) good
+    (further_separate [] ms good refl)
 
--- none of the members that are written of a key that was read is bad
-pub read_good : (ms : Members) (kty : Named KeyType) → first_fault [] ms ≡ None → key_type (option_and_then (name_in key_type_named) (under 1 ms)) ≡ Ok kty → first_fault [] (key_members (key_from ms kty)) ≡ None
+-- no member that is written for a key that was read is bad
+pub read_good : (ms : Members) (kty : Named KeyType) → first_fault [] ms ≡ None → key_type (option_and_then
+    (name_in key_type_named) (under 1 ms)) ≡ Ok kty → first_fault [] (key_members (key_from ms kty)) ≡ None
 unfolding type_of
 read_good ms kty good e =
     ap (first_fault []) (written_members ms kty good (key_type_is (type_of ms) kty e)) ∙ sorted_first ms good
 
-typed : (ms : Members) (kty : Named KeyType) → first_fault [] ms ≡ None → key_type (type_of ms) ≡ Ok kty → read_key (key_item (key_from ms kty)) ≡ judged ms None
+typed : (ms : Members) (kty : Named KeyType) → first_fault [] ms ≡ None → key_type (type_of ms) ≡ Ok kty
+    → read_key (key_item (key_from ms kty)) ≡ judged ms None
 typed ms kty good e =
     let written = written_members ms kty good (key_type_is (type_of ms) kty e) in
-    ap (λ (ns : Members). read_key (map (pairs_of ns))) written ∙ read_key-map (sorted_of ms) ∙ ap (judged (sorted_of ms)) (sorted_first ms good) ∙ sorted_alike ms
+    ap (λ (ns : Members). read_key (map (pairs_of ns))) written ∙ read_key-map (sorted_of ms)
+    ∙ ap (judged (sorted_of ms)) (sorted_first ms good) ∙ sorted_alike ms
 
-good_round : (ms : Members) (k : KeyParts) → first_fault [] ms ≡ None → judged ms None ≡ Ok k → read_key (key_item k) ≡ Ok k
+good_round : (ms : Members) (k : KeyParts) → first_fault [] ms ≡ None → judged ms None ≡ Ok k
+    → read_key (key_item k) ≡ Ok k
 unfolding type_of
 good_round ms k good e =
-    (elim (key_type (type_of ms)) as (λ (r : Result (Named KeyType) CoseError). key_type (type_of ms) ≡ r → result_map_both (key_from ms) (λ (e : CoseError). e) r ≡ Ok k → read_key (key_item k) ≡ Ok k) [
-      | Ok kty ↦ λ h. λ w. (let same : key_from ms kty ≡ k = cc in subst (λ (l : KeyParts). read_key (key_item l) ≡ Ok k) same (typed ms kty good h ∙ e))
+    (elim (key_type (type_of ms)) as (λ (r : Result (Named KeyType) CoseError). key_type (type_of ms) ≡ r
+    → result_map_both (key_from ms) (λ (e : CoseError). e) r ≡ Ok k → read_key (key_item k) ≡ Ok k) [
+      | Ok kty ↦ λ h. λ w. (let same : key_from ms kty ≡ k =
+          cc in subst (λ (l : KeyParts). read_key (key_item l) ≡ Ok k) same (typed ms kty good h ∙ e))
       | Err f ↦ λ h. λ w. cc
     ]) refl e
 
 members_round : (ms : Members) (k : KeyParts) → judged ms (first_fault [] ms) ≡ Ok k → read_key (key_item k) ≡ Ok k
 members_round ms k e =
-    (elim (first_fault [] ms) as (λ (o : Option CoseError). first_fault [] ms ≡ o → judged ms o ≡ Ok k → read_key (key_item k) ≡ Ok k) [
+    (elim (first_fault [] ms)
+    as (λ (o : Option CoseError). first_fault [] ms ≡ o → judged ms o ≡ Ok k → read_key (key_item k) ≡ Ok k) [
       | Some f ↦ λ h. λ w. cc
       | None ↦ λ h. λ w. good_round ms k h w
     ]) refl e

@@ -8,7 +8,8 @@ use Rattle.passkey_cbor.specs.declared.value.Value.{Value}
 abbrev pub seen : {K : Type 0} → (K → Item) → K × Value → Item × Item
 seen name p = (name p.0, item_of p.1)
 
-map_twice : {X Y Z : Type 0} (f : X → Y) (g : Y → Z) (o : Option X) → option_map g (option_map f o) ≡ option_map (λ x. g (f x)) o
+map_twice : {X Y Z : Type 0} (f : X → Y) (g : Y → Z) (o : Option X)
+    → option_map g (option_map f o) ≡ option_map (λ x. g (f x)) o
 map_twice f g None = refl
 map_twice f g (Some x) = refl
 
@@ -24,20 +25,25 @@ is_some-find : {X : Type 0} (test : X → Bool) (xs : List X) → is_some (find 
 is_some-find test [] = refl
 is_some-find test (x ∷ xs) = is_some-cond (test x) x (find test xs) ∙ ap (λ b. test x || b) (is_some-find test xs)
 
-map-cond : {X Y : Type 0} (f : X → Y) (b : Bool) (x : X) (o : Option X) → option_map f (cond b (Some x) o) ≡ cond b (Some (f x)) (option_map f o)
+map-cond : {X Y : Type 0} (f : X → Y) (b : Bool) (x : X) (o : Option X)
+    → option_map f (cond b (Some x) o) ≡ cond b (Some (f x)) (option_map f o)
 map-cond f true x o = refl
 map-cond f false x o = refl
 
-module _ {K : Type 0} (name : K → Item) (test : Item × Item → Bool) (used : K → Bool) (same : (p : K × Value) → used p.0 ≡ test (seen name p)) where
-  found : (ps : List (K × Value)) → option_map (seen name) (find (λ p. used p.0) ps) ≡ find test (map (seen name) ps)
+module _ {K : Type 0} (name : K → Item) (test : Item × Item → Bool) (used : K → Bool)
+    (same : (p : K × Value) → used p.0 ≡ test (seen name p)) where
+  found : (ps : List (K × Value))
+      → option_map (seen name) (find (λ p. used p.0) ps) ≡ find test (map (seen name) ps)
   found [] = refl
   found (p ∷ ps) =
       map-cond (seen name) (used p.0) p (find (λ p. used p.0) ps)
       ∙ ap (λ b. cond b (Some (seen name p)) (option_map (seen name) (find (λ p. used p.0) ps))) (same p)
       ∙ ap (cond (test (seen name p)) (Some (seen name p))) (found ps)
 
-  -- the value that was found is the first such member's
-  pub value_found : (ps : List (K × Value)) (r : Option (Bor Value)) → option_map (λ (v : Bor Value). v.now) r ≡ option_map (λ (p : K × Value). p.1) (find (λ p. used p.0) ps) → option_map (λ (v : Bor Value). item_of v.now) r ≡ option_map (λ (m : Item × Item). m.1) (find test (map (seen name) ps))
+  -- the value that was found is that of the first member with the label
+  pub value_found : (ps : List (K × Value)) (r : Option (Bor Value)) → option_map (λ (v : Bor Value). v.now) r
+      ≡ option_map (λ (p : K × Value). p.1) (find (λ p. used p.0) ps) → option_map
+      (λ (v : Bor Value). item_of v.now) r ≡ option_map (λ (m : Item × Item). m.1) (find test (map (seen name) ps))
   value_found ps r e =
       sym (map_twice (λ (v : Bor Value). v.now) item_of r)
       ∙ ap (option_map item_of) e
@@ -45,8 +51,10 @@ module _ {K : Type 0} (name : K → Item) (test : Item × Item → Bool) (used :
       ∙ sym (map_twice (seen name) (λ (m : Item × Item). m.1) (find (λ p. used p.0) ps))
       ∙ ap (option_map (λ (m : Item × Item). m.1)) (found ps)
 
-  -- one is found where there is such a member
-  pub any_found : (ps : List (K × Value)) (r : Option (Bor Value)) → option_map (λ (v : Bor Value). v.now) r ≡ option_map (λ (p : K × Value). p.1) (find (λ p. used p.0) ps) → is_some r ≡ list_any test (map (seen name) ps)
+  -- a value is found exactly if there is a member with the label
+  pub any_found : (ps : List (K × Value)) (r : Option (Bor Value))
+      → option_map (λ (v : Bor Value). v.now) r ≡ option_map (λ (p : K × Value). p.1) (find (λ p. used p.0) ps)
+      → is_some r ≡ list_any test (map (seen name) ps)
   any_found ps r e =
       sym (is_some-map (λ (v : Bor Value). v.now) r)
       ∙ ap is_some e
@@ -55,7 +63,9 @@ module _ {K : Type 0} (name : K → Item) (test : Item × Item → Bool) (used :
       ∙ ap is_some (found ps)
       ∙ is_some-find test (map (seen name) ps)
 
--- an element that is equal to x is one that x is equal to
-pub any_other_way : {X : Type 0} (E : X → X → Bool) (symm : (x y : X) → E x y ≡ E y x) {V : Type 0} (f : V → X) (v : V) (vs : List V) → list_any (λ w. E (f w) (f v)) vs ≡ list_any (E (f v)) (map f vs)
+-- equality in either direction
+pub any_other_way : {X : Type 0} (E : X → X → Bool) (symm : (x y : X) → E x y ≡ E y x) {V : Type 0} (f : V → X)
+    (v : V) (vs : List V) → list_any (λ w. E (f w) (f v)) vs ≡ list_any (E (f v)) (map f vs)
 any_other_way E symm f v [] = refl
-any_other_way E symm f v (w ∷ ws) = ap (λ b. b || list_any (λ w. E (f w) (f v)) ws) (symm (f w) (f v)) ∙ ap (λ b. E (f v) (f w) || b) (any_other_way E symm f v ws)
+any_other_way E symm f v (w ∷ ws) = ap (λ b. b || list_any (λ w. E (f w) (f v)) ws) (symm (f w) (f v))
+    ∙ ap (λ b. E (f v) (f w) || b) (any_other_way E symm f v ws)

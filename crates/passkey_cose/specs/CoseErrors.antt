@@ -1,4 +1,4 @@
--- The errors of COSE, and what errors of CBOR are among them.
+-- The errors of COSE, and how the errors of CBOR map to them.
 use Rattle.std.specs.Prelude.{ℕ, Bool, true, false, List, codes}
 use Rattle.passkey_cbor.specs.declared.error.CborError.{CborError}
 use Rattle.passkey_cbor.specs.declared.error.CborError.TheVariants as cbor
@@ -12,7 +12,7 @@ cose_error_name cose.OutOfRangeIntegerValue = codes "OutOfRangeIntegerValue"
 cose_error_name cose.DuplicateMapKey = codes "DuplicateMapKey"
 cose_error_name cose.UnexpectedItem = codes "UnexpectedItem"
 
--- whether the error says that memory was refused
+-- whether the error means out of memory
 abbrev pub is_memory : CoseError → Bool
 is_memory cose.OutOfMemory = true
 is_memory _ = false

@@ -1,4 +1,4 @@
--- The parts of a key.
+-- The parts of a `CoseKey`.
 use Rattle.passkey_cose.specs.KeyFields.{parts_held}
 use Rattle.passkey_cose.specs.KeyParts.{KeyParts}
 use Rattle.passkey_cose.specs.declared.key.CoseKey.{CoseKey}

@@ -1,4 +1,4 @@
--- The parts of a key, told by the fields that hold them.
+-- The parts of a key, from the fields of a `CoseKey`.
 use Rattle.std.specs.Prelude.{ℕ, [], map, Option, option_map, unwrap_or}
 use Rattle.std.specs.declared.alloc.Global.{Global}
 use Rattle.std.specs.declared.vec.Vec.{Vec}
@@ -12,7 +12,8 @@ use Rattle.passkey_iana.specs.declared.key_type.KeyType.{KeyType}
 use Rattle.passkey_cose.specs.declared.label.Label.{Label}
 use Rattle.passkey_cose.specs.declared.registered.Registered.{Registered}
 
-abbrev pub parts_held : Registered KeyType → Option (Vec ℕ Global) → Option (Registered Algorithm) → Option (Vec (Registered KeyOperation) Global) → Option (Vec ℕ Global) → Option (Vec (Label × Value) Global) → KeyParts
+abbrev pub parts_held : Registered KeyType → Option (Vec ℕ Global) → Option (Registered Algorithm) → Option
+    (Vec (Registered KeyOperation) Global) → Option (Vec ℕ Global) → Option (Vec (Label × Value) Global) → KeyParts
 parts_held kty key_id alg key_ops base_iv params = record {
   kty = named_of kty;
   key_id = option_map (λ v. v.items) key_id;

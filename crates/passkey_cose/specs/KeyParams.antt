@@ -15,6 +15,6 @@ param_of p = (label_item p.0, item_of p.1)
 abbrev pub params_of : List (Label × Value) → Members
 params_of ps = map param_of ps
 
--- the parameters that an optional vector holds
+-- the parameters in an optional vector
 abbrev pub params_held : Option (Vec (Label × Value) Global) → Members
 params_held ps = params_of (unwrap_or (option_map (λ v. v.items) ps) [])

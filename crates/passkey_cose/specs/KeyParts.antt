@@ -1,4 +1,4 @@
--- What a key is (RFC 9052, section 7).
+-- The parts of a key (RFC 9052, section 7).
 use Rattle.std.specs.Prelude.{ℕ, ℤ, pos, negsuc, ◌<◌, ◌⊎◌, List, [], ◌∷◌, ◌++◌, length, map, Option, Some, None, IsSome, option_map}
 use Rattle.std.specs.Option.{IsSomeAnd}
 use Rattle.passkey_cbor.specs.Item as item
@@ -11,7 +11,7 @@ use Rattle.passkey_iana.specs.declared.key_operation.KeyOperation.{KeyOperation}
 use Rattle.passkey_iana.specs.declared.key_type.KeyType.{KeyType}
 use Rattle.passkey_iana.specs.declared.key_type.KeyType.TheVariants.{EC2}
 
--- no operations stand for any
+-- An empty list of operations means that `key_ops` is absent: any operation is allowed.
 pub record KeyParts : Type 0 where
   pub kty : Named KeyType
   pub key_id : Option (List ℕ)
@@ -23,7 +23,7 @@ pub record KeyParts : Type 0 where
 abbrev pub new_key : Named KeyType → KeyParts
 new_key kty = record { kty = kty; key_id = None; alg = None; key_ops = []; base_iv = None; params = [] }
 
--- a point of an elliptic curve (RFC 9053, section 7.1.1)
+-- a point on an elliptic curve (RFC 9053, section 7.1.1)
 abbrev pub ec2_members : ℤ → List ℕ → List ℕ → Members
 ec2_members curve x y =
     (let m : Item × Item = (number (negsuc 0), number curve) in m)
@@ -34,7 +34,7 @@ ec2_members curve x y =
 abbrev pub ec2_key : ℤ → List ℕ → List ℕ → KeyParts
 ec2_key curve x y = record (new_key (assigned EC2)) { params = ec2_members curve x y }
 
--- the member under a common label, where there is one
+-- the member with this common label; none if the value is absent
 abbrev pub member : ℕ → Option Item → Members
 member n None = []
 member n (Some i) = (let m : Item × Item = (number (pos n), i) in m) ∷ []
@@ -59,7 +59,8 @@ key_members k =
 abbrev pub key_item : KeyParts → Item
 key_item k = item.map (pairs_of (key_members k))
 
--- the keys that take memory to hold: those with a text for the type or the algorithm, a name, operations, a Base IV or further parameters
+-- the keys that take memory to hold: those with a text as type or algorithm, a key id, operations, a Base IV or
+-- further parameters
 abbrev pub TakesMemory : KeyParts → Type 0
 TakesMemory k =
     IsText k.kty

@@ -1,4 +1,4 @@
--- The key that an item is (RFC 9052, section 7).
+-- The key that a data item represents (RFC 9052, section 7).
 use Rattle.std.specs.Prelude.{ℕ, ℤ, not, if◌then◌else◌, List, [], option_map, Option, Some, None, unwrap_or, Result, Ok, Err}
 use Rattle.std.specs.List.{filter, filter_map, find}
 use Rattle.std.specs.Option.{option_and_then}
@@ -33,14 +33,14 @@ abbrev pub ops_in : Item → List (Named KeyOperation)
 ops_in (array xs) = filter_map (name_in key_operation_named) (elements xs)
 ops_in _ = []
 
--- the value that stands under a common label
+-- the value of the member with a common label
 abbrev pub under : ℕ → Members → Option Item
 under n ms = option_map (λ (m : Item × Item). m.1) (find (λ (m : Item × Item). is_label n m.0) ms)
 
 abbrev pub further : Members → Members
 further ms = filter (λ (m : Item × Item). not (is_common m.0)) ms
 
--- the key of this type with the members' other parts
+-- the key of this type, with its other parts from the members
 abbrev pub key_from : Members → Named KeyType → KeyParts
 key_from ms kty = record {
   kty = kty;
@@ -51,16 +51,17 @@ key_from ms kty = record {
   params = further ms;
 }
 
--- a key has a type, and not the reserved one
+-- a key must have a type, which must not be the reserved one
 abbrev pub key_type : Option (Named KeyType) → Result (Named KeyType) CoseError
 key_type None = Err UnexpectedItem
 key_type (Some (assigned Reserved)) = Err UnexpectedItem
 key_type (Some kty) = Ok kty
 
--- the fault of the members, or their key
+-- the error in the members, or else their key
 abbrev pub judged : Members → Option CoseError → Result KeyParts CoseError
 judged ms (Some e) = Err e
-judged ms None = result_map_both (key_from ms) (λ e. e) (key_type (option_and_then (name_in key_type_named) (under 1 ms)))
+judged ms None =
+    result_map_both (key_from ms) (λ e. e) (key_type (option_and_then (name_in key_type_named) (under 1 ms)))
 
 abbrev pub read_key : Item → Result KeyParts CoseError
 read_key (map ps) = judged (members ps) (first_fault [] (members ps))

@@ -1,4 +1,4 @@
--- Whether two keys are equal, as a test.
+-- The equality of keys, as a test.
 use Rattle.std.specs.Prelude.{◌&&◌, Bool}
 use Rattle.std.specs.Cmp.Lexicographic.{pointwise}
 use Rattle.std.specs.Option.{option_eq}

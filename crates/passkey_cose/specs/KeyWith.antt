@@ -1,4 +1,4 @@
--- What giving a key one more part answers.
+-- The results of adding a part to a key.
 use Rattle.std.specs.Prelude.{◌≡◌, Bool, false, ◌||◌, if◌then◌else◌, List, [], ◌∷◌, map, Option, Some, None, Result, Ok, Err}
 use Rattle.std.specs.List.{list_any}
 use Rattle.passkey_cbor.specs.Item.{Item}
@@ -19,21 +19,22 @@ abbrev pub has_repeat : List Item → Bool
 has_repeat [] = false
 has_repeat (x ∷ xs) = list_any (item_eq x) xs || has_repeat xs
 
--- there is to be an operation, and none that is written as another one
+-- there must be an operation, and no two that are written alike
 abbrev pub key_ops_fault : List (Named KeyOperation) → Option CoseError
 key_ops_fault [] = Some UnexpectedItem
 key_ops_fault (o ∷ os) = if has_repeat (map op_item (o ∷ os)) then Some UnexpectedItem else None
 
--- a label is to be a further parameter's, and none that is there
+-- the label must not be a common parameter's, nor occur in the key already
 abbrev pub param_fault : Members → Item → Option CoseError
 param_fault params label = if is_common label || has_label params label then Some DuplicateMapKey else None
 
--- the key with the part, where there is no fault; else the fault, and the key as it was
+-- the key with the part if there is no fault; else the fault, and the key unchanged
 abbrev pub Becomes : KeyParts → Option CoseError → KeyParts → Result CoseKey RefusedKey → Type 0
 Becomes before fault after (Ok key) = (fault ≡ None) × (key_parts key ≡ after)
 Becomes before fault after (Err refused) = (fault ≡ Some refused.error) × (key_parts refused.key ≡ before)
 
--- the same; or memory ran out, where there is no fault
+-- the same, or out of memory if there is no fault, and the key unchanged
 abbrev pub BecomesOrRunsOut : KeyParts → Option CoseError → KeyParts → Result CoseKey RefusedKey → Type 0
 BecomesOrRunsOut before fault after (Ok key) = (fault ≡ None) × (key_parts key ≡ after)
-BecomesOrRunsOut before fault after (Err refused) = Fails is_memory (λ _. Unit {0}) (unless fault after) refused.error × (key_parts refused.key ≡ before)
+BecomesOrRunsOut before fault after (Err refused) =
+    Fails is_memory (λ _. Unit {0}) (unless fault after) refused.error × (key_parts refused.key ≡ before)

@@ -1,4 +1,4 @@
--- What a label is, as an item: a number or a text (RFC 9052, section 1.4).
+-- A label as a data item: a number or a text (RFC 9052, section 1.4).
 use Rattle.std.specs.Prelude.{string_bytes}
 use Rattle.passkey_cbor.specs.Item.{Item, number, text_string}
 use Rattle.passkey_cose.specs.declared.label.Label.{Label}

@@ -1,4 +1,4 @@
--- Values that a registry assigns, and others, by a number or a text.
+-- Values that a registry assigns, and other values: numbers or texts.
 use Rattle.std.specs.Prelude.{ℕ, ℤ, List, Bool, false, string_bytes}
 use Rattle.std.specs.Ordering.{int_eq}
 use Rattle.std.specs.Str.{bytes_eq}
@@ -20,13 +20,13 @@ abbrev pub IsText : {T : Type 0} → Named T → Type 0
 IsText (text s) = Unit {0}
 IsText _ = ⊥
 
--- the item that the value is written as
+-- the data item that the value is written as
 abbrev pub named_item : {T : Type 0} → (T → ℤ) → Named T → Item
 named_item number_of (assigned a) = number (number_of a)
 named_item number_of (other z) = number z
 named_item number_of (text s) = text_string s
 
--- whether two values are equal, as a test
+-- the equality of values, as a test
 abbrev pub named_eq : {T : Type 0} → (T → ℤ) → Named T → Named T → Bool
 named_eq number_of (assigned a) (assigned b) = int_eq (number_of a) (number_of b)
 named_eq number_of (other z) (other w) = int_eq z w

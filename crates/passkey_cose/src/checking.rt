@@ -20,7 +20,7 @@ use std::alloc::Global;
 /// earlier ones are kept in an ordered set.
 const FEW: usize = 16;
 
-/// Returns the integer as 64 signed bits; `None` if it is not from -2^63 to 2^63 - 1.
+/// Returns the integer as a signed 64-bit number; `None` if it is below -2^63 or above 2^63 - 1.
 pub fn signed_64(n: Integer) -> Option<i64>
     ensures { result ≡ (if is_signed_64 n then Some n else None) }
 {
@@ -83,7 +83,7 @@ fn stands_in(op: &Value, ops: &[Value]) -> bool
     ops.contains(op)
 }
 
-/// Whether the operation repeats an earlier one. It is added to those.
+/// Whether the operation repeats an earlier one. Adds it to the earlier ones.
 fn is_repeated_op<'a>(seen: &mut Seen<'a>, earlier: &[Value], op: &'a Value) -> bool
     requires name { name_fault (item_of op.now) ≡ None }
     requires held { Holds seen.old (map item_of earlier.now) }
@@ -152,7 +152,7 @@ fn is_taken(label: &Value, members: &[(Value, Value)]) -> bool
     find(label, members).is_some()
 }
 
-/// Whether the label repeats an earlier one. It is added to those.
+/// Whether the label repeats an earlier one. Adds it to the earlier ones.
 fn is_repeated_label<'a>(seen: &mut Seen<'a>, earlier: &[(Value, Value)], label: &'a Value) -> bool
     requires name { name_fault (item_of label.now) ≡ None }
     requires held { Holds seen.old (labels_of (map pair_of earlier.now)) }
@@ -184,8 +184,8 @@ fn check_member<'a>(
     check_value(alloc, label, value)
 }
 
-/// Returns the error of the first bad member. Never runs out of memory: once an allocation fails,
-/// labels and operations are compared with one another.
+/// Returns the error of the first bad member. Never returns `OutOfMemory`: once an allocation
+/// fails, labels and operations are compared with one another.
 pub(super) fn check_members(alloc: Global, members: &[(Value, Value)]) -> Result<(), CoseError>
     ensures { Checks (first_fault [] (map pair_of members.now)) result }
 {

@@ -1,4 +1,4 @@
-//! Why a key wasn't decoded or made.
+//! The errors of decoding and constructing keys.
 ghost use Rattle.std.specs.Prelude.{◌≡◌, Some};
 ghost use Rattle.passkey_cose.specs.CoseErrors.{cose_error_name, cose_error_of};
 ghost use Rattle.passkey_cose.specs.declared.error.CoseError.TheVariants.{OutOfMemory as NoMemory};
@@ -9,10 +9,10 @@ use std::alloc::{AllocError, AllocFailed};
 use std::fmt;
 use thiserror::Error;
 
-/// Why a key wasn't decoded, made or changed.
+/// Why decoding, constructing or changing a key failed.
 #[derive(Clone, Copy, Debug, PartialEq, Eq)]
 pub enum CoseError {
-    /// The bytes are cut off, or no well-formed CBOR item of at most 256 levels is where one is
+    /// The bytes are truncated, or no well-formed data item of at most 256 levels is where one is
     /// expected.
     DecodeFailed,
     /// An allocation failed.
@@ -21,7 +21,7 @@ pub enum CoseError {
     OutOfRangeIntegerValue,
     /// A label occurs twice.
     DuplicateMapKey,
-    /// An item has the wrong type or an invalid value, or is absent.
+    /// A data item has the wrong type or an invalid value, or is absent.
     UnexpectedItem,
 }
 
@@ -77,10 +77,10 @@ impl From<CborError> for CoseError {
     }
 }
 
-/// Why a COSE key wasn't converted to a key of another library, or the other way round.
+/// Why converting a COSE key to or from a key of another library failed.
 #[derive(Debug, Drop, Error)]
 pub enum CoseKeyConversionError {
-    /// Keys of this algorithm aren't converted.
+    /// Keys of this algorithm can't be converted.
     #[error("UnsupportedAlgorithm")]
     UnsupportedAlgorithm,
     /// A part of the key is absent, or has a wrong value.

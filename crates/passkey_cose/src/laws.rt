@@ -1,19 +1,20 @@
 //! Laws about keys, each the contract of a function that does nothing.
 ghost use Rattle.passkey_cose.specs.KeyLaws.{ReadIsReadable, ReadIsWrittenAlike, WrittenIsReadBack};
 
-/// What is decoded as a key is encoded as an item that decodes to the same key.
+/// A decoded key is encoded as a data item that decodes to the same key.
 #[tactic(auto, using(crate::proofs::KeyRound::read_is_written_alike))]
 pub fn read_key_is_written_alike()
     ensures { ReadIsWrittenAlike }
 {}
 
-/// A key is encoded as an item that decodes to that key, with assigned numbers as the registry's
-/// values, unless its type is the reserved one (RFC 9052, section 7).
+/// A key whose type isn't the reserved one is encoded as a data item that decodes to that key, with
+/// assigned numbers as the registry's values (RFC 9052, section 7).
 pub fn written_key_is_read_back()
     ensures { WrittenIsReadBack }
 {}
 
-/// A key that was decoded from an item of at most 256 levels is encoded as bytes that decode to it.
+/// A key that was decoded from a data item of at most 256 levels is encoded as bytes that decode to
+/// it.
 #[tactic(auto, using(crate::proofs::KeyReadable::read_is_readable))]
 pub fn read_key_is_readable()
     ensures { ReadIsReadable }

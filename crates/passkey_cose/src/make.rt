@@ -1,4 +1,4 @@
-//! Making keys.
+//! Constructing keys.
 ghost use Rattle.std.specs.Prelude.{◌≡◌, IfOk};
 ghost use Rattle.passkey_cose.specs.Key.{key_parts};
 ghost use Rattle.passkey_cose.specs.KeyParams.{params_of};
@@ -30,7 +30,7 @@ fn ec2_params(
 }
 
 impl CoseKey {
-    /// A key of this type without any other part.
+    /// Returns a key of this type without any other part.
     pub fn new(kty: Registered<KeyType>) -> CoseKey
         ensures { key_parts result ≡ new_key (named_of kty) }
     {
@@ -45,8 +45,8 @@ impl CoseKey {
         }
     }
 
-    /// The EC2 key of a point on the curve with this number (1 is P-256), by its coordinates (RFC
-    /// 9053, section 7.1.1). `OutOfMemory` if an allocation fails.
+    /// Returns the EC2 key with these coordinates of a point on the curve with this number (1 is
+    /// P-256; RFC 9053, section 7.1.1). `OutOfMemory` if an allocation fails.
     pub fn new_ec2_pub_key(
         alloc: Global,
         curve: i64,
@@ -77,7 +77,7 @@ impl Default for CoseKey {
 
     ghost is_default = { λ k. key_parts k ≡ new_key (assigned Reserved) };
 
-    /// A key of the reserved type, 0, which decoding rejects, without any other part.
+    /// A key without any part but the reserved type, 0, which decoding rejects.
     fn default() -> CoseKey {
         CoseKey::new(Registered::Assigned(KeyType::Reserved))
     }

@@ -1,4 +1,4 @@
-//! The numbers in a key have 64 bits. The functions compute nothing: their contracts pass on what
+//! The numbers in a key fit in 64 signed bits. The functions do nothing; their contracts state what
 //! the types guarantee.
 ghost use Rattle.std.specs.Prelude.{◌≡◌, None, map};
 ghost use Rattle.passkey_cbor.specs.Item.{number};

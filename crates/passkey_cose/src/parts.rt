@@ -1,4 +1,4 @@
-//! Reading a key's parts.
+//! Access to a key's parts.
 ghost use Rattle.std.specs.Prelude.{◌≡◌, true, map, option_map};
 ghost use Rattle.passkey_cbor.specs.View.{item_of};
 ghost use Rattle.passkey_cose.specs.Key.{key_parts};
@@ -40,8 +40,8 @@ impl CoseKey {
         self.alg.as_ref()
     }
 
-    /// The operations that the key is restricted to (`key_ops`, label 4), each of them once. An empty
-    /// list means the parameter is absent: the key may be used for any.
+    /// The operations that the key is restricted to (`key_ops`, label 4), without duplicates. An
+    /// empty list means the parameter is absent: the key may be used for any operation.
     pub fn key_ops(&self) -> &[Registered<KeyOperation>]
         ensures { map named_of result.now ≡ (key_parts self.now).key_ops }
     {
@@ -61,8 +61,7 @@ impl CoseKey {
         }
     }
 
-    /// The further parameters, in their order. Their labels differ from 1 to 5 and from one
-    /// another.
+    /// The further parameters, in their order. Their labels are distinct, and none is 1 to 5.
     pub fn params(&self) -> &[(Label, Value)]
         ensures value { params_of result.now ≡ (key_parts self.now).params }
         ensures separate { are_separate (key_parts self.now).params ≡ true }
@@ -76,7 +75,8 @@ impl CoseKey {
     /// The value of the further parameter with this label; `None` if the key has none, and for the
     /// labels of the common parameters, 1 to 5.
     pub fn param(&self, label: &Label) -> Option<&Value>
-        ensures { option_map (λ v. item_of v.now) result ≡ value_at (label_item label.now) (key_parts self.now).params }
+        ensures { option_map (λ v. item_of v.now) result
+            ≡ value_at (label_item label.now) (key_parts self.now).params }
     {
         find(label, self.params())
     }

@@ -51,8 +51,8 @@ fn is_reserved(kty: &Registered<KeyType>) -> bool
 }
 
 impl CoseKey {
-    /// Whether what `to_vec` returns decodes to this key: the type isn't the reserved number 0, and
-    /// the map has at most 256 levels. Allocates nothing.
+    /// Whether the bytes that `to_vec` returns decode to this key: its type isn't the reserved
+    /// number 0, and its map has at most 256 levels. Allocates nothing.
     pub fn is_readable(&self) -> bool
         ensures { result ≡ is_key_readable (key_parts self.now) }
     {

@@ -5,7 +5,7 @@ ghost use Rattle.std.specs.Option.{option_and_then};
 ghost use Rattle.passkey_cbor.specs.View.{item_of, pair_of};
 ghost use Rattle.passkey_iana.specs.Iana.{key_type_named, key_operation_named};
 ghost use Rattle.passkey_cose.specs.Key.{key_parts};
-ghost use Rattle.passkey_cose.specs.KeyChecks.{Reads};
+ghost use Rattle.passkey_cose.specs.KeyChecks.{ReadsPart};
 ghost use Rattle.passkey_cose.specs.KeyFaults.{name_fault, first_fault};
 ghost use Rattle.passkey_cose.specs.KeyLabels.{is_common};
 ghost use Rattle.passkey_cose.specs.KeyParams.{params_of};
@@ -32,7 +32,7 @@ fn value_under(members: &[(Value, Value)], label: u8) -> Option<&Value>
     find(&Value::from(label), members)
 }
 
-/// The registry's value, if the item is one.
+/// The registry's value that the data item represents; `None` if it represents none.
 fn read_name<T: EnumI64>(alloc: Global, name: &Value) -> Result<Option<Registered<T>>, OutOfMemory>
     ensures same { IfOk result (λ o. option_map named_of o ≡ name_in T.named (item_of name.now)) }
     ensures grows { OnErr result (IsSomeAnd (name_in T.named (item_of name.now)) IsText) }
@@ -55,8 +55,10 @@ fn read_name_under<T: EnumI64>(
     members: &[(Value, Value)],
     label: u8,
 ) -> Result<Option<Registered<T>>, OutOfMemory>
-    ensures same { IfOk result (λ o. option_map named_of o ≡ option_and_then (name_in T.named) (under label (map pair_of members.now))) }
-    ensures grows { OnErr result (IsSomeAnd (option_and_then (name_in T.named) (under label (map pair_of members.now))) IsText) }
+    ensures same { IfOk result
+        (λ o. option_map named_of o ≡ option_and_then (name_in T.named) (under label (map pair_of members.now))) }
+    ensures grows { OnErr result
+        (IsSomeAnd (option_and_then (name_in T.named) (under label (map pair_of members.now))) IsText) }
 {
     match value_under(members, label) {
         Some(name) => read_name(alloc, name),
@@ -69,7 +71,8 @@ fn read_bytes_under(
     members: &[(Value, Value)],
     label: u8,
 ) -> Result<Option<Vec<u8>>, OutOfMemory>
-    ensures same { IfOk result (λ o. option_map (λ v. v.items) o ≡ option_and_then bytes_in (under label (map pair_of members.now))) }
+    ensures same { IfOk result
+        (λ o. option_map (λ v. v.items) o ≡ option_and_then bytes_in (under label (map pair_of members.now))) }
     ensures grows { OnErr result (IsSome (option_and_then bytes_in (under label (map pair_of members.now)))) }
 {
     match value_under(members, label) {
@@ -79,7 +82,8 @@ fn read_bytes_under(
 }
 
 fn read_ops(alloc: Global, ops: &[Value]) -> Result<Vec<Registered<KeyOperation>>, OutOfMemory>
-    ensures { IfOk result (λ v. map named_of v.items ≡ filter_map (name_in key_operation_named) (map item_of ops.now)) }
+    ensures { IfOk result
+        (λ v. map named_of v.items ≡ filter_map (name_in key_operation_named) (map item_of ops.now)) }
 {
     let mut names = Vec::with_capacity(alloc, ops.len())?;
     for op in ops {
@@ -95,7 +99,8 @@ fn read_ops_under(
     members: &[(Value, Value)],
     label: u8,
 ) -> Result<Option<Vec<Registered<KeyOperation>>>, OutOfMemory>
-    ensures same { IfOk result (λ o. map named_of (unwrap_or (option_map (λ v. v.items) o) []) ≡ unwrap_or (option_map ops_in (under label (map pair_of members.now))) []) }
+    ensures same { IfOk result (λ o. map named_of (unwrap_or (option_map (λ v. v.items) o) [])
+        ≡ unwrap_or (option_map ops_in (under label (map pair_of members.now))) []) }
     ensures grows { OnErr result (IsSome (under label (map pair_of members.now))) }
 {
     match value_under(members, label) {
@@ -142,7 +147,8 @@ fn read_params(
 }
 
 fn read_kty(alloc: Global, members: &[(Value, Value)]) -> Result<Registered<KeyType>, CoseError>
-    ensures { Reads IsText named_of (key_type (option_and_then (name_in key_type_named) (under 1 (map pair_of members.now)))) result }
+    ensures { ReadsPart IsText named_of
+        (key_type (option_and_then (name_in key_type_named) (under 1 (map pair_of members.now)))) result }
 {
     match read_name_under(alloc, members, 1)? {
         None | Some(Registered::Assigned(KeyType::Reserved)) => Err(CoseError::UnexpectedItem),
@@ -150,14 +156,15 @@ fn read_kty(alloc: Global, members: &[(Value, Value)]) -> Result<Registered<KeyT
     }
 }
 
-/// The key of this type with the other parts among the members.
+/// The key of this type, with its other parts from the members.
 fn read_parts(
     alloc: Global,
     members: &[(Value, Value)],
     kty: Registered<KeyType>,
 ) -> Result<CoseKey, OutOfMemory>
     requires good { first_fault [] (map pair_of members.now) ≡ None }
-    requires typed { key_type (option_and_then (name_in key_type_named) (under 1 (map pair_of members.now))) ≡ Ok (named_of kty) }
+    requires typed { key_type (option_and_then (name_in key_type_named) (under 1 (map pair_of members.now)))
+        ≡ Ok (named_of kty) }
     ensures same { IfOk result (λ k. key_parts k ≡ key_from (map pair_of members.now) (named_of kty)) }
     ensures grows { OnErr result (TakesMemory (key_from (map pair_of members.now) (named_of kty))) }
 {
@@ -178,29 +185,30 @@ fn read_parts(
 
 fn read_members(alloc: Global, members: &[(Value, Value)]) -> Result<CoseKey, CoseError>
     requires { first_fault [] (map pair_of members.now) ≡ None }
-    ensures { Reads TakesMemory key_parts (judged (map pair_of members.now) None) result }
+    ensures { ReadsPart TakesMemory key_parts (judged (map pair_of members.now) None) result }
 {
     let kty = read_kty(alloc, members)?;
     Ok(read_parts(alloc, members, kty)?)
 }
 
 impl CoseKey {
-    /// Decodes a key from a CBOR item (RFC 9052, section 7). The map's members are checked in their
+    /// Decodes a key from a data item (RFC 9052, section 7). The map's members are checked in their
     /// order: first the label, then whether it repeats an earlier one, then the value.
     ///
-    /// `UnexpectedItem` if the item is no map; a label, the type (1), the algorithm (3) or an
-    /// operation is neither an integer nor a text; the key identifier (2) or the Base IV (5) is no
-    /// byte string or empty; the operations (4) are no array, are empty, or repeat one; or, after
-    /// all members, if the type is absent or the reserved one. `OutOfRangeIntegerValue` if such an
-    /// integer is outside 64 signed bits. `DuplicateMapKey` if a label occurs twice. `OutOfMemory`
-    /// if an allocation fails, which can happen only for a key that has none of these errors, and
-    /// not if its type and algorithm are numbers and it has no other part.
+    /// `UnexpectedItem` if the data item is no map; if a label, the type (1), the algorithm (3) or
+    /// an operation is neither an integer nor a text; if the key identifier (2) or the Base IV (5)
+    /// is empty or no byte string; if the operations (4) are no array, are empty, or repeat one;
+    /// or, after all members are checked, if the type is absent or the reserved one.
+    /// `OutOfRangeIntegerValue` if one of these integers doesn't fit in 64 signed bits.
+    /// `DuplicateMapKey` if a label occurs twice. `OutOfMemory` if an allocation fails, which can
+    /// happen only if there is no other error, and can't happen if the type and the algorithm are
+    /// numbers and the key has no other part.
     ///
     /// Finding repeated labels and operations takes n log n time for n of them, with the earlier
-    /// ones in ordered sets. If there is no memory for these, they are compared with one another,
-    /// in time that grows with the square.
+    /// ones in ordered sets. If an allocation for these sets fails, they are compared with one
+    /// another, in quadratic time.
     pub fn from_value(alloc: Global, value: &Value) -> Result<CoseKey, CoseError>
-        ensures { Reads TakesMemory key_parts (read_key (item_of value.now)) result }
+        ensures { ReadsPart TakesMemory key_parts (read_key (item_of value.now)) result }
     {
         match value {
             Value::Map(members) => {

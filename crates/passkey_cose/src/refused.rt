@@ -1,11 +1,11 @@
-//! Keys that a part wasn't added to.
+//! Keys to which a part wasn't added.
 ghost use Rattle.std.specs.Prelude.{◌≡◌};
 
 use crate::error::CoseError;
 use crate::key::CoseKey;
 use thiserror::Error;
 
-/// A part wasn't added to the key, which comes back unchanged.
+/// A part wasn't added to the key, which is returned unchanged.
 #[derive(Debug, Drop, Error)]
 #[error("{error}")]
 pub struct RefusedKey {

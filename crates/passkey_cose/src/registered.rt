@@ -15,7 +15,7 @@ use std::alloc::Global;
 pub enum Registered<T> {
     /// An assigned value.
     Assigned(T),
-    /// A number that isn't assigned here.
+    /// A number. Decoding returns `Assigned` for a number that `T` assigns.
     Other(i64),
     /// A text.
     Text(String),

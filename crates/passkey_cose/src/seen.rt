@@ -16,12 +16,12 @@ use std::collections::BTreeSet;
 pub(super) struct Seen<'a> {
     numbers: BTreeSet<i128>,
     texts: BTreeSet<&'a str>,
-    /// False once some may be missing. Nothing is added from then on.
+    /// False once some may be missing. From then on nothing is added.
     is_whole: bool,
 }
 
 impl<'a> Seen<'a> {
-    /// None so far. If `is_whole` is false, none is ever added.
+    /// The empty set. If `is_whole` is false, nothing is ever added.
     pub(super) fn new(alloc: Global, is_whole: bool) -> Seen<'a>
         ensures { Holds result [] }
     {

@@ -34,7 +34,7 @@ fn is_number<T: EnumI64>(value: &Registered<T>, n: i64) -> bool
     }
 }
 
-/// Whether both are encoded as the same item.
+/// Whether both are encoded as the same data item.
 fn are_written_alike<T: EnumI64>(a: &Registered<T>, b: &Registered<T>) -> bool
     ensures { result ≡ item_eq (named_item T.number_of (named_of a.now)) (named_item T.number_of (named_of b.now)) }
 {
@@ -106,7 +106,7 @@ fn push_param(
 }
 
 impl CoseKey {
-    /// The key, restricted to this algorithm (`alg`, label 3; RFC 9052, section 7.1).
+    /// Returns the key, restricted to this algorithm (`alg`, label 3; RFC 9052, section 7.1).
     pub fn with_algorithm(mut self, alg: Registered<Algorithm>) -> CoseKey
         ensures { key_parts result ≡ record (key_parts self) { alg = Some (named_of alg) } }
     {
@@ -115,10 +115,11 @@ impl CoseKey {
         self
     }
 
-    /// The key with this key identifier (`kid`, label 2; RFC 9052, section 7.1). `UnexpectedItem`
-    /// if it is empty.
+    /// Returns the key with this key identifier (`kid`, label 2; RFC 9052, section 7.1).
+    /// `UnexpectedItem` if it is empty.
     pub fn with_key_id(mut self, id: Vec<u8>) -> Result<CoseKey, RefusedKey>
-        ensures { Becomes (key_parts self) (string_fault id.items) (record (key_parts self) { key_id = Some id.items }) result }
+        ensures { Becomes (key_parts self) (string_fault id.items)
+            (record (key_parts self) { key_id = Some id.items }) result }
     {
         if id.is_empty() {
             return Err(RefusedKey {
@@ -130,9 +131,11 @@ impl CoseKey {
         Ok(self)
     }
 
-    /// The key with this Base IV (label 5; RFC 9052, section 7.1). `UnexpectedItem` if it is empty.
+    /// Returns the key with this Base IV (label 5; RFC 9052, section 7.1). `UnexpectedItem` if it
+    /// is empty.
     pub fn with_base_iv(mut self, iv: Vec<u8>) -> Result<CoseKey, RefusedKey>
-        ensures { Becomes (key_parts self) (string_fault iv.items) (record (key_parts self) { base_iv = Some iv.items }) result }
+        ensures { Becomes (key_parts self) (string_fault iv.items)
+            (record (key_parts self) { base_iv = Some iv.items }) result }
     {
         if iv.is_empty() {
             return Err(RefusedKey {
@@ -144,10 +147,11 @@ impl CoseKey {
         Ok(self)
     }
 
-    /// The key, restricted to these operations (`key_ops`, label 4; RFC 9052, section 7.1).
+    /// Returns the key, restricted to these operations (`key_ops`, label 4; RFC 9052, section 7.1).
     /// `UnexpectedItem` if there are none, or two are encoded alike.
     pub fn with_key_ops(mut self, ops: Vec<Registered<KeyOperation>>) -> Result<CoseKey, RefusedKey>
-        ensures { Becomes (key_parts self) (key_ops_fault (map named_of ops.items)) (record (key_parts self) { key_ops = map named_of ops.items }) result }
+        ensures { Becomes (key_parts self) (key_ops_fault (map named_of ops.items))
+            (record (key_parts self) { key_ops = map named_of ops.items }) result }
     {
         if ops.is_empty() || has_repeats(&ops) {
             return Err(RefusedKey {
@@ -160,16 +164,18 @@ impl CoseKey {
         Ok(self)
     }
 
-    /// The key with this further parameter after the others (RFC 9052, section 7).
-    /// `DuplicateMapKey` if the label is 1 to 5 (section 7.1) or the key has it; else `OutOfMemory`
-    /// if an allocation fails.
+    /// Returns the key with this further parameter after the others (RFC 9052, section 7).
+    /// `DuplicateMapKey` if the label is 1 to 5 (section 7.1) or the key has it already; otherwise
+    /// `OutOfMemory` if an allocation fails.
     pub fn with_param(
         mut self,
         alloc: Global,
         label: Label,
         value: Value,
     ) -> Result<CoseKey, RefusedKey>
-        ensures { let fault = param_fault (key_parts self).params (label_item label) in let params = (key_parts self).params ++ param_of (label, value) ∷ [] in BecomesOrRunsOut (key_parts self) fault (record (key_parts self) { params = params }) result }
+        ensures { let fault = param_fault (key_parts self).params (label_item label) in let params =
+            (key_parts self).params ++ param_of (label, value)
+            ∷ [] in BecomesOrRunsOut (key_parts self) fault (record (key_parts self) { params = params }) result }
     {
         if is_common_label(&label) || stands_among(&label, self.params()) {
             return Err(RefusedKey {

@@ -49,7 +49,8 @@ fn alg_value(
     alloc: Global,
     alg: &Option<Registered<Algorithm>>,
 ) -> Result<Option<Value>, OutOfMemory>
-    ensures { IfOk result (λ v. option_map item_of v ≡ option_map (named_item algorithm_number) (option_map named_of alg.now)) }
+    ensures { IfOk result
+        (λ v. option_map item_of v ≡ option_map (named_item algorithm_number) (option_map named_of alg.now)) }
 {
     match alg {
         Some(alg) => Ok(Some(name_value(alloc, alg)?)),
@@ -58,7 +59,8 @@ fn alg_value(
 }
 
 fn string_value(alloc: Global, bytes: &Option<Vec<u8>>) -> Result<Option<Value>, OutOfMemory>
-    ensures { IfOk result (λ v. option_map item_of v ≡ option_map byte_string (option_map (λ s. s.items) bytes.now)) }
+    ensures { IfOk result
+        (λ v. option_map item_of v ≡ option_map byte_string (option_map (λ s. s.items) bytes.now)) }
 {
     match bytes {
         Some(bytes) => Ok(Some(Value::Bytes(Vec::from_slice(alloc, bytes)?))),
@@ -90,7 +92,8 @@ fn push_member(
     label: u8,
     value: Option<Value>,
 ) -> Result<(), OutOfMemory>
-    ensures { OnOk result (map pair_of pairs.new.items ≡ map pair_of pairs.old.items ++ member label (option_map item_of value)) }
+    ensures { OnOk result
+        (map pair_of pairs.new.items ≡ map pair_of pairs.old.items ++ member label (option_map item_of value)) }
 {
     if let Some(value) = value {
         pairs.push((Value::from(label), value))?;
@@ -125,8 +128,8 @@ fn member_values(alloc: Global, key: &CoseKey) -> Result<Vec<(Value, Value)>, Ou
 }
 
 impl CoseKey {
-    /// The key as a CBOR map: type, key identifier, algorithm, operations and Base IV under 1 to 5,
-    /// each if present, then the further parameters in their order (RFC 9052, section 7).
+    /// Returns the key as a CBOR map: type, key identifier, algorithm, operations and Base IV under
+    /// 1 to 5, each if present, then the further parameters in their order (RFC 9052, section 7).
     /// `OutOfMemory` if an allocation fails.
     pub fn to_value(&self, alloc: Global) -> Result<Value, OutOfMemory>
         ensures { IfOk result (λ v. item_of v ≡ key_item (key_parts self.now)) }
@@ -134,8 +137,8 @@ impl CoseKey {
         Ok(Value::Map(member_values(alloc, self)?))
     }
 
-    /// The encoding of the key's map. Decoding rejects none of its members. `OutOfMemory` if an
-    /// allocation fails.
+    /// Encodes the key's map, of which decoding rejects no member. `OutOfMemory` if an allocation
+    /// fails.
     pub fn to_vec(&self, alloc: Global) -> Result<Vec<u8>, OutOfMemory>
         ensures written { IfOk result (λ bytes. bytes.items ≡ written (key_item (key_parts self.now))) }
         ensures writable { OnOk result (IsWritable (key_item (key_parts self.now))) }

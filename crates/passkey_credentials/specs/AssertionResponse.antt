@@ -15,9 +15,15 @@ assertion_response_in object = do
   signature ← required bytes (member (codes "signature") object)
   user_handle ← or_default None (optional bytes) (member (codes "userHandle") object)
   attestation_object ← or_default None (optional bytes) (member (codes "attestationObject") object)
-  Ok (record { client_data_json = client_data_json; authenticator_data = authenticator_data; signature = signature; user_handle = user_handle; attestation_object = attestation_object })
+  Ok (record {
+    client_data_json = client_data_json;
+    authenticator_data = authenticator_data;
+    signature = signature;
+    user_handle = user_handle;
+    attestation_object = attestation_object;
+  })
 
--- whether a member is present that may take memory to decode
+-- whether a member is present whose decoding may take memory
 unfoldable pub assertion_response_takes : Object → Bool
 assertion_response_takes = takes_any (
     (codes "clientDataJSON", is_text_or_array)

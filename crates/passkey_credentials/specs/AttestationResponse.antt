@@ -17,9 +17,16 @@ attestation_response_in object = do
   public_key_algorithm ← required whole (member (codes "publicKeyAlgorithm") object)
   attestation_object ← required bytes (member (codes "attestationObject") object)
   transports ← or_default None (optional (list (one_named transport_named))) (member (codes "transports") object)
-  Ok (record { client_data_json = client_data_json; authenticator_data = authenticator_data; public_key = public_key; public_key_algorithm = public_key_algorithm; attestation_object = attestation_object; transports = transports })
+  Ok (record {
+    client_data_json = client_data_json;
+    authenticator_data = authenticator_data;
+    public_key = public_key;
+    public_key_algorithm = public_key_algorithm;
+    attestation_object = attestation_object;
+    transports = transports;
+  })
 
--- whether a member is present that may take memory to decode
+-- whether a member is present whose decoding may take memory
 unfoldable pub attestation_response_takes : Object → Bool
 attestation_response_takes = takes_any (
     (codes "clientDataJSON", is_text_or_array)

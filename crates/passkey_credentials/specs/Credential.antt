@@ -11,18 +11,27 @@ use Rattle.passkey_json.specs.declared.bytes_form.BytesForm.{BytesForm}
 use Rattle.passkey_webauthn.specs.CredentialType.{credential_type_name, credential_type_named}
 use Rattle.serde_json.specs.Data.{Data, string}
 
--- a credential whose response is of the kind
+-- a credential whose response this kind accepts
 unfoldable pub credential_in : {R : Type 0} → Kind R → Object → Result (PublicKeyCredential R) Fault
 credential_in kind object = do
   id ← required text (member (codes "id") object)
   raw_id ← required bytes (member (codes "rawId") object)
   ty ← required (one_named credential_type_named) (member (codes "type") object)
   response ← required kind (member (codes "response") object)
-  attachment ← tolerated None (optional (one_named attachment_named)) (member (codes "authenticatorAttachment") object)
+  attachment ← tolerated None (optional (one_named attachment_named))
+      (member (codes "authenticatorAttachment") object)
   results ← or_default no_outputs (record_kind client_outputs_in) (member (codes "clientExtensionResults") object)
-  Ok (record { id = id; raw_id = raw_id; ty = ty; response = response; authenticator_attachment = attachment; client_extension_results = results })
+  Ok (record {
+    id = id;
+    raw_id = raw_id;
+    ty = ty;
+    response = response;
+    authenticator_attachment = attachment;
+    client_extension_results = results;
+  })
 
--- whether a member is present that may take memory to decode, as a response that passes the test may
+-- whether a member is present whose decoding may take memory; `response_takes` decides for the
+-- response
 unfoldable pub credential_takes : (Data → Bool) → Object → Bool
 credential_takes response_takes = takes_any (
     (codes "id", is_text)

@@ -14,14 +14,14 @@ use std::alloc::Global;
 /// The response to a sign-in (WebAuthn Level 3, section 5.2.2; as JSON in section 5.1).
 #[derive(Debug, Drop)]
 pub struct AuthenticatorAssertionResponse {
-    /// The client data, as the JSON text whose hash the authenticator signed. Verify its hash over
-    /// these bytes.
+    /// The client data: the JSON text whose hash the authenticator signed. Verify the signature
+    /// over the hash of exactly these bytes.
     pub client_data_json: Bytes,
     /// The authenticator data, which `AuthenticatorData::from_slice` decodes.
     pub authenticator_data: Bytes,
     /// The signature over the authenticator data and the SHA-256 hash of the client data.
     pub signature: Bytes,
-    /// The user handle; `None` means the member is absent. It is present at a sign-in without a
+    /// The user handle; `None` means the member is absent. It is present in a sign-in without a
     /// list of allowed credentials.
     pub user_handle: Option<Bytes>,
     /// An attestation object in CBOR; `None` means the member is absent.

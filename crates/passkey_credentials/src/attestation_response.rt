@@ -17,31 +17,33 @@ use std::alloc::Global;
 /// The response to a registration (WebAuthn Level 3, section 5.2.1; as JSON in section 5.1).
 #[derive(Debug, Drop)]
 pub struct AuthenticatorAttestationResponse {
-    /// The client data, as the JSON text whose hash is in the attestation. Verify its hash over
-    /// these bytes.
+    /// The client data: the JSON text whose hash is in the attestation. Compute the hash from
+    /// exactly these bytes.
     pub client_data_json: Bytes,
     /// The authenticator data, as in the attestation object. A relying party should take it from
-    /// there, where the attestation signs it.
+    /// the attestation object, where it is signed.
     pub authenticator_data: Bytes,
-    /// The new key as a DER SubjectPublicKeyInfo; `None` means the member is absent, since the client
-    /// doesn't support the key's algorithm.
+    /// The new public key as a DER SubjectPublicKeyInfo; `None` means the member is absent, because
+    /// the client doesn't support the key's algorithm.
     pub public_key: Option<Bytes>,
-    /// The COSE number of the key's algorithm.
+    /// The COSE algorithm identifier of the key.
     pub public_key_algorithm: i64,
-    /// The attestation object in CBOR: a map of `fmt`, `attStmt` and `authData`.
+    /// The attestation object in CBOR: a map with `fmt`, `attStmt` and `authData`.
     /// `ctap2::make_credential::Response` decodes it.
     pub attestation_object: Bytes,
-    /// The transports of the authenticator, as far as the client knows them; `None` means the
-    /// member is absent.
+    /// The authenticator's transports, as far as the client knows them; `None` means the member is
+    /// absent.
     pub transports: Option<List<AuthenticatorTransport>>,
 }
 
 impl AuthenticatorAttestationResponse {
-    /// Returns an equal value. `OutOfMemory` if an allocation fails, which can't happen if all byte
-    /// strings are empty or absent and there are no transports.
+    /// Returns an equal value. Returns `OutOfMemory` if an allocation fails, which can't happen if
+    /// all byte strings are empty or absent and there are no transports.
     pub fn try_clone(&self, alloc: Global) -> Result<AuthenticatorAttestationResponse, OutOfMemory>
         ensures same { IfOk result (λ copy. copy ≡ self.now) }
-        ensures grows { OnErr result ((0 < length self.now.client_data_json) ⊎ (0 < length self.now.authenticator_data) ⊎ (0 < length self.now.attestation_object) ⊎ IsSomeAnd self.now.public_key (λ key. 0 < length key) ⊎ IsSomeAnd self.now.transports (λ ts. 0 < length ts)) }
+        ensures grows { OnErr result ((0 < length self.now.client_data_json)
+            ⊎ (0 < length self.now.authenticator_data) ⊎ (0 < length self.now.attestation_object) ⊎ IsSomeAnd
+            self.now.public_key (λ key. 0 < length key) ⊎ IsSomeAnd self.now.transports (λ ts. 0 < length ts)) }
     {
         let public_key = match &self.public_key {
             Some(key) => Some(key.try_clone(alloc)?),

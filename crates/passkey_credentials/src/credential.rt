@@ -15,7 +15,7 @@ use passkey_webauthn::PublicKeyCredentialType;
 use serde_json::Value;
 use std::alloc::Global;
 
-/// A credential that a browser returns, with its authenticator's response (WebAuthn Level 3,
+/// A credential that a browser returns, with the authenticator's response (WebAuthn Level 3,
 /// section 5.1).
 #[derive(Debug, Drop)]
 pub struct PublicKeyCredential<R: AuthenticatorResponse> {

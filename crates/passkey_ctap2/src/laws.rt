@@ -1,4 +1,4 @@
-//! Laws about messages, each the contract of a function that does nothing.
+//! Laws about messages. Each is the contract of a function that does nothing.
 pub use passkey_extensions::laws::{
     read_hmac_input_is_coherent, read_hmac_input_knows_maps, read_hmac_input_passes_over_unknown,
     written_hmac_input_is_canonical, written_hmac_input_is_read_back,

@@ -1,5 +1,5 @@
-//! CTAP2's messages between a platform and an authenticator (CTAP 2.1, section 6), in a module for
-//! each command.
+//! The CTAP2 messages between a platform and an authenticator (CTAP 2.1, section 6), in one module
+//! for each command.
 #![tactic(auto)]
 
 pub mod extensions;

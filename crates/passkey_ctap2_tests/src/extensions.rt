@@ -1,5 +1,5 @@
-//! Inputs and outputs of the extensions hmac-secret and prf
-//! (CTAP 2.1, section 12.5; WebAuthn Level 3, section 10.1.4).
+//! Inputs and outputs of the extensions hmac-secret and prf (CTAP 2.1, section 12.5; WebAuthn Level
+//! 3, section 10.1.4).
 use crate::tables::{
     assert_read, assert_refused, assert_rewritten, bytes_of, hexadecimal, item_of, read, shown,
     written,
@@ -21,7 +21,7 @@ const VALUES_WRITTEN: &str = concat!(
     "98200202020202020202020202020202020202020202020202020202020202020202",
 );
 
-/// What is printed of these values.
+/// The debug text of these values.
 const VALUES_SHOWN: &str = concat!(
     "Ok(AuthenticatorPrfValues { ",
     "first: [1, 1, 1, 1, 1, 1, 1, 1, 1, 1, 1, 1, 1, 1, 1, 1, 1, 1, 1, 1, 1, 1, 1, 1, 1, 1, 1, 1, 1, 1, 1, 1], ",
@@ -129,7 +129,7 @@ const SALTS: &str = concat!(
     "03030303030303030303",
 );
 
-/// Its encoding: members in the table's order, and credentials in the order of their ids' bytes.
+/// Its encoding: members in the table's order, and credentials in the bytewise order of their ids.
 const SALTS_WRITTEN: &str = concat!(
     "a2646576616ca16566697273749820030303030303030303030303030303030303030303030303030303030303030372",
     "6576616c5f62795f63726564656e7469616ca24102a16566697273749820010101010101010101010101010101010101",
@@ -156,7 +156,7 @@ fn inputs_of_prf(rt: HostRuntime) {
     assert_eq!(rt; copied_salts(&rt, SALTS).as_str(), SALTS_WRITTEN);
 }
 
-/// Inputs of hmac-secret: the key agreement {1: 2}, and encrypted salts and a code of one byte each.
+/// An hmac-secret input: the key agreement {1: 2}, and encrypted salts and a MAC of one byte each.
 const INPUT: &str = "a301a10102024108034109";
 
 const INPUT_SHOWN: &str = concat!(
@@ -167,7 +167,7 @@ const INPUT_SHOWN: &str = concat!(
 #[test]
 fn inputs_of_hmac_secret(rt: HostRuntime) {
     let by_numbers = "a401a101020241080341090402";
-    // the same by names, the last one first
+    // the same with names as keys, the last one first
     let by_names = concat!(
         "a47170696e55764175746850726f746f636f6c026873616c744175746841096773616c74456e6341086c6b6579416772",
         "65656d656e74a10102",
@@ -179,7 +179,7 @@ fn inputs_of_hmac_secret(rt: HostRuntime) {
     );
     assert_read::<HmacGetSecretInput>(&rt, &[(by_numbers, value), (by_names, value)]);
     assert_rewritten::<HmacGetSecretInput>(&rt, &[(by_names, by_numbers), (INPUT, INPUT)]);
-    // no code
+    // no saltAuth
     assert_refused::<HmacGetSecretInput>(&rt, &["a201000240"]);
 }
 
@@ -248,7 +248,7 @@ fn inputs_where_a_credential_is_used(rt: HostRuntime) {
     assert_read::<get_assertion::ExtensionInputs>(&rt, &[(other, value)]);
 }
 
-/// The values as a relying party sees them.
+/// The values in WebAuthn's type.
 const VALUES_SEEN: &str = concat!(
     "AuthenticationExtensionsPrfValues { ",
     "first: Bytes([1, 1, 1, 1, 1, 1, 1, 1, 1, 1, 1, 1, 1, 1, 1, 1, ",

@@ -1,4 +1,4 @@
-//! The authenticatorGetInfo response (CTAP 2.1, section 6.4; CTAP 2.2 for the members from 0x16 on).
+//! authenticatorGetInfo responses (CTAP 2.1, section 6.4; CTAP 2.2 for the members from 0x16 on).
 use crate::tables::{
     assert_read, assert_refused, assert_rewritten, bytes_of, hexadecimal, item_of, shown,
 };
@@ -49,7 +49,7 @@ fn extensions(rt: HostRuntime) {
     assert_refused::<Extension>(&rt, &["00"]);
 }
 
-/// Each option in the order of the table, and what is printed of them.
+/// Each option in the table's order, and the debug text of the options.
 const OPTIONS: &str = concat!(
     "b3626570f562726bf4627570f5627576f464706c6174f566757641636667f468616c776179735576f568637265644d67",
     "6d74f569617574686e72436667f56962696f456e726f6c6cf569636c69656e7450696ef56a6c61726765426c6f6273f4",
@@ -88,7 +88,7 @@ fn options(rt: HostRuntime) {
     assert_refused::<Options>(&rt, &["a1627570f6", "a101f5"]);
 }
 
-/// A response with every member. A number or byte under a member is the member's own number plus 32.
+/// A response with every member. A number or byte in a member is the member's own number plus 32.
 const RESPONSE: &str = concat!(
     "b81b0181684649444f5f325f3102816370726603500102030405060708090a0b0c0d0e0f1004a362726bf5627570f564",
     "706c6174f4051825068202010981637573620a81a263616c672664747970656a7075626c69632d6b65790b182b0cf40d",

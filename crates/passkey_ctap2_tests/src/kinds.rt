@@ -91,7 +91,7 @@ fn byte_strings(rt: HostRuntime) {
     assert_refused_both::<Bytes>(&rt, &["81190100", "820120", "6141", "a0", "c140", "f6"]);
 }
 
-/// 32 bytes as a byte string, and as an array of numbers.
+/// 32 bytes as a byte string, and as an array of integers.
 const AS_BYTES: &str = "58200008101820283038404850586068707880889098a0a8b0b8c0c8d0d8e0e8f0f8";
 
 const AS_NUMBERS: &str = concat!(
@@ -138,7 +138,7 @@ fn maps_from_byte_strings(rt: HostRuntime) {
     let rewritten = [
         // encoded with shorter keys first: h'', h'01', h'02', h'0100'
         ("a4410201410102420100034004", "a4400441010241020142010003"),
-        // of the keys h'07' and [7] the last one counts
+        // of the keys h'07' and [7], which are equal, the last one counts
         ("a2410701810702", "a1410702"),
         ("a0", "a0"),
     ];
@@ -187,7 +187,7 @@ fn algorithms(rt: HostRuntime) {
     assert_refused::<Algorithm>(&rt, &refused);
 }
 
-// WebAuthn Level 3, section 6.1: the hash of the relying party's id, flags, a counter and extensions.
+// WebAuthn Level 3, section 6.1: the hash of the relying party id, flags, a counter and extensions.
 #[test]
 fn authenticator_data(rt: HostRuntime) {
     // the flag ED, and an empty map of extensions
@@ -202,7 +202,7 @@ fn authenticator_data(rt: HostRuntime) {
     let least = "582500000000000000000000000000000000000000000000000000000000000000000000000000";
     assert_rewritten::<AuthenticatorData>(&rt, &[(extended, extended), (least, least)]);
     let refused = [
-        // extensions that are a number, a byte too few, a reserved flag, a text, and no bytes
+        // extensions that are an integer, one byte too few, a reserved flag, a text, and no bytes
         "58260708070807080708070807080708070807080708070807080708070807080708800000000900",
         "5824000000000000000000000000000000000000000000000000000000000000000000000000",
         "582500000000000000000000000000000000000000000000000000000000000000000200000000",
@@ -229,7 +229,7 @@ fn aaguids(rt: HostRuntime) {
     );
 }
 
-// These do nothing when they run; the proof shows that they can be called at concrete types.
+// These do nothing when they run; the proof shows that they can be called with concrete types.
 #[test]
 fn laws_at_concrete_types() {
     List::<u8>::read_back();

@@ -1,4 +1,4 @@
-//! Tests of the crates that decode and encode CTAP2's messages.
+//! Tests of the crates that decode and encode CTAP2 messages.
 #![tactic(auto)]
 
 #[cfg(test)]

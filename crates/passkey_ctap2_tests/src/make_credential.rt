@@ -11,7 +11,7 @@ use passkey_make_credential::{
 use passkey_webauthn as webauthn;
 use std::process::Abort;
 
-/// {"name": "b", "id": "a"}, and what is printed of the relying party.
+/// {"name": "b", "id": "a"}, and the debug text of the relying party.
 const RP: &str = "a2646e616d6561626269646161";
 
 const RP_SHOWN: &str = "Ok(PublicKeyCredentialRpEntity { id: \"a\", name: Some(\"b\") })";
@@ -37,7 +37,7 @@ fn relying_parties(rt: HostRuntime) {
     assert_eq!(rt; copied_rp(&rt, RP).as_str(), RP_SHOWN);
 }
 
-/// {"icon": "i", "displayName": "d", "name": "n", "id": h'07'}, and what is printed of the user.
+/// {"icon": "i", "displayName": "d", "name": "n", "id": h'07'}, and the debug text of the user.
 const USER: &str = "a46469636f6e61696b646973706c61794e616d656164646e616d65616e6269644107";
 
 const USER_SHOWN: &str = concat!(
@@ -202,7 +202,7 @@ fn responses(rt: HostRuntime) {
     );
 }
 
-/// So many arrays, one inside the other.
+/// This many arrays, one inside the other.
 fn arrays(rt: &(impl Abort + AllocGlobal), levels: usize) -> Value {
     let mut item = Value::Array(Vec::new(rt.alloc()));
     for _ in 1..levels {
@@ -211,7 +211,7 @@ fn arrays(rt: &(impl Abort + AllocGlobal), levels: usize) -> Value {
     item
 }
 
-/// A response whose statement is so many arrays.
+/// A response whose attestation statement is this many nested arrays.
 fn stating(rt: &(impl Abort + AllocGlobal), levels: usize) -> Response {
     Response {
         fmt: Text::empty(rt.alloc()),
@@ -223,7 +223,7 @@ fn stating(rt: &(impl Abort + AllocGlobal), levels: usize) -> Response {
     }
 }
 
-/// {1: "", 2: data of flags 18, 3: so many arrays}
+/// {1: "", 2: data with 18 as its flags, 3: this many nested arrays}
 fn stating_written(rt: &(impl Abort + AllocGlobal), levels: usize) -> String {
     let front =
         "a301600258250000000000000000000000000000000000000000000000000000000000000000180000000003";
@@ -235,7 +235,7 @@ fn stating_written(rt: &(impl Abort + AllocGlobal), levels: usize) -> String {
     text
 }
 
-/// What the response in hexadecimal is encoded as, or why it isn't decoded.
+/// The encoding of the response in hexadecimal, or why it isn't decoded.
 fn reread(rt: &(impl Abort + AllocGlobal), item: &str) -> String {
     match Response::from_slice(rt.alloc(), bytes_of(rt, item).as_slice()) {
         Ok((response, _)) => {
@@ -246,7 +246,7 @@ fn reread(rt: &(impl Abort + AllocGlobal), item: &str) -> String {
     }
 }
 
-// The map around the statement is one more level (RFC 8949, section 5.3.1: nesting may be limited).
+// The map around the statement is one more nesting level (RFC 8949, section 5.3.1, allows a limit).
 #[test]
 fn statements_of_255_levels_cohere(rt: HostRuntime) {
     for (levels, coheres) in [(255, true), (256, false)] {

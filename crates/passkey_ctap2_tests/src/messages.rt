@@ -1,5 +1,5 @@
-//! Messages that are decoded over a cursor: they are those that are decoded from data items, within
-//! what decoding may cost.
+//! Messages that are decoded over a cursor: they are the same as those decoded from data items, and
+//! the cost of decoding is within its bound.
 use crate::tables::{bytes_of, shown};
 use passkey_cbor::{CborError, Cursor, Value};
 use passkey_extensions::HmacGetSecretInput;
@@ -10,7 +10,7 @@ use passkey_make_credential as make_credential;
 use std::fmt::Debug;
 use std::process::Abort;
 
-/// The message of the data item that begins the bytes, and how many bytes that has.
+/// The message in the leading data item of the bytes, and the item's length.
 fn from_item<M: Message>(
     rt: &(impl Abort + AllocGlobal),
     bytes: &[u8],
@@ -29,9 +29,9 @@ fn outcome<T: Debug>(rt: &(impl Abort + AllocGlobal), read: &Result<T, Fault>) -
     }
 }
 
-/// Asserts what the message behind so many bytes 00 is, that it is decoded alike both ways, and
-/// what that costs: at most 16 heads for each byte of the data item, or one for each byte and one more
-/// if none is there; and exactly so many nodes.
+/// Asserts which message follows this many bytes 00, that it decodes alike both ways, and what that
+/// costs: at most 16 heads for each byte of the data item, or one for each byte and one more if
+/// there is none; and exactly this many nodes.
 fn assert_decoded<M: Message + Debug>(
     rt: &(impl Abort + AllocGlobal),
     skipped: usize,
@@ -69,8 +69,8 @@ fn assert_all<M: Message + Debug>(rt: &(impl Abort + AllocGlobal), rows: &[(&str
     }
 }
 
-/// CTAP 2.1, section 12.5: keyAgreement (1), saltEnc (2), saltAuth (3), pinUvAuthProtocol (4). Each with what
-/// is decoded and the nodes that it makes.
+/// CTAP 2.1, section 12.5: keyAgreement (1), saltEnc (2), saltAuth (3), pinUvAuthProtocol (4). Each
+/// input with its result and the nodes that decoding makes.
 const INPUTS: &[(&str, &str, u128)] = &[
     ("a301a1010202400340", "\"Ok\"", 3),
     // lengths and numbers in other encodings
@@ -79,7 +79,8 @@ const INPUTS: &[(&str, &str, u128)] = &[
     ("a31801a1010202400340", "\"Ok\"", 3),
     ("a3190001a1010202400340", "\"Ok\"", 3),
     ("a31b0000000000000001a1010202400340", "\"Ok\"", 3),
-    // keyAgreement by its name: a text string, a byte string, both in chunks, of one byte, and empty
+    // keyAgreement by its name: a text string, a byte string, both in chunks, in chunks of one
+    // byte, and with empty chunks
     ("a36c6b657941677265656d656e74a1010202400340", "\"Ok\"", 3),
     ("a34c6b657941677265656d656e74a1010202400340", "\"Ok\"", 3),
     (
@@ -102,7 +103,8 @@ const INPUTS: &[(&str, &str, u128)] = &[
         "\"Ok\"",
         3,
     ),
-    // unknown members in front, between and behind: a number, texts, byte strings, in chunks
+    // unknown members before, between and after the others: a number, texts, byte strings, in
+    // chunks
     ("a4050001a1010202400340", "\"Ok\"", 3),
     ("a401a1010218ff8002400340", "\"Ok\"", 3),
     ("a401a10102024003406178a0", "\"Ok\"", 3),
@@ -110,20 +112,20 @@ const INPUTS: &[(&str, &str, u128)] = &[
     ("a4410082a0a001a1010202400340", "\"Ok\"", 3),
     ("a45f4100ff7f6161ff01a1010202400340", "\"Ok\"", 3),
     ("a46b6b657941677265656d656e0001a1010202400340", "\"Ok\"", 3),
-    // what is no key of a member
+    // map keys that aren't keys of a member
     ("a401a101021901000002400340", "BadKey", 3),
     ("a1200000", "BadKey", 0),
     ("a1f500", "BadKey", 0),
     ("a18000", "BadKey", 0),
     ("a1c00100", "BadKey", 0),
     ("a1f600", "BadKey", 0),
-    // a member that is there twice
+    // a member that is present twice
     ("a401a001a002400340", "Repeated(1)", 1),
     ("a401a06c6b657941677265656d656e7401", "DecodeFailed", 0),
     ("a201a06c6b657941677265656d656e7401", "Repeated(1)", 1),
     ("a201a07f636b65796941677265656d656e74ff01", "Repeated(1)", 1),
     ("a204f60401", "Repeated(4)", 0),
-    // byte strings: in chunks, as numbers, as a text in base64url, and what is none
+    // byte strings: in chunks, as numbers, as a text in base64url, and other items
     ("a301a0025f41014102ff0340", "\"Ok\"", 1),
     ("a301a0028201020340", "\"Ok\"", 1),
     ("a301a0026241510340", "\"Ok\"", 1),
@@ -138,7 +140,7 @@ const INPUTS: &[(&str, &str, u128)] = &[
     // any item is kept as the key
     ("a301c00102400340", "\"Ok\"", 2),
     ("a301f9020002400340", "\"Ok\"", 1),
-    // what is missing, and the first fault
+    // a missing member, and the first fault
     ("a201a00240", "Missing(3)", 1),
     ("a0", "Missing(1)", 0),
     ("80", "NotAMap", 0),
@@ -158,8 +160,8 @@ fn inputs_of_hmac_secret(rt: HostRuntime) {
     assert_decoded::<HmacGetSecretInput>(&rt, 1, cut.as_slice(), "DecodeFailed", 0);
 }
 
-/// {1: [], 3: 16 bytes 00} behind an unknown member of as many levels as there may be: CTAP 2.1,
-/// section 6.4.
+/// {1: [], 3: 16 bytes 00} after an unknown member with as many nesting levels as are accepted:
+/// CTAP 2.1, section 6.4.
 fn deepest_info() -> [u8; 277] {
     let mut bytes = [0x81; 277];
     bytes[0] = 0xa3;
@@ -214,14 +216,15 @@ fn responses_of_get_info(rt: HostRuntime) {
     assert_decoded::<Response>(&rt, 0, &followed, "\"Ok\"", 0);
 }
 
-// Nothing that this response keeps takes memory, so it is decoded if the first allocation fails.
+// Nothing that this response keeps takes memory, so it is also decoded if the first allocation
+// fails.
 #[test]
 fn a_response_without_memory(rt: HostRuntime) {
     let bytes = deepest_info();
     assert!(rt; Response::from_slice(rt.alloc(), &bytes).is_ok());
 }
 
-// CTAP 2.1, section 6.2, with descriptors that are refused, and that are not
+// CTAP 2.1, section 6.2, with descriptors that are refused and others that aren't
 #[test]
 fn requests_to_get_assertions(rt: HostRuntime) {
     let rows = [
@@ -244,8 +247,8 @@ fn requests_to_get_assertions(rt: HostRuntime) {
     assert_all::<Request>(&rt, &rows);
 }
 
-/// Requests to get assertions that are rejected before anything of them takes memory: lengths that no memory has, and an
-/// item that is cut off behind an allow list.
+/// authenticatorGetAssertion requests that are rejected before any part of them takes memory:
+/// lengths for which there is never enough memory, and an item that is cut off after an allow list.
 const REJECTED: &[&[u8]] = &[
     b"\xa2\x01\x61\x61\x02\x5b\xff\xff\xff\xff\xff\xff\xff\xff",
     b"\xa3\x01\x61\x61\x02\x40\x03\x9b\0\0\0\x01\0\0\0\0",
@@ -253,7 +256,7 @@ const REJECTED: &[&[u8]] = &[
     b"\xa3\x01\x61\x61\x02",
 ];
 
-// They are rejected alike if the first allocation fails.
+// They are rejected in the same way if the first allocation fails.
 #[test]
 fn messages_without_memory(rt: HostRuntime) {
     for bytes in REJECTED {
@@ -266,8 +269,8 @@ fn messages_without_memory(rt: HostRuntime) {
     assert!(rt; matches!(read, Err(Fault::Refused(1))));
 }
 
-// CTAP 2.1, section 6.1.2: fmt (1), authData (2), attStmt (3); the data are 37 bytes in two chunks (RFC 8949, section
-// 3.2.3).
+// CTAP 2.1, section 6.1.2: fmt (1), authData (2), attStmt (3); the authenticator data is 37 bytes
+// in two chunks (RFC 8949, section 3.2.3).
 #[test]
 fn responses_with_data_in_chunks(rt: HostRuntime) {
     let chunked =

@@ -1,4 +1,5 @@
-//! Records that messages share: descriptors, parameters, users of WebAuthn, and signed extension outputs.
+//! Records that messages share: descriptors, parameters, WebAuthn users, and signed extension
+//! outputs.
 use crate::tables::{assert_read, assert_refused, assert_rewritten};
 use passkey_core::{get_assertion, make_credential};
 use passkey_webauthn::{
@@ -41,7 +42,7 @@ fn descriptors(rt: HostRuntime) {
         "a264747970656a7075626c69632d6b657962696400",
         // "id" twice, the second time as a byte string in chunks
         "a364747970656a7075626c69632d6b6579626964405f41694164ff40",
-        // besides, a number as a key, and an array as a key
+        // the same, with a number as a key, and with an array as a key
         "a364747970656a7075626c69632d6b6579626964400140",
         "a364747970656a7075626c69632d6b657962696440810000",
     ];

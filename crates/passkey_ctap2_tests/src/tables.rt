@@ -1,4 +1,4 @@
-//! Tables of items in hexadecimal, and what they decode to and are encoded as.
+//! Tables of items in hexadecimal, with what they decode to and are encoded as.
 use passkey_cbor::{Cursor, Value};
 use passkey_kinds::{FromCbor, ToCbor};
 use std::fmt::Debug;
@@ -23,14 +23,14 @@ pub(crate) fn shown<T: Debug>(rt: &(impl Abort + AllocGlobal), value: &T) -> Str
     format!(in rt.alloc(); "{value:?}").expect(rt, "memory")
 }
 
-/// The item that the value is encoded as.
+/// The encoding of the value.
 pub(crate) fn written<T: ToCbor>(rt: &(impl Abort + AllocGlobal), value: &T) -> String {
     let item = value.to_value(rt.alloc()).expect(rt, "memory");
     let bytes = item.to_vec(rt.alloc()).expect(rt, "memory");
     hexadecimal(rt, bytes.as_slice())
 }
 
-/// Asserts what is printed of the value that each item decodes to.
+/// Asserts the debug text of the value that each item decodes to.
 pub(crate) fn assert_read<T: FromCbor + Debug>(
     rt: &(impl Abort + AllocGlobal),
     rows: &[(&str, &str)],
@@ -41,7 +41,8 @@ pub(crate) fn assert_read<T: FromCbor + Debug>(
     }
 }
 
-/// Asserts the same, and that each item decodes to the same over a cursor, which is then behind it.
+/// Asserts the same, and that each item decodes to the same value over a cursor, which is then
+/// after it.
 pub(crate) fn assert_read_both<T: FromCbor + Debug>(
     rt: &(impl Abort + AllocGlobal),
     rows: &[(&str, &str)],
@@ -60,7 +61,7 @@ pub(crate) fn assert_read_both<T: FromCbor + Debug>(
     }
 }
 
-/// Asserts what the value that each item decodes to is encoded as.
+/// Asserts the encoding of the value that each item decodes to.
 pub(crate) fn assert_rewritten<T: FromCbor + ToCbor>(
     rt: &(impl Abort + AllocGlobal),
     rows: &[(&str, &str)],
@@ -79,7 +80,7 @@ pub(crate) fn assert_refused<T: FromCbor + Debug>(rt: &(impl Abort + AllocGlobal
     }
 }
 
-/// Asserts the same, and that each item is rejected over a cursor too.
+/// Asserts the same, and that each item is also rejected over a cursor.
 pub(crate) fn assert_refused_both<T: FromCbor + Debug>(
     rt: &(impl Abort + AllocGlobal),
     items: &[&str],

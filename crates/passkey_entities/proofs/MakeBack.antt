@@ -1,4 +1,4 @@
--- Relying parties and users are read back.
+-- The encodings of relying parties and users can be decoded again.
 use Rattle.std.proofs.Common.{◌≡◌, [], ◌∷◌, Some, refl}
 use Rattle.passkey_kinds.specs.ReadBack.{IsReadBack, Any}
 use Rattle.passkey_entities.specs.MakeRp.{rp_fields, rp, rp_places, rp_tree}

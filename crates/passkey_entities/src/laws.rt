@@ -1,4 +1,4 @@
-//! Laws about relying parties and users, each the contract of a function that does nothing.
+//! Laws about relying parties and users. Each is the contract of a function that does nothing.
 ghost use Rattle.passkey_entities.specs.MakeRp.{rp_places};
 ghost use Rattle.passkey_entities.specs.MakeUser.{user_places};
 ghost use Rattle.passkey_kinds.specs.Tree.{KeysAscend};

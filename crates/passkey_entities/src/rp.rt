@@ -23,16 +23,17 @@ use std::alloc::Global;
 pub struct PublicKeyCredentialRpEntity {
     /// The relying party id, a domain.
     pub id: Text,
-    /// A name for display. `None` means the member is absent; null decodes to it, too.
+    /// A name for display. `None` means that the member is absent; null also decodes to `None`.
     pub name: Option<Text>,
 }
 
 impl PublicKeyCredentialRpEntity {
-    /// Returns an equal value. `OutOfMemory` if an allocation fails, which can't happen if both
-    /// texts are empty or absent.
+    /// Returns an equal value. Returns `OutOfMemory` if an allocation fails, which can't happen if
+    /// both texts are empty or absent.
     pub fn try_clone(&self, alloc: Global) -> Result<PublicKeyCredentialRpEntity, OutOfMemory>
         ensures same { IfOk result (λ copy. copy ≡ self.now) }
-        ensures grows { OnErr result ((0 < length self.now.id) ⊎ IsSomeAnd self.now.name (λ name. 0 < length name)) }
+        ensures grows { OnErr result
+            ((0 < length self.now.id) ⊎ IsSomeAnd self.now.name (λ name. 0 < length name)) }
     {
         let name = match &self.name {
             Some(name) => Some(name.try_clone(alloc)?),
@@ -50,8 +51,8 @@ impl TryFrom<webauthn::PublicKeyCredentialRpEntity> for PublicKeyCredentialRpEnt
 
     ghost try_from_gives = { λ theirs result. result ≡ rp_of_webauthn theirs };
 
-    /// Returns the relying party with its id and name. `MissingRpId` with the name exactly if it
-    /// has no id.
+    /// Returns the relying party with its id and name. Returns `MissingRpId` with the name exactly
+    /// if the id is absent.
     fn try_from(
         theirs: webauthn::PublicKeyCredentialRpEntity,
     ) -> Result<PublicKeyCredentialRpEntity, MissingRpId> {

@@ -18,13 +18,13 @@ use passkey_memory::OutOfMemory;
 use passkey_webauthn as webauthn;
 use std::alloc::Global;
 
-/// The user account that a credential is for (CTAP 2.1, section 6.1). `None` means that a member is
-/// absent; null decodes to it, too.
+/// The user account that a credential is for (CTAP 2.1, section 6.1). `None` means that the member
+/// is absent; null also decodes to `None`.
 #[derive(Debug, Drop, PartialEq, Eq)]
 pub struct PublicKeyCredentialUserEntity {
     /// The user handle, which identifies the account: at most 64 bytes. The length isn't checked.
     pub id: Bytes,
-    /// A name for display that tells accounts apart, such as an email address.
+    /// A name for display that distinguishes the account from others, such as an email address.
     pub name: Option<Text>,
     /// `displayName`: a name for the user that is only for display.
     pub display_name: Option<Text>,
@@ -43,11 +43,13 @@ fn copied(alloc: Global, text: &Option<Text>) -> Result<Option<Text>, OutOfMemor
 }
 
 impl PublicKeyCredentialUserEntity {
-    /// Returns an equal value. `OutOfMemory` if an allocation fails, which can't happen if the id
-    /// and the texts are empty or absent.
+    /// Returns an equal value. Returns `OutOfMemory` if an allocation fails, which can't happen if
+    /// the id and the texts are empty or absent.
     pub fn try_clone(&self, alloc: Global) -> Result<PublicKeyCredentialUserEntity, OutOfMemory>
         ensures same { IfOk result (λ copy. copy ≡ self.now) }
-        ensures grows { OnErr result ((0 < length self.now.id) ⊎ IsSomeAnd self.now.name (λ t. 0 < length t) ⊎ IsSomeAnd self.now.display_name (λ t. 0 < length t) ⊎ IsSomeAnd self.now.icon_url (λ t. 0 < length t)) }
+        ensures grows { OnErr result ((0 < length self.now.id) ⊎ IsSomeAnd self.now.name (λ t. 0 < length t)
+            ⊎ IsSomeAnd self.now.display_name (λ t. 0 < length t)
+            ⊎ IsSomeAnd self.now.icon_url (λ t. 0 < length t)) }
     {
         Ok(PublicKeyCredentialUserEntity {
             id: self.id.try_clone(alloc)?,
@@ -75,10 +77,11 @@ impl From<webauthn::PublicKeyCredentialUserEntity> for PublicKeyCredentialUserEn
 impl TryFrom<PublicKeyCredentialUserEntity> for webauthn::PublicKeyCredentialUserEntity {
     type Error = &'static str;
 
-    ghost try_from_gives = { λ user result. (result_ok result ≡ webauthn_of_user user) × IfErr result (λ text. text.now ≡ codes "PublicKeyCredentialUserEntity is missing one or more required fields: name, display_name") };
+    ghost try_from_gives = { λ user result. (result_ok result ≡ webauthn_of_user user) × IfErr result (λ text. text.now
+        ≡ codes "PublicKeyCredentialUserEntity is missing one or more required fields: name, display_name") };
 
-    /// Returns the user with both names and without the icon; an error text exactly if one of the
-    /// names is absent.
+    /// Returns the user with both names and without the icon. Returns an error text exactly if one
+    /// of the names is absent.
     fn try_from(
         user: PublicKeyCredentialUserEntity,
     ) -> Result<webauthn::PublicKeyCredentialUserEntity, &'static str> {

@@ -1,4 +1,4 @@
-//! A crate of yours tests its own code as this one does.
+//! How your own crate tests its code.
 use crate::verifies_users;
 use passkey_types::ctap2::Fault;
 

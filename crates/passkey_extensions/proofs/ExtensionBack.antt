@@ -1,4 +1,4 @@
--- The extensions' records are read back.
+-- The encodings of the extensions' records can be decoded again.
 use Rattle.std.specs.Result.{result_ok}
 use Rattle.std.proofs.Common.{◌≡◌, ◌∙◌, Some, Ok, refl, ap, [], ◌∷◌}
 use Rattle.passkey_cbor.specs.Item.{Item}
@@ -31,8 +31,10 @@ use Rattle.passkey_kinds.proofs.MapBack.{map_back}
 use Rattle.passkey_kinds.proofs.Maps.{map_values_same}
 use Rattle.passkey_kinds.proofs.RowsBack.{puts_value, puts_default, kind_back, ordered_back, rows_back, ◌▸◌, no_more}
 
--- the same of what contracts see of a value
-pub seen_back : {A P M : Type 0} {kind : Kind M} {tree : P → Item} {Fits : P → Type 0} {normal : P → M} → (seen : A → P) → IsReadBack kind tree Fits normal → IsReadBack kind (λ x. tree (seen x)) (λ x. Fits (seen x)) (λ x. normal (seen x))
+-- the same for the view of a value
+pub seen_back : {A P M : Type 0} {kind : Kind M} {tree : P → Item} {Fits : P → Type 0} {normal : P → M}
+    → (seen : A → P) → IsReadBack kind tree Fits normal
+    → IsReadBack kind (λ x. tree (seen x)) (λ x. Fits (seen x)) (λ x. normal (seen x))
 seen_back seen r = record { back = λ x h. r.back (seen x) h }
 
 pub hmac_message_back : (h : HmacInputParts) → HmacInputFits h → read_hmac_input (hmac_input_tree h) ≡ Ok h
@@ -47,7 +49,8 @@ hmac_message_back h fits =
 pub hmac_parts_back : IsReadBack hmac_input hmac_input_tree HmacInputFits (λ h. h)
 hmac_parts_back = record { back = λ h fits. ap result_ok (hmac_message_back h fits) }
 
-pub hmac_input_back : IsReadBack hmac_input (λ h. hmac_input_tree (hmac_input_parts h)) (λ h. HmacInputFits (hmac_input_parts h)) hmac_input_parts
+pub hmac_input_back : IsReadBack hmac_input (λ h. hmac_input_tree (hmac_input_parts h))
+    (λ h. HmacInputFits (hmac_input_parts h)) hmac_input_parts
 hmac_input_back = seen_back hmac_input_parts hmac_parts_back
 
 pub prf_values_back : IsReadBack prf_values prf_values_tree PrfValuesFit (λ v. v)
@@ -114,7 +117,8 @@ make_parts_back = record { back = λ e fits. read e fits } where
       puts_default (optional_place hmac_parts_back refl e.hmac_secret_mc fits.0) refl ▸
       no_more)
 
-pub make_extensions_back : IsReadBack make_extensions (λ e. make_extensions_tree (make_extensions_parts e)) (λ e. MakeExtensionsFit (make_extensions_parts e)) make_extensions_parts
+pub make_extensions_back : IsReadBack make_extensions (λ e. make_extensions_tree (make_extensions_parts e))
+    (λ e. MakeExtensionsFit (make_extensions_parts e)) make_extensions_parts
 make_extensions_back = seen_back make_extensions_parts make_parts_back
 
 pub get_parts_back : IsReadBack get_extensions get_extensions_tree GetExtensionsFit (λ e. e)
@@ -126,5 +130,6 @@ get_parts_back = record { back = λ e fits. read e fits } where
       puts_default (tolerated_place hmac_parts_back e.hmac_secret fits.0) refl ▸
       no_more)
 
-pub get_extensions_back : IsReadBack get_extensions (λ e. get_extensions_tree (get_extensions_parts e)) (λ e. GetExtensionsFit (get_extensions_parts e)) get_extensions_parts
+pub get_extensions_back : IsReadBack get_extensions (λ e. get_extensions_tree (get_extensions_parts e))
+    (λ e. GetExtensionsFit (get_extensions_parts e)) get_extensions_parts
 get_extensions_back = seen_back get_extensions_parts get_parts_back

@@ -3,9 +3,9 @@ use Rattle.std.specs.Prelude.{codes}
 use Rattle.std.proofs.Common.{◌≡◌, ℕ, ◌<◌, ◌≤◌, arith, leb-true, true, Option, Some, None, option_map, refl}
 use Rattle.passkey_cbor.specs.Canonical.{IsOrdered}
 use Rattle.passkey_cbor.specs.Depth.{depth}
-use Rattle.passkey_cbor.specs.Front.{max_depth}
+use Rattle.passkey_cbor.specs.LeadingItem.{max_depth}
 use Rattle.passkey_cbor.specs.Item.{Item, boolean, text_string}
-use Rattle.passkey_cbor.specs.Laws.{AtMostOneFront, WrittenIsFront}
+use Rattle.passkey_cbor.specs.Laws.{AtMostOneLeadingItem, WrittenIsLeadingItem}
 use Rattle.passkey_cbor.specs.Writable.{IsWritable}
 use Rattle.passkey_cbor.specs.Written.{shortest_head}
 use Rattle.passkey_extensions.specs.ExtensionTrees.{hmac_input_places, hmac_input_tree, is_hmac_input_coherent, hmac_input_kept, inputs_kept, prf_values_places, prf_values_tree, prf_make_places, prf_make_tree, prf_get_places, prf_get_tree, prf_inputs_places, prf_inputs_tree, made_places, made_tree, used_places, used_tree, make_extensions_places, make_extensions_tree, make_extensions_kept, get_extensions_places, get_extensions_tree, get_extensions_kept}
@@ -62,7 +62,8 @@ prf_get_ascends o = refl
 prf_get_ordered : (o : AuthenticatorPrfGetOutputs) → IsOrdered (prf_get_tree o)
 prf_get_ordered o = record_ordered (prf_get_places o) (prf_get_ascends o) ((tt, prf_values_ordered o.results), tt)
 
-or_null : {A : Type 0} (tree : A → Item) → ((x : A) → IsOrdered (tree x)) → (o : Option A) → IsOrdered (option_tree tree o)
+or_null : {A : Type 0} (tree : A → Item) → ((x : A) → IsOrdered (tree x)) → (o : Option A)
+    → IsOrdered (option_tree tree o)
 or_null tree each None = tt
 or_null tree each (Some x) = each x
 
@@ -71,14 +72,16 @@ unfolding shortest_head
 made_ascends o = refl
 
 pub made_ordered : (o : creation.UnsignedExtensionOutputs) → IsOrdered (made_tree o)
-made_ordered o = record_ordered (made_places o) (made_ascends o) ((tt, or_null prf_make_tree prf_make_ordered o.prf), tt)
+made_ordered o =
+    record_ordered (made_places o) (made_ascends o) ((tt, or_null prf_make_tree prf_make_ordered o.prf), tt)
 
 used_ascends : (o : assertion.UnsignedExtensionOutputs) → ascend (used_places o) ≡ true
 unfolding shortest_head
 used_ascends o = refl
 
 pub used_ordered : (o : assertion.UnsignedExtensionOutputs) → IsOrdered (used_tree o)
-used_ordered o = record_ordered (used_places o) (used_ascends o) ((tt, or_null prf_get_tree prf_get_ordered o.prf), tt)
+used_ordered o =
+    record_ordered (used_places o) (used_ascends o) ((tt, or_null prf_get_tree prf_get_ordered o.prf), tt)
 
 prf_inputs_ascends : (i : AuthenticatorPrfInputs) → ascend (prf_inputs_places i) ≡ true
 unfolding shortest_head
@@ -91,7 +94,11 @@ prf_inputs_ordered : (i : AuthenticatorPrfInputs) → IsOrdered (prf_inputs_tree
 prf_inputs_ordered i =
     record_ordered (prf_inputs_places i) (prf_inputs_ascends i) (
       option_ordered prf_values_tree (text_string (codes "eval")) tt prf_values_ordered i.eval,
-      (option_ordered (byte_map_tree prf_values_tree) (text_string (codes "eval_by_credential")) tt (map_ordered prf_values_tree prf_values_ordered) i.eval_by_credential, tt),
+      (
+        option_ordered (byte_map_tree prf_values_tree) (text_string (codes "eval_by_credential")) tt
+            (map_ordered prf_values_tree prf_values_ordered) i.eval_by_credential,
+        tt,
+      ),
     )
 
 -- ---- hmac-secret, whose key is kept
@@ -113,18 +120,25 @@ hmac_input_ordered h key =
       ),
     )
 
-pub hmac_input_canonical : AtMostOneFront → WrittenIsFront → WrittenIsCanonical hmac_input_tree is_hmac_input_coherent hmac_input_kept
+pub hmac_input_canonical : AtMostOneLeadingItem → WrittenIsLeadingItem
+    → WrittenIsCanonical hmac_input_tree is_hmac_input_coherent hmac_input_kept
 hmac_input_canonical one front h w coherent kept =
     let shallow = leb-true (depth (hmac_input_tree h)) max_depth coherent in
     canonical_of (hmac_input_tree h) w shallow
-    (hmac_input_ordered h (ordered_of one front h.key_agreement (of_record (hmac_input_places h) w).0 (omega (arith, input_down h max_depth shallow)) kept.0))
+    (hmac_input_ordered h (ordered_of one front h.key_agreement (of_record (hmac_input_places h) w).0
+    (omega (arith, input_down h max_depth shallow)) kept.0))
 
 -- ---- extension inputs
 
-inputs_place : AtMostOneFront → WrittenIsFront → (key : Item) → IsOrdered key → (o : Option HmacInputParts) → PlaceWritable (option_map hmac_input_tree o) → PlaceWithin 254 key (option_map hmac_input_tree o) → AllCanonical (inputs_kept o) → PlaceOrdered key (option_map hmac_input_tree o)
+inputs_place : AtMostOneLeadingItem → WrittenIsLeadingItem → (key : Item) → IsOrdered key
+    → (o : Option HmacInputParts) → PlaceWritable (option_map hmac_input_tree o) → PlaceWithin 254 key
+    (option_map hmac_input_tree o) → AllCanonical (inputs_kept o) → PlaceOrdered key (option_map hmac_input_tree o)
 inputs_place one front key keyed None w d kept = tt
-inputs_place one front key keyed (Some h) w d kept =
-    (keyed, hmac_input_ordered h (ordered_of one front h.key_agreement (of_record (hmac_input_places h) w).0 (omega (arith, input_down h 254 d.1)) kept.0))
+inputs_place one front key keyed (Some h) w d kept = (
+  keyed,
+  hmac_input_ordered h (ordered_of one front h.key_agreement (of_record (hmac_input_places h) w).0
+      (omega (arith, input_down h 254 d.1)) kept.0),
+)
 
 make_extensions_ascends : (e : MakeExtensionsParts) → ascend (make_extensions_places e) ≡ true
 unfolding shortest_head
@@ -133,7 +147,10 @@ make_extensions_ascends e = refl
 pub make_extensions_keys : KeysAscend make_extensions_places
 make_extensions_keys e = keys_ascend (make_extensions_places e) (make_extensions_ascends e)
 
-pub make_extensions_place : AtMostOneFront → WrittenIsFront → (key : Item) → IsOrdered key → (o : Option MakeExtensionsParts) → PlaceWritable (option_map make_extensions_tree o) → PlaceWithin 255 key (option_map make_extensions_tree o) → AllCanonical (make_extensions_kept o) → PlaceOrdered key (option_map make_extensions_tree o)
+pub make_extensions_place : AtMostOneLeadingItem → WrittenIsLeadingItem → (key : Item) → IsOrdered key
+    → (o : Option MakeExtensionsParts) → PlaceWritable (option_map make_extensions_tree o)
+    → PlaceWithin 255 key (option_map make_extensions_tree o) → AllCanonical (make_extensions_kept o)
+    → PlaceOrdered key (option_map make_extensions_tree o)
 make_extensions_place one front key keyed None w d kept = tt
 make_extensions_place one front key keyed (Some e) w d kept =
     let writable = of_record (make_extensions_places e) w in
@@ -143,7 +160,11 @@ make_extensions_place one front key keyed (Some e) w d kept =
         option_ordered prf_inputs_tree (text_string (codes "prf")) tt prf_inputs_ordered e.prf,
         (
           option_ordered boolean (text_string (codes "hmac-secret")) tt (λ b. tt) e.hmac_secret,
-          (inputs_place one front (text_string (codes "hmac-secret-mc")) tt e.hmac_secret_mc writable.1.1.0 levels.1.1.0 kept, tt),
+          (
+            inputs_place one front (text_string (codes "hmac-secret-mc")) tt e.hmac_secret_mc writable.1.1.0
+                levels.1.1.0 kept,
+            tt,
+          ),
         ),
       ),
     )
@@ -155,7 +176,10 @@ get_extensions_ascends e = refl
 pub get_extensions_keys : KeysAscend get_extensions_places
 get_extensions_keys e = keys_ascend (get_extensions_places e) (get_extensions_ascends e)
 
-pub get_extensions_place : AtMostOneFront → WrittenIsFront → (key : Item) → IsOrdered key → (o : Option GetExtensionsParts) → PlaceWritable (option_map get_extensions_tree o) → PlaceWithin 255 key (option_map get_extensions_tree o) → AllCanonical (get_extensions_kept o) → PlaceOrdered key (option_map get_extensions_tree o)
+pub get_extensions_place : AtMostOneLeadingItem → WrittenIsLeadingItem → (key : Item) → IsOrdered key
+    → (o : Option GetExtensionsParts) → PlaceWritable (option_map get_extensions_tree o)
+    → PlaceWithin 255 key (option_map get_extensions_tree o) → AllCanonical (get_extensions_kept o)
+    → PlaceOrdered key (option_map get_extensions_tree o)
 get_extensions_place one front key keyed None w d kept = tt
 get_extensions_place one front key keyed (Some e) w d kept =
     let writable = of_record (get_extensions_places e) w in
@@ -163,6 +187,9 @@ get_extensions_place one front key keyed (Some e) w d kept =
       keyed,
       record_ordered (get_extensions_places e) (get_extensions_ascends e) (
         option_ordered prf_inputs_tree (text_string (codes "prf")) tt prf_inputs_ordered e.prf,
-        (inputs_place one front (text_string (codes "hmac-secret")) tt e.hmac_secret writable.1.0 levels.1.0 kept, tt),
+        (
+          inputs_place one front (text_string (codes "hmac-secret")) tt e.hmac_secret writable.1.0 levels.1.0 kept,
+          tt,
+        ),
       ),
     )

@@ -1,4 +1,4 @@
--- The key that extensions are given has fewer levels than what it was decoded from.
+-- The key in an extension input has fewer nesting levels than the item that was decoded.
 use Rattle.std.proofs.Common.{◌≡◌, ◌∙◌, ◌+◌, ◌<◌, arith, Option, Some, Ok, ap, subst}
 use Rattle.passkey_cbor.specs.Depth.{depth}
 use Rattle.passkey_cbor.specs.Item.{Item}
@@ -20,21 +20,26 @@ read_key i h read =
 input_key : (i : Item) (h : HmacInputParts) → hmac_input i ≡ Some h → depth h.key_agreement < depth i
 input_key i h e = read_key i h (ok_of (read_hmac_input i) h e)
 
--- the key is two levels deeper than what extensions are given
+-- the key is two levels deeper than the extension inputs
 abbrev KeyWithin : Item → Option HmacInputParts → Type 0
 KeyWithin i o = (h : HmacInputParts) → o ≡ Some h → depth h.key_agreement + 1 < depth i
 
-pub made_key : (i : Item) (e : MakeExtensionsParts) (h : HmacInputParts) → make_extensions i ≡ Some e → e.hmac_secret_mc ≡ Some h → depth h.key_agreement + 1 < depth i
+pub made_key : (i : Item) (e : MakeExtensionsParts) (h : HmacInputParts) → make_extensions i ≡ Some e
+    → e.hmac_secret_mc ≡ Some h → depth h.key_agreement + 1 < depth i
 made_key i e =
-    (λ h read. nested_keeps make_extensions_fields (λ p. KeyWithin i p.hmac_secret_mc) i e read (λ d k is. absurd cc)
+    (λ h read. nested_keeps make_extensions_fields (λ p. KeyWithin i p.hmac_secret_mc) i e read
+    (λ d k is. absurd cc)
     ((λ x v r less read q. q) ▹
-    (λ x v r less read q. λ k is. omega (arith, input_key x k (not_null hmac_input x k (read ∙ ap Some is)), less)) ▹
+    (λ x v r less read q. λ k is. omega (arith, input_key x k (not_null hmac_input x k (read ∙ ap Some is)), less))
+    ▹
     (λ x v r less read q. q) ▹
     no_more) h)
 
-pub used_key : (i : Item) (e : GetExtensionsParts) (h : HmacInputParts) → get_extensions i ≡ Some e → e.hmac_secret ≡ Some h → depth h.key_agreement + 1 < depth i
+pub used_key : (i : Item) (e : GetExtensionsParts) (h : HmacInputParts) → get_extensions i ≡ Some e
+    → e.hmac_secret ≡ Some h → depth h.key_agreement + 1 < depth i
 used_key i e =
     (λ h read. nested_keeps get_extensions_fields (λ p. KeyWithin i p.hmac_secret) i e read (λ d k is. absurd cc)
-    ((λ x v r less read q. λ k is. let there : hmac_input x ≡ Some k = cc in omega (arith, input_key x k there, less)) ▹
+    ((λ x v r less read q. λ k is. let there : hmac_input x ≡ Some k =
+    cc in omega (arith, input_key x k there, less)) ▹
     (λ x v r less read q. q) ▹
     no_more) h)

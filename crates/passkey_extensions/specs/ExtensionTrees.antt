@@ -1,13 +1,13 @@
--- What the extensions' records are encoded as (CTAP 2.1, section 12.5; WebAuthn Level 3, section
--- 10.1.4).
+-- The data items that the extensions' records are encoded as (CTAP 2.1, section 12.5; WebAuthn
+-- Level 3, section 10.1.4).
 use Rattle.std.specs.Prelude.{nat_le, Bool, List, [], ◌∷◌, Option, Some, None, codes}
 use Rattle.std.specs.FinMap as fin
 use Rattle.std.specs.List.{All}
 use Rattle.passkey_bytes.specs.Map.{ByteMap}
 use Rattle.passkey_cbor.specs.Depth.{depth}
-use Rattle.passkey_cbor.specs.Front.{max_depth}
+use Rattle.passkey_cbor.specs.LeadingItem.{max_depth}
 use Rattle.passkey_cbor.specs.Item.{Item, boolean, byte_string, text_string}
-use Rattle.passkey_core.specs.DataNormal.{Where}
+use Rattle.passkey_core.specs.DataNormal.{IfPresent}
 use Rattle.passkey_extensions.specs.GetExtensions.{GetExtensionsParts}
 use Rattle.passkey_extensions.specs.HmacInput.{HmacInputParts}
 use Rattle.passkey_extensions.specs.MakeExtensions.{MakeExtensionsParts}
@@ -33,11 +33,11 @@ hmac_input_places h =
 abbrev pub hmac_input_tree : HmacInputParts → Item
 hmac_input_tree h = record_tree (hmac_input_places h)
 
--- the encoding has at most as many levels as are decoded
+-- the encoding has at most `max_depth` nesting levels, so it can be decoded again
 abbrev pub is_hmac_input_coherent : HmacInputParts → Bool
 is_hmac_input_coherent h = nat_le (depth (hmac_input_tree h)) max_depth
 
--- the value that it keeps as it was decoded: the platform's key
+-- the data item that an input keeps undecoded: the platform's key
 abbrev pub hmac_input_kept : HmacInputParts → List Item
 hmac_input_kept h = h.key_agreement ∷ []
 
@@ -46,7 +46,7 @@ inputs_kept None = []
 inputs_kept (Some h) = hmac_input_kept h
 
 abbrev pub HmacInputFits : HmacInputParts → Type 0
-HmacInputFits h = Where IsByte h.pin_uv_auth_protocol
+HmacInputFits h = IfPresent IsByte h.pin_uv_auth_protocol
 
 -- ---- prf
 
@@ -60,7 +60,7 @@ abbrev pub prf_values_tree : AuthenticatorPrfValues → Item
 prf_values_tree v = record_tree (prf_values_places v)
 
 abbrev pub PrfValuesFit : AuthenticatorPrfValues → Type 0
-PrfValuesFit v = AreBytes 32 v.first × Where (AreBytes 32) v.second
+PrfValuesFit v = AreBytes 32 v.first × IfPresent (AreBytes 32) v.second
 
 abbrev pub prf_make_places : AuthenticatorPrfMakeOutputs → List Place
 prf_make_places o =
@@ -72,7 +72,7 @@ abbrev pub prf_make_tree : AuthenticatorPrfMakeOutputs → Item
 prf_make_tree o = record_tree (prf_make_places o)
 
 abbrev pub PrfMakeFits : AuthenticatorPrfMakeOutputs → Type 0
-PrfMakeFits o = Where PrfValuesFit o.results
+PrfMakeFits o = IfPresent PrfValuesFit o.results
 
 abbrev pub prf_get_places : AuthenticatorPrfGetOutputs → List Place
 prf_get_places o = always (text_string (codes "results")) prf_values_tree o.results ∷ []
@@ -96,9 +96,9 @@ abbrev pub EachFits : ByteMap AuthenticatorPrfValues → Type 0
 EachFits m = All (λ e. PrfValuesFit e.1) (fin.entries m)
 
 abbrev pub PrfInputsFit : AuthenticatorPrfInputs → Type 0
-PrfInputsFit i = Where PrfValuesFit i.eval × Where EachFits i.eval_by_credential
+PrfInputsFit i = IfPresent PrfValuesFit i.eval × IfPresent EachFits i.eval_by_credential
 
--- ---- unsigned outputs, whose member is encoded as null if it is absent
+-- ---- unsigned outputs, whose member is null if it is absent
 
 abbrev pub made_places : creation.UnsignedExtensionOutputs → List Place
 made_places o = always (text_string (codes "prf")) (option_tree prf_make_tree) o.prf ∷ []
@@ -107,7 +107,7 @@ abbrev pub made_tree : creation.UnsignedExtensionOutputs → Item
 made_tree o = record_tree (made_places o)
 
 abbrev pub MadeFits : creation.UnsignedExtensionOutputs → Type 0
-MadeFits o = Where PrfMakeFits o.prf
+MadeFits o = IfPresent PrfMakeFits o.prf
 
 abbrev pub used_places : assertion.UnsignedExtensionOutputs → List Place
 used_places o = always (text_string (codes "prf")) (option_tree prf_get_tree) o.prf ∷ []
@@ -116,7 +116,7 @@ abbrev pub used_tree : assertion.UnsignedExtensionOutputs → Item
 used_tree o = record_tree (used_places o)
 
 abbrev pub UsedFits : assertion.UnsignedExtensionOutputs → Type 0
-UsedFits o = Where PrfGetFits o.prf
+UsedFits o = IfPresent PrfGetFits o.prf
 
 -- ---- extension inputs
 
@@ -135,7 +135,7 @@ make_extensions_kept None = []
 make_extensions_kept (Some e) = inputs_kept e.hmac_secret_mc
 
 abbrev pub MakeExtensionsFit : MakeExtensionsParts → Type 0
-MakeExtensionsFit e = Where HmacInputFits e.hmac_secret_mc × Where PrfInputsFit e.prf
+MakeExtensionsFit e = IfPresent HmacInputFits e.hmac_secret_mc × IfPresent PrfInputsFit e.prf
 
 abbrev pub get_extensions_places : GetExtensionsParts → List Place
 get_extensions_places e =
@@ -151,4 +151,4 @@ get_extensions_kept None = []
 get_extensions_kept (Some e) = inputs_kept e.hmac_secret
 
 abbrev pub GetExtensionsFit : GetExtensionsParts → Type 0
-GetExtensionsFit e = Where HmacInputFits e.hmac_secret × Where PrfInputsFit e.prf
+GetExtensionsFit e = IfPresent HmacInputFits e.hmac_secret × IfPresent PrfInputsFit e.prf

@@ -17,7 +17,8 @@ abbrev pub get_extensions_fields : Fields GetExtensionsParts
 get_extensions_fields = record {
   is_numbered = false;
   blank = record { hmac_secret = None; prf = None };
-  rows = default 1 (codes "hmac-secret") (tolerated (nested hmac_input_fields)) (λ x r. record r { hmac_secret = x })
+  rows =
+      default 1 (codes "hmac-secret") (tolerated (nested hmac_input_fields)) (λ x r. record r { hmac_secret = x })
       ∷ default 2 (codes "prf") (tolerated (nested prf_inputs_fields)) (λ x r. record r { prf = x })
       ∷ [];
 }

@@ -31,6 +31,6 @@ hmac_input_table = table_of hmac_input_fields
 abbrev pub hmac_input : Kind HmacInputParts
 hmac_input = record_kind hmac_input_fields
 
--- the input that an item decodes to, or its first fault
+-- the input that a data item decodes to, or its first fault
 abbrev pub read_hmac_input : Item → Result HmacInputParts Fault
 read_hmac_input = read_item hmac_input_fields

@@ -19,7 +19,8 @@ make_extensions_fields = record {
   is_numbered = false;
   blank = record { hmac_secret = None; hmac_secret_mc = None; prf = None };
   rows = default 1 (codes "hmac-secret") (optional truth) (λ x r. record r { hmac_secret = x })
-      ∷ default 2 (codes "hmac-secret-mc") (optional (nested hmac_input_fields)) (λ x r. record r { hmac_secret_mc = x })
+      ∷ default 2 (codes "hmac-secret-mc") (optional (nested hmac_input_fields))
+      (λ x r. record r { hmac_secret_mc = x })
       ∷ default 3 (codes "prf") (optional (nested prf_inputs_fields)) (λ x r. record r { prf = x })
       ∷ [];
 }

@@ -1,5 +1,5 @@
 -- What contracts see of the extension inputs of an authenticatorMakeCredential request, and whether
--- any is present.
+-- any of them is present.
 use Rattle.std.specs.Prelude.{Bool, ◌||◌, is_some, None, option_map}
 use Rattle.passkey_extensions.specs.HmacInputView.{hmac_input_parts}
 use Rattle.passkey_extensions.specs.MakeExtensions.{MakeExtensionsParts}

@@ -12,7 +12,8 @@ prf_inputs_fields = record {
   is_numbered = false;
   blank = record { eval = None; eval_by_credential = None };
   rows = default 1 (codes "eval") (optional (nested prf_values_fields)) (λ x r. record r { eval = x })
-      ∷ default 2 (codes "eval_by_credential") (optional (map_from_bytes (nested prf_values_fields))) (λ x r. record r { eval_by_credential = x })
+      ∷ default 2 (codes "eval_by_credential") (optional (map_from_bytes (nested prf_values_fields)))
+      (λ x r. record r { eval_by_credential = x })
       ∷ [];
 }
 

@@ -1,4 +1,4 @@
--- The extension prf's values and outputs as WebAuthn has them (WebAuthn Level 3, section 10.1.4).
+-- Values and outputs of the extension prf in WebAuthn's types (WebAuthn Level 3, section 10.1.4).
 use Rattle.std.specs.Prelude.{Some, None, option_map}
 use Rattle.passkey_extensions.specs.declared.prf_get_outputs.AuthenticatorPrfGetOutputs.{AuthenticatorPrfGetOutputs}
 use Rattle.passkey_extensions.specs.declared.prf_make_outputs.AuthenticatorPrfMakeOutputs.{AuthenticatorPrfMakeOutputs}
@@ -9,7 +9,7 @@ use Rattle.passkey_webauthn.specs.declared.prf_values.AuthenticationExtensionsPr
 abbrev pub webauthn_values : AuthenticatorPrfValues → AuthenticationExtensionsPrfValues
 webauthn_values v = record { first = v.first; second = v.second }
 
--- at a registration, with `enabled`
+-- at a registration, where `enabled` is present
 abbrev pub webauthn_made : AuthenticatorPrfMakeOutputs → AuthenticationExtensionsPrfOutputs
 webauthn_made o = record { enabled = Some o.enabled; results = option_map webauthn_values o.results }
 

@@ -30,7 +30,7 @@ use std::alloc::Global;
 #[derive(Debug, Drop, PartialEq)]
 pub struct HmacGetSecretInput {
     /// 0x01: `keyAgreement`, the platform's public key for the shared secret. It is kept as a data
-    /// item and not checked to be a COSE key.
+    /// item, and isn't checked to be a COSE key.
     pub key_agreement: Value,
     /// 0x02: `saltEnc`, one or two salts of 32 bytes, encrypted with the shared secret. The length
     /// isn't checked.
@@ -38,17 +38,18 @@ pub struct HmacGetSecretInput {
     /// 0x03: `saltAuth`, which authenticates `saltEnc` with the shared secret. The length isn't
     /// checked.
     pub salt_auth: Bytes,
-    /// 0x04: the PIN/UV auth protocol of the shared secret. `None` means the member is absent;
-    /// platforms MUST send it unless it is 1. Null decodes to `None`, too.
+    /// 0x04: the PIN/UV auth protocol of the shared secret. `None` means that the member is absent;
+    /// platforms MUST send it unless it is 1. Null also decodes to `None`.
     pub pin_uv_auth_protocol: Option<u8>,
 }
 
 impl HmacGetSecretInput {
-    /// Returns an equal value. `OutOfMemory` if an allocation fails, which can't happen if both
-    /// byte strings are empty and the key takes no memory.
+    /// Returns an equal value. Returns `OutOfMemory` if an allocation fails, which can't happen if
+    /// both byte strings are empty and the key takes no memory.
     pub fn try_clone(&self, alloc: Global) -> Result<HmacGetSecretInput, OutOfMemory>
         ensures same { IfOk result (λ copy. hmac_input_parts copy ≡ hmac_input_parts self.now) }
-        ensures grows { OnErr result (Grows (item_of self.now.key_agreement) ⊎ (0 < length self.now.salt_enc) ⊎ (0 < length self.now.salt_auth)) }
+        ensures grows { OnErr result (Grows (item_of self.now.key_agreement) ⊎ (0 < length self.now.salt_enc)
+            ⊎ (0 < length self.now.salt_auth)) }
     {
         Ok(HmacGetSecretInput {
             key_agreement: self.key_agreement.try_clone(alloc)?,
@@ -58,8 +59,8 @@ impl HmacGetSecretInput {
         })
     }
 
-    /// Decodes the input that the bytes begin with, and returns it with its length in bytes. Bytes
-    /// after it are ignored. The errors are those of `read`.
+    /// Decodes the input at the beginning of the bytes, and returns it with its length in bytes.
+    /// Bytes after it are ignored. The errors are those of `read`.
     pub fn from_slice(alloc: Global, bytes: &[u8]) -> Result<(HmacGetSecretInput, usize), Fault>
         ensures reads { ReadsMessage hmac_input_parts read_hmac_input bytes.now result }
         ensures grows { result ≡ Err NoRoom → GrowsMessage hmac_input_fields bytes.now }
@@ -68,30 +69,34 @@ impl HmacGetSecretInput {
     }
 
     /// Decodes the input at the cursor, head by head and without building a data item for the
-    /// whole, and moves behind it. `DecodeFailed` exactly if no well-formed data item of at most
-    /// 256 levels is there; otherwise the fault that `from_value` returns for the item;
-    /// `OutOfMemory` if an allocation fails, which can only happen for a member that takes memory.
-    /// On an error the cursor stays, and its counts include what was spent.
+    /// whole, and moves past it. Returns `DecodeFailed` exactly if no well-formed data item of at
+    /// most 256 nesting levels is there; otherwise the fault that `from_value` returns for the
+    /// item. Returns `OutOfMemory` if an allocation fails, which can only happen for a member that
+    /// takes memory. On an error the cursor stays, and its counts include what was spent.
     pub fn read(alloc: Global, cursor: &mut Cursor<'_>) -> Result<HmacGetSecretInput, Fault>
         ensures { ReadsHere hmac_input_parts hmac_input_fields 16 cursor.old cursor.new result }
     {
         read_message(alloc, cursor)
     }
 
-    /// Decodes the input from a data item. `NotAMap` if it isn't a map; otherwise the first fault
-    /// of its members in their order (`BadKey`, `Repeated`, `Refused`), or `Missing` for the first
-    /// required member that is absent; `OutOfMemory` if an allocation fails, which can only happen
-    /// for a member that takes memory. Unknown members are skipped.
+    /// Decodes the input from a data item. Returns `NotAMap` if the item isn't a map; otherwise the
+    /// first fault of its members in their order (`BadKey`, `Repeated`, `Refused`), or else
+    /// `Missing` for the first required member that is absent. Returns `OutOfMemory` if an
+    /// allocation fails, which can only happen for a member that takes memory. Skips unknown
+    /// members.
     pub fn from_value(alloc: Global, value: &Value) -> Result<HmacGetSecretInput, Fault>
-        ensures { Reads hmac_input_parts (MayGrowAt hmac_input_table (item_of value.now)) (read_hmac_input (item_of value.now)) result }
+        ensures { Reads hmac_input_parts (MayGrowAt hmac_input_table (item_of value.now))
+            (read_hmac_input (item_of value.now)) result }
     {
         record_from_value(alloc, value)
     }
 
-    /// Encodes the input: its members under their numbers, in ascending order, and the protocol
-    /// only if it is present. `OutOfMemory` if an allocation fails; there is no other error.
+    /// Encodes the input, with its members under their numbers in ascending order. The protocol is
+    /// encoded only if it is present. Returns `OutOfMemory` if an allocation fails; there is no
+    /// other error.
     pub fn to_vec(&self, alloc: Global) -> Result<Vec<u8>, WriteFault>
-        ensures written { IfOk result (λ bytes. bytes.items ≡ written (hmac_input_tree (hmac_input_parts self.now))) }
+        ensures written { IfOk result
+            (λ bytes. bytes.items ≡ written (hmac_input_tree (hmac_input_parts self.now))) }
         ensures writable { OnOk result (IsWritable (hmac_input_tree (hmac_input_parts self.now))) }
         ensures fits { OnOk result (HmacInputFits (hmac_input_parts self.now)) }
         ensures memory { IfErr result (λ e. e ≡ NoMemory) }
@@ -99,15 +104,15 @@ impl HmacGetSecretInput {
         write_message(alloc, self)
     }
 
-    /// Returns whether the encoding can be decoded again: it has at most 256 levels. Allocates
-    /// nothing.
+    /// Returns whether the encoding can be decoded again: it has at most 256 nesting levels.
+    /// Allocates nothing.
     pub fn is_coherent(&self) -> bool
         ensures { result ≡ is_hmac_input_coherent (hmac_input_parts self.now) }
     {
         self.is_within(MAX_DEPTH)
     }
 
-    /// Returns whether the encoding has at most this many levels.
+    /// Returns whether the encoding has at most this many nesting levels.
     #[tactic(auto, using(crate::proofs::ExtensionLevels::input_within))]
     pub(crate) fn is_within(&self, levels: usize) -> bool
         ensures { result ≡ nat_le (depth (hmac_input_tree (hmac_input_parts self.now))) levels }

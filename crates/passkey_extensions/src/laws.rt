@@ -1,4 +1,4 @@
-//! Laws about the extensions' records, each the contract of a function that does nothing.
+//! Laws about the extensions' records. Each is the contract of a function that does nothing.
 ghost use Rattle.passkey_extensions.specs.ExtensionTrees.{hmac_input_tree, HmacInputFits, is_hmac_input_coherent, hmac_input_kept, prf_values_places, prf_make_places, prf_inputs_places, make_extensions_places, get_extensions_places};
 ghost use Rattle.passkey_extensions.specs.HmacInput.{hmac_input_fields, read_hmac_input};
 ghost use Rattle.passkey_extensions.specs.HmacInputView.{hmac_input_parts};
@@ -11,19 +11,19 @@ ghost use Rattle.passkey_kinds.specs.Tree.{KeysAscend};
 pub fn written_hmac_input_is_read_back()
     ensures { WrittenIsReadBack read_hmac_input hmac_input_tree HmacInputFits is_hmac_input_coherent (λ h. h) }
 {
-    passkey_cbor::laws::written_is_front();
+    passkey_cbor::laws::written_is_leading_item();
 }
 
-/// The encoding of a coherent hmac-secret input is in CTAP2's canonical form, if that of its key is
-/// (CTAP 2.1, section 8).
+/// The encoding of a coherent hmac-secret input is in CTAP2's canonical form if the encoding of its
+/// key is (CTAP 2.1, section 8).
 pub fn written_hmac_input_is_canonical()
     ensures { WrittenIsCanonical hmac_input_tree is_hmac_input_coherent hmac_input_kept }
 {
-    passkey_cbor::laws::at_most_one_front();
-    passkey_cbor::laws::written_is_front();
+    passkey_cbor::laws::at_most_one_leading_item();
+    passkey_cbor::laws::written_is_leading_item();
 }
 
-/// Records with two names or more are encoded with their keys in CTAP2's order (CTAP 2.1, section
+/// Records with two or more members are encoded with their keys in CTAP2's order (CTAP 2.1, section
 /// 8).
 pub fn written_keys_ascend()
     ensures prf_values { KeysAscend prf_values_places }
@@ -43,11 +43,11 @@ pub fn read_hmac_input_knows_maps()
     ensures { KnowsMaps read_hmac_input }
 {}
 
-/// A member under an unknown key may be anywhere in an hmac-secret input, as long as the map has at
-/// most 256 levels with it: for any encodings with and without the member, the results differ only
-/// in the length in bytes.
+/// A member under an unknown key may be anywhere in an hmac-secret input: for any encodings of the
+/// map with and without the member, of at most 256 nesting levels, the results differ only in their
+/// length in bytes.
 pub fn read_hmac_input_passes_over_unknown()
     ensures { PassesOverUnknown hmac_input_parts hmac_input_fields }
 {
-    passkey_cbor::laws::at_most_one_front();
+    passkey_cbor::laws::at_most_one_leading_item();
 }

@@ -24,8 +24,8 @@ pub struct AuthenticatorPrfGetOutputs {
 }
 
 impl AuthenticatorPrfGetOutputs {
-    /// Returns the outputs as WebAuthn has them, without `enabled`. `OutOfMemory` if an allocation
-    /// fails.
+    /// Returns the outputs in WebAuthn's type, with `enabled` absent. Returns `OutOfMemory` if an
+    /// allocation fails.
     pub fn to_webauthn(
         &self,
         alloc: Global,

@@ -18,7 +18,7 @@ use passkey_memory::OutOfMemory;
 use std::alloc::Global;
 
 /// The salts for which the extension prf is to return outputs (WebAuthn Level 3, section 10.1.4).
-/// `None` means that a member is absent; null decodes to it, too.
+/// `None` means that the member is absent; null also decodes to `None`.
 #[derive(Debug, Drop, PartialEq, Eq)]
 pub struct AuthenticatorPrfInputs {
     /// The salts for credentials without salts of their own.
@@ -50,8 +50,8 @@ fn copied_map(
 }
 
 impl AuthenticatorPrfInputs {
-    /// Returns an equal value. `OutOfMemory` if an allocation fails, which can't happen if no
-    /// credential has salts of its own.
+    /// Returns an equal value. Returns `OutOfMemory` if an allocation fails, which can't happen if
+    /// no credential has salts of its own.
     pub fn try_clone(&self, alloc: Global) -> Result<AuthenticatorPrfInputs, OutOfMemory>
         ensures same { IfOk result (λ copy. copy ≡ self.now) }
         ensures grows { OnErr result (IsSomeAnd self.now.eval_by_credential (λ salts. ¬ (salts ≡ fin.empty))) }

@@ -21,13 +21,14 @@ use std::alloc::Global;
 pub struct AuthenticatorPrfMakeOutputs {
     /// Whether the new credential supports the extension.
     pub enabled: bool,
-    /// The outputs for the salts. `None` means the member is absent; null decodes to it, too.
+    /// The outputs for the salts. `None` means that the member is absent; null also decodes to
+    /// `None`.
     pub results: Option<AuthenticatorPrfValues>,
 }
 
 impl AuthenticatorPrfMakeOutputs {
-    /// Returns the outputs as WebAuthn has them, with `enabled`. `OutOfMemory` if an allocation
-    /// fails, which can't happen if there are no results.
+    /// Returns the outputs in WebAuthn's type, with `enabled`. Returns `OutOfMemory` if an
+    /// allocation fails, which can't happen if there are no results.
     pub fn to_webauthn(
         &self,
         alloc: Global,

@@ -16,19 +16,20 @@ use passkey_memory::OutOfMemory;
 use passkey_webauthn::AuthenticationExtensionsPrfValues;
 use std::alloc::Global;
 
-/// One or two salts of the extension prf, or the outputs for them, 32 bytes each (WebAuthn Level 3,
-/// section 10.1.4). They are encoded as arrays of numbers, and decoded from byte strings, too.
+/// One or two salts of the extension prf, or the outputs for them, each of 32 bytes (WebAuthn Level
+/// 3, section 10.1.4). They are encoded as arrays of integers, and can be decoded from byte
+/// strings, too.
 #[derive(Clone, Debug, Drop, PartialEq, Eq)]
 pub struct AuthenticatorPrfValues {
     /// The first salt, or the output for it.
     pub first: [u8; 32],
-    /// The second salt, or the output for it. `None` means the member is absent; null decodes to
-    /// it, too.
+    /// The second salt, or the output for it. `None` means that the member is absent; null also
+    /// decodes to `None`.
     pub second: Option<[u8; 32]>,
 }
 
 impl AuthenticatorPrfValues {
-    /// Returns the values as WebAuthn has them. `OutOfMemory` if an allocation fails.
+    /// Returns the values in WebAuthn's type. Returns `OutOfMemory` if an allocation fails.
     pub fn to_webauthn(
         &self,
         alloc: Global,

@@ -1,4 +1,5 @@
--- Options of authenticatorGetAssertion are read back, and written with one level.
+-- The encoding of the options of authenticatorGetAssertion can be decoded again, and has one
+-- nesting level.
 use Rattle.std.proofs.Common.{◌≡◌, ◌≤◌, Some, refl}
 use Rattle.passkey_cbor.specs.Depth.{depth}
 use Rattle.passkey_get_assertion.specs.GetOptions.{options_fields, options, options_places, options_tree}

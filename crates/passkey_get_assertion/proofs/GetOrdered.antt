@@ -1,11 +1,11 @@
--- The messages of authenticatorGetAssertion are written in canonical form.
+-- The encodings of the messages of authenticatorGetAssertion are canonical.
 use Rattle.std.proofs.Common.{◌≡◌, ◌≤◌, nat_le, arith, leb-true, true, refl}
 use Rattle.std.proofs.lemmas.Bool.{and_parts}
 use Rattle.passkey_cbor.specs.Canonical.{IsOrdered}
 use Rattle.passkey_cbor.specs.Depth.{depth}
-use Rattle.passkey_cbor.specs.Front.{max_depth}
+use Rattle.passkey_cbor.specs.LeadingItem.{max_depth}
 use Rattle.passkey_cbor.specs.Item.{boolean, byte_string}
-use Rattle.passkey_cbor.specs.Laws.{AtMostOneFront, WrittenIsFront}
+use Rattle.passkey_cbor.specs.Laws.{AtMostOneLeadingItem, WrittenIsLeadingItem}
 use Rattle.passkey_cbor.specs.Written.{shortest_head}
 use Rattle.passkey_core.specs.Coherent.{is_coherent}
 use Rattle.passkey_extensions.specs.ExtensionTrees.{used_tree}
@@ -39,7 +39,8 @@ request_ascends : (r : GetRequestParts) → ascend (get_request_places r) ≡ tr
 unfolding shortest_head
 request_ascends r = refl
 
-pub get_request_canonical : AtMostOneFront → WrittenIsFront → WrittenIsCanonical get_request_tree is_get_request_coherent get_request_kept
+pub get_request_canonical : AtMostOneLeadingItem → WrittenIsLeadingItem
+    → WrittenIsCanonical get_request_tree is_get_request_coherent get_request_kept
 get_request_canonical one front r w coherent kept =
     let shallow = leb-true (depth (get_request_tree r)) max_depth coherent in
     let writable = of_record (get_request_places r) w in
@@ -50,7 +51,8 @@ get_request_canonical one front r w coherent kept =
       (
         (tt, tt),
         (
-          option_ordered (list_tree descriptor_tree) (number_tree 3) tt (list_ordered descriptor_tree descriptor_ordered) r.allow_list,
+          option_ordered (list_tree descriptor_tree) (number_tree 3) tt
+              (list_ordered descriptor_tree descriptor_ordered) r.allow_list,
           (
             get_extensions_place one front (number_tree 4) tt r.extensions writable.1.1.1.0 levels.1.1.1.0 kept,
             (

@@ -1,9 +1,9 @@
--- Requests to use a credential: reading back what is written, and its levels.
+-- authenticatorGetAssertion requests: decoding their encodings again, and their nesting levels.
 use Rattle.std.proofs.Common.{◌≡◌, ◌∙◌, ◌≤◌, nat_le, arith, le-leb, leb-true, true, List, Option, Some, None, option_map, Ok, refl, sym}
 use Rattle.passkey_cbor.specs.Depth.{depth}
-use Rattle.passkey_cbor.specs.Front.{max_depth}
+use Rattle.passkey_cbor.specs.LeadingItem.{max_depth}
 use Rattle.passkey_cbor.specs.Item.{Item, byte_string}
-use Rattle.passkey_cbor.specs.Laws.{WrittenIsFront}
+use Rattle.passkey_cbor.specs.Laws.{WrittenIsLeadingItem}
 use Rattle.passkey_get_assertion.specs.GetRequest.{GetRequestParts, get_request_fields, read_get_request, get_request_places, get_request_tree, GetRequestFits, is_get_request_coherent}
 use Rattle.passkey_get_assertion.proofs.GetBack.{options_back, options_levels}
 use Rattle.passkey_extensions.specs.ExtensionTrees.{hmac_input_tree, get_extensions_tree}
@@ -24,7 +24,7 @@ use Rattle.passkey_kinds.proofs.RecordLevels.{descriptor_levels, flat}
 use Rattle.passkey_webauthn.specs.declared.descriptor.PublicKeyCredentialDescriptor.{PublicKeyCredentialDescriptor}
 use Rattle.passkey_kinds.proofs.RowsBack.{puts_value, puts_default, rows_back, ◌▸◌, no_more}
 
--- ---- what is written is read back
+-- ---- an encoding can be decoded again
 
 request_back : (r : GetRequestParts) → GetRequestFits r → read_get_request (get_request_tree r) ≡ Ok r
 request_back r fits =
@@ -38,52 +38,87 @@ request_back r fits =
     puts_default (optional_place byte_back refl r.pin_protocol fits.1) refl ▸
     no_more)
 
-pub get_request_returns : WrittenIsFront → WrittenIsReadBack read_get_request get_request_tree GetRequestFits is_get_request_coherent (λ r. r)
-get_request_returns law r rest fits writable coherent = (law (get_request_tree r) rest writable (leb-true (depth (get_request_tree r)) max_depth coherent), request_back r fits)
+pub get_request_returns : WrittenIsLeadingItem
+    → WrittenIsReadBack read_get_request get_request_tree GetRequestFits is_get_request_coherent (λ r. r)
+get_request_returns law r rest fits writable coherent = (
+  law (get_request_tree r) rest writable
+      (leb-true (depth (get_request_tree r)) max_depth coherent),
+  request_back r fits,
+)
 
 -- ---- only the extensions may have many levels
 
-request_up : (r : GetRequestParts) → PlaceWithin 255 (number_tree 4) (option_map get_extensions_tree r.extensions) → depth (get_request_tree r) ≤ 256
+request_up : (r : GetRequestParts) → PlaceWithin 255 (number_tree 4) (option_map get_extensions_tree r.extensions)
+    → depth (get_request_tree r) ≤ 256
 request_up r extensions =
-    record_within 255 (get_request_places r)
-    (flat 255, (flat 255, (option_within (list_tree descriptor_tree) 255 (number_tree 3) (omega arith) descriptors r.allow_list, (extensions, ((omega arith, omega (arith, options_levels r.options)), (option_within byte_string 255 (number_tree 6) (omega arith) (λ b. omega arith) r.pin_auth, (option_within number_tree 255 (number_tree 7) (omega arith) (λ n. omega arith) r.pin_protocol, tt)))))))
+    record_within 255 (get_request_places r) (
+      flat 255,
+      (
+        flat 255,
+        (
+          option_within (list_tree descriptor_tree) 255 (number_tree 3) (omega arith) descriptors
+              r.allow_list,
+          (
+            extensions,
+            (
+              (omega arith, omega (arith, options_levels r.options)),
+              (
+                option_within byte_string 255 (number_tree 6) (omega arith) (λ b. omega arith) r.pin_auth,
+                (option_within number_tree 255 (number_tree 7) (omega arith) (λ n. omega arith) r.pin_protocol, tt),
+              ),
+            ),
+          ),
+        ),
+      ),
+    )
   where
     descriptors : (ds : List PublicKeyCredentialDescriptor) → depth (list_tree descriptor_tree ds) ≤ 255
     descriptors ds = omega (arith, list_within descriptor_tree 2 descriptor_levels ds)
 
 pub request_without : (r : GetRequestParts) → r.extensions ≡ None → true ≡ is_get_request_coherent r
-request_without r is = sym (le-leb (depth (get_request_tree r)) 256 (request_up r (none_within get_extensions_tree 255 (number_tree 4) r.extensions is)))
+request_without r is = sym (le-leb (depth (get_request_tree r)) 256
+    (request_up r (none_within get_extensions_tree 255 (number_tree 4) r.extensions is)))
 
-pub request_with : (r : GetRequestParts) (e : GetExtensionsParts) → r.extensions ≡ Some e → nat_le (depth (get_extensions_tree e)) 255 ≡ is_get_request_coherent r
+pub request_with : (r : GetRequestParts) (e : GetExtensionsParts) → r.extensions ≡ Some e
+    → nat_le (depth (get_extensions_tree e)) 255 ≡ is_get_request_coherent r
 request_with r e is =
     same_tests (nat_le (depth (get_extensions_tree e)) 255) (is_get_request_coherent r)
-    (λ t. le-leb (depth (get_request_tree r)) 256 (request_up r (some_within get_extensions_tree 255 (number_tree 4) r.extensions e (omega arith) is (leb-true (depth (get_extensions_tree e)) 255 t))))
-    (λ t. le-leb (depth (get_extensions_tree e)) 255 (of_some get_extensions_tree 255 (number_tree 4) r.extensions e is (of_record 255 (get_request_places r) (leb-true (depth (get_request_tree r)) 256 t)).1.1.1.0))
+    (λ t. le-leb (depth (get_request_tree r)) 256 (request_up r (some_within get_extensions_tree 255 (number_tree 4)
+    r.extensions e (omega arith) is (leb-true (depth (get_extensions_tree e)) 255 t))))
+    (λ t. le-leb (depth (get_extensions_tree e)) 255 (of_some get_extensions_tree 255 (number_tree 4) r.extensions e
+    is (of_record 255 (get_request_places r) (leb-true (depth (get_request_tree r)) 256 t)).1.1.1.0))
 
--- ---- what is read is coherent
+-- ---- a decoded request is coherent
 
-extensions_coherent : (i : Item) (e : GetExtensionsParts) (salts : Option HmacInputParts) → depth i ≤ 255 → get_extensions i ≡ Some e → e.hmac_secret ≡ salts → nat_le (depth (get_extensions_tree e)) 255 ≡ true
+extensions_coherent : (i : Item) (e : GetExtensionsParts) (salts : Option HmacInputParts) → depth i ≤ 255
+    → get_extensions i ≡ Some e → e.hmac_secret ≡ salts → nat_le (depth (get_extensions_tree e)) 255 ≡ true
 extensions_coherent i e None small read is = sym (used_without e is)
-extensions_coherent i e (Some h) small read is = sym (used_with e h is) ∙ le-leb (depth (hmac_input_tree h)) 254 (input_up h 254 (omega (arith, small, used_key i e h read is)))
+extensions_coherent i e (Some h) small read is = sym (used_with e h is)
+    ∙ le-leb (depth (hmac_input_tree h)) 254 (input_up h 254 (omega (arith, small, used_key i e h read is)))
 
 abbrev ExtensionsAreCoherent : GetRequestParts → Type 0
-ExtensionsAreCoherent r = (e : GetExtensionsParts) → r.extensions ≡ Some e → nat_le (depth (get_extensions_tree e)) 255 ≡ true
+ExtensionsAreCoherent r = (e : GetExtensionsParts) → r.extensions ≡ Some e
+    → nat_le (depth (get_extensions_tree e)) 255 ≡ true
 
-read_extensions : (i : Item) (r : GetRequestParts) → depth i ≤ 256 → read_get_request i ≡ Ok r → ExtensionsAreCoherent r
+read_extensions : (i : Item) (r : GetRequestParts) → depth i ≤ 256 → read_get_request i ≡ Ok r
+    → ExtensionsAreCoherent r
 read_extensions i r small read =
     record_keeps get_request_fields ExtensionsAreCoherent i r read (λ d e is. absurd cc)
     ((λ x v p less e h. h) ▹
     (λ x v p less e h. h) ▹
     (λ x v p less e h. h) ▹
-    (λ x v p less read h. λ e is. let there : get_extensions x ≡ Some e = cc in extensions_coherent x e e.hmac_secret (omega (arith, less, small)) there refl) ▹
+    (λ x v p less read h. λ e is. let there : get_extensions x ≡ Some e =
+    cc in extensions_coherent x e e.hmac_secret (omega (arith, less, small)) there refl) ▹
     (λ x v p less e h. h) ▹
     (λ x v p less e h. h) ▹
     (λ x v p less e h. h) ▹
     kept.no_more)
 
-read_coherent : (i : Item) (r : GetRequestParts) (extensions : Option GetExtensionsParts) → depth i ≤ 256 → read_get_request i ≡ Ok r → r.extensions ≡ extensions → is_get_request_coherent r ≡ true
+read_coherent : (i : Item) (r : GetRequestParts) (extensions : Option GetExtensionsParts) → depth i ≤ 256
+    → read_get_request i ≡ Ok r → r.extensions ≡ extensions → is_get_request_coherent r ≡ true
 read_coherent i r None small read is = sym (request_without r is)
 read_coherent i r (Some e) small read is = sym (request_with r e is) ∙ read_extensions i r small read e is
 
 pub get_request_coherent : ReadIsCoherent read_get_request is_get_request_coherent
-get_request_coherent bytes r begins = read_coherent begins.item r r.extensions begins.front.shallow begins.holds refl
+get_request_coherent bytes r begins =
+    read_coherent begins.item r r.extensions begins.front.shallow begins.holds refl

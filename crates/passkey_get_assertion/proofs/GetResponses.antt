@@ -1,10 +1,10 @@
--- Responses to requests to use a credential: reading back what is written, and its levels.
+-- authenticatorGetAssertion responses: decoding their encodings again, and their nesting levels.
 use Rattle.std.proofs.Common.{◌≡◌, ◌≤◌, nat_le, arith, le-leb, leb-true, Bool, true, false, ◌&&◌, Ok, refl, sym}
 use Rattle.std.proofs.lemmas.Bool.{and_parts, and_from}
 use Rattle.passkey_cbor.specs.Depth.{depth}
-use Rattle.passkey_cbor.specs.Front.{max_depth}
+use Rattle.passkey_cbor.specs.LeadingItem.{max_depth}
 use Rattle.passkey_cbor.specs.Item.{boolean, byte_string}
-use Rattle.passkey_cbor.specs.Laws.{WrittenIsFront}
+use Rattle.passkey_cbor.specs.Laws.{WrittenIsLeadingItem}
 use Rattle.passkey_core.specs.Coherent.{is_coherent}
 use Rattle.passkey_core.specs.DataLaws.{GivenIsCoherent, ReadIsGiven, WrittenDataAreReadBack}
 use Rattle.passkey_get_assertion.specs.GetResponse.{GetResponseParts, get_response_fields, read_get_response, get_response_places, get_response_tree, GetResponseFits, is_get_response_coherent, normal_get_response}
@@ -33,8 +33,28 @@ use Rattle.passkey_kinds.proofs.RowsBack.{puts_value, puts_default, rows_back, �
 
 response_levels : (r : GetResponseParts) → depth (get_response_tree r) ≤ 256
 response_levels r =
-    record_within 255 (get_response_places r)
-    (option_within descriptor_tree 255 (number_tree 1) (omega arith) credentials r.credential, (flat 255, (flat 255, (option_within user_tree 255 (number_tree 4) (omega arith) users r.user, (option_within number_tree 255 (number_tree 5) (omega arith) (λ n. omega arith) r.number_of_credentials, (option_within boolean 255 (number_tree 6) (omega arith) (λ b. omega arith) r.user_selected, (option_within byte_string 255 (number_tree 7) (omega arith) (λ b. omega arith) r.large_blob_key, (option_within used_tree 255 (number_tree 8) (omega arith) outputs r.unsigned_extension_outputs, tt))))))))
+    record_within 255 (get_response_places r) (
+      option_within descriptor_tree 255 (number_tree 1) (omega arith) credentials r.credential,
+      (
+        flat 255,
+        (
+          flat 255,
+          (
+            option_within user_tree 255 (number_tree 4) (omega arith) users r.user,
+            (
+              option_within number_tree 255 (number_tree 5) (omega arith) (λ n. omega arith) r.number_of_credentials,
+              (
+                option_within boolean 255 (number_tree 6) (omega arith) (λ b. omega arith) r.user_selected,
+                (
+                  option_within byte_string 255 (number_tree 7) (omega arith) (λ b. omega arith) r.large_blob_key,
+                  (option_within used_tree 255 (number_tree 8) (omega arith) outputs r.unsigned_extension_outputs, tt),
+                ),
+              ),
+            ),
+          ),
+        ),
+      ),
+    )
   where
     credentials : (d : PublicKeyCredentialDescriptor) → depth (descriptor_tree d) ≤ 255
     credentials d = omega (arith, descriptor_levels d)
@@ -54,13 +74,15 @@ and_true a b h = rw h (sym (and_same a)) where
   and_same true = refl
   and_same false = refl
 
--- the authenticator data decide
+-- whether the authenticator data is coherent decides whether the response is
 pub data_decide : (r : GetResponseParts) → is_coherent r.auth_data ≡ is_get_response_coherent r
-data_decide r = and_true (is_coherent r.auth_data) (nat_le (depth (get_response_tree r)) max_depth) (has_few_levels r)
+data_decide r =
+    and_true (is_coherent r.auth_data) (nat_le (depth (get_response_tree r)) max_depth) (has_few_levels r)
 
--- ---- what is written is read back
+-- ---- an encoding can be decoded again
 
-response_back : WrittenDataAreReadBack → ReadIsGiven → (r : GetResponseParts) → GetResponseFits r → is_coherent r.auth_data ≡ true → read_get_response (get_response_tree r) ≡ Ok (normal_get_response r)
+response_back : WrittenDataAreReadBack → ReadIsGiven → (r : GetResponseParts) → GetResponseFits r
+    → is_coherent r.auth_data ≡ true → read_get_response (get_response_tree r) ≡ Ok (normal_get_response r)
 response_back written given r fits coherent =
     rows_back get_response_fields (get_response_places r) (normal_get_response r) refl refl
     (puts_default (optional_place descriptor_back refl r.credential (anything r.credential)) refl ▸
@@ -73,12 +95,15 @@ response_back written given r fits coherent =
     puts_default (optional_place used_back refl r.unsigned_extension_outputs fits.unsigned_extension_outputs) refl ▸
     no_more)
 
-pub get_response_returns : WrittenIsFront → WrittenDataAreReadBack → ReadIsGiven → WrittenIsReadBack read_get_response get_response_tree GetResponseFits is_get_response_coherent normal_get_response
+pub get_response_returns : WrittenIsLeadingItem → WrittenDataAreReadBack → ReadIsGiven → WrittenIsReadBack
+    read_get_response get_response_tree GetResponseFits is_get_response_coherent normal_get_response
 get_response_returns law written given r rest fits writable coherent =
-    let parts = and_parts (is_coherent r.auth_data) (nat_le (depth (get_response_tree r)) max_depth) coherent in
-    (law (get_response_tree r) rest writable (leb-true (depth (get_response_tree r)) max_depth parts.1), response_back written given r fits parts.0)
+    let parts = and_parts (is_coherent r.auth_data) (nat_le (depth (get_response_tree r)) max_depth) coherent in (
+      law (get_response_tree r) rest writable (leb-true (depth (get_response_tree r)) max_depth parts.1),
+      response_back written given r fits parts.0,
+    )
 
--- ---- what is read is coherent
+-- ---- a decoded response is coherent
 
 abbrev DataAreCoherent : GetResponseParts → Type 0
 DataAreCoherent r = is_coherent r.auth_data ≡ true

@@ -1,9 +1,9 @@
 -- authenticatorGetAssertion requests (CTAP 2.1, section 6.2).
 use Rattle.std.specs.Prelude.{ℕ, nat_le, Bool, true, List, [], ◌∷◌, Option, None, codes, Result}
 use Rattle.passkey_cbor.specs.Depth.{depth}
-use Rattle.passkey_cbor.specs.Front.{max_depth}
+use Rattle.passkey_cbor.specs.LeadingItem.{max_depth}
 use Rattle.passkey_cbor.specs.Item.{Item, byte_string, text_string}
-use Rattle.passkey_core.specs.DataNormal.{Where}
+use Rattle.passkey_core.specs.DataNormal.{IfPresent}
 use Rattle.passkey_get_assertion.specs.GetOptions.{options, options_default, options_tree, options_fields}
 use Rattle.passkey_get_assertion.specs.declared.options.Options.{Options}
 use Rattle.passkey_extensions.specs.ExtensionTrees.{get_extensions_tree, GetExtensionsFit, get_extensions_kept}
@@ -32,11 +32,21 @@ pub record GetRequestParts : Type 0 where
 abbrev pub get_request_fields : Fields GetRequestParts
 get_request_fields = record {
   is_numbered = true;
-  blank = record { rp_id = []; client_data_hash = []; allow_list = None; extensions = None; options = options_default; pin_auth = None; pin_protocol = None };
+  blank = record {
+    rp_id = [];
+    client_data_hash = [];
+    allow_list = None;
+    extensions = None;
+    options = options_default;
+    pin_auth = None;
+    pin_protocol = None;
+  };
   rows = required 1 (codes "rpId") text (λ x r. record r { rp_id = x })
       ∷ required 2 (codes "clientDataHash") bytes (λ x r. record r { client_data_hash = x })
-      ∷ default 3 (codes "allowList") (tolerated (accepted (nested descriptor_fields))) (λ x r. record r { allow_list = x })
-      ∷ default 4 (codes "extensions") (tolerated (nested get_extensions_fields)) (λ x r. record r { extensions = x })
+      ∷ default 3 (codes "allowList") (tolerated (accepted (nested descriptor_fields)))
+      (λ x r. record r { allow_list = x })
+      ∷ default 4 (codes "extensions") (tolerated (nested get_extensions_fields))
+      (λ x r. record r { extensions = x })
       ∷ default 5 (codes "options") (nested options_fields) (λ x r. record r { options = x })
       ∷ default 6 (codes "pinAuth") (optional bytes) (λ x r. record r { pin_auth = x })
       ∷ default 7 (codes "pinProtocol") (optional (below 256)) (λ x r. record r { pin_protocol = x })
@@ -46,11 +56,11 @@ get_request_fields = record {
 abbrev pub get_request_table : Table
 get_request_table = table_of get_request_fields
 
--- the request that an item decodes to, or its first fault
+-- the request that a data item decodes to, or its first fault
 abbrev pub read_get_request : Item → Result GetRequestParts Fault
 read_get_request = read_item get_request_fields
 
--- ---- what a request is encoded as
+-- ---- the encoding of a request
 
 abbrev pub get_request_places : GetRequestParts → List Place
 get_request_places r =
@@ -66,14 +76,14 @@ get_request_places r =
 abbrev pub get_request_tree : GetRequestParts → Item
 get_request_tree r = record_tree (get_request_places r)
 
--- the value that it keeps as it was decoded, if there is one
+-- the data item that a request keeps undecoded, if there is one
 abbrev pub get_request_kept : GetRequestParts → List Item
 get_request_kept r = get_extensions_kept r.extensions
 
--- what holds of each request
+-- what holds of every request
 abbrev pub GetRequestFits : GetRequestParts → Type 0
-GetRequestFits r = Where GetExtensionsFit r.extensions × Where IsByte r.pin_protocol
+GetRequestFits r = IfPresent GetExtensionsFit r.extensions × IfPresent IsByte r.pin_protocol
 
--- the encoding has at most as many levels as are decoded
+-- the encoding has at most `max_depth` nesting levels, so it can be decoded again
 abbrev pub is_get_request_coherent : GetRequestParts → Bool
 is_get_request_coherent r = nat_le (depth (get_request_tree r)) max_depth

@@ -1,10 +1,10 @@
 -- authenticatorGetAssertion responses (CTAP 2.1, section 6.2).
 use Rattle.std.specs.Prelude.{ℕ, nat_le, Bool, true, ◌&&◌, List, [], ◌∷◌, Option, None, codes, Result, replicate}
 use Rattle.passkey_cbor.specs.Depth.{depth}
-use Rattle.passkey_cbor.specs.Front.{max_depth}
+use Rattle.passkey_cbor.specs.LeadingItem.{max_depth}
 use Rattle.passkey_cbor.specs.Item.{Item, boolean, byte_string}
 use Rattle.passkey_core.specs.Coherent.{is_coherent}
-use Rattle.passkey_core.specs.DataNormal.{IsData, Where, normal_data}
+use Rattle.passkey_core.specs.DataNormal.{IsData, IfPresent, normal_data}
 use Rattle.passkey_core.specs.DataParts.{DataParts, bare_data}
 use Rattle.passkey_kinds.specs.Data.{auth_data_tree}
 use Rattle.passkey_entities.specs.MakeUser.{user, user_tree, user_fields}
@@ -37,26 +37,37 @@ pub record GetResponseParts : Type 0 where
 abbrev pub get_response_fields : Fields GetResponseParts
 get_response_fields = record {
   is_numbered = true;
-  blank = record { credential = None; auth_data = bare_data (replicate 32 0) 24 None; signature = []; user = None; number_of_credentials = None; user_selected = None; large_blob_key = None; unsigned_extension_outputs = None };
+  blank = record {
+    credential = None;
+    auth_data = bare_data (replicate 32 0) 24 None;
+    signature = [];
+    user = None;
+    number_of_credentials = None;
+    user_selected = None;
+    large_blob_key = None;
+    unsigned_extension_outputs = None;
+  };
   rows = default 1 (codes "credential") (optional (nested descriptor_fields)) (λ x r. record r { credential = x })
       ∷ required 2 (codes "authData") authenticator_data (λ x r. record r { auth_data = x })
       ∷ required 3 (codes "signature") bytes (λ x r. record r { signature = x })
       ∷ default 4 (codes "user") (optional (nested user_fields)) (λ x r. record r { user = x })
-      ∷ default 5 (codes "numberOfCredentials") (optional (below 256)) (λ x r. record r { number_of_credentials = x })
+      ∷ default 5 (codes "numberOfCredentials") (optional (below 256))
+      (λ x r. record r { number_of_credentials = x })
       ∷ default 6 (codes "userSelected") (optional truth) (λ x r. record r { user_selected = x })
       ∷ default 7 (codes "largeBlobKey") (optional bytes) (λ x r. record r { large_blob_key = x })
-      ∷ default 8 (codes "unsignedExtensionOutputs") (optional (nested unsigned_fields)) (λ x r. record r { unsigned_extension_outputs = x })
+      ∷ default 8 (codes "unsignedExtensionOutputs") (optional (nested unsigned_fields))
+      (λ x r. record r { unsigned_extension_outputs = x })
       ∷ [];
 }
 
 abbrev pub get_response_table : Table
 get_response_table = table_of get_response_fields
 
--- the response that an item decodes to, or its first fault
+-- the response that a data item decodes to, or its first fault
 abbrev pub read_get_response : Item → Result GetResponseParts Fault
 read_get_response = read_item get_response_fields
 
--- ---- what a response is encoded as
+-- ---- the encoding of a response
 
 abbrev pub get_response_places : GetResponseParts → List Place
 get_response_places r =
@@ -73,20 +84,20 @@ get_response_places r =
 abbrev pub get_response_tree : GetResponseParts → Item
 get_response_tree r = record_tree (get_response_places r)
 
--- it keeps no value as it was decoded
+-- a response keeps no data item undecoded
 abbrev pub get_response_kept : GetResponseParts → List Item
 get_response_kept r = []
 
--- what holds of each response
+-- what holds of every response
 pub record GetResponseFits (r : GetResponseParts) : Type 0 where
   pub auth_data : IsData r.auth_data
-  pub number_of_credentials : Where IsByte r.number_of_credentials
-  pub unsigned_extension_outputs : Where UsedFits r.unsigned_extension_outputs
+  pub number_of_credentials : IfPresent IsByte r.number_of_credentials
+  pub unsigned_extension_outputs : IfPresent UsedFits r.unsigned_extension_outputs
 
--- the authenticator data is coherent, and the encoding has at most as many levels as are decoded
+-- the authenticator data is coherent, and the encoding has at most `max_depth` nesting levels
 abbrev pub is_get_response_coherent : GetResponseParts → Bool
 is_get_response_coherent r = is_coherent r.auth_data && nat_le (depth (get_response_tree r)) max_depth
 
--- what the encoding decodes to
+-- the response that the encoding decodes to
 abbrev pub normal_get_response : GetResponseParts → GetResponseParts
 normal_get_response r = record r { auth_data = normal_data r.auth_data }

@@ -1,5 +1,5 @@
-//! Laws about the messages of authenticatorGetAssertion, each the contract of a function that does
-//! nothing.
+//! Laws about the messages of authenticatorGetAssertion. Each is the contract of a function that
+//! does nothing.
 ghost use Rattle.passkey_get_assertion.specs.GetRequest.{get_request_fields, read_get_request, get_request_tree, GetRequestFits, is_get_request_coherent, get_request_kept};
 ghost use Rattle.passkey_get_assertion.specs.GetRequestView.{get_request_parts};
 ghost use Rattle.passkey_get_assertion.specs.GetResponse.{get_response_fields, read_get_response, get_response_tree, GetResponseFits, is_get_response_coherent, normal_get_response, get_response_kept};
@@ -14,7 +14,7 @@ ghost use Rattle.passkey_kinds.specs.RecordLaws.{KnowsMaps};
 pub fn written_get_request_is_read_back()
     ensures { WrittenIsReadBack read_get_request get_request_tree GetRequestFits is_get_request_coherent (λ r. r) }
 {
-    passkey_cbor::laws::written_is_front();
+    passkey_cbor::laws::written_is_leading_item();
 }
 
 /// Decoded requests are coherent.
@@ -25,9 +25,10 @@ pub fn read_get_request_is_coherent()
 /// The encoding of a coherent response, whatever bytes follow, decodes to the response with the
 /// normal form of its authenticator data.
 pub fn written_get_response_is_read_back()
-    ensures { WrittenIsReadBack read_get_response get_response_tree GetResponseFits is_get_response_coherent normal_get_response }
+    ensures { WrittenIsReadBack read_get_response get_response_tree GetResponseFits is_get_response_coherent
+        normal_get_response }
 {
-    passkey_cbor::laws::written_is_front();
+    passkey_cbor::laws::written_is_leading_item();
     passkey_core::laws::written_data_are_read_back();
     passkey_core::laws::read_is_given();
 }
@@ -49,31 +50,31 @@ pub fn read_get_response_knows_maps()
     ensures { KnowsMaps read_get_response }
 {}
 
-/// A member under an unknown key may be anywhere in a request, as long as the map has at most 256
-/// levels with it: for any encodings with and without the member, the results differ only in the
-/// length in bytes.
+/// A member under an unknown key may be anywhere in a request: for any encodings of the map with
+/// and without the member, of at most 256 nesting levels, the results differ only in their length
+/// in bytes.
 pub fn read_get_request_passes_over_unknown()
     ensures { PassesOverUnknown get_request_parts get_request_fields }
 {
-    passkey_cbor::laws::at_most_one_front();
+    passkey_cbor::laws::at_most_one_leading_item();
 }
 
-/// A member under an unknown key may be anywhere in a response, as long as the map has at most 256
-/// levels with it: for any encodings with and without the member, the results differ only in the
-/// length in bytes.
+/// A member under an unknown key may be anywhere in a response: for any encodings of the map with
+/// and without the member, of at most 256 nesting levels, the results differ only in their length
+/// in bytes.
 pub fn read_get_response_passes_over_unknown()
     ensures { PassesOverUnknown get_response_parts get_response_fields }
 {
-    passkey_cbor::laws::at_most_one_front();
+    passkey_cbor::laws::at_most_one_leading_item();
 }
 
-/// The encoding of a coherent request is in CTAP2's canonical form, if that of the key in its input
-/// of hmac-secret is (CTAP 2.1, section 8).
+/// The encoding of a coherent request is in CTAP2's canonical form if the encoding of the key in
+/// its hmac-secret input is, or if there is no such input (CTAP 2.1, section 8).
 pub fn written_get_request_is_canonical()
     ensures { WrittenIsCanonical get_request_tree is_get_request_coherent get_request_kept }
 {
-    passkey_cbor::laws::at_most_one_front();
-    passkey_cbor::laws::written_is_front();
+    passkey_cbor::laws::at_most_one_leading_item();
+    passkey_cbor::laws::written_is_leading_item();
 }
 
 /// The encoding of a coherent response is in CTAP2's canonical form (CTAP 2.1, section 8).

@@ -13,8 +13,8 @@ use passkey_kinds::{
 use passkey_memory::OutOfMemory;
 use std::alloc::Global;
 
-/// The options of an authenticatorGetAssertion request (CTAP 2.1, section 6.2). Each is its default
-/// if it is absent.
+/// The options of an authenticatorGetAssertion request (CTAP 2.1, section 6.2). An absent option
+/// has its default.
 #[derive(Clone, Debug, Drop, PartialEq, Eq)]
 pub struct Options {
     /// Whether user presence is required. True by default.

@@ -24,12 +24,12 @@ use passkey_memory::OutOfMemory;
 use passkey_webauthn::PublicKeyCredentialDescriptor;
 use std::alloc::Global;
 
-/// An authenticatorGetAssertion response (CTAP 2.1, section 6.2). `None` means that a member is
-/// absent; null decodes to it, too.
+/// An authenticatorGetAssertion response (CTAP 2.1, section 6.2). `None` means that the member is
+/// absent; null also decodes to `None`.
 #[derive(Debug, Drop)]
 pub struct Response {
-    /// 0x01: the descriptor of the credential that was used. It may be absent if the allow list had
-    /// exactly one.
+    /// 0x01: the descriptor of the credential that was used. It may be absent if the allow list has
+    /// exactly one element.
     pub credential: Option<PublicKeyCredentialDescriptor>,
     /// 0x02: the authenticator data.
     pub auth_data: AuthenticatorData,
@@ -38,9 +38,10 @@ pub struct Response {
     /// 0x04: the user account of the credential. Without user verification, the authenticator MUST
     /// NOT return its names and icon.
     pub user: Option<PublicKeyCredentialUserEntity>,
-    /// 0x05: the number of credentials for the relying party. Absent means 1.
+    /// 0x05: the number of credentials for the relying party. An absent member means 1.
     pub number_of_credentials: Option<u8>,
-    /// 0x06: whether the user selected the credential at the authenticator. Absent means false.
+    /// 0x06: whether the user selected the credential at the authenticator. An absent member means
+    /// false.
     pub user_selected: Option<bool>,
     /// 0x07: the key of the credential's large blob, if the extension largeBlobKey asked for it.
     pub large_blob_key: Option<Bytes>,
@@ -120,7 +121,7 @@ impl ToCbor for Response {
 }
 
 impl Response {
-    /// Decodes the response that the bytes begin with, and returns it with its length in bytes.
+    /// Decodes the response at the beginning of the bytes, and returns it with its length in bytes.
     /// Bytes after it are ignored. The errors are those of `read`.
     pub fn from_slice(alloc: Global, bytes: &[u8]) -> Result<(Response, usize), Fault>
         ensures reads { ReadsMessage get_response_parts read_get_response bytes.now result }
@@ -130,30 +131,33 @@ impl Response {
     }
 
     /// Decodes the response at the cursor, head by head and without building a data item for the
-    /// whole, and moves behind it. `DecodeFailed` exactly if no well-formed data item of at most
-    /// 256 levels is there; otherwise the fault that `from_value` returns for the item;
-    /// `OutOfMemory` if an allocation fails, which can only happen for a member that takes memory.
-    /// On an error the cursor stays, and its counts include what was spent.
+    /// whole, and moves past it. Returns `DecodeFailed` exactly if no well-formed data item of at
+    /// most 256 nesting levels is there; otherwise the fault that `from_value` returns for the
+    /// item. Returns `OutOfMemory` if an allocation fails, which can only happen for a member that
+    /// takes memory. On an error the cursor stays, and its counts include what was spent.
     pub fn read(alloc: Global, cursor: &mut Cursor<'_>) -> Result<Response, Fault>
         ensures { ReadsHere get_response_parts get_response_fields 16 cursor.old cursor.new result }
     {
         read_message(alloc, cursor)
     }
 
-    /// Decodes the response from a data item. `NotAMap` if it isn't a map; otherwise the first
-    /// fault of its members in their order (`BadKey`, `Repeated`, `Refused`), or `Missing` for the
-    /// first required member that is absent; `OutOfMemory` if an allocation fails, which can only
-    /// happen for a member that takes memory. Unknown members are skipped.
+    /// Decodes the response from a data item. Returns `NotAMap` if the item isn't a map; otherwise
+    /// the first fault of its members in their order (`BadKey`, `Repeated`, `Refused`), or else
+    /// `Missing` for the first required member that is absent. Returns `OutOfMemory` if an
+    /// allocation fails, which can only happen for a member that takes memory. Skips unknown
+    /// members.
     pub fn from_value(alloc: Global, value: &Value) -> Result<Response, Fault>
-        ensures { Reads get_response_parts (MayGrowAt get_response_table (item_of value.now)) (read_get_response (item_of value.now)) result }
+        ensures { Reads get_response_parts (MayGrowAt get_response_table (item_of value.now))
+            (read_get_response (item_of value.now)) result }
     {
         record_from_value(alloc, value)
     }
 
-    /// Encodes the response: its members under their numbers, in ascending order, each if it is
-    /// present. `OutOfMemory` if an allocation fails; there is no other error.
+    /// Encodes the response, with the members that are present under their numbers in ascending
+    /// order. Returns `OutOfMemory` if an allocation fails; there is no other error.
     pub fn to_vec(&self, alloc: Global) -> Result<Vec<u8>, WriteFault>
-        ensures written { IfOk result (λ bytes. bytes.items ≡ written (get_response_tree (get_response_parts self.now))) }
+        ensures written { IfOk result
+            (λ bytes. bytes.items ≡ written (get_response_tree (get_response_parts self.now))) }
         ensures writable { OnOk result (IsWritable (get_response_tree (get_response_parts self.now))) }
         ensures fits { OnOk result (GetResponseFits (get_response_parts self.now)) }
         ensures memory { IfErr result (λ e. e ≡ NoMemory) }
@@ -161,8 +165,8 @@ impl Response {
         write_message(alloc, self)
     }
 
-    /// Returns whether the encoding can be decoded again: the authenticator data is coherent. All
-    /// other members have few levels. Allocates nothing.
+    /// Returns whether the encoding can be decoded again: the authenticator data is coherent. No
+    /// member has many nesting levels. Allocates nothing.
     pub fn is_coherent(&self) -> bool
         ensures { result ≡ is_get_response_coherent (get_response_parts self.now) }
     {

@@ -1,4 +1,4 @@
--- What an authenticator tells of itself is read back from what it is written as.
+-- An authenticatorGetInfo response is decoded again from its encoding.
 use Rattle.std.specs.Option.{option_and_then}
 use Rattle.std.proofs.Common.{◌≡◌, [], ◌∷◌, Option, Some, None, unwrap_or, refl, ap}
 use Rattle.passkey_cbor.specs.Item.{Item, number, byte_string, text_string, array, map, tagged, boolean, null, simple, float}
@@ -17,7 +17,7 @@ version_back = record { back = λ v h. refl }
 pub extension_back : IsReadBack extension extension_tree Any normal_extension
 extension_back = record { back = λ e h. refl }
 
--- what is kept and may be null
+-- a kept data item that may be null
 kept_or_null : (i : Item) → optional kept i ≡ Some (unless_null i)
 kept_or_null (number z) = refl
 kept_or_null (byte_string s) = refl
@@ -32,12 +32,16 @@ kept_or_null (float f) = refl
 
 pub kept_place : (o : Option Item) → Falls (optional kept) None o (option_and_then unless_null o)
 kept_place None = record { value = refl; accepted = λ i e. absurd cc }
-kept_place (Some i) = record { value = ap (λ (o : Option (Option Item)). unwrap_or o None) (kept_or_null i); accepted = accepts_it (optional kept) i (unless_null i) (kept_or_null i) }
+kept_place (Some i) = record {
+  value = ap (λ (o : Option (Option Item)). unwrap_or o None) (kept_or_null i);
+  accepted = accepts_it (optional kept) i (unless_null i) (kept_or_null i);
+}
 
 pub options_back : IsReadBack options options_tree Any (λ o. o)
 options_back = record {
   back = λ o h.
-      ordered_back options_fields (9 ∷ 2 ∷ 4 ∷ 5 ∷ 1 ∷ 14 ∷ 19 ∷ 15 ∷ 13 ∷ 10 ∷ 3 ∷ 8 ∷ 12 ∷ 6 ∷ 17 ∷ 18 ∷ 16 ∷ 11 ∷ 7 ∷ []) (options_places o) o refl refl refl
+      ordered_back options_fields (9 ∷ 2 ∷ 4 ∷ 5 ∷ 1 ∷ 14 ∷ 19 ∷ 15 ∷ 13 ∷ 10 ∷ 3 ∷ 8 ∷ 12 ∷ 6 ∷ 17 ∷ 18 ∷ 16 ∷ 11
+      ∷ 7 ∷ []) (options_places o) o refl refl refl
       (
       puts_default (optional_place truth_back refl o.ep (anything o.ep)) refl ▸
       puts_value truth_back o.rk tt ▸
@@ -55,8 +59,11 @@ options_back = record {
       puts_default (optional_place truth_back refl o.pin_uv_auth_token (anything o.pin_uv_auth_token)) refl ▸
       puts_default (optional_place truth_back refl o.set_min_pin_length (anything o.set_min_pin_length)) refl ▸
       puts_default (optional_place truth_back refl o.make_cred_uv_not_rqd (anything o.make_cred_uv_not_rqd)) refl ▸
-      puts_default (optional_place truth_back refl o.credential_mgmt_preview (anything o.credential_mgmt_preview)) refl ▸
-      puts_default (optional_place truth_back refl o.user_verification_mgmt_preview (anything o.user_verification_mgmt_preview)) refl ▸
-      puts_default (optional_place truth_back refl o.no_mc_ga_permissions_with_client_pin (anything o.no_mc_ga_permissions_with_client_pin)) refl ▸
+      puts_default (optional_place truth_back refl o.credential_mgmt_preview (anything o.credential_mgmt_preview))
+      refl ▸
+      puts_default (optional_place truth_back refl o.user_verification_mgmt_preview
+      (anything o.user_verification_mgmt_preview)) refl ▸
+      puts_default (optional_place truth_back refl o.no_mc_ga_permissions_with_client_pin
+      (anything o.no_mc_ga_permissions_with_client_pin)) refl ▸
       no_more);
 }

@@ -1,4 +1,4 @@
--- How many levels what an authenticator can do is written with.
+-- The nesting levels of the encoding of the options of authenticatorGetInfo.
 use Rattle.std.specs.Prelude.{codes}
 use Rattle.std.proofs.Common.{◌≤◌, arith, Bool, Option, option_map}
 use Rattle.passkey_cbor.specs.Depth.{depth}
@@ -7,7 +7,7 @@ use Rattle.passkey_get_info.specs.GetInfoOptions.{options_places, options_tree}
 use Rattle.passkey_get_info.specs.declared.options.Options.{Options}
 use Rattle.passkey_kinds.proofs.Levels.{PlaceWithin, record_within, option_within}
 
--- a truth under a name has no levels
+-- a boolean under a name has no levels
 flat : (0 ≤ 0) × (0 ≤ 0)
 flat = (omega arith, omega arith)
 
@@ -45,14 +45,22 @@ options_levels o =
                               (
                                 flat_where (text_string (codes "pinUvAuthToken")) (omega arith) o.pin_uv_auth_token,
                                 (
-                                  flat_where (text_string (codes "setMinPINLength")) (omega arith) o.set_min_pin_length,
+                                  flat_where (text_string (codes "setMinPINLength")) (omega arith)
+                                      o.set_min_pin_length,
                                   (
-                                    flat_where (text_string (codes "makeCredUvNotRqd")) (omega arith) o.make_cred_uv_not_rqd,
+                                    flat_where (text_string (codes "makeCredUvNotRqd")) (omega arith)
+                                        o.make_cred_uv_not_rqd,
                                     (
-                                      flat_where (text_string (codes "credentialMgmtPreview")) (omega arith) o.credential_mgmt_preview,
+                                      flat_where (text_string (codes "credentialMgmtPreview")) (omega arith)
+                                          o.credential_mgmt_preview,
                                       (
-                                        flat_where (text_string (codes "userVerificationMgmtPreview")) (omega arith) o.user_verification_mgmt_preview,
-                                        (flat_where (text_string (codes "noMcGaPermissionsWithClientPin")) (omega arith) o.no_mc_ga_permissions_with_client_pin, tt),
+                                        flat_where (text_string (codes "userVerificationMgmtPreview")) (omega arith)
+                                            o.user_verification_mgmt_preview,
+                                        (
+                                          flat_where (text_string (codes "noMcGaPermissionsWithClientPin"))
+                                              (omega arith) o.no_mc_ga_permissions_with_client_pin,
+                                          tt,
+                                        ),
                                       ),
                                     ),
                                   ),

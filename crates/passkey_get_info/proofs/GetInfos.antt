@@ -1,15 +1,15 @@
--- Responses of get_info: reading back what is written, and its levels.
+-- authenticatorGetInfo responses: decoding their encodings again, and their nesting levels.
 use Rattle.std.proofs.Common.{◌≡◌, ◌∙◌, ℕ, pos, negsuc, ◌^◌, ◌<◌, ◌≤◌, nat_lt, nat_le, arith, le-leb, leb-true, lt-ltb, ltb-true, Bool, true, false, ◌&&◌, if◌then◌else◌, List, Option, Some, None, option_map, unwrap_or, Result, Ok, Err, is_ok, OnOk, IfErr, refl, sym, ap, subst}
 use Rattle.std.proofs.lemmas.Bool.{and_parts, and_from}
 use Rattle.passkey_bytes.specs.SameMaps.{same_tests}
 use Rattle.passkey_cbor.specs.Depth.{depth}
-use Rattle.passkey_cbor.specs.Front.{max_depth}
+use Rattle.passkey_cbor.specs.LeadingItem.{max_depth}
 use Rattle.passkey_cbor.specs.Item as item
 use Rattle.passkey_cbor.specs.Item.{Item, boolean, byte_string, text_string, members}
-use Rattle.passkey_cbor.specs.Laws.{WrittenIsFront}
-use Rattle.passkey_core.specs.DataNormal.{Where}
+use Rattle.passkey_cbor.specs.Laws.{WrittenIsLeadingItem}
+use Rattle.passkey_core.specs.DataNormal.{IfPresent}
 use Rattle.passkey_get_info.specs.GetInfo.{GetInfoParts, get_info_fields, read_get_info}
-use Rattle.passkey_get_info.specs.GetInfoTree.{get_info_places, get_info_tree, IsPositive, GetInfoFits, is_spelled, has_room, is_get_info_coherent, normal_get_info}
+use Rattle.passkey_get_info.specs.GetInfoTree.{get_info_places, get_info_tree, IsPositive, GetInfoFits, is_encodable, has_room, is_get_info_coherent, normal_get_info}
 use Rattle.passkey_get_info.specs.GetInfoNames.{version_tree, extension_tree}
 use Rattle.passkey_get_info.specs.GetInfoOptions.{options_tree}
 use Rattle.passkey_kinds.specs.Kind.{optional, kept as kept_item}
@@ -32,49 +32,63 @@ use Rattle.passkey_kinds.proofs.Levels.{PlaceWithin, record_within, of_record, l
 use Rattle.passkey_kinds.proofs.RecordBack.{parameters_back}
 use Rattle.passkey_kinds.proofs.RecordLevels.{parameters_levels}
 
--- ---- what is written is read back
+-- ---- an encoding can be decoded again
 
-sized : (o : Option ℕ) → Where IsPositive o → is_spelled o ≡ true → Where IsSize o
+sized : (o : Option ℕ) → IfPresent IsPositive o → is_encodable o ≡ true → IfPresent IsSize o
 sized None h e = tt
 sized (Some n) h e = (h, ltb-true n (2 ^ 64) e)
 
-response_back : (r : GetInfoParts) → GetInfoFits r → is_spelled r.max_msg_size ≡ true → read_get_info (get_info_tree r) ≡ Ok (normal_get_info r)
-response_back r fits spelled =
+response_back : (r : GetInfoParts) → GetInfoFits r → is_encodable r.max_msg_size ≡ true
+    → read_get_info (get_info_tree r) ≡ Ok (normal_get_info r)
+response_back r fits encoded =
     rows_back get_info_fields (get_info_places r) (normal_get_info r) refl refl
     (
     puts_value (list_back version_back) r.versions (λ k d less. tt) ▸
-    puts_default (option_place (optional_back (list_back extension_back) refl) r.extensions (all_of_anything r.extensions)) refl ▸
+    puts_default (option_place (optional_back (list_back extension_back) refl) r.extensions
+    (all_of_anything r.extensions)) refl ▸
     puts_value aaguid_back r.aaguid fits.0.aaguid ▸
     puts_default (optional_place options_back refl r.options (anything r.options)) refl ▸
-    puts_default (optional_place size_back refl r.max_msg_size (sized r.max_msg_size fits.0.max_msg_size spelled)) refl ▸
+    puts_default (optional_place size_back refl r.max_msg_size (sized r.max_msg_size fits.0.max_msg_size encoded))
+    refl ▸
     puts_default (optional_place (list_same byte_back) refl r.pin_protocols fits.0.pin_protocols) refl ▸
     puts_default (accepted_place transport_back r.transports (all_of_anything r.transports)) refl ▸
     puts_default (accepted_place parameters_back r.algorithms (all_of_anything r.algorithms)) refl ▸
-    puts_default (optional_place word_back refl r.mac_serialized_large_blob_array fits.1.mac_serialized_large_blob_array) refl ▸
+    puts_default (optional_place word_back refl r.mac_serialized_large_blob_array
+    fits.1.mac_serialized_large_blob_array) refl ▸
     puts_default (optional_place truth_back refl r.force_pin_change (anything r.force_pin_change)) refl ▸
     puts_default (optional_place word_back refl r.min_pin_length fits.1.min_pin_length) refl ▸
     puts_default (optional_place word_back refl r.firmware_version fits.1.firmware_version) refl ▸
     puts_default (optional_place word_back refl r.max_cred_blob_length fits.1.max_cred_blob_length) refl ▸
-    puts_default (optional_place word_back refl r.max_rpids_for_set_min_pin_length fits.1.max_rpids_for_set_min_pin_length) refl ▸
-    puts_default (optional_place word_back refl r.preferred_platform_uv_attempts fits.1.preferred_platform_uv_attempts) refl ▸
+    puts_default (optional_place word_back refl r.max_rpids_for_set_min_pin_length
+    fits.1.max_rpids_for_set_min_pin_length) refl ▸
+    puts_default (optional_place word_back refl r.preferred_platform_uv_attempts
+    fits.1.preferred_platform_uv_attempts) refl ▸
     puts_default (optional_place word_back refl r.uv_modality fits.1.uv_modality) refl ▸
     puts_default (kept_place r.certifications) refl ▸
-    puts_default (optional_place word_back refl r.remaining_discoverable_credentials fits.1.remaining_discoverable_credentials) refl ▸
-    puts_default (accepted_place word_back r.vendor_prototype_config_commands fits.1.vendor_prototype_config_commands) refl ▸
+    puts_default (optional_place word_back refl r.remaining_discoverable_credentials
+    fits.1.remaining_discoverable_credentials) refl ▸
+    puts_default
+    (accepted_place word_back r.vendor_prototype_config_commands fits.1.vendor_prototype_config_commands) refl ▸
     puts_default (accepted_place text_back r.attestation_formats (all_of_anything r.attestation_formats)) refl ▸
-    puts_default (optional_place word_back refl r.uv_count_since_last_pin_entry fits.1.uv_count_since_last_pin_entry) refl ▸
+    puts_default
+    (optional_place word_back refl r.uv_count_since_last_pin_entry fits.1.uv_count_since_last_pin_entry) refl ▸
     puts_default (optional_place truth_back refl r.long_touch_for_reset (anything r.long_touch_for_reset)) refl ▸
     puts_default (optional_place bytes_back refl r.enc_identifier (anything r.enc_identifier)) refl ▸
-    puts_default (accepted_place transport_back r.transports_for_reset (all_of_anything r.transports_for_reset)) refl ▸
+    puts_default (accepted_place transport_back r.transports_for_reset (all_of_anything r.transports_for_reset))
+    refl ▸
     puts_default (optional_place truth_back refl r.pin_complexity_policy (anything r.pin_complexity_policy)) refl ▸
-    puts_default (optional_place bytes_back refl r.pin_complexity_policy_url (anything r.pin_complexity_policy_url)) refl ▸
+    puts_default (optional_place bytes_back refl r.pin_complexity_policy_url (anything r.pin_complexity_policy_url))
+    refl ▸
     puts_default (optional_place word_back refl r.max_pin_length fits.1.max_pin_length) refl ▸
     no_more)
 
-pub get_info_returns : WrittenIsFront → WrittenIsReadBack read_get_info get_info_tree GetInfoFits is_get_info_coherent normal_get_info
+pub get_info_returns : WrittenIsLeadingItem
+    → WrittenIsReadBack read_get_info get_info_tree GetInfoFits is_get_info_coherent normal_get_info
 get_info_returns law r rest fits writable coherent =
-    let both = and_parts (is_spelled r.max_msg_size) (nat_le (depth (get_info_tree r)) max_depth) coherent in
-    (law (get_info_tree r) rest writable (leb-true (depth (get_info_tree r)) max_depth both.1), response_back r fits both.0)
+    let both = and_parts (is_encodable r.max_msg_size) (nat_le (depth (get_info_tree r)) max_depth) coherent in (
+      law (get_info_tree r) rest writable (leb-true (depth (get_info_tree r)) max_depth both.1),
+      response_back r fits both.0,
+    )
 
 -- ---- only the certifications may have many levels
 
@@ -87,15 +101,96 @@ truth n o = option_within boolean 255 (number_tree n) (omega arith) (λ b. omega
 string : (n : ℕ) (o : Option (List ℕ)) → PlaceWithin 255 (number_tree n) (option_map byte_string o)
 string n o = option_within byte_string 255 (number_tree n) (omega arith) (λ b. omega arith) o
 
-lists : {A : Type 0} (tree : A → Item) → ((x : A) → depth (tree x) ≤ 1) → (n : ℕ) (o : Option (List A)) → PlaceWithin 255 (number_tree n) (option_map (list_tree tree) o)
-lists tree each n o = option_within (list_tree tree) 255 (number_tree n) (omega arith) (λ xs. omega (arith, list_within tree 1 each xs)) o
+lists : {A : Type 0} (tree : A → Item) → ((x : A) → depth (tree x) ≤ 1) → (n : ℕ) (o : Option (List A))
+    → PlaceWithin 255 (number_tree n) (option_map (list_tree tree) o)
+lists tree each n o = option_within (list_tree tree) 255 (number_tree n) (omega arith)
+    (λ xs. omega (arith, list_within tree 1 each xs)) o
 
 get_info_up : (r : GetInfoParts) → PlaceWithin 255 (number_tree 19) r.certifications → depth (get_info_tree r) ≤ 256
 get_info_up r certifications =
-    record_within 255 (get_info_places r)
-    ((omega arith, omega (arith, list_within version_tree 1 (λ v. omega arith) r.versions)), (lists extension_tree (λ e. omega arith) 2 r.extensions, ((omega arith, omega arith), (option_within options_tree 255 (number_tree 4) (omega arith) (λ o. omega (arith, options_levels o)) r.options, (word 5 r.max_msg_size, (lists number_tree (λ k. omega arith) 6 r.pin_protocols, (lists transport_tree (λ x. omega arith) 9 r.transports, (lists parameters_tree parameters_levels 10 r.algorithms, (word 11 r.mac_serialized_large_blob_array, (truth 12 r.force_pin_change, (word 13 r.min_pin_length, (word 14 r.firmware_version, (word 15 r.max_cred_blob_length, (word 16 r.max_rpids_for_set_min_pin_length, (word 17 r.preferred_platform_uv_attempts, (word 18 r.uv_modality, (certifications, (word 20 r.remaining_discoverable_credentials, (lists number_tree (λ k. omega arith) 21 r.vendor_prototype_config_commands, (lists text_string (λ s. omega arith) 22 r.attestation_formats, (word 23 r.uv_count_since_last_pin_entry, (truth 24 r.long_touch_for_reset, (string 25 r.enc_identifier, (lists transport_tree (λ x. omega arith) 26 r.transports_for_reset, (truth 27 r.pin_complexity_policy, (string 28 r.pin_complexity_policy_url, (word 29 r.max_pin_length, tt)))))))))))))))))))))))))))
+    record_within 255 (get_info_places r) (
+      (omega arith, omega (arith, list_within version_tree 1 (λ v. omega arith) r.versions)),
+      (
+        lists extension_tree (λ e. omega arith) 2 r.extensions,
+        (
+          (omega arith, omega arith),
+          (
+            option_within options_tree 255 (number_tree 4) (omega arith) (λ o. omega (arith, options_levels o))
+                r.options,
+            (
+              word 5 r.max_msg_size,
+              (
+                lists number_tree (λ k. omega arith) 6 r.pin_protocols,
+                (
+                  lists transport_tree (λ x. omega arith) 9 r.transports,
+                  (
+                    lists parameters_tree parameters_levels 10
+                        r.algorithms,
+                    (
+                      word 11 r.mac_serialized_large_blob_array,
+                      (
+                        truth 12 r.force_pin_change,
+                        (
+                          word 13 r.min_pin_length,
+                          (
+                            word 14 r.firmware_version,
+                            (
+                              word 15 r.max_cred_blob_length,
+                              (
+                                word 16
+                                    r.max_rpids_for_set_min_pin_length,
+                                (
+                                  word 17 r.preferred_platform_uv_attempts,
+                                  (
+                                    word 18 r.uv_modality,
+                                    (
+                                      certifications,
+                                      (
+                                        word 20 r.remaining_discoverable_credentials,
+                                        (
+                                          lists number_tree (λ k. omega arith) 21
+                                              r.vendor_prototype_config_commands,
+                                          (
+                                            lists text_string (λ s. omega arith) 22 r.attestation_formats,
+                                            (
+                                              word 23 r.uv_count_since_last_pin_entry,
+                                              (
+                                                truth 24 r.long_touch_for_reset,
+                                                (
+                                                  string 25 r.enc_identifier,
+                                                  (
+                                                    lists transport_tree (λ x. omega arith) 26 r.transports_for_reset,
+                                                    (
+                                                      truth 27 r.pin_complexity_policy,
+                                                      (string 28 r.pin_complexity_policy_url, (word 29 r.max_pin_length, tt)),
+                                                    ),
+                                                  ),
+                                                ),
+                                              ),
+                                            ),
+                                          ),
+                                        ),
+                                      ),
+                                    ),
+                                  ),
+                                ),
+                              ),
+                            ),
+                          ),
+                        ),
+                      ),
+                    ),
+                  ),
+                ),
+              ),
+            ),
+          ),
+        ),
+      ),
+    )
 
-get_info_down : (r : GetInfoParts) → depth (get_info_tree r) ≤ 256 → PlaceWithin 255 (number_tree 19) r.certifications
+get_info_down : (r : GetInfoParts) → depth (get_info_tree r) ≤ 256
+    → PlaceWithin 255 (number_tree 19) r.certifications
 get_info_down r within = (of_record 255 (get_info_places r) within).1.1.1.1.1.1.1.1.1.1.1.1.1.1.1.1.0
 
 room_up : (n : ℕ) (o : Option Item) → has_room o ≡ true → PlaceWithin 255 (number_tree n) o
@@ -112,36 +207,39 @@ room_decides r =
     (λ t. le-leb (depth (get_info_tree r)) max_depth (get_info_up r (room_up 19 r.certifications t)))
     (λ t. room_down 19 r.certifications (get_info_down r (leb-true (depth (get_info_tree r)) max_depth t)))
 
-pub parts_decide : (r : GetInfoParts) → (is_spelled r.max_msg_size && has_room r.certifications) ≡ is_get_info_coherent r
-parts_decide r = ap (λ (b : Bool). is_spelled r.max_msg_size && b) (room_decides r)
+pub parts_decide : (r : GetInfoParts)
+    → (is_encodable r.max_msg_size && has_room r.certifications) ≡ is_get_info_coherent r
+parts_decide r = ap (λ (b : Bool). is_encodable r.max_msg_size && b) (room_decides r)
 
--- whether there was an item tells whether the size can be written
-pub told : {X : Type 0} (spelled : Bool) (r : Result X WriteFault) → OnOk r (spelled ≡ true) → IfErr r (λ e. (e ≡ NumberTooLarge) × (spelled ≡ false)) → is_ok r ≡ spelled
-told spelled (Ok x) h f = sym h
-told spelled (Err e) h f = sym f.1
+-- whether the size became an item decides whether it can be encoded
+pub told : {X : Type 0} (encoded : Bool) (r : Result X WriteFault) → OnOk r (encoded ≡ true)
+    → IfErr r (λ e. (e ≡ NumberTooLarge) × (encoded ≡ false)) → is_ok r ≡ encoded
+told encoded (Ok x) h f = sym h
+told encoded (Err e) h f = sym f.1
 
--- ---- what is read is coherent
+-- ---- a decoded response is coherent
 
-in_range : (n : ℕ) (a b : Bool) → nat_lt n (2 ^ 64) ≡ b → is_spelled (unwrap_or (option_map Some (if a && b then Some n else None)) None) ≡ true
+in_range : (n : ℕ) (a b : Bool) → nat_lt n (2 ^ 64) ≡ b
+    → is_encodable (unwrap_or (option_map Some (if a && b then Some n else None)) None) ≡ true
 in_range n true true e = e
 in_range n true false e = refl
 in_range n false b e = refl
 
--- each size that is read can be written
-spelled_item : (i : Item) → is_spelled (unwrap_or (optional size i) None) ≡ true
-spelled_item (item.number (pos n)) = in_range n (nat_lt 0 n) (nat_lt n (2 ^ 64)) refl
-spelled_item (item.number (negsuc n)) = refl
-spelled_item (item.byte_string s) = refl
-spelled_item (item.text_string s) = refl
-spelled_item (item.array xs) = refl
-spelled_item (item.map ps) = refl
-spelled_item (item.tagged t x) = refl
-spelled_item (item.boolean b) = refl
-spelled_item item.null = refl
-spelled_item (item.simple n) = refl
-spelled_item (item.float f) = refl
+-- each decoded size can be encoded
+encoded_item : (i : Item) → is_encodable (unwrap_or (optional size i) None) ≡ true
+encoded_item (item.number (pos n)) = in_range n (nat_lt 0 n) (nat_lt n (2 ^ 64)) refl
+encoded_item (item.number (negsuc n)) = refl
+encoded_item (item.byte_string s) = refl
+encoded_item (item.text_string s) = refl
+encoded_item (item.array xs) = refl
+encoded_item (item.map ps) = refl
+encoded_item (item.tagged t x) = refl
+encoded_item (item.boolean b) = refl
+encoded_item item.null = refl
+encoded_item (item.simple n) = refl
+encoded_item (item.float f) = refl
 
--- a kept item has fewer levels
+-- a kept data item has fewer levels
 abbrev IsBelow : ℕ → Option Item → Type 0
 IsBelow n o = (i : Item) → o ≡ Some i → depth i < n
 
@@ -149,9 +247,9 @@ below_up : (n : ℕ) (o : Option Item) → n ≤ 256 → IsBelow n o → has_roo
 below_up n None small h = refl
 below_up n (Some i) small h = lt-ltb (depth i) 256 (omega (arith, h i refl, small))
 
--- the size can be written, and the certifications have fewer levels than the response
+-- the size can be encoded, and the certifications have fewer levels than the response
 abbrev PartsAreGood : ℕ → GetInfoParts → Type 0
-PartsAreGood n r = (is_spelled r.max_msg_size ≡ true) × IsBelow n r.certifications
+PartsAreGood n r = (is_encodable r.max_msg_size ≡ true) × IsBelow n r.certifications
 
 read_good : (i : Item) (r : GetInfoParts) → read_get_info i ≡ Ok r → PartsAreGood (depth i) r
 read_good whole r read =
@@ -161,7 +259,8 @@ read_good whole r read =
     (λ i v r less e h. h) ▹
     (λ i v r less e h. h) ▹
     (λ i v r less e h. h) ▹
-    (λ i v r less e h. (ap (λ (o : Option (Option ℕ)). is_spelled (unwrap_or o None)) (sym e) ∙ spelled_item i, h.1)) ▹
+    (λ i v r less e h.
+    (ap (λ (o : Option (Option ℕ)). is_encodable (unwrap_or o None)) (sym e) ∙ encoded_item i, h.1)) ▹
     (λ i v r less e h. h) ▹
     (λ i v r less e h. h) ▹
     (λ i v r less e h. h) ▹
@@ -173,7 +272,11 @@ read_good whole r read =
     (λ i v r less e h. h) ▹
     (λ i v r less e h. h) ▹
     (λ i v r less e h. h) ▹
-    (λ i v r less e h. (h.0, λ k is. let same : i ≡ k = (let there : kept_item i ≡ Some k = not_null kept_item i k (e ∙ ap Some is) in cc) in subst (λ x. depth x < depth whole) same less)) ▹
+    (λ i v r less e h. (
+      h.0,
+      λ k is. let same : i ≡ k = (let there : kept_item i ≡ Some k =
+          not_null kept_item i k (e ∙ ap Some is) in cc) in subst (λ x. depth x < depth whole) same less,
+    )) ▹
     (λ i v r less e h. h) ▹
     (λ i v r less e h. h) ▹
     (λ i v r less e h. h) ▹
@@ -189,4 +292,5 @@ read_good whole r read =
 pub get_info_coherent : ReadIsCoherent read_get_info is_get_info_coherent
 get_info_coherent bytes r begins =
     let good = read_good begins.item r begins.holds in
-    sym (parts_decide r) ∙ and_from (is_spelled r.max_msg_size) (has_room r.certifications) good.0 (below_up (depth begins.item) r.certifications begins.front.shallow good.1)
+    sym (parts_decide r) ∙ and_from (is_encodable r.max_msg_size) (has_room r.certifications) good.0
+    (below_up (depth begins.item) r.certifications begins.front.shallow good.1)

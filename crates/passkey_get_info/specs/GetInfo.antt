@@ -84,31 +84,44 @@ get_info_fields = record {
   is_numbered = true;
   blank = get_info_empty;
   rows = required 1 (codes "versions") (list (growing 2 nothing version)) (λ x r. record r { versions = x })
-      ∷ default 2 (codes "extensions") (optional (list (growing 2 nothing extension))) (λ x r. record r { extensions = x })
+      ∷ default 2 (codes "extensions") (optional (list (growing 2 nothing extension)))
+      (λ x r. record r { extensions = x })
       ∷ required 3 (codes "aaguid") aaguid (λ x r. record r { aaguid = x })
       ∷ default 4 (codes "options") (optional (nested options_fields)) (λ x r. record r { options = x })
       ∷ default 5 (codes "maxMsgSize") (optional size) (λ x r. record r { max_msg_size = x })
       ∷ default 6 (codes "pinProtocols") (optional (list (below 256))) (λ x r. record r { pin_protocols = x })
-      ∷ default 9 (codes "transports") (tolerated (accepted (one_named transport_named))) (λ x r. record r { transports = x })
-      ∷ default 10 (codes "algorithms") (tolerated (accepted (nested parameters_fields))) (λ x r. record r { algorithms = x })
-      ∷ default 11 (codes "macSerializedLargeBlobArray") (optional (below (2 ^ 32))) (λ x r. record r { mac_serialized_large_blob_array = x })
+      ∷ default 9 (codes "transports") (tolerated (accepted (one_named transport_named)))
+      (λ x r. record r { transports = x })
+      ∷ default 10 (codes "algorithms") (tolerated (accepted (nested parameters_fields)))
+      (λ x r. record r { algorithms = x })
+      ∷ default 11 (codes "macSerializedLargeBlobArray") (optional (below (2 ^ 32)))
+      (λ x r. record r { mac_serialized_large_blob_array = x })
       ∷ default 12 (codes "forcePinChange") (optional truth) (λ x r. record r { force_pin_change = x })
       ∷ default 13 (codes "minPinLength") (optional (below (2 ^ 32))) (λ x r. record r { min_pin_length = x })
       ∷ default 14 (codes "firmwareVersion") (optional (below (2 ^ 32))) (λ x r. record r { firmware_version = x })
-      ∷ default 15 (codes "maxCredBlobLength") (optional (below (2 ^ 32))) (λ x r. record r { max_cred_blob_length = x })
-      ∷ default 16 (codes "maxRpidsForSetMinPinLength") (optional (below (2 ^ 32))) (λ x r. record r { max_rpids_for_set_min_pin_length = x })
-      ∷ default 17 (codes "preferredPlatformUvAttempts") (optional (below (2 ^ 32))) (λ x r. record r { preferred_platform_uv_attempts = x })
+      ∷ default 15 (codes "maxCredBlobLength") (optional (below (2 ^ 32)))
+      (λ x r. record r { max_cred_blob_length = x })
+      ∷ default 16 (codes "maxRpidsForSetMinPinLength") (optional (below (2 ^ 32)))
+      (λ x r. record r { max_rpids_for_set_min_pin_length = x })
+      ∷ default 17 (codes "preferredPlatformUvAttempts") (optional (below (2 ^ 32)))
+      (λ x r. record r { preferred_platform_uv_attempts = x })
       ∷ default 18 (codes "uvModality") (optional (below (2 ^ 32))) (λ x r. record r { uv_modality = x })
       ∷ default 19 (codes "certifications") (optional kept) (λ x r. record r { certifications = x })
-      ∷ default 20 (codes "remainingDiscoverableCredentials") (optional (below (2 ^ 32))) (λ x r. record r { remaining_discoverable_credentials = x })
-      ∷ default 21 (codes "vendorPrototypeConfigCommands") (tolerated (accepted (below (2 ^ 32)))) (λ x r. record r { vendor_prototype_config_commands = x })
-      ∷ default 22 (codes "attestationFormats") (tolerated (accepted text)) (λ x r. record r { attestation_formats = x })
-      ∷ default 23 (codes "uvCountSinceLastPinEntry") (optional (below (2 ^ 32))) (λ x r. record r { uv_count_since_last_pin_entry = x })
+      ∷ default 20 (codes "remainingDiscoverableCredentials") (optional (below (2 ^ 32)))
+      (λ x r. record r { remaining_discoverable_credentials = x })
+      ∷ default 21 (codes "vendorPrototypeConfigCommands") (tolerated (accepted (below (2 ^ 32))))
+      (λ x r. record r { vendor_prototype_config_commands = x })
+      ∷ default 22 (codes "attestationFormats") (tolerated (accepted text))
+      (λ x r. record r { attestation_formats = x })
+      ∷ default 23 (codes "uvCountSinceLastPinEntry") (optional (below (2 ^ 32)))
+      (λ x r. record r { uv_count_since_last_pin_entry = x })
       ∷ default 24 (codes "longTouchForReset") (optional truth) (λ x r. record r { long_touch_for_reset = x })
       ∷ default 25 (codes "encIdentifier") (optional bytes) (λ x r. record r { enc_identifier = x })
-      ∷ default 26 (codes "transportsForReset") (tolerated (accepted (one_named transport_named))) (λ x r. record r { transports_for_reset = x })
+      ∷ default 26 (codes "transportsForReset") (tolerated (accepted (one_named transport_named)))
+      (λ x r. record r { transports_for_reset = x })
       ∷ default 27 (codes "pinComplexityPolicy") (optional truth) (λ x r. record r { pin_complexity_policy = x })
-      ∷ default 28 (codes "pinComplexityPolicyUrl") (optional bytes) (λ x r. record r { pin_complexity_policy_url = x })
+      ∷ default 28 (codes "pinComplexityPolicyUrl") (optional bytes)
+      (λ x r. record r { pin_complexity_policy_url = x })
       ∷ default 29 (codes "maxPinLength") (optional (below (2 ^ 32))) (λ x r. record r { max_pin_length = x })
       ∷ [];
 }
@@ -116,6 +129,6 @@ get_info_fields = record {
 abbrev pub get_info_table : Table
 get_info_table = table_of get_info_fields
 
--- the response that an item decodes to, or its first fault
+-- the response that a data item decodes to, or its first fault
 abbrev pub read_get_info : Item → Result GetInfoParts Fault
 read_get_info = read_item get_info_fields

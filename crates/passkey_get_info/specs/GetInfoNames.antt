@@ -13,9 +13,10 @@ version_name versions.FIDO_2_0 = codes "FIDO_2_0"
 version_name versions.FIDO_2_1 = codes "FIDO_2_1"
 version_name (versions.Unknown name) = name
 
--- each name is that of a version
+-- every name is the name of a version
 abbrev pub version_named : List ℕ → Version
-version_named name = unwrap_or (named_in version_name (versions.FIDO_2_0 ∷ versions.FIDO_2_1 ∷ []) name) (versions.Unknown name)
+version_named name =
+    unwrap_or (named_in version_name (versions.FIDO_2_0 ∷ versions.FIDO_2_1 ∷ []) name) (versions.Unknown name)
 
 abbrev pub version : Kind Version
 version = one_named (λ name. Some (version_named name))
@@ -23,7 +24,7 @@ version = one_named (λ name. Some (version_named name))
 abbrev pub version_tree : Version → Item
 version_tree v = text_string (version_name v)
 
--- an unknown version with a known name is the known one
+-- an unknown version with the name of a known one becomes the known one
 abbrev pub normal_version : Version → Version
 normal_version v = version_named (version_name v)
 
@@ -33,9 +34,10 @@ extension_name extensions.HmacSecretMakeCredential = codes "hmac-secret-mc"
 extension_name extensions.Prf = codes "prf"
 extension_name (extensions.Unknown name) = name
 
--- each name is that of an extension
+-- every name is the name of an extension
 abbrev pub extension_named : List ℕ → Extension
-extension_named name = unwrap_or (named_in extension_name (extensions.HmacSecret ∷ extensions.HmacSecretMakeCredential ∷ extensions.Prf ∷ []) name) (extensions.Unknown name)
+extension_named name = unwrap_or (named_in extension_name (extensions.HmacSecret
+    ∷ extensions.HmacSecretMakeCredential ∷ extensions.Prf ∷ []) name) (extensions.Unknown name)
 
 abbrev pub extension : Kind Extension
 extension = one_named (λ name. Some (extension_named name))

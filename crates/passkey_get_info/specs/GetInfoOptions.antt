@@ -40,16 +40,19 @@ options_fields = record {
       ∷ default 4 (codes "up") truth (λ b o. record o { up = b })
       ∷ default 5 (codes "uv") (optional truth) (λ b o. record o { uv = b })
       ∷ default 6 (codes "pinUvAuthToken") (optional truth) (λ b o. record o { pin_uv_auth_token = b })
-      ∷ default 7 (codes "noMcGaPermissionsWithClientPin") (optional truth) (λ b o. record o { no_mc_ga_permissions_with_client_pin = b })
+      ∷ default 7 (codes "noMcGaPermissionsWithClientPin") (optional truth)
+      (λ b o. record o { no_mc_ga_permissions_with_client_pin = b })
       ∷ default 8 (codes "largeBlobs") (optional truth) (λ b o. record o { large_blobs = b })
       ∷ default 9 (codes "ep") (optional truth) (λ b o. record o { ep = b })
       ∷ default 10 (codes "bioEnroll") (optional truth) (λ b o. record o { bio_enroll = b })
-      ∷ default 11 (codes "userVerificationMgmtPreview") (optional truth) (λ b o. record o { user_verification_mgmt_preview = b })
+      ∷ default 11 (codes "userVerificationMgmtPreview") (optional truth)
+      (λ b o. record o { user_verification_mgmt_preview = b })
       ∷ default 12 (codes "uvBioEnroll") (optional truth) (λ b o. record o { uv_bio_enroll = b })
       ∷ default 13 (codes "authnrCfg") (optional truth) (λ b o. record o { authnr_cfg = b })
       ∷ default 14 (codes "uvAcfg") (optional truth) (λ b o. record o { uv_acfg = b })
       ∷ default 15 (codes "credMgmt") (optional truth) (λ b o. record o { cred_mgmt = b })
-      ∷ default 16 (codes "credentialMgmtPreview") (optional truth) (λ b o. record o { credential_mgmt_preview = b })
+      ∷ default 16 (codes "credentialMgmtPreview") (optional truth)
+      (λ b o. record o { credential_mgmt_preview = b })
       ∷ default 17 (codes "setMinPINLength") (optional truth) (λ b o. record o { set_min_pin_length = b })
       ∷ default 18 (codes "makeCredUvNotRqd") (optional truth) (λ b o. record o { make_cred_uv_not_rqd = b })
       ∷ default 19 (codes "alwaysUv") (optional truth) (λ b o. record o { always_uv = b })
@@ -59,7 +62,7 @@ options_fields = record {
 abbrev pub options : Kind Options
 options = record_kind options_fields
 
--- ---- what they are encoded as
+-- ---- the encoding of the options
 
 abbrev pub options_places : Options → List Place
 options_places o =
@@ -81,7 +84,8 @@ options_places o =
     ∷ where_some (text_string (codes "makeCredUvNotRqd")) boolean o.make_cred_uv_not_rqd
     ∷ where_some (text_string (codes "credentialMgmtPreview")) boolean o.credential_mgmt_preview
     ∷ where_some (text_string (codes "userVerificationMgmtPreview")) boolean o.user_verification_mgmt_preview
-    ∷ where_some (text_string (codes "noMcGaPermissionsWithClientPin")) boolean o.no_mc_ga_permissions_with_client_pin
+    ∷ where_some (text_string (codes "noMcGaPermissionsWithClientPin")) boolean
+    o.no_mc_ga_permissions_with_client_pin
     ∷ []
 
 abbrev pub options_tree : Options → Item

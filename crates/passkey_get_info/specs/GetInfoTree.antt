@@ -1,11 +1,11 @@
--- What an authenticatorGetInfo response is encoded as (CTAP 2.1, section 6.4).
+-- The data item that an authenticatorGetInfo response is encoded as (CTAP 2.1, section 6.4).
 use Rattle.std.specs.Prelude.{◌≡◌, ◌<◌, ◌^◌, nat_lt, nat_le, ℕ, Bool, true, ◌&&◌, if◌then◌else◌, List, [], ◌∷◌, ◌++◌, map, length, Option, Some, None, option_map}
 use Rattle.std.specs.List.{All}
 use Rattle.std.specs.Option.{option_and_then}
 use Rattle.passkey_cbor.specs.Depth.{depth}
-use Rattle.passkey_cbor.specs.Front.{max_depth}
+use Rattle.passkey_cbor.specs.LeadingItem.{max_depth}
 use Rattle.passkey_cbor.specs.Item.{Item, boolean, byte_string, text_string, null}
-use Rattle.passkey_core.specs.DataNormal.{Where}
+use Rattle.passkey_core.specs.DataNormal.{IfPresent}
 use Rattle.passkey_get_info.specs.GetInfo.{GetInfoParts}
 use Rattle.passkey_get_info.specs.GetInfoNames.{version_tree, normal_version, extension_tree, normal_extension}
 use Rattle.passkey_get_info.specs.GetInfoOptions.{options_tree}
@@ -15,7 +15,7 @@ use Rattle.passkey_kinds.specs.Trees.{parameters_tree, transport_tree}
 use Rattle.passkey_kinds.specs.declared.write_fault.WriteFault.{WriteFault}
 use Rattle.passkey_kinds.specs.declared.write_fault.WriteFault.TheVariants.{OutOfMemory, NumberTooLarge}
 
--- a kept item, encoded as it is
+-- a kept data item, encoded unchanged
 abbrev pub where_kept : Item → Option Item → Place
 where_kept key o = (key, o)
 
@@ -62,7 +62,7 @@ get_info_places r = capability_places r ++ limit_places r
 abbrev pub get_info_tree : GetInfoParts → Item
 get_info_tree r = record_tree (get_info_places r)
 
--- the value that it keeps as it was decoded, if there is one
+-- the data item that a response keeps undecoded, if there is one
 abbrev pub certifications_kept : Option Item → List Item
 certifications_kept None = []
 certifications_kept (Some i) = i ∷ []
@@ -70,7 +70,7 @@ certifications_kept (Some i) = i ∷ []
 abbrev pub get_info_kept : GetInfoParts → List Item
 get_info_kept r = certifications_kept r.certifications
 
--- ---- what holds of each response
+-- ---- what holds of every response
 
 abbrev pub IsWord : ℕ → Type 0
 IsWord n = n < 2 ^ 32
@@ -80,51 +80,51 @@ IsPositive n = 0 < n
 
 pub record CapabilitiesFit (r : GetInfoParts) : Type 0 where
   pub aaguid : length r.aaguid ≡ 16
-  pub max_msg_size : Where IsPositive r.max_msg_size
-  pub pin_protocols : Where (All IsByte) r.pin_protocols
+  pub max_msg_size : IfPresent IsPositive r.max_msg_size
+  pub pin_protocols : IfPresent (All IsByte) r.pin_protocols
 
 pub record LimitsFit (r : GetInfoParts) : Type 0 where
-  pub mac_serialized_large_blob_array : Where IsWord r.mac_serialized_large_blob_array
-  pub min_pin_length : Where IsWord r.min_pin_length
-  pub firmware_version : Where IsWord r.firmware_version
-  pub max_cred_blob_length : Where IsWord r.max_cred_blob_length
-  pub max_rpids_for_set_min_pin_length : Where IsWord r.max_rpids_for_set_min_pin_length
-  pub preferred_platform_uv_attempts : Where IsWord r.preferred_platform_uv_attempts
-  pub uv_modality : Where IsWord r.uv_modality
-  pub remaining_discoverable_credentials : Where IsWord r.remaining_discoverable_credentials
-  pub vendor_prototype_config_commands : Where (All IsWord) r.vendor_prototype_config_commands
-  pub uv_count_since_last_pin_entry : Where IsWord r.uv_count_since_last_pin_entry
-  pub max_pin_length : Where IsWord r.max_pin_length
+  pub mac_serialized_large_blob_array : IfPresent IsWord r.mac_serialized_large_blob_array
+  pub min_pin_length : IfPresent IsWord r.min_pin_length
+  pub firmware_version : IfPresent IsWord r.firmware_version
+  pub max_cred_blob_length : IfPresent IsWord r.max_cred_blob_length
+  pub max_rpids_for_set_min_pin_length : IfPresent IsWord r.max_rpids_for_set_min_pin_length
+  pub preferred_platform_uv_attempts : IfPresent IsWord r.preferred_platform_uv_attempts
+  pub uv_modality : IfPresent IsWord r.uv_modality
+  pub remaining_discoverable_credentials : IfPresent IsWord r.remaining_discoverable_credentials
+  pub vendor_prototype_config_commands : IfPresent (All IsWord) r.vendor_prototype_config_commands
+  pub uv_count_since_last_pin_entry : IfPresent IsWord r.uv_count_since_last_pin_entry
+  pub max_pin_length : IfPresent IsWord r.max_pin_length
 
 abbrev pub GetInfoFits : GetInfoParts → Type 0
 GetInfoFits r = CapabilitiesFit r × LimitsFit r
 
--- ---- what can be encoded, and decoded again
+-- ---- which responses can be encoded, and decoded again
 
 -- CBOR's unsigned integers are below 2^64 (RFC 8949, section 3.1)
-abbrev pub is_spelled : Option ℕ → Bool
-is_spelled None = true
-is_spelled (Some n) = nat_lt n (2 ^ 64)
+abbrev pub is_encodable : Option ℕ → Bool
+is_encodable None = true
+is_encodable (Some n) = nat_lt n (2 ^ 64)
 
--- why a response isn't encoded: its size is too large, or else an allocation failed
+-- why a response wasn't encoded: its size is too large, or else an allocation failed
 abbrev pub fault_of_size : Option ℕ → WriteFault
-fault_of_size size = if is_spelled size then OutOfMemory else NumberTooLarge
+fault_of_size size = if is_encodable size then OutOfMemory else NumberTooLarge
 
--- the item has fewer levels than are decoded, so that a message may hold it
+-- the item has fewer than `max_depth` nesting levels, so that a message may contain it
 abbrev pub has_room : Option Item → Bool
 has_room None = true
 has_room (Some i) = nat_lt (depth i) max_depth
 
--- the size can be encoded, and the encoding has at most as many levels as are decoded
+-- the size can be encoded, and the encoding has at most `max_depth` nesting levels
 abbrev pub is_get_info_coherent : GetInfoParts → Bool
-is_get_info_coherent r = is_spelled r.max_msg_size && nat_le (depth (get_info_tree r)) max_depth
+is_get_info_coherent r = is_encodable r.max_msg_size && nat_le (depth (get_info_tree r)) max_depth
 
--- null decodes to no item
+-- null decodes to `None`
 abbrev pub unless_null : Item → Option Item
 unless_null null = None
 unless_null i = Some i
 
--- what the encoding decodes to
+-- the response that the encoding decodes to
 abbrev pub normal_get_info : GetInfoParts → GetInfoParts
 normal_get_info r = record r {
   versions = map normal_version r.versions;

@@ -1,5 +1,5 @@
 //! Extensions that an authenticator supports.
-ghost use Rattle.std.specs.Prelude.{◌≡◌, true};
+ghost use Rattle.std.specs.Prelude.{◌≡◌, true, Some};
 ghost use Rattle.passkey_get_info.specs.GetInfoNames.{extension_name, extension_named, extension, extension_tree, normal_extension};
 ghost use Rattle.passkey_kinds.specs.Keeping.{nothing};
 ghost use Rattle.passkey_kinds.specs.ReadBack.{Any};
@@ -10,6 +10,7 @@ use passkey_cbor::{Cursor, Value};
 use passkey_kinds::{FromCbor, FromText, ReadBack, Refusal, Shallow, ToCbor, read_text_value};
 use passkey_memory::OutOfMemory;
 use std::alloc::Global;
+use std::fmt;
 
 /// An extension that an authenticator supports (CTAP 2.1, section 6.4).
 #[derive(Debug, Drop, PartialEq, Eq)]
@@ -20,7 +21,7 @@ pub enum Extension {
     HmacSecretMakeCredential,
     /// `prf` (WebAuthn Level 3, section 10.1.4).
     Prf,
-    /// Another name. If it holds one of the names above, its encoding decodes to that extension.
+    /// Another name. If it is one of the names above, its encoding decodes to that extension.
     Unknown(Text),
 }
 
@@ -34,6 +35,15 @@ impl Extension {
             Extension::Prf => "prf",
             Extension::Unknown(name) => name.as_str(),
         }
+    }
+}
+
+impl fmt::Display for Extension {
+    ghost output = { λ e. Some (extension_name e) };
+
+    /// The extension's identifier in authenticatorGetInfo responses.
+    fn fmt<W: fmt::Write>(&self, f: &mut fmt::Formatter<W>) -> fmt::Result {
+        f.write_str(self.name())
     }
 }
 

@@ -1,4 +1,4 @@
-//! Laws about authenticatorGetInfo responses, each the contract of a function that does nothing.
+//! Laws about authenticatorGetInfo responses. Each is the contract of a function that does nothing.
 ghost use Rattle.passkey_get_info.specs.GetInfo.{get_info_fields, read_get_info};
 ghost use Rattle.passkey_get_info.specs.GetInfoView.{get_info_parts};
 ghost use Rattle.passkey_get_info.specs.GetInfoTree.{get_info_tree, GetInfoFits, is_get_info_coherent, normal_get_info, get_info_kept};
@@ -9,12 +9,12 @@ ghost use Rattle.passkey_get_info.specs.GetInfoOptions.{options_places};
 ghost use Rattle.passkey_kinds.specs.Tree.{KeysAscend};
 
 /// The encoding of a coherent response, whatever bytes follow, decodes to the response, in which an
-/// unknown version or extension with a known name becomes the known one, and certifications that are
-/// null become `None`.
+/// unknown version or extension with a known name becomes the known one, and certifications that
+/// are null become `None`.
 pub fn written_get_info_is_read_back()
     ensures { WrittenIsReadBack read_get_info get_info_tree GetInfoFits is_get_info_coherent normal_get_info }
 {
-    passkey_cbor::laws::written_is_front();
+    passkey_cbor::laws::written_is_leading_item();
 }
 
 /// Decoded responses are coherent.
@@ -27,22 +27,22 @@ pub fn read_get_info_knows_maps()
     ensures { KnowsMaps read_get_info }
 {}
 
-/// A member under an unknown key may be anywhere in a response, as long as the map has at most 256
-/// levels with it: for any encodings with and without the member, the results differ only in the
-/// length in bytes.
+/// A member under an unknown key may be anywhere in a response: for any encodings of the map with
+/// and without the member, of at most 256 nesting levels, the results differ only in their length
+/// in bytes.
 pub fn read_get_info_passes_over_unknown()
     ensures { PassesOverUnknown get_info_parts get_info_fields }
 {
-    passkey_cbor::laws::at_most_one_front();
+    passkey_cbor::laws::at_most_one_leading_item();
 }
 
-/// The encoding of a coherent response is in CTAP2's canonical form, if that of its certifications
-/// is (CTAP 2.1, section 8).
+/// The encoding of a coherent response is in CTAP2's canonical form if the encoding of its
+/// certifications is, or if they are absent (CTAP 2.1, section 8).
 pub fn written_get_info_is_canonical()
     ensures { WrittenIsCanonical get_info_tree is_get_info_coherent get_info_kept }
 {
-    passkey_cbor::laws::at_most_one_front();
-    passkey_cbor::laws::written_is_front();
+    passkey_cbor::laws::at_most_one_leading_item();
+    passkey_cbor::laws::written_is_leading_item();
 }
 
 /// Options are encoded with their keys in CTAP2's order (CTAP 2.1, section 8).

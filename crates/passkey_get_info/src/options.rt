@@ -14,8 +14,8 @@ use passkey_memory::OutOfMemory;
 use std::alloc::Global;
 
 /// The options of an authenticatorGetInfo response: what the authenticator supports, and how it is
-/// configured (CTAP 2.1, section 6.4). `None` means that an option is absent, and so not supported;
-/// null decodes to it, too.
+/// configured (CTAP 2.1, section 6.4). `None` means that the option is absent, and so isn't
+/// supported; null also decodes to `None`.
 #[derive(Debug, Drop, PartialEq, Eq)]
 pub struct Options {
     /// `plat`: whether it is a platform authenticator, which can't be removed from the client
@@ -41,7 +41,8 @@ pub struct Options {
     /// `bioEnroll`: whether a biometric template is enrolled, if it supports
     /// authenticatorBioEnrollment.
     pub bio_enroll: Option<bool>,
-    /// `userVerificationMgmtPreview`: the same for the prototype command of `FIDO_2_1_PRE`.
+    /// `userVerificationMgmtPreview`: the same as `bioEnroll`, for the prototype command of
+    /// `FIDO_2_1_PRE`.
     pub user_verification_mgmt_preview: Option<bool>,
     /// `uvBioEnroll`: whether built-in user verification can grant the permission to enroll
     /// templates.
@@ -53,14 +54,16 @@ pub struct Options {
     pub uv_acfg: Option<bool>,
     /// `credMgmt`: whether it supports authenticatorCredentialManagement.
     pub cred_mgmt: Option<bool>,
-    /// `credentialMgmtPreview`: the same for the prototype command of `FIDO_2_1_PRE`.
+    /// `credentialMgmtPreview`: the same as `credMgmt`, for the prototype command of
+    /// `FIDO_2_1_PRE`.
     pub credential_mgmt_preview: Option<bool>,
     /// `setMinPINLength`: whether it supports the subcommand setMinPINLength.
     pub set_min_pin_length: Option<bool>,
     /// `makeCredUvNotRqd`: whether it creates non-discoverable credentials without user
     /// verification.
     pub make_cred_uv_not_rqd: Option<bool>,
-    /// `alwaysUv`: whether user verification is always required, if it supports that setting.
+    /// `alwaysUv`: whether user verification is always required, if the authenticator supports this
+    /// setting.
     pub always_uv: Option<bool>,
 }
 

@@ -21,8 +21,8 @@ use passkey_webauthn::{AuthenticatorTransport, PublicKeyCredentialParameters};
 use std::alloc::Global;
 use std::num::NonZeroU128;
 
-/// An authenticatorGetInfo response (CTAP 2.1, section 6.4; the members from 0x16 on are of CTAP
-/// 2.2). `None` means that a member is absent; null decodes to it, too.
+/// An authenticatorGetInfo response (CTAP 2.1, section 6.4; the members from 0x16 on are in CTAP
+/// 2.2). `None` means that the member is absent; null also decodes to `None`.
 #[derive(Debug, Drop, PartialEq, Eq)]
 pub struct Response {
     /// 0x01: the supported versions of CTAP.
@@ -33,8 +33,8 @@ pub struct Response {
     pub aaguid: Aaguid,
     /// 0x04: the options.
     pub options: Option<Options>,
-    /// 0x05: the maximum size of a message, in bytes. Without it, platforms MUST NOT send more than
-    /// 1024 (section 8).
+    /// 0x05: the maximum size of a message, in bytes. If it is absent, platforms MUST NOT send more
+    /// than 1024 bytes (section 8).
     pub max_msg_size: Option<NonZeroU128>,
     /// 0x06: the supported PIN/UV auth protocols, the preferred first.
     pub pin_protocols: Option<List<u8>>,
@@ -61,9 +61,9 @@ pub struct Response {
     /// 0x12: the user verification methods, as flags of FIDO's registry of predefined values.
     pub uv_modality: Option<u32>,
     /// 0x13: the authenticator's certifications, a map from their names to levels. Any data item is
-    /// kept as it is.
+    /// accepted and kept unchanged.
     pub certifications: Option<Value>,
-    /// 0x14: how many more discoverable credentials can be stored, an estimate.
+    /// 0x14: an estimate of how many more discoverable credentials can be stored.
     pub remaining_discoverable_credentials: Option<u32>,
     /// 0x15: the ids of the vendor's authenticatorConfig subcommands. Decoding drops elements that
     /// can't be decoded.
@@ -206,7 +206,7 @@ impl Response {
         }
     }
 
-    /// Decodes the response that the bytes begin with, and returns it with its length in bytes.
+    /// Decodes the response at the beginning of the bytes, and returns it with its length in bytes.
     /// Bytes after it are ignored. The errors are those of `read`.
     pub fn from_slice(alloc: Global, bytes: &[u8]) -> Result<(Response, usize), Fault>
         ensures reads { ReadsMessage get_info_parts read_get_info bytes.now result }
@@ -216,24 +216,25 @@ impl Response {
     }
 
     /// Decodes the response at the cursor, head by head and without building a data item for the
-    /// whole, and moves behind it. `DecodeFailed` exactly if no well-formed data item of at most
-    /// 256 levels is there; otherwise the fault that `from_value` returns for the item;
-    /// `OutOfMemory` if an allocation fails, which can only happen for a member that takes memory.
-    /// On an error the cursor stays, and its counts include what was spent.
+    /// whole, and moves past it. Returns `DecodeFailed` exactly if no well-formed data item of at
+    /// most 256 nesting levels is there; otherwise the fault that `from_value` returns for the
+    /// item. Returns `OutOfMemory` if an allocation fails, which can only happen for a member that
+    /// takes memory. On an error the cursor stays, and its counts include what was spent.
     pub fn read(alloc: Global, cursor: &mut Cursor<'_>) -> Result<Response, Fault>
         ensures { ReadsHere get_info_parts get_info_fields 16 cursor.old cursor.new result }
     {
         read_message(alloc, cursor)
     }
 
-    /// Decodes the response from a data item. `NotAMap` if it isn't a map; otherwise the first
-    /// fault of its members in their order (`BadKey`, `Repeated`, `Refused`), or `Missing` for the
-    /// first required member that is absent; `OutOfMemory` if an allocation fails, which can only
-    /// happen for a member that takes memory. Unknown members are skipped. The lists 0x09, 0x0A,
-    /// 0x15, 0x16 and 0x1A lose elements that can't be decoded, and are `None` if the value isn't
-    /// an array.
+    /// Decodes the response from a data item. Returns `NotAMap` if the item isn't a map; otherwise
+    /// the first fault of its members in their order (`BadKey`, `Repeated`, `Refused`), or else
+    /// `Missing` for the first required member that is absent. Returns `OutOfMemory` if an
+    /// allocation fails, which can only happen for a member that takes memory. Skips unknown
+    /// members. In the lists 0x09, 0x0A, 0x15, 0x16 and 0x1A, elements that can't be decoded are
+    /// dropped, and a value that isn't an array decodes to `None`.
     pub fn from_value(alloc: Global, value: &Value) -> Result<Response, Fault>
-        ensures { Reads get_info_parts (MayGrowAt get_info_table (item_of value.now)) (read_get_info (item_of value.now)) result }
+        ensures { Reads get_info_parts (MayGrowAt get_info_table (item_of value.now))
+            (read_get_info (item_of value.now)) result }
     {
         record_from_value(alloc, value)
     }

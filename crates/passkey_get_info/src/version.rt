@@ -1,5 +1,5 @@
 //! Versions of CTAP that an authenticator supports.
-ghost use Rattle.std.specs.Prelude.{◌≡◌, true};
+ghost use Rattle.std.specs.Prelude.{◌≡◌, true, Some};
 ghost use Rattle.passkey_get_info.specs.GetInfoNames.{version_name, version_named, version, version_tree, normal_version};
 ghost use Rattle.passkey_kinds.specs.Keeping.{nothing};
 ghost use Rattle.passkey_kinds.specs.ReadBack.{Any};
@@ -10,6 +10,7 @@ use passkey_cbor::{Cursor, Value};
 use passkey_kinds::{FromCbor, FromText, ReadBack, Refusal, Shallow, ToCbor, read_text_value};
 use passkey_memory::OutOfMemory;
 use std::alloc::Global;
+use std::fmt;
 
 /// A version of CTAP that an authenticator supports (CTAP 2.1, section 6.4).
 #[derive(Debug, Drop, PartialEq, Eq)]
@@ -18,7 +19,7 @@ pub enum Version {
     FIDO_2_0,
     /// CTAP 2.1.
     FIDO_2_1,
-    /// Another name. If it holds one of the names above, its encoding decodes to that version.
+    /// Another name. If it is one of the names above, its encoding decodes to that version.
     Unknown(Text),
 }
 
@@ -31,6 +32,15 @@ impl Version {
             Version::FIDO_2_1 => "FIDO_2_1",
             Version::Unknown(name) => name.as_str(),
         }
+    }
+}
+
+impl fmt::Display for Version {
+    ghost output = { λ v. Some (version_name v) };
+
+    /// The version's name in authenticatorGetInfo responses.
+    fn fmt<W: fmt::Write>(&self, f: &mut fmt::Formatter<W>) -> fmt::Result {
+        f.write_str(self.name())
     }
 }
 

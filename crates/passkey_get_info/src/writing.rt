@@ -4,8 +4,8 @@ ghost use Rattle.std.specs.Int.NonZero.{non_zero_u128_get};
 ghost use Rattle.passkey_cbor.specs.View.{item_of};
 ghost use Rattle.passkey_cbor.specs.Writable.{IsWritable};
 ghost use Rattle.passkey_cbor.specs.Written.{written};
-ghost use Rattle.passkey_core.specs.DataNormal.{Where};
-ghost use Rattle.passkey_get_info.specs.GetInfoTree.{capability_places, limit_places, get_info_tree, IsPositive, CapabilitiesFit, LimitsFit, GetInfoFits, is_spelled, fault_of_size, has_room, is_get_info_coherent};
+ghost use Rattle.passkey_core.specs.DataNormal.{IfPresent};
+ghost use Rattle.passkey_get_info.specs.GetInfoTree.{capability_places, limit_places, get_info_tree, IsPositive, CapabilitiesFit, LimitsFit, GetInfoFits, is_encodable, fault_of_size, has_room, is_get_info_coherent};
 ghost use Rattle.passkey_get_info.specs.GetInfoView.{get_info_parts};
 ghost use Rattle.passkey_kinds.specs.Tree.{number_tree, laid};
 ghost use Rattle.passkey_kinds.specs.Written.{members_of};
@@ -19,21 +19,24 @@ use std::alloc::Global;
 use std::num::NonZeroU128;
 
 /// Returns the size as an integer, or `None` if it is 2^64 or more.
-fn spelled(size: NonZeroU128) -> Option<Integer>
-    ensures { result ≡ (if nat_lt (non_zero_u128_get size) (2 ^ 64) then There (pos (non_zero_u128_get size)) else Nothing) }
+fn encoded(size: NonZeroU128) -> Option<Integer>
+    ensures { result
+        ≡ (if nat_lt (non_zero_u128_get size) (2 ^ 64) then There (pos (non_zero_u128_get size)) else Nothing) }
 {
     Integer::new(i128::try_from(size.get()).ok()?).ok()
 }
 
-/// Returns the size as a data item. `NumberTooLarge` exactly if it is 2^64 or more.
+/// Returns the size as a data item. Returns `NumberTooLarge` exactly if it is 2^64 or more.
 fn size_item(size: Option<NonZeroU128>) -> Result<Option<Value>, WriteFault>
-    ensures item { IfOk result (λ item. option_map item_of item ≡ option_map number_tree (option_map non_zero_u128_get size)) }
-    ensures fits { OnOk result (Where IsPositive (option_map non_zero_u128_get size)) }
-    ensures spelled { OnOk result (is_spelled (option_map non_zero_u128_get size) ≡ true) }
-    ensures fault { IfErr result (λ e. (e ≡ TooLarge) × (is_spelled (option_map non_zero_u128_get size) ≡ false)) }
+    ensures item { IfOk result
+        (λ item. option_map item_of item ≡ option_map number_tree (option_map non_zero_u128_get size)) }
+    ensures fits { OnOk result (IfPresent IsPositive (option_map non_zero_u128_get size)) }
+    ensures encoded { OnOk result (is_encodable (option_map non_zero_u128_get size) ≡ true) }
+    ensures fault { IfErr result
+        (λ e. (e ≡ TooLarge) × (is_encodable (option_map non_zero_u128_get size) ≡ false)) }
 {
     match size {
-        Some(size) => match spelled(size) {
+        Some(size) => match encoded(size) {
             Some(number) => Ok(Some(Value::Integer(number))),
             None => Err(WriteFault::NumberTooLarge),
         },
@@ -41,7 +44,8 @@ fn size_item(size: Option<NonZeroU128>) -> Result<Option<Value>, WriteFault>
     }
 }
 
-/// Whether the item, if there is one, has fewer than 256 levels, so that a message may hold it.
+/// Returns whether the item, if there is one, has fewer than 256 nesting levels, so that a message
+/// may contain it.
 fn fits_in_message(item: &Option<Value>) -> bool
     ensures { result ≡ has_room (option_map item_of item.now) }
 {
@@ -53,9 +57,10 @@ fn fits_in_message(item: &Option<Value>) -> bool
 
 impl Response {
     fn put_capabilities(&self, alloc: Global, members: &mut Written) -> Result<(), WriteFault>
-        ensures put { OnOk result (members_of members.new ≡ laid (members_of members.old) (capability_places (get_info_parts self.now))) }
+        ensures put { OnOk result
+            (members_of members.new ≡ laid (members_of members.old) (capability_places (get_info_parts self.now))) }
         ensures fits { OnOk result (CapabilitiesFit (get_info_parts self.now)) }
-        ensures spelled { OnOk result (is_spelled (get_info_parts self.now).max_msg_size ≡ true) }
+        ensures encoded { OnOk result (is_encodable (get_info_parts self.now).max_msg_size ≡ true) }
         ensures fault { IfErr result (λ e. e ≡ fault_of_size (get_info_parts self.now).max_msg_size) }
     {
         let size = size_item(self.max_msg_size)?;
@@ -71,7 +76,8 @@ impl Response {
     }
 
     fn put_limits(&self, alloc: Global, members: &mut Written) -> Result<(), OutOfMemory>
-        ensures put { OnOk result (members_of members.new ≡ laid (members_of members.old) (limit_places (get_info_parts self.now))) }
+        ensures put { OnOk result
+            (members_of members.new ≡ laid (members_of members.old) (limit_places (get_info_parts self.now))) }
         ensures fits { OnOk result (LimitsFit (get_info_parts self.now)) }
     {
         members.put_some(alloc, 0x0b_u8, &self.mac_serialized_large_blob_array)?;
@@ -96,14 +102,14 @@ impl Response {
         Ok(())
     }
 
-    /// Encodes the response: its members under their numbers, in ascending order, each if it is
-    /// present. `NumberTooLarge` exactly if `max_msg_size` is 2^64 or more; otherwise `OutOfMemory`
-    /// if an allocation fails.
+    /// Encodes the response, with the members that are present under their numbers in ascending
+    /// order. Returns `NumberTooLarge` exactly if `max_msg_size` is 2^64 or more; otherwise
+    /// `OutOfMemory` if an allocation fails.
     pub fn to_vec(&self, alloc: Global) -> Result<Vec<u8>, WriteFault>
         ensures written { IfOk result (λ bytes. bytes.items ≡ written (get_info_tree (get_info_parts self.now))) }
         ensures writable { OnOk result (IsWritable (get_info_tree (get_info_parts self.now))) }
         ensures fits { OnOk result (GetInfoFits (get_info_parts self.now)) }
-        ensures spelled { OnOk result (is_spelled (get_info_parts self.now).max_msg_size ≡ true) }
+        ensures encoded { OnOk result (is_encodable (get_info_parts self.now).max_msg_size ≡ true) }
         ensures fault { IfErr result (λ e. e ≡ fault_of_size (get_info_parts self.now).max_msg_size) }
     {
         let mut members = Written::new(alloc);
@@ -112,9 +118,8 @@ impl Response {
         Ok(members.into_value().to_vec(alloc)?)
     }
 
-    /// Returns whether the response can be encoded, and the encoding can be decoded again:
-    /// `max_msg_size` is below 2^64, and `certifications` have fewer than 256 levels. Allocates
-    /// nothing.
+    /// Returns whether the response can be encoded, and its encoding decoded again: `max_msg_size`
+    /// is below 2^64, and `certifications` has fewer than 256 nesting levels. Allocates nothing.
     pub fn is_coherent(&self) -> bool
         ensures { result ≡ is_get_info_coherent (get_info_parts self.now) }
     {

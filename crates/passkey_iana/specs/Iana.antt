@@ -1,4 +1,4 @@
--- The numbers that IANA's registries of COSE assign; negsuc n is -1 - n.
+-- The numbers that IANA assigns in the COSE registries; `negsuc n` is -1 - n.
 use Rattle.std.specs.Prelude.{ℤ, pos, negsuc, List, [], ◌∷◌, Option}
 use Rattle.std.specs.Ordering.{int_eq}
 use Rattle.passkey_iana.specs.Table.{numbered}
@@ -28,7 +28,10 @@ algorithm_number algorithm.EdDSA = negsuc 7
 algorithm_number algorithm.ES256 = negsuc 6
 
 abbrev pub algorithms : List Algorithm
-algorithms = algorithm.RS1 ∷ algorithm.RS512 ∷ algorithm.RS384 ∷ algorithm.RS256 ∷ algorithm.ML_DSA_87 ∷ algorithm.ML_DSA_65 ∷ algorithm.ML_DSA_44 ∷ algorithm.ES256K ∷ algorithm.PS512 ∷ algorithm.PS384 ∷ algorithm.PS256 ∷ algorithm.ES512 ∷ algorithm.ES384 ∷ algorithm.ECDH_ES_HKDF_256 ∷ algorithm.EdDSA ∷ algorithm.ES256 ∷ []
+algorithms =
+    algorithm.RS1 ∷ algorithm.RS512 ∷ algorithm.RS384 ∷ algorithm.RS256 ∷ algorithm.ML_DSA_87 ∷ algorithm.ML_DSA_65
+    ∷ algorithm.ML_DSA_44 ∷ algorithm.ES256K ∷ algorithm.PS512 ∷ algorithm.PS384 ∷ algorithm.PS256 ∷ algorithm.ES512
+    ∷ algorithm.ES384 ∷ algorithm.ECDH_ES_HKDF_256 ∷ algorithm.EdDSA ∷ algorithm.ES256 ∷ []
 
 abbrev pub algorithm_named : ℤ → Option Algorithm
 algorithm_named = numbered int_eq algorithm_number algorithms
@@ -59,7 +62,9 @@ key_operation_number key_operation.MacCreate = pos 9
 key_operation_number key_operation.MacVerify = pos 10
 
 abbrev pub key_operations : List KeyOperation
-key_operations = key_operation.Sign ∷ key_operation.Verify ∷ key_operation.Encrypt ∷ key_operation.Decrypt ∷ key_operation.WrapKey ∷ key_operation.UnwrapKey ∷ key_operation.DeriveKey ∷ key_operation.DeriveBits ∷ key_operation.MacCreate ∷ key_operation.MacVerify ∷ []
+key_operations = key_operation.Sign ∷ key_operation.Verify ∷ key_operation.Encrypt ∷ key_operation.Decrypt
+    ∷ key_operation.WrapKey ∷ key_operation.UnwrapKey ∷ key_operation.DeriveKey ∷ key_operation.DeriveBits
+    ∷ key_operation.MacCreate ∷ key_operation.MacVerify ∷ []
 
 abbrev pub key_operation_named : ℤ → Option KeyOperation
 key_operation_named = numbered int_eq key_operation_number key_operations

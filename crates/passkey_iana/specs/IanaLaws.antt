@@ -1,4 +1,4 @@
--- The numbers of a registry's values tell them apart: proofs that the impls of EnumI64 cite.
+-- No two values of a registry have the same number: proofs that the impls of EnumI64 cite.
 use Rattle.std.specs.Cmp.{signed_Decides}
 use Rattle.std.specs.Ordering.{int_eq}
 use Rattle.std.proofs.Common.{◌≡◌, ◌↔◌, ℤ, Some, refl}
@@ -54,5 +54,6 @@ key_operation_own key_operation.DeriveBits = refl
 key_operation_own key_operation.MacCreate = refl
 key_operation_own key_operation.MacVerify = refl
 
-pub key_operation_named-number : (z : ℤ) (a : KeyOperation) → (key_operation_named z ≡ Some a ↔ key_operation_number a ≡ z)
+pub key_operation_named-number : (z : ℤ) (a : KeyOperation)
+    → (key_operation_named z ≡ Some a ↔ key_operation_number a ≡ z)
 key_operation_named-number = numbered_as int_eq signed_Decides key_operation_number key_operations key_operation_own

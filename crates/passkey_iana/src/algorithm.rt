@@ -1,10 +1,10 @@
-//! IANA's registry "COSE Algorithms", as far as passkeys use it; most of it by RFC 9053 and RFC 8812.
+//! IANA's registry "COSE Algorithms", as far as passkeys use it; mostly from RFC 9053 and RFC 8812.
 ghost use Rattle.passkey_iana.specs.Iana.{algorithm_number, algorithm_named};
 ghost use Rattle.passkey_iana.specs.IanaLaws.{algorithm_named-number};
 
 use crate::enum_i64::EnumI64;
 
-/// An algorithm: a signature, or a key agreement (IANA's registry "COSE Algorithms").
+/// A signature or key agreement algorithm (IANA's registry "COSE Algorithms").
 #[derive(Clone, Copy, Debug, PartialEq, Eq)]
 pub enum Algorithm {
     /// RSASSA-PKCS1-v1_5 with SHA-1.
@@ -33,7 +33,7 @@ pub enum Algorithm {
     ES512,
     /// ECDSA with SHA-384.
     ES384,
-    /// ECDH of an ephemeral with a static key, and HKDF with SHA-256.
+    /// ECDH of an ephemeral and a static key, with HKDF and SHA-256.
     ECDH_ES_HKDF_256,
     /// EdDSA.
     EdDSA,

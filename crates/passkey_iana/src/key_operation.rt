@@ -4,28 +4,28 @@ ghost use Rattle.passkey_iana.specs.IanaLaws.{key_operation_named-number};
 
 use crate::enum_i64::EnumI64;
 
-/// What a key may be used for (RFC 9052, section 7.1).
+/// An operation that a key may be used for (RFC 9052, section 7.1).
 #[derive(Clone, Copy, Debug, PartialEq, Eq)]
 pub enum KeyOperation {
-    /// To make signatures.
+    /// Make signatures.
     Sign,
-    /// To verify signatures.
+    /// Verify signatures.
     Verify,
-    /// To encrypt.
+    /// Encrypt.
     Encrypt,
-    /// To decrypt.
+    /// Decrypt.
     Decrypt,
-    /// To encrypt keys.
+    /// Encrypt keys.
     WrapKey,
-    /// To decrypt keys.
+    /// Decrypt keys.
     UnwrapKey,
-    /// To derive keys.
+    /// Derive keys.
     DeriveKey,
-    /// To derive bits that are no key.
+    /// Derive bits that aren't used as a key.
     DeriveBits,
-    /// To make message authentication codes.
+    /// Make message authentication codes.
     MacCreate,
-    /// To verify message authentication codes.
+    /// Verify message authentication codes.
     MacVerify,
 }
 

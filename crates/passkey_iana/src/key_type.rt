@@ -4,14 +4,14 @@ ghost use Rattle.passkey_iana.specs.IanaLaws.{key_type_named-number};
 
 use crate::enum_i64::EnumI64;
 
-/// A kind of key (IANA's registry "COSE Key Types").
+/// A key type (IANA's registry "COSE Key Types").
 #[derive(Clone, Copy, Debug, PartialEq, Eq)]
 pub enum KeyType {
-    /// No key has it.
+    /// The reserved type, which no key has.
     Reserved,
     /// An octet key pair.
     OKP,
-    /// An elliptic curve's point, by two coordinates.
+    /// An elliptic curve point with both coordinates.
     EC2,
     /// An RSA key.
     RSA,

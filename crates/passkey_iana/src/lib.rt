@@ -1,4 +1,4 @@
-//! The numbers that IANA's registries of COSE assign, as far as passkeys use them.
+//! The numbers that IANA assigns in the COSE registries, as far as passkeys use them.
 #![tactic(auto)]
 
 mod algorithm;

@@ -1,4 +1,4 @@
--- Numbers that are read back from what they are written as.
+-- The encodings of numbers can be decoded again.
 use Rattle.std.proofs.Common.{◌≡◌, ◌∙◌, ℕ, suc, ◌<◌, ◌^◌, ℤ, List, [], ◌∷◌, map, Option, Some, refl, ap, arith, lt-ltb}
 use Rattle.std.specs.Option.{option_and_then}
 use Rattle.passkey_iana.specs.Iana.{algorithm_number, algorithm_named}
@@ -30,14 +30,15 @@ number_back named.ES256 = refl
 
 pub algorithm_back : (a : Algorithm) → algorithm (algorithm_json a) ≡ Some a
 unfolding algorithm
-algorithm_back a = ap (λ (o : Option ℤ). option_and_then algorithm_named o) (number_back a) ∙ (algorithm_named-number (algorithm_number a) a).1 refl
+algorithm_back a = ap (λ (o : Option ℤ). option_and_then algorithm_named o) (number_back a)
+    ∙ (algorithm_named-number (algorithm_number a) a).1 refl
 
 byte_back : (n : ℕ) → n < 2 ^ 8 → byte (natural_json n) ≡ Some n
 byte_back n less =
     let small : n < 2 ^ 63 = omega (arith, less) in
     rw (lt-ltb n (2 ^ 63) small, lt-ltb n (2 ^ 8) less) refl
 
--- the numbers of bytes
+-- bytes as numbers
 pub numbers_back : (bs : List ℕ) → IsBytes bs → each byte (items_of (map natural_json bs)) ≡ Some bs
 numbers_back [] h = refl
 numbers_back (b ∷ bs) h = rw (byte_back b (h 0), numbers_back bs (λ i. h (suc i))) refl

@@ -1,4 +1,4 @@
--- Looking up what was written.
+-- Looking up encoded members.
 use Rattle.std.proofs.Common.{◌≡◌, ℕ, List, [], ◌∷◌, Option, Some, None, Bool, true, false, ◌&&◌, ◌||◌, not, cond, refl, sym, subst, ◌∙◌, bytes_eq, true≢false}
 use Rattle.std.proofs.lemmas.Slice.Eq.{bytes_eq-Decides}
 use Rattle.std.specs.List.{list_any}
@@ -10,13 +10,15 @@ use Rattle.serde_json.specs.Find.{get, get_member}
 other_names : (a b : List ℕ) → bytes_eq a b ≡ false → a ≡ b → ⊥
 other_names a b e same = true≢false (sym ((bytes_eq-Decides a b).1 same) ∙ e)
 
--- what stands at a name under which nothing is put
-put_elsewhere : (name other : List ℕ) (o : Option Data) (ms : Members) → bytes_eq name other ≡ false → get_member name (put_if other o ms) ≡ get_member name ms
+-- the value under a name where nothing was put
+put_elsewhere : (name other : List ℕ) (o : Option Data) (ms : Members) → bytes_eq name other ≡ false
+    → get_member name (put_if other o ms) ≡ get_member name ms
 put_elsewhere name other None ms e = refl
 put_elsewhere name other (Some d) ms e = get_member-put_other name other d ms (other_names name other e)
 
--- what stands at the name under which it is put
-put_here : (name same : List ℕ) (o : Option Data) (ms : Members) → bytes_eq name same ≡ true → get_member name ms ≡ None → get_member name (put_if same o ms) ≡ o
+-- the value under the name where it was put
+put_here : (name same : List ℕ) (o : Option Data) (ms : Members) → bytes_eq name same ≡ true
+    → get_member name ms ≡ None → get_member name (put_if same o ms) ≡ o
 put_here name same None ms e h = h
 put_here name same (Some d) ms e h = rw ((bytes_eq-Decides name same).0 e) (get_member-put same d ms)
 
@@ -31,21 +33,26 @@ first_apart false b e = (refl, e)
 abbrev has_name : List ℕ → List Row → Bool
 has_name name ws = list_any (λ (v : Row). bytes_eq name v.0) ws
 
-looked_elsewhere : (name : List ℕ) (ws : List Row) (ms : Members) → has_name name ws ≡ false → get_member name (put_rows ms ws) ≡ get_member name ms
+looked_elsewhere : (name : List ℕ) (ws : List Row) (ms : Members) → has_name name ws ≡ false
+    → get_member name (put_rows ms ws) ≡ get_member name ms
 looked_elsewhere name [] ms e = refl
 looked_elsewhere name (w ∷ ws) ms e =
     let parts = neither (bytes_eq name w.0) (has_name name ws) e in
     looked_elsewhere name ws (put_if w.0 w.1 ms) parts.1 ∙ put_elsewhere name w.0 w.1 ms parts.0
 
-looked_at : (b : Bool) (name : List ℕ) (w : Row) (ws : List Row) (ms : Members) → bytes_eq name w.0 ≡ b → has_name w.0 ws ≡ false → get_member name ms ≡ None
-    → (get_member name (put_if w.0 w.1 ms) ≡ None → get_member name (put_rows (put_if w.0 w.1 ms) ws) ≡ at_name ws name)
+looked_at : (b : Bool) (name : List ℕ) (w : Row) (ws : List Row) (ms : Members) → bytes_eq name w.0 ≡ b
+    → has_name w.0 ws ≡ false → get_member name ms ≡ None
+    → (get_member name (put_if w.0 w.1 ms) ≡ None
+    → get_member name (put_rows (put_if w.0 w.1 ms) ws) ≡ at_name ws name)
     → get_member name (put_rows (put_if w.0 w.1 ms) ws) ≡ cond b w.1 (at_name ws name)
 looked_at true name w ws ms is apart none later =
     let same : name ≡ w.0 = (bytes_eq-Decides name w.0).0 is in
-    looked_elsewhere name ws (put_if w.0 w.1 ms) (subst (λ (n : List ℕ). has_name n ws ≡ false) (sym same) apart) ∙ put_here name w.0 w.1 ms is none
+    looked_elsewhere name ws (put_if w.0 w.1 ms) (subst (λ (n : List ℕ). has_name n ws ≡ false) (sym same) apart)
+    ∙ put_here name w.0 w.1 ms is none
 looked_at false name w ws ms is apart none later = later (put_elsewhere name w.0 w.1 ms is ∙ none)
 
-looked : (name : List ℕ) (ws : List Row) (ms : Members) → are_apart ws ≡ true → get_member name ms ≡ None → get_member name (put_rows ms ws) ≡ at_name ws name
+looked : (name : List ℕ) (ws : List Row) (ms : Members) → are_apart ws ≡ true → get_member name ms ≡ None
+    → get_member name (put_rows ms ws) ≡ at_name ws name
 looked name [] ms e none = none
 looked name (w ∷ ws) ms e none =
     let parts = first_apart (has_name w.0 ws) (are_apart ws) e in
@@ -54,6 +61,6 @@ looked name (w ∷ ws) ms e none =
 looked_up : (ws : List Row) → are_apart ws ≡ true → (name : List ℕ) → get name (written ws) ≡ at_name ws name
 looked_up ws e name = looked name ws no_members e refl
 
--- what stands at each name of the object with these members
+-- the value under each name of the object with these members
 pub standing : (ws : List Row) → are_apart ws ≡ true → (λ (name : List ℕ). get name (written ws)) ≡ at_name ws
 standing ws e = λ i name. looked_up ws e name i

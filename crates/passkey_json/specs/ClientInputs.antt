@@ -13,10 +13,11 @@ unfoldable pub client_inputs_in : Object → Result AuthenticationExtensionsClie
 client_inputs_in object = do
   cred_props ← or_default None (optional truth) (member (codes "credProps") object)
   prf ← or_default None (optional (record_kind prf_inputs_in)) (member (codes "prf") object)
-  prf_already_hashed ← or_default None (optional (record_kind prf_inputs_in)) (member (codes "prfAlreadyHashed") object)
+  prf_already_hashed ← or_default None (optional (record_kind prf_inputs_in))
+      (member (codes "prfAlreadyHashed") object)
   Ok (record { cred_props = cred_props; prf = prf; prf_already_hashed = prf_already_hashed })
 
--- whether a member is present that may take memory to decode
+-- whether a member is present whose decoding may take memory
 unfoldable pub client_inputs_takes : Object → Bool
 client_inputs_takes = takes_any (
     (codes "prf", takes_in prf_inputs_takes)
@@ -36,10 +37,10 @@ client_inputs_json form x = written (client_inputs_rows form x)
 abbrev pub no_inputs : AuthenticationExtensionsClientInputs
 no_inputs = record { cred_props = None; prf = None; prf_already_hashed = None }
 
--- whether a member is present
+-- whether any member is present
 abbrev pub has_input : AuthenticationExtensionsClientInputs → Bool
 has_input x = is_some x.cred_props || is_some x.prf || is_some x.prf_already_hashed
 
--- the inputs, if a member is present
+-- the inputs, if any member is present
 abbrev pub where_any : AuthenticationExtensionsClientInputs → Option AuthenticationExtensionsClientInputs
 where_any x = if has_input x then Some x else None

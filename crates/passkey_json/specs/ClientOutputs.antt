@@ -16,7 +16,7 @@ client_outputs_in object = do
   prf ← or_default None (optional (record_kind prf_outputs_in)) (member (codes "prf") object)
   Ok (record { cred_props = cred_props; prf = prf })
 
--- whether a member is present that may take memory to decode
+-- whether a member is present whose decoding may take memory
 unfoldable pub client_outputs_takes : Object → Bool
 client_outputs_takes = takes_any (
     (codes "prf", takes_in prf_outputs_takes)

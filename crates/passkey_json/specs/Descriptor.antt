@@ -1,4 +1,4 @@
--- Descriptors of credentials (WebAuthn Level 3, section 5.8.3).
+-- Credential descriptors (WebAuthn Level 3, section 5.8.3).
 use Rattle.std.specs.Prelude.{List, [], ◌∷◌, Result, Ok, codes, Bool}
 use Rattle.passkey_json.specs.Fault.{Fault}
 use Rattle.passkey_json.specs.Kind.{bytes, one_named, is_array, is_text_or_array}
@@ -18,7 +18,7 @@ descriptor_in object = do
   transports ← accepted_list (one_named transport_named) (member (codes "transports") object)
   Ok (record { ty = ty; id = id; transports = transports })
 
--- whether a member is present that may take memory to decode
+-- whether a member is present whose decoding may take memory
 unfoldable pub descriptor_takes : Object → Bool
 descriptor_takes = takes_any (
     (codes "id", is_text_or_array)

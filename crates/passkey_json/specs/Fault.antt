@@ -1,11 +1,11 @@
--- The faults of records, and what decoding one returns.
+-- The faults of records, and the result of decoding a record.
 use Rattle.std.specs.Prelude.{◌≡◌, ℕ, List, Result, Ok, Err}
 use Rattle.passkey_json.specs.declared.json_fault.JsonFault.{JsonFault}
 use Rattle.passkey_json.specs.declared.json_fault.JsonFault.TheVariants as json_fault
 use Rattle.passkey_json.specs.declared.json_refusal.JsonRefusal.{JsonRefusal}
 use Rattle.passkey_json.specs.declared.json_refusal.JsonRefusal.TheVariants as refusal
 
--- what is wrong with a JSON value, by the name of the faulty member
+-- why a JSON value wasn't decoded as a record, with the name of the faulty member
 pub data Fault : Type 0 where
   no_object : Fault
   missing : List ℕ → Fault
@@ -13,8 +13,8 @@ pub data Fault : Type 0 where
   float : List ℕ → Fault
   repeated : List ℕ → Fault
 
--- The result is what is wanted, the value or the fault; or `OutOfMemory`, only if decoding takes
--- memory.
+-- The result of decoding a record: the wanted one, whether a value or a fault; or `OutOfMemory`,
+-- only if decoding takes memory.
 abbrev pub Gives : {A : Type 0} → Type 0 → Result A Fault → Result A JsonFault → Type 0
 Gives Takes wanted (Ok x) = wanted ≡ Ok x
 Gives Takes wanted (Err json_fault.OutOfMemory) = Takes
@@ -24,7 +24,7 @@ Gives Takes wanted (Err (json_fault.Refused name)) = wanted ≡ Err (refused nam
 Gives Takes wanted (Err (json_fault.Float name)) = wanted ≡ Err (float name.now)
 Gives Takes wanted (Err (json_fault.Repeated name)) = wanted ≡ Err (repeated name.now)
 
--- the fault of a record inside another
+-- the fault of a record inside another one: `Refused`, except if memory ran out
 abbrev pub refusal_of : JsonFault → JsonRefusal
 refusal_of json_fault.OutOfMemory = refusal.OutOfMemory
 refusal_of json_fault.NotAnObject = refusal.Refused

@@ -1,4 +1,4 @@
--- What objects and members hold, and what decoding them returns.
+-- Contracts' views of objects and members, and the result of decoding them.
 use Rattle.std.specs.Prelude.{◌≡◌, Result, Ok, Err, option_map}
 use Rattle.passkey_json.specs.Fault.{Fault, Gives}
 use Rattle.passkey_json.specs.Members.{Object, Member}
@@ -11,14 +11,14 @@ use Rattle.passkey_json.specs.declared.json_refusal.JsonRefusal.TheVariants as r
 use Rattle.serde_json.specs.Find.{get}
 use Rattle.serde_json.specs.View.{view}
 
--- the value at each name of the object, if any
+-- the object's value under each name, if there is one
 abbrev pub names_of : ObjectHeld → Object
 names_of o name = get name (view o.value.now)
 
 abbrev pub found : MemberHeld → Member
 found m = record { name = m.name.now; value = option_map (λ v. view v.now) m.value }
 
--- The same as `Gives`, for what contracts see of a value.
+-- The same as `Gives`, for the view of a value.
 abbrev pub GivesAs : {A M : Type 0} → Type 0 → (A → M) → Result M Fault → Result A JsonFault → Type 0
 GivesAs Takes seen wanted (Ok x) = wanted ≡ Ok (seen x)
 GivesAs Takes seen wanted (Err e) = Gives Takes wanted (Err e)

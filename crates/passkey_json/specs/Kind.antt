@@ -1,4 +1,5 @@
--- What JSON values mean: a kind accepts some of them, and gives each of those a value.
+-- Kinds: what JSON values decode to. A kind accepts some JSON values and has a value for each of
+-- them.
 use Rattle.std.specs.Prelude.{◌≡◌, ℕ, ◌^◌, nat_lt, ℤ, pos, negsuc, Bool, true, false, ◌||◌, IsTrue, if◌then◌else◌, codes, List, [], ◌∷◌, Option, Some, None, is_some, option_map, Result, Ok, Err}
 use Rattle.std.specs.Option.{option_and_then}
 use Rattle.std.specs.Str.{bytes_eq, trim}
@@ -14,8 +15,8 @@ use Rattle.serde_json.specs.Find.{as_str, as_array, as_object, as_i64}
 abbrev pub Kind : Type 0 → Type 0
 Kind A = Data → Option A
 
--- The result is the value, or `Refused` if there is none; or `OutOfMemory`, only for a JSON value that
--- takes memory.
+-- The result of decoding: the kind's value; `Refused`, if the kind has none; or `OutOfMemory`, only
+-- for a JSON value that takes memory.
 abbrev pub Answers : {A : Type 0} → Kind A → (Data → Bool) → Data → Result A JsonRefusal → Type 0
 Answers kind takes d (Ok x) = kind d ≡ Some x
 Answers kind takes d (Err Refused) = kind d ≡ None
@@ -41,34 +42,35 @@ abbrev pub text : Kind (List ℕ)
 text (string s) = Some s
 text _ = None
 
--- the boolean that a text names
+-- the boolean with this name
 abbrev pub truth_named : List ℕ → Option Bool
-truth_named s = if bytes_eq s (codes "true") then Some true else (if bytes_eq s (codes "false") then Some false else None)
+truth_named s =
+    if bytes_eq s (codes "true") then Some true else (if bytes_eq s (codes "false") then Some false else None)
 
--- a boolean, or its name
+-- a boolean, or a text that names one
 abbrev pub truth_text : Kind Bool
 truth_text (boolean b) = Some b
 truth_text (string s) = truth_named s
 truth_text _ = None
 
--- one of some names
+-- a text that is one of these names
 abbrev pub one_named : {T : Type 0} → (List ℕ → Option T) → Kind T
 one_named named (string s) = named s
 one_named named _ = None
 
 -- ---- numbers
 
--- a natural number below a limit
+-- a nonnegative integer below a limit
 abbrev pub natural_below : ℕ → ℤ → Option ℕ
 natural_below limit (pos n) = if nat_lt n limit then Some n else None
 natural_below limit (negsuc n) = None
 
--- a signed integer of 64 bits
+-- an integer that fits in `i64`
 abbrev pub whole : Kind ℤ
 whole (number n) = as_i64 n
 whole _ = None
 
--- such an integer, or a text of a number, cut towards zero
+-- such an integer, or the number in a text, truncated towards zero
 abbrev pub numeral : Kind ℤ
 numeral (number n) = as_i64 n
 numeral (string s) = whole_64 s
@@ -80,18 +82,18 @@ byte d = option_and_then (natural_below (2 ^ 8)) (whole d)
 unfoldable pub word : Kind ℕ
 word d = option_and_then (natural_below (2 ^ 32)) (numeral d)
 
--- algorithms, by their numbers
+-- an algorithm, by its COSE identifier
 unfoldable pub algorithm : Kind Algorithm
 algorithm d = option_and_then algorithm_named (numeral d)
 
 -- ---- lists and options
 
--- null is `None`
+-- null decodes to `None`
 abbrev pub optional : {A : Type 0} → Kind A → Kind (Option A)
 optional kind null = Some None
 optional kind d = option_map Some (kind d)
 
--- the value of each element, if each has one
+-- the values of all elements, if every element has one
 abbrev pub each : {A : Type 0} → Kind A → Items → Option (List A)
 each kind no_items = Some []
 each kind (item d ds) = option_and_then (λ x. option_map (λ xs. x ∷ xs) (each kind ds)) (kind d)
@@ -113,11 +115,12 @@ abbrev pub accepted : {A : Type 0} → Kind A → Kind (List A)
 accepted kind (array ds) = Some (accepted_of kind ds)
 accepted kind _ = None
 
--- the value, or `None` if the kind rejects it
+-- the value, or `None` if the kind rejects the JSON value
 abbrev pub tolerated : {A : Type 0} → Kind A → Kind (Option A)
 tolerated kind d = Some (kind d)
 
--- a text in base64url or base64, surrounding white space aside, or an array of bytes
+-- a text in base64url or base64, with white space allowed around it, or an array of integers from 0
+-- to 255
 abbrev pub bytes : Kind (List ℕ)
 bytes (string s) = text_bytes (trim s)
 bytes (array ds) = each byte ds

@@ -1,4 +1,4 @@
--- Decoding an object member by member, in the order of a table.
+-- Decoding an object member by member, in the order of the record's table.
 use Rattle.std.specs.Prelude.{ℕ, List, Option, Some, None, Result, Ok, Err, option_map, option_and_then, unwrap_or, if◌then◌else◌, Bool, false, IsTrue}
 use Rattle.std.specs.List.{list_any}
 use Rattle.std.specs.Option.{ok_or, option_map_or}
@@ -9,28 +9,28 @@ use Rattle.serde_json.specs.Data.{Data}
 use Rattle.serde_json.specs.Find.{get}
 use Rattle.serde_json.specs.Written.{has_float}
 
--- the result that follows from a value, or the fault
+-- the function's result for the value, or else the fault
 infixl 10 ◌>>=◌
 abbrev pub ◌>>=◌ : {A B : Type 0} → Result A Fault → (A → Result B Fault) → Result B Fault
 (Ok x) >>= f = f x
 (Err e) >>= f = Err e
 
--- the value at each name, if any
+-- the value under each name, if there is one
 abbrev pub Object : Type 0
 Object = List ℕ → Option Data
 
 abbrev pub object_of : Data → Result Object Fault
 object_of d = if is_object d then Ok (λ name. get name d) else Err no_object
 
--- what the members of an object decode to; other values are no object
+-- what the members of an object decode to; a JSON value that isn't an object is a fault
 abbrev pub in_object : {A : Type 0} → (Object → Result A Fault) → Data → Result A Fault
 in_object members d = object_of d >>= members
 
--- a record inside another, which is rejected for any fault
+-- a record inside another one, which is rejected for any fault
 abbrev pub record_kind : {A : Type 0} → (Object → Result A Fault) → Kind A
 record_kind members d = result_ok (in_object members d)
 
--- a member's name, and its value, if it is present
+-- a member's name, and its value if the member is present
 pub record Member : Type 0 where
   pub name : List ℕ
   pub value : Option Data
@@ -41,25 +41,25 @@ under name value = record { name = name; value = value }
 abbrev pub member : List ℕ → Object → Member
 member name object = under name (object name)
 
--- ---- where decoding may take memory
+-- ---- when decoding may take memory
 
--- a value is present, and may take memory to decode
+-- a value is present whose decoding may take memory
 abbrev pub takes_at : {A : Type 0} → (A → Bool) → Option A → Bool
 takes_at takes found = option_map_or takes found false
 
--- the member is present, and its value may take memory to decode
+-- the member is present, and decoding its value may take memory
 abbrev pub MemberTakes : (Data → Bool) → Member → Type 0
 MemberTakes takes m = IsTrue (takes_at takes m.value)
 
--- names of members, and which of their values may take memory to decode
+-- names of members, each with the values whose decoding may take memory
 abbrev pub Costs : Type 0
 Costs = List (List ℕ × (Data → Bool))
 
--- one of these members is present with such a value
+-- one of these members is present, with such a value
 unfoldable pub takes_any : Costs → Object → Bool
 takes_any costs object = list_any (λ cost. takes_at cost.1 (object cost.0)) costs
 
--- an object whose members may take memory to decode
+-- an object with members whose decoding may take memory
 abbrev pub takes_in : (Object → Bool) → Data → Bool
 takes_in takes d = takes_at takes (result_ok (object_of d))
 
@@ -70,11 +70,11 @@ one_of name (Some d) (Some e) = Err (repeated name)
 one_of name (Some d) None = Ok (under name (Some d))
 one_of name None found = Ok (under name found)
 
--- a member with two names, present under one of them at most
+-- a member that has two names, and may be present under only one of them
 abbrev pub aliased : List ℕ → List ℕ → Object → Result Member Fault
 aliased name other object = one_of name (object name) (object other)
 
--- the fault of a rejected value, by whether it holds a float
+-- the fault of a rejected value: `float` if it contains a float, else `refused`
 abbrev pub fault_of : List ℕ → Data → Fault
 fault_of name d = if has_float d then float name else refused name
 
@@ -89,7 +89,7 @@ abbrev pub may : {A : Type 0} → Kind A → A → List ℕ → Option Data → 
 may kind default name (Some d) = judged kind name d
 may kind default name None = Ok default
 
--- the value, which is required
+-- the value, which must be present
 unfoldable pub required : {A : Type 0} → Kind A → Member → Result A Fault
 required kind m = must kind m.name m.value
 
@@ -97,7 +97,7 @@ required kind m = must kind m.name m.value
 unfoldable pub or_default : {A : Type 0} → A → Kind A → Member → Result A Fault
 or_default default kind m = may kind default m.name m.value
 
--- the value, or `None` if it is absent
+-- the value, or `None` if the member is absent
 unfoldable pub if_present : {A : Type 0} → Kind A → Member → Result (Option A) Fault
 if_present kind m = may (λ d. option_map Some (kind d)) None m.name m.value
 
@@ -105,10 +105,10 @@ if_present kind m = may (λ d. option_map Some (kind d)) None m.name m.value
 unfoldable pub tolerated : {A : Type 0} → A → Kind A → Member → Result A Fault
 tolerated default kind m = Ok (unwrap_or (option_and_then kind m.value) default)
 
--- the value, which is required, or the default if it is rejected
+-- the value, which must be present, or the default if it is rejected
 unfoldable pub required_tolerated : {A : Type 0} → A → Kind A → Member → Result A Fault
 required_tolerated default kind m = must (λ d. Some (unwrap_or (kind d) default)) m.name m.value
 
--- the accepted elements of an array, or `None` if it is absent or no array
+-- the accepted elements of an array, or `None` if the member is absent or its value isn't an array
 unfoldable pub accepted_list : {A : Type 0} → Kind A → Member → Result (Option (List A)) Fault
 accepted_list kind m = Ok (option_and_then (accepted kind) m.value)

@@ -1,10 +1,10 @@
--- The texts of faults.
+-- The texts that faults are displayed as.
 use Rattle.std.specs.Prelude.{ℕ, List, ◌++◌, Option, Some, option_map, codes}
 use Rattle.std.specs.Fmt.{debug_str}
 use Rattle.passkey_json.specs.declared.json_fault.JsonFault.{JsonFault}
 use Rattle.passkey_json.specs.declared.json_fault.JsonFault.TheVariants as fault
 
--- a word, and a member's name as `Debug` prints it, if it prints it
+-- a word, with a member's name in parentheses as `Debug` prints it, if `Debug` prints it
 abbrev pub with_name : List ℕ → List ℕ → Option (List ℕ)
 with_name word name = option_map (λ quoted. word ++ codes "(" ++ quoted ++ codes ")") (debug_str name)
 

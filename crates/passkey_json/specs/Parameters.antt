@@ -1,4 +1,4 @@
--- Keys that a relying party can use (WebAuthn Level 3, section 5.3).
+-- Credential parameters (WebAuthn Level 3, section 5.3).
 use Rattle.std.specs.Prelude.{List, [], ◌∷◌, Result, Ok, codes}
 use Rattle.passkey_json.specs.Fault.{Fault}
 use Rattle.passkey_json.specs.Kind.{one_named, algorithm}

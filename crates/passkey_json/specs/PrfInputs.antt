@@ -13,10 +13,11 @@ use Rattle.passkey_json.specs.declared.prf_inputs.AuthenticationExtensionsPrfInp
 unfoldable pub prf_inputs_in : Object → Result AuthenticationExtensionsPrfInputs Fault
 prf_inputs_in object = do
   eval ← or_default None (optional (record_kind prf_values_in)) (member (codes "eval") object)
-  eval_by_credential ← or_default None (optional (map_from_texts (record_kind prf_values_in))) (member (codes "evalByCredential") object)
+  eval_by_credential ← or_default None (optional (map_from_texts (record_kind prf_values_in)))
+      (member (codes "evalByCredential") object)
   Ok (record { eval = eval; eval_by_credential = eval_by_credential })
 
--- whether a member is present that may take memory to decode
+-- whether a member is present whose decoding may take memory
 unfoldable pub prf_inputs_takes : Object → Bool
 prf_inputs_takes = takes_any (
     (codes "eval", takes_in prf_values_takes)

@@ -15,7 +15,7 @@ prf_outputs_in object = do
   results ← or_default None (optional (record_kind prf_values_in)) (member (codes "results") object)
   Ok (record { enabled = enabled; results = results })
 
--- whether a member is present that may take memory to decode
+-- whether a member is present whose decoding may take memory
 unfoldable pub prf_outputs_takes : Object → Bool
 prf_outputs_takes = takes_any (
     (codes "results", takes_in prf_values_takes)

@@ -1,4 +1,4 @@
--- Salts of the extension prf, and its results (WebAuthn Level 3, section 10.1.4).
+-- Salts and outputs of the extension prf (WebAuthn Level 3, section 10.1.4).
 use Rattle.std.specs.Prelude.{List, [], ◌∷◌, None, Result, Ok, codes, Bool}
 use Rattle.passkey_json.specs.Fault.{Fault}
 use Rattle.passkey_json.specs.Kind.{bytes, optional, is_text_or_array}
@@ -14,7 +14,7 @@ prf_values_in object = do
   second ← or_default None (optional bytes) (member (codes "second") object)
   Ok (record { first = first; second = second })
 
--- whether a member is present that may take memory to decode
+-- whether a member is present whose decoding may take memory
 unfoldable pub prf_values_takes : Object → Bool
 prf_values_takes = takes_any (
     (codes "first", is_text_or_array)

@@ -10,7 +10,8 @@ resident_key_name resident_key.Preferred = codes "preferred"
 resident_key_name resident_key.Required = codes "required"
 
 abbrev pub resident_key_named : List ℕ → Option ResidentKeyRequirement
-resident_key_named = named_in resident_key_name (resident_key.Discouraged ∷ resident_key.Preferred ∷ resident_key.Required ∷ [])
+resident_key_named =
+    named_in resident_key_name (resident_key.Discouraged ∷ resident_key.Preferred ∷ resident_key.Required ∷ [])
 
 -- each value's name finds the value
 pub resident_key_own : (x : ResidentKeyRequirement) → resident_key_named (resident_key_name x) ≡ Some x

@@ -14,7 +14,7 @@ rp_in object = do
   name ← required text (member (codes "name") object)
   Ok (record { id = id; name = name })
 
--- whether a member is present that may take memory to decode
+-- whether a member is present whose decoding may take memory
 unfoldable pub rp_takes : Object → Bool
 rp_takes = takes_any (
     (codes "id", is_text)

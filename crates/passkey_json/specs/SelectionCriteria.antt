@@ -15,11 +15,18 @@ use Rattle.passkey_json.specs.declared.user_verification.UserVerificationRequire
 
 unfoldable pub selection_criteria_in : Object → Result AuthenticatorSelectionCriteria Fault
 selection_criteria_in object = do
-  attachment ← tolerated None (optional (one_named attachment_named)) (member (codes "authenticatorAttachment") object)
+  attachment ← tolerated None (optional (one_named attachment_named))
+      (member (codes "authenticatorAttachment") object)
   resident_key ← tolerated None (optional (one_named resident_key_named)) (member (codes "residentKey") object)
   require_resident_key ← or_default false truth_text (member (codes "requireResidentKey") object)
-  user_verification ← tolerated Preferred (one_named user_verification_named) (member (codes "userVerification") object)
-  Ok (record { authenticator_attachment = attachment; resident_key = resident_key; require_resident_key = require_resident_key; user_verification = user_verification })
+  user_verification ← tolerated Preferred (one_named user_verification_named)
+      (member (codes "userVerification") object)
+  Ok (record {
+    authenticator_attachment = attachment;
+    resident_key = resident_key;
+    require_resident_key = require_resident_key;
+    user_verification = user_verification;
+  })
 
 abbrev pub selection_criteria_rows : BytesForm → AuthenticatorSelectionCriteria → List Row
 selection_criteria_rows form x =
@@ -34,4 +41,9 @@ selection_criteria_json form x = written (selection_criteria_rows form x)
 
 -- any authenticator, with user verification preferred
 abbrev pub any_authenticator : AuthenticatorSelectionCriteria
-any_authenticator = record { authenticator_attachment = None; resident_key = None; require_resident_key = false; user_verification = Preferred }
+any_authenticator = record {
+  authenticator_attachment = None;
+  resident_key = None;
+  require_resident_key = false;
+  user_verification = Preferred;
+}

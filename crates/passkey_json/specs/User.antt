@@ -15,7 +15,7 @@ user_in object = do
   name ← required text (member (codes "name") object)
   Ok (record { id = id; display_name = display_name; name = name })
 
--- whether a member is present that may take memory to decode
+-- whether a member is present whose decoding may take memory
 unfoldable pub user_takes : Object → Bool
 user_takes = takes_any (
     (codes "id", is_text_or_array)

@@ -1,4 +1,4 @@
--- What values are encoded as.
+-- The JSON values that values are encoded as.
 use Rattle.std.specs.Prelude.{◌≡◌, ℕ, ℤ, Bool, true, ◌&&◌, not, List, [], ◌∷◌, map, Option, Some, None, IfSome, option_map, if◌then◌else◌}
 use Rattle.std.specs.List.{list_any}
 use Rattle.std.specs.Str.{bytes_eq}
@@ -15,12 +15,12 @@ use Rattle.serde_json.specs.Data.{Data, number, unsigned, string, array, object,
 use Rattle.serde_json.specs.Find.{of_integer}
 use Rattle.serde_json.specs.View.{items_of, members_view, view}
 
--- The JSON value decodes to the value, also where null decodes to `None`.
+-- The JSON value decodes to this value, also if null is allowed and decodes to `None`.
 pub record ReadsBack {A : Type 0} (kind : Kind A) (x : A) (d : Data) : Type 0 where
   pub plain : kind d ≡ Some x
   pub some : optional kind d ≡ Some (Some x)
 
--- If there is a value, its encoding decodes to it.
+-- If there is a value, its encoding decodes to that value.
 pub record ReadsBackIf {A : Type 0} (kind : Kind A) (json : A → Data) (o : Option A) : Type 0 where
   pub there : IfSome o (λ x. ReadsBack kind x (json x))
 
@@ -46,14 +46,14 @@ elements_so_far e = map view e.values.items
 
 -- ---- objects
 
--- a member's name, and its encoded value, if it is present
+-- a member's name, and its encoded value if the member is present
 abbrev pub Row : Type 0
 Row = List ℕ × Option Data
 
 abbrev pub row : List ℕ → Data → Row
 row name d = (name, Some d)
 
--- the member of an option, absent for `None`
+-- the member of an option, absent if it is `None`
 abbrev pub row_if : {A : Type 0} → List ℕ → (A → Data) → Option A → Row
 row_if name json o = (name, option_map json o)
 
@@ -79,7 +79,7 @@ abbrev pub at_name : List Row → List ℕ → Option Data
 at_name [] name = None
 at_name (w ∷ ws) name = if bytes_eq name w.0 then w.1 else at_name ws name
 
--- no name occurs twice
+-- no name occurs twice among the members
 abbrev pub are_apart : List Row → Bool
 are_apart [] = true
 are_apart (w ∷ ws) = not (list_any (λ (v : Row). bytes_eq w.0 v.0) ws) && are_apart ws

@@ -18,7 +18,7 @@ use std::fmt;
 /// Authenticator attachment (WebAuthn Level 3, section 5.4.5).
 #[derive(Clone, Copy, Debug, PartialEq, Eq)]
 pub enum AuthenticatorAttachment {
-    /// A platform authenticator, which isn't removable from the client's device.
+    /// A platform authenticator, which can't be removed from the client device.
     Platform,
     /// A roaming authenticator, which can be used on other devices.
     CrossPlatform,
@@ -32,11 +32,13 @@ impl EnumNames for AuthenticatorAttachment {
     ghost name_is_own = { attachment_own };
 
     fn from_name(name: &str) -> Option<AuthenticatorAttachment> {
-        match name {
-            "platform" => Some(AuthenticatorAttachment::Platform),
-            "cross-platform" => Some(AuthenticatorAttachment::CrossPlatform),
-            _ => None,
-        }
+        [
+            AuthenticatorAttachment::Platform,
+            AuthenticatorAttachment::CrossPlatform,
+        ]
+        .iter()
+        .copied()
+        .find(|value| value.name() == name)
     }
 
     fn name(self) -> &'static str {
@@ -50,7 +52,7 @@ impl EnumNames for AuthenticatorAttachment {
 impl fmt::Display for AuthenticatorAttachment {
     ghost output = { λ x. Some (attachment_name x) };
 
-    /// The attachment as WebAuthn Level 3 names it.
+    /// The attachment's name in WebAuthn Level 3.
     fn fmt<W: fmt::Write>(&self, f: &mut fmt::Formatter<W>) -> fmt::Result {
         f.write_str(self.name())
     }

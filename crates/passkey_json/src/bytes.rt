@@ -38,7 +38,7 @@ impl FromJson for Bytes {
     }
 }
 
-/// The array of the bytes' numbers.
+/// Returns the bytes as an array of integers.
 fn numbers(alloc: Global, bytes: &[u8]) -> Result<Value, OutOfMemory>
     ensures written { IfOk result (λ v. view v ≡ bytes_json Numbers bytes.now) }
     ensures reads_back { OnOk result (ReadsBack byte_string bytes.now (bytes_json Numbers bytes.now)) }
@@ -51,7 +51,7 @@ fn numbers(alloc: Global, bytes: &[u8]) -> Result<Value, OutOfMemory>
     Ok(elements.into_value())
 }
 
-/// The bytes' text in base64url.
+/// Returns the bytes as a text in base64url.
 fn text(alloc: Global, bytes: &[u8]) -> Result<Value, OutOfMemory>
     ensures written { IfOk result (λ v. view v ≡ bytes_json Base64Url bytes.now) }
     ensures reads_back { OnOk result (ReadsBack byte_string bytes.now (bytes_json Base64Url bytes.now)) }

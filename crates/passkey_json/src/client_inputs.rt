@@ -26,13 +26,13 @@ pub struct AuthenticationExtensionsClientInputs {
     pub cred_props: Option<bool>,
     /// prf: the salts; `None` means the member is absent.
     pub prf: Option<AuthenticationExtensionsPrfInputs>,
-    /// prfAlreadyHashed, which WebAuthn Level 3 doesn't define: the same, with salts that are hashed
-    /// already; `None` means the member is absent.
+    /// prfAlreadyHashed, which WebAuthn Level 3 doesn't define: the same as prf, but the salts are
+    /// already hashed; `None` means the member is absent.
     pub prf_already_hashed: Option<AuthenticationExtensionsPrfInputs>,
 }
 
 impl AuthenticationExtensionsClientInputs {
-    /// Inputs without members.
+    /// Returns inputs without members.
     pub fn empty() -> AuthenticationExtensionsClientInputs
         ensures { result ≡ no_inputs }
     {
@@ -43,7 +43,7 @@ impl AuthenticationExtensionsClientInputs {
         }
     }
 
-    /// The inputs, or `None` if no member is present.
+    /// Returns the inputs, or `None` if no member is present.
     pub fn zip_contents(self) -> Option<AuthenticationExtensionsClientInputs>
         ensures { result ≡ where_any self }
     {

@@ -24,12 +24,12 @@ use std::alloc::Global;
 pub struct AuthenticationExtensionsClientOutputs {
     /// credProps: properties of the new credential; `None` means the member is absent.
     pub cred_props: Option<CredentialPropertiesOutput>,
-    /// prf: its outputs; `None` means the member is absent.
+    /// prf: the outputs of the extension; `None` means the member is absent.
     pub prf: Option<AuthenticationExtensionsPrfOutputs>,
 }
 
 impl AuthenticationExtensionsClientOutputs {
-    /// Outputs without members.
+    /// Returns outputs without members.
     pub fn empty() -> AuthenticationExtensionsClientOutputs
         ensures { result ≡ no_outputs }
     {

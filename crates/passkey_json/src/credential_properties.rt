@@ -19,8 +19,8 @@ use std::alloc::Global;
 /// Outputs of the extension credProps (WebAuthn Level 3, section 10.1.3).
 #[derive(Debug, Drop)]
 pub struct CredentialPropertiesOutput {
-    /// rk: whether the new credential is a client-side discoverable one; `None` means the member is
-    /// absent, since the client doesn't know.
+    /// rk: whether the new credential is a client-side discoverable credential; `None` means the
+    /// member is absent, because the client doesn't know.
     pub discoverable: Option<bool>,
 }
 

@@ -1,4 +1,4 @@
-//! Descriptors of credentials, decoded from JSON objects and encoded.
+//! Credential descriptors, decoded from JSON objects and encoded.
 ghost use Rattle.passkey_json.specs.Descriptor.{descriptor_in, descriptor_json, descriptor_takes};
 ghost use Rattle.passkey_json.specs.Members.{record_kind, takes_in};
 

@@ -19,14 +19,15 @@ pub use held::Elements;
 #[tactic(auto, using(crate::proofs::FloatFree::pushed_value_free))]
 fn push_value(values: &mut Vec<Value>, value: Value) -> Result<(), OutOfMemory>
     ensures written { OnOk result (map view values.new.items ≡ map view values.old.items ++ view value ∷ []) }
-    ensures without_floats { has_float (view value) ≡ false → items_have_float (items_of (map view values.old.items)) ≡ false → items_have_float (items_of (map view values.new.items)) ≡ false }
+    ensures without_floats { has_float (view value) ≡ false → items_have_float (items_of
+        (map view values.old.items)) ≡ false → items_have_float (items_of (map view values.new.items)) ≡ false }
 {
     values.push(value)?;
     Ok(())
 }
 
 impl Elements {
-    /// No elements. Allocates nothing.
+    /// Returns an array without elements. Allocates nothing.
     pub fn new(alloc: Global) -> Elements
         ensures { elements_so_far result ≡ [] }
     {
@@ -35,21 +36,22 @@ impl Elements {
         }
     }
 
-    /// Adds an element. `OutOfMemory` if an allocation fails.
+    /// Adds an element. Returns `OutOfMemory` if an allocation fails.
     pub fn push<T: ToJson>(
         &mut self,
         alloc: Global,
         form: BytesForm,
         element: &T,
     ) -> Result<(), OutOfMemory>
-        ensures written { OnOk result (elements_so_far self.new ≡ elements_so_far self.old ++ T.json form element.now ∷ []) }
+        ensures written { OnOk result
+            (elements_so_far self.new ≡ elements_so_far self.old ++ T.json form element.now ∷ []) }
         ensures reads_back { OnOk result (ReadsBack T.kind element.now (T.json form element.now)) }
     {
         let value = element.to_json(alloc, form)?;
         push_value(&mut self.values, value)
     }
 
-    /// The array of the elements.
+    /// Returns the array of the elements.
     pub fn into_value(self) -> Value
         ensures value { view result ≡ array (items_of (elements_so_far self)) }
         ensures without_floats { has_float (view result) ≡ false }

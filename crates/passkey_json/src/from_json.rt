@@ -12,20 +12,21 @@ use std::alloc::Global;
 
 /// A type whose values are decoded from JSON values.
 pub trait FromJson: Drop {
-    /// The value that each JSON value decodes to, if any.
+    /// The value that a JSON value decodes to, if there is one.
     ghost kind: { Data → Option Self };
 
-    /// Whether decoding the JSON value may take memory.
+    /// Whether decoding a JSON value may take memory.
     ghost takes: { Data → Bool };
 
-    /// Decodes the JSON value. `Refused` exactly if it decodes to no value of this type;
-    /// `OutOfMemory` if an allocation fails, and only for a JSON value that takes memory (`takes`).
+    /// Decodes the JSON value. Returns `Refused` exactly if it doesn't decode to a value of this
+    /// type, and `OutOfMemory` if an allocation fails, which can only happen for a JSON value that
+    /// takes memory (`takes`).
     fn from_value(alloc: Global, value: &Value) -> Result<Self, JsonRefusal>
         ensures { Answers kind takes (view value.now) result };
 }
 
-/// The integer that the JSON value is; of a text, the number that it writes, cut towards zero. `None`
-/// for a float, another value, or a number that doesn't fit.
+/// Returns the integer that the JSON value is, or the number in a text, truncated towards zero.
+/// Returns `None` for a float, for any other value, and for a number that doesn't fit in `i64`.
 pub(crate) fn numeral(value: &Value) -> Option<i64>
     ensures { result ≡ numeral (view value.now) }
 {

@@ -1,4 +1,4 @@
-//! Why no record was decoded from a JSON value.
+//! Why a record wasn't decoded from a JSON value.
 ghost use Rattle.std.specs.Prelude.{◌≡◌};
 ghost use Rattle.passkey_json.specs.Names.{json_fault_name};
 ghost use Rattle.passkey_json.specs.declared.json_fault.JsonFault.TheVariants.{OutOfMemory as NoMemory};
@@ -8,21 +8,21 @@ use std::alloc::{AllocError, AllocFailed};
 use std::error::Error;
 use std::fmt;
 
-/// Why no record was decoded from a JSON value. A member is named by its name in the record that
-/// was asked for, however deep within it the fault lies.
+/// Why a record wasn't decoded from a JSON value. A member is given by its name in the record that
+/// was asked for, however deeply the fault is nested in it.
 #[derive(Clone, Copy, Debug, PartialEq, Eq)]
 pub enum JsonFault {
     /// An allocation failed.
     OutOfMemory,
-    /// The JSON value is no object.
+    /// The JSON value isn't an object.
     NotAnObject,
-    /// This member is required, and is absent.
+    /// This required member is absent.
     Missing(&'static str),
-    /// This member's value is rejected, and holds no float.
+    /// This member's value is rejected, and contains no float.
     Refused(&'static str),
-    /// This member's value is rejected, and holds a number that isn't an integer of 64 bits.
+    /// This member's value is rejected, and contains a number that isn't an integer of 64 bits.
     Float(&'static str),
-    /// This member has two names, and is present under both.
+    /// This member has two names, and is present under both of them.
     Repeated(&'static str),
 }
 

@@ -12,8 +12,7 @@ use crate::object::Object;
 use serde_json::Value;
 use std::alloc::Global;
 
-/// A record that is decoded from an object, member by member. Members that it doesn't know are
-/// skipped.
+/// A record that is decoded from an object, member by member. Unknown members are skipped.
 pub trait JsonRecord: Drop {
     /// The record that an object decodes to, or the first fault in the order of the record's
     /// members.
@@ -24,15 +23,16 @@ pub trait JsonRecord: Drop {
 
     /// Decodes the record from an object, or returns the first fault in the order of the record's
     /// members: `Repeated` for a member that is present under two names; `Float` for a rejected
-    /// value that holds a float, `Refused` for any other; `Missing` for an absent required member.
-    /// `OutOfMemory` if an allocation fails, and only if the object has a member that the record
-    /// knows and whose value takes memory to decode (`takes`).
+    /// value that contains a float, and `Refused` for any other rejected value; `Missing` for a
+    /// required member that is absent. Returns `OutOfMemory` if an allocation fails, which can only
+    /// happen if the object has a member that the record knows and whose value takes memory to
+    /// decode (`takes`).
     fn from_object(object: &Object<'_>) -> Result<Self, JsonFault>
         ensures { Gives (IsTrue (takes (names_of object.now))) (members (names_of object.now)) result };
 
-    /// Decodes the record from a JSON value: `NotAnObject` if it is no object, else as
-    /// `from_object`. `OutOfMemory` if an allocation fails, and only if it is an object with such a
-    /// member.
+    /// Decodes the record from a JSON value, as `from_object` does. Returns `NotAnObject` if the
+    /// value isn't an object, and `OutOfMemory` if an allocation fails, which can only happen for
+    /// an object with a member as `from_object` says.
     final fn from_json(alloc: Global, value: &Value) -> Result<Self, JsonFault>
         ensures { Gives (IsTrue (takes_in takes (view value.now))) (in_object members (view value.now)) result }
     {
@@ -40,7 +40,8 @@ pub trait JsonRecord: Drop {
     }
 }
 
-/// Decodes a record inside another. `Refused` for any fault but `OutOfMemory`, which is passed on.
+/// Decodes a record inside another one. Returns `Refused` for any fault but `OutOfMemory`, and
+/// `OutOfMemory` for that.
 pub fn read_nested<R: JsonRecord>(alloc: Global, value: &Value) -> Result<R, JsonRefusal>
     ensures { Answers (record_kind R.members) (takes_in R.takes) (view value.now) result }
 {

@@ -1,4 +1,4 @@
-//! Why no value was decoded from a JSON value.
+//! Why a value wasn't decoded from a JSON value.
 ghost use Rattle.std.specs.Prelude.{◌≡◌};
 ghost use Rattle.passkey_json.specs.Fault.{refusal_of};
 ghost use Rattle.passkey_json.specs.declared.json_refusal.JsonRefusal.TheVariants.{OutOfMemory as NoMemory};
@@ -8,10 +8,10 @@ use passkey_memory::OutOfMemory;
 use std::alloc::{AllocError, AllocFailed};
 use thiserror::Error;
 
-/// Why no value was decoded from a JSON value.
+/// Why a value wasn't decoded from a JSON value.
 #[derive(Clone, Copy, Debug, Error, PartialEq, Eq)]
 pub enum JsonRefusal {
-    /// The JSON value decodes to no value of the type.
+    /// The JSON value doesn't decode to a value of the type.
     #[error("Refused")]
     Refused,
     /// An allocation failed.
@@ -46,7 +46,8 @@ impl From<OutOfMemory> for JsonRefusal {
 impl From<JsonFault> for JsonRefusal {
     ghost from_gives = { λ fault e. e ≡ refusal_of fault };
 
-    /// A record that has a fault is refused if it is inside another.
+    /// Returns the refusal of a record inside another one: `Refused` for any fault but
+    /// `OutOfMemory`.
     fn from(fault: JsonFault) -> JsonRefusal {
         match fault {
             JsonFault::OutOfMemory => JsonRefusal::OutOfMemory,

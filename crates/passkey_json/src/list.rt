@@ -26,8 +26,8 @@ impl<T: FromJson> FromJson for List<T> {
     }
 }
 
-/// The values of those elements of an array that decode to one, in their order; other elements are
-/// skipped. Running out of memory isn't tolerated. Contracts see it as that list.
+/// The values of those elements of an array that can be decoded, in their order; other elements are
+/// skipped. Running out of memory is still an error. Contracts see the list of these values.
 #[derive(Debug, Drop)]
 pub struct TolerantList<T>(pub List<T>);
 
@@ -40,7 +40,7 @@ impl<T> Model for TolerantList<T> {
 }
 
 impl<T> TolerantList<T> {
-    /// The values.
+    /// Returns the values.
     pub fn into_list(self) -> List<T>
         ensures { result ≡ self }
     {

@@ -1,4 +1,4 @@
-//! Members of objects, each decoded in one of a few ways.
+//! Members of objects, and the ways to decode them.
 ghost use Rattle.std.specs.Prelude.{◌≡◌, Err, IsTrue, option_map};
 ghost use Rattle.passkey_json.specs.Fault.{Gives};
 ghost use Rattle.passkey_json.specs.Held.{IsUnlessRefused, found};
@@ -15,7 +15,7 @@ use passkey_bytes::List;
 use serde_json::Value;
 use std::alloc::Global;
 
-/// The fault of a value that is rejected.
+/// Returns the fault of a value that is rejected.
 fn fault_of(name: &'static str, value: &Value) -> JsonFault
     ensures { Gives {A = Unit {0}} ⊥ (Err (fault_of name.now (view value.now))) (Err result) }
 {
@@ -26,7 +26,7 @@ fn fault_of(name: &'static str, value: &Value) -> JsonFault
     }
 }
 
-/// The value that a JSON value decodes to, or the fault.
+/// Returns the value that a JSON value decodes to, or the fault.
 fn judged<T: FromJson>(alloc: Global, name: &'static str, value: &Value) -> Result<T, JsonFault>
     ensures { Gives (IsTrue (T.takes (view value.now))) (judged T.kind name.now (view value.now)) result }
 {
@@ -62,9 +62,9 @@ impl<'a> Member<'a> {
         Member { alloc, name, value }
     }
 
-    /// Decodes a required member: `Missing` if it is absent. `Float` or `Refused` if its value
-    /// isn't of the kind, `Float` if it holds a float. `OutOfMemory` if an allocation fails,
-    /// and only if the value takes memory to decode.
+    /// Decodes a required member. Returns `Missing` if it is absent. If its value is rejected,
+    /// returns `Float` if the value contains a float, and else `Refused`. Returns `OutOfMemory` if
+    /// an allocation fails, which can only happen for a value that takes memory to decode.
     #[tactic(auto, unfolding(crate::specs::Members::required))]
     pub fn required<T: FromJson>(self) -> Result<T, JsonFault>
         ensures { Gives (MemberTakes T.takes (found self.entry)) (required T.kind (found self.entry)) result }
@@ -75,12 +75,13 @@ impl<'a> Member<'a> {
         }
     }
 
-    /// Decodes a member, or returns the default if it is absent. `Float` or `Refused` if its value
-    /// isn't of the kind, `Float` if it holds a float. `OutOfMemory` if an allocation fails,
-    /// and only if the value takes memory to decode.
+    /// Decodes a member, or returns the default if it is absent. If its value is rejected, returns
+    /// `Float` if the value contains a float, and else `Refused`. Returns `OutOfMemory` if an
+    /// allocation fails, which can only happen for a value that takes memory to decode.
     #[tactic(auto, unfolding(crate::specs::Members::or_default))]
     pub fn or_default<T: FromJson>(self, default: T) -> Result<T, JsonFault>
-        ensures { Gives (MemberTakes T.takes (found self.entry)) (or_default default T.kind (found self.entry)) result }
+        ensures { Gives (MemberTakes T.takes (found self.entry)) (or_default default T.kind (found self.entry))
+            result }
     {
         match self.value {
             Some(value) => judged(self.alloc, self.name, value),
@@ -88,9 +89,9 @@ impl<'a> Member<'a> {
         }
     }
 
-    /// Decodes a member; `None` if it is absent. `Float` or `Refused` if its value isn't of the
-    /// kind, `Float` if it holds a float. `OutOfMemory` if an allocation fails, and only if the
-    /// value takes memory to decode.
+    /// Decodes a member, or returns `None` if it is absent. If its value is rejected, returns
+    /// `Float` if the value contains a float, and else `Refused`. Returns `OutOfMemory` if an
+    /// allocation fails, which can only happen for a value that takes memory to decode.
     #[tactic(auto, unfolding(crate::specs::Members::if_present))]
     pub fn if_present<T: FromJson>(self) -> Result<Option<T>, JsonFault>
         ensures { Gives (MemberTakes T.takes (found self.entry)) (if_present T.kind (found self.entry)) result }
@@ -102,11 +103,12 @@ impl<'a> Member<'a> {
     }
 
     /// Decodes a member, or returns the default if it is absent or rejected. Running out of memory
-    /// isn't tolerated: `OutOfMemory` if an allocation fails, and only if the value takes memory to
-    /// decode. There is no other fault.
+    /// is still an error: returns `OutOfMemory` if an allocation fails, which can only happen for a
+    /// value that takes memory to decode. There is no other fault.
     #[tactic(auto, unfolding(crate::specs::Members::tolerated))]
     pub fn tolerated<T: FromJson>(self, default: T) -> Result<T, JsonFault>
-        ensures { Gives (MemberTakes T.takes (found self.entry)) (tolerated default T.kind (found self.entry)) result }
+        ensures { Gives (MemberTakes T.takes (found self.entry)) (tolerated default T.kind (found self.entry))
+            result }
     {
         let Some(value) = self.value else {
             return Ok(default);
@@ -114,12 +116,14 @@ impl<'a> Member<'a> {
         unless_refused(T::from_value(self.alloc, value), default)
     }
 
-    /// Decodes a required member, or returns the default if its value is rejected. `Missing` if it
-    /// is absent. Running out of memory isn't tolerated: `OutOfMemory` if an allocation fails, and
-    /// only if the value takes memory to decode. There is no other fault.
+    /// Decodes a required member, or returns the default if its value is rejected. Returns
+    /// `Missing` if it is absent. Running out of memory is still an error: returns `OutOfMemory` if
+    /// an allocation fails, which can only happen for a value that takes memory to decode. There is
+    /// no other fault.
     #[tactic(auto, unfolding(crate::specs::Members::required_tolerated, crate::specs::Members::tolerated))]
     pub fn required_tolerated<T: FromJson>(self, default: T) -> Result<T, JsonFault>
-        ensures { Gives (MemberTakes T.takes (found self.entry)) (required_tolerated default T.kind (found self.entry)) result }
+        ensures { Gives (MemberTakes T.takes (found self.entry))
+            (required_tolerated default T.kind (found self.entry)) result }
     {
         if self.value.is_none() {
             return Err(JsonFault::Missing(self.name));
@@ -127,9 +131,10 @@ impl<'a> Member<'a> {
         self.tolerated(default)
     }
 
-    /// Decodes the elements of an array that are accepted, in their order; `None` if the member is
-    /// absent or no array. Running out of memory isn't tolerated: `OutOfMemory` if an allocation
-    /// fails, and only for an array. There is no other fault.
+    /// Decodes the elements of an array that are accepted, in their order. Returns `None` if the
+    /// member is absent or its value isn't an array. Running out of memory is still an error:
+    /// returns `OutOfMemory` if an allocation fails, which can only happen for an array. There is
+    /// no other fault.
     #[tactic(auto, unfolding(crate::specs::Members::accepted_list))]
     pub fn accepted_list<T: FromJson>(self) -> Result<Option<List<T>>, JsonFault>
         ensures { Gives (MemberTakes is_array (found self.entry)) (accepted_list T.kind (found self.entry)) result }

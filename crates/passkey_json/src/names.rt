@@ -15,7 +15,8 @@ use passkey_webauthn::{AuthenticatorTransport, EnumNames, PublicKeyCredentialTyp
 use serde_json::Value;
 use std::alloc::Global;
 
-/// Decodes the value that a text names. `Refused` if the JSON value isn't a text that names one.
+/// Decodes the value that a text names. Returns `Refused` if the JSON value isn't a text, or if the
+/// text isn't a name.
 pub fn read_name<T: EnumNames>(value: &Value) -> Result<T, JsonRefusal>
     ensures { Answers (one_named T.named) (λ _. false) (view value.now) result }
 {
@@ -45,7 +46,7 @@ impl FromJson for AuthenticatorTransport {
     }
 }
 
-/// Encodes the value as its name. `OutOfMemory` if an allocation fails.
+/// Encodes the value as its name. Returns `OutOfMemory` if an allocation fails.
 pub fn written_name<T: EnumNames>(alloc: Global, value: T) -> Result<Value, OutOfMemory>
     ensures { IfOk result (λ v. view v ≡ string (T.name_of value)) }
 {

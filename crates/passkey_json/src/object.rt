@@ -1,4 +1,4 @@
-//! Objects, whose members are found by their names.
+//! Objects, whose members are looked up by name.
 ghost use Rattle.passkey_json.specs.Held.{GivesAs, found, names_of};
 ghost use Rattle.passkey_json.specs.Members.{aliased, member, object_of};
 ghost use Rattle.std.specs.Prelude.{◌≡◌};
@@ -17,7 +17,7 @@ pub struct Object<'a> {
 }
 
 impl<'a> Object<'a> {
-    /// The value as an object. `NotAnObject` if it is none.
+    /// Returns the value as an object. Returns `NotAnObject` if it isn't one.
     pub fn of(alloc: Global, value: &'a Value) -> Result<Object<'a>, JsonFault>
         ensures { GivesAs ⊥ names_of (object_of (view value.now)) result }
     {
@@ -28,14 +28,15 @@ impl<'a> Object<'a> {
         }
     }
 
-    /// The member with this name, which may be absent.
+    /// Returns the member with this name, which may be absent.
     pub fn member(&self, name: &'static str) -> Member<'a>
         ensures { found result ≡ member name.now (names_of self.now) }
     {
         Member::new(self.alloc, name, self.value.get(name))
     }
 
-    /// The member with this name or the other one. `Repeated` if both are present.
+    /// Returns the member with this name or with the other one. Returns `Repeated` if both are
+    /// present.
     pub fn aliased(&self, name: &'static str, other: &'static str) -> Result<Member<'a>, JsonFault>
         ensures { GivesAs ⊥ found (aliased name.now other.now (names_of self.now)) result }
     {

@@ -1,4 +1,4 @@
-//! Keys that a relying party can use, decoded from JSON objects and encoded.
+//! Credential parameters, decoded from JSON objects and encoded.
 ghost use Rattle.std.specs.Prelude.{false};
 ghost use Rattle.passkey_json.specs.Members.{record_kind};
 ghost use Rattle.passkey_json.specs.Parameters.{parameters_in, parameters_json};

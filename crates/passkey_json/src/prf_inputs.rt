@@ -23,16 +23,17 @@ use std::alloc::Global;
 /// Inputs of the extension prf (WebAuthn Level 3, section 10.1.4).
 #[derive(Debug, Drop)]
 pub struct AuthenticationExtensionsPrfInputs {
-    /// eval: salts for whichever credential is used; `None` means the member is absent.
+    /// eval: the salts for any credential without salts of its own; `None` means the member is
+    /// absent.
     pub eval: Option<AuthenticationExtensionsPrfValues>,
-    /// evalByCredential: salts for single credentials, by their ids in base64url. Only a sign-in
-    /// with a list of allowed credentials may have it; else the client fails with
-    /// NotSupportedError. `None` means the member is absent.
+    /// evalByCredential: the salts for single credentials, by their credential ids in base64url.
+    /// Only a sign-in with a list of allowed credentials may have it; otherwise the client fails
+    /// with NotSupportedError. `None` means the member is absent.
     pub eval_by_credential: Option<Map<Text, AuthenticationExtensionsPrfValues>>,
 }
 
 impl AuthenticationExtensionsPrfInputs {
-    /// Inputs without salts.
+    /// Returns inputs without salts.
     pub fn empty() -> AuthenticationExtensionsPrfInputs
         ensures { result ≡ no_prf_inputs }
     {
@@ -42,11 +43,13 @@ impl AuthenticationExtensionsPrfInputs {
         }
     }
 
-    /// Returns an equal value. `OutOfMemory` if an allocation fails, which can't happen if no
-    /// credential has salts of its own and the others are empty or absent.
+    /// Returns an equal value. Returns `OutOfMemory` if an allocation fails, which can't happen if
+    /// no credential has salts of its own and the other salts are empty or absent.
     pub fn try_clone(&self, alloc: Global) -> Result<AuthenticationExtensionsPrfInputs, OutOfMemory>
         ensures same { IfOk result (λ copy. copy ≡ self.now) }
-        ensures grows { OnErr result (IsSomeAnd self.now.eval (λ values. IsSomeAnd values.second (λ bytes. 0 < length bytes) ⊎ (0 < length values.first)) ⊎ IsSomeAnd self.now.eval_by_credential (λ salts. ¬ (salts ≡ fin.empty))) }
+        ensures grows { OnErr result (IsSomeAnd self.now.eval
+            (λ values. IsSomeAnd values.second (λ bytes. 0 < length bytes) ⊎ (0 < length values.first))
+            ⊎ IsSomeAnd self.now.eval_by_credential (λ salts. ¬ (salts ≡ fin.empty))) }
     {
         let eval = match &self.eval {
             Some(values) => Some(values.try_clone(alloc)?),

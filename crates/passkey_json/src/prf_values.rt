@@ -1,4 +1,4 @@
-//! Salts of the extension prf, decoded from JSON objects and encoded.
+//! Salts and outputs of the extension prf, decoded from JSON objects and encoded.
 ghost use Rattle.passkey_json.specs.Members.{record_kind, takes_in};
 ghost use Rattle.passkey_json.specs.PrfValues.{prf_values_in, prf_values_json, prf_values_takes};
 

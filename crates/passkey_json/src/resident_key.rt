@@ -21,9 +21,9 @@ use std::fmt;
 pub enum ResidentKeyRequirement {
     /// Discouraged, but a discoverable credential is accepted.
     Discouraged,
-    /// Preferred, if the authenticator can make one.
+    /// Preferred, if the authenticator can create one.
     Preferred,
-    /// Required: the client fails if no authenticator can make one.
+    /// Required: the client fails if no authenticator can create one.
     Required,
 }
 
@@ -35,12 +35,14 @@ impl EnumNames for ResidentKeyRequirement {
     ghost name_is_own = { resident_key_own };
 
     fn from_name(name: &str) -> Option<ResidentKeyRequirement> {
-        match name {
-            "discouraged" => Some(ResidentKeyRequirement::Discouraged),
-            "preferred" => Some(ResidentKeyRequirement::Preferred),
-            "required" => Some(ResidentKeyRequirement::Required),
-            _ => None,
-        }
+        [
+            ResidentKeyRequirement::Discouraged,
+            ResidentKeyRequirement::Preferred,
+            ResidentKeyRequirement::Required,
+        ]
+        .iter()
+        .copied()
+        .find(|value| value.name() == name)
     }
 
     fn name(self) -> &'static str {
@@ -55,7 +57,7 @@ impl EnumNames for ResidentKeyRequirement {
 impl fmt::Display for ResidentKeyRequirement {
     ghost output = { λ x. Some (resident_key_name x) };
 
-    /// The requirement as WebAuthn Level 3 names it.
+    /// The requirement's name in WebAuthn Level 3.
     fn fmt<W: fmt::Write>(&self, f: &mut fmt::Formatter<W>) -> fmt::Result {
         f.write_str(self.name())
     }

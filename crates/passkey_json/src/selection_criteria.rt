@@ -20,21 +20,21 @@ use passkey_memory::OutOfMemory;
 use serde_json::Value;
 use std::alloc::Global;
 
-/// The relying party's requirements for the authenticator that makes a credential (WebAuthn Level
-/// 3, section 5.4.4).
+/// The relying party's requirements for the authenticator that creates the credential (WebAuthn
+/// Level 3, section 5.4.4).
 #[derive(Debug, Drop)]
 pub struct AuthenticatorSelectionCriteria {
-    /// The attachment; `None` means the member is absent, and allows any. Decoding ignores an unknown
-    /// value.
+    /// The attachment; `None` means the member is absent, and that any attachment is allowed.
+    /// Decoding ignores an unknown value.
     pub authenticator_attachment: Option<AuthenticatorAttachment>,
-    /// Whether the relying party wants a discoverable credential; `None` means the member is absent:
-    /// `required` if `require_resident_key` is true, else `discouraged`. Decoding ignores an unknown
-    /// value.
+    /// Whether the relying party wants a discoverable credential; `None` means the member is
+    /// absent, and then it is `required` if `require_resident_key` is true, and else `discouraged`.
+    /// Decoding ignores an unknown value.
     pub resident_key: Option<ResidentKeyRequirement>,
     /// The same for clients of WebAuthn Level 1: a relying party should set it to true exactly if
-    /// `resident_key` is `required`. An absent value is decoded as false.
+    /// `resident_key` is `required`. An absent member decodes to false.
     pub require_resident_key: bool,
-    /// Whether the relying party wants user verification. An absent or unknown value is decoded as
+    /// Whether the relying party wants user verification. An absent or unknown value decodes to
     /// `Preferred`.
     pub user_verification: UserVerificationRequirement,
 }
@@ -42,7 +42,7 @@ pub struct AuthenticatorSelectionCriteria {
 impl Default for AuthenticatorSelectionCriteria {
     ghost is_default = { λ x. x ≡ any_authenticator };
 
-    /// Any authenticator, with user verification if it can.
+    /// Returns criteria for any authenticator, with user verification preferred.
     fn default() -> AuthenticatorSelectionCriteria {
         AuthenticatorSelectionCriteria {
             authenticator_attachment: None,

@@ -16,11 +16,11 @@ use std::alloc::Global;
 
 /// A type whose values are encoded as JSON values.
 pub trait ToJson: FromJson {
-    /// The JSON value that each value is encoded as.
+    /// The JSON value that a value is encoded as.
     ghost json: { Form → Self → Data };
 
     /// Encodes the value as a JSON value, with bytes in this form. The result decodes to the value,
-    /// and holds no float. `OutOfMemory` if an allocation fails.
+    /// and contains no float. Returns `OutOfMemory` if an allocation fails.
     fn to_json(&self, alloc: Global, form: BytesForm) -> Result<Value, OutOfMemory>
         ensures written { IfOk result (λ v. view v ≡ json form self.now) }
         ensures reads_back { OnOk result (ReadsBack Self.kind self.now (json form self.now)) }

@@ -8,8 +8,8 @@ use serde_json::Value;
 use std::alloc::Global;
 use std::marker::Model;
 
-/// A value, or `None` if the JSON value was rejected. Running out of memory isn't tolerated.
-/// Contracts see it as that option.
+/// A value, or `None` if the JSON value was rejected. Running out of memory is still an error.
+/// Contracts see the option.
 #[derive(Debug, Drop)]
 pub struct Tolerated<T>(pub Option<T>);
 

@@ -1,4 +1,4 @@
-//! Booleans that may be texts.
+//! Booleans that may be encoded as texts.
 ghost use Rattle.std.specs.Prelude.{◌≡◌, false};
 ghost use Rattle.passkey_json.specs.Kind.{truth_named, truth_text};
 ghost use Rattle.serde_json.specs.Data.{boolean};
@@ -12,8 +12,7 @@ use serde_json::Value;
 use std::alloc::Global;
 use std::marker::Model;
 
-/// A boolean that is also decoded from the text `true` or `false`. Contracts see it as that
-/// boolean.
+/// A boolean that is also decoded from the text `true` or `false`. Contracts see the boolean.
 #[derive(Debug, Drop)]
 pub struct TruthText(pub bool);
 
@@ -26,7 +25,7 @@ impl Model for TruthText {
 }
 
 impl TruthText {
-    /// The boolean.
+    /// Returns the boolean.
     pub fn get(self) -> bool
         ensures { result ≡ self }
     {

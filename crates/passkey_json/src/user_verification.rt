@@ -18,11 +18,11 @@ use std::fmt;
 /// Whether the relying party wants user verification (WebAuthn Level 3, section 5.8.6).
 #[derive(Clone, Copy, Debug, PartialEq, Eq)]
 pub enum UserVerificationRequirement {
-    /// Required: the ceremony fails if the response doesn't have the flag UV.
+    /// Required: the ceremony fails if the response doesn't have the flag UV set.
     Required,
-    /// Preferred: the ceremony doesn't fail without it.
+    /// Preferred: the ceremony doesn't fail without user verification.
     Preferred,
-    /// Discouraged: the relying party prefers to do without.
+    /// Discouraged: the relying party prefers no user verification.
     Discouraged,
 }
 
@@ -34,12 +34,14 @@ impl EnumNames for UserVerificationRequirement {
     ghost name_is_own = { user_verification_own };
 
     fn from_name(name: &str) -> Option<UserVerificationRequirement> {
-        match name {
-            "required" => Some(UserVerificationRequirement::Required),
-            "preferred" => Some(UserVerificationRequirement::Preferred),
-            "discouraged" => Some(UserVerificationRequirement::Discouraged),
-            _ => None,
-        }
+        [
+            UserVerificationRequirement::Required,
+            UserVerificationRequirement::Preferred,
+            UserVerificationRequirement::Discouraged,
+        ]
+        .iter()
+        .copied()
+        .find(|value| value.name() == name)
     }
 
     fn name(self) -> &'static str {
@@ -54,7 +56,7 @@ impl EnumNames for UserVerificationRequirement {
 impl fmt::Display for UserVerificationRequirement {
     ghost output = { λ x. Some (user_verification_name x) };
 
-    /// The requirement as WebAuthn Level 3 names it.
+    /// The requirement's name in WebAuthn Level 3.
     fn fmt<W: fmt::Write>(&self, f: &mut fmt::Formatter<W>) -> fmt::Result {
         f.write_str(self.name())
     }

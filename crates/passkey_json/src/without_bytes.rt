@@ -19,13 +19,14 @@ use passkey_webauthn::{
 use serde_json::Value;
 use std::alloc::Global;
 
-/// A type whose values hold no bytes: each form of bytes gives the same JSON value.
+/// A type whose values contain no bytes: each form of bytes has the same encoding.
 pub trait WithoutBytes: ToJson {
-    /// The form makes no difference.
+    /// The form of bytes makes no difference.
     ghost one_json: { (f g : Form) (x : Self) → Self.ToJson.json f x ≡ Self.ToJson.json g x };
 
-    /// Encodes the value as the JSON value that `to_json` makes with either form. The result decodes
-    /// to the value, and holds no float. `OutOfMemory` if an allocation fails.
+    /// Encodes the value as the JSON value that `to_json` returns for either form of bytes. The
+    /// result decodes to the value, and contains no float. Returns `OutOfMemory` if an allocation
+    /// fails.
     final fn to_plain_json(&self, alloc: Global) -> Result<Value, OutOfMemory>
         ensures written { IfOk result (λ v. (form : Form) → view v ≡ Self.ToJson.json form self.now) }
         ensures without_floats { IfOk result (λ v. has_float (view v) ≡ false) }

@@ -37,15 +37,17 @@ fn put_member(
     name: &str,
     value: Value,
 ) -> Result<(), OutOfMemory>
-    ensures written { OnOk result (members_view members.new.entries ≡ put name.now (view value) (members_view members.old.entries)) }
-    ensures without_floats { has_float (view value) ≡ false → members_have_float (members_view members.old.entries) ≡ false → members_have_float (members_view members.new.entries) ≡ false }
+    ensures written { OnOk result
+        (members_view members.new.entries ≡ put name.now (view value) (members_view members.old.entries)) }
+    ensures without_floats { has_float (view value) ≡ false → members_have_float (members_view members.old.entries)
+        ≡ false → members_have_float (members_view members.new.entries) ≡ false }
 {
     members.insert(String::from_str(alloc, name)?, value)?;
     Ok(())
 }
 
 impl ObjectWriter {
-    /// No members. Allocates nothing.
+    /// Returns an object without members. Allocates nothing.
     pub fn new(alloc: Global) -> ObjectWriter
         ensures { so_far result ≡ no_members }
     {
@@ -54,7 +56,7 @@ impl ObjectWriter {
         }
     }
 
-    /// Adds a member. `OutOfMemory` if an allocation fails.
+    /// Adds a member. Returns `OutOfMemory` if an allocation fails.
     pub fn put<T: ToJson>(
         &mut self,
         alloc: Global,
@@ -62,14 +64,15 @@ impl ObjectWriter {
         name: &str,
         member: &T,
     ) -> Result<(), OutOfMemory>
-        ensures written { OnOk result (so_far self.new ≡ put_if name.now (Some (T.json form member.now)) (so_far self.old)) }
+        ensures written { OnOk result
+            (so_far self.new ≡ put_if name.now (Some (T.json form member.now)) (so_far self.old)) }
         ensures reads_back { OnOk result (ReadsBack T.kind member.now (T.json form member.now)) }
     {
         let value = member.to_json(alloc, form)?;
         put_member(alloc, &mut self.members, name, value)
     }
 
-    /// Adds a member if the value is present. `OutOfMemory` if an allocation fails.
+    /// Adds a member if the value is present. Returns `OutOfMemory` if an allocation fails.
     pub fn put_some<T: ToJson>(
         &mut self,
         alloc: Global,
@@ -77,7 +80,8 @@ impl ObjectWriter {
         name: &str,
         member: &Option<T>,
     ) -> Result<(), OutOfMemory>
-        ensures written { OnOk result (so_far self.new ≡ put_if name.now (option_map (T.json form) member.now) (so_far self.old)) }
+        ensures written { OnOk result
+            (so_far self.new ≡ put_if name.now (option_map (T.json form) member.now) (so_far self.old)) }
         ensures reads_back { OnOk result (ReadsBackIf T.kind (T.json form) member.now) }
     {
         if let Some(member) = member {
@@ -86,7 +90,7 @@ impl ObjectWriter {
         Ok(())
     }
 
-    /// The object with these members.
+    /// Returns the object with these members.
     pub fn into_value(self) -> Value
         ensures value { view result ≡ object (so_far self) }
         ensures without_floats { has_float (view result) ≡ false }

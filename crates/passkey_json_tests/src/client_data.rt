@@ -1,5 +1,5 @@
-//! Client data (WebAuthn Level 3, section 5.8.1), worked out by hand. Client data without further members is in
-//! the rows of the program too.
+//! Client data (WebAuthn Level 3, section 5.8.1), worked out by hand. The rows of the program also
+//! contain client data without further members.
 
 use crate::json::{assert_shows, displayed, parsed};
 use indexmap::IndexMap;
@@ -12,7 +12,7 @@ use std::alloc::Global;
 use std::marker::Model;
 use std::process::Abort;
 
-/// The name of the app that asked, which Android's clients add.
+/// The name of the app that asked, which Android clients add.
 #[derive(Debug, Drop)]
 struct PackageName(Text);
 
@@ -63,7 +63,7 @@ impl ClientDataExtra for PackageName {
     }
 }
 
-/// The text; else what `{}` prints of the fault.
+/// The text, or else the display text of the fault.
 fn shown(rt: &(impl Abort + AllocGlobal), text: Result<Text, JsonFault>) -> String {
     match text {
         Ok(text) => displayed(rt, &text),
@@ -71,13 +71,13 @@ fn shown(rt: &(impl Abort + AllocGlobal), text: Result<Text, JsonFault>) -> Stri
     }
 }
 
-/// What a copy of the client data is encoded as.
+/// The encoding of a copy of the client data.
 fn copied(rt: &(impl Abort + AllocGlobal), data: &CollectedClientData<PackageName>) -> String {
     let copy = data.try_clone(rt.alloc()).expect(rt, "memory");
     shown(rt, copy.to_text(rt.alloc()))
 }
 
-/// Decodes the JSON text, and encodes a copy of the client data; else the fault.
+/// Decodes the JSON text, and encodes a copy of the client data, or else returns the fault.
 fn rewritten(rt: &(impl Abort + AllocGlobal), text: &str) -> String {
     match CollectedClientData::from_json(rt.alloc(), &parsed(rt, text)) {
         Ok(data) => copied(rt, &data),
@@ -131,7 +131,7 @@ fn client_data_has_further_members(rt: HostRuntime) {
     }
 }
 
-/// Decodes the bytes, and encodes the client data; else the fault.
+/// Decodes the bytes, and encodes the client data, or else returns the fault.
 fn rewritten_bytes(rt: &(impl Abort + AllocGlobal), bytes: &[u8]) -> String {
     match CollectedClientData::<PackageName>::from_slice(rt.alloc(), bytes) {
         Ok(data) => copied(rt, &data),
@@ -153,7 +153,7 @@ fn client_data_is_decoded_from_bytes(rt: HostRuntime) {
     }
 }
 
-/// What client data with this unknown member, or none, is encoded as; else the fault.
+/// The encoding of client data with this unknown member, or with none, or else the fault.
 fn made(rt: &(impl Abort + AllocGlobal), unknown: Option<Value>) -> String {
     let mut unknown_keys = IndexMap::new(rt.alloc());
     if let Some(value) = unknown {

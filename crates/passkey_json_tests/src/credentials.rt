@@ -1,5 +1,5 @@
-//! What a browser returns (WebAuthn Level 3, section 5.1), worked out by hand. Whole credentials and their faults
-//! are in the rows of the program.
+//! What a browser returns (WebAuthn Level 3, section 5.1), worked out by hand. The rows of the
+//! program contain whole credentials and their faults.
 use crate::json::{assert_reads, assert_rewrites, assert_shows, record, written};
 use passkey_credentials::{
     AuthenticatedPublicKeyCredential, AuthenticatorAssertionResponse,
@@ -77,7 +77,7 @@ fn the_first_fault_of_a_response_is_reported(rt: HostRuntime) {
     );
 }
 
-/// What a copy of the response is encoded as.
+/// The encoding of a copy of the response.
 fn copied(rt: &(impl Abort + AllocGlobal), response: &AuthenticatorAttestationResponse) -> String {
     let copy = response.try_clone(rt.alloc()).expect(rt, "memory");
     written(rt, &copy, Base64Url)

@@ -1,4 +1,4 @@
-//! What the tests over JSON share. Each call has one exit, so that little has to be proved about a test.
+//! Helpers of the JSON tests. Each call has one exit, so that little has to be proved about a test.
 use passkey_json::{BytesForm, FromJson, JsonRecord, ToJson};
 use serde_json::Value;
 use std::fmt::{Debug, Display};
@@ -24,13 +24,14 @@ pub fn debugged<T: Debug>(rt: &(impl Abort + AllocGlobal), value: &T) -> String 
     format!(in rt.alloc(); "{value:?}").expect(rt, "memory")
 }
 
-/// The compact JSON text that the value is encoded as.
+/// The compact JSON text of the value's encoding.
 pub fn written<T: ToJson>(rt: &(impl Abort + AllocGlobal), value: &T, form: BytesForm) -> String {
     let json = value.to_json(rt.alloc(), form).expect(rt, "memory");
     json.to_string(rt.alloc()).expect(rt, "memory")
 }
 
-/// What `{:?}` prints of the value that the JSON text decodes to; else what `{}` prints of the error.
+/// The debug text of the value that the JSON text decodes to, or else the display text of the
+/// error.
 fn read<T: FromJson + Debug>(rt: &(impl Abort + AllocGlobal), text: &str) -> String {
     match T::from_value(rt.alloc(), &parsed(rt, text)) {
         Ok(value) => debugged(rt, &value),
@@ -38,7 +39,7 @@ fn read<T: FromJson + Debug>(rt: &(impl Abort + AllocGlobal), text: &str) -> Str
     }
 }
 
-/// What the record that the JSON text decodes to is encoded as; else what `{}` prints of the fault.
+/// The encoding of the record that the JSON text decodes to, or else the display text of the fault.
 fn rewritten<T: JsonRecord + ToJson>(
     rt: &(impl Abort + AllocGlobal),
     text: &str,
@@ -50,19 +51,19 @@ fn rewritten<T: JsonRecord + ToJson>(
     }
 }
 
-/// Asserts what a call shows of this input.
+/// Asserts what a call shows for this input.
 pub fn assert_shows(rt: &impl Abort, input: &str, shown: String, want: &str) {
     assert_eq!(rt; shown.as_str(), want, "on {input}");
 }
 
-/// Asserts what `read` gives for each text.
+/// Asserts what `read` returns for each text.
 pub fn assert_reads<T: FromJson + Debug>(rt: &(impl Abort + AllocGlobal), cases: &[(&str, &str)]) {
     for (text, want) in cases {
         assert_shows(rt, text, read::<T>(rt, text), want);
     }
 }
 
-/// Asserts what `rewritten` gives for each text.
+/// Asserts what `rewritten` returns for each text.
 pub fn assert_rewrites<T: JsonRecord + ToJson>(
     rt: &(impl Abort + AllocGlobal),
     form: BytesForm,

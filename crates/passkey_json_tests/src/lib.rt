@@ -1,4 +1,4 @@
-//! Tests of the crates over JSON, and of stored passkeys.
+//! Tests of the JSON crates, and of stored passkeys.
 #![tactic(auto)]
 
 #[cfg(test)]

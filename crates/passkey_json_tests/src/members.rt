@@ -5,14 +5,14 @@ use serde_json::Value;
 use std::alloc::Global;
 use std::process::Abort;
 
-/// The member `list`, or `old`, as an option.
+/// The value of the member `list` or `old`, if one of them is present.
 fn aliased(alloc: Global, value: &Value) -> Result<Option<bool>, JsonFault> {
     Object::of(alloc, value)?
         .aliased("list", "old")?
         .if_present::<bool>()
 }
 
-/// What `{:?}` prints of that member of a JSON text.
+/// The debug text of that value in a JSON text.
 fn shown(rt: &(impl Abort + AllocGlobal), text: &str) -> String {
     debugged(rt, &aliased(rt.alloc(), &parsed(rt, text)))
 }

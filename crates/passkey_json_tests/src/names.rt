@@ -17,7 +17,8 @@ fn assert_prints<T: Display>(rt: &(impl Abort + AllocGlobal), value: &T, want: &
     assert_shows(rt, want, displayed(rt, value), want);
 }
 
-/// Asserts what `{:?}` prints of the value with each name, if any, and that `{}` prints that name.
+/// Asserts the debug text of the value with each name, if there is one, and that `{}` prints that
+/// name.
 fn assert_finds<T: EnumNames + Debug + Display>(
     rt: &(impl Abort + AllocGlobal),
     cases: &[(&str, &str)],
@@ -60,7 +61,7 @@ fn values_are_found_by_their_names(rt: HostRuntime) {
             ("discouraged", "Some(Discouraged)"),
         ],
     );
-    // section 5.8.1; the last type is of Secure Payment Confirmation
+    // section 5.8.1; the last type is from Secure Payment Confirmation
     assert_finds::<ClientDataType>(
         &rt,
         &[

@@ -1,5 +1,5 @@
-//! Records that are decoded from objects and encoded, worked out by hand from WebAuthn Level 3 and RFC 4648. Further
-//! objects are in the rows of the program.
+//! Records that are decoded from objects and encoded, worked out by hand from WebAuthn Level 3 and
+//! RFC 4648. The rows of the program contain further objects.
 use crate::json::{assert_reads, assert_rewrites, assert_shows, parsed, record, written};
 use passkey_json::BytesForm::{Base64Url, Numbers};
 use passkey_json::{
@@ -248,7 +248,7 @@ fn records_without_bytes_are_written(rt: HostRuntime) {
     );
 }
 
-/// What a copy of the inputs is encoded as.
+/// The encoding of a copy of the inputs.
 fn copied(rt: &(impl Abort + AllocGlobal), inputs: &AuthenticationExtensionsPrfInputs) -> String {
     let copy = inputs.try_clone(rt.alloc()).expect(rt, "memory");
     written(rt, &copy, Base64Url)
@@ -261,7 +261,7 @@ fn prf_inputs_are_copied(rt: HostRuntime) {
     assert_shows(&rt, text, copied(&rt, &record(&rt, text)), text);
 }
 
-// Whichever allocation fails, this either fails while the text is parsed or succeeds.
+// Whichever allocation fails, this either fails while the text is being parsed, or succeeds.
 #[test]
 fn members_that_take_no_memory_are_decoded_without_any(rt: HostRuntime) {
     let nothing = Value::Object(Map::new(rt.alloc()));

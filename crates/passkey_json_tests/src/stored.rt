@@ -12,7 +12,7 @@ use rand_core::utils::{self, NextWord};
 use std::marker::Model;
 use std::process::Abort;
 
-/// A generator of the bytes 0, 1, 2 and so on. Contracts see the next four as a number.
+/// A generator of the bytes 0, 1, 2 and so on. Contracts see the next four bytes as a number.
 #[derive(Drop)]
 struct Ascending(u32);
 
@@ -56,7 +56,7 @@ fn builder(rt: &(impl Abort + AllocGlobal), kty: Registered<KeyType>) -> Passkey
     Passkey::mock(rt.alloc(), rp_id, CoseKey::new(kty), Ascending(0x0302_0100)).expect(rt, "memory")
 }
 
-/// The builder, if it wasn't handed back.
+/// The builder, if it wasn't given back.
 fn drawn(
     rt: &impl Abort,
     built: Result<PasskeyBuilder<Ascending>, GivenBack<PasskeyBuilder<Ascending>>>,
@@ -67,7 +67,7 @@ fn drawn(
     }
 }
 
-/// The credential's id and the user's handle, both of which were drawn again.
+/// The credential id and the user handle, both of which were drawn again.
 fn drawn_again(rt: &(impl Abort + AllocGlobal)) -> (Bytes, Option<Bytes>) {
     let built = builder(rt, Registered::Assigned(KeyType::EC2));
     let built = drawn(rt, built.credential_id(rt.alloc(), 4));
@@ -104,7 +104,7 @@ fn is_copied(rt: &(impl Abort + AllocGlobal), passkey: &Passkey) -> bool {
     passkey.try_clone(rt.alloc()).expect(rt, "memory") == *passkey
 }
 
-/// What is printed of the passkey's descriptor.
+/// The debug text of the passkey's descriptor.
 fn described(rt: &(impl Abort + AllocGlobal), passkey: &Passkey) -> String {
     debugged(rt, &passkey.descriptor(rt.alloc()).expect(rt, "memory"))
 }
@@ -118,12 +118,12 @@ fn passkeys_are_copied_and_described(rt: HostRuntime) {
     assert_shows(&rt, "the passkey", described(&rt, &passkey), want);
 }
 
-/// What is printed of a passkey that was used nine times.
+/// The debug text of a passkey that was used nine times.
 fn printed(rt: &(impl Abort + AllocGlobal), kty: Registered<KeyType>) -> String {
     debugged(rt, &builder(rt, kty).counter(9).build())
 }
 
-/// What is printed of a copy of extensions with these secrets.
+/// The debug text of a copy of extension data with these secrets.
 fn printed_secrets(rt: &(impl Abort + AllocGlobal), second: Option<Bytes>) -> String {
     let extensions = CredentialExtensions {
         hmac_secret: Some(secrets(rt, second)),
@@ -131,7 +131,7 @@ fn printed_secrets(rt: &(impl Abort + AllocGlobal), second: Option<Bytes>) -> St
     debugged(rt, &extensions.try_clone(rt.alloc()).expect(rt, "memory"))
 }
 
-// Only the type of a key, the counter, and whether there is a second secret are printed.
+// Debug texts contain only the key's type, the counter, and whether there is a second secret.
 #[test]
 fn keys_and_secrets_are_not_printed(rt: HostRuntime) {
     let ec2 = Registered::Assigned(KeyType::EC2);

@@ -1,9 +1,10 @@
-//! Documents of related origins (WebAuthn Level 3, section 5.11), with URLs as the URL Standard serializes them.
+//! Documents of related origins (WebAuthn Level 3, section 5.11), with URLs as the URL Standard
+//! serializes them.
 use crate::json::{assert_shows, displayed, parsed};
 use passkey_well_known::WellKnown;
 use std::process::Abort;
 
-/// What the document that the JSON text decodes to is encoded as; else its fault.
+/// The encoding of the document that the JSON text decodes to, or else its fault.
 fn rewritten(rt: &(impl Abort + AllocGlobal), text: &str) -> String {
     match WellKnown::from_json(rt.alloc(), &parsed(rt, text)) {
         Ok(document) => {

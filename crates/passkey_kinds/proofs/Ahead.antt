@@ -14,21 +14,27 @@ use Rattle.passkey_kinds.specs.declared.refusal.Refusal.{Refusal}
 use Rattle.passkey_kinds.specs.declared.refusal.Refusal.TheVariants.{Refused, OutOfMemory}
 use Rattle.passkey_kinds.proofs.Lists.{answers_from, each_more}
 
--- an element's error is the list's
-pub failed : {A M B N : Type 0} (view : A → M) (seen : B → N) (one : Option M) (wanted : Option N) (takes may : Type 0) (e : Refusal) → (one ≡ None → wanted ≡ None) → (takes → may) → AnswersAs view one takes (Err e) → AnswersAs seen wanted may (Err e)
+-- an element's error is the error of the list
+pub failed : {A M B N : Type 0} (view : A → M) (seen : B → N) (one : Option M) (wanted : Option N)
+    (takes may : Type 0) (e : Refusal) → (one ≡ None → wanted ≡ None) → (takes → may)
+    → AnswersAs view one takes (Err e) → AnswersAs seen wanted may (Err e)
 failed view seen one wanted takes may Refused none grows h = none h
 failed view seen one wanted takes may OutOfMemory none grows h = grows h
 
 -- ---- the head before the elements
 
-pub head_before : (cost kept many to : ℕ) (a b d : Walk) → kept ≤ many → a.place < b.place → b.heads ≤ a.heads + 1 → b.nodes ≤ a.nodes + 0 → Spends (suc cost) kept to b d → Spends (suc cost) many to a d
+pub head_before : (cost kept many to : ℕ) (a b d : Walk) → kept ≤ many → a.place < b.place → b.heads ≤ a.heads + 1
+    → b.nodes ≤ a.nodes + 0 → Spends (suc cost) kept to b d → Spends (suc cost) many to a d
 head_before cost kept many to a b d few further one none s = record {
   within = s.within;
   heads = omega (arith, s.heads, one, further, mul-le-mul_left {m = suc a.place} {n = b.place} cost further);
   nodes = omega (arith, s.nodes, none, few);
 }
 
-pub decodes_in : {A M : Type 0} {wanted given : Option M} {takes may : Type 0} (view : A → M) (cost kept many to : ℕ) (a b d : Walk) (result : Result A Refusal) → given ≡ wanted → (takes → may) → kept ≤ many → a.place < b.place → b.heads ≤ a.heads + 1 → b.nodes ≤ a.nodes + 0 → Decodes view wanted takes (suc cost) kept to b d result → Decodes view given may (suc cost) many to a d result
+pub decodes_in : {A M : Type 0} {wanted given : Option M} {takes may : Type 0} (view : A → M)
+    (cost kept many to : ℕ) (a b d : Walk) (result : Result A Refusal) → given ≡ wanted → (takes → may)
+    → kept ≤ many → a.place < b.place → b.heads ≤ a.heads + 1 → b.nodes ≤ a.nodes + 0
+    → Decodes view wanted takes (suc cost) kept to b d result → Decodes view given may (suc cost) many to a d result
 decodes_in view cost kept many to a b d result same grows few further one none r = record {
   answers = answers_from view result same grows r.answers;
   spends = head_before cost kept many to a b d few further one none r.spends;
@@ -45,7 +51,8 @@ kept_counted : (count : Item → ℕ) (is : List Item) → kept_all (counted cou
 kept_counted count [] = refl
 kept_counted count (i ∷ is) = ap (λ (n : ℕ). count i + n) (kept_counted count is)
 
-pub kept_array : (keeps : Keeping) (is : List Item) → kept_all keeps is ≡ kept_of (in_elements keeps) (array (items_of is))
+pub kept_array : (keeps : Keeping) (is : List Item)
+    → kept_all keeps is ≡ kept_of (in_elements keeps) (array (items_of is))
 kept_array nothing is = kept_nothing is
 kept_array (counted count) is = kept_counted count is ∙ ap (kept_each count) (sym (elements-items_of is))
 
@@ -65,7 +72,8 @@ no_list kind item.null h = refl
 no_list kind (item.simple n) h = refl
 no_list kind (item.float f) h = refl
 
-pub none_accepted : {M : Type 0} (kind : Kind M) (i : Item) → ((xs : item.Items) → i ≡ array xs → ⊥) → accepted kind i ≡ None
+pub none_accepted : {M : Type 0} (kind : Kind M) (i : Item) → ((xs : item.Items) → i ≡ array xs → ⊥)
+    → accepted kind i ≡ None
 none_accepted kind (item.number n) h = refl
 none_accepted kind (item.byte_string s) h = refl
 none_accepted kind (item.text_string s) h = refl
@@ -79,23 +87,30 @@ none_accepted kind (item.float f) h = refl
 
 -- ---- one more element
 
-module _ {X M : Type 0} (kind : X → Option M) (front : List M) (first : X) (rest others : List X) (whole : rest ≡ first ∷ others) where
+module _ {X M : Type 0} (kind : X → Option M) (front : List M) (first : X) (rest others : List X)
+    (whole : rest ≡ first ∷ others) where
   pub each_refused : kind first ≡ None → option_map (λ xs. front ++ xs) (each kind rest) ≡ None
   each_refused none =
       ap (λ (ys : List X). option_map (λ xs. front ++ xs) (each kind ys)) whole
-      ∙ ap (λ (o : Option M). option_map (λ xs. front ++ xs) (option_and_then (λ x. option_map (λ xs. x ∷ xs) (each kind others)) o)) none
+      ∙ ap (λ (o : Option M). option_map (λ xs. front ++ xs)
+      (option_and_then (λ x. option_map (λ xs. x ∷ xs) (each kind others)) o)) none
 
-  pub each_next : (v : M) → kind first ≡ Some v → option_map (λ xs. front ++ xs) (each kind rest) ≡ option_map (λ xs. (front ++ v ∷ []) ++ xs) (each kind others)
+  pub each_next : (v : M) → kind first ≡ Some v → option_map (λ xs. front ++ xs) (each kind rest)
+      ≡ option_map (λ xs. (front ++ v ∷ []) ++ xs) (each kind others)
   each_next v given =
       ap (λ (ys : List X). option_map (λ xs. front ++ xs) (each kind ys)) whole
-      ∙ ap (λ (o : Option M). option_map (λ xs. front ++ xs) (option_and_then (λ x. option_map (λ xs. x ∷ xs) (each kind others)) o)) given
+      ∙ ap (λ (o : Option M). option_map (λ xs. front ++ xs)
+      (option_and_then (λ x. option_map (λ xs. x ∷ xs) (each kind others)) o)) given
       ∙ each_more front v (each kind others)
 
-  pub accepted_next : (v : M) → kind first ≡ Some v → (front ++ v ∷ []) ++ filter_map kind others ≡ front ++ filter_map kind rest
+  pub accepted_next : (v : M) → kind first ≡ Some v
+      → (front ++ v ∷ []) ++ filter_map kind others ≡ front ++ filter_map kind rest
   accepted_next v given =
       append_assoc front (v ∷ []) (filter_map kind others)
-      ∙ sym (ap (λ (ys : List X). front ++ filter_map kind ys) whole ∙ ap (λ (o : Option M). front ++ cons_option o (filter_map kind others)) given)
+      ∙ sym (ap (λ (ys : List X). front ++ filter_map kind ys) whole
+      ∙ ap (λ (o : Option M). front ++ cons_option o (filter_map kind others)) given)
 
   pub refused_next : kind first ≡ None → front ++ filter_map kind others ≡ front ++ filter_map kind rest
   refused_next none =
-      sym (ap (λ (ys : List X). front ++ filter_map kind ys) whole ∙ ap (λ (o : Option M). front ++ cons_option o (filter_map kind others)) none)
+      sym (ap (λ (ys : List X). front ++ filter_map kind ys) whole
+      ∙ ap (λ (o : Option M). front ++ cons_option o (filter_map kind others)) none)

@@ -1,4 +1,4 @@
--- Arrays of bytes that are decoded at a cursor.
+-- Arrays of bytes, decoded at a cursor.
 use Rattle.std.proofs.Common.{◌≡◌, ◌∙◌, ℕ, ◌<◌, ◌==◌, arith, Bool, true, false, if◌then◌else◌, List, [], Option, None, refl, sym, ap}
 use Rattle.std.proofs.lemmas.Bool.{ne_eqb}
 use Rattle.passkey_cbor.specs.Item as item
@@ -10,10 +10,11 @@ use Rattle.passkey_cbor.proofs.Strings.{string_again}
 use Rattle.passkey_kinds.specs.Kind.{sized_bytes, MayGrow}
 use Rattle.passkey_kinds.specs.Reader.{Spends}
 
--- what is lent is one string
+-- a region is that of one string
 pub tells_one : (is_text : Bool) (r : Region) (s t : List ℕ) → Tells is_text r s → Tells is_text r t → s ≡ t
 tells_one is_text r s t p q =
-    ap (λ (x : List ℕ × List ℕ). x.0) (some_is (s, []) (t, []) (sym (string_again is_text r.len s r.bytes [] p) ∙ string_again is_text r.len t r.bytes [] q))
+    ap (λ (x : List ℕ × List ℕ). x.0) (some_is (s, []) (t, [])
+    (sym (string_again is_text r.len s r.bytes [] p) ∙ string_again is_text r.len t r.bytes [] q))
 
 pub none_either : {X : Type 0} (b : Bool) (o : Option X) → o ≡ None → (if b then o else None) ≡ None
 none_either true o h = h
@@ -22,7 +23,8 @@ none_either false o h = refl
 pub other_length : {X : Type 0} (n : ℕ) (o : Option X) → (n ≡ 32 → ⊥) → (if n == 32 then o else None) ≡ None
 other_length {X} n o other = ap (λ (b : Bool). if b then o else None) (ne_eqb n 32 other)
 
-pub no_sized : (n : ℕ) (i : Item) → ((s : List ℕ) → i ≡ item.byte_string s → ⊥) → ((xs : item.Items) → i ≡ item.array xs → ⊥) → sized_bytes n i ≡ None
+pub no_sized : (n : ℕ) (i : Item) → ((s : List ℕ) → i ≡ item.byte_string s → ⊥)
+    → ((xs : item.Items) → i ≡ item.array xs → ⊥) → sized_bytes n i ≡ None
 no_sized n (item.number z) b a = refl
 no_sized n (item.byte_string s) b a = absurd (b s refl)
 no_sized n (item.text_string s) b a = refl
@@ -34,7 +36,7 @@ no_sized n item.null b a = refl
 no_sized n (item.simple m) b a = refl
 no_sized n (item.float f) b a = refl
 
--- one head that was none of a byte string's, and then the item
+-- one head that isn't a byte string's, and then the item
 pub after_missed : (to : ℕ) (a b d : Walk) → LendsNothing a b → a.place < to → Spends 2 0 to b d → Spends 3 0 to a d
 after_missed to a b d p less s = record {
   within = s.within;

@@ -1,4 +1,5 @@
--- Byte strings as map keys: their encodings are in CTAP2's order if the shorter comes first, then the lower.
+-- Byte strings as map keys: their encodings are in CTAP2's order if the shorter key comes first,
+-- and of two keys with the same length the lower one.
 use Rattle.std.proofs.Common.{◌≡◌, ◌⊎◌, ℕ, ◌+◌, ◌*◌, ◌/◌, ◌^◌, ◌<◌, ◌≤◌, nat_lt, if◌then◌else◌, List, [], ◌∷◌, ◌++◌, length, refl, sym, ap, ◌∙◌, arith, inl, inr}
 use Rattle.std.specs.Prelude.{slice_index}
 use Rattle.std.specs.Int.{w8, w16, w32, w64, to_be_bytes}
@@ -15,7 +16,7 @@ use Rattle.passkey_kinds.specs.ShortFirst.{IsShortFirst}
 use Rattle.passkey_cbor.specs.Order.{key_type, IsBefore}
 use Rattle.passkey_cbor.specs.Written.{shortest_head, written}
 
--- how many bytes are behind the initial byte of the shortest head
+-- the number of bytes after the initial byte of the shortest head
 abbrev behind : ℕ → ℕ
 behind n =
     if nat_lt n 24 then 0
@@ -24,7 +25,7 @@ behind n =
     else if nat_lt n (2 ^ 32) then 4
     else 8
 
--- the shortest head has an initial byte of its major type, and so many bytes behind it
+-- The shortest head has an initial byte with its major type, and this many bytes after it.
 record HeadOf (n : ℕ) : Type 0 where
   info : ℕ
   small : info < 32
@@ -35,14 +36,44 @@ record HeadOf (n : ℕ) : Type 0 where
 head_of : (n : ℕ) → HeadOf n
 unfolding shortest_head
 head_of n = elim (cases_lt n 24) [
-  | inl a ↦ record { info = n; small = omega (arith, a); rest = []; is = rw (lt-ltb n 24 a) refl; long = rw (lt-ltb n 24 a) refl }
+  | inl a ↦ record {
+    info = n;
+    small = omega (arith, a);
+    rest = [];
+    is = rw (lt-ltb n 24 a) refl;
+    long = rw (lt-ltb n 24 a) refl;
+  }
   | inr a ↦ elim (cases_lt n (2 ^ 8)) [
-    | inl b ↦ record { info = 24; small = omega arith; rest = to_be_bytes w8 n; is = rw (le-ltb n 24 a, lt-ltb n (2 ^ 8) b) refl; long = rw (le-ltb n 24 a, lt-ltb n (2 ^ 8) b) refl }
+    | inl b ↦ record {
+      info = 24;
+      small = omega arith;
+      rest = to_be_bytes w8 n;
+      is = rw (le-ltb n 24 a, lt-ltb n (2 ^ 8) b) refl;
+      long = rw (le-ltb n 24 a, lt-ltb n (2 ^ 8) b) refl;
+    }
     | inr b ↦ elim (cases_lt n (2 ^ 16)) [
-      | inl c ↦ record { info = 25; small = omega arith; rest = to_be_bytes w16 n; is = rw (le-ltb n 24 a, le-ltb n (2 ^ 8) b, lt-ltb n (2 ^ 16) c) refl; long = rw (le-ltb n 24 a, le-ltb n (2 ^ 8) b, lt-ltb n (2 ^ 16) c) refl }
+      | inl c ↦ record {
+        info = 25;
+        small = omega arith;
+        rest = to_be_bytes w16 n;
+        is = rw (le-ltb n 24 a, le-ltb n (2 ^ 8) b, lt-ltb n (2 ^ 16) c) refl;
+        long = rw (le-ltb n 24 a, le-ltb n (2 ^ 8) b, lt-ltb n (2 ^ 16) c) refl;
+      }
       | inr c ↦ elim (cases_lt n (2 ^ 32)) [
-        | inl d ↦ record { info = 26; small = omega arith; rest = to_be_bytes w32 n; is = rw (le-ltb n 24 a, le-ltb n (2 ^ 8) b, le-ltb n (2 ^ 16) c, lt-ltb n (2 ^ 32) d) refl; long = rw (le-ltb n 24 a, le-ltb n (2 ^ 8) b, le-ltb n (2 ^ 16) c, lt-ltb n (2 ^ 32) d) refl }
-        | inr d ↦ record { info = 27; small = omega arith; rest = to_be_bytes w64 n; is = rw (le-ltb n 24 a, le-ltb n (2 ^ 8) b, le-ltb n (2 ^ 16) c, le-ltb n (2 ^ 32) d) refl; long = rw (le-ltb n 24 a, le-ltb n (2 ^ 8) b, le-ltb n (2 ^ 16) c, le-ltb n (2 ^ 32) d) refl }
+        | inl d ↦ record {
+          info = 26;
+          small = omega arith;
+          rest = to_be_bytes w32 n;
+          is = rw (le-ltb n 24 a, le-ltb n (2 ^ 8) b, le-ltb n (2 ^ 16) c, lt-ltb n (2 ^ 32) d) refl;
+          long = rw (le-ltb n 24 a, le-ltb n (2 ^ 8) b, le-ltb n (2 ^ 16) c, lt-ltb n (2 ^ 32) d) refl;
+        }
+        | inr d ↦ record {
+          info = 27;
+          small = omega arith;
+          rest = to_be_bytes w64 n;
+          is = rw (le-ltb n 24 a, le-ltb n (2 ^ 8) b, le-ltb n (2 ^ 16) c, le-ltb n (2 ^ 32) d) refl;
+          long = rw (le-ltb n 24 a, le-ltb n (2 ^ 8) b, le-ltb n (2 ^ 16) c, le-ltb n (2 ^ 32) d) refl;
+        }
       ]
     ]
   ]
@@ -61,12 +92,13 @@ encoded_long s =
     let h = head_of (length s) in
     omega (arith, length-append (shortest_head 2 (length s)) s, ap length h.is, h.long)
 
--- a common beginning doesn't matter
+-- a common prefix doesn't matter
 behind_common : (t a b : List ℕ) → slice_cmp nat_cmp (t ++ a) (t ++ b) ≡ slice_cmp nat_cmp a b
 behind_common [] a b = refl
 behind_common (c ∷ t) a b = rw (sym (nat_cmp_is c c Equal refl)) (behind_common t a b)
 
-types_tie : (a b : List ℕ) → nat_cmp (key_type (written (byte_string a))) (key_type (written (byte_string b))) ≡ Equal
+types_tie : (a b : List ℕ)
+    → nat_cmp (key_type (written (byte_string a))) (key_type (written (byte_string b))) ≡ Equal
 types_tie a b = sym (nat_cmp_is _ _ Equal (key_type_is a ∙ sym (key_type_is b)))
 
 pub byte_keys : (a b : List ℕ) → IsShortFirst a b → IsBefore (written (byte_string a)) (written (byte_string b))

@@ -1,4 +1,5 @@
--- Authenticator data in a byte string are read back, and coherent where they were read.
+-- Authenticator data in a byte string: its encoding can be decoded again, and decoded data is
+-- coherent.
 use Rattle.std.specs.Result.{result_ok}
 use Rattle.std.proofs.Common.{◌≡◌, ℕ, true, List, [], Some, Result, Ok, Err, ap, subst}
 use Rattle.std.proofs.lemmas.List.{append-nil}
@@ -17,13 +18,19 @@ use Rattle.passkey_kinds.specs.ReadBack.{IsReadBack}
 abbrev pub IsCoherentData : DataParts → Type 0
 IsCoherentData d = IsData d × (is_coherent d ≡ true)
 
-pub auth_data_back : WrittenDataAreReadBack → ReadIsGiven → IsReadBack authenticator_data auth_data_tree IsCoherentData normal_data
-auth_data_back written given = record { back = λ d h. ap result_ok (given (data_written d) (normal_data d) (subst (λ (bytes : List ℕ). ReadsData bytes (Ok (normal_data d))) (append-nil (data_written d)) (written d [] h.0 h.1))) }
+pub auth_data_back : WrittenDataAreReadBack → ReadIsGiven
+    → IsReadBack authenticator_data auth_data_tree IsCoherentData normal_data
+auth_data_back written given =
+    record {
+      back = λ d h. ap result_ok (given (data_written d) (normal_data d) (subst (λ (bytes : List ℕ).
+          ReadsData bytes (Ok (normal_data d))) (append-nil (data_written d)) (written d [] h.0 h.1)));
+    }
 
 data_of : (r : Result DataParts CoseError) (d : DataParts) → result_ok r ≡ Some d → r ≡ Ok d
 data_of (Ok x) d e = cc
 data_of (Err f) d e = absurd cc
 
-pub auth_data_coherent : GivenIsCoherent → (i : Item) (d : DataParts) → authenticator_data i ≡ Some d → is_coherent d ≡ true
+pub auth_data_coherent : GivenIsCoherent → (i : Item) (d : DataParts) → authenticator_data i ≡ Some d
+    → is_coherent d ≡ true
 auth_data_coherent law (byte_string s) d e = law s d (data_of (read_data s) d e)
 auth_data_coherent law i d e = absurd cc

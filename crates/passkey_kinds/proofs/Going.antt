@@ -1,29 +1,30 @@
--- Where a cursor goes, and what it spends.
+-- How a cursor moves, and what it spends.
 use Rattle.std.proofs.Common.{◌≡◌, ◌∙◌, ℕ, ◌+◌, ◌-◌, ◌*◌, ◌≤◌, ◌<◌, arith, List, [], ◌++◌, length, take, Option, Some, None, IfSome, ap, subst}
 use Rattle.std.proofs.lemmas.List.{length-append, length-take}
 use Rattle.std.proofs.Math.Nat.{mul-le-mul_left}
 use Rattle.passkey_cbor.specs.Item.{Item}
-use Rattle.passkey_cbor.specs.Front.{max_depth, IsFront}
+use Rattle.passkey_cbor.specs.LeadingItem.{max_depth, IsLeadingItem}
 use Rattle.passkey_cbor.specs.Found.{FindsHead}
-use Rattle.passkey_cbor.specs.HeadSpelling.{SpellsHead}
+use Rattle.passkey_cbor.specs.HeadEncoding.{IsEncodingOfHead}
 use Rattle.passkey_cbor.specs.Inside.{Within}
 use Rattle.passkey_cbor.specs.Lent.{Region, PassesString}
-use Rattle.passkey_cbor.specs.Skipped.{PassesFront}
-use Rattle.passkey_cbor.specs.Stands.{Stands, Opens}
-use Rattle.passkey_cbor.specs.Valued.{MakesFront}
+use Rattle.passkey_cbor.specs.Skipped.{PassesLeadingItem}
+use Rattle.passkey_cbor.specs.EncodedAt.{IsEncodedAt, Opens}
+use Rattle.passkey_cbor.specs.Valued.{MakesLeadingItem}
 use Rattle.passkey_cbor.specs.Walk.{Walk, ahead, Went}
 use Rattle.passkey_cbor.specs.Reading.{item_within}
 use Rattle.passkey_cbor.specs.declared.head.Head.{Head}
 use Rattle.passkey_cbor.proofs.HeadAgain.{head_again}
 use Rattle.passkey_cbor.proofs.Items.{follows_item}
-use Rattle.passkey_cbor.proofs.Lists.{head_long, spelled_long}
-use Rattle.passkey_cbor.proofs.Standing.{lies_size}
+use Rattle.passkey_cbor.proofs.Lists.{head_long, encoded_long}
+use Rattle.passkey_cbor.proofs.EncodedFrom.{lies_size}
 use Rattle.passkey_kinds.specs.Reader.{Onward, Further, Spends}
 
--- ---- going on
+-- ---- moving on
 
 pub onward_of : (a b : Walk) → Went a b → Onward a b
-onward_of a b w = record { same = w.same; within = λ h. w.within; forward = w.forward; heads = w.heads; nodes = w.nodes }
+onward_of a b w =
+    record { same = w.same; within = λ h. w.within; forward = w.forward; heads = w.heads; nodes = w.nodes }
 
 pub onward_then : (a b c : Walk) → Onward a b → Onward b c → Onward a c
 onward_then a b c p q = record {
@@ -34,18 +35,20 @@ onward_then a b c p q = record {
   nodes = omega (arith, p.nodes, q.nodes);
 }
 
--- on, and back to where it began
+-- moving on, and then back to the first place
 pub onward_back : (a b c : Walk) → Onward a b → c ≡ record b { place = a.place } → Onward a c
 onward_back a b c p e = record {
   same = ap (λ (w : Walk). w.bytes) e ∙ p.same;
-  within = λ h. omega (arith, h, ap length p.same, ap (λ (w : Walk). length w.bytes) e, ap (λ (w : Walk). w.place) e);
+  within =
+      λ h. omega (arith, h, ap length p.same, ap (λ (w : Walk). length w.bytes) e, ap (λ (w : Walk). w.place) e);
   forward = omega (arith, ap (λ (w : Walk). w.place) e);
   heads = omega (arith, p.heads, ap (λ (w : Walk). w.heads) e);
   nodes = omega (arith, p.nodes, ap (λ (w : Walk). w.nodes) e);
 }
 
 -- only heads were counted
-pub onward_looks : (a b c : Walk) → Onward a b → c.bytes ≡ b.bytes → c.place ≡ b.place → c.nodes ≡ b.nodes → b.heads ≤ c.heads → Onward a c
+pub onward_looks : (a b c : Walk) → Onward a b → c.bytes ≡ b.bytes → c.place ≡ b.place → c.nodes ≡ b.nodes
+    → b.heads ≤ c.heads → Onward a c
 onward_looks a b c p bytes place nodes heads = record {
   same = bytes ∙ p.same;
   within = λ h. omega (arith, p.within h, place, ap length bytes);
@@ -56,30 +59,39 @@ onward_looks a b c p bytes place nodes heads = record {
 
 -- ---- further on
 
-pub stands_long : (x : Item) (bytes : List ℕ) (from to : ℕ) → Stands x bytes from to → from < to
+pub stands_long : (x : Item) (bytes : List ℕ) (from to : ℕ) → IsEncodedAt x bytes from to → from < to
 stands_long x bytes from to l =
-    omega (arith, lies_size (Within max_depth x) bytes from to l, spelled_long (Within max_depth) (item_within max_depth) (follows_item max_depth) x l.text l.spelled)
+    omega (
+      arith,
+      lies_size (Within max_depth x) bytes from to l,
+      encoded_long (Within max_depth) (item_within max_depth) (follows_item max_depth) x l.text l.encoded,
+    )
 
-head_spelled_long : (h : Head) (t : List ℕ) → SpellsHead h t → 0 < length t
-head_spelled_long h t s = omega (arith, head_long (t ++ []) h [] (head_again h t [] s), length-append t [])
+head_encoded_long : (h : Head) (t : List ℕ) → IsEncodingOfHead h t → 0 < length t
+head_encoded_long h t s = omega (arith, head_long (t ++ []) h [] (head_again h t [] s), length-append t [])
 
-pub front_long : (x : Item) (bytes : List ℕ) (len : ℕ) → IsFront bytes x len → 0 < len
+pub front_long : (x : Item) (bytes : List ℕ) (len : ℕ) → IsLeadingItem bytes x len → 0 < len
 front_long x bytes len f =
-    omega (arith, spelled_long (Within max_depth) (item_within max_depth) (follows_item max_depth) x (take len bytes) (f.shallow, f.spelled), length-take len bytes)
+    omega (
+      arith,
+      encoded_long (Within max_depth) (item_within max_depth) (follows_item max_depth) x
+          (take len bytes) (f.shallow, f.encoded),
+      length-take len bytes,
+    )
 
 pub head_further : (a b : Walk) (h : Head) → FindsHead a b (Some h) → Further a b
-head_further a b h p = omega (arith, p.place, head_spelled_long h p.text p.spelled)
+head_further a b h p = omega (arith, p.place, head_encoded_long h p.text p.encoded)
 
 pub string_further : (is_text : _) (a b : Walk) (r : Region) → PassesString is_text a b r → Further a b
 string_further is_text a b r p = omega (arith, p.place, front_long _ (ahead a) p.len p.front)
 
-pub skip_further : (a b : Walk) → PassesFront a b → Further a b
+pub skip_further : (a b : Walk) → PassesLeadingItem a b → Further a b
 skip_further a b p = omega (arith, p.place, front_long p.item (ahead a) p.len p.front)
 
-pub value_further : (a b : Walk) (x : Item) → MakesFront a b x → Further a b
+pub value_further : (a b : Walk) (x : Item) → MakesLeadingItem a b x → Further a b
 value_further a b x p = omega (arith, p.place, front_long x (ahead a) p.len p.front)
 
--- what holds anyhow holds if something was found
+-- what holds anyway also holds if something was found
 pub if_some : {X : Type 0} {P : Type 0} (o : Option X) → P → IfSome o (λ x. P)
 if_some None h = tt
 if_some (Some x) h = h
@@ -87,37 +99,48 @@ if_some (Some x) h = h
 -- ---- spending
 
 -- a decoded head
-pub head_spends : (a b : Walk) (found : Option Head) (x : Item) (to : ℕ) → FindsHead a b found → Opens x to b found → Stands x a.bytes a.place to → Spends 1 0 to a b
+pub head_spends : (a b : Walk) (found : Option Head) (x : Item) (to : ℕ) → FindsHead a b found → Opens x to b found
+    → IsEncodedAt x a.bytes a.place to → Spends 1 0 to a b
 head_spends a b None x to p o l = absurd o
-head_spends a b (Some h) x to p o l = record { within = o.forward; heads = omega (arith, p.heads, stands_long x a.bytes a.place to l); nodes = omega (arith, p.nodes) }
+head_spends a b (Some h) x to p o l = record {
+  within = o.forward;
+  heads = omega (arith, p.heads, stands_long x a.bytes a.place to l);
+  nodes = omega (arith, p.nodes);
+}
 
-dearer : (c e kept more to : ℕ) (a b : Walk) → a.place ≤ to → Spends c kept to a b → Spends (c + e) (kept + more) to a b
+dearer : (c e kept more to : ℕ) (a b : Walk) → a.place ≤ to → Spends c kept to a b
+    → Spends (c + e) (kept + more) to a b
 dearer c e kept more to a b le p = record {
   within = p.within;
   heads = omega (arith, p.heads, mul-le-mul_left {m = a.place} {n = to} e le);
   nodes = omega (arith, p.nodes);
 }
 
--- what costs this much costs no more than that
-pub eased : (c d kept more to : ℕ) (a b : Walk) → c ≤ d → kept ≤ more → a.place ≤ to → Spends c kept to a b → Spends d more to a b
+-- a lower cost is within a higher one
+pub eased : (c d kept more to : ℕ) (a b : Walk) → c ≤ d → kept ≤ more → a.place ≤ to → Spends c kept to a b
+    → Spends d more to a b
 eased c d kept more to a b le few within p =
     subst (λ (n : ℕ). Spends n more to a b) (omega (arith, le))
-    (subst (λ (k : ℕ). Spends (c + (d - c)) k to a b) (omega (arith, few)) (dearer c (d - c) kept (more - kept) to a b within p))
+    (subst (λ (k : ℕ). Spends (c + (d - c)) k to a b) (omega (arith, few))
+    (dearer c (d - c) kept (more - kept) to a b within p))
 
--- one after the other
-pub spends_then : (c kept more middle to : ℕ) (a b d : Walk) → middle ≤ to → b.place ≡ middle → Spends c kept middle a b → Spends c more to b d → Spends c (kept + more) to a d
+-- one item after the other
+pub spends_then : (c kept more middle to : ℕ) (a b d : Walk) → middle ≤ to → b.place ≡ middle
+    → Spends c kept middle a b → Spends c more to b d → Spends c (kept + more) to a d
 spends_then c kept more middle to a b d le ends p q = record {
   within = q.within;
   heads = omega (arith, p.heads, q.heads, ap (λ (n : ℕ). c * n) ends);
   nodes = omega (arith, p.nodes, q.nodes);
 }
 
--- what stands there, seen from where the cursor went back to
-pub stands_back : (i : Item) (a b : Walk) (to : ℕ) → b.bytes ≡ a.bytes → b.place ≡ a.place → Stands i a.bytes a.place to → Stands i b.bytes b.place to
+-- the item is still encoded at the place that the cursor went back to
+pub stands_back : (i : Item) (a b : Walk) (to : ℕ) → b.bytes ≡ a.bytes → b.place ≡ a.place
+    → IsEncodedAt i a.bytes a.place to → IsEncodedAt i b.bytes b.place to
 stands_back i a b to bytes place l = rw (bytes, place) l
 
 -- decoded twice from the same place
-pub spends_again : (c e kept more to : ℕ) (a b d f : Walk) → Onward a b → d ≡ record b { place = a.place } → Spends c kept to a b → Spends e more to d f → Spends (c + e) (kept + more) to a f
+pub spends_again : (c e kept more to : ℕ) (a b d f : Walk) → Onward a b → d ≡ record b { place = a.place }
+    → Spends c kept to a b → Spends e more to d f → Spends (c + e) (kept + more) to a f
 spends_again c e kept more to a b d f p back q r = record {
   within = r.within;
   heads = omega (arith, q.heads, r.heads, ap (λ (w : Walk). w.heads) back, ap (λ (w : Walk). e * w.place) back);

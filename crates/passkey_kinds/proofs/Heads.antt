@@ -1,4 +1,4 @@
--- Heads, and what they say of their data items.
+-- Heads, and what they say about their data items.
 use Rattle.std.specs.Option.{option_and_then}
 use Rattle.std.proofs.Common.{◌≡◌, ◌∙◌, ℕ, ℤ, pos, negsuc, ◌⊎◌, inl, inr, ◌≤◌, ◌<◌, ◌==◌, nat_lt, arith, Bool, true, false, if◌then◌else◌, List, [], length, Option, Some, None, refl, sym, ap, subst}
 use Rattle.std.proofs.lemmas.Bool.{cases_eq, cases_lt, le-ltb, ne_eqb}
@@ -7,12 +7,12 @@ use Rattle.passkey_cbor.specs.Item.{Item, items_of, pairs_of}
 use Rattle.passkey_cbor.specs.Found.{FindsHead}
 use Rattle.passkey_cbor.specs.Inside.{Inside}
 use Rattle.passkey_cbor.specs.Reading.{simple_item}
-use Rattle.passkey_cbor.specs.Stands.{Stands, Opens}
+use Rattle.passkey_cbor.specs.EncodedAt.{IsEncodedAt, Opens}
 use Rattle.passkey_cbor.specs.Walk.{Walk}
 use Rattle.passkey_cbor.specs.declared.head.Head.{Head}
 use Rattle.passkey_cbor.specs.declared.head.Head.TheVariants as head
 use Rattle.passkey_cbor.proofs.Items.{low_simple}
-use Rattle.passkey_cbor.proofs.Standing.{lies_size}
+use Rattle.passkey_cbor.proofs.EncodedFrom.{lies_size}
 use Rattle.passkey_kinds.specs.HeadValues.{unsigned_in, integer_in, null_in, head_unsigned, head_integer, head_truth, head_null, head_array, head_map, ReadsFlat, OpensArray, OpensMap}
 use Rattle.passkey_kinds.specs.Kind.{truth}
 use Rattle.passkey_webauthn.specs.NumberText.{signed_64}
@@ -20,12 +20,14 @@ use Rattle.passkey_kinds.proofs.Going.{head_spends}
 
 -- ---- the item of a simple value
 
-either_way : {X : Type 0} (f : Item → X) (r : X) (b : Bool) (x y : Item) → f x ≡ r → f y ≡ r → f (if b then x else y) ≡ r
+either_way : {X : Type 0} (f : Item → X) (r : X) (b : Bool) (x y : Item) → f x ≡ r → f y ≡ r
+    → f (if b then x else y) ≡ r
 either_way f r true x y p q = p
 either_way f r false x y p q = q
 
--- what is the same of all simple values is so of this one
-simple_any : {X : Type 0} (f : Item → X) (r : X) → ((b : Bool) → f (item.boolean b) ≡ r) → f item.null ≡ r → ((n : ℕ) → f (item.simple n) ≡ r) → (n : ℕ) → f (simple_item n) ≡ r
+-- what holds of all simple values holds of this one
+simple_any : {X : Type 0} (f : Item → X) (r : X) → ((b : Bool) → f (item.boolean b) ≡ r) → f item.null ≡ r
+    → ((n : ℕ) → f (item.simple n) ≡ r) → (n : ℕ) → f (simple_item n) ≡ r
 simple_any f r truths nulls others n =
     either_way f r (nat_lt n 20) _ _ (others n)
     (either_way f r (n == 20) _ _ (truths false)
@@ -72,7 +74,7 @@ simple_null n = by_22 (cases_eq n 22) where
   by_22 (inl e) = subst (λ (k : ℕ). head_null (head.Simple k) ≡ null_in (simple_item k)) (sym e) refl
   by_22 (inr less) = by_23 less (cases_eq n 23)
 
--- ---- what a head says is so of its item
+-- ---- what a head says holds of its item
 
 module _ {X : Type 0} (f : Item → X) (g : Head → X) where
   head_says :
@@ -97,7 +99,7 @@ module _ {X : Type 0} (f : Item → X) (g : Head → X) where
   head_says u v b s a m l k x (head.Float y) i t w = x y ∙ sym (ap f w.0)
   head_says u v b s a m l k x head.Break i t w = absurd w
 
--- A function of heads that gives nothing of those of strings, arrays, maps and tags.
+-- A function of heads that is `None` for the heads of strings, arrays, maps and tags.
 pub record IsFlat {X : Type 0} (g : Head → Option X) : Type 0 where
   pub bytes : (len : Option ℕ) → g (head.Bytes len) ≡ None
   pub text : (len : Option ℕ) → g (head.Text len) ≡ None
@@ -109,8 +111,9 @@ none_some : {X : Type 0} (o : Option X) (x : X) → o ≡ None → o ≡ Some x 
 none_some None x a b = absurd cc
 none_some (Some y) x a b = absurd cc
 
--- where it gives something, nothing of the item is left behind the head
-nothing_left : {X : Type 0} (g : Head → Option X) → IsFlat g → (h : Head) (i : Item) (t : List ℕ) (x : X) → g h ≡ Some x → Inside h i t → t ≡ []
+-- if it isn't `None`, the head is the whole item
+nothing_left : {X : Type 0} (g : Head → Option X) → IsFlat g → (h : Head) (i : Item) (t : List ℕ) (x : X)
+    → g h ≡ Some x → Inside h i t → t ≡ []
 nothing_left g flat (head.Unsigned n) i t x e w = w.1
 nothing_left g flat (head.Negative n) i t x e w = w.1
 nothing_left g flat (head.Bytes len) i t x e w = absurd (none_some _ x (flat.bytes len) e)
@@ -122,23 +125,38 @@ nothing_left g flat (head.Simple n) i t x e w = w.1
 nothing_left g flat (head.Float y) i t x e w = w.1
 nothing_left g flat head.Break i t x e w = absurd w
 
--- One head was decoded, and this is what it says of the item.
-reads_flat : {X : Type 0} (f : Item → Option X) (g : Head → Option X) → IsFlat g → ((h : Head) (i : Item) (t : List ℕ) → Inside h i t → g h ≡ f i) → (a b : Walk) (h : Head) (i : Item) (to : ℕ) (found : Option X) → found ≡ g h → FindsHead a b (Some h) → Opens i to b (Some h) → Stands i a.bytes a.place to → ReadsFlat (f i) to a b found
+-- One head was decoded, and this is what it says about the item.
+reads_flat : {X : Type 0} (f : Item → Option X) (g : Head → Option X) → IsFlat g
+    → ((h : Head) (i : Item) (t : List ℕ) → Inside h i t → g h ≡ f i)
+    → (a b : Walk) (h : Head) (i : Item) (to : ℕ) (found : Option X) → found ≡ g h → FindsHead a b (Some h)
+    → Opens i to b (Some h) → IsEncodedAt i a.bytes a.place to → ReadsFlat (f i) to a b found
 reads_flat f g flat says a b h i to found e p o l = record {
-  is = e ∙ says h i o.text o.spelled;
+  is = e ∙ says h i o.text o.encoded;
   spends = head_spends a b (Some h) i to p o l;
-  ends = λ x some. omega (arith, lies_size (Inside h i) b.bytes b.place to o, ap length (nothing_left g flat h i o.text x (sym e ∙ some) o.spelled));
+  ends = λ x some. omega (
+    arith,
+    lies_size (Inside h i) b.bytes b.place to o,
+    ap length (nothing_left g flat h i o.text x (sym e ∙ some) o.encoded),
+  );
 }
 
-pub unsigned_read : (a b : Walk) (h : Head) (i : Item) (to : ℕ) (found : Option ℕ) → found ≡ head_unsigned h → FindsHead a b (Some h) → Opens i to b (Some h) → Stands i a.bytes a.place to → ReadsFlat (unsigned_in i) to a b found
+pub unsigned_read : (a b : Walk) (h : Head) (i : Item) (to : ℕ) (found : Option ℕ) → found ≡ head_unsigned h
+    → FindsHead a b (Some h) → Opens i to b (Some h) → IsEncodedAt i a.bytes a.place to
+    → ReadsFlat (unsigned_in i) to a b found
 unsigned_read =
-    reads_flat unsigned_in head_unsigned (record { bytes = λ n. refl; text = λ n. refl; array = λ n. refl; map = λ n. refl; tag = λ n. refl })
-    (head_says unsigned_in head_unsigned (λ n. refl) (λ n. refl) (λ n s. refl) (λ n s. refl) (λ n s. refl) (λ n s. refl) (λ n s. refl) (λ n. sym (simple_any unsigned_in None (λ b. refl) refl (λ m. refl) n)) (λ x. refl))
+    reads_flat unsigned_in head_unsigned
+    (record { bytes = λ n. refl; text = λ n. refl; array = λ n. refl; map = λ n. refl; tag = λ n. refl })
+    (head_says unsigned_in head_unsigned (λ n. refl) (λ n. refl) (λ n s. refl) (λ n s. refl) (λ n s. refl) (λ n s.
+    refl) (λ n s. refl) (λ n. sym (simple_any unsigned_in None (λ b. refl) refl (λ m. refl) n)) (λ x. refl))
 
-pub truth_read : (a b : Walk) (h : Head) (i : Item) (to : ℕ) (found : Option Bool) → found ≡ head_truth h → FindsHead a b (Some h) → Opens i to b (Some h) → Stands i a.bytes a.place to → ReadsFlat (truth i) to a b found
+pub truth_read : (a b : Walk) (h : Head) (i : Item) (to : ℕ) (found : Option Bool) → found ≡ head_truth h
+    → FindsHead a b (Some h) → Opens i to b (Some h) → IsEncodedAt i a.bytes a.place to
+    → ReadsFlat (truth i) to a b found
 truth_read =
-    reads_flat truth head_truth (record { bytes = λ n. refl; text = λ n. refl; array = λ n. refl; map = λ n. refl; tag = λ n. refl })
-    (head_says truth head_truth (λ n. refl) (λ n. refl) (λ n s. refl) (λ n s. refl) (λ n s. refl) (λ n s. refl) (λ n s. refl) simple_truth (λ x. refl))
+    reads_flat truth head_truth
+    (record { bytes = λ n. refl; text = λ n. refl; array = λ n. refl; map = λ n. refl; tag = λ n. refl })
+    (head_says truth head_truth (λ n. refl) (λ n. refl) (λ n s. refl) (λ n s. refl) (λ n s. refl) (λ n s. refl)
+    (λ n s. refl) simple_truth (λ x. refl))
 
 abbrev signed_in : Item → Option ℤ
 signed_in i = option_and_then signed_64 (integer_in i)
@@ -146,18 +164,26 @@ signed_in i = option_and_then signed_64 (integer_in i)
 abbrev head_signed : Head → Option ℤ
 head_signed h = option_and_then signed_64 (head_integer h)
 
-pub integer_read : (a b : Walk) (h : Head) (i : Item) (to : ℕ) (found : Option ℤ) → found ≡ head_signed h → FindsHead a b (Some h) → Opens i to b (Some h) → Stands i a.bytes a.place to → ReadsFlat (signed_in i) to a b found
+pub integer_read : (a b : Walk) (h : Head) (i : Item) (to : ℕ) (found : Option ℤ) → found ≡ head_signed h
+    → FindsHead a b (Some h) → Opens i to b (Some h) → IsEncodedAt i a.bytes a.place to
+    → ReadsFlat (signed_in i) to a b found
 integer_read =
-    reads_flat signed_in head_signed (record { bytes = λ n. refl; text = λ n. refl; array = λ n. refl; map = λ n. refl; tag = λ n. refl })
-    (head_says signed_in head_signed (λ n. refl) (λ n. refl) (λ n s. refl) (λ n s. refl) (λ n s. refl) (λ n s. refl) (λ n s. refl) (λ n. sym (simple_any signed_in None (λ b. refl) refl (λ m. refl) n)) (λ x. refl))
+    reads_flat signed_in head_signed
+    (record { bytes = λ n. refl; text = λ n. refl; array = λ n. refl; map = λ n. refl; tag = λ n. refl })
+    (head_says signed_in head_signed (λ n. refl) (λ n. refl) (λ n s. refl) (λ n s. refl) (λ n s. refl) (λ n s. refl)
+    (λ n s. refl) (λ n. sym (simple_any signed_in None (λ b. refl) refl (λ m. refl) n)) (λ x. refl))
 
 abbrev some_null : Bool → Option Bool
 some_null b = if b then Some true else None
 
-pub null_read : (a b : Walk) (h : Head) (i : Item) (to : ℕ) (found : Bool) → found ≡ head_null h → FindsHead a b (Some h) → Opens i to b (Some h) → Stands i a.bytes a.place to → ReadsFlat (some_null (null_in i)) to a b (some_null found)
+pub null_read : (a b : Walk) (h : Head) (i : Item) (to : ℕ) (found : Bool) → found ≡ head_null h
+    → FindsHead a b (Some h) → Opens i to b (Some h) → IsEncodedAt i a.bytes a.place to
+    → ReadsFlat (some_null (null_in i)) to a b (some_null found)
 null_read a b h i to found e =
-    reads_flat (λ i. some_null (null_in i)) (λ h. some_null (head_null h)) (record { bytes = λ n. refl; text = λ n. refl; array = λ n. refl; map = λ n. refl; tag = λ n. refl })
-    (λ h i t w. ap some_null (head_says null_in head_null (λ n. refl) (λ n. refl) (λ n s. refl) (λ n s. refl) (λ n s. refl) (λ n s. refl) (λ n s. refl) simple_null (λ x. refl) h i t w))
+    reads_flat (λ i. some_null (null_in i)) (λ h. some_null (head_null h))
+    (record { bytes = λ n. refl; text = λ n. refl; array = λ n. refl; map = λ n. refl; tag = λ n. refl })
+    (λ h i t w. ap some_null (head_says null_in head_null (λ n. refl) (λ n. refl) (λ n s. refl) (λ n s. refl)
+    (λ n s. refl) (λ n s. refl) (λ n s. refl) simple_null (λ x. refl) h i t w))
     a b h i to (some_null found) (ap some_null e)
 
 -- ---- heads of arrays and maps
@@ -181,36 +207,55 @@ is_map_head _ = false
 true_false : (b : Bool) → b ≡ true → b ≡ false → ⊥
 true_false b p q = absurd cc
 
-no_array : (h : Head) (i : Item) (t : List ℕ) → Inside h i t → is_array_head h ≡ false → (xs : item.Items) → i ≡ item.array xs → ⊥
+no_array : (h : Head) (i : Item) (t : List ℕ) → Inside h i t → is_array_head h ≡ false → (xs : item.Items)
+    → i ≡ item.array xs → ⊥
 no_array h i t w other xs e =
     true_false (array_in i) (ap array_in e)
-    (sym (head_says array_in is_array_head (λ n. refl) (λ n. refl) (λ n s. refl) (λ n s. refl) (λ n s. refl) (λ n s. refl) (λ n s. refl) (λ n. sym (simple_any array_in false (λ b. refl) refl (λ m. refl) n)) (λ x. refl) h i t w) ∙ other)
+    (sym (head_says array_in is_array_head (λ n. refl) (λ n. refl) (λ n s. refl) (λ n s. refl) (λ n s. refl)
+    (λ n s. refl) (λ n s. refl) (λ n. sym (simple_any array_in false (λ b. refl) refl (λ m. refl) n))
+    (λ x. refl) h i t w) ∙ other)
 
-no_map : (h : Head) (i : Item) (t : List ℕ) → Inside h i t → is_map_head h ≡ false → (ps : item.Pairs) → i ≡ item.map ps → ⊥
+no_map : (h : Head) (i : Item) (t : List ℕ) → Inside h i t → is_map_head h ≡ false → (ps : item.Pairs)
+    → i ≡ item.map ps → ⊥
 no_map h i t w other ps e =
     true_false (map_in i) (ap map_in e)
-    (sym (head_says map_in is_map_head (λ n. refl) (λ n. refl) (λ n s. refl) (λ n s. refl) (λ n s. refl) (λ n s. refl) (λ n s. refl) (λ n. sym (simple_any map_in false (λ b. refl) refl (λ m. refl) n)) (λ x. refl) h i t w) ∙ other)
+    (sym (head_says map_in is_map_head (λ n. refl) (λ n. refl) (λ n s. refl) (λ n s. refl) (λ n s. refl) (λ n s.
+    refl) (λ n s. refl) (λ n. sym (simple_any map_in false (λ b. refl) refl (λ m. refl) n)) (λ x. refl) h i t w)
+    ∙ other)
 
-pub array_opened : (h : Head) (i : Item) (to : ℕ) (b : Walk) → Opens i to b (Some h) → OpensArray i to b (head_array h)
-array_opened (head.Array left) i to b o = (o.spelled.0, (o.spelled.1.0, record { text = o.text; spelled = o.spelled.1.1; parts = o.parts; forward = o.forward; within = o.within }))
-array_opened (head.Unsigned n) i to b o = no_array (head.Unsigned n) i o.text o.spelled refl
-array_opened (head.Negative n) i to b o = no_array (head.Negative n) i o.text o.spelled refl
-array_opened (head.Bytes len) i to b o = no_array (head.Bytes len) i o.text o.spelled refl
-array_opened (head.Text len) i to b o = no_array (head.Text len) i o.text o.spelled refl
-array_opened (head.Map len) i to b o = no_array (head.Map len) i o.text o.spelled refl
-array_opened (head.Tag n) i to b o = no_array (head.Tag n) i o.text o.spelled refl
-array_opened (head.Simple n) i to b o = no_array (head.Simple n) i o.text o.spelled refl
-array_opened (head.Float x) i to b o = no_array (head.Float x) i o.text o.spelled refl
-array_opened head.Break i to b o = no_array head.Break i o.text o.spelled refl
+pub array_opened : (h : Head) (i : Item) (to : ℕ) (b : Walk) → Opens i to b (Some h)
+    → OpensArray i to b (head_array h)
+array_opened (head.Array left) i to b o = (
+  o.encoded.0,
+  (
+    o.encoded.1.0,
+    record { text = o.text; encoded = o.encoded.1.1; parts = o.parts; forward = o.forward; within = o.within },
+  ),
+)
+array_opened (head.Unsigned n) i to b o = no_array (head.Unsigned n) i o.text o.encoded refl
+array_opened (head.Negative n) i to b o = no_array (head.Negative n) i o.text o.encoded refl
+array_opened (head.Bytes len) i to b o = no_array (head.Bytes len) i o.text o.encoded refl
+array_opened (head.Text len) i to b o = no_array (head.Text len) i o.text o.encoded refl
+array_opened (head.Map len) i to b o = no_array (head.Map len) i o.text o.encoded refl
+array_opened (head.Tag n) i to b o = no_array (head.Tag n) i o.text o.encoded refl
+array_opened (head.Simple n) i to b o = no_array (head.Simple n) i o.text o.encoded refl
+array_opened (head.Float x) i to b o = no_array (head.Float x) i o.text o.encoded refl
+array_opened head.Break i to b o = no_array head.Break i o.text o.encoded refl
 
 pub map_opened : (h : Head) (i : Item) (to : ℕ) (b : Walk) → Opens i to b (Some h) → OpensMap i to b (head_map h)
-map_opened (head.Map left) i to b o = (o.spelled.0, (o.spelled.1.0, record { text = o.text; spelled = o.spelled.1.1; parts = o.parts; forward = o.forward; within = o.within }))
-map_opened (head.Unsigned n) i to b o = no_map (head.Unsigned n) i o.text o.spelled refl
-map_opened (head.Negative n) i to b o = no_map (head.Negative n) i o.text o.spelled refl
-map_opened (head.Bytes len) i to b o = no_map (head.Bytes len) i o.text o.spelled refl
-map_opened (head.Text len) i to b o = no_map (head.Text len) i o.text o.spelled refl
-map_opened (head.Array len) i to b o = no_map (head.Array len) i o.text o.spelled refl
-map_opened (head.Tag n) i to b o = no_map (head.Tag n) i o.text o.spelled refl
-map_opened (head.Simple n) i to b o = no_map (head.Simple n) i o.text o.spelled refl
-map_opened (head.Float x) i to b o = no_map (head.Float x) i o.text o.spelled refl
-map_opened head.Break i to b o = no_map head.Break i o.text o.spelled refl
+map_opened (head.Map left) i to b o = (
+  o.encoded.0,
+  (
+    o.encoded.1.0,
+    record { text = o.text; encoded = o.encoded.1.1; parts = o.parts; forward = o.forward; within = o.within },
+  ),
+)
+map_opened (head.Unsigned n) i to b o = no_map (head.Unsigned n) i o.text o.encoded refl
+map_opened (head.Negative n) i to b o = no_map (head.Negative n) i o.text o.encoded refl
+map_opened (head.Bytes len) i to b o = no_map (head.Bytes len) i o.text o.encoded refl
+map_opened (head.Text len) i to b o = no_map (head.Text len) i o.text o.encoded refl
+map_opened (head.Array len) i to b o = no_map (head.Array len) i o.text o.encoded refl
+map_opened (head.Tag n) i to b o = no_map (head.Tag n) i o.text o.encoded refl
+map_opened (head.Simple n) i to b o = no_map (head.Simple n) i o.text o.encoded refl
+map_opened (head.Float x) i to b o = no_map (head.Float x) i o.text o.encoded refl
+map_opened head.Break i to b o = no_map head.Break i o.text o.encoded refl

@@ -1,4 +1,5 @@
--- What holds of a record before a member is decoded, and of it with each value put, holds of what is decoded.
+-- What holds of the blank record, and still holds after each value is put into it, holds of the
+-- decoded record.
 use Rattle.std.proofs.Common.{◌≡◌, ℕ, ◌<◌, ◌==◌, arith, Bool, true, false, if◌then◌else◌, List, [], ◌∷◌, Option, Some, None, Ok, refl, ap, subst}
 use Rattle.passkey_cbor.specs.Depth.{depth, pairs_depth}
 use Rattle.passkey_cbor.specs.Item as item
@@ -8,10 +9,11 @@ use Rattle.passkey_kinds.specs.Table.{Naming, row, unknown, wrong, named, Member
 use Rattle.passkey_kinds.specs.declared.fault.Fault.{Fault}
 use Rattle.passkey_kinds.proofs.NotNull.{ok_of}
 
--- each member keeps it, at items of fewer levels than n
+-- each member preserves it, for items of fewer levels than n
 abbrev pub Keeps : {P : Type 0} → ℕ → (P → Type 0) → List (Member P) → Type 0
 Keeps n Inv [] = Unit {0}
-Keeps {P} n Inv (m ∷ ms) = ((i : Item) (v : m.Of) (r : P) → depth i < n → m.kind.of i ≡ Some v → Inv r → Inv (m.set v r)) × Keeps n Inv ms
+Keeps {P} n Inv (m ∷ ms) =
+    ((i : Item) (v : m.Of) (r : P) → depth i < n → m.kind.of i ≡ Some v → Inv r → Inv (m.set v r)) × Keeps n Inv ms
 
 pub record KeepsAll {P : Type 0} (n : ℕ) (Inv : P → Type 0) (ms : List (Member P)) : Type 0 where
   pub all : Keeps n Inv ms
@@ -20,32 +22,40 @@ pub no_more : {P : Type 0} {n : ℕ} {Inv : P → Type 0} → KeepsAll n Inv []
 no_more = record { all = tt }
 
 infixr 5 ◌▹◌
-pub ◌▹◌ : {P : Type 0} {n : ℕ} {Inv : P → Type 0} {m : Member P} {ms : List (Member P)} → ((i : Item) (v : m.Of) (r : P) → depth i < n → m.kind.of i ≡ Some v → Inv r → Inv (m.set v r)) → KeepsAll n Inv ms → KeepsAll n Inv (m ∷ ms)
+pub ◌▹◌ : {P : Type 0} {n : ℕ} {Inv : P → Type 0} {m : Member P} {ms : List (Member P)}
+    → ((i : Item) (v : m.Of) (r : P) → depth i < n → m.kind.of i ≡ Some v → Inv r → Inv (m.set v r))
+    → KeepsAll n Inv ms → KeepsAll n Inv (m ∷ ms)
 here ▹ rest = record { all = (here, rest.all) }
 
-if_some : {M P : Type 0} (Inv : P → Type 0) (set : M → P → P) (o : Option M) (r : P) → ((v : M) → o ≡ Some v → Inv (set v r)) → Inv r → Inv (set_with set o r)
+if_some : {M P : Type 0} (Inv : P → Type 0) (set : M → P → P) (o : Option M) (r : P)
+    → ((v : M) → o ≡ Some v → Inv (set v r)) → Inv r → Inv (set_with set o r)
 if_some Inv set None r here h = h
 if_some Inv set (Some v) r here h = here v refl
 
 module _ {P : Type 0} (n : ℕ) (Inv : P → Type 0) where
-  put_keeps : (fs : List (Member P)) (k : ℕ) (i : Item) (r : P) → Keeps n Inv fs → depth i < n → Inv r → Inv (put_at fs k i r)
+  put_keeps : (fs : List (Member P)) (k : ℕ) (i : Item) (r : P) → Keeps n Inv fs → depth i < n → Inv r
+      → Inv (put_at fs k i r)
   put_keeps [] k i r all less h = h
   put_keeps (f ∷ fs) k i r all less h =
-      (elim (f.entry.number == k) as (λ (b : Bool). Inv (if b then set_with f.set (f.kind.of i) r else put_at fs k i r)) [
+      (elim (f.entry.number == k)
+      as (λ (b : Bool). Inv (if b then set_with f.set (f.kind.of i) r else put_at fs k i r)) [
         | true ↦ if_some Inv f.set (f.kind.of i) r (λ v e. all.0 i v r less e h) h
         | false ↦ put_keeps fs k i r all.1 less h
       ])
 
-  named_keeps : (fs : List (Member P)) (naming : Naming) (i : Item) (r : P) → Keeps n Inv fs → depth i < n → Inv r → Inv (put_named fs naming i r)
+  named_keeps : (fs : List (Member P)) (naming : Naming) (i : Item) (r : P) → Keeps n Inv fs → depth i < n → Inv r
+      → Inv (put_named fs naming i r)
   named_keeps fs (row k) i r all less h = put_keeps fs k i r all less h
   named_keeps fs unknown i r all less h = h
   named_keeps fs wrong i r all less h = h
 
-  members_keep : (t : Fields P) (ps : Pairs) (r : P) → Keeps n Inv t.rows → pairs_depth ps < n → Inv r → Inv (with_members t (members ps) r)
+  members_keep : (t : Fields P) (ps : Pairs) (r : P) → Keeps n Inv t.rows → pairs_depth ps < n → Inv r
+      → Inv (with_members t (members ps) r)
   members_keep t no_pairs r all less h = h
-  members_keep t (pair k v ps) r all less h = members_keep t ps (put_named t.rows (named (table_of t) k) v r) all (omega (arith, less)) (named_keeps t.rows (named (table_of t) k) v r all (omega (arith, less)) h)
+  members_keep t (pair k v ps) r all less h = members_keep t ps (put_named t.rows (named (table_of t) k) v r) all
+      (omega (arith, less)) (named_keeps t.rows (named (table_of t) k) v r all (omega (arith, less)) h)
 
--- ---- what is decoded was put together from the members
+-- ---- a decoded record was put together from its members
 
 pub record IsMade {P : Type 0} (t : Fields P) (i : Item) (p : P) : Type 0 where
   pub pairs : Pairs
@@ -56,12 +66,17 @@ made_unless : {P : Type 0} (missing : Option ℕ) (r p : P) → unless_missing m
 made_unless (Some n) r p e = absurd cc
 made_unless None r p e = cc
 
-judged_made : {P : Type 0} (t : Fields P) (ms : Members) (bad : Option Fault) (p : P) → judged t ms bad ≡ Ok p → with_members t ms t.blank ≡ p
+judged_made : {P : Type 0} (t : Fields P) (ms : Members) (bad : Option Fault) (p : P) → judged t ms bad ≡ Ok p
+    → with_members t ms t.blank ≡ p
 judged_made t ms (Some f) p e = absurd cc
 judged_made t ms None p e = made_unless (first_missing (table_of t) ms) (with_members t ms t.blank) p e
 
 pub made_from : {P : Type 0} (t : Fields P) (i : Item) (p : P) → read_item t i ≡ Ok p → IsMade t i p
-made_from t (item.map ps) p e = record { pairs = ps; is_map = refl; made = judged_made t (members ps) (first_bad (table_of t) _ (members ps)) p e }
+made_from t (item.map ps) p e = record {
+  pairs = ps;
+  is_map = refl;
+  made = judged_made t (members ps) (first_bad (table_of t) _ (members ps)) p e;
+}
 made_from t (item.number z) p e = absurd cc
 made_from t (item.byte_string s) p e = absurd cc
 made_from t (item.text_string s) p e = absurd cc
@@ -72,13 +87,16 @@ made_from t item.null p e = absurd cc
 made_from t (item.simple n) p e = absurd cc
 made_from t (item.float f) p e = absurd cc
 
--- what each row keeps holds of a record that is decoded
-pub record_keeps : {P : Type 0} (t : Fields P) (Inv : P → Type 0) (i : Item) (p : P) → read_item t i ≡ Ok p → (0 < depth i → Inv t.blank) → KeepsAll (depth i) Inv t.rows → Inv p
+-- what each row preserves holds of a decoded record
+pub record_keeps : {P : Type 0} (t : Fields P) (Inv : P → Type 0) (i : Item) (p : P) → read_item t i ≡ Ok p
+    → (0 < depth i → Inv t.blank) → KeepsAll (depth i) Inv t.rows → Inv p
 record_keeps t Inv i p e begun all =
     let made = made_from t i p e in
-    let less : pairs_depth made.pairs < depth i = (let whole : depth i ≡ depth (item.map made.pairs) = ap depth made.is_map in omega (arith, whole)) in
+    let less : pairs_depth made.pairs < depth i =
+    (let whole : depth i ≡ depth (item.map made.pairs) = ap depth made.is_map in omega (arith, whole)) in
     subst Inv made.made (members_keep (depth i) Inv t made.pairs t.blank all.all less (begun (omega (arith, less))))
 
--- the same of a record that is held in another one
-pub nested_keeps : {P : Type 0} (t : Fields P) (Inv : P → Type 0) (i : Item) (p : P) → record_kind t i ≡ Some p → (0 < depth i → Inv t.blank) → KeepsAll (depth i) Inv t.rows → Inv p
+-- the same for a record inside another one
+pub nested_keeps : {P : Type 0} (t : Fields P) (Inv : P → Type 0) (i : Item) (p : P) → record_kind t i ≡ Some p
+    → (0 < depth i → Inv t.blank) → KeepsAll (depth i) Inv t.rows → Inv p
 nested_keeps t Inv i p e begun all = record_keeps t Inv i p (ok_of (read_item t i) p e) begun all

@@ -18,15 +18,19 @@ use Rattle.passkey_kinds.specs.Table.{Entry, wrong, row_or_unknown, row_named, n
 one_and : (k : ℕ) → 1 + k ≡ suc k
 one_and k = omega arith
 
-at_first : (s : List ℕ) (es : List Entry) → slice_get es (position_or_len (λ n. bytes_eq n s) (map (λ (e : Entry). e.name) es)) ≡ find (λ (e : Entry). bytes_eq e.name s) es
+at_first : (s : List ℕ) (es : List Entry) → slice_get es (position_or_len (λ n. bytes_eq n s)
+    (map (λ (e : Entry). e.name) es)) ≡ find (λ (e : Entry). bytes_eq e.name s) es
 at_first s [] = refl
 at_first s (e ∷ es) =
-    elim (bytes_eq e.name s) as (λ (b : Bool). slice_get (e ∷ es) (cond (not b) (1 + position_or_len (λ n. bytes_eq n s) (map (λ (e : Entry). e.name) es)) 0) ≡ cond b (Some e) (find (λ (e : Entry). bytes_eq e.name s) es)) [
+    elim (bytes_eq e.name s) as (λ (b : Bool). slice_get (e ∷ es) (cond (not b) (1 + position_or_len (λ n. bytes_eq
+    n s) (map (λ (e : Entry). e.name) es)) 0) ≡ cond b (Some e) (find (λ (e : Entry). bytes_eq e.name s) es)) [
       | true ↦ refl
-      | false ↦ ap (slice_get (e ∷ es)) (one_and (position_or_len (λ n. bytes_eq n s) (map (λ (e : Entry). e.name) es))) ∙ at_first s es
+      | false ↦ ap (slice_get (e ∷ es))
+          (one_and (position_or_len (λ n. bytes_eq n s) (map (λ (e : Entry). e.name) es))) ∙ at_first s es
     ]
 
-row_within : (es : List Entry) (k len : ℕ) → len ≡ length es → row_at es (cond (nat_lt k len) (Some k) None) ≡ row_or_unknown (slice_get es k)
+row_within : (es : List Entry) (k len : ℕ) → len ≡ length es
+    → row_at es (cond (nat_lt k len) (Some k) None) ≡ row_or_unknown (slice_get es k)
 row_within es k len same = by_place (cases_lt k len) where
   by_place : (k < len) ⊎ (len ≤ k) → row_at es (cond (nat_lt k len) (Some k) None) ≡ row_or_unknown (slice_get es k)
   by_place (inl less) = ap (λ (b : Bool). row_at es (cond b (Some k) None)) (lt-ltb k len less)
@@ -34,25 +38,32 @@ row_within es k len same = by_place (cases_lt k len) where
       ap (λ (b : Bool). row_at es (cond b (Some k) None)) (le-ltb k len past)
       ∙ sym (ap row_or_unknown (slice_get_past es k (omega (arith, past, same))))
 
-pub row_of_name : (s : List ℕ) (es : List Entry) → row_at es (position (λ n. bytes_eq n s) (map (λ (e : Entry). e.name) es)) ≡ row_named es s
+pub row_of_name : (s : List ℕ) (es : List Entry)
+    → row_at es (position (λ n. bytes_eq n s) (map (λ (e : Entry). e.name) es)) ≡ row_named es s
 row_of_name s es =
-    row_within es (position_or_len (λ n. bytes_eq n s) (map (λ (e : Entry). e.name) es)) (length (map (λ (e : Entry). e.name) es)) (length-map es (λ (e : Entry). e.name))
+    row_within es (position_or_len (λ n. bytes_eq n s) (map (λ (e : Entry). e.name) es))
+    (length (map (λ (e : Entry). e.name) es)) (length-map es (λ (e : Entry). e.name))
     ∙ ap row_or_unknown (at_first s es)
 
 -- ---- the rows' names, one after the other
 
-pub one_more_name : (rows : List Row) (names : List (Bor (List ℕ))) (i : ℕ) (name : Bor (List ℕ)) (d : Row) → i < length rows → i < length names → name.now ≡ (entry_of (get_or rows i d)).name → map (λ (n : Bor (List ℕ)). n.now) (take i names) ≡ map (λ (e : Entry). e.name) (map entry_of (take i rows)) → map (λ (n : Bor (List ℕ)). n.now) (take (i + 1) (set names i name)) ≡ map (λ (e : Entry). e.name) (map entry_of (take (i + 1) rows))
+pub one_more_name : (rows : List Row) (names : List (Bor (List ℕ))) (i : ℕ) (name : Bor (List ℕ)) (d : Row)
+    → i < length rows → i < length names → name.now ≡ (entry_of (get_or rows i d)).name
+    → map (λ (n : Bor (List ℕ)). n.now) (take i names) ≡ map (λ (e : Entry). e.name) (map entry_of (take i rows))
+    → map (λ (n : Bor (List ℕ)). n.now) (take (i + 1) (set names i name))
+    ≡ map (λ (e : Entry). e.name) (map entry_of (take (i + 1) rows))
 one_more_name rows names i name d less within is before =
     ap (map (λ (n : Bor (List ℕ)). n.now)) (take_more_set names i name within)
     ∙ map_push (λ (n : Bor (List ℕ)). n.now) (take i names) name
     ∙ (λ j. before j ++ is j ∷ [])
     ∙ sym (map_push (λ (e : Entry). e.name) (map entry_of (take i rows)) (entry_of (get_or rows i d)))
     ∙ ap (map (λ (e : Entry). e.name)) (sym (map_push entry_of (take i rows) (get_or rows i d)))
-    ∙ ap (λ (rs : List Row). map (λ (e : Entry). e.name) (map entry_of rs)) (rw add-one (sym (take-suc rows i d less)))
+    ∙ ap (λ (rs : List Row). map (λ (e : Entry). e.name) (map entry_of rs))
+    (rw add-one (sym (take-suc rows i d less)))
 
--- ---- what a map key names that is no string
+-- ---- what a map key names that isn't a string
 
--- a number that fits in a byte
+-- a number, if it is below 256
 abbrev pub fits_byte : Option ℕ → Option ℕ
 fits_byte (Some n) = if nat_lt n 256 then Some n else None
 fits_byte None = None
@@ -61,7 +72,9 @@ pub none_wrong : (is_numbered : Bool) (es : List Entry) → wrong ≡ number_nam
 none_wrong true es = refl
 none_wrong false es = refl
 
-pub names_number : (is_numbered : Bool) (es : List Entry) (i : Item) → ((s : List ℕ) → i ≡ item.text_string s → ⊥) → ((s : List ℕ) → i ≡ item.byte_string s → ⊥) → names is_numbered es i ≡ number_names is_numbered (fits_byte (unsigned_in i)) es
+pub names_number : (is_numbered : Bool) (es : List Entry) (i : Item) → ((s : List ℕ) → i ≡ item.text_string s → ⊥)
+    → ((s : List ℕ) → i ≡ item.byte_string s → ⊥)
+    → names is_numbered es i ≡ number_names is_numbered (fits_byte (unsigned_in i)) es
 names_number b es (item.number (pos n)) t h = refl
 names_number b es (item.number (negsuc n)) t h = refl
 names_number b es (item.byte_string s) t h = absurd (h s refl)

@@ -1,4 +1,4 @@
--- Kinds whose values are read back from what they are written as.
+-- Kinds that decode the encoding of a value to that value.
 use Rattle.std.specs.List.{All, filter_map}
 use Rattle.std.specs.Option.{option_and_then}
 use Rattle.std.specs.Prelude.{ℤ}
@@ -6,7 +6,7 @@ use Rattle.std.proofs.Common.{◌≡◌, ◌∙◌, sym, ◌<◌, ◌^◌, lt-lt
 use Rattle.std.proofs.lemmas.List.Elements.{All-head, All-tail}
 use Rattle.passkey_cbor.specs.Item.{Item, number, byte_string, text_string, array, map as item_map, tagged, boolean, null, simple, float}
 use Rattle.passkey_cbor.specs.View.{item_of}
-use Rattle.passkey_core.specs.DataNormal.{Where}
+use Rattle.passkey_core.specs.DataNormal.{IfPresent}
 use Rattle.passkey_iana.specs.Iana.{algorithm_number, algorithm_named}
 use Rattle.passkey_iana.specs.IanaLaws.{algorithm_named-number}
 use Rattle.passkey_iana.specs.declared.algorithm.Algorithm.{Algorithm}
@@ -51,7 +51,10 @@ pub transport_back : IsReadBack (one_named transport_named) transport_tree Any (
 transport_back = record { back = λ t h. transport_own t }
 
 pub algorithm_back : IsReadBack an_algorithm algorithm_tree Any (λ a. a)
-algorithm_back = record { back = λ a h. ap (λ (o : Option ℤ). option_and_then algorithm_named o) (is_signed a) ∙ (algorithm_named-number (algorithm_number a) a).1 refl } where
+algorithm_back = record {
+  back = λ a h. ap (λ (o : Option ℤ). option_and_then algorithm_named o) (is_signed a)
+      ∙ (algorithm_named-number (algorithm_number a) a).1 refl;
+} where
   is_signed : (a : Algorithm) → signed_64 (algorithm_number a) ≡ Some (algorithm_number a)
   is_signed algorithm.RS1 = refl
   is_signed algorithm.RS512 = refl
@@ -70,14 +73,15 @@ algorithm_back = record { back = λ a h. ap (λ (o : Option ℤ). option_and_the
   is_signed algorithm.EdDSA = refl
   is_signed algorithm.ES256 = refl
 
--- ---- options, lists and what may be refused
+-- ---- options, lists and tolerated values
 
 map-map : {A B C : Type 0} (f : B → C) (g : A → B) (xs : List A) → map f (map g xs) ≡ map (λ x. f (g x)) xs
 map-map f g [] = refl
 map-map f g (x ∷ xs) = ap (λ ys. f (g x) ∷ ys) (map-map f g xs)
 
--- null is not read, so what is read is not null
-optional_some : {M : Type 0} (kind : Kind M) (i : Item) (y : M) → kind null ≡ None → kind i ≡ Some y → optional kind i ≡ Some (Some y)
+-- null isn't accepted, so an accepted item isn't null
+optional_some : {M : Type 0} (kind : Kind M) (i : Item) (y : M) → kind null ≡ None → kind i ≡ Some y
+    → optional kind i ≡ Some (Some y)
 optional_some kind null y none h = absurd cc
 optional_some kind (number z) y none h = ap (option_map Some) h
 optional_some kind (byte_string s) y none h = ap (option_map Some) h
@@ -89,13 +93,15 @@ optional_some kind (boolean b) y none h = ap (option_map Some) h
 optional_some kind (simple n) y none h = ap (option_map Some) h
 optional_some kind (float f) y none h = ap (option_map Some) h
 
--- each of a list, where each alone is read back
-module _ {A X M : Type 0} (kind : X → Option M) (tree : A → X) (Fits : A → Type 0) (normal : A → M) (back : (x : A) → Fits x → kind (tree x) ≡ Some (normal x)) where
+-- a list, if each of its elements can be decoded again
+module _ {A X M : Type 0} (kind : X → Option M) (tree : A → X) (Fits : A → Type 0) (normal : A → M)
+    (back : (x : A) → Fits x → kind (tree x) ≡ Some (normal x)) where
   pub each_back : (xs : List A) → All Fits xs → each kind (map tree xs) ≡ Some (map normal xs)
   each_back [] h = refl
   each_back (x ∷ xs) h = rw (back x (All-head Fits x xs h), each_back xs (All-tail Fits x xs h)) refl
 
-module _ {A M : Type 0} {kind : Kind M} {tree : A → Item} {Fits : A → Type 0} {normal : A → M} (r : IsReadBack kind tree Fits normal) where
+module _ {A M : Type 0} {kind : Kind M} {tree : A → Item} {Fits : A → Type 0} {normal : A → M}
+    (r : IsReadBack kind tree Fits normal) where
   pub optional_back : kind null ≡ None → IsReadBack (optional kind) tree Fits (λ x. Some (normal x))
   optional_back none = record { back = λ x h. optional_some kind (tree x) (normal x) none (r.back x h) }
 
@@ -115,46 +121,56 @@ module _ {A M : Type 0} {kind : Kind M} {tree : A → Item} {Fits : A → Type 0
   pub accepted_back : IsReadBack (accepted kind) (list_tree tree) (All Fits) (map normal)
   accepted_back = record { back = λ xs h. accepted_array kind (map tree xs) ∙ ap Some (filtered_back xs h) }
 
--- the same of a view of the normal form
-pub seen_list_back : {A M : Type 0} {kind : Kind M} {tree : A → Item} {Fits : A → Type 0} {view : A → M} {normal : A → A} → IsReadBack kind tree Fits (λ x. view (normal x)) → IsReadBack (list kind) (list_tree tree) (All Fits) (λ xs. map view (map normal xs))
-seen_list_back {view = view} {normal = normal} r = record { back = λ xs h. (list_back r).back xs h ∙ ap Some (sym (map-map view normal xs)) }
+-- the same for a view of the normal form
+pub seen_list_back : {A M : Type 0} {kind : Kind M} {tree : A → Item} {Fits : A → Type 0} {view : A → M}
+    {normal : A → A} → IsReadBack kind tree Fits (λ x. view (normal x))
+    → IsReadBack (list kind) (list_tree tree) (All Fits) (λ xs. map view (map normal xs))
+seen_list_back {view = view} {normal = normal} r =
+    record { back = λ xs h. (list_back r).back xs h ∙ ap Some (sym (map-map view normal xs)) }
 
 -- null or the value
-pub or_null_back : {A M : Type 0} {kind : Kind M} {tree : A → Item} {Fits : A → Type 0} {normal : A → M} → IsReadBack kind tree Fits normal → kind null ≡ None → IsReadBack (optional kind) (option_tree tree) (Where Fits) (option_map normal)
+pub or_null_back : {A M : Type 0} {kind : Kind M} {tree : A → Item} {Fits : A → Type 0} {normal : A → M}
+    → IsReadBack kind tree Fits normal → kind null ≡ None
+    → IsReadBack (optional kind) (option_tree tree) (IfPresent Fits) (option_map normal)
 or_null_back {A} {M} {kind} {tree} {Fits} {normal} r none = record { back = there } where
-  there : (o : Option A) → Where Fits o → optional kind (option_tree tree o) ≡ Some (option_map normal o)
+  there : (o : Option A) → IfPresent Fits o → optional kind (option_tree tree o) ≡ Some (option_map normal o)
   there None h = refl
   there (Some x) h = optional_some kind (tree x) (normal x) none (r.back x h)
 
--- null or the value, read back as it was
-pub or_null_same : {M : Type 0} {kind : Kind M} {tree : M → Item} {Fits : M → Type 0} → IsReadBack kind tree Fits (λ x. x) → kind null ≡ None → IsReadBack (optional kind) (option_tree tree) (Where Fits) (λ o. o)
+-- null or the value, where the value is its own normal form
+pub or_null_same : {M : Type 0} {kind : Kind M} {tree : M → Item} {Fits : M → Type 0} → IsReadBack kind tree Fits
+    (λ x. x) → kind null ≡ None → IsReadBack (optional kind) (option_tree tree) (IfPresent Fits) (λ o. o)
 or_null_same r none = record { back = λ o h. (or_null_back r none).back o h ∙ ap Some (option_same o) }
 
--- ---- places, where each value is read as itself
+-- ---- places whose values are their own normal forms
 
-pub anything : {A : Type 0} (o : Option A) → Where Any o
+pub anything : {A : Type 0} (o : Option A) → IfPresent Any o
 anything None = tt
 anything (Some x) = tt
 
-pub all_of_anything : {A : Type 0} (o : Option (List A)) → Where (All Any) o
+pub all_of_anything : {A : Type 0} (o : Option (List A)) → IfPresent (All Any) o
 all_of_anything None = tt
 all_of_anything (Some xs) = λ k d less. tt
 
-module _ {M : Type 0} {kind : Kind M} {tree : M → Item} {Fits : M → Type 0} (r : IsReadBack kind tree Fits (λ x. x)) where
-  -- a member that may lack, or be null
-  pub optional_place : kind null ≡ None → (o : Option M) → Where Fits o → Falls (optional kind) None (option_map tree o) o
-  optional_place none o h = falls_as (option_same o) (option_place (optional_back r none) o h)
+module _ {M : Type 0} {kind : Kind M} {tree : M → Item} {Fits : M → Type 0} (r : IsReadBack kind tree Fits (λ x. x))
+  where
+    -- a member that may be absent or null
+    pub optional_place : kind null ≡ None → (o : Option M) → IfPresent Fits o
+        → Falls (optional kind) None (option_map tree o) o
+    optional_place none o h = falls_as (option_same o) (option_place (optional_back r none) o h)
 
-  -- a member that is nothing where it is refused
-  pub tolerated_place : (o : Option M) → Where Fits o → Falls (tolerated kind) None (option_map tree o) o
-  tolerated_place o h = falls_as (option_same o) (option_place (tolerated_back r) o h)
+    -- a member that becomes `None` if its value is refused
+    pub tolerated_place : (o : Option M) → IfPresent Fits o → Falls (tolerated kind) None (option_map tree o) o
+    tolerated_place o h = falls_as (option_same o) (option_place (tolerated_back r) o h)
 
-  pub accepted_same : IsReadBack (accepted kind) (list_tree tree) (All Fits) (λ xs. xs)
-  accepted_same = record { back = λ xs h. (accepted_back r).back xs h ∙ ap Some (map_same xs) }
+    pub accepted_same : IsReadBack (accepted kind) (list_tree tree) (All Fits) (λ xs. xs)
+    accepted_same = record { back = λ xs h. (accepted_back r).back xs h ∙ ap Some (map_same xs) }
 
-  pub accepted_place : (o : Option (List M)) → Where (All Fits) o → Falls (tolerated (accepted kind)) None (option_map (list_tree tree) o) o
-  accepted_place o h = falls_as (option_same o) (option_place (tolerated_back accepted_same) o h)
+    pub accepted_place : (o : Option (List M)) → IfPresent (All Fits) o
+        → Falls (tolerated (accepted kind)) None (option_map (list_tree tree) o) o
+    accepted_place o h = falls_as (option_same o) (option_place (tolerated_back accepted_same) o h)
 
--- a list whose elements are read back as they were
-pub list_same : {M : Type 0} {kind : Kind M} {tree : M → Item} {Fits : M → Type 0} → IsReadBack kind tree Fits (λ x. x) → IsReadBack (list kind) (list_tree tree) (All Fits) (λ xs. xs)
+-- a list whose elements are their own normal forms
+pub list_same : {M : Type 0} {kind : Kind M} {tree : M → Item} {Fits : M → Type 0}
+    → IsReadBack kind tree Fits (λ x. x) → IsReadBack (list kind) (list_tree tree) (All Fits) (λ xs. xs)
 list_same r = record { back = λ xs h. (list_back r).back xs h ∙ ap Some (map_same xs) }

@@ -1,4 +1,4 @@
--- Values of one head or one string, decoded at a cursor.
+-- Values of one head or of one string, decoded at a cursor.
 use Rattle.std.specs.Option.{option_and_then}
 use Rattle.std.proofs.Common.{◌≡◌, ◌∙◌, ℕ, pos, negsuc, nat_lt, true, if◌then◌else◌, List, Option, Some, None, option_map, Result, Ok, Err, OnOk, is_ok, refl, ap, subst}
 use Rattle.passkey_cbor.specs.Item as item
@@ -11,7 +11,7 @@ use Rattle.passkey_kinds.specs.Reader.{Spends, Decodes}
 use Rattle.passkey_kinds.specs.declared.refusal.Refusal.{Refusal}
 use Rattle.passkey_kinds.specs.declared.refusal.Refusal.TheVariants.{Refused, OutOfMemory}
 
--- what holds of success holds where it is known that there was one
+-- what holds after a success holds if it is known that there was one
 pub ok_ends : {A E P : Type 0} (r : Result A E) → OnOk r P → is_ok r ≡ true → P
 ok_ends (Ok x) h e = h
 ok_ends (Err x) h e = absurd cc
@@ -20,15 +20,20 @@ pub on_ok : {T E P : Type 0} (r : Result T E) → P → OnOk r P
 on_ok (Ok x) h = h
 on_ok (Err e) h = tt
 
--- the item was one head that says this
-pub flat_found : {A M X : Type 0} (view : A → M) (wanted : Option M) (takes : Type 0) (said : Option X) (x : X) (to : ℕ) (a b : Walk) (result : Result A Refusal) → ReadsFlat said to a b (Some x) → AnswersAs view wanted takes result → Decodes view wanted takes 1 0 to a b result
-flat_found view wanted takes said x to a b result r h = record { answers = h; spends = r.spends; ends = on_ok result (r.ends x refl) }
+-- the item was one head, which says this
+pub flat_found : {A M X : Type 0} (view : A → M) (wanted : Option M) (takes : Type 0) (said : Option X) (x : X)
+    (to : ℕ) (a b : Walk) (result : Result A Refusal) → ReadsFlat said to a b (Some x)
+    → AnswersAs view wanted takes result → Decodes view wanted takes 1 0 to a b result
+flat_found view wanted takes said x to a b result r h =
+    record { answers = h; spends = r.spends; ends = on_ok result (r.ends x refl) }
 
--- its head says nothing of the kind
-pub flat_missed : {A M X : Type 0} (view : A → M) (wanted : Option M) (takes : Type 0) (said : Option X) (to : ℕ) (a b : Walk) → ReadsFlat said to a b None → wanted ≡ None → Decodes view wanted takes 1 0 to a b (Err Refused)
+-- the item's head doesn't say this
+pub flat_missed : {A M X : Type 0} (view : A → M) (wanted : Option M) (takes : Type 0) (said : Option X) (to : ℕ)
+    (a b : Walk) → ReadsFlat said to a b None → wanted ≡ None → Decodes view wanted takes 1 0 to a b (Err Refused)
 flat_missed view wanted takes said to a b r none = record { answers = none; spends = r.spends; ends = tt }
 
-pub unsigned_below : (limit : ℕ) (i : Item) → below limit i ≡ option_and_then (λ (n : ℕ). if nat_lt n limit then Some n else None) (unsigned_in i)
+pub unsigned_below : (limit : ℕ) (i : Item)
+    → below limit i ≡ option_and_then (λ (n : ℕ). if nat_lt n limit then Some n else None) (unsigned_in i)
 unsigned_below limit (item.number (pos n)) = refl
 unsigned_below limit (item.number (negsuc n)) = refl
 unsigned_below limit (item.byte_string s) = refl
@@ -55,7 +60,8 @@ no_text item.null h = refl
 no_text (item.simple n) h = refl
 no_text (item.float f) h = refl
 
-pub named_text : {T : Type 0} (named : List ℕ → Option T) (i : Item) → one_named named i ≡ option_and_then named (text i)
+pub named_text : {T : Type 0} (named : List ℕ → Option T) (i : Item)
+    → one_named named i ≡ option_and_then named (text i)
 named_text named (item.number n) = refl
 named_text named (item.byte_string s) = refl
 named_text named (item.text_string s) = refl
@@ -79,7 +85,8 @@ null_item item.null e = refl
 null_item (item.simple n) e = absurd cc
 null_item (item.float f) e = absurd cc
 
-pub other_item : {M : Type 0} (kind : Kind M) (i : Item) → None ≡ (if null_in i then Some true else None) → optional kind i ≡ option_map Some (kind i)
+pub other_item : {M : Type 0} (kind : Kind M) (i : Item) → None ≡ (if null_in i then Some true else None)
+    → optional kind i ≡ option_map Some (kind i)
 other_item kind (item.number n) e = refl
 other_item kind (item.byte_string s) e = refl
 other_item kind (item.text_string s) e = refl
@@ -91,15 +98,18 @@ other_item kind item.null e = absurd cc
 other_item kind (item.simple n) e = refl
 other_item kind (item.float f) e = refl
 
--- the refusal of what is in an option is the option's
-pub some_refused : {A M : Type 0} (view : A → M) (wanted : Option M) (given : Option (Option M)) (takes : Type 0) (e : Refusal) → given ≡ option_map Some wanted → AnswersAs view wanted takes (Err e) → AnswersAs (λ (o : Option A). option_map view o) given takes (Err e)
+-- if the item inside an option is refused, so is the option
+pub some_refused : {A M : Type 0} (view : A → M) (wanted : Option M) (given : Option (Option M)) (takes : Type 0)
+    (e : Refusal) → given ≡ option_map Some wanted → AnswersAs view wanted takes (Err e)
+    → AnswersAs (λ (o : Option A). option_map view o) given takes (Err e)
 some_refused view wanted given takes Refused same h = same ∙ ap (option_map Some) h
 some_refused view wanted given takes OutOfMemory same h = h
 
 -- ---- byte strings
 
--- the refusal of a part is the whole's
-pub refused_as : {A B M : Type 0} (view : A → M) (seen : B → M) (wanted given : Option M) (may : Type 0) (e : Refusal) → given ≡ wanted → AnswersAs view wanted ⊥ (Err e) → AnswersAs seen given may (Err e)
+-- if a part is refused, so is the whole
+pub refused_as : {A B M : Type 0} (view : A → M) (seen : B → M) (wanted given : Option M) (may : Type 0)
+    (e : Refusal) → given ≡ wanted → AnswersAs view wanted ⊥ (Err e) → AnswersAs seen given may (Err e)
 refused_as view seen wanted given may Refused same h = same ∙ h
 refused_as view seen wanted given may OutOfMemory same h = absurd h
 
@@ -115,8 +125,10 @@ no_aaguid item.null h = refl
 no_aaguid (item.simple n) h = refl
 no_aaguid (item.float f) h = refl
 
--- an error is the same, whatever contracts see of a value
-pub seen_as : {A B M N : Type 0} (view : A → M) (seen : B → N) (wanted : Option M) (given : Option N) (takes : Type 0) (cost kept more to : ℕ) (a b : Walk) (e : Refusal) → kept ≡ more → (wanted ≡ None → given ≡ None) → Decodes view wanted takes cost kept to a b (Err e) → Decodes seen given takes cost more to a b (Err e)
+-- an error is the same for any view of the value
+pub seen_as : {A B M N : Type 0} (view : A → M) (seen : B → N) (wanted : Option M) (given : Option N) (takes :
+    Type 0) (cost kept more to : ℕ) (a b : Walk) (e : Refusal) → kept ≡ more → (wanted ≡ None → given ≡ None)
+    → Decodes view wanted takes cost kept to a b (Err e) → Decodes seen given takes cost more to a b (Err e)
 seen_as view seen wanted given takes cost kept more to a b e few none r = record {
   answers = error e r.answers;
   spends = subst (λ (k : ℕ). Spends cost k to a b) few r.spends;

@@ -1,67 +1,94 @@
--- Bytes that begin with items which are read alike: reading them differs in the length alone.
+-- Bytes whose leading data items decode alike: the results differ only in the length.
 use Rattle.std.proofs.Common.{◌≡◌, ◌≢◌, ◌∙◌, ℕ, List, Result, Ok, Err, refl, sym, ap, subst}
-use Rattle.passkey_cbor.specs.Front.{IsFront}
+use Rattle.passkey_cbor.specs.LeadingItem.{IsLeadingItem}
 use Rattle.passkey_cbor.specs.Item.{Item}
-use Rattle.passkey_cbor.specs.Laws.{AtMostOneFront}
+use Rattle.passkey_cbor.specs.Laws.{AtMostOneLeadingItem}
 use Rattle.passkey_kinds.specs.Message.{Begins, ReadsMessage}
 use Rattle.passkey_kinds.specs.MessageLaws.{SameButForLength, AnswersCarryOver, AlikeDifferInLength}
 use Rattle.passkey_kinds.specs.RecordLaws.{KnowsItems}
 use Rattle.passkey_kinds.specs.declared.fault.Fault.{Fault}
 use Rattle.passkey_kinds.specs.declared.fault.Fault.TheVariants as fault
 
--- an answer where this is read of the item that begins the bytes, which has this length
+-- the result of decoding the leading data item, with its length
 abbrev Tells : {A M : Type 0} → (A → M) → Result M Fault → ℕ → Result (A × ℕ) Fault → Type 0
 Tells view wanted len (Ok r) = (r.1 ≡ len) × (wanted ≡ Ok (view r.0))
 Tells view wanted len (Err e) = wanted ≡ Err e
 
--- ---- at a front, the answers other than out of memory are those that tell what is read of it
+-- ---- if there is a leading data item, any result but `OutOfMemory` is the result of decoding it
 
-holds_at : AtMostOneFront → (bytes : List ℕ) (x : Item) (len : ℕ) (Holds : Item → ℕ → Type 0) → IsFront bytes x len → Begins bytes Holds → Holds x len
+holds_at : AtMostOneLeadingItem → (bytes : List ℕ) (x : Item) (len : ℕ) (Holds : Item → ℕ → Type 0)
+    → IsLeadingItem bytes x len → Begins bytes Holds → Holds x len
 holds_at law bytes x len Holds front begun =
     let same = law bytes begun.item x begun.len len begun.front front in
     subst (λ (n : ℕ). Holds x n) same.1 (subst (λ (i : Item). Holds i begun.len) same.0 begun.holds)
 
-tells : {A M : Type 0} → AtMostOneFront → (view : A → M) (read : Item → Result M Fault) (bytes : List ℕ) (x : Item) (len : ℕ) → IsFront bytes x len → (r : Result (A × ℕ) Fault) → r ≢ Err fault.OutOfMemory → ReadsMessage view read bytes r → Tells view (read x) len r
+tells : {A M : Type 0} → AtMostOneLeadingItem → (view : A → M) (read : Item → Result M Fault) (bytes : List ℕ)
+    (x : Item) (len : ℕ) → IsLeadingItem bytes x len → (r : Result (A × ℕ) Fault) → r ≢ Err fault.OutOfMemory
+    → ReadsMessage view read bytes r → Tells view (read x) len r
 tells law view read bytes x len front (Ok r) some h =
     let told = holds_at law bytes x len (λ i n. (n ≡ r.1) × (read i ≡ Ok (view r.0))) front h in
     (sym told.0, told.1)
 tells law view read bytes x len front (Err fault.DecodeFailed) some h = absurd (h x len front)
 tells law view read bytes x len front (Err fault.OutOfMemory) some h = absurd (some refl)
-tells law view read bytes x len front (Err fault.NotAMap) some h = holds_at law bytes x len (λ i n. read i ≡ Err fault.NotAMap) front h
-tells law view read bytes x len front (Err fault.BadKey) some h = holds_at law bytes x len (λ i n. read i ≡ Err fault.BadKey) front h
-tells law view read bytes x len front (Err (fault.Repeated k)) some h = holds_at law bytes x len (λ i n. read i ≡ Err (fault.Repeated k)) front h
-tells law view read bytes x len front (Err (fault.Refused k)) some h = holds_at law bytes x len (λ i n. read i ≡ Err (fault.Refused k)) front h
-tells law view read bytes x len front (Err (fault.Missing k)) some h = holds_at law bytes x len (λ i n. read i ≡ Err (fault.Missing k)) front h
+tells law view read bytes x len front (Err fault.NotAMap) some h =
+    holds_at law bytes x len (λ i n. read i ≡ Err fault.NotAMap) front h
+tells law view read bytes x len front (Err fault.BadKey) some h =
+    holds_at law bytes x len (λ i n. read i ≡ Err fault.BadKey) front h
+tells law view read bytes x len front (Err (fault.Repeated k)) some h =
+    holds_at law bytes x len (λ i n. read i ≡ Err (fault.Repeated k)) front h
+tells law view read bytes x len front (Err (fault.Refused k)) some h =
+    holds_at law bytes x len (λ i n. read i ≡ Err (fault.Refused k)) front h
+tells law view read bytes x len front (Err (fault.Missing k)) some h =
+    holds_at law bytes x len (λ i n. read i ≡ Err (fault.Missing k)) front h
 
-may_tell : {A M : Type 0} (view : A → M) (read : Item → Result M Fault) → KnowsItems read → (bytes : List ℕ) (x : Item) (len : ℕ) → IsFront bytes x len → (r : Result (A × ℕ) Fault) → r ≢ Err fault.OutOfMemory → Tells view (read x) len r → ReadsMessage view read bytes r
-may_tell view read knows bytes x len front (Ok r) some told = record { item = x; len = len; front = front; holds = (sym told.0, told.1) }
+may_tell : {A M : Type 0} (view : A → M) (read : Item → Result M Fault) → KnowsItems read
+    → (bytes : List ℕ) (x : Item) (len : ℕ) → IsLeadingItem bytes x len → (r : Result (A × ℕ) Fault)
+    → r ≢ Err fault.OutOfMemory → Tells view (read x) len r → ReadsMessage view read bytes r
+may_tell view read knows bytes x len front (Ok r) some told =
+    record { item = x; len = len; front = front; holds = (sym told.0, told.1) }
 may_tell view read knows bytes x len front (Err fault.DecodeFailed) some told = absurd ((knows x).0 told)
 may_tell view read knows bytes x len front (Err fault.OutOfMemory) some told = absurd (some refl)
-may_tell view read knows bytes x len front (Err fault.NotAMap) some told = record { item = x; len = len; front = front; holds = told }
-may_tell view read knows bytes x len front (Err fault.BadKey) some told = record { item = x; len = len; front = front; holds = told }
-may_tell view read knows bytes x len front (Err (fault.Repeated k)) some told = record { item = x; len = len; front = front; holds = told }
-may_tell view read knows bytes x len front (Err (fault.Refused k)) some told = record { item = x; len = len; front = front; holds = told }
-may_tell view read knows bytes x len front (Err (fault.Missing k)) some told = record { item = x; len = len; front = front; holds = told }
+may_tell view read knows bytes x len front (Err fault.NotAMap) some told =
+    record { item = x; len = len; front = front; holds = told }
+may_tell view read knows bytes x len front (Err fault.BadKey) some told =
+    record { item = x; len = len; front = front; holds = told }
+may_tell view read knows bytes x len front (Err (fault.Repeated k)) some told =
+    record { item = x; len = len; front = front; holds = told }
+may_tell view read knows bytes x len front (Err (fault.Refused k)) some told =
+    record { item = x; len = len; front = front; holds = told }
+may_tell view read knows bytes x len front (Err (fault.Missing k)) some told =
+    record { item = x; len = len; front = front; holds = told }
 
--- ---- two answers that tell the same
+-- ---- two results of decoding that are the same but for the length
 
-same_told : {A M : Type 0} (view : A → M) (one other : Result M Fault) → one ≡ other → (n m : ℕ) (r s : Result (A × ℕ) Fault) → Tells view one n r → Tells view other m s → SameButForLength view m r s
-same_told view one other same n m (Ok r) (Ok s) t u = (let values : view r.0 ≡ view s.0 = cc (t.1, u.1) in (values, u.0))
+same_told : {A M : Type 0} (view : A → M) (one other : Result M Fault) → one ≡ other → (n m : ℕ)
+    (r s : Result (A × ℕ) Fault) → Tells view one n r → Tells view other m s → SameButForLength view m r s
+same_told view one other same n m (Ok r) (Ok s) t u =
+    (let values : view r.0 ≡ view s.0 = cc (t.1, u.1) in (values, u.0))
 same_told view one other same n m (Ok r) (Err f) t u = absurd (cc t.1)
 same_told view one other same n m (Err e) (Ok s) t u = absurd (cc u.1)
 same_told view one other same n m (Err e) (Err f) t u = cc
 
-told_same : {A M : Type 0} (view : A → M) (one other : Result M Fault) → one ≡ other → (n m : ℕ) (r s : Result (A × ℕ) Fault) → Tells view one n r → SameButForLength view m r s → Tells view other m s
+told_same : {A M : Type 0} (view : A → M) (one other : Result M Fault) → one ≡ other → (n m : ℕ)
+    (r s : Result (A × ℕ) Fault) → Tells view one n r → SameButForLength view m r s → Tells view other m s
 told_same view one other same n m (Ok r) (Ok s) t u = (u.1, sym same ∙ t.1 ∙ ap Ok u.0)
 told_same view one other same n m (Ok r) (Err f) t u = absurd u
 told_same view one other same n m (Err e) (Ok s) t u = absurd u
 told_same view one other same n m (Err e) (Err f) t u = sym same ∙ t ∙ ap Err u
 
-carries_over : {A M : Type 0} → AtMostOneFront → (view : A → M) (read : Item → Result M Fault) → KnowsItems read → (x y : Item) → read x ≡ read y → (bytes others : List ℕ) (n m : ℕ) → IsFront bytes x n → IsFront others y m → AnswersCarryOver view read bytes others m
+carries_over : {A M : Type 0} → AtMostOneLeadingItem → (view : A → M) (read : Item → Result M Fault)
+    → KnowsItems read → (x y : Item) → read x ≡ read y → (bytes others : List ℕ) (n m : ℕ) → IsLeadingItem bytes x n
+    → IsLeadingItem others y m → AnswersCarryOver view read bytes others m
 carries_over law view read knows x y same bytes others n m front other r s some some_too h =
-    let told = tells law view read bytes x n front r some h in
-    (λ k. same_told view (read x) (read y) same n m r s told (tells law view read others y m other s some_too k), λ k. may_tell view read knows others y m other s some_too (told_same view (read x) (read y) same n m r s told k))
+    let told = tells law view read bytes x n front r some h in (
+      λ k. same_told view (read x) (read y) same n m r s told (tells law view read others y m other s some_too k),
+      λ k. may_tell view read knows others y m other s some_too
+          (told_same view (read x) (read y) same n m r s told k),
+    )
 
-pub alike : {A M : Type 0} → AtMostOneFront → (view : A → M) (read : Item → Result M Fault) → KnowsItems read → AlikeDifferInLength view read
-alike law view read knows x y same bytes others n m front other =
-    (carries_over law view read knows x y same bytes others n m front other, carries_over law view read knows y x (sym same) others bytes m n other front)
+pub alike : {A M : Type 0} → AtMostOneLeadingItem → (view : A → M) (read : Item → Result M Fault) → KnowsItems read
+    → AlikeDifferInLength view read
+alike law view read knows x y same bytes others n m front other = (
+  carries_over law view read knows x y same bytes others n m front other,
+  carries_over law view read knows y x (sym same) others bytes m n other front,
+)

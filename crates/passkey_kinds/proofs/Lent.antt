@@ -1,4 +1,5 @@
--- Strings that are lent at a cursor: what it costs to decode them and to look at their chunks again.
+-- Strings that are lent at a cursor: the cost of decoding them and of looking at their chunks
+-- again.
 use Rattle.std.proofs.Common.{◌≡◌, ◌∙◌, ℕ, ◌+◌, ◌≤◌, ◌<◌, arith, Bool, true, false, cond, List, [], ◌∷◌, ◌++◌, length, Option, Some, None, Result, Ok, Err, refl, sym, ap, subst}
 use Rattle.std.proofs.lemmas.List.{length-append, length-take}
 use Rattle.passkey_cbor.specs.Item.{Item, byte_string, text_string}
@@ -6,7 +7,7 @@ use Rattle.passkey_cbor.specs.Grows.{Grows}
 use Rattle.passkey_cbor.specs.Inside.{Content}
 use Rattle.passkey_cbor.specs.Lent.{Region, PassesString, LendsFrom, LooksAtAll, LooksAtSome, LooksToCopy, LooksToFill, IsRegion, heads_in}
 use Rattle.passkey_cbor.specs.Names.{LooksFor, heads_until, heads_sought, begins_one}
-use Rattle.passkey_cbor.specs.Stands.{Stands}
+use Rattle.passkey_cbor.specs.EncodedAt.{IsEncodedAt}
 use Rattle.passkey_cbor.specs.Walk.{Walk, ahead}
 use Rattle.passkey_cbor.proofs.Gathering.{raised-le}
 use Rattle.passkey_cbor.proofs.Lists.{each_long}
@@ -21,11 +22,19 @@ use Rattle.passkey_kinds.proofs.Leaves.{on_ok}
 
 -- ---- no more heads than bytes
 
-chunks_long : (is_text : Bool) (s bytes : List ℕ) (c : Content is_text None s bytes) → length c.first.0 + 1 ≤ length bytes
+chunks_long : (is_text : Bool) (s bytes : List ℕ) (c : Content is_text None s bytes)
+    → length c.first.0 + 1 ≤ length bytes
 chunks_long is_text s bytes c =
-    omega (arith, each_long (AChunk is_text) (chunk is_text) (follows_chunk is_text) c.first.0 c.front c.first.1.1, ap length c.whole, length-append c.front c.back, ap length c.second)
+    omega (
+      arith,
+      each_long (AChunk is_text) (chunk is_text) (follows_chunk is_text) c.first.0 c.front c.first.1.1,
+      ap length c.whole,
+      length-append c.front c.back,
+      ap length c.second,
+    )
 
-heads_few : (is_text : Bool) (len : Option ℕ) (s bytes : List ℕ) (c : Content is_text len s bytes) → heads_in is_text len s bytes c ≤ length bytes
+heads_few : (is_text : Bool) (len : Option ℕ) (s bytes : List ℕ) (c : Content is_text len s bytes)
+    → heads_in is_text len s bytes c ≤ length bytes
 heads_few is_text (Some n) s bytes c = omega arith
 heads_few is_text None s bytes c = chunks_long is_text s bytes c
 
@@ -33,12 +42,18 @@ either_few : (b : Bool) (n k : ℕ) → n ≤ k → cond b n 0 ≤ k
 either_few true n k h = h
 either_few false n k h = omega arith
 
-until_few : (names : List (List ℕ)) (joined : List ℕ) (cs : List (List ℕ)) → heads_until names joined cs ≤ length cs + 1
+until_few : (names : List (List ℕ)) (joined : List ℕ) (cs : List (List ℕ))
+    → heads_until names joined cs ≤ length cs + 1
 until_few names joined [] = omega arith
 until_few names joined (c ∷ cs) =
-    omega (arith, either_few (begins_one (joined ++ c) names) (heads_until names (joined ++ c) cs) (length cs + 1) (until_few names (joined ++ c) cs))
+    omega (
+      arith,
+      either_few (begins_one (joined ++ c) names) (heads_until names (joined ++ c) cs) (length cs + 1)
+          (until_few names (joined ++ c) cs),
+    )
 
-sought_few : (is_text : Bool) (names : List (List ℕ)) (len : Option ℕ) (s bytes : List ℕ) (c : Content is_text len s bytes) → heads_sought is_text names len s bytes c ≤ length bytes
+sought_few : (is_text : Bool) (names : List (List ℕ)) (len : Option ℕ) (s bytes : List ℕ)
+    (c : Content is_text len s bytes) → heads_sought is_text names len s bytes c ≤ length bytes
 sought_few is_text names (Some n) s bytes c = omega arith
 sought_few is_text names None s bytes c = omega (arith, until_few names [] c.first.0, chunks_long is_text s bytes c)
 
@@ -47,7 +62,12 @@ sought_few is_text names None s bytes c = omega (arith, until_few names [] c.fir
 module _ (r : Region) (a b : Walk) (rises : a.heads ≤ b.heads) where
   pub looks_all : (is_text : Bool) → IsRegion is_text r → LooksAtAll is_text r a b → LooksAtMost r a b
   looks_all is_text t l = record {
-    heads = omega (arith, l.heads t.0 t.1, heads_few is_text r.len t.0 r.bytes t.1, raised-le a.heads (heads_in is_text r.len t.0 r.bytes t.1));
+    heads = omega (
+      arith,
+      l.heads t.0 t.1,
+      heads_few is_text r.len t.0 r.bytes t.1,
+      raised-le a.heads (heads_in is_text r.len t.0 r.bytes t.1),
+    );
     rises = rises;
     place = l.place;
     nodes = l.nodes;
@@ -63,13 +83,20 @@ module _ (r : Region) (a b : Walk) (rises : a.heads ≤ b.heads) where
     bytes = l.bytes;
   }
 
-  pub looks_copy : {T E : Type 0} (is_text : Bool) (result : Result T E) → IsRegion is_text r → LooksToCopy is_text r a b result → LooksAtMost r a b
+  pub looks_copy : {T E : Type 0} (is_text : Bool) (result : Result T E) → IsRegion is_text r
+      → LooksToCopy is_text r a b result → LooksAtMost r a b
   looks_copy is_text (Ok x) t l = looks_all is_text t l
   looks_copy is_text (Err e) t l = looks_some is_text t l
 
-  pub looks_names : (is_text : Bool) (names : List (List ℕ)) → IsRegion is_text r → LooksFor is_text names r a b → LooksAtMost r a b
+  pub looks_names : (is_text : Bool) (names : List (List ℕ)) → IsRegion is_text r → LooksFor is_text names r a b
+      → LooksAtMost r a b
   looks_names is_text names t l = record {
-    heads = omega (arith, l.heads t.0 t.1, sought_few is_text names r.len t.0 r.bytes t.1, raised-le a.heads (heads_sought is_text names r.len t.0 r.bytes t.1));
+    heads = omega (
+      arith,
+      l.heads t.0 t.1,
+      sought_few is_text names r.len t.0 r.bytes t.1,
+      raised-le a.heads (heads_sought is_text names r.len t.0 r.bytes t.1),
+    );
     rises = rises;
     place = l.place;
     nodes = l.nodes;
@@ -79,19 +106,30 @@ module _ (r : Region) (a b : Walk) (rises : a.heads ≤ b.heads) where
 pub looks_none : (r : Region) (a : Walk) → LooksAtMost r a a
 looks_none r a = record { heads = omega arith; rises = omega arith; place = refl; nodes = refl; bytes = refl }
 
-pub looks_fill : (r : Region) (a b : Walk) (done : Bool) → a.heads ≤ b.heads → IsRegion false r → LooksToFill r a b done → LooksAtMost r a b
+pub looks_fill : (r : Region) (a b : Walk) (done : Bool) → a.heads ≤ b.heads → IsRegion false r
+    → LooksToFill r a b done → LooksAtMost r a b
 looks_fill r a b true rises t l = looks_all r a b rises false t l
 looks_fill r a b false rises t l = subst (λ (w : Walk). LooksAtMost r a w) (sym l) (looks_none r a)
 
 -- ---- what a string costs
 
--- what is behind a string's head is shorter than the string
-region_less : (is_text : Bool) (a b : Walk) (r : Region) → PassesString is_text a b r → a.place + length r.bytes ≤ b.place
+-- what follows a string's head is shorter than the string
+region_less : (is_text : Bool) (a b : Walk) (r : Region) → PassesString is_text a b r
+    → a.place + length r.bytes ≤ b.place
 region_less is_text a b r p =
-    omega (arith, p.place, length-take p.len (ahead a), ap length p.headed.whole, length-append p.headed.front p.headed.back, ap length p.headed.second)
+    omega (
+      arith,
+      p.place,
+      length-take p.len (ahead a),
+      ap length p.headed.whole,
+      length-append p.headed.front p.headed.back,
+      ap length p.headed.second,
+    )
 
--- A string that stands there is lent, and was looked at once more at most.
-pub lent_spends : (is_text : Bool) (a b d : Walk) (r : Region) (i : Item) (to : ℕ) → Stands i a.bytes a.place to → PassesString is_text a b r → LendsFrom is_text i to a b (Some r) → LooksAtMost r b d → Spends 2 0 to a d × (d.place ≡ to)
+-- The string that is encoded there is lent, and then looked at again at most once.
+pub lent_spends : (is_text : Bool) (a b d : Walk) (r : Region) (i : Item) (to : ℕ)
+    → IsEncodedAt i a.bytes a.place to → PassesString is_text a b r → LendsFrom is_text i to a b (Some r)
+    → LooksAtMost r b d → Spends 2 0 to a d × (d.place ≡ to)
 lent_spends is_text a b d r i to l p f looks =
     let there = f.1.1 in (
       record {
@@ -102,16 +140,20 @@ lent_spends is_text a b d r i to l p f looks =
       looks.place ∙ there.place,
     )
 
--- no such string stands there, and one head was decoded
-pub not_lent_spends : (is_text : Bool) (a b : Walk) (i : Item) (to : ℕ) → Stands i a.bytes a.place to → LendsFrom is_text i to a b None → Spends 1 0 to a b
+-- no string of this type is encoded there, and one head was decoded
+pub not_lent_spends : (is_text : Bool) (a b : Walk) (i : Item) (to : ℕ) → IsEncodedAt i a.bytes a.place to
+    → LendsFrom is_text i to a b None → Spends 1 0 to a b
 not_lent_spends is_text a b i to l f = record {
   within = omega (arith, f.1.place, stands_long i a.bytes a.place to l);
   heads = omega (arith, f.1.heads, stands_long i a.bytes a.place to l);
   nodes = omega (arith, f.1.nodes);
 }
 
--- The answer about a string that was lent, and looked at once more at most.
-pub lent_decodes : {A M : Type 0} (view : A → M) (wanted : Option M) (takes : Type 0) (is_text : Bool) (a b d : Walk) (r : Region) (i : Item) (to : ℕ) (result : Result A Refusal) → Stands i a.bytes a.place to → PassesString is_text a b r → LendsFrom is_text i to a b (Some r) → LooksAtMost r b d → AnswersAs view wanted takes result → Decodes view wanted takes 2 0 to a d result
+-- The result for a string that is lent, and then looked at again at most once.
+pub lent_decodes : {A M : Type 0} (view : A → M) (wanted : Option M) (takes : Type 0) (is_text : Bool)
+    (a b d : Walk) (r : Region) (i : Item) (to : ℕ) (result : Result A Refusal) → IsEncodedAt i a.bytes a.place to
+    → PassesString is_text a b r → LendsFrom is_text i to a b (Some r) → LooksAtMost r b d
+    → AnswersAs view wanted takes result → Decodes view wanted takes 2 0 to a d result
 lent_decodes view wanted takes is_text a b d r i to result l p f looks h =
     let spent = lent_spends is_text a b d r i to l p f looks in
     record { answers = h; spends = spent.0; ends = on_ok result spent.1 }
@@ -126,10 +168,13 @@ bytes_grow i s e some = subst (MayGrow true) (sym e) (refl, not_empty s some) wh
   not_empty [] h = absurd (omega (arith, h))
   not_empty (b ∷ bs) h = tt
 
--- The answer where no such string stands.
-pub not_lent_decodes : {A M : Type 0} (view : A → M) (wanted : Option M) (takes : Type 0) (is_text : Bool) (cost : ℕ) (a b : Walk) (i : Item) (to : ℕ) → 1 ≤ cost → Stands i a.bytes a.place to → LendsFrom is_text i to a b None → wanted ≡ None → Decodes view wanted takes cost 0 to a b (Err Refused)
+-- The result if no string of this type is encoded there.
+pub not_lent_decodes : {A M : Type 0} (view : A → M) (wanted : Option M) (takes : Type 0) (is_text : Bool)
+    (cost : ℕ) (a b : Walk) (i : Item) (to : ℕ) → 1 ≤ cost → IsEncodedAt i a.bytes a.place to
+    → LendsFrom is_text i to a b None → wanted ≡ None → Decodes view wanted takes cost 0 to a b (Err Refused)
 not_lent_decodes view wanted takes is_text cost a b i to one l f none = record {
   answers = none;
-  spends = eased 1 cost 0 0 to a b one (omega arith) (omega (arith, stands_long i a.bytes a.place to l)) (not_lent_spends is_text a b i to l f);
+  spends = eased 1 cost 0 0 to a b one (omega arith) (omega (arith, stands_long i a.bytes a.place to l))
+      (not_lent_spends is_text a b i to l f);
   ends = tt;
 }

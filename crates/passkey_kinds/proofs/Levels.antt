@@ -1,4 +1,4 @@
--- How many levels records have, by those of what is written under their keys.
+-- The nesting levels of records, by those of the values under their keys.
 use Rattle.std.specs.FinMap as fin
 use Rattle.std.proofs.Common.{◌≡◌, ℕ, suc, ◌≤◌, max, arith, List, [], ◌∷◌, ◌++◌, map, Option, Some, None, option_map, ap}
 use Rattle.passkey_bytes.specs.Map.{ByteMap}
@@ -9,7 +9,7 @@ use Rattle.passkey_kinds.specs.Table.{Members}
 use Rattle.passkey_kinds.specs.Tree.{Place, list_tree, entry_tree, byte_map_tree, under, record_tree}
 use Rattle.passkey_kinds.proofs.Back.{spread, laid_spread}
 
--- what is written at the place has at most so many levels
+-- the place has no value, or its key and its value have at most n levels
 abbrev pub PlaceWithin : ℕ → Item → Option Item → Type 0
 PlaceWithin n key None = Unit {0}
 PlaceWithin n key (Some x) = (depth key ≤ n) × (depth x ≤ n)
@@ -24,9 +24,11 @@ both_within a b n p q = omega (arith, p, q)
 each_within : (a b n : ℕ) → max a b ≤ n → (a ≤ n) × (b ≤ n)
 each_within a b n p = (omega (arith, p), omega (arith, p))
 
-member_within : (n : ℕ) (key : Item) (o : Option Item) (ms : Members) → PlaceWithin n key o → pairs_depth (pairs_of ms) ≤ n → pairs_depth (pairs_of (under key o ++ ms)) ≤ n
+member_within : (n : ℕ) (key : Item) (o : Option Item) (ms : Members) → PlaceWithin n key o
+    → pairs_depth (pairs_of ms) ≤ n → pairs_depth (pairs_of (under key o ++ ms)) ≤ n
 member_within n key None ms here rest = rest
-member_within n key (Some x) ms here rest = both_within (max (depth key) (depth x)) (pairs_depth (pairs_of ms)) n (both_within (depth key) (depth x) n here.0 here.1) rest
+member_within n key (Some x) ms here rest = both_within (max (depth key) (depth x)) (pairs_depth (pairs_of ms)) n
+    (both_within (depth key) (depth x) n here.0 here.1) rest
 
 spread_within : (n : ℕ) (ps : List Place) → Within n ps → pairs_depth (pairs_of (spread ps)) ≤ n
 spread_within n [] h = omega arith
@@ -35,13 +37,14 @@ spread_within n (p ∷ ps) h = member_within n p.0 p.1 (spread ps) h.0 (spread_w
 record_levels : (ps : List Place) → depth (record_tree ps) ≡ suc (pairs_depth (pairs_of (spread ps)))
 record_levels ps = ap (λ (ms : Members). suc (pairs_depth (pairs_of ms))) (laid_spread [] ps)
 
--- a record has one level more than what is written in it
+-- a record has one level more than its keys and values
 pub record_within : (n : ℕ) (ps : List Place) → Within n ps → depth (record_tree ps) ≤ suc n
 record_within n ps h = omega (arith, record_levels ps, spread_within n ps h)
 
 -- ---- and back
 
-place_of_member : (n : ℕ) (key : Item) (o : Option Item) (ms : Members) → pairs_depth (pairs_of (under key o ++ ms)) ≤ n → PlaceWithin n key o × (pairs_depth (pairs_of ms) ≤ n)
+place_of_member : (n : ℕ) (key : Item) (o : Option Item) (ms : Members)
+    → pairs_depth (pairs_of (under key o ++ ms)) ≤ n → PlaceWithin n key o × (pairs_depth (pairs_of ms) ≤ n)
 place_of_member n key None ms h = (tt, h)
 place_of_member n key (Some x) ms h =
     let parts = each_within (max (depth key) (depth x)) (pairs_depth (pairs_of ms)) n h in
@@ -58,22 +61,30 @@ of_record n ps h = of_spread n ps (omega (arith, record_levels ps, h))
 
 -- ---- lists, maps and options
 
-items_within : {A : Type 0} (tree : A → Item) (n : ℕ) → ((x : A) → depth (tree x) ≤ n) → (xs : List A) → items_depth (items_of (map tree xs)) ≤ n
+items_within : {A : Type 0} (tree : A → Item) (n : ℕ) → ((x : A) → depth (tree x) ≤ n) → (xs : List A)
+    → items_depth (items_of (map tree xs)) ≤ n
 items_within tree n each [] = omega arith
-items_within tree n each (x ∷ xs) = both_within (depth (tree x)) (items_depth (items_of (map tree xs))) n (each x) (items_within tree n each xs)
+items_within tree n each (x ∷ xs) =
+    both_within (depth (tree x)) (items_depth (items_of (map tree xs))) n (each x) (items_within tree n each xs)
 
 -- a list has one level more than its elements
-pub list_within : {A : Type 0} (tree : A → Item) (n : ℕ) → ((x : A) → depth (tree x) ≤ n) → (xs : List A) → depth (list_tree tree xs) ≤ suc n
+pub list_within : {A : Type 0} (tree : A → Item) (n : ℕ) → ((x : A) → depth (tree x) ≤ n) → (xs : List A)
+    → depth (list_tree tree xs) ≤ suc n
 list_within tree n each xs = omega (arith, items_within tree n each xs)
 
-entries_within : {A : Type 0} (tree : A → Item) (n : ℕ) → ((x : A) → depth (tree x) ≤ n) → (es : List (List ℕ × A)) → pairs_depth (pairs_of (map (entry_tree tree) es)) ≤ n
+entries_within : {A : Type 0} (tree : A → Item) (n : ℕ) → ((x : A) → depth (tree x) ≤ n) → (es : List (List ℕ × A))
+    → pairs_depth (pairs_of (map (entry_tree tree) es)) ≤ n
 entries_within tree n each [] = omega arith
-entries_within tree n each (e ∷ es) = both_within (max 0 (depth (tree e.1))) (pairs_depth (pairs_of (map (entry_tree tree) es))) n (both_within 0 (depth (tree e.1)) n (omega arith) (each e.1)) (entries_within tree n each es)
+entries_within tree n each (e ∷ es) =
+    both_within (max 0 (depth (tree e.1))) (pairs_depth (pairs_of (map (entry_tree tree) es))) n
+    (both_within 0 (depth (tree e.1)) n (omega arith) (each e.1)) (entries_within tree n each es)
 
 -- a map has one level more than its values
-pub map_within : {A : Type 0} (tree : A → Item) (n : ℕ) → ((x : A) → depth (tree x) ≤ n) → (m : ByteMap A) → depth (byte_map_tree tree m) ≤ suc n
+pub map_within : {A : Type 0} (tree : A → Item) (n : ℕ) → ((x : A) → depth (tree x) ≤ n) → (m : ByteMap A)
+    → depth (byte_map_tree tree m) ≤ suc n
 map_within tree n each m = omega (arith, entries_within tree n each (short_first (fin.entries m)))
 
-pub option_within : {A : Type 0} (tree : A → Item) (n : ℕ) (key : Item) → depth key ≤ n → ((x : A) → depth (tree x) ≤ n) → (o : Option A) → PlaceWithin n key (option_map tree o)
+pub option_within : {A : Type 0} (tree : A → Item) (n : ℕ) (key : Item) → depth key ≤ n
+    → ((x : A) → depth (tree x) ≤ n) → (o : Option A) → PlaceWithin n key (option_map tree o)
 option_within tree n key keyed each None = tt
 option_within tree n key keyed each (Some x) = (keyed, each x)

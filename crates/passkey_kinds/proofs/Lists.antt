@@ -1,16 +1,17 @@
--- Lists of values, read of arrays.
+-- Lists of values, decoded from arrays.
 use Rattle.std.specs.List.{filter_map}
 use Rattle.std.proofs.Common.{◌≡◌, ◌<◌, arith, ◌∙◌, List, [], ◌∷◌, ◌++◌, length, map, Option, Some, None, option_map, unwrap_or, Result, Ok, Err, refl, sym, ap, true}
 use Rattle.std.proofs.lemmas.List.{append_assoc}
 use Rattle.passkey_cbor.specs.Item.{Item, array, items_of}
-use Rattle.passkey_core.specs.DataNormal.{Where}
+use Rattle.passkey_core.specs.DataNormal.{IfPresent}
 use Rattle.passkey_cose.proofs.KeyLists.{elements-items_of}
 use Rattle.passkey_kinds.specs.Kind.{Kind, AnswersAs, MayGrow, each, list, accepted}
 use Rattle.passkey_kinds.specs.declared.refusal.Refusal.{Refusal}
 use Rattle.passkey_kinds.specs.declared.refusal.Refusal.TheVariants.{Refused, OutOfMemory}
 
--- the same answer, where as much is wanted and memory may be refused too
-pub answers_from : {A M : Type 0} {wanted given : Option M} {takes may : Type 0} (view : A → M) (result : Result A Refusal) → given ≡ wanted → (takes → may) → AnswersAs view wanted takes result → AnswersAs view given may result
+-- the same result, if the same value is wanted and memory may run out too
+pub answers_from : {A M : Type 0} {wanted given : Option M} {takes may : Type 0} (view : A → M) (result : Result A
+    Refusal) → given ≡ wanted → (takes → may) → AnswersAs view wanted takes result → AnswersAs view given may result
 answers_from view (Ok x) e f h = e ∙ h
 answers_from view (Err Refused) e f h = e ∙ h
 answers_from view (Err OutOfMemory) e f h = f h
@@ -18,19 +19,22 @@ answers_from view (Err OutOfMemory) e f h = f h
 pub list_array : {M : Type 0} (kind : Kind M) (xs : List Item) → list kind (array (items_of xs)) ≡ each kind xs
 list_array kind xs = ap (each kind) (elements-items_of xs)
 
-pub accepted_array : {M : Type 0} (kind : Kind M) (xs : List Item) → accepted kind (array (items_of xs)) ≡ Some (filter_map kind xs)
+pub accepted_array : {M : Type 0} (kind : Kind M) (xs : List Item)
+    → accepted kind (array (items_of xs)) ≡ Some (filter_map kind xs)
 accepted_array kind xs = ap (λ ys. Some (filter_map kind ys)) (elements-items_of xs)
 
-pub grows_array : {X : Type 0} (seen : X → Item) (xs : List X) → 0 < length xs → MayGrow true (array (items_of (map seen xs)))
+pub grows_array : {X : Type 0} (seen : X → Item) (xs : List X) → 0 < length xs
+    → MayGrow true (array (items_of (map seen xs)))
 grows_array seen [] h = absurd (omega arith)
 grows_array seen (x ∷ xs) h = (refl, tt)
 
--- the values read so far, before those of the rest
-pub each_more : {M : Type 0} (read : List M) (x : M) (rest : Option (List M)) → option_map (λ xs. read ++ xs) (option_map (λ xs. x ∷ xs) rest) ≡ option_map (λ xs. (read ++ x ∷ []) ++ xs) rest
+-- the values decoded so far, before those of the rest
+pub each_more : {M : Type 0} (read : List M) (x : M) (rest : Option (List M)) → option_map (λ xs. read ++ xs)
+    (option_map (λ xs. x ∷ xs) rest) ≡ option_map (λ xs. (read ++ x ∷ []) ++ xs) rest
 each_more read x None = refl
 each_more read x (Some xs) = ap Some (simp append_assoc)
 
--- an option and a list of what contracts see as it is
+-- options and lists under the identity view
 pub option_same : {X : Type 0} (o : Option X) → option_map (λ x. x) o ≡ o
 option_same None = refl
 option_same (Some x) = refl
@@ -44,18 +48,22 @@ each_same None = refl
 each_same (Some xs) = ap Some (map_same xs)
 
 -- a value or its default, and the same of an option
-pub unwrap_same : {X : Type 0} (default : X) {y : X} (o : Option X) → y ≡ unwrap_or o default → y ≡ unwrap_or (option_map (λ x. x) o) default
+pub unwrap_same : {X : Type 0} (default : X) {y : X} (o : Option X) → y ≡ unwrap_or o default
+    → y ≡ unwrap_or (option_map (λ x. x) o) default
 unwrap_same {X} default o e = e ∙ sym (ap (λ (p : Option X). unwrap_or p default) (option_same o))
 
-pub unwrap_option_same : {X : Type 0} {y : Option X} (o : Option (Option X)) → y ≡ unwrap_or o None → y ≡ unwrap_or (option_map (λ p. option_map (λ x. x) p) o) None
+pub unwrap_option_same : {X : Type 0} {y : Option X} (o : Option (Option X)) → y ≡ unwrap_or o None
+    → y ≡ unwrap_or (option_map (λ p. option_map (λ x. x) p) o) None
 unwrap_option_same None e = e
 unwrap_option_same (Some p) e = e ∙ sym (option_same p)
 
--- an option of what contracts see of what is there
-pub option_twice : {X Y Z : Type 0} (f : Y → Z) (g : X → Y) (o : Option X) → option_map f (option_map g o) ≡ option_map (λ x. f (g x)) o
+-- an option under two views, one after the other
+pub option_twice : {X Y Z : Type 0} (f : Y → Z) (g : X → Y) (o : Option X)
+    → option_map f (option_map g o) ≡ option_map (λ x. f (g x)) o
 option_twice f g None = refl
 option_twice f g (Some x) = refl
 
-pub where_twice : {X Y : Type 0} (P : Y → Type 0) (g : X → Y) (o : Option X) → Where (λ x. P (g x)) o → Where P (option_map g o)
+pub where_twice : {X Y : Type 0} (P : Y → Type 0) (g : X → Y) (o : Option X) → IfPresent (λ x. P (g x)) o
+    → IfPresent P (option_map g o)
 where_twice P g None h = h
 where_twice P g (Some x) h = h

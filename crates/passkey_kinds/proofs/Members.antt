@@ -1,4 +1,4 @@
--- What one more member does to what was read.
+-- What decoding one more member changes.
 use Rattle.std.specs.Cmp.{unsigned_Decides}
 use Rattle.std.proofs.Common.{◌≡◌, ◌∙◌, ◌<◌, ◌==◌, ℕ, arith, Bool, true, false, if◌then◌else◌, List, [], ◌∷◌, ◌++◌, length, set, get_or, Option, Some, None, is_some, refl, sym, ap}
 use Rattle.std.proofs.lemmas.Bool.{true≢false}
@@ -14,57 +14,78 @@ none_of : {X : Type 0} (o : Option X) → is_some o ≡ false → o ≡ None
 none_of None e = refl
 none_of (Some x) e = absurd (true≢false e)
 
--- what the code says of a key is what the table says
-pub key_names : (table : Table) (is_numbered : Bool) (rows : List Entry) (key : Item) (naming : Naming) → is_numbered ≡ table.is_numbered → rows ≡ entries table → naming ≡ names is_numbered rows key → named table key ≡ naming
+-- the code and the table agree on what a key names
+pub key_names : (table : Table) (is_numbered : Bool) (rows : List Entry) (key : Item) (naming : Naming)
+    → is_numbered ≡ table.is_numbered → rows ≡ entries table → naming ≡ names is_numbered rows key
+    → named table key ≡ naming
 key_names table is_numbered rows key naming p q e = sym (e ∙ λ i. names (p i) (q i) key)
 
 module _ (table : Table) (earlier : Members) (key value : Item) where
-  pub was_repeated : (n : ℕ) → named table key ≡ row n → is_some (found table earlier n) ≡ true → bad_member table earlier (key, value) ≡ Some (Repeated n)
+  pub was_repeated : (n : ℕ) → named table key ≡ row n → is_some (found table earlier n) ≡ true
+      → bad_member table earlier (key, value) ≡ Some (Repeated n)
   was_repeated n naming some = rw (naming, some) refl
 
-  pub was_refused : (n : ℕ) → named table key ≡ row n → is_some (found table earlier n) ≡ false → accepts_at table.rows n value ≡ false → bad_member table earlier (key, value) ≡ Some (Refused n)
+  pub was_refused : (n : ℕ) → named table key ≡ row n → is_some (found table earlier n) ≡ false
+      → accepts_at table.rows n value ≡ false → bad_member table earlier (key, value) ≡ Some (Refused n)
   was_refused n naming none refused = rw (naming, none, refused) refl
 
-  pub was_good : (n : ℕ) → named table key ≡ row n → is_some (found table earlier n) ≡ false → accepts_at table.rows n value ≡ true → bad_member table earlier (key, value) ≡ None
+  pub was_good : (n : ℕ) → named table key ≡ row n → is_some (found table earlier n) ≡ false
+      → accepts_at table.rows n value ≡ true → bad_member table earlier (key, value) ≡ None
   was_good n naming none accepted = rw (naming, none, accepted) refl
 
   pub was_unknown : named table key ≡ unknown → bad_member table earlier (key, value) ≡ None
   was_unknown naming = rw naming refl
 
--- ---- what stands under each row, with one more member
+-- ---- the value of each row, with one more member
 
-neither : {X : Type 0} (b : Bool) (x : X) (o : Option X) → (if b then Some x else o) ≡ None → (b ≡ false) × (o ≡ None)
+neither : {X : Type 0} (b : Bool) (x : X) (o : Option X) → (if b then Some x else o) ≡ None
+    → (b ≡ false) × (o ≡ None)
 neither true x o e = cc
 neither false x o e = (refl, e)
 
-pub found_push : (table : Table) (key value : Item) (n : ℕ) → named table key ≡ row n → (earlier : Members) → found table earlier n ≡ None → (k : ℕ) → found table (earlier ++ (key, value) ∷ []) k ≡ with_row n value (found table earlier) k
+pub found_push : (table : Table) (key value : Item) (n : ℕ) → named table key ≡ row n → (earlier : Members)
+    → found table earlier n ≡ None → (k : ℕ)
+    → found table (earlier ++ (key, value) ∷ []) k ≡ with_row n value (found table earlier) k
 found_push table key value n naming [] e k = ap (λ (m : Naming). if is_row k m then Some value else None) naming
 found_push table key value n naming (m ∷ ms) e k =
     let parts = neither (is_row n (named table m.0)) m.1 (found table ms n) e in
     let rest = found_push table key value n naming ms parts.1 k in
-    (elim (k == n) as (λ (b : Bool). (k == n) ≡ b → found table ms k ≡ found table ms k → (found table (ms ++ (key, value) ∷ []) k ≡ (if b then Some value else found table ms k)) → (if is_row k (named table m.0) then Some m.1 else found table (ms ++ (key, value) ∷ []) k) ≡ (if b then Some value else (if is_row k (named table m.0) then Some m.1 else found table ms k))) [
-      | true ↦ λ h. λ u. λ r. (let same : k ≡ n = (unsigned_Decides k n).0 h in let other : is_row k (named table m.0) ≡ false = ap (λ (j : ℕ). is_row j (named table m.0)) same ∙ parts.0 in rw other r)
+    (elim (k == n) as (λ (b : Bool). (k == n) ≡ b → found table ms k ≡ found table ms k
+    → (found table (ms ++ (key, value) ∷ []) k ≡ (if b then Some value else found table ms k))
+    → (if is_row k (named table m.0) then Some m.1 else found table (ms ++ (key, value) ∷ []) k)
+    ≡ (if b then Some value else (if is_row k (named table m.0) then Some m.1 else found table ms k))) [
+      | true ↦ λ h. λ u. λ r. (let same : k ≡ n = (unsigned_Decides k n).0 h in let other : is_row k
+          (named table m.0) ≡ false = ap (λ (j : ℕ). is_row j (named table m.0)) same ∙ parts.0 in rw other r)
       | false ↦ λ h. λ u. λ r. rw r refl
     ]) refl refl rest
 
 -- ---- marks
 
-module _ (table : Table) (earlier : Members) (key value : Item) (marks : List Bool) (marked : Marks table earlier marks) where
+module _ (table : Table) (earlier : Members) (key value : Item) (marks : List Bool)
+    (marked : Marks table earlier marks) where
   pub marked_as : (n : ℕ) (d b : Bool) → n < 256 → get_or marks n d ≡ b → is_some (found table earlier n) ≡ b
-  marked_as n d b small e = sym (get_or_from_slice_get marks n (is_some (found table earlier n)) d (marked n small)) ∙ e
+  marked_as n d b small e =
+      sym (get_or_from_slice_get marks n (is_some (found table earlier n)) d (marked n small)) ∙ e
 
   pub stays : named table key ≡ unknown → Marks table (earlier ++ (key, value) ∷ []) marks
-  stays naming n small = marked n small ∙ ap (λ (o : Option Item). Some (is_some o)) (sym (found_pushed table earlier key value naming n))
+  stays naming n small = marked n small
+      ∙ ap (λ (o : Option Item). Some (is_some o)) (sym (found_pushed table earlier key value naming n))
 
-  pub marks_one : (n : ℕ) → named table key ≡ row n → is_some (found table earlier n) ≡ false → n < 256 → length marks ≡ 256 → Marks table (earlier ++ (key, value) ∷ []) (set marks n true)
-  marks_one n naming none small long k less = slice_get-get_or (set marks n true) k false (omega (arith, less, long, length-set marks n true)) ∙ ap Some (mark_of ∙ ap is_some (sym (pushed k)))
+  pub marks_one : (n : ℕ) → named table key ≡ row n → is_some (found table earlier n) ≡ false → n < 256
+      → length marks ≡ 256 → Marks table (earlier ++ (key, value) ∷ []) (set marks n true)
+  marks_one n naming none small long k less = slice_get-get_or (set marks n true) k false
+      (omega (arith, less, long, length-set marks n true)) ∙ ap Some (mark_of ∙ ap is_some (sym (pushed k)))
     where
       pushed : (k : ℕ) → found table (earlier ++ (key, value) ∷ []) k ≡ with_row n value (found table earlier) k
       pushed k = found_push table key value n naming earlier (none_of (found table earlier n) none) k
 
       mark_of : get_or (set marks n true) k false ≡ is_some (with_row n value (found table earlier) k)
       mark_of =
-          (elim (k == n) as (λ (b : Bool). (k == n) ≡ b → get_or (set marks n true) k false ≡ is_some (if b then Some value else found table earlier k)) [
-            | true ↦ λ e. (let same : k ≡ n = (unsigned_Decides k n).0 e in ap (λ (j : ℕ). get_or (set marks n true) j false) same ∙ get_or-set_same marks n true false (omega (arith, small, long)))
-            | false ↦ λ e. get_or-set_other marks n k true false (λ same. true≢false (sym ((unsigned_Decides k n).1 same) ∙ e)) ∙ get_or_from_slice_get marks k (is_some (found table earlier k)) false (marked k less)
+          (elim (k == n) as (λ (b : Bool). (k == n) ≡ b
+          → get_or (set marks n true) k false ≡ is_some (if b then Some value else found table earlier k)) [
+            | true ↦ λ e. (let same : k ≡ n = (unsigned_Decides k n).0 e in ap (λ (j : ℕ). get_or (set marks n true)
+                j false) same ∙ get_or-set_same marks n true false (omega (arith, small, long)))
+            | false ↦ λ e. get_or-set_other marks n k true false
+                (λ same. true≢false (sym ((unsigned_Decides k n).1 same) ∙ e))
+                ∙ get_or_from_slice_get marks k (is_some (found table earlier k)) false (marked k less)
           ]) refl

@@ -1,15 +1,15 @@
--- Messages that begin bytes, and messages at a cursor.
+-- Messages at the beginning of bytes, and messages at a cursor.
 use Rattle.std.proofs.Common.{◌≡◌, ◌∙◌, ℕ, suc, ◌+◌, ◌*◌, ◌≤◌, arith, List, ◌++◌, length, take, drop, Result, Ok, Err, OnErr, refl, sym, ap, subst}
 use Rattle.std.proofs.lemmas.List.{take-append-drop, drop-drop, length-drop}
 use Rattle.std.proofs.Math.Nat.{mul-le-mul_left}
-use Rattle.passkey_cbor.specs.Front.{IsFront}
+use Rattle.passkey_cbor.specs.LeadingItem.{IsLeadingItem}
 use Rattle.passkey_cbor.specs.Grows.{Grows}
 use Rattle.passkey_cbor.specs.Item as item
 use Rattle.passkey_cbor.specs.Item.{Item, Pairs, no_pairs, pair}
-use Rattle.passkey_cbor.specs.Skipped.{PassesFront, FindsNoFront}
-use Rattle.passkey_cbor.specs.Stands.{Stands}
+use Rattle.passkey_cbor.specs.Skipped.{PassesLeadingItem, FindsNoLeadingItem}
+use Rattle.passkey_cbor.specs.EncodedAt.{IsEncodedAt}
 use Rattle.passkey_cbor.specs.Walk.{Walk, ahead, Went}
-use Rattle.passkey_cbor.proofs.Standing.{only_one}
+use Rattle.passkey_cbor.proofs.EncodedFrom.{only_one}
 use Rattle.passkey_kinds.specs.Message.{ReadsMessage, GrowsMessage, ReadsHere, with_length}
 use Rattle.passkey_kinds.specs.Reader.{Onward}
 use Rattle.passkey_kinds.specs.Reading.{MayGrowAt, Reads}
@@ -21,7 +21,7 @@ use Rattle.passkey_kinds.specs.declared.fault.Fault.{Fault}
 use Rattle.passkey_kinds.specs.declared.fault.Fault.TheVariants as fault
 use Rattle.passkey_kinds.proofs.Going.{front_long}
 
--- ---- memory is refused only of an item that takes some
+-- ---- memory runs out only for an item that takes memory
 
 map_grows : (table : Table) (ps : Pairs) → MayGrowAt table (item.map ps) → Grows (item.map ps)
 map_grows table no_pairs h = absurd h
@@ -39,22 +39,30 @@ may_grow table item.null h = absurd h
 may_grow table (item.simple n) h = absurd h
 may_grow table (item.float f) h = absurd h
 
-pub message_fails : {A M : Type 0} (view : A → M) (table : Table) (read : Item → Result M Fault) (bytes : List ℕ) (i : Item) (len : ℕ) (e : Fault) → IsFront bytes i len → Reads view (MayGrowAt table i) (read i) (Err e) → ReadsMessage view read bytes (Err e)
+pub message_fails : {A M : Type 0} (view : A → M) (table : Table) (read : Item → Result M Fault) (bytes : List ℕ)
+    (i : Item) (len : ℕ) (e : Fault) → IsLeadingItem bytes i len → Reads view (MayGrowAt table i) (read i) (Err e)
+    → ReadsMessage view read bytes (Err e)
 message_fails view table read bytes i len fault.DecodeFailed f h = absurd h
-message_fails view table read bytes i len fault.OutOfMemory f h = record { item = i; len = len; front = f; grows = may_grow table i h }
+message_fails view table read bytes i len fault.OutOfMemory f h =
+    record { item = i; len = len; front = f; grows = may_grow table i h }
 message_fails view table read bytes i len fault.NotAMap f h = record { item = i; len = len; front = f; holds = h }
 message_fails view table read bytes i len fault.BadKey f h = record { item = i; len = len; front = f; holds = h }
-message_fails view table read bytes i len (fault.Repeated n) f h = record { item = i; len = len; front = f; holds = h }
-message_fails view table read bytes i len (fault.Refused n) f h = record { item = i; len = len; front = f; holds = h }
-message_fails view table read bytes i len (fault.Missing n) f h = record { item = i; len = len; front = f; holds = h }
+message_fails view table read bytes i len (fault.Repeated n) f h =
+    record { item = i; len = len; front = f; holds = h }
+message_fails view table read bytes i len (fault.Refused n) f h =
+    record { item = i; len = len; front = f; holds = h }
+message_fails view table read bytes i len (fault.Missing n) f h =
+    record { item = i; len = len; front = f; holds = h }
 
 -- ---- at a cursor
 
-front_stands : (x : Item) (bytes : List ℕ) (place len : ℕ) → IsFront (drop place bytes) x len → Stands x bytes place (place + len)
+front_stands : (x : Item) (bytes : List ℕ) (place len : ℕ) → IsLeadingItem (drop place bytes) x len
+    → IsEncodedAt x bytes place (place + len)
 front_stands x bytes place len f = record {
   text = take len (drop place bytes);
-  spelled = (f.shallow, f.spelled);
-  parts = sym (take-append-drop len (drop place bytes)) ∙ ap (λ (r : List ℕ). take len (drop place bytes) ++ r) (drop-drop len place bytes);
+  encoded = (f.shallow, f.encoded);
+  parts = sym (take-append-drop len (drop place bytes))
+      ∙ ap (λ (r : List ℕ). take len (drop place bytes) ++ r) (drop-drop len place bytes);
   forward = omega arith;
   within = omega (arith, f.within, length-drop place bytes, front_long x (drop place bytes) len f);
 }
@@ -74,18 +82,21 @@ went_back old s a k at e = record {
   nodes = ap (λ (w : Walk). w.nodes) e;
 }
 
--- A message whose item was skipped, and that was then decoded from the same place.
-module _ {A P : Type 0} (view : A → P) (t : Fields P) (old s a b : Walk) (p : PassesFront old s) (skipped : Went old s) (back : WentBack old s a) (on : Onward a b) where
-  pub item_stands : Stands p.item a.bytes a.place (old.place + p.len)
+-- A message whose item was skipped and then decoded from the same place.
+module _ {A P : Type 0} (view : A → P) (t : Fields P) (old s a b : Walk) (p : PassesLeadingItem old s)
+    (skipped : Went old s) (back : WentBack old s a) (on : Onward a b) where
+  pub item_stands : IsEncodedAt p.item a.bytes a.place (old.place + p.len)
   item_stands = rw (back.bytes, p.bytes, back.place) (front_stands p.item old.bytes old.place p.len p.front)
 
-  only : (i : Item) (len : ℕ) → IsFront (ahead old) i len → (i ≡ p.item) × (len ≡ p.len)
+  only : (i : Item) (len : ℕ) → IsLeadingItem (ahead old) i len → (i ≡ p.item) × (len ≡ p.len)
   only i len f =
-      let one = only_one p.item i old.bytes old.place (old.place + p.len) len (front_stands p.item old.bytes old.place p.len p.front) f in
+      let one = only_one p.item i old.bytes old.place (old.place + p.len) len
+      (front_stands p.item old.bytes old.place p.len p.front) f in
       (one.0, omega (arith, one.1))
 
   -- the same counts, at this place
-  module _ (result : Result A Fault) (decoded : DecodesRecord view t p.item (old.place + p.len) a b result) (c : Walk) (bytes : c.bytes ≡ b.bytes) (heads : c.heads ≡ b.heads) (nodes : c.nodes ≡ b.nodes) where
+  module _ (result : Result A Fault) (decoded : DecodesRecord view t p.item (old.place + p.len) a b result)
+      (c : Walk) (bytes : c.bytes ≡ b.bytes) (heads : c.heads ≡ b.heads) (nodes : c.nodes ≡ b.nodes) where
     went_here : old.place ≤ c.place → c.place ≤ length c.bytes → Went old c
     went_here forward within = record {
       same = bytes ∙ on.same ∙ back.bytes ∙ p.bytes;
@@ -95,15 +106,22 @@ module _ {A P : Type 0} (view : A → P) (t : Fields P) (old s a b : Walk) (p : 
       nodes = omega (arith, skipped.nodes, back.nodes, on.nodes, nodes);
     }
 
-    heads_here : (i : Item) (len : ℕ) → IsFront (ahead old) i len → c.heads ≤ old.heads + suc (record_cost t) * len
+    heads_here : (i : Item) (len : ℕ) → IsLeadingItem (ahead old) i len
+        → c.heads ≤ old.heads + suc (record_cost t) * len
     heads_here i len f =
-        let spent : b.heads + record_cost t * old.place ≤ a.heads + record_cost t * (old.place + p.len) = subst (λ (k : ℕ). b.heads + record_cost t * k ≤ a.heads + record_cost t * (old.place + p.len)) back.place decoded.spends.heads in
+        let spent : b.heads + record_cost t * old.place ≤ a.heads + record_cost t * (old.place + p.len) =
+        subst (λ (k : ℕ). b.heads + record_cost t * k ≤ a.heads + record_cost t * (old.place + p.len))
+        back.place decoded.spends.heads in
         rw (only i len f).1 (omega (arith, spent, p.heads, back.heads, heads))
 
-    nodes_here : (i : Item) (len : ℕ) → IsFront (ahead old) i len → c.nodes ≤ old.nodes + kept_in_map t i
+    nodes_here : (i : Item) (len : ℕ) → IsLeadingItem (ahead old) i len → c.nodes ≤ old.nodes + kept_in_map t i
     nodes_here i len f = rw (only i len f).0 (omega (arith, decoded.spends.nodes, p.nodes, back.nodes, nodes))
 
-  here : (result : Result A Fault) (c : Walk) → DecodesRecord view t p.item (old.place + p.len) a b result → c.bytes ≡ b.bytes → c.heads ≡ b.heads → c.nodes ≡ b.nodes → old.place ≤ c.place → c.place ≤ length c.bytes → ReadsMessage view (read_item t) (ahead old) (with_length old c result) → (result ≡ Err fault.OutOfMemory → GrowsMessage t (ahead old)) → OnErr result (c.place ≡ old.place) → ReadsHere view t (suc (record_cost t)) old c result
+  here : (result : Result A Fault) (c : Walk) → DecodesRecord view t p.item (old.place + p.len) a b result
+      → c.bytes ≡ b.bytes → c.heads ≡ b.heads → c.nodes ≡ b.nodes → old.place ≤ c.place → c.place ≤ length c.bytes
+      → ReadsMessage view (read_item t) (ahead old) (with_length old c result)
+      → (result ≡ Err fault.OutOfMemory → GrowsMessage t (ahead old)) → OnErr result (c.place ≡ old.place)
+      → ReadsHere view t (suc (record_cost t)) old c result
   here result c decoded bytes heads nodes forward within reads grows stays = record {
     reads = reads;
     grows = grows;
@@ -116,14 +134,17 @@ module _ {A P : Type 0} (view : A → P) (t : Fields P) (old s a b : Walk) (p : 
     no_nodes = λ none. absurd (none p.item p.len p.front);
   }
 
-  pub message_is : (message : A) → DecodesRecord view t p.item (old.place + p.len) a b (Ok message) → ReadsHere view t (suc (record_cost t)) old b (Ok message)
+  pub message_is : (message : A) → DecodesRecord view t p.item (old.place + p.len) a b (Ok message)
+      → ReadsHere view t (suc (record_cost t)) old b (Ok message)
   message_is message d =
-      let inside : a.place ≤ length a.bytes = omega (arith, back.place, skipped.forward, skipped.within, ap length back.bytes) in
+      let inside : a.place ≤ length a.bytes =
+      omega (arith, back.place, skipped.forward, skipped.within, ap length back.bytes) in
       here (Ok message) b d refl refl refl (omega (arith, d.ends)) (on.within inside)
       (record { item = p.item; len = p.len; front = p.front; holds = (omega (arith, d.ends), d.answers) })
       (λ e. absurd cc) tt
 
-  grows_there : (e : Fault) → Reads view (MayGrowAt (table_of t) p.item) (read_item t p.item) (Err e) → ◌≡◌ {A = Result A Fault} (Err e) (Err fault.OutOfMemory) → GrowsMessage t (ahead old)
+  grows_there : (e : Fault) → Reads view (MayGrowAt (table_of t) p.item) (read_item t p.item) (Err e)
+      → ◌≡◌ {A = Result A Fault} (Err e) (Err fault.OutOfMemory) → GrowsMessage t (ahead old)
   grows_there fault.DecodeFailed h same = absurd h
   grows_there fault.OutOfMemory h same = record { item = p.item; len = p.len; front = p.front; holds = h }
   grows_there fault.NotAMap h same = absurd cc
@@ -132,17 +153,20 @@ module _ {A P : Type 0} (view : A → P) (t : Fields P) (old s a b : Walk) (p : 
   grows_there (fault.Refused n) h same = absurd cc
   grows_there (fault.Missing n) h same = absurd cc
 
-  pub fault_is : (e : Fault) (c : Walk) (k : ℕ) → k ≡ old.place → c ≡ record b { place = k } → DecodesRecord view t p.item (old.place + p.len) a b (Err e) → ReadsHere view t (suc (record_cost t)) old c (Err e)
+  pub fault_is : (e : Fault) (c : Walk) (k : ℕ) → k ≡ old.place → c ≡ record b { place = k } → DecodesRecord view t
+      p.item (old.place + p.len) a b (Err e) → ReadsHere view t (suc (record_cost t)) old c (Err e)
   fault_is e c k at same d =
       let place : c.place ≡ old.place = ap (λ (w : Walk). w.place) same ∙ at in
       let bytes : c.bytes ≡ b.bytes = ap (λ (w : Walk). w.bytes) same in
-      here (Err e) c d bytes (ap (λ (w : Walk). w.heads) same) (ap (λ (w : Walk). w.nodes) same) (omega (arith, place))
+      here (Err e) c d bytes (ap (λ (w : Walk). w.heads) same) (ap (λ (w : Walk). w.nodes) same)
+      (omega (arith, place))
       (omega (arith, place, skipped.forward, skipped.within, ap length (bytes ∙ on.same ∙ back.bytes)))
       (message_fails view (table_of t) (read_item t) (ahead old) p.item p.len e p.front d.answers)
       (grows_there e d.answers) place
 
--- no item is at the cursor
-pub none_is : {A P : Type 0} (view : A → P) (t : Fields P) (cost : ℕ) (old new : Walk) → FindsNoFront old new → Went old new → ReadsHere {A = A} view t cost old new (Err fault.DecodeFailed)
+-- there is no data item at the cursor
+pub none_is : {A P : Type 0} (view : A → P) (t : Fields P) (cost : ℕ) (old new : Walk) → FindsNoLeadingItem old new
+    → Went old new → ReadsHere {A = A} view t cost old new (Err fault.DecodeFailed)
 none_is view t cost old new f went = record {
   reads = f.none;
   grows = λ e. absurd cc;
@@ -155,8 +179,9 @@ none_is view t cost old new f went = record {
   no_nodes = λ none. f.nodes;
 }
 
--- what costs this much for each byte costs no more than that
-pub here_cheaper : {A P : Type 0} (view : A → P) (t : Fields P) (c d : ℕ) (old new : Walk) (result : Result A Fault) → c ≤ d → ReadsHere view t c old new result → ReadsHere view t d old new result
+-- a lower cost for each byte is within a higher one
+pub here_cheaper : {A P : Type 0} (view : A → P) (t : Fields P) (c d : ℕ) (old new : Walk) (result : Result A Fault)
+    → c ≤ d → ReadsHere view t c old new result → ReadsHere view t d old new result
 here_cheaper view t c d old new result le h = record {
   reads = h.reads;
   grows = h.grows;

@@ -14,7 +14,7 @@ some_of : {M : Type 0} (o : Option M) (x : M) → option_map Some o ≡ Some (So
 some_of None x e = absurd cc
 some_of (Some y) x e = cc
 
--- a value that may be null, and is not
+-- an optional value that is decoded and isn't `None`
 pub not_null : {M : Type 0} (kind : Kind M) (i : Item) (x : M) → optional kind i ≡ Some (Some x) → kind i ≡ Some x
 not_null kind item.null x e = absurd cc
 not_null kind (item.number z) x e = some_of (kind (item.number z)) x e

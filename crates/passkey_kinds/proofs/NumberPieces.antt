@@ -1,4 +1,5 @@
--- Number texts whose pieces are lent one after the other, and what else encodes an algorithm.
+-- Texts of numbers whose pieces are lent one after the other, and other items that decode to an
+-- algorithm.
 use Rattle.std.specs.Option.{option_and_then}
 use Rattle.std.proofs.Common.{◌≡◌, ◌∙◌, ℕ, ℤ, zero, suc, ◌++◌, ◌-◌, ◌^◌, ◌≤◌, arith, true, false, List, [], Option, Some, None, Result, Ok, Err, refl, sym, ap}
 use Rattle.passkey_cbor.specs.Item as item
@@ -22,33 +23,37 @@ use Rattle.passkey_kinds.proofs.Leaves.{flat_found, flat_missed}
 use Rattle.passkey_kinds.proofs.Lent.{looks_all}
 use Rattle.passkey_kinds.proofs.Lists.{answers_from}
 
--- a count that is raised doesn't fall, where it isn't above the greatest number
+-- a raised count doesn't fall, if it was at most the greatest number
 raised_rises : (n k : ℕ) → n ≤ 2 ^ 128 - 1 → n ≤ raised n k
 raised_rises n zero h = omega arith
 raised_rises n (suc k) h = omega arith
 
 -- ---- a loop over the pieces
 
--- The pieces that were lent were added to the number text.
+-- The pieces lent so far were added to the text of the number.
 pub record AddsUpTo (whole left : Region) (old now : Walk) (number : NumberState) : Type 0 where
   pub bytes : List ℕ
   pub lent : LendsUpTo true whole left old now bytes
   pub is_of : IsOf number bytes
 
-pub adds_none : {whole left : Region} (a : Walk) (n : NumberState) → left ≡ whole → IsOf n [] → AddsUpTo whole left a a n
+pub adds_none : {whole left : Region} (a : Walk) (n : NumberState) → left ≡ whole → IsOf n []
+    → AddsUpTo whole left a a n
 adds_none {whole} a n e h = record { bytes = []; lent = rw e (lends_start true whole a); is_of = h }
 
-module _ {whole left next : Region} {a b d : Walk} {n : NumberState} (u : AddsUpTo whole left a b n) (looks : LooksAhead left b d) where
+module _ {whole left next : Region} {a b d : Walk} {n : NumberState} (u : AddsUpTo whole left a b n)
+    (looks : LooksAhead left b d) where
   pub adds_one : (m : NumberState) {piece : List ℕ} →
-      LendsPiece true left next piece → ((text : List ℕ) → IsOf n text → IsOf m (text ++ piece)) → AddsUpTo whole next a d m
+      LendsPiece true left next piece → ((text : List ℕ) → IsOf n text → IsOf m (text ++ piece))
+      → AddsUpTo whole next a d m
   adds_one m {piece} p push = record {
     bytes = u.bytes ++ piece;
     lent = lends_on true whole left next a b d u.bytes (u.bytes ++ piece) piece u.lent p looks refl;
     is_of = push u.bytes u.is_of;
   }
 
-  -- at the end, the number text is the string
-  pub adds_all : LendsNoPiece true left next → (found : Option ℤ) → ((text : List ℕ) → IsOf n text → found ≡ whole_64 text) →
+  -- at the end, the text of the number is the string
+  pub adds_all : LendsNoPiece true left next → (found : Option ℤ)
+      → ((text : List ℕ) → IsOf n text → found ≡ whole_64 text) →
       (s : List ℕ) → Tells true whole s → found ≡ whole_64 s
   adds_all p found h s t =
       h u.bytes u.is_of ∙ ap whole_64 (sym ((lends_all true whole left next a b d u.bytes u.lent p looks).0 s t))
@@ -62,7 +67,8 @@ module _ {whole left next : Region} {a b d : Walk} {n : NumberState} (u : AddsUp
 
 -- ---- numbers
 
-other_number : (i : Item) → ((s : List ℕ) → i ≡ item.text_string s → ⊥) → algorithm i ≡ option_and_then algorithm_named (option_and_then signed_64 (integer_in i))
+other_number : (i : Item) → ((s : List ℕ) → i ≡ item.text_string s → ⊥)
+    → algorithm i ≡ option_and_then algorithm_named (option_and_then signed_64 (integer_in i))
 other_number (item.number n) h = refl
 other_number (item.byte_string s) h = refl
 other_number (item.text_string s) h = absurd (h s refl)
@@ -74,9 +80,10 @@ other_number item.null h = refl
 other_number (item.simple n) h = refl
 other_number (item.float f) h = refl
 
--- where no text string stands, the number decides
+-- if the item isn't a text string, the integer decides
 module _ (i : Item) (to : ℕ) (a b : Walk) (other : (s : List ℕ) → i ≡ item.text_string s → ⊥) where
-  number_is : (found : Option ℤ) → found ≡ option_and_then signed_64 (integer_in i) → algorithm i ≡ option_and_then algorithm_named found
+  number_is : (found : Option ℤ) → found ≡ option_and_then signed_64 (integer_in i)
+      → algorithm i ≡ option_and_then algorithm_named found
   number_is found e = other_number i other ∙ ap (option_and_then algorithm_named) (sym e)
 
   pub number_decodes : (found : Option ℤ) (result : Result Algorithm Refusal) →

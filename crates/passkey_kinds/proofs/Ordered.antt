@@ -1,5 +1,5 @@
--- Records whose keys ascend are ordered, where what is written under their keys is; and what is
--- written of an ordered item is canonical.
+-- A record whose keys ascend is ordered if its values are; and the encoding of an ordered item is
+-- canonical.
 use Rattle.std.specs.FinMap as fin
 use Rattle.std.specs.Ordering.{is_lt}
 use Rattle.std.specs.declared.cmp.Ordering.{Ordering}
@@ -9,9 +9,9 @@ use Rattle.std.proofs.lemmas.Bool.{and_parts}
 use Rattle.passkey_bytes.specs.Map.{ByteMap}
 use Rattle.passkey_cbor.specs.Canonical.{ComesAfter, AscendFrom, Ascend, IsOrdered, AreOrdered, ArePairsOrdered, IsCanonical}
 use Rattle.passkey_cbor.specs.Depth.{depth}
-use Rattle.passkey_cbor.specs.Front.{max_depth, IsFront}
+use Rattle.passkey_cbor.specs.LeadingItem.{max_depth, IsLeadingItem}
 use Rattle.passkey_cbor.specs.Item.{Item, items_of, pairs_of}
-use Rattle.passkey_cbor.specs.Laws.{AtMostOneFront, WrittenIsFront}
+use Rattle.passkey_cbor.specs.Laws.{AtMostOneLeadingItem, WrittenIsLeadingItem}
 use Rattle.passkey_cbor.specs.Order.{ctap2_order}
 use Rattle.passkey_cbor.specs.Writable.{IsWritable, ArePairsWritable}
 use Rattle.passkey_cbor.specs.Written.{written}
@@ -33,7 +33,7 @@ abbrev pub leads : Item → List Place → Bool
 leads key [] = true
 leads key (p ∷ ps) = is_lt (ctap2_order (written key) (written p.0)) && leads key ps
 
--- each key comes before those behind it
+-- each key comes before those after it
 abbrev pub ascend : List Place → Bool
 ascend [] = true
 ascend (p ∷ ps) = leads p.0 ps && ascend ps
@@ -49,11 +49,14 @@ led key (p ∷ ps) h =
     let parts = and_parts (is_lt (ctap2_order (written key) (written p.0))) (leads key ps) h in
     (less_is (ctap2_order (written key) (written p.0)) parts.0, led key ps parts.1)
 
-under_ascends : (before : Option (List ℕ)) (key : Item) (o : Option Item) (ms : Members) → ComesAfter before (written key) → AscendFrom before (pairs_of ms) → AscendFrom (Some (written key)) (pairs_of ms) → AscendFrom before (pairs_of (under key o ++ ms))
+under_ascends : (before : Option (List ℕ)) (key : Item) (o : Option Item) (ms : Members)
+    → ComesAfter before (written key) → AscendFrom before (pairs_of ms)
+    → AscendFrom (Some (written key)) (pairs_of ms) → AscendFrom before (pairs_of (under key o ++ ms))
 under_ascends before key None ms here without rest = without
 under_ascends before key (Some x) ms here without rest = (here, rest)
 
-spread_ascends : (before : Option (List ℕ)) (ps : List Place) → ascend ps ≡ true → AllAfter before ps → AscendFrom before (pairs_of (spread ps))
+spread_ascends : (before : Option (List ℕ)) (ps : List Place) → ascend ps ≡ true → AllAfter before ps
+    → AscendFrom before (pairs_of (spread ps))
 spread_ascends before [] h after = tt
 spread_ascends before (p ∷ ps) h after =
     let parts = and_parts (leads p.0 ps) (ascend ps) h in
@@ -67,9 +70,10 @@ none_before (p ∷ ps) = (tt, none_before ps)
 
 pub keys_ascend : (ps : List Place) → ascend ps ≡ true → Ascend (pairs_of (laid [] ps))
 keys_ascend ps h =
-    subst (λ (ms : Members). Ascend (pairs_of ms)) (sym (laid_spread [] ps)) (spread_ascends None ps h (none_before ps))
+    subst (λ (ms : Members). Ascend (pairs_of ms)) (sym (laid_spread [] ps))
+    (spread_ascends None ps h (none_before ps))
 
--- ---- what is written under them
+-- ---- the values under them
 
 abbrev pub PlaceOrdered : Item → Option Item → Type 0
 PlaceOrdered key None = Unit {0}
@@ -79,7 +83,8 @@ abbrev pub AllOrdered : List Place → Type 0
 AllOrdered [] = Unit {0}
 AllOrdered (p ∷ ps) = PlaceOrdered p.0 p.1 × AllOrdered ps
 
-under_ordered : (key : Item) (o : Option Item) (ms : Members) → PlaceOrdered key o → ArePairsOrdered (pairs_of ms) → ArePairsOrdered (pairs_of (under key o ++ ms))
+under_ordered : (key : Item) (o : Option Item) (ms : Members) → PlaceOrdered key o → ArePairsOrdered (pairs_of ms)
+    → ArePairsOrdered (pairs_of (under key o ++ ms))
 under_ordered key None ms here rest = rest
 under_ordered key (Some x) ms here rest = (here, rest)
 
@@ -88,28 +93,35 @@ spread_ordered [] h = tt
 spread_ordered (p ∷ ps) h = under_ordered p.0 p.1 (spread ps) h.0 (spread_ordered ps h.1)
 
 pub record_ordered : (ps : List Place) → ascend ps ≡ true → AllOrdered ps → IsOrdered (record_tree ps)
-record_ordered ps h all =
-    (keys_ascend ps h, subst (λ (ms : Members). ArePairsOrdered (pairs_of ms)) (sym (laid_spread [] ps)) (spread_ordered ps all))
+record_ordered ps h all = (
+  keys_ascend ps h,
+  subst (λ (ms : Members). ArePairsOrdered (pairs_of ms)) (sym (laid_spread [] ps)) (spread_ordered ps all),
+)
 
-pub option_ordered : {A : Type 0} (tree : A → Item) (key : Item) → IsOrdered key → ((x : A) → IsOrdered (tree x)) → (o : Option A) → PlaceOrdered key (option_map tree o)
+pub option_ordered : {A : Type 0} (tree : A → Item) (key : Item) → IsOrdered key → ((x : A) → IsOrdered (tree x))
+    → (o : Option A) → PlaceOrdered key (option_map tree o)
 option_ordered tree key keyed each None = tt
 option_ordered tree key keyed each (Some x) = (keyed, each x)
 
-items_ordered : {A : Type 0} (tree : A → Item) → ((x : A) → IsOrdered (tree x)) → (xs : List A) → AreOrdered (items_of (map tree xs))
+items_ordered : {A : Type 0} (tree : A → Item) → ((x : A) → IsOrdered (tree x)) → (xs : List A)
+    → AreOrdered (items_of (map tree xs))
 items_ordered tree each [] = tt
 items_ordered tree each (x ∷ xs) = (each x, items_ordered tree each xs)
 
-pub list_ordered : {A : Type 0} (tree : A → Item) → ((x : A) → IsOrdered (tree x)) → (xs : List A) → IsOrdered (list_tree tree xs)
+pub list_ordered : {A : Type 0} (tree : A → Item) → ((x : A) → IsOrdered (tree x)) → (xs : List A)
+    → IsOrdered (list_tree tree xs)
 list_ordered tree each xs = items_ordered tree each xs
 
-entries_ordered : {A : Type 0} (tree : A → Item) → ((x : A) → IsOrdered (tree x)) → (es : List (List ℕ × A)) → ArePairsOrdered (pairs_of (map (entry_tree tree) es))
+entries_ordered : {A : Type 0} (tree : A → Item) → ((x : A) → IsOrdered (tree x)) → (es : List (List ℕ × A))
+    → ArePairsOrdered (pairs_of (map (entry_tree tree) es))
 entries_ordered tree each [] = tt
 entries_ordered tree each (e ∷ es) = ((tt, each e.1), entries_ordered tree each es)
 
-pub map_ordered : {A : Type 0} (tree : A → Item) → ((x : A) → IsOrdered (tree x)) → (m : ByteMap A) → IsOrdered (byte_map_tree tree m)
+pub map_ordered : {A : Type 0} (tree : A → Item) → ((x : A) → IsOrdered (tree x)) → (m : ByteMap A)
+    → IsOrdered (byte_map_tree tree m)
 map_ordered tree each m = (entries_ascend tree m, entries_ordered tree each (short_first (fin.entries m)))
 
--- ---- what is kept in a record that can be written
+-- ---- the values in a record that can be encoded
 
 abbrev pub PlaceWritable : Option Item → Type 0
 PlaceWritable None = Unit {0}
@@ -119,7 +131,8 @@ abbrev pub AllWritable : List Place → Type 0
 AllWritable [] = Unit {0}
 AllWritable (p ∷ ps) = PlaceWritable p.1 × AllWritable ps
 
-of_under : (key : Item) (o : Option Item) (ms : Members) → ArePairsWritable (pairs_of (under key o ++ ms)) → PlaceWritable o × ArePairsWritable (pairs_of ms)
+of_under : (key : Item) (o : Option Item) (ms : Members) → ArePairsWritable (pairs_of (under key o ++ ms))
+    → PlaceWritable o × ArePairsWritable (pairs_of ms)
 of_under key None ms h = (tt, h)
 of_under key (Some x) ms h = (h.0.1, h.1)
 
@@ -138,9 +151,11 @@ pub canonical_of : (x : Item) → IsWritable x → depth x ≤ max_depth → IsO
 canonical_of x w d o = record { item = x; writable = w; shallow = d; ordered = o; whole = refl }
 
 -- a value is ordered if its encoding is canonical
-pub ordered_of : AtMostOneFront → WrittenIsFront → (x : Item) → IsWritable x → depth x ≤ max_depth → IsCanonical (written x) → IsOrdered x
+pub ordered_of : AtMostOneLeadingItem → WrittenIsLeadingItem → (x : Item) → IsWritable x → depth x ≤ max_depth
+    → IsCanonical (written x) → IsOrdered x
 ordered_of one front x w d c =
     let mine = front x [] w d in
     let its = front c.item [] c.writable c.shallow in
-    let same = one (written x ++ []) x c.item (length (written x)) (length (written c.item)) mine (subst (λ (s : List ℕ). IsFront (s ++ []) c.item (length (written c.item))) (sym c.whole) its) in
+    let same = one (written x ++ []) x c.item (length (written x)) (length (written c.item)) mine
+    (subst (λ (s : List ℕ). IsLeadingItem (s ++ []) c.item (length (written c.item))) (sym c.whole) its) in
     subst IsOrdered (sym same.0) c.ordered

@@ -16,19 +16,23 @@ use Rattle.passkey_kinds.specs.declared.refusal.Refusal.TheVariants as refusal
 use Rattle.passkey_kinds.proofs.Pairs.{grows_behind, none_marked, first_is, still_good, missing_is}
 
 module _ {P : Type 0} (t : Fields P) where
-  pub put_last : (ms : Members) (m : Item × Item) (r : P) → with_members t (ms ++ m ∷ []) r ≡ put_named t.rows (named (table_of t) m.0) m.1 (with_members t ms r)
+  pub put_last : (ms : Members) (m : Item × Item) (r : P)
+      → with_members t (ms ++ m ∷ []) r ≡ put_named t.rows (named (table_of t) m.0) m.1 (with_members t ms r)
   put_last [] m r = refl
   put_last (x ∷ ms) m r = put_last ms m (put_named t.rows (named (table_of t) x.0) x.1 r)
 
   -- ---- one more member
 
-  pub passes : (earlier : Members) (key value : Item) (held : P) → named (table_of t) key ≡ unknown → with_members t earlier t.blank ≡ held → with_members t (earlier ++ (key, value) ∷ []) t.blank ≡ held
+  pub passes : (earlier : Members) (key value : Item) (held : P) → named (table_of t) key ≡ unknown
+      → with_members t earlier t.blank ≡ held → with_members t (earlier ++ (key, value) ∷ []) t.blank ≡ held
   passes earlier key value held naming made =
       put_last earlier (key, value) t.blank
       ∙ ap (λ (n : Naming). put_named t.rows n value (with_members t earlier t.blank)) naming
       ∙ made
 
-  pub puts : (earlier : Members) (key value : Item) (n : ℕ) (held next : P) → named (table_of t) key ≡ row n → with_members t earlier t.blank ≡ held → put_at t.rows n value held ≡ next → with_members t (earlier ++ (key, value) ∷ []) t.blank ≡ next
+  pub puts : (earlier : Members) (key value : Item) (n : ℕ) (held next : P) → named (table_of t) key ≡ row n
+      → with_members t earlier t.blank ≡ held → put_at t.rows n value held ≡ next
+      → with_members t (earlier ++ (key, value) ∷ []) t.blank ≡ next
   puts earlier key value n held next naming made put =
       put_last earlier (key, value) t.blank
       ∙ ap (λ (m : Naming). put_named t.rows m value (with_members t earlier t.blank)) naming
@@ -37,7 +41,8 @@ module _ {P : Type 0} (t : Fields P) where
 
   -- ---- all members
 
-  pub has_begun : (ms : Members) (held : P) (marks : List Bool) → held ≡ t.blank → marks ≡ replicate 256 false → HasReadTo t ms ms held marks
+  pub has_begun : (ms : Members) (held : P) (marks : List Bool) → held ≡ t.blank → marks ≡ replicate 256 false
+      → HasReadTo t ms ms held marks
   has_begun ms held marks empty none = record {
     earlier = [];
     whole = refl;
@@ -48,7 +53,10 @@ module _ {P : Type 0} (t : Fields P) where
     };
   }
 
-  pub goes_on : (ms rest others : Members) (m : Item × Item) (old new : P) (marks next : List Bool) → rest ≡ m ∷ others → (h : HasReadTo t ms rest old marks) → bad_member (table_of t) h.earlier m ≡ None → Marks (table_of t) (h.earlier ++ m ∷ []) next → with_members t (h.earlier ++ m ∷ []) t.blank ≡ new → HasReadTo t ms others new next
+  pub goes_on : (ms rest others : Members) (m : Item × Item) (old new : P) (marks next : List Bool)
+      → rest ≡ m ∷ others → (h : HasReadTo t ms rest old marks) → bad_member (table_of t) h.earlier m ≡ None
+      → Marks (table_of t) (h.earlier ++ m ∷ []) next → with_members t (h.earlier ++ m ∷ []) t.blank ≡ new
+      → HasReadTo t ms others new next
   goes_on ms rest others m old new marks next at h good marked made = record {
     earlier = h.earlier ++ m ∷ [];
     whole = h.whole ∙ ap (λ (r : Members). h.earlier ++ r) at ∙ sym (append_assoc h.earlier (m ∷ []) others);
@@ -56,23 +64,28 @@ module _ {P : Type 0} (t : Fields P) where
     holds = record { marked = marked; made = made };
   }
 
-  module _ {A : Type 0} (view : A → P) (ms rest others : Members) (m : Item × Item) (old : P) (marks : List Bool) (at : rest ≡ m ∷ others) (h : HasReadTo t ms rest old marks) where
+  module _ {A : Type 0} (view : A → P) (ms rest others : Members) (m : Item × Item) (old : P) (marks : List Bool)
+      (at : rest ≡ m ∷ others) (h : HasReadTo t ms rest old marks) where
     bad_is : (f : Fault) → bad_member (table_of t) h.earlier m ≡ Some f → read_members t ms ≡ Err f
     bad_is f bad = ap (judged t ms) (first_is (table_of t) ms h.earlier rest others m f at h.good bad)
 
-    pub key_fails : named (table_of t) m.0 ≡ wrong → Reads view (MayGrowIn (table_of t) ms) (read_members t ms) (Err fault.BadKey)
+    pub key_fails : named (table_of t) m.0 ≡ wrong
+        → Reads view (MayGrowIn (table_of t) ms) (read_members t ms) (Err fault.BadKey)
     key_fails naming = bad_is fault.BadKey (ap (λ (n : Naming). bad_by (table_of t) h.earlier n m.1) naming)
 
-    pub fails : (later : List Bool) (f : Fault) → Steps (table_of t) h.earlier m later (Err f) → Reads view (MayGrowIn (table_of t) ms) (read_members t ms) (Err f)
+    pub fails : (later : List Bool) (f : Fault) → Steps (table_of t) h.earlier m later (Err f)
+        → Reads view (MayGrowIn (table_of t) ms) (read_members t ms) (Err f)
     fails later fault.DecodeFailed s = absurd s
-    fails later fault.OutOfMemory s = subst (MayGrowIn (table_of t)) (sym (h.whole ∙ ap (λ (r : Members). h.earlier ++ r) at)) (grows_behind (table_of t) h.earlier m others s)
+    fails later fault.OutOfMemory s = subst (MayGrowIn (table_of t))
+        (sym (h.whole ∙ ap (λ (r : Members). h.earlier ++ r) at)) (grows_behind (table_of t) h.earlier m others s)
     fails later fault.NotAMap s = absurd s
     fails later fault.BadKey s = bad_is fault.BadKey s
     fails later (fault.Repeated n) s = bad_is (fault.Repeated n) s
     fails later (fault.Refused n) s = bad_is (fault.Refused n) s
     fails later (fault.Missing n) s = absurd s
 
-  pub reads_from : {A : Type 0} {takes may : Type 0} (view : A → P) (wanted other : Result P Fault) (r : Result A Fault) → wanted ≡ other → (takes → may) → Reads view takes other r → Reads view may wanted r
+  pub reads_from : {A : Type 0} {takes may : Type 0} (view : A → P) (wanted other : Result P Fault)
+      (r : Result A Fault) → wanted ≡ other → (takes → may) → Reads view takes other r → Reads view may wanted r
   reads_from view wanted other (Ok x) same grows h = same ∙ h
   reads_from view wanted other (Err fault.DecodeFailed) same grows h = absurd h
   reads_from view wanted other (Err fault.OutOfMemory) same grows h = grows h
@@ -83,16 +96,24 @@ module _ {P : Type 0} (t : Fields P) where
   reads_from view wanted other (Err (fault.Missing n)) same grows h = same ∙ h
 
   -- all members were decoded
-  pub all_read : {A : Type 0} (view : A → P) (ms rest : Members) (held : P) (marks : List Bool) (r : Result A Fault) → rest ≡ [] → HasReadTo t ms rest held marks → are_small (entries (table_of t)) ≡ true → Reads view ⊥ (unless_missing (first_unmarked (entries (table_of t)) marks) held) r → Reads view (MayGrowIn (table_of t) ms) (read_members t ms) r
+  pub all_read : {A : Type 0} (view : A → P) (ms rest : Members) (held : P) (marks : List Bool) (r : Result A Fault)
+      → rest ≡ [] → HasReadTo t ms rest held marks → are_small (entries (table_of t)) ≡ true
+      → Reads view ⊥ (unless_missing (first_unmarked (entries (table_of t)) marks) held) r
+      → Reads view (MayGrowIn (table_of t) ms) (read_members t ms) r
   all_read view ms rest held marks r ended h small told =
-      let same : h.earlier ≡ ms = sym (h.whole ∙ ap (λ (x : Members). h.earlier ++ x) ended ∙ append-nil h.earlier) in
-      let whole : HasRead t ms held marks = subst (λ (before : Members). HasRead t before held marks) same h.holds in
+      let same : h.earlier ≡ ms =
+      sym (h.whole ∙ ap (λ (x : Members). h.earlier ++ x) ended ∙ append-nil h.earlier) in
+      let whole : HasRead t ms held marks =
+      subst (λ (before : Members). HasRead t before held marks) same h.holds in
       let good : first_bad (table_of t) [] ms ≡ None = h.good ∙ ap (first_bad (table_of t) h.earlier) ended in
-      let missing : first_missing (table_of t) ms ≡ first_unmarked (entries (table_of t)) marks = sym (missing_is (table_of t) ms marks whole.marked small) in
-      reads_from view (read_members t ms) (unless_missing (first_unmarked (entries (table_of t)) marks) held) r (ap (judged t ms) good ∙ (λ j. unless_missing (missing j) (whole.made j))) (λ none. absurd none) told
+      let missing : first_missing (table_of t) ms ≡ first_unmarked (entries (table_of t)) marks =
+      sym (missing_is (table_of t) ms marks whole.marked small) in
+      reads_from view (read_members t ms) (unless_missing (first_unmarked (entries (table_of t)) marks) held) r
+      (ap (judged t ms) good ∙ (λ j. unless_missing (missing j) (whole.made j))) (λ none. absurd none) told
 
--- what is no map is no record
-pub no_record : {P : Type 0} (t : Fields P) (i : Item) → ((ps : item.Pairs) → i ≡ item.map ps → ⊥) → read_item t i ≡ Err fault.NotAMap
+-- an item that isn't a map isn't a record
+pub no_record : {P : Type 0} (t : Fields P) (i : Item) → ((ps : item.Pairs) → i ≡ item.map ps → ⊥)
+    → read_item t i ≡ Err fault.NotAMap
 no_record t (item.map ps) h = absurd (h ps refl)
 no_record t (item.number n) h = refl
 no_record t (item.byte_string s) h = refl
@@ -104,9 +125,10 @@ no_record t item.null h = refl
 no_record t (item.simple n) h = refl
 no_record t (item.float f) h = refl
 
--- ---- records that are held in others
+-- ---- records inside others
 
-pub held_answers : {A P : Type 0} {takes may : Type 0} (t : Fields P) (view : A → P) (wanted : Result P Fault) (r : Result A Fault) → (takes → may) → Reads view takes wanted r → AnswersAs view (result_ok wanted) may (held_as r)
+pub held_answers : {A P : Type 0} {takes may : Type 0} (t : Fields P) (view : A → P) (wanted : Result P Fault) (r :
+    Result A Fault) → (takes → may) → Reads view takes wanted r → AnswersAs view (result_ok wanted) may (held_as r)
 held_answers t view wanted (Ok x) grows h = ap result_ok h
 held_answers t view wanted (Err fault.DecodeFailed) grows h = absurd h
 held_answers t view wanted (Err fault.OutOfMemory) grows h = grows h
@@ -126,13 +148,20 @@ held_ok Q (Err (fault.Repeated n)) h = tt
 held_ok Q (Err (fault.Refused n)) h = tt
 held_ok Q (Err (fault.Missing n)) h = tt
 
-pub puts_refused : {P : Type 0} (t : Fields P) (n : ℕ) (i : Item) (old new : P) (why : Refusal) → why ≡ refusal.Refused → Puts t n i old new (Err why) → accepts_at (rows_of t.rows) n i ≡ false
+pub puts_refused : {P : Type 0} (t : Fields P) (n : ℕ) (i : Item) (old new : P) (why : Refusal)
+    → why ≡ refusal.Refused → Puts t n i old new (Err why) → accepts_at (rows_of t.rows) n i ≡ false
 puts_refused t n i old new why e h = subst (λ (w : Refusal). Puts t n i old new (Err w)) e h
 
--- a field that was set is what its row puts
-pub sets_put : {A M P : Type 0} (t : Fields P) (view : A → M) (kind : Kind M) (takes : Bool) (set : M → P → P) (n k : ℕ) (i : Item) (field : A) (old new : P) (result : Result (Unit {0}) Refusal) → n ≡ k → accepts_at (rows_of t.rows) k i ≡ is_some (kind i) → put_at t.rows k i old ≡ set_with set (kind i) old → takes_at (rows_of t.rows) k ≡ takes → set (view field) old ≡ new → Sets view kind takes i field result → Puts t n i old new result
-sets_put {M = M} t view kind takes set n k i field old new result same accepts puts may made h = subst (λ (j : ℕ). Puts t j i old new result) (sym same) (there result h) where
-  there : (r : Result (Unit {0}) Refusal) → Sets view kind takes i field r → Puts t k i old new r
-  there (Ok x) h = (accepts ∙ ap (λ (o : Option M). is_some o) h, puts ∙ ap (λ (o : Option M). set_with set o old) h ∙ made)
-  there (Err refusal.Refused) h = accepts ∙ ap (λ (o : Option M). is_some o) h
-  there (Err refusal.OutOfMemory) h = subst (λ (b : Bool). MayGrow b i) (sym may) h
+-- setting a field is what its row puts
+pub sets_put : {A M P : Type 0} (t : Fields P) (view : A → M) (kind : Kind M) (takes : Bool) (set : M → P → P)
+    (n k : ℕ) (i : Item) (field : A) (old new : P) (result : Result (Unit {0}) Refusal) → n ≡ k
+    → accepts_at (rows_of t.rows) k i ≡ is_some (kind i) → put_at t.rows k i old ≡ set_with set (kind i) old
+    → takes_at (rows_of t.rows) k ≡ takes → set (view field) old ≡ new → Sets view kind takes i field result
+    → Puts t n i old new result
+sets_put {M = M} t view kind takes set n k i field old new result same accepts puts may made h =
+    subst (λ (j : ℕ). Puts t j i old new result) (sym same) (there result h) where
+      there : (r : Result (Unit {0}) Refusal) → Sets view kind takes i field r → Puts t k i old new r
+      there (Ok x) h =
+          (accepts ∙ ap (λ (o : Option M). is_some o) h, puts ∙ ap (λ (o : Option M). set_with set o old) h ∙ made)
+      there (Err refusal.Refused) h = accepts ∙ ap (λ (o : Option M). is_some o) h
+      there (Err refusal.OutOfMemory) h = subst (λ (b : Bool). MayGrow b i) (sym may) h

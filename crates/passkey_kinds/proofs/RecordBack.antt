@@ -1,4 +1,4 @@
--- Records that are read back as they were.
+-- Records that are their own normal forms.
 use Rattle.std.proofs.Common.{[], ◌∷◌, refl}
 use Rattle.passkey_kinds.specs.ReadBack.{IsReadBack, Any}
 use Rattle.passkey_kinds.specs.Trees.{descriptor_places, descriptor_tree, parameters_places, parameters_tree, webauthn_user_places, webauthn_user_tree}
@@ -10,10 +10,22 @@ use Rattle.passkey_kinds.proofs.RowsBack.{puts_value, puts_default, ◌▸◌, n
 use Rattle.passkey_webauthn.specs.declared.credential_type.PublicKeyCredentialType.TheVariants.{Unknown}
 
 pub descriptor_back : IsReadBack descriptor descriptor_tree Any (λ d. d)
-descriptor_back = record { back = λ d h. ordered_back descriptor_fields (2 ∷ 1 ∷ 3 ∷ []) (descriptor_places d) d refl refl refl (puts_value bytes_back d.id tt ▸ puts_value (or_else_back credential_type_back Unknown) d.ty tt ▸ puts_default (accepted_place transport_back d.transports (all_of_anything d.transports)) refl ▸ no_more) }
+descriptor_back = record {
+  back = λ d h. ordered_back descriptor_fields (2 ∷ 1 ∷ 3 ∷ []) (descriptor_places d) d
+      refl refl refl (puts_value bytes_back d.id tt ▸ puts_value (or_else_back credential_type_back Unknown) d.ty tt
+      ▸ puts_default (accepted_place transport_back d.transports (all_of_anything d.transports)) refl ▸ no_more);
+}
 
 pub parameters_back : IsReadBack parameters parameters_tree Any (λ p. p)
-parameters_back = record { back = λ p h. ordered_back parameters_fields (2 ∷ 1 ∷ []) (parameters_places p) p refl refl refl (puts_value algorithm_back p.alg tt ▸ puts_value (or_else_back credential_type_back Unknown) p.ty tt ▸ no_more) }
+parameters_back = record {
+  back =
+      λ p h. ordered_back parameters_fields (2 ∷ 1 ∷ []) (parameters_places p) p refl refl refl (puts_value
+      algorithm_back p.alg tt ▸ puts_value (or_else_back credential_type_back Unknown) p.ty tt ▸ no_more);
+}
 
 pub user_back : IsReadBack user webauthn_user_tree Any (λ u. u)
-user_back = record { back = λ u h. ordered_back user_fields (1 ∷ 3 ∷ 2 ∷ []) (webauthn_user_places u) u refl refl refl (puts_value bytes_back u.id tt ▸ puts_value text_back u.name tt ▸ puts_value text_back u.display_name tt ▸ no_more) }
+user_back = record {
+  back =
+      λ u h. ordered_back user_fields (1 ∷ 3 ∷ 2 ∷ []) (webauthn_user_places u) u refl refl refl (puts_value
+      bytes_back u.id tt ▸ puts_value text_back u.name tt ▸ puts_value text_back u.display_name tt ▸ no_more);
+}

@@ -1,4 +1,4 @@
--- How many levels the records are written with.
+-- The nesting levels of the records' encodings.
 use Rattle.std.specs.Prelude.{codes}
 use Rattle.std.proofs.Common.{ℕ, List, ◌≤◌, arith}
 use Rattle.passkey_cbor.specs.Depth.{depth}
@@ -22,7 +22,18 @@ pub parameters_levels : (p : PublicKeyCredentialParameters) → depth (parameter
 parameters_levels p = record_within 0 (parameters_places p) (flat 0, (flat 0, tt))
 
 pub descriptor_levels : (d : PublicKeyCredentialDescriptor) → depth (descriptor_tree d) ≤ 2
-descriptor_levels d = record_within 1 (descriptor_places d) (flat 1, (flat 1, (option_within (list_tree transport_tree) 1 (text_string (codes "transports")) (none 1) (list_within transport_tree 0 (λ t. none 0)) d.transports, tt)))
+descriptor_levels d =
+    record_within 1 (descriptor_places d) (
+      flat 1,
+      (
+        flat 1,
+        (
+          option_within (list_tree transport_tree) 1
+              (text_string (codes "transports")) (none 1) (list_within transport_tree 0 (λ t. none 0)) d.transports,
+          tt,
+        ),
+      ),
+    )
 
 pub user_levels : (u : webauthn.PublicKeyCredentialUserEntity) → depth (webauthn_user_tree u) ≤ 1
 user_levels u = record_within 0 (webauthn_user_places u) (flat 0, (flat 0, (flat 0, tt)))

@@ -24,8 +24,17 @@ descriptor_ascends d = refl
 
 pub descriptor_ordered : (d : PublicKeyCredentialDescriptor) → IsOrdered (descriptor_tree d)
 descriptor_ordered d =
-    record_ordered (descriptor_places d) (descriptor_ascends d)
-    ((tt, tt), ((tt, tt), (option_ordered (list_tree transport_tree) (text_string (codes "transports")) tt (list_ordered transport_tree (λ t. tt)) d.transports, tt)))
+    record_ordered (descriptor_places d) (descriptor_ascends d) (
+      (tt, tt),
+      (
+        (tt, tt),
+        (
+          option_ordered (list_tree transport_tree) (text_string (codes "transports")) tt
+              (list_ordered transport_tree (λ t. tt)) d.transports,
+          tt,
+        ),
+      ),
+    )
 
 user_ascends : (u : webauthn.PublicKeyCredentialUserEntity) → ascend (webauthn_user_places u) ≡ true
 unfolding shortest_head

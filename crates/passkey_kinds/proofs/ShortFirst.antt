@@ -1,4 +1,4 @@
--- Sorting by numbers: a stable sort gives `sorted_by`.
+-- Sorting by numbers: a stable sort returns `sorted_by`.
 use Rattle.std.specs.Cmp.{nat_cmp_is}
 use Rattle.std.specs.List.{AllByRecursion, filter}
 use Rattle.std.specs.Fn.{ComputesKey, Called, Mut}
@@ -34,12 +34,13 @@ tie_of n m = elim (cases_lt n m) [
   | inl lt ↦ rw (sym (nat_cmp_is n m Less lt), other_number m n (inr lt)) refl
   | inr le ↦ elim (cases_lt m n) [
     | inl lt ↦ rw (sym (nat_cmp_is n m Greater lt), sym (nat_cmp_is m n Less lt), other_number m n (inl lt)) refl
-    | inr ge ↦ (let e : n ≡ m = omega (arith, le, ge) in rw (sym (nat_cmp_is n m Equal e), sym (nat_cmp_is m n Equal (sym e)), same_number m n (sym e)) refl)
+    | inr ge ↦ (let e : n ≡ m = omega (arith, le, ge) in rw
+        (sym (nat_cmp_is n m Equal e), sym (nat_cmp_is m n Equal (sym e)), same_number m n (sym e)) refl)
   ]
 ]
 
 module _ {X : Type 0} (number : X → ℕ) where
-  -- those with this number
+  -- the elements with this number
   abbrev pub of : ℕ → List X → List X
   of n xs = filter (λ y. number y == n) xs
 
@@ -53,8 +54,9 @@ module _ {X : Type 0} (number : X → ℕ) where
     by true e = rw e refl
     by false e = rw e refl
 
-  -- two with different numbers change places
-  swapped : (n : ℕ) (x y : X) (xs : List X) → number y < number x → kept (number y == n) y (kept (number x == n) x xs) ≡ kept (number x == n) x (kept (number y == n) y xs)
+  -- two elements with different numbers change places
+  swapped : (n : ℕ) (x y : X) (xs : List X) → number y < number x
+      → kept (number y == n) y (kept (number x == n) x xs) ≡ kept (number x == n) x (kept (number y == n) y xs)
   swapped n x y xs lt = elim (cases_eq (number x) n) [
     | inl e ↦ rw (other_number (number y) n (inl (omega (arith, lt, e)))) refl
     | inr d ↦ rw (other_number (number x) n (split d)) refl
@@ -73,9 +75,10 @@ module _ {X : Type 0} (number : X → ℕ) where
 
   of-sorted_by : (n : ℕ) (xs : List X) → of n (sorted_by number xs) ≡ of n xs
   of-sorted_by n [] = refl
-  of-sorted_by n (x ∷ xs) = of-put_by n x (sorted_by number xs) ∙ ap (kept (number x == n) x) (of-sorted_by n xs) ∙ sym (of-cons n x xs)
+  of-sorted_by n (x ∷ xs) =
+      of-put_by n x (sorted_by number xs) ∙ ap (kept (number x == n) x) (of-sorted_by n xs) ∙ sym (of-cons n x xs)
 
-  -- ---- rising numbers
+  -- ---- ascending numbers
 
   abbrev pub Rising : ℕ → List X → Type 0
   Rising low [] = Unit {0}
@@ -95,7 +98,8 @@ module _ {X : Type 0} (number : X → ℕ) where
   none_below : (n low : ℕ) (xs : List X) → n < low → Rising low xs → of n xs ≡ []
   none_below n low [] lt r = refl
   none_below n low (x ∷ xs) lt r =
-      of-cons n x xs ∙ rw (other_number (number x) n (inr (omega (arith, lt, r.0)))) (none_below n (number x) xs (omega (arith, lt, r.0)) r.1)
+      of-cons n x xs ∙ rw (other_number (number x) n (inr (omega (arith, lt, r.0))))
+      (none_below n (number x) xs (omega (arith, lt, r.0)) r.1)
 
   first_is : (x y : X) (xs ys : List X) → x ∷ xs ≡ y ∷ ys → (x ≡ y) × (xs ≡ ys)
   first_is x y xs ys e = (cc, cc)
@@ -110,34 +114,45 @@ module _ {X : Type 0} (number : X → ℕ) where
   same_kept true x xs ys e = (first_is x x xs ys e).1
   same_kept false x xs ys e = e
 
-  tied : (x y : X) (xs ys : List X) → Rising (number x) xs → Rising (number y) ys → ((z : X) → of (number z) (x ∷ xs) ≡ of (number z) (y ∷ ys)) → number x ≡ number y → (Rising (number x) xs → Rising (number x) ys → ((z : X) → of (number z) xs ≡ of (number z) ys) → xs ≡ ys) → x ∷ xs ≡ y ∷ ys
+  tied : (x y : X) (xs ys : List X) → Rising (number x) xs → Rising (number y) ys
+      → ((z : X) → of (number z) (x ∷ xs) ≡ of (number z) (y ∷ ys)) → number x ≡ number y → (Rising (number x) xs
+      → Rising (number x) ys → ((z : X) → of (number z) xs ≡ of (number z) ys) → xs ≡ ys) → x ∷ xs ≡ y ∷ ys
   tied x y xs ys r s same e others_same =
-      let heads = first_is x y (of (number x) xs) (of (number x) ys) (sym (of-first x xs) ∙ same x ∙ ap (λ n. of n (y ∷ ys)) e ∙ of-first y ys ∙ ap (λ n. y ∷ of n ys) (sym e)) in
+      let heads = first_is x y (of (number x) xs) (of (number x) ys) (sym (of-first x xs) ∙ same x
+      ∙ ap (λ n. of n (y ∷ ys)) e ∙ of-first y ys ∙ ap (λ n. y ∷ of n ys) (sym e)) in
       let others : (z : X) → of (number z) xs ≡ of (number z) ys = λ z.
       same_kept (number x == number z) x (of (number z) xs) (of (number z) ys)
-      (sym (of-cons (number z) x xs) ∙ same z ∙ of-cons (number z) y ys ∙ ap (λ w. kept (number w == number z) w (of (number z) ys)) (sym heads.0)) in
+      (sym (of-cons (number z) x xs) ∙ same z ∙ of-cons (number z) y ys
+      ∙ ap (λ w. kept (number w == number z) w (of (number z) ys)) (sym heads.0)) in
       let tails = others_same r (subst (λ n. Rising n ys) (sym e) s) others in
       ap (λ z. z ∷ xs) heads.0 ∙ ap (λ zs. y ∷ zs) tails
 
-  -- rising lists that have the same elements of each number, in the same order, are one
-  rising_same : (low : ℕ) (xs ys : List X) → Rising low xs → Rising low ys → ((z : X) → of (number z) xs ≡ of (number z) ys) → xs ≡ ys
+  -- ascending lists with the same elements of each number, in the same order, are equal
+  rising_same : (low : ℕ) (xs ys : List X) → Rising low xs → Rising low ys
+      → ((z : X) → of (number z) xs ≡ of (number z) ys) → xs ≡ ys
   rising_same low [] [] r s same = refl
   rising_same low [] (y ∷ ys) r s same = absurd (not_none y (of (number y) ys) (sym (of-first y ys) ∙ sym (same y)))
   rising_same low (x ∷ xs) [] r s same = absurd (not_none x (of (number x) xs) (sym (of-first x xs) ∙ same x))
   rising_same low (x ∷ xs) (y ∷ ys) r s same = elim (cases_lt (number x) (number y)) [
-    | inl lt ↦ absurd (not_none x (of (number x) xs) (sym (of-first x xs) ∙ same x ∙ none_below (number x) (number y) (y ∷ ys) lt (omega arith, s.1)))
+    | inl lt ↦ absurd (not_none x (of (number x) xs)
+        (sym (of-first x xs) ∙ same x ∙ none_below (number x) (number y) (y ∷ ys) lt (omega arith, s.1)))
     | inr ge ↦ elim (cases_lt (number y) (number x)) [
-      | inl lt ↦ absurd (not_none y (of (number y) ys) (sym (of-first y ys) ∙ sym (same y) ∙ none_below (number y) (number x) (x ∷ xs) lt (omega arith, r.1)))
+      | inl lt ↦ absurd (not_none y (of (number y) ys)
+          (sym (of-first y ys) ∙ sym (same y) ∙ none_below (number y) (number x) (x ∷ xs) lt (omega arith, r.1)))
       | inr le ↦ tied x y xs ys r.1 s.1 same (omega (arith, ge, le)) (rising_same (number x) xs ys)
     ]
   ]
 
-  -- ---- what a stable sort gives
+  -- ---- what a stable sort returns
 
-  rising_from : (low : ℕ) (xs : List X) → ((d : X) → 0 < length xs → low ≤ number (slice_index_or xs 0 d)) → IsNonDecreasingBy number xs → Rising low xs
+  rising_from : (low : ℕ) (xs : List X) → ((d : X) → 0 < length xs → low ≤ number (slice_index_or xs 0 d))
+      → IsNonDecreasingBy number xs → Rising low xs
   rising_from low [] first rises = tt
-  rising_from low (x ∷ xs) first rises =
-      (first x (omega arith), rising_from (number x) xs (λ d some. rises 0 1 d (omega arith) (omega (arith, some))) (λ i j d le lt. rises (suc i) (suc j) d (omega (arith, le)) (omega (arith, lt))))
+  rising_from low (x ∷ xs) first rises = (
+    first x (omega arith),
+    rising_from (number x) xs (λ d some. rises 0 1 d (omega arith) (omega (arith, some)))
+        (λ i j d le lt. rises (suc i) (suc j) d (omega (arith, le)) (omega (arith, lt))),
+  )
 
   filter_same : (p q : X → Bool) (xs : List X) → ((x : X) → p x ≡ q x) → filter p xs ≡ filter q xs
   filter_same p q [] same = refl
@@ -145,33 +160,40 @@ module _ {X : Type 0} (number : X → ℕ) where
 
   stable_of : (xs ys : List X) → IsStableByKey number nat_cmp xs ys → (x : X) → of (number x) ys ≡ of (number x) xs
   stable_of xs ys stable x =
-      filter_same (λ y. number y == number x) (ties (λ a b. is_lt (nat_cmp (number a) (number b))) x) ys (λ y. sym (tie_of (number x) (number y)))
+      filter_same (λ y. number y == number x) (ties (λ a b. is_lt (nat_cmp (number a) (number b))) x) ys
+      (λ y. sym (tie_of (number x) (number y)))
       ∙ stable x
-      ∙ filter_same (ties (λ a b. is_lt (nat_cmp (number a) (number b))) x) (λ y. number y == number x) xs (λ y. tie_of (number x) (number y))
+      ∙ filter_same (ties (λ a b. is_lt (nat_cmp (number a) (number b))) x) (λ y. number y == number x) xs
+      (λ y. tie_of (number x) (number y))
 
-  -- what `sort_by_key` ensures, where each call gives the number
+  -- what `sort_by_key` ensures, where each call returns the number
   pub sorted_is : {F : Type 0} {g : Mut F (Bor X × Unit {0}) ℕ} {f : F} (xs ys : List X)
       → ((key : X → ℕ) → ComputesKey g key f → IsSortedByKey key nat_cmp ys)
       → ((key : X → ℕ) → ComputesKey g key f → IsStableByKey key nat_cmp xs ys)
-      → ((a : Bor X × Unit {0}) (r : ℕ) (f' : F) → Called g f a r f' → (r ≡ number a.0.now) × (f' ≡ f)) → ys ≡ sorted_by number xs
+      → ((a : Bor X × Unit {0}) (r : ℕ) (f' : F) → Called g f a r f' → (r ≡ number a.0.now) × (f' ≡ f))
+      → ys ≡ sorted_by number xs
   sorted_is {g = g} {f = f} xs ys up stable calls =
       let rises = IsNonDecreasingBy-from_sort_by_key number ys up calls in
       rising_same 0 ys (sorted_by number xs)
       (rising_from 0 ys (λ d some. omega arith) rises)
       (sorted_by-rising xs)
-      (λ z. stable_of xs ys (stable number (always_returns_same g (λ a r. r ≡ number a.0.now) f calls)) z ∙ sym (of-sorted_by (number z) xs))
+      (λ z. stable_of xs ys (stable number (always_returns_same g (λ a r. r ≡ number a.0.now) f calls)) z
+      ∙ sym (of-sorted_by (number z) xs))
 
 -- sorting images by their numbers
-put_by-map : {X Y : Type 0} (f : X → Y) (number : Y → ℕ) (x : X) (ys : List X) → map f (put_by (λ z. number (f z)) x ys) ≡ put_by number (f x) (map f ys)
+put_by-map : {X Y : Type 0} (f : X → Y) (number : Y → ℕ) (x : X) (ys : List X)
+    → map f (put_by (λ z. number (f z)) x ys) ≡ put_by number (f x) (map f ys)
 put_by-map f number x [] = refl
 put_by-map f number x (y ∷ ys) = elim (cases_lt (number (f y)) (number (f x))) [
   | inr le ↦ rw (at_most (number (f x)) (number (f y)) le) refl
   | inl lt ↦ rw (above (number (f x)) (number (f y)) lt) (ap (λ zs. f y ∷ zs) (put_by-map f number x ys))
 ]
 
-pub sorted_by-map : {X Y : Type 0} (f : X → Y) (number : Y → ℕ) (xs : List X) → map f (sorted_by (λ z. number (f z)) xs) ≡ sorted_by number (map f xs)
+pub sorted_by-map : {X Y : Type 0} (f : X → Y) (number : Y → ℕ) (xs : List X)
+    → map f (sorted_by (λ z. number (f z)) xs) ≡ sorted_by number (map f xs)
 sorted_by-map f number [] = refl
-sorted_by-map f number (x ∷ xs) = put_by-map f number x (sorted_by (λ z. number (f z)) xs) ∙ ap (put_by number (f x)) (sorted_by-map f number xs)
+sorted_by-map f number (x ∷ xs) =
+    put_by-map f number x (sorted_by (λ z. number (f z)) xs) ∙ ap (put_by number (f x)) (sorted_by-map f number xs)
 
 -- what holds of each element
 module _ {X : Type 0} (number : X → ℕ) (P : X → Type 0) where

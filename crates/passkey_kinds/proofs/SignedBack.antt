@@ -1,4 +1,4 @@
--- The signed outputs of extensions are read back.
+-- The encodings of signed extension outputs can be decoded again.
 use Rattle.std.proofs.Common.{◌≡◌, ◌∙◌, ℕ, Bool, List, [], ◌∷◌, Option, Some, None, refl, ap}
 use Rattle.passkey_cbor.specs.Item.{boolean, byte_string, text_string}
 use Rattle.passkey_core.specs.SignedOutputs.{creation_item, assertion_item, hmac_secret, hmac_secret_mc}
@@ -17,22 +17,28 @@ creation_places o =
     ∷ where_some (text_string hmac_secret_mc) byte_string o.hmac_secret_mc
     ∷ []
 
-creation_laid : (made : Option Bool) (secrets : Option (List ℕ)) → creation_item (record { hmac_secret = made; hmac_secret_mc = secrets }) ≡ record_tree (creation_places (record { hmac_secret = made; hmac_secret_mc = secrets }))
+creation_laid : (made : Option Bool) (secrets : Option (List ℕ))
+    → creation_item (record { hmac_secret = made; hmac_secret_mc = secrets })
+    ≡ record_tree (creation_places (record { hmac_secret = made; hmac_secret_mc = secrets }))
 creation_laid None None = refl
 creation_laid None (Some b) = refl
 creation_laid (Some t) None = refl
 creation_laid (Some t) (Some b) = refl
 
 pub creation_back : IsReadBack made.signed creation_item Any (λ o. o)
-creation_back = record { back = λ o h. ap made.signed (creation_laid o.hmac_secret o.hmac_secret_mc) ∙ read o } where
-  read : (o : creation.SignedExtensionOutputs) → made.signed (record_tree (creation_places o)) ≡ Some o
-  read o =
-      kind_back made.signed_fields (creation_places o) o refl refl (puts_default (optional_place truth_back refl o.hmac_secret (anything o.hmac_secret)) refl ▸ puts_default (optional_place bytes_back refl o.hmac_secret_mc (anything o.hmac_secret_mc)) refl ▸ no_more)
+creation_back =
+    record { back = λ o h. ap made.signed (creation_laid o.hmac_secret o.hmac_secret_mc) ∙ read o } where
+      read : (o : creation.SignedExtensionOutputs) → made.signed (record_tree (creation_places o)) ≡ Some o
+      read o =
+          kind_back made.signed_fields (creation_places o) o refl refl
+          (puts_default (optional_place truth_back refl o.hmac_secret (anything o.hmac_secret)) refl ▸ puts_default
+          (optional_place bytes_back refl o.hmac_secret_mc (anything o.hmac_secret_mc)) refl ▸ no_more)
 
 abbrev assertion_places : assertion.SignedExtensionOutputs → List Place
 assertion_places o = where_some (text_string hmac_secret) byte_string o.hmac_secret ∷ []
 
-assertion_laid : (secrets : Option (List ℕ)) → assertion_item (record { hmac_secret = secrets }) ≡ record_tree (assertion_places (record { hmac_secret = secrets }))
+assertion_laid : (secrets : Option (List ℕ)) → assertion_item (record { hmac_secret = secrets })
+    ≡ record_tree (assertion_places (record { hmac_secret = secrets }))
 assertion_laid None = refl
 assertion_laid (Some b) = refl
 
@@ -40,4 +46,5 @@ pub assertion_back : IsReadBack used.signed assertion_item Any (λ o. o)
 assertion_back = record { back = λ o h. ap used.signed (assertion_laid o.hmac_secret) ∙ read o } where
   read : (o : assertion.SignedExtensionOutputs) → used.signed (record_tree (assertion_places o)) ≡ Some o
   read o =
-      kind_back used.signed_fields (assertion_places o) o refl refl (puts_default (optional_place bytes_back refl o.hmac_secret (anything o.hmac_secret)) refl ▸ no_more)
+      kind_back used.signed_fields (assertion_places o) o refl refl
+      (puts_default (optional_place bytes_back refl o.hmac_secret (anything o.hmac_secret)) refl ▸ no_more)

@@ -1,4 +1,4 @@
--- Arrays of bytes, AAGUIDs and sizes are read back from what they are written as.
+-- The encodings of arrays of bytes, AAGUIDs and sizes can be decoded again.
 use Rattle.std.proofs.Common.{◌≡◌, ◌∙◌, ℕ, ◌==◌, ◌^◌, eq-eqb, lt-ltb, if◌then◌else◌, length, map, List, Some, None, refl, ap}
 use Rattle.std.proofs.lemmas.List.{length-map}
 use Rattle.passkey_cbor.specs.Item.{Item, byte_string, elements, items_of}
@@ -12,8 +12,14 @@ use Rattle.passkey_kinds.proofs.LeafBack.{byte_back, each_back}
 use Rattle.passkey_kinds.proofs.Lists.{map_same}
 
 pub numbers_back : (n : ℕ) → IsReadBack (sized_bytes n) numbers_tree (AreBytes n) (λ b. b)
-numbers_back n = record { back = λ b h. sized n (elements (items_of (map number_tree b))) b (ap length (elements-items_of (map number_tree b)) ∙ length-map b number_tree ∙ h.0) (ap (each (below 256)) (elements-items_of (map number_tree b)) ∙ each_back (below (2 ^ 8)) number_tree IsByte (λ n. n) byte_back.back b h.1 ∙ ap Some (map_same b)) } where
-  sized : (n : ℕ) (xs : List Item) (b : List ℕ) → length xs ≡ n → each (below 256) xs ≡ Some b → (if length xs == n then each (below 256) xs else None) ≡ Some b
+numbers_back n = record {
+  back =
+      λ b h. sized n (elements (items_of (map number_tree b))) b (ap length (elements-items_of (map number_tree b))
+      ∙ length-map b number_tree ∙ h.0) (ap (each (below 256)) (elements-items_of (map number_tree b))
+      ∙ each_back (below (2 ^ 8)) number_tree IsByte (λ n. n) byte_back.back b h.1 ∙ ap Some (map_same b));
+} where
+  sized : (n : ℕ) (xs : List Item) (b : List ℕ) → length xs ≡ n → each (below 256) xs ≡ Some b
+      → (if length xs == n then each (below 256) xs else None) ≡ Some b
   sized n xs b long h = rw (eq-eqb (length xs) n long) h
 
 pub size_back : IsReadBack size number_tree IsSize (λ n. n)

@@ -1,4 +1,4 @@
--- Sizes, by the unsigned integer that an item is.
+-- Sizes, as unsigned integers.
 use Rattle.std.specs.Option.{option_and_then}
 use Rattle.std.proofs.Common.{◌≡◌, ℕ, pos, negsuc, Option, refl}
 use Rattle.passkey_cbor.specs.Item as item
@@ -6,7 +6,7 @@ use Rattle.passkey_cbor.specs.Item.{Item}
 use Rattle.passkey_kinds.specs.HeadValues.{unsigned_in}
 use Rattle.passkey_kinds.specs.Size.{size}
 
--- the size that this number is
+-- this number as a size
 abbrev pub size_of : ℕ → Option ℕ
 size_of n = size (item.number (pos n))
 

@@ -1,4 +1,4 @@
--- Bytes that texts and arrays stand for.
+-- The bytes that texts and arrays decode to.
 use Rattle.std.proofs.Common.{◌≡◌, ℕ, List, Option, Some, None, Ok, Err, refl, ap}
 use Rattle.passkey_bytes.specs.Bytes.{bytes_or_fault}
 use Rattle.passkey_bytes.specs.declared.bytes.BytesFault.{BytesFault}

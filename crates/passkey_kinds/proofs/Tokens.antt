@@ -1,4 +1,5 @@
--- Strings that are lent at a cursor and looked at once more: what they are, and where that leads.
+-- Strings that are lent at a cursor and looked at again: what they are, and where the cursor is
+-- then.
 use Rattle.std.specs.Option.{ok_or}
 use Rattle.std.proofs.Common.{◌≡◌, ◌∙◌, ℕ, suc, ◌+◌, ◌*◌, ◌≤◌, ◌<◌, arith, Bool, List, Option, Some, None, option_map, Result, refl, sym, ap, subst}
 use Rattle.std.proofs.Math.Nat.{mul-le-mul_left}
@@ -6,7 +7,7 @@ use Rattle.passkey_cbor.specs.Inside.{Content}
 use Rattle.passkey_cbor.specs.Item as item
 use Rattle.passkey_cbor.specs.Item.{Item}
 use Rattle.passkey_cbor.specs.Lent.{Region, Tells, PassesString, LendsNothing, LentWhole}
-use Rattle.passkey_cbor.specs.Stands.{Stands}
+use Rattle.passkey_cbor.specs.EncodedAt.{IsEncodedAt}
 use Rattle.passkey_cbor.specs.Walk.{Walk, Went}
 use Rattle.passkey_kinds.specs.Kind.{AnswersAs, bytes}
 use Rattle.passkey_kinds.specs.Reader.{Onward, Further, Decodes, LooksAtMost}
@@ -15,13 +16,14 @@ use Rattle.passkey_kinds.specs.declared.refusal.Refusal.TheVariants.{Refused}
 use Rattle.passkey_kinds.proofs.Going.{eased, onward_of, onward_looks, stands_back, string_further}
 use Rattle.passkey_kinds.proofs.Lists.{answers_from}
 
-whole_is : (is_text : Bool) (len : Option ℕ) (bytes t s : List ℕ) → Some t ≡ option_map (λ (n : ℕ). bytes) len → Content is_text len s bytes → t ≡ s
+whole_is : (is_text : Bool) (len : Option ℕ) (bytes t s : List ℕ) → Some t ≡ option_map (λ (n : ℕ). bytes) len
+    → Content is_text len s bytes → t ≡ s
 whole_is is_text None bytes t s e c = absurd cc
 whole_is is_text (Some n) bytes t s e c =
     let same : t ≡ bytes = cc in
     same ∙ c.1
 
--- what is lent of a string in one piece is the string
+-- what is lent of a string in one piece is the whole string
 pub lent_is : (is_text : Bool) (r : Region) (t s : List ℕ) → LentWhole r (Some t) → Tells is_text r s → t ≡ s
 lent_is is_text r t s e tells = whole_is is_text r.len r.bytes t s e tells
 
@@ -32,31 +34,42 @@ module _ (a b d : Walk) (r : Region) where
   pub looked_further : (is_text : Bool) → PassesString is_text a b r → LooksAtMost r b d → Further a d
   looked_further is_text p looks = omega (arith, string_further is_text a b r p, looks.place)
 
--- ---- answers
+-- ---- results
 
--- the value, or a refusal where there is none
-pub or_refused : {X : Type 0} (wanted found : Option X) (result : Result X Refusal) (takes : Type 0) → wanted ≡ found → result ≡ ok_or found Refused → AnswersAs (λ x. x) wanted takes result
-or_refused wanted (Some x) result takes e r = subst (λ (a : Result _ Refusal). AnswersAs (λ x. x) wanted takes a) (sym r) e
-or_refused wanted None result takes e r = subst (λ (a : Result _ Refusal). AnswersAs (λ x. x) wanted takes a) (sym r) e
+-- the value, or a refusal if there is none
+pub or_refused : {X : Type 0} (wanted found : Option X) (result : Result X Refusal) (takes : Type 0)
+    → wanted ≡ found → result ≡ ok_or found Refused → AnswersAs (λ x. x) wanted takes result
+or_refused wanted (Some x) result takes e r =
+    subst (λ (a : Result _ Refusal). AnswersAs (λ x. x) wanted takes a) (sym r) e
+or_refused wanted None result takes e r =
+    subst (λ (a : Result _ Refusal). AnswersAs (λ x. x) wanted takes a) (sym r) e
 
--- the same, where memory may be refused too
-pub decodes_from : {A M : Type 0} {takes may : Type 0} (view : A → M) (wanted : Option M) (cost kept to : ℕ) (a b : Walk) (result : Result A Refusal) → (takes → may) → Decodes view wanted takes cost kept to a b result → Decodes view wanted may cost kept to a b result
-decodes_from view wanted cost kept to a b result may d = record { answers = answers_from view result refl may d.answers; spends = d.spends; ends = d.ends }
+-- the same, if memory may run out too
+pub decodes_from : {A M : Type 0} {takes may : Type 0} (view : A → M) (wanted : Option M) (cost kept to : ℕ)
+    (a b : Walk) (result : Result A Refusal) → (takes → may) → Decodes view wanted takes cost kept to a b result
+    → Decodes view wanted may cost kept to a b result
+decodes_from view wanted cost kept to a b result may d =
+    record { answers = answers_from view result refl may d.answers; spends = d.spends; ends = d.ends }
 
--- what costs this much costs no more than that
-pub decodes_dearer : {A M : Type 0} (view : A → M) (wanted : Option M) (takes : Type 0) (c d kept more to : ℕ) (a b : Walk) (result : Result A Refusal) → c ≤ d → kept ≤ more → a.place ≤ to → Decodes view wanted takes c kept to a b result → Decodes view wanted takes d more to a b result
+-- a lower cost is within a higher one
+pub decodes_dearer : {A M : Type 0} (view : A → M) (wanted : Option M) (takes : Type 0) (c d kept more to : ℕ)
+    (a b : Walk) (result : Result A Refusal) → c ≤ d → kept ≤ more → a.place ≤ to
+    → Decodes view wanted takes c kept to a b result → Decodes view wanted takes d more to a b result
 decodes_dearer view wanted takes c d kept more to a b result le few within r = record {
   answers = r.answers;
   spends = eased c d kept more to a b le few within r.spends;
   ends = r.ends;
 }
 
--- what stands there still does after one head that was none of its string's
-pub stands_missed : (i : Item) (a b : Walk) (to : ℕ) → LendsNothing a b → Stands i a.bytes a.place to → Stands i b.bytes b.place to
+-- the item is still encoded there after one head that isn't its string's
+pub stands_missed : (i : Item) (a b : Walk) (to : ℕ) → LendsNothing a b → IsEncodedAt i a.bytes a.place to
+    → IsEncodedAt i b.bytes b.place to
 stands_missed i a b to p l = stands_back i a b to p.bytes p.place l
 
--- decoded after one head that was none of its string's
-pub missed_then : {A M : Type 0} (view : A → M) (wanted : Option M) (takes : Type 0) (cost kept to : ℕ) (a b d : Walk) (result : Result A Refusal) → LendsNothing a b → a.place < to → Decodes view wanted takes cost kept to b d result → Decodes view wanted takes (suc cost) kept to a d result
+-- decoded after one head that isn't its string's
+pub missed_then : {A M : Type 0} (view : A → M) (wanted : Option M) (takes : Type 0) (cost kept to : ℕ)
+    (a b d : Walk) (result : Result A Refusal) → LendsNothing a b → a.place < to
+    → Decodes view wanted takes cost kept to b d result → Decodes view wanted takes (suc cost) kept to a d result
 missed_then view wanted takes cost kept to a b d result p less r = record {
   answers = r.answers;
   spends = record {
@@ -67,8 +80,10 @@ missed_then view wanted takes cost kept to a b d result p less r = record {
   ends = r.ends;
 }
 
--- the elements of an array behind its head
-pub opened_then : {A M : Type 0} (view : A → M) (wanted : Option M) (takes : Type 0) (cost to : ℕ) (a b d : Walk) (result : Result A Refusal) → b.heads ≤ a.heads + 1 → a.place < b.place → b.nodes ≤ a.nodes → Decodes view wanted takes (suc cost) 0 to b d result → Decodes view wanted takes (suc cost) 0 to a d result
+-- the elements that follow an array's head
+pub opened_then : {A M : Type 0} (view : A → M) (wanted : Option M) (takes : Type 0) (cost to : ℕ) (a b d : Walk)
+    (result : Result A Refusal) → b.heads ≤ a.heads + 1 → a.place < b.place → b.nodes ≤ a.nodes
+    → Decodes view wanted takes (suc cost) 0 to b d result → Decodes view wanted takes (suc cost) 0 to a d result
 opened_then view wanted takes cost to a b d result one less none r = record {
   answers = r.answers;
   spends = record {
@@ -81,7 +96,8 @@ opened_then view wanted takes cost to a b d result one less none r = record {
 
 -- ---- byte strings
 
-pub no_bytes : (i : Item) → ((s : List ℕ) → i ≡ item.byte_string s → ⊥) → ((s : List ℕ) → i ≡ item.text_string s → ⊥) → ((xs : item.Items) → i ≡ item.array xs → ⊥) → bytes i ≡ None
+pub no_bytes : (i : Item) → ((s : List ℕ) → i ≡ item.byte_string s → ⊥)
+    → ((s : List ℕ) → i ≡ item.text_string s → ⊥) → ((xs : item.Items) → i ≡ item.array xs → ⊥) → bytes i ≡ None
 no_bytes (item.number n) b t a = refl
 no_bytes (item.byte_string s) b t a = absurd (b s refl)
 no_bytes (item.text_string s) b t a = absurd (t s refl)

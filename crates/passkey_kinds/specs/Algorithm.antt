@@ -7,7 +7,8 @@ use Rattle.passkey_iana.specs.declared.algorithm.Algorithm.{Algorithm}
 use Rattle.passkey_kinds.specs.Kind.{Kind}
 use Rattle.passkey_webauthn.specs.NumberText.{signed_64, whole_64}
 
--- a number, or a text string with a number, of which the whole part counts
+-- an integer, or the whole part of a number in a text string, if it fits in 64 bits and is the
+-- identifier of an algorithm
 abbrev pub algorithm : Kind Algorithm
 algorithm (number z) = option_and_then algorithm_named (signed_64 z)
 algorithm (text_string s) = option_and_then algorithm_named (whole_64 s)

@@ -12,12 +12,12 @@ use Rattle.passkey_core.specs.declared.aaguid.Aaguid.{Aaguid}
 use Rattle.passkey_core.specs.declared.authenticator_data.AuthenticatorData.{AuthenticatorData}
 use Rattle.passkey_kinds.specs.Kind.{Kind}
 
--- a byte string that decodes as authenticator data; each fault refuses it
+-- a byte string that decodes as authenticator data; the kind refuses it for any fault
 abbrev pub authenticator_data : Kind DataParts
 authenticator_data (byte_string s) = result_ok (read_data s)
 authenticator_data _ = None
 
--- the data items that are made for its key and its extensions
+-- how many data items decoding makes as values, for the credential public key and the extensions
 abbrev pub authenticator_data_nodes : Item → ℕ
 authenticator_data_nodes (byte_string s) = data_nodes s
 authenticator_data_nodes _ = 0
@@ -36,8 +36,9 @@ aaguid _ = None
 abbrev pub aaguid_tree : Aaguid → Item
 aaguid_tree a = byte_string a.0
 
--- What decoding them costs, as counted at a cursor: at most four heads for each byte and four more,
--- and the data items that are made for the key and the extensions. The cursor stays.
+-- The cost of decoding these bytes as authenticator data, in a cursor's counts: at most four heads
+-- for each byte and four more, and the data items made as values for the credential public key and
+-- the extensions. The cursor doesn't move.
 pub record CountsData (bytes : List ℕ) (old new : Walk) : Type 0 where
   pub heads : new.heads ≤ old.heads + (4 * length bytes + 4)
   pub nodes : new.nodes ≤ old.nodes + data_nodes bytes

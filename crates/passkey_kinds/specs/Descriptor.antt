@@ -14,7 +14,8 @@ descriptor_fields = record {
   blank = record { ty = Unknown; id = []; transports = None };
   rows = required 1 (codes "type") (or_else Unknown (one_named credential_type_named)) (λ t d. record d { ty = t })
       ∷ required 2 (codes "id") bytes (λ b d. record d { id = b })
-      ∷ default 3 (codes "transports") (tolerated (accepted (one_named transport_named))) (λ t d. record d { transports = t })
+      ∷ default 3 (codes "transports") (tolerated (accepted (one_named transport_named)))
+      (λ t d. record d { transports = t })
       ∷ [];
 }
 

@@ -1,8 +1,8 @@
--- What a head says of the data item that it begins (RFC 8949, section 3).
+-- What a head says about its data item (RFC 8949, section 3).
 use Rattle.std.specs.Prelude.{◌≡◌, ℕ, ℤ, pos, negsuc, ◌==◌, ◌||◌, Bool, true, false, if◌then◌else◌, List, Option, Some, None}
 use Rattle.passkey_cbor.specs.Item as item
 use Rattle.passkey_cbor.specs.Item.{Item, number, items_of, pairs_of}
-use Rattle.passkey_cbor.specs.Stands.{StandItems, StandPairs}
+use Rattle.passkey_cbor.specs.EncodedAt.{ItemsAreEncodedAt, PairsAreEncodedAt}
 use Rattle.passkey_cbor.specs.Walk.{Walk}
 use Rattle.passkey_cbor.specs.declared.head.Head.{Head}
 use Rattle.passkey_cbor.specs.declared.head.Head.TheVariants as head
@@ -45,17 +45,21 @@ abbrev pub head_map : Head → Option (Option ℕ)
 head_map (head.Map left) = Some left
 head_map _ = None
 
--- One head was decoded. If it is the whole of the wanted item, the cursor is behind the item.
+-- Decoding one head returns the wanted value, at a cost of at most one head for each byte. If there
+-- is a value, the cursor is after the item.
 pub record ReadsFlat {X : Type 0} (wanted : Option X) (to : ℕ) (old new : Walk) (found : Option X) : Type 0 where
   pub is : found ≡ wanted
   pub spends : Spends 1 0 to old new
   pub ends : (x : X) → found ≡ Some x → new.place ≡ to
 
--- One head was decoded: that of an array, whose elements are ahead, or of an item that is no array.
+-- Decoding one head returns the length of the array (`Some None` for an indefinite length), and the
+-- elements come next; or it returns `None`, and the item isn't an array.
 abbrev pub OpensArray : Item → ℕ → Walk → Option (Option ℕ) → Type 0
-OpensArray i to new (Some left) = (is : List Item) × ((i ≡ item.array (items_of is)) × StandItems left is new.bytes new.place to)
+OpensArray i to new (Some left) =
+    (is : List Item) × ((i ≡ item.array (items_of is)) × ItemsAreEncodedAt left is new.bytes new.place to)
 OpensArray i to new None = (xs : item.Items) → (i ≡ item.array xs) → ⊥
 
 abbrev pub OpensMap : Item → ℕ → Walk → Option (Option ℕ) → Type 0
-OpensMap i to new (Some left) = (ms : List (Item × Item)) × ((i ≡ item.map (pairs_of ms)) × StandPairs left ms new.bytes new.place to)
+OpensMap i to new (Some left) =
+    (ms : List (Item × Item)) × ((i ≡ item.map (pairs_of ms)) × PairsAreEncodedAt left ms new.bytes new.place to)
 OpensMap i to new None = (ps : item.Pairs) → (i ≡ item.map ps) → ⊥

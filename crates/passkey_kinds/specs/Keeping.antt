@@ -1,4 +1,4 @@
--- Which data items decoding makes as values: none, or at most this many for an item.
+-- How many data items decoding makes as values at most: none, or this many for an item.
 use Rattle.std.specs.Prelude.{ℕ, ◌+◌, List, [], ◌∷◌}
 use Rattle.passkey_cbor.specs.Item as item
 use Rattle.passkey_cbor.specs.Item.{Item, elements, members}
@@ -7,7 +7,7 @@ pub data Keeping : Type 0 where
   nothing : Keeping
   counted : (Item → ℕ) → Keeping
 
--- how many are made for an item
+-- how many it is for this item
 abbrev pub kept_of : Keeping → Item → ℕ
 kept_of nothing i = 0
 kept_of (counted count) i = count i
@@ -20,12 +20,12 @@ abbrev pub kept_values : (Item → ℕ) → List (Item × Item) → ℕ
 kept_values count [] = 0
 kept_values count (m ∷ ms) = count m.1 + kept_values count ms
 
--- for the elements of an array
+-- the sum for the elements of an array
 abbrev pub kept_elements : (Item → ℕ) → Item → ℕ
 kept_elements count (item.array xs) = kept_each count (elements xs)
 kept_elements count _ = 0
 
--- for the values of a map
+-- the sum for the values of a map
 abbrev pub kept_members : (Item → ℕ) → Item → ℕ
 kept_members count (item.map ps) = kept_values count (members ps)
 kept_members count _ = 0

@@ -1,4 +1,4 @@
--- What data items decode to: a kind accepts some items, and gives a value for each of them.
+-- Kinds: what data items decode to. A kind accepts some items and has a value for each of them.
 use Rattle.std.specs.Prelude.{◌≡◌, ◌==◌, ℕ, pos, nat_lt, length, Bool, IsTrue, if◌then◌else◌, List, [], ◌∷◌, Option, Some, None, option_map, unwrap_or, Result, Ok, Err}
 use Rattle.std.specs.List.{filter_map}
 use Rattle.std.specs.Option.{option_and_then}
@@ -12,18 +12,18 @@ use Rattle.passkey_kinds.specs.declared.refusal.Refusal.TheVariants.{Refused, Ou
 abbrev pub Kind : Type 0 → Type 0
 Kind M = Item → Option M
 
--- The result of decoding: the wanted value, as contracts see it; or `Refused`, if there is none; or
--- `OutOfMemory`, if memory may be taken.
+-- The result of decoding: a value whose view is the wanted one; `Refused`, if no value is wanted;
+-- or `OutOfMemory`, only if decoding may allocate memory.
 abbrev pub AnswersAs : {A M : Type 0} → (A → M) → Option M → Type 0 → Result A Refusal → Type 0
 AnswersAs view wanted takes (Ok x) = wanted ≡ Some (view x)
 AnswersAs view wanted takes (Err Refused) = wanted ≡ None
 AnswersAs view wanted takes (Err OutOfMemory) = takes
 
--- the kind takes memory, and this item does
+-- decoding this item may allocate memory: the kind takes memory, and so does the item
 abbrev pub MayGrow : Bool → Item → Type 0
 MayGrow takes i = IsTrue takes × Grows i
 
--- the same by the kind and the item
+-- the same for a kind and an item
 abbrev pub Answers : {A M : Type 0} → (A → M) → Kind M → Bool → Item → Result A Refusal → Type 0
 Answers view kind takes i = AnswersAs view (kind i) (MayGrow takes i)
 
@@ -40,12 +40,12 @@ abbrev pub text : Kind (List ℕ)
 text (text_string s) = Some s
 text _ = None
 
--- a text string that is one of some names
+-- a text string that is one of these names
 abbrev pub one_named : {T : Type 0} → (List ℕ → Option T) → Kind T
 one_named named (text_string s) = named s
 one_named named _ = None
 
--- any item, kept as it is
+-- any item, unchanged
 abbrev pub kept : Kind Item
 kept i = Some i
 
@@ -62,20 +62,20 @@ optional kind (boolean b) = option_map Some (kind (boolean b))
 optional kind (simple n) = option_map Some (kind (simple n))
 optional kind (float f) = option_map Some (kind (float f))
 
--- the values of all elements, if each has one
+-- the values of all elements, if every element has one
 abbrev pub each : {X M : Type 0} → (X → Option M) → List X → Option (List M)
 each kind [] = Some []
 each kind (i ∷ is) = option_and_then (λ x. option_map (λ xs. x ∷ xs) (each kind is)) (kind i)
 
--- a byte string; an array of numbers of one byte; or a text string in base64url or base64, between
--- white space
+-- a byte string; an array of integers from 0 to 255; or a text string in base64url or base64, with
+-- white space allowed around it
 abbrev pub bytes : Kind (List ℕ)
 bytes (byte_string s) = Some s
 bytes (array xs) = each (below 256) (elements xs)
 bytes (text_string s) = text_bytes (trim s)
 bytes _ = None
 
--- a byte string or an array of numbers of one byte, of exactly this length
+-- a byte string or an array of integers from 0 to 255, of exactly this length
 abbrev pub sized_bytes : ℕ → Kind (List ℕ)
 sized_bytes n (byte_string s) = if length s == n then Some s else None
 sized_bytes n (array xs) = if length (elements xs) == n then each (below 256) (elements xs) else None

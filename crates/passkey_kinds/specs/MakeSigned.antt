@@ -1,4 +1,4 @@
--- Extension outputs in the authenticator data of a registration (WebAuthn Level 3, section 9.2).
+-- Extension outputs in the authenticator data of a registration (WebAuthn Level 3, section 9.5).
 use Rattle.std.specs.Prelude.{[], ◌∷◌, None, codes, false}
 use Rattle.passkey_core.specs.declared.make_credential.SignedExtensionOutputs.{SignedExtensionOutputs}
 use Rattle.passkey_kinds.specs.Kind.{Kind}

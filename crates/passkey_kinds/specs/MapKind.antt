@@ -11,7 +11,7 @@ use Rattle.passkey_kinds.specs.Kind.{Kind, each, bytes}
 abbrev pub entry : {M : Type 0} → Kind M → Item × Item → Option (List ℕ × M)
 entry kind m = option_zip (bytes m.0) (kind m.1)
 
--- the map with the members' entries, if all are accepted
+-- the map with the entries of these members, if all members are accepted
 abbrev pub with_members : {M : Type 0} → Kind M → ByteMap M → List (Item × Item) → Option (ByteMap M)
 with_members kind m ms = option_map (put_each m) (each (entry kind) ms)
 

@@ -1,12 +1,13 @@
--- What was encoded is decoded again.
+-- An encoded value can be decoded again.
 use Rattle.std.specs.Prelude.{◌≡◌, ℕ, ◌<◌, ◌^◌, Some, List, length}
 use Rattle.std.specs.List.{All}
 use Rattle.passkey_cbor.specs.Item.{Item}
 use Rattle.passkey_kinds.specs.Kind.{Kind}
 
--- Each value that fits is encoded as an item that the kind decodes to the value's normal form.
-pub record IsReadBack {A M : Type 0} (kind : Kind M) (tree : A → Item) (Fits : A → Type 0) (normal : A → M) : Type 0 where
-  pub back : (x : A) → Fits x → kind (tree x) ≡ Some (normal x)
+-- Each value that fits is encoded as a data item that the kind decodes to the value's normal form.
+pub record IsReadBack {A M : Type 0} (kind : Kind M) (tree : A → Item) (Fits : A → Type 0) (normal : A → M) : Type 0
+  where
+    pub back : (x : A) → Fits x → kind (tree x) ≡ Some (normal x)
 
 -- every value fits
 abbrev pub Any : {A : Type 0} → A → Type 0

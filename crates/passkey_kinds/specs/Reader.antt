@@ -1,4 +1,4 @@
--- What decoding a value over a cursor does.
+-- Decoding a value over a cursor.
 use Rattle.std.specs.Prelude.{◌≡◌, ℕ, ◌+◌, ◌*◌, ◌≤◌, ◌<◌, Bool, true, List, [], ◌∷◌, length, Option, Result, OnOk}
 use Rattle.passkey_cbor.specs.Item.{Item}
 use Rattle.passkey_cbor.specs.Lent.{Region}
@@ -7,8 +7,8 @@ use Rattle.passkey_kinds.specs.Keeping.{Keeping, kept_of}
 use Rattle.passkey_kinds.specs.Kind.{Kind, AnswersAs, MayGrow}
 use Rattle.passkey_kinds.specs.declared.refusal.Refusal.{Refusal}
 
--- The cursor is in the same bytes, not further back, still inside them if it was before, and its
--- counts didn't fall.
+-- The cursor has the same bytes, didn't move back, is still within the bytes if it was before, and
+-- its counts didn't fall.
 pub record Onward (old new : Walk) : Type 0 where
   pub same : new.bytes ≡ old.bytes
   pub within : old.place ≤ length old.bytes → new.place ≤ length new.bytes
@@ -19,31 +19,34 @@ pub record Onward (old new : Walk) : Type 0 where
 abbrev pub Further : Walk → Walk → Type 0
 Further old new = old.place < new.place
 
--- The cursor is at most at this place. At most `cost` heads were decoded for each byte up to there,
+-- The cursor is no further than `to`. At most `cost` heads were decoded for each byte up to there,
 -- and at most `kept` data items were made as values.
 pub record Spends (cost kept to : ℕ) (old new : Walk) : Type 0 where
   pub within : new.place ≤ to
   pub heads : new.heads + cost * old.place ≤ old.heads + cost * to
   pub nodes : new.nodes ≤ old.nodes + kept
 
--- What decoding does if the wanted value is encoded up to this place: it returns that value, at
--- this cost, and the cursor is then behind it.
-pub record Decodes {A M : Type 0} (view : A → M) (wanted : Option M) (takes : Type 0) (cost kept to : ℕ) (old new : Walk) (result : Result A Refusal) : Type 0 where
+-- Decoding a data item that ends at `to`: the result is as `AnswersAs` says for the wanted value,
+-- decoding has at most this cost, and after a success the cursor is after the item.
+pub record Decodes {A M : Type 0} (view : A → M) (wanted : Option M) (takes : Type 0) (cost kept to : ℕ)
+    (old new : Walk) (result : Result A Refusal) : Type 0 where
   pub answers : AnswersAs view wanted takes result
   pub spends : Spends cost kept to old new
   pub ends : OnOk result (new.place ≡ to)
 
--- The same for an item, by its kind.
-abbrev pub ReadsAs : {A M : Type 0} → (A → M) → Kind M → Bool → ℕ → Keeping → Item → ℕ → Walk → Walk → Result A Refusal → Type 0
+-- The same, where the wanted value is the one that the kind has for the item.
+abbrev pub ReadsAs : {A M : Type 0} → (A → M) → Kind M → Bool → ℕ → Keeping → Item → ℕ → Walk → Walk
+    → Result A Refusal → Type 0
 ReadsAs view kind takes cost keeps i to old new result =
     Decodes view (kind i) (MayGrow takes i) cost (kept_of keeps i) to old new result
 
--- The cursor is at most at this place, as above; if decoding succeeded, it is there.
+-- Decoding the item, which ends at `to`, has at most this cost; after a success the cursor is at
+-- `to`.
 pub record Costs (cost : ℕ) (keeps : Keeping) (i : Item) (to : ℕ) (old new : Walk) (ok : Bool) : Type 0 where
   pub spends : Spends cost (kept_of keeps i) to old new
   pub ends : ok ≡ true → new.place ≡ to
 
--- how many data items decoding all of these makes as values, at most
+-- how many data items decoding all of these items makes as values at most
 abbrev pub kept_all : Keeping → List Item → ℕ
 kept_all keeps [] = 0
 kept_all keeps (i ∷ is) = kept_of keeps i + kept_all keeps is
@@ -55,7 +58,7 @@ kept_values_of keeps (m ∷ ms) = kept_of keeps m.1 + kept_values_of keeps ms
 
 -- ---- looking at a string again
 
--- The cursor stays, and at most one head is counted for each byte of the string's region.
+-- The cursor doesn't move, and at most one head is counted for each byte of the string's region.
 pub record LooksAtMost (r : Region) (old new : Walk) : Type 0 where
   pub heads : new.heads ≤ old.heads + length r.bytes
   pub rises : old.heads ≤ new.heads

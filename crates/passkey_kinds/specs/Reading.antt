@@ -1,4 +1,4 @@
--- What decoding a record returns, and what its steps do.
+-- The result of decoding a record, and the steps of decoding it.
 use Rattle.std.specs.Prelude.{◌≡◌, ℕ, ◌<◌, ◌==◌, nat_lt, ◌⊎◌, Bool, true, false, not, ◌&&◌, if◌then◌else◌, List, [], ◌∷◌, ◌++◌, slice_get, get_or, option_map, Option, Some, None, is_some, Result, Ok, Err}
 use Rattle.std.specs.List.{find}
 use Rattle.passkey_cbor.specs.Item as item
@@ -20,7 +20,7 @@ MayGrowBy table (row n) i = MayGrow (takes_at table.rows n) i
 MayGrowBy table unknown i = ⊥
 MayGrowBy table wrong i = ⊥
 
--- a member for which memory may run out
+-- decoding one of these members may allocate memory
 abbrev pub MayGrowIn : Table → Members → Type 0
 MayGrowIn table [] = ⊥
 MayGrowIn table (m ∷ ms) = MayGrowBy table (named table m.0) m.1 ⊎ MayGrowIn table ms
@@ -29,8 +29,8 @@ abbrev pub MayGrowAt : Table → Item → Type 0
 MayGrowAt table (item.map ps) = MayGrowIn table (members ps)
 MayGrowAt table _ = ⊥
 
--- The result of decoding a record: the wanted one, as contracts see it; or its fault; or
--- `OutOfMemory`, if memory may be taken. It is never `DecodeFailed`.
+-- The result of decoding a record: one whose view is the wanted record; the wanted fault; or
+-- `OutOfMemory`, only if decoding may allocate memory. It is never `DecodeFailed`.
 abbrev pub Reads : {A M : Type 0} → (A → M) → Type 0 → Result M Fault → Result A Fault → Type 0
 Reads view takes wanted (Ok x) = wanted ≡ Ok (view x)
 Reads view takes wanted (Err fault.OutOfMemory) = takes
@@ -41,7 +41,7 @@ Reads view takes wanted (Err (fault.Repeated n)) = wanted ≡ Err (fault.Repeate
 Reads view takes wanted (Err (fault.Refused n)) = wanted ≡ Err (fault.Refused n)
 Reads view takes wanted (Err (fault.Missing n)) = wanted ≡ Err (fault.Missing n)
 
--- what a map key names, as the code has it
+-- what a map key names, for the code's type
 abbrev pub named_as : Named → Naming
 named_as (code.Row n) = row n
 named_as code.Unknown = unknown
@@ -50,15 +50,15 @@ abbrev pub naming_of : Option Named → Naming
 naming_of (Some key) = named_as key
 naming_of None = wrong
 
--- one more item, for row n
+-- the same function, but with item i for row n
 abbrev pub with_row : ℕ → Item → (ℕ → Option Item) → ℕ → Option Item
 with_row n i f m = if m == n then Some i else f m
 
--- The rows that the earlier members name are marked.
+-- Exactly the rows that the earlier members name are marked.
 abbrev pub Marks : Table → Members → List Bool → Type 0
 Marks table earlier marks = (n : ℕ) → n < 256 → slice_get marks n ≡ Some (is_some (found table earlier n))
 
--- What decoding one more member does.
+-- The result of decoding one more member, and the marks after it.
 abbrev pub Steps : Table → Members → Item × Item → List Bool → Result (Unit {0}) Fault → Type 0
 Steps table earlier m marks (Ok x) = (bad_member table earlier m ≡ None) × Marks table (earlier ++ m ∷ []) marks
 Steps table earlier m marks (Err fault.OutOfMemory) = MayGrowBy table (named table m.0) m.1
@@ -69,11 +69,12 @@ Steps table earlier m marks (Err (fault.Repeated n)) = bad_member table earlier 
 Steps table earlier m marks (Err (fault.Refused n)) = bad_member table earlier m ≡ Some (fault.Refused n)
 Steps table earlier m marks (Err (fault.Missing n)) = ⊥
 
--- whether each number has one byte
+-- whether each row's number is below 256
 abbrev pub are_small : List Entry → Bool
 are_small [] = true
 are_small (e ∷ es) = nat_lt e.number 256 && are_small es
 
 -- the number of the first required row that isn't marked
 abbrev pub first_unmarked : List Entry → List Bool → Option ℕ
-first_unmarked rows marks = option_map (λ (e : Entry). e.number) (find (λ (e : Entry). e.is_required && not (get_or marks e.number false)) rows)
+first_unmarked rows marks = option_map (λ (e : Entry). e.number)
+    (find (λ (e : Entry). e.is_required && not (get_or marks e.number false)) rows)

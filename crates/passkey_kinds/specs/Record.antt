@@ -1,4 +1,4 @@
--- Records as tables of members, each with the record that its value makes.
+-- Records as tables of members, each with the function that puts its value into the record.
 use Rattle.std.specs.Prelude.{ℕ, ◌==◌, Bool, true, false, if◌then◌else◌, List, [], ◌∷◌, Option, Some, None, is_some, Result, Ok, Err}
 use Rattle.std.specs.Result.{result_ok}
 use Rattle.passkey_cbor.specs.Item as item
@@ -9,25 +9,28 @@ use Rattle.passkey_kinds.specs.Typed.{Typed}
 use Rattle.passkey_kinds.specs.declared.fault.Fault.{Fault}
 use Rattle.passkey_kinds.specs.declared.fault.Fault.TheVariants.{NotAMap, Missing}
 
--- A member of a record: its number and name, its kind, and the record with its value.
+-- A member of a record: its number and name, its kind, and the function that puts its value into
+-- the record.
 pub record Member (P : Type 0) : Type 1 where
   pub Of : Type 0
   pub entry : Entry
   pub kind : Typed Of
   pub set : Of → P → P
 
--- A record's members, and what it is before one is decoded: its defaults, with some value for each
--- required member.
+-- A record's members, and the blank record, before a member is decoded: its defaults, with any
+-- value for each required member.
 pub record Fields (P : Type 0) : Type 1 where
   pub is_numbered : Bool
   pub blank : P
   pub rows : List (Member P)
 
 abbrev pub required : {M P : Type 0} → ℕ → List ℕ → Typed M → (M → P → P) → Member P
-required {M} n name kind set = record { Of = M; entry = record { number = n; name = name; is_required = true }; kind = kind; set = set }
+required {M} n name kind set =
+    record { Of = M; entry = record { number = n; name = name; is_required = true }; kind = kind; set = set }
 
 abbrev pub default : {M P : Type 0} → ℕ → List ℕ → Typed M → (M → P → P) → Member P
-default {M} n name kind set = record { Of = M; entry = record { number = n; name = name; is_required = false }; kind = kind; set = set }
+default {M} n name kind set =
+    record { Of = M; entry = record { number = n; name = name; is_required = false }; kind = kind; set = set }
 
 abbrev pub row_of : {P : Type 0} → Member P → Row
 row_of m = record { entry = m.entry; accepts = λ i. is_some (m.kind.of i); takes = m.kind.takes }
@@ -44,7 +47,7 @@ abbrev pub set_with : {M P : Type 0} → (M → P → P) → Option M → P → 
 set_with set (Some v) r = set v r
 set_with set None r = r
 
--- the record with an item decoded for row n
+-- the record with the value that row n decodes from the item, if it accepts the item
 abbrev pub put_at : {P : Type 0} → List (Member P) → ℕ → Item → P → P
 put_at [] n i r = r
 put_at (m ∷ ms) n i r = if m.entry.number == n then set_with m.set (m.kind.of i) r else put_at ms n i r
@@ -54,7 +57,7 @@ put_named rows (row n) i r = put_at rows n i r
 put_named rows unknown i r = r
 put_named rows wrong i r = r
 
--- the record with the members decoded one after the other
+-- the record with the values of the members put into it one after the other
 abbrev pub with_members : {P : Type 0} → Fields P → Members → P → P
 with_members t [] r = r
 with_members t (m ∷ ms) r = with_members t ms (put_named t.rows (named (table_of t) m.0) m.1 r)

@@ -1,4 +1,4 @@
--- What decoding a record over a cursor costs.
+-- The cost of decoding a record over a cursor.
 use Rattle.std.specs.Prelude.{ℕ, ◌+◌, max, ◌==◌, Bool, true, false, ◌&&◌, if◌then◌else◌, List, [], ◌∷◌}
 use Rattle.passkey_cbor.specs.Item as item
 use Rattle.passkey_cbor.specs.Item.{Item, members}
@@ -15,17 +15,17 @@ greatest_cost (m ∷ ms) = max m.kind.cost (greatest_cost ms)
 abbrev pub record_cost : {P : Type 0} → Fields P → ℕ
 record_cost t = greatest_cost t.rows
 
--- what decoding the value of row n costs
+-- the cost of decoding the value of row n
 abbrev pub cost_at : {P : Type 0} → List (Member P) → ℕ → ℕ
 cost_at [] n = 0
 cost_at (m ∷ ms) n = if m.entry.number == n then m.kind.cost else cost_at ms n
 
--- which data items decoding it makes as values
+-- which data items decoding the value of row n makes as values
 abbrev pub keeps_at : {P : Type 0} → List (Member P) → ℕ → Keeping
 keeps_at [] n = nothing
 keeps_at (m ∷ ms) n = if m.entry.number == n then m.kind.keeps else keeps_at ms n
 
--- the same by what the map key names: an unknown member is skipped
+-- the same by what the map key names; the value under an unknown key is skipped
 abbrev pub cost_by : {P : Type 0} → List (Member P) → Naming → ℕ
 cost_by rows (row n) = cost_at rows n
 cost_by rows unknown = 1
@@ -36,7 +36,7 @@ keeps_by rows (row n) = keeps_at rows n
 keeps_by rows unknown = nothing
 keeps_by rows wrong = nothing
 
--- how many data items decoding the members makes as values, by the rows that they name
+-- how many data items decoding these members makes as values, by the rows that their keys name
 abbrev pub kept_in : {P : Type 0} → Fields P → Members → ℕ
 kept_in t [] = 0
 kept_in t (m ∷ ms) = kept_of (keeps_by t.rows (named (table_of t) m.0)) m.1 + kept_in t ms
@@ -56,6 +56,6 @@ none_keeps (m ∷ ms) = keeps_nothing m.kind.keeps && none_keeps ms
 abbrev pub record_keeps : {P : Type 0} → Fields P → Keeping
 record_keeps t = if none_keeps t.rows then nothing else counted (kept_in_map t)
 
--- a record inside another one
+-- a record as a member of another one
 abbrev pub nested : {P : Type 0} → Fields P → Typed P
 nested t = growing (record_cost t) (record_keeps t) (record_kind t)

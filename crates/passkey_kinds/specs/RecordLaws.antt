@@ -13,11 +13,13 @@ use Rattle.passkey_kinds.specs.declared.fault.Fault.TheVariants.{DecodeFailed, N
 
 -- An element that the kind refuses changes nothing, wherever it is in a tolerant list.
 abbrev pub RefusedElementIsPassedOver : Type 0 → Type 0
-RefusedElementIsPassedOver M = (kind : Kind M) (before behind : List Item) (x : Item) → kind x ≡ None → accepted kind (array (items_of (before ++ x ∷ behind))) ≡ accepted kind (array (items_of (before ++ behind)))
+RefusedElementIsPassedOver M = (kind : Kind M) (before behind : List Item) (x : Item) → kind x ≡ None
+    → accepted kind (array (items_of (before ++ x ∷ behind))) ≡ accepted kind (array (items_of (before ++ behind)))
 
 -- A member under a key that the table doesn't know changes nothing, wherever it is.
 abbrev pub UnknownMemberIsPassedOver : {P : Type 0} → Fields P → Type 0
-UnknownMemberIsPassedOver t = (before behind : Members) (key value : Item) → named (table_of t) key ≡ unknown → read_members t (before ++ (key, value) ∷ behind) ≡ read_members t (before ++ behind)
+UnknownMemberIsPassedOver t = (before behind : Members) (key value : Item) → named (table_of t) key ≡ unknown
+    → read_members t (before ++ (key, value) ∷ behind) ≡ read_members t (before ++ behind)
 
 -- ---- members that decode alike
 
@@ -26,7 +28,7 @@ known_member (row n) i = Some (n, i)
 known_member unknown i = None
 known_member wrong i = None
 
--- the rows that the keys name, in the order of the members, each with the member's item
+-- the rows that the keys name, in the order of the members, each with the member's value
 abbrev pub known : Table → Members → List (ℕ × Item)
 known table ms = filter_map (λ (m : Item × Item). known_member (named table m.0) m.1) ms
 
@@ -49,7 +51,8 @@ SameAnswers t (x ∷ xs) (y ∷ ys) = (x.0 ≡ y.0) × AnswersAlike t x.0 x.1 y.
 -- order, with items that these rows decode alike. It doesn't matter how a key is encoded, or which
 -- unknown members are between them.
 abbrev pub SameAnswersReadAlike : {P : Type 0} → Fields P → Type 0
-SameAnswersReadAlike t = (ms ns : Members) → HasNoWrongKey (table_of t) ms → HasNoWrongKey (table_of t) ns → SameAnswers t (known (table_of t) ms) (known (table_of t) ns) → read_members t ms ≡ read_members t ns
+SameAnswersReadAlike t = (ms ns : Members) → HasNoWrongKey (table_of t) ms → HasNoWrongKey (table_of t) ns
+    → SameAnswers t (known (table_of t) ms) (known (table_of t) ns) → read_members t ms ≡ read_members t ns
 
 -- A map with one more member, under a key that the table doesn't know, differs only in the length
 -- from the map without it, wherever the member is.

@@ -1,15 +1,16 @@
--- Entries in CTAP2's order of their keys, which are byte strings (CTAP 2.1, section 8): those with
--- shorter keys first. Entries in the order of their keys' bytes keep it where the lengths are equal.
+-- Entries whose keys are byte strings, in CTAP2's order of map keys (CTAP 2.1, section 8): shorter
+-- keys first. The sort is stable, so entries in the bytewise order of their keys keep it where the
+-- lengths are equal.
 use Rattle.std.specs.Cmp.Lexicographic.{slice_cmp}
 use Rattle.std.specs.Ordering.{nat_cmp}
 use Rattle.std.specs.Prelude.{◌≡◌, ◌⊎◌, ◌<◌, ℕ, nat_le, if◌then◌else◌, List, [], ◌∷◌, length}
 use Rattle.std.specs.declared.cmp.Ordering.TheVariants.{Less}
 
--- the shorter first, then the lower bytes
+-- the shorter one first; of two with the same length, the one with the lower bytes
 abbrev pub IsShortFirst : List ℕ → List ℕ → Type 0
 IsShortFirst a b = (length a < length b) ⊎ ((length a ≡ length b) × (slice_cmp nat_cmp a b ≡ Less))
 
--- before the first that isn't below it
+-- the list with x before the first element whose number isn't below that of x
 abbrev pub put_by : {X : Type 0} → (X → ℕ) → X → List X → List X
 put_by number x [] = x ∷ []
 put_by number x (y ∷ ys) = if nat_le (number x) (number y) then x ∷ y ∷ ys else y ∷ put_by number x ys

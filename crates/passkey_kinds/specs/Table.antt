@@ -8,7 +8,7 @@ use Rattle.passkey_kinds.specs.Kind.{below}
 use Rattle.passkey_kinds.specs.declared.fault.Fault.{Fault}
 use Rattle.passkey_kinds.specs.declared.fault.Fault.TheVariants.{BadKey, Repeated, Refused}
 
--- what a table says of a member, except its kind
+-- a member's number and name, and whether it is required
 pub record Entry : Type 0 where
   pub number : ℕ
   pub name : List ℕ
@@ -19,7 +19,7 @@ pub record Row : Type 0 where
   pub accepts : Item → Bool
   pub takes : Bool
 
--- members have numbers and names, or names alone
+-- A table of members. They have numbers and names, or names alone.
 pub record Table : Type 0 where
   pub is_numbered : Bool
   pub rows : List Row
@@ -27,8 +27,7 @@ pub record Table : Type 0 where
 abbrev pub entries : Table → List Entry
 entries table = map (λ r. r.entry) table.rows
 
--- What a map key names: a row, by its number; or nothing that the table knows; or it is a wrong
--- key.
+-- What a map key names: a row, by its number; or nothing in the table; or the key is wrong.
 pub data Naming : Type 0 where
   row : ℕ → Naming
   unknown : Naming
@@ -41,7 +40,8 @@ row_or_unknown None = unknown
 abbrev pub row_named : List Entry → List ℕ → Naming
 row_named rows name = row_or_unknown (find (λ e. bytes_eq e.name name) rows)
 
--- a number of one byte names a row if members have numbers
+-- what an integer names: if members have numbers and it is below 256, the row with this number, if
+-- there is one
 abbrev pub number_names : Bool → Option ℕ → List Entry → Naming
 number_names true (Some n) rows = row_or_unknown (find (λ e. e.number == n) rows)
 number_names true None rows = wrong
@@ -74,7 +74,7 @@ abbrev pub accepts_at : List Row → ℕ → Item → Bool
 accepts_at [] n i = false
 accepts_at (r ∷ rs) n i = if r.entry.number == n then r.accepts i else accepts_at rs n i
 
--- what is wrong with a member whose key names this, after the earlier members
+-- the fault of a member after the earlier ones, by what its key names
 abbrev pub bad_by : Table → Members → Naming → Item → Option Fault
 bad_by table earlier wrong value = Some BadKey
 bad_by table earlier unknown value = None
@@ -92,7 +92,8 @@ first_bad table earlier (m ∷ ms) = option_or (bad_member table earlier m) (fir
 
 -- the number of the first required row in the table's order that no key names
 abbrev pub first_missing : Table → Members → Option ℕ
-first_missing table ms = option_map (λ (e : Entry). e.number) (find (λ (e : Entry). e.is_required && is_none (found table ms e.number)) (entries table))
+first_missing table ms = option_map (λ (e : Entry). e.number)
+    (find (λ (e : Entry). e.is_required && is_none (found table ms e.number)) (entries table))
 
 infixl 10 ◌>>=◌
 abbrev pub ◌>>=◌ : {X Y : Type 0} → Option X → (X → Option Y) → Option Y

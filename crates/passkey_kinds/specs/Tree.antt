@@ -1,4 +1,4 @@
--- What values are encoded as; a record's members come one after the other.
+-- The data items that values are encoded as. A record's members are laid out one after the other.
 use Rattle.std.specs.Prelude.{ℕ, pos, Bool, true, length, if◌then◌else◌, List, [], ◌∷◌, ◌++◌, map as each, Option, Some, None, option_map}
 use Rattle.std.specs.FinMap as fin
 use Rattle.passkey_bytes.specs.Map.{ByteMap}
@@ -18,22 +18,22 @@ option_tree tree (Some x) = tree x
 abbrev pub list_tree : {A : Type 0} → (A → Item) → List A → Item
 list_tree tree xs = array (items_of (each tree xs))
 
--- bytes as an array of numbers
+-- bytes, encoded as an array of integers
 abbrev pub numbers_tree : List ℕ → Item
 numbers_tree bytes = list_tree number_tree bytes
 
 abbrev pub map_tree : Members → Item
 map_tree ms = map (pairs_of ms)
 
--- a member of a map from byte strings
+-- an entry, as a member under a byte string
 abbrev pub entry_tree : {A : Type 0} → (A → Item) → List ℕ × A → Item × Item
 entry_tree tree e = (byte_string e.0, tree e.1)
 
--- a map from byte strings, with its keys in CTAP2's order
+-- a map from byte strings, encoded with its keys in CTAP2's order
 abbrev pub byte_map_tree : {A : Type 0} → (A → Item) → ByteMap A → Item
 byte_map_tree tree m = map_tree (each (entry_tree tree) (short_first (fin.entries m)))
 
--- the number of bytes of a byte string
+-- the length of a byte string, and 0 for any other item
 abbrev pub key_size : Item → ℕ
 key_size (number z) = 0
 key_size (byte_string s) = length s
@@ -46,7 +46,7 @@ key_size null = 0
 key_size (simple n) = 0
 key_size (float f) = 0
 
--- A map key, and what is encoded under it, if anything.
+-- A map key with its value, or with `None` if the member is absent.
 abbrev pub Place : Type 0
 Place = Item × Option Item
 
@@ -63,7 +63,7 @@ abbrev pub under : Item → Option Item → Members
 under key None = []
 under key (Some x) = (let m : Item × Item = (key, x) in m) ∷ []
 
--- the members of the places, after others
+-- the members of the places that have a value, after these members
 abbrev pub laid : Members → List Place → Members
 laid ms [] = ms
 laid ms (p ∷ ps) = laid (ms ++ under p.0 p.1) ps

@@ -1,4 +1,5 @@
--- What the records are encoded as, with their keys in CTAP2's order (CTAP 2.1, section 6; WebAuthn Level 3, section 5).
+-- The data items that records are encoded as, with their keys in CTAP2's order (CTAP 2.1, section
+-- 6; WebAuthn Level 3, section 5).
 use Rattle.std.specs.Prelude.{List, [], ◌∷◌, codes}
 use Rattle.passkey_cbor.specs.Item.{Item, byte_string, text_string}
 use Rattle.passkey_kinds.specs.Algorithm.{algorithm_tree}

@@ -1,4 +1,4 @@
--- Kinds, each with what decoding its values costs.
+-- Kinds with their costs.
 use Rattle.std.specs.Prelude.{ℕ, suc, max, Bool, true, false, List, Option}
 use Rattle.passkey_bytes.specs.Map.{ByteMap}
 use Rattle.passkey_cbor.specs.Item.{Item}
@@ -13,15 +13,15 @@ use Rattle.passkey_kinds.specs.Kind.{Kind}
 use Rattle.passkey_kinds.specs.MapKind as mapped
 use Rattle.passkey_kinds.specs.Size as sized
 
--- A kind, whether decoding a value may take memory, how many heads it decodes at most for each byte
--- of the data item, and which data items it makes as values.
+-- A kind; whether decoding a value may allocate memory; how many heads it decodes at most for each
+-- byte of the data item; and which data items it makes as values.
 pub record Typed (M : Type 0) : Type 0 where
   pub of : Kind M
   pub takes : Bool
   pub cost : ℕ
   pub keeps : Keeping
 
--- a kind whose values take no memory, at this many heads for each byte
+-- a kind whose values take no memory, at the cost of this many heads for each byte
 abbrev pub fixed : {M : Type 0} → ℕ → Kind M → Typed M
 fixed cost k = record { of = k; takes = false; cost = cost; keeps = nothing }
 
@@ -62,11 +62,11 @@ kept = growing 2 (counted nodes) kind.kept
 abbrev pub authenticator_data : Typed DataParts
 authenticator_data = growing 6 (counted core.authenticator_data_nodes) core.authenticator_data
 
--- a value that may be null: one more head, to see whether it is
+-- the value, or `None` for null: it costs one more head to look for null
 abbrev pub optional : {M : Type 0} → Typed M → Typed (Option M)
 optional k = record { of = kind.optional k.of; takes = k.takes; cost = suc k.cost; keeps = k.keeps }
 
--- a value that may be refused: one more pass over the item
+-- the value, or `None` if the kind refuses the item, which costs one more pass over it
 abbrev pub tolerated : {M : Type 0} → Typed M → Typed (Option M)
 tolerated k = record { of = kind.tolerated k.of; takes = k.takes; cost = suc k.cost; keeps = k.keeps }
 

@@ -1,4 +1,4 @@
--- The members that were appended so far.
+-- The members appended so far.
 use Rattle.std.specs.Prelude.{map}
 use Rattle.passkey_cbor.specs.View.{pair_of}
 use Rattle.passkey_kinds.specs.Table.{Members}

@@ -32,14 +32,15 @@ fn named(number: Option<i64>) -> Result<Algorithm, Refusal>
     }
 }
 
-/// Returns the whole part of the number in a text string, or `None` if the text is no number or the
-/// whole part doesn't fit in `i64`. Chunks aren't joined in memory.
+/// Returns the whole part of the number in a text string. Returns `None` if the text isn't a
+/// number, or if its whole part doesn't fit in `i64`. Joins no chunks in memory.
 fn whole_of(token: &TextToken<'_>, cursor: &mut Cursor<'_>) -> Option<i64>
     requires { IsRegion true token.now }
     ensures whole { (s : List ℕ) → Tells true token.now s → result ≡ whole_64 s }
     ensures looks { LooksAtMost token.now cursor.old cursor.new }
 {
-    // The count of heads stops at this bound, so adding to it never lowers it.
+    // The count of heads never exceeds this bound, where adding to it stops, so adding never lowers
+    // it.
     prove!(cursor.count().heads <= u128::MAX);
     let mut number = NumberText::new();
     let mut pieces = token.chunks();

@@ -1,8 +1,8 @@
-//! Arrays of 32 bytes, decoded from data items and encoded as arrays of numbers.
+//! Arrays of 32 bytes, decoded from data items and encoded as arrays of integers.
 ghost use Rattle.std.specs.Prelude.{◌==◌, ◌≡◌, ℕ, List, length, map, if◌then◌else◌, false, Some, None};
 ghost use Rattle.passkey_cbor.specs.Item.{Item};
 ghost use Rattle.passkey_cbor.specs.Lent.{Tells};
-ghost use Rattle.passkey_cbor.specs.Stands.{StandItems};
+ghost use Rattle.passkey_cbor.specs.EncodedAt.{ItemsAreEncodedAt};
 ghost use Rattle.passkey_kinds.specs.Reader.{Onward, Decodes, LooksAtMost};
 ghost use Rattle.passkey_cbor.specs.View.{item_of};
 ghost use Rattle.passkey_kinds.specs.Keeping.{nothing};
@@ -19,10 +19,11 @@ use passkey_cbor::{BytesToken, Cursor, Value};
 use passkey_memory::OutOfMemory;
 use std::alloc::Global;
 
-/// Decodes the bytes from an array of numbers. `Refused` exactly if it doesn't have 32 elements or
-/// one of them isn't a byte.
+/// Decodes the bytes from an array of integers. Returns `Refused` exactly if it doesn't have 32
+/// elements or one of them isn't an integer from 0 to 255.
 fn read_numbers(alloc: Global, elements: &[Value]) -> Result<[u8; 32], Refusal>
-    ensures { AnswersAs (λ b. b) (if length elements.now == 32 then each (below 256) (map item_of elements.now) else None) ⊥ result }
+    ensures { AnswersAs (λ b. b)
+        (if length elements.now == 32 then each (below 256) (map item_of elements.now) else None) ⊥ result }
 {
     if elements.len() != 32 {
         return Err(Refusal::Refused);
@@ -34,13 +35,15 @@ fn read_numbers(alloc: Global, elements: &[Value]) -> Result<[u8; 32], Refusal>
     Ok(bytes)
 }
 
-/// Decodes the bytes from the elements of an array, behind its head.
+/// Decodes the bytes from the elements that follow an array's head.
 fn read_numbers_ahead(
     alloc: Global,
     mut left: Option<u64>,
     cursor: &mut Cursor<'_>,
 ) -> Result<[u8; 32], Refusal>
-    ensures reads { (is : List Item) (to : ℕ) → StandItems left is cursor.old.bytes cursor.old.place to → Decodes (λ b. b) (if length is == 32 then each (below 256) is else None) ⊥ 2 0 to cursor.old cursor.new result }
+    ensures reads { (is : List Item) (to : ℕ) → ItemsAreEncodedAt left is cursor.old.bytes cursor.old.place to
+        → Decodes (λ b. b) (if length is == 32 then each (below 256) is else None) ⊥ 2 0 to cursor.old cursor.new
+        result }
     ensures onward { Onward cursor.old cursor.new }
 {
     let mut bytes = [0; 32];
@@ -59,12 +62,13 @@ fn read_numbers_ahead(
     }
 }
 
-/// Copies a byte string of exactly `N` bytes. `Refused` if its length differs.
+/// Copies a byte string of exactly `N` bytes. Returns `Refused` if its length differs.
 pub(crate) fn filled<const N: usize>(
     token: &BytesToken<'_>,
     cursor: &mut Cursor<'_>,
 ) -> Result<[u8; N], Refusal>
-    ensures answers { (s : List ℕ) → Tells false token.now s → AnswersAs (λ b. b) (if length s == N then Some s else None) ⊥ result }
+    ensures answers { (s : List ℕ) → Tells false token.now s
+        → AnswersAs (λ b. b) (if length s == N then Some s else None) ⊥ result }
     ensures looks { LooksAtMost token.now cursor.old cursor.new }
 {
     let mut bytes = [0; N];

@@ -1,9 +1,10 @@
-//! Byte strings, decoded from byte strings, arrays of numbers, and text strings in base64.
+//! Bytes, decoded from byte strings, from arrays of integers, and from text strings in base64url or
+//! base64.
 ghost use Rattle.std.specs.Prelude.{◌≡◌, ◌<◌, ℕ, List, length, map, true, ⊤};
 ghost use Rattle.std.specs.Str.{trim};
 ghost use Rattle.passkey_cbor.specs.Item.{Item};
 ghost use Rattle.passkey_cbor.specs.Lent.{IsRegion, Tells};
-ghost use Rattle.passkey_cbor.specs.Stands.{StandItems};
+ghost use Rattle.passkey_cbor.specs.EncodedAt.{ItemsAreEncodedAt};
 ghost use Rattle.passkey_kinds.specs.Reader.{Onward, Decodes, LooksAtMost};
 ghost use Rattle.passkey_cbor.specs.View.{item_of};
 ghost use Rattle.passkey_bytes.specs.Encoding.{text_bytes};
@@ -18,7 +19,7 @@ use passkey_bytes::{Bytes, BytesFault, List as Numbers};
 use passkey_cbor::{Cursor, TextToken, Value};
 use std::alloc::Global;
 
-/// Decodes a text in base64url or base64. `Refused` if it is neither.
+/// Decodes a text in base64url or base64. Returns `Refused` if it is neither.
 fn read_text(alloc: Global, text: &str) -> Result<Bytes, Refusal>
     ensures { AnswersAs (λ b. b) (text_bytes text.now) ⊤ result }
 {
@@ -29,7 +30,8 @@ fn read_text(alloc: Global, text: &str) -> Result<Bytes, Refusal>
     }
 }
 
-/// Decodes the bytes from an array of numbers. `Refused` if an element isn't a byte.
+/// Decodes the bytes from an array of integers. Returns `Refused` if an element isn't an integer
+/// from 0 to 255.
 #[tactic(auto, using(crate::proofs::Lists::map_same))]
 fn read_numbers(alloc: Global, elements: &[Value]) -> Result<Bytes, Refusal>
     ensures { AnswersAs (λ b. b) (each (below 256) (map item_of elements.now)) (0 < length elements.now) result }
@@ -41,7 +43,7 @@ fn read_numbers(alloc: Global, elements: &[Value]) -> Result<Bytes, Refusal>
     }
 }
 
-/// Decodes a text string in base64url or base64, which may have white space at its ends.
+/// Decodes a text string in base64url or base64, with white space allowed around it.
 fn read_base64(
     alloc: Global,
     token: &TextToken<'_>,
@@ -66,13 +68,14 @@ fn bytes_of(numbers: Numbers<u8>) -> Bytes
     Bytes::from(Vec::from(numbers))
 }
 
-/// Decodes the bytes from the elements of an array, behind its head.
+/// Decodes the bytes from the elements that follow an array's head.
 fn read_numbers_ahead(
     alloc: Global,
     left: Option<u64>,
     cursor: &mut Cursor<'_>,
 ) -> Result<Bytes, Refusal>
-    ensures reads { (is : List Item) (to : ℕ) → StandItems left is cursor.old.bytes cursor.old.place to → Decodes (λ b. b) (each (below 256) is) (0 < length is) 2 0 to cursor.old cursor.new result }
+    ensures reads { (is : List Item) (to : ℕ) → ItemsAreEncodedAt left is cursor.old.bytes cursor.old.place to
+        → Decodes (λ b. b) (each (below 256) is) (0 < length is) 2 0 to cursor.old cursor.new result }
     ensures onward { Onward cursor.old cursor.new }
 {
     match read_elements::<u8>(alloc, left, cursor) {

@@ -1,4 +1,4 @@
-//! Authenticator data and AAGUIDs, decoded from byte strings and encoded as them.
+//! Authenticator data and AAGUIDs, decoded from byte strings and encoded as byte strings.
 ghost use Rattle.std.specs.Prelude.{◌≡◌, ℕ, ◌+◌, ◌*◌, ◌≤◌, true, false, length, List};
 ghost use Rattle.passkey_cbor.specs.Item.{byte_string};
 ghost use Rattle.passkey_core.specs.DataNodes.{data_nodes};
@@ -19,8 +19,7 @@ use passkey_cose::CoseError;
 use passkey_memory::OutOfMemory;
 use std::alloc::Global;
 
-/// Decodes the content of a byte string as authenticator data, and adds what that costs to the
-/// count.
+/// Decodes the content of a byte string as authenticator data, and adds the cost to `count`.
 fn read_data(alloc: Global, bytes: &[u8], count: &mut Count) -> Result<AuthenticatorData, Refusal>
     ensures answers { Answers data_parts authenticator_data true (byte_string bytes.now) result }
     ensures heads { count.new.heads ≤ count.old.heads + (4 * length bytes.now + 4) }

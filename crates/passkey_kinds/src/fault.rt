@@ -11,7 +11,7 @@ use std::fmt;
 /// Why a message was not decoded. A member is given by its number in the message.
 #[derive(Clone, Copy, Debug, PartialEq, Eq)]
 pub enum Fault {
-    /// The bytes don't begin with a well-formed data item of at most 256 levels.
+    /// The bytes don't begin with a well-formed data item of at most 256 nesting levels.
     DecodeFailed,
     /// An allocation failed.
     OutOfMemory,

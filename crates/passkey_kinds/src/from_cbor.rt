@@ -2,7 +2,7 @@
 ghost use Rattle.std.specs.Prelude.{◌^◌, ℕ, suc, nat_lt, Bool, true, false, if◌then◌else◌, List, Option, option_map, OnOk};
 ghost use Rattle.passkey_cbor.specs.Item.{Item};
 ghost use Rattle.passkey_cbor.specs.Nodes.{nodes};
-ghost use Rattle.passkey_cbor.specs.Stands.{Stands};
+ghost use Rattle.passkey_cbor.specs.EncodedAt.{IsEncodedAt};
 ghost use Rattle.passkey_cbor.specs.View.{item_of};
 ghost use Rattle.passkey_kinds.specs.Keeping.{Keeping, nothing, counted};
 ghost use Rattle.passkey_kinds.specs.Kind.{Answers, AnswersAs, truth, below, text, kept, optional};
@@ -30,22 +30,23 @@ pub trait FromCbor: Drop {
     /// The most heads that `read` decodes for each byte of the data item.
     ghost cost: { ℕ };
 
-    /// Which data items `read` makes as values at most: those that the result keeps, and in
-    /// authenticator data that of the key and that of the extensions.
+    /// The data items that `read` makes as values at most: those that the result keeps, and in
+    /// authenticator data those for the credential public key and the extensions.
     ghost keeps: { Keeping };
 
-    /// Decodes the value from a data item. `Refused` exactly if the type accepts no such item;
-    /// `OutOfMemory` if an allocation fails, which can only happen for a tag, a text string, or a
-    /// byte string, array or map that isn't empty.
+    /// Decodes the value from a data item. Returns `Refused` exactly if the type doesn't accept the
+    /// item, and `OutOfMemory` if an allocation fails, which can only happen for a tag, a text
+    /// string, or a byte string, array or map that isn't empty.
     fn from_value(alloc: Global, value: &Value) -> Result<Self, Refusal>
         ensures { Answers view kind takes (item_of value.now) result };
 
-    /// Decodes the data item at the cursor, head by head and without building it, and moves behind
-    /// it. If a well-formed item of at most 256 levels is there, the result is one that `from_value`
-    /// may return for it. After an error the cursor may be anywhere in the item, and its counts
-    /// include what was spent.
+    /// Decodes the data item at the cursor, head by head and without building it, and moves past
+    /// it. If a well-formed item of at most 256 nesting levels is there, the result is one that
+    /// `from_value` may return for it. After an error the cursor may be anywhere in the item, and
+    /// its counts include what was spent.
     fn read(alloc: Global, cursor: &mut Cursor<'_>) -> Result<Self, Refusal>
-        ensures reads { (i : Item) (to : ℕ) → Stands i cursor.old.bytes cursor.old.place to → ReadsAs view kind takes cost keeps i to cursor.old cursor.new result }
+        ensures reads { (i : Item) (to : ℕ) → IsEncodedAt i cursor.old.bytes cursor.old.place to
+            → ReadsAs view kind takes cost keeps i to cursor.old cursor.new result }
 
         // Whatever the bytes are, the cursor doesn't move back, and its counts don't fall.
         ensures onward { Onward cursor.old cursor.new }

@@ -1,8 +1,8 @@
-//! Values that are decoded from any text string.
+//! Values that are decoded from text strings, whatever the text.
 ghost use Rattle.std.specs.Prelude.{◌≡◌, ℕ, List, true, IfOk, OnOk};
 ghost use Rattle.passkey_cbor.specs.Item.{Item};
 ghost use Rattle.passkey_cbor.specs.Lent.{IsRegion, Tells};
-ghost use Rattle.passkey_cbor.specs.Stands.{Stands};
+ghost use Rattle.passkey_cbor.specs.EncodedAt.{IsEncodedAt};
 ghost use Rattle.passkey_kinds.specs.Keeping.{nothing};
 ghost use Rattle.passkey_kinds.specs.Kind.{one_named};
 ghost use Rattle.passkey_kinds.specs.Reader.{Onward, Further, ReadsAs, LooksAtMost};
@@ -17,12 +17,12 @@ pub trait FromText: Drop {
     /// The value of each text.
     ghost of_text: { List ℕ → Self };
 
-    /// Returns the text's value. `OutOfMemory` if an allocation fails.
+    /// Returns the text's value. Returns `OutOfMemory` if an allocation fails.
     fn from_text(alloc: Global, text: &str) -> Result<Self, OutOfMemory>
         ensures { IfOk result (λ v. v ≡ of_text text.now) };
 }
 
-/// Returns the value of a text string. Chunks are first joined in a copy.
+/// Returns the value of a text string. Chunks are first joined in memory.
 fn text_value<T: FromText>(
     alloc: Global,
     token: &TextToken<'_>,
@@ -41,10 +41,11 @@ fn text_value<T: FromText>(
     }
 }
 
-/// Decodes the value of the text string at the cursor, and moves behind it. `Refused` if no text
-/// string is there; `OutOfMemory` if an allocation fails.
+/// Decodes the value of the text string at the cursor, and moves past it. Returns `Refused` if no
+/// text string is there, and `OutOfMemory` if an allocation fails.
 pub fn read_text_value<T: FromText>(alloc: Global, cursor: &mut Cursor<'_>) -> Result<T, Refusal>
-    ensures reads { (i : Item) (to : ℕ) → Stands i cursor.old.bytes cursor.old.place to → ReadsAs (λ v. v) (one_named (λ s. Some (T.of_text s))) true 2 nothing i to cursor.old cursor.new result }
+    ensures reads { (i : Item) (to : ℕ) → IsEncodedAt i cursor.old.bytes cursor.old.place to
+        → ReadsAs (λ v. v) (one_named (λ s. Some (T.of_text s))) true 2 nothing i to cursor.old cursor.new result }
     ensures onward { Onward cursor.old cursor.new }
     ensures further { OnOk result (Further cursor.old cursor.new) }
 {

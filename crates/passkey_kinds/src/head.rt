@@ -1,9 +1,9 @@
-//! Heads at a cursor, by the type of data item that they begin.
+//! Decodes one head at a cursor, by the type of data item that is wanted.
 ghost use Rattle.std.specs.Prelude.{◌≡◌, ℕ, ◌+◌, ◌≤◌, Bool, true, false, Option, Some as There, None as Nothing, if◌then◌else◌, IfSome};
 ghost use Rattle.std.specs.Option.{option_and_then};
 ghost use Rattle.passkey_cbor.specs.Item.{Item};
 ghost use Rattle.passkey_webauthn.specs.NumberText.{signed_64};
-ghost use Rattle.passkey_cbor.specs.Stands.{Stands};
+ghost use Rattle.passkey_cbor.specs.EncodedAt.{IsEncodedAt};
 ghost use Rattle.passkey_kinds.specs.HeadValues.{unsigned_in, integer_in, null_in, head_unsigned, head_integer, head_truth, head_null, head_array, head_map, ReadsFlat, OpensArray, OpensMap};
 ghost use Rattle.passkey_kinds.specs.Kind.{truth};
 ghost use Rattle.passkey_kinds.specs.Reader.{Onward, Further, Spends};
@@ -72,9 +72,10 @@ fn map_len(head: Head) -> Option<Option<u64>>
     }
 }
 
-/// Decodes the unsigned integer at the cursor, or returns `None` if none is there.
+/// Decodes the unsigned integer at the cursor. Returns `None` if none is there.
 pub(crate) fn read_unsigned(cursor: &mut Cursor<'_>) -> Option<u64>
-    ensures reads { (i : Item) (to : ℕ) → Stands i cursor.old.bytes cursor.old.place to → ReadsFlat (unsigned_in i) to cursor.old cursor.new result }
+    ensures reads { (i : Item) (to : ℕ) → IsEncodedAt i cursor.old.bytes cursor.old.place to
+        → ReadsFlat (unsigned_in i) to cursor.old cursor.new result }
     ensures onward { Onward cursor.old cursor.new }
     ensures further { IfSome result (λ _. Further cursor.old cursor.new) }
 {
@@ -84,9 +85,11 @@ pub(crate) fn read_unsigned(cursor: &mut Cursor<'_>) -> Option<u64>
     }
 }
 
-/// Decodes the integer at the cursor, or returns `None` if none is there that fits in `i64`.
+/// Decodes the integer at the cursor. Returns `None` if none is there, or if it doesn't fit in
+/// `i64`.
 pub(crate) fn read_integer(cursor: &mut Cursor<'_>) -> Option<i64>
-    ensures reads { (i : Item) (to : ℕ) → Stands i cursor.old.bytes cursor.old.place to → ReadsFlat (option_and_then signed_64 (integer_in i)) to cursor.old cursor.new result }
+    ensures reads { (i : Item) (to : ℕ) → IsEncodedAt i cursor.old.bytes cursor.old.place to
+        → ReadsFlat (option_and_then signed_64 (integer_in i)) to cursor.old cursor.new result }
     ensures onward { Onward cursor.old cursor.new }
     ensures further { IfSome result (λ _. Further cursor.old cursor.new) }
 {
@@ -96,9 +99,10 @@ pub(crate) fn read_integer(cursor: &mut Cursor<'_>) -> Option<i64>
     }
 }
 
-/// Decodes the boolean at the cursor, or returns `None` if none is there.
+/// Decodes the boolean at the cursor. Returns `None` if none is there.
 pub(crate) fn read_truth(cursor: &mut Cursor<'_>) -> Option<bool>
-    ensures reads { (i : Item) (to : ℕ) → Stands i cursor.old.bytes cursor.old.place to → ReadsFlat (truth i) to cursor.old cursor.new result }
+    ensures reads { (i : Item) (to : ℕ) → IsEncodedAt i cursor.old.bytes cursor.old.place to
+        → ReadsFlat (truth i) to cursor.old cursor.new result }
     ensures onward { Onward cursor.old cursor.new }
     ensures further { IfSome result (λ _. Further cursor.old cursor.new) }
 {
@@ -108,9 +112,10 @@ pub(crate) fn read_truth(cursor: &mut Cursor<'_>) -> Option<bool>
     }
 }
 
-/// Decodes null or undefined at the cursor, and returns whether one is there.
+/// Decodes null or undefined at the cursor. Returns whether one of them is there.
 pub(crate) fn read_null(cursor: &mut Cursor<'_>) -> bool
-    ensures reads { (i : Item) (to : ℕ) → Stands i cursor.old.bytes cursor.old.place to → ReadsFlat (if null_in i then There true else Nothing) to cursor.old cursor.new (if result then There true else Nothing) }
+    ensures reads { (i : Item) (to : ℕ) → IsEncodedAt i cursor.old.bytes cursor.old.place to → ReadsFlat (if null_in
+        i then There true else Nothing) to cursor.old cursor.new (if result then There true else Nothing) }
     ensures onward { Onward cursor.old cursor.new }
     ensures further { result ≡ true → Further cursor.old cursor.new }
 {
@@ -120,10 +125,13 @@ pub(crate) fn read_null(cursor: &mut Cursor<'_>) -> bool
     }
 }
 
-/// Decodes the head of the array at the cursor and returns its length; `None` if no array is there.
+/// Decodes the head of the array at the cursor and returns its length, which is `Some(None)` if it
+/// is indefinite. Returns `None` if no array is there.
 pub(crate) fn read_array(cursor: &mut Cursor<'_>) -> Option<Option<u64>>
-    ensures opens { (i : Item) (to : ℕ) → Stands i cursor.old.bytes cursor.old.place to → OpensArray i to cursor.new result }
-    ensures spends { (i : Item) (to : ℕ) → Stands i cursor.old.bytes cursor.old.place to → Spends 1 0 to cursor.old cursor.new }
+    ensures opens { (i : Item) (to : ℕ) → IsEncodedAt i cursor.old.bytes cursor.old.place to
+        → OpensArray i to cursor.new result }
+    ensures spends { (i : Item) (to : ℕ) → IsEncodedAt i cursor.old.bytes cursor.old.place to
+        → Spends 1 0 to cursor.old cursor.new }
     ensures counted { cursor.new.heads ≤ cursor.old.heads + 1 }
     ensures onward { Onward cursor.old cursor.new }
     ensures further { IfSome result (λ _. Further cursor.old cursor.new) }
@@ -134,10 +142,13 @@ pub(crate) fn read_array(cursor: &mut Cursor<'_>) -> Option<Option<u64>>
     }
 }
 
-/// Decodes the head of the map at the cursor and returns its length; `None` if no map is there.
+/// Decodes the head of the map at the cursor and returns its length, which is `Some(None)` if it is
+/// indefinite. Returns `None` if no map is there.
 pub(crate) fn read_map(cursor: &mut Cursor<'_>) -> Option<Option<u64>>
-    ensures opens { (i : Item) (to : ℕ) → Stands i cursor.old.bytes cursor.old.place to → OpensMap i to cursor.new result }
-    ensures spends { (i : Item) (to : ℕ) → Stands i cursor.old.bytes cursor.old.place to → Spends 1 0 to cursor.old cursor.new }
+    ensures opens { (i : Item) (to : ℕ) → IsEncodedAt i cursor.old.bytes cursor.old.place to
+        → OpensMap i to cursor.new result }
+    ensures spends { (i : Item) (to : ℕ) → IsEncodedAt i cursor.old.bytes cursor.old.place to
+        → Spends 1 0 to cursor.old cursor.new }
     ensures counted { cursor.new.heads ≤ cursor.old.heads + 1 }
     ensures onward { Onward cursor.old cursor.new }
     ensures further { IfSome result (λ _. Further cursor.old cursor.new) }

@@ -2,7 +2,7 @@
 ghost use Rattle.std.specs.Prelude.{◌≡◌, ◌≤◌, ℕ, nat_lt, if◌then◌else◌, List, Option, length, map, take, true, false, IfSome};
 ghost use Rattle.passkey_cbor.specs.Item.{Item};
 ghost use Rattle.passkey_cbor.specs.Lent.{IsRegion, Tells};
-ghost use Rattle.passkey_cbor.specs.Stands.{Stands};
+ghost use Rattle.passkey_cbor.specs.EncodedAt.{IsEncodedAt};
 ghost use Rattle.passkey_kinds.specs.Reader.{Onward, Further, LooksAtMost};
 ghost use Rattle.passkey_kinds.specs.Reading.{named_as};
 ghost use Rattle.passkey_kinds.specs.RecordReading.{ReadsKey};
@@ -13,7 +13,7 @@ use crate::head::read_unsigned;
 use crate::rows::{Named, Row, of_number, with_name};
 use passkey_cbor::{BytesToken, Cursor, TextToken};
 
-/// Returns the names of at most 32 rows, followed by empty ones.
+/// Returns the names of at most 32 rows, followed by empty names.
 fn names_of(rows: &[Row]) -> [&'static str; 32]
     requires { length rows.now ≤ 32 }
     ensures { map (λ n. n.now) (take (length rows.now) result) ≡ map (λ e. e.name) (map entry_of rows.now) }
@@ -38,8 +38,8 @@ fn at_index(rows: &[Row], index: Option<usize>) -> Named
     }
 }
 
-/// Finds the row whose name is this text string. Chunks are compared with all names at once,
-/// without a copy.
+/// Finds the row whose name is this text string. Compares its chunks with all names at once,
+/// without copying them.
 fn with_text(rows: &[Row], token: &TextToken<'_>, cursor: &mut Cursor<'_>) -> Named
     requires region { IsRegion true token.now }
     requires few { length rows.now ≤ 32 }
@@ -77,11 +77,12 @@ fn byte(number: u64) -> Option<u8>
     u8::try_from(number).ok()
 }
 
-/// Decodes the map key at the cursor, moves behind it and returns what it names; `None` if a record
-/// can't have such a key.
+/// Decodes the map key at the cursor, moves past it and returns what it names. Returns `None` if a
+/// record can't have this key.
 pub(crate) fn read_key(is_numbered: bool, rows: &[Row], cursor: &mut Cursor<'_>) -> Option<Named>
     requires { length rows.now ≤ 32 }
-    ensures names { (key : Item) (to : ℕ) → Stands key cursor.old.bytes cursor.old.place to → ReadsKey (names is_numbered (map entry_of rows.now) key) to cursor.old cursor.new result }
+    ensures names { (key : Item) (to : ℕ) → IsEncodedAt key cursor.old.bytes cursor.old.place to
+        → ReadsKey (names is_numbered (map entry_of rows.now) key) to cursor.old cursor.new result }
     ensures onward { Onward cursor.old cursor.new }
     ensures further { IfSome result (λ _. Further cursor.old cursor.new) }
 {

@@ -1,4 +1,4 @@
-//! Laws about decoding records and lists, each the contract of a function that does nothing.
+//! Laws about decoding records and lists. Each is the contract of a function that does nothing.
 ghost use Rattle.passkey_kinds.specs.MessageLaws.{AlikeDifferInLength};
 ghost use Rattle.passkey_kinds.specs.Record.{read_item};
 ghost use Rattle.passkey_kinds.specs.Tree.{KeysAscend};
@@ -7,39 +7,40 @@ ghost use Rattle.passkey_kinds.specs.RecordLaws.{KnowsItems, KnowsMaps, RefusedE
 
 use crate::record::Record;
 
-/// Records with names are encoded with their keys in CTAP2's order (CTAP 2.1, section 8).
+/// Records whose members have names alone are encoded with their keys in CTAP2's order (CTAP 2.1,
+/// section 8).
 pub fn written_keys_ascend()
     ensures descriptor { KeysAscend descriptor_places }
     ensures parameters { KeysAscend parameters_places }
     ensures user { KeysAscend webauthn_user_places }
 {}
 
-/// A member under a key that a record's table doesn't know may be anywhere: the record or the fault
-/// is the same without it.
+/// A member under a key that the record's table doesn't know changes nothing, wherever it is: the
+/// record or the fault is the same without it.
 pub fn unknown_member_is_passed_over<R: Record>()
     ensures { UnknownMemberIsPassedOver R.fields }
 {}
 
-/// A member under a key that a message's table doesn't know may be anywhere, as long as the map has
-/// at most 256 levels with it: for any encodings of the map with the member and without it, the
+/// A member under a key that the message's table doesn't know changes only the length, wherever it
+/// is: for any encodings of the map with the member and without it, within 256 nesting levels, the
 /// messages differ only in their length in bytes, and a fault is the same. `OutOfMemory` is left
 /// out: `ReadsMessage` allows it for any map that isn't empty, and `GrowsMessage` says more.
 pub fn unknown_member_changes_the_length_alone<R: Record>()
     ensures { PassesOverUnknown R.parts R.fields }
 {
-    passkey_cbor::laws::at_most_one_front();
+    passkey_cbor::laws::at_most_one_leading_item();
 }
 
-/// The same holds for any two items that a message's table decodes alike: for any of their
+/// The same holds for any two data items that a message's table decodes alike: for any of their
 /// encodings, the messages differ only in their length in bytes.
 pub fn alike_items_differ_in_length<R: Record>()
     ensures { AlikeDifferInLength R.parts (read_item R.fields) }
 {
-    passkey_cbor::laws::at_most_one_front();
+    passkey_cbor::laws::at_most_one_leading_item();
 }
 
-/// An element that can't be decoded may be anywhere in a tolerant list: the value is the same
-/// without it.
+/// An element that can't be decoded changes nothing in a tolerant list, wherever it is: the value
+/// is the same without it.
 #[tactic(auto, using(crate::proofs::Accepted::refused_is_passed_over))]
 pub fn refused_element_is_passed_over<M>()
     ensures { RefusedElementIsPassedOver M }
@@ -51,8 +52,8 @@ pub fn same_answers_read_alike<R: Record>()
     ensures { SameAnswersReadAlike R.fields }
 {}
 
-/// No data item decodes to `DecodeFailed` or `OutOfMemory`: which record an item is, and what is
-/// wrong with it, depends neither on its encoding nor on memory.
+/// No data item decodes to `DecodeFailed` or `OutOfMemory`: which record an item decodes to, and
+/// what is wrong with it, depends neither on its encoding nor on memory.
 pub fn reading_knows_items<R: Record>()
     ensures { KnowsItems (read_item R.fields) }
 {}

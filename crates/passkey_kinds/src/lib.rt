@@ -1,5 +1,5 @@
-//! How the members of CTAP2's messages are decoded from CBOR data items and encoded as them (CTAP
-//! 2.1, section 8).
+//! Decoding the members of CTAP2 messages from CBOR data items, and encoding them (CTAP 2.1,
+//! section 8).
 #![tactic(auto)]
 
 mod algorithm;

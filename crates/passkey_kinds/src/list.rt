@@ -3,7 +3,7 @@ ghost use Rattle.std.specs.Prelude.{◌<◌, ℕ, suc, List as Items, length, ma
 ghost use Rattle.std.specs.List.{filter_map};
 ghost use Rattle.passkey_cbor.specs.View.{item_of};
 ghost use Rattle.passkey_cbor.specs.Item.{Item};
-ghost use Rattle.passkey_cbor.specs.Stands.{StandItems};
+ghost use Rattle.passkey_cbor.specs.EncodedAt.{ItemsAreEncodedAt};
 ghost use Rattle.passkey_kinds.specs.Keeping.{in_elements};
 ghost use Rattle.passkey_kinds.specs.Kind.{AnswersAs, each, list, accepted};
 ghost use Rattle.passkey_kinds.specs.Reader.{Onward, Decodes, kept_all};
@@ -17,7 +17,8 @@ use passkey_cbor::{Cursor, Value};
 use std::alloc::Global;
 
 pub(crate) fn read_each<T: FromCbor>(alloc: Global, elements: &[Value]) -> Result<List<T>, Refusal>
-    ensures { AnswersAs (λ xs. map T.view xs) (each T.kind (map item_of elements.now)) (0 < length elements.now) result }
+    ensures { AnswersAs (λ xs. map T.view xs) (each T.kind (map item_of elements.now)) (0 < length elements.now)
+        result }
 {
     let mut read = Vec::new(alloc);
     for element in elements {
@@ -27,7 +28,8 @@ pub(crate) fn read_each<T: FromCbor>(alloc: Global, elements: &[Value]) -> Resul
 }
 
 fn read_accepted<T: FromCbor>(alloc: Global, elements: &[Value]) -> Result<TolerantList<T>, Refusal>
-    ensures { AnswersAs (λ l. map T.view l.0) (Some (filter_map T.kind (map item_of elements.now))) (0 < length elements.now) result }
+    ensures { AnswersAs (λ l. map T.view l.0) (Some (filter_map T.kind (map item_of elements.now)))
+        (0 < length elements.now) result }
 {
     let mut read = Vec::new(alloc);
     for element in elements {
@@ -40,13 +42,15 @@ fn read_accepted<T: FromCbor>(alloc: Global, elements: &[Value]) -> Result<Toler
     Ok(TolerantList(List::from(read)))
 }
 
-/// Decodes the elements of an array, behind its head.
+/// Decodes the elements that follow an array's head.
 pub(crate) fn read_elements<T: FromCbor>(
     alloc: Global,
     mut left: Option<u64>,
     cursor: &mut Cursor<'_>,
 ) -> Result<List<T>, Refusal>
-    ensures reads { (is : Items Item) (to : ℕ) → StandItems left is cursor.old.bytes cursor.old.place to → Decodes (λ xs. map T.view xs) (each T.kind is) (0 < length is) (suc T.cost) (kept_all T.keeps is) to cursor.old cursor.new result }
+    ensures reads { (is : Items Item) (to : ℕ) → ItemsAreEncodedAt left is cursor.old.bytes cursor.old.place to
+        → Decodes (λ xs. map T.view xs) (each T.kind is) (0 < length is) (suc T.cost) (kept_all T.keeps is) to
+        cursor.old cursor.new result }
     ensures onward { Onward cursor.old cursor.new }
 {
     let mut read = Vec::new(alloc);
@@ -56,13 +60,15 @@ pub(crate) fn read_elements<T: FromCbor>(
     Ok(List::from(read))
 }
 
-/// Decodes the elements of an array, behind its head, and skips those that aren't accepted.
+/// Decodes the elements that follow an array's head, and skips those that aren't accepted.
 fn read_accepted_elements<T: FromCbor>(
     alloc: Global,
     mut left: Option<u64>,
     cursor: &mut Cursor<'_>,
 ) -> Result<TolerantList<T>, Refusal>
-    ensures reads { (is : Items Item) (to : ℕ) → StandItems left is cursor.old.bytes cursor.old.place to → Decodes (λ l. map T.view l.0) (Some (filter_map T.kind is)) (0 < length is) (suc (suc T.cost)) (kept_all T.keeps is) to cursor.old cursor.new result }
+    ensures reads { (is : Items Item) (to : ℕ) → ItemsAreEncodedAt left is cursor.old.bytes cursor.old.place to
+        → Decodes (λ l. map T.view l.0) (Some (filter_map T.kind is)) (0 < length is) (suc (suc T.cost))
+        (kept_all T.keeps is) to cursor.old cursor.new result }
     ensures onward { Onward cursor.old cursor.new }
 {
     let mut read = Vec::new(alloc);

@@ -1,4 +1,4 @@
-//! Maps from byte strings, decoded from maps and encoded as them.
+//! Maps from byte strings, decoded from CBOR maps and encoded as CBOR maps.
 ghost use Rattle.std.specs.Prelude.{◌≡◌, ◌<◌, ℕ, suc, max, List, length, map, true, IfOk, OnOk};
 ghost use Rattle.std.specs.FinMap as fin;
 ghost use Rattle.std.specs.List.{All};
@@ -6,7 +6,7 @@ ghost use Rattle.passkey_bytes.specs.Map.{ByteMap};
 ghost use Rattle.passkey_cbor.specs.View.{item_of, pair_of};
 ghost use Rattle.passkey_kinds.specs.Kind.{AnswersAs};
 ghost use Rattle.passkey_cbor.specs.Item.{Item};
-ghost use Rattle.passkey_cbor.specs.Stands.{StandPairs};
+ghost use Rattle.passkey_cbor.specs.EncodedAt.{PairsAreEncodedAt};
 ghost use Rattle.passkey_kinds.specs.Keeping.{in_members};
 ghost use Rattle.passkey_kinds.specs.MapKind.{map_from_bytes, map_values, with_members};
 ghost use Rattle.passkey_kinds.specs.Reader.{Onward, Decodes, kept_values_of};
@@ -26,7 +26,8 @@ fn read_entries<T: FromCbor>(
     alloc: Global,
     pairs: &[(Value, Value)],
 ) -> Result<Map<Bytes, T>, Refusal>
-    ensures { AnswersAs (λ m. map_values T.view m) (with_members T.kind fin.empty (map pair_of pairs.now)) (0 < length pairs.now) result }
+    ensures { AnswersAs (λ m. map_values T.view m) (with_members T.kind fin.empty (map pair_of pairs.now))
+        (0 < length pairs.now) result }
 {
     let mut read = Map::empty(alloc);
     for (key, value) in pairs {
@@ -35,13 +36,15 @@ fn read_entries<T: FromCbor>(
     Ok(read)
 }
 
-/// Decodes the entries of a map, behind its head.
+/// Decodes the entries that follow a map's head.
 fn read_entries_ahead<T: FromCbor>(
     alloc: Global,
     mut left: Option<u64>,
     cursor: &mut Cursor<'_>,
 ) -> Result<Map<Bytes, T>, Refusal>
-    ensures reads { (ms : List (Item × Item)) (to : ℕ) → StandPairs left ms cursor.old.bytes cursor.old.place to → Decodes (λ m. map_values T.view m) (with_members T.kind fin.empty ms) (0 < length ms) (suc (max 3 T.cost)) (kept_values_of T.keeps ms) to cursor.old cursor.new result }
+    ensures reads { (ms : List (Item × Item)) (to : ℕ) → PairsAreEncodedAt left ms cursor.old.bytes cursor.old.place
+        to → Decodes (λ m. map_values T.view m) (with_members T.kind fin.empty ms) (0 < length ms)
+        (suc (max 3 T.cost)) (kept_values_of T.keeps ms) to cursor.old cursor.new result }
     ensures onward { Onward cursor.old cursor.new }
 {
     let mut read = Map::empty(alloc);
@@ -84,7 +87,8 @@ fn write_entries<T: ToCbor>(
     alloc: Global,
     entries: &Map<Bytes, T>,
 ) -> Result<Vec<(Value, Value)>, OutOfMemory>
-    ensures trees { IfOk result (λ pairs. map pair_of pairs.items ≡ map (entry_tree T.tree) (fin.entries entries.now)) }
+    ensures trees { IfOk result
+        (λ pairs. map pair_of pairs.items ≡ map (entry_tree T.tree) (fin.entries entries.now)) }
     ensures fits { OnOk result (All (λ e. T.fits e.1) (fin.entries entries.now)) }
 {
     let mut pairs = Vec::with_capacity(alloc, entries.len())?;
@@ -95,7 +99,7 @@ fn write_entries<T: ToCbor>(
     Ok(pairs)
 }
 
-// How many bytes a key has that is a byte string.
+// Returns the length of a key that is a byte string, and 0 for any other key.
 fn key_len(key: &Value) -> usize
     ensures { result ≡ key_size (item_of key.now) }
 {
@@ -105,7 +109,7 @@ fn key_len(key: &Value) -> usize
     }
 }
 
-// Moves pairs with shorter keys to the front, as CTAP2 asks; those with keys of one length keep
+// Sorts pairs by the length of their keys, as CTAP2 asks; pairs with keys of the same length keep
 // their order.
 fn sort_pairs(pairs: &mut Vec<(Value, Value)>) -> Result<(), AllocError>
     ensures { OnOk result (pairs.new.items ≡ sorted_by (λ p. key_size (item_of p.0)) pairs.old.items) }

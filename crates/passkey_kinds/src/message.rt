@@ -32,30 +32,31 @@ pub trait Message: Drop {
     /// The data item that a message is encoded as.
     ghost tree: { Parts → Item };
 
-    /// Whether a message's encoding can be decoded again.
+    /// Whether the message's encoding can be decoded again.
     ghost coherent: { Parts → Bool };
 
-    /// Decodes the message that the bytes begin with, and returns it with its length in bytes.
-    /// Bytes after it are ignored. The errors are those of `read`.
+    /// Decodes the message at the beginning of the bytes, and returns it with its length in bytes.
+    /// Ignores the bytes after it. The errors are those of `read`.
     fn from_slice(alloc: Global, bytes: &[u8]) -> Result<(Self, usize), Fault>
         ensures reads { ReadsMessage parts (read_item fields) bytes.now result }
         ensures grows { result ≡ Err NoRoom → GrowsMessage fields bytes.now };
 
-    /// Decodes the message at the cursor and moves behind it. `DecodeFailed` exactly if no
-    /// well-formed data item of at most 256 levels is there; otherwise the errors of `from_value`.
-    /// On an error the cursor stays, and its counts include what was spent.
+    /// Decodes the message at the cursor and moves past it. Returns `DecodeFailed` exactly if no
+    /// well-formed data item of at most 256 nesting levels is there; otherwise the errors are those
+    /// of `from_value`. On an error the cursor stays, and its counts include what was spent.
     fn read(alloc: Global, cursor: &mut Cursor<'_>) -> Result<Self, Fault>
         ensures { ReadsHere parts fields 16 cursor.old cursor.new result };
 
-    /// Decodes the message from a data item. `NotAMap` if it isn't a map; otherwise the fault of
-    /// its first bad member (`BadKey`, `Repeated`, `Refused`), or `Missing` for the first required
-    /// member that is absent; `OutOfMemory` if an allocation fails, which can only happen for a
-    /// member that takes memory.
+    /// Decodes the message from a data item. Returns `NotAMap` if the item isn't a map; otherwise
+    /// the fault of its first bad member (`BadKey`, `Repeated`, `Refused`), or else `Missing` for
+    /// the first required member that is absent. Returns `OutOfMemory` if an allocation fails,
+    /// which can only happen for a member that takes memory.
     fn from_value(alloc: Global, value: &Value) -> Result<Self, Fault>
-        ensures { Reads parts (MayGrowAt (table_of fields) (item_of value.now)) (read_item fields (item_of value.now)) result };
+        ensures { Reads parts (MayGrowAt (table_of fields) (item_of value.now))
+            (read_item fields (item_of value.now)) result };
 
-    /// Encodes the message. `OutOfMemory` if an allocation fails, which is the only error for a
-    /// coherent message.
+    /// Encodes the message. Returns `OutOfMemory` if an allocation fails, which is the only error
+    /// for a coherent message.
     fn to_vec(&self, alloc: Global) -> Result<Vec<u8>, WriteFault>
         ensures written { IfOk result (λ bytes. bytes.items ≡ written (tree (parts self.now))) }
         ensures memory { coherent (parts self.now) ≡ true → IfErr result (λ e. e ≡ NoMemory) };
@@ -70,10 +71,10 @@ pub trait Message: Drop {
 }
 
 /// Decodes the message, a map, at the cursor, head by head and without building a data item, and
-/// moves behind it (CTAP 2.1, sections 6 and 8). `DecodeFailed` exactly if no well-formed data item
-/// of at most 256 levels is there; otherwise the fault that `record_from_value` returns for the
-/// item; `OutOfMemory` if an allocation fails, which can only happen for a member that takes
-/// memory. On an error the cursor stays, and its counts include what was spent.
+/// moves past it (CTAP 2.1, sections 6 and 8). Returns `DecodeFailed` exactly if no well-formed
+/// data item of at most 256 nesting levels is there; otherwise the fault that `record_from_value`
+/// returns for the item; and `OutOfMemory` if an allocation fails, which can only happen for a
+/// member that takes memory. On an error the cursor stays, and its counts include what was spent.
 pub fn read_message<R: Record>(alloc: Global, cursor: &mut Cursor<'_>) -> Result<R, Fault>
     ensures { ReadsHere R.parts R.fields (suc (record_cost R.fields)) cursor.old cursor.new result }
 {
@@ -91,8 +92,8 @@ pub fn read_message<R: Record>(alloc: Global, cursor: &mut Cursor<'_>) -> Result
     }
 }
 
-/// Decodes the message, a map, that the bytes begin with, and returns it with its length in bytes.
-/// Bytes after it are ignored. The errors are those of `read_message`.
+/// Decodes the message, a map, at the beginning of the bytes, and returns it with its length in
+/// bytes. Ignores the bytes after it. The errors are those of `read_message`.
 pub fn message_from_slice<R: Record>(alloc: Global, bytes: &[u8]) -> Result<(R, usize), Fault>
     ensures reads { ReadsMessage R.parts (read_item R.fields) bytes.now result }
     ensures grows { result ≡ Err NoRoom → GrowsMessage R.fields bytes.now }
@@ -102,8 +103,8 @@ pub fn message_from_slice<R: Record>(alloc: Global, bytes: &[u8]) -> Result<(R, 
     Ok((message, cursor.place()))
 }
 
-/// Encodes the message with shortest heads and definite lengths (RFC 8949, section 4.1), and with
-/// its members in the table's order. `OutOfMemory` if an allocation fails; there is no other error.
+/// Encodes the message in preferred serialization (RFC 8949, section 4.1), with its members in the
+/// table's order. Returns `OutOfMemory` if an allocation fails; there is no other error.
 pub fn write_message<T: ToCbor>(alloc: Global, message: &T) -> Result<Vec<u8>, WriteFault>
     ensures written { IfOk result (λ bytes. bytes.items ≡ written (T.tree message.now)) }
     ensures writable { OnOk result (IsWritable (T.tree message.now)) }

@@ -2,7 +2,7 @@
 ghost use Rattle.std.specs.Prelude.{◌≡◌, ℕ, List, true, false, OnOk};
 ghost use Rattle.passkey_cbor.specs.Item.{Item};
 ghost use Rattle.passkey_cbor.specs.Lent.{IsRegion, Tells};
-ghost use Rattle.passkey_cbor.specs.Stands.{Stands};
+ghost use Rattle.passkey_cbor.specs.EncodedAt.{IsEncodedAt};
 ghost use Rattle.passkey_kinds.specs.Reader.{Onward, Further, Decodes, LooksAtMost};
 ghost use Rattle.passkey_cbor.specs.View.{item_of};
 ghost use Rattle.passkey_kinds.specs.Keeping.{nothing};
@@ -43,7 +43,8 @@ fn named<T: NameTable>(token: &TextToken<'_>, cursor: &mut Cursor<'_>) -> Option
 }
 
 fn read_named<T: NameTable>(cursor: &mut Cursor<'_>) -> Result<T, Refusal>
-    ensures reads { (i : Item) (to : ℕ) → Stands i cursor.old.bytes cursor.old.place to → Decodes (λ x. x) (one_named T.named i) ⊥ 2 0 to cursor.old cursor.new result }
+    ensures reads { (i : Item) (to : ℕ) → IsEncodedAt i cursor.old.bytes cursor.old.place to
+        → Decodes (λ x. x) (one_named T.named i) ⊥ 2 0 to cursor.old cursor.new result }
     ensures onward { Onward cursor.old cursor.new }
     ensures further { OnOk result (Further cursor.old cursor.new) }
 {

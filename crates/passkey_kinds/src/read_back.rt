@@ -1,4 +1,4 @@
-//! Encodings that decode to the value again.
+//! Encodings that are decoded to the value again.
 ghost use Rattle.std.specs.Prelude.{◌≡◌, None};
 ghost use Rattle.passkey_cbor.specs.Item.{null};
 ghost use Rattle.passkey_kinds.specs.ReadBack.{IsReadBack};
@@ -13,9 +13,9 @@ use passkey_webauthn::{
     PublicKeyCredentialType,
 };
 
-/// A type whose encoded values can be decoded again, and of which null encodes no value.
+/// A type whose encoded values can be decoded again, and which encodes no value as null.
 pub trait ReadBack: FromCbor + ToCbor {
-    /// The value that the encoding of each value decodes to.
+    /// The value that the encoding of a value decodes to.
     ghost normal: { Self → Self };
 
     /// The encoding of a value decodes to its normal form. Does nothing.

@@ -1,7 +1,7 @@
 //! Records, decoded member by member.
 ghost use Rattle.std.specs.Prelude.{◌≡◌, ◌≤◌, ℕ, true, false, length, map, replicate, is_ok, OnOk};
 ghost use Rattle.passkey_cbor.specs.Item.{Item};
-ghost use Rattle.passkey_cbor.specs.Stands.{Stands, StandPairs};
+ghost use Rattle.passkey_cbor.specs.EncodedAt.{IsEncodedAt, PairsAreEncodedAt};
 ghost use Rattle.passkey_cbor.specs.View.{item_of, pair_of};
 ghost use Rattle.passkey_kinds.specs.Kind.{Answers};
 ghost use Rattle.passkey_kinds.specs.Reader.{Onward, Further, ReadsAs};
@@ -21,8 +21,8 @@ use crate::source::{Source, Tree};
 use passkey_cbor::{Cursor, Value};
 use std::alloc::Global;
 
-/// A record, decoded member by member from a map: it starts with its defaults, and each decoded
-/// value is put into it.
+/// A record, decoded member by member from a map: it starts as the blank record with its defaults,
+/// and each decoded value is put into it.
 pub trait Record: Drop {
     /// What contracts see of the record.
     ghost Parts: { Type 0 };
@@ -46,16 +46,18 @@ pub trait Record: Drop {
     fn blank(alloc: Global) -> Self
         ensures { parts result ≡ fields.blank };
 
-    /// Decodes the value of the row with this number and puts it into the record. `Refused` if the
-    /// row doesn't accept the value, or no row has the number; `OutOfMemory` if an allocation
-    /// fails, which can only happen for an item that takes memory.
+    /// Decodes the value of the row with this number and puts it into the record. Returns `Refused`
+    /// if the row doesn't accept the item, or if no row has the number. Returns `OutOfMemory` if an
+    /// allocation fails, which can only happen for an item that takes memory.
     fn put<S: Source>(&mut self, alloc: Global, number: u8, source: &mut S) -> Result<(), Refusal>
-        ensures puts { (i : Item) (to : ℕ) → S.At source.old i to → Puts fields number i (parts self.old) (parts self.new) result }
-        ensures spends { (i : Item) (to : ℕ) → S.At source.old i to → S.Spent (cost_at fields.rows number) (keeps_at fields.rows number) i to source.old source.new (is_ok result) }
+        ensures puts { (i : Item) (to : ℕ) → S.At source.old i to
+            → Puts fields number i (parts self.old) (parts self.new) result }
+        ensures spends { (i : Item) (to : ℕ) → S.At source.old i to → S.Spent (cost_at fields.rows number)
+            (keeps_at fields.rows number) i to source.old source.new (is_ok result) }
         ensures onward { S.Goes source.old source.new };
 }
 
-/// Decodes the value of the next member, whose map key names this.
+/// Decodes the value of the next member, by what its map key names.
 fn read_member<R: Record, S: Source>(
     alloc: Global,
     read: &mut R,
@@ -63,8 +65,11 @@ fn read_member<R: Record, S: Source>(
     key: Named,
     source: &mut S,
 ) -> Result<(), Fault>
-    ensures reads { (earlier : Members) (label value : Item) (to : ℕ) → named (table_of R.fields) label ≡ named_as key → S.At source.old value to → HasRead R.fields earlier (R.parts read.old) seen.old → ReadsOne R.fields earlier (label, value) (R.parts read.new) seen.new result }
-    ensures spends { (value : Item) (to : ℕ) → S.At source.old value to → S.Spent (cost_by R.fields.rows (named_as key)) (keeps_by R.fields.rows (named_as key)) value to source.old source.new (is_ok result) }
+    ensures reads { (earlier : Members) (label value : Item) (to : ℕ) → named (table_of R.fields) label
+        ≡ named_as key → S.At source.old value to → HasRead R.fields earlier (R.parts read.old) seen.old
+        → ReadsOne R.fields earlier (label, value) (R.parts read.new) seen.new result }
+    ensures spends { (value : Item) (to : ℕ) → S.At source.old value to → S.Spent (cost_by R.fields.rows
+        (named_as key)) (keeps_by R.fields.rows (named_as key)) value to source.old source.new (is_ok result) }
     ensures onward { S.Goes source.old source.new }
 {
     let number = match key {
@@ -73,7 +78,7 @@ fn read_member<R: Record, S: Source>(
             if source.pass() {
                 return Ok(());
             }
-            // A well-formed map has a value after each key, so this isn't reached for one.
+            // A well-formed map has a value for every key, so this is only reached for other bytes.
             return Err(Fault::DecodeFailed);
         }
     };
@@ -102,7 +107,7 @@ fn first_missing(rows: &[Row], seen: &[bool; 256]) -> Option<u8>
     None
 }
 
-/// Returns marks for no rows.
+/// Returns marks with no row marked.
 fn no_marks() -> [bool; 256]
     ensures { result ≡ replicate 256 false }
 {
@@ -111,7 +116,8 @@ fn no_marks() -> [bool; 256]
 
 /// Returns the record, or `Missing` for the first required row that isn't marked.
 fn finish<R: Record>(read: R, seen: &[bool; 256]) -> Result<R, Fault>
-    ensures reads { Reads R.parts ⊥ (unless_missing (first_unmarked (entries (table_of R.fields)) seen.now) (R.parts read)) result }
+    ensures reads { Reads R.parts ⊥
+        (unless_missing (first_unmarked (entries (table_of R.fields)) seen.now) (R.parts read)) result }
     ensures small { are_small (entries (table_of R.fields)) ≡ true }
 {
     match first_missing(R::rows(), seen) {
@@ -121,7 +127,8 @@ fn finish<R: Record>(read: R, seen: &[bool; 256]) -> Result<R, Fault>
 }
 
 fn read_pairs<R: Record>(alloc: Global, pairs: &[(Value, Value)]) -> Result<R, Fault>
-    ensures { Reads R.parts (MayGrowIn (table_of R.fields) (map pair_of pairs.now)) (read_members R.fields (map pair_of pairs.now)) result }
+    ensures { Reads R.parts (MayGrowIn (table_of R.fields) (map pair_of pairs.now))
+        (read_members R.fields (map pair_of pairs.now)) result }
 {
     let mut read = R::blank(alloc);
     let mut seen = no_marks();
@@ -135,13 +142,14 @@ fn read_pairs<R: Record>(alloc: Global, pairs: &[(Value, Value)]) -> Result<R, F
     finish(read, &seen)
 }
 
-/// Decodes a record from a map (CTAP 2.1, sections 6 and 8). `NotAMap` if the item isn't one;
-/// otherwise the first fault of its members in the order of the pairs (`BadKey`, `Repeated`,
-/// `Refused`); otherwise `Missing` for the first required member, in the table's order, that is
-/// absent. `OutOfMemory` if an allocation fails, which can only happen for a member that takes
-/// memory.
+/// Decodes a record from a map (CTAP 2.1, sections 6 and 8). Returns `NotAMap` if the item isn't
+/// one; otherwise the fault of its first bad member, in the order of the members (`BadKey`,
+/// `Repeated`, `Refused`); otherwise `Missing` for the first required member, in the table's order,
+/// that is absent. Returns `OutOfMemory` if an allocation fails, which can only happen for a member
+/// that takes memory.
 pub fn record_from_value<R: Record>(alloc: Global, value: &Value) -> Result<R, Fault>
-    ensures { Reads R.parts (MayGrowAt (table_of R.fields) (item_of value.now)) (read_item R.fields (item_of value.now)) result }
+    ensures { Reads R.parts (MayGrowAt (table_of R.fields) (item_of value.now))
+        (read_item R.fields (item_of value.now)) result }
 {
     match value {
         Value::Map(pairs) => read_pairs::<R>(alloc, pairs),
@@ -149,13 +157,14 @@ pub fn record_from_value<R: Record>(alloc: Global, value: &Value) -> Result<R, F
     }
 }
 
-/// Decodes the members of a map, behind its head.
+/// Decodes the members that follow a map's head.
 fn read_pairs_ahead<R: Record>(
     alloc: Global,
     mut left: Option<u64>,
     cursor: &mut Cursor<'_>,
 ) -> Result<R, Fault>
-    ensures reads { (ms : Members) (to : ℕ) → StandPairs left ms cursor.old.bytes cursor.old.place to → DecodesMembers R.parts R.fields ms to cursor.old cursor.new result }
+    ensures reads { (ms : Members) (to : ℕ) → PairsAreEncodedAt left ms cursor.old.bytes cursor.old.place to
+        → DecodesMembers R.parts R.fields ms to cursor.old cursor.new result }
     ensures onward { Onward cursor.old cursor.new }
 {
     let mut read = R::blank(alloc);
@@ -170,10 +179,11 @@ fn read_pairs_ahead<R: Record>(
     finish(read, &seen)
 }
 
-/// Decodes the record at the cursor, as `record_from_value` decodes a data item, and moves behind
-/// it. After an error the cursor may be anywhere in it.
+/// Decodes the record at the cursor, as `record_from_value` decodes a data item, and moves past it.
+/// After an error the cursor may be anywhere in it.
 pub(crate) fn read_record<R: Record>(alloc: Global, cursor: &mut Cursor<'_>) -> Result<R, Fault>
-    ensures reads { (i : Item) (to : ℕ) → Stands i cursor.old.bytes cursor.old.place to → DecodesRecord R.parts R.fields i to cursor.old cursor.new result }
+    ensures reads { (i : Item) (to : ℕ) → IsEncodedAt i cursor.old.bytes cursor.old.place to
+        → DecodesRecord R.parts R.fields i to cursor.old cursor.new result }
     ensures onward { Onward cursor.old cursor.new }
     ensures further { OnOk result (Further cursor.old cursor.new) }
 {
@@ -183,7 +193,8 @@ pub(crate) fn read_record<R: Record>(alloc: Global, cursor: &mut Cursor<'_>) -> 
     }
 }
 
-/// Returns the result for a record inside another one, where each of its faults becomes `Refused`.
+/// Returns the result for a record inside another one: each fault but `OutOfMemory` becomes
+/// `Refused`.
 fn held<R: Record>(read: Result<R, Fault>) -> Result<R, Refusal>
     ensures { result ≡ held_as read }
 {
@@ -194,9 +205,9 @@ fn held<R: Record>(read: Result<R, Fault>) -> Result<R, Refusal>
     }
 }
 
-/// Decodes a record inside another one. `Refused` if `record_from_value` returns any fault but
-/// `OutOfMemory`; `OutOfMemory` if an allocation fails, which can only happen for an item that
-/// takes memory.
+/// Decodes a record inside another one. Returns `Refused` if `record_from_value` returns any fault
+/// but `OutOfMemory`, and `OutOfMemory` if an allocation fails, which can only happen for an item
+/// that takes memory.
 pub fn nested_from_value<R: Record>(alloc: Global, value: &Value) -> Result<R, Refusal>
     ensures { Answers R.parts (record_kind R.fields) true (item_of value.now) result }
 {
@@ -204,9 +215,11 @@ pub fn nested_from_value<R: Record>(alloc: Global, value: &Value) -> Result<R, R
 }
 
 /// Decodes the record at the cursor that is inside another one, as `nested_from_value` decodes a
-/// data item, and moves behind it. After an error the cursor may be anywhere in it.
+/// data item, and moves past it. After an error the cursor may be anywhere in it.
 pub fn read_nested<R: Record>(alloc: Global, cursor: &mut Cursor<'_>) -> Result<R, Refusal>
-    ensures reads { (i : Item) (to : ℕ) → Stands i cursor.old.bytes cursor.old.place to → ReadsAs R.parts (record_kind R.fields) true (record_cost R.fields) (record_keeps R.fields) i to cursor.old cursor.new result }
+    ensures reads { (i : Item) (to : ℕ) → IsEncodedAt i cursor.old.bytes cursor.old.place to
+        → ReadsAs R.parts (record_kind R.fields) true (record_cost R.fields) (record_keeps R.fields) i to cursor.old
+        cursor.new result }
     ensures onward { Onward cursor.old cursor.new }
     ensures further { OnOk result (Further cursor.old cursor.new) }
 {

@@ -9,8 +9,8 @@ ghost use Rattle.passkey_kinds.specs.Table.{names, number_names, row_named, row_
 
 use passkey_cbor::Value;
 
-/// A member of a table, with its number and its name. If members have only names, the number is the
-/// place in the table.
+/// A row of a table: a member's number and name. If members have names alone, the number is the
+/// row's place in the table.
 #[derive(Clone, Copy)]
 pub enum Row {
     /// The member is required.
@@ -77,7 +77,8 @@ pub(crate) fn with_name(rows: &[Row], name: &[u8]) -> Named
     Named::Unknown
 }
 
-/// Returns what a number names; `None` if the members have no numbers, or if it isn't below 256.
+/// Returns what an integer names, where `None` is one that isn't below 256. Returns `None` if the
+/// key is wrong: members have no numbers, or the integer isn't below 256.
 pub(crate) fn of_number(is_numbered: bool, rows: &[Row], number: Option<u8>) -> Option<Named>
     ensures { naming_of result ≡ number_names is_numbered number (map entry_of rows.now) }
 {
@@ -87,7 +88,7 @@ pub(crate) fn of_number(is_numbered: bool, rows: &[Row], number: Option<u8>) -> 
     }
 }
 
-/// Returns what the map key names; `None` if a record can't have such a key.
+/// Returns what the map key names. Returns `None` if a record can't have this key.
 pub(crate) fn row_of(is_numbered: bool, rows: &[Row], key: &Value) -> Option<Named>
     ensures { naming_of result ≡ names is_numbered (map entry_of rows.now) (item_of key.now) }
 {

@@ -1,4 +1,4 @@
-//! The greatest depth of an encoding.
+//! Bounds on the nesting levels of encodings.
 ghost use Rattle.std.specs.Prelude.{ℕ, suc, ◌≤◌};
 ghost use Rattle.passkey_cbor.specs.Depth.{depth};
 
@@ -11,12 +11,12 @@ use passkey_webauthn::{
     PublicKeyCredentialType,
 };
 
-/// A type whose encodings all have at most a fixed number of levels.
+/// A type whose encodings have at most a fixed number of nesting levels.
 pub trait Shallow: ToCbor {
-    /// The most levels of arrays, maps and tags that a value's encoding has.
+    /// The most nesting levels, of arrays, maps and tags, that a value's encoding has.
     ghost levels: { ℕ };
 
-    /// No value's encoding has more levels. Does nothing.
+    /// No value's encoding has more nesting levels. Does nothing.
     fn shallow()
         ensures { (x : Self) → depth (Self.tree x) ≤ levels };
 }

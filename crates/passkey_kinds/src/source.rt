@@ -1,7 +1,7 @@
 //! Where a record's values are decoded from.
 ghost use Rattle.std.specs.Prelude.{◌≡◌, ℕ, suc, map, option_map, is_ok, Bool, true, false};
 ghost use Rattle.passkey_cbor.specs.Item.{Item};
-ghost use Rattle.passkey_cbor.specs.Stands.{Stands};
+ghost use Rattle.passkey_cbor.specs.EncodedAt.{IsEncodedAt};
 ghost use Rattle.passkey_cbor.specs.View.{item_of};
 ghost use Rattle.passkey_kinds.specs.Keeping.{Keeping, nothing, in_elements};
 ghost use Rattle.passkey_kinds.specs.Kind.{Answers, accepted, or_else, tolerated};
@@ -17,33 +17,35 @@ use passkey_bytes::List;
 use passkey_cbor::{Cursor, Value};
 use std::alloc::Global;
 
-/// The place of a data item that is decoded: in memory, or at a cursor.
+/// A data item to decode: in memory, or at a cursor.
 pub trait Source {
-    /// The data item is this one, and it ends here.
+    /// The data item, and the place where it ends.
     ghost At: { Self → Item → ℕ → Type 0 };
 
-    /// What decoding the item cost: at most this many heads for each byte, and at most these data
-    /// items as values. If it succeeded, the source is behind the item.
+    /// The cost of decoding the item: at most this many heads for each byte, and at most these data
+    /// items made as values. After a success the source is after the item.
     ghost Spent: { ℕ → Keeping → Item → ℕ → Self → Self → Bool → Type 0 };
 
     /// The source didn't move back, and its counts didn't fall.
     ghost Goes: { Self → Self → Type 0 };
 
-    /// Decodes the item. `Refused` exactly if the type doesn't accept it; `OutOfMemory` if an
-    /// allocation fails, which can only happen for an item that takes memory.
+    /// Decodes the item. Returns `Refused` exactly if the type doesn't accept it, and `OutOfMemory`
+    /// if an allocation fails, which can only happen for an item that takes memory.
     fn read<T: FromCbor>(&mut self, alloc: Global) -> Result<T, Refusal>
         ensures answers { (i : Item) (to : ℕ) → At self.old i to → Answers T.view T.kind T.takes i result }
-        ensures spends { (i : Item) (to : ℕ) → At self.old i to → Spent T.cost T.keeps i to self.old self.new (is_ok result) }
+        ensures spends { (i : Item) (to : ℕ) → At self.old i to
+            → Spent T.cost T.keeps i to self.old self.new (is_ok result) }
         ensures onward { Goes self.old self.new };
 
-    /// Skips the item, the value of an unknown member, and returns whether it is there. Allocates
-    /// nothing.
+    /// Skips the item, which is the value of an unknown member, and returns whether there is one.
+    /// Allocates nothing.
     fn pass(&mut self) -> bool
         ensures passes { (i : Item) (to : ℕ) → At self.old i to → result ≡ true }
         ensures spends { (i : Item) (to : ℕ) → At self.old i to → Spent 1 nothing i to self.old self.new true }
         ensures onward { Goes self.old self.new };
 
-    ghost stays: { (cost : ℕ) (keeps : Keeping) (i : Item) (to : ℕ) (s : Self) → At s i to → Spent cost keeps i to s s false };
+    ghost stays: { (cost : ℕ) (keeps : Keeping) (i : Item) (to : ℕ) (s : Self) → At s i to
+        → Spent cost keeps i to s s false };
 
     ghost still: { (s : Self) → Goes s s };
 }
@@ -74,7 +76,7 @@ impl<'a> Source for Tree<'a> {
 
 /// The data item at a cursor.
 impl<'a> Source for Cursor<'a> {
-    ghost At = { λ w i to. Stands i w.bytes w.place to };
+    ghost At = { λ w i to. IsEncodedAt i w.bytes w.place to };
 
     ghost Spent = { Costs };
 
@@ -93,15 +95,16 @@ impl<'a> Source for Cursor<'a> {
     }
 }
 
-/// Decodes the item into the field. `Refused` exactly if the type doesn't accept it; `OutOfMemory`
-/// if an allocation fails, which can only happen for an item that takes memory.
+/// Decodes the item into the field. Returns `Refused` exactly if the type doesn't accept it, and
+/// `OutOfMemory` if an allocation fails, which can only happen for an item that takes memory.
 pub fn set<T: FromCbor, S: Source>(
     field: &mut T,
     alloc: Global,
     source: &mut S,
 ) -> Result<(), Refusal>
     ensures sets { (i : Item) (to : ℕ) → S.At source.old i to → Sets T.view T.kind T.takes i field.new result }
-    ensures spends { (i : Item) (to : ℕ) → S.At source.old i to → S.Spent T.cost T.keeps i to source.old source.new (is_ok result) }
+    ensures spends { (i : Item) (to : ℕ) → S.At source.old i to
+        → S.Spent T.cost T.keeps i to source.old source.new (is_ok result) }
     ensures onward { S.Goes source.old source.new }
 {
     *field = source.read(alloc)?;
@@ -115,8 +118,10 @@ pub fn set_tolerated<T: FromCbor, S: Source>(
     alloc: Global,
     source: &mut S,
 ) -> Result<(), Refusal>
-    ensures sets { (i : Item) (to : ℕ) → S.At source.old i to → Sets (option_map T.view) (tolerated T.kind) T.takes i field.new result }
-    ensures spends { (i : Item) (to : ℕ) → S.At source.old i to → S.Spent (suc T.cost) T.keeps i to source.old source.new (is_ok result) }
+    ensures sets { (i : Item) (to : ℕ) → S.At source.old i to
+        → Sets (option_map T.view) (tolerated T.kind) T.takes i field.new result }
+    ensures spends { (i : Item) (to : ℕ) → S.At source.old i to
+        → S.Spent (suc T.cost) T.keeps i to source.old source.new (is_ok result) }
     ensures onward { S.Goes source.old source.new }
 {
     let read: Tolerated<T> = source.read(alloc)?;
@@ -132,8 +137,10 @@ pub fn set_or<T: FromCbor, S: Source>(
     alloc: Global,
     source: &mut S,
 ) -> Result<(), Refusal>
-    ensures sets { (i : Item) (to : ℕ) → S.At source.old i to → Sets T.view (or_else (T.view default) T.kind) T.takes i field.new result }
-    ensures spends { (i : Item) (to : ℕ) → S.At source.old i to → S.Spent (suc T.cost) T.keeps i to source.old source.new (is_ok result) }
+    ensures sets { (i : Item) (to : ℕ) → S.At source.old i to
+        → Sets T.view (or_else (T.view default) T.kind) T.takes i field.new result }
+    ensures spends { (i : Item) (to : ℕ) → S.At source.old i to
+        → S.Spent (suc T.cost) T.keeps i to source.old source.new (is_ok result) }
     ensures onward { S.Goes source.old source.new }
 {
     let read: Tolerated<T> = source.read(alloc)?;
@@ -142,14 +149,17 @@ pub fn set_or<T: FromCbor, S: Source>(
 }
 
 /// Decodes the elements of an array into the field, in their order, and skips those that the type
-/// doesn't accept. `Refused` if the item isn't an array. Running out of memory is still an error.
+/// doesn't accept. Returns `Refused` if the item isn't an array. Running out of memory is still an
+/// error.
 pub fn set_accepted<T: FromCbor, S: Source>(
     field: &mut List<T>,
     alloc: Global,
     source: &mut S,
 ) -> Result<(), Refusal>
-    ensures sets { (i : Item) (to : ℕ) → S.At source.old i to → Sets (λ xs. map T.view xs) (accepted T.kind) true i field.new result }
-    ensures spends { (i : Item) (to : ℕ) → S.At source.old i to → S.Spent (suc (suc T.cost)) (in_elements T.keeps) i to source.old source.new (is_ok result) }
+    ensures sets { (i : Item) (to : ℕ) → S.At source.old i to
+        → Sets (λ xs. map T.view xs) (accepted T.kind) true i field.new result }
+    ensures spends { (i : Item) (to : ℕ) → S.At source.old i to
+        → S.Spent (suc (suc T.cost)) (in_elements T.keeps) i to source.old source.new (is_ok result) }
     ensures onward { S.Goes source.old source.new }
 {
     let read: TolerantList<T> = source.read(alloc)?;
@@ -163,8 +173,10 @@ pub fn set_accepted_or_none<T: FromCbor, S: Source>(
     alloc: Global,
     source: &mut S,
 ) -> Result<(), Refusal>
-    ensures sets { (i : Item) (to : ℕ) → S.At source.old i to → Sets (λ o. option_map (λ xs. map T.view xs) o) (tolerated (accepted T.kind)) true i field.new result }
-    ensures spends { (i : Item) (to : ℕ) → S.At source.old i to → S.Spent (suc (suc (suc T.cost))) (in_elements T.keeps) i to source.old source.new (is_ok result) }
+    ensures sets { (i : Item) (to : ℕ) → S.At source.old i to
+        → Sets (λ o. option_map (λ xs. map T.view xs) o) (tolerated (accepted T.kind)) true i field.new result }
+    ensures spends { (i : Item) (to : ℕ) → S.At source.old i to
+        → S.Spent (suc (suc (suc T.cost))) (in_elements T.keeps) i to source.old source.new (is_ok result) }
     ensures onward { S.Goes source.old source.new }
 {
     let read: Tolerated<TolerantList<T>> = source.read(alloc)?;

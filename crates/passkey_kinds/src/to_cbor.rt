@@ -2,7 +2,7 @@
 ghost use Rattle.std.specs.Prelude.{◌≡◌, ◌<◌, ◌^◌, ℕ, IfOk, OnOk};
 ghost use Rattle.passkey_cbor.specs.Item.{Item, boolean, byte_string, text_string};
 ghost use Rattle.passkey_cbor.specs.View.{item_of};
-ghost use Rattle.passkey_core.specs.DataNormal.{Where};
+ghost use Rattle.passkey_core.specs.DataNormal.{IfPresent};
 ghost use Rattle.passkey_kinds.specs.ReadBack.{Any};
 ghost use Rattle.passkey_kinds.specs.Tree.{number_tree, option_tree};
 ghost use Rattle.passkey_kinds.specs.Trees.{credential_type_tree, transport_tree};
@@ -15,13 +15,14 @@ use std::alloc::Global;
 
 /// A type whose values are encoded as data items.
 pub trait ToCbor {
-    /// The data item that each value is encoded as.
+    /// The data item that a value is encoded as.
     ghost tree: { Self → Item };
 
-    /// What holds of each encoded value.
+    /// What holds of a value that was encoded.
     ghost fits: { Self → Type 0 };
 
-    /// Returns the data item that the value is encoded as. `OutOfMemory` if an allocation fails.
+    /// Returns the data item that the value is encoded as. Returns `OutOfMemory` if an allocation
+    /// fails.
     fn to_value(&self, alloc: Global) -> Result<Value, OutOfMemory>
         ensures tree { IfOk result (λ v. item_of v ≡ tree self.now) }
         ensures fits { OnOk result (fits self.now) };
@@ -112,7 +113,7 @@ impl ToCbor for Value {
 impl<T: ToCbor> ToCbor for Option<T> {
     ghost tree = { λ o. option_tree T.tree o };
 
-    ghost fits = { λ o. Where T.fits o };
+    ghost fits = { λ o. IfPresent T.fits o };
 
     fn to_value(&self, alloc: Global) -> Result<Value, OutOfMemory> {
         match self {

@@ -7,7 +7,7 @@ use crate::refusal::Refusal;
 use passkey_cbor::{Cursor, Value};
 use std::alloc::Global;
 
-/// A value, or `None` if the data item can't be decoded as one. Running out of memory is still an
+/// A value, or `None` if the type doesn't accept the data item. Running out of memory is still an
 /// error.
 #[derive(Debug, Drop)]
 pub struct Tolerated<T>(pub Option<T>);

@@ -1,9 +1,9 @@
-//! Lists and maps that are encoded.
+//! Lists and maps to encode.
 ghost use Rattle.std.specs.Prelude.{◌≡◌, ◌++◌, [], true, None, if◌then◌else◌, Some, map, option_map, IfOk, OnOk};
 ghost use Rattle.std.specs.List.{All};
 ghost use Rattle.passkey_cbor.specs.Item.{Item, boolean};
 ghost use Rattle.passkey_cbor.specs.View.{item_of};
-ghost use Rattle.passkey_core.specs.DataNormal.{Where};
+ghost use Rattle.passkey_core.specs.DataNormal.{IfPresent};
 ghost use Rattle.passkey_kinds.specs.Tree.{list_tree, map_tree, under};
 ghost use Rattle.passkey_kinds.specs.Written.{members_of};
 
@@ -50,14 +50,16 @@ impl Written {
         }
     }
 
-    /// Appends a member under this key, a name or a number. `OutOfMemory` if an allocation fails.
+    /// Appends a member under this key, a name or a number. Returns `OutOfMemory` if an allocation
+    /// fails.
     pub fn put<K: ToCbor + Drop, T: ToCbor>(
         &mut self,
         alloc: Global,
         key: K,
         value: &T,
     ) -> Result<(), OutOfMemory>
-        ensures put { OnOk result (members_of self.new ≡ members_of self.old ++ under (K.tree key) (Some (T.tree value.now))) }
+        ensures put { OnOk result
+            (members_of self.new ≡ members_of self.old ++ under (K.tree key) (Some (T.tree value.now))) }
         ensures fits { OnOk result (T.fits value.now) }
     {
         let member = (key.to_value(alloc)?, value.to_value(alloc)?);
@@ -65,16 +67,17 @@ impl Written {
         Ok(())
     }
 
-    /// Appends a member under this key if the value is present. `OutOfMemory` if an allocation
-    /// fails.
+    /// Appends a member under this key if the value is present. Returns `OutOfMemory` if an
+    /// allocation fails.
     pub fn put_some<K: ToCbor + Drop, T: ToCbor>(
         &mut self,
         alloc: Global,
         key: K,
         value: &Option<T>,
     ) -> Result<(), OutOfMemory>
-        ensures put { OnOk result (members_of self.new ≡ members_of self.old ++ under (K.tree key) (option_map T.tree value.now)) }
-        ensures fits { OnOk result (Where T.fits value.now) }
+        ensures put { OnOk result
+            (members_of self.new ≡ members_of self.old ++ under (K.tree key) (option_map T.tree value.now)) }
+        ensures fits { OnOk result (IfPresent T.fits value.now) }
     {
         if let Some(value) = value {
             self.put(alloc, key, value)?;
@@ -82,14 +85,16 @@ impl Written {
         Ok(())
     }
 
-    /// Appends a member under this key if the value is true. `OutOfMemory` if an allocation fails.
+    /// Appends a member with the value true under this key if the flag is true. Returns
+    /// `OutOfMemory` if an allocation fails.
     pub fn put_true<K: ToCbor + Drop>(
         &mut self,
         alloc: Global,
         key: K,
         value: bool,
     ) -> Result<(), OutOfMemory>
-        ensures { OnOk result (members_of self.new ≡ members_of self.old ++ under (K.tree key) (if value then Some (boolean true) else None)) }
+        ensures { OnOk result (members_of self.new
+            ≡ members_of self.old ++ under (K.tree key) (if value then Some (boolean true) else None)) }
     {
         if value {
             self.put(alloc, key, &true)?;

@@ -1,4 +1,4 @@
--- Options of authenticatorMakeCredential are read back.
+-- The encoding of the options of authenticatorMakeCredential can be decoded again.
 use Rattle.std.proofs.Common.{◌≡◌, Some, refl}
 use Rattle.std.specs.Prelude.{codes}
 use Rattle.passkey_cbor.specs.Item.{text_string}
@@ -9,7 +9,7 @@ use Rattle.passkey_kinds.proofs.Back.{true_place}
 use Rattle.passkey_kinds.proofs.LeafBack.{truth_back}
 use Rattle.passkey_kinds.proofs.RowsBack.{puts_value, puts_default, kind_back, ◌▸◌, no_more}
 
--- that the user is to be there is the default
+-- `up` decodes to its default, true
 pub options_back : IsReadBack options options_tree Any normal_options
 options_back = record { back = λ o h. read o } where
   read : (o : Options) → options (options_tree o) ≡ Some (normal_options o)

@@ -1,4 +1,4 @@
--- How many levels options of authenticatorMakeCredential are written with.
+-- The nesting levels of the encoding of the options of authenticatorMakeCredential.
 use Rattle.std.specs.Prelude.{codes}
 use Rattle.std.proofs.Common.{◌≤◌, Bool, true, false}
 use Rattle.passkey_cbor.specs.Depth.{depth}
@@ -14,4 +14,5 @@ true_within key true h = (h, none 0)
 true_within key false h = tt
 
 pub options_levels : (o : Options) → depth (options_tree o) ≤ 1
-options_levels o = record_within 0 (options_places o) (flat 0, (true_within (text_string (codes "up")) o.up (none 0), (flat 0, tt)))
+options_levels o = record_within 0 (options_places o)
+    (flat 0, (true_within (text_string (codes "up")) o.up (none 0), (flat 0, tt)))

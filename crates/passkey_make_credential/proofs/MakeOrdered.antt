@@ -1,12 +1,12 @@
--- The messages of authenticatorMakeCredential are written in canonical form.
+-- The encodings of the messages of authenticatorMakeCredential are canonical.
 use Rattle.std.specs.Prelude.{codes}
 use Rattle.std.proofs.Common.{◌≡◌, ◌≤◌, nat_le, arith, leb-true, Bool, true, false, refl}
 use Rattle.std.proofs.lemmas.Bool.{and_parts}
 use Rattle.passkey_cbor.specs.Canonical.{IsOrdered}
 use Rattle.passkey_cbor.specs.Depth.{depth}
-use Rattle.passkey_cbor.specs.Front.{max_depth}
+use Rattle.passkey_cbor.specs.LeadingItem.{max_depth}
 use Rattle.passkey_cbor.specs.Item.{Item, boolean, byte_string, text_string}
-use Rattle.passkey_cbor.specs.Laws.{AtMostOneFront, WrittenIsFront}
+use Rattle.passkey_cbor.specs.Laws.{AtMostOneLeadingItem, WrittenIsLeadingItem}
 use Rattle.passkey_cbor.specs.Written.{shortest_head}
 use Rattle.passkey_core.specs.Coherent.{is_coherent}
 use Rattle.passkey_extensions.specs.ExtensionTrees.{made_tree}
@@ -47,7 +47,8 @@ request_ascends : (r : MakeRequestParts) → ascend (make_request_places r) ≡ 
 unfolding shortest_head
 request_ascends r = refl
 
-pub make_request_canonical : AtMostOneFront → WrittenIsFront → WrittenIsCanonical make_request_tree is_make_request_coherent make_request_kept
+pub make_request_canonical : AtMostOneLeadingItem → WrittenIsLeadingItem
+    → WrittenIsCanonical make_request_tree is_make_request_coherent make_request_kept
 make_request_canonical one front r w coherent kept =
     let shallow = leb-true (depth (make_request_tree r)) max_depth coherent in
     let writable = of_record (make_request_places r) w in
@@ -62,9 +63,11 @@ make_request_canonical one front r w coherent kept =
           (
             (tt, list_ordered parameters_tree parameters_ordered r.pub_key_cred_params),
             (
-              option_ordered (list_tree descriptor_tree) (number_tree 5) tt (list_ordered descriptor_tree descriptor_ordered) r.exclude_list,
+              option_ordered (list_tree descriptor_tree) (number_tree 5) tt
+                  (list_ordered descriptor_tree descriptor_ordered) r.exclude_list,
               (
-                make_extensions_place one front (number_tree 6) tt r.extensions writable.1.1.1.1.1.0 levels.1.1.1.1.1.0 kept,
+                make_extensions_place one front (number_tree 6) tt r.extensions writable.1.1.1.1.1.0
+                    levels.1.1.1.1.1.0 kept,
                 (
                   (tt, options_ordered r.options),
                   (
@@ -85,7 +88,8 @@ response_ascends : (r : MakeResponseParts) → ascend (make_response_places r) �
 unfolding shortest_head
 response_ascends r = refl
 
-pub make_response_canonical : AtMostOneFront → WrittenIsFront → WrittenIsCanonical make_response_tree is_make_response_coherent make_response_kept
+pub make_response_canonical : AtMostOneLeadingItem → WrittenIsLeadingItem
+    → WrittenIsCanonical make_response_tree is_make_response_coherent make_response_kept
 make_response_canonical one front r w coherent kept =
     let parts = and_parts (is_coherent r.auth_data) (nat_le (depth (make_response_tree r)) max_depth) coherent in
     let shallow = leb-true (depth (make_response_tree r)) max_depth parts.1 in

@@ -1,9 +1,9 @@
--- Requests to make a credential: reading back what is written, and its levels.
+-- authenticatorMakeCredential requests: decoding their encodings again, and their nesting levels.
 use Rattle.std.proofs.Common.{◌≡◌, ◌∙◌, ◌≤◌, nat_le, arith, le-leb, leb-true, true, List, Option, Some, None, option_map, Ok, refl, sym, ap}
 use Rattle.passkey_cbor.specs.Depth.{depth}
-use Rattle.passkey_cbor.specs.Front.{max_depth}
+use Rattle.passkey_cbor.specs.LeadingItem.{max_depth}
 use Rattle.passkey_cbor.specs.Item.{Item, byte_string}
-use Rattle.passkey_cbor.specs.Laws.{WrittenIsFront}
+use Rattle.passkey_cbor.specs.Laws.{WrittenIsLeadingItem}
 use Rattle.passkey_make_credential.specs.MakeRequest.{MakeRequestParts, make_request_fields, read_make_request, make_request_places, make_request_tree, MakeRequestFits, is_make_request_coherent, normal_make_request}
 use Rattle.passkey_extensions.specs.ExtensionTrees.{hmac_input_tree, make_extensions_tree}
 use Rattle.passkey_extensions.specs.HmacInput.{HmacInputParts}
@@ -28,9 +28,10 @@ use Rattle.passkey_entities.proofs.MakeLevels.{rp_levels}
 use Rattle.passkey_make_credential.proofs.MakeLevels.{options_levels}
 use Rattle.passkey_kinds.proofs.RowsBack.{puts_value, puts_default, rows_back, ◌▸◌, no_more}
 
--- ---- what is written is read back
+-- ---- an encoding can be decoded again
 
-request_back : (r : MakeRequestParts) → MakeRequestFits r → read_make_request (make_request_tree r) ≡ Ok (normal_make_request r)
+request_back : (r : MakeRequestParts) → MakeRequestFits r
+    → read_make_request (make_request_tree r) ≡ Ok (normal_make_request r)
 request_back r fits =
     rows_back make_request_fields (make_request_places r) (normal_make_request r) refl refl
     (puts_value bytes_back r.client_data_hash tt ▸
@@ -44,38 +45,75 @@ request_back r fits =
     puts_default (optional_place byte_back refl r.pin_protocol fits.1) refl ▸
     no_more)
 
-pub make_request_returns : WrittenIsFront → WrittenIsReadBack read_make_request make_request_tree MakeRequestFits is_make_request_coherent normal_make_request
-make_request_returns law r rest fits writable coherent = (law (make_request_tree r) rest writable (leb-true (depth (make_request_tree r)) max_depth coherent), request_back r fits)
+pub make_request_returns : WrittenIsLeadingItem → WrittenIsReadBack read_make_request make_request_tree
+    MakeRequestFits is_make_request_coherent normal_make_request
+make_request_returns law r rest fits writable coherent = (
+  law (make_request_tree r) rest writable
+      (leb-true (depth (make_request_tree r)) max_depth coherent),
+  request_back r fits,
+)
 
 -- ---- only the extensions may have many levels
 
-request_up : (r : MakeRequestParts) → PlaceWithin 255 (number_tree 6) (option_map make_extensions_tree r.extensions) → depth (make_request_tree r) ≤ 256
+request_up : (r : MakeRequestParts) → PlaceWithin 255 (number_tree 6) (option_map make_extensions_tree r.extensions)
+    → depth (make_request_tree r) ≤ 256
 request_up r extensions =
-    record_within 255 (make_request_places r)
-    (flat 255, ((omega arith, omega (arith, rp_levels r.rp)), ((omega arith, omega (arith, user_levels r.user)), ((omega arith, omega (arith, list_within parameters_tree 1 parameters_levels r.pub_key_cred_params)), (option_within (list_tree descriptor_tree) 255 (number_tree 5) (omega arith) descriptors r.exclude_list, (extensions, ((omega arith, omega (arith, options_levels r.options)), (option_within byte_string 255 (number_tree 8) (omega arith) (λ b. omega arith) r.pin_auth, (option_within number_tree 255 (number_tree 9) (omega arith) (λ n. omega arith) r.pin_protocol, tt)))))))))
+    record_within 255 (make_request_places r) (
+      flat 255,
+      (
+        (omega arith, omega (arith, rp_levels r.rp)),
+        (
+          (omega arith, omega (arith, user_levels r.user)),
+          (
+            (omega arith, omega (arith, list_within parameters_tree 1 parameters_levels r.pub_key_cred_params)),
+            (
+              option_within (list_tree descriptor_tree) 255 (number_tree 5) (omega arith) descriptors r.exclude_list,
+              (
+                extensions,
+                (
+                  (omega arith, omega (arith, options_levels r.options)),
+                  (
+                    option_within byte_string 255 (number_tree 8) (omega arith) (λ b. omega arith) r.pin_auth,
+                    (option_within number_tree 255 (number_tree 9) (omega arith) (λ n. omega arith) r.pin_protocol, tt),
+                  ),
+                ),
+              ),
+            ),
+          ),
+        ),
+      ),
+    )
   where
     descriptors : (ds : List PublicKeyCredentialDescriptor) → depth (list_tree descriptor_tree ds) ≤ 255
     descriptors ds = omega (arith, list_within descriptor_tree 2 descriptor_levels ds)
 
 pub request_without : (r : MakeRequestParts) → r.extensions ≡ None → true ≡ is_make_request_coherent r
-request_without r is = sym (le-leb (depth (make_request_tree r)) 256 (request_up r (none_within make_extensions_tree 255 (number_tree 6) r.extensions is)))
+request_without r is = sym (le-leb (depth (make_request_tree r)) 256
+    (request_up r (none_within make_extensions_tree 255 (number_tree 6) r.extensions is)))
 
-pub request_with : (r : MakeRequestParts) (e : MakeExtensionsParts) → r.extensions ≡ Some e → nat_le (depth (make_extensions_tree e)) 255 ≡ is_make_request_coherent r
+pub request_with : (r : MakeRequestParts) (e : MakeExtensionsParts) → r.extensions ≡ Some e
+    → nat_le (depth (make_extensions_tree e)) 255 ≡ is_make_request_coherent r
 request_with r e is =
     same_tests (nat_le (depth (make_extensions_tree e)) 255) (is_make_request_coherent r)
-    (λ t. le-leb (depth (make_request_tree r)) 256 (request_up r (some_within make_extensions_tree 255 (number_tree 6) r.extensions e (omega arith) is (leb-true (depth (make_extensions_tree e)) 255 t))))
-    (λ t. le-leb (depth (make_extensions_tree e)) 255 (of_some make_extensions_tree 255 (number_tree 6) r.extensions e is (of_record 255 (make_request_places r) (leb-true (depth (make_request_tree r)) 256 t)).1.1.1.1.1.0))
+    (λ t. le-leb (depth (make_request_tree r)) 256 (request_up r (some_within make_extensions_tree 255
+    (number_tree 6) r.extensions e (omega arith) is (leb-true (depth (make_extensions_tree e)) 255 t))))
+    (λ t. le-leb (depth (make_extensions_tree e)) 255 (of_some make_extensions_tree 255 (number_tree 6) r.extensions
+    e is (of_record 255 (make_request_places r) (leb-true (depth (make_request_tree r)) 256 t)).1.1.1.1.1.0))
 
--- ---- what is read is coherent
+-- ---- a decoded request is coherent
 
-extensions_coherent : (i : Item) (e : MakeExtensionsParts) (salts : Option HmacInputParts) → depth i ≤ 255 → make_extensions i ≡ Some e → e.hmac_secret_mc ≡ salts → nat_le (depth (make_extensions_tree e)) 255 ≡ true
+extensions_coherent : (i : Item) (e : MakeExtensionsParts) (salts : Option HmacInputParts) → depth i ≤ 255
+    → make_extensions i ≡ Some e → e.hmac_secret_mc ≡ salts → nat_le (depth (make_extensions_tree e)) 255 ≡ true
 extensions_coherent i e None small read is = sym (made_without e is)
-extensions_coherent i e (Some h) small read is = sym (made_with e h is) ∙ le-leb (depth (hmac_input_tree h)) 254 (input_up h 254 (omega (arith, small, made_key i e h read is)))
+extensions_coherent i e (Some h) small read is = sym (made_with e h is)
+    ∙ le-leb (depth (hmac_input_tree h)) 254 (input_up h 254 (omega (arith, small, made_key i e h read is)))
 
 abbrev ExtensionsAreCoherent : MakeRequestParts → Type 0
-ExtensionsAreCoherent r = (e : MakeExtensionsParts) → r.extensions ≡ Some e → nat_le (depth (make_extensions_tree e)) 255 ≡ true
+ExtensionsAreCoherent r = (e : MakeExtensionsParts) → r.extensions ≡ Some e
+    → nat_le (depth (make_extensions_tree e)) 255 ≡ true
 
-read_extensions : (i : Item) (r : MakeRequestParts) → depth i ≤ 256 → read_make_request i ≡ Ok r → ExtensionsAreCoherent r
+read_extensions : (i : Item) (r : MakeRequestParts) → depth i ≤ 256 → read_make_request i ≡ Ok r
+    → ExtensionsAreCoherent r
 read_extensions i r small read =
     record_keeps make_request_fields ExtensionsAreCoherent i r read (λ d e is. absurd cc)
     ((λ x v p less e h. h) ▹
@@ -83,15 +121,18 @@ read_extensions i r small read =
     (λ x v p less e h. h) ▹
     (λ x v p less e h. h) ▹
     (λ x v p less e h. h) ▹
-    (λ x v p less read h. λ e is. extensions_coherent x e e.hmac_secret_mc (omega (arith, less, small)) (not_null make_extensions x e (read ∙ ap Some is)) refl) ▹
+    (λ x v p less read h. λ e is. extensions_coherent x e e.hmac_secret_mc (omega (arith, less, small))
+    (not_null make_extensions x e (read ∙ ap Some is)) refl) ▹
     (λ x v p less e h. h) ▹
     (λ x v p less e h. h) ▹
     (λ x v p less e h. h) ▹
     kept.no_more)
 
-read_coherent : (i : Item) (r : MakeRequestParts) (extensions : Option MakeExtensionsParts) → depth i ≤ 256 → read_make_request i ≡ Ok r → r.extensions ≡ extensions → is_make_request_coherent r ≡ true
+read_coherent : (i : Item) (r : MakeRequestParts) (extensions : Option MakeExtensionsParts) → depth i ≤ 256
+    → read_make_request i ≡ Ok r → r.extensions ≡ extensions → is_make_request_coherent r ≡ true
 read_coherent i r None small read is = sym (request_without r is)
 read_coherent i r (Some e) small read is = sym (request_with r e is) ∙ read_extensions i r small read e is
 
 pub make_request_coherent : ReadIsCoherent read_make_request is_make_request_coherent
-make_request_coherent bytes r begins = read_coherent begins.item r r.extensions begins.front.shallow begins.holds refl
+make_request_coherent bytes r begins =
+    read_coherent begins.item r r.extensions begins.front.shallow begins.holds refl

@@ -1,11 +1,11 @@
--- Responses to requests to make a credential: reading back what is written, and its levels.
+-- authenticatorMakeCredential responses: decoding their encodings again, and their nesting levels.
 use Rattle.std.specs.Prelude.{codes}
 use Rattle.std.proofs.Common.{◌≡◌, ℕ, ◌<◌, ◌≤◌, ◌-◌, ◌^◌, min, nat_lt, nat_le, arith, lt-ltb, ltb-true, le-leb, leb-true, true, [], ◌∷◌, Ok, refl, subst}
 use Rattle.std.proofs.lemmas.Bool.{and_parts, and_from}
 use Rattle.passkey_cbor.specs.Depth.{depth}
-use Rattle.passkey_cbor.specs.Front.{max_depth}
+use Rattle.passkey_cbor.specs.LeadingItem.{max_depth}
 use Rattle.passkey_cbor.specs.Item.{boolean, byte_string}
-use Rattle.passkey_cbor.specs.Laws.{WrittenIsFront}
+use Rattle.passkey_cbor.specs.Laws.{WrittenIsLeadingItem}
 use Rattle.passkey_core.specs.Coherent.{is_coherent}
 use Rattle.passkey_core.specs.DataLaws.{GivenIsCoherent, ReadIsGiven, WrittenDataAreReadBack}
 use Rattle.passkey_core.specs.DataNormal.{IsData, normal_data}
@@ -30,8 +30,22 @@ use Rattle.passkey_kinds.proofs.RowsBack.{puts_value, puts_default, picked, pick
 
 response_up : (r : MakeResponseParts) → depth r.att_stmt ≤ 255 → depth (make_response_tree r) ≤ 256
 response_up r small =
-    record_within 255 (make_response_places r)
-    (flat 255, (flat 255, ((omega arith, small), (option_within boolean 255 (number_tree 4) (omega arith) (λ b. omega arith) r.ep_att, (option_within byte_string 255 (number_tree 5) (omega arith) (λ b. omega arith) r.large_blob_key, (option_within made_tree 255 (number_tree 6) (omega arith) outputs r.unsigned_extension_outputs, tt))))))
+    record_within 255 (make_response_places r) (
+      flat 255,
+      (
+        flat 255,
+        (
+          (omega arith, small),
+          (
+            option_within boolean 255 (number_tree 4) (omega arith) (λ b. omega arith) r.ep_att,
+            (
+              option_within byte_string 255 (number_tree 5) (omega arith) (λ b. omega arith) r.large_blob_key,
+              (option_within made_tree 255 (number_tree 6) (omega arith) outputs r.unsigned_extension_outputs, tt),
+            ),
+          ),
+        ),
+      ),
+    )
   where
     outputs : (o : UnsignedExtensionOutputs) → depth (made_tree o) ≤ 255
     outputs o = omega (arith, made_levels o)
@@ -39,16 +53,20 @@ response_up r small =
 response_down : (r : MakeResponseParts) → depth (make_response_tree r) ≤ 256 → depth r.att_stmt ≤ 255
 response_down r within = (of_record 255 (make_response_places r) within).1.1.0.1
 
--- the statement's levels decide, also where a `usize` can't count them
-pub statement_decides : (r : MakeResponseParts) → nat_lt (min (depth r.att_stmt) (2 ^ 64 - 1)) 256 ≡ nat_le (depth (make_response_tree r)) max_depth
+-- the statement's levels decide, even if they don't fit in a `usize`
+pub statement_decides : (r : MakeResponseParts)
+    → nat_lt (min (depth r.att_stmt) (2 ^ 64 - 1)) 256 ≡ nat_le (depth (make_response_tree r)) max_depth
 statement_decides r =
     same_tests (nat_lt (min (depth r.att_stmt) (2 ^ 64 - 1)) 256) (nat_le (depth (make_response_tree r)) 256)
-    (λ t. le-leb (depth (make_response_tree r)) 256 (response_up r (omega (arith, ltb-true (min (depth r.att_stmt) (2 ^ 64 - 1)) 256 t))))
-    (λ t. lt-ltb (min (depth r.att_stmt) (2 ^ 64 - 1)) 256 (omega (arith, response_down r (leb-true (depth (make_response_tree r)) 256 t))))
+    (λ t. le-leb (depth (make_response_tree r)) 256
+    (response_up r (omega (arith, ltb-true (min (depth r.att_stmt) (2 ^ 64 - 1)) 256 t))))
+    (λ t. lt-ltb (min (depth r.att_stmt) (2 ^ 64 - 1)) 256
+    (omega (arith, response_down r (leb-true (depth (make_response_tree r)) 256 t))))
 
--- ---- what is written is read back
+-- ---- an encoding can be decoded again
 
-response_back : WrittenDataAreReadBack → ReadIsGiven → (r : MakeResponseParts) → MakeResponseFits r → is_coherent r.auth_data ≡ true → read_make_response (make_response_tree r) ≡ Ok (normal_make_response r)
+response_back : WrittenDataAreReadBack → ReadIsGiven → (r : MakeResponseParts) → MakeResponseFits r
+    → is_coherent r.auth_data ≡ true → read_make_response (make_response_tree r) ≡ Ok (normal_make_response r)
 response_back written given r fits coherent =
     rows_back make_response_fields (make_response_places r) (normal_make_response r) refl refl
     (puts_value text_back r.fmt tt ▸
@@ -59,32 +77,50 @@ response_back written given r fits coherent =
     puts_default (optional_place made_back refl r.unsigned_extension_outputs fits.1) refl ▸
     no_more)
 
-pub make_response_returns : WrittenIsFront → WrittenDataAreReadBack → ReadIsGiven → WrittenIsReadBack read_make_response make_response_tree MakeResponseFits is_make_response_coherent normal_make_response
+pub make_response_returns : WrittenIsLeadingItem → WrittenDataAreReadBack → ReadIsGiven → WrittenIsReadBack
+    read_make_response make_response_tree MakeResponseFits is_make_response_coherent normal_make_response
 make_response_returns law written given r rest fits writable coherent =
-    let parts = and_parts (is_coherent r.auth_data) (nat_le (depth (make_response_tree r)) max_depth) coherent in
-    (law (make_response_tree r) rest writable (leb-true (depth (make_response_tree r)) max_depth parts.1), response_back written given r fits parts.0)
+    let parts = and_parts (is_coherent r.auth_data) (nat_le (depth (make_response_tree r)) max_depth) coherent in (
+      law (make_response_tree r) rest writable (leb-true (depth (make_response_tree r)) max_depth parts.1),
+      response_back written given r fits parts.0,
+    )
 
-attestation_back : WrittenDataAreReadBack → ReadIsGiven → (d : DataParts) → IsData d → is_coherent d ≡ true → read_make_response (attestation_tree d) ≡ Ok (unattested (normal_data d))
+attestation_back : WrittenDataAreReadBack → ReadIsGiven → (d : DataParts) → IsData d → is_coherent d ≡ true
+    → read_make_response (attestation_tree d) ≡ Ok (unattested (normal_data d))
 attestation_back written given d fits coherent =
-    picked_back make_response_fields (picked make_response_fields.rows (1 ∷ 3 ∷ 2 ∷ [])) (attestation_places d) (unattested (normal_data d))
+    picked_back make_response_fields (picked make_response_fields.rows (1 ∷ 3 ∷ 2 ∷ [])) (attestation_places d)
+    (unattested (normal_data d))
     ((λ i. refl), (λ i r. refl), ((λ i. refl), (λ i r. refl), ((λ i. refl), (λ i r. refl), tt))) refl refl
     (puts_value text_back (codes "none") tt ▸
     puts_value kept_back no_statement tt ▸
     puts_value (auth_data_back written given) d (fits, coherent) ▸
     no_more)
 
-pub attestation_returns : WrittenIsFront → WrittenDataAreReadBack → ReadIsGiven → WrittenIsReadBack read_make_response (λ r. attestation_tree r.auth_data) (λ r. IsData r.auth_data) (λ r. is_coherent r.auth_data) (λ r. unattested (normal_data r.auth_data))
-attestation_returns law written given r rest fits writable coherent = (law (attestation_tree r.auth_data) rest writable (omega (arith, record_within 1 (attestation_places r.auth_data) (flat 1, ((omega arith, omega arith), (flat 1, tt))))), attestation_back written given r.auth_data fits coherent)
+pub attestation_returns : WrittenIsLeadingItem → WrittenDataAreReadBack → ReadIsGiven
+    → WrittenIsReadBack read_make_response (λ r. attestation_tree r.auth_data) (λ r. IsData r.auth_data)
+    (λ r. is_coherent r.auth_data) (λ r. unattested (normal_data r.auth_data))
+attestation_returns law written given r rest fits writable coherent = (
+  law (attestation_tree r.auth_data) rest
+      writable (omega (
+        arith,
+        record_within 1 (attestation_places r.auth_data) (
+          flat 1,
+          ((omega arith, omega arith), (flat 1, tt)),
+        ),
+      )),
+  attestation_back written given r.auth_data fits coherent,
+)
 
--- ---- what is read is coherent
+-- ---- a decoded response is coherent
 
--- the authenticator data are coherent, and the statement has fewer levels than the response
+-- the authenticator data is coherent, and the statement has fewer levels than the response
 abbrev PartsAreGood : ℕ → MakeResponseParts → Type 0
 PartsAreGood n r = (is_coherent r.auth_data ≡ true) × (depth r.att_stmt < n)
 
 pub make_response_coherent : GivenIsCoherent → ReadIsCoherent read_make_response is_make_response_coherent
 make_response_coherent law bytes r begins =
-    let good = record_keeps make_response_fields (PartsAreGood (depth begins.item)) begins.item r begins.holds (λ d. (refl, d))
+    let good = record_keeps make_response_fields (PartsAreGood (depth begins.item)) begins.item r begins.holds
+    (λ d. (refl, d))
     ((λ x v p less e h. h) ▹
     (λ x v p less e h. (auth_data_coherent law x v e, h.1)) ▹
     (λ x v p less e h. let same : x ≡ v = cc in (h.0, subst (λ k. depth k < depth begins.item) same less)) ▹
@@ -92,4 +128,5 @@ make_response_coherent law bytes r begins =
     (λ x v p less e h. h) ▹
     (λ x v p less e h. h) ▹
     kept.no_more) in
-    and_from (is_coherent r.auth_data) (nat_le (depth (make_response_tree r)) max_depth) good.0 (le-leb (depth (make_response_tree r)) max_depth (response_up r (omega (arith, good.1, begins.front.shallow))))
+    and_from (is_coherent r.auth_data) (nat_le (depth (make_response_tree r)) max_depth) good.0 (le-leb
+    (depth (make_response_tree r)) max_depth (response_up r (omega (arith, good.1, begins.front.shallow))))

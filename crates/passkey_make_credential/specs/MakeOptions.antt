@@ -34,6 +34,6 @@ options_places o =
 abbrev pub options_tree : Options → Item
 options_tree o = record_tree (options_places o)
 
--- an `up` that is false isn't encoded, and so decodes to true
+-- `up` isn't encoded if it is false, and then decodes to true
 abbrev pub normal_options : Options → Options
 normal_options o = record o { up = true }

@@ -1,9 +1,9 @@
 -- authenticatorMakeCredential requests (CTAP 2.1, section 6.1).
 use Rattle.std.specs.Prelude.{ℕ, nat_le, Bool, true, List, [], ◌∷◌, Option, None, codes, Result}
 use Rattle.passkey_cbor.specs.Depth.{depth}
-use Rattle.passkey_cbor.specs.Front.{max_depth}
+use Rattle.passkey_cbor.specs.LeadingItem.{max_depth}
 use Rattle.passkey_cbor.specs.Item.{Item, byte_string}
-use Rattle.passkey_core.specs.DataNormal.{Where}
+use Rattle.passkey_core.specs.DataNormal.{IfPresent}
 use Rattle.passkey_kinds.specs.Descriptor.{descriptor, descriptor_fields}
 use Rattle.passkey_extensions.specs.ExtensionTrees.{make_extensions_tree, MakeExtensionsFit, make_extensions_kept}
 use Rattle.passkey_kinds.specs.Record.{Fields, required, default, table_of, read_item}
@@ -54,9 +54,12 @@ make_request_fields = record {
   rows = required 1 (codes "clientDataHash") bytes (λ x r. record r { client_data_hash = x })
       ∷ required 2 (codes "rp") (nested rp_fields) (λ x r. record r { rp = x })
       ∷ required 3 (codes "user") (nested user_fields) (λ x r. record r { user = x })
-      ∷ required 4 (codes "pubKeyCredParams") (accepted (nested parameters_fields)) (λ x r. record r { pub_key_cred_params = x })
-      ∷ default 5 (codes "excludeList") (tolerated (accepted (nested descriptor_fields))) (λ x r. record r { exclude_list = x })
-      ∷ default 6 (codes "extensions") (optional (nested make_extensions_fields)) (λ x r. record r { extensions = x })
+      ∷ required 4 (codes "pubKeyCredParams") (accepted (nested parameters_fields))
+      (λ x r. record r { pub_key_cred_params = x })
+      ∷ default 5 (codes "excludeList") (tolerated (accepted (nested descriptor_fields)))
+      (λ x r. record r { exclude_list = x })
+      ∷ default 6 (codes "extensions") (optional (nested make_extensions_fields))
+      (λ x r. record r { extensions = x })
       ∷ default 7 (codes "options") (nested options_fields) (λ x r. record r { options = x })
       ∷ default 8 (codes "pinAuth") (optional bytes) (λ x r. record r { pin_auth = x })
       ∷ default 9 (codes "pinProtocol") (optional (below 256)) (λ x r. record r { pin_protocol = x })
@@ -66,11 +69,11 @@ make_request_fields = record {
 abbrev pub make_request_table : Table
 make_request_table = table_of make_request_fields
 
--- the request that an item decodes to, or its first fault
+-- the request that a data item decodes to, or its first fault
 abbrev pub read_make_request : Item → Result MakeRequestParts Fault
 read_make_request = read_item make_request_fields
 
--- ---- what a request is encoded as
+-- ---- the encoding of a request
 
 abbrev pub make_request_places : MakeRequestParts → List Place
 make_request_places r =
@@ -88,18 +91,18 @@ make_request_places r =
 abbrev pub make_request_tree : MakeRequestParts → Item
 make_request_tree r = record_tree (make_request_places r)
 
--- the value that it keeps as it was decoded, if there is one
+-- the data item that a request keeps undecoded, if there is one
 abbrev pub make_request_kept : MakeRequestParts → List Item
 make_request_kept r = make_extensions_kept r.extensions
 
--- what holds of each request
+-- what holds of every request
 abbrev pub MakeRequestFits : MakeRequestParts → Type 0
-MakeRequestFits r = Where MakeExtensionsFit r.extensions × Where IsByte r.pin_protocol
+MakeRequestFits r = IfPresent MakeExtensionsFit r.extensions × IfPresent IsByte r.pin_protocol
 
--- the encoding has at most as many levels as are decoded
+-- the encoding has at most `max_depth` nesting levels, so it can be decoded again
 abbrev pub is_make_request_coherent : MakeRequestParts → Bool
 is_make_request_coherent r = nat_le (depth (make_request_tree r)) max_depth
 
--- what the encoding decodes to
+-- the request that the encoding decodes to
 abbrev pub normal_make_request : MakeRequestParts → MakeRequestParts
 normal_make_request r = record r { options = normal_options r.options }

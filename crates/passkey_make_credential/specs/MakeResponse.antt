@@ -1,10 +1,10 @@
 -- authenticatorMakeCredential responses (CTAP 2.1, section 6.1).
 use Rattle.std.specs.Prelude.{ℕ, nat_le, Bool, true, ◌&&◌, List, [], ◌∷◌, Option, None, codes, Result, replicate}
 use Rattle.passkey_cbor.specs.Depth.{depth}
-use Rattle.passkey_cbor.specs.Front.{max_depth}
+use Rattle.passkey_cbor.specs.LeadingItem.{max_depth}
 use Rattle.passkey_cbor.specs.Item.{Item, boolean, byte_string, text_string, map, no_pairs, null}
 use Rattle.passkey_core.specs.Coherent.{is_coherent}
-use Rattle.passkey_core.specs.DataNormal.{IsData, Where, normal_data}
+use Rattle.passkey_core.specs.DataNormal.{IsData, IfPresent, normal_data}
 use Rattle.passkey_core.specs.DataParts.{DataParts, bare_data}
 use Rattle.passkey_kinds.specs.Data.{auth_data_tree}
 use Rattle.passkey_extensions.specs.ExtensionTrees.{made_tree, MadeFits}
@@ -29,24 +29,32 @@ pub record MakeResponseParts : Type 0 where
 abbrev pub make_response_fields : Fields MakeResponseParts
 make_response_fields = record {
   is_numbered = true;
-  blank = record { fmt = []; auth_data = bare_data (replicate 32 0) 24 None; att_stmt = null; ep_att = None; large_blob_key = None; unsigned_extension_outputs = None };
+  blank = record {
+    fmt = [];
+    auth_data = bare_data (replicate 32 0) 24 None;
+    att_stmt = null;
+    ep_att = None;
+    large_blob_key = None;
+    unsigned_extension_outputs = None;
+  };
   rows = required 1 (codes "fmt") text (λ x r. record r { fmt = x })
       ∷ required 2 (codes "authData") authenticator_data (λ x r. record r { auth_data = x })
       ∷ required 3 (codes "attStmt") kept (λ x r. record r { att_stmt = x })
       ∷ default 4 (codes "epAtt") (optional truth) (λ x r. record r { ep_att = x })
       ∷ default 5 (codes "largeBlobKey") (optional bytes) (λ x r. record r { large_blob_key = x })
-      ∷ default 6 (codes "unsignedExtensionOutputs") (optional (nested unsigned_fields)) (λ x r. record r { unsigned_extension_outputs = x })
+      ∷ default 6 (codes "unsignedExtensionOutputs") (optional (nested unsigned_fields))
+      (λ x r. record r { unsigned_extension_outputs = x })
       ∷ [];
 }
 
 abbrev pub make_response_table : Table
 make_response_table = table_of make_response_fields
 
--- the response that an item decodes to, or its first fault
+-- the response that a data item decodes to, or its first fault
 abbrev pub read_make_response : Item → Result MakeResponseParts Fault
 read_make_response = read_item make_response_fields
 
--- ---- what a response is encoded as
+-- ---- the encoding of a response
 
 abbrev pub make_response_places : MakeResponseParts → List Place
 make_response_places r =
@@ -61,19 +69,19 @@ make_response_places r =
 abbrev pub make_response_tree : MakeResponseParts → Item
 make_response_tree r = record_tree (make_response_places r)
 
--- the value that it keeps as it was decoded: the attestation statement
+-- the data item that a response keeps undecoded: the attestation statement
 abbrev pub make_response_kept : MakeResponseParts → List Item
 make_response_kept r = r.att_stmt ∷ []
 
--- what holds of each response
+-- what holds of every response
 abbrev pub MakeResponseFits : MakeResponseParts → Type 0
-MakeResponseFits r = IsData r.auth_data × Where MadeFits r.unsigned_extension_outputs
+MakeResponseFits r = IsData r.auth_data × IfPresent MadeFits r.unsigned_extension_outputs
 
--- the authenticator data is coherent, and the encoding has at most as many levels as are decoded
+-- the authenticator data is coherent, and the encoding has at most `max_depth` nesting levels
 abbrev pub is_make_response_coherent : MakeResponseParts → Bool
 is_make_response_coherent r = is_coherent r.auth_data && nat_le (depth (make_response_tree r)) max_depth
 
--- what the encoding decodes to
+-- the response that the encoding decodes to
 abbrev pub normal_make_response : MakeResponseParts → MakeResponseParts
 normal_make_response r = record r { auth_data = normal_data r.auth_data }
 

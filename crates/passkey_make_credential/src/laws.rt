@@ -1,4 +1,4 @@
-//! Laws about the messages of authenticatorMakeCredential, each the contract of a function that
+//! Laws about the messages of authenticatorMakeCredential. Each is the contract of a function that
 //! does nothing.
 ghost use Rattle.passkey_core.specs.Coherent.{is_coherent};
 ghost use Rattle.passkey_core.specs.DataNormal.{IsData, normal_data};
@@ -17,9 +17,10 @@ pub use passkey_entities::laws::written_keys_ascend as written_entity_keys_ascen
 /// The encoding of a coherent request, whatever bytes follow, decodes to the request with the
 /// option `up` set to true.
 pub fn written_make_request_is_read_back()
-    ensures { WrittenIsReadBack read_make_request make_request_tree MakeRequestFits is_make_request_coherent normal_make_request }
+    ensures { WrittenIsReadBack read_make_request make_request_tree MakeRequestFits is_make_request_coherent
+        normal_make_request }
 {
-    passkey_cbor::laws::written_is_front();
+    passkey_cbor::laws::written_is_leading_item();
 }
 
 /// Decoded requests are coherent.
@@ -30,9 +31,10 @@ pub fn read_make_request_is_coherent()
 /// The encoding of a coherent response, whatever bytes follow, decodes to the response with the
 /// normal form of its authenticator data.
 pub fn written_make_response_is_read_back()
-    ensures { WrittenIsReadBack read_make_response make_response_tree MakeResponseFits is_make_response_coherent normal_make_response }
+    ensures { WrittenIsReadBack read_make_response make_response_tree MakeResponseFits is_make_response_coherent
+        normal_make_response }
 {
-    passkey_cbor::laws::written_is_front();
+    passkey_cbor::laws::written_is_leading_item();
     passkey_core::laws::written_data_are_read_back();
     passkey_core::laws::read_is_given();
 }
@@ -45,11 +47,12 @@ pub fn read_make_response_is_coherent()
 }
 
 /// The attestation object of coherent authenticator data, whatever bytes follow, decodes to a
-/// response with their normal form, the format "none" and an empty statement.
+/// response with the data's normal form, the format "none" and an empty statement.
 pub fn written_attestation_is_read_back()
-    ensures { WrittenIsReadBack read_make_response (λ r. attestation_tree r.auth_data) (λ r. IsData r.auth_data) (λ r. is_coherent r.auth_data) (λ r. unattested (normal_data r.auth_data)) }
+    ensures { WrittenIsReadBack read_make_response (λ r. attestation_tree r.auth_data) (λ r. IsData r.auth_data)
+        (λ r. is_coherent r.auth_data) (λ r. unattested (normal_data r.auth_data)) }
 {
-    passkey_cbor::laws::written_is_front();
+    passkey_cbor::laws::written_is_leading_item();
     passkey_core::laws::written_data_are_read_back();
     passkey_core::laws::read_is_given();
 }
@@ -64,40 +67,40 @@ pub fn read_make_response_knows_maps()
     ensures { KnowsMaps read_make_response }
 {}
 
-/// A member under an unknown key may be anywhere in a request, as long as the map has at most 256
-/// levels with it: for any encodings with and without the member, the results differ only in the
-/// length in bytes.
+/// A member under an unknown key may be anywhere in a request: for any encodings of the map with
+/// and without the member, of at most 256 nesting levels, the results differ only in their length
+/// in bytes.
 pub fn read_make_request_passes_over_unknown()
     ensures { PassesOverUnknown make_request_parts make_request_fields }
 {
-    passkey_cbor::laws::at_most_one_front();
+    passkey_cbor::laws::at_most_one_leading_item();
 }
 
-/// A member under an unknown key may be anywhere in a response, as long as the map has at most 256
-/// levels with it: for any encodings with and without the member, the results differ only in the
-/// length in bytes.
+/// A member under an unknown key may be anywhere in a response: for any encodings of the map with
+/// and without the member, of at most 256 nesting levels, the results differ only in their length
+/// in bytes.
 pub fn read_make_response_passes_over_unknown()
     ensures { PassesOverUnknown make_response_parts make_response_fields }
 {
-    passkey_cbor::laws::at_most_one_front();
+    passkey_cbor::laws::at_most_one_leading_item();
 }
 
-/// The encoding of a coherent request is in CTAP2's canonical form, if that of the key in its input
-/// of hmac-secret-mc is (CTAP 2.1, section 8).
+/// The encoding of a coherent request is in CTAP2's canonical form if the encoding of the key in
+/// its hmac-secret-mc input is, or if there is no such input (CTAP 2.1, section 8).
 pub fn written_make_request_is_canonical()
     ensures { WrittenIsCanonical make_request_tree is_make_request_coherent make_request_kept }
 {
-    passkey_cbor::laws::at_most_one_front();
-    passkey_cbor::laws::written_is_front();
+    passkey_cbor::laws::at_most_one_leading_item();
+    passkey_cbor::laws::written_is_leading_item();
 }
 
-/// The encoding of a coherent response is in CTAP2's canonical form, if that of its attestation
-/// statement is (CTAP 2.1, section 8).
+/// The encoding of a coherent response is in CTAP2's canonical form if the encoding of its
+/// attestation statement is (CTAP 2.1, section 8).
 pub fn written_make_response_is_canonical()
     ensures { WrittenIsCanonical make_response_tree is_make_response_coherent make_response_kept }
 {
-    passkey_cbor::laws::at_most_one_front();
-    passkey_cbor::laws::written_is_front();
+    passkey_cbor::laws::at_most_one_leading_item();
+    passkey_cbor::laws::written_is_leading_item();
 }
 
 /// Options are encoded with their keys in CTAP2's order (CTAP 2.1, section 8).

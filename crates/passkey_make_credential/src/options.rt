@@ -13,12 +13,12 @@ use passkey_kinds::{
 use passkey_memory::OutOfMemory;
 use std::alloc::Global;
 
-/// The options of an authenticatorMakeCredential request (CTAP 2.1, section 6.1). Each is its
-/// default if it is absent.
+/// The options of an authenticatorMakeCredential request (CTAP 2.1, section 6.1). An absent option
+/// has its default.
 #[derive(Clone, Debug, Drop, PartialEq, Eq)]
 pub struct Options {
-    /// Whether the credential is to be discoverable, so that it is found without its id. False by
-    /// default.
+    /// Whether the credential is to be discoverable, so that it can be found without its credential
+    /// id. False by default.
     pub rk: bool,
     /// Whether user presence is required. True by default. Platforms MUST NOT send false, so only
     /// true is encoded.

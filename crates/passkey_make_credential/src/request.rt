@@ -25,22 +25,22 @@ use passkey_webauthn::{
 };
 use std::alloc::Global;
 
-/// An authenticatorMakeCredential request (CTAP 2.1, section 6.1). `None` means that a member is
-/// absent; null decodes to it, too.
+/// An authenticatorMakeCredential request (CTAP 2.1, section 6.1). `None` means that the member is
+/// absent; null also decodes to `None`.
 #[derive(Debug, Drop, PartialEq)]
 pub struct Request {
     /// 0x01: the SHA-256 hash of the client data, 32 bytes. The length isn't checked.
     pub client_data_hash: Bytes,
     /// 0x02: the relying party that the credential is for.
     pub rp: PublicKeyCredentialRpEntity,
-    /// 0x03: the user account that the credential is for. Decoding requires its names, too.
+    /// 0x03: the user account that the credential is for. Decoding also requires its names.
     pub user: PublicKeyCredentialUserEntity,
     /// 0x04: the credential types and algorithms that the relying party supports, the preferred
     /// first. Decoding drops elements that can't be decoded.
     pub pub_key_cred_params: List<PublicKeyCredentialParameters>,
-    /// 0x05: credentials that the authenticator must not hold yet. Platforms MUST NOT send an empty
-    /// list. Decoding drops elements that can't be decoded, and gives `None` for a value that isn't
-    /// an array.
+    /// 0x05: credentials that the authenticator must not already hold. Platforms MUST NOT send an
+    /// empty list. Decoding drops elements that can't be decoded; a value that isn't an array
+    /// decodes to `None`.
     pub exclude_list: Option<List<PublicKeyCredentialDescriptor>>,
     /// 0x06: the extension inputs.
     pub extensions: Option<ExtensionInputs>,
@@ -135,7 +135,7 @@ impl ToCbor for Request {
 }
 
 impl Request {
-    /// Decodes the request that the bytes begin with, and returns it with its length in bytes.
+    /// Decodes the request at the beginning of the bytes, and returns it with its length in bytes.
     /// Bytes after it are ignored. The errors are those of `read`.
     pub fn from_slice(alloc: Global, bytes: &[u8]) -> Result<(Request, usize), Fault>
         ensures reads { ReadsMessage make_request_parts read_make_request bytes.now result }
@@ -145,32 +145,35 @@ impl Request {
     }
 
     /// Decodes the request at the cursor, head by head and without building a data item for the
-    /// whole, and moves behind it. `DecodeFailed` exactly if no well-formed data item of at most
-    /// 256 levels is there; otherwise the fault that `from_value` returns for the item;
-    /// `OutOfMemory` if an allocation fails, which can only happen for a member that takes memory.
-    /// On an error the cursor stays, and its counts include what was spent.
+    /// whole, and moves past it. Returns `DecodeFailed` exactly if no well-formed data item of at
+    /// most 256 nesting levels is there; otherwise the fault that `from_value` returns for the
+    /// item. Returns `OutOfMemory` if an allocation fails, which can only happen for a member that
+    /// takes memory. On an error the cursor stays, and its counts include what was spent.
     pub fn read(alloc: Global, cursor: &mut Cursor<'_>) -> Result<Request, Fault>
         ensures { ReadsHere make_request_parts make_request_fields 16 cursor.old cursor.new result }
     {
         read_message(alloc, cursor)
     }
 
-    /// Decodes the request from a data item. `NotAMap` if it isn't a map; otherwise the first fault
-    /// of its members in their order (`BadKey`, `Repeated`, `Refused`), or `Missing` for the first
-    /// required member that is absent; `OutOfMemory` if an allocation fails, which can only happen
-    /// for a member that takes memory. Unknown members are skipped, and so are parameters and
-    /// descriptors that can't be decoded, and an exclude list that isn't an array.
+    /// Decodes the request from a data item. Returns `NotAMap` if the item isn't a map; otherwise
+    /// the first fault of its members in their order (`BadKey`, `Repeated`, `Refused`), or else
+    /// `Missing` for the first required member that is absent. Returns `OutOfMemory` if an
+    /// allocation fails, which can only happen for a member that takes memory. Skips unknown
+    /// members, parameters and descriptors that can't be decoded, and an exclude list that isn't an
+    /// array.
     pub fn from_value(alloc: Global, value: &Value) -> Result<Request, Fault>
-        ensures { Reads make_request_parts (MayGrowAt make_request_table (item_of value.now)) (read_make_request (item_of value.now)) result }
+        ensures { Reads make_request_parts (MayGrowAt make_request_table (item_of value.now))
+            (read_make_request (item_of value.now)) result }
     {
         record_from_value(alloc, value)
     }
 
-    /// Encodes the request: its members under their numbers, in ascending order, each if it is
-    /// present, and the options always. `OutOfMemory` if an allocation fails; there is no other
-    /// error.
+    /// Encodes the request, with the members that are present under their numbers in ascending
+    /// order. The options are always encoded. Returns `OutOfMemory` if an allocation fails; there
+    /// is no other error.
     pub fn to_vec(&self, alloc: Global) -> Result<Vec<u8>, WriteFault>
-        ensures written { IfOk result (λ bytes. bytes.items ≡ written (make_request_tree (make_request_parts self.now))) }
+        ensures written { IfOk result
+            (λ bytes. bytes.items ≡ written (make_request_tree (make_request_parts self.now))) }
         ensures writable { OnOk result (IsWritable (make_request_tree (make_request_parts self.now))) }
         ensures fits { OnOk result (MakeRequestFits (make_request_parts self.now)) }
         ensures memory { IfErr result (λ e. e ≡ NoMemory) }
@@ -178,8 +181,8 @@ impl Request {
         write_message(alloc, self)
     }
 
-    /// Returns whether the encoding can be decoded again: it has at most 256 levels. Allocates
-    /// nothing.
+    /// Returns whether the encoding can be decoded again: it has at most 256 nesting levels.
+    /// Allocates nothing.
     pub fn is_coherent(&self) -> bool
         ensures { result ≡ is_make_request_coherent (make_request_parts self.now) }
     {

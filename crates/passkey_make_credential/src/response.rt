@@ -24,8 +24,8 @@ use passkey_kinds::{
 use passkey_memory::OutOfMemory;
 use std::alloc::Global;
 
-/// An authenticatorMakeCredential response (CTAP 2.1, section 6.1). `None` means that a member is
-/// absent; null decodes to it, too.
+/// An authenticatorMakeCredential response (CTAP 2.1, section 6.1). `None` means that the member is
+/// absent; null also decodes to `None`.
 #[derive(Debug, Drop)]
 pub struct Response {
     /// 0x01: the attestation statement format identifier.
@@ -34,7 +34,7 @@ pub struct Response {
     pub auth_data: AuthenticatorData,
     /// 0x03: the attestation statement, kept as a data item.
     pub att_stmt: Value,
-    /// 0x04: whether an enterprise attestation was returned. Absent means false.
+    /// 0x04: whether an enterprise attestation was returned. An absent member means false.
     pub ep_att: Option<bool>,
     /// 0x05: the key of the credential's large blob, if the extension largeBlobKey asked for it.
     pub large_blob_key: Option<Bytes>,
@@ -106,7 +106,7 @@ impl ToCbor for Response {
 }
 
 impl Response {
-    /// Decodes the response that the bytes begin with, and returns it with its length in bytes.
+    /// Decodes the response at the beginning of the bytes, and returns it with its length in bytes.
     /// Bytes after it are ignored. The errors are those of `read`.
     pub fn from_slice(alloc: Global, bytes: &[u8]) -> Result<(Response, usize), Fault>
         ensures reads { ReadsMessage make_response_parts read_make_response bytes.now result }
@@ -116,30 +116,33 @@ impl Response {
     }
 
     /// Decodes the response at the cursor, head by head and without building a data item for the
-    /// whole, and moves behind it. `DecodeFailed` exactly if no well-formed data item of at most
-    /// 256 levels is there; otherwise the fault that `from_value` returns for the item;
-    /// `OutOfMemory` if an allocation fails, which can only happen for a member that takes memory.
-    /// On an error the cursor stays, and its counts include what was spent.
+    /// whole, and moves past it. Returns `DecodeFailed` exactly if no well-formed data item of at
+    /// most 256 nesting levels is there; otherwise the fault that `from_value` returns for the
+    /// item. Returns `OutOfMemory` if an allocation fails, which can only happen for a member that
+    /// takes memory. On an error the cursor stays, and its counts include what was spent.
     pub fn read(alloc: Global, cursor: &mut Cursor<'_>) -> Result<Response, Fault>
         ensures { ReadsHere make_response_parts make_response_fields 16 cursor.old cursor.new result }
     {
         read_message(alloc, cursor)
     }
 
-    /// Decodes the response from a data item. `NotAMap` if it isn't a map; otherwise the first
-    /// fault of its members in their order (`BadKey`, `Repeated`, `Refused`), or `Missing` for the
-    /// first required member that is absent; `OutOfMemory` if an allocation fails, which can only
-    /// happen for a member that takes memory. Unknown members are skipped.
+    /// Decodes the response from a data item. Returns `NotAMap` if the item isn't a map; otherwise
+    /// the first fault of its members in their order (`BadKey`, `Repeated`, `Refused`), or else
+    /// `Missing` for the first required member that is absent. Returns `OutOfMemory` if an
+    /// allocation fails, which can only happen for a member that takes memory. Skips unknown
+    /// members.
     pub fn from_value(alloc: Global, value: &Value) -> Result<Response, Fault>
-        ensures { Reads make_response_parts (MayGrowAt make_response_table (item_of value.now)) (read_make_response (item_of value.now)) result }
+        ensures { Reads make_response_parts (MayGrowAt make_response_table (item_of value.now))
+            (read_make_response (item_of value.now)) result }
     {
         record_from_value(alloc, value)
     }
 
-    /// Encodes the response: its members under their numbers, in ascending order, each if it is
-    /// present. `OutOfMemory` if an allocation fails; there is no other error.
+    /// Encodes the response, with the members that are present under their numbers in ascending
+    /// order. Returns `OutOfMemory` if an allocation fails; there is no other error.
     pub fn to_vec(&self, alloc: Global) -> Result<Vec<u8>, WriteFault>
-        ensures written { IfOk result (λ bytes. bytes.items ≡ written (make_response_tree (make_response_parts self.now))) }
+        ensures written { IfOk result
+            (λ bytes. bytes.items ≡ written (make_response_tree (make_response_parts self.now))) }
         ensures writable { OnOk result (IsWritable (make_response_tree (make_response_parts self.now))) }
         ensures fits { OnOk result (MakeResponseFits (make_response_parts self.now)) }
         ensures memory { IfErr result (λ e. e ≡ NoMemory) }
@@ -148,8 +151,8 @@ impl Response {
     }
 
     /// Returns whether the encoding can be decoded again: the authenticator data is coherent, and
-    /// the attestation statement has at most 255 levels, so that the response has at most 256.
-    /// Allocates nothing.
+    /// the attestation statement has at most 255 nesting levels, so that the response has at most
+    /// 256. Allocates nothing.
     pub fn is_coherent(&self) -> bool
         ensures { result ≡ is_make_response_coherent (make_response_parts self.now) }
     {
@@ -157,10 +160,12 @@ impl Response {
     }
 
     /// Encodes an attestation object without attestation (WebAuthn Level 3, section 6.5.4): a map
-    /// of `fmt`, which is "none", `attStmt`, an empty map, and `authData`, the authenticator data.
-    /// The response's own format and statement are left out. `OutOfMemory` if an allocation fails.
+    /// with `fmt`, which is "none", `attStmt`, an empty map, and `authData`, the authenticator
+    /// data. Leaves out the response's own format and statement. Returns `OutOfMemory` if an
+    /// allocation fails.
     pub fn as_webauthn_bytes(&self, alloc: Global) -> Result<Vec<u8>, OutOfMemory>
-        ensures written { IfOk result (λ bytes. bytes.items ≡ written (attestation_tree (data_parts self.now.auth_data))) }
+        ensures written { IfOk result
+            (λ bytes. bytes.items ≡ written (attestation_tree (data_parts self.now.auth_data))) }
         ensures writable { OnOk result (IsWritable (attestation_tree (data_parts self.now.auth_data))) }
         ensures fits { OnOk result (IsData (data_parts self.now.auth_data)) }
     {

@@ -1,4 +1,4 @@
--- Whether a list is empty, told by its length.
+-- Whether a list is empty, by its length.
 use Rattle.std.proofs.Common.{◌≡◌, ◌<◌, ◌==◌, ℕ, suc, Bool, true, false, arith, List, [], ◌∷◌, length, refl, sym, ◌∙◌}
 use Rattle.std.proofs.lemmas.Bool.{true≢false}
 use Rattle.std.proofs.lemmas.Bool.Decides.{nat_tests}

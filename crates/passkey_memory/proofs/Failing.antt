@@ -1,4 +1,4 @@
--- What holds of a call's fault.
+-- What holds if a call fails.
 use Rattle.std.proofs.Common.{Result, Ok, Err, OnErr}
 
 pub on_err : {T E P : Type 0} (r : Result T E) → P → OnErr r P

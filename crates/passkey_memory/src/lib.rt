@@ -1,4 +1,4 @@
-//! The error of calls that can only run out of memory, and what contracts say of calls that may.
+//! The error of calls that can only run out of memory, and the contracts of calls that may.
 #![tactic(auto)]
 
 mod out_of_memory;

@@ -1,4 +1,4 @@
--- A list that must be there is read back from what it is written as.
+-- The encoding of a required list can be decoded again.
 use Rattle.std.proofs.Common.{◌≡◌, ℕ, List, map, Some, Ok, refl}
 use Rattle.passkey_json.proofs.MembersBack.{accepted_all}
 use Rattle.passkey_json.specs.Kind.{Kind, list, accepted}
@@ -7,7 +7,9 @@ use Rattle.passkey_json.specs.Written.{ReadsBack, list_json}
 use Rattle.serde_json.specs.Data.{Data}
 use Rattle.serde_json.specs.View.{items_of}
 
-pub required_list_back : {A : Type 0} (kind : Kind A) (json : A → Data) {xs : List A} → ReadsBack (list kind) xs (list_json json xs)
+pub required_list_back : {A : Type 0} (kind : Kind A) (json : A → Data) {xs : List A}
+    → ReadsBack (list kind) xs (list_json json xs)
     → (name : List ℕ) → required (accepted kind) (under name (Some (list_json json xs))) ≡ Ok xs
 unfolding required
-required_list_back kind json {xs = xs} back name = rw (accepted_all kind (items_of (map json xs)) xs back.plain) refl
+required_list_back kind json {xs = xs} back name =
+    rw (accepted_all kind (items_of (map json xs)) xs back.plain) refl

@@ -1,7 +1,8 @@
--- Formats of attestation statements (WebAuthn Level 3, section 8.1).
+-- Attestation statement formats (WebAuthn Level 3, section 8.1).
 use Rattle.std.specs.Prelude.{◌≡◌, ℕ, List, [], ◌∷◌, Option, Some, codes, refl}
 use Rattle.passkey_options.specs.declared.attestation_format.AttestationStatementFormatIdentifiers.{AttestationStatementFormatIdentifiers}
-use Rattle.passkey_options.specs.declared.attestation_format.AttestationStatementFormatIdentifiers.TheVariants as format
+use Rattle.passkey_options.specs.declared.attestation_format.AttestationStatementFormatIdentifiers.TheVariants
+    as format
 use Rattle.passkey_webauthn.specs.Names.{named_in}
 
 abbrev pub format_name : AttestationStatementFormatIdentifiers → List ℕ
@@ -15,7 +16,8 @@ format_name format.None = codes "none"
 
 abbrev pub every_format : List AttestationStatementFormatIdentifiers
 every_format =
-    format.Packed ∷ format.Tpm ∷ format.AndroidKey ∷ format.AndroidSafetynet ∷ format.FidoU2f ∷ format.Apple ∷ format.None ∷ []
+    format.Packed ∷ format.Tpm ∷ format.AndroidKey ∷ format.AndroidSafetynet ∷ format.FidoU2f ∷ format.Apple
+    ∷ format.None ∷ []
 
 abbrev pub format_named : List ℕ → Option AttestationStatementFormatIdentifiers
 format_named = named_in format_name every_format

@@ -1,4 +1,5 @@
--- The members about hints and attestation, which both options have (WebAuthn Level 3, sections 5.4 and 5.5).
+-- The members for hints and attestation, which the options of both ceremonies have (WebAuthn Level
+-- 3, sections 5.4 and 5.5).
 use Rattle.std.specs.Prelude.{Result, Ok, codes, Bool, [], ◌∷◌}
 use Rattle.passkey_json.specs.Fault.{Fault}
 use Rattle.passkey_json.specs.Kind.{one_named, is_array}
@@ -16,7 +17,7 @@ attestation_members_in object = do
   attestation_formats ← accepted_list (one_named format_named) (member (codes "attestationFormats") object)
   Ok (record { hints = hints; attestation = attestation; attestation_formats = attestation_formats })
 
--- whether a member is present that may take memory to decode
+-- whether a member is present whose decoding may take memory
 unfoldable pub attestation_members_takes : Object → Bool
 attestation_members_takes = takes_any (
     (codes "hints", is_array)

@@ -32,7 +32,8 @@ unfoldable pub choice_members_in : Object → Result ChoiceMembers Fault
 choice_members_in object = do
   timeout ← if_present word (member (codes "timeout") object)
   exclude_credentials ← accepted_list (record_kind descriptor_in) (member (codes "excludeCredentials") object)
-  authenticator_selection ← or_default None (optional (record_kind selection_criteria_in)) (member (codes "authenticatorSelection") object)
+  authenticator_selection ← or_default None (optional (record_kind selection_criteria_in))
+      (member (codes "authenticatorSelection") object)
   Ok (record {
     timeout = timeout;
     exclude_credentials = exclude_credentials;
@@ -59,7 +60,7 @@ creation_options_in object = do
     extensions = extensions;
   })
 
--- ---- whether a member is present that may take memory to decode
+-- ---- whether a member is present whose decoding may take memory
 
 unfoldable pub required_members_takes : Object → Bool
 required_members_takes = takes_any (
@@ -81,7 +82,7 @@ creation_options_takes object =
     || attestation_members_takes object
     || takes_any ((codes "extensions", takes_in client_inputs_takes) ∷ []) object
 
--- ---- how they are encoded
+-- ---- the encoding of the options
 
 abbrev pub creation_options_rows : BytesForm → PublicKeyCredentialCreationOptions → List Row
 creation_options_rows form x =

@@ -13,7 +13,7 @@ credential_creation_in object = do
   public_key ← required (record_kind creation_options_in) (member (codes "publicKey") object)
   Ok (record { public_key = public_key })
 
--- whether a member is present that may take memory to decode
+-- whether a member is present whose decoding may take memory
 unfoldable pub credential_creation_takes : Object → Bool
 credential_creation_takes = takes_any (
     (codes "publicKey", takes_in creation_options_takes)

@@ -1,4 +1,4 @@
--- Which kind of authenticator the user will probably use (WebAuthn Level 3, section 5.8.8).
+-- Hints about the authenticator that the user will probably use (WebAuthn Level 3, section 5.8.8).
 use Rattle.std.specs.Prelude.{◌≡◌, ℕ, List, [], ◌∷◌, Option, Some, codes, refl}
 use Rattle.passkey_options.specs.declared.hints.PublicKeyCredentialHints.{PublicKeyCredentialHints}
 use Rattle.passkey_options.specs.declared.hints.PublicKeyCredentialHints.TheVariants as hint

@@ -34,7 +34,8 @@ credential_members_in object = do
 unfoldable pub request_options_in : Object → Result PublicKeyCredentialRequestOptions Fault
 request_options_in object = do
   credential ← credential_members_in object
-  user_verification ← tolerated Preferred (one_named user_verification_named) (member (codes "userVerification") object)
+  user_verification ← tolerated Preferred (one_named user_verification_named)
+      (member (codes "userVerification") object)
   wishes ← attestation_members_in object
   extensions ← tolerated None (optional (record_kind client_inputs_in)) (member (codes "extensions") object)
   Ok (record {
@@ -49,7 +50,7 @@ request_options_in object = do
     extensions = extensions;
   })
 
--- ---- whether a member is present that may take memory to decode
+-- ---- whether a member is present whose decoding may take memory
 
 unfoldable pub credential_members_takes : Object → Bool
 credential_members_takes = takes_any (
@@ -65,7 +66,7 @@ request_options_takes object =
     || attestation_members_takes object
     || takes_any ((codes "extensions", takes_in client_inputs_takes) ∷ []) object
 
--- ---- how they are encoded
+-- ---- the encoding of the options
 
 abbrev pub request_options_rows : BytesForm → PublicKeyCredentialRequestOptions → List Row
 request_options_rows form x =

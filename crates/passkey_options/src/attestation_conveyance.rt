@@ -1,10 +1,12 @@
 //! Attestation conveyance preferences, decoded from JSON values and encoded.
-ghost use Rattle.std.specs.Prelude.{false, Some};
+ghost use Rattle.std.specs.Prelude.{false, Some, refl};
 ghost use Rattle.passkey_json.specs.Kind.{one_named};
 ghost use Rattle.passkey_options.specs.AttestationConveyance.{conveyance_name, conveyance_named, conveyance_own};
 ghost use Rattle.serde_json.specs.Data.{string};
 
-use passkey_json::{BytesForm, FromJson, JsonRefusal, ToJson, read_name, written_name};
+use passkey_json::{
+    BytesForm, FromJson, JsonRefusal, ToJson, WithoutBytes, read_name, written_name,
+};
 use passkey_memory::OutOfMemory;
 use passkey_webauthn::EnumNames;
 use serde_json::Value;
@@ -16,9 +18,9 @@ use std::fmt;
 pub enum AttestationConveyancePreference {
     /// No attestation.
     None,
-    /// A verifiable attestation, which the client may have replaced by an anonymous one.
+    /// A verifiable attestation, which the client may replace by an anonymous one.
     Indirect,
-    /// The attestation as the authenticator makes it.
+    /// The attestation from the authenticator, unchanged.
     Direct,
     /// An attestation that may identify the authenticator, within an enterprise.
     Enterprise,
@@ -32,13 +34,15 @@ impl EnumNames for AttestationConveyancePreference {
     ghost name_is_own = { conveyance_own };
 
     fn from_name(name: &str) -> Option<AttestationConveyancePreference> {
-        match name {
-            "none" => Some(AttestationConveyancePreference::None),
-            "indirect" => Some(AttestationConveyancePreference::Indirect),
-            "direct" => Some(AttestationConveyancePreference::Direct),
-            "enterprise" => Some(AttestationConveyancePreference::Enterprise),
-            _ => None,
-        }
+        [
+            AttestationConveyancePreference::None,
+            AttestationConveyancePreference::Indirect,
+            AttestationConveyancePreference::Direct,
+            AttestationConveyancePreference::Enterprise,
+        ]
+        .iter()
+        .copied()
+        .find(|value| value.name() == name)
     }
 
     fn name(self) -> &'static str {
@@ -54,7 +58,7 @@ impl EnumNames for AttestationConveyancePreference {
 impl fmt::Display for AttestationConveyancePreference {
     ghost output = { λ x. Some (conveyance_name x) };
 
-    /// The preference as WebAuthn Level 3 names it.
+    /// The preference's name in WebAuthn Level 3.
     fn fmt<W: fmt::Write>(&self, f: &mut fmt::Formatter<W>) -> fmt::Result {
         f.write_str(self.name())
     }
@@ -80,6 +84,10 @@ impl ToJson for AttestationConveyancePreference {
     fn to_json(&self, alloc: Global, _form: BytesForm) -> Result<Value, OutOfMemory> {
         written_name(alloc, *self)
     }
+}
+
+impl WithoutBytes for AttestationConveyancePreference {
+    ghost one_json = { λ f g x. refl };
 }
 
 impl Default for AttestationConveyancePreference {

@@ -1,10 +1,12 @@
 //! Attestation statement formats, decoded from JSON values and encoded.
-ghost use Rattle.std.specs.Prelude.{false, Some};
+ghost use Rattle.std.specs.Prelude.{false, Some, refl};
 ghost use Rattle.passkey_json.specs.Kind.{one_named};
 ghost use Rattle.passkey_options.specs.AttestationFormat.{format_name, format_named, format_own};
 ghost use Rattle.serde_json.specs.Data.{string};
 
-use passkey_json::{BytesForm, FromJson, JsonRefusal, ToJson, read_name, written_name};
+use passkey_json::{
+    BytesForm, FromJson, JsonRefusal, ToJson, WithoutBytes, read_name, written_name,
+};
 use passkey_memory::OutOfMemory;
 use passkey_webauthn::EnumNames;
 use serde_json::Value;
@@ -14,17 +16,17 @@ use std::fmt;
 /// An attestation statement format (WebAuthn Level 3, section 8.1).
 #[derive(Clone, Copy, Debug, PartialEq, Eq)]
 pub enum AttestationStatementFormatIdentifiers {
-    /// packed, which was made for WebAuthn (section 8.2).
+    /// packed, a format for WebAuthn (section 8.2).
     Packed,
-    /// tpm, of trusted platform modules (section 8.3).
+    /// tpm, for trusted platform modules (section 8.3).
     Tpm,
-    /// android-key, of Android's key store (section 8.4).
+    /// android-key, for Android's key store (section 8.4).
     AndroidKey,
     /// android-safetynet (section 8.5).
     AndroidSafetynet,
     /// fido-u2f (section 8.6).
     FidoU2f,
-    /// apple, anonymous attestation (section 8.8).
+    /// apple, for anonymous attestation by Apple (section 8.8).
     Apple,
     /// none, without a statement (section 8.7).
     None,
@@ -38,16 +40,18 @@ impl EnumNames for AttestationStatementFormatIdentifiers {
     ghost name_is_own = { format_own };
 
     fn from_name(name: &str) -> Option<AttestationStatementFormatIdentifiers> {
-        match name {
-            "packed" => Some(AttestationStatementFormatIdentifiers::Packed),
-            "tpm" => Some(AttestationStatementFormatIdentifiers::Tpm),
-            "android-key" => Some(AttestationStatementFormatIdentifiers::AndroidKey),
-            "android-safetynet" => Some(AttestationStatementFormatIdentifiers::AndroidSafetynet),
-            "fido-u2f" => Some(AttestationStatementFormatIdentifiers::FidoU2f),
-            "apple" => Some(AttestationStatementFormatIdentifiers::Apple),
-            "none" => Some(AttestationStatementFormatIdentifiers::None),
-            _ => None,
-        }
+        [
+            AttestationStatementFormatIdentifiers::Packed,
+            AttestationStatementFormatIdentifiers::Tpm,
+            AttestationStatementFormatIdentifiers::AndroidKey,
+            AttestationStatementFormatIdentifiers::AndroidSafetynet,
+            AttestationStatementFormatIdentifiers::FidoU2f,
+            AttestationStatementFormatIdentifiers::Apple,
+            AttestationStatementFormatIdentifiers::None,
+        ]
+        .iter()
+        .copied()
+        .find(|value| value.name() == name)
     }
 
     fn name(self) -> &'static str {
@@ -92,6 +96,10 @@ impl ToJson for AttestationStatementFormatIdentifiers {
     fn to_json(&self, alloc: Global, _form: BytesForm) -> Result<Value, OutOfMemory> {
         written_name(alloc, *self)
     }
+}
+
+impl WithoutBytes for AttestationStatementFormatIdentifiers {
+    ghost one_json = { λ f g x. refl };
 }
 
 impl Default for AttestationStatementFormatIdentifiers {

@@ -1,4 +1,4 @@
-//! The members about hints and attestation, which both options have.
+//! The members for hints and attestation, which the options of both ceremonies have.
 ghost use Rattle.passkey_options.specs.AttestationMembers.{attestation_members_in, attestation_members_takes};
 
 use crate::attestation_conveyance::AttestationConveyancePreference;
@@ -7,17 +7,17 @@ use crate::hints::PublicKeyCredentialHints;
 use passkey_bytes::List;
 use passkey_json::{JsonFault, JsonRecord, Object};
 
-/// The members about hints and attestation, which both options have (WebAuthn Level 3, sections 5.4
-/// and 5.5).
+/// The members for hints and attestation, which the options of both ceremonies have (WebAuthn Level
+/// 3, sections 5.4 and 5.5).
 #[derive(Drop)]
 pub struct AttestationMembers {
     /// Which kinds of authenticator the user will probably use, the likeliest first; `None` means
-    /// the member is absent or no array.
+    /// the member is absent or isn't an array.
     pub hints: Option<List<PublicKeyCredentialHints>>,
     /// Which attestation the relying party wants.
     pub attestation: AttestationConveyancePreference,
-    /// The formats of attestation statements that the relying party prefers, the most preferred
-    /// first; `None` means the member is absent or no array.
+    /// The attestation statement formats that the relying party prefers, the most preferred first;
+    /// `None` means the member is absent or isn't an array.
     pub attestation_formats: Option<List<AttestationStatementFormatIdentifiers>>,
 }
 

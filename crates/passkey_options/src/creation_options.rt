@@ -32,33 +32,34 @@ pub struct PublicKeyCredentialCreationOptions {
     pub challenge: Bytes,
     /// The credential types and algorithms that the relying party accepts, the most preferred
     /// first; an empty list means ES256 and RS256 (WebAuthn Level 3, section 5.1.3). Decoding drops
-    /// an element without `type` or without a known `alg`, so also one whose `alg` is a float, such
-    /// as -7.0. An unknown `type` is decoded as `Unknown`.
+    /// an element without `type` or without a known `alg`, and so also one whose `alg` is a float,
+    /// such as -7.0. An unknown `type` decodes to `Unknown`.
     pub pub_key_cred_params: List<PublicKeyCredentialParameters>,
     /// How long the client should wait, in milliseconds. It is a hint; `None` means the member is
     /// absent.
     pub timeout: Option<u32>,
-    /// The user's existing credentials: the client fails if an authenticator has one of them. `None`
-    /// means the member is absent, and excludes none. Decoding drops rejected elements, and ignores
-    /// a value that is no array.
+    /// The user's existing credentials: the client fails if an authenticator has one of them.
+    /// `None` means the member is absent, and that none is excluded. Decoding drops rejected
+    /// elements, and ignores a value that isn't an array.
     pub exclude_credentials: Option<List<PublicKeyCredentialDescriptor>>,
-    /// The requirements for the authenticator; `None` means the member is absent, and allows any.
+    /// The requirements for the authenticator; `None` means the member is absent, and that any
+    /// authenticator is allowed.
     pub authenticator_selection: Option<AuthenticatorSelectionCriteria>,
     /// Which kinds of authenticator the user will probably use, the likeliest first; `None` means
-    /// the member is absent. Decoding drops unknown hints, and ignores a value that is no array.
+    /// the member is absent. Decoding drops unknown hints, and ignores a value that isn't an array.
     pub hints: Option<List<PublicKeyCredentialHints>>,
-    /// Which attestation the relying party wants. An absent or unknown value is decoded as
+    /// Which attestation the relying party wants. An absent or unknown value decodes to
     /// `AttestationConveyancePreference::None`.
     pub attestation: AttestationConveyancePreference,
-    /// The formats of attestation statements that the relying party prefers, the most preferred
-    /// first; `None` means the member is absent. Decoding drops unknown formats, and ignores a value
-    /// that is no array.
+    /// The attestation statement formats that the relying party prefers, the most preferred first;
+    /// `None` means the member is absent. Decoding drops unknown formats, and ignores a value that
+    /// isn't an array.
     pub attestation_formats: Option<List<AttestationStatementFormatIdentifiers>>,
     /// The client extension inputs; `None` means the member is absent.
     pub extensions: Option<AuthenticationExtensionsClientInputs>,
 }
 
-// The members are decoded in groups, since each `?` drops what was decoded before it.
+// The members are decoded in groups, because each `?` drops what was decoded before it.
 
 /// The required members.
 #[derive(Drop)]
@@ -87,7 +88,7 @@ impl JsonRecord for RequiredMembers {
     }
 }
 
-/// The members about the authenticators that are accepted, and the timeout.
+/// The members for the timeout and for which authenticators are accepted.
 #[derive(Drop)]
 struct ChoiceMembers {
     timeout: Option<u32>,

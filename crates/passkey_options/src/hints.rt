@@ -1,10 +1,12 @@
 //! Hints about authenticators, decoded from JSON values and encoded.
-ghost use Rattle.std.specs.Prelude.{false, Some};
+ghost use Rattle.std.specs.Prelude.{false, Some, refl};
 ghost use Rattle.passkey_json.specs.Kind.{one_named};
 ghost use Rattle.passkey_options.specs.Hints.{hint_name, hint_named, hint_own};
 ghost use Rattle.serde_json.specs.Data.{string};
 
-use passkey_json::{BytesForm, FromJson, JsonRefusal, ToJson, read_name, written_name};
+use passkey_json::{
+    BytesForm, FromJson, JsonRefusal, ToJson, WithoutBytes, read_name, written_name,
+};
 use passkey_memory::OutOfMemory;
 use passkey_webauthn::EnumNames;
 use serde_json::Value;
@@ -16,7 +18,7 @@ use std::fmt;
 pub enum PublicKeyCredentialHints {
     /// A physical security key.
     SecurityKey,
-    /// A platform authenticator of the client's device.
+    /// A platform authenticator on the client's device.
     ClientDevice,
     /// A general-purpose authenticator, such as a phone.
     Hybrid,
@@ -30,12 +32,14 @@ impl EnumNames for PublicKeyCredentialHints {
     ghost name_is_own = { hint_own };
 
     fn from_name(name: &str) -> Option<PublicKeyCredentialHints> {
-        match name {
-            "security-key" => Some(PublicKeyCredentialHints::SecurityKey),
-            "client-device" => Some(PublicKeyCredentialHints::ClientDevice),
-            "hybrid" => Some(PublicKeyCredentialHints::Hybrid),
-            _ => None,
-        }
+        [
+            PublicKeyCredentialHints::SecurityKey,
+            PublicKeyCredentialHints::ClientDevice,
+            PublicKeyCredentialHints::Hybrid,
+        ]
+        .iter()
+        .copied()
+        .find(|value| value.name() == name)
     }
 
     fn name(self) -> &'static str {
@@ -50,7 +54,7 @@ impl EnumNames for PublicKeyCredentialHints {
 impl fmt::Display for PublicKeyCredentialHints {
     ghost output = { λ x. Some (hint_name x) };
 
-    /// The hint as WebAuthn Level 3 names it.
+    /// The hint's name in WebAuthn Level 3.
     fn fmt<W: fmt::Write>(&self, f: &mut fmt::Formatter<W>) -> fmt::Result {
         f.write_str(self.name())
     }
@@ -73,4 +77,8 @@ impl ToJson for PublicKeyCredentialHints {
     fn to_json(&self, alloc: Global, _form: BytesForm) -> Result<Value, OutOfMemory> {
         written_name(alloc, *self)
     }
+}
+
+impl WithoutBytes for PublicKeyCredentialHints {
+    ghost one_json = { λ f g x. refl };
 }

@@ -1,4 +1,4 @@
-//! The options of WebAuthn that a relying party sends to a browser, decoded from JSON values and
+//! The WebAuthn options that a relying party sends to a browser, decoded from JSON values and
 //! encoded.
 #![tactic(auto)]
 

@@ -25,34 +25,35 @@ pub struct PublicKeyCredentialRequestOptions {
     /// How long the client should wait, in milliseconds. It is a hint; `None` means the member is
     /// absent.
     pub timeout: Option<u32>,
-    /// The relying party id; `None` means the member is absent, and the id is the effective domain of
-    /// the caller's origin.
+    /// The relying party id; `None` means the member is absent, and that the id is the effective
+    /// domain of the caller's origin.
     pub rp_id: Option<Text>,
-    /// The credentials that are accepted; `None`, which means the member is absent, or an empty list
-    /// accepts any discoverable one. Also decoded from `allowList`; both members together are the
-    /// fault `Repeated`. Decoding drops rejected elements, and ignores a value that is no array.
+    /// The credentials that are accepted. `None`, which means the member is absent, and an empty
+    /// list both accept any discoverable credential. Also decoded from `allowList`; if both members
+    /// are present, decoding fails with `Repeated`. Decoding drops rejected elements, and ignores a
+    /// value that isn't an array.
     pub allow_credentials: Option<List<PublicKeyCredentialDescriptor>>,
-    /// Whether the relying party wants user verification. An absent or unknown value is decoded as
+    /// Whether the relying party wants user verification. An absent or unknown value decodes to
     /// `Preferred`.
     pub user_verification: UserVerificationRequirement,
     /// Which kinds of authenticator the user will probably use, the likeliest first; `None` means
-    /// the member is absent. Decoding drops unknown hints, and ignores a value that is no array.
+    /// the member is absent. Decoding drops unknown hints, and ignores a value that isn't an array.
     pub hints: Option<List<PublicKeyCredentialHints>>,
-    /// Which attestation the relying party wants. An absent or unknown value is decoded as
+    /// Which attestation the relying party wants. An absent or unknown value decodes to
     /// `AttestationConveyancePreference::None`.
     pub attestation: AttestationConveyancePreference,
-    /// The formats of attestation statements that the relying party prefers, the most preferred
-    /// first; `None` means the member is absent. Decoding drops unknown formats, and ignores a value
-    /// that is no array.
+    /// The attestation statement formats that the relying party prefers, the most preferred first;
+    /// `None` means the member is absent. Decoding drops unknown formats, and ignores a value that
+    /// isn't an array.
     pub attestation_formats: Option<List<AttestationStatementFormatIdentifiers>>,
     /// The client extension inputs; `None` means the member is absent. Decoding ignores a rejected
     /// value.
     pub extensions: Option<AuthenticationExtensionsClientInputs>,
 }
 
-// The members are decoded in groups, since each `?` drops what was decoded before it.
+// The members are decoded in groups, because each `?` drops what was decoded before it.
 
-/// The members about the credentials that are accepted.
+/// The members for which credentials are accepted.
 #[derive(Drop)]
 struct CredentialMembers {
     challenge: Bytes,

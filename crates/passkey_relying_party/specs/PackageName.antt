@@ -7,7 +7,7 @@ use Rattle.serde_json.specs.Data.{Members, no_members, member, string}
 abbrev pub is_package_name : List ℕ → Bool
 is_package_name name = bytes_eq name (codes "androidPackageName")
 
--- the members that it is encoded as
+-- the members that the name is encoded as
 abbrev pub name_members : Option (List ℕ) → Members
 name_members (Some name) = member (codes "androidPackageName") (string name) no_members
 name_members None = no_members

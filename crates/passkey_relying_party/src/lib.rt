@@ -1,5 +1,6 @@
-//! A relying party registers a passkey: it sends the browser options, and checks what the browser
-//! returns (WebAuthn Level 3, section 7.1). It asks for no attestation, so it checks no signature.
+//! A relying party registers a passkey: it sends options to the browser, and checks what the
+//! browser returns (WebAuthn Level 3, section 7.1). It asks for no attestation, so it checks no
+//! signature.
 #![tactic(auto)]
 
 ghost use Rattle.std.specs.Prelude.{◌≤◌, length, IfOk};
@@ -24,13 +25,13 @@ use passkey_types::{Bytes, OutOfMemory, Text, encoding};
 use std::alloc::Global;
 use thiserror::Error;
 
-/// The relying party's id, which is a domain.
+/// The relying party id, a domain.
 const RP_ID: &str = "example.org";
 
-/// The origin of its pages.
+/// The origin of the relying party's pages.
 const ORIGIN: &str = "https://example.org";
 
-/// The name of its app, which Android's clients add to client data.
+/// The name of the relying party's app, which Android clients add to client data.
 const APP: &str = "org.example";
 
 /// Why a registration is rejected.
@@ -58,7 +59,7 @@ pub struct NewPasskey {
     pub is_user_verified: bool,
 }
 
-/// The JSON text that the page turns into the argument of `navigator.credentials.create()`.
+/// Returns the JSON text that the page turns into the argument of `navigator.credentials.create()`.
 pub fn creation_options(
     alloc: Global,
     challenge: Bytes,
@@ -86,8 +87,8 @@ pub fn creation_options(
     Ok(json.to_string(alloc)?)
 }
 
-/// Checks the browser's answer to options with this challenge, and returns the new passkey.
-/// Its credential id has at most 1023 bytes (WebAuthn Level 3, section 7.1).
+/// Checks the browser's answer to options with this challenge, and returns the new passkey. Its
+/// credential id has at most 1023 bytes (WebAuthn Level 3, section 7.1).
 pub fn register(alloc: Global, challenge: &[u8], answer: &str) -> Result<NewPasskey, Rejected>
     ensures { IfOk result (λ new. length new.credential_id ≤ 1023) }
 {
@@ -122,7 +123,8 @@ fn what_is_wrong(data: &CollectedClientData<PackageName>, challenge: &str) -> Op
     }
 }
 
-/// An attestation object is a response of CTAP2 that has names in place of numbers.
+/// Returns the passkey of an attestation object, which is a CTAP2 response with names instead of
+/// numbers.
 fn new_passkey(alloc: Global, object: &[u8]) -> Result<NewPasskey, Rejected>
     ensures { IfOk result (λ new. length new.credential_id ≤ 1023) }
 {

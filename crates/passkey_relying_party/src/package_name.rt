@@ -1,4 +1,4 @@
-//! A further member of client data, decoded by a type of the relying party's own.
+//! A further member of client data, decoded by the relying party's own type.
 ghost use Rattle.passkey_relying_party.specs.PackageName.{is_package_name, name_members, name_members_are_extra};
 
 use passkey_types::json::{Object, Value};
@@ -7,8 +7,8 @@ use passkey_types::{OutOfMemory, Text};
 use std::alloc::Global;
 use std::marker::Model;
 
-/// The app that asked for the credential, which Android's clients name in `androidPackageName`; `None`
-/// means the member is absent.
+/// The app that asked for the credential, which Android clients name in `androidPackageName`;
+/// `None` means the member is absent.
 #[derive(Debug, Drop)]
 pub struct PackageName(pub Option<Text>);
 

@@ -1,4 +1,4 @@
-//! A registration as a browser answers it, which the rows of the program have too.
+//! A browser's answer to a registration; the rows of the program contain it, too.
 use crate::{creation_options, register};
 use passkey_types::webauthn::PublicKeyCredentialUserEntity;
 use passkey_types::{Bytes, Text, encoding};
@@ -22,7 +22,8 @@ const ANSWER: &str = concat!(
 
 const CHALLENGE: &str = "AMMPt4UxxGTStncdq417YDwBFi8vpIa-pw8oOuVW4TA";
 
-/// What is stored of the answer to options with this challenge, in base64url; else the rejection.
+/// Returns what is stored for the answer to options with this challenge, in base64url, or else the
+/// rejection.
 fn registered(rt: &(impl Abort + AllocGlobal), challenge: &str, answer: &str) -> String {
     let challenge = encoding::try_from_base64url(rt.alloc(), challenge).expect(rt, "memory");
     let challenge = challenge.expect(rt, "base64url");
@@ -50,7 +51,7 @@ fn a_passkey_is_registered(rt: HostRuntime) {
     }
 }
 
-/// The options for a challenge and a user of one byte.
+/// Returns the options for a challenge and a user handle of one byte each.
 fn options(rt: &(impl Abort + AllocGlobal)) -> String {
     let user = PublicKeyCredentialUserEntity {
         id: Bytes::from_slice(rt.alloc(), &[2]).expect(rt, "memory"),

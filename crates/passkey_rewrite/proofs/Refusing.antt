@@ -1,4 +1,4 @@
--- Why a call rejects bytes is why their kind does.
+-- A call rejects bytes for the same fault as their kind.
 use Rattle.std.proofs.Common.{ℕ, List, Result, Ok, Err, IfErr}
 use Rattle.passkey_cbor.specs.Item.{Item}
 use Rattle.passkey_kinds.specs.declared.fault.Fault.{Fault}

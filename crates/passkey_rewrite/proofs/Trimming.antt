@@ -8,7 +8,7 @@ use Rattle.passkey_rewrite.specs.Trimmed.{is_space, trimmed_start, trimmed_end, 
 abbrev IsSpace : ℕ → Type 0
 IsSpace byte = is_space byte ≡ true
 
--- a text is its white space at the front, and what trimming leaves
+-- a text is the white space at its beginning, and what trimming leaves
 abbrev Splits : List ℕ → List ℕ → Type 0
 Splits text rest = (before : List ℕ) × (text ≡ before ++ rest) × AllPass is_space before
 
@@ -23,11 +23,12 @@ start_splits (byte ∷ text) = split_if byte text (is_space byte) refl (start_sp
 
 begins_if : (b : ℕ) (text : List ℕ) (t : Bool) → is_space b ≡ t
     → ((byte : ℕ) (rest : List ℕ) → trimmed_start text ≡ byte ∷ rest → is_space byte ≡ false)
-    → (byte : ℕ) (rest : List ℕ) → (if t then trimmed_start text else b ∷ text) ≡ byte ∷ rest → is_space byte ≡ false
+    → (byte : ℕ) (rest : List ℕ) → (if t then trimmed_start text else b ∷ text) ≡ byte ∷ rest
+    → is_space byte ≡ false
 begins_if b text true e inner byte rest h = inner byte rest h
 begins_if b text false e inner byte rest h = let same : b ≡ byte = cc in ap is_space (sym same) ∙ e
 
--- what trimming leaves begins with no white space
+-- what trimming leaves doesn't begin with white space
 start_begins : (text : List ℕ) (byte : ℕ) (rest : List ℕ) → trimmed_start text ≡ byte ∷ rest → is_space byte ≡ false
 start_begins [] byte rest h = cc
 start_begins (b ∷ text) byte rest h = begins_if b text (is_space b) refl (start_begins text) byte rest h
@@ -39,7 +40,7 @@ spaces-reverse (byte ∷ text) h =
     All-same IsSpace (reverse (byte ∷ text)) (reverse text ++ byte ∷ []) (reverse-append (byte ∷ []) text)
     (All-push IsSpace (reverse text) byte (spaces-reverse text tail) (All-head IsSpace byte text h))
 
--- and so at the end
+-- the same at the end
 end_whole : (text : List ℕ) → text ≡ trimmed_end text ++ reverse (start_splits (reverse text)).0
 end_whole text =
     let s = start_splits (reverse text) in

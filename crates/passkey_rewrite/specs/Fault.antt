@@ -35,17 +35,17 @@ line_of OutOfMemory = Some (codes "OutOfMemory")
 line_of InputFailed = Some (codes "input failed")
 line_of OutputFailed = Some (codes "output failed")
 
--- the fault for an error of the library: running out of memory isn't a rejection
+-- the fault for an error of the library; running out of memory isn't a rejection
 abbrev pub fault_of : CoseError → RunFault
 fault_of error.OutOfMemory = OutOfMemory
 fault_of refusal = Refused refusal
 
--- the same for a message
+-- the same for the fault of a message
 abbrev pub message_fault_of : Fault → RunFault
 message_fault_of message.OutOfMemory = OutOfMemory
 message_fault_of refusal = MessageRefused refusal
 
--- the same for a JSON value
+-- the same for the fault of a JSON value
 abbrev pub json_fault_of : JsonFault → RunFault
 json_fault_of json.OutOfMemory = OutOfMemory
 json_fault_of refusal = JsonRefused refusal

@@ -1,8 +1,8 @@
--- What a kind rewrites an input as, and why it doesn't.
+-- The output of decoding an input as a kind and encoding the result, and why there is none.
 use Rattle.std.specs.Prelude.{◌≡◌, ℕ, List, Result, Ok, Err, IsErr, ⊤}
 use Rattle.hex.specs.Hex.{decode_of, encode_lower}
 use Rattle.passkey_cbor.specs.Item.{Item}
-use Rattle.passkey_cbor.specs.Front.{IsFront, HasNoFront}
+use Rattle.passkey_cbor.specs.LeadingItem.{IsLeadingItem, HasNoLeadingItem}
 use Rattle.passkey_cbor.specs.Written.{written}
 use Rattle.passkey_cose.specs.declared.error.CoseError.{CoseError}
 use Rattle.passkey_cose.specs.declared.error.CoseError.TheVariants as error
@@ -30,59 +30,60 @@ use Rattle.passkey_rewrite.specs.declared.kind.Kind.TheVariants.{Bytes, Json, Ch
 use Rattle.passkey_rewrite.specs.declared.fault.RunFault.{RunFault}
 use Rattle.passkey_rewrite.specs.declared.fault.RunFault.TheVariants.{Refused, MessageRefused, BadHex, OutOfMemory}
 
--- The encoding of the data item that the bytes begin with.
-pub record RewritesFront (bytes spelling : List ℕ) : Type 0 where
+-- The encoding of the leading data item of the bytes.
+pub record RewritesLeadingItem (bytes encoding : List ℕ) : Type 0 where
   pub front : Item
   pub len : ℕ
-  pub begins : IsFront bytes front len
-  pub rewritten : spelling ≡ written front
+  pub begins : IsLeadingItem bytes front len
+  pub rewritten : encoding ≡ written front
 
 -- The encoding of the authenticator data that the bytes decode to.
-pub record RewritesData (bytes spelling : List ℕ) : Type 0 where
+pub record RewritesData (bytes encoding : List ℕ) : Type 0 where
   pub parts : DataParts
   pub reads : ReadsData bytes (Ok parts)
-  pub rewritten : spelling ≡ data_written parts
+  pub rewritten : encoding ≡ data_written parts
 
--- The encoding of the message that the bytes begin with.
-pub record RewritesMessage {P : Type 0} (read : Item → Result P Fault) (tree : P → Item) (bytes spelling : List ℕ) : Type 0 where
+-- The encoding of the message at the beginning of the bytes.
+pub record RewritesMessage {P : Type 0} (read : Item → Result P Fault) (tree : P → Item) (bytes encoding : List ℕ) :
+    Type 0 where
   pub parts : P
   pub begins : Begins bytes (λ i len. read i ≡ Ok parts)
-  pub rewritten : spelling ≡ written (tree parts)
+  pub rewritten : encoding ≡ written (tree parts)
 
--- what a kind rewrites the decoded bytes as
+-- what decoding these bytes as a kind and encoding the result returns
 unfoldable pub Rewrites : BytesKind → List ℕ → List ℕ → Type 0
-Rewrites Cbor bytes spelling = RewritesFront bytes spelling
-Rewrites Auth bytes spelling = RewritesData bytes spelling
-Rewrites MakeRequest bytes spelling = RewritesMessage read_make_request make_request_tree bytes spelling
-Rewrites MakeResponse bytes spelling = RewritesMessage read_make_response make_response_tree bytes spelling
-Rewrites GetRequest bytes spelling = RewritesMessage read_get_request get_request_tree bytes spelling
-Rewrites GetResponse bytes spelling = RewritesMessage read_get_response get_response_tree bytes spelling
-Rewrites Info bytes spelling = RewritesMessage read_get_info get_info_tree bytes spelling
-Rewrites HmacInput bytes spelling = RewritesMessage read_hmac_input hmac_input_tree bytes spelling
+Rewrites Cbor bytes encoding = RewritesLeadingItem bytes encoding
+Rewrites Auth bytes encoding = RewritesData bytes encoding
+Rewrites MakeRequest bytes encoding = RewritesMessage read_make_request make_request_tree bytes encoding
+Rewrites MakeResponse bytes encoding = RewritesMessage read_make_response make_response_tree bytes encoding
+Rewrites GetRequest bytes encoding = RewritesMessage read_get_request get_request_tree bytes encoding
+Rewrites GetResponse bytes encoding = RewritesMessage read_get_response get_response_tree bytes encoding
+Rewrites Info bytes encoding = RewritesMessage read_get_info get_info_tree bytes encoding
+Rewrites HmacInput bytes encoding = RewritesMessage read_hmac_input hmac_input_tree bytes encoding
 
--- the bytes don't begin with a data item
-abbrev pub RefusesFront : List ℕ → CoseError → Type 0
-RefusesFront bytes error.DecodeFailed = HasNoFront bytes
-RefusesFront bytes _ = ⊥
+-- the bytes have no leading data item
+abbrev pub RefusesLeadingItem : List ℕ → CoseError → Type 0
+RefusesLeadingItem bytes error.DecodeFailed = HasNoLeadingItem bytes
+RefusesLeadingItem bytes _ = ⊥
 
 -- the bytes have this fault as authenticator data
 abbrev pub RefusesData : List ℕ → CoseError → Type 0
 RefusesData bytes error.OutOfMemory = ⊥
 RefusesData bytes refusal = ReadsData bytes (Err refusal)
 
--- why a kind rejects the decoded bytes
+-- why a kind rejects the bytes
 unfoldable pub Refuses : BytesKind → List ℕ → CoseError → Type 0
-Refuses Cbor bytes refusal = RefusesFront bytes refusal
+Refuses Cbor bytes refusal = RefusesLeadingItem bytes refusal
 Refuses Auth bytes refusal = RefusesData bytes refusal
 Refuses _ bytes refusal = ⊥
 
--- the bytes don't begin with a data item, or the item has this fault as a message
+-- the bytes have no leading data item, or it has this fault as a message
 abbrev pub RefusesMessage : {P : Type 0} → (Item → Result P Fault) → List ℕ → Fault → Type 0
-RefusesMessage read bytes message.DecodeFailed = HasNoFront bytes
+RefusesMessage read bytes message.DecodeFailed = HasNoLeadingItem bytes
 RefusesMessage read bytes message.OutOfMemory = ⊥
 RefusesMessage read bytes fault = Begins bytes (λ i len. read i ≡ Err fault)
 
--- why a kind of message rejects the decoded bytes
+-- why a kind of message rejects the bytes
 unfoldable pub RefusesAs : BytesKind → List ℕ → Fault → Type 0
 RefusesAs MakeRequest bytes fault = RefusesMessage read_make_request bytes fault
 RefusesAs MakeResponse bytes fault = RefusesMessage read_make_response bytes fault
@@ -92,9 +93,9 @@ RefusesAs Info bytes fault = RefusesMessage read_get_info bytes fault
 RefusesAs HmacInput bytes fault = RefusesMessage read_hmac_input bytes fault
 RefusesAs _ bytes fault = ⊥
 
--- why the decoded bytes aren't rewritten as a data item; memory may run out for any
+-- why these bytes aren't decoded and encoded as a data item; memory may run out for any bytes
 abbrev pub IsCborRefusal : List ℕ → RunFault → Type 0
-IsCborRefusal bytes (Refused refusal) = RefusesFront bytes refusal
+IsCborRefusal bytes (Refused refusal) = RefusesLeadingItem bytes refusal
 IsCborRefusal bytes OutOfMemory = ⊤
 IsCborRefusal bytes _ = ⊥
 
@@ -110,29 +111,28 @@ IsMessageRefusal read bytes (MessageRefused fault) = RefusesMessage read bytes f
 IsMessageRefusal read bytes OutOfMemory = ⊤
 IsMessageRefusal read bytes _ = ⊥
 
--- why the decoded bytes aren't rewritten; memory may run out for any
+-- why these bytes aren't decoded and encoded as a kind; memory may run out for any bytes
 abbrev pub IsRefusal : BytesKind → List ℕ → RunFault → Type 0
 IsRefusal kind bytes (Refused refusal) = Refuses kind bytes refusal
 IsRefusal kind bytes (MessageRefused fault) = RefusesAs kind bytes fault
 IsRefusal kind bytes OutOfMemory = ⊤
 IsRefusal kind bytes _ = ⊥
 
--- What the kind rewrites the input's bytes as, in lower-case hexadecimal; the input is in
--- hexadecimal.
+-- The output for an input in hexadecimal: the kind's encoding, in lower-case hexadecimal.
 pub record RewritesHex (kind : BytesKind) (input text : List ℕ) : Type 0 where
   pub bytes : List ℕ
   pub decoded : decode_of (trimmed input) ≡ Ok bytes
-  pub spelling : List ℕ
-  pub rewritten : Rewrites kind bytes spelling
-  pub shown : text ≡ encode_lower spelling
+  pub encoding : List ℕ
+  pub rewritten : Rewrites kind bytes encoding
+  pub shown : text ≡ encode_lower encoding
 
--- The kind rejects the input's bytes.
+-- The input is in hexadecimal, and the kind rejects its bytes.
 pub record IsRefused (kind : BytesKind) (input : List ℕ) (fault : RunFault) : Type 0 where
   pub bytes : List ℕ
   pub decoded : decode_of (trimmed input) ≡ Ok bytes
   pub refused : IsRefusal kind bytes fault
 
--- why an input of bytes isn't rewritten; memory may run out for any
+-- why there is no output for an input of bytes; memory may run out for any input
 abbrev pub HasNoHex : BytesKind → List ℕ → RunFault → Type 0
 HasNoHex kind input (Refused refusal) = IsRefused kind input (Refused refusal)
 HasNoHex kind input (MessageRefused fault) = IsRefused kind input (MessageRefused fault)
@@ -140,13 +140,13 @@ HasNoHex kind input BadHex = IsErr (decode_of (trimmed input))
 HasNoHex kind input OutOfMemory = ⊤
 HasNoHex kind input _ = ⊥
 
--- what the kind makes of the input
+-- the output of a kind for an input
 abbrev pub Shown : Kind → List ℕ → List ℕ → Type 0
 Shown (Bytes kind) input text = RewritesHex kind input text
 Shown (Json kind) input text = RewritesJson (json_rewritten kind) input text
 Shown Check input text = IsChecked input text
 
--- why the kind makes nothing of it
+-- why a kind has no output for an input
 abbrev pub HasNoOutput : Kind → List ℕ → RunFault → Type 0
 HasNoOutput (Bytes kind) input fault = HasNoHex kind input fault
 HasNoOutput (Json kind) input fault = IsJsonRefusal (json_rewritten kind) input fault

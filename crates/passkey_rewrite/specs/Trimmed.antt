@@ -1,4 +1,4 @@
--- Text without the white space at its ends.
+-- Texts without the white space at their ends.
 use Rattle.std.specs.Prelude.{◌≡◌, ℕ, List, [], ◌∷◌, ◌++◌, reverse, Bool, false, ◌==◌, ◌||◌, if◌then◌else◌}
 use Rattle.std.specs.List.{AllPass}
 
@@ -6,21 +6,21 @@ use Rattle.std.specs.List.{AllPass}
 abbrev pub is_space : ℕ → Bool
 is_space byte = byte == 9 || byte == 10 || byte == 13 || byte == 32
 
--- without the white space at its start
+-- the text without the white space at its beginning
 abbrev pub trimmed_start : List ℕ → List ℕ
 trimmed_start [] = []
 trimmed_start (byte ∷ rest) = if is_space byte then trimmed_start rest else byte ∷ rest
 
--- without the white space at its end
+-- the text without the white space at its end
 abbrev pub trimmed_end : List ℕ → List ℕ
 trimmed_end text = reverse (trimmed_start (reverse text))
 
--- without the white space at both ends
+-- the text without the white space at both ends
 abbrev pub trimmed : List ℕ → List ℕ
 trimmed text = trimmed_end (trimmed_start text)
 
--- A text is its core with white space before and after it. The core itself neither begins nor ends
--- with white space.
+-- The text is the core, with only white space before and after it. The core itself neither begins
+-- nor ends with white space.
 pub record IsCore (text core : List ℕ) : Type 0 where
   pub before : List ℕ
   pub after : List ℕ

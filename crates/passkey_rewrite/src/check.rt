@@ -19,8 +19,8 @@ fn judgement(bytes: &[u8]) -> &'static str
 
 /// Returns `canonical` if the input's bytes are one data item in CTAP2's canonical form and nothing
 /// else, and `not canonical` otherwise. The input is hexadecimal in either case, with tabs, line
-/// feeds, carriage returns and spaces at its ends. `BadHex` if it isn't; `OutOfMemory` if an
-/// allocation fails.
+/// feeds, carriage returns and spaces allowed at its ends. Returns `BadHex` if it isn't, and
+/// `OutOfMemory` if an allocation fails.
 pub fn check_hex(alloc: Global, input: &[u8]) -> Result<String, RunFault>
     ensures ok { IfOk result (λ text. IsChecked input.now (string_bytes text)) }
     ensures err { IfErr result (HasNoBytes input.now) }

@@ -15,20 +15,21 @@ use std::fmt;
 /// Why a run failed. Each fault has an exit status and a line on standard error.
 #[derive(Clone, Copy, Debug, PartialEq, Eq)]
 pub enum RunFault {
-    /// The bytes are no data item, or no authenticator data. The line is the error's name; status
-    /// 1.
+    /// The bytes aren't a data item, or aren't authenticator data. The line is the error's name;
+    /// status 1.
     Refused(CoseError),
-    /// The bytes are no message of the kind. The line is the fault's name with the member's number,
-    /// if it has one, such as `Repeated(1)`; status 1.
+    /// The bytes aren't a message of the kind. The line is the fault's name with the member's
+    /// number, if it has one, such as `Repeated(1)`; status 1.
     MessageRefused(Fault),
-    /// The kind rejects the JSON value. The line is the fault's name with the member's, if it has
-    /// one, such as `Missing("challenge")`; status 1.
+    /// The kind rejects the JSON value. The line is the fault's name with the member's name, if it
+    /// has one, such as `Missing("challenge")`; status 1.
     JsonRefused(JsonFault),
     /// The input isn't hexadecimal. The line is `BadHex`; status 1.
     BadHex,
     /// The input isn't a JSON text. The line is `BadJson`; status 1.
     BadJson,
-    /// There isn't exactly one argument, or it names no kind. The line is `unknown kind`; status 2.
+    /// There isn't exactly one argument, or it isn't the name of a kind. The line is `unknown
+    /// kind`; status 2.
     UnknownKind,
     /// An allocation failed. The line is `OutOfMemory`; status 3.
     OutOfMemory,

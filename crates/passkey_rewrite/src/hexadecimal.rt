@@ -9,12 +9,13 @@ use crate::trim::trim;
 use hex::FromHexError;
 use std::alloc::Global;
 
-/// Returns the bytes that the input spells in hexadecimal of either case, with tabs, line feeds,
-/// carriage returns and spaces at its ends. `BadHex` if the input isn't hexadecimal; `OutOfMemory`
-/// if an allocation fails.
+/// Returns the bytes that the input encodes in hexadecimal of either case, with tabs, line feeds,
+/// carriage returns and spaces allowed at its ends. Returns `BadHex` if the input isn't
+/// hexadecimal, and `OutOfMemory` if an allocation fails.
 pub fn decode_hex(alloc: Global, input: &[u8]) -> Result<Vec<u8>, RunFault>
     ensures ok { IfOk result (λ bytes. decode_of (trimmed input.now) ≡ Ok bytes.items) }
-    ensures err { IfErr result (λ fault. (fault ≡ OutOfMemory) ⊎ ((fault ≡ BadHex) × IsErr (decode_of (trimmed input.now)))) }
+    ensures err { IfErr result
+        (λ fault. (fault ≡ OutOfMemory) ⊎ ((fault ≡ BadHex) × IsErr (decode_of (trimmed input.now)))) }
 {
     match hex::decode(alloc, trim(input)) {
         Ok(bytes) => Ok(bytes),

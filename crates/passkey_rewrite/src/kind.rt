@@ -2,7 +2,7 @@
 ghost use Rattle.std.specs.Prelude.{◌≡◌};
 ghost use Rattle.passkey_rewrite.specs.Kind.{kind_named};
 
-/// What bytes, given in hexadecimal, are decoded as.
+/// The type that bytes, given in hexadecimal, are decoded as.
 #[derive(Clone, Copy, Debug, PartialEq, Eq)]
 pub enum BytesKind {
     /// A CBOR data item.
@@ -23,7 +23,7 @@ pub enum BytesKind {
     HmacInput,
 }
 
-/// What a JSON text is decoded as.
+/// The type that a JSON text is decoded as.
 #[derive(Clone, Copy, Debug, PartialEq, Eq)]
 pub enum JsonKind {
     /// The options of a registration.
@@ -38,7 +38,7 @@ pub enum JsonKind {
     ClientData,
 }
 
-/// What the input is, and what is made of it.
+/// What the input is, and what is done with it.
 #[derive(Clone, Copy, Debug, PartialEq, Eq)]
 pub enum Kind {
     /// Bytes, in hexadecimal, that are decoded and encoded again.
@@ -50,7 +50,7 @@ pub enum Kind {
 }
 
 impl Kind {
-    /// Returns the kind that a word names, or `None` if it names none.
+    /// Returns the kind with this name, or `None` if no kind has it.
     pub fn from_name(name: &str) -> Option<Kind>
         ensures { result ≡ kind_named name.now }
     {

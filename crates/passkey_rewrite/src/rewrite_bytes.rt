@@ -1,7 +1,7 @@
 //! Bytes in hexadecimal, decoded as a kind and encoded again.
 ghost use Rattle.std.specs.Prelude.{IfOk, IfErr, string_bytes};
 ghost use Rattle.passkey_kinds.specs.Record.{read_item};
-ghost use Rattle.passkey_rewrite.specs.Rewriting.{HasNoHex, IsCborRefusal, IsDataRefusal, IsMessageRefusal, IsRefusal, Rewrites, RewritesData, RewritesFront, RewritesHex, RewritesMessage};
+ghost use Rattle.passkey_rewrite.specs.Rewriting.{HasNoHex, IsCborRefusal, IsDataRefusal, IsMessageRefusal, IsRefusal, Rewrites, RewritesData, RewritesLeadingItem, RewritesHex, RewritesMessage};
 
 use crate::fault::RunFault;
 use crate::hexadecimal::decode_hex;
@@ -13,20 +13,20 @@ use passkey_kinds::{Message, WriteFault};
 use std::alloc::Global;
 
 fn rewrite_message<M: Message>(alloc: Global, bytes: &[u8]) -> Result<Vec<u8>, RunFault>
-    ensures ok { IfOk result (λ spelling. RewritesMessage (read_item M.fields) M.tree bytes.now spelling.items) }
+    ensures ok { IfOk result (λ encoding. RewritesMessage (read_item M.fields) M.tree bytes.now encoding.items) }
     ensures err { IfErr result (IsMessageRefusal (read_item M.fields) bytes.now) }
 {
     let (message, _len) = M::from_slice(alloc, bytes)?;
     M::decoded_is_coherent();
     match message.to_vec(alloc) {
-        Ok(spelling) => Ok(spelling),
+        Ok(encoding) => Ok(encoding),
         Err(WriteFault::OutOfMemory) => Err(RunFault::OutOfMemory),
         Err(WriteFault::NumberTooLarge) => unreachable!(),
     }
 }
 
 fn rewrite_item(alloc: Global, bytes: &[u8]) -> Result<Vec<u8>, RunFault>
-    ensures ok { IfOk result (λ spelling. RewritesFront bytes.now spelling.items) }
+    ensures ok { IfOk result (λ encoding. RewritesLeadingItem bytes.now encoding.items) }
     ensures err { IfErr result (IsCborRefusal bytes.now) }
 {
     let (front, _) = Value::from_slice(alloc, bytes)?;
@@ -34,7 +34,7 @@ fn rewrite_item(alloc: Global, bytes: &[u8]) -> Result<Vec<u8>, RunFault>
 }
 
 fn rewrite_data(alloc: Global, bytes: &[u8]) -> Result<Vec<u8>, RunFault>
-    ensures ok { IfOk result (λ spelling. RewritesData bytes.now spelling.items) }
+    ensures ok { IfOk result (λ encoding. RewritesData bytes.now encoding.items) }
     ensures err { IfErr result (IsDataRefusal bytes.now) }
 {
     let data = AuthenticatorData::from_slice(alloc, bytes)?;
@@ -42,7 +42,7 @@ fn rewrite_data(alloc: Global, bytes: &[u8]) -> Result<Vec<u8>, RunFault>
 }
 
 fn rewrite(alloc: Global, kind: BytesKind, bytes: &[u8]) -> Result<Vec<u8>, RunFault>
-    ensures ok { IfOk result (λ spelling. Rewrites kind bytes.now spelling.items) }
+    ensures ok { IfOk result (λ encoding. Rewrites kind bytes.now encoding.items) }
     ensures err { IfErr result (IsRefusal kind bytes.now) }
 {
     match kind {
@@ -60,14 +60,14 @@ fn rewrite(alloc: Global, kind: BytesKind, bytes: &[u8]) -> Result<Vec<u8>, RunF
 }
 
 /// Decodes the bytes as the kind and encodes the result, in lower-case hexadecimal. The input is
-/// hexadecimal in either case, with tabs, line feeds, carriage returns and spaces at its ends.
-/// `BadHex` if the input isn't hexadecimal; if the kind rejects the bytes, `MessageRefused` for a
-/// message and otherwise `Refused`; `OutOfMemory` if an allocation fails.
+/// hexadecimal in either case, with tabs, line feeds, carriage returns and spaces allowed at its
+/// ends. Returns `BadHex` if the input isn't hexadecimal. If the kind rejects the bytes, returns
+/// `MessageRefused` for a message and else `Refused`. Returns `OutOfMemory` if an allocation fails.
 pub fn rewrite_hex(alloc: Global, kind: BytesKind, input: &[u8]) -> Result<String, RunFault>
     ensures ok { IfOk result (λ text. RewritesHex kind input.now (string_bytes text)) }
     ensures err { IfErr result (HasNoHex kind input.now) }
 {
     let bytes = decode_hex(alloc, input)?;
-    let spelling = rewrite(alloc, kind, bytes.as_slice())?;
-    Ok(hex::encode(alloc, spelling.as_slice())?)
+    let encoding = rewrite(alloc, kind, bytes.as_slice())?;
+    Ok(hex::encode(alloc, encoding.as_slice())?)
 }

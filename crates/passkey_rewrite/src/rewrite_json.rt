@@ -27,7 +27,8 @@ fn parse(alloc: Global, input: &[u8]) -> Result<Value, RunFault>
 }
 
 fn rewrite_record<R: JsonRecord + ToJson>(alloc: Global, input: &[u8]) -> Result<String, RunFault>
-    ensures ok { IfOk result (λ text. RewritesJson (record_rewritten R.members R.json) input.now (string_bytes text)) }
+    ensures ok { IfOk result
+        (λ text. RewritesJson (record_rewritten R.members R.json) input.now (string_bytes text)) }
     ensures err { IfErr result (IsJsonRefusal (record_rewritten R.members R.json) input.now) }
 {
     let value = parse(alloc, input)?;
@@ -47,8 +48,8 @@ fn rewrite_client_data(alloc: Global, input: &[u8]) -> Result<String, RunFault>
 }
 
 /// Decodes the JSON text as the kind and encodes the result, as compact JSON with bytes in
-/// base64url. `BadJson` if the input isn't a JSON text in UTF-8 of at most 127 levels;
-/// `JsonRefused` if the kind rejects its value; `OutOfMemory` if an allocation fails.
+/// base64url. Returns `BadJson` if the input isn't a JSON text in UTF-8 of at most 127 nesting
+/// levels, `JsonRefused` if the kind rejects its value, and `OutOfMemory` if an allocation fails.
 #[tactic(auto, unfolding(crate::specs::RewritesJson::json_rewritten))]
 pub fn rewrite_json(alloc: Global, kind: JsonKind, input: &[u8]) -> Result<String, RunFault>
     ensures ok { IfOk result (λ text. RewritesJson (json_rewritten kind) input.now (string_bytes text)) }

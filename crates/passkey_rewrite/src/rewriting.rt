@@ -10,12 +10,12 @@ use crate::rewrite_json::rewrite_json;
 use std::alloc::Global;
 
 /// Decodes the input as this kind and encodes the result: bytes as lower-case hexadecimal, JSON as
-/// compact JSON with bytes in base64url. `Kind::Check` returns `canonical` if the input's bytes are
-/// one data item in CTAP2's canonical form and nothing else, and `not canonical` otherwise. An input
-/// of bytes is hexadecimal in either case, with tabs, line feeds, carriage returns and spaces at its
-/// ends. `BadHex` if it isn't hexadecimal; `BadJson` if a JSON input isn't a JSON text in UTF-8 of
-/// at most 127 levels; `Refused`, `MessageRefused` or `JsonRefused` if the kind rejects it;
-/// `OutOfMemory` if an allocation fails.
+/// compact JSON with bytes in base64url. For `Kind::Check`, returns `canonical` if the input's
+/// bytes are one data item in CTAP2's canonical form and nothing else, and `not canonical`
+/// otherwise. An input of bytes is hexadecimal in either case, with tabs, line feeds, carriage
+/// returns and spaces allowed at its ends. Returns `BadHex` if it isn't hexadecimal; `BadJson` if a
+/// JSON input isn't a JSON text in UTF-8 of at most 127 nesting levels; `Refused`, `MessageRefused`
+/// or `JsonRefused` if the kind rejects it; and `OutOfMemory` if an allocation fails.
 pub fn rewrite(alloc: Global, kind: Kind, input: &[u8]) -> Result<String, RunFault>
     ensures ok { IfOk result (λ text. Shown kind input.now (string_bytes text)) }
     ensures err { IfErr result (HasNoOutput kind input.now) }

@@ -1,5 +1,6 @@
-//! Rows of kinds that `passkey_show` doesn't have: calls that may run out of memory, and that no message's decoding and
-//! encoding makes. A call that runs out of memory is made again, on the value that was lent to it or came back.
+//! Rows of kinds that `passkey_show` doesn't have, for calls that may run out of memory and that
+//! decoding and encoding a message doesn't make. A call that runs out of memory is made again, with
+//! the value that it borrowed or gave back.
 use crate::again_bytes::hex_again;
 use crate::again_json::json_again;
 use crate::building::build;
@@ -19,12 +20,13 @@ fn kind_again(
     match kind {
         Kind::Bytes(kind) => hex_again(alloc, tries, kind, input),
         Kind::Json(kind) => json_again(alloc, tries, kind, input),
-        // A check makes nothing of which there could be a copy.
+        // A check makes nothing that could be copied.
         Kind::Check => Err(RunFault::UnknownKind),
     }
 }
 
-/// The output of a row of such a kind; `UnknownKind` if it is none.
+/// Returns the output of a row of such a kind. Returns `UnknownKind` if it isn't a row of such a
+/// kind.
 pub fn answer(
     alloc: Global,
     tries: &mut Tries,

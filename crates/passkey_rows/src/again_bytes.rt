@@ -1,4 +1,4 @@
-//! Data items, authenticator data and messages that are decoded, and encoded with copies of their parts.
+//! Data items, authenticator data and messages: decoded, and encoded with copies of their parts.
 use crate::hexadecimal::{decode, encode};
 use crate::tries::Tries;
 use passkey_rewrite::{BytesKind, RunFault};
@@ -13,9 +13,9 @@ use passkey_types::ctap2::{
 };
 use std::alloc::Global;
 
-/// A message some of whose parts can be copied.
+/// A message with parts that can be copied.
 trait Copied: Message {
-    /// Puts a copy in the place of each part that can be copied.
+    /// Replaces each part that can be copied by a copy.
     fn replace_parts(&mut self, alloc: Global, tries: &mut Tries) -> Result<(), OutOfMemory>;
 }
 
@@ -68,7 +68,7 @@ impl Copied for make_credential::Request {
     }
 }
 
-/// The attested credential data, and the key in its copy.
+/// Replaces the attested credential data by a copy, and the key in the copy.
 fn replace_attested(
     alloc: Global,
     tries: &mut Tries,
@@ -84,7 +84,8 @@ fn replace_attested(
     }
 }
 
-/// Puts the key that its item decodes to in the key's place. The item is made again if there is no memory for it.
+/// Replaces the key by the one that its data item decodes to. The item is made again if memory ran
+/// out.
 fn replace_key_by_item(
     alloc: Global,
     tries: &mut Tries,
@@ -105,8 +106,8 @@ fn replace_key_by_item(
     Ok(())
 }
 
-/// Compares the first result with that of the outputs as WebAuthn has them, which are made again if there is no memory
-/// for them.
+/// Compares the first result with that of the outputs in WebAuthn's type, which are made again if
+/// memory ran out.
 fn compare_values(
     alloc: Global,
     tries: &mut Tries,
@@ -203,7 +204,8 @@ impl Copied for get_info::Response {
     }
 }
 
-/// The encoding. No decoded message has a number that is too large; it would be seen as no bytes.
+/// Returns the encoding. In a decoded message no number is too large; one would be shown as no
+/// bytes.
 fn encoding<M: Message>(alloc: Global, message: &M) -> Result<Vec<u8>, OutOfMemory> {
     match message.to_vec(alloc) {
         Ok(bytes) => Ok(bytes),
@@ -240,7 +242,7 @@ fn item_again(alloc: Global, tries: &mut Tries, bytes: &[u8]) -> Result<Vec<u8>,
     }
 }
 
-/// The encoding of authenticator data, which is tried again.
+/// Returns the encoding of authenticator data, and tries again if memory ran out.
 pub fn data_again(
     alloc: Global,
     tries: &mut Tries,
@@ -282,7 +284,7 @@ fn bytes_again(
     }
 }
 
-/// Decodes the bytes as the kind, puts copies in the place of parts, and encodes the result.
+/// Decodes the bytes as the kind, replaces parts by copies, and encodes the result.
 pub fn hex_again(
     alloc: Global,
     tries: &mut Tries,

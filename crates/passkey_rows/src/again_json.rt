@@ -1,4 +1,4 @@
-//! Records over JSON that are decoded, and encoded with copies of their parts, in both forms of bytes.
+//! JSON records: decoded, and encoded with copies of their parts, in both forms of bytes.
 use crate::tries::Tries;
 use passkey_rewrite::{JsonKind, RunFault};
 use passkey_types::OutOfMemory;
@@ -12,9 +12,9 @@ use passkey_types::webauthn::{
 use serde_json::error::Category;
 use std::alloc::Global;
 
-/// A record some of whose parts can be copied.
+/// A record with parts that can be copied.
 trait CopiedRecord {
-    /// Puts a copy in the place of each part that can be copied.
+    /// Replaces each part that can be copied by a copy.
     fn replace_parts(&mut self, alloc: Global, tries: &mut Tries) -> Result<(), OutOfMemory>;
 }
 
@@ -99,7 +99,7 @@ fn encoding<R: ToJson>(alloc: Global, record: &R, form: BytesForm) -> Result<Str
     Ok(json.to_string(alloc)?)
 }
 
-/// The encoding, which is tried again.
+/// Returns the encoding, and tries again if memory ran out.
 fn encoding_again<R: ToJson>(
     alloc: Global,
     tries: &mut Tries,
@@ -115,7 +115,7 @@ fn encoding_again<R: ToJson>(
     }
 }
 
-/// The record's text with bytes as numbers, which is decoded to the same record.
+/// Returns the record's text with bytes as numbers, which decodes to the same record.
 fn in_numbers<R: JsonRecord + ToJson + CopiedRecord>(
     alloc: Global,
     tries: &mut Tries,
@@ -154,8 +154,9 @@ fn client_data_again(alloc: Global, tries: &mut Tries, text: &str) -> Result<Str
     }
 }
 
-/// Decodes the text as the kind, puts copies in the place of parts, and encodes the result with bytes as numbers;
-/// that text is decoded again, and encoded with bytes in base64url. Client data have no bytes.
+/// Decodes the text as the kind, replaces parts by copies, and encodes the result with bytes as
+/// numbers; decodes that text again, and encodes it with bytes in base64url. Client data contains
+/// no bytes.
 pub fn json_again(
     alloc: Global,
     tries: &mut Tries,

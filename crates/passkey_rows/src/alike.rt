@@ -1,4 +1,4 @@
-//! Messages that are decoded from bytes, and from the data item that begins the bytes.
+//! Messages decoded from bytes, and from the leading data item of the same bytes.
 use anyhow::Result;
 use passkey_rewrite::BytesKind;
 use passkey_types::cbor::{CborError, Value, item_len};
@@ -6,8 +6,8 @@ use passkey_types::ctap2::extensions::HmacGetSecretInput;
 use passkey_types::ctap2::{Fault, Message, get_assertion, get_info, make_credential};
 use std::alloc::Global;
 
-// Bytes that decide much as a head: a number, what isn't well formed, an indefinite text string, array
-// and map, and the break.
+// Initial bytes that change much: an unsigned integer, one that isn't well-formed, those of a text
+// string, an array and a map of indefinite length, and the break.
 const HEADS: [u8; 6] = [0x00, 0x1c, 0x7f, 0x9f, 0xbf, 0xff];
 
 fn from_item<M: Message>(alloc: Global, bytes: &[u8]) -> Result<(M, usize), Fault> {
@@ -74,9 +74,10 @@ fn is_decoded_alike<M: Message>(alloc: Global, bytes: &[u8]) -> Result<bool> {
     Ok(true)
 }
 
-/// Whether a message's bytes are decoded to the same message of the same length, or with the same
-/// fault, over a cursor and by way of a data item in memory. Its item is also cut off at each byte,
-/// which must be `DecodeFailed`, and has each byte replaced by some others. True for what is no message.
+/// Returns whether a message's bytes decode to the same message of the same length, or with the
+/// same fault, over a cursor and from a data item in memory. The item is also cut off at each byte,
+/// which must be `DecodeFailed`, and each of its bytes is replaced by some others. Returns true if
+/// the bytes aren't a message.
 pub fn are_decoded_alike(alloc: Global, kind: BytesKind, input: &str) -> Result<bool> {
     let Ok(bytes) = hex::decode(alloc, input.trim().as_bytes()) else {
         return Ok(true);

@@ -1,4 +1,4 @@
-//! Passkeys that are built.
+//! Passkeys from the builder.
 use crate::hexadecimal::encode;
 use crate::tries::Tries;
 use passkey_rewrite::RunFault;
@@ -9,7 +9,7 @@ use rand_chacha::ChaCha20Rng;
 use rand_core::SeedableRng;
 use std::alloc::Global;
 
-/// A builder with a generator whose seed is 32 zero bytes.
+/// Returns a builder with a generator whose seed is 32 zero bytes.
 fn builder(alloc: Global, rp_id: &str) -> Result<PasskeyBuilder<ChaCha20Rng>, OutOfMemory> {
     let rp_id = Text::from_str(alloc, rp_id)?;
     let key = CoseKey::new(Registered::Assigned(KeyType::EC2));
@@ -59,7 +59,7 @@ fn secrets(alloc: Global) -> Result<StoredHmacSecret, OutOfMemory> {
     })
 }
 
-/// The same passkey with a name and secrets.
+/// Returns the same passkey with a name and secrets.
 fn named(alloc: Global, mut passkey: Passkey) -> Result<Passkey, OutOfMemory> {
     passkey.username = Some(Text::from_str(alloc, "user")?);
     passkey.extensions.hmac_secret = Some(secrets(alloc)?);
@@ -89,8 +89,8 @@ fn printed(
     Ok(text)
 }
 
-/// `RPID`: the relying party's id, the credential's id and the user handle of a copy of a passkey whose id was drawn
-/// with 16 bytes, then with 4, and whose user handle was drawn with 8.
+/// `RPID`: the relying party id, the credential id and the user handle of a copy of a passkey whose
+/// credential id was drawn with 16 bytes, then with 4, and whose user handle was drawn with 8.
 pub fn build(alloc: Global, tries: &mut Tries, input: &str) -> Result<String, RunFault> {
     let mut passkey = built(alloc, tries, input)?;
     tries.replace_equal(alloc, &mut passkey)?;

@@ -1,4 +1,5 @@
-//! Keys, maps, passkeys, texts in base64 and documents that are made, with calls that are made again.
+//! Keys, maps, passkeys, texts in base64 and documents, made with calls that are made again if
+//! memory runs out.
 use crate::hexadecimal::{decode, encode};
 use crate::tries::Tries;
 use passkey_rewrite::RunFault;
@@ -19,7 +20,7 @@ fn key_of(alloc: Global, text: &str) -> Result<CoseKey, RunFault> {
     Ok(CoseKey::from_value(alloc, &item)?)
 }
 
-/// Adds the parameter; the key comes back with the error.
+/// Adds the parameter; an error gives the key back.
 fn with_text_param(
     alloc: Global,
     tries: &mut Tries,
@@ -52,7 +53,7 @@ fn with_param(
     }
 }
 
-/// The encoding of a key, which is tried again.
+/// Returns the encoding of a key, and tries again if memory ran out.
 fn encoded(alloc: Global, tries: &mut Tries, key: &CoseKey) -> Result<String, RunFault> {
     let bytes = match key.to_vec(alloc) {
         Ok(bytes) => bytes,
@@ -64,7 +65,7 @@ fn encoded(alloc: Global, tries: &mut Tries, key: &CoseKey) -> Result<String, Ru
     encode(alloc, &bytes)
 }
 
-/// `KEY LABEL VALUE`: the key with a parameter under a text.
+/// `KEY LABEL VALUE`: the key with a parameter under a text label.
 pub fn add_parameter(alloc: Global, tries: &mut Tries, input: &str) -> Result<String, RunFault> {
     let (key, words) = input.split_once(' ').unwrap_or((input, ""));
     let (label, value) = words.split_once(' ').unwrap_or((words, ""));
@@ -80,13 +81,13 @@ fn point_of(alloc: Global, input: &str) -> Result<CoseKey, RunFault> {
     Ok(CoseKey::new_ec2_pub_key(alloc, 1, x, y)?)
 }
 
-/// `X Y`: the key of this point on the curve P-256.
+/// `X Y`: the key with this point on the curve P-256.
 pub fn point(alloc: Global, tries: &mut Tries, input: &str) -> Result<String, RunFault> {
     let key = point_of(alloc, input)?;
     encoded(alloc, tries, &key)
 }
 
-/// Inserts the entry; the key and the value come back with the error.
+/// Inserts the entry; an error gives the key and the value back.
 fn insert_entry(
     tries: &mut Tries,
     map: &mut Map<Bytes, Text>,
@@ -166,7 +167,7 @@ fn compare_decoded(
     Ok(())
 }
 
-/// `BYTES`: in base64url, and in base64; both are decoded again.
+/// `BYTES`: the bytes in base64url and in base64; both texts are decoded again.
 pub fn in_base64(alloc: Global, tries: &mut Tries, input: &str) -> Result<String, RunFault> {
     let bytes = decode(alloc, input)?;
     let mut text = base64url(alloc, &bytes)?;

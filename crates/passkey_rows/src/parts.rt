@@ -1,4 +1,4 @@
-//! What can be copied: each type's own call, which no message's encoding makes.
+//! Parts that can be copied, each with its type's own call, which encoding a message doesn't make.
 use crate::tries::Part;
 use passkey_types::cbor::Value;
 use passkey_types::cose::CoseKey;
@@ -114,7 +114,7 @@ impl Part for Bytes {
     }
 }
 
-/// Texts are copied by the call of the trait `Clone`.
+/// Texts are copied by the trait `Clone`.
 impl Part for Text {
     fn copy(&self, alloc: Global) -> Result<Text, OutOfMemory> {
         let _ = alloc;

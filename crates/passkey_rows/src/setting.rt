@@ -1,4 +1,5 @@
-//! Calls that consume a value and give it back if memory runs out: they are made again with that value.
+//! Calls that consume a value and give it back if memory runs out: they are made again with that
+//! value.
 use crate::again_bytes::data_again;
 use crate::hexadecimal::{decode, encode};
 use crate::tries::Tries;
@@ -10,7 +11,7 @@ use passkey_types::ctap2::{
 use passkey_types::{Bytes, OutOfMemory};
 use std::alloc::Global;
 
-/// The first word, and what is behind the space after it.
+/// Returns the first word, and what follows the space after it.
 fn first_word(text: &str) -> (&str, &str) {
     text.split_once(' ').unwrap_or((text, ""))
 }
@@ -20,7 +21,7 @@ fn data_of(alloc: Global, text: &str) -> Result<AuthenticatorData, RunFault> {
     Ok(AuthenticatorData::from_slice(alloc, &bytes)?)
 }
 
-/// No bytes mean that the member is absent.
+/// Returns the bytes, or `None` for an absent member if there are none.
 fn some_bytes(alloc: Global, bytes: &[u8]) -> Result<Option<Bytes>, OutOfMemory> {
     if bytes.is_empty() {
         return Ok(None);
@@ -52,7 +53,8 @@ fn with_creation_outputs(
     }
 }
 
-/// `DATA SECRET SECRETS`: the data with `hmac-secret` (`true`, `false` or `-`) and `hmac-secret-mc`.
+/// `DATA SECRET SECRETS`: the data with `hmac-secret` (`true`, `false` or `-`) and
+/// `hmac-secret-mc`.
 pub fn set_creation_outputs(
     alloc: Global,
     tries: &mut Tries,
@@ -160,7 +162,7 @@ fn response_of(alloc: Global, text: &str) -> Result<make_credential::Response, R
     Ok(response)
 }
 
-/// `RESPONSE`: the attestation object of a response of authenticatorMakeCredential.
+/// `RESPONSE`: the attestation object of an authenticatorMakeCredential response.
 pub fn object(alloc: Global, tries: &mut Tries, input: &str) -> Result<String, RunFault> {
     let response = response_of(alloc, input)?;
     let bytes = match response.as_webauthn_bytes(alloc) {

@@ -2,14 +2,14 @@
 use passkey_types::OutOfMemory;
 use std::alloc::Global;
 
-/// What a row saw beside its output.
+/// What happened in a row, in addition to its output.
 #[derive(Drop)]
 pub struct Tries {
     is_refused: bool,
     is_different: bool,
 }
 
-/// What can be copied, by a call that may run out of memory.
+/// A part that can be copied, by a call that may run out of memory.
 pub trait Part: Drop {
     /// Returns an equal value.
     fn copy(&self, alloc: Global) -> Result<Self, OutOfMemory>;
@@ -23,29 +23,30 @@ impl Tries {
         }
     }
 
-    /// A call ran out of memory, and is made again.
+    /// Records that a call ran out of memory, and is made again.
     pub fn refuse(&mut self) {
         self.is_refused = true;
     }
 
-    /// Two values have to be equal.
+    /// Records whether two values that must be equal are equal.
     pub fn compare(&mut self, are_equal: bool) {
         if !are_equal {
             self.is_different = true;
         }
     }
 
-    /// The row's status if it has an output: 3 if a call ran out of memory, and then returned the output.
+    /// Returns the row's status if it has an output: 3 if a call ran out of memory and was made
+    /// again.
     pub fn status(&self) -> u8 {
         if self.is_refused { 3 } else { 0 }
     }
 
-    /// Whether two values that have to be equal weren't.
+    /// Returns whether two values that must be equal weren't.
     pub fn is_different(&self) -> bool {
         self.is_different
     }
 
-    /// A copy of the part. If there is no memory for it, the part is copied again.
+    /// Returns a copy of the part. If memory runs out, the part is copied again.
     pub fn copied<T: Part>(&mut self, alloc: Global, part: &T) -> Result<T, OutOfMemory> {
         match part.copy(alloc) {
             Ok(copy) => Ok(copy),
@@ -56,13 +57,13 @@ impl Tries {
         }
     }
 
-    /// Puts a copy of the part in its place.
+    /// Replaces the part by a copy.
     pub fn replace<T: Part>(&mut self, alloc: Global, part: &mut T) -> Result<(), OutOfMemory> {
         *part = self.copied(alloc, part)?;
         Ok(())
     }
 
-    /// The same, and compares both.
+    /// Does the same, and compares both.
     pub fn replace_equal<T: Part + PartialEq>(
         &mut self,
         alloc: Global,
@@ -74,7 +75,7 @@ impl Tries {
         Ok(())
     }
 
-    /// The same for a part that may be absent.
+    /// Does the same for a part that may be absent.
     pub fn replace_some<T: Part>(
         &mut self,
         alloc: Global,
@@ -86,7 +87,7 @@ impl Tries {
         }
     }
 
-    /// The same for each element.
+    /// Does the same for each element.
     pub fn replace_each<T: Part>(
         &mut self,
         alloc: Global,

@@ -6,13 +6,13 @@ use Rattle.passkey_rewrite.specs.declared.fault.RunFault.{RunFault}
 use Rattle.passkey_rewrite.specs.declared.fault.RunFault.TheVariants.{InputFailed, OutputFailed}
 use Rattle.passkey_rewrite.specs.Rewriting.{Shown, HasNoOutput}
 
--- The output: what the kind rewrites the input as, and a line feed.
+-- The output: what the kind makes of the input, and a line feed.
 pub record IsOutput (kind : Kind) (input output : List ℕ) : Type 0 where
   pub text : List ℕ
   pub shown : Shown kind input text
   pub line : output ≡ text ++ 10 ∷ []
 
--- A writer took the beginning of the output, but not all of it.
+-- The writer got the beginning of the output, but not all of it.
 pub record AppendsBeginning (old new : Option (List ℕ)) (output : List ℕ) : Type 0 where
   pub begun : List ℕ
   pub missing : List ℕ
@@ -20,15 +20,16 @@ pub record AppendsBeginning (old new : Option (List ℕ)) (output : List ℕ) : 
   pub unfinished : missing ≢ []
   pub taken : Appends old new begun
 
--- The output goes to a writer, all of it or a beginning.
+-- The writer got an output of the kind for the input: all of it or its beginning, as `IsTaken`
+-- says.
 pub record Writes (kind : Kind) (input : List ℕ) (IsTaken : List ℕ → Type 0) : Type 0 where
   pub output : List ℕ
   pub right : IsOutput kind input output
   pub taken : IsTaken output
 
--- What a run over the whole input returns, and what happens to the writer's bytes: the output is
--- appended; or nothing is, since the input is rejected, memory ran out or a read failed; or a write
--- failed, after a beginning of the output.
+-- The result of a run over the whole input, and the writer's bytes after it: the output is
+-- appended; or nothing is appended, because the input is rejected, memory ran out or a read failed;
+-- or a write failed, after the beginning of the output was appended.
 abbrev pub Shows : {T : Type 0} → Kind → List ℕ → Result T RunFault → Option (List ℕ) → Option (List ℕ) → Type 0
 Shows kind input (Ok done) old new = Writes kind input (Appends old new)
 Shows kind input (Err OutputFailed) old new = Writes kind input (AppendsBeginning old new)

@@ -1,7 +1,7 @@
-//! `passkey_show KIND` reads standard input, bytes in hexadecimal or a JSON text, decodes it as the
-//! kind, encodes the result and writes it to standard output in the same form. The kind `check`
-//! writes whether the bytes are in CTAP2's canonical form. The exit status is 0, or that of a fault,
-//! whose line goes to standard error.
+//! `passkey_show KIND` reads bytes in hexadecimal, or a JSON text, from standard input, decodes
+//! them as the kind, encodes the result and writes it to standard output in the same form. The kind
+//! `check` writes whether the bytes are in CTAP2's canonical form. The exit status is 0, or that of
+//! a fault, whose line is written to standard error.
 #![tactic(auto)]
 
 mod run;

@@ -1,4 +1,4 @@
-//! One run: the input is read to its end, decoded, encoded again and written.
+//! One run: reads the input to its end, decodes it, encodes the result and writes the encoding.
 ghost use Rattle.std.specs.Prelude.{◌≡◌, ◌↔◌, ◌⊎◌, IfOk, IfErr, OnOk, OnErr, IfSome, IsNone, IsErrOf, string_bytes};
 ghost use Rattle.std.specs.Io.KnownBytes.{Appends, IsAtEnd};
 ghost use Rattle.passkey_rewrite.specs.Kind.{kind_named};
@@ -52,14 +52,15 @@ fn output(alloc: Global, kind: Kind, input: &[u8]) -> Result<String, RunFault>
 }
 
 /// Reads the input to its end, decodes it as the kind, and writes its encoding and a line feed.
-/// Bytes are given in hexadecimal of either case, with tabs, line feeds, carriage returns and
-/// spaces at the ends, and written in lower case. JSON is written as compact JSON with bytes in
+/// Bytes are read in hexadecimal of either case, with tabs, line feeds, carriage returns and spaces
+/// allowed at the ends, and written in lower case. JSON is written as compact JSON with bytes in
 /// base64url. The kind `check` writes `canonical` or `not canonical`.
 ///
-/// `UnknownKind` exactly if the word names no kind; then nothing is read. `InputFailed` if reading
-/// fails or the input doesn't end within 2^32 - 1 reads; `OutOfMemory` if an allocation fails;
-/// otherwise the errors of `rewrite`. In all of these cases nothing is written. `OutputFailed` if
-/// writing fails or a write takes no byte; then not all of the output was written.
+/// Returns `UnknownKind` exactly if the word isn't the name of a kind; then nothing is read.
+/// Returns `InputFailed` if reading fails or the input doesn't end within 2^32 - 1 reads, and
+/// `OutOfMemory` if an allocation fails; otherwise the errors are those of `rewrite`. In all of
+/// these cases nothing is written. Returns `OutputFailed` if writing fails or a write takes no
+/// byte; then not all of the output was written.
 pub fn run<R: Read, W: Write>(
     alloc: Global,
     reader: &mut R,

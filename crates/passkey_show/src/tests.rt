@@ -1,4 +1,4 @@
-//! Runs with readers and writers that fail, and with inputs that are no row of `passkey_rows`.
+//! Runs with readers and writers that fail, and with inputs that aren't rows of `passkey_rows`.
 
 mod failures;
 mod inputs;

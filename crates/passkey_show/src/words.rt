@@ -7,8 +7,8 @@ use std::env;
 use std::io::ErrorKind;
 use std::rt::Env;
 
-/// Returns the program's arguments. `UnknownKind` if one isn't UTF-8; `OutOfMemory` if an
-/// allocation fails.
+/// Returns the program's arguments. Returns `UnknownKind` if one of them isn't UTF-8, and
+/// `OutOfMemory` if an allocation fails.
 pub fn read_words(rt: &(impl Env + AllocGlobal)) -> Result<Vec<String>, RunFault>
     ensures { IfErr result (λ fault. (fault ≡ UnknownKind) ⊎ (fault ≡ OutOfMemory)) }
 {
@@ -24,8 +24,8 @@ pub fn read_words(rt: &(impl Env + AllocGlobal)) -> Result<Vec<String>, RunFault
     Ok(words)
 }
 
-/// Returns the only argument, which should name a kind. `UnknownKind` exactly if there isn't
-/// exactly one.
+/// Returns the only argument, which should be the name of a kind. Returns `UnknownKind` exactly if
+/// there isn't exactly one argument.
 pub fn kind_of(words: &[String]) -> Result<&str, RunFault>
     ensures one { IfOk result (λ word. map string_bytes words.now ≡ word.now ∷ []) }
     ensures other { IfErr result (λ fault. (fault ≡ UnknownKind) × (length words.now ≢ 1)) }

@@ -1,4 +1,4 @@
--- What extensions store with a passkey.
+-- The extension data stored with a passkey.
 use Rattle.std.specs.Prelude.{None}
 use Rattle.passkey_stored.specs.declared.extensions.CredentialExtensions.{CredentialExtensions}
 

@@ -1,18 +1,18 @@
--- Secrets of the extension hmac-secret that are stored.
+-- Stored secrets of the extension hmac-secret.
 use Rattle.std.specs.Prelude.{ℕ, ◌<◌, ◌⊎◌, List, [], length, None, codes, is_some, if◌then◌else◌}
 use Rattle.std.specs.Option.{IsSomeAnd}
 use Rattle.passkey_stored.specs.declared.hmac_secret.StoredHmacSecret.{StoredHmacSecret}
 
--- the secrets that take memory to hold
+-- the secrets take memory
 abbrev pub HoldsSecrets : StoredHmacSecret → Type 0
 HoldsSecrets secret =
     (0 < length secret.cred_with_uv) ⊎ IsSomeAnd secret.cred_without_uv (λ bytes. 0 < length bytes)
 
--- no secrets any more
+-- the secrets after they were erased
 abbrev pub erased : StoredHmacSecret
 erased = record { cred_with_uv = []; cred_without_uv = None }
 
--- what is printed of the secrets
+-- the debug text of the secrets
 abbrev pub redacted : StoredHmacSecret → List ℕ
 redacted secret =
     if is_some secret.cred_without_uv

@@ -15,7 +15,7 @@ use Rattle.passkey_stored.specs.declared.passkey.Passkey.{Passkey}
 use Rattle.passkey_webauthn.specs.declared.credential_type.PublicKeyCredentialType.TheVariants.{PublicKey}
 use Rattle.passkey_webauthn.specs.declared.descriptor.PublicKeyCredentialDescriptor.{PublicKeyCredentialDescriptor}
 
--- what a passkey is
+-- a passkey as contracts see it
 pub record PasskeyParts : Type 0 where
   pub key : KeyParts
   pub credential_id : List ℕ
@@ -28,12 +28,30 @@ pub record PasskeyParts : Type 0 where
 
 abbrev pub passkey_parts : Passkey → PasskeyParts
 passkey_parts p =
-    record { key = key_parts p.key; credential_id = p.credential_id; rp_id = p.rp_id; user_handle = p.user_handle; username = p.username; user_display_name = p.user_display_name; counter = p.counter; extensions = p.extensions }
+    record {
+      key = key_parts p.key;
+      credential_id = p.credential_id;
+      rp_id = p.rp_id;
+      user_handle = p.user_handle;
+      username = p.username;
+      user_display_name = p.user_display_name;
+      counter = p.counter;
+      extensions = p.extensions;
+    }
 
--- a passkey of which nothing else is set
+-- a passkey with nothing else set
 abbrev pub fresh : CoseKey → List ℕ → List ℕ → Passkey
 fresh key rp_id credential_id =
-    record { key = key; credential_id = credential_id; rp_id = rp_id; user_handle = None; username = None; user_display_name = None; counter = None; extensions = no_extensions }
+    record {
+      key = key;
+      credential_id = credential_id;
+      rp_id = rp_id;
+      user_handle = None;
+      username = None;
+      user_display_name = None;
+      counter = None;
+      extensions = no_extensions;
+    }
 
 -- the descriptor of the passkey's credential
 abbrev pub named : Passkey → PublicKeyCredentialDescriptor
@@ -42,7 +60,7 @@ named p = record { ty = PublicKey; id = p.credential_id; transports = None }
 abbrev pub IsFilled : Option (List ℕ) → Type 0
 IsFilled o = IsSomeAnd o (λ bytes. 0 < length bytes)
 
--- the passkeys that take memory to hold
+-- the passkey takes memory
 abbrev pub StoresMemory : PasskeyParts → Type 0
 StoresMemory p =
     TakesMemory p.key
@@ -53,7 +71,7 @@ StoresMemory p =
     ⊎ IsFilled p.user_display_name
     ⊎ IsSomeAnd p.extensions.hmac_secret HoldsSecrets
 
--- ---- what is printed
+-- ---- the debug text
 
 abbrev pub key_type_name : KeyType → List ℕ
 key_type_name key_type.Reserved = codes "Reserved"

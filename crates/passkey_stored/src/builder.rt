@@ -13,7 +13,7 @@ use passkey_memory::OutOfMemory;
 use rand_core::Rng;
 use std::alloc::{AllocError, Global};
 
-/// The length of an id for which no other is asked.
+/// The length of an id, in bytes, if no other length is asked for.
 const DEFAULT_LEN: usize = 16;
 
 /// Builds a passkey with random ids.
@@ -61,14 +61,15 @@ impl<R: Rng + Drop> PasskeyBuilder<R> {
     }
 
     /// Draws another credential id, of this length in bytes. If the allocation fails, the builder
-    /// comes back unchanged and nothing is drawn. (WebAuthn Level 3, section 4, allows 16 to 1023
+    /// is returned unchanged and nothing is drawn. (WebAuthn Level 3, section 4, allows 16 to 1023
     /// bytes; the length isn't checked.)
     pub fn credential_id(
         mut self,
         alloc: Global,
         len: usize,
     ) -> Result<PasskeyBuilder<R>, GivenBack<PasskeyBuilder<R>>>
-        ensures built { IfOk result (λ b. b.passkey ≡ record self.passkey { credential_id = (fill_bytes len (R.stream self.rng)).0 }) }
+        ensures built { IfOk result
+            (λ b. b.passkey ≡ record self.passkey { credential_id = (fill_bytes len (R.stream self.rng)).0 }) }
         ensures drawn { IfOk result (λ b. R.stream b.rng ≡ (fill_bytes len (R.stream self.rng)).1) }
         ensures back { IfErr result (λ e. e.value ≡ self) }
         ensures grows { OnErr result (0 < len) }
@@ -82,15 +83,16 @@ impl<R: Rng + Drop> PasskeyBuilder<R> {
         }
     }
 
-    /// Draws a user handle of this length in bytes, 16 if none is given. If the allocation fails,
-    /// the builder comes back unchanged and nothing is drawn. (WebAuthn Level 3, section 5.4.3,
-    /// allows 1 to 64 bytes; the length isn't checked.)
+    /// Draws a user handle of this length in bytes, or of 16 bytes if none is given. If the
+    /// allocation fails, the builder is returned unchanged and nothing is drawn. (WebAuthn Level 3,
+    /// section 5.4.3, allows 1 to 64 bytes; the length isn't checked.)
     pub fn user_handle(
         mut self,
         alloc: Global,
         len: Option<usize>,
     ) -> Result<PasskeyBuilder<R>, GivenBack<PasskeyBuilder<R>>>
-        ensures built { IfOk result (λ b. b.passkey ≡ record self.passkey { user_handle = Some (fill_bytes (unwrap_or len 16) (R.stream self.rng)).0 }) }
+        ensures built { IfOk result (λ b. b.passkey
+            ≡ record self.passkey { user_handle = Some (fill_bytes (unwrap_or len 16) (R.stream self.rng)).0 }) }
         ensures drawn { IfOk result (λ b. R.stream b.rng ≡ (fill_bytes (unwrap_or len 16) (R.stream self.rng)).1) }
         ensures back { IfErr result (λ e. e.value ≡ self) }
         ensures grows { OnErr result (0 < unwrap_or len 16) }
@@ -130,7 +132,8 @@ impl<R: Rng + Drop> PasskeyBuilder<R> {
 
     /// Sets the secrets of the extension hmac-secret.
     pub fn hmac_secret(mut self, secret: StoredHmacSecret) -> PasskeyBuilder<R>
-        ensures { result ≡ record self { passkey = record self.passkey { extensions = record { hmac_secret = Some secret } } } }
+        ensures { result
+            ≡ record self { passkey = record self.passkey { extensions = record { hmac_secret = Some secret } } } }
     {
         self.passkey.extensions.hmac_secret = Some(secret);
         self

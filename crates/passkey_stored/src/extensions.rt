@@ -11,20 +11,20 @@ use std::alloc::Global;
 /// The extension data that is stored with a passkey.
 #[derive(Debug, Drop, PartialEq)]
 pub struct CredentialExtensions {
-    /// The secrets of the extension hmac-secret; `None` if it isn't enabled.
+    /// The secrets of the extension hmac-secret; `None` means the extension isn't enabled.
     pub hmac_secret: Option<StoredHmacSecret>,
 }
 
 impl CredentialExtensions {
-    /// No extension stores anything.
+    /// Returns the extension data of a passkey without extensions.
     pub fn empty() -> CredentialExtensions
         ensures { result ≡ no_extensions }
     {
         CredentialExtensions { hmac_secret: None }
     }
 
-    /// Returns an equal value. `OutOfMemory` if an allocation fails, which can't happen if there
-    /// are no secrets or empty ones.
+    /// Returns an equal value. Returns `OutOfMemory` if an allocation fails, which can't happen if
+    /// there are no secrets or only empty ones.
     pub fn try_clone(&self, alloc: Global) -> Result<CredentialExtensions, OutOfMemory>
         ensures same { IfOk result (λ copy. copy ≡ self.now) }
         ensures grows { OnErr result (IsSomeAnd self.now.hmac_secret HoldsSecrets) }
@@ -36,8 +36,8 @@ impl CredentialExtensions {
         Ok(CredentialExtensions { hmac_secret })
     }
 
-    /// Overwrites the secrets with zeros and removes them: nothing is stored then. The compiler may
-    /// leave copies of them in memory, as `StoredHmacSecret::zeroize` says.
+    /// Overwrites the secrets with zeros and removes them, so that nothing is stored. The compiler
+    /// may leave copies of them in memory; see `StoredHmacSecret::zeroize`.
     pub fn zeroize(&mut self)
         ensures { self.new ≡ no_extensions }
     {

@@ -8,19 +8,20 @@ use std::alloc::Global;
 use std::fmt;
 
 /// The secrets (CredRandom) of the extension hmac-secret for a passkey (CTAP 2.1, section 12.5).
-/// CTAP generates each as 32 random bytes; the length isn't checked. They aren't printed.
+/// CTAP generates each of them as 32 random bytes; the length isn't checked. `Debug` doesn't print
+/// them.
 #[derive(Drop, PartialEq)]
 pub struct StoredHmacSecret {
     /// The secret for requests with user verification (CredRandomWithUV).
     pub cred_with_uv: Bytes,
-    /// The secret for requests without user verification (CredRandomWithoutUV); `None` if there is
-    /// none.
+    /// The secret for requests without user verification (CredRandomWithoutUV); `None` means there
+    /// is none.
     pub cred_without_uv: Option<Bytes>,
 }
 
 impl StoredHmacSecret {
-    /// Returns an equal value. `OutOfMemory` if an allocation fails, which can't happen if the
-    /// secrets are empty.
+    /// Returns an equal value. Returns `OutOfMemory` if an allocation fails, which can't happen if
+    /// the secrets are empty.
     pub fn try_clone(&self, alloc: Global) -> Result<StoredHmacSecret, OutOfMemory>
         ensures same { IfOk result (λ copy. copy ≡ self.now) }
         ensures grows { OnErr result (HoldsSecrets self.now) }
@@ -35,8 +36,8 @@ impl StoredHmacSecret {
         })
     }
 
-    /// Overwrites the secrets with zeros and removes them: `cred_with_uv` is empty then, and
-    /// `cred_without_uv` is `None`. The compiler may leave out writes that nothing reads, and it may
+    /// Overwrites the secrets with zeros and removes them: `cred_with_uv` is then empty, and
+    /// `cred_without_uv` is `None`. The compiler may leave out writes that nothing reads, and may
     /// have left copies of the secrets elsewhere in memory: no contract says that memory is erased.
     pub fn zeroize(&mut self)
         ensures { self.new ≡ erased }
@@ -49,7 +50,7 @@ impl StoredHmacSecret {
     }
 }
 
-/// Writes a zero over each byte, and leaves none.
+/// Overwrites each byte with zero, and then removes all bytes.
 fn erase(secret: &mut Bytes)
     ensures { secret.new ≡ [] }
 {

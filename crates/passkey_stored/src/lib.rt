@@ -1,4 +1,4 @@
-//! Passkeys as an authenticator stores them.
+//! Passkeys, in the form in which an authenticator stores them.
 #![tactic(auto)]
 
 mod builder;

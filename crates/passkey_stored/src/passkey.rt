@@ -15,7 +15,7 @@ use rand_core::Rng;
 use std::alloc::Global;
 use std::fmt;
 
-/// A passkey as an authenticator stores it: a public key credential source (WebAuthn Level 3,
+/// A passkey that an authenticator stores: a public key credential source (WebAuthn Level 3,
 /// section 4). `Debug` prints only the key's type and the counter.
 #[derive(Drop, PartialEq)]
 pub struct Passkey {
@@ -25,13 +25,13 @@ pub struct Passkey {
     pub credential_id: Bytes,
     /// The relying party id.
     pub rp_id: Text,
-    /// The user handle, 1 to 64 bytes; `None` if none is stored. The length isn't checked.
+    /// The user handle, 1 to 64 bytes; `None` means none is stored. The length isn't checked.
     pub user_handle: Option<Bytes>,
-    /// The user's name; `None` if none is stored.
+    /// The user's name; `None` means none is stored.
     pub username: Option<Text>,
-    /// The user's display name; `None` if none is stored.
+    /// The user's display name; `None` means none is stored.
     pub user_display_name: Option<Text>,
-    /// The signature counter; `None` if the authenticator keeps none for this passkey.
+    /// The signature counter; `None` means the authenticator keeps none for this passkey.
     pub counter: Option<u32>,
     /// The extension data that is stored with the passkey.
     pub extensions: CredentialExtensions,
@@ -58,9 +58,9 @@ fn copied_text(alloc: Global, text: &Option<Text>) -> Result<Option<Text>, OutOf
 }
 
 impl Passkey {
-    /// A builder of a passkey for this relying party, with this key. The credential id is the next
-    /// 16 bytes of the generator; nothing else is set. `OutOfMemory` if the allocation of the id
-    /// fails.
+    /// Returns a builder of a passkey for this relying party, with this key. The credential id is
+    /// the next 16 bytes of the generator; nothing else is set. Returns `OutOfMemory` if the
+    /// allocation of the id fails.
     pub fn mock<R: Rng + Drop>(
         alloc: Global,
         rp_id: Text,
@@ -73,9 +73,9 @@ impl Passkey {
         PasskeyBuilder::new(alloc, rp_id, key, rng)
     }
 
-    /// The descriptor of the passkey's credential (WebAuthn Level 3, section 5.8.3), without
-    /// transports. `OutOfMemory` if the allocation fails, which can't happen if the credential id
-    /// is empty.
+    /// Returns the descriptor of the passkey's credential (WebAuthn Level 3, section 5.8.3),
+    /// without transports. Returns `OutOfMemory` if the allocation fails, which can't happen if the
+    /// credential id is empty.
     pub fn descriptor(&self, alloc: Global) -> Result<PublicKeyCredentialDescriptor, OutOfMemory>
         ensures named { IfOk result (λ descriptor. descriptor ≡ named self.now) }
         ensures grows { OnErr result (0 < length self.now.credential_id) }
@@ -87,7 +87,7 @@ impl Passkey {
         })
     }
 
-    /// The same descriptor, made from the passkey's own id without an allocation.
+    /// Returns the same descriptor, made from the passkey's own id without an allocation.
     pub fn into_descriptor(self) -> PublicKeyCredentialDescriptor
         ensures { result ≡ named self }
     {
@@ -98,8 +98,8 @@ impl Passkey {
         }
     }
 
-    /// Returns an equal passkey. `OutOfMemory` if an allocation fails, which can't happen if no
-    /// part of the passkey takes memory.
+    /// Returns an equal passkey. Returns `OutOfMemory` if an allocation fails, which can't happen
+    /// if no part of the passkey takes memory.
     pub fn try_clone(&self, alloc: Global) -> Result<Passkey, OutOfMemory>
         ensures same { IfOk result (λ copy. passkey_parts copy ≡ passkey_parts self.now) }
         ensures grows { OnErr result (StoresMemory (passkey_parts self.now)) }

@@ -1,5 +1,5 @@
-//! Decoding and encoding JSON values: what a JSON record of your own needs. WebAuthn's records are
-//! in `webauthn`.
+//! Decoding and encoding JSON values: what you need for a JSON record of your own. WebAuthn's
+//! records are in `webauthn`.
 pub use passkey_json::{
     BytesForm, FromJson, JsonFault, JsonRecord, JsonRefusal, Member, Object, ObjectWriter,
     RecordToJson, ToJson, TolerantList, Tolerated, TruthText, WithoutBytes, holds_float, read_back,

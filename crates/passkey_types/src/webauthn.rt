@@ -1,5 +1,5 @@
 //! What a relying party and a browser exchange (WebAuthn Level 3), decoded from JSON values and
-//! encoded as them.
+//! encoded.
 pub use indexmap::IndexMap;
 pub use passkey_client_data::{
     ClientDataExtra, ClientDataFault, ClientDataType, CollectedClientData,

@@ -1,4 +1,4 @@
--- The names of the types of credentials (WebAuthn Level 3, section 5.8.2).
+-- The names of the credential types (WebAuthn Level 3, section 5.8.2).
 use Rattle.std.specs.Prelude.{ℕ, List, [], ◌∷◌, map, slice_get, Option, codes}
 use Rattle.passkey_webauthn.specs.Names.{named_in}
 use Rattle.passkey_webauthn.specs.declared.credential_type.PublicKeyCredentialType.{PublicKeyCredentialType}
@@ -14,7 +14,7 @@ credential_types = kind.PublicKey ∷ kind.Unknown ∷ []
 abbrev pub credential_type_named : List ℕ → Option PublicKeyCredentialType
 credential_type_named = named_in credential_type_name credential_types
 
--- all names, and the value of each
+-- all names, and the value at the index of each
 abbrev pub credential_type_names : List (List ℕ)
 credential_type_names = map credential_type_name credential_types
 

@@ -1,4 +1,4 @@
--- Each value is found by its own name, and by the index of a name in the table.
+-- Each value is found by its own name; the look-up by name agrees with the look-up by the name's index.
 use Rattle.std.proofs.Common.{◌≡◌, ℕ, List, Bool, true, false, Some, refl}
 use Rattle.std.specs.Prelude.{codes}
 use Rattle.std.specs.Str.{bytes_eq}
@@ -21,7 +21,8 @@ transport_own transport.Ble = refl
 transport_own transport.Hybrid = refl
 transport_own transport.Internal = refl
 
-pub credential_type_by_index : (s : List ℕ) → credential_type_named s ≡ by_index credential_type_names credential_type_at s
+pub credential_type_by_index : (s : List ℕ)
+    → credential_type_named s ≡ by_index credential_type_names credential_type_at s
 credential_type_by_index s = by _ _ refl refl where
   by : (p u : Bool) → bytes_eq (codes "public-key") s ≡ p → bytes_eq (codes "unknown") s ≡ u
       → credential_type_named s ≡ by_index credential_type_names credential_type_at s
@@ -31,7 +32,8 @@ credential_type_by_index s = by _ _ refl refl where
 
 pub transport_by_index : (s : List ℕ) → transport_named s ≡ by_index transport_names transport_at s
 transport_by_index s = by _ _ _ _ _ _ refl refl refl refl refl refl where
-  by : (u n b h i c : Bool) → bytes_eq (codes "usb") s ≡ u → bytes_eq (codes "nfc") s ≡ n → bytes_eq (codes "ble") s ≡ b
+  by : (u n b h i c : Bool) → bytes_eq (codes "usb") s ≡ u → bytes_eq (codes "nfc") s ≡ n
+      → bytes_eq (codes "ble") s ≡ b
       → bytes_eq (codes "hybrid") s ≡ h → bytes_eq (codes "internal") s ≡ i → bytes_eq (codes "cable") s ≡ c
       → transport_named s ≡ by_index transport_names transport_at s
   by true n b h i c u_is n_is b_is h_is i_is c_is = rw u_is refl
@@ -40,4 +42,5 @@ transport_by_index s = by _ _ _ _ _ _ refl refl refl refl refl refl where
   by false false false true i c u_is n_is b_is h_is i_is c_is = rw (u_is, n_is, b_is, h_is) refl
   by false false false false true c u_is n_is b_is h_is i_is c_is = rw (u_is, n_is, b_is, h_is, i_is) refl
   by false false false false false true u_is n_is b_is h_is i_is c_is = rw (u_is, n_is, b_is, h_is, i_is, c_is) refl
-  by false false false false false false u_is n_is b_is h_is i_is c_is = rw (u_is, n_is, b_is, h_is, i_is, c_is) refl
+  by false false false false false false u_is n_is b_is h_is i_is c_is =
+      rw (u_is, n_is, b_is, h_is, i_is, c_is) refl

@@ -1,4 +1,4 @@
--- The names of the ways to an authenticator (WebAuthn Level 3, section 5.8.4).
+-- The names of the transports (WebAuthn Level 3, section 5.8.4).
 use Rattle.std.specs.Prelude.{ℕ, List, [], ◌∷◌, ◌++◌, map, slice_get, if◌then◌else◌, Option, Some, None, codes}
 use Rattle.std.specs.Option.{option_or}
 use Rattle.std.specs.Str.{bytes_eq}
@@ -16,11 +16,12 @@ transport_name transport.Internal = codes "internal"
 abbrev pub transports : List AuthenticatorTransport
 transports = transport.Usb ∷ transport.Nfc ∷ transport.Ble ∷ transport.Hybrid ∷ transport.Internal ∷ []
 
--- hybrid has an earlier name too
+-- `Hybrid` has an earlier name too
 abbrev pub transport_named : List ℕ → Option AuthenticatorTransport
-transport_named name = option_or (named_in transport_name transports name) (if bytes_eq (codes "cable") name then Some transport.Hybrid else None)
+transport_named name = option_or (named_in transport_name transports name)
+    (if bytes_eq (codes "cable") name then Some transport.Hybrid else None)
 
--- all names, and the value of each
+-- all names, and the value at the index of each
 abbrev pub transport_names : List (List ℕ)
 transport_names = map transport_name transports ++ (codes "cable" ∷ [])
 

@@ -1,4 +1,4 @@
-//! Types of credentials.
+//! Credential types.
 ghost use Rattle.std.specs.Prelude.{Some};
 ghost use Rattle.passkey_webauthn.specs.CredentialType.{credential_type_at, credential_type_name, credential_type_named, credential_type_names};
 ghost use Rattle.passkey_webauthn.specs.NameLaws.{credential_type_by_index, credential_type_own};
@@ -9,9 +9,9 @@ use std::fmt;
 /// The type of a credential (WebAuthn Level 3, section 5.8.2).
 #[derive(Clone, Copy, Debug, PartialEq, Eq)]
 pub enum PublicKeyCredentialType {
-    /// A pair of keys.
+    /// A public key credential.
     PublicKey,
-    /// A type that isn't known here.
+    /// A type that this crate doesn't know.
     Unknown,
 }
 
@@ -23,11 +23,13 @@ impl EnumNames for PublicKeyCredentialType {
     ghost name_is_own = { credential_type_own };
 
     fn from_name(name: &str) -> Option<PublicKeyCredentialType> {
-        match name {
-            "public-key" => Some(PublicKeyCredentialType::PublicKey),
-            "unknown" => Some(PublicKeyCredentialType::Unknown),
-            _ => None,
-        }
+        [
+            PublicKeyCredentialType::PublicKey,
+            PublicKeyCredentialType::Unknown,
+        ]
+        .iter()
+        .copied()
+        .find(|value| value.name() == name)
     }
 
     fn name(self) -> &'static str {
@@ -41,7 +43,7 @@ impl EnumNames for PublicKeyCredentialType {
 impl fmt::Display for PublicKeyCredentialType {
     ghost output = { λ x. Some (credential_type_name x) };
 
-    /// The type as WebAuthn Level 3 names it.
+    /// Writes the type's name.
     fn fmt<W: fmt::Write>(&self, f: &mut fmt::Formatter<W>) -> fmt::Result {
         f.write_str(self.name())
     }
@@ -73,7 +75,7 @@ impl Default for PublicKeyCredentialType {
 
     ghost is_default = { λ kind. kind ≡ Unknown };
 
-    /// A type that isn't known here.
+    /// The unknown type.
     fn default() -> PublicKeyCredentialType {
         PublicKeyCredentialType::Unknown
     }

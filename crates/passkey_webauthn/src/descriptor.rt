@@ -15,7 +15,7 @@ pub struct PublicKeyCredentialDescriptor {
     pub ty: PublicKeyCredentialType,
     /// The credential id: 16 to 1023 bytes (WebAuthn Level 3, section 4). The length isn't checked.
     pub id: Bytes,
-    /// How the client may reach its authenticator; `None` means the member is absent. Unknown
+    /// How the client may reach the authenticator; `None` means the member is absent. Unknown
     /// values must be ignored, so decoding skips them.
     pub transports: Option<List<AuthenticatorTransport>>,
 }
@@ -36,7 +36,8 @@ impl PublicKeyCredentialDescriptor {
     /// is empty and there are no transports.
     pub fn try_clone(&self, alloc: Global) -> Result<PublicKeyCredentialDescriptor, OutOfMemory>
         ensures same { IfOk result (λ copy. copy ≡ self.now) }
-        ensures grows { OnErr result ((0 < length self.now.id) ⊎ IsSomeAnd self.now.transports (λ ts. 0 < length ts)) }
+        ensures grows { OnErr result
+            ((0 < length self.now.id) ⊎ IsSomeAnd self.now.transports (λ ts. 0 < length ts)) }
     {
         let transports = match &self.transports {
             Some(transports) => Some(transports.try_clone(alloc)?),

@@ -2,7 +2,7 @@
 ghost use Rattle.std.specs.Prelude.{◌≡◌, ℕ, List, map, Option, Some};
 ghost use Rattle.passkey_webauthn.specs.Names.{by_index};
 
-/// The values of an enumeration, each with the name that messages have for it.
+/// The values of an enumeration, each with its name in messages.
 pub trait EnumNames: Copy {
     ghost name_of: { Self → List ℕ };
 
@@ -19,18 +19,19 @@ pub trait EnumNames: Copy {
     ghost name_is_own: { (x : Self) → named (name_of x) ≡ Some x };
 }
 
-/// An enumeration whose names are one table, by which a decoder can compare a text in chunks with
+/// An enumeration whose names form one table, so that a decoder can compare a text in chunks with
 /// all names at once.
 pub trait NameTable: EnumNames {
     ghost all_names: { List (List ℕ) };
 
     ghost at_index: { ℕ → Option Self };
 
-    /// All names, also earlier ones, such as `cable`.
+    /// All names, including earlier ones, such as `cable`.
     fn names() -> &'static [&'static str]
         ensures { map (λ n. n.now) result.now ≡ all_names };
 
-    /// Returns the value of the name at this index of `names`; `None` past its end.
+    /// Returns the value that has the name at this index of `names`; `None` if the index is past
+    /// the end.
     fn named_at(index: usize) -> Option<Self>
         ensures { result ≡ at_index index };
 

@@ -1,9 +1,9 @@
-//! How far a text of a number has come.
+//! The states of reading a number's text.
 ghost use Rattle.std.specs.Prelude.{◌≡◌, ℕ, false, List, [], ◌∷◌};
 ghost use Rattle.passkey_webauthn.specs.NumberState.{number_64, whole_behind};
 ghost use Rattle.passkey_webauthn.specs.declared.number_state.NumberState.TheVariants.{Whole, Fraction};
 
-/// A sign and the digits behind it.
+/// A sign and the digits after it.
 #[derive(Clone, Copy)]
 pub(crate) struct Digits {
     is_negative: bool,
@@ -11,27 +11,27 @@ pub(crate) struct Digits {
     /// The value of the digits before the point.
     whole: u64,
 
-    /// Whether there is a digit, before the point or behind it.
+    /// Whether there is a digit, before or after the point.
     has_digit: bool,
 }
 
-/// What the text is so far.
+/// The state of the text so far.
 #[derive(Clone, Copy)]
 pub(crate) enum NumberState {
     Empty,
     /// A sign, digits or both.
     Whole(Digits),
-    /// The same, then a point, and digits or none behind it.
+    /// The same, then a point, and possibly digits after it.
     Fraction(Digits),
-    /// Whatever follows, no number text, or one whose whole part doesn't fit.
+    /// The text is no number, or its whole part doesn't fit, whatever follows.
     Refused,
 }
 
-/// `i64::MAX / 10`: behind a greater value no digit fits.
+/// `i64::MAX / 10`: no digit fits after a greater value.
 const MOST: u64 = 922_337_203_685_477_580;
 
 impl Digits {
-    // A sign alone.
+    // Only a sign.
     fn sign(is_negative: bool) -> Digits
         ensures { result ≡ record { is_negative = is_negative; whole = 0; has_digit = false } }
     {
@@ -42,7 +42,7 @@ impl Digits {
         }
     }
 
-    // A digit more before the point, or the point.
+    // Adds a digit before the point, or the point.
     fn push_whole(self, byte: u8) -> NumberState
         ensures { (more : List ℕ) → whole_behind (Whole self) (byte ∷ more) ≡ whole_behind result more }
     {
@@ -59,7 +59,7 @@ impl Digits {
         })
     }
 
-    // A digit more behind the point.
+    // Adds a digit after the point.
     fn push_fraction(self, byte: u8) -> NumberState
         ensures { (more : List ℕ) → whole_behind (Fraction self) (byte ∷ more) ≡ whole_behind result more }
     {
@@ -73,7 +73,7 @@ impl Digits {
         })
     }
 
-    // The number with this sign and whole part, where there is a digit and it fits in 64 bits.
+    // The number with this sign and whole part, if there is a digit and it fits in 64 bits.
     fn number(self) -> Option<i64>
         ensures { result ≡ number_64 self.has_digit self.is_negative self.whole }
     {
@@ -89,7 +89,7 @@ impl Digits {
 }
 
 impl NumberState {
-    /// The state with one byte more.
+    /// The state after one more byte.
     pub(crate) fn push(self, byte: u8) -> NumberState
         ensures { (more : List ℕ) → whole_behind self (byte ∷ more) ≡ whole_behind result more }
     {
@@ -105,7 +105,7 @@ impl NumberState {
         }
     }
 
-    /// The whole part, where nothing follows.
+    /// The whole part, if the text ends here.
     pub(crate) fn whole(self) -> Option<i64>
         ensures { result ≡ whole_behind self [] }
     {

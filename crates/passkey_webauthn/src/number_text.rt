@@ -6,8 +6,9 @@ ghost use Rattle.passkey_webauthn.specs.NumberText.{whole_64};
 use crate::number_state::NumberState;
 use std::marker::Model;
 
-/// A number text that comes in pieces: an optional sign, ASCII digits, and optionally a point and
-/// ASCII digits, with at least one digit. It takes the same space however long the text is.
+/// The text of a number that arrives in pieces: an optional sign, ASCII digits, and optionally a
+/// point and ASCII digits, with at least one digit. It takes the same space however long the text
+/// is.
 #[derive(Drop)]
 pub struct NumberText {
     state: NumberState,
@@ -40,8 +41,8 @@ impl NumberText {
         }
     }
 
-    /// Returns the whole part of the text, cut towards zero, so that of `-1.5` is -1. `None` if the
-    /// text is no number text, or if its whole part doesn't fit.
+    /// Returns the number, rounded towards zero: -1 for `-1.5`. `None` if the text is no number, or
+    /// the result doesn't fit in an `i64`.
     pub fn whole(&self) -> Option<i64>
         ensures { (text : List ℕ) → IsOf self.now text → result ≡ whole_64 text }
     {
@@ -49,9 +50,9 @@ impl NumberText {
     }
 }
 
-/// The whole part of a number text: an optional sign, ASCII digits, and optionally a point and
-/// ASCII digits, with at least one digit. It is cut towards zero, so that of `-1.5` is -1. `None`
-/// where the text is no number text, or where its whole part doesn't fit.
+/// Returns the number in the text, rounded towards zero: -1 for `-1.5`. The text is an optional
+/// sign, ASCII digits, and optionally a point and ASCII digits, with at least one digit. `None` if
+/// it is no such text, or the result doesn't fit in an `i64`.
 pub fn whole_part(text: &str) -> Option<i64>
     ensures { result ≡ whole_64 text.now }
 {

@@ -19,8 +19,8 @@ pub struct PublicKeyCredentialParameters {
 }
 
 impl PublicKeyCredentialParameters {
-    /// What an empty list means: public keys of ES256, then of RS256 (WebAuthn Level 3, section
-    /// 5.1.3). `OutOfMemory` if an allocation fails.
+    /// Returns the parameters that an empty list means: public keys with ES256, then with RS256
+    /// (WebAuthn Level 3, section 5.1.3). `OutOfMemory` if an allocation fails.
     pub fn default_algorithms(
         alloc: Global,
     ) -> Result<List<PublicKeyCredentialParameters>, OutOfMemory>
@@ -36,7 +36,7 @@ impl PublicKeyCredentialParameters {
 impl From<Algorithm> for PublicKeyCredentialParameters {
     ghost from_gives = { λ algorithm parameters. parameters ≡ public_keys_of algorithm };
 
-    /// A public key of this algorithm.
+    /// A public-key credential with this algorithm.
     fn from(algorithm: Algorithm) -> PublicKeyCredentialParameters {
         PublicKeyCredentialParameters {
             ty: PublicKeyCredentialType::PublicKey,

@@ -1,4 +1,4 @@
-//! Salts and outputs of the extension prf.
+//! Salts and outputs of the prf extension.
 ghost use Rattle.std.specs.Prelude.{◌≡◌, ◌<◌, ◌⊎◌, length, IfOk, OnErr};
 ghost use Rattle.std.specs.Option.{IsSomeAnd};
 
@@ -6,7 +6,7 @@ use passkey_bytes::Bytes;
 use passkey_memory::OutOfMemory;
 use std::alloc::{AllocError, Global};
 
-/// One or two salts for the extension prf, or the outputs for them (WebAuthn Level 3, section
+/// One or two salts for the prf extension, or the outputs for them (WebAuthn Level 3, section
 /// 10.1.4).
 #[derive(Debug, Drop)]
 pub struct AuthenticationExtensionsPrfValues {
@@ -21,7 +21,8 @@ impl AuthenticationExtensionsPrfValues {
     /// empty or absent.
     pub fn try_clone(&self, alloc: Global) -> Result<AuthenticationExtensionsPrfValues, OutOfMemory>
         ensures same { IfOk result (λ copy. copy ≡ self.now) }
-        ensures grows { OnErr result (IsSomeAnd self.now.second (λ bytes. 0 < length bytes) ⊎ (0 < length self.now.first)) }
+        ensures grows { OnErr result
+            (IsSomeAnd self.now.second (λ bytes. 0 < length bytes) ⊎ (0 < length self.now.first)) }
     {
         let second = match &self.second {
             Some(bytes) => Some(bytes.try_clone(alloc)?),

@@ -1,4 +1,4 @@
-//! Ways to an authenticator.
+//! Transports.
 ghost use Rattle.std.specs.Prelude.{Some};
 ghost use Rattle.passkey_webauthn.specs.NameLaws.{transport_by_index, transport_own};
 ghost use Rattle.passkey_webauthn.specs.Transport.{transport_at, transport_name, transport_named, transport_names};
@@ -16,8 +16,8 @@ pub enum AuthenticatorTransport {
     Nfc,
     /// Over Bluetooth Low Energy.
     Ble,
-    /// Over several ways together, such as a data channel that a near device opens; `cable` is
-    /// its earlier name.
+    /// Over several ways together, such as a data channel that a nearby device opens. Its earlier
+    /// name is `cable`.
     Hybrid,
     /// Within the client's own device.
     Internal,
@@ -55,7 +55,7 @@ impl EnumNames for AuthenticatorTransport {
 impl fmt::Display for AuthenticatorTransport {
     ghost output = { λ x. Some (transport_name x) };
 
-    /// The transport as WebAuthn Level 3 names it.
+    /// Writes the transport's name in WebAuthn Level 3.
     fn fmt<W: fmt::Write>(&self, f: &mut fmt::Formatter<W>) -> fmt::Result {
         f.write_str(self.name())
     }

@@ -1,4 +1,4 @@
--- A list with a float is no list of URLs.
+-- A list that contains a float isn't a list of URLs.
 use Rattle.std.proofs.Common.{◌≡◌, true, true≢false, Option, Some, None, List, ◌∷◌, option_map, refl, sym}
 use Rattle.std.specs.Option.{option_and_then}
 use Rattle.passkey_json.specs.Kind.{each, list}
@@ -7,7 +7,8 @@ use Rattle.serde_json.specs.Data.{Data, null, boolean, number, string, array, ob
 use Rattle.serde_json.specs.Written.{has_float, items_have_float}
 use Rattle.url.specs.Parts.{Parts}
 
-none_after : (first : Option Parts) (rest : Option (List Parts)) → rest ≡ None → option_and_then (λ u. option_map (λ us. u ∷ us) rest) first ≡ None
+none_after : (first : Option Parts) (rest : Option (List Parts)) → rest ≡ None
+    → option_and_then (λ u. option_map (λ us. u ∷ us) rest) first ≡ None
 none_after None rest none = refl
 none_after (Some u) rest none = rw none refl
 

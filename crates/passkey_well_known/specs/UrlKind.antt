@@ -1,4 +1,4 @@
--- URLs, decoded from JSON values, and what decoding them returns.
+-- URLs, decoded from JSON values, and the result of decoding them.
 use Rattle.std.specs.Prelude.{◌≡◌, nat_le, Bool, false, ◌||◌, IsTrue, List, length, Some, None, Result, Ok, Err}
 use Rattle.std.specs.Result.{result_ok}
 use Rattle.std.specs.declared.alloc.Global.{Global}
@@ -11,12 +11,12 @@ use Rattle.serde_json.specs.Data.{Data, string, array, Items, no_items, item}
 use Rattle.url.specs.Parser.{parse_url}
 use Rattle.url.specs.Parts.{Parts}
 
--- the URL that the URL Standard parses a text as
+-- the URL that a text is parsed as (URL Standard)
 abbrev pub url : Kind Parts
 url (string s) = result_ok (parse_url None s)
 url _ = None
 
--- a text whose URL may be refused for its length
+-- a text so long that its URL may be refused for its length
 abbrev pub is_long : Data → Bool
 is_long (string s) = nat_le LONG_TEXT (length s)
 is_long _ = false
@@ -25,20 +25,21 @@ abbrev pub any_long : Items → Bool
 any_long no_items = false
 any_long (item d ds) = is_long d || any_long ds
 
--- a list with such a text
+-- a list that contains such a text
 abbrev pub has_long : Data → Bool
 has_long (array ds) = any_long ds
 has_long _ = false
 
--- The result is the URL of the text, or `Refused` if there is none; or there was no room for it.
+-- The result of decoding a URL: the URL of the text; `Refused`, if there is none; or no room for
+-- it.
 abbrev pub AnswersUrl : Data → Result Parts UrlFault → Type 0
 AnswersUrl d (Ok u) = url d ≡ Some u
 AnswersUrl d (Err Refused) = url d ≡ None
 AnswersUrl d (Err TooLong) = IsTrue (is_long d)
 AnswersUrl d (Err OutOfMemory) = IsTrue (is_text d)
 
--- The result is the URLs of the list's texts, or `Refused` if it is no such list; or there was no room
--- for one of them.
+-- The result of decoding a list of URLs: the URLs of its texts; `Refused`, if it isn't a list of
+-- texts that are URLs; or no room for one of them.
 abbrev pub AnswersUrls : Data → Result (Vec Parts Global) UrlFault → Type 0
 AnswersUrls d (Ok us) = list url d ≡ Some us.items
 AnswersUrls d (Err Refused) = list url d ≡ None

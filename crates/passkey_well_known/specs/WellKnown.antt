@@ -1,4 +1,4 @@
--- Which origins may use a relying party id (WebAuthn Level 3, section 5.11).
+-- The origins that may use a relying party id (WebAuthn Level 3, section 5.11).
 use Rattle.std.specs.Prelude.{◌≡◌, ℕ, IsTrue, List, [], ◌∷◌, Option, Result, Ok, Err, codes}
 use Rattle.std.specs.Option.{IsSomeAnd}
 use Rattle.passkey_json.specs.Fault.{Fault, Gives, refused}
@@ -19,16 +19,17 @@ well_known_in object = required (list url) (member (codes "origins") object)
 abbrev pub origins_in : Data → Option Data
 origins_in d = get (codes "origins") d
 
--- The fault `Refused` is the wanted one; or the member is a list of URLs, of which one has a long text.
-abbrev pub IsRefused : Option Data → Result (List Parts) Fault → List ℕ → Type 0
-IsRefused origins (Ok urls) name = IsSomeAnd origins (λ d. IsTrue (has_long d)) × (name ≡ codes "origins")
-IsRefused origins (Err fault) name = fault ≡ refused name
+-- `Refused` is the wanted fault; or the member is a list of URLs, one of which has a long text.
+abbrev pub IsRefusedList : Option Data → Result (List Parts) Fault → List ℕ → Type 0
+IsRefusedList origins (Ok urls) name = IsSomeAnd origins (λ d. IsTrue (has_long d)) × (name ≡ codes "origins")
+IsRefusedList origins (Err fault) name = fault ≡ refused name
 
--- The result is what is wanted, though URLs may be refused for the length of a text; or `OutOfMemory`,
--- only for a list.
-abbrev pub GivesUrls : {A : Type 0} → Option Data → (A → List Parts) → Result (List Parts) Fault → Result A JsonFault → Type 0
+-- The result of decoding is the wanted one, except that a list may be refused for the length of a
+-- text; or it is `OutOfMemory`, only for a list.
+abbrev pub GivesUrls : {A : Type 0} → Option Data → (A → List Parts) → Result (List Parts) Fault
+    → Result A JsonFault → Type 0
 GivesUrls origins seen wanted (Ok x) = wanted ≡ Ok (seen x)
-GivesUrls origins seen wanted (Err (json_fault.Refused name)) = IsRefused origins wanted name.now
+GivesUrls origins seen wanted (Err (json_fault.Refused name)) = IsRefusedList origins wanted name.now
 GivesUrls origins seen wanted (Err e) = Gives (IsSomeAnd origins (λ d. IsTrue (is_array d))) wanted (Err e)
 
 abbrev pub urls_json : List Parts → Data

@@ -1,4 +1,4 @@
-//! The document of related origins, which may use a relying party id.
+//! The document of related origins, which lists the origins that may use a relying party id.
 #![tactic(auto)]
 
 mod url_list;

@@ -8,17 +8,17 @@ use serde_json::Value;
 use std::alloc::{AllocFailed, Global};
 use url::{ParseError, Url};
 
-/// The least number of bytes of a text whose URL may be refused for its length. The crate `url` has no
-/// room for a URL of 4 GB or more; escapes make a shorter text at most three times as long.
+/// The least length, in bytes, of a text whose URL may be refused for its length. The crate `url`
+/// supports no URL of 4 GB or more, and escaping makes a shorter text at most three times as long.
 pub(crate) const LONG_TEXT: usize = 1 << 30;
 
 /// Why no URLs were decoded from a JSON value.
 pub(crate) enum UrlFault {
-    /// The value is no list of texts that are URLs.
+    /// The value isn't a list of texts that are URLs.
     Refused,
     /// One of the texts has `LONG_TEXT` bytes or more, and may be a URL of 4 GB or more.
     TooLong,
-    /// An allocation failed, or a shorter text makes a URL of 4 GB or more.
+    /// An allocation failed, or the URL of a shorter text has 4 GB or more.
     OutOfMemory,
 }
 

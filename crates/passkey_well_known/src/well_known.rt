@@ -1,4 +1,4 @@
-//! The document of related origins, which may use a relying party id.
+//! The document of related origins, which lists the origins that may use a relying party id.
 ghost use Rattle.std.specs.Prelude.{◌≡◌, IfOk, Some, codes};
 ghost use Rattle.passkey_json.specs.Kind.{list};
 ghost use Rattle.passkey_json.specs.Members.{in_object, judged};
@@ -17,13 +17,14 @@ use url::Url;
 /// Level 3, section 5.11).
 #[derive(Debug, Drop)]
 pub struct WellKnown {
-    /// The origins, as the document lists them.
+    /// The origins, in the document's order.
     pub origins: Vec<Url>,
 }
 
 /// Decodes the URLs of the member `origins`.
 fn origins_of(alloc: Global, value: &Value) -> Result<Vec<Url>, JsonFault>
-    ensures { GivesUrls (Some (view value.now)) (λ urls. urls.items) (judged (list url) (codes "origins") (view value.now)) result }
+    ensures { GivesUrls (Some (view value.now)) (λ urls. urls.items)
+        (judged (list url) (codes "origins") (view value.now)) result }
 {
     match read_urls(alloc, value) {
         Ok(urls) => Ok(urls),
@@ -40,14 +41,16 @@ fn origins_of(alloc: Global, value: &Value) -> Result<Vec<Url>, JsonFault>
 
 impl WellKnown {
     /// Decodes the document from a JSON value: an object whose member `origins` is a list of texts
-    /// that the URL Standard parses as URLs. Other members are skipped. `NotAnObject` if the value
-    /// is no object, `Missing` if the member is absent; if it is no such list, `Float` if it holds
-    /// a float and else `Refused`. `Refused` also if one of its texts has 2^30 bytes or more and is
-    /// a URL of 4 GB or more. `OutOfMemory` if an allocation fails, or a shorter text makes such a
-    /// URL; only if the member is a list.
+    /// that the URL Standard parses as URLs. Skips other members. Returns `NotAnObject` if the
+    /// value isn't an object, and `Missing` if the member is absent. If the member isn't such a
+    /// list, returns `Float` if it contains a float, and else `Refused`. Also returns `Refused` if
+    /// one of its texts has 2^30 bytes or more and its URL has 4 GB or more. Returns `OutOfMemory`
+    /// if an allocation fails, or if the URL of a shorter text has 4 GB or more; both can only
+    /// happen for a list.
     #[tactic(auto, unfolding(crate::specs::WellKnown::well_known_in, passkey_json::specs::Members::required))]
     pub fn from_json(alloc: Global, value: &Value) -> Result<WellKnown, JsonFault>
-        ensures { GivesUrls (origins_in (view value.now)) (λ document. document.origins.items) (in_object well_known_in (view value.now)) result }
+        ensures { GivesUrls (origins_in (view value.now)) (λ document. document.origins.items)
+            (in_object well_known_in (view value.now)) result }
     {
         if !value.is_object() {
             return Err(JsonFault::NotAnObject);
@@ -61,7 +64,7 @@ impl WellKnown {
         }
     }
 
-    /// Encodes the document: an object whose member `origins` is the list of the URLs.
+    /// Encodes the document: an object whose member `origins` is the list of the URLs. Returns
     /// `OutOfMemory` if an allocation fails.
     pub fn to_json(&self, alloc: Global) -> Result<Value, OutOfMemory>
         ensures { IfOk result (λ v. view v ≡ well_known_json self.now.origins.items) }
@@ -75,7 +78,7 @@ impl WellKnown {
     }
 }
 
-/// The list of the URLs' texts.
+/// Returns the list of the URLs as texts.
 fn texts_of(alloc: Global, urls: &[Url]) -> Result<Value, OutOfMemory>
     ensures { IfOk result (λ v. view v ≡ urls_json urls.now) }
 {

@@ -37,7 +37,7 @@ impl Iterator for AttestedCredentialDataIterator {
 
     ghost remaining = { λ left. at_most (length left) };
 
-    /// The next byte; `None` at the end, and from then on. Allocates nothing.
+    /// Returns the next byte; `None` at the end, and on every later call. Allocates nothing.
     fn next(&mut self) -> Option<u8> {
         self.0.next()
     }
@@ -61,7 +61,7 @@ impl AttestedCredentialData {
     }
 
     /// Iterates over the encoded data, without further allocations. If an allocation fails, the
-    /// data come back.
+    /// error returns the data unchanged.
     pub fn try_into_iter(
         self,
         alloc: Global,

@@ -21,7 +21,8 @@ fn are_extensions_readable(extensions: &Value) -> bool
 }
 
 fn attested_agrees(flagged: bool, attested: &Option<AttestedCredentialData>) -> bool
-    ensures { result ≡ agrees (λ (a : AttestedParts). is_key_readable a.key) flagged (option_map attested_parts attested.now) }
+    ensures { result
+        ≡ agrees (λ (a : AttestedParts). is_key_readable a.key) flagged (option_map attested_parts attested.now) }
 {
     match attested {
         Some(attested) => flagged && attested.key.is_readable(),
@@ -39,10 +40,10 @@ fn extensions_agree(flagged: bool, extensions: &Option<Value>) -> bool
 }
 
 impl AuthenticatorData {
-    /// Whether what `to_vec` returns decodes to these data: AT and ED are set exactly if attested
-    /// credential data and extensions are present, bits 1 and 5 of the flags are clear, the key's
-    /// type isn't the reserved number 0, the extensions are a map, and the key and the extensions
-    /// have at most 256 levels each. Allocates nothing.
+    /// Whether the bytes that `to_vec` returns decode to this data: AT and ED are set exactly if
+    /// attested credential data and extensions are present, bits 1 and 5 of the flags are clear,
+    /// the key's type isn't the reserved number 0, the extensions are a map, and the key and the
+    /// extensions have at most 256 levels each. Allocates nothing.
     pub fn is_coherent(&self) -> bool
         ensures { result ≡ is_coherent (data_parts self.now) }
     {

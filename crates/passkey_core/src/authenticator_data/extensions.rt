@@ -2,7 +2,7 @@
 ghost use Rattle.std.specs.Prelude.{◌≡◌, IfOk, IfErr, OnErr, IsSome};
 ghost use Rattle.passkey_core.specs.DataViews.{data_parts};
 ghost use Rattle.passkey_core.specs.SignedOutputs.{creation_extensions, assertion_extensions, with_extensions};
-ghost use Rattle.passkey_core.specs.SignedPut.{Puts};
+ghost use Rattle.passkey_core.specs.SignedPut.{PutsExtensions};
 
 use crate::authenticator_data::AuthenticatorData;
 use crate::flags::Flags;
@@ -13,13 +13,13 @@ use passkey_memory::OutOfMemory;
 use std::alloc::Global;
 
 impl AuthenticatorData {
-    /// The data with these extensions, unchanged if there are none. If an allocation fails, the data
-    /// come back unchanged.
+    /// The data with these extensions, or unchanged if there are none. If an allocation failed, the
+    /// data is returned unchanged.
     fn put_extensions(
         mut self,
         extensions: Result<Option<Value>, OutOfMemory>,
     ) -> Result<AuthenticatorData, GivenBack<AuthenticatorData>>
-        ensures { Puts self extensions result }
+        ensures { PutsExtensions self extensions result }
     {
         match extensions {
             Ok(Some(extensions)) => {
@@ -31,30 +31,32 @@ impl AuthenticatorData {
         }
     }
 
-    /// The data with these extension outputs of a registration, which replace those it has, and
-    /// with ED set; unchanged if no output is present. If an allocation fails, the data come back
-    /// unchanged.
+    /// Returns the data with these extension outputs of a registration, which replace its own, and
+    /// with ED set; unchanged if no output is present. If an allocation fails, the error returns
+    /// the data unchanged.
     pub fn set_make_credential_extensions(
         self,
         alloc: Global,
         outputs: Option<make_credential::SignedExtensionOutputs>,
     ) -> Result<AuthenticatorData, GivenBack<AuthenticatorData>>
-        ensures put { IfOk result (λ d. data_parts d ≡ with_extensions (data_parts self) (creation_extensions outputs)) }
+        ensures put { IfOk result
+            (λ d. data_parts d ≡ with_extensions (data_parts self) (creation_extensions outputs)) }
         ensures back { IfErr result (λ e. e.value ≡ self) }
         ensures grows { OnErr result (IsSome (creation_extensions outputs)) }
     {
         self.put_extensions(make_credential::to_extensions(alloc, outputs))
     }
 
-    /// The data with these extension outputs of an assertion, which replace those it has, and with
-    /// ED set; unchanged if no output is present. If an allocation fails, the data come back
-    /// unchanged.
+    /// Returns the data with these extension outputs of an assertion, which replace its own, and
+    /// with ED set; unchanged if no output is present. If an allocation fails, the error returns
+    /// the data unchanged.
     pub fn set_assertion_extensions(
         self,
         alloc: Global,
         outputs: Option<get_assertion::SignedExtensionOutputs>,
     ) -> Result<AuthenticatorData, GivenBack<AuthenticatorData>>
-        ensures put { IfOk result (λ d. data_parts d ≡ with_extensions (data_parts self) (assertion_extensions outputs)) }
+        ensures put { IfOk result
+            (λ d. data_parts d ≡ with_extensions (data_parts self) (assertion_extensions outputs)) }
         ensures back { IfErr result (λ e. e.value ≡ self) }
         ensures grows { OnErr result (IsSome (assertion_extensions outputs)) }
     {

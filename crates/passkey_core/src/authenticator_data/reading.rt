@@ -1,12 +1,12 @@
-//! Bytes to authenticator data.
+//! Decoding authenticator data.
 ghost use Rattle.std.specs.Prelude.{◌≡◌, ◌+◌, ◌*◌, ◌<◌, ◌≤◌, ◌^◌, true, Ok, length, min, option_map, IfOk, IfErr};
 ghost use Rattle.std.specs.Result.{result_map_both};
-ghost use Rattle.passkey_cbor.specs.Reads.{HasGrowingFront};
+ghost use Rattle.passkey_cbor.specs.Reads.{HasGrowingLeadingItem};
 ghost use Rattle.passkey_cbor.specs.View.{item_of};
 ghost use Rattle.passkey_cbor.specs.Walk.{raised};
 ghost use Rattle.passkey_cose.specs.Key.{key_parts};
 ghost use Rattle.passkey_cose.specs.KeyReading.{read_key};
-ghost use Rattle.passkey_core.specs.DataAnswers.{Gives};
+ghost use Rattle.passkey_core.specs.DataAnswers.{Returns};
 ghost use Rattle.passkey_core.specs.DataCounts.{Counts};
 ghost use Rattle.passkey_core.specs.DataNodes.{count_key, count_where, data_nodes, data_places};
 ghost use Rattle.passkey_core.specs.DataReading.{bytes_at, fixed_at, ids_at, read_map, ReadsItem, ReadsAttested, ReadsWhere, ReadsData, AttestedGrows, DataGrow};
@@ -20,7 +20,7 @@ use passkey_cbor::{Count, Cursor, Value};
 use passkey_cose::{CoseError, CoseKey};
 use std::alloc::Global;
 
-/// A part that begins the bytes, and the bytes behind it.
+/// A part at the beginning of the bytes, and the bytes after it.
 type Begun<'a, T> = Result<(T, &'a [u8]), CoseError>;
 
 fn chunk_at<const N: usize>(bytes: &[u8]) -> Begun<'_, [u8; N]>
@@ -41,7 +41,7 @@ fn slice_at(bytes: &[u8], n: usize) -> Begun<'_, &[u8]>
     }
 }
 
-/// The hash, the flags and the counter.
+/// The relying party id's hash, the flags and the signature counter.
 #[tactic(auto, unfolding(crate::specs::DataReading::fixed_at))]
 fn read_fixed(bytes: &[u8]) -> Begun<'_, AuthenticatorData>
     ensures { result_map_both (λ r. (data_parts r.0, r.1.now)) (λ e. e) result ≡ fixed_at bytes.now }
@@ -74,7 +74,7 @@ fn read_ids(bytes: &[u8]) -> Begun<'_, (Aaguid, &[u8])>
     Ok(((Aaguid(aaguid), id), rest))
 }
 
-// Adds to the counts, each of which stops at `u128::MAX`.
+// Adds to the counts, each of which saturates at `u128::MAX`.
 fn add(count: &mut Count, more: Count)
     ensures heads { count.new.heads ≡ min (count.old.heads + more.heads) u128.MAX }
     ensures nodes { count.new.nodes ≡ min (count.old.nodes + more.nodes) u128.MAX }
@@ -86,7 +86,7 @@ fn add(count: &mut Count, more: Count)
 }
 
 fn read_item<'a>(alloc: Global, bytes: &'a [u8], count: &mut Count) -> Begun<'a, Value>
-    ensures value { Gives (HasGrowingFront bytes.now) (λ r. (item_of r.0, r.1.now))
+    ensures value { Returns (HasGrowingLeadingItem bytes.now) (λ r. (item_of r.0, r.1.now))
         (ReadsItem Ok bytes.now) result }
     ensures counts { Counts (λ each. each bytes.now) bytes.now count.old count.new result }
 {
@@ -98,7 +98,7 @@ fn read_item<'a>(alloc: Global, bytes: &'a [u8], count: &mut Count) -> Begun<'a,
 }
 
 fn read_key<'a>(alloc: Global, bytes: &'a [u8], count: &mut Count) -> Begun<'a, CoseKey>
-    ensures value { Gives (HasGrowingFront bytes.now) (λ r. (key_parts r.0, r.1.now))
+    ensures value { Returns (HasGrowingLeadingItem bytes.now) (λ r. (key_parts r.0, r.1.now))
         (ReadsItem read_key bytes.now) result }
     ensures counts { Counts (λ each. each bytes.now) bytes.now count.old count.new result }
 {
@@ -107,7 +107,7 @@ fn read_key<'a>(alloc: Global, bytes: &'a [u8], count: &mut Count) -> Begun<'a, 
 }
 
 fn read_extensions<'a>(alloc: Global, bytes: &'a [u8], count: &mut Count) -> Begun<'a, Value>
-    ensures value { Gives (HasGrowingFront bytes.now) (λ r. (item_of r.0, r.1.now))
+    ensures value { Returns (HasGrowingLeadingItem bytes.now) (λ r. (item_of r.0, r.1.now))
         (ReadsItem read_map bytes.now) result }
     ensures counts { Counts (λ each. each bytes.now) bytes.now count.old count.new result }
 {
@@ -123,7 +123,7 @@ fn read_attested<'a>(
     bytes: &'a [u8],
     count: &mut Count,
 ) -> Begun<'a, AttestedCredentialData>
-    ensures value { Gives (AttestedGrows bytes.now) (λ r. (attested_parts r.0, r.1.now))
+    ensures value { Returns (AttestedGrows bytes.now) (λ r. (attested_parts r.0, r.1.now))
         (ReadsAttested bytes.now) result }
     ensures counts { Counts (λ each. count_key each bytes.now) bytes.now count.old count.new result }
 {
@@ -143,7 +143,8 @@ fn read_attested_where<'a>(
     bytes: &'a [u8],
     count: &mut Count,
 ) -> Begun<'a, Option<AttestedCredentialData>>
-    ensures value { Gives ((is_there ≡ true) × AttestedGrows bytes.now) (λ r. (option_map attested_parts r.0, r.1.now))
+    ensures value { Returns ((is_there ≡ true) × AttestedGrows bytes.now)
+        (λ r. (option_map attested_parts r.0, r.1.now))
         (ReadsWhere is_there ReadsAttested bytes.now) result }
     ensures there { IfErr result (λ e. is_there ≡ true) }
     ensures counts { Counts (λ each. count_where is_there (count_key each) bytes.now) bytes.now
@@ -162,7 +163,8 @@ fn read_extensions_where<'a>(
     bytes: &'a [u8],
     count: &mut Count,
 ) -> Begun<'a, Option<Value>>
-    ensures value { Gives ((is_there ≡ true) × HasGrowingFront bytes.now) (λ r. (option_map item_of r.0, r.1.now))
+    ensures value { Returns ((is_there ≡ true) × HasGrowingLeadingItem bytes.now)
+        (λ r. (option_map item_of r.0, r.1.now))
         (ReadsWhere is_there (ReadsItem read_map) bytes.now) result }
     ensures counts { Counts (λ each. count_where is_there each bytes.now) bytes.now
         count.old count.new result }
@@ -175,44 +177,45 @@ fn read_extensions_where<'a>(
 }
 
 impl AuthenticatorData {
-    /// Decodes the data that the bytes begin with (WebAuthn Level 3, section 6.1): 32 bytes of hash,
-    /// one of flags, a counter of 4 bytes, big-endian; if AT is set, attested credential data, which
-    /// are 16 bytes of AAGUID, a length of 2 bytes, big-endian, a credential id of that length, and
-    /// a key; and if ED is set, a map. Bytes after the last part are ignored.
+    /// Decodes authenticator data at the beginning of the bytes (WebAuthn Level 3, section 6.1):
+    /// the relying party id's hash of 32 bytes, the flags byte, and the signature counter of 4
+    /// bytes, big-endian; if AT is set, attested credential data: an AAGUID of 16 bytes, a length
+    /// of 2 bytes, big-endian, a credential id of that length, and a key; and if ED is set, a map.
+    /// Bytes after the last part are ignored.
     ///
-    /// `DecodeFailed` if there are fewer than 37 bytes, the attested credential data are cut off, or
-    /// no well-formed data item of at most 256 levels is where the key or the extensions should be;
-    /// `OutOfRangeIntegerValue` if bit 1 or 5 of the flags is set; the error of
-    /// `CoseKey::from_value` if the item is no key; `UnexpectedItem` if the extensions are no map.
-    /// The first fault is returned: that of the length, that of the flags, and then from the first
-    /// byte to the last.
+    /// `DecodeFailed` if there are fewer than 37 bytes, the attested credential data is truncated,
+    /// or no well-formed data item of at most 256 levels is where the key or the extensions should
+    /// be; `OutOfRangeIntegerValue` if bit 1 or 5 of the flags is set; the error of
+    /// `CoseKey::from_value` if the data item is no key; `UnexpectedItem` if the extensions are no
+    /// map. The first error is returned: that of the length, that of the flags, and then from the
+    /// first byte to the last.
     ///
-    /// `OutOfMemory` if an allocation fails for a well-formed item that is there as the key or the
-    /// extensions, with AT or ED set and no fault before it. The item is decoded before it is
-    /// checked, so `OutOfMemory` may hide that it is no key or no map. Never if neither AT nor ED is
-    /// set.
+    /// `OutOfMemory` if an allocation fails for a well-formed data item that is present as the key
+    /// or the extensions, with AT or ED set and no error before it. The data item is decoded before
+    /// it is checked, so `OutOfMemory` may hide that it is no key or no map. Never if neither AT
+    /// nor ED is set.
     pub fn from_slice(alloc: Global, bytes: &[u8]) -> Result<AuthenticatorData, CoseError>
-        ensures { Gives (DataGrow bytes.now) data_parts (ReadsData bytes.now) result }
+        ensures { Returns (DataGrow bytes.now) data_parts (ReadsData bytes.now) result }
     {
         let mut count = Count { heads: 0, nodes: 0 };
         AuthenticatorData::from_slice_counted(alloc, bytes, &mut count)
     }
 
-    /// Returns what `from_slice` returns, and adds to `count` what that costs, also if it is an
-    /// error. Neither count falls, and each stops at `u128::MAX`.
+    /// Returns what `from_slice` returns, and adds its cost to `count`, even if it returns an
+    /// error. Neither count decreases, and each saturates at `u128::MAX`.
     ///
-    /// `heads`: at most four for each byte, and four more (RFC 8949, section 3). At least one if
-    /// decoding comes to a data item: if AT or ED is set, and what precedes the item has no fault.
+    /// `heads`: at most four for each byte, and four more (RFC 8949, section 3). At least one if a
+    /// data item is decoded: if AT or ED is set, and there is no error before the data item.
     ///
-    /// `nodes`: one for each data item that is made for the key or the extensions, nested ones
-    /// included. At most as many as there are in the two items, and on `Ok` exactly as many. An item
-    /// that is no key or no map was made, and counts as well.
+    /// `nodes`: one for each data item that is built for the key or the extensions, nested ones
+    /// included. At most as many as there are in these two, and on `Ok` exactly as many. A data
+    /// item that is no key or no map is built as well, and counted.
     pub fn from_slice_counted(
         alloc: Global,
         bytes: &[u8],
         count: &mut Count,
     ) -> Result<AuthenticatorData, CoseError>
-        ensures value { Gives (DataGrow bytes.now) data_parts (ReadsData bytes.now) result }
+        ensures value { Returns (DataGrow bytes.now) data_parts (ReadsData bytes.now) result }
         ensures heads { count.new.heads ≤ count.old.heads + (4 * length bytes.now + 4) }
         ensures nodes { count.new.nodes ≤ count.old.nodes + data_nodes bytes.now }
         ensures least { 0 < data_places bytes.now → raised count.old.heads 1 ≤ count.new.heads }

@@ -3,7 +3,7 @@ ghost use Rattle.std.specs.Prelude.{◌≡◌, ◌++◌, [], unwrap_or, option_m
 ghost use Rattle.passkey_cbor.specs.View.{item_of};
 ghost use Rattle.passkey_cbor.specs.Writable.{IsWritable};
 ghost use Rattle.passkey_cbor.specs.Written.{written};
-ghost use Rattle.passkey_core.specs.DataNormal.{Where, IsAttested, IsData};
+ghost use Rattle.passkey_core.specs.DataNormal.{IfPresent, IsAttested, IsData};
 ghost use Rattle.passkey_core.specs.DataViews.{attested_parts, data_parts};
 ghost use Rattle.passkey_core.specs.DataWritten.{attested_written, flags_written, data_written};
 
@@ -19,8 +19,9 @@ fn push_attested(
     out: &mut Vec<u8>,
     attested: &Option<AttestedCredentialData>,
 ) -> Result<(), OutOfMemory>
-    ensures written { OnOk result (out.new.items ≡ out.old.items ++ unwrap_or (option_map attested_written (option_map attested_parts attested.now)) []) }
-    ensures valid { OnOk result (Where IsAttested (option_map attested_parts attested.now)) }
+    ensures written { OnOk result (out.new.items
+        ≡ out.old.items ++ unwrap_or (option_map attested_written (option_map attested_parts attested.now)) []) }
+    ensures valid { OnOk result (IfPresent IsAttested (option_map attested_parts attested.now)) }
 {
     if let Some(attested) = attested {
         out.extend_from_slice(&attested.to_vec(alloc)?)?;
@@ -33,8 +34,9 @@ fn push_extensions(
     out: &mut Vec<u8>,
     extensions: &Option<Value>,
 ) -> Result<(), OutOfMemory>
-    ensures written { OnOk result (out.new.items ≡ out.old.items ++ unwrap_or (option_map written (option_map item_of extensions.now)) []) }
-    ensures writable { OnOk result (Where IsWritable (option_map item_of extensions.now)) }
+    ensures written { OnOk result
+        (out.new.items ≡ out.old.items ++ unwrap_or (option_map written (option_map item_of extensions.now)) []) }
+    ensures writable { OnOk result (IfPresent IsWritable (option_map item_of extensions.now)) }
 {
     if let Some(extensions) = extensions {
         out.extend_from_slice(&extensions.to_vec(alloc)?)?;
@@ -43,7 +45,7 @@ fn push_extensions(
 }
 
 impl AuthenticatorData {
-    /// The flags as they are encoded: AT is set if attested credential data is present.
+    /// The flags as they are encoded: with AT set if attested credential data is present.
     fn written_flags(&self) -> Flags
         ensures { result.0 ≡ flags_written (data_parts self.now).flags (data_parts self.now).attested }
     {
@@ -53,12 +55,12 @@ impl AuthenticatorData {
         }
     }
 
-    /// Encodes the data (WebAuthn Level 3, section 6.1): the hash, the flags, with AT set if
-    /// attested credential data is present, the counter in 4 bytes, big-endian, 0 if it is absent,
-    /// then the attested credential data and the extensions, each if present. `OutOfMemory` if an
-    /// allocation fails. Decoding rejects no member of the key.
+    /// Encodes the data (WebAuthn Level 3, section 6.1): the relying party id's hash; the flags,
+    /// with AT set if attested credential data is present; the counter in 4 bytes, big-endian, 0 if
+    /// it is absent; then the attested credential data and the extensions, each if present.
+    /// `OutOfMemory` if an allocation fails. Decoding rejects no member of the key.
     ///
-    /// Data that aren't coherent are encoded all the same, but the bytes may not decode to them.
+    /// Data that isn't coherent is encoded all the same, but the bytes may not decode to it.
     pub fn to_vec(&self, alloc: Global) -> Result<Vec<u8>, OutOfMemory>
         ensures written { IfOk result (λ bytes. bytes.items ≡ data_written (data_parts self.now)) }
         ensures valid { OnOk result (IsData (data_parts self.now)) }

@@ -223,7 +223,8 @@ impl Ord for Ctap2Error {
 impl PartialOrd for Ctap2Error {
     ghost partial_cmp = { as_partial_cmp (on ctap2_error_byte nat_cmp) };
 
-    ghost laws = { partial_order_from_own_ties (Prim.search (comparing, rules)) (λ a b. unsigned_ties (ctap2_error_byte a) (ctap2_error_byte b)) };
+    ghost laws = { partial_order_from_own_ties (Prim.search (comparing, rules))
+        (λ a b. unsigned_ties (ctap2_error_byte a) (ctap2_error_byte b)) };
 
     fn partial_cmp(&self, other: &Ctap2Error) -> Option<Ordering> {
         Some(self.cmp(other))

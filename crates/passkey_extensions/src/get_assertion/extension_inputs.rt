@@ -17,7 +17,8 @@ use passkey_memory::OutOfMemory;
 use std::alloc::Global;
 
 /// The extension inputs of an authenticatorGetAssertion request (CTAP 2.1, section 6.2). `None`
-/// means that an input is absent; one that can't be decoded, such as null, becomes `None`.
+/// means that the input is absent; an input that can't be decoded, such as null, also decodes to
+/// `None`.
 #[derive(Debug, Drop)]
 pub struct ExtensionInputs {
     /// `hmac-secret`: one or two salts, encrypted.
@@ -37,8 +38,8 @@ impl ExtensionInputs {
         }
     }
 
-    /// Returns whether the inputs are encoded with at most 255 levels, so that the message around
-    /// them has at most 256. Allocates nothing.
+    /// Returns whether the encoding of the inputs has at most 255 nesting levels, so that a message
+    /// with them has at most 256. Allocates nothing.
     pub fn fits_in_message(&self) -> bool
         ensures { result ≡ nat_le (depth (get_extensions_tree (get_extensions_parts self.now))) 255 }
     {

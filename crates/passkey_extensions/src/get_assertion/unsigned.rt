@@ -19,7 +19,7 @@ use std::alloc::Global;
 /// authenticator data (WebAuthn Level 3, section 9).
 #[derive(Debug, Drop)]
 pub struct UnsignedExtensionOutputs {
-    /// `prf`: the outputs for the salts. `None` means there are none; it is encoded as null.
+    /// `prf`: the outputs for the salts. `None` means that there are none, and is encoded as null.
     pub prf: Option<AuthenticatorPrfGetOutputs>,
 }
 

@@ -17,7 +17,7 @@ use passkey_memory::OutOfMemory;
 use std::alloc::Global;
 
 /// The extension inputs of an authenticatorMakeCredential request (CTAP 2.1, section 6.1). `None`
-/// means that an input is absent; null decodes to it, too.
+/// means that the input is absent; null also decodes to `None`.
 #[derive(Debug, Drop, PartialEq)]
 pub struct ExtensionInputs {
     /// `hmac-secret`: whether the new credential is to support the extension.
@@ -40,8 +40,8 @@ impl ExtensionInputs {
         }
     }
 
-    /// Returns whether the inputs are encoded with at most 255 levels, so that the message around
-    /// them has at most 256. Allocates nothing.
+    /// Returns whether the encoding of the inputs has at most 255 nesting levels, so that a message
+    /// with them has at most 256. Allocates nothing.
     pub fn fits_in_message(&self) -> bool
         ensures { result ≡ nat_le (depth (make_extensions_tree (make_extensions_parts self.now))) 255 }
     {

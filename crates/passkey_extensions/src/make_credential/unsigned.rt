@@ -19,8 +19,8 @@ use std::alloc::Global;
 /// authenticator data (WebAuthn Level 3, section 9).
 #[derive(Debug, Drop)]
 pub struct UnsignedExtensionOutputs {
-    /// `prf`: whether it is enabled, and the outputs for the salts. `None` means there are none; it
-    /// is encoded as null.
+    /// `prf`: whether it is enabled, and the outputs for the salts. `None` means that there are
+    /// none, and is encoded as null.
     pub prf: Option<AuthenticatorPrfMakeOutputs>,
 }
 

@@ -36,7 +36,7 @@ enum Ending {
     TakesNone,
 }
 
-// Takes bytes one at a time, without an allocation, and none at the write after this many.
+// Takes bytes one at a time, without an allocation, and takes none at the write after this many.
 #[derive(Drop)]
 struct SlowWriter {
     taken: [u8; 512],
@@ -168,7 +168,7 @@ fn assert_shows_unless_refused(rt: &(impl Abort + AllocGlobal), input: &str, wan
     assert_eq!(rt; digits, want.as_bytes());
 }
 
-// For `rt try --test --fail-alloc N`, with which the Nth allocation of each test fails.
+// For `rt try --test --fail-alloc N`, which makes the Nth allocation of each test fail.
 #[test]
 fn indefinite_array(rt: HostRuntime) {
     assert_shows_unless_refused(&rt, "9f1801ff", "8101");

@@ -2,7 +2,7 @@ use super::{assert_fails, assert_shows};
 use passkey_rewrite::RunFault;
 use std::test::Fail;
 
-// An array with items of every type and every form of head, and what it is encoded as.
+// An array with items of every type and every form of head, and its encoding.
 pub(super) const EVERY_KIND: (&str, &str) = (
     concat!(
         "9822",
@@ -80,7 +80,7 @@ pub(super) const EVERY_KIND: (&str, &str) = (
     ),
 );
 
-// White space with line feeds at the ends.
+// Inputs with white space and line feeds at the ends.
 const SHOWN: &[(&str, &str)] = &[
     (" \t\r\n9f1801ff\n", "8101"),
     ("9f1801ff\r\n\r\n", "8101"),
@@ -95,7 +95,7 @@ fn shows_inputs_with_line_feeds(rt: HostRuntime) -> Result<(), Fail> {
     Ok(())
 }
 
-// No complete data item, no hexadecimal, and no JSON text in UTF-8.
+// Not a complete data item, not hexadecimal, and not a JSON text in UTF-8.
 const REFUSED: &[(&str, &[u8], &str)] = &[
     ("cbor", b"", "DecodeFailed"),
     ("cbor", b"\n", "DecodeFailed"),
@@ -115,7 +115,7 @@ fn refuses_inputs(rt: HostRuntime) -> Result<(), Fail> {
     Ok(())
 }
 
-// Faults of the program itself, which no row has.
+// Faults of the program itself, for which there is no row.
 #[test]
 fn faults_have_lines_and_statuses(rt: HostRuntime) -> Result<(), Fail> {
     for (fault, line, status) in [

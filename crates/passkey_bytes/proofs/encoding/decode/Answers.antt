@@ -17,14 +17,17 @@ none_decoded : {T E : Type 0} (r : Result T E) → is_ok r ≡ false → None �
 none_decoded (Ok x) bad = absurd (true≢false bad)
 none_decoded (Err e) bad = refl
 
-some_decoded : (e : GeneralPurpose) (s : List ℕ) (r : Result (List ℕ) _) → 0 < length s → decode_of e s ≡ r → is_ok r ≡ true → IsSomeAnd (result_ok r) (λ bytes. 0 < length bytes)
+some_decoded : (e : GeneralPurpose) (s : List ℕ) (r : Result (List ℕ) _) → 0 < length s → decode_of e s ≡ r
+    → is_ok r ≡ true → IsSomeAnd (result_ok r) (λ bytes. 0 < length bytes)
 some_decoded e s (Ok b) some is good = some_bytes e s b some is
 some_decoded e s (Err x) some is good = absurd (true≢false (sym good))
 
 pub returns-then-is_empty-clause-same : goal.returns-then-is_empty-clause-same
 returns-then-is_empty-clause-same c =
-    let empty : c.args.symbols.now ≡ [] = empty_list c.args.symbols.now c.is_empty.result c.is_empty.ensures c.if-is_empty.true in
-    ap Some c.new.ensures.items ∙ sym (ap (λ s. result_ok (decode_of c.args.engine.now s)) empty ∙ nothing_decoded c.args.engine.now)
+    let empty : c.args.symbols.now ≡ [] =
+    empty_list c.args.symbols.now c.is_empty.result c.is_empty.ensures c.if-is_empty.true in
+    ap Some c.new.ensures.items
+    ∙ sym (ap (λ s. result_ok (decode_of c.args.engine.now s)) empty ∙ nothing_decoded c.args.engine.now)
 
 pub returns-then-not-is_decodable-clause-same : goal.returns-then-not-is_decodable-clause-same
 returns-then-not-is_decodable-clause-same c =
@@ -34,5 +37,7 @@ returns-then-not-is_decodable-clause-same c =
 pub returns-else-not-is_decodable-clause-grows : goal.returns-else-not-is_decodable-clause-grows
 returns-else-not-is_decodable-clause-grows c =
     let good : is_ok (decode_of c.args.engine.now c.args.symbols.now) ≡ true = search rules in
-    let some : 0 < length c.args.symbols.now = filled_list c.args.symbols.now c.is_empty.result c.is_empty.ensures c.if-is_empty.false in
-    some_decoded c.args.engine.now c.args.symbols.now (decode_of c.args.engine.now c.args.symbols.now) some refl good
+    let some : 0 < length c.args.symbols.now =
+    filled_list c.args.symbols.now c.is_empty.result c.is_empty.ensures c.if-is_empty.false in
+    some_decoded c.args.engine.now c.args.symbols.now (decode_of c.args.engine.now c.args.symbols.now) some refl
+    good

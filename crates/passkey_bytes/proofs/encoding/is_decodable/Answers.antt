@@ -18,5 +18,6 @@ loop-rest-preserved c =
     let rest = c.loop-rest.rest.now in
     let good : is_ok (decode_of engine (window rest)) ≡ true = search rules in
     let whole = group_by_group engine rest c.requires c.loop-rest-test.true in
-    let further : is_ok (decode_of engine (drop 4 rest)) ≡ is_ok (decode_of engine c.args.symbols.now) = sym (ap (λ b. b && is_ok (decode_of engine (drop 4 rest))) good) ∙ sym whole ∙ c.loop-rest.invariant in
+    let further : is_ok (decode_of engine (drop 4 rest)) ≡ is_ok (decode_of engine c.args.symbols.now) =
+    sym (ap (λ b. b && is_ok (decode_of engine (drop 4 rest))) good) ∙ sym whole ∙ c.loop-rest.invariant in
     search rules

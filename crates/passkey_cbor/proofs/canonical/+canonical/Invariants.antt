@@ -21,7 +21,8 @@ abbrev pub decreases-behind_items-loop-left : goal.decreases-behind_items-loop-l
 decreases-behind_items-loop-left l = l.left
 
 abbrev pub invariant-behind_pairs-loop-left : goal.invariant-behind_pairs-loop-left
-invariant-behind_pairs-loop-left l = PairsGo l.fn.levels l.fn.count l.fn.bytes l.left (option_map (λ k. k.now) l.before) l.rest
+invariant-behind_pairs-loop-left l =
+    PairsGo l.fn.levels l.fn.count l.fn.bytes l.left (option_map (λ k. k.now) l.before) l.rest
 
 abbrev pub decreases-behind_pairs-loop-left : goal.decreases-behind_pairs-loop-left
 decreases-behind_pairs-loop-left l = l.left

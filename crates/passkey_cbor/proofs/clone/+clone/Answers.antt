@@ -8,17 +8,26 @@ use Rattle.passkey_cbor.proofs.clone.+clone.Goals as goal
 pub copy-returns-in_err-copy_pairs-in-Map-clause-grows :
     goal.copy-returns-in_err-copy_pairs-in-Map-clause-grows
 copy-returns-in_err-copy_pairs-in-Map-clause-grows t c =
-    rw (c.in-Map.is, item_of-Map c.in-Map.pairs, ← c.deref-in-Map.ensures.value) (on_err c.from_residual-in_err-copy_pairs-in-Map.result c.in_err-copy_pairs-in-Map.ensures.grows)
+    rw (c.in-Map.is, item_of-Map c.in-Map.pairs, ← c.deref-in-Map.ensures.value)
+    (on_err c.from_residual-in_err-copy_pairs-in-Map.result c.in_err-copy_pairs-in-Map.ensures.grows)
 
 pub copy_items-returns-in_err-copies-clause-grows :
     goal.copy_items-returns-in_err-copies-clause-grows
-copy_items-returns-in_err-copies-clause-grows t c = on_err c.from_residual.result (array_grows c.args.items.now c.in_err-copies.ensures.succeeds)
+copy_items-returns-in_err-copies-clause-grows t c =
+    on_err c.from_residual.result (array_grows c.args.items.now c.in_err-copies.ensures.succeeds)
 
 pub copy_pairs-returns-in_err-copies-clause-grows :
     goal.copy_pairs-returns-in_err-copies-clause-grows
-copy_pairs-returns-in_err-copies-clause-grows t c = on_err c.from_residual.result (map_grows c.args.pairs.now c.in_err-copies.ensures.succeeds)
+copy_pairs-returns-in_err-copies-clause-grows t c =
+    on_err c.from_residual.result (map_grows c.args.pairs.now c.in_err-copies.ensures.succeeds)
 
 pub copy-returns-in_ok-copy_pairs-in-Map-clause-same :
     goal.copy-returns-in_ok-copy_pairs-in-Map-clause-same
 copy-returns-in_ok-copy_pairs-in-Map-clause-same t c =
-    rw (c.in-Map.is, item_of-Map c.in_ok-copy_pairs-in-Map.field-0, item_of-Map c.in-Map.pairs, ← c.deref-in-Map.ensures.value) (ap (λ (ps : List (Item × Item)). map (pairs_of ps)) c.in_ok-copy_pairs-in-Map.ensures.same)
+    rw (
+      c.in-Map.is,
+      item_of-Map c.in_ok-copy_pairs-in-Map.field-0,
+      item_of-Map c.in-Map.pairs,
+      ← c.deref-in-Map.ensures.value,
+    )
+    (ap (λ (ps : List (Item × Item)). map (pairs_of ps)) c.in_ok-copy_pairs-in-Map.ensures.same)

@@ -9,5 +9,7 @@ not_both b e f = absurd cc
 
 pub returns-then-ne : goal.returns-then-ne
 returns-then-ne c rest e =
-    let same : c.split_at.result.0.now ≡ c.args.front.now = c.split_at.ensures.front ∙ ap (take (length c.args.front.now)) e ∙ take_at c.args.front.now rest (length c.args.front.now) refl in
-    not_both (bytes_eq c.split_at.result.0.now c.args.front.now) c.if-ne.ensures ((bytes_eq-Decides c.split_at.result.0.now c.args.front.now).1 same)
+    let same : c.split_at.result.0.now ≡ c.args.front.now = c.split_at.ensures.front
+    ∙ ap (take (length c.args.front.now)) e ∙ take_at c.args.front.now rest (length c.args.front.now) refl in
+    not_both (bytes_eq c.split_at.result.0.now c.args.front.now) c.if-ne.ensures
+    ((bytes_eq-Decides c.split_at.result.0.now c.args.front.now).1 same)

@@ -9,4 +9,5 @@ abbrev pub invariant-loop-name : goal.invariant-loop-name
 invariant-loop-name l =
     members_have_float (members_view l.members) ≡ false →
     (members_have_float (members_view (drop l.name-index l.members)) ≡ false)
-    × (string_bytes l.text ++ later_text (members_view (drop l.name-index l.members)) ≡ string_bytes l.fn.text ++ later_text (members_view l.members))
+    × (string_bytes l.text ++ later_text (members_view (drop l.name-index l.members))
+    ≡ string_bytes l.fn.text ++ later_text (members_view l.members))

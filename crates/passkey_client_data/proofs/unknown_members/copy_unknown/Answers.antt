@@ -16,4 +16,5 @@ returns-in_err-put_copy-clause-grows g c =
     let all = members_where (is_unknown g.E.ClientDataExtra.has) (members_view c.args.members.now.entries) in
     let unknown = rw c.as_str.ensures.value at (sym c.is_unknown.ensures ∙ c.if-is_unknown.true) in
     let one : any_member left ≡ true = rw (c.in-Some.ensures.steps, unknown) refl in
-    on_any_error c.from_residual.result (any_left (members_view c.loop-name.copies.entries) left all one c.loop-name.invariant)
+    on_any_error c.from_residual.result
+    (any_left (members_view c.loop-name.copies.entries) left all one c.loop-name.invariant)

@@ -8,5 +8,6 @@ use Rattle.serde_json.specs.View.{members_view}
 
 abbrev pub invariant-loop-name : goal.invariant-loop-name
 invariant-loop-name g l =
-    added_all (members_view l.copies.entries) (members_where (is_unknown g.E.ClientDataExtra.has) (members_view l.name-iterator))
+    added_all (members_view l.copies.entries)
+    (members_where (is_unknown g.E.ClientDataExtra.has) (members_view l.name-iterator))
     ≡ added_all no_members (members_where (is_unknown g.E.ClientDataExtra.has) (members_view l.members.entries))

@@ -7,4 +7,5 @@ use Rattle.serde_json.specs.View.{members_view}
 
 pub returns : goal.returns
 returns c =
-    rw (c.in_ok-insert.ensures.entries, members_view-inserted, c.in_ok-from_str.ensures.ok) (ap (λ (d : Data). added c.args.name.now d (members_view c.args.copies.now.entries)) c.in_ok-copy.ensures.cases)
+    rw (c.in_ok-insert.ensures.entries, members_view-inserted, c.in_ok-from_str.ensures.ok) (ap
+    (λ (d : Data). added c.args.name.now d (members_view c.args.copies.now.entries)) c.in_ok-copy.ensures.cases)

@@ -2,4 +2,4 @@ use Rattle.passkey_core.proofs.DataBack.{data_back}
 use Rattle.passkey_core.proofs.laws.written_data_are_read_back.Goals as goal
 
 pub returns : goal.returns
-returns c = data_back c.written_is_front.ensures c.written_key_is_read_back.ensures
+returns c = data_back c.written_is_leading_item.ensures c.written_key_is_read_back.ensures

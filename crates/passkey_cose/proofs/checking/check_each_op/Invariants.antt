@@ -6,6 +6,7 @@ use Rattle.passkey_cose.proofs.checking.check_each_op.Given as goal
 
 abbrev pub invariant-loop-i : goal.invariant-loop-i
 invariant-loop-i l = record {
-  left : first_op_fault (map item_of (take l.i l.ops)) (map item_of (drop l.i l.ops)) ≡ first_op_fault [] (map item_of l.ops);
+  left : first_op_fault (map item_of (take l.i l.ops)) (map item_of (drop l.i l.ops))
+      ≡ first_op_fault [] (map item_of l.ops);
   held : Holds l.seen (map item_of (take l.i l.ops));
 }

@@ -6,6 +6,7 @@ use Rattle.passkey_cose.proofs.checking.check_members.Given as goal
 
 abbrev pub invariant-loop-i : goal.invariant-loop-i
 invariant-loop-i l = record {
-  left : first_fault (map pair_of (take l.i l.members)) (map pair_of (drop l.i l.members)) ≡ first_fault [] (map pair_of l.members);
+  left : first_fault (map pair_of (take l.i l.members)) (map pair_of (drop l.i l.members))
+      ≡ first_fault [] (map pair_of l.members);
   held : Holds l.seen (labels_of (map pair_of (take l.i l.members)));
 }

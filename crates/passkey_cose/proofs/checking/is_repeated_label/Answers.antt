@@ -8,4 +8,5 @@ pub returns-in-Some-clause-value : goal.returns-in-Some-clause-value
 returns-in-Some-clause-value c =
     let earlier = map pair_of c.args.earlier.now in
     let label = item_of c.args.label.now in
-    not_new c.in-Some.is_new _ (c.in-Some.ensures.told (labels_of earlier) c.requires.held) ∙ has_label-labels_of earlier label
+    not_new c.in-Some.is_new _ (c.in-Some.ensures.told (labels_of earlier) c.requires.held)
+    ∙ has_label-labels_of earlier label

@@ -5,4 +5,5 @@ use Rattle.passkey_cose.specs.Registered.{named_of}
 use Rattle.passkey_cose.proofs.names.ops_are_names.Given as goal
 
 abbrev pub invariant-loop-op : goal.invariant-loop-op
-invariant-loop-op l = AreNames (map op_item (map named_of (drop l.op-index l.ops))) → AreNames (map op_item (map named_of l.ops))
+invariant-loop-op l = AreNames (map op_item (map named_of (drop l.op-index l.ops)))
+    → AreNames (map op_item (map named_of l.ops))

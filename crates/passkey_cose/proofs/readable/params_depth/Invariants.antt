@@ -6,4 +6,5 @@ use Rattle.passkey_cose.specs.KeyParams.{params_of}
 use Rattle.passkey_cose.proofs.readable.params_depth.Given as goal
 
 abbrev pub invariant-loop-label : goal.invariant-loop-label
-invariant-loop-label l = IsDeepest l.deepest (pairs_depth (pairs_of (params_of (drop l._label-index l.params)))) (pairs_depth (pairs_of (params_of l.params)))
+invariant-loop-label l = IsDeepest l.deepest (pairs_depth (pairs_of (params_of (drop l._label-index l.params))))
+    (pairs_depth (pairs_of (params_of l.params)))

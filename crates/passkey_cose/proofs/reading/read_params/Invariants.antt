@@ -7,6 +7,8 @@ use Rattle.passkey_cose.proofs.reading.read_params.Given as goal
 
 abbrev pub invariant-loop-label : goal.invariant-loop-label
 invariant-loop-label l = record {
-  done : params_of l.params.items ++ further (map pair_of (drop l.label-index l.members)) ≡ further (map pair_of l.members);
-  good : first_fault (map pair_of (take l.label-index l.members)) (map pair_of (drop l.label-index l.members)) ≡ None;
+  done : params_of l.params.items ++ further (map pair_of (drop l.label-index l.members))
+      ≡ further (map pair_of l.members);
+  good : first_fault (map pair_of (take l.label-index l.members)) (map pair_of (drop l.label-index l.members))
+      ≡ None;
 }

@@ -8,4 +8,5 @@ use Rattle.passkey_cose.proofs.with.stands_among.Goals as goal
 pub returns : goal.returns
 returns c =
     let label = label_item c.args.label.now in
-    c.is_some.ensures ∙ any_found label_item (λ (m : Item × Item). item_eq label m.0) (λ l. item_eq label (label_item l)) (λ p. refl) _ _ c.find.ensures
+    c.is_some.ensures ∙ any_found label_item (λ (m : Item × Item). item_eq label m.0)
+    (λ l. item_eq label (label_item l)) (λ p. refl) _ _ c.find.ensures

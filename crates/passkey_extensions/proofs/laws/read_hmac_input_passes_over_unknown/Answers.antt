@@ -4,4 +4,4 @@ use Rattle.passkey_extensions.proofs.laws.read_hmac_input_passes_over_unknown.Go
 use Rattle.passkey_kinds.proofs.RecordLaws.{skips_unknown}
 
 pub returns : goal.returns
-returns c = skips_unknown c.at_most_one_front.ensures hmac_input_parts hmac_input_fields
+returns c = skips_unknown c.at_most_one_leading_item.ensures hmac_input_parts hmac_input_fields

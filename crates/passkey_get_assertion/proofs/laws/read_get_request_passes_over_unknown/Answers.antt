@@ -4,4 +4,4 @@ use Rattle.passkey_get_assertion.proofs.laws.read_get_request_passes_over_unknow
 use Rattle.passkey_kinds.proofs.RecordLaws.{skips_unknown}
 
 pub returns : goal.returns
-returns c = skips_unknown c.at_most_one_front.ensures get_request_parts get_request_fields
+returns c = skips_unknown c.at_most_one_leading_item.ensures get_request_parts get_request_fields

@@ -4,4 +4,4 @@ use Rattle.passkey_get_assertion.proofs.laws.read_get_response_passes_over_unkno
 use Rattle.passkey_kinds.proofs.RecordLaws.{skips_unknown}
 
 pub returns : goal.returns
-returns c = skips_unknown c.at_most_one_front.ensures get_response_parts get_response_fields
+returns c = skips_unknown c.at_most_one_leading_item.ensures get_response_parts get_response_fields

@@ -6,7 +6,8 @@ use Rattle.serde_json.specs.Written.{items_have_float, members_have_float}
 abbrev pub invariant-elements_hold_float-loop-element :
     goal.invariant-elements_hold_float-loop-element
 invariant-elements_hold_float-loop-element l =
-    items_have_float (items_view l.element-items) ≡ items_have_float (items_view (drop l.element-index l.element-items))
+    items_have_float (items_view l.element-items)
+    ≡ items_have_float (items_view (drop l.element-index l.element-items))
 
 abbrev pub invariant-members_hold_float-loop-name : goal.invariant-members_hold_float-loop-name
 invariant-members_hold_float-loop-name l =

@@ -11,7 +11,8 @@ loop-piece-preserved c =
 
 pub returns-clause-whole : goal.returns-clause-whole
 returns-clause-whole c =
-    adds_all c.loop-piece.invariant c.in_default.ensures.looks c.in_default.ensures.piece c.whole.result c.whole.ensures
+    adds_all c.loop-piece.invariant c.in_default.ensures.looks c.in_default.ensures.piece c.whole.result
+    c.whole.ensures
 
 pub returns-clause-looks : goal.returns-clause-looks
 returns-clause-looks c =

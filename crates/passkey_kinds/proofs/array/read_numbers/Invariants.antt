@@ -6,4 +6,5 @@ use Rattle.passkey_kinds.proofs.array.read_numbers.Given as goal
 
 abbrev pub invariant-loop-i : goal.invariant-loop-i
 invariant-loop-i l =
-    (length l.bytes ≡ 32) × (each (below 256) (map item_of l.elements) ≡ set_before (below 256) item_of l.elements l.bytes l.i)
+    (length l.bytes ≡ 32)
+    × (each (below 256) (map item_of l.elements) ≡ set_before (below 256) item_of l.elements l.bytes l.i)

@@ -12,10 +12,13 @@ returns-in-Ok-clause-reads c = λ is to l.
     let r = c.in-Ok.ensures.reads is to l in
     record {
       answers = r.answers ∙ ap Some (map_same c.in-Ok.numbers ∙ sym c.bytes_of.ensures);
-      spends = subst (λ (k : ℕ). Spends 2 k to c.args.cursor.now c.read_elements.new.cursor) (kept_nothing is) r.spends;
+      spends =
+          subst (λ (k : ℕ). Spends 2 k to c.args.cursor.now c.read_elements.new.cursor) (kept_nothing is) r.spends;
       ends = r.ends;
     }
 
 pub returns-in-Err-clause-reads : goal.returns-in-Err-clause-reads
 returns-in-Err-clause-reads c = λ is to l.
-    seen_as (λ (xs : List ℕ). map (λ n. n) xs) (λ (b : List ℕ). b) (each (below 256) is) (each (below 256) is) (0 < length is) 2 (kept_all nothing is) 0 to c.args.cursor.now c.read_elements.new.cursor c.in-Err.refusal (kept_nothing is) (λ h. h) (c.in-Err.ensures.reads is to l)
+    seen_as (λ (xs : List ℕ). map (λ n. n) xs) (λ (b : List ℕ). b) (each (below 256) is) (each (below 256) is)
+    (0 < length is) 2 (kept_all nothing is) 0 to c.args.cursor.now c.read_elements.new.cursor c.in-Err.refusal
+    (kept_nothing is) (λ h. h) (c.in-Err.ensures.reads is to l)

@@ -10,5 +10,6 @@ returns-in-Ok c = text_read (text_bytes c.args.text.now) c.in-Ok.bytes c.in-Ok.e
 
 pub returns-in-Err-NotBase64Encoded : goal.returns-in-Err-NotBase64Encoded
 returns-in-Err-NotBase64Encoded c =
-    let told = subst (λ (e : BytesFault). ReadsText c.args.text.now (Err e)) c.in-Err-NotBase64Encoded.field-0-is c.in-Err-NotBase64Encoded.ensures in
+    let told = subst (λ (e : BytesFault). ReadsText c.args.text.now (Err e)) c.in-Err-NotBase64Encoded.field-0-is
+    c.in-Err-NotBase64Encoded.ensures in
     text_refused (text_bytes c.args.text.now) _ told

@@ -4,7 +4,8 @@ use Rattle.passkey_kinds.proofs.head.read_null.Goals as goal
 
 pub returns-in-Some-clause-reads : goal.returns-in-Some-clause-reads
 returns-in-Some-clause-reads c = λ i to l.
-    null_read c.args.cursor.now c.head.new.self c.in-Some.head i to c.is_null.result c.is_null.ensures c.in-Some.ensures.found (c.in-Some.ensures.opens i to l) l
+    null_read c.args.cursor.now c.head.new.self c.in-Some.head i to c.is_null.result c.is_null.ensures
+    c.in-Some.ensures.found (c.in-Some.ensures.opens i to l) l
 
 pub returns-in-Some-clause-onward : goal.returns-in-Some-clause-onward
 returns-in-Some-clause-onward c = onward_of c.args.cursor.now c.head.new.self c.in-Some.ensures.went

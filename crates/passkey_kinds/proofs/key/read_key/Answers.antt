@@ -11,10 +11,13 @@ pub returns-in-Some-clause-names : goal.returns-in-Some-clause-names
 returns-in-Some-clause-names c = λ key to l.
     let a = c.args.cursor.now in
     let f = c.in-Some.ensures.lends key to l in
-    let spent = lent_spends true a c.text.new.self c.with_text.new.cursor c.in-Some.token key to l c.in-Some.ensures.front f c.with_text.ensures.looks in
+    let spent = lent_spends true a c.text.new.self c.with_text.new.cursor c.in-Some.token key to l
+    c.in-Some.ensures.front f c.with_text.ensures.looks in
     record {
-      is = c.with_text.ensures.names f.0 f.1.1.tells ∙ sym (ap (names c.args.is_numbered (map entry_of c.args.rows.now)) f.1.0);
-      spends = eased 2 3 0 0 to a c.with_text.new.cursor (omega arith) (omega arith) (omega (arith, stands_long key a.bytes a.place to l)) spent.0;
+      is = c.with_text.ensures.names f.0 f.1.1.tells
+          ∙ sym (ap (names c.args.is_numbered (map entry_of c.args.rows.now)) f.1.0);
+      spends = eased 2 3 0 0 to a c.with_text.new.cursor (omega arith) (omega arith)
+          (omega (arith, stands_long key a.bytes a.place to l)) spent.0;
       ends = spent.1;
     }
 
@@ -25,12 +28,21 @@ returns-in-Some-bytes-clause-names c = λ key to l.
     let e = c.in-None.ensures.lends key to l in
     let there = stands_missed key a b to e.1 l in
     let f = c.in-Some-bytes.ensures.lends key to there in
-    let spent = lent_spends false b c.bytes.new.self c.with_bytes.new.cursor c.in-Some-bytes.token key to there c.in-Some-bytes.ensures.front f c.with_bytes.ensures.looks in
+    let spent = lent_spends false b c.bytes.new.self c.with_bytes.new.cursor c.in-Some-bytes.token key to there
+    c.in-Some-bytes.ensures.front f c.with_bytes.ensures.looks in
     record {
-      is = c.with_bytes.ensures.names f.0 f.1.1.tells ∙ sym (ap (names c.args.is_numbered (map entry_of c.args.rows.now)) f.1.0);
+      is = c.with_bytes.ensures.names f.0 f.1.1.tells
+          ∙ sym (ap (names c.args.is_numbered (map entry_of c.args.rows.now)) f.1.0);
       spends = record {
         within = spent.0.within;
-        heads = omega (arith, spent.0.heads, e.1.heads, e.1.place, ap (λ p. 2 * p) e.1.place, stands_long key a.bytes a.place to l);
+        heads = omega (
+          arith,
+          spent.0.heads,
+          e.1.heads,
+          e.1.place,
+          ap (λ p. 2 * p) e.1.place,
+          stands_long key a.bytes a.place to l,
+        );
         nodes = omega (arith, spent.0.nodes, e.1.nodes);
       };
       ends = spent.1;
@@ -48,10 +60,19 @@ returns-in-Some-read_unsigned-clause-names c = λ key to l.
     let r = c.in-Some-read_unsigned.ensures.reads key to here in
     let es = map entry_of c.args.rows.now in
     record {
-      is = c.of_number.ensures ∙ ap (λ o. number_names c.args.is_numbered o es) (c.byte.ensures ∙ ap fits_byte r.is) ∙ sym (names_number c.args.is_numbered es key e.0 f.0);
+      is = c.of_number.ensures ∙ ap (λ o. number_names c.args.is_numbered o es) (c.byte.ensures ∙ ap fits_byte r.is)
+          ∙ sym (names_number c.args.is_numbered es key e.0 f.0);
       spends = record {
         within = r.spends.within;
-        heads = omega (arith, r.spends.heads, e.1.heads, e.1.place, f.1.heads, f.1.place, stands_long key a.bytes a.place to l);
+        heads = omega (
+          arith,
+          r.spends.heads,
+          e.1.heads,
+          e.1.place,
+          f.1.heads,
+          f.1.place,
+          stands_long key a.bytes a.place to l,
+        );
         nodes = omega (arith, r.spends.nodes, e.1.nodes, f.1.nodes);
       };
       ends = if_some c.of_number.result (r.ends c.in-Some-read_unsigned.number refl);
@@ -69,10 +90,19 @@ returns-in-None-read_unsigned-clause-names c = λ key to l.
     let r = c.in-None-read_unsigned.ensures.reads key to here in
     let es = map entry_of c.args.rows.now in
     record {
-      is = none_wrong c.args.is_numbered es ∙ ap (λ o. number_names c.args.is_numbered (fits_byte o) es) r.is ∙ sym (names_number c.args.is_numbered es key e.0 f.0);
+      is = none_wrong c.args.is_numbered es ∙ ap (λ o. number_names c.args.is_numbered (fits_byte o) es) r.is
+          ∙ sym (names_number c.args.is_numbered es key e.0 f.0);
       spends = record {
         within = r.spends.within;
-        heads = omega (arith, r.spends.heads, e.1.heads, e.1.place, f.1.heads, f.1.place, stands_long key a.bytes a.place to l);
+        heads = omega (
+          arith,
+          r.spends.heads,
+          e.1.heads,
+          e.1.place,
+          f.1.heads,
+          f.1.place,
+          stands_long key a.bytes a.place to l,
+        );
         nodes = omega (arith, r.spends.nodes, e.1.nodes, f.1.nodes);
       };
       ends = tt;

@@ -1,8 +1,8 @@
 use Rattle.std.proofs.Common.{◌≡◌, ◌-◌, ◌++◌, ℕ, suc, List, length, map, option_map}
-use Rattle.passkey_cbor.specs.Front.{max_depth}
+use Rattle.passkey_cbor.specs.LeadingItem.{max_depth}
 use Rattle.passkey_cbor.specs.Inside.{Within}
 use Rattle.passkey_cbor.specs.Item.{Item}
-use Rattle.passkey_cbor.specs.Stands.{StandItems}
+use Rattle.passkey_cbor.specs.EncodedAt.{ItemsAreEncodedAt}
 use Rattle.passkey_kinds.specs.Kind.{each}
 use Rattle.passkey_kinds.specs.Reader.{Onward, kept_all}
 use Rattle.passkey_kinds.proofs.Loops.{EachTo}
@@ -11,7 +11,10 @@ use Rattle.passkey_kinds.proofs.list.read_elements.Given as goal
 abbrev pub invariant-loop-alloc : goal.invariant-loop-alloc
 invariant-loop-alloc g l = record {
   onward : Onward l.fn.cursor l.cursor;
-  each : (is : List Item) (to : ℕ) → StandItems l.fn.left is l.fn.cursor.bytes l.fn.cursor.place to → EachTo (Within max_depth) (λ rest. each g.T.FromCbor.kind is ≡ option_map (λ xs. map g.T.FromCbor.view l.read.items ++ xs) (each g.T.FromCbor.kind rest)) (kept_all g.T.FromCbor.keeps) (suc g.T.FromCbor.cost) l.left is to l.fn.cursor l.cursor;
+  each : (is : List Item) (to : ℕ) → ItemsAreEncodedAt l.fn.left is l.fn.cursor.bytes l.fn.cursor.place to
+      → EachTo (Within max_depth) (λ rest. each g.T.FromCbor.kind is
+      ≡ option_map (λ xs. map g.T.FromCbor.view l.read.items ++ xs) (each g.T.FromCbor.kind rest))
+      (kept_all g.T.FromCbor.keeps) (suc g.T.FromCbor.cost) l.left is to l.fn.cursor l.cursor;
 }
 
 abbrev pub decreases-loop-alloc : goal.decreases-loop-alloc

@@ -5,4 +5,5 @@ use Rattle.passkey_kinds.proofs.ShortFirst.{sorted_is}
 use Rattle.passkey_kinds.proofs.map.sort_pairs.Goals as goal
 
 pub returns : goal.returns
-returns c = sorted_is (λ p. key_size (item_of p.0)) c.args.pairs.now.items _ c.in_ok-sort_by_key.ensures.sorted c.in_ok-sort_by_key.ensures.stable (λ a r q k. search rules)
+returns c = sorted_is (λ p. key_size (item_of p.0)) c.args.pairs.now.items _ c.in_ok-sort_by_key.ensures.sorted
+    c.in_ok-sort_by_key.ensures.stable (λ a r q k. search rules)

@@ -17,9 +17,11 @@ use Rattle.passkey_kinds.proofs.map.write_entries.Goals as goal
 pub loop-key-init : goal.loop-key-init
 loop-key-init g c =
     let entries = c.into_iter-key-iterator.result in
-    let are : entries ≡ fin.entries c.args.entries.now = entries_by_bytes c.args.entries.now entries c.into_iter-key-iterator.ensures.into_iter_gives.0 in
+    let are : entries ≡ fin.entries c.args.entries.now =
+    entries_by_bytes c.args.entries.now entries c.into_iter-key-iterator.ensures.into_iter_gives.0 in
     record {
-      items = ap (λ es. map pair_of es ++ map (entry_tree g.T.ToCbor.tree) entries) c.in_ok-pairs.ensures.items ∙ ap (map (entry_tree g.T.ToCbor.tree)) are;
+      items = ap (λ es. map pair_of es ++ map (entry_tree g.T.ToCbor.tree) entries) c.in_ok-pairs.ensures.items
+          ∙ ap (map (entry_tree g.T.ToCbor.tree)) are;
       fits = subst (All (λ e. g.T.ToCbor.fits e.1)) are;
     }
 
@@ -30,9 +32,14 @@ loop-key-preserved g c =
     let rest = c.next.new.self in
     let entry : List ℕ × g.row.T.Denot = (c.in-Some.key.now, c.in-Some.value.now) in
     let member : Value × Value = (Bytes c.in_ok-from_slice.field-0, c.in_ok-to_value.field-0) in
-    let next = rest_more deref_pair left rest c.next.result (c.in-Some.key, c.in-Some.value) c.in-Some.is c.next.ensures.steps in
-    let key = item_of-Bytes c.in_ok-from_slice.field-0 ∙ ap byte_string (c.in_ok-from_slice.ensures.items ∙ c.as_slice.ensures) in
+    let next = rest_more deref_pair left rest c.next.result (c.in-Some.key, c.in-Some.value) c.in-Some.is
+    c.next.ensures.steps in
+    let key = item_of-Bytes c.in_ok-from_slice.field-0
+    ∙ ap byte_string (c.in_ok-from_slice.ensures.items ∙ c.as_slice.ensures) in
     record {
-      items = rw (c.in_ok-push.ensures.items, map_push pair_of c.loop-key.pairs.items member) (written_next (entry_tree g.T.ToCbor.tree) xs left rest entry (pair_of member) (map pair_of c.loop-key.pairs.items) next (λ i. (key i, c.in_ok-to_value.ensures.tree i)) c.loop-key.invariant.items);
-      fits = fits_next (λ e. g.T.ToCbor.fits e.1) xs left rest entry next c.in_ok-to_value.ensures.fits c.loop-key.invariant.fits;
+      items = rw (c.in_ok-push.ensures.items, map_push pair_of c.loop-key.pairs.items member) (written_next
+          (entry_tree g.T.ToCbor.tree) xs left rest entry (pair_of member) (map pair_of c.loop-key.pairs.items) next
+          (λ i. (key i, c.in_ok-to_value.ensures.tree i)) c.loop-key.invariant.items);
+      fits = fits_next (λ e. g.T.ToCbor.fits e.1) xs left rest entry next c.in_ok-to_value.ensures.fits
+          c.loop-key.invariant.fits;
     }

@@ -13,7 +13,8 @@ returns-in-Ok g c =
     let p = c.if-not-skip.ensures.front in
     let back = went_back old s a c.place-start.result c.place-start.ensures c.go_back.ensures in
     let stands = item_stands view t old s a b p c.if-not-skip.ensures.went back c.in-Ok.ensures.onward in
-    message_is view t old s a b p c.if-not-skip.ensures.went back c.in-Ok.ensures.onward c.in-Ok.message (c.in-Ok.ensures.reads p.item (old.place + p.len) stands)
+    message_is view t old s a b p c.if-not-skip.ensures.went back c.in-Ok.ensures.onward c.in-Ok.message
+    (c.in-Ok.ensures.reads p.item (old.place + p.len) stands)
 
 pub returns-in-Err : goal.returns-in-Err
 returns-in-Err g c =
@@ -26,4 +27,6 @@ returns-in-Err g c =
     let p = c.if-not-skip.ensures.front in
     let back = went_back old s a c.place-start.result c.place-start.ensures c.go_back.ensures in
     let stands = item_stands view t old s a b p c.if-not-skip.ensures.went back c.in-Err.ensures.onward in
-    fault_is view t old s a b p c.if-not-skip.ensures.went back c.in-Err.ensures.onward c.in-Err.fault c.go_back-in-Err.new.self c.place-start.result c.place-start.ensures c.go_back-in-Err.ensures (c.in-Err.ensures.reads p.item (old.place + p.len) stands)
+    fault_is view t old s a b p c.if-not-skip.ensures.went back c.in-Err.ensures.onward c.in-Err.fault
+    c.go_back-in-Err.new.self c.place-start.result c.place-start.ensures c.go_back-in-Err.ensures
+    (c.in-Err.ensures.reads p.item (old.place + p.len) stands)

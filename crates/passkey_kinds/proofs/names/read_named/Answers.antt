@@ -9,11 +9,14 @@ use Rattle.passkey_kinds.proofs.names.read_named.Goals as goal
 pub returns-in-Some-clause-reads : goal.returns-in-Some-clause-reads
 returns-in-Some-clause-reads g c = λ i to l.
     let f = c.in-Some.ensures.lends i to l in
-    lent_decodes (λ x. x) (one_named g.T.EnumNames.named i) ⊥ true c.args.cursor.now c.text.new.self c.named.new.cursor c.in-Some.token i to c.ok_or.result l c.in-Some.ensures.front f c.named.ensures.looks
-    (or_refused (one_named g.T.EnumNames.named i) c.named.result c.ok_or.result ⊥ (ap (one_named g.T.EnumNames.named) f.1.0 ∙ sym (c.named.ensures.named f.0 f.1.1.tells)) c.ok_or.ensures.value)
+    lent_decodes (λ x. x) (one_named g.T.EnumNames.named i) ⊥ true c.args.cursor.now c.text.new.self
+    c.named.new.cursor c.in-Some.token i to c.ok_or.result l c.in-Some.ensures.front f c.named.ensures.looks
+    (or_refused (one_named g.T.EnumNames.named i) c.named.result c.ok_or.result ⊥ (ap
+    (one_named g.T.EnumNames.named) f.1.0 ∙ sym (c.named.ensures.named f.0 f.1.1.tells)) c.ok_or.ensures.value)
 
 pub returns-in-None-clause-reads : goal.returns-in-None-clause-reads
 returns-in-None-clause-reads g c = λ i to l.
     let f = c.in-None.ensures.lends i to l in
-    not_lent_decodes (λ x. x) (one_named g.T.EnumNames.named i) ⊥ true 2 c.args.cursor.now c.text.new.self i to (omega arith) l f
+    not_lent_decodes (λ x. x) (one_named g.T.EnumNames.named i) ⊥ true 2 c.args.cursor.now c.text.new.self i to
+    (omega arith) l f
     (named_text g.T.EnumNames.named i ∙ ap (option_and_then g.T.EnumNames.named) (no_text i f.0))

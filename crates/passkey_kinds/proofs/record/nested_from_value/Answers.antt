@@ -9,4 +9,5 @@ pub returns : goal.returns
 returns g c =
     let t = g.R.Record.fields in
     let i = item_of c.args.value.now in
-    rw c.held.ensures (held_answers t g.R.Record.parts (read_item t i) c.record_from_value.result (λ h. (refl, may_grow (table_of t) i h)) c.record_from_value.ensures)
+    rw c.held.ensures (held_answers t g.R.Record.parts (read_item t i) c.record_from_value.result
+    (λ h. (refl, may_grow (table_of t) i h)) c.record_from_value.ensures)

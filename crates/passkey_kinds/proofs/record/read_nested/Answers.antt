@@ -14,8 +14,11 @@ returns-clause-reads g c = λ i to l.
     let a = c.args.cursor.now in
     let r = c.read_record.ensures.reads i to l in
     rw c.held.ensures (record {
-      answers = held_answers t g.R.Record.parts (read_item t i) c.read_record.result (λ h. (refl, may_grow (table_of t) i h)) r.answers;
-      spends = eased (record_cost t) (record_cost t) (kept_in_map t i) (kept_of (record_keeps t) i) to a c.read_record.new.cursor (omega arith) (kept_record t i) (omega (arith, stands_long i a.bytes a.place to l)) r.spends;
+      answers = held_answers t g.R.Record.parts (read_item t i) c.read_record.result
+          (λ h. (refl, may_grow (table_of t) i h)) r.answers;
+      spends = eased (record_cost t) (record_cost t) (kept_in_map t i) (kept_of (record_keeps t) i) to a
+          c.read_record.new.cursor (omega arith) (kept_record t i)
+          (omega (arith, stands_long i a.bytes a.place to l)) r.spends;
       ends = held_ok _ c.read_record.result r.ends;
     })
 

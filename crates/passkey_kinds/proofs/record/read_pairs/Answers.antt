@@ -14,7 +14,8 @@ pub loop-key-init : goal.loop-key-init
 loop-key-init g c =
     let t = g.R.Record.fields in
     let ms = map pair_of c.args.pairs.now in
-    has_begun t ms (g.R.Record.parts c.blank-read.result) c.no_marks-seen.result c.blank-read.ensures c.no_marks-seen.ensures
+    has_begun t ms (g.R.Record.parts c.blank-read.result) c.no_marks-seen.result c.blank-read.ensures
+    c.no_marks-seen.ensures
 
 pub loop-key-preserved : goal.loop-key-preserved
 loop-key-preserved g c =
@@ -24,9 +25,11 @@ loop-key-preserved g c =
     let i = c.loop-key.key-index in
     let at = member_at pair_of c.args.pairs.now i c.loop-key-item.result c.loop-key-item.is c.loop-key-test.true in
     let h = c.loop-key.invariant in
-    let naming = key_names (table_of t) c.is_numbered.result (map entry_of c.rows.result.now) m.0 (named_as c.in-Some.key) c.is_numbered.ensures c.rows.ensures.rows c.in-Some.ensures in
+    let naming = key_names (table_of t) c.is_numbered.result (map entry_of c.rows.result.now) m.0
+    (named_as c.in-Some.key) c.is_numbered.ensures c.rows.ensures.rows c.in-Some.ensures in
     let told = c.in_ok-read_member.ensures.reads h.earlier m.0 m.1 0 naming refl h.holds in
-    goes_on t ms (drop i ms) (drop (i + 1) ms) m _ _ c.loop-key.seen c.read_member.new.seen at h told.0.0 told.0.1 told.1
+    goes_on t ms (drop i ms) (drop (i + 1) ms) m _ _ c.loop-key.seen c.read_member.new.seen at h told.0.0 told.0.1
+    told.1
 
 pub returns-in_err-read_member : goal.returns-in_err-read_member
 returns-in_err-read_member g c =
@@ -36,10 +39,12 @@ returns-in_err-read_member g c =
     let i = c.loop-key.key-index in
     let at = member_at pair_of c.args.pairs.now i c.loop-key-item.result c.loop-key-item.is c.loop-key-test.true in
     let h = c.loop-key.invariant in
-    let naming = key_names (table_of t) c.is_numbered.result (map entry_of c.rows.result.now) m.0 (named_as c.in-Some.key) c.is_numbered.ensures c.rows.ensures.rows c.in-Some.ensures in
+    let naming = key_names (table_of t) c.is_numbered.result (map entry_of c.rows.result.now) m.0
+    (named_as c.in-Some.key) c.is_numbered.ensures c.rows.ensures.rows c.in-Some.ensures in
     let told = c.in_err-read_member.ensures.reads h.earlier m.0 m.1 0 naming refl h.holds in
     let result : c.from_residual.result ≡ Err c.in_err-read_member.field-0.0 = search rules in
-    rw result (fails t g.R.Record.parts ms (drop i ms) (drop (i + 1) ms) m _ c.loop-key.seen at h c.read_member.new.seen c.in_err-read_member.field-0.0 told.0)
+    rw result (fails t g.R.Record.parts ms (drop i ms) (drop (i + 1) ms) m _ c.loop-key.seen at h
+    c.read_member.new.seen c.in_err-read_member.field-0.0 told.0)
 
 pub returns-in-None : goal.returns-in-None
 returns-in-None g c =
@@ -48,7 +53,8 @@ returns-in-None g c =
     let m = pair_of c.loop-key-item.result in
     let i = c.loop-key.key-index in
     let at = member_at pair_of c.args.pairs.now i c.loop-key-item.result c.loop-key-item.is c.loop-key-test.true in
-    let naming = key_names (table_of t) c.is_numbered.result (map entry_of c.rows.result.now) m.0 wrong c.is_numbered.ensures c.rows.ensures.rows c.in-None.ensures in
+    let naming = key_names (table_of t) c.is_numbered.result (map entry_of c.rows.result.now) m.0 wrong
+    c.is_numbered.ensures c.rows.ensures.rows c.in-None.ensures in
     key_fails t g.R.Record.parts ms (drop i ms) (drop (i + 1) ms) m _ c.loop-key.seen at c.loop-key.invariant naming
 
 pub returns : goal.returns
@@ -57,4 +63,5 @@ returns g c =
     let ms = map pair_of c.args.pairs.now in
     let i = c.loop-key.key-index in
     let past = drop_all i ms (rw (length-map c.args.pairs.now pair_of) c.loop-key-test.false) in
-    all_read t g.R.Record.parts ms (drop i ms) _ c.loop-key.seen c.finish.result past c.loop-key.invariant c.finish.ensures.small c.finish.ensures.reads
+    all_read t g.R.Record.parts ms (drop i ms) _ c.loop-key.seen c.finish.result past c.loop-key.invariant
+    c.finish.ensures.small c.finish.ensures.reads

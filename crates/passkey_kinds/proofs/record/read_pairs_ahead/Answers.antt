@@ -1,6 +1,6 @@
 use Rattle.std.proofs.Common.{◌∙◌, ◌≤◌, ◌+◌, ◌-◌, suc, true, false, [], map, sym, refl, arith}
 use Rattle.std.proofs.lemmas.Result.{err_from_is_err_and}
-use Rattle.passkey_cbor.specs.Front.{max_depth}
+use Rattle.passkey_cbor.specs.LeadingItem.{max_depth}
 use Rattle.passkey_cbor.specs.Inside.{Within}
 use Rattle.passkey_cbor.proofs.More.{split}
 use Rattle.passkey_kinds.specs.Reading.{named_as}
@@ -22,12 +22,15 @@ loop-alloc-init g c =
     let start = c.args.cursor.now in
     record {
       onward = onward_same start;
-      each = λ ms to l. begun _ _ _ _ ms to start c.args.left (has_begun g.R.Record.fields ms (g.R.Record.parts c.blank-read.result) c.no_marks-seen.result c.blank-read.ensures c.no_marks-seen.ensures) l;
+      each = λ ms to l. begun _ _ _ _ ms to start c.args.left (has_begun g.R.Record.fields ms (g.R.Record.parts
+          c.blank-read.result) c.no_marks-seen.result c.blank-read.ensures c.no_marks-seen.ensures) l;
     }
 
 pub loop-alloc-preserved : goal.loop-alloc-preserved
 loop-alloc-preserved g c = record {
-  onward = onward_then _ _ _ (onward_then _ _ _ (onward_then _ _ _ c.loop-alloc.invariant.onward (onward_of c.loop-alloc.cursor c.more.new.self c.loop-alloc-test.ensures.went)) c.in-Some.ensures.onward) c.in_ok-read_member.ensures.onward;
+  onward = onward_then _ _ _ (onward_then _ _ _ (onward_then _ _ _ c.loop-alloc.invariant.onward
+      (onward_of c.loop-alloc.cursor c.more.new.self c.loop-alloc-test.ensures.went)) c.in-Some.ensures.onward)
+      c.in_ok-read_member.ensures.onward;
   each = λ ms to l.
       let t = g.R.Record.fields in
       let start = c.args.cursor.now in
@@ -41,14 +44,22 @@ loop-alloc-preserved g c = record {
       let d = c.read_key.new.cursor in
       let key = c.in-Some.ensures.names n.first.0 s.middle s.front in
       let f = c.read_member.new.source in
-      let there = stands_back n.first.1 (record b { place = s.middle }) d n.middle c.in-Some.ensures.onward.same key.ends s.back in
-      let naming = key_names (table_of t) c.is_numbered.result (map entry_of c.rows.result.now) n.first.0 (named_as c.in-Some.key) c.is_numbered.ensures c.rows.ensures.rows key.is in
-      let told = c.in_ok-read_member.ensures.reads e.done.earlier n.first.0 n.first.1 n.middle naming there e.done.holds in
+      let there = stands_back n.first.1 (record b { place = s.middle }) d n.middle c.in-Some.ensures.onward.same
+      key.ends s.back in
+      let naming = key_names (table_of t) c.is_numbered.result (map entry_of c.rows.result.now) n.first.0
+      (named_as c.in-Some.key) c.is_numbered.ensures c.rows.ensures.rows key.is in
+      let told =
+      c.in_ok-read_member.ensures.reads e.done.earlier n.first.0 n.first.1 n.middle naming there e.done.holds in
       let value = c.in_ok-read_member.ensures.spends n.first.1 n.middle there in
-      let cheap : cost_by t.rows (named_as c.in-Some.key) ≤ suc (3 + (record_cost t - 4)) = omega (arith, cost_by_le t.rows (named_as c.in-Some.key), at_least t.rows) in
-      let spent = member_spent t (record_cost t - 4) ms to start c.loop-alloc.left c.more.new.left a b e walks.looks n d s.middle long s.back.forward key.spends f (named_as c.in-Some.key) true (sym naming) key.ends cheap value in
-      one_more _ _ _ _ ms to start _ c.loop-alloc.left c.more.new.left a b f e n spent (value.ends refl) (c.in_ok-read_member.ensures.onward.same ∙ c.in-Some.ensures.onward.same)
-      (goes_on t ms e.rest n.others n.first _ _ c.loop-alloc.seen c.read_member.new.seen n.whole e.done told.0.0 told.0.1 told.1);
+      let cheap : cost_by t.rows (named_as c.in-Some.key) ≤ suc (3 + (record_cost t - 4)) =
+      omega (arith, cost_by_le t.rows (named_as c.in-Some.key), at_least t.rows) in
+      let spent = member_spent t (record_cost t - 4) ms to start c.loop-alloc.left c.more.new.left a b e walks.looks
+      n d s.middle long s.back.forward key.spends f (named_as c.in-Some.key) true (sym naming) key.ends cheap
+      value in
+      one_more _ _ _ _ ms to start _ c.loop-alloc.left c.more.new.left a b f e n spent (value.ends refl)
+      (c.in_ok-read_member.ensures.onward.same ∙ c.in-Some.ensures.onward.same)
+      (goes_on t ms e.rest n.others n.first _ _ c.loop-alloc.seen c.read_member.new.seen n.whole e.done told.0.0
+      told.0.1 told.1);
 }
 
 pub returns-in-None-clause-reads : goal.returns-in-None-clause-reads
@@ -64,8 +75,10 @@ returns-in-None-clause-reads g c = λ ms to l.
     let long = stands_long n.first.0 b.bytes b.place s.middle s.front in
     let d = c.read_key.new.cursor in
     let key = c.in-None.ensures.names n.first.0 s.middle s.front in
-    let naming = key_names (table_of t) c.is_numbered.result (map entry_of c.rows.result.now) n.first.0 wrong c.is_numbered.ensures c.rows.ensures.rows key.is in
-    let spent = key_spent t (record_cost t - 4) ms to start c.loop-alloc.left c.more.new.left a b e walks.looks n d s.middle long s.back.forward key.spends in
+    let naming = key_names (table_of t) c.is_numbered.result (map entry_of c.rows.result.now) n.first.0 wrong
+    c.is_numbered.ensures c.rows.ensures.rows key.is in
+    let spent = key_spent t (record_cost t - 4) ms to start c.loop-alloc.left c.more.new.left a b e walks.looks n d
+    s.middle long s.back.forward key.spends in
     record {
       answers = key_fails t g.R.Record.parts ms e.rest n.others n.first _ c.loop-alloc.seen n.whole e.done naming;
       spends = all_spent t _ to start d (spent_within _ _ _ to start c.more.new.left e.rest b d n spent);
@@ -87,14 +100,21 @@ returns-in_err-read_member-clause-reads g c = λ ms to l.
     let d = c.read_key.new.cursor in
     let key = c.in-Some.ensures.names n.first.0 s.middle s.front in
     let f = c.read_member.new.source in
-    let there = stands_back n.first.1 (record b { place = s.middle }) d n.middle c.in-Some.ensures.onward.same key.ends s.back in
-    let naming = key_names (table_of t) c.is_numbered.result (map entry_of c.rows.result.now) n.first.0 (named_as c.in-Some.key) c.is_numbered.ensures c.rows.ensures.rows key.is in
-    let told = c.in_err-read_member.ensures.reads e.done.earlier n.first.0 n.first.1 n.middle naming there e.done.holds in
+    let there = stands_back n.first.1 (record b { place = s.middle }) d n.middle c.in-Some.ensures.onward.same
+    key.ends s.back in
+    let naming = key_names (table_of t) c.is_numbered.result (map entry_of c.rows.result.now) n.first.0
+    (named_as c.in-Some.key) c.is_numbered.ensures c.rows.ensures.rows key.is in
+    let told =
+    c.in_err-read_member.ensures.reads e.done.earlier n.first.0 n.first.1 n.middle naming there e.done.holds in
     let value = c.in_err-read_member.ensures.spends n.first.1 n.middle there in
-    let cheap : cost_by t.rows (named_as c.in-Some.key) ≤ suc (3 + (record_cost t - 4)) = omega (arith, cost_by_le t.rows (named_as c.in-Some.key), at_least t.rows) in
-    let spent = member_spent t (record_cost t - 4) ms to start c.loop-alloc.left c.more.new.left a b e walks.looks n d s.middle long s.back.forward key.spends f (named_as c.in-Some.key) false (sym naming) key.ends cheap value in
+    let cheap : cost_by t.rows (named_as c.in-Some.key) ≤ suc (3 + (record_cost t - 4)) =
+    omega (arith, cost_by_le t.rows (named_as c.in-Some.key), at_least t.rows) in
+    let spent = member_spent t (record_cost t - 4) ms to start c.loop-alloc.left c.more.new.left a b e walks.looks n
+    d s.middle long s.back.forward key.spends f (named_as c.in-Some.key) false (sym naming) key.ends cheap
+    value in
     rw (p.1, p.2) (record {
-      answers = fails t g.R.Record.parts ms e.rest n.others n.first _ c.loop-alloc.seen n.whole e.done c.read_member.new.seen c.in_err-read_member.field-0.0 told.0;
+      answers = fails t g.R.Record.parts ms e.rest n.others n.first _ c.loop-alloc.seen n.whole e.done
+          c.read_member.new.seen c.in_err-read_member.field-0.0 told.0;
       spends = all_spent t _ to start f (spent_within _ _ _ to start c.more.new.left e.rest b f n spent);
       ends = tt;
     })
@@ -107,9 +127,11 @@ returns-clause-reads g c = λ ms to l.
     let b = c.more.new.self in
     let walks = c.loop-alloc-test.ensures.walks in
     let e = c.loop-alloc.invariant.each ms to l in
-    let ended = each_done _ _ _ _ ms to start c.loop-alloc.left c.more.new.left a b false refl walks.pairs walks.looks e in
+    let ended =
+    each_done _ _ _ _ ms to start c.loop-alloc.left c.more.new.left a b false refl walks.pairs walks.looks e in
     record {
-      answers = all_read t g.R.Record.parts ms [] _ c.loop-alloc.seen c.finish.result refl ended.done c.finish.ensures.small c.finish.ensures.reads;
+      answers = all_read t g.R.Record.parts ms [] _ c.loop-alloc.seen c.finish.result refl ended.done
+          c.finish.ensures.small c.finish.ensures.reads;
       spends = all_spent t _ to start b ended.spends;
       ends = on_ok c.finish.result ended.place;
     }

@@ -1,7 +1,7 @@
 use Rattle.std.proofs.Common.{ℕ, ◌+◌, ◌-◌, suc, length}
-use Rattle.passkey_cbor.specs.Front.{max_depth}
+use Rattle.passkey_cbor.specs.LeadingItem.{max_depth}
 use Rattle.passkey_cbor.specs.Inside.{PairWithin}
-use Rattle.passkey_cbor.specs.Stands.{StandPairs}
+use Rattle.passkey_cbor.specs.EncodedAt.{PairsAreEncodedAt}
 use Rattle.passkey_kinds.specs.Reader.{Onward}
 use Rattle.passkey_kinds.specs.RecordCost.{record_cost, kept_in}
 use Rattle.passkey_kinds.specs.RecordReading.{HasReadTo}
@@ -12,7 +12,9 @@ use Rattle.passkey_kinds.proofs.record.read_pairs_ahead.Given as goal
 abbrev pub invariant-loop-alloc : goal.invariant-loop-alloc
 invariant-loop-alloc g l = record {
   onward : Onward l.fn.cursor l.cursor;
-  each : (ms : Members) (to : ℕ) → StandPairs l.fn.left ms l.fn.cursor.bytes l.fn.cursor.place to → EachTo (PairWithin max_depth) (λ rest. HasReadTo g.R.Record.fields ms rest (g.R.Record.parts l.read) l.seen) (kept_in g.R.Record.fields) (suc (3 + (record_cost g.R.Record.fields - 4))) l.left ms to l.fn.cursor l.cursor;
+  each : (ms : Members) (to : ℕ) → PairsAreEncodedAt l.fn.left ms l.fn.cursor.bytes l.fn.cursor.place to
+      → EachTo (PairWithin max_depth) (λ rest. HasReadTo g.R.Record.fields ms rest (g.R.Record.parts l.read) l.seen)
+      (kept_in g.R.Record.fields) (suc (3 + (record_cost g.R.Record.fields - 4))) l.left ms to l.fn.cursor l.cursor;
 }
 
 abbrev pub decreases-loop-alloc : goal.decreases-loop-alloc

@@ -14,10 +14,15 @@ returns-in-Some-clause-reads g c = λ i to l.
     let opened = c.in-Some.ensures.opens i to l in
     let ms = opened.0 in
     let r = c.read_pairs_ahead.ensures.reads ms to opened.1.1 in
-    let same : read_item t i ≡ read_members t ms = ap (read_item t) opened.1.0 ∙ ap (read_members t) (members-pairs_of ms) in
+    let same : read_item t i ≡ read_members t ms =
+    ap (read_item t) opened.1.0 ∙ ap (read_members t) (members-pairs_of ms) in
     record {
-      answers = reads_from t g.R.Record.parts (read_item t i) (read_members t ms) c.read_pairs_ahead.result same (λ h. subst (MayGrowAt (table_of t)) (sym opened.1.0) (subst (MayGrowIn (table_of t)) (sym (members-pairs_of ms)) h)) r.answers;
-      spends = head_then t _ (kept_in_map t i) to c.args.cursor.now c.read_map.new.cursor c.read_pairs_ahead.new.cursor (kept_pairs t ms i opened.1.0) c.in-Some.ensures.further c.in-Some.ensures.counted (c.in-Some.ensures.spends i to l).nodes r.spends;
+      answers = reads_from t g.R.Record.parts (read_item t i) (read_members t ms) c.read_pairs_ahead.result same
+          (λ h. subst (MayGrowAt (table_of t)) (sym opened.1.0)
+          (subst (MayGrowIn (table_of t)) (sym (members-pairs_of ms)) h)) r.answers;
+      spends = head_then t _ (kept_in_map t i) to c.args.cursor.now c.read_map.new.cursor
+          c.read_pairs_ahead.new.cursor (kept_pairs t ms i opened.1.0) c.in-Some.ensures.further
+          c.in-Some.ensures.counted (c.in-Some.ensures.spends i to l).nodes r.spends;
       ends = r.ends;
     }
 
@@ -27,6 +32,8 @@ returns-in-None-clause-reads g c = λ i to l.
     let a = c.args.cursor.now in
     record {
       answers = no_record t i (c.in-None.ensures.opens i to l);
-      spends = eased 1 (record_cost t) 0 (kept_in_map t i) to a c.read_map.new.cursor (omega (arith, at_least t.rows)) (omega arith) (omega (arith, stands_long i a.bytes a.place to l)) (c.in-None.ensures.spends i to l);
+      spends =
+          eased 1 (record_cost t) 0 (kept_in_map t i) to a c.read_map.new.cursor (omega (arith, at_least t.rows))
+          (omega arith) (omega (arith, stands_long i a.bytes a.place to l)) (c.in-None.ensures.spends i to l);
       ends = tt;
     }

@@ -4,4 +4,4 @@ use Rattle.passkey_make_credential.proofs.laws.read_make_request_passes_over_unk
 use Rattle.passkey_kinds.proofs.RecordLaws.{skips_unknown}
 
 pub returns : goal.returns
-returns c = skips_unknown c.at_most_one_front.ensures make_request_parts make_request_fields
+returns c = skips_unknown c.at_most_one_leading_item.ensures make_request_parts make_request_fields

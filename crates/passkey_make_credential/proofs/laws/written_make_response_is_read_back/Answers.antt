@@ -2,4 +2,5 @@ use Rattle.passkey_make_credential.proofs.MakeResponses.{make_response_returns}
 use Rattle.passkey_make_credential.proofs.laws.written_make_response_is_read_back.Goals as goal
 
 pub returns : goal.returns
-returns c = make_response_returns c.written_is_front.ensures c.written_data_are_read_back.ensures c.read_is_given.ensures
+returns c = make_response_returns c.written_is_leading_item.ensures c.written_data_are_read_back.ensures
+    c.read_is_given.ensures

@@ -11,11 +11,13 @@ use Rattle.passkey_rewrite.specs.Rewriting.{IsRefusal, RefusesAs, Rewrites}
 use Rattle.passkey_rewrite.specs.declared.kind.BytesKind.{BytesKind}
 use Rattle.passkey_rewrite.specs.declared.kind.BytesKind.TheVariants.{MakeRequest, MakeResponse, GetRequest, GetResponse, Info, HmacInput}
 
--- The call's clauses are the kind's. The tactics find that too, but search for more than a minute.
+-- The call's clauses are those of the kind. The tactics find that too, but search for more than a
+-- minute.
 pub returns-in-Cbor-clause-ok : goal.returns-in-Cbor-clause-ok
 unfolding Rewrites
 returns-in-Cbor-clause-ok c =
-    subst (λ (k : BytesKind). IfOk c.rewrite_item.result (λ s. Rewrites k c.args.bytes.now s.items)) (sym c.in-Cbor.is)
+    subst (λ (k : BytesKind). IfOk c.rewrite_item.result (λ s. Rewrites k c.args.bytes.now s.items))
+    (sym c.in-Cbor.is)
     c.rewrite_item.ensures.ok
 
 pub returns-in-Cbor-clause-err : goal.returns-in-Cbor-clause-err
@@ -26,7 +28,8 @@ returns-in-Cbor-clause-err c =
 pub returns-in-Auth-clause-ok : goal.returns-in-Auth-clause-ok
 unfolding Rewrites
 returns-in-Auth-clause-ok c =
-    subst (λ (k : BytesKind). IfOk c.rewrite_data.result (λ s. Rewrites k c.args.bytes.now s.items)) (sym c.in-Auth.is)
+    subst (λ (k : BytesKind). IfOk c.rewrite_data.result (λ s. Rewrites k c.args.bytes.now s.items))
+    (sym c.in-Auth.is)
     c.rewrite_data.ensures.ok
 
 pub returns-in-Auth-clause-err : goal.returns-in-Auth-clause-err
@@ -43,14 +46,16 @@ returns-in-MakeRequest-clause-ok c =
 pub returns-in-MakeRequest-clause-err : goal.returns-in-MakeRequest-clause-err
 unfolding RefusesAs
 returns-in-MakeRequest-clause-err c =
-    subst (λ (k : BytesKind). IfErr c.rewrite_message.result (IsRefusal k c.args.bytes.now)) (sym c.in-MakeRequest.is)
+    subst (λ (k : BytesKind). IfErr c.rewrite_message.result (IsRefusal k c.args.bytes.now))
+    (sym c.in-MakeRequest.is)
     (message_refused c.args.bytes.now read_make_request MakeRequest
     c.rewrite_message.result (λ fault h. h) c.rewrite_message.ensures.err)
 
 pub returns-in-MakeResponse-clause-ok : goal.returns-in-MakeResponse-clause-ok
 unfolding Rewrites
 returns-in-MakeResponse-clause-ok c =
-    subst (λ (k : BytesKind). IfOk c.rewrite_message-in-MakeResponse.result (λ s. Rewrites k c.args.bytes.now s.items))
+    subst (λ (k : BytesKind). IfOk c.rewrite_message-in-MakeResponse.result
+    (λ s. Rewrites k c.args.bytes.now s.items))
     (sym c.in-MakeResponse.is) c.rewrite_message-in-MakeResponse.ensures.ok
 
 pub returns-in-MakeResponse-clause-err : goal.returns-in-MakeResponse-clause-err
@@ -63,7 +68,8 @@ returns-in-MakeResponse-clause-err c =
 pub returns-in-GetRequest-clause-ok : goal.returns-in-GetRequest-clause-ok
 unfolding Rewrites
 returns-in-GetRequest-clause-ok c =
-    subst (λ (k : BytesKind). IfOk c.rewrite_message-in-GetRequest.result (λ s. Rewrites k c.args.bytes.now s.items))
+    subst
+    (λ (k : BytesKind). IfOk c.rewrite_message-in-GetRequest.result (λ s. Rewrites k c.args.bytes.now s.items))
     (sym c.in-GetRequest.is) c.rewrite_message-in-GetRequest.ensures.ok
 
 pub returns-in-GetRequest-clause-err : goal.returns-in-GetRequest-clause-err
@@ -76,7 +82,8 @@ returns-in-GetRequest-clause-err c =
 pub returns-in-GetResponse-clause-ok : goal.returns-in-GetResponse-clause-ok
 unfolding Rewrites
 returns-in-GetResponse-clause-ok c =
-    subst (λ (k : BytesKind). IfOk c.rewrite_message-in-GetResponse.result (λ s. Rewrites k c.args.bytes.now s.items))
+    subst
+    (λ (k : BytesKind). IfOk c.rewrite_message-in-GetResponse.result (λ s. Rewrites k c.args.bytes.now s.items))
     (sym c.in-GetResponse.is) c.rewrite_message-in-GetResponse.ensures.ok
 
 pub returns-in-GetResponse-clause-err : goal.returns-in-GetResponse-clause-err
@@ -95,7 +102,8 @@ returns-in-Info-clause-ok c =
 pub returns-in-Info-clause-err : goal.returns-in-Info-clause-err
 unfolding RefusesAs
 returns-in-Info-clause-err c =
-    subst (λ (k : BytesKind). IfErr c.rewrite_message-in-Info.result (IsRefusal k c.args.bytes.now)) (sym c.in-Info.is)
+    subst (λ (k : BytesKind). IfErr c.rewrite_message-in-Info.result (IsRefusal k c.args.bytes.now))
+    (sym c.in-Info.is)
     (message_refused c.args.bytes.now read_get_info Info
     c.rewrite_message-in-Info.result (λ fault h. h) c.rewrite_message-in-Info.ensures.err)
 

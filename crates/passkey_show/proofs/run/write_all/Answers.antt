@@ -3,8 +3,9 @@ use Rattle.std.proofs.lemmas.List.{take_all}
 use Rattle.std.proofs.KnownBytes.{Appends-trans}
 use Rattle.passkey_show.proofs.run.write_all.Goals as goal
 
--- what was taken moves from the rest to the beginning; k is no less than the rest that stays
-moved : (bytes begun rest : List ℕ) (n k : ℕ) → bytes ≡ begun ++ rest → length rest ≤ k + n → bytes ≡ begun ++ take n rest ++ take k (drop n rest)
+-- the written bytes move from the rest to the beginning; k is no less than the length of the rest
+moved : (bytes begun rest : List ℕ) (n k : ℕ) → bytes ≡ begun ++ rest → length rest ≤ k + n
+    → bytes ≡ begun ++ take n rest ++ take k (drop n rest)
 moved bytes begun rest n k whole room =
     whole
     ∙ ap (λ l. begun ++ l) (sym (take-append-drop n rest))

@@ -9,7 +9,8 @@ use Rattle.serde_json.specs.View.{view, items_view}
 use Rattle.serde_json.specs.declared.value.Value.{Value}
 use Rattle.url.specs.Parts.{Parts}
 
-all_read : (vs : List Value) (us : List Parts) (i : ℕ) → length vs ≤ i → option_map (λ ws. us ++ ws) (each url (items_view (drop i vs))) ≡ each url (items_view vs) → each url (items_view vs) ≡ Some us
+all_read : (vs : List Value) (us : List Parts) (i : ℕ) → length vs ≤ i → option_map (λ ws. us ++ ws)
+    (each url (items_view (drop i vs))) ≡ each url (items_view vs) → each url (items_view vs) ≡ Some us
 all_read vs us i past read = grind (arith, common_steps)
 
 pub loop-text-preserved : goal.loop-text-preserved
@@ -20,6 +21,9 @@ loop-text-preserved c =
 
 pub returns : goal.returns
 returns c =
-    let seen : view c.args.value.now ≡ array (items_view c.in-Array.texts.items) = ap view c.in-Array.is ∙ view-Array c.in-Array.texts in
-    let all = all_read c.deref-text-items.result.now c.loop-text.urls.items c.loop-text.text-index (omega arith) c.loop-text.invariant.read in
-    rw seen (subst (λ (vs : List Value). each url (items_view vs) ≡ Some c.loop-text.urls.items) c.deref-text-items.ensures.value all)
+    let seen : view c.args.value.now ≡ array (items_view c.in-Array.texts.items) =
+    ap view c.in-Array.is ∙ view-Array c.in-Array.texts in
+    let all = all_read c.deref-text-items.result.now c.loop-text.urls.items c.loop-text.text-index (omega arith)
+    c.loop-text.invariant.read in
+    rw seen (subst (λ (vs : List Value). each url (items_view vs) ≡ Some c.loop-text.urls.items)
+    c.deref-text-items.ensures.value all)

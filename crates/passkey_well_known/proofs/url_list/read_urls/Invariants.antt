@@ -9,5 +9,6 @@ invariant-loop-text l = record {
   read :
       option_map (λ us. l.urls.items ++ us) (each url (items_view (drop l.text-index l.text-items)))
       ≡ each url (items_view l.text-items);
-  long : IsTrue (any_long (items_view (drop l.text-index l.text-items))) → IsTrue (any_long (items_view l.text-items));
+  long : IsTrue (any_long (items_view (drop l.text-index l.text-items)))
+      → IsTrue (any_long (items_view l.text-items));
 }

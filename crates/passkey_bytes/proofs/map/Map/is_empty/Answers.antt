@@ -5,5 +5,7 @@ use Rattle.passkey_bytes.proofs.map.Map.is_empty.Goals as goal
 
 pub returns : goal.returns
 returns g c =
-    let none = none_iff_empty c.args.self.now in
-    (λ is. none.0 (sym c.len.ensures ∙ eqb-true c.len.result 0 is), λ same. eq-eqb c.len.result 0 (c.len.ensures ∙ none.1 same))
+    let none = none_iff_empty c.args.self.now in (
+      λ is. none.0 (sym c.len.ensures ∙ eqb-true c.len.result 0 is),
+      λ same. eq-eqb c.len.result 0 (c.len.ensures ∙ none.1 same),
+    )

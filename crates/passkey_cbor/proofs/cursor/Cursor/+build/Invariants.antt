@@ -26,14 +26,16 @@ decreases-build_pairs l = 8 * l.levels + 7
 
 abbrev pub invariant-build_items-loop-items : goal.invariant-build_items-loop-items
 invariant-build_items-loop-items l =
-    Gathers (item_within l.fn.levels) an_item.size l.fn.len l.left l.fn.self l.self (λ (xs : List Item). map item_of l.items.items ≡ xs)
+    Gathers (item_within l.fn.levels) an_item.size l.fn.len l.left l.fn.self l.self
+    (λ (xs : List Item). map item_of l.items.items ≡ xs)
 
 abbrev pub decreases-build_items-loop-items : goal.decreases-build_items-loop-items
 decreases-build_items-loop-items l = length l.self.bytes - l.self.place
 
 abbrev pub invariant-build_pairs-loop-pairs : goal.invariant-build_pairs-loop-pairs
 invariant-build_pairs-loop-pairs l =
-    Gathers (pair_by (item_within l.fn.levels)) a_pair.size l.fn.len l.left l.fn.self l.self (λ (ms : List (Item × Item)). map pair_of l.pairs.items ≡ ms)
+    Gathers (pair_by (item_within l.fn.levels)) a_pair.size l.fn.len l.left l.fn.self l.self
+    (λ (ms : List (Item × Item)). map pair_of l.pairs.items ≡ ms)
 
 abbrev pub decreases-build_pairs-loop-pairs : goal.decreases-build_pairs-loop-pairs
 decreases-build_pairs-loop-pairs l = length l.self.bytes - l.self.place

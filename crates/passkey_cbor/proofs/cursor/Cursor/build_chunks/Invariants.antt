@@ -1,5 +1,5 @@
 use Rattle.std.proofs.Common.{◌≡◌, ◌-◌, true, length, None}
-use Rattle.passkey_cbor.specs.Reading.{may_stand}
+use Rattle.passkey_cbor.specs.Reading.{is_allowed}
 use Rattle.passkey_cbor.proofs.Chunks.{Collects}
 use Rattle.passkey_cbor.proofs.cursor.Cursor.build_chunks.Given as goal
 
@@ -7,7 +7,7 @@ abbrev pub invariant-loop-bytes : goal.invariant-loop-bytes
 invariant-loop-bytes l = record {
   unknown : l.left ≡ None;
   collects : Collects l.is_text l.left l.fn.self l.self l.bytes.items;
-  stands : may_stand l.is_text l.bytes.items ≡ true;
+  stands : is_allowed l.is_text l.bytes.items ≡ true;
 }
 
 abbrev pub decreases-loop-bytes : goal.decreases-loop-bytes

@@ -6,44 +6,59 @@ use Rattle.passkey_cbor.proofs.cursor.Cursor.more.Goals as goal
 
 pub returns-then-n-eq0-clause-walks : goal.returns-then-n-eq0-clause-walks
 returns-then-n-eq0-clause-walks c =
-    let placed : IsPlaced c.args.self.now.bytes c.args.self.now.place = subst (λ (w : Walk). IsPlaced w.bytes w.place) c.self.view_is c.self.invariant in
+    let placed : IsPlaced c.args.self.now.bytes c.args.self.now.place =
+    subst (λ (w : Walk). IsPlaced w.bytes w.place) c.self.view_is c.self.invariant in
     none_left c.args.left.now c.in-Some.n c.args.self.now placed.within c.in-Some.is c.if-n-eq0.true
 
 pub returns-else-n-eq0-clause-walks : goal.returns-else-n-eq0-clause-walks
 returns-else-n-eq0-clause-walks c =
-    let placed : IsPlaced c.args.self.now.bytes c.args.self.now.place = subst (λ (w : Walk). IsPlaced w.bytes w.place) c.self.view_is c.self.invariant in
+    let placed : IsPlaced c.args.self.now.bytes c.args.self.now.place =
+    subst (λ (w : Walk). IsPlaced w.bytes w.place) c.self.view_is c.self.invariant in
     some_left c.args.left.now c.in-Some.n c.args.self.now placed.within c.in-Some.is (omega arith)
 
 pub returns-then-is_break-clause-walks : goal.returns-then-is_break-clause-walks
-returns-then-is_break-clause-walks c = break_there c.args.left.now c.args.self.now c.decode.new.self c.in-Some-decode.head c.in-Some-decode.ensures.placed c.in-None.is (sym c.if-is_break.ensures) c.in-Some-decode.ensures.reads
+returns-then-is_break-clause-walks c =
+    break_there c.args.left.now c.args.self.now c.decode.new.self c.in-Some-decode.head
+    c.in-Some-decode.ensures.placed c.in-None.is (sym c.if-is_break.ensures) c.in-Some-decode.ensures.reads
 
 pub returns-in-None-decode-clause-walks : goal.returns-in-None-decode-clause-walks
-returns-in-None-decode-clause-walks c = no_head_there c.args.left.now c.args.self.now c.decode.new.self c.in-None.is c.in-None-decode.ensures.counted c.in-None-decode.ensures.stays c.in-None-decode.ensures.reads
+returns-in-None-decode-clause-walks c = no_head_there c.args.left.now c.args.self.now c.decode.new.self c.in-None.is
+    c.in-None-decode.ensures.counted c.in-None-decode.ensures.stays c.in-None-decode.ensures.reads
 
 pub returns-else-is_break-clause-walks : goal.returns-else-is_break-clause-walks
 returns-else-is_break-clause-walks c =
-    let placed : IsPlaced c.args.self.now.bytes c.args.self.now.place = subst (λ (w : Walk). IsPlaced w.bytes w.place) c.self.view_is c.self.invariant in
+    let placed : IsPlaced c.args.self.now.bytes c.args.self.now.place =
+    subst (λ (w : Walk). IsPlaced w.bytes w.place) c.self.view_is c.self.invariant in
     let place_is : c.self.inside.place ≡ c.args.self.now.place = ap (λ (w : Walk). w.place) c.self.view_is in
-    element_there c.args.left.now c.args.self.now c.decode.new.self c.go_back.new.self c.in-Some-decode.head placed.within c.in-None.is (sym c.if-is_break.ensures) c.in-Some-decode.ensures.reads (c.go_back.ensures ∙ ap (λ (p : ℕ). record c.decode.new.self { place = p }) place_is)
+    element_there c.args.left.now c.args.self.now c.decode.new.self c.go_back.new.self c.in-Some-decode.head
+    placed.within c.in-None.is (sym c.if-is_break.ensures) c.in-Some-decode.ensures.reads
+    (c.go_back.ensures ∙ ap (λ (p : ℕ). record c.decode.new.self { place = p }) place_is)
 
 pub returns-then-n-eq0-clause-went : goal.returns-then-n-eq0-clause-went
 returns-then-n-eq0-clause-went c =
-    let placed : IsPlaced c.args.self.now.bytes c.args.self.now.place = subst (λ (w : Walk). IsPlaced w.bytes w.place) c.self.view_is c.self.invariant in
+    let placed : IsPlaced c.args.self.now.bytes c.args.self.now.place =
+    subst (λ (w : Walk). IsPlaced w.bytes w.place) c.self.view_is c.self.invariant in
     went_none c.args.self.now placed.within
 
 pub returns-else-n-eq0-clause-went : goal.returns-else-n-eq0-clause-went
 returns-else-n-eq0-clause-went c =
-    let placed : IsPlaced c.args.self.now.bytes c.args.self.now.place = subst (λ (w : Walk). IsPlaced w.bytes w.place) c.self.view_is c.self.invariant in
+    let placed : IsPlaced c.args.self.now.bytes c.args.self.now.place =
+    subst (λ (w : Walk). IsPlaced w.bytes w.place) c.self.view_is c.self.invariant in
     went_none c.args.self.now placed.within
 
 pub returns-then-is_break-clause-went : goal.returns-then-is_break-clause-went
-returns-then-is_break-clause-went c = went_head c.args.self.now c.decode.new.self (Some c.in-Some-decode.head) c.in-Some-decode.ensures.reads
+returns-then-is_break-clause-went c =
+    went_head c.args.self.now c.decode.new.self (Some c.in-Some-decode.head) c.in-Some-decode.ensures.reads
 
 pub returns-in-None-decode-clause-went : goal.returns-in-None-decode-clause-went
-returns-in-None-decode-clause-went c = went_head c.args.self.now c.decode.new.self None c.in-None-decode.ensures.reads
+returns-in-None-decode-clause-went c =
+    went_head c.args.self.now c.decode.new.self None c.in-None-decode.ensures.reads
 
 pub returns-else-is_break-clause-went : goal.returns-else-is_break-clause-went
 returns-else-is_break-clause-went c =
-    let placed : IsPlaced c.args.self.now.bytes c.args.self.now.place = subst (λ (w : Walk). IsPlaced w.bytes w.place) c.self.view_is c.self.invariant in
+    let placed : IsPlaced c.args.self.now.bytes c.args.self.now.place =
+    subst (λ (w : Walk). IsPlaced w.bytes w.place) c.self.view_is c.self.invariant in
     let place_is : c.self.inside.place ≡ c.args.self.now.place = ap (λ (w : Walk). w.place) c.self.view_is in
-    went_back c.args.self.now c.decode.new.self c.go_back.new.self placed.within (went_head c.args.self.now c.decode.new.self (Some c.in-Some-decode.head) c.in-Some-decode.ensures.reads) (c.go_back.ensures ∙ ap (λ (p : ℕ). record c.decode.new.self { place = p }) place_is)
+    went_back c.args.self.now c.decode.new.self c.go_back.new.self placed.within
+    (went_head c.args.self.now c.decode.new.self (Some c.in-Some-decode.head) c.in-Some-decode.ensures.reads)
+    (c.go_back.ensures ∙ ap (λ (p : ℕ). record c.decode.new.self { place = p }) place_is)

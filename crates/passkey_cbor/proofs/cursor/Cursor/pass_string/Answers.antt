@@ -5,14 +5,18 @@ use Rattle.passkey_cbor.proofs.Binds.{some_is}
 use Rattle.passkey_cbor.proofs.cursor.Cursor.pass_string.Goals as goal
 
 pub returns-in-None-piece-clause-skips : goal.returns-in-None-piece-clause-skips
-returns-in-None-piece-clause-skips c = rw (string_piece c.args.is_text c.args.len c.in-Some.len (ahead c.args.self.now) c.in-Some.is) c.in-None-piece.ensures.reads
+returns-in-None-piece-clause-skips c = rw (string_piece c.args.is_text c.args.len c.in-Some.len
+    (ahead c.args.self.now) c.in-Some.is) c.in-None-piece.ensures.reads
 
 pub returns-in-Some-piece-clause-skips : goal.returns-in-Some-piece-clause-skips
 returns-in-Some-piece-clause-skips c =
     let read = c.in-Some-piece.ensures.reads in
-    rw (string_piece c.args.is_text c.args.len c.in-Some.len (ahead c.args.self.now) c.in-Some.is) (record { value = c.in-Some-piece.piece.now; reads = read.reads; passed = read.passed })
+    rw (string_piece c.args.is_text c.args.len c.in-Some.len (ahead c.args.self.now) c.in-Some.is)
+    (record { value = c.in-Some-piece.piece.now; reads = read.reads; passed = read.passed })
 
 pub returns-in-Some-piece-clause-size : goal.returns-in-Some-piece-clause-size
 returns-in-Some-piece-clause-size c s rest e =
-    let same = some_is (s, rest) (c.in-Some-piece.piece.now, ahead c.piece.new.self) (sym e ∙ string_piece c.args.is_text c.args.len c.in-Some.len (ahead c.args.self.now) c.in-Some.is ∙ c.in-Some-piece.ensures.reads.reads) in
+    let same =
+    some_is (s, rest) (c.in-Some-piece.piece.now, ahead c.piece.new.self) (sym e ∙ string_piece c.args.is_text
+    c.args.len c.in-Some.len (ahead c.args.self.now) c.in-Some.is ∙ c.in-Some-piece.ensures.reads.reads) in
     ap (λ (q : List ℕ × List ℕ). length q.0) same

@@ -1,23 +1,38 @@
 use Rattle.std.proofs.Common.{◌≡◌, ◌∙◌, ℕ, ap, subst, sym, true, false}
 use Rattle.passkey_cbor.specs.Walk.{Walk, IsPlaced}
-use Rattle.passkey_cbor.specs.Skipped.{FindsNoFront}
-use Rattle.passkey_cbor.specs.Stands.{Passes}
-use Rattle.passkey_cbor.proofs.Fronts.{front_passed, front_missed}
+use Rattle.passkey_cbor.specs.Skipped.{FindsNoLeadingItem}
+use Rattle.passkey_cbor.specs.EncodedAt.{Passes}
+use Rattle.passkey_cbor.proofs.LeadingItems.{front_passed, front_missed}
 use Rattle.passkey_cbor.proofs.Gathering.{went_passed, went_stopped, went_back}
-use Rattle.passkey_cbor.proofs.Standing.{passes}
+use Rattle.passkey_cbor.proofs.EncodedFrom.{passes}
 use Rattle.passkey_cbor.proofs.cursor.Cursor.skip.Goals as goal
 
 pub returns-then-not-found : goal.returns-then-not-found
 returns-then-not-found c =
-    let missed = front_missed c.args.self.now c.skip_item-found.new.self c.self.inside.place (ap (λ (w : Walk). w.place) c.self.view_is) c.if-not-found.ensures.least c.if-not-found.ensures.skips in
-    let placed : IsPlaced c.args.self.now.bytes c.args.self.now.place = subst (λ (w : Walk). IsPlaced w.bytes w.place) c.self.view_is c.self.invariant in
+    let missed = front_missed c.args.self.now c.skip_item-found.new.self c.self.inside.place
+    (ap (λ (w : Walk). w.place) c.self.view_is) c.if-not-found.ensures.least c.if-not-found.ensures.skips in
+    let placed : IsPlaced c.args.self.now.bytes c.args.self.now.place =
+    subst (λ (w : Walk). IsPlaced w.bytes w.place) c.self.view_is c.self.invariant in
     let place_is : c.self.inside.place ≡ c.args.self.now.place = ap (λ (w : Walk). w.place) c.self.view_is in
     let back = c.go_back.ensures ∙ ap (λ (p : ℕ). record c.skip_item-found.new.self { place = p }) place_is in
-    let went = went_back c.args.self.now c.skip_item-found.new.self c.go_back.new.self placed.within (went_stopped c.args.self.now c.skip_item-found.new.self c.if-not-found.ensures.skips.stopped) back in
-    rw (c.if-not-found.true) (record { front = subst (λ (w : Walk). FindsNoFront c.args.self.now w) (sym c.go_back.ensures) missed; passes = λ x to l. subst (λ (w : Walk). Passes to c.args.self.now w false) (sym c.go_back.ensures) (passes c.args.self.now _ false x to missed l); went = went })
+    let went = went_back c.args.self.now c.skip_item-found.new.self c.go_back.new.self placed.within
+    (went_stopped c.args.self.now c.skip_item-found.new.self c.if-not-found.ensures.skips.stopped) back in
+    rw (c.if-not-found.true) (record {
+      front = subst (λ (w : Walk). FindsNoLeadingItem c.args.self.now w)
+          (sym c.go_back.ensures) missed;
+      passes = λ x to l. subst (λ (w : Walk). Passes to c.args.self.now w false)
+          (sym c.go_back.ensures) (passes c.args.self.now _ false x to missed l);
+      went = went;
+    })
 
 pub returns-else-not-found : goal.returns-else-not-found
 returns-else-not-found c =
-    let placed : IsPlaced c.args.self.now.bytes c.args.self.now.place = subst (λ (w : Walk). IsPlaced w.bytes w.place) c.self.view_is c.self.invariant in
-    let passed = front_passed c.args.self.now c.skip_item-found.new.self placed c.if-not-found.ensures.least c.if-not-found.ensures.skips in
-    rw c.if-not-found.false (record { front = passed; passes = λ x to l. passes c.args.self.now c.skip_item-found.new.self true x to passed l; went = went_passed c.args.self.now c.skip_item-found.new.self c.if-not-found.ensures.skips.passed })
+    let placed : IsPlaced c.args.self.now.bytes c.args.self.now.place =
+    subst (λ (w : Walk). IsPlaced w.bytes w.place) c.self.view_is c.self.invariant in
+    let passed = front_passed c.args.self.now c.skip_item-found.new.self placed c.if-not-found.ensures.least
+    c.if-not-found.ensures.skips in
+    rw c.if-not-found.false (record {
+      front = passed;
+      passes = λ x to l. passes c.args.self.now c.skip_item-found.new.self true x to passed l;
+      went = went_passed c.args.self.now c.skip_item-found.new.self c.if-not-found.ensures.skips.passed;
+    })

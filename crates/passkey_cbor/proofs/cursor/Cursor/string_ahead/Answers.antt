@@ -6,7 +6,12 @@ use Rattle.passkey_cbor.proofs.cursor.Cursor.string_ahead.Goals as goal
 pub returns-in-Some-region-clause-reads : goal.returns-in-Some-region-clause-reads
 returns-in-Some-region-clause-reads c =
     let read = c.in-Some.ensures in
-    string_read c.args.is_text c.in-Some-string_len.len c.args.self.now c.decode.new.self c.region.new.self c.in-Some.head _ read.placed.within (head_passed c.args.self.now c.decode.new.self read.placed read.counted c.in-Some.head read.reads) read.reads.further (sym c.in-Some-string_len.ensures) c.in-Some-region.ensures.reads
+    string_read c.args.is_text c.in-Some-string_len.len c.args.self.now c.decode.new.self c.region.new.self
+    c.in-Some.head _ read.placed.within
+    (head_passed c.args.self.now c.decode.new.self read.placed read.counted c.in-Some.head read.reads)
+    read.reads.further (sym c.in-Some-string_len.ensures) c.in-Some-region.ensures.reads
 
 pub returns-in-None-region-clause-reads : goal.returns-in-None-region-clause-reads
-returns-in-None-region-clause-reads c = string_cut c.args.is_text c.in-Some-string_len.len c.args.self.now c.decode.new.self c.region.new.self c.in-Some.head c.in-Some.ensures.reads (sym c.in-Some-string_len.ensures) c.in-None-region.ensures.reads
+returns-in-None-region-clause-reads c =
+    string_cut c.args.is_text c.in-Some-string_len.len c.args.self.now c.decode.new.self c.region.new.self
+    c.in-Some.head c.in-Some.ensures.reads (sym c.in-Some-string_len.ensures) c.in-None-region.ensures.reads

@@ -4,5 +4,6 @@ use Rattle.passkey_client_data.proofs.client_data.CollectedClientData.try_clone.
 
 pub returns : goal.returns
 returns g c =
-    let keys = members_view-clone c.args.self.now.unknown_keys.entries c.in_ok-clone.field-0.entries c.in_ok-clone.ensures.cases in
+    let keys = members_view-clone c.args.self.now.unknown_keys.entries c.in_ok-clone.field-0.entries
+    c.in_ok-clone.ensures.cases in
     rw (c.in_ok-try_clone.ensures.same, c.in_ok-try_clone-2.ensures.same, c.in_ok-try_clone-3.ensures, keys) refl

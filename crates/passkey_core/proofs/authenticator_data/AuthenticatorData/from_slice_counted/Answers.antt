@@ -1,8 +1,8 @@
 use Rattle.std.proofs.Common.{rules, ◌≡◌, ℕ, List, true, Option, Ok, Err, option_map, Bor, sym, subst}
-use Rattle.passkey_cbor.specs.Reads.{HasGrowingFront}
+use Rattle.passkey_cbor.specs.Reads.{HasGrowingLeadingItem}
 use Rattle.passkey_cbor.specs.View.{item_of}
 use Rattle.passkey_cbor.specs.declared.value.Value.{Value}
-use Rattle.passkey_core.specs.DataAnswers.{Gives}
+use Rattle.passkey_core.specs.DataAnswers.{Returns}
 use Rattle.passkey_core.specs.DataFlags.{has_flag, attested_flag, extensions_flag}
 use Rattle.passkey_core.specs.DataReading.{fixed_at, read_map, ReadsItem, ReadsAttested, ReadsWhere, DataGrow}
 use Rattle.passkey_core.specs.DataViews.{attested_parts, data_parts}
@@ -19,69 +19,136 @@ returns-in_err-fixed-clause-value c =
 pub returns-in_err-extensions-clause-value : goal.returns-in_err-extensions-clause-value
 returns-in_err-extensions-clause-value c =
     let told : c.from_residual-in_err-extensions.result ≡ Err c.in_err-extensions.field-0.0 = search rules in
-    let attested : c.contains-has_attested.result ≡ has_flag attested_flag c.in_ok-fixed.fixed.flags.0 = search rules in
-    let extensions : c.contains-has_extensions.result ≡ has_flag extensions_flag c.in_ok-fixed.fixed.flags.0 = search rules in
-    let is_attested : ReadsWhere (has_flag attested_flag c.in_ok-fixed.fixed.flags.0) ReadsAttested c.in_ok-fixed.rest.now (Ok (option_map attested_parts c.in_ok-attested.attested, c.in_ok-attested.rest.now)) = subst (λ b. ReadsWhere b ReadsAttested c.in_ok-fixed.rest.now (Ok (option_map attested_parts c.in_ok-attested.attested, c.in_ok-attested.rest.now))) attested c.in_ok-attested.ensures.value in
+    let attested : c.contains-has_attested.result ≡ has_flag attested_flag c.in_ok-fixed.fixed.flags.0 =
+    search rules in
+    let extensions : c.contains-has_extensions.result ≡ has_flag extensions_flag c.in_ok-fixed.fixed.flags.0 =
+    search rules in
+    let is_attested :
+    ReadsWhere (has_flag attested_flag c.in_ok-fixed.fixed.flags.0) ReadsAttested c.in_ok-fixed.rest.now
+    (Ok (option_map attested_parts c.in_ok-attested.attested, c.in_ok-attested.rest.now)) =
+    subst (λ b. ReadsWhere b ReadsAttested c.in_ok-fixed.rest.now (Ok (
+      option_map attested_parts
+          c.in_ok-attested.attested,
+      c.in_ok-attested.rest.now,
+    ))) attested c.in_ok-attested.ensures.value in
     let view : Option Value × Bor (List ℕ) → Option _ × List ℕ = λ r. (option_map item_of r.0, r.1.now) in
-    let fails : Gives ((has_flag extensions_flag c.in_ok-fixed.fixed.flags.0 ≡ true) × HasGrowingFront c.in_ok-attested.rest.now) view (ReadsWhere (has_flag extensions_flag c.in_ok-fixed.fixed.flags.0) (ReadsItem read_map) c.in_ok-attested.rest.now) (Err c.in_err-extensions.field-0.0) = subst (λ b. Gives ((b ≡ true) × HasGrowingFront c.in_ok-attested.rest.now) view (ReadsWhere b (ReadsItem read_map) c.in_ok-attested.rest.now) (Err c.in_err-extensions.field-0.0)) extensions c.in_err-extensions.ensures.value in
-    rw told (extensions_fail data_parts view c.args.bytes.now (data_parts c.in_ok-fixed.fixed) c.in_ok-fixed.rest.now (option_map attested_parts c.in_ok-attested.attested) c.in_ok-attested.rest.now c.in_err-extensions.field-0.0 c.in_ok-fixed.ensures is_attested fails)
+    let fails : Returns ((has_flag extensions_flag c.in_ok-fixed.fixed.flags.0 ≡ true) × HasGrowingLeadingItem
+    c.in_ok-attested.rest.now) view (ReadsWhere (has_flag extensions_flag c.in_ok-fixed.fixed.flags.0)
+    (ReadsItem read_map) c.in_ok-attested.rest.now) (Err c.in_err-extensions.field-0.0) =
+    subst (λ b. Returns ((b ≡ true) × HasGrowingLeadingItem c.in_ok-attested.rest.now) view
+    (ReadsWhere b (ReadsItem read_map) c.in_ok-attested.rest.now) (Err c.in_err-extensions.field-0.0))
+    extensions c.in_err-extensions.ensures.value in
+    rw told (extensions_fail data_parts view c.args.bytes.now (data_parts c.in_ok-fixed.fixed)
+    c.in_ok-fixed.rest.now (option_map attested_parts c.in_ok-attested.attested) c.in_ok-attested.rest.now
+    c.in_err-extensions.field-0.0 c.in_ok-fixed.ensures is_attested fails)
 
 pub returns-in_err-fixed-clause-least : goal.returns-in_err-fixed-clause-least
-returns-in_err-fixed-clause-least c = (totals_fixed c.args.bytes.now c.in_err-fixed.field-0.0 c.args.count.now (sym c.in_err-fixed.ensures)).least
+returns-in_err-fixed-clause-least c =
+    (totals_fixed c.args.bytes.now c.in_err-fixed.field-0.0 c.args.count.now (sym c.in_err-fixed.ensures)).least
 
 pub returns-in_err-attested-clause-heads : goal.returns-in_err-attested-clause-heads
 returns-in_err-attested-clause-heads c =
-    let attested : c.contains-has_attested.result ≡ has_flag attested_flag c.in_ok-fixed.fixed.flags.0 = search rules in
-    (totals_attested c.args.bytes.now (data_parts c.in_ok-fixed.fixed) c.in_ok-fixed.rest.now c.contains-has_attested.result c.in_err-attested.field-0.0 c.args.count.now c.read_attested_where.new.count c.in_ok-fixed.ensures attested c.in_err-attested.ensures.there c.in_err-attested.ensures.counts).heads
+    let attested : c.contains-has_attested.result ≡ has_flag attested_flag c.in_ok-fixed.fixed.flags.0 =
+    search rules in
+    (totals_attested c.args.bytes.now (data_parts c.in_ok-fixed.fixed) c.in_ok-fixed.rest.now
+    c.contains-has_attested.result c.in_err-attested.field-0.0 c.args.count.now c.read_attested_where.new.count
+    c.in_ok-fixed.ensures attested c.in_err-attested.ensures.there c.in_err-attested.ensures.counts).heads
 
 pub returns-in_err-attested-clause-nodes : goal.returns-in_err-attested-clause-nodes
 returns-in_err-attested-clause-nodes c =
-    let attested : c.contains-has_attested.result ≡ has_flag attested_flag c.in_ok-fixed.fixed.flags.0 = search rules in
-    (totals_attested c.args.bytes.now (data_parts c.in_ok-fixed.fixed) c.in_ok-fixed.rest.now c.contains-has_attested.result c.in_err-attested.field-0.0 c.args.count.now c.read_attested_where.new.count c.in_ok-fixed.ensures attested c.in_err-attested.ensures.there c.in_err-attested.ensures.counts).nodes
+    let attested : c.contains-has_attested.result ≡ has_flag attested_flag c.in_ok-fixed.fixed.flags.0 =
+    search rules in
+    (totals_attested c.args.bytes.now (data_parts c.in_ok-fixed.fixed) c.in_ok-fixed.rest.now
+    c.contains-has_attested.result c.in_err-attested.field-0.0 c.args.count.now c.read_attested_where.new.count
+    c.in_ok-fixed.ensures attested c.in_err-attested.ensures.there c.in_err-attested.ensures.counts).nodes
 
 pub returns-in_err-attested-clause-least : goal.returns-in_err-attested-clause-least
 returns-in_err-attested-clause-least c =
-    let attested : c.contains-has_attested.result ≡ has_flag attested_flag c.in_ok-fixed.fixed.flags.0 = search rules in
-    (totals_attested c.args.bytes.now (data_parts c.in_ok-fixed.fixed) c.in_ok-fixed.rest.now c.contains-has_attested.result c.in_err-attested.field-0.0 c.args.count.now c.read_attested_where.new.count c.in_ok-fixed.ensures attested c.in_err-attested.ensures.there c.in_err-attested.ensures.counts).least
+    let attested : c.contains-has_attested.result ≡ has_flag attested_flag c.in_ok-fixed.fixed.flags.0 =
+    search rules in
+    (totals_attested c.args.bytes.now (data_parts c.in_ok-fixed.fixed) c.in_ok-fixed.rest.now
+    c.contains-has_attested.result c.in_err-attested.field-0.0 c.args.count.now c.read_attested_where.new.count
+    c.in_ok-fixed.ensures attested c.in_err-attested.ensures.there c.in_err-attested.ensures.counts).least
 
 pub returns-in_err-extensions-clause-heads : goal.returns-in_err-extensions-clause-heads
 returns-in_err-extensions-clause-heads c =
-    let attested : c.contains-has_attested.result ≡ has_flag attested_flag c.in_ok-fixed.fixed.flags.0 = search rules in
-    let extensions : c.contains-has_extensions.result ≡ has_flag extensions_flag c.in_ok-fixed.fixed.flags.0 = search rules in
-    (totals c.args.bytes.now (data_parts c.in_ok-fixed.fixed) c.in_ok-fixed.rest.now _ _ (option_map attested_parts c.in_ok-attested.attested) c.in_ok-attested.attested c.in_ok-attested.rest c.args.count.now c.read_attested_where.new.count c.read_extensions_where.new.count _ c.in_ok-fixed.ensures attested extensions c.in_ok-attested.ensures.value c.in_ok-attested.ensures.counts c.in_err-extensions.ensures.counts).heads
+    let attested : c.contains-has_attested.result ≡ has_flag attested_flag c.in_ok-fixed.fixed.flags.0 =
+    search rules in
+    let extensions : c.contains-has_extensions.result ≡ has_flag extensions_flag c.in_ok-fixed.fixed.flags.0 =
+    search rules in
+    (totals c.args.bytes.now (data_parts c.in_ok-fixed.fixed) c.in_ok-fixed.rest.now _ _
+    (option_map attested_parts c.in_ok-attested.attested) c.in_ok-attested.attested c.in_ok-attested.rest
+    c.args.count.now c.read_attested_where.new.count c.read_extensions_where.new.count _ c.in_ok-fixed.ensures
+    attested extensions c.in_ok-attested.ensures.value c.in_ok-attested.ensures.counts
+    c.in_err-extensions.ensures.counts).heads
 
 pub returns-in_err-extensions-clause-nodes : goal.returns-in_err-extensions-clause-nodes
 returns-in_err-extensions-clause-nodes c =
-    let attested : c.contains-has_attested.result ≡ has_flag attested_flag c.in_ok-fixed.fixed.flags.0 = search rules in
-    let extensions : c.contains-has_extensions.result ≡ has_flag extensions_flag c.in_ok-fixed.fixed.flags.0 = search rules in
-    (totals c.args.bytes.now (data_parts c.in_ok-fixed.fixed) c.in_ok-fixed.rest.now _ _ (option_map attested_parts c.in_ok-attested.attested) c.in_ok-attested.attested c.in_ok-attested.rest c.args.count.now c.read_attested_where.new.count c.read_extensions_where.new.count _ c.in_ok-fixed.ensures attested extensions c.in_ok-attested.ensures.value c.in_ok-attested.ensures.counts c.in_err-extensions.ensures.counts).nodes
+    let attested : c.contains-has_attested.result ≡ has_flag attested_flag c.in_ok-fixed.fixed.flags.0 =
+    search rules in
+    let extensions : c.contains-has_extensions.result ≡ has_flag extensions_flag c.in_ok-fixed.fixed.flags.0 =
+    search rules in
+    (totals c.args.bytes.now (data_parts c.in_ok-fixed.fixed) c.in_ok-fixed.rest.now _ _
+    (option_map attested_parts c.in_ok-attested.attested) c.in_ok-attested.attested c.in_ok-attested.rest
+    c.args.count.now c.read_attested_where.new.count c.read_extensions_where.new.count _ c.in_ok-fixed.ensures
+    attested extensions c.in_ok-attested.ensures.value c.in_ok-attested.ensures.counts
+    c.in_err-extensions.ensures.counts).nodes
 
 pub returns-in_err-extensions-clause-least : goal.returns-in_err-extensions-clause-least
 returns-in_err-extensions-clause-least c =
-    let attested : c.contains-has_attested.result ≡ has_flag attested_flag c.in_ok-fixed.fixed.flags.0 = search rules in
-    let extensions : c.contains-has_extensions.result ≡ has_flag extensions_flag c.in_ok-fixed.fixed.flags.0 = search rules in
-    (totals c.args.bytes.now (data_parts c.in_ok-fixed.fixed) c.in_ok-fixed.rest.now _ _ (option_map attested_parts c.in_ok-attested.attested) c.in_ok-attested.attested c.in_ok-attested.rest c.args.count.now c.read_attested_where.new.count c.read_extensions_where.new.count _ c.in_ok-fixed.ensures attested extensions c.in_ok-attested.ensures.value c.in_ok-attested.ensures.counts c.in_err-extensions.ensures.counts).least
+    let attested : c.contains-has_attested.result ≡ has_flag attested_flag c.in_ok-fixed.fixed.flags.0 =
+    search rules in
+    let extensions : c.contains-has_extensions.result ≡ has_flag extensions_flag c.in_ok-fixed.fixed.flags.0 =
+    search rules in
+    (totals c.args.bytes.now (data_parts c.in_ok-fixed.fixed) c.in_ok-fixed.rest.now _ _
+    (option_map attested_parts c.in_ok-attested.attested) c.in_ok-attested.attested c.in_ok-attested.rest
+    c.args.count.now c.read_attested_where.new.count c.read_extensions_where.new.count _ c.in_ok-fixed.ensures
+    attested extensions c.in_ok-attested.ensures.value c.in_ok-attested.ensures.counts
+    c.in_err-extensions.ensures.counts).least
 
 pub returns-clause-heads : goal.returns-clause-heads
 returns-clause-heads c =
-    let attested : c.contains-has_attested.result ≡ has_flag attested_flag c.in_ok-fixed.fixed.flags.0 = search rules in
-    let extensions : c.contains-has_extensions.result ≡ has_flag extensions_flag c.in_ok-fixed.fixed.flags.0 = search rules in
-    (totals c.args.bytes.now (data_parts c.in_ok-fixed.fixed) c.in_ok-fixed.rest.now _ _ (option_map attested_parts c.in_ok-attested.attested) c.in_ok-attested.attested c.in_ok-attested.rest c.args.count.now c.read_attested_where.new.count c.read_extensions_where.new.count _ c.in_ok-fixed.ensures attested extensions c.in_ok-attested.ensures.value c.in_ok-attested.ensures.counts c.in_ok-extensions.ensures.counts).heads
+    let attested : c.contains-has_attested.result ≡ has_flag attested_flag c.in_ok-fixed.fixed.flags.0 =
+    search rules in
+    let extensions : c.contains-has_extensions.result ≡ has_flag extensions_flag c.in_ok-fixed.fixed.flags.0 =
+    search rules in
+    (totals c.args.bytes.now (data_parts c.in_ok-fixed.fixed) c.in_ok-fixed.rest.now _ _
+    (option_map attested_parts c.in_ok-attested.attested) c.in_ok-attested.attested c.in_ok-attested.rest
+    c.args.count.now c.read_attested_where.new.count c.read_extensions_where.new.count _ c.in_ok-fixed.ensures
+    attested extensions c.in_ok-attested.ensures.value c.in_ok-attested.ensures.counts
+    c.in_ok-extensions.ensures.counts).heads
 
 pub returns-clause-nodes : goal.returns-clause-nodes
 returns-clause-nodes c =
-    let attested : c.contains-has_attested.result ≡ has_flag attested_flag c.in_ok-fixed.fixed.flags.0 = search rules in
-    let extensions : c.contains-has_extensions.result ≡ has_flag extensions_flag c.in_ok-fixed.fixed.flags.0 = search rules in
-    (totals c.args.bytes.now (data_parts c.in_ok-fixed.fixed) c.in_ok-fixed.rest.now _ _ (option_map attested_parts c.in_ok-attested.attested) c.in_ok-attested.attested c.in_ok-attested.rest c.args.count.now c.read_attested_where.new.count c.read_extensions_where.new.count _ c.in_ok-fixed.ensures attested extensions c.in_ok-attested.ensures.value c.in_ok-attested.ensures.counts c.in_ok-extensions.ensures.counts).nodes
+    let attested : c.contains-has_attested.result ≡ has_flag attested_flag c.in_ok-fixed.fixed.flags.0 =
+    search rules in
+    let extensions : c.contains-has_extensions.result ≡ has_flag extensions_flag c.in_ok-fixed.fixed.flags.0 =
+    search rules in
+    (totals c.args.bytes.now (data_parts c.in_ok-fixed.fixed) c.in_ok-fixed.rest.now _ _
+    (option_map attested_parts c.in_ok-attested.attested) c.in_ok-attested.attested c.in_ok-attested.rest
+    c.args.count.now c.read_attested_where.new.count c.read_extensions_where.new.count _ c.in_ok-fixed.ensures
+    attested extensions c.in_ok-attested.ensures.value c.in_ok-attested.ensures.counts
+    c.in_ok-extensions.ensures.counts).nodes
 
 pub returns-clause-least : goal.returns-clause-least
 returns-clause-least c =
-    let attested : c.contains-has_attested.result ≡ has_flag attested_flag c.in_ok-fixed.fixed.flags.0 = search rules in
-    let extensions : c.contains-has_extensions.result ≡ has_flag extensions_flag c.in_ok-fixed.fixed.flags.0 = search rules in
-    (totals c.args.bytes.now (data_parts c.in_ok-fixed.fixed) c.in_ok-fixed.rest.now _ _ (option_map attested_parts c.in_ok-attested.attested) c.in_ok-attested.attested c.in_ok-attested.rest c.args.count.now c.read_attested_where.new.count c.read_extensions_where.new.count _ c.in_ok-fixed.ensures attested extensions c.in_ok-attested.ensures.value c.in_ok-attested.ensures.counts c.in_ok-extensions.ensures.counts).least
+    let attested : c.contains-has_attested.result ≡ has_flag attested_flag c.in_ok-fixed.fixed.flags.0 =
+    search rules in
+    let extensions : c.contains-has_extensions.result ≡ has_flag extensions_flag c.in_ok-fixed.fixed.flags.0 =
+    search rules in
+    (totals c.args.bytes.now (data_parts c.in_ok-fixed.fixed) c.in_ok-fixed.rest.now _ _
+    (option_map attested_parts c.in_ok-attested.attested) c.in_ok-attested.attested c.in_ok-attested.rest
+    c.args.count.now c.read_attested_where.new.count c.read_extensions_where.new.count _ c.in_ok-fixed.ensures
+    attested extensions c.in_ok-attested.ensures.value c.in_ok-attested.ensures.counts
+    c.in_ok-extensions.ensures.counts).least
 
 pub returns-clause-all : goal.returns-clause-all
 returns-clause-all c =
-    let attested : c.contains-has_attested.result ≡ has_flag attested_flag c.in_ok-fixed.fixed.flags.0 = search rules in
-    let extensions : c.contains-has_extensions.result ≡ has_flag extensions_flag c.in_ok-fixed.fixed.flags.0 = search rules in
-    all_counted c.args.bytes.now (data_parts c.in_ok-fixed.fixed) c.in_ok-fixed.rest.now _ _ (option_map attested_parts c.in_ok-attested.attested) c.in_ok-attested.attested c.in_ok-attested.rest c.args.count.now c.read_attested_where.new.count c.read_extensions_where.new.count _ c.in_ok-fixed.ensures attested extensions c.in_ok-attested.ensures.value c.in_ok-attested.ensures.counts c.in_ok-extensions.ensures.counts
+    let attested : c.contains-has_attested.result ≡ has_flag attested_flag c.in_ok-fixed.fixed.flags.0 =
+    search rules in
+    let extensions : c.contains-has_extensions.result ≡ has_flag extensions_flag c.in_ok-fixed.fixed.flags.0 =
+    search rules in
+    all_counted c.args.bytes.now (data_parts c.in_ok-fixed.fixed) c.in_ok-fixed.rest.now _ _ (option_map
+    attested_parts c.in_ok-attested.attested) c.in_ok-attested.attested c.in_ok-attested.rest c.args.count.now
+    c.read_attested_where.new.count c.read_extensions_where.new.count _ c.in_ok-fixed.ensures attested
+    extensions c.in_ok-attested.ensures.value c.in_ok-attested.ensures.counts c.in_ok-extensions.ensures.counts

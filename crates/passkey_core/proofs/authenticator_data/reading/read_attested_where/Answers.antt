@@ -9,9 +9,15 @@ pub returns-in_err-attested-clause-value : goal.returns-in_err-attested-clause-v
 returns-in_err-attested-clause-value c =
     let there : c.args.is_there ≡ true = search rules in
     let told : c.from_residual.result ≡ Err c.in_err-attested.field-0.0 = search rules in
-    rw told (gives_fault (AttestedGrows c.args.bytes.now) ((c.args.is_there ≡ true) × AttestedGrows c.args.bytes.now) (λ (r : AttestedCredentialData × Bor (List ℕ)). (attested_parts r.0, r.1.now)) (λ (r : Option AttestedCredentialData × Bor (List ℕ)). (option_map attested_parts r.0, r.1.now)) (ReadsAttested c.args.bytes.now) (ReadsWhere c.args.is_there ReadsAttested c.args.bytes.now) (λ grows. (there, grows)) (part_fails ReadsAttested c.args.is_there c.args.bytes.now there) c.in_err-attested.field-0.0 c.in_err-attested.ensures.value)
+    rw told (gives_fault (AttestedGrows c.args.bytes.now) ((c.args.is_there ≡ true) × AttestedGrows
+    c.args.bytes.now) (λ (r : AttestedCredentialData × Bor (List ℕ)). (attested_parts r.0, r.1.now))
+    (λ (r : Option AttestedCredentialData × Bor (List ℕ)). (option_map attested_parts r.0, r.1.now))
+    (ReadsAttested c.args.bytes.now) (ReadsWhere c.args.is_there ReadsAttested c.args.bytes.now)
+    (λ grows. (there, grows)) (part_fails ReadsAttested c.args.is_there c.args.bytes.now there)
+    c.in_err-attested.field-0.0 c.in_err-attested.ensures.value)
 
 pub returns-clause-value : goal.returns-clause-value
 returns-clause-value c =
     let there : c.args.is_there ≡ true = search rules in
-    part_stands ReadsAttested c.args.is_there c.args.bytes.now (attested_parts c.in_ok-attested.attested) c.in_ok-attested.rest.now there c.in_ok-attested.ensures.value
+    part_stands ReadsAttested c.args.is_there c.args.bytes.now (attested_parts c.in_ok-attested.attested)
+    c.in_ok-attested.rest.now there c.in_ok-attested.ensures.value

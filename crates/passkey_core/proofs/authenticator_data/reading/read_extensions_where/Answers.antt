@@ -1,5 +1,5 @@
 use Rattle.std.proofs.Common.{rules, ◌≡◌, ℕ, List, true, Option, Err, option_map, Bor}
-use Rattle.passkey_cbor.specs.Reads.{HasGrowingFront}
+use Rattle.passkey_cbor.specs.Reads.{HasGrowingLeadingItem}
 use Rattle.passkey_cbor.specs.View.{item_of}
 use Rattle.passkey_cbor.specs.declared.value.Value.{Value}
 use Rattle.passkey_core.specs.DataReading.{read_map, ReadsItem, ReadsWhere}
@@ -10,9 +10,15 @@ pub returns-in_err-extensions-clause-value : goal.returns-in_err-extensions-clau
 returns-in_err-extensions-clause-value c =
     let there : c.args.is_there ≡ true = search rules in
     let told : c.from_residual.result ≡ Err c.in_err-extensions.field-0.0 = search rules in
-    rw told (gives_fault (HasGrowingFront c.args.bytes.now) ((c.args.is_there ≡ true) × HasGrowingFront c.args.bytes.now) (λ (r : Value × Bor (List ℕ)). (item_of r.0, r.1.now)) (λ (r : Option Value × Bor (List ℕ)). (option_map item_of r.0, r.1.now)) (ReadsItem read_map c.args.bytes.now) (ReadsWhere c.args.is_there (ReadsItem read_map) c.args.bytes.now) (λ grows. (there, grows)) (part_fails (ReadsItem read_map) c.args.is_there c.args.bytes.now there) c.in_err-extensions.field-0.0 c.in_err-extensions.ensures.value)
+    rw told (gives_fault (HasGrowingLeadingItem c.args.bytes.now) ((c.args.is_there ≡ true)
+    × HasGrowingLeadingItem c.args.bytes.now) (λ (r : Value × Bor (List ℕ)). (item_of r.0, r.1.now))
+    (λ (r : Option Value × Bor (List ℕ)). (option_map item_of r.0, r.1.now))
+    (ReadsItem read_map c.args.bytes.now) (ReadsWhere c.args.is_there (ReadsItem read_map) c.args.bytes.now)
+    (λ grows. (there, grows)) (part_fails (ReadsItem read_map) c.args.is_there c.args.bytes.now there)
+    c.in_err-extensions.field-0.0 c.in_err-extensions.ensures.value)
 
 pub returns-clause-value : goal.returns-clause-value
 returns-clause-value c =
     let there : c.args.is_there ≡ true = search rules in
-    part_stands (ReadsItem read_map) c.args.is_there c.args.bytes.now (item_of c.in_ok-extensions.extensions) c.in_ok-extensions.rest.now there c.in_ok-extensions.ensures.value
+    part_stands (ReadsItem read_map) c.args.is_there c.args.bytes.now (item_of c.in_ok-extensions.extensions)
+    c.in_ok-extensions.rest.now there c.in_ok-extensions.ensures.value

@@ -18,7 +18,10 @@ invariant_of-self-2 c =
     let old : are_separate (params_held c.args.self.params) ≡ true = c.args.self.separate in
     let uncommon : is_common (label_item c.args.label) ≡ false = search rules in
     let new : has_label (params_held c.args.self.params) (label_item c.args.label) ≡ false = search rules in
-    let separate : are_separate (params_held c.push_param.new.params) ≡ true = rw pushed (separate-push (params_held c.args.self.params) m old uncommon new) in
+    let separate : are_separate (params_held c.push_param.new.params) ≡ true =
+    rw pushed (separate-push (params_held c.args.self.params) m old uncommon new) in
     let valid : IsKey (key_parts c.args.self) = record { good = c.args.self.good; separate = old } in
-    let good : first_fault [] (key_members (record (key_parts c.args.self) { params = params_held c.push_param.new.params })) ≡ None = rw pushed (good_push (key_parts c.args.self) m valid c.label_is_name.ensures uncommon new) in
+    let good : first_fault []
+    (key_members (record (key_parts c.args.self) { params = params_held c.push_param.new.params })) ≡ None =
+    rw pushed (good_push (key_parts c.args.self) m valid c.label_is_name.ensures uncommon new) in
     record { separate = separate; good = good }

@@ -1,13 +1,15 @@
 use Rattle.std.proofs.Common.{refl, sym}
 use Rattle.passkey_json.proofs.Faults.{first_fault_passed}
 use Rattle.passkey_json.proofs.Taking.{takes_known}
-use Rattle.passkey_credentials.proofs.assertion_response.AuthenticatorAssertionResponseJsonRecord.from_object.Goals as goal
+use Rattle.passkey_credentials.proofs.assertion_response.AuthenticatorAssertionResponseJsonRecord.from_object.Goals
+    as goal
 use Rattle.passkey_credentials.specs.AssertionResponse.{assertion_response_in, assertion_response_takes}
 
 pub returns-in_err-required : goal.returns-in_err-required
 unfolding assertion_response_in assertion_response_takes
 returns-in_err-required c =
-    rw (sym c.member.ensures) (first_fault_passed _ _ _ c.in_err-required.field-0.0 _ _ c.in_err-required.ensures c.from_residual.ensures.1 (takes_known _ _ 0 _ c.member.ensures))
+    rw (sym c.member.ensures) (first_fault_passed _ _ _ c.in_err-required.field-0.0 _ _ c.in_err-required.ensures
+    c.from_residual.ensures.1 (takes_known _ _ 0 _ c.member.ensures))
 
 pub returns-in_err-required-2 : goal.returns-in_err-required-2
 unfolding assertion_response_in assertion_response_takes
@@ -15,7 +17,8 @@ returns-in_err-required-2 c =
     rw (
       rw c.member.ensures at c.in_ok-required.ensures,
       ← c.member-2.ensures,
-    ) (first_fault_passed _ _ _ c.in_err-required-2.field-0.0 _ _ c.in_err-required-2.ensures c.from_residual-in_err-required-2.ensures.1 (takes_known _ _ 1 _ c.member-2.ensures))
+    ) (first_fault_passed _ _ _ c.in_err-required-2.field-0.0 _ _ c.in_err-required-2.ensures
+    c.from_residual-in_err-required-2.ensures.1 (takes_known _ _ 1 _ c.member-2.ensures))
 
 pub returns-in_err-required-3 : goal.returns-in_err-required-3
 unfolding assertion_response_in assertion_response_takes
@@ -24,7 +27,8 @@ returns-in_err-required-3 c =
       rw c.member.ensures at c.in_ok-required.ensures,
       rw c.member-2.ensures at c.in_ok-required-2.ensures,
       ← c.member-3.ensures,
-    ) (first_fault_passed _ _ _ c.in_err-required-3.field-0.0 _ _ c.in_err-required-3.ensures c.from_residual-in_err-required-3.ensures.1 (takes_known _ _ 2 _ c.member-3.ensures))
+    ) (first_fault_passed _ _ _ c.in_err-required-3.field-0.0 _ _ c.in_err-required-3.ensures
+    c.from_residual-in_err-required-3.ensures.1 (takes_known _ _ 2 _ c.member-3.ensures))
 
 pub returns-in_err-or_default : goal.returns-in_err-or_default
 unfolding assertion_response_in assertion_response_takes
@@ -34,7 +38,8 @@ returns-in_err-or_default c =
       rw c.member-2.ensures at c.in_ok-required-2.ensures,
       rw c.member-3.ensures at c.in_ok-required-3.ensures,
       ← c.member-4.ensures,
-    ) (first_fault_passed _ _ _ c.in_err-or_default.field-0.0 _ _ c.in_err-or_default.ensures c.from_residual-in_err-or_default.ensures.1 (takes_known _ _ 3 _ c.member-4.ensures))
+    ) (first_fault_passed _ _ _ c.in_err-or_default.field-0.0 _ _ c.in_err-or_default.ensures
+    c.from_residual-in_err-or_default.ensures.1 (takes_known _ _ 3 _ c.member-4.ensures))
 
 pub returns-in_err-or_default-2 : goal.returns-in_err-or_default-2
 unfolding assertion_response_in assertion_response_takes
@@ -45,7 +50,8 @@ returns-in_err-or_default-2 c =
       rw c.member-3.ensures at c.in_ok-required-3.ensures,
       rw c.member-4.ensures at c.in_ok-or_default.ensures,
       ← c.member-5.ensures,
-    ) (first_fault_passed _ _ _ c.in_err-or_default-2.field-0.0 _ _ c.in_err-or_default-2.ensures c.from_residual-in_err-or_default-2.ensures.1 (takes_known _ _ 4 _ c.member-5.ensures))
+    ) (first_fault_passed _ _ _ c.in_err-or_default-2.field-0.0 _ _ c.in_err-or_default-2.ensures
+    c.from_residual-in_err-or_default-2.ensures.1 (takes_known _ _ 4 _ c.member-5.ensures))
 
 pub returns : goal.returns
 unfolding assertion_response_in

@@ -6,7 +6,8 @@ use Rattle.passkey_json.proofs.MembersBack.{record_back, required_back, optional
 pub returns-clause-reads_back : goal.returns-clause-reads_back
 unfolding assertion_response_in
 returns-clause-reads_back c =
-    record_back assertion_response_in (assertion_response_rows c.args.form c.args.self.now) c.args.self.now refl (rw (
+    record_back assertion_response_in (assertion_response_rows c.args.form c.args.self.now) c.args.self.now refl
+    (rw (
       required_back c.in_ok-put.ensures.reads_back,
       required_back c.in_ok-put-2.ensures.reads_back,
       required_back c.in_ok-put-3.ensures.reads_back,

@@ -7,7 +7,8 @@ use Rattle.passkey_credentials.specs.AttestationResponse.{attestation_response_i
 pub returns-in_err-required : goal.returns-in_err-required
 unfolding attestation_response_in attestation_response_takes
 returns-in_err-required c =
-    rw (sym c.member.ensures) (first_fault_passed _ _ _ c.in_err-required.field-0.0 _ _ c.in_err-required.ensures c.from_residual.ensures.1 (takes_known _ _ 0 _ c.member.ensures))
+    rw (sym c.member.ensures) (first_fault_passed _ _ _ c.in_err-required.field-0.0 _ _ c.in_err-required.ensures
+    c.from_residual.ensures.1 (takes_known _ _ 0 _ c.member.ensures))
 
 pub returns-in_err-required-2 : goal.returns-in_err-required-2
 unfolding attestation_response_in attestation_response_takes
@@ -15,7 +16,8 @@ returns-in_err-required-2 c =
     rw (
       rw c.member.ensures at c.in_ok-required.ensures,
       ← c.member-2.ensures,
-    ) (first_fault_passed _ _ _ c.in_err-required-2.field-0.0 _ _ c.in_err-required-2.ensures c.from_residual-in_err-required-2.ensures.1 (takes_known _ _ 1 _ c.member-2.ensures))
+    ) (first_fault_passed _ _ _ c.in_err-required-2.field-0.0 _ _ c.in_err-required-2.ensures
+    c.from_residual-in_err-required-2.ensures.1 (takes_known _ _ 1 _ c.member-2.ensures))
 
 pub returns-in_err-or_default : goal.returns-in_err-or_default
 unfolding attestation_response_in attestation_response_takes
@@ -24,7 +26,8 @@ returns-in_err-or_default c =
       rw c.member.ensures at c.in_ok-required.ensures,
       rw c.member-2.ensures at c.in_ok-required-2.ensures,
       ← c.member-3.ensures,
-    ) (first_fault_passed _ _ _ c.in_err-or_default.field-0.0 _ _ c.in_err-or_default.ensures c.from_residual-in_err-or_default.ensures.1 (takes_known _ _ 2 _ c.member-3.ensures))
+    ) (first_fault_passed _ _ _ c.in_err-or_default.field-0.0 _ _ c.in_err-or_default.ensures
+    c.from_residual-in_err-or_default.ensures.1 (takes_known _ _ 2 _ c.member-3.ensures))
 
 pub returns-in_err-required-3 : goal.returns-in_err-required-3
 unfolding attestation_response_in attestation_response_takes
@@ -34,7 +37,8 @@ returns-in_err-required-3 c =
       rw c.member-2.ensures at c.in_ok-required-2.ensures,
       rw c.member-3.ensures at c.in_ok-or_default.ensures,
       ← c.member-4.ensures,
-    ) (first_fault_passed _ _ _ c.in_err-required-3.field-0.0 _ _ c.in_err-required-3.ensures c.from_residual-in_err-required-3.ensures.1 (λ h. absurd (takes_none _ h)))
+    ) (first_fault_passed _ _ _ c.in_err-required-3.field-0.0 _ _ c.in_err-required-3.ensures
+    c.from_residual-in_err-required-3.ensures.1 (λ h. absurd (takes_none _ h)))
 
 pub returns-in_err-required-4 : goal.returns-in_err-required-4
 unfolding attestation_response_in attestation_response_takes
@@ -45,7 +49,8 @@ returns-in_err-required-4 c =
       rw c.member-3.ensures at c.in_ok-or_default.ensures,
       rw c.member-4.ensures at c.in_ok-required-3.ensures,
       ← c.member-5.ensures,
-    ) (first_fault_passed _ _ _ c.in_err-required-4.field-0.0 _ _ c.in_err-required-4.ensures c.from_residual-in_err-required-4.ensures.1 (takes_known _ _ 3 _ c.member-5.ensures))
+    ) (first_fault_passed _ _ _ c.in_err-required-4.field-0.0 _ _ c.in_err-required-4.ensures
+    c.from_residual-in_err-required-4.ensures.1 (takes_known _ _ 3 _ c.member-5.ensures))
 
 pub returns-in_err-or_default-2 : goal.returns-in_err-or_default-2
 unfolding attestation_response_in attestation_response_takes
@@ -57,4 +62,5 @@ returns-in_err-or_default-2 c =
       rw c.member-4.ensures at c.in_ok-required-3.ensures,
       rw c.member-5.ensures at c.in_ok-required-4.ensures,
       ← c.member-6.ensures,
-    ) (first_fault_passed _ _ _ c.in_err-or_default-2.field-0.0 _ _ c.in_err-or_default-2.ensures c.from_residual-in_err-or_default-2.ensures.1 (takes_known _ _ 4 _ c.member-6.ensures))
+    ) (first_fault_passed _ _ _ c.in_err-or_default-2.field-0.0 _ _ c.in_err-or_default-2.ensures
+    c.from_residual-in_err-or_default-2.ensures.1 (takes_known _ _ 4 _ c.member-6.ensures))

@@ -7,7 +7,8 @@ use Rattle.passkey_credentials.specs.Credential.{credential_in, credential_takes
 pub returns-in_err-required : goal.returns-in_err-required
 unfolding credential_in credential_takes
 returns-in_err-required g c =
-    rw (sym c.member.ensures) (first_fault_passed _ _ _ c.in_err-required.field-0.0 _ _ c.in_err-required.ensures c.from_residual.ensures.1 (takes_known _ _ 0 _ c.member.ensures))
+    rw (sym c.member.ensures) (first_fault_passed _ _ _ c.in_err-required.field-0.0 _ _ c.in_err-required.ensures
+    c.from_residual.ensures.1 (takes_known _ _ 0 _ c.member.ensures))
 
 pub returns-in_err-required-2 : goal.returns-in_err-required-2
 unfolding credential_in credential_takes
@@ -15,7 +16,8 @@ returns-in_err-required-2 g c =
     rw (
       rw c.member.ensures at c.in_ok-required.ensures,
       ← c.member-2.ensures,
-    ) (first_fault_passed _ _ _ c.in_err-required-2.field-0.0 _ _ c.in_err-required-2.ensures c.from_residual-in_err-required-2.ensures.1 (takes_known _ _ 1 _ c.member-2.ensures))
+    ) (first_fault_passed _ _ _ c.in_err-required-2.field-0.0 _ _ c.in_err-required-2.ensures
+    c.from_residual-in_err-required-2.ensures.1 (takes_known _ _ 1 _ c.member-2.ensures))
 
 pub returns-in_err-required-3 : goal.returns-in_err-required-3
 unfolding credential_in credential_takes
@@ -24,7 +26,8 @@ returns-in_err-required-3 g c =
       rw c.member.ensures at c.in_ok-required.ensures,
       rw c.member-2.ensures at c.in_ok-required-2.ensures,
       ← c.member-3.ensures,
-    ) (first_fault_passed _ _ _ c.in_err-required-3.field-0.0 _ _ c.in_err-required-3.ensures c.from_residual-in_err-required-3.ensures.1 (λ h. absurd (takes_none _ h)))
+    ) (first_fault_passed _ _ _ c.in_err-required-3.field-0.0 _ _ c.in_err-required-3.ensures
+    c.from_residual-in_err-required-3.ensures.1 (λ h. absurd (takes_none _ h)))
 
 pub returns-in_err-required-4 : goal.returns-in_err-required-4
 unfolding credential_in credential_takes
@@ -34,7 +37,8 @@ returns-in_err-required-4 g c =
       rw c.member-2.ensures at c.in_ok-required-2.ensures,
       rw c.member-3.ensures at c.in_ok-required-3.ensures,
       ← c.member-4.ensures,
-    ) (first_fault_passed _ _ _ c.in_err-required-4.field-0.0 _ _ c.in_err-required-4.ensures c.from_residual-in_err-required-4.ensures.1 (takes_known _ _ 2 _ c.member-4.ensures))
+    ) (first_fault_passed _ _ _ c.in_err-required-4.field-0.0 _ _ c.in_err-required-4.ensures
+    c.from_residual-in_err-required-4.ensures.1 (takes_known _ _ 2 _ c.member-4.ensures))
 
 pub returns-in_err-tolerated : goal.returns-in_err-tolerated
 unfolding credential_in credential_takes
@@ -45,4 +49,5 @@ returns-in_err-tolerated g c =
       rw c.member-3.ensures at c.in_ok-required-3.ensures,
       rw c.member-4.ensures at c.in_ok-required-4.ensures,
       ← c.member-5.ensures,
-    ) (first_fault_passed _ _ _ c.in_err-tolerated.field-0.0 _ _ c.in_err-tolerated.ensures c.from_residual-in_err-tolerated.ensures.1 (λ h. absurd (takes_none _ h)))
+    ) (first_fault_passed _ _ _ c.in_err-tolerated.field-0.0 _ _ c.in_err-tolerated.ensures
+    c.from_residual-in_err-tolerated.ensures.1 (λ h. absurd (takes_none _ h)))

@@ -6,7 +6,8 @@ use Rattle.passkey_json.proofs.MembersBack.{record_back, required_back, tolerate
 pub returns-clause-reads_back : goal.returns-clause-reads_back
 unfolding credential_in
 returns-clause-reads_back g c =
-    record_back (credential_in g.R.FromJson.kind) (credential_rows g.R.ToJson.json c.args.form c.args.self.now) c.args.self.now refl (rw (
+    record_back (credential_in g.R.FromJson.kind) (credential_rows g.R.ToJson.json c.args.form c.args.self.now)
+    c.args.self.now refl (rw (
       required_back c.in_ok-put.ensures.reads_back,
       required_back c.in_ok-put-2.ensures.reads_back,
       required_back c.in_ok-put-3.ensures.reads_back,

@@ -20,5 +20,8 @@ same (Some m) = ap Some (map_values_same m)
 pub returns-in-2-clause-puts : goal.returns-in-2-clause-puts
 returns-in-2-clause-puts g c = λ i to at.
     let old = c.args.self.now in
-    let set : Option (ByteMap AuthenticatorPrfValues) → AuthenticatorPrfInputs → AuthenticatorPrfInputs = λ x r. record r { eval_by_credential = x } in
-    sets_put prf_inputs_fields seen (optional (map_from_bytes prf_values)) true set c.args.number 2 i c.set-in-2.new.field old (set c.set-in-2.new.field old) c.set-in-2.result c.in-2.is refl refl refl (ap (λ o. set o old) (same c.set-in-2.new.field)) (c.set-in-2.ensures.sets i to at)
+    let set : Option (ByteMap AuthenticatorPrfValues) → AuthenticatorPrfInputs
+    → AuthenticatorPrfInputs = λ x r. record r { eval_by_credential = x } in
+    sets_put prf_inputs_fields seen (optional (map_from_bytes prf_values)) true set c.args.number 2 i
+    c.set-in-2.new.field old (set c.set-in-2.new.field old) c.set-in-2.result c.in-2.is refl refl refl
+    (ap (λ o. set o old) (same c.set-in-2.new.field)) (c.set-in-2.ensures.sets i to at)

@@ -1,6 +1,6 @@
 use Rattle.std.proofs.Common.{◌∙◌, Bool, ◌&&◌, option_map, ap, sym}
 use Rattle.std.specs.Int.NonZero.{non_zero_u128_get}
-use Rattle.passkey_get_info.specs.GetInfoTree.{is_spelled, has_room}
+use Rattle.passkey_get_info.specs.GetInfoTree.{is_encodable, has_room}
 use Rattle.passkey_get_info.specs.GetInfoView.{get_info_parts}
 use Rattle.passkey_get_info.proofs.GetInfos.{told, parts_decide}
 use Rattle.passkey_get_info.proofs.response.Response.is_coherent.Goals as goal
@@ -8,7 +8,8 @@ use Rattle.passkey_get_info.proofs.response.Response.is_coherent.Goals as goal
 pub returns-then-is_ok : goal.returns-then-is_ok
 returns-then-is_ok c =
     let r = get_info_parts c.args.self.now in
-    let told_true = sym c.if-is_ok.true ∙ c.is_ok.ensures.value ∙ told (is_spelled (option_map non_zero_u128_get c.args.self.now.max_msg_size)) c.size_item.result c.size_item.ensures.spelled c.size_item.ensures.fault in
+    let told_true = sym c.if-is_ok.true ∙ c.is_ok.ensures.value ∙ told (is_encodable (option_map non_zero_u128_get
+    c.args.self.now.max_msg_size)) c.size_item.result c.size_item.ensures.encoded c.size_item.ensures.fault in
     c.fits_in_message.ensures
     ∙ ap (λ (b : Bool). b && has_room r.certifications) told_true
     ∙ parts_decide r

@@ -12,10 +12,16 @@ pub returns-in-2-clause-puts : goal.returns-in-2-clause-puts
 returns-in-2-clause-puts g c = λ i to at.
     let old = get_info_parts c.args.self.now in
     let set : Option (List Extension) → GetInfoParts → GetInfoParts = λ x r. record r { extensions = x } in
-    sets_put get_info_fields (λ (o : Option (List Extension)). option_map (λ (xs : List Extension). map (λ (e : Extension). e) xs) o) (optional (list extension)) true set c.args.number 2 i c.set-in-2.new.field old (set c.set-in-2.new.field old) c.set-in-2.result c.in-2.is refl refl refl (ap (λ o. set o old) (each_same c.set-in-2.new.field)) (c.set-in-2.ensures.sets i to at)
+    sets_put get_info_fields (λ (o : Option (List Extension)). option_map
+    (λ (xs : List Extension). map (λ (e : Extension). e) xs) o) (optional (list extension)) true set
+    c.args.number 2 i c.set-in-2.new.field old (set c.set-in-2.new.field old) c.set-in-2.result c.in-2.is refl
+    refl refl (ap (λ o. set o old) (each_same c.set-in-2.new.field)) (c.set-in-2.ensures.sets i to at)
 
 pub returns-in-6-clause-puts : goal.returns-in-6-clause-puts
 returns-in-6-clause-puts g c = λ i to at.
     let old = get_info_parts c.args.self.now in
     let set : Option (List ℕ) → GetInfoParts → GetInfoParts = λ x r. record r { pin_protocols = x } in
-    sets_put get_info_fields (λ (o : Option (List ℕ)). option_map (λ (xs : List ℕ). map (λ (n : ℕ). n) xs) o) (optional (list (below 256))) true set c.args.number 6 i c.set-in-6.new.field old (set c.set-in-6.new.field old) c.set-in-6.result c.in-6.is refl refl refl (ap (λ o. set o old) (each_same c.set-in-6.new.field)) (c.set-in-6.ensures.sets i to at)
+    sets_put get_info_fields (λ (o : Option (List ℕ)). option_map (λ (xs : List ℕ). map (λ (n : ℕ). n) xs) o)
+    (optional (list (below 256))) true set c.args.number 6 i c.set-in-6.new.field old
+    (set c.set-in-6.new.field old) c.set-in-6.result c.in-6.is refl refl refl
+    (ap (λ o. set o old) (each_same c.set-in-6.new.field)) (c.set-in-6.ensures.sets i to at)

@@ -6,5 +6,6 @@ use Rattle.passkey_json.specs.CredentialProperties.{credential_properties_in, cr
 pub returns-clause-reads_back : goal.returns-clause-reads_back
 unfolding credential_properties_in
 returns-clause-reads_back c =
-    record_back credential_properties_in (credential_properties_rows c.args.form c.args.self.now) c.args.self.now refl (rw (
+    record_back credential_properties_in (credential_properties_rows c.args.form c.args.self.now) c.args.self.now
+    refl (rw (
     optional_back c.in_ok-put_some.ensures.reads_back) refl)

@@ -12,5 +12,6 @@ returns-clause-reads_back c =
     record_back descriptor_in (descriptor_rows c.args.form c.args.self.now) c.args.self.now refl (rw (
       required_tolerated_back c.in_ok-put.ensures.reads_back,
       required_back c.in_ok-put-2.ensures.reads_back,
-      accepted_list_back (one_named transport_named) (λ t. string (transport_name t)) c.in_ok-put_some.ensures.reads_back,
+      accepted_list_back (one_named transport_named) (λ t. string (transport_name t))
+          c.in_ok-put_some.ensures.reads_back,
     ) refl)

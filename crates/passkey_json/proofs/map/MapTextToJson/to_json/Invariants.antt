@@ -10,5 +10,6 @@ invariant-loop-name g l =
     let json = g.T.ToJson.json l.form in
     record {
       written : put_members json (so_far l.members) l.name-iterator ≡ members_json json (fin.entries l.self);
-      reads_back : EachBack g.T.FromJson.kind json l.name-iterator → EachBack g.T.FromJson.kind json (fin.entries l.self);
+      reads_back : EachBack g.T.FromJson.kind json l.name-iterator
+          → EachBack g.T.FromJson.kind json (fin.entries l.self);
     }

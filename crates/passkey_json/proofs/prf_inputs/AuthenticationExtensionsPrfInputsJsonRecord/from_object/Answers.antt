@@ -7,4 +7,6 @@ pub returns-in_err-or_default-2 : goal.returns-in_err-or_default-2
 unfolding prf_inputs_in prf_inputs_takes
 returns-in_err-or_default-2 c =
     let eval = rw c.member.ensures at c.in_ok-or_default.ensures in
-    rw (eval, ← c.member-2.ensures) (first_fault_passed _ _ _ c.in_err-or_default-2.field-0.0 _ _ c.in_err-or_default-2.ensures c.from_residual-in_err-or_default-2.ensures.1 (takes_known _ _ 1 _ c.member-2.ensures))
+    rw (eval, ← c.member-2.ensures)
+    (first_fault_passed _ _ _ c.in_err-or_default-2.field-0.0 _ _ c.in_err-or_default-2.ensures
+    c.from_residual-in_err-or_default-2.ensures.1 (takes_known _ _ 1 _ c.member-2.ensures))

@@ -6,7 +6,8 @@ use Rattle.passkey_json.specs.SelectionCriteria.{selection_criteria_in, selectio
 pub returns-clause-reads_back : goal.returns-clause-reads_back
 unfolding selection_criteria_in
 returns-clause-reads_back c =
-    record_back selection_criteria_in (selection_criteria_rows c.args.form c.args.self.now) c.args.self.now refl (rw (
+    record_back selection_criteria_in (selection_criteria_rows c.args.form c.args.self.now) c.args.self.now refl
+    (rw (
       tolerated_optional_back c.in_ok-put_some.ensures.reads_back,
       tolerated_optional_back c.in_ok-put_some-2.ensures.reads_back,
       or_default_back c.in_ok-put.ensures.reads_back,

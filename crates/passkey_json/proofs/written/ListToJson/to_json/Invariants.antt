@@ -11,5 +11,6 @@ invariant-loop-element g l =
     let left = drop l.element-index l.element-items in
     record {
       written : elements_so_far l.elements ≡ map json (take l.element-index l.element-items);
-      reads_back : each kind (items_of (map json left)) ≡ Some left → each kind (items_of (map json l.element-items)) ≡ Some l.element-items;
+      reads_back : each kind (items_of (map json left)) ≡ Some left
+          → each kind (items_of (map json l.element-items)) ≡ Some l.element-items;
     }

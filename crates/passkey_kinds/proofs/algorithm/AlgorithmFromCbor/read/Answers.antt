@@ -20,8 +20,10 @@ returns-in-Some-clause-reads c = λ i to l.
     let result = c.named.result in
     let f = c.in-Some.ensures.lends i to l in
     let whole = c.whole_of.ensures.whole f.0 f.1.1.tells in
-    lent_decodes (λ x. x) (algorithm i) (MayGrow false i) true a b d r i to result l c.in-Some.ensures.front f c.whole_of.ensures.looks
-    (answers_from (λ x. x) result (ap algorithm f.1.0 ∙ ap (option_and_then algorithm_named) (sym whole)) (λ h. absurd h) c.named.ensures)
+    lent_decodes (λ x. x) (algorithm i) (MayGrow false i) true a b d r i to result l c.in-Some.ensures.front f
+    c.whole_of.ensures.looks
+    (answers_from (λ x. x) result (ap algorithm f.1.0 ∙ ap (option_and_then algorithm_named) (sym whole))
+    (λ h. absurd h) c.named.ensures)
 
 pub returns-in-None-clause-reads : goal.returns-in-None-clause-reads
 returns-in-None-clause-reads c = λ i to l.
@@ -31,11 +33,13 @@ returns-in-None-clause-reads c = λ i to l.
     let result = c.named-in-None.result in
     let f = c.in-None.ensures.lends i to l in
     let read = c.read_integer.ensures.reads i to (stands_missed i a b to f.1 l) in
-    missed_then (λ x. x) (algorithm i) (MayGrow false i) 1 0 to a b d result f.1 (stands_long i a.bytes a.place to l)
+    missed_then (λ x. x) (algorithm i) (MayGrow false i) 1 0 to a b d result f.1
+    (stands_long i a.bytes a.place to l)
     (number_decodes i to b d f.0 c.read_integer.result result read c.named-in-None.ensures)
 
 pub returns-in-Some-clause-further : goal.returns-in-Some-clause-further
 returns-in-Some-clause-further c =
     let looks = c.whole_of.ensures.looks in
     on_ok c.named.result
-    (looked_further c.args.cursor.now c.text.new.self c.whole_of.new.cursor c.in-Some.token true c.in-Some.ensures.front looks)
+    (looked_further c.args.cursor.now c.text.new.self c.whole_of.new.cursor c.in-Some.token true
+    c.in-Some.ensures.front looks)

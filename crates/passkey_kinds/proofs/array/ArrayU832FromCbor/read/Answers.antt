@@ -14,17 +14,26 @@ pub returns-in-Some-clause-reads : goal.returns-in-Some-clause-reads
 returns-in-Some-clause-reads c = λ i to l.
     let a = c.args.cursor.now in
     let f = c.in-Some.ensures.lends i to l in
-    let answers = answers_from (λ (bs : List ℕ). bs) c.filled.result (ap (sized_bytes 32) f.1.0) (λ (h : ⊥). absurd h) (c.filled.ensures.answers f.0 f.1.1.tells) in
-    let lent = lent_decodes (λ (bs : List ℕ). bs) (sized_bytes 32 i) (MayGrow false i) false a c.bytes.new.self c.filled.new.cursor c.in-Some.token i to c.filled.result l c.in-Some.ensures.front f c.filled.ensures.looks answers in
+    let answers = answers_from (λ (bs : List ℕ). bs) c.filled.result (ap (sized_bytes 32) f.1.0)
+    (λ (h : ⊥). absurd h) (c.filled.ensures.answers f.0 f.1.1.tells) in
+    let lent = lent_decodes (λ (bs : List ℕ). bs) (sized_bytes 32 i) (MayGrow false i) false a c.bytes.new.self
+    c.filled.new.cursor c.in-Some.token i to c.filled.result l c.in-Some.ensures.front f c.filled.ensures.looks
+    answers in
     record {
       answers = lent.answers;
-      spends = eased 2 3 0 0 to a c.filled.new.cursor (omega arith) (omega arith) (omega (arith, stands_long i a.bytes a.place to l)) lent.spends;
+      spends = eased 2 3 0 0 to a c.filled.new.cursor (omega arith) (omega arith)
+          (omega (arith, stands_long i a.bytes a.place to l)) lent.spends;
       ends = lent.ends;
     }
 
 pub returns-in-Some-clause-further : goal.returns-in-Some-clause-further
 returns-in-Some-clause-further c =
-    on_ok c.filled.result (omega (arith, string_further false c.args.cursor.now c.bytes.new.self c.in-Some.token c.in-Some.ensures.front, c.filled.ensures.looks.place))
+    on_ok c.filled.result (omega (
+      arith,
+      string_further false c.args.cursor.now c.bytes.new.self c.in-Some.token
+          c.in-Some.ensures.front,
+      c.filled.ensures.looks.place,
+    ))
 
 pub returns-in-Some-read_array-clause-reads : goal.returns-in-Some-read_array-clause-reads
 returns-in-Some-read_array-clause-reads c = λ i to l.
@@ -35,8 +44,12 @@ returns-in-Some-read_array-clause-reads c = λ i to l.
     let there = stands_back i a b to missed.1.bytes missed.1.place l in
     let opened = c.in-Some-read_array.ensures.opens i to there in
     let is = opened.0 in
-    let same = ap (sized_bytes 32) opened.1.0 ∙ ap (λ (xs : List Item). if length xs == 32 then each (below 256) xs else None) (elements-items_of is) in
-    let r = decodes_in (λ (bs : List ℕ). bs) 1 0 0 to b c.read_array.new.cursor d c.read_numbers_ahead.result same (λ (h : ⊥). absurd h) (omega arith) c.in-Some-read_array.ensures.further c.in-Some-read_array.ensures.counted (c.in-Some-read_array.ensures.spends i to there).nodes (c.read_numbers_ahead.ensures.reads is to opened.1.1) in
+    let same = ap (sized_bytes 32) opened.1.0
+    ∙ ap (λ (xs : List Item). if length xs == 32 then each (below 256) xs else None) (elements-items_of is) in
+    let r = decodes_in (λ (bs : List ℕ). bs) 1 0 0 to b c.read_array.new.cursor d c.read_numbers_ahead.result same
+    (λ (h : ⊥). absurd h) (omega arith) c.in-Some-read_array.ensures.further
+    c.in-Some-read_array.ensures.counted (c.in-Some-read_array.ensures.spends i to there).nodes
+    (c.read_numbers_ahead.ensures.reads is to opened.1.1) in
     record {
       answers = answers_from (λ (bs : List ℕ). bs) c.read_numbers_ahead.result refl (λ (h : ⊥). absurd h) r.answers;
       spends = after_missed to a b d missed.1 (stands_long i a.bytes a.place to l) r.spends;
@@ -52,6 +65,8 @@ returns-in-None-read_array-clause-reads c = λ i to l.
     let there = stands_back i a b to missed.1.bytes missed.1.place l in
     record {
       answers = no_sized 32 i missed.0 (c.in-None-read_array.ensures.opens i to there);
-      spends = after_missed to a b d missed.1 (stands_long i a.bytes a.place to l) (eased 1 2 0 0 to b d (omega arith) (omega arith) (omega (arith, stands_long i b.bytes b.place to there)) (c.in-None-read_array.ensures.spends i to there));
+      spends = after_missed to a b d missed.1 (stands_long i a.bytes a.place to l)
+          (eased 1 2 0 0 to b d (omega arith) (omega arith) (omega (arith, stands_long i b.bytes b.place to there))
+          (c.in-None-read_array.ensures.spends i to there));
       ends = tt;
     }

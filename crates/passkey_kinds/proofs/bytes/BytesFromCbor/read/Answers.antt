@@ -16,18 +16,24 @@ returns-in_err-copy-clause-reads c = λ i to l.
     let a = c.args.cursor.now in
     let p = err_from_is_err_and c.from_residual.result c.from_residual.ensures.1 in
     let f = c.in-Some.ensures.lends i to l in
-    let looks = looks_some c.in-Some.token c.bytes.new.self c.copy.new.cursor c.in_err-copy.ensures.rises false (f.0, f.1.1.tells) c.in_err-copy.ensures.looks in
+    let looks = looks_some c.in-Some.token c.bytes.new.self c.copy.new.cursor c.in_err-copy.ensures.rises false
+    (f.0, f.1.1.tells) c.in_err-copy.ensures.looks in
     let grows = bytes_grow i f.0 f.1.0 (c.in_err-copy.ensures.copies f.0 f.1.1.tells) in
-    rw (p.1, p.2) (decodes_dearer _ (bytes i) (MayGrow true i) 2 3 0 0 to a c.copy.new.cursor (Err OutOfMemory) (omega arith) (omega arith) (omega (arith, stands_long i a.bytes a.place to l))
-    (lent_decodes _ (bytes i) (MayGrow true i) false a c.bytes.new.self c.copy.new.cursor c.in-Some.token i to (Err OutOfMemory) l c.in-Some.ensures.front f looks grows))
+    rw (p.1, p.2) (decodes_dearer _ (bytes i) (MayGrow true i) 2 3 0 0 to a c.copy.new.cursor (Err OutOfMemory)
+    (omega arith) (omega arith) (omega (arith, stands_long i a.bytes a.place to l))
+    (lent_decodes _ (bytes i) (MayGrow true i) false a c.bytes.new.self c.copy.new.cursor c.in-Some.token i to
+    (Err OutOfMemory) l c.in-Some.ensures.front f looks grows))
 
 pub returns-in-Some-clause-reads : goal.returns-in-Some-clause-reads
 returns-in-Some-clause-reads c = λ i to l.
     let a = c.args.cursor.now in
     let f = c.in-Some.ensures.lends i to l in
-    let looks = looks_all c.in-Some.token c.bytes.new.self c.copy.new.cursor c.in_ok-copy.ensures.rises false (f.0, f.1.1.tells) c.in_ok-copy.ensures.looks in
-    decodes_dearer _ (bytes i) (MayGrow true i) 2 3 0 0 to a c.copy.new.cursor (Ok c.from.result) (omega arith) (omega arith) (omega (arith, stands_long i a.bytes a.place to l))
-    (lent_decodes _ (bytes i) (MayGrow true i) false a c.bytes.new.self c.copy.new.cursor c.in-Some.token i to (Ok c.from.result) l c.in-Some.ensures.front f looks
+    let looks = looks_all c.in-Some.token c.bytes.new.self c.copy.new.cursor c.in_ok-copy.ensures.rises false
+    (f.0, f.1.1.tells) c.in_ok-copy.ensures.looks in
+    decodes_dearer _ (bytes i) (MayGrow true i) 2 3 0 0 to a c.copy.new.cursor (Ok c.from.result) (omega arith)
+    (omega arith) (omega (arith, stands_long i a.bytes a.place to l))
+    (lent_decodes _ (bytes i) (MayGrow true i) false a c.bytes.new.self c.copy.new.cursor c.in-Some.token i to
+    (Ok c.from.result) l c.in-Some.ensures.front f looks
     (ap bytes f.1.0 ∙ ap Some (sym (c.from.ensures ∙ c.in_ok-copy.ensures.copies f.0 f.1.1.tells))))
 
 pub returns-in-Some-text-clause-reads : goal.returns-in-Some-text-clause-reads
@@ -36,13 +42,23 @@ returns-in-Some-text-clause-reads c = λ i to l.
     let e = c.in_default.ensures.lends i to l in
     let there = stands_missed i a c.bytes.new.self to e.1 l in
     let f = c.in-Some-text.ensures.lends i to there in
-    missed_then _ (bytes i) (MayGrow true i) 2 0 to a c.bytes.new.self c.read_base64.new.cursor c.read_base64.result e.1 (stands_long i a.bytes a.place to l)
-    (lent_decodes _ (bytes i) (MayGrow true i) true c.bytes.new.self c.text.new.self c.read_base64.new.cursor c.in-Some-text.token i to c.read_base64.result there c.in-Some-text.ensures.front f c.read_base64.ensures.looks
-    (answers_from _ c.read_base64.result (ap bytes f.1.0) (λ h. text_grows i f.0 f.1.0) (c.read_base64.ensures.answers f.0 f.1.1.tells)))
+    missed_then _ (bytes i) (MayGrow true i) 2 0 to a c.bytes.new.self c.read_base64.new.cursor c.read_base64.result
+    e.1 (stands_long i a.bytes a.place to l)
+    (lent_decodes _ (bytes i) (MayGrow true i) true c.bytes.new.self c.text.new.self c.read_base64.new.cursor
+    c.in-Some-text.token i to c.read_base64.result there c.in-Some-text.ensures.front f
+    c.read_base64.ensures.looks
+    (answers_from _ c.read_base64.result (ap bytes f.1.0) (λ h. text_grows i f.0 f.1.0)
+    (c.read_base64.ensures.answers f.0 f.1.1.tells)))
 
 pub returns-in-Some-text-clause-further : goal.returns-in-Some-text-clause-further
 returns-in-Some-text-clause-further c =
-    on_ok c.read_base64.result (omega (arith, looked_further c.bytes.new.self c.text.new.self c.read_base64.new.cursor c.in-Some-text.token true c.in-Some-text.ensures.front c.read_base64.ensures.looks, c.in_default.ensures.went.forward))
+    on_ok c.read_base64.result
+    (omega (
+      arith,
+      looked_further c.bytes.new.self c.text.new.self c.read_base64.new.cursor c.in-Some-text.token
+          true c.in-Some-text.ensures.front c.read_base64.ensures.looks,
+      c.in_default.ensures.went.forward,
+    ))
 
 pub returns-in-Some-read_array-clause-reads : goal.returns-in-Some-read_array-clause-reads
 returns-in-Some-read_array-clause-reads c = λ i to l.
@@ -53,13 +69,25 @@ returns-in-Some-read_array-clause-reads c = λ i to l.
     let here = stands_missed i c.bytes.new.self c.text.new.self to t.1 there in
     let opened = c.in-Some-read_array.ensures.opens i to here in
     let r = c.read_numbers_ahead.ensures.reads opened.0 to opened.1.1 in
-    let same : bytes i ≡ each (below (2 ^ 8)) opened.0 = ap bytes opened.1.0 ∙ ap (each (below (2 ^ 8))) (elements-items_of opened.0) in
+    let same : bytes i ≡ each (below (2 ^ 8)) opened.0 =
+    ap bytes opened.1.0 ∙ ap (each (below (2 ^ 8))) (elements-items_of opened.0) in
     record {
-      answers = answers_from _ c.read_numbers_ahead.result same (λ h. subst (MayGrow true) (sym opened.1.0) (grows_items opened.0 h)) r.answers;
+      answers = answers_from _ c.read_numbers_ahead.result same
+          (λ h. subst (MayGrow true) (sym opened.1.0) (grows_items opened.0 h)) r.answers;
       spends = record {
         within = r.spends.within;
-        heads = omega (arith, r.spends.heads, c.in-Some-read_array.ensures.counted, c.in-Some-read_array.ensures.further, e.1.heads, e.1.place, t.1.heads, t.1.place);
-        nodes = omega (arith, r.spends.nodes, (c.in-Some-read_array.ensures.spends i to here).nodes, e.1.nodes, t.1.nodes);
+        heads = omega (
+          arith,
+          r.spends.heads,
+          c.in-Some-read_array.ensures.counted,
+          c.in-Some-read_array.ensures.further,
+          e.1.heads,
+          e.1.place,
+          t.1.heads,
+          t.1.place,
+        );
+        nodes = omega
+            (arith, r.spends.nodes, (c.in-Some-read_array.ensures.spends i to here).nodes, e.1.nodes, t.1.nodes);
       };
       ends = r.ends;
     }
@@ -76,7 +104,15 @@ returns-in-None-clause-reads c = λ i to l.
       answers = no_bytes i e.0 t.0 (c.in-None.ensures.opens i to here);
       spends = record {
         within = s.within;
-        heads = omega (arith, c.in-None.ensures.counted, e.1.heads, e.1.place, t.1.heads, t.1.place, stands_long i a.bytes a.place to l);
+        heads = omega (
+          arith,
+          c.in-None.ensures.counted,
+          e.1.heads,
+          e.1.place,
+          t.1.heads,
+          t.1.place,
+          stands_long i a.bytes a.place to l,
+        );
         nodes = omega (arith, s.nodes, e.1.nodes, t.1.nodes);
       };
       ends = tt;

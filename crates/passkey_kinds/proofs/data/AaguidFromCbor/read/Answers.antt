@@ -15,16 +15,21 @@ returns-in_err-filled-in-Some-clause-reads c = λ i to l.
     let p = err_from_is_err_and c.from_residual.result c.from_residual.ensures.1 in
     let f = c.in-Some.ensures.lends i to l in
     let e = c.in_err-filled-in-Some.field-0.0 in
-    rw (p.1, p.2) (lent_decodes _ (aaguid i) (MayGrow false i) false c.args.cursor.now c.bytes.new.self c.filled.new.cursor c.in-Some.token i to (Err e) l c.in-Some.ensures.front f c.in_err-filled-in-Some.ensures.looks
-    (refused_as {B = Aaguid} (λ b. b) (λ a. a.0) (sixteen f.0) (aaguid i) (MayGrow false i) e (ap aaguid f.1.0) (c.in_err-filled-in-Some.ensures.answers f.0 f.1.1.tells)))
+    rw (p.1, p.2)
+    (lent_decodes _ (aaguid i) (MayGrow false i) false c.args.cursor.now c.bytes.new.self c.filled.new.cursor
+    c.in-Some.token i to (Err e) l c.in-Some.ensures.front f c.in_err-filled-in-Some.ensures.looks
+    (refused_as {B = Aaguid} (λ b. b) (λ a. a.0) (sixteen f.0) (aaguid i) (MayGrow false i) e (ap aaguid f.1.0)
+    (c.in_err-filled-in-Some.ensures.answers f.0 f.1.1.tells)))
 
 pub returns-in_ok-filled-in-Some-clause-reads : goal.returns-in_ok-filled-in-Some-clause-reads
 returns-in_ok-filled-in-Some-clause-reads c = λ i to l.
     let f = c.in-Some.ensures.lends i to l in
-    lent_decodes _ (aaguid i) (MayGrow false i) false c.args.cursor.now c.bytes.new.self c.filled.new.cursor c.in-Some.token i to _ l c.in-Some.ensures.front f c.in_ok-filled-in-Some.ensures.looks
+    lent_decodes _ (aaguid i) (MayGrow false i) false c.args.cursor.now c.bytes.new.self c.filled.new.cursor
+    c.in-Some.token i to _ l c.in-Some.ensures.front f c.in_ok-filled-in-Some.ensures.looks
     (ap aaguid f.1.0 ∙ c.in_ok-filled-in-Some.ensures.answers f.0 f.1.1.tells)
 
 pub returns-in-None-clause-reads : goal.returns-in-None-clause-reads
 returns-in-None-clause-reads c = λ i to l.
     let f = c.in-None.ensures.lends i to l in
-    not_lent_decodes _ (aaguid i) (MayGrow false i) false 2 c.args.cursor.now c.bytes.new.self i to (omega arith) l f (no_aaguid i f.0)
+    not_lent_decodes _ (aaguid i) (MayGrow false i) false 2 c.args.cursor.now c.bytes.new.self i to (omega arith) l
+    f (no_aaguid i f.0)

@@ -16,8 +16,10 @@ returns-in-None-clause-reads c = λ i to l.
     let a = c.args.cursor.now in
     let b = c.bytes.new.self in
     let f = c.in-None.ensures.lends i to l in
-    decodes_dearer data_parts (authenticator_data i) (MayGrow true i) 6 6 0 (authenticator_data_nodes i) to a b _ (omega arith) (omega arith) (omega (arith, stands_long i a.bytes a.place to l))
-    (not_lent_decodes data_parts (authenticator_data i) (MayGrow true i) false 6 a b i to (omega arith) l f (no_data i f.0))
+    decodes_dearer data_parts (authenticator_data i) (MayGrow true i) 6 6 0 (authenticator_data_nodes i) to a b _
+    (omega arith) (omega arith) (omega (arith, stands_long i a.bytes a.place to l))
+    (not_lent_decodes data_parts (authenticator_data i) (MayGrow true i) false 6 a b i to (omega arith) l f
+    (no_data i f.0))
 
 pub returns-in_err-bytes-in-None-lent-clause-reads : goal.returns-in_err-bytes-in-None-lent-clause-reads
 returns-in_err-bytes-in-None-lent-clause-reads c = λ i to l.
@@ -27,17 +29,23 @@ returns-in_err-bytes-in-None-lent-clause-reads c = λ i to l.
     let r = c.in-Some.token in
     let p = err_from_is_err_and c.from_residual.result c.from_residual.ensures.1 in
     let f = c.in-Some.ensures.lends i to l in
-    let looks = looks_some r b d c.in_err-bytes-in-None-lent.ensures.rises false (f.0, f.1.1.tells) c.in_err-bytes-in-None-lent.ensures.looks in
-    rw (p.1, p.2) (decodes_dearer data_parts (authenticator_data i) (MayGrow true i) 2 6 0 (authenticator_data_nodes i) to a d (Err OutOfMemory) (omega arith) (omega arith) (omega (arith, stands_long i a.bytes a.place to l))
-    (lent_decodes data_parts (authenticator_data i) (MayGrow true i) false a b d r i to (Err OutOfMemory) l c.in-Some.ensures.front f looks (bytes_grow i f.0 f.1.0 (c.in_err-bytes-in-None-lent.ensures.copies f.0 f.1.1.tells))))
+    let looks = looks_some r b d c.in_err-bytes-in-None-lent.ensures.rises false (f.0, f.1.1.tells)
+    c.in_err-bytes-in-None-lent.ensures.looks in
+    rw (p.1, p.2) (decodes_dearer data_parts (authenticator_data i) (MayGrow true i) 2 6 0 (authenticator_data_nodes
+    i) to a d (Err OutOfMemory) (omega arith) (omega arith) (omega (arith, stands_long i a.bytes a.place to l))
+    (lent_decodes data_parts (authenticator_data i) (MayGrow true i) false a b d r i to (Err OutOfMemory) l
+    c.in-Some.ensures.front f looks
+    (bytes_grow i f.0 f.1.0 (c.in_err-bytes-in-None-lent.ensures.copies f.0 f.1.1.tells))))
 
 pub returns-in-Some-lent-clause-reads : goal.returns-in-Some-lent-clause-reads
 returns-in-Some-lent-clause-reads c = λ i to l.
     let b = c.bytes.new.self in
     let r = c.in-Some.token in
     let f = c.in-Some.ensures.lends i to l in
-    data_decodes c.args.cursor.now b b c.read_counted.new.cursor r i to c.in-Some-lent.bytes.now c.read_counted.result c.in-Some.ensures.front f (looks_none r b)
-    (lent_is false r c.in-Some-lent.bytes.now f.0 c.in-Some-lent.ensures f.1.1.tells) c.read_counted.ensures.counts c.read_counted.ensures.answers
+    data_decodes c.args.cursor.now b b c.read_counted.new.cursor r i to c.in-Some-lent.bytes.now
+    c.read_counted.result c.in-Some.ensures.front f (looks_none r b)
+    (lent_is false r c.in-Some-lent.bytes.now f.0 c.in-Some-lent.ensures f.1.1.tells) c.read_counted.ensures.counts
+    c.read_counted.ensures.answers
 
 pub returns-in_ok-bytes-in-None-lent-clause-reads : goal.returns-in_ok-bytes-in-None-lent-clause-reads
 returns-in_ok-bytes-in-None-lent-clause-reads c = λ i to l.
@@ -45,9 +53,12 @@ returns-in_ok-bytes-in-None-lent-clause-reads c = λ i to l.
     let e = c.copy.new.cursor in
     let r = c.in-Some.token in
     let f = c.in-Some.ensures.lends i to l in
-    let looks = looks_all r b e c.in_ok-bytes-in-None-lent.ensures.rises false (f.0, f.1.1.tells) c.in_ok-bytes-in-None-lent.ensures.looks in
-    data_decodes c.args.cursor.now b e c.read_counted-in-None-lent.new.cursor r i to c.deref.result.now c.read_counted-in-None-lent.result c.in-Some.ensures.front f looks
-    (c.deref.ensures.value ∙ c.in_ok-bytes-in-None-lent.ensures.copies f.0 f.1.1.tells) c.read_counted-in-None-lent.ensures.counts c.read_counted-in-None-lent.ensures.answers
+    let looks = looks_all r b e c.in_ok-bytes-in-None-lent.ensures.rises false (f.0, f.1.1.tells)
+    c.in_ok-bytes-in-None-lent.ensures.looks in
+    data_decodes c.args.cursor.now b e c.read_counted-in-None-lent.new.cursor r i to c.deref.result.now
+    c.read_counted-in-None-lent.result c.in-Some.ensures.front f looks
+    (c.deref.ensures.value ∙ c.in_ok-bytes-in-None-lent.ensures.copies f.0 f.1.1.tells)
+    c.read_counted-in-None-lent.ensures.counts c.read_counted-in-None-lent.ensures.answers
 
 pub returns-in_ok-bytes-in-None-lent-clause-further : goal.returns-in_ok-bytes-in-None-lent-clause-further
 returns-in_ok-bytes-in-None-lent-clause-further c =
@@ -56,5 +67,7 @@ returns-in_ok-bytes-in-None-lent-clause-further c =
     let e = c.copy.new.cursor in
     let r = c.in-Some.token in
     let p = c.in-Some.ensures.front in
-    let looks = looks_all r b e c.in_ok-bytes-in-None-lent.ensures.rises false (p.content, p.tells) c.in_ok-bytes-in-None-lent.ensures.looks in
-    on_ok c.read_counted-in-None-lent.result (data_further a b e c.read_counted-in-None-lent.new.cursor r c.deref.result.now p looks c.read_counted-in-None-lent.ensures.counts)
+    let looks = looks_all r b e c.in_ok-bytes-in-None-lent.ensures.rises false (p.content, p.tells)
+    c.in_ok-bytes-in-None-lent.ensures.looks in
+    on_ok c.read_counted-in-None-lent.result (data_further a b e c.read_counted-in-None-lent.new.cursor r
+    c.deref.result.now p looks c.read_counted-in-None-lent.ensures.counts)

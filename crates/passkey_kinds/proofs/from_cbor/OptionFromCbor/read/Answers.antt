@@ -14,7 +14,8 @@ returns-then-read_null-clause-reads g c = λ i to l.
     let r = c.if-read_null.ensures.reads i to l in
     record {
       answers = ap (optional g.T.FromCbor.kind) (null_item i r.is);
-      spends = eased 1 (suc g.T.FromCbor.cost) 0 (kept_of g.T.FromCbor.keeps i) to a c.read_null.new.cursor (omega arith) (omega arith) (omega (arith, stands_long i a.bytes a.place to l)) r.spends;
+      spends = eased 1 (suc g.T.FromCbor.cost) 0 (kept_of g.T.FromCbor.keeps i) to a c.read_null.new.cursor
+          (omega arith) (omega arith) (omega (arith, stands_long i a.bytes a.place to l)) r.spends;
       ends = r.ends true refl;
     }
 
@@ -23,13 +24,18 @@ returns-in_err-read-clause-reads g c = λ i to l.
     let a = c.args.cursor.now in
     let p = err_from_is_err_and c.from_residual.result c.from_residual.ensures.1 in
     let r = c.if-read_null.ensures.reads i to l in
-    let back = c.go_back.ensures ∙ ap (λ (n : ℕ). record c.read_null.new.cursor { place = n }) c.place-start.ensures in
-    let there = stands_back i a c.go_back.new.self to (ap (λ (w : Walk). w.bytes) back ∙ c.if-read_null.ensures.onward.same) (ap (λ (w : Walk). w.place) back) l in
+    let back =
+    c.go_back.ensures ∙ ap (λ (n : ℕ). record c.read_null.new.cursor { place = n }) c.place-start.ensures in
+    let there = stands_back i a c.go_back.new.self to (ap (λ (w : Walk). w.bytes) back
+    ∙ c.if-read_null.ensures.onward.same) (ap (λ (w : Walk). w.place) back) l in
     let read = c.in_err-read.ensures.reads i to there in
-    let spent = spends_again 1 g.T.FromCbor.cost 0 (kept_of g.T.FromCbor.keeps i) to a c.read_null.new.cursor c.go_back.new.self c.read.new.cursor c.if-read_null.ensures.onward back r.spends read.spends in
+    let spent = spends_again 1 g.T.FromCbor.cost 0 (kept_of g.T.FromCbor.keeps i) to a c.read_null.new.cursor
+    c.go_back.new.self c.read.new.cursor c.if-read_null.ensures.onward back r.spends read.spends in
     rw (p.1, p.2) (record {
-      answers = some_refused g.T.FromCbor.view (g.T.FromCbor.kind i) (optional g.T.FromCbor.kind i) (MayGrow g.T.FromCbor.takes i) c.in_err-read.field-0.0 (other_item g.T.FromCbor.kind i r.is) read.answers;
-      spends = subst (λ (n : ℕ). Spends n (kept_of g.T.FromCbor.keeps i) to a c.read.new.cursor) (omega arith) (subst (λ (k : ℕ). Spends (1 + g.T.FromCbor.cost) k to a c.read.new.cursor) (omega arith) spent);
+      answers = some_refused g.T.FromCbor.view (g.T.FromCbor.kind i) (optional g.T.FromCbor.kind i)
+          (MayGrow g.T.FromCbor.takes i) c.in_err-read.field-0.0 (other_item g.T.FromCbor.kind i r.is) read.answers;
+      spends = subst (λ (n : ℕ). Spends n (kept_of g.T.FromCbor.keeps i) to a c.read.new.cursor) (omega arith)
+          (subst (λ (k : ℕ). Spends (1 + g.T.FromCbor.cost) k to a c.read.new.cursor) (omega arith) spent);
       ends = tt;
     })
 
@@ -37,12 +43,16 @@ pub returns-clause-reads : goal.returns-clause-reads
 returns-clause-reads g c = λ i to l.
     let a = c.args.cursor.now in
     let r = c.if-read_null.ensures.reads i to l in
-    let back = c.go_back.ensures ∙ ap (λ (n : ℕ). record c.read_null.new.cursor { place = n }) c.place-start.ensures in
-    let there = stands_back i a c.go_back.new.self to (ap (λ (w : Walk). w.bytes) back ∙ c.if-read_null.ensures.onward.same) (ap (λ (w : Walk). w.place) back) l in
+    let back =
+    c.go_back.ensures ∙ ap (λ (n : ℕ). record c.read_null.new.cursor { place = n }) c.place-start.ensures in
+    let there = stands_back i a c.go_back.new.self to (ap (λ (w : Walk). w.bytes) back
+    ∙ c.if-read_null.ensures.onward.same) (ap (λ (w : Walk). w.place) back) l in
     let read = c.in_ok-read.ensures.reads i to there in
-    let spent = spends_again 1 g.T.FromCbor.cost 0 (kept_of g.T.FromCbor.keeps i) to a c.read_null.new.cursor c.go_back.new.self c.read.new.cursor c.if-read_null.ensures.onward back r.spends read.spends in
+    let spent = spends_again 1 g.T.FromCbor.cost 0 (kept_of g.T.FromCbor.keeps i) to a c.read_null.new.cursor
+    c.go_back.new.self c.read.new.cursor c.if-read_null.ensures.onward back r.spends read.spends in
     record {
       answers = other_item g.T.FromCbor.kind i r.is ∙ ap (option_map Some) read.answers;
-      spends = subst (λ (n : ℕ). Spends n (kept_of g.T.FromCbor.keeps i) to a c.read.new.cursor) (omega arith) (subst (λ (k : ℕ). Spends (1 + g.T.FromCbor.cost) k to a c.read.new.cursor) (omega arith) spent);
+      spends = subst (λ (n : ℕ). Spends n (kept_of g.T.FromCbor.keeps i) to a c.read.new.cursor) (omega arith)
+          (subst (λ (k : ℕ). Spends (1 + g.T.FromCbor.cost) k to a c.read.new.cursor) (omega arith) spent);
       ends = read.ends;
     }

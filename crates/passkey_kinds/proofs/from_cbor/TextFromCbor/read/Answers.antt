@@ -10,17 +10,22 @@ pub returns-in_err-copy-in-Some-clause-reads : goal.returns-in_err-copy-in-Some-
 returns-in_err-copy-in-Some-clause-reads c = λ i to l.
     let p = err_from_is_err_and c.from_residual.result c.from_residual.ensures.1 in
     let f = c.in-Some.ensures.lends i to l in
-    let looks = looks_some c.in-Some.token c.text.new.self c.copy.new.cursor c.in_err-copy-in-Some.ensures.rises true (f.0, f.1.1.tells) c.in_err-copy-in-Some.ensures.looks in
-    rw (p.1, p.2) (lent_decodes _ (text i) (MayGrow true i) true c.args.cursor.now c.text.new.self c.copy.new.cursor c.in-Some.token i to (Err OutOfMemory) l c.in-Some.ensures.front f looks (text_grows i f.0 f.1.0))
+    let looks = looks_some c.in-Some.token c.text.new.self c.copy.new.cursor c.in_err-copy-in-Some.ensures.rises
+    true (f.0, f.1.1.tells) c.in_err-copy-in-Some.ensures.looks in
+    rw (p.1, p.2) (lent_decodes _ (text i) (MayGrow true i) true c.args.cursor.now c.text.new.self c.copy.new.cursor
+    c.in-Some.token i to (Err OutOfMemory) l c.in-Some.ensures.front f looks (text_grows i f.0 f.1.0))
 
 pub returns-in_ok-copy-in-Some-clause-reads : goal.returns-in_ok-copy-in-Some-clause-reads
 returns-in_ok-copy-in-Some-clause-reads c = λ i to l.
     let f = c.in-Some.ensures.lends i to l in
-    let looks = looks_all c.in-Some.token c.text.new.self c.copy.new.cursor c.in_ok-copy-in-Some.ensures.rises true (f.0, f.1.1.tells) c.in_ok-copy-in-Some.ensures.looks in
-    lent_decodes _ (text i) (MayGrow true i) true c.args.cursor.now c.text.new.self c.copy.new.cursor c.in-Some.token i to (Ok c.from.result) l c.in-Some.ensures.front f looks
+    let looks = looks_all c.in-Some.token c.text.new.self c.copy.new.cursor c.in_ok-copy-in-Some.ensures.rises true
+    (f.0, f.1.1.tells) c.in_ok-copy-in-Some.ensures.looks in
+    lent_decodes _ (text i) (MayGrow true i) true c.args.cursor.now c.text.new.self c.copy.new.cursor
+    c.in-Some.token i to (Ok c.from.result) l c.in-Some.ensures.front f looks
     (ap text f.1.0 ∙ ap Some (sym (c.from.ensures ∙ c.in_ok-copy-in-Some.ensures.copies f.0 f.1.1.tells)))
 
 pub returns-in-None-clause-reads : goal.returns-in-None-clause-reads
 returns-in-None-clause-reads c = λ i to l.
     let f = c.in-None.ensures.lends i to l in
-    not_lent_decodes _ (text i) (MayGrow true i) true 2 c.args.cursor.now c.text.new.self i to (omega arith) l f (no_text i f.0)
+    not_lent_decodes _ (text i) (MayGrow true i) true 2 c.args.cursor.now c.text.new.self i to (omega arith) l f
+    (no_text i f.0)

@@ -12,10 +12,13 @@ fitting o = option_and_then (λ (n : ℕ). if nat_lt n (2 ^ 8) then Some n else 
 pub returns-in-Some-clause-reads : goal.returns-in-Some-clause-reads
 returns-in-Some-clause-reads c = λ i to l.
     let r = c.in-Some.ensures.reads i to l in
-    flat_found (λ n. n) (below (2 ^ 8) i) _ (unsigned_in i) c.in-Some.n to c.args.cursor.now c.read_unsigned.new.cursor c.byte.result r
-    (answers_from (λ n. n) c.byte.result (unsigned_below (2 ^ 8) i ∙ ap fitting (sym r.is)) (λ h. absurd h) c.byte.ensures)
+    flat_found (λ n. n) (below (2 ^ 8) i) _ (unsigned_in i) c.in-Some.n to c.args.cursor.now
+    c.read_unsigned.new.cursor c.byte.result r
+    (answers_from (λ n. n) c.byte.result (unsigned_below (2 ^ 8) i ∙ ap fitting (sym r.is)) (λ h. absurd h)
+    c.byte.ensures)
 
 pub returns-in-None-clause-reads : goal.returns-in-None-clause-reads
 returns-in-None-clause-reads c = λ i to l.
     let r = c.in-None.ensures.reads i to l in
-    flat_missed (λ n. n) (below (2 ^ 8) i) _ (unsigned_in i) to c.args.cursor.now c.read_unsigned.new.cursor r (unsigned_below (2 ^ 8) i ∙ ap fitting (sym r.is))
+    flat_missed (λ n. n) (below (2 ^ 8) i) _ (unsigned_in i) to c.args.cursor.now c.read_unsigned.new.cursor r
+    (unsigned_below (2 ^ 8) i ∙ ap fitting (sym r.is))

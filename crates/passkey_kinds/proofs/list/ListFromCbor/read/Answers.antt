@@ -13,13 +13,18 @@ returns-in-Some-clause-reads g c = λ i to l.
     let is = opened.0 in
     let same = ap (list g.T.FromCbor.kind) opened.1.0 ∙ list_array g.T.FromCbor.kind is in
     let kept = kept_array g.T.FromCbor.keeps is ∙ ap (kept_of (in_elements g.T.FromCbor.keeps)) (sym opened.1.0) in
-    decodes_in _ g.T.FromCbor.cost (kept_all g.T.FromCbor.keeps is) (kept_of (in_elements g.T.FromCbor.keeps) i) to c.args.cursor.now c.read_array.new.cursor c.read_elements.new.cursor c.read_elements.result same (λ (h : 0 < length is). subst (MayGrow true) (sym opened.1.0) (grows_items is h)) (omega (arith, kept)) c.in-Some.ensures.further c.in-Some.ensures.counted (c.in-Some.ensures.spends i to l).nodes (c.read_elements.ensures.reads is to opened.1.1)
+    decodes_in _ g.T.FromCbor.cost (kept_all g.T.FromCbor.keeps is) (kept_of (in_elements g.T.FromCbor.keeps) i) to
+    c.args.cursor.now c.read_array.new.cursor c.read_elements.new.cursor c.read_elements.result same
+    (λ (h : 0 < length is). subst (MayGrow true) (sym opened.1.0) (grows_items is h)) (omega (arith, kept))
+    c.in-Some.ensures.further c.in-Some.ensures.counted (c.in-Some.ensures.spends i to l).nodes
+    (c.read_elements.ensures.reads is to opened.1.1)
 
 pub returns-in-None-clause-reads : goal.returns-in-None-clause-reads
 returns-in-None-clause-reads g c = λ i to l.
     let a = c.args.cursor.now in
     record {
       answers = no_list g.T.FromCbor.kind i (c.in-None.ensures.opens i to l);
-      spends = eased 1 _ 0 _ to a c.read_array.new.cursor (omega arith) (omega arith) (omega (arith, stands_long i a.bytes a.place to l)) (c.in-None.ensures.spends i to l);
+      spends = eased 1 _ 0 _ to a c.read_array.new.cursor (omega arith) (omega arith)
+          (omega (arith, stands_long i a.bytes a.place to l)) (c.in-None.ensures.spends i to l);
       ends = tt;
     }

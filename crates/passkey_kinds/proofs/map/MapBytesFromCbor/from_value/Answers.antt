@@ -12,5 +12,8 @@ use Rattle.passkey_kinds.proofs.map.MapBytesFromCbor.from_value.Goals as goal
 pub returns-in-Map : goal.returns-in-Map
 returns-in-Map g c =
     let pairs = c.in-Map.pairs in
-    let read = subst (λ (ps : List (Value × Value)). AnswersAs (λ m. map_values g.T.FromCbor.view m) (with_members g.T.FromCbor.kind fin.empty (map pair_of ps)) (0 < length ps) c.read_entries.result) c.deref.ensures.value c.read_entries.ensures in
-    rw (c.in-Map.is, item_of-Map pairs) (answers_from (λ m. map_values g.T.FromCbor.view m) c.read_entries.result (map_from_bytes-map g.T.FromCbor.kind (map pair_of pairs.items)) (grows_map pair_of pairs.items) read)
+    let read = subst (λ (ps : List (Value × Value)). AnswersAs (λ m. map_values g.T.FromCbor.view m)
+    (with_members g.T.FromCbor.kind fin.empty (map pair_of ps)) (0 < length ps) c.read_entries.result)
+    c.deref.ensures.value c.read_entries.ensures in
+    rw (c.in-Map.is, item_of-Map pairs) (answers_from (λ m. map_values g.T.FromCbor.view m) c.read_entries.result
+    (map_from_bytes-map g.T.FromCbor.kind (map pair_of pairs.items)) (grows_map pair_of pairs.items) read)

@@ -8,6 +8,10 @@ pub returns-clause-spends : goal.returns-clause-spends
 returns-clause-spends c = λ i to l.
     let p = c.skip.ensures.passes i to l in
     record {
-      spends = record { within = omega (arith, p.place); heads = omega (arith, p.heads); nodes = omega (arith, p.nodes) };
+      spends = record {
+        within = omega (arith, p.place);
+        heads = omega (arith, p.heads);
+        nodes = omega (arith, p.nodes);
+      };
       ends = λ ok. p.place;
     }

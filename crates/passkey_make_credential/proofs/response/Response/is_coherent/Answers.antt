@@ -1,6 +1,6 @@
 use Rattle.std.proofs.Common.{◌∙◌, nat_lt, nat_le, Bool, ◌&&◌, ap, sym}
 use Rattle.passkey_cbor.specs.Depth.{depth}
-use Rattle.passkey_cbor.specs.Front.{max_depth}
+use Rattle.passkey_cbor.specs.LeadingItem.{max_depth}
 use Rattle.passkey_make_credential.specs.MakeResponse.{make_response_tree}
 use Rattle.passkey_make_credential.specs.MakeResponseView.{make_response_parts}
 use Rattle.passkey_make_credential.proofs.MakeResponses.{statement_decides}
@@ -11,4 +11,5 @@ returns-then-is_coherent c =
     let r = make_response_parts c.args.self.now in
     ap (λ n. nat_lt n 256) c.depth.ensures
     ∙ statement_decides r
-    ∙ sym (ap (λ (b : Bool). b && nat_le (depth (make_response_tree r)) max_depth) (sym c.is_coherent.ensures ∙ c.if-is_coherent.true))
+    ∙ sym (ap (λ (b : Bool). b && nat_le (depth (make_response_tree r)) max_depth)
+    (sym c.is_coherent.ensures ∙ c.if-is_coherent.true))

@@ -21,11 +21,13 @@ returns-clause-reads_back c =
       required_back c.in_ok-put-3.ensures.reads_back,
       required_list_back (record_kind parameters_in) (parameters_json c.args.form) c.in_ok-put-4.ensures.reads_back,
       if_present_back c.in_ok-put_some.ensures.reads_back,
-      accepted_list_back (record_kind descriptor_in) (descriptor_json c.args.form) c.in_ok-put_some-2.ensures.reads_back,
+      accepted_list_back (record_kind descriptor_in) (descriptor_json c.args.form)
+          c.in_ok-put_some-2.ensures.reads_back,
       optional_back c.in_ok-put_some-3.ensures.reads_back,
       accepted_list_back (one_named hint_named) (λ h. string (hint_name h)) c.in_ok-put_some-4.ensures.reads_back,
       tolerated_back c.in_ok-put-5.ensures.reads_back,
-      accepted_list_back (one_named format_named) (λ f. string (format_name f)) c.in_ok-put_some-5.ensures.reads_back,
+      accepted_list_back (one_named format_named) (λ f. string (format_name f))
+          c.in_ok-put_some-5.ensures.reads_back,
       optional_back c.in_ok-put_some-6.ensures.reads_back,
     ) refl)
 

@@ -6,5 +6,6 @@ use Rattle.passkey_options.specs.CredentialCreation.{credential_creation_in, cre
 pub returns-clause-reads_back : goal.returns-clause-reads_back
 unfolding credential_creation_in
 returns-clause-reads_back c =
-    record_back credential_creation_in (credential_creation_rows c.args.form c.args.self.now) c.args.self.now refl (rw (
+    record_back credential_creation_in (credential_creation_rows c.args.form c.args.self.now) c.args.self.now refl
+    (rw (
     required_back c.in_ok-put.ensures.reads_back) refl)

@@ -6,5 +6,6 @@ use Rattle.passkey_options.specs.CredentialRequest.{credential_request_in, crede
 pub returns-clause-reads_back : goal.returns-clause-reads_back
 unfolding credential_request_in
 returns-clause-reads_back c =
-    record_back credential_request_in (credential_request_rows c.args.form c.args.self.now) c.args.self.now refl (rw (
+    record_back credential_request_in (credential_request_rows c.args.form c.args.self.now) c.args.self.now refl
+    (rw (
     required_back c.in_ok-put.ensures.reads_back) refl)

@@ -1,0 +1,79 @@
+-- Data items without others in them, which are skipped at once.
+use Rattle.std.proofs.Common.{◌≡◌, ℕ, zero, suc, ◌+◌, ◌<◌, ◌≤◌, Bool, true, false, List, [], ◌∷◌, length, take, drop, Option, Some, None, refl, sym, ap, ◌∙◌, arith, ◌⊎◌, inl, inr}
+use Rattle.std.proofs.lemmas.Bool.{cases_lt, lt-ltb, le-ltb}
+use Rattle.std.proofs.lemmas.List.{length-drop, drop-drop}
+use Rattle.passkey_cbor.specs.HeadReading.{◌>>=◌, Read, head_at}
+use Rattle.passkey_cbor.specs.Item.{Item}
+use Rattle.passkey_cbor.specs.Leaf.{IsLeafLen}
+use Rattle.passkey_cbor.specs.Lent.{string_item, string_head}
+use Rattle.passkey_cbor.specs.Reading.{Reader, start, string_at, is_allowed, piece_at, item_by, item_within}
+use Rattle.passkey_cbor.specs.Steps.{PassesOver}
+use Rattle.passkey_cbor.specs.Walk.{Walk, ahead, raised, IsInside}
+use Rattle.passkey_cbor.specs.declared.head.Head.{Head}
+use Rattle.passkey_cbor.proofs.Behind.{by_flat, by_string, string_piece}
+use Rattle.passkey_cbor.proofs.Binds.{none_is_some, bind_at}
+
+-- a head that is the whole data item
+pub flat_leaf : (bytes : List ℕ) (b : ℕ) (rest : List ℕ) (g h : Head) (x : Item) → bytes ≡ b ∷ rest
+    → head_at (b ∷ rest) ≡ Some (g, rest) → g ≡ h
+    → ((inner : Option (Reader Item)) → item_by inner h rest ≡ Some (x, rest)) → IsLeafLen bytes 1
+flat_leaf bytes b rest g h x is e same flat = rw is (record {
+  leaf = x;
+  reads = λ levels. bind_at (head_at (b ∷ rest)) (g, rest) (λ q. item_within levels q.0 q.1) e
+      ∙ by_flat levels g h x rest same flat;
+  within = omega arith;
+})
+
+-- the content of a string of definite length
+pub piece_there : (is_text : Bool) (n : ℕ) (bytes : List ℕ) → n ≤ length bytes
+    → is_allowed is_text (take n bytes) ≡ true → piece_at is_text n bytes ≡ Some (take n bytes, drop n bytes)
+unfolding piece_at
+piece_there is_text n bytes within allowed = rw (le-ltb (length bytes) n within, allowed) refl
+
+piece_within : (is_text : Bool) (n : ℕ) (bytes : List ℕ) (y : List ℕ × List ℕ) → piece_at is_text n bytes ≡ Some y
+    → n ≤ length bytes
+unfolding piece_at
+piece_within is_text n bytes y e = by_test (cases_lt (length bytes) n) where
+  by_test : (length bytes < n) ⊎ (n ≤ length bytes) → n ≤ length bytes
+  by_test (inl lt) = absurd (none_is_some y (rw (lt-ltb (length bytes) n lt) at e))
+  by_test (inr le) = le
+
+-- a string of definite length
+pub string_leaf : (bytes : List ℕ) (b : ℕ) (rest : List ℕ) (is_text : Bool) (len n : ℕ) (g : Head)
+    → bytes ≡ b ∷ rest → head_at (b ∷ rest) ≡ Some (g, rest) → g ≡ string_head is_text (Some len)
+    → piece_at is_text len rest ≡ Some (take len rest, drop len rest) → n ≡ len + 1 → IsLeafLen bytes n
+string_leaf bytes b rest is_text len n g is e same piece size =
+    let next : n ≡ suc len = omega (arith, size) in
+    let after : drop n (b ∷ rest) ≡ drop len rest = ap (λ (k : ℕ). drop k (b ∷ rest)) next in
+    let within : len ≤ length rest = piece_within is_text len rest (take len rest, drop len rest) piece in
+    rw is (record {
+      leaf = string_item is_text (take len rest);
+      reads = λ levels. bind_at (head_at (b ∷ rest)) (g, rest) (λ q. item_within levels q.0 q.1) e
+          ∙ by_string levels is_text (Some len) g rest same
+          ∙ ap (λ (o : Read (List ℕ)). o >>= λ t. Some (string_item is_text t.0, t.1))
+          (string_piece is_text (Some len) len rest refl ∙ piece)
+          ∙ ap (λ (r : List ℕ). Some (string_item is_text (take len rest), r)) (sym after);
+      within = omega (arith, within, size);
+    })
+
+-- a cursor that passes such an item
+pub leaf_passed : (a b : Walk) (levels n : ℕ) → IsInside a → 0 < n → IsLeafLen (ahead a) n
+    → b ≡ record a { place = a.place + n; heads = raised a.heads 1 } → a.heads ≤ b.heads
+    → PassesOver (start (item_within levels) (ahead a)) a b
+leaf_passed a b levels n inside some l is rises =
+    let place : b.place ≡ a.place + n = ap (λ (w : Walk). w.place) is in
+    let heads : b.heads ≡ raised a.heads 1 = ap (λ (w : Walk). w.heads) is in
+    let same : b.bytes ≡ a.bytes = ap (λ (w : Walk). w.bytes) is in
+    record {
+      value = l.leaf;
+      reads = l.reads levels ∙ ap (λ (r : List ℕ). Some (l.leaf, r)) (drop-drop n a.place a.bytes
+          ∙ ap (λ (k : ℕ). drop k a.bytes) (sym place) ∙ ap (drop b.place) (sym same));
+      passed = record {
+        same = same;
+        within = omega (arith, place, l.within, inside, length-drop a.place a.bytes, ap length same);
+        forward = omega (arith, place);
+        rises = rises;
+        heads = omega (arith, place, heads, some);
+        nodes = ap (λ (w : Walk). w.nodes) is;
+      };
+    }

@@ -1,0 +1,29 @@
+-- Heads of one byte.
+use Rattle.std.proofs.Common.{◌≡◌, ℕ, ◌/◌, ◌%◌, ◌<◌, List, ◌∷◌, Option, Some, None, refl, sym, ap, ◌∙◌, arith}
+use Rattle.std.specs.Prelude.{IfSome}
+use Rattle.std.proofs.lemmas.Bool.{lt-ltb, ne_eqb}
+use Rattle.passkey_cbor.specs.HeadReading.{◌>>=◌, argument_at, with_argument, simple_at, head_behind, head_at}
+use Rattle.passkey_cbor.specs.declared.head.Head.{Head}
+use Rattle.passkey_cbor.specs.declared.head.Head.TheVariants as head
+
+short_argument : (b : ℕ) (rest : List ℕ) → b % 32 < 24 → b / 32 < 7
+    → head_at (b ∷ rest) ≡ (with_argument (b / 32) (b % 32) >>= λ h. Some (h, rest))
+unfolding head_at head_behind argument_at
+short_argument b rest lt small = rw (
+  ne_eqb (b % 32) 31 (λ (q : b % 32 ≡ 31). omega arith),
+  ne_eqb (b / 32) 7 (λ (q : b / 32 ≡ 7). omega arith),
+  lt-ltb (b % 32) 24 lt,
+) refl
+
+pub short_simple : (b : ℕ) (rest : List ℕ) → b % 32 < 24 → b / 32 ≡ 7
+    → head_at (b ∷ rest) ≡ Some (head.Simple (b % 32), rest)
+unfolding head_at head_behind simple_at
+short_simple b rest lt is =
+    rw (ne_eqb (b % 32) 31 (λ (q : b % 32 ≡ 31). omega arith), is, lt-ltb (b % 32) 24 lt) refl
+
+pub short_other : (b : ℕ) (o : Option Head) → b < 256 → b % 32 < 24 → (b / 32 ≡ 7 → ⊥)
+    → o ≡ with_argument (b / 32) (b % 32)
+    → IfSome o (λ h. (rest : List ℕ) → head_at (b ∷ rest) ≡ Some (h, rest))
+short_other b None byte lt not_7 e = tt
+short_other b (Some h) byte lt not_7 e = λ rest.
+    short_argument b rest lt (omega (arith, not_7)) ∙ ap (λ (o : Option Head). o >>= λ g. Some (g, rest)) (sym e)
