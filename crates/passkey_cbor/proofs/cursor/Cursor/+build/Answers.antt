@@ -240,7 +240,7 @@ pub build_pairs-returns-in_err-pairs : goal.build_pairs-returns-in_err-pairs
 build_pairs-returns-in_err-pairs t c =
     let p = err_from_is_err_and c.from_residual.result c.from_residual.ensures.1 in
     rw (p.1, p.2) (no_room a_pair (pair_by (item_within c.args.levels)) c.args.len c.args.self.now
-        (pair_left (item_within c.args.levels) (item_left c.args.levels)) c.requires c.in_err-pairs.ensures.some)
+    (pair_left (item_within c.args.levels) (item_left c.args.levels)) c.requires c.in_err-pairs.ensures.some)
 
 pub build_pairs-loop-pairs-init : goal.build_pairs-loop-pairs-init
 build_pairs-loop-pairs-init t c = gathers_start (pair_by (item_within c.args.levels)) a_pair.size c.args.len
