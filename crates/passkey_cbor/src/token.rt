@@ -263,7 +263,8 @@ impl<'a> TextToken<'a> {
         ensures rises { cursor.old.heads ≤ cursor.new.heads }
     {
         let bytes = copy(alloc, true, self.len, self.region, cursor)?;
-        Ok(String::from_utf8(bytes).unwrap())
+        // The cursor checked that the text is UTF-8.
+        Ok(unsafe { String::from_utf8_unchecked(bytes) })
     }
 
     /// Returns the text's pieces: the text itself if its length is definite, or else its chunks in
@@ -283,7 +284,8 @@ impl<'a> TextToken<'a> {
     {
         match self.len {
             None => None,
-            Some(_) => Some(str::from_utf8(self.region).unwrap()),
+            // The cursor checked that the text is UTF-8.
+            Some(_) => Some(unsafe { str::from_utf8_unchecked(self.region) }),
         }
     }
 }
