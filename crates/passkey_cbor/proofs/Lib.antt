@@ -22,6 +22,7 @@ pub mod Valuing
 pub mod Shrinking
 pub mod Counted
 pub mod EncodedFrom
+mod Initial
 pub mod More
 pub mod Lending
 pub mod Naming

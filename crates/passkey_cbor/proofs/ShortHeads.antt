@@ -1,6 +1,7 @@
 -- Heads of one byte.
-use Rattle.std.proofs.Common.{◌≡◌, ℕ, ◌/◌, ◌%◌, ◌<◌, List, ◌∷◌, Option, Some, None, refl, sym, ap, ◌∙◌, arith}
+use Rattle.std.proofs.Common.{◌≡◌, ℕ, ◌+◌, ◌/◌, ◌%◌, ◌<◌, List, ◌∷◌, drop, length, get_or, add-one, Option, Some, None, refl, sym, ap, ◌∙◌, arith}
 use Rattle.std.specs.Prelude.{IfSome}
+use Rattle.std.proofs.Math.Seq.{drop-cons}
 use Rattle.std.proofs.lemmas.Bool.{lt-ltb, ne_eqb}
 use Rattle.passkey_cbor.specs.HeadReading.{◌>>=◌, argument_at, with_argument, simple_at, head_behind, head_at}
 use Rattle.passkey_cbor.specs.declared.head.Head.{Head}
@@ -27,3 +28,13 @@ pub short_other : (b : ℕ) (o : Option Head) → b < 256 → b % 32 < 24 → (b
 short_other b None byte lt not_7 e = tt
 short_other b (Some h) byte lt not_7 e = λ rest.
     short_argument b rest lt (omega (arith, not_7)) ∙ ap (λ (o : Option Head). o >>= λ g. Some (g, rest)) (sym e)
+
+-- such a head at an offset
+pub short_at : (bytes : List ℕ) (place : ℕ) (o : Option Head) → place < length bytes
+    → IfSome o (λ h. (rest : List ℕ) → head_at (get_or bytes place 0 ∷ rest) ≡ Some (h, rest))
+    → IfSome o (λ h. head_at (drop place bytes) ≡ Some (h, drop (place + 1) bytes))
+short_at bytes place None lt s = tt
+short_at bytes place (Some h) lt s =
+    let first : drop place bytes ≡ get_or bytes place 0 ∷ drop (place + 1) bytes =
+    rw (add-one, drop-cons bytes place 0) refl in
+    ap head_at first ∙ s (drop (place + 1) bytes)

@@ -96,6 +96,31 @@ head_read bytes place heads counted nodes h u rises one t = record {
   well_formed = t.well_formed;
 }
 
+-- a head of one byte
+pub short_read : (a b : Walk) (h : Head) → IsPlaced a.bytes a.place → a.place < length a.bytes
+    → head_at (ahead a) ≡ Some (h, drop (a.place + 1) a.bytes)
+    → b ≡ record a { place = a.place + 1; heads = raised a.heads 1 } → a.heads ≤ b.heads → HeadRead a b h
+short_read a b h placed inside e is rises =
+    let place : b.place ≡ a.place + 1 = ap (λ (w : Walk). w.place) is in
+    let heads : b.heads ≡ raised a.heads 1 = ap (λ (w : Walk). w.heads) is in
+    let same : b.bytes ≡ a.bytes = ap (λ (w : Walk). w.bytes) is in
+    let t = head_takes (ahead a) h (drop (a.place + 1) a.bytes) (IsBytes-drop a.place a.bytes placed.fits) e in
+    record {
+      reads = e ∙ ap (λ (n : ℕ). Some (h, drop n a.bytes)) (sym place)
+          ∙ ap (λ (bytes : List ℕ). Some (h, drop b.place bytes)) (sym same);
+      passed = record {
+        same = same;
+        within = omega (arith, place, inside, ap length same);
+        forward = omega (arith, place);
+        rises = rises;
+        heads = omega (arith, place, heads);
+        nodes = ap (λ (w : Walk). w.nodes) is;
+      };
+      counted = heads;
+      further = omega (arith, place);
+      well_formed = encoded_head h t.text t.encoded;
+    }
+
 -- ---- one step of a list
 
 pub step_end : (w : Walk) (left : Option ℕ) (n : ℕ) → IsInside w → left ≡ Some n → n ≡ 0 → EndRead left w w

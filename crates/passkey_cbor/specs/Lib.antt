@@ -3,6 +3,7 @@ pub mod FloatParts
 pub mod Ranges
 pub mod Made
 pub mod Item
+pub mod Initial
 pub mod Depth
 pub mod Nodes
 pub mod Languages

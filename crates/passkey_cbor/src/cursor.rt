@@ -1,9 +1,11 @@
 //! A cursor that decodes borrowed bytes head by head.
-ghost use Rattle.std.specs.Prelude.{◌≡◌, ℕ, ◌+◌, ◌≤◌, length, min, None, option_map, IfNone, IfSome};
+ghost use Rattle.std.specs.Prelude.{◌≡◌, ℕ, ◌+◌, ◌<◌, ◌≤◌, drop, length, min, Some as There, None, option_map, slice_get, IfNone, IfSome};
 ghost use Rattle.passkey_cbor.specs.Walk.{ahead, raised, IsInside, IsPlaced, Went};
 ghost use Rattle.passkey_cbor.specs.Found.{FindsHead};
 ghost use Rattle.passkey_cbor.specs.Item.{Item};
+ghost use Rattle.passkey_cbor.specs.Initial.{BeginsWith};
 ghost use Rattle.passkey_cbor.specs.EncodedAt.{IsEncodedAt, Opens, WalksOn};
+ghost use Rattle.passkey_cbor.specs.HeadReading.{head_at};
 ghost use Rattle.passkey_cbor.specs.Steps.{ReadsHead, ReadsStep, ReadsPiece};
 ghost use Rattle.passkey_cbor.specs.Reading.{is_allowed, piece_at, chunk};
 
@@ -64,6 +66,24 @@ impl<'a> Cursor<'a> {
         ensures { self.new ≡ record self.old { place = to } }
     {
         self.place = to;
+    }
+
+    /// Returns the next byte, with which the next head begins, or `None` at the end of the bytes.
+    /// Decodes nothing, and counts nothing.
+    pub fn initial_byte(&self) -> Option<u8>
+        ensures next { result ≡ slice_get self.now.bytes self.now.place }
+
+        // If a data item is encoded at the cursor, this is its initial byte.
+        ensures begins { (x : Item) (to : ℕ) → IsEncodedAt x self.now.bytes self.now.place to
+            → BeginsWith x result }
+    {
+        let bytes = self.bytes;
+        let place = self.place;
+        if place < bytes.len() {
+            Some(bytes[place])
+        } else {
+            None
+        }
     }
 
     /// Returns the numbers of heads decoded and of data items built so far.
@@ -160,7 +180,42 @@ impl<'a> Cursor<'a> {
     }
 
     // Decodes the head at the cursor, as `head` does.
+    #[inline(always)]
     pub(crate) fn decode(&mut self) -> Option<Head>
+        ensures reads { ReadsHead self.old self.new result }
+        ensures counted { self.new.heads ≡ raised self.old.heads 1 }
+        ensures rises { self.old.heads ≤ self.new.heads }
+        ensures stays { IfNone result (self.new.place ≡ self.old.place) }
+        ensures placed { IsPlaced self.old.bytes self.old.place }
+    {
+        match self.short_head() {
+            Some(head) => {
+                self.pass_leaf(1);
+                Some(head)
+            }
+            None => self.decode_long(),
+        }
+    }
+
+    // The next head, if it has one byte, of major type 0 to 6 or a simple value.
+    #[inline(always)]
+    fn short_head(&self) -> Option<Head>
+        ensures reads { IfSome result (λ h. head_at (ahead self.now)
+            ≡ There (h, drop (self.now.place + 1) self.now.bytes)) }
+        ensures within { IfSome result (λ h. self.now.place < length self.now.bytes) }
+        ensures placed { IsPlaced self.now.bytes self.now.place }
+    {
+        let bytes = self.bytes;
+        let place = self.place;
+        if place < bytes.len() {
+            Head::short(bytes[place])
+        } else {
+            None
+        }
+    }
+
+    // Decodes the head at the cursor, as `head` does.
+    fn decode_long(&mut self) -> Option<Head>
         ensures reads { ReadsHead self.old self.new result }
         ensures counted { self.new.heads ≡ raised self.old.heads 1 }
         ensures rises { self.old.heads ≤ self.new.heads }
@@ -214,6 +269,7 @@ impl<'a> Cursor<'a> {
 
     /// Passes and returns the next `len` bytes: a string of definite length, or a chunk's content.
     /// `None` if there are fewer bytes, or if a text's aren't UTF-8.
+    #[inline(always)]
     pub(crate) fn piece(&mut self, is_text: bool, len: u64) -> Option<&'a [u8]>
         ensures reads { ReadsPiece is_text (piece_at is_text len (ahead self.old)) self.old self.new
             (option_map (λ s. s.now) result) }
@@ -248,6 +304,7 @@ impl<'a> Cursor<'a> {
 
 // The first `len` bytes, if they are allowed in a string of this kind, and the rest.
 #[tactic(auto, unfolding(crate::specs::Reading::piece_at))]
+#[inline(always)]
 pub(crate) fn piece_of(is_text: bool, len: u64, bytes: &[u8]) -> Option<(&[u8], &[u8])>
     ensures { option_map (λ r. (r.0.now, r.1.now)) result ≡ piece_at is_text len bytes.now }
 {
@@ -263,6 +320,7 @@ pub(crate) fn piece_of(is_text: bool, len: u64, bytes: &[u8]) -> Option<(&[u8], 
 }
 
 // Whether a string of this kind may contain these bytes: a text must be UTF-8.
+#[inline(always)]
 pub(crate) fn is_allowed(is_text: bool, bytes: &[u8]) -> bool
     ensures { result ≡ is_allowed is_text bytes.now }
 {

@@ -47,6 +47,7 @@ impl Head {
 
     /// The head of this one byte, if its argument is in its additional information, below 24
     /// (RFC 8949, section 3).
+    #[inline(always)]
     pub(crate) fn short(initial: u8) -> Option<Head>
         ensures { IfSome result (λ h. (rest : List ℕ) → head_at (initial ∷ rest) ≡ There (h, rest)) }
     {
@@ -110,6 +111,7 @@ impl Head {
         Some((head, rest))
     }
 
+    #[inline(always)]
     fn with_argument(major: u8, argument: u64) -> Option<Head>
         ensures { result ≡ with_argument major argument }
     {
