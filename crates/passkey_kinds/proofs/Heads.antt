@@ -259,3 +259,26 @@ map_opened (head.Tag n) i to b o = no_map (head.Tag n) i o.text o.encoded refl
 map_opened (head.Simple n) i to b o = no_map (head.Simple n) i o.text o.encoded refl
 map_opened (head.Float x) i to b o = no_map (head.Float x) i o.text o.encoded refl
 map_opened head.Break i to b o = no_map head.Break i o.text o.encoded refl
+
+-- ---- null
+
+pub not_null_in : (i : Item) → (i ≡ item.null → ⊥) → null_in i ≡ false
+not_null_in (item.number n) other = refl
+not_null_in (item.byte_string s) other = refl
+not_null_in (item.text_string s) other = refl
+not_null_in (item.array xs) other = refl
+not_null_in (item.map ps) other = refl
+not_null_in (item.tagged n x) other = refl
+not_null_in (item.boolean v) other = refl
+not_null_in item.null other = absurd (other refl)
+not_null_in (item.simple n) other = refl
+not_null_in (item.float f) other = refl
+
+-- nothing was decoded, since the item isn't null
+pub null_missed : (a : Walk) (i : Item) (to : ℕ) → IsEncodedAt i a.bytes a.place to → (i ≡ item.null → ⊥)
+    → ReadsFlat (some_null (null_in i)) to a a None
+null_missed a i to l other = record {
+  is = sym (ap some_null (not_null_in i other));
+  spends = record { within = l.forward; heads = omega (arith, l.forward); nodes = omega arith };
+  ends = λ x some. absurd (none_some None x refl some);
+}

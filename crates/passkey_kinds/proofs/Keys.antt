@@ -1,13 +1,14 @@
 -- The rows that names and map keys name.
 use Rattle.std.specs.List.{find, position, position_or_len}
 use Rattle.std.specs.Str.{bytes_eq}
-use Rattle.std.proofs.Common.{◌≡◌, ◌∙◌, ◌<◌, ◌≤◌, ℕ, pos, negsuc, ◌⊎◌, inl, inr, arith, suc, if◌then◌else◌, Bool, true, false, not, ◌+◌, List, [], ◌∷◌, ◌++◌, length, map, take, set, get_or, Bor, add-one, Option, Some, None, cond, nat_lt, slice_get, refl, sym, ap}
+use Rattle.std.proofs.Common.{◌≡◌, ◌∙◌, ◌<◌, ◌≤◌, ◌==◌, ℕ, pos, negsuc, ◌⊎◌, inl, inr, arith, suc, if◌then◌else◌, Bool, true, false, not, ◌+◌, List, [], ◌∷◌, ◌++◌, length, map, take, set, get_or, Bor, add-one, Option, Some, None, cond, nat_lt, slice_get, refl, sym, ap}
 use Rattle.std.proofs.lemmas.Bool.{cases_lt, lt-ltb, le-ltb}
 use Rattle.std.proofs.lemmas.List.{length-map, map_push, take_more_set}
 use Rattle.std.proofs.Math.Seq.{take-suc}
 use Rattle.std.proofs.lemmas.Option.{slice_get_past}
 use Rattle.passkey_cbor.specs.Item as item
 use Rattle.passkey_cbor.specs.Item.{Item}
+use Rattle.passkey_cbor.specs.Initial.{major_of}
 use Rattle.passkey_kinds.specs.HeadValues.{unsigned_in}
 use Rattle.passkey_kinds.specs.Rows.{entry_of, row_at}
 use Rattle.passkey_kinds.specs.declared.rows.Row.{Row}
@@ -86,3 +87,25 @@ names_number b es (item.boolean v) t h = none_wrong b es
 names_number b es item.null t h = none_wrong b es
 names_number b es (item.simple n) t h = none_wrong b es
 names_number b es (item.float f) t h = none_wrong b es
+
+-- ---- data items by their major types
+
+-- an item of another major type isn't x
+pub other_major : (i x : Item) (major : ℕ) (is : Bool) → is ≡ (major_of i == major) → is ≡ true
+    → (major_of x == major) ≡ false → i ≡ x → ⊥
+other_major i x major is says same other e =
+    let both : true ≡ false = sym same ∙ says ∙ ap (λ (k : Item). major_of k == major) e ∙ other in
+    cc
+
+pub not_unsigned : (i : Item) (is : Bool) → is ≡ (major_of i == 0) → is ≡ false → unsigned_in i ≡ None
+not_unsigned (item.number (pos n)) is says other = cc
+not_unsigned (item.number (negsuc n)) is says other = refl
+not_unsigned (item.byte_string s) is says other = refl
+not_unsigned (item.text_string s) is says other = refl
+not_unsigned (item.array xs) is says other = refl
+not_unsigned (item.map ps) is says other = refl
+not_unsigned (item.tagged n x) is says other = refl
+not_unsigned (item.boolean v) is says other = refl
+not_unsigned item.null is says other = refl
+not_unsigned (item.simple n) is says other = refl
+not_unsigned (item.float f) is says other = refl

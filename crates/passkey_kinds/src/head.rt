@@ -1,7 +1,8 @@
 //! Decodes one head at a cursor, by the type of data item that is wanted.
-ghost use Rattle.std.specs.Prelude.{◌≡◌, ℕ, ◌+◌, ◌≤◌, Bool, true, false, Option, Some as There, None as Nothing, if◌then◌else◌, IfSome};
+ghost use Rattle.std.specs.Prelude.{◌≡◌, ℕ, ◌+◌, ◌≤◌, ◌==◌, Bool, true, false, Option, Some as There, None as Nothing, if◌then◌else◌, IfSome};
 ghost use Rattle.std.specs.Option.{option_and_then};
-ghost use Rattle.passkey_cbor.specs.Item.{Item};
+ghost use Rattle.passkey_cbor.specs.Item.{Item, null};
+ghost use Rattle.passkey_cbor.specs.Initial.{major_of};
 ghost use Rattle.passkey_webauthn.specs.NumberText.{signed_64};
 ghost use Rattle.passkey_cbor.specs.EncodedAt.{IsEncodedAt};
 ghost use Rattle.passkey_kinds.specs.HeadValues.{unsigned_in, integer_in, null_in, head_unsigned, head_integer, head_truth, head_null, head_array, head_map, ReadsFlat, OpensArray, OpensMap};
@@ -72,6 +73,27 @@ fn map_len(head: Head) -> Option<Option<u64>>
     }
 }
 
+/// Returns whether the next byte has this major type. Decodes nothing.
+pub(crate) fn begins(cursor: &Cursor<'_>, major: u8) -> bool
+    ensures { (i : Item) (to : ℕ) → IsEncodedAt i cursor.now.bytes cursor.now.place to
+        → result ≡ (major_of i == major) }
+{
+    match cursor.initial_byte() {
+        Some(initial) => initial / 32 == major,
+        None => false,
+    }
+}
+
+/// Returns whether the next byte is null or undefined. Decodes nothing.
+fn begins_null(cursor: &Cursor<'_>) -> bool
+    ensures { (to : ℕ) → IsEncodedAt null cursor.now.bytes cursor.now.place to → result ≡ true }
+{
+    match cursor.initial_byte() {
+        Some(initial) => initial == 0xf6 || initial == 0xf7,
+        None => false,
+    }
+}
+
 /// Decodes the unsigned integer at the cursor. Returns `None` if none is there.
 pub(crate) fn read_unsigned(cursor: &mut Cursor<'_>) -> Option<u64>
     ensures reads { (i : Item) (to : ℕ) → IsEncodedAt i cursor.old.bytes cursor.old.place to
@@ -112,13 +134,17 @@ pub(crate) fn read_truth(cursor: &mut Cursor<'_>) -> Option<bool>
     }
 }
 
-/// Decodes null or undefined at the cursor. Returns whether one of them is there.
+/// Decodes null or undefined at the cursor. Returns whether one of them is there. Decodes no head if
+/// the next byte is that of another data item.
 pub(crate) fn read_null(cursor: &mut Cursor<'_>) -> bool
     ensures reads { (i : Item) (to : ℕ) → IsEncodedAt i cursor.old.bytes cursor.old.place to → ReadsFlat (if null_in
         i then There true else Nothing) to cursor.old cursor.new (if result then There true else Nothing) }
     ensures onward { Onward cursor.old cursor.new }
     ensures further { result ≡ true → Further cursor.old cursor.new }
 {
+    if !begins_null(cursor) {
+        return false;
+    }
     match cursor.head() {
         Some(head) => is_null(head),
         None => false,

@@ -9,7 +9,7 @@ ghost use Rattle.passkey_kinds.specs.RecordReading.{ReadsKey};
 ghost use Rattle.passkey_kinds.specs.Rows.{entry_of, row_at};
 ghost use Rattle.passkey_kinds.specs.Table.{names, row_named};
 
-use crate::head::read_unsigned;
+use crate::head::{begins, read_unsigned};
 use crate::rows::{Named, Row, of_number, with_name};
 use passkey_cbor::{BytesToken, Cursor, TextToken};
 
@@ -86,14 +86,17 @@ pub(crate) fn read_key(is_numbered: bool, rows: &[Row], cursor: &mut Cursor<'_>)
     ensures onward { Onward cursor.old cursor.new }
     ensures further { IfSome result (λ _. Further cursor.old cursor.new) }
 {
+    if begins(cursor, 0) {
+        let Some(number) = read_unsigned(cursor) else {
+            return None;
+        };
+        return of_number(is_numbered, rows, byte(number));
+    }
     match cursor.text() {
         Some(token) => Some(with_text(rows, &token, cursor)),
         None => match cursor.bytes() {
             Some(token) => Some(with_bytes(rows, &token, cursor)),
-            None => match read_unsigned(cursor) {
-                Some(number) => of_number(is_numbered, rows, byte(number)),
-                None => None,
-            },
+            None => None,
         },
     }
 }

@@ -1,5 +1,8 @@
+use Rattle.std.proofs.Common.{◌≡◌, true, false, subst}
+use Rattle.passkey_cbor.specs.Item.{Item}
+use Rattle.passkey_cbor.specs.EncodedAt.{IsEncodedAt}
 use Rattle.passkey_kinds.proofs.Going.{onward_of}
-use Rattle.passkey_kinds.proofs.Heads.{null_read}
+use Rattle.passkey_kinds.proofs.Heads.{null_read, null_missed}
 use Rattle.passkey_kinds.proofs.head.read_null.Goals as goal
 
 pub returns-in-Some-clause-reads : goal.returns-in-Some-clause-reads
@@ -15,3 +18,12 @@ returns-in-None-clause-reads c = λ i to l. absurd (c.in-None.ensures.opens i to
 
 pub returns-in-None-clause-onward : goal.returns-in-None-clause-onward
 returns-in-None-clause-onward c = onward_of c.args.cursor.now c.head.new.self c.in-None.ensures.went
+
+pub returns-then-not-begins_null-clause-reads : goal.returns-then-not-begins_null-clause-reads
+returns-then-not-begins_null-clause-reads c = λ i to l.
+    let a = c.args.cursor.now in
+    null_missed a i to l (λ e.
+    let found : c.begins_null.result ≡ true =
+    c.begins_null.ensures to (subst (λ (x : Item). IsEncodedAt x a.bytes a.place to) e l) in
+    let missed : c.begins_null.result ≡ false = c.if-not-begins_null.true in
+    cc)
