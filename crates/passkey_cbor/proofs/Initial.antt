@@ -1,11 +1,11 @@
 -- The initial byte of a data item's encoding.
-use Rattle.std.proofs.Common.{◌≡◌, ◌⊎◌, inl, inr, ℕ, ◌+◌, ◌*◌, ◌/◌, ◌<◌, pos, negsuc, List, [], ◌∷◌, ◌++◌, drop, Bool, true, false, Option, Some, None, slice_get, get_or, length, refl, sym, ap, subst, ◌∙◌, arith}
+use Rattle.std.proofs.Common.{◌≡◌, inl, inr, ℕ, ◌+◌, ◌*◌, ◌/◌, ◌<◌, pos, negsuc, List, [], ◌∷◌, ◌++◌, drop, true, false, Option, Some, slice_get, get_or, length, refl, sym, ap, subst, ◌∙◌, arith}
 use Rattle.std.proofs.lemmas.List.{get_or-drop, length-drop}
 use Rattle.std.proofs.lemmas.Option.{slice_get-get_or}
 use Rattle.passkey_cbor.specs.Item as item
 use Rattle.passkey_cbor.specs.Item.{Item}
-use Rattle.passkey_cbor.specs.Languages.{Language, Is, Then}
-use Rattle.passkey_cbor.specs.Heads.{Heads, within, behind, one, two, four, eight, indefinite, FloatHeads}
+use Rattle.passkey_cbor.specs.Languages.{Language}
+use Rattle.passkey_cbor.specs.Heads.{Heads, within, behind, one, two, four, eight, indefinite}
 use Rattle.passkey_cbor.specs.Encoding.{IsEncoding, Strings, Listed}
 use Rattle.passkey_cbor.specs.EncodedAt.{IsEncodedAt}
 use Rattle.passkey_cbor.specs.Initial.{major_of, IsInitial, BeginsWith}

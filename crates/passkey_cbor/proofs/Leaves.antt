@@ -1,12 +1,12 @@
 -- Data items without others in them, which are skipped at once.
-use Rattle.std.proofs.Common.{◌≡◌, ℕ, zero, suc, ◌+◌, ◌<◌, ◌≤◌, Bool, true, false, List, [], ◌∷◌, length, take, drop, Option, Some, None, refl, sym, ap, ◌∙◌, arith, ◌⊎◌, inl, inr}
+use Rattle.std.proofs.Common.{◌≡◌, ℕ, ◌+◌, ◌<◌, ◌≤◌, Bool, true, List, ◌∷◌, length, take, drop, Option, Some, refl, sym, ap, ◌∙◌, arith, ◌⊎◌, inl, inr}
 use Rattle.std.proofs.lemmas.Bool.{cases_lt, lt-ltb, le-ltb}
 use Rattle.std.proofs.lemmas.List.{length-drop, drop-drop}
 use Rattle.passkey_cbor.specs.HeadReading.{◌>>=◌, Read, head_at}
 use Rattle.passkey_cbor.specs.Item.{Item}
-use Rattle.passkey_cbor.specs.Leaf.{IsLeafLen}
+use Rattle.passkey_cbor.specs.Leaf.{Headed, IsLeafLen}
 use Rattle.passkey_cbor.specs.Lent.{string_item, string_head}
-use Rattle.passkey_cbor.specs.Reading.{Reader, start, string_at, is_allowed, piece_at, item_by, item_within}
+use Rattle.passkey_cbor.specs.Reading.{Reader, start, is_allowed, piece_at, item_by, item_within}
 use Rattle.passkey_cbor.specs.Steps.{PassesOver}
 use Rattle.passkey_cbor.specs.Walk.{Walk, ahead, raised, IsInside}
 use Rattle.passkey_cbor.specs.declared.head.Head.{Head}
@@ -14,15 +14,14 @@ use Rattle.passkey_cbor.proofs.Behind.{by_flat, by_string, string_piece}
 use Rattle.passkey_cbor.proofs.Binds.{none_is_some, bind_at}
 
 -- a head that is the whole data item
-pub flat_leaf : (bytes : List ℕ) (b : ℕ) (rest : List ℕ) (g h : Head) (x : Item) → bytes ≡ b ∷ rest
-    → head_at (b ∷ rest) ≡ Some (g, rest) → g ≡ h
-    → ((inner : Option (Reader Item)) → item_by inner h rest ≡ Some (x, rest)) → IsLeafLen bytes 1
-flat_leaf bytes b rest g h x is e same flat = rw is (record {
+pub flat_leaf : (bytes rest : List ℕ) (k : ℕ) (g h : Head) (x : Item) → Headed bytes k g rest → g ≡ h
+    → ((inner : Option (Reader Item)) → item_by inner h rest ≡ Some (x, rest)) → IsLeafLen bytes k
+flat_leaf bytes rest k g h x e same flat = record {
   leaf = x;
-  reads = λ levels. bind_at (head_at (b ∷ rest)) (g, rest) (λ q. item_within levels q.0 q.1) e
-      ∙ by_flat levels g h x rest same flat;
-  within = omega arith;
-})
+  reads = λ levels. bind_at (head_at bytes) (g, rest) (λ q. item_within levels q.0 q.1) e.reads
+      ∙ by_flat levels g h x rest same flat ∙ ap (λ (r : List ℕ). Some (x, r)) (sym e.parts);
+  within = e.within;
+}
 
 -- the content of a string of definite length
 pub piece_there : (is_text : Bool) (n : ℕ) (bytes : List ℕ) → n ≤ length bytes
@@ -39,22 +38,32 @@ piece_within is_text n bytes y e = by_test (cases_lt (length bytes) n) where
   by_test (inr le) = le
 
 -- a string of definite length
-pub string_leaf : (bytes : List ℕ) (b : ℕ) (rest : List ℕ) (is_text : Bool) (len n : ℕ) (g : Head)
-    → bytes ≡ b ∷ rest → head_at (b ∷ rest) ≡ Some (g, rest) → g ≡ string_head is_text (Some len)
-    → piece_at is_text len rest ≡ Some (take len rest, drop len rest) → n ≡ len + 1 → IsLeafLen bytes n
-string_leaf bytes b rest is_text len n g is e same piece size =
-    let next : n ≡ suc len = omega (arith, size) in
-    let after : drop n (b ∷ rest) ≡ drop len rest = ap (λ (k : ℕ). drop k (b ∷ rest)) next in
+pub string_leaf : (bytes rest : List ℕ) (k : ℕ) (is_text : Bool) (len n : ℕ) (g : Head) → Headed bytes k g rest
+    → g ≡ string_head is_text (Some len) → piece_at is_text len rest ≡ Some (take len rest, drop len rest)
+    → n ≡ k + len → IsLeafLen bytes n
+string_leaf bytes rest k is_text len n g e same piece size =
+    let after : drop len rest ≡ drop n bytes =
+    ap (drop len) (sym e.parts) ∙ drop-drop len k bytes ∙ ap (λ (m : ℕ). drop m bytes) (sym size) in
     let within : len ≤ length rest = piece_within is_text len rest (take len rest, drop len rest) piece in
-    rw is (record {
+    record {
       leaf = string_item is_text (take len rest);
-      reads = λ levels. bind_at (head_at (b ∷ rest)) (g, rest) (λ q. item_within levels q.0 q.1) e
+      reads = λ levels. bind_at (head_at bytes) (g, rest) (λ q. item_within levels q.0 q.1) e.reads
           ∙ by_string levels is_text (Some len) g rest same
           ∙ ap (λ (o : Read (List ℕ)). o >>= λ t. Some (string_item is_text t.0, t.1))
           (string_piece is_text (Some len) len rest refl ∙ piece)
-          ∙ ap (λ (r : List ℕ). Some (string_item is_text (take len rest), r)) (sym after);
-      within = omega (arith, within, size);
-    })
+          ∙ ap (λ (r : List ℕ). Some (string_item is_text (take len rest), r)) after;
+      within = omega (arith, within, size, ap length e.parts, length-drop k bytes, e.within);
+    }
+
+-- the first byte is the head
+pub headed_one : (bytes : List ℕ) (b : ℕ) (rest : List ℕ) (h : Head) → bytes ≡ b ∷ rest
+    → head_at (b ∷ rest) ≡ Some (h, rest) → Headed bytes 1 h rest
+headed_one bytes b rest h is e = rw is (record { reads = e; parts = refl; within = omega arith })
+
+-- the first two bytes are the head
+pub headed_two : (b a : ℕ) (behind rest : List ℕ) (h : Head) → behind ≡ a ∷ rest
+    → head_at (b ∷ (a ∷ rest)) ≡ Some (h, rest) → Headed (b ∷ behind) 2 h rest
+headed_two b a behind rest h next e = rw next (record { reads = e; parts = refl; within = omega arith })
 
 -- a cursor that passes such an item
 pub leaf_passed : (a b : Walk) (levels n : ℕ) → IsInside a → 0 < n → IsLeafLen (ahead a) n

@@ -1,11 +1,14 @@
 -- Heads of one byte.
-use Rattle.std.proofs.Common.{◌≡◌, ℕ, ◌+◌, ◌/◌, ◌%◌, ◌<◌, List, ◌∷◌, drop, length, get_or, add-one, Option, Some, None, refl, sym, ap, ◌∙◌, arith}
+use Rattle.std.proofs.Common.{◌≡◌, ℕ, zero, suc, ◌+◌, ◌*◌, ◌/◌, ◌%◌, ◌<◌, List, [], ◌∷◌, drop, length, get_or, add-one, Option, Some, None, refl, sym, ap, ◌∙◌, arith}
 use Rattle.std.specs.Prelude.{IfSome}
 use Rattle.std.proofs.Math.Seq.{drop-cons}
 use Rattle.std.proofs.lemmas.Bool.{lt-ltb, ne_eqb}
+use Rattle.passkey_cbor.specs.Heads.{Heads, behind, one}
 use Rattle.passkey_cbor.specs.HeadReading.{◌>>=◌, argument_at, with_argument, simple_at, head_behind, head_at}
 use Rattle.passkey_cbor.specs.declared.head.Head.{Head}
 use Rattle.passkey_cbor.specs.declared.head.Head.TheVariants as head
+use Rattle.passkey_cbor.proofs.Binds.{none_is_some}
+use Rattle.passkey_cbor.proofs.HeadAgain.{heads_again}
 
 short_argument : (b : ℕ) (rest : List ℕ) → b % 32 < 24 → b / 32 < 7
     → head_at (b ∷ rest) ≡ (with_argument (b / 32) (b % 32) >>= λ h. Some (h, rest))
@@ -28,6 +31,31 @@ pub short_other : (b : ℕ) (o : Option Head) → b < 256 → b % 32 < 24 → (b
 short_other b None byte lt not_7 e = tt
 short_other b (Some h) byte lt not_7 e = λ rest.
     short_argument b rest lt (omega (arith, not_7)) ∙ ap (λ (o : Option Head). o >>= λ g. Some (g, rest)) (sym e)
+
+small_major : (m n : ℕ) (h : Head) → with_argument m n ≡ Some h → m < 7
+small_major zero n h e = omega arith
+small_major (suc zero) n h e = omega arith
+small_major (suc (suc zero)) n h e = omega arith
+small_major (suc (suc (suc zero))) n h e = omega arith
+small_major (suc (suc (suc (suc zero)))) n h e = omega arith
+small_major (suc (suc (suc (suc (suc zero))))) n h e = omega arith
+small_major (suc (suc (suc (suc (suc (suc zero)))))) n h e = omega arith
+small_major (suc (suc (suc (suc (suc (suc (suc m))))))) n h e = absurd (none_is_some h e)
+
+-- a head whose argument is the byte after the initial byte
+two_bytes : (b a : ℕ) (rest : List ℕ) (h : Head) → a < 256 → b % 32 ≡ 24 → with_argument (b / 32) a ≡ Some h
+    → head_at (b ∷ (a ∷ rest)) ≡ Some (h, rest)
+two_bytes b a rest h byte info e =
+    let small : b / 32 < 7 = small_major (b / 32) a h e in
+    let first : b ≡ 32 * (b / 32) + 24 = omega (arith, info) in
+    let second : a ≡ a % 256 = omega (arith, byte) in
+    let encoded : Heads (b / 32) a (b ∷ (a ∷ [])) = behind one byte (λ j. first j ∷ (second j ∷ [])) in
+    heads_again (b / 32) a (b ∷ (a ∷ [])) rest small encoded ∙ ap (λ (o : Option Head). o >>= λ g. Some (g, rest)) e
+
+pub with_byte_is : (b a : ℕ) (o : Option Head) → a < 256 → b % 32 ≡ 24 → o ≡ with_argument (b / 32) a
+    → IfSome o (λ h. (rest : List ℕ) → head_at (b ∷ (a ∷ rest)) ≡ Some (h, rest))
+with_byte_is b a None byte info e = tt
+with_byte_is b a (Some h) byte info e = λ rest. two_bytes b a rest h byte info (sym e)
 
 -- such a head at an offset
 pub short_at : (bytes : List ℕ) (place : ℕ) (o : Option Head) → place < length bytes

@@ -1,5 +1,6 @@
 //! A cursor that decodes borrowed bytes head by head.
-ghost use Rattle.std.specs.Prelude.{◌≡◌, ℕ, ◌+◌, ◌<◌, ◌≤◌, drop, length, min, Some as There, None, option_map, slice_get, IfNone, IfSome};
+ghost use Rattle.std.specs.Prelude.{◌≡◌, ℕ, ◌+◌, ◌<◌, ◌≤◌, drop, length, min, Some as There, None, option_map, slice_get, true, IfNone, IfSome};
+ghost use Rattle.std.specs.Str.{IsAscii};
 ghost use Rattle.passkey_cbor.specs.Walk.{ahead, raised, IsInside, IsPlaced, Went};
 ghost use Rattle.passkey_cbor.specs.Found.{FindsHead};
 ghost use Rattle.passkey_cbor.specs.Item.{Item};
@@ -325,8 +326,16 @@ pub(crate) fn is_allowed(is_text: bool, bytes: &[u8]) -> bool
     ensures { result ≡ is_allowed is_text bytes.now }
 {
     if is_text {
-        str::from_utf8(bytes).is_ok()
+        is_short_ascii(bytes) || str::from_utf8(bytes).is_ok()
     } else {
         true
     }
+}
+
+// Whether these are a few bytes, and all ASCII: for so few this takes less time than `from_utf8`.
+#[inline(always)]
+fn is_short_ascii(bytes: &[u8]) -> bool
+    ensures { result ≡ true → IsAscii bytes.now }
+{
+    bytes.len() <= 12 && bytes.iter().all(|b| *b < 0x80)
 }

@@ -61,6 +61,18 @@ impl Head {
         Head::with_argument(initial / 32, u64::from(info))
     }
 
+    /// The head of these two bytes, if its argument is the second and it isn't a simple value
+    /// (additional information 24).
+    #[inline(always)]
+    pub(crate) fn with_byte(initial: u8, argument: u8) -> Option<Head>
+        ensures { IfSome result (λ h. (rest : List ℕ) → head_at (initial ∷ (argument ∷ rest)) ≡ There (h, rest)) }
+    {
+        if initial % 32 != 24 {
+            return None;
+        }
+        Head::with_argument(initial / 32, u64::from(argument))
+    }
+
     /// The head at the beginning of the bytes, and the bytes after it, if the head has its shortest
     /// encoding.
     pub(crate) fn decode_shortest(bytes: &[u8]) -> Option<(Head, &[u8])>

@@ -1,13 +1,14 @@
-//! Data items without others in them, whose head has one byte.
-ghost use Rattle.std.specs.Prelude.{◌≡◌, ◌<◌, ◌+◌, Some as There, drop, take};
-ghost use Rattle.passkey_cbor.specs.Reading.{piece_at};
-ghost use Rattle.passkey_cbor.specs.Leaf.{IsLeafLen};
+//! Data items without others in them, whose head has at most two bytes.
+ghost use Rattle.std.specs.Prelude.{◌<◌, ◌≤◌, List, ℕ, ◌∷◌};
+ghost use Rattle.passkey_cbor.specs.Lent.{string_head};
+ghost use Rattle.passkey_cbor.specs.Leaf.{Headed, IsLeafLen};
 
 use crate::cursor::is_allowed;
 use crate::head::Head;
 
 /// Returns the length of the number, the simple value or the string at the beginning of the bytes,
-/// if its head has one byte and nothing is wrong with it; else 0.
+/// if its head has one byte, or two with the argument in the second, and nothing is wrong with it;
+/// else 0.
 pub(crate) fn leaf_len(bytes: &[u8]) -> usize
     ensures leaf { 0 < result → IsLeafLen bytes.now result }
 {
@@ -16,24 +17,55 @@ pub(crate) fn leaf_len(bytes: &[u8]) -> usize
         Some(parts) => parts,
     };
     match Head::short(*initial) {
-        Some(Head::Unsigned(_)) => 1,
-        Some(Head::Negative(_)) => 1,
-        Some(Head::Simple(_)) => 1,
-        Some(Head::Bytes(Some(len))) => string_len(false, len, rest),
-        Some(Head::Text(Some(len))) => string_len(true, len, rest),
+        Some(head) => len_with(1, head, rest),
+        None => two_byte_len(*initial, rest),
+    }
+}
+
+// The same for a head of two bytes, whose initial byte comes before these.
+#[inline(always)]
+fn two_byte_len(initial: u8, bytes: &[u8]) -> usize
+    ensures leaf { 0 < result → IsLeafLen (initial ∷ bytes.now) result }
+{
+    let (argument, rest) = match bytes.split_first() {
+        None => return 0,
+        Some(parts) => parts,
+    };
+    match Head::with_byte(initial, *argument) {
+        Some(head) => len_with(2, head, rest),
+        None => 0,
+    }
+}
+
+// The length of such an item, whose head has this many bytes and is followed by these; else 0.
+#[inline(always)]
+fn len_with(head_len: usize, head: Head, rest: &[u8]) -> usize
+    requires { head_len ≤ 2 }
+    ensures leaf { 0 < result → (bytes : List ℕ) → Headed bytes head_len head rest.now → IsLeafLen bytes result }
+{
+    match head {
+        Head::Unsigned(_) => head_len,
+        Head::Negative(_) => head_len,
+        Head::Simple(_) => head_len,
+        Head::Bytes(len) => string_len(head_len, false, len, rest),
+        Head::Text(len) => string_len(head_len, true, len, rest),
         _ => 0,
     }
 }
 
-// The length of a string of this kind with its head, of one byte, before its content; 0 if the
-// bytes don't begin with such content.
-fn string_len(is_text: bool, len: u64, bytes: &[u8]) -> usize
-    ensures content { 0 < result → piece_at is_text len bytes.now ≡ There (take len bytes.now, drop len bytes.now) }
-    ensures size { 0 < result → result ≡ len + 1 }
+// The same for a string of this kind, and the length in its head.
+#[inline(always)]
+fn string_len(head_len: usize, is_text: bool, len: Option<u64>, rest: &[u8]) -> usize
+    requires { head_len ≤ 2 }
+    ensures leaf { 0 < result → (bytes : List ℕ) → Headed bytes head_len (string_head is_text len) rest.now
+        → IsLeafLen bytes result }
 {
-    let size = len as usize;
-    if bytes.len() < size || !is_allowed(is_text, &bytes[..size]) {
+    let size = match len {
+        None => return 0,
+        Some(len) => len as usize,
+    };
+    if rest.len() < size || !is_allowed(is_text, &rest[..size]) {
         return 0;
     }
-    size + 1
+    head_len + size
 }

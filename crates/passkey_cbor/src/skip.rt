@@ -45,6 +45,7 @@ impl<'a> Cursor<'a> {
     /// Skips one data item of at most `levels` levels. Returns false, and stops somewhere, if none
     /// follows.
     #[cycle(skip)]
+    #[inline(always)]
     pub(crate) fn skip_item(&mut self, levels: usize) -> bool
         requires { IsInside self.old }
         ensures skips { Skips (start (item_within levels) (ahead self.old)) self.old self.new result }

@@ -1,5 +1,4 @@
-use Rattle.std.proofs.Common.{◌≤◌, arith}
-use Rattle.passkey_cbor.specs.Walk.{raised}
+use Rattle.std.proofs.Common.{arith}
 use Rattle.passkey_cbor.proofs.Walks.{short_read}
 use Rattle.passkey_cbor.proofs.cursor.Cursor.decode.Goals as goal
 
