@@ -1,12 +1,16 @@
 -- What decoding one more member changes.
 use Rattle.std.specs.Cmp.{unsigned_Decides}
-use Rattle.std.proofs.Common.{◌≡◌, ◌∙◌, ◌<◌, ◌==◌, ℕ, arith, Bool, true, false, if◌then◌else◌, List, [], ◌∷◌, ◌++◌, length, set, get_or, Option, Some, None, is_some, refl, sym, ap}
-use Rattle.std.proofs.lemmas.Bool.{true≢false}
+use Rattle.std.specs.List.{find}
+use Rattle.std.specs.Str.{bytes_eq}
+use Rattle.std.proofs.Common.{◌≡◌, ◌∙◌, ◌<◌, ◌==◌, nat_lt, cond, ℕ, arith, Bool, true, false, if◌then◌else◌, List, [], ◌∷◌, ◌++◌, length, set, get_or, Option, Some, None, is_some, refl, sym, ap}
+use Rattle.std.proofs.lemmas.Bool.{and_parts, leb-true, true≢false}
 use Rattle.std.proofs.lemmas.List.{get_or-set_same, get_or-set_other, length-set}
 use Rattle.std.proofs.lemmas.Option.{slice_get-get_or, get_or_from_slice_get}
+use Rattle.passkey_cbor.specs.Item as item
 use Rattle.passkey_cbor.specs.Item.{Item}
-use Rattle.passkey_kinds.specs.Reading.{with_row, Marks}
-use Rattle.passkey_kinds.specs.Table.{Entry, Table, Naming, row, unknown, entries, names, named, is_row, Members, found, accepts_at, bad_member}
+use Rattle.passkey_kinds.specs.Kind.{below}
+use Rattle.passkey_kinds.specs.Reading.{with_row, Marks, are_small}
+use Rattle.passkey_kinds.specs.Table.{Entry, Table, Naming, row, unknown, row_or_unknown, number_names, entries, names, named, is_row, Members, found, accepts_at, bad_member}
 use Rattle.passkey_kinds.specs.declared.fault.Fault.TheVariants.{Repeated, Refused}
 use Rattle.passkey_kinds.proofs.Unknown.{found_pushed}
 
@@ -59,11 +63,42 @@ found_push table key value n naming (m ∷ ms) e k =
       | false ↦ λ h. λ u. λ r. rw r refl
     ]) refl refl rest
 
+-- ---- the numbers of rows
+
+found_small : (p : Entry → Bool) (n : ℕ) (es : List Entry) → are_small es ≡ true
+    → row_or_unknown (find p es) ≡ row n → n < 32
+found_small p n [] small e = cc
+found_small p n (x ∷ es) small e =
+    let parts = and_parts (nat_lt x.number 32) (are_small es) small in
+    (elim (p x) as (λ (b : Bool). row_or_unknown (cond b (Some x) (find p es)) ≡ row n → n < 32) [
+      | true ↦ λ h. (let same : x.number ≡ n = cc in omega (arith, leb-true _ _ parts.0, same))
+      | false ↦ λ h. found_small p n es parts.1 h
+    ]) e
+
+number_small : (is_numbered : Bool) (o : Option ℕ) (n : ℕ) (es : List Entry) → are_small es ≡ true
+    → number_names is_numbered o es ≡ row n → n < 32
+number_small true (Some k) n es small e = found_small (λ x. x.number == k) n es small e
+number_small true None n es small e = cc
+number_small false o n es small e = cc
+
+pub row_small : (is_numbered : Bool) (key : Item) (n : ℕ) (es : List Entry) → are_small es ≡ true
+    → names is_numbered es key ≡ row n → n < 32
+row_small b (item.number z) n es small e = number_small b (below 256 (item.number z)) n es small e
+row_small b (item.byte_string s) n es small e = found_small (λ x. bytes_eq x.name s) n es small e
+row_small b (item.text_string s) n es small e = found_small (λ x. bytes_eq x.name s) n es small e
+row_small b (item.array xs) n es small e = cc
+row_small b (item.map ps) n es small e = cc
+row_small b (item.tagged k x) n es small e = cc
+row_small b (item.boolean v) n es small e = cc
+row_small b item.null n es small e = cc
+row_small b (item.simple k) n es small e = cc
+row_small b (item.float f) n es small e = cc
+
 -- ---- marks
 
 module _ (table : Table) (earlier : Members) (key value : Item) (marks : List Bool)
     (marked : Marks table earlier marks) where
-  pub marked_as : (n : ℕ) (d b : Bool) → n < 256 → get_or marks n d ≡ b → is_some (found table earlier n) ≡ b
+  pub marked_as : (n : ℕ) (d b : Bool) → n < 32 → get_or marks n d ≡ b → is_some (found table earlier n) ≡ b
   marked_as n d b small e =
       sym (get_or_from_slice_get marks n (is_some (found table earlier n)) d (marked n small)) ∙ e
 
@@ -71,8 +106,8 @@ module _ (table : Table) (earlier : Members) (key value : Item) (marks : List Bo
   stays naming n small = marked n small
       ∙ ap (λ (o : Option Item). Some (is_some o)) (sym (found_pushed table earlier key value naming n))
 
-  pub marks_one : (n : ℕ) → named table key ≡ row n → is_some (found table earlier n) ≡ false → n < 256
-      → length marks ≡ 256 → Marks table (earlier ++ (key, value) ∷ []) (set marks n true)
+  pub marks_one : (n : ℕ) → named table key ≡ row n → is_some (found table earlier n) ≡ false → n < 32
+      → length marks ≡ 32 → Marks table (earlier ++ (key, value) ∷ []) (set marks n true)
   marks_one n naming none small long k less = slice_get-get_or (set marks n true) k false
       (omega (arith, less, long, length-set marks n true)) ∙ ap Some (mark_of ∙ ap is_some (sym (pushed k)))
     where

@@ -29,9 +29,9 @@ pub grows_behind : (table : Table) (earlier : Members) (m : Item × Item) (other
 grows_behind table [] m others h = inl h
 grows_behind table (x ∷ xs) m others h = inr (grows_behind table xs m others h)
 
-pub none_marked : (n : ℕ) → n < 256 → slice_get (replicate 256 false) n ≡ Some false
-none_marked n small = slice_get-get_or (replicate 256 false) n false
-    (omega (arith, small, length-replicate 256 false)) ∙ ap Some (get_or-replicate 256 n false false small)
+pub none_marked : (n : ℕ) → n < 32 → slice_get (replicate 32 false) n ≡ Some false
+none_marked n small = slice_get-get_or (replicate 32 false) n false
+    (omega (arith, small, length-replicate 32 false)) ∙ ap Some (get_or-replicate 32 n false false small)
 
 module _ (table : Table) where
   pub first_is : (ms earlier rest others : Members) (m : Item × Item) (f : Fault) → rest ≡ m ∷ others
@@ -53,7 +53,7 @@ module _ (table : Table) where
       ≡ find (λ (e : Entry). e.is_required && is_none (found table ms e.number)) es
   same_missing ms marks marked [] small = refl
   same_missing ms marks marked (e ∷ es) small =
-      let parts = and_parts (nat_lt e.number 256) (are_small es) small in
+      let parts = and_parts (nat_lt e.number 32) (are_small es) small in
       let mark : get_or marks e.number false ≡ is_some (found table ms e.number) = get_or_from_slice_get marks
       e.number (is_some (found table ms e.number)) false (marked e.number (leb-true _ _ parts.0)) in
       let rest = same_missing ms marks marked es parts.1 in

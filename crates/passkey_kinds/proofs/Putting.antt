@@ -41,7 +41,7 @@ module _ {P : Type 0} (t : Fields P) where
 
   -- ---- all members
 
-  pub has_begun : (ms : Members) (held : P) (marks : List Bool) → held ≡ t.blank → marks ≡ replicate 256 false
+  pub has_begun : (ms : Members) (held : P) (marks : List Bool) → held ≡ t.blank → marks ≡ replicate 32 false
       → HasReadTo t ms ms held marks
   has_begun ms held marks empty none = record {
     earlier = [];

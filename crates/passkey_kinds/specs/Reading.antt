@@ -56,7 +56,7 @@ with_row n i f m = if m == n then Some i else f m
 
 -- Exactly the rows that the earlier members name are marked.
 abbrev pub Marks : Table → Members → List Bool → Type 0
-Marks table earlier marks = (n : ℕ) → n < 256 → slice_get marks n ≡ Some (is_some (found table earlier n))
+Marks table earlier marks = (n : ℕ) → n < 32 → slice_get marks n ≡ Some (is_some (found table earlier n))
 
 -- The result of decoding one more member, and the marks after it.
 abbrev pub Steps : Table → Members → Item × Item → List Bool → Result (Unit {0}) Fault → Type 0
@@ -69,10 +69,10 @@ Steps table earlier m marks (Err (fault.Repeated n)) = bad_member table earlier 
 Steps table earlier m marks (Err (fault.Refused n)) = bad_member table earlier m ≡ Some (fault.Refused n)
 Steps table earlier m marks (Err (fault.Missing n)) = ⊥
 
--- whether each row's number is below 256
+-- whether each row's number is below 32
 abbrev pub are_small : List Entry → Bool
 are_small [] = true
-are_small (e ∷ es) = nat_lt e.number 256 && are_small es
+are_small (e ∷ es) = nat_lt e.number 32 && are_small es
 
 -- the number of the first required row that isn't marked
 abbrev pub first_unmarked : List Entry → List Bool → Option ℕ

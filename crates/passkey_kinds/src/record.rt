@@ -1,5 +1,5 @@
 //! Records, decoded member by member.
-ghost use Rattle.std.specs.Prelude.{◌≡◌, ◌≤◌, ℕ, true, false, length, map, replicate, is_ok, OnOk};
+ghost use Rattle.std.specs.Prelude.{◌≡◌, ◌<◌, ◌≤◌, ℕ, true, false, length, map, replicate, get_or, set, is_ok, OnOk};
 ghost use Rattle.passkey_cbor.specs.Item.{Item};
 ghost use Rattle.passkey_cbor.specs.EncodedAt.{IsEncodedAt, PairsAreEncodedAt};
 ghost use Rattle.passkey_cbor.specs.View.{item_of, pair_of};
@@ -61,10 +61,11 @@ pub trait Record: Drop {
 fn read_member<R: Record, S: Source>(
     alloc: Global,
     read: &mut R,
-    seen: &mut [bool; 256],
+    seen: &mut [bool; 32],
     key: Named,
     source: &mut S,
 ) -> Result<(), Fault>
+    requires { are_small (entries (table_of R.fields)) ≡ true }
     ensures reads { (earlier : Members) (label value : Item) (to : ℕ) → named (table_of R.fields) label
         ≡ named_as key → S.At source.old value to → HasRead R.fields earlier (R.parts read.old) seen.old
         → ReadsOne R.fields earlier (label, value) (R.parts read.new) seen.new result }
@@ -82,12 +83,12 @@ fn read_member<R: Record, S: Source>(
             return Err(Fault::DecodeFailed);
         }
     };
-    if seen[usize::from(number)] {
+    if is_marked(seen, number) {
         return Err(Fault::Repeated(number));
     }
     match read.put(alloc, number, source) {
         Ok(()) => {
-            seen[usize::from(number)] = true;
+            mark(seen, number);
             Ok(())
         }
         Err(Refusal::Refused) => Err(Fault::Refused(number)),
@@ -95,12 +96,30 @@ fn read_member<R: Record, S: Source>(
     }
 }
 
+/// Returns whether the row with this number is marked.
+fn is_marked(seen: &[bool; 32], number: u8) -> bool
+    ensures { result ≡ get_or seen.now number false }
+{
+    let index = usize::from(number);
+    index < seen.len() && seen[index]
+}
+
+/// Marks the row with this number. A row's number is below 32.
+fn mark(seen: &mut [bool; 32], number: u8)
+    ensures { number < 32 → seen.new ≡ set seen.old number true }
+{
+    let index = usize::from(number);
+    if index < seen.len() {
+        seen[index] = true;
+    }
+}
+
 /// Returns the number of the first required row that isn't marked.
-fn first_missing(rows: &[Row], seen: &[bool; 256]) -> Option<u8>
+fn first_missing(rows: &[Row], seen: &[bool; 32]) -> Option<u8>
     ensures { result ≡ first_unmarked (map entry_of rows.now) seen.now }
 {
     for row in rows {
-        if row.is_required() && !seen[usize::from(row.number())] {
+        if row.is_required() && !is_marked(seen, row.number()) {
             return Some(row.number());
         }
     }
@@ -108,14 +127,14 @@ fn first_missing(rows: &[Row], seen: &[bool; 256]) -> Option<u8>
 }
 
 /// Returns marks with no row marked.
-fn no_marks() -> [bool; 256]
-    ensures { result ≡ replicate 256 false }
+fn no_marks() -> [bool; 32]
+    ensures { result ≡ replicate 32 false }
 {
-    [false; 256]
+    [false; 32]
 }
 
 /// Returns the record, or `Missing` for the first required row that isn't marked.
-fn finish<R: Record>(read: R, seen: &[bool; 256]) -> Result<R, Fault>
+fn finish<R: Record>(read: R, seen: &[bool; 32]) -> Result<R, Fault>
     ensures reads { Reads R.parts ⊥
         (unless_missing (first_unmarked (entries (table_of R.fields)) seen.now) (R.parts read)) result }
     ensures small { are_small (entries (table_of R.fields)) ≡ true }
