@@ -48,11 +48,20 @@ fn with_text(rows: &[Row], token: &TextToken<'_>, cursor: &mut Cursor<'_>) -> Na
 {
     match token.lent() {
         Some(name) => with_name(rows, name.as_bytes()),
-        None => {
-            let names = names_of(rows);
-            at_index(rows, token.name_of(&names[..rows.len()], cursor))
-        }
+        None => with_text_chunks(rows, token, cursor),
     }
+}
+
+// The same for a text in chunks. Not inlined, so that no room for the names is made without them.
+#[inline(never)]
+fn with_text_chunks(rows: &[Row], token: &TextToken<'_>, cursor: &mut Cursor<'_>) -> Named
+    requires region { IsRegion true token.now }
+    requires few { length rows.now ≤ 32 }
+    ensures names { (s : List ℕ) → Tells true token.now s → named_as result ≡ row_named (map entry_of rows.now) s }
+    ensures looks { LooksAtMost token.now cursor.old cursor.new }
+{
+    let names = names_of(rows);
+    at_index(rows, token.name_of(&names[..rows.len()], cursor))
 }
 
 /// Finds the row whose name is this byte string.
@@ -64,11 +73,20 @@ fn with_bytes(rows: &[Row], token: &BytesToken<'_>, cursor: &mut Cursor<'_>) -> 
 {
     match token.lent() {
         Some(name) => with_name(rows, name),
-        None => {
-            let names = names_of(rows);
-            at_index(rows, token.name_of(&names[..rows.len()], cursor))
-        }
+        None => with_byte_chunks(rows, token, cursor),
     }
+}
+
+// The same for a byte string in chunks.
+#[inline(never)]
+fn with_byte_chunks(rows: &[Row], token: &BytesToken<'_>, cursor: &mut Cursor<'_>) -> Named
+    requires region { IsRegion false token.now }
+    requires few { length rows.now ≤ 32 }
+    ensures names { (s : List ℕ) → Tells false token.now s → named_as result ≡ row_named (map entry_of rows.now) s }
+    ensures looks { LooksAtMost token.now cursor.old cursor.new }
+{
+    let names = names_of(rows);
+    at_index(rows, token.name_of(&names[..rows.len()], cursor))
 }
 
 fn byte(number: u64) -> Option<u8>
