@@ -25,6 +25,8 @@ fn heads_are_decoded(rt: HostRuntime) {
     ];
     for (bytes, head, place) in cases {
         let mut cursor = Cursor::new(bytes);
+        let initial = cursor.initial_byte();
+        check(&rt, initial == bytes.first().copied(), "initial", bytes);
         check(&rt, cursor.head() == head, "head", bytes);
         check(&rt, cursor.place() == place, "place", bytes);
         check(
