@@ -1,2 +1,1 @@
-pub mod Trimming
 pub mod Refusing

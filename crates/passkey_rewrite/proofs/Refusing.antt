@@ -2,11 +2,12 @@
 use Rattle.std.proofs.Common.{ℕ, List, Result, Ok, Err, IfErr}
 use Rattle.passkey_cbor.specs.Item.{Item}
 use Rattle.passkey_kinds.specs.declared.fault.Fault.{Fault}
-use Rattle.passkey_rewrite.specs.Rewriting.{IsCborRefusal, IsDataRefusal, IsMessageRefusal, IsRefusal, Refuses, RefusesAs, RefusesMessage}
-use Rattle.passkey_rewrite.specs.declared.fault.RunFault.{RunFault}
-use Rattle.passkey_rewrite.specs.declared.fault.RunFault.TheVariants.{Refused, MessageRefused, JsonRefused, BadHex, BadJson, UnknownKind, OutOfMemory, InputFailed, OutputFailed}
-use Rattle.passkey_rewrite.specs.declared.kind.BytesKind.{BytesKind}
-use Rattle.passkey_rewrite.specs.declared.kind.BytesKind.TheVariants.{Cbor, Auth}
+use Rattle.passkey_rewrite.specs.Rewriting.{IsRefusal, Refuses, RefusesAs}
+use Rattle.passkey_run.specs.Rewriting.{IsCborRefusal, IsDataRefusal, IsMessageRefusal, RefusesMessage}
+use Rattle.passkey_run.specs.declared.fault.RunFault.{RunFault}
+use Rattle.passkey_run.specs.declared.fault.RunFault.TheVariants.{Refused, MessageRefused, JsonRefused, BadHex, BadJson, UnknownKind, OutOfMemory, InputFailed, OutputFailed}
+use Rattle.passkey_run.specs.declared.kind.BytesKind.{BytesKind}
+use Rattle.passkey_run.specs.declared.kind.BytesKind.TheVariants.{Cbor, Auth}
 
 module _ {A : Type 0} (bytes : List ℕ) where
   pub item_refused : (r : Result A RunFault) → IfErr r (IsCborRefusal bytes) → IfErr r (IsRefusal Cbor bytes)

@@ -1,6 +1,1 @@
-pub mod Kind
-pub mod Trimmed
-pub mod Fault
-pub mod RewritesJson
-pub mod Checking
 pub mod Rewriting

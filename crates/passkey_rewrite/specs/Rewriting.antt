@@ -1,14 +1,7 @@
 -- The output of decoding an input as a kind and encoding the result, and why there is none.
-use Rattle.std.specs.Prelude.{◌≡◌, ℕ, List, Result, Ok, Err, IsErr, ⊤}
+use Rattle.std.specs.Prelude.{◌≡◌, ℕ, List, Ok, IsErr, ⊤}
 use Rattle.hex.specs.Hex.{decode_of, encode_lower}
-use Rattle.passkey_cbor.specs.Item.{Item}
-use Rattle.passkey_cbor.specs.LeadingItem.{IsLeadingItem, HasNoLeadingItem}
-use Rattle.passkey_cbor.specs.Written.{written}
 use Rattle.passkey_cose.specs.declared.error.CoseError.{CoseError}
-use Rattle.passkey_cose.specs.declared.error.CoseError.TheVariants as error
-use Rattle.passkey_core.specs.DataParts.{DataParts}
-use Rattle.passkey_core.specs.DataReading.{ReadsData}
-use Rattle.passkey_core.specs.DataWritten.{data_written}
 use Rattle.passkey_get_info.specs.GetInfo.{read_get_info}
 use Rattle.passkey_get_info.specs.GetInfoTree.{get_info_tree}
 use Rattle.passkey_get_assertion.specs.GetRequest.{read_get_request, get_request_tree}
@@ -17,38 +10,17 @@ use Rattle.passkey_make_credential.specs.MakeRequest.{read_make_request, make_re
 use Rattle.passkey_make_credential.specs.MakeResponse.{read_make_response, make_response_tree}
 use Rattle.passkey_extensions.specs.ExtensionTrees.{hmac_input_tree}
 use Rattle.passkey_extensions.specs.HmacInput.{read_hmac_input}
-use Rattle.passkey_kinds.specs.Message.{Begins}
 use Rattle.passkey_kinds.specs.declared.fault.Fault.{Fault}
-use Rattle.passkey_kinds.specs.declared.fault.Fault.TheVariants as message
-use Rattle.passkey_rewrite.specs.Checking.{IsChecked, HasNoBytes}
-use Rattle.passkey_rewrite.specs.Trimmed.{trimmed}
-use Rattle.passkey_rewrite.specs.RewritesJson.{RewritesJson, IsJsonRefusal, json_rewritten}
-use Rattle.passkey_rewrite.specs.declared.kind.BytesKind.{BytesKind}
-use Rattle.passkey_rewrite.specs.declared.kind.BytesKind.TheVariants.{Cbor, Auth, MakeRequest, MakeResponse, GetRequest, GetResponse, Info, HmacInput}
-use Rattle.passkey_rewrite.specs.declared.kind.Kind.{Kind}
-use Rattle.passkey_rewrite.specs.declared.kind.Kind.TheVariants.{Bytes, Json, Check}
-use Rattle.passkey_rewrite.specs.declared.fault.RunFault.{RunFault}
-use Rattle.passkey_rewrite.specs.declared.fault.RunFault.TheVariants.{Refused, MessageRefused, BadHex, OutOfMemory}
-
--- The encoding of the leading data item of the bytes.
-pub record RewritesLeadingItem (bytes encoding : List ℕ) : Type 0 where
-  pub front : Item
-  pub len : ℕ
-  pub begins : IsLeadingItem bytes front len
-  pub rewritten : encoding ≡ written front
-
--- The encoding of the authenticator data that the bytes decode to.
-pub record RewritesData (bytes encoding : List ℕ) : Type 0 where
-  pub parts : DataParts
-  pub reads : ReadsData bytes (Ok parts)
-  pub rewritten : encoding ≡ data_written parts
-
--- The encoding of the message at the beginning of the bytes.
-pub record RewritesMessage {P : Type 0} (read : Item → Result P Fault) (tree : P → Item) (bytes encoding : List ℕ) :
-    Type 0 where
-  pub parts : P
-  pub begins : Begins bytes (λ i len. read i ≡ Ok parts)
-  pub rewritten : encoding ≡ written (tree parts)
+use Rattle.passkey_rewrite_json.specs.RewritesJson.{RewritesJson, IsJsonRefusal, json_rewritten}
+use Rattle.passkey_run.specs.Checking.{IsChecked, HasNoBytes}
+use Rattle.passkey_run.specs.Rewriting.{RewritesLeadingItem, RewritesData, RewritesMessage, RefusesLeadingItem, RefusesData, RefusesMessage}
+use Rattle.passkey_run.specs.Trimmed.{trimmed}
+use Rattle.passkey_run.specs.declared.kind.BytesKind.{BytesKind}
+use Rattle.passkey_run.specs.declared.kind.BytesKind.TheVariants.{Cbor, Auth, MakeRequest, MakeResponse, GetRequest, GetResponse, Info, HmacInput}
+use Rattle.passkey_run.specs.declared.kind.Kind.{Kind}
+use Rattle.passkey_run.specs.declared.kind.Kind.TheVariants.{Bytes, Json, Check}
+use Rattle.passkey_run.specs.declared.fault.RunFault.{RunFault}
+use Rattle.passkey_run.specs.declared.fault.RunFault.TheVariants.{Refused, MessageRefused, BadHex, OutOfMemory}
 
 -- what decoding these bytes as a kind and encoding the result returns
 unfoldable pub Rewrites : BytesKind → List ℕ → List ℕ → Type 0
@@ -61,27 +33,11 @@ Rewrites GetResponse bytes encoding = RewritesMessage read_get_response get_resp
 Rewrites Info bytes encoding = RewritesMessage read_get_info get_info_tree bytes encoding
 Rewrites HmacInput bytes encoding = RewritesMessage read_hmac_input hmac_input_tree bytes encoding
 
--- the bytes have no leading data item
-abbrev pub RefusesLeadingItem : List ℕ → CoseError → Type 0
-RefusesLeadingItem bytes error.DecodeFailed = HasNoLeadingItem bytes
-RefusesLeadingItem bytes _ = ⊥
-
--- the bytes have this fault as authenticator data
-abbrev pub RefusesData : List ℕ → CoseError → Type 0
-RefusesData bytes error.OutOfMemory = ⊥
-RefusesData bytes refusal = ReadsData bytes (Err refusal)
-
 -- why a kind rejects the bytes
 unfoldable pub Refuses : BytesKind → List ℕ → CoseError → Type 0
 Refuses Cbor bytes refusal = RefusesLeadingItem bytes refusal
 Refuses Auth bytes refusal = RefusesData bytes refusal
 Refuses _ bytes refusal = ⊥
-
--- the bytes have no leading data item, or it has this fault as a message
-abbrev pub RefusesMessage : {P : Type 0} → (Item → Result P Fault) → List ℕ → Fault → Type 0
-RefusesMessage read bytes message.DecodeFailed = HasNoLeadingItem bytes
-RefusesMessage read bytes message.OutOfMemory = ⊥
-RefusesMessage read bytes fault = Begins bytes (λ i len. read i ≡ Err fault)
 
 -- why a kind of message rejects the bytes
 unfoldable pub RefusesAs : BytesKind → List ℕ → Fault → Type 0
@@ -92,24 +48,6 @@ RefusesAs GetResponse bytes fault = RefusesMessage read_get_response bytes fault
 RefusesAs Info bytes fault = RefusesMessage read_get_info bytes fault
 RefusesAs HmacInput bytes fault = RefusesMessage read_hmac_input bytes fault
 RefusesAs _ bytes fault = ⊥
-
--- why these bytes aren't decoded and encoded as a data item; memory may run out for any bytes
-abbrev pub IsCborRefusal : List ℕ → RunFault → Type 0
-IsCborRefusal bytes (Refused refusal) = RefusesLeadingItem bytes refusal
-IsCborRefusal bytes OutOfMemory = ⊤
-IsCborRefusal bytes _ = ⊥
-
--- the same for authenticator data
-abbrev pub IsDataRefusal : List ℕ → RunFault → Type 0
-IsDataRefusal bytes (Refused refusal) = RefusesData bytes refusal
-IsDataRefusal bytes OutOfMemory = ⊤
-IsDataRefusal bytes _ = ⊥
-
--- the same for a message
-abbrev pub IsMessageRefusal : {P : Type 0} → (Item → Result P Fault) → List ℕ → RunFault → Type 0
-IsMessageRefusal read bytes (MessageRefused fault) = RefusesMessage read bytes fault
-IsMessageRefusal read bytes OutOfMemory = ⊤
-IsMessageRefusal read bytes _ = ⊥
 
 -- why these bytes aren't decoded and encoded as a kind; memory may run out for any bytes
 abbrev pub IsRefusal : BytesKind → List ℕ → RunFault → Type 0

@@ -2,15 +2,8 @@
 //! one of the library's types and encode it again, or check bytes for CTAP2's canonical form.
 #![tactic(auto)]
 
-mod check;
-mod fault;
-mod hexadecimal;
-mod kind;
 mod rewrite_bytes;
-mod rewrite_json;
 mod rewriting;
-mod trim;
 
-pub use fault::RunFault;
-pub use kind::{BytesKind, JsonKind, Kind};
+pub use passkey_run::{BytesKind, JsonKind, Kind, RunFault};
 pub use rewriting::rewrite;

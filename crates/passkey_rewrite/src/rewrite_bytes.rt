@@ -1,45 +1,10 @@
 //! Bytes in hexadecimal, decoded as a kind and encoded again.
 ghost use Rattle.std.specs.Prelude.{IfOk, IfErr, string_bytes};
-ghost use Rattle.passkey_kinds.specs.Record.{read_item};
-ghost use Rattle.passkey_rewrite.specs.Rewriting.{HasNoHex, IsCborRefusal, IsDataRefusal, IsMessageRefusal, IsRefusal, Rewrites, RewritesData, RewritesLeadingItem, RewritesHex, RewritesMessage};
+ghost use Rattle.passkey_rewrite.specs.Rewriting.{HasNoHex, IsRefusal, Rewrites, RewritesHex};
 
-use crate::fault::RunFault;
-use crate::hexadecimal::decode_hex;
-use crate::kind::BytesKind;
-use passkey_cbor::Value;
-use passkey_core::AuthenticatorData;
 use passkey_extensions::HmacGetSecretInput;
-use passkey_kinds::{Message, WriteFault};
+use passkey_run::{BytesKind, RunFault, decode_hex, rewrite_data, rewrite_item, rewrite_message};
 use std::alloc::Global;
-
-fn rewrite_message<M: Message>(alloc: Global, bytes: &[u8]) -> Result<Vec<u8>, RunFault>
-    ensures ok { IfOk result (λ encoding. RewritesMessage (read_item M.fields) M.tree bytes.now encoding.items) }
-    ensures err { IfErr result (IsMessageRefusal (read_item M.fields) bytes.now) }
-{
-    let (message, _len) = M::from_slice(alloc, bytes)?;
-    M::decoded_is_coherent();
-    match message.to_vec(alloc) {
-        Ok(encoding) => Ok(encoding),
-        Err(WriteFault::OutOfMemory) => Err(RunFault::OutOfMemory),
-        Err(WriteFault::NumberTooLarge) => unreachable!(),
-    }
-}
-
-fn rewrite_item(alloc: Global, bytes: &[u8]) -> Result<Vec<u8>, RunFault>
-    ensures ok { IfOk result (λ encoding. RewritesLeadingItem bytes.now encoding.items) }
-    ensures err { IfErr result (IsCborRefusal bytes.now) }
-{
-    let (front, _) = Value::from_slice(alloc, bytes)?;
-    Ok(front.to_vec(alloc)?)
-}
-
-fn rewrite_data(alloc: Global, bytes: &[u8]) -> Result<Vec<u8>, RunFault>
-    ensures ok { IfOk result (λ encoding. RewritesData bytes.now encoding.items) }
-    ensures err { IfErr result (IsDataRefusal bytes.now) }
-{
-    let data = AuthenticatorData::from_slice(alloc, bytes)?;
-    Ok(data.to_vec(alloc)?)
-}
 
 fn rewrite(alloc: Global, kind: BytesKind, bytes: &[u8]) -> Result<Vec<u8>, RunFault>
     ensures ok { IfOk result (λ encoding. Rewrites kind bytes.now encoding.items) }

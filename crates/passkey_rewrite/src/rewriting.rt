@@ -2,11 +2,9 @@
 ghost use Rattle.std.specs.Prelude.{IfOk, IfErr, string_bytes};
 ghost use Rattle.passkey_rewrite.specs.Rewriting.{HasNoOutput, Shown};
 
-use crate::check::check_hex;
-use crate::fault::RunFault;
-use crate::kind::Kind;
 use crate::rewrite_bytes::rewrite_hex;
-use crate::rewrite_json::rewrite_json;
+use passkey_rewrite_json::rewrite_json;
+use passkey_run::{Kind, RunFault, check_hex};
 use std::alloc::Global;
 
 /// Decodes the input as this kind and encodes the result: bytes as lower-case hexadecimal, JSON as

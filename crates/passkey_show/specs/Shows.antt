@@ -1,9 +1,10 @@
 -- What a run returns, and what it writes.
-use Rattle.std.specs.Prelude.{◌≡◌, ◌≢◌, ℕ, List, [], ◌∷◌, ◌++◌, Option, Result, Ok, Err}
+use Rattle.std.specs.Prelude.{◌≡◌, ℕ, List, [], ◌∷◌, ◌++◌, Option, Result, Ok, Err}
 use Rattle.std.specs.Io.KnownBytes.{Appends, Keeps}
-use Rattle.passkey_rewrite.specs.declared.kind.Kind.{Kind}
-use Rattle.passkey_rewrite.specs.declared.fault.RunFault.{RunFault}
-use Rattle.passkey_rewrite.specs.declared.fault.RunFault.TheVariants.{InputFailed, OutputFailed}
+use Rattle.passkey_run.specs.Streams.{AppendsBeginning}
+use Rattle.passkey_run.specs.declared.kind.Kind.{Kind}
+use Rattle.passkey_run.specs.declared.fault.RunFault.{RunFault}
+use Rattle.passkey_run.specs.declared.fault.RunFault.TheVariants.{InputFailed, OutputFailed}
 use Rattle.passkey_rewrite.specs.Rewriting.{Shown, HasNoOutput}
 
 -- The output: what the kind makes of the input, and a line feed.
@@ -11,14 +12,6 @@ pub record IsOutput (kind : Kind) (input output : List ℕ) : Type 0 where
   pub text : List ℕ
   pub shown : Shown kind input text
   pub line : output ≡ text ++ 10 ∷ []
-
--- The writer got the beginning of the output, but not all of it.
-pub record AppendsBeginning (old new : Option (List ℕ)) (output : List ℕ) : Type 0 where
-  pub begun : List ℕ
-  pub missing : List ℕ
-  pub whole : output ≡ begun ++ missing
-  pub unfinished : missing ≢ []
-  pub taken : Appends old new begun
 
 -- The writer got an output of the kind for the input: all of it or its beginning, as `IsTaken`
 -- says.

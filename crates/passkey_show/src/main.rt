@@ -7,9 +7,8 @@
 mod run;
 #[cfg(test)]
 mod tests;
-mod words;
 
-use passkey_rewrite::RunFault;
+use passkey_run::{RunFault, kind_of, read_words};
 use std::io::{Read, Write};
 use std::process::ExitCode;
 use std::rt::Env;
@@ -19,8 +18,8 @@ fn show(
     reader: &mut impl Read,
     writer: &mut impl Write,
 ) -> Result<(), RunFault> {
-    let words = words::read_words(rt)?;
-    run::run(rt.alloc(), reader, writer, words::kind_of(&words)?)
+    let words = read_words(rt)?;
+    run::run(rt.alloc(), reader, writer, kind_of(&words)?)
 }
 
 fn main(rt: HostRuntime) -> ExitCode {

@@ -1,46 +1,14 @@
 //! One run: reads the input to its end, decodes it, encodes the result and writes the encoding.
-ghost use Rattle.std.specs.Prelude.{◌≡◌, ◌↔◌, ◌⊎◌, IfOk, IfErr, OnOk, OnErr, IfSome, IsNone, IsErrOf, string_bytes};
-ghost use Rattle.std.specs.Io.KnownBytes.{Appends, IsAtEnd};
-ghost use Rattle.passkey_rewrite.specs.Kind.{kind_named};
+ghost use Rattle.std.specs.Prelude.{◌≡◌, ◌↔◌, IfOk, IfErr, OnOk, IfSome, IsNone, IsErrOf, string_bytes};
+ghost use Rattle.std.specs.Io.KnownBytes.{IsAtEnd};
 ghost use Rattle.passkey_rewrite.specs.Rewriting.{HasNoOutput};
-ghost use Rattle.passkey_show.specs.Shows.{AppendsBeginning, IsOutput, Shows};
-ghost use Rattle.passkey_rewrite.specs.declared.fault.RunFault.TheVariants.{OutOfMemory, InputFailed, OutputFailed};
+ghost use Rattle.passkey_run.specs.Kind.{kind_named};
+ghost use Rattle.passkey_show.specs.Shows.{IsOutput, Shows};
 
-use passkey_rewrite::{Kind, RunFault, rewrite};
+use passkey_rewrite::rewrite;
+use passkey_run::{Kind, RunFault, read_all, write_all};
 use std::alloc::Global;
 use std::io::{Read, Write};
-
-fn read_all<R: Read>(alloc: Global, reader: &mut R) -> Result<Vec<u8>, RunFault>
-    ensures whole { IfOk result (λ input. IfSome (R.remaining reader.old) (λ bytes. input.items ≡ bytes)) }
-    ensures end { OnOk result (IsAtEnd (R.remaining reader.new)) }
-    ensures err { IfErr result (λ fault. (fault ≡ InputFailed) ⊎ (fault ≡ OutOfMemory)) }
-{
-    let mut input = Vec::new(alloc);
-    let mut buffer = [0u8; 4096];
-    for _ in 0..u32::MAX {
-        match reader.read(&mut buffer) {
-            Ok(0) => return Ok(input),
-            Ok(n) => input.extend_from_slice(&buffer[..n])?,
-            Err(_) => return Err(RunFault::InputFailed),
-        }
-    }
-    Err(RunFault::InputFailed)
-}
-
-fn write_all<W: Write>(writer: &mut W, bytes: &[u8]) -> Result<(), RunFault>
-    ensures ok { OnOk result (Appends (W.contents writer.old) (W.contents writer.new) bytes.now) }
-    ensures err { IfErr result (λ fault. fault ≡ OutputFailed) }
-    ensures begun { OnErr result (AppendsBeginning (W.contents writer.old) (W.contents writer.new) bytes.now) }
-{
-    let mut rest = bytes;
-    while !rest.is_empty() {
-        match writer.write(rest) {
-            Ok(0) | Err(_) => return Err(RunFault::OutputFailed),
-            Ok(n) => rest = &rest[n..],
-        }
-    }
-    Ok(())
-}
 
 fn output(alloc: Global, kind: Kind, input: &[u8]) -> Result<String, RunFault>
     ensures ok { IfOk result (λ text. IsOutput kind input.now (string_bytes text)) }

@@ -1,6 +1,6 @@
 use super::inputs::EVERY_KIND;
 use crate::run::run;
-use passkey_rewrite::RunFault;
+use passkey_run::RunFault;
 use std::io;
 use std::io::{ErrorKind, Read, Write};
 use std::process::Abort;

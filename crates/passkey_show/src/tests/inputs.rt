@@ -1,5 +1,5 @@
 use super::{assert_fails, assert_shows};
-use passkey_rewrite::RunFault;
+use passkey_run::RunFault;
 use std::test::Fail;
 
 // An array with items of every type and every form of head, and its encoding.

@@ -1,5 +1,4 @@
-use crate::words::{kind_of, read_words};
-use passkey_rewrite::RunFault;
+use passkey_run::{RunFault, kind_of, read_words};
 use std::env::FillError;
 use std::rt::Env;
 use std::test::Fail;

@@ -8,8 +8,8 @@ use Rattle.passkey_make_credential.specs.MakeResponse.{read_make_response}
 use Rattle.passkey_rewrite.proofs.Refusing.{item_refused, data_refused, message_refused}
 use Rattle.passkey_rewrite.proofs.rewrite_bytes.rewrite.Goals as goal
 use Rattle.passkey_rewrite.specs.Rewriting.{IsRefusal, RefusesAs, Rewrites}
-use Rattle.passkey_rewrite.specs.declared.kind.BytesKind.{BytesKind}
-use Rattle.passkey_rewrite.specs.declared.kind.BytesKind.TheVariants.{MakeRequest, MakeResponse, GetRequest, GetResponse, Info, HmacInput}
+use Rattle.passkey_run.specs.declared.kind.BytesKind.{BytesKind}
+use Rattle.passkey_run.specs.declared.kind.BytesKind.TheVariants.{MakeRequest, MakeResponse, GetRequest, GetResponse, Info, HmacInput}
 
 -- The call's clauses are those of the kind. The tactics find that too, but search for more than a
 -- minute.

@@ -1,7 +1,7 @@
 use Rattle.std.proofs.Common.{IfOk, IfErr, sym, subst, string_bytes}
 use Rattle.passkey_rewrite.proofs.rewriting.rewrite.Goals as goal
 use Rattle.passkey_rewrite.specs.Rewriting.{HasNoOutput, Shown}
-use Rattle.passkey_rewrite.specs.declared.kind.Kind.{Kind}
+use Rattle.passkey_run.specs.declared.kind.Kind.{Kind}
 
 pub returns-in-Bytes-clause-ok : goal.returns-in-Bytes-clause-ok
 returns-in-Bytes-clause-ok c =

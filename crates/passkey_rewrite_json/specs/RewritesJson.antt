@@ -1,0 +1,68 @@
+-- The output of decoding a JSON text and encoding the result.
+use Rattle.std.specs.Prelude.{◌≡◌, ℕ, List, false, Result, Ok, Err, ⊤}
+use Rattle.passkey_client_data.specs.ClientData.{client_data}
+use Rattle.passkey_client_data.specs.ClientDataText.{client_data_text}
+use Rattle.passkey_credentials.specs.AssertionResponse.{assertion_response_in, assertion_response_json}
+use Rattle.passkey_credentials.specs.AttestationResponse.{attestation_response_in, attestation_response_json}
+use Rattle.passkey_credentials.specs.Credential.{credential_in, credential_json}
+use Rattle.passkey_json.specs.Fault.{Fault, Gives}
+use Rattle.passkey_json.specs.JsonText.{IsJson, HasNoJson}
+use Rattle.passkey_json.specs.Members.{◌>>=◌, Object, in_object, record_kind}
+use Rattle.passkey_json.specs.declared.bytes_form.BytesForm.{BytesForm}
+use Rattle.passkey_json.specs.declared.bytes_form.BytesForm.TheVariants.{Base64Url}
+use Rattle.passkey_json.specs.declared.json_fault.JsonFault.{JsonFault}
+use Rattle.passkey_json.specs.declared.json_fault.JsonFault.TheVariants as json
+use Rattle.passkey_options.specs.CredentialCreation.{credential_creation_in, credential_creation_json}
+use Rattle.passkey_options.specs.CredentialRequest.{credential_request_in, credential_request_json}
+use Rattle.passkey_run.specs.declared.fault.RunFault.{RunFault}
+use Rattle.passkey_run.specs.declared.fault.RunFault.TheVariants.{JsonRefused, BadJson, OutOfMemory}
+use Rattle.passkey_run.specs.declared.kind.JsonKind.{JsonKind}
+use Rattle.passkey_run.specs.declared.kind.JsonKind.TheVariants.{Creation, Request, Created, Authenticated, ClientData}
+use Rattle.serde_json.specs.Data.{Data, no_members}
+use Rattle.serde_json.specs.Written.{compact_text}
+
+-- the compact JSON text of the record that the value decodes to, with bytes in base64url
+abbrev pub record_rewritten : {A : Type 0} → (Object → Result A Fault) → (BytesForm → A → Data) → Data
+    → Result (List ℕ) Fault
+record_rewritten members json d = in_object members d >>= λ x. Ok (compact_text (json Base64Url x))
+
+-- the JSON text of the client data that the value decodes to, where the caller knows no further
+-- members
+abbrev pub client_data_rewritten : Data → Result (List ℕ) Fault
+client_data_rewritten d =
+    client_data {E = Unit {0}} (λ _. false) (λ _. Ok tt) d >>= client_data_text (λ _. no_members)
+
+-- the output of each kind for a JSON value
+unfoldable pub json_rewritten : JsonKind → Data → Result (List ℕ) Fault
+json_rewritten Creation = record_rewritten credential_creation_in credential_creation_json
+json_rewritten Request = record_rewritten credential_request_in credential_request_json
+json_rewritten Created = record_rewritten (credential_in (record_kind attestation_response_in))
+    (credential_json attestation_response_json)
+json_rewritten Authenticated =
+    record_rewritten (credential_in (record_kind assertion_response_in)) (credential_json assertion_response_json)
+json_rewritten ClientData = client_data_rewritten
+
+-- The input is a JSON text, and this is the output for its value.
+pub record RewritesJson (rewritten : Data → Result (List ℕ) Fault) (input text : List ℕ) : Type 0 where
+  pub value : Data
+  pub reads : IsJson input value
+  pub made : rewritten value ≡ Ok text
+
+-- The input is a JSON text, and its value is rejected with this fault.
+pub record IsRefusedJson (rewritten : Data → Result (List ℕ) Fault) (input : List ℕ) (fault : JsonFault) : Type 0
+  where
+    pub value : Data
+    pub reads : IsJson input value
+    pub told : Gives ⊥ (rewritten value) (Err fault)
+
+-- the same, for a fault other than running out of memory
+abbrev pub RefusesJson : (Data → Result (List ℕ) Fault) → List ℕ → JsonFault → Type 0
+RefusesJson rewritten input json.OutOfMemory = ⊥
+RefusesJson rewritten input fault = IsRefusedJson rewritten input fault
+
+-- why there is no output for an input; memory may run out for any input
+abbrev pub IsJsonRefusal : (Data → Result (List ℕ) Fault) → List ℕ → RunFault → Type 0
+IsJsonRefusal rewritten input (JsonRefused fault) = RefusesJson rewritten input fault
+IsJsonRefusal rewritten input BadJson = HasNoJson input
+IsJsonRefusal rewritten input OutOfMemory = ⊤
+IsJsonRefusal rewritten input _ = ⊥

@@ -1,0 +1,66 @@
+//! JSON texts, decoded as a kind and encoded again.
+#![tactic(auto)]
+
+ghost use Rattle.std.specs.Prelude.{◌≡◌, ◌⊎◌, IfOk, IfErr, string_bytes};
+ghost use Rattle.passkey_json.specs.JsonText.{HasNoJson, IsJson};
+ghost use Rattle.passkey_rewrite_json.specs.RewritesJson.{IsJsonRefusal, RewritesJson, client_data_rewritten, json_rewritten, record_rewritten};
+ghost use Rattle.passkey_run.specs.declared.fault.RunFault.TheVariants.{BadJson, OutOfMemory};
+ghost use Rattle.serde_json.specs.View.{view};
+
+use passkey_client_data::CollectedClientData;
+use passkey_credentials::{AuthenticatedPublicKeyCredential, CreatedPublicKeyCredential};
+use passkey_json::{BytesForm, JsonRecord, ToJson};
+use passkey_options::{CredentialCreationOptions, CredentialRequestOptions};
+use passkey_run::{JsonKind, RunFault};
+use serde_json::Value;
+use serde_json::error::Category;
+use std::alloc::Global;
+
+fn parse(alloc: Global, input: &[u8]) -> Result<Value, RunFault>
+    ensures ok { IfOk result (λ value. IsJson input.now (view value)) }
+    ensures err { IfErr result (λ fault. (fault ≡ OutOfMemory) ⊎ ((fault ≡ BadJson) × HasNoJson input.now)) }
+{
+    match Value::from_slice(alloc, input) {
+        Ok(value) => Ok(value),
+        Err(error) if error.classify() == Category::Memory => Err(RunFault::OutOfMemory),
+        Err(_) => Err(RunFault::BadJson),
+    }
+}
+
+fn rewrite_record<R: JsonRecord + ToJson>(alloc: Global, input: &[u8]) -> Result<String, RunFault>
+    ensures ok { IfOk result
+        (λ text. RewritesJson (record_rewritten R.members R.json) input.now (string_bytes text)) }
+    ensures err { IfErr result (IsJsonRefusal (record_rewritten R.members R.json) input.now) }
+{
+    let value = parse(alloc, input)?;
+    let record = R::from_json(alloc, &value)?;
+    let written = record.to_json(alloc, BytesForm::Base64Url)?;
+    Ok(written.to_string(alloc)?)
+}
+
+fn rewrite_client_data(alloc: Global, input: &[u8]) -> Result<String, RunFault>
+    ensures ok { IfOk result (λ text. RewritesJson client_data_rewritten input.now (string_bytes text)) }
+    ensures err { IfErr result (IsJsonRefusal client_data_rewritten input.now) }
+{
+    let value = parse(alloc, input)?;
+    let client_data: CollectedClientData = CollectedClientData::from_json(alloc, &value)?;
+    let text = client_data.to_text(alloc)?;
+    Ok(String::from_str(alloc, text.as_str())?)
+}
+
+/// Decodes the JSON text as the kind and encodes the result, as compact JSON with bytes in
+/// base64url. Returns `BadJson` if the input isn't a JSON text in UTF-8 of at most 127 nesting
+/// levels, `JsonRefused` if the kind rejects its value, and `OutOfMemory` if an allocation fails.
+#[tactic(auto, unfolding(crate::specs::RewritesJson::json_rewritten))]
+pub fn rewrite_json(alloc: Global, kind: JsonKind, input: &[u8]) -> Result<String, RunFault>
+    ensures ok { IfOk result (λ text. RewritesJson (json_rewritten kind) input.now (string_bytes text)) }
+    ensures err { IfErr result (IsJsonRefusal (json_rewritten kind) input.now) }
+{
+    match kind {
+        JsonKind::Creation => rewrite_record::<CredentialCreationOptions>(alloc, input),
+        JsonKind::Request => rewrite_record::<CredentialRequestOptions>(alloc, input),
+        JsonKind::Created => rewrite_record::<CreatedPublicKeyCredential>(alloc, input),
+        JsonKind::Authenticated => rewrite_record::<AuthenticatedPublicKeyCredential>(alloc, input),
+        JsonKind::ClientData => rewrite_client_data(alloc, input),
+    }
+}
