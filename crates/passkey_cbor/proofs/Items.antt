@@ -37,11 +37,11 @@ pub length-members : (ps : Pairs) → pairs_len ps ≡ length (members ps)
 length-members no_pairs = refl
 length-members (pair k v ps) = ap suc (length-members ps)
 
-items_len-items_of : (xs : List Item) → length xs ≡ items_len (items_of xs)
+pub items_len-items_of : (xs : List Item) → length xs ≡ items_len (items_of xs)
 items_len-items_of [] = refl
 items_len-items_of (x ∷ xs) = ap suc (items_len-items_of xs)
 
-pairs_len-pairs_of : (ms : List (Item × Item)) → length ms ≡ pairs_len (pairs_of ms)
+pub pairs_len-pairs_of : (ms : List (Item × Item)) → length ms ≡ pairs_len (pairs_of ms)
 pairs_len-pairs_of [] = refl
 pairs_len-pairs_of (m ∷ ms) = ap suc (pairs_len-pairs_of ms)
 

@@ -12,6 +12,7 @@ pub mod Heads
 pub mod Encoding
 pub mod LeadingItem
 pub mod Written
+pub mod Encoder
 pub mod Writable
 pub mod View
 pub mod Grows

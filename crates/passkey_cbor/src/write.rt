@@ -1,5 +1,5 @@
 //! Encoding.
-ghost use Rattle.std.specs.Prelude.{◌≡◌, ◌<◌, ◌^◌, ◌∷◌, ◌++◌, length, OnOk, IfOk};
+ghost use Rattle.std.specs.Prelude.{◌≡◌, ◌<◌, ◌^◌, [], ◌∷◌, ◌++◌, length, OnOk, IfOk};
 ghost use Rattle.passkey_cbor.specs.FloatParts.{IsFloat};
 ghost use Rattle.passkey_cbor.specs.Ranges.{IsSimple};
 ghost use Rattle.passkey_cbor.specs.Item.{number, array, map, tagged};
@@ -7,12 +7,21 @@ ghost use Rattle.passkey_cbor.specs.View.{item_of, items_view, pairs_view};
 ghost use Rattle.passkey_cbor.specs.Written.{shortest_head, float_head, simple_head, written};
 ghost use Rattle.passkey_cbor.specs.Writable.{IsWritable};
 
+use crate::encoder::Encoder;
 use crate::float::Float;
 use crate::integer::Integer;
 use crate::simple::Simple;
 use crate::value::Value;
 use passkey_memory::OutOfMemory;
 use std::alloc::{AllocError, Global};
+
+/// Appends one byte.
+pub(crate) fn push_byte(out: &mut Vec<u8>, byte: u8) -> Result<(), AllocError>
+    ensures { OnOk result (out.new.items ≡ out.old.items ++ byte ∷ []) }
+{
+    out.push(byte)?;
+    Ok(())
+}
 
 /// Appends an initial byte and the bytes after it.
 fn push_bytes(out: &mut Vec<u8>, initial: u8, behind: &[u8]) -> Result<(), AllocError>
@@ -24,13 +33,13 @@ fn push_bytes(out: &mut Vec<u8>, initial: u8, behind: &[u8]) -> Result<(), Alloc
 
 /// Appends the shortest encoding of a head.
 #[tactic(auto, unfolding(crate::specs::Written::shortest_head))]
-fn push_head(out: &mut Vec<u8>, major: u8, argument: u64) -> Result<(), AllocError>
+pub(crate) fn push_head(out: &mut Vec<u8>, major: u8, argument: u64) -> Result<(), AllocError>
     requires { major < 8 }
     ensures { OnOk result (out.new.items ≡ out.old.items ++ shortest_head major argument) }
 {
     let initial = 32 * major;
     if argument < 24 {
-        push_bytes(out, initial + argument as u8, &[])
+        push_byte(out, initial + argument as u8)
     } else if argument < 0x100 {
         push_bytes(out, initial + 24, &(argument as u8).to_be_bytes())
     } else if argument < 0x1_0000 {
@@ -42,7 +51,7 @@ fn push_head(out: &mut Vec<u8>, major: u8, argument: u64) -> Result<(), AllocErr
     }
 }
 
-fn push_integer(out: &mut Vec<u8>, n: Integer) -> Result<(), AllocError>
+pub(crate) fn push_integer(out: &mut Vec<u8>, n: Integer) -> Result<(), AllocError>
     ensures written { OnOk result (out.new.items ≡ out.old.items ++ written (number n)) }
     ensures writable { IsWritable (number n) }
 {
@@ -73,13 +82,13 @@ fn push_simple(out: &mut Vec<u8>, s: Simple) -> Result<(), AllocError>
 {
     let n = s.get();
     if n < 20 {
-        push_bytes(out, 224 + n, &[])
+        push_byte(out, 224 + n)
     } else {
         push_bytes(out, 248, &[n])
     }
 }
 
-fn push_string(out: &mut Vec<u8>, major: u8, bytes: &[u8]) -> Result<(), AllocError>
+pub(crate) fn push_string(out: &mut Vec<u8>, major: u8, bytes: &[u8]) -> Result<(), AllocError>
     requires { major < 8 }
     ensures written { OnOk result
         (out.new.items ≡ out.old.items ++ (shortest_head major (length bytes.now) ++ bytes.now)) }
@@ -124,7 +133,7 @@ fn push_tag(out: &mut Vec<u8>, tag: u64, value: &Value) -> Result<(), AllocError
 }
 
 #[cycle(write)]
-fn push_value(out: &mut Vec<u8>, value: &Value) -> Result<(), AllocError>
+pub(crate) fn push_value(out: &mut Vec<u8>, value: &Value) -> Result<(), AllocError>
     ensures written { OnOk result (out.new.items ≡ out.old.items ++ written (item_of value.now)) }
     ensures writable { OnOk result (IsWritable (item_of value.now)) }
 {
@@ -133,9 +142,9 @@ fn push_value(out: &mut Vec<u8>, value: &Value) -> Result<(), AllocError>
         Value::Bytes(bytes) => push_string(out, 2, bytes),
         Value::Float(f) => push_float(out, *f),
         Value::Text(text) => push_string(out, 3, text.as_str().as_bytes()),
-        Value::Bool(false) => push_bytes(out, 244, &[]),
-        Value::Bool(true) => push_bytes(out, 245, &[]),
-        Value::Null => push_bytes(out, 246, &[]),
+        Value::Bool(false) => push_byte(out, 244),
+        Value::Bool(true) => push_byte(out, 245),
+        Value::Null => push_byte(out, 246),
         Value::Simple(s) => push_simple(out, *s),
         Value::Tag(tag, inner) => push_tag(out, *tag, inner),
         Value::Array(items) => push_array(out, items),
@@ -151,8 +160,8 @@ impl Value {
         ensures written { IfOk result (λ bytes. bytes.items ≡ written (item_of self.now)) }
         ensures writable { OnOk result (IsWritable (item_of self.now)) }
     {
-        let mut out = Vec::new(alloc);
-        push_value(&mut out, self)?;
-        Ok(out)
+        let mut encoder = Encoder::new(alloc);
+        encoder.item(self)?;
+        Ok(encoder.into_vec())
     }
 }

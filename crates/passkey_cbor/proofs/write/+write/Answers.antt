@@ -1,10 +1,11 @@
 use Rattle.std.proofs.Common.{arith}
+use Rattle.passkey_cbor.specs.View.{item_of}
 use Rattle.passkey_cbor.proofs.Views.{item_of-Map}
 use Rattle.passkey_cbor.proofs.Writing.{writes_items-begin, writes_pairs-begin}
 use Rattle.passkey_cbor.proofs.write.+write.Goals as goal
 
 pub push_array-loop-item-init : goal.push_array-loop-item-init
-push_array-loop-item-init t c = writes_items-begin c.args.items.now c.args.out.now.items c.push_head.new.out.items
+push_array-loop-item-init t c = writes_items-begin item_of c.args.items.now c.args.out.now.items c.push_head.new.out.items
     (omega arith) c.in_ok-push_head.ensures
 
 pub push_map-loop-key-init : goal.push_map-loop-key-init
