@@ -1,7 +1,7 @@
 //! Relying parties in CTAP2's messages.
 ghost use Rattle.std.specs.Prelude.{◌≡◌, ◌<◌, ◌⊎◌, length, true, IfOk, OnErr};
 ghost use Rattle.std.specs.Option.{IsSomeAnd};
-ghost use Rattle.passkey_entities.specs.MakeRp.{rp_tree, rp_fields, rp};
+ghost use Rattle.passkey_entities.specs.MakeRp.{rp_places, rp_fields, rp};
 ghost use Rattle.passkey_entities.specs.declared.rp.PublicKeyCredentialRpEntity.{PublicKeyCredentialRpEntity as RpEntity};
 ghost use Rattle.passkey_kinds.specs.ReadBack.{Any};
 ghost use Rattle.passkey_entities.specs.Entities.{rp_of_webauthn};
@@ -11,7 +11,7 @@ use crate::MissingRpId;
 use passkey_bytes::Text;
 use passkey_cbor::{Cursor, Value};
 use passkey_kinds::{
-    FromCbor, ReadBack, Record, Refusal, Row, Shallow, Source, ToCbor, Written, nested_from_value,
+    FromCbor, ReadBack, Record, Refusal, Row, Shallow, Sink, Source, ToCborMap, nested_from_value,
     read_nested, set,
 };
 use passkey_memory::OutOfMemory;
@@ -123,16 +123,15 @@ impl FromCbor for PublicKeyCredentialRpEntity {
     }
 }
 
-impl ToCbor for PublicKeyCredentialRpEntity {
-    ghost tree = { rp_tree };
+impl ToCborMap for PublicKeyCredentialRpEntity {
+    ghost places = { rp_places };
 
-    ghost fits = { Any };
+    ghost holds = { Any };
 
-    fn to_value(&self, alloc: Global) -> Result<Value, OutOfMemory> {
-        let mut members = Written::new(alloc);
-        members.put(alloc, "id", &self.id)?;
-        members.put_some(alloc, "name", &self.name)?;
-        Ok(members.into_value())
+    fn put_members<S: Sink>(&self, alloc: Global, sink: &mut S) -> Result<(), OutOfMemory> {
+        sink.put(alloc, "id", &self.id)?;
+        sink.put_some(alloc, "name", &self.name)?;
+        Ok(())
     }
 }
 

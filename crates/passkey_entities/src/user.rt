@@ -2,7 +2,7 @@
 ghost use Rattle.std.specs.Prelude.{◌≡◌, ◌<◌, ◌⊎◌, length, true, IfOk, OnErr, None, IfErr, codes};
 ghost use Rattle.std.specs.Result.{result_ok};
 ghost use Rattle.std.specs.Option.{IsSomeAnd};
-ghost use Rattle.passkey_entities.specs.MakeUser.{user_tree, user_fields, user};
+ghost use Rattle.passkey_entities.specs.MakeUser.{user_places, user_fields, user};
 ghost use Rattle.passkey_entities.specs.declared.user.PublicKeyCredentialUserEntity.{PublicKeyCredentialUserEntity as UserEntity};
 ghost use Rattle.passkey_kinds.specs.ReadBack.{Any};
 ghost use Rattle.passkey_entities.specs.Entities.{user_of_webauthn, webauthn_of_user};
@@ -11,7 +11,7 @@ ghost use Rattle.passkey_kinds.specs.RecordCost.{record_cost, record_keeps};
 use passkey_bytes::{Bytes, Text};
 use passkey_cbor::{Cursor, Value};
 use passkey_kinds::{
-    FromCbor, ReadBack, Record, Refusal, Row, Shallow, Source, ToCbor, Written, nested_from_value,
+    FromCbor, ReadBack, Record, Refusal, Row, Shallow, Sink, Source, ToCborMap, nested_from_value,
     read_nested, set,
 };
 use passkey_memory::OutOfMemory;
@@ -169,18 +169,17 @@ impl FromCbor for PublicKeyCredentialUserEntity {
     }
 }
 
-impl ToCbor for PublicKeyCredentialUserEntity {
-    ghost tree = { user_tree };
+impl ToCborMap for PublicKeyCredentialUserEntity {
+    ghost places = { user_places };
 
-    ghost fits = { Any };
+    ghost holds = { Any };
 
-    fn to_value(&self, alloc: Global) -> Result<Value, OutOfMemory> {
-        let mut members = Written::new(alloc);
-        members.put(alloc, "id", &self.id)?;
-        members.put_some(alloc, "icon", &self.icon_url)?;
-        members.put_some(alloc, "name", &self.name)?;
-        members.put_some(alloc, "displayName", &self.display_name)?;
-        Ok(members.into_value())
+    fn put_members<S: Sink>(&self, alloc: Global, sink: &mut S) -> Result<(), OutOfMemory> {
+        sink.put(alloc, "id", &self.id)?;
+        sink.put_some(alloc, "icon", &self.icon_url)?;
+        sink.put_some(alloc, "name", &self.name)?;
+        sink.put_some(alloc, "displayName", &self.display_name)?;
+        Ok(())
     }
 }
 

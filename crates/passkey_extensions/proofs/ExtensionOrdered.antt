@@ -1,12 +1,11 @@
 -- Inputs and outputs of extensions are ordered.
 use Rattle.std.specs.Prelude.{codes}
-use Rattle.std.proofs.Common.{◌≡◌, ℕ, ◌<◌, ◌≤◌, arith, leb-true, true, Option, Some, None, option_map, refl}
+use Rattle.std.proofs.Common.{◌≡◌, arith, leb-true, true, Option, Some, None, option_map, refl}
 use Rattle.passkey_cbor.specs.Canonical.{IsOrdered}
 use Rattle.passkey_cbor.specs.Depth.{depth}
 use Rattle.passkey_cbor.specs.LeadingItem.{max_depth}
 use Rattle.passkey_cbor.specs.Item.{Item, boolean, text_string}
 use Rattle.passkey_cbor.specs.Laws.{AtMostOneLeadingItem, WrittenIsLeadingItem}
-use Rattle.passkey_cbor.specs.Writable.{IsWritable}
 use Rattle.passkey_cbor.specs.Written.{shortest_head}
 use Rattle.passkey_extensions.specs.ExtensionTrees.{hmac_input_places, hmac_input_tree, is_hmac_input_coherent, hmac_input_kept, inputs_kept, prf_values_places, prf_values_tree, prf_make_places, prf_make_tree, prf_get_places, prf_get_tree, prf_inputs_places, prf_inputs_tree, made_places, made_tree, used_places, used_tree, make_extensions_places, make_extensions_tree, make_extensions_kept, get_extensions_places, get_extensions_tree, get_extensions_kept}
 use Rattle.passkey_extensions.specs.GetExtensions.{GetExtensionsParts}

@@ -5,7 +5,7 @@ use Rattle.passkey_kinds.specs.Kind.{Kind}
 use Rattle.passkey_kinds.specs.Record.{Fields, default, record_kind}
 use Rattle.passkey_kinds.specs.RecordCost.{nested}
 use Rattle.passkey_kinds.specs.Typed.{optional, truth}
-use Rattle.passkey_extensions.specs.PrfInputs.{prf_inputs, prf_inputs_fields}
+use Rattle.passkey_extensions.specs.PrfInputs.{prf_inputs_fields}
 use Rattle.passkey_extensions.specs.declared.prf_inputs.AuthenticatorPrfInputs.{AuthenticatorPrfInputs}
 
 -- what contracts see of the inputs

@@ -7,7 +7,7 @@ ghost use Rattle.passkey_cbor.specs.Writable.{IsWritable};
 ghost use Rattle.passkey_cbor.specs.Written.{written};
 ghost use Rattle.passkey_extensions.specs.HmacInput.{HmacInputParts, hmac_input_fields, hmac_input_table, hmac_input, read_hmac_input};
 ghost use Rattle.passkey_extensions.specs.HmacInputView.{hmac_input_parts};
-ghost use Rattle.passkey_extensions.specs.ExtensionTrees.{HmacInputFits, hmac_input_tree, is_hmac_input_coherent};
+ghost use Rattle.passkey_extensions.specs.ExtensionTrees.{HmacInputFits, hmac_input_places, hmac_input_tree, is_hmac_input_coherent};
 ghost use Rattle.passkey_kinds.specs.declared.fault.Fault.TheVariants.{OutOfMemory as NoRoom};
 ghost use Rattle.passkey_kinds.specs.Message.{ReadsMessage, ReadsHere, GrowsMessage};
 ghost use Rattle.passkey_kinds.specs.Reading.{MayGrowAt, Reads};
@@ -18,7 +18,7 @@ use crate::laws::read_hmac_input_is_coherent;
 use passkey_bytes::Bytes;
 use passkey_cbor::{Cursor, MAX_DEPTH, Value};
 use passkey_kinds::{
-    Fault, FromCbor, Message, ReadBack, Record, Refusal, Row, Source, ToCbor, WriteFault, Written,
+    Fault, FromCbor, Message, ReadBack, Record, Refusal, Row, Sink, Source, ToCborMap, WriteFault,
     message_from_slice, nested_from_value, read_message, read_nested, record_from_value, set,
     write_message,
 };
@@ -183,18 +183,17 @@ impl FromCbor for HmacGetSecretInput {
     }
 }
 
-impl ToCbor for HmacGetSecretInput {
-    ghost tree = { λ h. hmac_input_tree (hmac_input_parts h) };
+impl ToCborMap for HmacGetSecretInput {
+    ghost places = { λ h. hmac_input_places (hmac_input_parts h) };
 
-    ghost fits = { λ h. HmacInputFits (hmac_input_parts h) };
+    ghost holds = { λ h. HmacInputFits (hmac_input_parts h) };
 
-    fn to_value(&self, alloc: Global) -> Result<Value, OutOfMemory> {
-        let mut members = Written::new(alloc);
-        members.put(alloc, 1_u8, &self.key_agreement)?;
-        members.put(alloc, 2_u8, &self.salt_enc)?;
-        members.put(alloc, 3_u8, &self.salt_auth)?;
-        members.put_some(alloc, 4_u8, &self.pin_uv_auth_protocol)?;
-        Ok(members.into_value())
+    fn put_members<S: Sink>(&self, alloc: Global, sink: &mut S) -> Result<(), OutOfMemory> {
+        sink.put(alloc, 1_u8, &self.key_agreement)?;
+        sink.put(alloc, 2_u8, &self.salt_enc)?;
+        sink.put(alloc, 3_u8, &self.salt_auth)?;
+        sink.put_some(alloc, 4_u8, &self.pin_uv_auth_protocol)?;
+        Ok(())
     }
 }
 

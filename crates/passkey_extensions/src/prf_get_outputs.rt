@@ -2,14 +2,14 @@
 ghost use Rattle.std.specs.Prelude.{true, ◌≡◌, IfOk};
 ghost use Rattle.passkey_extensions.specs.PrfGetOutputs.{prf_get_fields, prf_get};
 ghost use Rattle.passkey_extensions.specs.declared.prf_get_outputs.AuthenticatorPrfGetOutputs.{AuthenticatorPrfGetOutputs as PrfGetOutputs};
-ghost use Rattle.passkey_extensions.specs.ExtensionTrees.{PrfGetFits, prf_get_tree};
+ghost use Rattle.passkey_extensions.specs.ExtensionTrees.{PrfGetFits, prf_get_places};
 ghost use Rattle.passkey_extensions.specs.PrfWebauthn.{webauthn_used};
 ghost use Rattle.passkey_kinds.specs.RecordCost.{record_cost, record_keeps};
 
 use crate::prf_values::AuthenticatorPrfValues;
 use passkey_cbor::{Cursor, Value};
 use passkey_kinds::{
-    FromCbor, ReadBack, Record, Refusal, Row, Shallow, Source, ToCbor, Written, nested_from_value,
+    FromCbor, ReadBack, Record, Refusal, Row, Shallow, Sink, Source, ToCborMap, nested_from_value,
     read_nested, set,
 };
 use passkey_memory::OutOfMemory;
@@ -93,15 +93,14 @@ impl FromCbor for AuthenticatorPrfGetOutputs {
     }
 }
 
-impl ToCbor for AuthenticatorPrfGetOutputs {
-    ghost tree = { prf_get_tree };
+impl ToCborMap for AuthenticatorPrfGetOutputs {
+    ghost places = { prf_get_places };
 
-    ghost fits = { PrfGetFits };
+    ghost holds = { PrfGetFits };
 
-    fn to_value(&self, alloc: Global) -> Result<Value, OutOfMemory> {
-        let mut members = Written::new(alloc);
-        members.put(alloc, "results", &self.results)?;
-        Ok(members.into_value())
+    fn put_members<S: Sink>(&self, alloc: Global, sink: &mut S) -> Result<(), OutOfMemory> {
+        sink.put(alloc, "results", &self.results)?;
+        Ok(())
     }
 }
 

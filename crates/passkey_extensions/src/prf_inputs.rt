@@ -4,14 +4,14 @@ ghost use Rattle.std.specs.FinMap as fin;
 ghost use Rattle.std.specs.Option.{IsSomeAnd};
 ghost use Rattle.passkey_extensions.specs.PrfInputs.{prf_inputs_fields, prf_inputs};
 ghost use Rattle.passkey_extensions.specs.declared.prf_inputs.AuthenticatorPrfInputs.{AuthenticatorPrfInputs as PrfInputs};
-ghost use Rattle.passkey_extensions.specs.ExtensionTrees.{PrfInputsFit, prf_inputs_tree};
+ghost use Rattle.passkey_extensions.specs.ExtensionTrees.{PrfInputsFit, prf_inputs_places};
 ghost use Rattle.passkey_kinds.specs.RecordCost.{record_cost, record_keeps};
 
 use crate::prf_values::AuthenticatorPrfValues;
 use passkey_bytes::{Bytes, Map};
 use passkey_cbor::{Cursor, Value};
 use passkey_kinds::{
-    FromCbor, ReadBack, Record, Refusal, Row, Shallow, Source, ToCbor, Written, nested_from_value,
+    FromCbor, ReadBack, Record, Refusal, Row, Shallow, Sink, Source, ToCborMap, nested_from_value,
     read_nested, set,
 };
 use passkey_memory::OutOfMemory;
@@ -123,16 +123,15 @@ impl FromCbor for AuthenticatorPrfInputs {
     }
 }
 
-impl ToCbor for AuthenticatorPrfInputs {
-    ghost tree = { prf_inputs_tree };
+impl ToCborMap for AuthenticatorPrfInputs {
+    ghost places = { prf_inputs_places };
 
-    ghost fits = { PrfInputsFit };
+    ghost holds = { PrfInputsFit };
 
-    fn to_value(&self, alloc: Global) -> Result<Value, OutOfMemory> {
-        let mut members = Written::new(alloc);
-        members.put_some(alloc, "eval", &self.eval)?;
-        members.put_some(alloc, "eval_by_credential", &self.eval_by_credential)?;
-        Ok(members.into_value())
+    fn put_members<S: Sink>(&self, alloc: Global, sink: &mut S) -> Result<(), OutOfMemory> {
+        sink.put_some(alloc, "eval", &self.eval)?;
+        sink.put_some(alloc, "eval_by_credential", &self.eval_by_credential)?;
+        Ok(())
     }
 }
 

@@ -2,14 +2,14 @@
 ghost use Rattle.std.specs.Prelude.{true, ◌≡◌, is_some, IfOk, OnErr};
 ghost use Rattle.passkey_extensions.specs.PrfMakeOutputs.{prf_make_fields, prf_make};
 ghost use Rattle.passkey_extensions.specs.declared.prf_make_outputs.AuthenticatorPrfMakeOutputs.{AuthenticatorPrfMakeOutputs as PrfMakeOutputs};
-ghost use Rattle.passkey_extensions.specs.ExtensionTrees.{PrfMakeFits, prf_make_tree};
+ghost use Rattle.passkey_extensions.specs.ExtensionTrees.{PrfMakeFits, prf_make_places};
 ghost use Rattle.passkey_extensions.specs.PrfWebauthn.{webauthn_made};
 ghost use Rattle.passkey_kinds.specs.RecordCost.{record_cost, record_keeps};
 
 use crate::prf_values::AuthenticatorPrfValues;
 use passkey_cbor::{Cursor, Value};
 use passkey_kinds::{
-    FromCbor, ReadBack, Record, Refusal, Row, Shallow, Source, ToCbor, Written, nested_from_value,
+    FromCbor, ReadBack, Record, Refusal, Row, Shallow, Sink, Source, ToCborMap, nested_from_value,
     read_nested, set,
 };
 use passkey_memory::OutOfMemory;
@@ -103,16 +103,15 @@ impl FromCbor for AuthenticatorPrfMakeOutputs {
     }
 }
 
-impl ToCbor for AuthenticatorPrfMakeOutputs {
-    ghost tree = { prf_make_tree };
+impl ToCborMap for AuthenticatorPrfMakeOutputs {
+    ghost places = { prf_make_places };
 
-    ghost fits = { PrfMakeFits };
+    ghost holds = { PrfMakeFits };
 
-    fn to_value(&self, alloc: Global) -> Result<Value, OutOfMemory> {
-        let mut members = Written::new(alloc);
-        members.put(alloc, "enabled", &self.enabled)?;
-        members.put_some(alloc, "results", &self.results)?;
-        Ok(members.into_value())
+    fn put_members<S: Sink>(&self, alloc: Global, sink: &mut S) -> Result<(), OutOfMemory> {
+        sink.put(alloc, "enabled", &self.enabled)?;
+        sink.put_some(alloc, "results", &self.results)?;
+        Ok(())
     }
 }
 

@@ -2,14 +2,14 @@
 ghost use Rattle.std.specs.Prelude.{true, ◌≡◌, IfOk};
 ghost use Rattle.passkey_extensions.specs.PrfValues.{prf_values_fields, prf_values};
 ghost use Rattle.passkey_extensions.specs.declared.prf_values.AuthenticatorPrfValues.{AuthenticatorPrfValues as PrfValues};
-ghost use Rattle.passkey_extensions.specs.ExtensionTrees.{PrfValuesFit, prf_values_tree};
+ghost use Rattle.passkey_extensions.specs.ExtensionTrees.{PrfValuesFit, prf_values_places};
 ghost use Rattle.passkey_extensions.specs.PrfWebauthn.{webauthn_values};
 ghost use Rattle.passkey_kinds.specs.RecordCost.{record_cost, record_keeps};
 
 use passkey_bytes::Bytes;
 use passkey_cbor::{Cursor, Value};
 use passkey_kinds::{
-    FromCbor, ReadBack, Record, Refusal, Row, Shallow, Source, ToCbor, Written, nested_from_value,
+    FromCbor, ReadBack, Record, Refusal, Row, Shallow, Sink, Source, ToCborMap, nested_from_value,
     read_nested, set,
 };
 use passkey_memory::OutOfMemory;
@@ -100,16 +100,15 @@ impl FromCbor for AuthenticatorPrfValues {
     }
 }
 
-impl ToCbor for AuthenticatorPrfValues {
-    ghost tree = { prf_values_tree };
+impl ToCborMap for AuthenticatorPrfValues {
+    ghost places = { prf_values_places };
 
-    ghost fits = { PrfValuesFit };
+    ghost holds = { PrfValuesFit };
 
-    fn to_value(&self, alloc: Global) -> Result<Value, OutOfMemory> {
-        let mut members = Written::new(alloc);
-        members.put(alloc, "first", &self.first)?;
-        members.put_some(alloc, "second", &self.second)?;
-        Ok(members.into_value())
+    fn put_members<S: Sink>(&self, alloc: Global, sink: &mut S) -> Result<(), OutOfMemory> {
+        sink.put(alloc, "first", &self.first)?;
+        sink.put_some(alloc, "second", &self.second)?;
+        Ok(())
     }
 }
 

@@ -1,5 +1,5 @@
 -- The encodings of the messages of authenticatorGetAssertion are canonical.
-use Rattle.std.proofs.Common.{◌≡◌, ◌≤◌, nat_le, arith, leb-true, true, refl}
+use Rattle.std.proofs.Common.{◌≡◌, nat_le, leb-true, true, refl}
 use Rattle.std.proofs.lemmas.Bool.{and_parts}
 use Rattle.passkey_cbor.specs.Canonical.{IsOrdered}
 use Rattle.passkey_cbor.specs.Depth.{depth}

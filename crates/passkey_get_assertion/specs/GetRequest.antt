@@ -4,11 +4,11 @@ use Rattle.passkey_cbor.specs.Depth.{depth}
 use Rattle.passkey_cbor.specs.LeadingItem.{max_depth}
 use Rattle.passkey_cbor.specs.Item.{Item, byte_string, text_string}
 use Rattle.passkey_core.specs.DataNormal.{IfPresent}
-use Rattle.passkey_get_assertion.specs.GetOptions.{options, options_default, options_tree, options_fields}
+use Rattle.passkey_get_assertion.specs.GetOptions.{options_default, options_tree, options_fields}
 use Rattle.passkey_get_assertion.specs.declared.options.Options.{Options}
 use Rattle.passkey_extensions.specs.ExtensionTrees.{get_extensions_tree, GetExtensionsFit, get_extensions_kept}
 use Rattle.passkey_extensions.specs.GetExtensions.{GetExtensionsParts, get_extensions_fields}
-use Rattle.passkey_kinds.specs.Descriptor.{descriptor, descriptor_fields}
+use Rattle.passkey_kinds.specs.Descriptor.{descriptor_fields}
 use Rattle.passkey_kinds.specs.Record.{Fields, required, default, table_of, read_item}
 use Rattle.passkey_kinds.specs.RecordCost.{nested}
 use Rattle.passkey_kinds.specs.Table.{Table}

@@ -7,12 +7,12 @@ use Rattle.passkey_core.specs.Coherent.{is_coherent}
 use Rattle.passkey_core.specs.DataNormal.{IsData, IfPresent, normal_data}
 use Rattle.passkey_core.specs.DataParts.{DataParts, bare_data}
 use Rattle.passkey_kinds.specs.Data.{auth_data_tree}
-use Rattle.passkey_entities.specs.MakeUser.{user, user_tree, user_fields}
+use Rattle.passkey_entities.specs.MakeUser.{user_tree, user_fields}
 use Rattle.passkey_entities.specs.declared.user.PublicKeyCredentialUserEntity.{PublicKeyCredentialUserEntity}
 use Rattle.passkey_extensions.specs.ExtensionTrees.{used_tree, UsedFits}
-use Rattle.passkey_extensions.specs.GetUnsigned.{unsigned, unsigned_fields}
+use Rattle.passkey_extensions.specs.GetUnsigned.{unsigned_fields}
 use Rattle.passkey_extensions.specs.declared.get_assertion.unsigned.UnsignedExtensionOutputs.{UnsignedExtensionOutputs}
-use Rattle.passkey_kinds.specs.Descriptor.{descriptor, descriptor_fields}
+use Rattle.passkey_kinds.specs.Descriptor.{descriptor_fields}
 use Rattle.passkey_kinds.specs.Record.{Fields, required, default, table_of, read_item}
 use Rattle.passkey_kinds.specs.RecordCost.{nested}
 use Rattle.passkey_kinds.specs.Table.{Table}

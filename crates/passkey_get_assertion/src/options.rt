@@ -1,13 +1,13 @@
 //! Options of authenticatorGetAssertion requests.
 ghost use Rattle.std.specs.Prelude.{◌≡◌, true, false};
-ghost use Rattle.passkey_get_assertion.specs.GetOptions.{options_tree, options_fields, options, options_default};
+ghost use Rattle.passkey_get_assertion.specs.GetOptions.{options_places, options_fields, options, options_default};
 ghost use Rattle.passkey_get_assertion.specs.declared.options.Options.{Options as Asked};
 ghost use Rattle.passkey_kinds.specs.ReadBack.{Any};
 ghost use Rattle.passkey_kinds.specs.RecordCost.{record_cost, record_keeps};
 
 use passkey_cbor::{Cursor, Value};
 use passkey_kinds::{
-    FromCbor, ReadBack, Record, Refusal, Row, Shallow, Source, ToCbor, Written, nested_from_value,
+    FromCbor, ReadBack, Record, Refusal, Row, Shallow, Sink, Source, ToCborMap, nested_from_value,
     read_nested, set,
 };
 use passkey_memory::OutOfMemory;
@@ -85,16 +85,15 @@ impl FromCbor for Options {
     }
 }
 
-impl ToCbor for Options {
-    ghost tree = { options_tree };
+impl ToCborMap for Options {
+    ghost places = { options_places };
 
-    ghost fits = { Any };
+    ghost holds = { Any };
 
-    fn to_value(&self, alloc: Global) -> Result<Value, OutOfMemory> {
-        let mut members = Written::new(alloc);
-        members.put(alloc, "up", &self.up)?;
-        members.put(alloc, "uv", &self.uv)?;
-        Ok(members.into_value())
+    fn put_members<S: Sink>(&self, alloc: Global, sink: &mut S) -> Result<(), OutOfMemory> {
+        sink.put(alloc, "up", &self.up)?;
+        sink.put(alloc, "uv", &self.uv)?;
+        Ok(())
     }
 }
 

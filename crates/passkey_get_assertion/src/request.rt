@@ -3,7 +3,7 @@ ghost use Rattle.std.specs.Prelude.{◌≡◌, IfOk, IfErr, OnOk};
 ghost use Rattle.passkey_cbor.specs.View.{item_of};
 ghost use Rattle.passkey_cbor.specs.Writable.{IsWritable};
 ghost use Rattle.passkey_cbor.specs.Written.{written};
-ghost use Rattle.passkey_get_assertion.specs.GetRequest.{GetRequestParts, get_request_fields, get_request_table, read_get_request, get_request_tree, GetRequestFits, is_get_request_coherent};
+ghost use Rattle.passkey_get_assertion.specs.GetRequest.{GetRequestParts, get_request_fields, get_request_table, read_get_request, get_request_places, get_request_tree, GetRequestFits, is_get_request_coherent};
 ghost use Rattle.passkey_get_assertion.specs.GetRequestView.{get_request_parts};
 ghost use Rattle.passkey_kinds.specs.declared.fault.Fault.TheVariants.{OutOfMemory as NoRoom};
 ghost use Rattle.passkey_kinds.specs.Message.{ReadsMessage, ReadsHere, GrowsMessage};
@@ -16,7 +16,7 @@ use passkey_bytes::{Bytes, List, Text};
 use passkey_cbor::{Cursor, Value};
 use passkey_extensions::get_assertion::ExtensionInputs;
 use passkey_kinds::{
-    Fault, Message, Record, Refusal, Row, Source, ToCbor, WriteFault, Written, message_from_slice,
+    Fault, Message, Record, Refusal, Row, Sink, Source, ToCborMap, WriteFault, message_from_slice,
     read_message, record_from_value, set, set_accepted_or_none, set_tolerated, write_message,
 };
 use passkey_memory::OutOfMemory;
@@ -94,21 +94,20 @@ impl Record for Request {
     }
 }
 
-impl ToCbor for Request {
-    ghost tree = { λ r. get_request_tree (get_request_parts r) };
+impl ToCborMap for Request {
+    ghost places = { λ r. get_request_places (get_request_parts r) };
 
-    ghost fits = { λ r. GetRequestFits (get_request_parts r) };
+    ghost holds = { λ r. GetRequestFits (get_request_parts r) };
 
-    fn to_value(&self, alloc: Global) -> Result<Value, OutOfMemory> {
-        let mut members = Written::new(alloc);
-        members.put(alloc, 1_u8, &self.rp_id)?;
-        members.put(alloc, 2_u8, &self.client_data_hash)?;
-        members.put_some(alloc, 3_u8, &self.allow_list)?;
-        members.put_some(alloc, 4_u8, &self.extensions)?;
-        members.put(alloc, 5_u8, &self.options)?;
-        members.put_some(alloc, 6_u8, &self.pin_auth)?;
-        members.put_some(alloc, 7_u8, &self.pin_protocol)?;
-        Ok(members.into_value())
+    fn put_members<S: Sink>(&self, alloc: Global, sink: &mut S) -> Result<(), OutOfMemory> {
+        sink.put(alloc, 1_u8, &self.rp_id)?;
+        sink.put(alloc, 2_u8, &self.client_data_hash)?;
+        sink.put_some(alloc, 3_u8, &self.allow_list)?;
+        sink.put_some(alloc, 4_u8, &self.extensions)?;
+        sink.put(alloc, 5_u8, &self.options)?;
+        sink.put_some(alloc, 6_u8, &self.pin_auth)?;
+        sink.put_some(alloc, 7_u8, &self.pin_protocol)?;
+        Ok(())
     }
 }
 

@@ -3,7 +3,7 @@ ghost use Rattle.std.specs.Prelude.{◌≡◌, IfOk, IfErr, OnOk};
 ghost use Rattle.passkey_cbor.specs.View.{item_of};
 ghost use Rattle.passkey_cbor.specs.Writable.{IsWritable};
 ghost use Rattle.passkey_cbor.specs.Written.{written};
-ghost use Rattle.passkey_get_assertion.specs.GetResponse.{GetResponseParts, get_response_fields, get_response_table, read_get_response, get_response_tree, GetResponseFits, is_get_response_coherent};
+ghost use Rattle.passkey_get_assertion.specs.GetResponse.{GetResponseParts, get_response_fields, get_response_table, read_get_response, get_response_places, get_response_tree, GetResponseFits, is_get_response_coherent};
 ghost use Rattle.passkey_get_assertion.specs.GetResponseView.{get_response_parts};
 ghost use Rattle.passkey_kinds.specs.declared.fault.Fault.TheVariants.{OutOfMemory as NoRoom};
 ghost use Rattle.passkey_kinds.specs.Message.{ReadsMessage, ReadsHere, GrowsMessage};
@@ -17,7 +17,7 @@ use passkey_core::AuthenticatorData;
 use passkey_entities::PublicKeyCredentialUserEntity;
 use passkey_extensions::get_assertion::UnsignedExtensionOutputs;
 use passkey_kinds::{
-    Fault, Message, Record, Refusal, Row, Source, ToCbor, WriteFault, Written, message_from_slice,
+    Fault, Message, Record, Refusal, Row, Sink, Source, ToCborMap, WriteFault, message_from_slice,
     read_message, record_from_value, set, write_message,
 };
 use passkey_memory::OutOfMemory;
@@ -101,22 +101,21 @@ impl Record for Response {
     }
 }
 
-impl ToCbor for Response {
-    ghost tree = { λ r. get_response_tree (get_response_parts r) };
+impl ToCborMap for Response {
+    ghost places = { λ r. get_response_places (get_response_parts r) };
 
-    ghost fits = { λ r. GetResponseFits (get_response_parts r) };
+    ghost holds = { λ r. GetResponseFits (get_response_parts r) };
 
-    fn to_value(&self, alloc: Global) -> Result<Value, OutOfMemory> {
-        let mut members = Written::new(alloc);
-        members.put_some(alloc, 1_u8, &self.credential)?;
-        members.put(alloc, 2_u8, &self.auth_data)?;
-        members.put(alloc, 3_u8, &self.signature)?;
-        members.put_some(alloc, 4_u8, &self.user)?;
-        members.put_some(alloc, 5_u8, &self.number_of_credentials)?;
-        members.put_some(alloc, 6_u8, &self.user_selected)?;
-        members.put_some(alloc, 7_u8, &self.large_blob_key)?;
-        members.put_some(alloc, 8_u8, &self.unsigned_extension_outputs)?;
-        Ok(members.into_value())
+    fn put_members<S: Sink>(&self, alloc: Global, sink: &mut S) -> Result<(), OutOfMemory> {
+        sink.put_some(alloc, 1_u8, &self.credential)?;
+        sink.put(alloc, 2_u8, &self.auth_data)?;
+        sink.put(alloc, 3_u8, &self.signature)?;
+        sink.put_some(alloc, 4_u8, &self.user)?;
+        sink.put_some(alloc, 5_u8, &self.number_of_credentials)?;
+        sink.put_some(alloc, 6_u8, &self.user_selected)?;
+        sink.put_some(alloc, 7_u8, &self.large_blob_key)?;
+        sink.put_some(alloc, 8_u8, &self.unsigned_extension_outputs)?;
+        Ok(())
     }
 }
 

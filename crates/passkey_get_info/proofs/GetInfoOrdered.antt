@@ -1,6 +1,6 @@
 -- The encodings of authenticatorGetInfo responses are canonical.
 use Rattle.std.specs.Prelude.{codes}
-use Rattle.std.proofs.Common.{◌≡◌, ◌≤◌, ◌&&◌, nat_le, arith, leb-true, true, Option, Some, None, refl}
+use Rattle.std.proofs.Common.{◌≡◌, nat_le, arith, leb-true, true, Option, Some, None, refl}
 use Rattle.std.proofs.lemmas.Bool.{and_parts}
 use Rattle.passkey_cbor.specs.Canonical.{IsOrdered}
 use Rattle.passkey_cbor.specs.Depth.{depth}

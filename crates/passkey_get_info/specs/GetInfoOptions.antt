@@ -1,5 +1,5 @@
 -- Options of authenticatorGetInfo responses (CTAP 2.1, section 6.4).
-use Rattle.std.specs.Prelude.{List, [], ◌∷◌, true, false, None, codes}
+use Rattle.std.specs.Prelude.{List, [], ◌∷◌, ◌++◌, true, false, None, codes}
 use Rattle.passkey_cbor.specs.Item.{Item, boolean, text_string}
 use Rattle.passkey_kinds.specs.Kind.{Kind}
 use Rattle.passkey_kinds.specs.Record.{Fields, default, record_kind}
@@ -64,8 +64,9 @@ options = record_kind options_fields
 
 -- ---- the encoding of the options
 
-abbrev pub options_places : Options → List Place
-options_places o =
+-- the options with keys of at most eight bytes
+abbrev pub short_option_places : Options → List Place
+short_option_places o =
     where_some (text_string (codes "ep")) boolean o.ep
     ∷ always (text_string (codes "rk")) boolean o.rk
     ∷ always (text_string (codes "up")) boolean o.up
@@ -74,7 +75,11 @@ options_places o =
     ∷ where_some (text_string (codes "uvAcfg")) boolean o.uv_acfg
     ∷ where_some (text_string (codes "alwaysUv")) boolean o.always_uv
     ∷ where_some (text_string (codes "credMgmt")) boolean o.cred_mgmt
-    ∷ where_some (text_string (codes "authnrCfg")) boolean o.authnr_cfg
+    ∷ []
+
+abbrev pub long_option_places : Options → List Place
+long_option_places o =
+    where_some (text_string (codes "authnrCfg")) boolean o.authnr_cfg
     ∷ where_some (text_string (codes "bioEnroll")) boolean o.bio_enroll
     ∷ where_some (text_string (codes "clientPin")) boolean o.client_pin
     ∷ where_some (text_string (codes "largeBlobs")) boolean o.large_blobs
@@ -87,6 +92,9 @@ options_places o =
     ∷ where_some (text_string (codes "noMcGaPermissionsWithClientPin")) boolean
     o.no_mc_ga_permissions_with_client_pin
     ∷ []
+
+abbrev pub options_places : Options → List Place
+options_places o = short_option_places o ++ long_option_places o
 
 abbrev pub options_tree : Options → Item
 options_tree o = record_tree (options_places o)

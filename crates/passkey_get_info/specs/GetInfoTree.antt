@@ -19,18 +19,21 @@ use Rattle.passkey_kinds.specs.declared.write_fault.WriteFault.TheVariants.{OutO
 abbrev pub where_kept : Item → Option Item → Place
 where_kept key o = (key, o)
 
--- what the authenticator supports
-abbrev pub capability_places : GetInfoParts → List Place
-capability_places r =
+-- what the authenticator supports, with this data item as its greatest message size
+abbrev pub capability_places_with : Option Item → GetInfoParts → List Place
+capability_places_with size r =
     always (number_tree 1) (list_tree version_tree) r.versions
     ∷ where_some (number_tree 2) (list_tree extension_tree) r.extensions
     ∷ always (number_tree 3) byte_string r.aaguid
     ∷ where_some (number_tree 4) options_tree r.options
-    ∷ where_some (number_tree 5) number_tree r.max_msg_size
+    ∷ where_kept (number_tree 5) size
     ∷ where_some (number_tree 6) (list_tree number_tree) r.pin_protocols
     ∷ where_some (number_tree 9) (list_tree transport_tree) r.transports
     ∷ where_some (number_tree 10) (list_tree parameters_tree) r.algorithms
     ∷ []
+
+abbrev pub capability_places : GetInfoParts → List Place
+capability_places r = capability_places_with (option_map number_tree r.max_msg_size) r
 
 -- its limits and its state
 abbrev pub limit_places : GetInfoParts → List Place

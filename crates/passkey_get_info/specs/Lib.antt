@@ -3,3 +3,4 @@ pub mod GetInfoOptions
 pub mod GetInfo
 pub mod GetInfoTree
 pub mod GetInfoView
+pub mod Encodable

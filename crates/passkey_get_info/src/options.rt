@@ -1,13 +1,14 @@
 //! Options of authenticatorGetInfo responses.
-ghost use Rattle.std.specs.Prelude.{◌≡◌, true};
-ghost use Rattle.passkey_get_info.specs.GetInfoOptions.{options_fields, options, options_default, options_tree};
+ghost use Rattle.std.specs.Prelude.{◌≡◌, true, OnOk};
+ghost use Rattle.passkey_get_info.specs.GetInfoOptions.{long_option_places, options, options_default, options_fields, options_places, short_option_places};
 ghost use Rattle.passkey_kinds.specs.ReadBack.{Any};
 ghost use Rattle.passkey_get_info.specs.declared.options.Options.{Options as Told};
 ghost use Rattle.passkey_kinds.specs.RecordCost.{record_cost, record_keeps};
+ghost use Rattle.passkey_kinds.specs.Sink.{AllAccepted, put_all};
 
 use passkey_cbor::{Cursor, Value};
 use passkey_kinds::{
-    FromCbor, ReadBack, Record, Refusal, Row, Shallow, Source, ToCbor, Written, nested_from_value,
+    FromCbor, ReadBack, Record, Refusal, Row, Shallow, Sink, Source, ToCborMap, nested_from_value,
     read_nested, set,
 };
 use passkey_memory::OutOfMemory;
@@ -187,45 +188,62 @@ impl FromCbor for Options {
     }
 }
 
-impl ToCbor for Options {
-    ghost tree = { options_tree };
+impl Options {
+    fn put_short<S: Sink>(&self, alloc: Global, sink: &mut S) -> Result<(), OutOfMemory>
+        ensures put { OnOk result (S.state sink.new ≡ put_all S.step (S.state sink.old) (short_option_places self.now)) }
+        ensures accepts { OnOk result (AllAccepted S.Accepts (short_option_places self.now)) }
+    {
+        sink.put_some(alloc, "ep", &self.ep)?;
+        sink.put(alloc, "rk", &self.rk)?;
+        sink.put(alloc, "up", &self.up)?;
+        sink.put_some(alloc, "uv", &self.uv)?;
+        sink.put(alloc, "plat", &self.plat)?;
+        sink.put_some(alloc, "uvAcfg", &self.uv_acfg)?;
+        sink.put_some(alloc, "alwaysUv", &self.always_uv)?;
+        sink.put_some(alloc, "credMgmt", &self.cred_mgmt)?;
+        Ok(())
+    }
 
-    ghost fits = { Any };
-
-    fn to_value(&self, alloc: Global) -> Result<Value, OutOfMemory> {
-        let mut members = Written::new(alloc);
-        members.put_some(alloc, "ep", &self.ep)?;
-        members.put(alloc, "rk", &self.rk)?;
-        members.put(alloc, "up", &self.up)?;
-        members.put_some(alloc, "uv", &self.uv)?;
-        members.put(alloc, "plat", &self.plat)?;
-        members.put_some(alloc, "uvAcfg", &self.uv_acfg)?;
-        members.put_some(alloc, "alwaysUv", &self.always_uv)?;
-        members.put_some(alloc, "credMgmt", &self.cred_mgmt)?;
-        members.put_some(alloc, "authnrCfg", &self.authnr_cfg)?;
-        members.put_some(alloc, "bioEnroll", &self.bio_enroll)?;
-        members.put_some(alloc, "clientPin", &self.client_pin)?;
-        members.put_some(alloc, "largeBlobs", &self.large_blobs)?;
-        members.put_some(alloc, "uvBioEnroll", &self.uv_bio_enroll)?;
-        members.put_some(alloc, "pinUvAuthToken", &self.pin_uv_auth_token)?;
-        members.put_some(alloc, "setMinPINLength", &self.set_min_pin_length)?;
-        members.put_some(alloc, "makeCredUvNotRqd", &self.make_cred_uv_not_rqd)?;
-        members.put_some(
+    fn put_long<S: Sink>(&self, alloc: Global, sink: &mut S) -> Result<(), OutOfMemory>
+        ensures put { OnOk result (S.state sink.new ≡ put_all S.step (S.state sink.old) (long_option_places self.now)) }
+        ensures accepts { OnOk result (AllAccepted S.Accepts (long_option_places self.now)) }
+    {
+        sink.put_some(alloc, "authnrCfg", &self.authnr_cfg)?;
+        sink.put_some(alloc, "bioEnroll", &self.bio_enroll)?;
+        sink.put_some(alloc, "clientPin", &self.client_pin)?;
+        sink.put_some(alloc, "largeBlobs", &self.large_blobs)?;
+        sink.put_some(alloc, "uvBioEnroll", &self.uv_bio_enroll)?;
+        sink.put_some(alloc, "pinUvAuthToken", &self.pin_uv_auth_token)?;
+        sink.put_some(alloc, "setMinPINLength", &self.set_min_pin_length)?;
+        sink.put_some(alloc, "makeCredUvNotRqd", &self.make_cred_uv_not_rqd)?;
+        sink.put_some(
             alloc,
             "credentialMgmtPreview",
             &self.credential_mgmt_preview,
         )?;
-        members.put_some(
+        sink.put_some(
             alloc,
             "userVerificationMgmtPreview",
             &self.user_verification_mgmt_preview,
         )?;
-        members.put_some(
+        sink.put_some(
             alloc,
             "noMcGaPermissionsWithClientPin",
             &self.no_mc_ga_permissions_with_client_pin,
         )?;
-        Ok(members.into_value())
+        Ok(())
+    }
+}
+
+impl ToCborMap for Options {
+    ghost places = { options_places };
+
+    ghost holds = { Any };
+
+    fn put_members<S: Sink>(&self, alloc: Global, sink: &mut S) -> Result<(), OutOfMemory> {
+        self.put_short(alloc, sink)?;
+        self.put_long(alloc, sink)?;
+        Ok(())
     }
 }
 

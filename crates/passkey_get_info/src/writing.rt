@@ -5,15 +5,16 @@ ghost use Rattle.passkey_cbor.specs.View.{item_of};
 ghost use Rattle.passkey_cbor.specs.Writable.{IsWritable};
 ghost use Rattle.passkey_cbor.specs.Written.{written};
 ghost use Rattle.passkey_core.specs.DataNormal.{IfPresent};
-ghost use Rattle.passkey_get_info.specs.GetInfoTree.{capability_places, limit_places, get_info_tree, IsPositive, CapabilitiesFit, LimitsFit, GetInfoFits, is_encodable, fault_of_size, has_room, is_get_info_coherent};
+ghost use Rattle.passkey_get_info.specs.Encodable.{EncodableFits, encodable_capabilities, encodable_parts, encodable_places};
+ghost use Rattle.passkey_get_info.specs.GetInfoTree.{limit_places, get_info_tree, IsPositive, CapabilitiesFit, LimitsFit, GetInfoFits, is_encodable, fault_of_size, has_room, is_get_info_coherent};
 ghost use Rattle.passkey_get_info.specs.GetInfoView.{get_info_parts};
-ghost use Rattle.passkey_kinds.specs.Tree.{number_tree, laid};
-ghost use Rattle.passkey_kinds.specs.Written.{members_of};
+ghost use Rattle.passkey_kinds.specs.Sink.{AllAccepted, put_all};
+ghost use Rattle.passkey_kinds.specs.Tree.{number_tree};
 ghost use Rattle.passkey_kinds.specs.declared.write_fault.WriteFault.TheVariants.{NumberTooLarge as TooLarge};
 
 use crate::Response;
 use passkey_cbor::{Integer, MAX_DEPTH, Value};
-use passkey_kinds::{WriteFault, Written};
+use passkey_kinds::{Sink, ToCborMap, WriteFault, write_message};
 use passkey_memory::OutOfMemory;
 use std::alloc::Global;
 use std::num::NonZeroU128;
@@ -55,53 +56,94 @@ fn fits_in_message(item: &Option<Value>) -> bool
     }
 }
 
+/// A response, with its greatest message size as the data item that it is encoded as.
+#[derive(Drop)]
+struct Encodable<'a> {
+    response: &'a Response,
+    max_msg_size: Option<Value>,
+}
+
+impl Encodable<'_> {
+    fn put_capabilities<S: Sink>(&self, alloc: Global, sink: &mut S) -> Result<(), OutOfMemory>
+        ensures put { OnOk result
+            (S.state sink.new ≡ put_all S.step (S.state sink.old) (encodable_capabilities self.now)) }
+        ensures accepts { OnOk result (AllAccepted S.Accepts (encodable_capabilities self.now)) }
+        ensures fits { OnOk result (S.Encodes → IfPresent IsPositive (encodable_parts self.now).max_msg_size
+            → CapabilitiesFit (encodable_parts self.now)) }
+    {
+        sink.put(alloc, 0x01_u8, &self.response.versions)?;
+        sink.put_some(alloc, 0x02_u8, &self.response.extensions)?;
+        sink.put(alloc, 0x03_u8, &self.response.aaguid)?;
+        sink.put_some(alloc, 0x04_u8, &self.response.options)?;
+        sink.put_some(alloc, 0x05_u8, &self.max_msg_size)?;
+        sink.put_some(alloc, 0x06_u8, &self.response.pin_protocols)?;
+        sink.put_some(alloc, 0x09_u8, &self.response.transports)?;
+        sink.put_some(alloc, 0x0a_u8, &self.response.algorithms)?;
+        Ok(())
+    }
+
+    fn put_limits<S: Sink>(&self, alloc: Global, sink: &mut S) -> Result<(), OutOfMemory>
+        ensures put { OnOk result
+            (S.state sink.new ≡ put_all S.step (S.state sink.old) (limit_places (encodable_parts self.now))) }
+        ensures accepts { OnOk result (AllAccepted S.Accepts (limit_places (encodable_parts self.now))) }
+        ensures fits { OnOk result (S.Encodes → LimitsFit (encodable_parts self.now)) }
+    {
+        sink.put_some(
+            alloc,
+            0x0b_u8,
+            &self.response.mac_serialized_large_blob_array,
+        )?;
+        sink.put_some(alloc, 0x0c_u8, &self.response.force_pin_change)?;
+        sink.put_some(alloc, 0x0d_u8, &self.response.min_pin_length)?;
+        sink.put_some(alloc, 0x0e_u8, &self.response.firmware_version)?;
+        sink.put_some(alloc, 0x0f_u8, &self.response.max_cred_blob_length)?;
+        sink.put_some(
+            alloc,
+            0x10_u8,
+            &self.response.max_rpids_for_set_min_pin_length,
+        )?;
+        sink.put_some(
+            alloc,
+            0x11_u8,
+            &self.response.preferred_platform_uv_attempts,
+        )?;
+        sink.put_some(alloc, 0x12_u8, &self.response.uv_modality)?;
+        sink.put_some(alloc, 0x13_u8, &self.response.certifications)?;
+        sink.put_some(
+            alloc,
+            0x14_u8,
+            &self.response.remaining_discoverable_credentials,
+        )?;
+        sink.put_some(
+            alloc,
+            0x15_u8,
+            &self.response.vendor_prototype_config_commands,
+        )?;
+        sink.put_some(alloc, 0x16_u8, &self.response.attestation_formats)?;
+        sink.put_some(alloc, 0x17_u8, &self.response.uv_count_since_last_pin_entry)?;
+        sink.put_some(alloc, 0x18_u8, &self.response.long_touch_for_reset)?;
+        sink.put_some(alloc, 0x19_u8, &self.response.enc_identifier)?;
+        sink.put_some(alloc, 0x1a_u8, &self.response.transports_for_reset)?;
+        sink.put_some(alloc, 0x1b_u8, &self.response.pin_complexity_policy)?;
+        sink.put_some(alloc, 0x1c_u8, &self.response.pin_complexity_policy_url)?;
+        sink.put_some(alloc, 0x1d_u8, &self.response.max_pin_length)?;
+        Ok(())
+    }
+}
+
+impl ToCborMap for Encodable<'_> {
+    ghost places = { encodable_places };
+
+    ghost holds = { EncodableFits };
+
+    fn put_members<S: Sink>(&self, alloc: Global, sink: &mut S) -> Result<(), OutOfMemory> {
+        self.put_capabilities(alloc, sink)?;
+        self.put_limits(alloc, sink)?;
+        Ok(())
+    }
+}
+
 impl Response {
-    fn put_capabilities(&self, alloc: Global, members: &mut Written) -> Result<(), WriteFault>
-        ensures put { OnOk result
-            (members_of members.new ≡ laid (members_of members.old) (capability_places (get_info_parts self.now))) }
-        ensures fits { OnOk result (CapabilitiesFit (get_info_parts self.now)) }
-        ensures encoded { OnOk result (is_encodable (get_info_parts self.now).max_msg_size ≡ true) }
-        ensures fault { IfErr result (λ e. e ≡ fault_of_size (get_info_parts self.now).max_msg_size) }
-    {
-        let size = size_item(self.max_msg_size)?;
-        members.put(alloc, 0x01_u8, &self.versions)?;
-        members.put_some(alloc, 0x02_u8, &self.extensions)?;
-        members.put(alloc, 0x03_u8, &self.aaguid)?;
-        members.put_some(alloc, 0x04_u8, &self.options)?;
-        members.put_some(alloc, 0x05_u8, &size)?;
-        members.put_some(alloc, 0x06_u8, &self.pin_protocols)?;
-        members.put_some(alloc, 0x09_u8, &self.transports)?;
-        members.put_some(alloc, 0x0a_u8, &self.algorithms)?;
-        Ok(())
-    }
-
-    fn put_limits(&self, alloc: Global, members: &mut Written) -> Result<(), OutOfMemory>
-        ensures put { OnOk result
-            (members_of members.new ≡ laid (members_of members.old) (limit_places (get_info_parts self.now))) }
-        ensures fits { OnOk result (LimitsFit (get_info_parts self.now)) }
-    {
-        members.put_some(alloc, 0x0b_u8, &self.mac_serialized_large_blob_array)?;
-        members.put_some(alloc, 0x0c_u8, &self.force_pin_change)?;
-        members.put_some(alloc, 0x0d_u8, &self.min_pin_length)?;
-        members.put_some(alloc, 0x0e_u8, &self.firmware_version)?;
-        members.put_some(alloc, 0x0f_u8, &self.max_cred_blob_length)?;
-        members.put_some(alloc, 0x10_u8, &self.max_rpids_for_set_min_pin_length)?;
-        members.put_some(alloc, 0x11_u8, &self.preferred_platform_uv_attempts)?;
-        members.put_some(alloc, 0x12_u8, &self.uv_modality)?;
-        members.put_some(alloc, 0x13_u8, &self.certifications)?;
-        members.put_some(alloc, 0x14_u8, &self.remaining_discoverable_credentials)?;
-        members.put_some(alloc, 0x15_u8, &self.vendor_prototype_config_commands)?;
-        members.put_some(alloc, 0x16_u8, &self.attestation_formats)?;
-        members.put_some(alloc, 0x17_u8, &self.uv_count_since_last_pin_entry)?;
-        members.put_some(alloc, 0x18_u8, &self.long_touch_for_reset)?;
-        members.put_some(alloc, 0x19_u8, &self.enc_identifier)?;
-        members.put_some(alloc, 0x1a_u8, &self.transports_for_reset)?;
-        members.put_some(alloc, 0x1b_u8, &self.pin_complexity_policy)?;
-        members.put_some(alloc, 0x1c_u8, &self.pin_complexity_policy_url)?;
-        members.put_some(alloc, 0x1d_u8, &self.max_pin_length)?;
-        Ok(())
-    }
-
     /// Encodes the response, with the members that are present under their numbers in ascending
     /// order. Returns `NumberTooLarge` exactly if `max_msg_size` is 2^64 or more; otherwise
     /// `OutOfMemory` if an allocation fails.
@@ -112,10 +154,12 @@ impl Response {
         ensures encoded { OnOk result (is_encodable (get_info_parts self.now).max_msg_size ≡ true) }
         ensures fault { IfErr result (λ e. e ≡ fault_of_size (get_info_parts self.now).max_msg_size) }
     {
-        let mut members = Written::new(alloc);
-        self.put_capabilities(alloc, &mut members)?;
-        self.put_limits(alloc, &mut members)?;
-        Ok(members.into_value().to_vec(alloc)?)
+        let max_msg_size = size_item(self.max_msg_size)?;
+        let encodable = Encodable {
+            response: self,
+            max_msg_size,
+        };
+        write_message(alloc, &encodable)
     }
 
     /// Returns whether the response can be encoded, and its encoding decoded again: `max_msg_size`

@@ -5,7 +5,6 @@ use Rattle.std.specs.FinMap as fin
 use Rattle.std.specs.FinMap.Entries.{below_all, is_sorted}
 use Rattle.std.specs.List.{AllByRecursion}
 use Rattle.std.specs.Ordering.{eq_by_cmp, is_eq, is_lt, nat_cmp}
-use Rattle.std.specs.Str.{bytes_eq}
 use Rattle.std.specs.declared.cmp.Ordering.{Ordering}
 use Rattle.std.specs.declared.cmp.Ordering.TheVariants.{Less, Equal, Greater}
 use Rattle.std.proofs.Common.{◌≡◌, ◌≢◌, ◌∙◌, ◌⊎◌, ℕ, ◌<◌, ◌≤◌, Bool, true, false, ◌&&◌, cond, T, List, [], ◌∷◌, length, map, Option, Some, None, option_map, refl, sym, ap, arith, inl, inr}

@@ -21,6 +21,7 @@ pub mod MapBack
 pub mod RecordBack
 pub mod SignedBack
 pub mod WrittenLists
+pub mod Sinks
 pub mod Levels
 pub mod Messages
 pub mod LengthAlone

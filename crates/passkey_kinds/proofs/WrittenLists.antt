@@ -3,6 +3,10 @@ use Rattle.std.specs.List.{All}
 use Rattle.std.proofs.Common.{◌≡◌, ◌∙◌, ℕ, suc, ◌+◌, ◌<◌, add-one, List, [], ◌∷◌, ◌++◌, length, map, drop, get_or, append_assoc, sym, ap, subst}
 use Rattle.std.proofs.lemmas.List.Elements.{All-cons}
 use Rattle.std.proofs.Math.Seq.{drop-cons}
+use Rattle.passkey_cbor.specs.Item.{Item, Items, items_of}
+use Rattle.passkey_cbor.specs.Writable.{IsWritable, AreWritable}
+use Rattle.passkey_cbor.specs.Written.{written, items_written}
+use Rattle.passkey_cbor.proofs.Writing.{WritesItems}
 
 -- the rest begins with the value at this index
 rest_is : {X : Type 0} (xs : List X) (i : ℕ) (x : X) → x ≡ get_or xs i x → i < length xs
@@ -36,3 +40,18 @@ pub written_more : {X Y : Type 0} (tree : X → Y) (xs : List X) (i : ℕ) (x : 
     → (before ++ y ∷ []) ++ map tree (drop (i + 1) xs) ≡ map tree xs
 written_more tree xs i x y before e within =
     written_next tree xs (drop i xs) (drop (i + 1) xs) x y before (rest_is xs i x e within)
+
+-- the bytes of the list so far and one more element's
+pub writes_items-more : {X : Type 0} (tree : X → Item) (xs : List X) (i : ℕ) (x : X) (all : Items) (old mid new : List ℕ)
+    → x ≡ get_or xs i x → i < length xs → new ≡ mid ++ written (tree x) → IsWritable (tree x)
+    → WritesItems all (items_of (map tree (drop i xs))) old mid
+    → WritesItems all (items_of (map tree (drop (i + 1) xs))) old new
+writes_items-more tree xs i x all old mid new e within one fits so_far =
+    let next = ap (λ ys. items_of (map tree ys)) (rest_is xs i x e within) in
+    let rest : Items = items_of (map tree (drop (i + 1) xs)) in
+    record {
+      appended = ap (λ (s : List ℕ). s ++ items_written rest) one
+          ∙ append_assoc mid (written (tree x)) (items_written rest)
+          ∙ ap (λ (is : Items). mid ++ items_written is) (sym next) ∙ so_far.appended;
+      writable = λ h. so_far.writable (subst AreWritable (sym next) (fits, h));
+    }

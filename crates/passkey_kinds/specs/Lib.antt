@@ -18,6 +18,7 @@ pub mod Tree
 pub mod ReadBack
 pub mod Trees
 pub mod Written
+pub mod Sink
 pub mod User
 pub mod Algorithm
 pub mod Parameters

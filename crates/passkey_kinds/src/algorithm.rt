@@ -3,7 +3,7 @@ ghost use Rattle.std.specs.Prelude.{◌≡◌, ℕ, List, true, false, IfOk};
 ghost use Rattle.std.specs.Option.{option_and_then};
 ghost use Rattle.passkey_cbor.specs.Lent.{IsRegion, Tells};
 ghost use Rattle.passkey_cbor.specs.View.{item_of};
-ghost use Rattle.passkey_iana.specs.Iana.{algorithm_named};
+ghost use Rattle.passkey_iana.specs.Iana.{algorithm_named, algorithm_number};
 ghost use Rattle.passkey_iana.specs.declared.algorithm.Algorithm.{Algorithm as Named};
 ghost use Rattle.passkey_kinds.specs.Algorithm.{algorithm, algorithm_tree};
 ghost use Rattle.passkey_kinds.specs.Keeping.{nothing};
@@ -16,7 +16,7 @@ use crate::from_cbor::FromCbor;
 use crate::head::read_integer;
 use crate::refusal::Refusal;
 use crate::to_cbor::ToCbor;
-use passkey_cbor::{Cursor, Integer, TextToken, Value};
+use passkey_cbor::{Cursor, Encoder, Integer, TextToken, Value};
 use passkey_cose::signed_64;
 use passkey_iana::{Algorithm, EnumI64};
 use passkey_memory::OutOfMemory;
@@ -79,12 +79,22 @@ impl FromCbor for Algorithm {
     }
 }
 
+fn integer_of(algorithm: Algorithm) -> Integer
+    ensures { result ≡ algorithm_number algorithm }
+{
+    Integer::new(i128::from(algorithm.to_i64())).unwrap()
+}
+
 impl ToCbor for Algorithm {
     ghost tree = { algorithm_tree };
 
     ghost fits = { Any };
 
     fn to_value(&self, _alloc: Global) -> Result<Value, OutOfMemory> {
-        Ok(Value::Integer(Integer::new(i128::from(self.to_i64())).unwrap()))
+        Ok(Value::Integer(integer_of(*self)))
+    }
+
+    fn append(&self, _alloc: Global, encoder: &mut Encoder) -> Result<(), OutOfMemory> {
+        encoder.integer(integer_of(*self))
     }
 }

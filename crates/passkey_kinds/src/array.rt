@@ -14,8 +14,8 @@ use crate::from_cbor::FromCbor;
 use crate::head::read_array;
 use crate::refusal::Refusal;
 use crate::to_cbor::ToCbor;
-use crate::written::write_each;
-use passkey_cbor::{BytesToken, Cursor, Value};
+use crate::written::{append_each, write_each};
+use passkey_cbor::{BytesToken, Cursor, Encoder, Value};
 use passkey_memory::OutOfMemory;
 use std::alloc::Global;
 
@@ -118,5 +118,9 @@ impl ToCbor for [u8; 32] {
 
     fn to_value(&self, alloc: Global) -> Result<Value, OutOfMemory> {
         Ok(Value::Array(write_each(alloc, self.as_slice())?))
+    }
+
+    fn append(&self, alloc: Global, encoder: &mut Encoder) -> Result<(), OutOfMemory> {
+        append_each(alloc, self.as_slice(), encoder)
     }
 }

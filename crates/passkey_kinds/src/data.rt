@@ -13,7 +13,7 @@ use crate::array::filled;
 use crate::from_cbor::FromCbor;
 use crate::refusal::Refusal;
 use crate::to_cbor::ToCbor;
-use passkey_cbor::{Count, Cursor, Value};
+use passkey_cbor::{Count, Cursor, Encoder, Value};
 use passkey_core::{Aaguid, AuthenticatorData, laws};
 use passkey_cose::CoseError;
 use passkey_memory::OutOfMemory;
@@ -91,6 +91,10 @@ impl ToCbor for AuthenticatorData {
     fn to_value(&self, alloc: Global) -> Result<Value, OutOfMemory> {
         Ok(Value::Bytes(self.to_vec(alloc)?))
     }
+
+    fn append(&self, alloc: Global, encoder: &mut Encoder) -> Result<(), OutOfMemory> {
+        encoder.byte_string(self.to_vec(alloc)?.as_slice())
+    }
 }
 
 /// Decodes the content of a byte string as an AAGUID. `Refused` unless it has 16 bytes.
@@ -138,5 +142,9 @@ impl ToCbor for Aaguid {
 
     fn to_value(&self, alloc: Global) -> Result<Value, OutOfMemory> {
         Ok(Value::Bytes(Vec::from_slice(alloc, &self.0)?))
+    }
+
+    fn append(&self, _alloc: Global, encoder: &mut Encoder) -> Result<(), OutOfMemory> {
+        encoder.byte_string(&self.0)
     }
 }

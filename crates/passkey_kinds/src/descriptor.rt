@@ -2,7 +2,7 @@
 ghost use Rattle.std.specs.Prelude.{true};
 ghost use Rattle.passkey_kinds.specs.Descriptor.{descriptor_fields, descriptor};
 ghost use Rattle.passkey_webauthn.specs.declared.descriptor.PublicKeyCredentialDescriptor.{PublicKeyCredentialDescriptor as Descriptor};
-ghost use Rattle.passkey_kinds.specs.Trees.{descriptor_tree};
+ghost use Rattle.passkey_kinds.specs.Trees.{descriptor_places};
 ghost use Rattle.passkey_kinds.specs.ReadBack.{Any};
 ghost use Rattle.passkey_kinds.specs.RecordCost.{record_cost, record_keeps};
 
@@ -10,9 +10,9 @@ use crate::from_cbor::FromCbor;
 use crate::record::{Record, nested_from_value, read_nested};
 use crate::refusal::Refusal;
 use crate::rows::Row;
+use crate::sink::Sink;
 use crate::source::{Source, set, set_accepted_or_none, set_or};
-use crate::to_cbor::ToCbor;
-use crate::written::Written;
+use crate::to_cbor_map::ToCborMap;
 use passkey_bytes::Bytes;
 use passkey_cbor::{Cursor, Value};
 use passkey_memory::OutOfMemory;
@@ -86,16 +86,15 @@ impl FromCbor for PublicKeyCredentialDescriptor {
     }
 }
 
-impl ToCbor for PublicKeyCredentialDescriptor {
-    ghost tree = { descriptor_tree };
+impl ToCborMap for PublicKeyCredentialDescriptor {
+    ghost places = { descriptor_places };
 
-    ghost fits = { Any };
+    ghost holds = { Any };
 
-    fn to_value(&self, alloc: Global) -> Result<Value, OutOfMemory> {
-        let mut members = Written::new(alloc);
-        members.put(alloc, "id", &self.id)?;
-        members.put(alloc, "type", &self.ty)?;
-        members.put_some(alloc, "transports", &self.transports)?;
-        Ok(members.into_value())
+    fn put_members<S: Sink>(&self, alloc: Global, sink: &mut S) -> Result<(), OutOfMemory> {
+        sink.put(alloc, "id", &self.id)?;
+        sink.put(alloc, "type", &self.ty)?;
+        sink.put_some(alloc, "transports", &self.transports)?;
+        Ok(())
     }
 }

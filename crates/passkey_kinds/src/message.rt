@@ -16,7 +16,7 @@ use crate::fault::Fault;
 use crate::record::{Record, read_record};
 use crate::to_cbor::ToCbor;
 use crate::write_fault::WriteFault;
-use passkey_cbor::{Cursor, Value};
+use passkey_cbor::{Cursor, Encoder, Value};
 use std::alloc::Global;
 
 /// A CTAP2 message: a map that is decoded from bytes and encoded (CTAP 2.1, sections 6 and 8).
@@ -111,5 +111,7 @@ pub fn write_message<T: ToCbor>(alloc: Global, message: &T) -> Result<Vec<u8>, W
     ensures fits { OnOk result (T.fits message.now) }
     ensures memory { IfErr result (λ e. e ≡ NoMemory) }
 {
-    Ok(message.to_value(alloc)?.to_vec(alloc)?)
+    let mut encoder = Encoder::new(alloc);
+    message.append(alloc, &mut encoder)?;
+    Ok(encoder.into_vec())
 }

@@ -1,7 +1,7 @@
 //! Credential parameters, decoded from data items and encoded.
 ghost use Rattle.std.specs.Prelude.{true};
 ghost use Rattle.passkey_kinds.specs.Parameters.{parameters_fields, parameters};
-ghost use Rattle.passkey_kinds.specs.Trees.{parameters_tree};
+ghost use Rattle.passkey_kinds.specs.Trees.{parameters_places};
 ghost use Rattle.passkey_webauthn.specs.declared.parameters.PublicKeyCredentialParameters.{PublicKeyCredentialParameters as Parameters};
 ghost use Rattle.passkey_kinds.specs.ReadBack.{Any};
 ghost use Rattle.passkey_kinds.specs.RecordCost.{record_cost, record_keeps};
@@ -10,9 +10,9 @@ use crate::from_cbor::FromCbor;
 use crate::record::{Record, nested_from_value, read_nested};
 use crate::refusal::Refusal;
 use crate::rows::Row;
+use crate::sink::Sink;
 use crate::source::{Source, set, set_or};
-use crate::to_cbor::ToCbor;
-use crate::written::Written;
+use crate::to_cbor_map::ToCborMap;
 use passkey_cbor::{Cursor, Value};
 use passkey_iana::Algorithm;
 use passkey_memory::OutOfMemory;
@@ -80,15 +80,14 @@ impl FromCbor for PublicKeyCredentialParameters {
     }
 }
 
-impl ToCbor for PublicKeyCredentialParameters {
-    ghost tree = { parameters_tree };
+impl ToCborMap for PublicKeyCredentialParameters {
+    ghost places = { parameters_places };
 
-    ghost fits = { Any };
+    ghost holds = { Any };
 
-    fn to_value(&self, alloc: Global) -> Result<Value, OutOfMemory> {
-        let mut members = Written::new(alloc);
-        members.put(alloc, "alg", &self.alg)?;
-        members.put(alloc, "type", &self.ty)?;
-        Ok(members.into_value())
+    fn put_members<S: Sink>(&self, alloc: Global, sink: &mut S) -> Result<(), OutOfMemory> {
+        sink.put(alloc, "alg", &self.alg)?;
+        sink.put(alloc, "type", &self.ty)?;
+        Ok(())
     }
 }

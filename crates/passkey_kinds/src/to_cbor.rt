@@ -1,14 +1,17 @@
 //! Values that are encoded as data items.
-ghost use Rattle.std.specs.Prelude.{◌≡◌, ◌<◌, ◌^◌, ℕ, IfOk, OnOk};
+ghost use Rattle.std.specs.Prelude.{◌≡◌, ◌<◌, ◌^◌, ◌++◌, ℕ, pos, IfOk, OnOk};
+ghost use Rattle.passkey_cbor.specs.Encoder.{encoding};
 ghost use Rattle.passkey_cbor.specs.Item.{Item, boolean, byte_string, text_string};
 ghost use Rattle.passkey_cbor.specs.View.{item_of};
+ghost use Rattle.passkey_cbor.specs.Writable.{IsWritable};
+ghost use Rattle.passkey_cbor.specs.Written.{written};
 ghost use Rattle.passkey_core.specs.DataNormal.{IfPresent};
 ghost use Rattle.passkey_kinds.specs.ReadBack.{Any};
 ghost use Rattle.passkey_kinds.specs.Tree.{number_tree, option_tree};
 ghost use Rattle.passkey_kinds.specs.Trees.{credential_type_tree, transport_tree};
 
 use passkey_bytes::{Bytes, Text};
-use passkey_cbor::{Integer, Value};
+use passkey_cbor::{Encoder, Integer, Value};
 use passkey_memory::OutOfMemory;
 use passkey_webauthn::{AuthenticatorTransport, EnumNames, PublicKeyCredentialType};
 use std::alloc::Global;
@@ -26,6 +29,16 @@ pub trait ToCbor {
     fn to_value(&self, alloc: Global) -> Result<Value, OutOfMemory>
         ensures tree { IfOk result (λ v. item_of v ≡ tree self.now) }
         ensures fits { OnOk result (fits self.now) };
+
+    /// Appends the encoding of the data item that `to_value` returns, which needn't be built.
+    /// Returns `OutOfMemory` if an allocation fails; then the encoder's bytes may end within it.
+    fn append(&self, alloc: Global, encoder: &mut Encoder) -> Result<(), OutOfMemory>
+        ensures written { OnOk result (encoding encoder.new ≡ encoding encoder.old ++ written (tree self.now)) }
+        ensures writable { OnOk result (IsWritable (tree self.now)) }
+        ensures fits { OnOk result (fits self.now) }
+    {
+        encoder.item(&self.to_value(alloc)?)
+    }
 }
 
 impl ToCbor for bool {
@@ -36,12 +49,22 @@ impl ToCbor for bool {
     fn to_value(&self, _alloc: Global) -> Result<Value, OutOfMemory> {
         Ok(Value::Bool(*self))
     }
+
+    fn append(&self, _alloc: Global, encoder: &mut Encoder) -> Result<(), OutOfMemory> {
+        encoder.boolean(*self)
+    }
+}
+
+fn integer(n: u32) -> Integer
+    ensures { result ≡ pos n }
+{
+    Integer::new(i128::from(n)).unwrap()
 }
 
 pub(crate) fn number(n: u32) -> Value
     ensures { item_of result ≡ number_tree n }
 {
-    Value::Integer(Integer::new(i128::from(n)).unwrap())
+    Value::Integer(integer(n))
 }
 
 impl ToCbor for u8 {
@@ -52,6 +75,10 @@ impl ToCbor for u8 {
     fn to_value(&self, _alloc: Global) -> Result<Value, OutOfMemory> {
         Ok(number(u32::from(*self)))
     }
+
+    fn append(&self, _alloc: Global, encoder: &mut Encoder) -> Result<(), OutOfMemory> {
+        encoder.integer(integer(u32::from(*self)))
+    }
 }
 
 impl ToCbor for u32 {
@@ -61,6 +88,10 @@ impl ToCbor for u32 {
 
     fn to_value(&self, _alloc: Global) -> Result<Value, OutOfMemory> {
         Ok(number(*self))
+    }
+
+    fn append(&self, _alloc: Global, encoder: &mut Encoder) -> Result<(), OutOfMemory> {
+        encoder.integer(integer(*self))
     }
 }
 
@@ -78,6 +109,10 @@ impl<'a> ToCbor for &'a str {
     fn to_value(&self, alloc: Global) -> Result<Value, OutOfMemory> {
         text(alloc, self)
     }
+
+    fn append(&self, _alloc: Global, encoder: &mut Encoder) -> Result<(), OutOfMemory> {
+        encoder.text_string(self)
+    }
 }
 
 impl ToCbor for Text {
@@ -87,6 +122,10 @@ impl ToCbor for Text {
 
     fn to_value(&self, alloc: Global) -> Result<Value, OutOfMemory> {
         text(alloc, self.as_str())
+    }
+
+    fn append(&self, _alloc: Global, encoder: &mut Encoder) -> Result<(), OutOfMemory> {
+        encoder.text_string(self.as_str())
     }
 }
 
@@ -98,6 +137,10 @@ impl ToCbor for Bytes {
     fn to_value(&self, alloc: Global) -> Result<Value, OutOfMemory> {
         Ok(Value::Bytes(Vec::from_slice(alloc, self.as_slice())?))
     }
+
+    fn append(&self, _alloc: Global, encoder: &mut Encoder) -> Result<(), OutOfMemory> {
+        encoder.byte_string(self.as_slice())
+    }
 }
 
 impl ToCbor for Value {
@@ -107,6 +150,10 @@ impl ToCbor for Value {
 
     fn to_value(&self, alloc: Global) -> Result<Value, OutOfMemory> {
         self.try_clone(alloc)
+    }
+
+    fn append(&self, _alloc: Global, encoder: &mut Encoder) -> Result<(), OutOfMemory> {
+        encoder.item(self)
     }
 }
 
@@ -119,6 +166,13 @@ impl<T: ToCbor> ToCbor for Option<T> {
         match self {
             Some(value) => value.to_value(alloc),
             None => Ok(Value::Null),
+        }
+    }
+
+    fn append(&self, alloc: Global, encoder: &mut Encoder) -> Result<(), OutOfMemory> {
+        match self {
+            Some(value) => value.append(alloc, encoder),
+            None => encoder.null(),
         }
     }
 }
@@ -137,6 +191,10 @@ impl ToCbor for PublicKeyCredentialType {
     fn to_value(&self, alloc: Global) -> Result<Value, OutOfMemory> {
         written_name(alloc, *self)
     }
+
+    fn append(&self, _alloc: Global, encoder: &mut Encoder) -> Result<(), OutOfMemory> {
+        encoder.text_string(self.name())
+    }
 }
 
 impl ToCbor for AuthenticatorTransport {
@@ -146,5 +204,9 @@ impl ToCbor for AuthenticatorTransport {
 
     fn to_value(&self, alloc: Global) -> Result<Value, OutOfMemory> {
         written_name(alloc, *self)
+    }
+
+    fn append(&self, _alloc: Global, encoder: &mut Encoder) -> Result<(), OutOfMemory> {
+        encoder.text_string(self.name())
     }
 }

@@ -1,6 +1,6 @@
 //! Users, decoded from data items and encoded.
 ghost use Rattle.std.specs.Prelude.{true};
-ghost use Rattle.passkey_kinds.specs.Trees.{webauthn_user_tree};
+ghost use Rattle.passkey_kinds.specs.Trees.{webauthn_user_places};
 ghost use Rattle.passkey_kinds.specs.User.{user_fields, user};
 ghost use Rattle.passkey_webauthn.specs.declared.user.PublicKeyCredentialUserEntity.{PublicKeyCredentialUserEntity as UserEntity};
 ghost use Rattle.passkey_kinds.specs.ReadBack.{Any};
@@ -10,9 +10,9 @@ use crate::from_cbor::FromCbor;
 use crate::record::{Record, nested_from_value, read_nested};
 use crate::refusal::Refusal;
 use crate::rows::Row;
+use crate::sink::Sink;
 use crate::source::{Source, set};
-use crate::to_cbor::ToCbor;
-use crate::written::Written;
+use crate::to_cbor_map::ToCborMap;
 use passkey_bytes::{Bytes, Text};
 use passkey_cbor::{Cursor, Value};
 use passkey_memory::OutOfMemory;
@@ -81,16 +81,15 @@ impl FromCbor for PublicKeyCredentialUserEntity {
     }
 }
 
-impl ToCbor for PublicKeyCredentialUserEntity {
-    ghost tree = { webauthn_user_tree };
+impl ToCborMap for PublicKeyCredentialUserEntity {
+    ghost places = { webauthn_user_places };
 
-    ghost fits = { Any };
+    ghost holds = { Any };
 
-    fn to_value(&self, alloc: Global) -> Result<Value, OutOfMemory> {
-        let mut members = Written::new(alloc);
-        members.put(alloc, "id", &self.id)?;
-        members.put(alloc, "name", &self.name)?;
-        members.put(alloc, "displayName", &self.display_name)?;
-        Ok(members.into_value())
+    fn put_members<S: Sink>(&self, alloc: Global, sink: &mut S) -> Result<(), OutOfMemory> {
+        sink.put(alloc, "id", &self.id)?;
+        sink.put(alloc, "name", &self.name)?;
+        sink.put(alloc, "displayName", &self.display_name)?;
+        Ok(())
     }
 }

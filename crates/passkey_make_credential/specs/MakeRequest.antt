@@ -4,20 +4,20 @@ use Rattle.passkey_cbor.specs.Depth.{depth}
 use Rattle.passkey_cbor.specs.LeadingItem.{max_depth}
 use Rattle.passkey_cbor.specs.Item.{Item, byte_string}
 use Rattle.passkey_core.specs.DataNormal.{IfPresent}
-use Rattle.passkey_kinds.specs.Descriptor.{descriptor, descriptor_fields}
+use Rattle.passkey_kinds.specs.Descriptor.{descriptor_fields}
 use Rattle.passkey_extensions.specs.ExtensionTrees.{make_extensions_tree, MakeExtensionsFit, make_extensions_kept}
 use Rattle.passkey_kinds.specs.Record.{Fields, required, default, table_of, read_item}
 use Rattle.passkey_kinds.specs.RecordCost.{nested}
 use Rattle.passkey_kinds.specs.Table.{Table}
 use Rattle.passkey_kinds.specs.Typed.{below, optional, bytes, accepted, tolerated}
 use Rattle.passkey_extensions.specs.MakeExtensions.{MakeExtensionsParts, make_extensions_fields}
-use Rattle.passkey_make_credential.specs.MakeOptions.{options, options_default, options_tree, normal_options, options_fields}
-use Rattle.passkey_entities.specs.MakeRp.{rp, rp_tree, rp_fields}
-use Rattle.passkey_kinds.specs.Parameters.{parameters, parameters_fields}
+use Rattle.passkey_make_credential.specs.MakeOptions.{options_default, options_tree, normal_options, options_fields}
+use Rattle.passkey_entities.specs.MakeRp.{rp_tree, rp_fields}
+use Rattle.passkey_kinds.specs.Parameters.{parameters_fields}
 use Rattle.passkey_kinds.specs.ReadBack.{IsByte}
 use Rattle.passkey_kinds.specs.Tree.{Place, number_tree, list_tree, always, where_some, record_tree}
 use Rattle.passkey_kinds.specs.Trees.{descriptor_tree, parameters_tree, webauthn_user_tree}
-use Rattle.passkey_kinds.specs.User.{user, user_fields}
+use Rattle.passkey_kinds.specs.User.{user_fields}
 use Rattle.passkey_kinds.specs.declared.fault.Fault.{Fault}
 use Rattle.passkey_make_credential.specs.declared.options.Options.{Options}
 use Rattle.passkey_entities.specs.declared.rp.PublicKeyCredentialRpEntity.{PublicKeyCredentialRpEntity}

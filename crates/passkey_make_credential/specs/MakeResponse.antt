@@ -12,7 +12,7 @@ use Rattle.passkey_kinds.specs.Record.{Fields, required, default, table_of, read
 use Rattle.passkey_kinds.specs.RecordCost.{nested}
 use Rattle.passkey_kinds.specs.Table.{Table}
 use Rattle.passkey_kinds.specs.Typed.{bytes, kept, optional, text, truth, authenticator_data}
-use Rattle.passkey_extensions.specs.MakeUnsigned.{unsigned, unsigned_fields}
+use Rattle.passkey_extensions.specs.MakeUnsigned.{unsigned_fields}
 use Rattle.passkey_kinds.specs.Tree.{Place, number_tree, always, where_some, record_tree}
 use Rattle.passkey_kinds.specs.declared.fault.Fault.{Fault}
 use Rattle.passkey_extensions.specs.declared.make_credential.unsigned.UnsignedExtensionOutputs.{UnsignedExtensionOutputs}

@@ -3,7 +3,7 @@ ghost use Rattle.std.specs.Prelude.{◌≡◌, IfOk, IfErr, OnOk};
 ghost use Rattle.passkey_cbor.specs.View.{item_of};
 ghost use Rattle.passkey_cbor.specs.Writable.{IsWritable};
 ghost use Rattle.passkey_cbor.specs.Written.{written};
-ghost use Rattle.passkey_make_credential.specs.MakeRequest.{MakeRequestParts, make_request_fields, make_request_table, read_make_request, make_request_tree, MakeRequestFits, is_make_request_coherent};
+ghost use Rattle.passkey_make_credential.specs.MakeRequest.{MakeRequestParts, make_request_fields, make_request_table, read_make_request, make_request_places, make_request_tree, MakeRequestFits, is_make_request_coherent};
 ghost use Rattle.passkey_make_credential.specs.MakeRequestView.{make_request_parts};
 ghost use Rattle.passkey_kinds.specs.declared.fault.Fault.TheVariants.{OutOfMemory as NoRoom};
 ghost use Rattle.passkey_kinds.specs.Message.{ReadsMessage, ReadsHere, GrowsMessage};
@@ -16,7 +16,7 @@ use passkey_bytes::{Bytes, List, Text};
 use passkey_cbor::{Cursor, Value};
 use passkey_extensions::make_credential::ExtensionInputs;
 use passkey_kinds::{
-    Fault, Message, Record, Refusal, Row, Source, ToCbor, WriteFault, Written, message_from_slice,
+    Fault, Message, Record, Refusal, Row, Sink, Source, ToCborMap, WriteFault, message_from_slice,
     read_message, record_from_value, set, set_accepted, set_accepted_or_none, write_message,
 };
 use passkey_memory::OutOfMemory;
@@ -114,23 +114,22 @@ impl Record for Request {
     }
 }
 
-impl ToCbor for Request {
-    ghost tree = { λ r. make_request_tree (make_request_parts r) };
+impl ToCborMap for Request {
+    ghost places = { λ r. make_request_places (make_request_parts r) };
 
-    ghost fits = { λ r. MakeRequestFits (make_request_parts r) };
+    ghost holds = { λ r. MakeRequestFits (make_request_parts r) };
 
-    fn to_value(&self, alloc: Global) -> Result<Value, OutOfMemory> {
-        let mut members = Written::new(alloc);
-        members.put(alloc, 1_u8, &self.client_data_hash)?;
-        members.put(alloc, 2_u8, &self.rp)?;
-        members.put(alloc, 3_u8, &self.user)?;
-        members.put(alloc, 4_u8, &self.pub_key_cred_params)?;
-        members.put_some(alloc, 5_u8, &self.exclude_list)?;
-        members.put_some(alloc, 6_u8, &self.extensions)?;
-        members.put(alloc, 7_u8, &self.options)?;
-        members.put_some(alloc, 8_u8, &self.pin_auth)?;
-        members.put_some(alloc, 9_u8, &self.pin_protocol)?;
-        Ok(members.into_value())
+    fn put_members<S: Sink>(&self, alloc: Global, sink: &mut S) -> Result<(), OutOfMemory> {
+        sink.put(alloc, 1_u8, &self.client_data_hash)?;
+        sink.put(alloc, 2_u8, &self.rp)?;
+        sink.put(alloc, 3_u8, &self.user)?;
+        sink.put(alloc, 4_u8, &self.pub_key_cred_params)?;
+        sink.put_some(alloc, 5_u8, &self.exclude_list)?;
+        sink.put_some(alloc, 6_u8, &self.extensions)?;
+        sink.put(alloc, 7_u8, &self.options)?;
+        sink.put_some(alloc, 8_u8, &self.pin_auth)?;
+        sink.put_some(alloc, 9_u8, &self.pin_protocol)?;
+        Ok(())
     }
 }
 

@@ -5,7 +5,7 @@ ghost use Rattle.passkey_cbor.specs.Writable.{IsWritable};
 ghost use Rattle.passkey_cbor.specs.Written.{written};
 ghost use Rattle.passkey_core.specs.DataNormal.{IsData};
 ghost use Rattle.passkey_core.specs.DataViews.{data_parts};
-ghost use Rattle.passkey_make_credential.specs.MakeResponse.{MakeResponseParts, make_response_fields, make_response_table, read_make_response, make_response_tree, MakeResponseFits, is_make_response_coherent, attestation_tree};
+ghost use Rattle.passkey_make_credential.specs.MakeResponse.{MakeResponseParts, make_response_fields, make_response_table, read_make_response, make_response_places, make_response_tree, MakeResponseFits, is_make_response_coherent, attestation_tree};
 ghost use Rattle.passkey_make_credential.specs.MakeResponseView.{make_response_parts};
 ghost use Rattle.passkey_kinds.specs.declared.fault.Fault.TheVariants.{OutOfMemory as NoRoom};
 ghost use Rattle.passkey_kinds.specs.Message.{ReadsMessage, ReadsHere, GrowsMessage};
@@ -14,11 +14,11 @@ ghost use Rattle.passkey_kinds.specs.declared.write_fault.WriteFault.TheVariants
 
 use crate::laws::read_make_response_is_coherent;
 use passkey_bytes::{Bytes, Text};
-use passkey_cbor::{Cursor, MAX_DEPTH, Value};
+use passkey_cbor::{Cursor, Encoder, MAX_DEPTH, Value};
 use passkey_core::AuthenticatorData;
 use passkey_extensions::make_credential::UnsignedExtensionOutputs;
 use passkey_kinds::{
-    Fault, Message, Record, Refusal, Row, Source, ToCbor, WriteFault, Written, message_from_slice,
+    Fault, Message, Record, Refusal, Row, Sink, Source, ToCborMap, WriteFault, message_from_slice,
     read_message, record_from_value, set, write_message,
 };
 use passkey_memory::OutOfMemory;
@@ -88,20 +88,19 @@ impl Record for Response {
     }
 }
 
-impl ToCbor for Response {
-    ghost tree = { λ r. make_response_tree (make_response_parts r) };
+impl ToCborMap for Response {
+    ghost places = { λ r. make_response_places (make_response_parts r) };
 
-    ghost fits = { λ r. MakeResponseFits (make_response_parts r) };
+    ghost holds = { λ r. MakeResponseFits (make_response_parts r) };
 
-    fn to_value(&self, alloc: Global) -> Result<Value, OutOfMemory> {
-        let mut members = Written::new(alloc);
-        members.put(alloc, 1_u8, &self.fmt)?;
-        members.put(alloc, 2_u8, &self.auth_data)?;
-        members.put(alloc, 3_u8, &self.att_stmt)?;
-        members.put_some(alloc, 4_u8, &self.ep_att)?;
-        members.put_some(alloc, 5_u8, &self.large_blob_key)?;
-        members.put_some(alloc, 6_u8, &self.unsigned_extension_outputs)?;
-        Ok(members.into_value())
+    fn put_members<S: Sink>(&self, alloc: Global, sink: &mut S) -> Result<(), OutOfMemory> {
+        sink.put(alloc, 1_u8, &self.fmt)?;
+        sink.put(alloc, 2_u8, &self.auth_data)?;
+        sink.put(alloc, 3_u8, &self.att_stmt)?;
+        sink.put_some(alloc, 4_u8, &self.ep_att)?;
+        sink.put_some(alloc, 5_u8, &self.large_blob_key)?;
+        sink.put_some(alloc, 6_u8, &self.unsigned_extension_outputs)?;
+        Ok(())
     }
 }
 
@@ -170,11 +169,12 @@ impl Response {
         ensures fits { OnOk result (IsData (data_parts self.now.auth_data)) }
     {
         let no_statement = Value::Map(Vec::new(alloc));
-        let mut members = Written::new(alloc);
-        members.put(alloc, "fmt", &"none")?;
-        members.put(alloc, "attStmt", &no_statement)?;
-        members.put(alloc, "authData", &self.auth_data)?;
-        members.into_value().to_vec(alloc)
+        let mut encoder = Encoder::new(alloc);
+        encoder.map_head(3)?;
+        encoder.put(alloc, "fmt", &"none")?;
+        encoder.put(alloc, "attStmt", &no_statement)?;
+        encoder.put(alloc, "authData", &self.auth_data)?;
+        Ok(encoder.into_vec())
     }
 }
 

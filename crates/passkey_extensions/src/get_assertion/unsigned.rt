@@ -3,13 +3,13 @@ ghost use Rattle.std.specs.Prelude.{◌≡◌, true, is_some, None};
 ghost use Rattle.passkey_core.specs.SignedOutputs.{where_some};
 ghost use Rattle.passkey_extensions.specs.GetUnsigned.{unsigned_fields, unsigned};
 ghost use Rattle.passkey_extensions.specs.declared.get_assertion.unsigned.UnsignedExtensionOutputs.{UnsignedExtensionOutputs as UnsignedOutputs};
-ghost use Rattle.passkey_extensions.specs.ExtensionTrees.{UsedFits, used_tree};
+ghost use Rattle.passkey_extensions.specs.ExtensionTrees.{UsedFits, used_places};
 ghost use Rattle.passkey_kinds.specs.RecordCost.{record_cost, record_keeps};
 
 use crate::AuthenticatorPrfGetOutputs;
 use passkey_cbor::{Cursor, Value};
 use passkey_kinds::{
-    FromCbor, ReadBack, Record, Refusal, Row, Shallow, Source, ToCbor, Written, nested_from_value,
+    FromCbor, ReadBack, Record, Refusal, Row, Shallow, Sink, Source, ToCborMap, nested_from_value,
     read_nested, set,
 };
 use passkey_memory::OutOfMemory;
@@ -90,15 +90,14 @@ impl FromCbor for UnsignedExtensionOutputs {
     }
 }
 
-impl ToCbor for UnsignedExtensionOutputs {
-    ghost tree = { used_tree };
+impl ToCborMap for UnsignedExtensionOutputs {
+    ghost places = { used_places };
 
-    ghost fits = { UsedFits };
+    ghost holds = { UsedFits };
 
-    fn to_value(&self, alloc: Global) -> Result<Value, OutOfMemory> {
-        let mut members = Written::new(alloc);
-        members.put(alloc, "prf", &self.prf)?;
-        Ok(members.into_value())
+    fn put_members<S: Sink>(&self, alloc: Global, sink: &mut S) -> Result<(), OutOfMemory> {
+        sink.put(alloc, "prf", &self.prf)?;
+        Ok(())
     }
 }
 

@@ -3,14 +3,14 @@ ghost use Rattle.std.specs.Prelude.{nat_le, ◌≡◌, true};
 ghost use Rattle.passkey_core.specs.SignedOutputs.{where_some};
 ghost use Rattle.passkey_extensions.specs.MakeExtensions.{MakeExtensionsParts, make_extensions_fields, make_extensions};
 ghost use Rattle.passkey_extensions.specs.MakeExtensionsView.{make_extensions_parts, no_make_extensions, has_make_extension};
-ghost use Rattle.passkey_extensions.specs.ExtensionTrees.{MakeExtensionsFit, make_extensions_tree};
+ghost use Rattle.passkey_extensions.specs.ExtensionTrees.{MakeExtensionsFit, make_extensions_places, make_extensions_tree};
 ghost use Rattle.passkey_cbor.specs.Depth.{depth};
 ghost use Rattle.passkey_kinds.specs.RecordCost.{record_cost, record_keeps};
 
 use crate::{AuthenticatorPrfInputs, HmacGetSecretInput};
 use passkey_cbor::{Cursor, Value};
 use passkey_kinds::{
-    FromCbor, ReadBack, Record, Refusal, Row, Source, ToCbor, Written, nested_from_value,
+    FromCbor, ReadBack, Record, Refusal, Row, Sink, Source, ToCborMap, nested_from_value,
     read_nested, set,
 };
 use passkey_memory::OutOfMemory;
@@ -118,18 +118,17 @@ impl FromCbor for ExtensionInputs {
     }
 }
 
-impl ToCbor for ExtensionInputs {
-    ghost tree = { λ e. make_extensions_tree (make_extensions_parts e) };
+impl ToCborMap for ExtensionInputs {
+    ghost places = { λ e. make_extensions_places (make_extensions_parts e) };
 
-    ghost fits = { λ e. MakeExtensionsFit (make_extensions_parts e) };
+    ghost holds = { λ e. MakeExtensionsFit (make_extensions_parts e) };
 
     #[tactic(auto, using(passkey_kinds::proofs::Lists::option_twice, passkey_kinds::proofs::Lists::where_twice))]
-    fn to_value(&self, alloc: Global) -> Result<Value, OutOfMemory> {
-        let mut members = Written::new(alloc);
-        members.put_some(alloc, "prf", &self.prf)?;
-        members.put_some(alloc, "hmac-secret", &self.hmac_secret)?;
-        members.put_some(alloc, "hmac-secret-mc", &self.hmac_secret_mc)?;
-        Ok(members.into_value())
+    fn put_members<S: Sink>(&self, alloc: Global, sink: &mut S) -> Result<(), OutOfMemory> {
+        sink.put_some(alloc, "prf", &self.prf)?;
+        sink.put_some(alloc, "hmac-secret", &self.hmac_secret)?;
+        sink.put_some(alloc, "hmac-secret-mc", &self.hmac_secret_mc)?;
+        Ok(())
     }
 }
 

@@ -1,0 +1,15 @@
+use Rattle.std.proofs.Common.{refl}
+use Rattle.passkey_get_info.proofs.options.Options.put_short.Goals as goal
+
+pub returns-clause-put : goal.returns-clause-put
+returns-clause-put g c =
+    rw (
+      c.in_ok-put_some-5.ensures.put,
+      c.in_ok-put_some-4.ensures.put,
+      c.in_ok-put_some-3.ensures.put,
+      c.in_ok-put-3.ensures.put,
+      c.in_ok-put_some-2.ensures.put,
+      c.in_ok-put-2.ensures.put,
+      c.in_ok-put.ensures.put,
+      c.in_ok-put_some.ensures.put,
+    ) refl

@@ -1,0 +1,22 @@
+-- A response, with its greatest message size as the data item that it is encoded as.
+use Rattle.std.specs.Prelude.{List, ◌++◌, option_map}
+use Rattle.passkey_cbor.specs.View.{item_of}
+use Rattle.passkey_core.specs.DataNormal.{IfPresent}
+use Rattle.passkey_kinds.specs.Tree.{Place}
+use Rattle.passkey_get_info.specs.GetInfo.{GetInfoParts}
+use Rattle.passkey_get_info.specs.GetInfoTree.{GetInfoFits, IsPositive, capability_places_with, limit_places}
+use Rattle.passkey_get_info.specs.GetInfoView.{get_info_parts}
+use Rattle.passkey_get_info.specs.declared.writing.Encodable.{Encodable}
+
+abbrev pub encodable_parts : Encodable → GetInfoParts
+encodable_parts e = get_info_parts e.response.now
+
+abbrev pub encodable_capabilities : Encodable → List Place
+encodable_capabilities e = capability_places_with (option_map item_of e.max_msg_size) (encodable_parts e)
+
+abbrev pub encodable_places : Encodable → List Place
+encodable_places e = encodable_capabilities e ++ limit_places (encodable_parts e)
+
+-- the size fits if it could be encoded
+abbrev pub EncodableFits : Encodable → Type 0
+EncodableFits e = IfPresent IsPositive (encodable_parts e).max_msg_size → GetInfoFits (encodable_parts e)

@@ -1,0 +1,95 @@
+-- What sinks hold after the members of a record: a counter, an encoder, and a list of members.
+use Rattle.std.proofs.Common.{◌≡◌, ◌∙◌, ℕ, suc, ◌+◌, ◌<◌, ◌^◌, List, [], ◌∷◌, ◌++◌, length, append_assoc, Option, Some, None, refl, sym, ap, subst, arith}
+use Rattle.std.proofs.lemmas.List.{append-nil}
+use Rattle.passkey_cbor.specs.Encoding.{pairs_len}
+use Rattle.passkey_cbor.specs.Item.{Item, pairs_of}
+use Rattle.passkey_cbor.specs.Writable.{IsWritable, ArePairsWritable}
+use Rattle.passkey_cbor.specs.Written.{shortest_head, written, pairs_written}
+use Rattle.passkey_cbor.proofs.Items.{pairs_len-pairs_of}
+use Rattle.passkey_kinds.specs.Sink.{AllAccepted, MemberAccepted, append_member, encode_member, put_all, put_one}
+use Rattle.passkey_kinds.specs.Table.{Members}
+use Rattle.passkey_kinds.specs.Tree.{Place, laid, record_tree, under}
+use Rattle.passkey_kinds.proofs.Back.{laid_spread, spread}
+
+-- ---- two lists of places, one after the other, in any sink
+
+pub accepted_both : (Accepts : Item → Type 0) (ps qs : List Place) → AllAccepted Accepts ps → AllAccepted Accepts qs
+    → AllAccepted Accepts (ps ++ qs)
+accepted_both Accepts [] qs h k = k
+accepted_both Accepts (p ∷ ps) qs h k = (h.0, accepted_both Accepts ps qs h.1 k)
+
+-- ---- a list of members
+
+appended_one : (ms : Members) (key : Item) (o : Option Item) → put_one append_member ms key o ≡ ms ++ under key o
+appended_one ms key None = sym (append-nil ms)
+appended_one ms key (Some x) = refl
+
+pub appended_all : (ms : Members) (ps : List Place) → put_all append_member ms ps ≡ laid ms ps
+appended_all ms [] = refl
+appended_all ms (p ∷ ps) =
+    appended_all (put_one append_member ms p.0 p.1) ps ∙ ap (λ ns. laid ns ps) (appended_one ms p.0 p.1)
+
+-- ---- a counter
+
+abbrev pub count_one : Item → Item → ℕ → ℕ
+count_one key x n = suc n
+
+counted_one : (n : ℕ) (key : Item) (o : Option Item) (ms : Members)
+    → put_one count_one n key o + length ms ≡ n + length (under key o ++ ms)
+counted_one n key None ms = refl
+counted_one n key (Some x) ms = omega arith
+
+counted_all : (n : ℕ) (ps : List Place) → put_all count_one n ps ≡ n + length (spread ps)
+counted_all n [] = omega arith
+counted_all n (p ∷ ps) =
+    counted_all (put_one count_one n p.0 p.1) ps ∙ counted_one n p.0 p.1 (spread ps)
+
+-- ---- an encoder
+
+encoded_one : (bytes : List ℕ) (key : Item) (o : Option Item) (ms : Members)
+    → put_one encode_member bytes key o ++ pairs_written (pairs_of ms)
+    ≡ bytes ++ pairs_written (pairs_of (under key o ++ ms))
+encoded_one bytes key None ms = refl
+encoded_one bytes key (Some x) ms =
+    let rest : List ℕ = pairs_written (pairs_of ms) in
+    append_assoc (bytes ++ written key) (written x) rest ∙ append_assoc bytes (written key) (written x ++ rest)
+    ∙ ap (λ (s : List ℕ). bytes ++ s) (sym (append_assoc (written key) (written x) rest))
+
+encoded_all : (bytes : List ℕ) (ps : List Place)
+    → put_all encode_member bytes ps ≡ bytes ++ pairs_written (pairs_of (spread ps))
+encoded_all bytes [] = sym (append-nil bytes)
+encoded_all bytes (p ∷ ps) =
+    encoded_all (put_one encode_member bytes p.0 p.1) ps ∙ encoded_one bytes p.0 p.1 (spread ps)
+
+accepted_one : (key : Item) (o : Option Item) (ms : Members) → MemberAccepted IsWritable key o
+    → ArePairsWritable (pairs_of ms) → ArePairsWritable (pairs_of (under key o ++ ms))
+accepted_one key None ms h rest = rest
+accepted_one key (Some x) ms h rest = (h, rest)
+
+accepted_all : (ps : List Place) → AllAccepted IsWritable ps → ArePairsWritable (pairs_of (spread ps))
+accepted_all [] h = tt
+accepted_all (p ∷ ps) h = accepted_one p.0 p.1 (spread ps) h.0 (accepted_all ps h.1)
+
+-- ---- a record, encoded as a head with the number of its members, and the members
+
+members_len : (ps : List Place) → put_all count_one 0 ps ≡ pairs_len (pairs_of (spread ps))
+members_len ps = omega (arith, counted_all 0 ps, pairs_len-pairs_of (spread ps))
+
+pub record_written : (ps : List Place) (n : ℕ) (old behind new : List ℕ) → n ≡ put_all count_one 0 ps
+    → behind ≡ old ++ shortest_head 5 n → new ≡ put_all encode_member behind ps
+    → new ≡ old ++ written (record_tree ps)
+record_written ps n old behind new count head put =
+    let ms : Members = spread ps in
+    put ∙ encoded_all behind ps
+    ∙ ap (λ (s : List ℕ). s ++ pairs_written (pairs_of ms)) head
+    ∙ append_assoc old (shortest_head 5 n) (pairs_written (pairs_of ms))
+    ∙ ap (λ (k : ℕ). old ++ (shortest_head 5 k ++ pairs_written (pairs_of ms))) (count ∙ members_len ps)
+    ∙ ap (λ (ns : Members). old ++ (shortest_head 5 (pairs_len (pairs_of ns)) ++ pairs_written (pairs_of ns)))
+    (sym (laid_spread [] ps))
+
+pub record_writable : (ps : List Place) (n : ℕ) → n ≡ put_all count_one 0 ps → n < 2 ^ 64
+    → AllAccepted IsWritable ps → IsWritable (record_tree ps)
+record_writable ps n count fits accepted =
+    let few : pairs_len (pairs_of (spread ps)) < 2 ^ 64 = omega (arith, count, members_len ps, fits) in
+    subst (λ (ms : Members). (pairs_len (pairs_of ms) < 2 ^ 64) × ArePairsWritable (pairs_of ms))
+    (sym (laid_spread [] ps)) (few, accepted_all ps accepted)

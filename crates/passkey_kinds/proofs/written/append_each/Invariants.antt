@@ -1,0 +1,12 @@
+use Rattle.std.specs.List.{All}
+use Rattle.std.proofs.Common.{map, drop}
+use Rattle.passkey_cbor.specs.Item.{items_of}
+use Rattle.passkey_cbor.proofs.Writing.{WritesItems}
+use Rattle.passkey_kinds.proofs.written.append_each.Given as goal
+
+abbrev pub invariant-loop-value : goal.invariant-loop-value
+invariant-loop-value g l = record {
+  bytes : WritesItems (items_of (map g.T.ToCbor.tree l.list)) (items_of (map g.T.ToCbor.tree (drop l.value-index l.list)))
+      l.fn.encoder.bytes.items l.encoder.bytes.items;
+  fits : All g.T.ToCbor.fits (drop l.value-index l.list) → All g.T.ToCbor.fits l.list;
+}
