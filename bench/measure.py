@@ -12,6 +12,8 @@ import statistics
 import subprocess
 import sys
 
+from inputs import inputs
+
 FEW = 2
 # what one run takes, about, in seconds
 LONG = 0.6
@@ -59,6 +61,12 @@ def instructions(program, call, rounds, file):
     return int(re.search(r"I\s+refs:\s+([\d,]+)", ran.stderr)[1].replace(",", ""))
 
 
+def instructions_a_round(program, call, file, few=1, many=3):
+    """Of a run of many rounds less those of a run of few: so starting the process and reading the input don't count."""
+    counts = [instructions(program, call, rounds, file) for rounds in (few, many)]
+    return (counts[1] - counts[0]) // (many - few)
+
+
 def instructions_a_byte(program, call, file, size):
     if not shutil.which("valgrind"):
         return "?"
@@ -79,7 +87,7 @@ def main():
     programs = (program, f"{folder}/baseline")
     print("| input | call | MB/s | range | baseline MB/s | range | ratio | instructions a byte | baseline |")
     print("|---|---|---|---|---|---|---|---|---|")
-    for name in ("maps", "nested"):
+    for name in inputs():
         file = f"{folder}/{name}"
         with open(file, "rb") as it:
             size = len(it.read())

@@ -1,32 +1,45 @@
-"""messages.py PROGRAM FOLDER counts the instructions that decoding a message takes, and decoding and encoding it.
+"""messages.py PROGRAM FOLDER INPUTS counts the instructions that decoding a message takes, and decoding and encoding it; and what
+the calls over whole data items take, of the same messages and of the array INPUTS/credentials.
 
-FOLDER has the messages in hexadecimal. Counted are the instructions of valgrind's cachegrind outside the kernel, of a run of
-three rounds less those of a run of one, halved: so starting the process and reading the input don't count."""
+FOLDER has the messages in hexadecimal. Counted are the instructions of valgrind's cachegrind outside the kernel."""
 import subprocess
 import sys
 import tempfile
 from pathlib import Path
 
-from measure import instructions
+from measure import instructions_a_round
 
 KINDS = [("info", "authenticatorGetInfo response"), ("mc-response", "authenticatorMakeCredential response"), ("ga-request", "authenticatorGetAssertion request")]
 
 
+def message_row(program, kind, name, message, file):
+    counted = subprocess.run([program, f"count-{kind}", "1"], input=message, capture_output=True, check=True).stdout.split()
+    figures = [instructions_a_round(program, call, file) for call in (f"decode-{kind}", f"rewrite-{kind}")]
+    return f"| {name} | {len(message):,} | {int(counted[1]):,} | {' | '.join(f'{it:,}' for it in figures)} |"
+
+
+def item_row(program, name, size, file):
+    skip, decode, rewrite = (instructions_a_round(program, call, file) for call in ("skip", "from_slice", "rewrite"))
+    return f"| {name} | {size:,} | {skip:,} | {decode:,} | {rewrite - decode:,} |"
+
+
 def main():
-    program, folder = sys.argv[1], Path(sys.argv[2])
-    print("| message | bytes | heads | skip | decode | decode and encode | as an item: decode | decode and encode |")
-    print("|---|---:|---:|---:|---:|---:|---:|---:|")
-    for kind, name in KINDS:
-        message = bytes.fromhex((folder / f"{kind}.hex").read_text(encoding="ascii"))
-        with tempfile.NamedTemporaryFile() as file:
-            file.write(message)
-            file.flush()
-            counted = subprocess.run([program, f"count-{kind}", "1"], input=message, capture_output=True, check=True).stdout.split()
-            figures = []
-            for call in ("skip", f"decode-{kind}", f"rewrite-{kind}", "from_slice", "rewrite"):
-                few, many = (instructions(program, call, rounds, file.name) for rounds in (1, 3))
-                figures.append(f"{(many - few) // 2:,}")
-        print(f"| {name} | {len(message):,} | {int(counted[1]):,} | {' | '.join(figures)} |", flush=True)
+    program, folder, inputs = sys.argv[1], Path(sys.argv[2]), Path(sys.argv[3])
+    print("| message | bytes | heads | decode | decode and encode |")
+    print("|---|---:|---:|---:|---:|")
+    items = []
+    with tempfile.TemporaryDirectory() as work:
+        for kind, name in KINDS:
+            message = bytes.fromhex((folder / f"{kind}.hex").read_text(encoding="ascii"))
+            file = Path(work) / kind
+            file.write_bytes(message)
+            print(message_row(program, kind, name, message, file), flush=True)
+            items.append((name, len(message), file))
+        array = inputs / "credentials"
+        items.append(("array of 23,442 maps", array.stat().st_size, array))
+        print("\n| item | bytes | `item_len` | `from_slice` | `to_vec` |\n|---|---:|---:|---:|---:|")
+        for item in items:
+            print(item_row(program, *item), flush=True)
 
 
 if __name__ == "__main__":
