@@ -17,6 +17,8 @@ mod ctap2;
 #[cfg(test)]
 mod cursor;
 #[cfg(test)]
+mod encoder;
+#[cfg(test)]
 mod entities;
 #[cfg(test)]
 mod items;

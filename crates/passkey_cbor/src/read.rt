@@ -1,5 +1,5 @@
 //! Decoding data items to values.
-ghost use Rattle.std.specs.Prelude.{◌≡◌, ◌<◌, ◌≤◌, ◌⊎◌, ◌↔◌, ℕ, [], map, string_bytes, true, Err, IfOk, IfErr, OnErr, IsOk};
+ghost use Rattle.std.specs.Prelude.{◌≡◌, ◌<◌, ◌≤◌, ◌⊎◌, ◌↔◌, ℕ, [], length, map, string_bytes, true, Err, IfOk, IfErr, OnErr, IsOk};
 ghost use Rattle.std.specs.Option.{IsSomeAnd};
 ghost use Rattle.std.specs.Str.{IsUtf8};
 ghost use Rattle.passkey_cbor.specs.Item as item;
@@ -49,6 +49,16 @@ fn room_for<T>(alloc: Global, len: Option<u64>) -> Result<Vec<T>, OutOfMemory>
         Some(len) => Ok(Vec::with_capacity(alloc, len as usize)?),
         None => Ok(Vec::new(alloc)),
     }
+}
+
+/// Returns a copy of the bytes, in a list without room for more.
+pub(crate) fn copied(alloc: Global, bytes: &[u8]) -> Result<Vec<u8>, OutOfMemory>
+    ensures copy { IfOk result (λ v. v.items ≡ bytes.now) }
+    ensures some { OnErr result (0 < length bytes.now) }
+{
+    let mut copy = Vec::with_capacity(alloc, bytes.len())?;
+    copy.extend_from_slice(bytes)?;
+    Ok(copy)
 }
 
 impl<'a> Cursor<'a> {
@@ -237,12 +247,10 @@ impl<'a> Cursor<'a> {
         ensures made { Makes some_bytes (piece_at is_text len (ahead self.old)) self.old self.new result }
         ensures stands { IfOk result (λ v. is_allowed is_text v.items ≡ true) }
     {
-        let mut bytes = Vec::new(alloc);
         match self.piece(is_text, len) {
-            None => return Err(CborError::DecodeFailed),
-            Some(piece) => bytes.extend_from_slice(piece)?,
+            None => Err(CborError::DecodeFailed),
+            Some(piece) => Ok(copied(alloc, piece)?),
         }
-        Ok(bytes)
     }
 
     /// Builds the bytes of a string in chunks.

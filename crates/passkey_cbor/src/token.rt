@@ -9,6 +9,7 @@ ghost use Rattle.passkey_cbor.specs.Walk.{ahead, IsInside, Went};
 
 use crate::cursor::{Cursor, Next};
 use crate::names::name_of;
+use crate::read::copied;
 use crate::text_chunks::TextChunks;
 use passkey_memory::OutOfMemory;
 use std::alloc::Global;
@@ -163,11 +164,7 @@ fn copy(
     ensures rises { cursor.old.heads ≤ cursor.new.heads }
 {
     match len {
-        Some(_) => {
-            let mut bytes = Vec::new(alloc);
-            bytes.extend_from_slice(region)?;
-            Ok(bytes)
-        }
+        Some(_) => Ok(copied(alloc, region)?),
         None => {
             let mut chunks = Cursor::new(region);
             let bytes = chunks.build_chunks(alloc, is_text);

@@ -6,7 +6,7 @@ ghost use Rattle.passkey_kinds.specs.ReadBack.{Any};
 ghost use Rattle.passkey_get_info.specs.declared.version.Version.{Version as Told};
 
 use passkey_bytes::Text;
-use passkey_cbor::{Cursor, Value};
+use passkey_cbor::{Cursor, Encoder, Value};
 use passkey_kinds::{FromCbor, FromText, ReadBack, Refusal, Shallow, ToCbor, read_text_value};
 use passkey_memory::OutOfMemory;
 use std::alloc::Global;
@@ -88,6 +88,10 @@ impl ToCbor for Version {
 
     fn to_value(&self, alloc: Global) -> Result<Value, OutOfMemory> {
         self.name().to_value(alloc)
+    }
+
+    fn append(&self, _alloc: Global, encoder: &mut Encoder) -> Result<(), OutOfMemory> {
+        encoder.text_string(self.name())
     }
 }
 

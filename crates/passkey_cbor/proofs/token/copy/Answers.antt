@@ -6,23 +6,18 @@ use Rattle.passkey_cbor.proofs.Strings.{is_allowed-is}
 use Rattle.passkey_cbor.proofs.Joining.{copies_chunks, looks_at_all, looks_at_some, looks_at_none, looks_at_some_none, whole_region}
 use Rattle.passkey_cbor.proofs.token.copy.Goals as goal
 
-pub returns-in_err-extend_from_slice-in-Some-clause-copies :
-    goal.returns-in_err-extend_from_slice-in-Some-clause-copies
-returns-in_err-extend_from_slice-in-Some-clause-copies c =
+pub returns-in_err-copied-in-Some-clause-copies : goal.returns-in_err-copied-in-Some-clause-copies
+returns-in_err-copied-in-Some-clause-copies c =
     let p = err_from_is_err_and c.from_residual.result c.from_residual.ensures.1 in
     rw p.1 (λ s t. omega (
       arith,
-      c.in_err-extend_from_slice-in-Some.ensures.full,
+      c.in_err-copied-in-Some.ensures.some,
       ap length (whole_region c.args.is_text c.args.len _ c.args.region.now s c.in-Some.is t).0,
     ))
 
-pub returns-in_ok-extend_from_slice-in-Some-clause-stands :
-    goal.returns-in_ok-extend_from_slice-in-Some-clause-stands
-returns-in_ok-extend_from_slice-in-Some-clause-stands c =
-    let whole : c.extend_from_slice.new.self.items ≡ c.args.region.now =
-    c.in_ok-extend_from_slice-in-Some.ensures.items
-    ∙ ap (λ (t : List ℕ). t ++ c.args.region.now) c.new-bytes.ensures.items in
-    is_allowed-is c.args.is_text _ (subst (IsAllowed c.args.is_text) (sym whole)
+pub returns-in_ok-copied-in-Some-clause-stands : goal.returns-in_ok-copied-in-Some-clause-stands
+returns-in_ok-copied-in-Some-clause-stands c =
+    is_allowed-is c.args.is_text _ (subst (IsAllowed c.args.is_text) (sym c.in_ok-copied-in-Some.ensures.copy)
     (whole_region c.args.is_text c.args.len _ c.args.region.now c.requires.0 c.in-Some.is c.requires.1).1)
 
 pub returns-in-Ok-clause-copies : goal.returns-in-Ok-clause-copies
@@ -47,12 +42,12 @@ returns-in-Err-clause-looks c = looks_at_some c.args.is_text c.args.len c.args.r
     (c.add_heads.ensures.raised ∙ ap (λ (h : ℕ). record c.args.cursor.now
     { heads = min (c.args.cursor.now.heads + h) (2 ^ 128 - 1) }) c.count.ensures.heads)
 
-pub returns-in_ok-extend_from_slice-in-Some-clause-looks : goal.returns-in_ok-extend_from_slice-in-Some-clause-looks
-returns-in_ok-extend_from_slice-in-Some-clause-looks c =
+pub returns-in_ok-copied-in-Some-clause-looks : goal.returns-in_ok-copied-in-Some-clause-looks
+returns-in_ok-copied-in-Some-clause-looks c =
     looks_at_none c.args.is_text c.args.len _ c.args.region.now c.args.cursor.now c.in-Some.is
 
-pub returns-in_err-extend_from_slice-in-Some-clause-looks :
-    goal.returns-in_err-extend_from_slice-in-Some-clause-looks
-returns-in_err-extend_from_slice-in-Some-clause-looks c =
+pub returns-in_err-copied-in-Some-clause-looks :
+    goal.returns-in_err-copied-in-Some-clause-looks
+returns-in_err-copied-in-Some-clause-looks c =
     let p = err_from_is_err_and c.from_residual.result c.from_residual.ensures.1 in
     rw p.1 (looks_at_some_none c.args.is_text c.args.len _ c.args.region.now c.args.cursor.now c.in-Some.is)
