@@ -1,19 +1,14 @@
 //! Relying parties in CTAP2's messages.
-ghost use Rattle.std.specs.Prelude.{◌≡◌, ◌<◌, ◌⊎◌, length, true, IfOk, OnErr};
+ghost use Rattle.std.specs.Prelude.{◌≡◌, ◌<◌, ◌⊎◌, length, IfOk, OnErr};
 ghost use Rattle.std.specs.Option.{IsSomeAnd};
 ghost use Rattle.passkey_entities.specs.MakeRp.{rp_places, rp_fields, rp};
 ghost use Rattle.passkey_entities.specs.declared.rp.PublicKeyCredentialRpEntity.{PublicKeyCredentialRpEntity as RpEntity};
 ghost use Rattle.passkey_kinds.specs.ReadBack.{Any};
 ghost use Rattle.passkey_entities.specs.Entities.{rp_of_webauthn};
-ghost use Rattle.passkey_kinds.specs.RecordCost.{record_cost, record_keeps};
 
 use crate::MissingRpId;
 use passkey_bytes::Text;
-use passkey_cbor::{Cursor, Value};
-use passkey_kinds::{
-    FromCbor, ReadBack, Record, Refusal, Row, Shallow, Sink, Source, ToCborMap, nested_from_value,
-    read_nested, set,
-};
+use passkey_kinds::{RecordReadBack, Record, Refusal, Row, Shallow, Sink, Source, ToCborMap, set};
 use passkey_memory::OutOfMemory;
 use passkey_webauthn as webauthn;
 use std::alloc::Global;
@@ -98,31 +93,6 @@ impl Record for PublicKeyCredentialRpEntity {
     }
 }
 
-impl FromCbor for PublicKeyCredentialRpEntity {
-    ghost Meaning = { RpEntity };
-
-    ghost view = { λ rp. rp };
-
-    ghost kind = { rp };
-
-    ghost takes = { true };
-
-    ghost cost = { record_cost rp_fields };
-
-    ghost keeps = { record_keeps rp_fields };
-
-    fn from_value(alloc: Global, value: &Value) -> Result<PublicKeyCredentialRpEntity, Refusal> {
-        nested_from_value(alloc, value)
-    }
-
-    fn read(
-        alloc: Global,
-        cursor: &mut Cursor<'_>,
-    ) -> Result<PublicKeyCredentialRpEntity, Refusal> {
-        read_nested(alloc, cursor)
-    }
-}
-
 impl ToCborMap for PublicKeyCredentialRpEntity {
     ghost places = { rp_places };
 
@@ -135,11 +105,11 @@ impl ToCborMap for PublicKeyCredentialRpEntity {
     }
 }
 
-impl ReadBack for PublicKeyCredentialRpEntity {
+impl RecordReadBack for PublicKeyCredentialRpEntity {
     ghost normal = { λ r. r };
 
     #[tactic(auto, using(crate::proofs::MakeBack::rp_back))]
-    fn read_back() {}
+    fn record_back() {}
 }
 
 impl Shallow for PublicKeyCredentialRpEntity {

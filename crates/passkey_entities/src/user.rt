@@ -1,19 +1,14 @@
 //! Users in CTAP2's messages.
-ghost use Rattle.std.specs.Prelude.{◌≡◌, ◌<◌, ◌⊎◌, length, true, IfOk, OnErr, None, IfErr, codes};
+ghost use Rattle.std.specs.Prelude.{◌≡◌, ◌<◌, ◌⊎◌, length, IfOk, OnErr, None, IfErr, codes};
 ghost use Rattle.std.specs.Result.{result_ok};
 ghost use Rattle.std.specs.Option.{IsSomeAnd};
 ghost use Rattle.passkey_entities.specs.MakeUser.{user_places, user_fields, user};
 ghost use Rattle.passkey_entities.specs.declared.user.PublicKeyCredentialUserEntity.{PublicKeyCredentialUserEntity as UserEntity};
 ghost use Rattle.passkey_kinds.specs.ReadBack.{Any};
 ghost use Rattle.passkey_entities.specs.Entities.{user_of_webauthn, webauthn_of_user};
-ghost use Rattle.passkey_kinds.specs.RecordCost.{record_cost, record_keeps};
 
 use passkey_bytes::{Bytes, Text};
-use passkey_cbor::{Cursor, Value};
-use passkey_kinds::{
-    FromCbor, ReadBack, Record, Refusal, Row, Shallow, Sink, Source, ToCborMap, nested_from_value,
-    read_nested, set,
-};
+use passkey_kinds::{RecordReadBack, Record, Refusal, Row, Shallow, Sink, Source, ToCborMap, set};
 use passkey_memory::OutOfMemory;
 use passkey_webauthn as webauthn;
 use std::alloc::Global;
@@ -144,31 +139,6 @@ impl Record for PublicKeyCredentialUserEntity {
     }
 }
 
-impl FromCbor for PublicKeyCredentialUserEntity {
-    ghost Meaning = { UserEntity };
-
-    ghost view = { λ user. user };
-
-    ghost kind = { user };
-
-    ghost takes = { true };
-
-    ghost cost = { record_cost user_fields };
-
-    ghost keeps = { record_keeps user_fields };
-
-    fn from_value(alloc: Global, value: &Value) -> Result<PublicKeyCredentialUserEntity, Refusal> {
-        nested_from_value(alloc, value)
-    }
-
-    fn read(
-        alloc: Global,
-        cursor: &mut Cursor<'_>,
-    ) -> Result<PublicKeyCredentialUserEntity, Refusal> {
-        read_nested(alloc, cursor)
-    }
-}
-
 impl ToCborMap for PublicKeyCredentialUserEntity {
     ghost places = { user_places };
 
@@ -183,11 +153,11 @@ impl ToCborMap for PublicKeyCredentialUserEntity {
     }
 }
 
-impl ReadBack for PublicKeyCredentialUserEntity {
+impl RecordReadBack for PublicKeyCredentialUserEntity {
     ghost normal = { λ u. u };
 
     #[tactic(auto, using(crate::proofs::MakeBack::made_user_back))]
-    fn read_back() {}
+    fn record_back() {}
 }
 
 impl Shallow for PublicKeyCredentialUserEntity {

@@ -5,23 +5,18 @@ ghost use Rattle.passkey_cbor.specs.Grows.{Grows};
 ghost use Rattle.passkey_cbor.specs.View.{item_of};
 ghost use Rattle.passkey_cbor.specs.Writable.{IsWritable};
 ghost use Rattle.passkey_cbor.specs.Written.{written};
-ghost use Rattle.passkey_extensions.specs.HmacInput.{HmacInputParts, hmac_input_fields, hmac_input_table, hmac_input, read_hmac_input};
+ghost use Rattle.passkey_extensions.specs.HmacInput.{HmacInputParts, hmac_input_fields, hmac_input_table, read_hmac_input};
 ghost use Rattle.passkey_extensions.specs.HmacInputView.{hmac_input_parts};
 ghost use Rattle.passkey_extensions.specs.ExtensionTrees.{HmacInputFits, hmac_input_places, hmac_input_tree, is_hmac_input_coherent};
 ghost use Rattle.passkey_kinds.specs.declared.fault.Fault.TheVariants.{OutOfMemory as NoRoom};
 ghost use Rattle.passkey_kinds.specs.Message.{ReadsMessage, ReadsHere, GrowsMessage};
 ghost use Rattle.passkey_kinds.specs.Reading.{MayGrowAt, Reads};
 ghost use Rattle.passkey_kinds.specs.declared.write_fault.WriteFault.TheVariants.{OutOfMemory as NoMemory};
-ghost use Rattle.passkey_kinds.specs.RecordCost.{record_cost, record_keeps};
 
 use crate::laws::read_hmac_input_is_coherent;
 use passkey_bytes::Bytes;
 use passkey_cbor::{Cursor, MAX_DEPTH, Value};
-use passkey_kinds::{
-    Fault, FromCbor, Message, ReadBack, Record, Refusal, Row, Sink, Source, ToCborMap, WriteFault,
-    message_from_slice, nested_from_value, read_message, read_nested, record_from_value, set,
-    write_message,
-};
+use passkey_kinds::{Fault, Message, RecordReadBack, Record, Refusal, Row, Sink, Source, ToCborMap, WriteFault, message_from_slice, read_message, record_from_value, set, write_message};
 use passkey_memory::OutOfMemory;
 use std::alloc::Global;
 
@@ -161,28 +156,6 @@ impl Record for HmacGetSecretInput {
     }
 }
 
-impl FromCbor for HmacGetSecretInput {
-    ghost Meaning = { HmacInputParts };
-
-    ghost view = { hmac_input_parts };
-
-    ghost kind = { hmac_input };
-
-    ghost takes = { true };
-
-    ghost cost = { record_cost hmac_input_fields };
-
-    ghost keeps = { record_keeps hmac_input_fields };
-
-    fn from_value(alloc: Global, value: &Value) -> Result<HmacGetSecretInput, Refusal> {
-        nested_from_value(alloc, value)
-    }
-
-    fn read(alloc: Global, cursor: &mut Cursor<'_>) -> Result<HmacGetSecretInput, Refusal> {
-        read_nested(alloc, cursor)
-    }
-}
-
 impl ToCborMap for HmacGetSecretInput {
     ghost places = { λ h. hmac_input_places (hmac_input_parts h) };
 
@@ -197,11 +170,11 @@ impl ToCborMap for HmacGetSecretInput {
     }
 }
 
-impl ReadBack for HmacGetSecretInput {
+impl RecordReadBack for HmacGetSecretInput {
     ghost normal = { λ h. h };
 
     #[tactic(auto, using(crate::proofs::ExtensionBack::hmac_input_back))]
-    fn read_back() {}
+    fn record_back() {}
 }
 
 impl Message for HmacGetSecretInput {

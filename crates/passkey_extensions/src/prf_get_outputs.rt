@@ -1,17 +1,12 @@
 //! Outputs of the extension prf at an assertion.
-ghost use Rattle.std.specs.Prelude.{true, ◌≡◌, IfOk};
-ghost use Rattle.passkey_extensions.specs.PrfGetOutputs.{prf_get_fields, prf_get};
+ghost use Rattle.std.specs.Prelude.{◌≡◌, IfOk};
+ghost use Rattle.passkey_extensions.specs.PrfGetOutputs.{prf_get_fields};
 ghost use Rattle.passkey_extensions.specs.declared.prf_get_outputs.AuthenticatorPrfGetOutputs.{AuthenticatorPrfGetOutputs as PrfGetOutputs};
 ghost use Rattle.passkey_extensions.specs.ExtensionTrees.{PrfGetFits, prf_get_places};
 ghost use Rattle.passkey_extensions.specs.PrfWebauthn.{webauthn_used};
-ghost use Rattle.passkey_kinds.specs.RecordCost.{record_cost, record_keeps};
 
 use crate::prf_values::AuthenticatorPrfValues;
-use passkey_cbor::{Cursor, Value};
-use passkey_kinds::{
-    FromCbor, ReadBack, Record, Refusal, Row, Shallow, Sink, Source, ToCborMap, nested_from_value,
-    read_nested, set,
-};
+use passkey_kinds::{RecordReadBack, Record, Refusal, Row, Shallow, Sink, Source, ToCborMap, set};
 use passkey_memory::OutOfMemory;
 use passkey_webauthn::AuthenticationExtensionsPrfOutputs;
 use std::alloc::Global;
@@ -71,28 +66,6 @@ impl Record for AuthenticatorPrfGetOutputs {
     }
 }
 
-impl FromCbor for AuthenticatorPrfGetOutputs {
-    ghost Meaning = { PrfGetOutputs };
-
-    ghost view = { λ outputs. outputs };
-
-    ghost kind = { prf_get };
-
-    ghost takes = { true };
-
-    ghost cost = { record_cost prf_get_fields };
-
-    ghost keeps = { record_keeps prf_get_fields };
-
-    fn from_value(alloc: Global, value: &Value) -> Result<AuthenticatorPrfGetOutputs, Refusal> {
-        nested_from_value(alloc, value)
-    }
-
-    fn read(alloc: Global, cursor: &mut Cursor<'_>) -> Result<AuthenticatorPrfGetOutputs, Refusal> {
-        read_nested(alloc, cursor)
-    }
-}
-
 impl ToCborMap for AuthenticatorPrfGetOutputs {
     ghost places = { prf_get_places };
 
@@ -104,11 +77,11 @@ impl ToCborMap for AuthenticatorPrfGetOutputs {
     }
 }
 
-impl ReadBack for AuthenticatorPrfGetOutputs {
+impl RecordReadBack for AuthenticatorPrfGetOutputs {
     ghost normal = { λ o. o };
 
     #[tactic(auto, using(crate::proofs::ExtensionBack::prf_get_back))]
-    fn read_back() {}
+    fn record_back() {}
 }
 
 impl Shallow for AuthenticatorPrfGetOutputs {

@@ -1,19 +1,14 @@
 //! Inputs of the extension prf.
-ghost use Rattle.std.specs.Prelude.{◌≡◌, true, IfOk, OnErr};
+ghost use Rattle.std.specs.Prelude.{◌≡◌, IfOk, OnErr};
 ghost use Rattle.std.specs.FinMap as fin;
 ghost use Rattle.std.specs.Option.{IsSomeAnd};
-ghost use Rattle.passkey_extensions.specs.PrfInputs.{prf_inputs_fields, prf_inputs};
+ghost use Rattle.passkey_extensions.specs.PrfInputs.{prf_inputs_fields};
 ghost use Rattle.passkey_extensions.specs.declared.prf_inputs.AuthenticatorPrfInputs.{AuthenticatorPrfInputs as PrfInputs};
 ghost use Rattle.passkey_extensions.specs.ExtensionTrees.{PrfInputsFit, prf_inputs_places};
-ghost use Rattle.passkey_kinds.specs.RecordCost.{record_cost, record_keeps};
 
 use crate::prf_values::AuthenticatorPrfValues;
 use passkey_bytes::{Bytes, Map};
-use passkey_cbor::{Cursor, Value};
-use passkey_kinds::{
-    FromCbor, ReadBack, Record, Refusal, Row, Shallow, Sink, Source, ToCborMap, nested_from_value,
-    read_nested, set,
-};
+use passkey_kinds::{RecordReadBack, Record, Refusal, Row, Shallow, Sink, Source, ToCborMap, set};
 use passkey_memory::OutOfMemory;
 use std::alloc::Global;
 
@@ -101,28 +96,6 @@ impl Record for AuthenticatorPrfInputs {
     }
 }
 
-impl FromCbor for AuthenticatorPrfInputs {
-    ghost Meaning = { PrfInputs };
-
-    ghost view = { λ inputs. inputs };
-
-    ghost kind = { prf_inputs };
-
-    ghost takes = { true };
-
-    ghost cost = { record_cost prf_inputs_fields };
-
-    ghost keeps = { record_keeps prf_inputs_fields };
-
-    fn from_value(alloc: Global, value: &Value) -> Result<AuthenticatorPrfInputs, Refusal> {
-        nested_from_value(alloc, value)
-    }
-
-    fn read(alloc: Global, cursor: &mut Cursor<'_>) -> Result<AuthenticatorPrfInputs, Refusal> {
-        read_nested(alloc, cursor)
-    }
-}
-
 impl ToCborMap for AuthenticatorPrfInputs {
     ghost places = { prf_inputs_places };
 
@@ -135,11 +108,11 @@ impl ToCborMap for AuthenticatorPrfInputs {
     }
 }
 
-impl ReadBack for AuthenticatorPrfInputs {
+impl RecordReadBack for AuthenticatorPrfInputs {
     ghost normal = { λ i. i };
 
     #[tactic(auto, using(crate::proofs::ExtensionBack::prf_inputs_back))]
-    fn read_back() {}
+    fn record_back() {}
 }
 
 impl Shallow for AuthenticatorPrfInputs {

@@ -1,17 +1,12 @@
 //! Outputs of the extension prf at a registration.
 ghost use Rattle.std.specs.Prelude.{true, ◌≡◌, is_some, IfOk, OnErr};
-ghost use Rattle.passkey_extensions.specs.PrfMakeOutputs.{prf_make_fields, prf_make};
+ghost use Rattle.passkey_extensions.specs.PrfMakeOutputs.{prf_make_fields};
 ghost use Rattle.passkey_extensions.specs.declared.prf_make_outputs.AuthenticatorPrfMakeOutputs.{AuthenticatorPrfMakeOutputs as PrfMakeOutputs};
 ghost use Rattle.passkey_extensions.specs.ExtensionTrees.{PrfMakeFits, prf_make_places};
 ghost use Rattle.passkey_extensions.specs.PrfWebauthn.{webauthn_made};
-ghost use Rattle.passkey_kinds.specs.RecordCost.{record_cost, record_keeps};
 
 use crate::prf_values::AuthenticatorPrfValues;
-use passkey_cbor::{Cursor, Value};
-use passkey_kinds::{
-    FromCbor, ReadBack, Record, Refusal, Row, Shallow, Sink, Source, ToCborMap, nested_from_value,
-    read_nested, set,
-};
+use passkey_kinds::{RecordReadBack, Record, Refusal, Row, Shallow, Sink, Source, ToCborMap, set};
 use passkey_memory::OutOfMemory;
 use passkey_webauthn::AuthenticationExtensionsPrfOutputs;
 use std::alloc::Global;
@@ -78,31 +73,6 @@ impl Record for AuthenticatorPrfMakeOutputs {
     }
 }
 
-impl FromCbor for AuthenticatorPrfMakeOutputs {
-    ghost Meaning = { PrfMakeOutputs };
-
-    ghost view = { λ outputs. outputs };
-
-    ghost kind = { prf_make };
-
-    ghost takes = { true };
-
-    ghost cost = { record_cost prf_make_fields };
-
-    ghost keeps = { record_keeps prf_make_fields };
-
-    fn from_value(alloc: Global, value: &Value) -> Result<AuthenticatorPrfMakeOutputs, Refusal> {
-        nested_from_value(alloc, value)
-    }
-
-    fn read(
-        alloc: Global,
-        cursor: &mut Cursor<'_>,
-    ) -> Result<AuthenticatorPrfMakeOutputs, Refusal> {
-        read_nested(alloc, cursor)
-    }
-}
-
 impl ToCborMap for AuthenticatorPrfMakeOutputs {
     ghost places = { prf_make_places };
 
@@ -115,11 +85,11 @@ impl ToCborMap for AuthenticatorPrfMakeOutputs {
     }
 }
 
-impl ReadBack for AuthenticatorPrfMakeOutputs {
+impl RecordReadBack for AuthenticatorPrfMakeOutputs {
     ghost normal = { λ o. o };
 
     #[tactic(auto, using(crate::proofs::ExtensionBack::prf_make_back))]
-    fn read_back() {}
+    fn record_back() {}
 }
 
 impl Shallow for AuthenticatorPrfMakeOutputs {

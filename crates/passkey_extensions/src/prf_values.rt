@@ -1,17 +1,12 @@
 //! Salts and outputs of the extension prf.
-ghost use Rattle.std.specs.Prelude.{true, ◌≡◌, IfOk};
-ghost use Rattle.passkey_extensions.specs.PrfValues.{prf_values_fields, prf_values};
+ghost use Rattle.std.specs.Prelude.{◌≡◌, IfOk};
+ghost use Rattle.passkey_extensions.specs.PrfValues.{prf_values_fields};
 ghost use Rattle.passkey_extensions.specs.declared.prf_values.AuthenticatorPrfValues.{AuthenticatorPrfValues as PrfValues};
 ghost use Rattle.passkey_extensions.specs.ExtensionTrees.{PrfValuesFit, prf_values_places};
 ghost use Rattle.passkey_extensions.specs.PrfWebauthn.{webauthn_values};
-ghost use Rattle.passkey_kinds.specs.RecordCost.{record_cost, record_keeps};
 
 use passkey_bytes::Bytes;
-use passkey_cbor::{Cursor, Value};
-use passkey_kinds::{
-    FromCbor, ReadBack, Record, Refusal, Row, Shallow, Sink, Source, ToCborMap, nested_from_value,
-    read_nested, set,
-};
+use passkey_kinds::{RecordReadBack, Record, Refusal, Row, Shallow, Sink, Source, ToCborMap, set};
 use passkey_memory::OutOfMemory;
 use passkey_webauthn::AuthenticationExtensionsPrfValues;
 use std::alloc::Global;
@@ -78,28 +73,6 @@ impl Record for AuthenticatorPrfValues {
     }
 }
 
-impl FromCbor for AuthenticatorPrfValues {
-    ghost Meaning = { PrfValues };
-
-    ghost view = { λ values. values };
-
-    ghost kind = { prf_values };
-
-    ghost takes = { true };
-
-    ghost cost = { record_cost prf_values_fields };
-
-    ghost keeps = { record_keeps prf_values_fields };
-
-    fn from_value(alloc: Global, value: &Value) -> Result<AuthenticatorPrfValues, Refusal> {
-        nested_from_value(alloc, value)
-    }
-
-    fn read(alloc: Global, cursor: &mut Cursor<'_>) -> Result<AuthenticatorPrfValues, Refusal> {
-        read_nested(alloc, cursor)
-    }
-}
-
 impl ToCborMap for AuthenticatorPrfValues {
     ghost places = { prf_values_places };
 
@@ -112,11 +85,11 @@ impl ToCborMap for AuthenticatorPrfValues {
     }
 }
 
-impl ReadBack for AuthenticatorPrfValues {
+impl RecordReadBack for AuthenticatorPrfValues {
     ghost normal = { λ v. v };
 
     #[tactic(auto, using(crate::proofs::ExtensionBack::prf_values_back))]
-    fn read_back() {}
+    fn record_back() {}
 }
 
 impl Shallow for AuthenticatorPrfValues {

@@ -3,13 +3,8 @@ ghost use Rattle.std.specs.Prelude.{◌≡◌, true, false};
 ghost use Rattle.passkey_get_assertion.specs.GetOptions.{options_places, options_fields, options, options_default};
 ghost use Rattle.passkey_get_assertion.specs.declared.options.Options.{Options as Asked};
 ghost use Rattle.passkey_kinds.specs.ReadBack.{Any};
-ghost use Rattle.passkey_kinds.specs.RecordCost.{record_cost, record_keeps};
 
-use passkey_cbor::{Cursor, Value};
-use passkey_kinds::{
-    FromCbor, ReadBack, Record, Refusal, Row, Shallow, Sink, Source, ToCborMap, nested_from_value,
-    read_nested, set,
-};
+use passkey_kinds::{RecordReadBack, Record, Refusal, Row, Shallow, Sink, Source, ToCborMap, set};
 use passkey_memory::OutOfMemory;
 use std::alloc::Global;
 
@@ -63,28 +58,6 @@ impl Record for Options {
     }
 }
 
-impl FromCbor for Options {
-    ghost Meaning = { Asked };
-
-    ghost view = { λ options. options };
-
-    ghost kind = { options };
-
-    ghost takes = { true };
-
-    ghost cost = { record_cost options_fields };
-
-    ghost keeps = { record_keeps options_fields };
-
-    fn from_value(alloc: Global, value: &Value) -> Result<Options, Refusal> {
-        nested_from_value(alloc, value)
-    }
-
-    fn read(alloc: Global, cursor: &mut Cursor<'_>) -> Result<Options, Refusal> {
-        read_nested(alloc, cursor)
-    }
-}
-
 impl ToCborMap for Options {
     ghost places = { options_places };
 
@@ -97,11 +70,11 @@ impl ToCborMap for Options {
     }
 }
 
-impl ReadBack for Options {
+impl RecordReadBack for Options {
     ghost normal = { λ o. o };
 
     #[tactic(auto, using(crate::proofs::GetBack::options_back))]
-    fn read_back() {}
+    fn record_back() {}
 }
 
 impl Shallow for Options {

@@ -3,14 +3,9 @@ ghost use Rattle.std.specs.Prelude.{◌≡◌, true, OnOk};
 ghost use Rattle.passkey_get_info.specs.GetInfoOptions.{long_option_places, options, options_default, options_fields, options_places, short_option_places};
 ghost use Rattle.passkey_kinds.specs.ReadBack.{Any};
 ghost use Rattle.passkey_get_info.specs.declared.options.Options.{Options as Told};
-ghost use Rattle.passkey_kinds.specs.RecordCost.{record_cost, record_keeps};
 ghost use Rattle.passkey_kinds.specs.Sink.{AllAccepted, put_all};
 
-use passkey_cbor::{Cursor, Value};
-use passkey_kinds::{
-    FromCbor, ReadBack, Record, Refusal, Row, Shallow, Sink, Source, ToCborMap, nested_from_value,
-    read_nested, set,
-};
+use passkey_kinds::{RecordReadBack, Record, Refusal, Row, Shallow, Sink, Source, ToCborMap, set};
 use passkey_memory::OutOfMemory;
 use std::alloc::Global;
 
@@ -166,28 +161,6 @@ impl Record for Options {
     }
 }
 
-impl FromCbor for Options {
-    ghost Meaning = { Told };
-
-    ghost view = { λ options. options };
-
-    ghost kind = { options };
-
-    ghost takes = { true };
-
-    ghost cost = { record_cost options_fields };
-
-    ghost keeps = { record_keeps options_fields };
-
-    fn from_value(alloc: Global, value: &Value) -> Result<Options, Refusal> {
-        nested_from_value(alloc, value)
-    }
-
-    fn read(alloc: Global, cursor: &mut Cursor<'_>) -> Result<Options, Refusal> {
-        read_nested(alloc, cursor)
-    }
-}
-
 impl Options {
     fn put_short<S: Sink>(&self, alloc: Global, sink: &mut S) -> Result<(), OutOfMemory>
         ensures put { OnOk result (S.state sink.new ≡ put_all S.step (S.state sink.old) (short_option_places self.now)) }
@@ -247,11 +220,11 @@ impl ToCborMap for Options {
     }
 }
 
-impl ReadBack for Options {
+impl RecordReadBack for Options {
     ghost normal = { λ o. o };
 
     #[tactic(auto, using(crate::proofs::GetInfoBack::options_back))]
-    fn read_back() {}
+    fn record_back() {}
 }
 
 impl Shallow for Options {

@@ -1,20 +1,16 @@
 //! Credential descriptors, decoded from data items and encoded.
-ghost use Rattle.std.specs.Prelude.{true};
-ghost use Rattle.passkey_kinds.specs.Descriptor.{descriptor_fields, descriptor};
+ghost use Rattle.passkey_kinds.specs.Descriptor.{descriptor_fields};
 ghost use Rattle.passkey_webauthn.specs.declared.descriptor.PublicKeyCredentialDescriptor.{PublicKeyCredentialDescriptor as Descriptor};
 ghost use Rattle.passkey_kinds.specs.Trees.{descriptor_places};
 ghost use Rattle.passkey_kinds.specs.ReadBack.{Any};
-ghost use Rattle.passkey_kinds.specs.RecordCost.{record_cost, record_keeps};
 
-use crate::from_cbor::FromCbor;
-use crate::record::{Record, nested_from_value, read_nested};
+use crate::record::Record;
 use crate::refusal::Refusal;
 use crate::rows::Row;
 use crate::sink::Sink;
 use crate::source::{Source, set, set_accepted_or_none, set_or};
 use crate::to_cbor_map::ToCborMap;
 use passkey_bytes::Bytes;
-use passkey_cbor::{Cursor, Value};
 use passkey_memory::OutOfMemory;
 use passkey_webauthn::{PublicKeyCredentialDescriptor, PublicKeyCredentialType};
 use std::alloc::Global;
@@ -58,31 +54,6 @@ impl Record for PublicKeyCredentialDescriptor {
             3 => set_accepted_or_none(&mut self.transports, alloc, source),
             _ => Err(Refusal::Refused),
         }
-    }
-}
-
-impl FromCbor for PublicKeyCredentialDescriptor {
-    ghost Meaning = { Descriptor };
-
-    ghost view = { λ d. d };
-
-    ghost kind = { descriptor };
-
-    ghost takes = { true };
-
-    ghost cost = { record_cost descriptor_fields };
-
-    ghost keeps = { record_keeps descriptor_fields };
-
-    fn from_value(alloc: Global, value: &Value) -> Result<PublicKeyCredentialDescriptor, Refusal> {
-        nested_from_value(alloc, value)
-    }
-
-    fn read(
-        alloc: Global,
-        cursor: &mut Cursor<'_>,
-    ) -> Result<PublicKeyCredentialDescriptor, Refusal> {
-        read_nested(alloc, cursor)
     }
 }
 

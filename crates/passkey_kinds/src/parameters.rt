@@ -1,19 +1,15 @@
 //! Credential parameters, decoded from data items and encoded.
-ghost use Rattle.std.specs.Prelude.{true};
 ghost use Rattle.passkey_kinds.specs.Parameters.{parameters_fields, parameters};
 ghost use Rattle.passkey_kinds.specs.Trees.{parameters_places};
 ghost use Rattle.passkey_webauthn.specs.declared.parameters.PublicKeyCredentialParameters.{PublicKeyCredentialParameters as Parameters};
 ghost use Rattle.passkey_kinds.specs.ReadBack.{Any};
-ghost use Rattle.passkey_kinds.specs.RecordCost.{record_cost, record_keeps};
 
-use crate::from_cbor::FromCbor;
-use crate::record::{Record, nested_from_value, read_nested};
+use crate::record::Record;
 use crate::refusal::Refusal;
 use crate::rows::Row;
 use crate::sink::Sink;
 use crate::source::{Source, set, set_or};
 use crate::to_cbor_map::ToCborMap;
-use passkey_cbor::{Cursor, Value};
 use passkey_iana::Algorithm;
 use passkey_memory::OutOfMemory;
 use passkey_webauthn::{PublicKeyCredentialParameters, PublicKeyCredentialType};
@@ -52,31 +48,6 @@ impl Record for PublicKeyCredentialParameters {
             2 => set(&mut self.alg, alloc, source),
             _ => Err(Refusal::Refused),
         }
-    }
-}
-
-impl FromCbor for PublicKeyCredentialParameters {
-    ghost Meaning = { Parameters };
-
-    ghost view = { λ p. p };
-
-    ghost kind = { parameters };
-
-    ghost takes = { true };
-
-    ghost cost = { record_cost parameters_fields };
-
-    ghost keeps = { record_keeps parameters_fields };
-
-    fn from_value(alloc: Global, value: &Value) -> Result<PublicKeyCredentialParameters, Refusal> {
-        nested_from_value(alloc, value)
-    }
-
-    fn read(
-        alloc: Global,
-        cursor: &mut Cursor<'_>,
-    ) -> Result<PublicKeyCredentialParameters, Refusal> {
-        read_nested(alloc, cursor)
     }
 }
 

@@ -2,8 +2,10 @@
 ghost use Rattle.std.specs.Prelude.{◌≡◌, None};
 ghost use Rattle.passkey_cbor.specs.Item.{null};
 ghost use Rattle.passkey_kinds.specs.ReadBack.{IsReadBack};
+ghost use Rattle.passkey_kinds.specs.Record.{record_kind};
 
 use crate::from_cbor::FromCbor;
+use crate::record::Record;
 use crate::to_cbor::ToCbor;
 use passkey_bytes::{Bytes, List, Map, Text};
 use passkey_iana::Algorithm;
@@ -22,6 +24,24 @@ pub trait ReadBack: FromCbor + ToCbor {
     fn read_back()
         ensures back { IsReadBack Self.kind Self.tree Self.fits (λ x. Self.view (normal x)) }
         ensures not_null { Self.kind null ≡ None };
+}
+
+/// A record whose encoding can be decoded again.
+pub trait RecordReadBack: Record + ToCbor {
+    /// The record that the encoding of a record decodes to.
+    ghost normal: { Self → Self };
+
+    /// The encoding of a record decodes to its normal form. Does nothing.
+    fn record_back()
+        ensures { IsReadBack (record_kind Self.fields) Self.tree Self.fits (λ x. Self.parts (normal x)) };
+}
+
+impl<R: RecordReadBack> ReadBack for R {
+    ghost normal = { R.normal };
+
+    fn read_back() {
+        R::record_back();
+    }
 }
 
 impl ReadBack for bool {
@@ -100,25 +120,25 @@ impl<T: ReadBack> ReadBack for Map<Bytes, T> {
     }
 }
 
-impl ReadBack for PublicKeyCredentialDescriptor {
+impl RecordReadBack for PublicKeyCredentialDescriptor {
     ghost normal = { λ d. d };
 
     #[tactic(auto, using(crate::proofs::RecordBack::descriptor_back))]
-    fn read_back() {}
+    fn record_back() {}
 }
 
-impl ReadBack for PublicKeyCredentialParameters {
+impl RecordReadBack for PublicKeyCredentialParameters {
     ghost normal = { λ p. p };
 
     #[tactic(auto, using(crate::proofs::RecordBack::parameters_back))]
-    fn read_back() {}
+    fn record_back() {}
 }
 
-impl ReadBack for webauthn::PublicKeyCredentialUserEntity {
+impl RecordReadBack for webauthn::PublicKeyCredentialUserEntity {
     ghost normal = { λ u. u };
 
     #[tactic(auto, using(crate::proofs::RecordBack::user_back))]
-    fn read_back() {}
+    fn record_back() {}
 }
 
 impl ReadBack for [u8; 32] {

@@ -3,8 +3,7 @@ ghost use Rattle.std.specs.Prelude.{◌≡◌, ◌<◌, ◌≤◌, ℕ, true, fa
 ghost use Rattle.passkey_cbor.specs.Item.{Item};
 ghost use Rattle.passkey_cbor.specs.EncodedAt.{IsEncodedAt, PairsAreEncodedAt};
 ghost use Rattle.passkey_cbor.specs.View.{item_of, pair_of};
-ghost use Rattle.passkey_kinds.specs.Kind.{Answers};
-ghost use Rattle.passkey_kinds.specs.Reader.{Onward, Further, ReadsAs};
+ghost use Rattle.passkey_kinds.specs.Reader.{Onward, Further};
 ghost use Rattle.passkey_kinds.specs.Reading.{MayGrowIn, MayGrowAt, Reads, are_small, first_unmarked, named_as};
 ghost use Rattle.passkey_kinds.specs.Record.{Fields, table_of, read_members, read_item, record_kind, unless_missing};
 ghost use Rattle.passkey_kinds.specs.RecordCost.{record_cost, record_keeps, cost_at, keeps_at, cost_by, keeps_by};
@@ -13,6 +12,7 @@ ghost use Rattle.passkey_kinds.specs.Rows.{entry_of};
 ghost use Rattle.passkey_kinds.specs.Table.{Members, entries, named};
 
 use crate::fault::Fault;
+use crate::from_cbor::FromCbor;
 use crate::head::read_map;
 use crate::key::read_key;
 use crate::refusal::Refusal;
@@ -224,23 +224,26 @@ fn held<R: Record>(read: Result<R, Fault>) -> Result<R, Refusal>
     }
 }
 
-/// Decodes a record inside another one. Returns `Refused` if `record_from_value` returns any fault
-/// but `OutOfMemory`, and `OutOfMemory` if an allocation fails, which can only happen for an item
-/// that takes memory.
-pub fn nested_from_value<R: Record>(alloc: Global, value: &Value) -> Result<R, Refusal>
-    ensures { Answers R.parts (record_kind R.fields) true (item_of value.now) result }
-{
-    held(record_from_value::<R>(alloc, value))
-}
+/// A record inside another one. Returns `Refused` if `record_from_value` returns any fault but
+/// `OutOfMemory`.
+impl<R: Record> FromCbor for R {
+    ghost Meaning = { R.Parts };
 
-/// Decodes the record at the cursor that is inside another one, as `nested_from_value` decodes a
-/// data item, and moves past it. After an error the cursor may be anywhere in it.
-pub fn read_nested<R: Record>(alloc: Global, cursor: &mut Cursor<'_>) -> Result<R, Refusal>
-    ensures reads { (i : Item) (to : ℕ) → IsEncodedAt i cursor.old.bytes cursor.old.place to
-        → ReadsAs R.parts (record_kind R.fields) true (record_cost R.fields) (record_keeps R.fields) i to cursor.old
-        cursor.new result }
-    ensures onward { Onward cursor.old cursor.new }
-    ensures further { OnOk result (Further cursor.old cursor.new) }
-{
-    held(read_record::<R>(alloc, cursor))
+    ghost view = { R.parts };
+
+    ghost kind = { record_kind R.fields };
+
+    ghost takes = { true };
+
+    ghost cost = { record_cost R.fields };
+
+    ghost keeps = { record_keeps R.fields };
+
+    fn from_value(alloc: Global, value: &Value) -> Result<R, Refusal> {
+        held(record_from_value::<R>(alloc, value))
+    }
+
+    fn read(alloc: Global, cursor: &mut Cursor<'_>) -> Result<R, Refusal> {
+        held(read_record::<R>(alloc, cursor))
+    }
 }

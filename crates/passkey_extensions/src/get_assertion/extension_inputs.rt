@@ -1,18 +1,13 @@
 //! Extension inputs of authenticatorGetAssertion requests.
 ghost use Rattle.std.specs.Prelude.{nat_le, ◌≡◌, true};
 ghost use Rattle.passkey_core.specs.SignedOutputs.{where_some};
-ghost use Rattle.passkey_extensions.specs.GetExtensions.{GetExtensionsParts, get_extensions_fields, get_extensions};
+ghost use Rattle.passkey_extensions.specs.GetExtensions.{GetExtensionsParts, get_extensions_fields};
 ghost use Rattle.passkey_extensions.specs.GetExtensionsView.{get_extensions_parts, no_get_extensions, has_get_extension};
 ghost use Rattle.passkey_extensions.specs.ExtensionTrees.{GetExtensionsFit, get_extensions_places, get_extensions_tree};
 ghost use Rattle.passkey_cbor.specs.Depth.{depth};
-ghost use Rattle.passkey_kinds.specs.RecordCost.{record_cost, record_keeps};
 
 use crate::{AuthenticatorPrfInputs, HmacGetSecretInput};
-use passkey_cbor::{Cursor, Value};
-use passkey_kinds::{
-    FromCbor, ReadBack, Record, Refusal, Row, Sink, Source, ToCborMap, nested_from_value,
-    read_nested, set_tolerated,
-};
+use passkey_kinds::{RecordReadBack, Record, Refusal, Row, Sink, Source, ToCborMap, set_tolerated};
 use passkey_memory::OutOfMemory;
 use std::alloc::Global;
 
@@ -89,28 +84,6 @@ impl Record for ExtensionInputs {
     }
 }
 
-impl FromCbor for ExtensionInputs {
-    ghost Meaning = { GetExtensionsParts };
-
-    ghost view = { get_extensions_parts };
-
-    ghost kind = { get_extensions };
-
-    ghost takes = { true };
-
-    ghost cost = { record_cost get_extensions_fields };
-
-    ghost keeps = { record_keeps get_extensions_fields };
-
-    fn from_value(alloc: Global, value: &Value) -> Result<ExtensionInputs, Refusal> {
-        nested_from_value(alloc, value)
-    }
-
-    fn read(alloc: Global, cursor: &mut Cursor<'_>) -> Result<ExtensionInputs, Refusal> {
-        read_nested(alloc, cursor)
-    }
-}
-
 impl ToCborMap for ExtensionInputs {
     ghost places = { λ e. get_extensions_places (get_extensions_parts e) };
 
@@ -124,9 +97,9 @@ impl ToCborMap for ExtensionInputs {
     }
 }
 
-impl ReadBack for ExtensionInputs {
+impl RecordReadBack for ExtensionInputs {
     ghost normal = { λ e. e };
 
     #[tactic(auto, using(crate::proofs::ExtensionBack::get_extensions_back))]
-    fn read_back() {}
+    fn record_back() {}
 }

@@ -1,18 +1,13 @@
 //! Extension inputs of authenticatorMakeCredential requests.
 ghost use Rattle.std.specs.Prelude.{nat_le, ◌≡◌, true};
 ghost use Rattle.passkey_core.specs.SignedOutputs.{where_some};
-ghost use Rattle.passkey_extensions.specs.MakeExtensions.{MakeExtensionsParts, make_extensions_fields, make_extensions};
+ghost use Rattle.passkey_extensions.specs.MakeExtensions.{MakeExtensionsParts, make_extensions_fields};
 ghost use Rattle.passkey_extensions.specs.MakeExtensionsView.{make_extensions_parts, no_make_extensions, has_make_extension};
 ghost use Rattle.passkey_extensions.specs.ExtensionTrees.{MakeExtensionsFit, make_extensions_places, make_extensions_tree};
 ghost use Rattle.passkey_cbor.specs.Depth.{depth};
-ghost use Rattle.passkey_kinds.specs.RecordCost.{record_cost, record_keeps};
 
 use crate::{AuthenticatorPrfInputs, HmacGetSecretInput};
-use passkey_cbor::{Cursor, Value};
-use passkey_kinds::{
-    FromCbor, ReadBack, Record, Refusal, Row, Sink, Source, ToCborMap, nested_from_value,
-    read_nested, set,
-};
+use passkey_kinds::{RecordReadBack, Record, Refusal, Row, Sink, Source, ToCborMap, set};
 use passkey_memory::OutOfMemory;
 use std::alloc::Global;
 
@@ -96,28 +91,6 @@ impl Record for ExtensionInputs {
     }
 }
 
-impl FromCbor for ExtensionInputs {
-    ghost Meaning = { MakeExtensionsParts };
-
-    ghost view = { make_extensions_parts };
-
-    ghost kind = { make_extensions };
-
-    ghost takes = { true };
-
-    ghost cost = { record_cost make_extensions_fields };
-
-    ghost keeps = { record_keeps make_extensions_fields };
-
-    fn from_value(alloc: Global, value: &Value) -> Result<ExtensionInputs, Refusal> {
-        nested_from_value(alloc, value)
-    }
-
-    fn read(alloc: Global, cursor: &mut Cursor<'_>) -> Result<ExtensionInputs, Refusal> {
-        read_nested(alloc, cursor)
-    }
-}
-
 impl ToCborMap for ExtensionInputs {
     ghost places = { λ e. make_extensions_places (make_extensions_parts e) };
 
@@ -132,9 +105,9 @@ impl ToCborMap for ExtensionInputs {
     }
 }
 
-impl ReadBack for ExtensionInputs {
+impl RecordReadBack for ExtensionInputs {
     ghost normal = { λ e. e };
 
     #[tactic(auto, using(crate::proofs::ExtensionBack::make_extensions_back))]
-    fn read_back() {}
+    fn record_back() {}
 }

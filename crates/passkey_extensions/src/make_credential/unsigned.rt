@@ -1,17 +1,12 @@
 //! Unsigned extension outputs of authenticatorMakeCredential responses.
-ghost use Rattle.std.specs.Prelude.{◌≡◌, true, is_some, None};
+ghost use Rattle.std.specs.Prelude.{◌≡◌, is_some, None};
 ghost use Rattle.passkey_core.specs.SignedOutputs.{where_some};
-ghost use Rattle.passkey_extensions.specs.MakeUnsigned.{unsigned_fields, unsigned};
+ghost use Rattle.passkey_extensions.specs.MakeUnsigned.{unsigned_fields};
 ghost use Rattle.passkey_extensions.specs.declared.make_credential.unsigned.UnsignedExtensionOutputs.{UnsignedExtensionOutputs as UnsignedOutputs};
 ghost use Rattle.passkey_extensions.specs.ExtensionTrees.{MadeFits, made_places};
-ghost use Rattle.passkey_kinds.specs.RecordCost.{record_cost, record_keeps};
 
 use crate::AuthenticatorPrfMakeOutputs;
-use passkey_cbor::{Cursor, Value};
-use passkey_kinds::{
-    FromCbor, ReadBack, Record, Refusal, Row, Shallow, Sink, Source, ToCborMap, nested_from_value,
-    read_nested, set,
-};
+use passkey_kinds::{RecordReadBack, Record, Refusal, Row, Shallow, Sink, Source, ToCborMap, set};
 use passkey_memory::OutOfMemory;
 use std::alloc::Global;
 
@@ -69,28 +64,6 @@ impl Record for UnsignedExtensionOutputs {
     }
 }
 
-impl FromCbor for UnsignedExtensionOutputs {
-    ghost Meaning = { UnsignedOutputs };
-
-    ghost view = { λ outputs. outputs };
-
-    ghost kind = { unsigned };
-
-    ghost takes = { true };
-
-    ghost cost = { record_cost unsigned_fields };
-
-    ghost keeps = { record_keeps unsigned_fields };
-
-    fn from_value(alloc: Global, value: &Value) -> Result<UnsignedExtensionOutputs, Refusal> {
-        nested_from_value(alloc, value)
-    }
-
-    fn read(alloc: Global, cursor: &mut Cursor<'_>) -> Result<UnsignedExtensionOutputs, Refusal> {
-        read_nested(alloc, cursor)
-    }
-}
-
 impl ToCborMap for UnsignedExtensionOutputs {
     ghost places = { made_places };
 
@@ -102,11 +75,11 @@ impl ToCborMap for UnsignedExtensionOutputs {
     }
 }
 
-impl ReadBack for UnsignedExtensionOutputs {
+impl RecordReadBack for UnsignedExtensionOutputs {
     ghost normal = { λ o. o };
 
     #[tactic(auto, using(crate::proofs::ExtensionBack::made_back))]
-    fn read_back() {}
+    fn record_back() {}
 }
 
 impl Shallow for UnsignedExtensionOutputs {

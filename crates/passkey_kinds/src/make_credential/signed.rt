@@ -1,20 +1,17 @@
 //! Extension outputs in the authenticator data of a registration, decoded from data items and
 //! encoded.
-ghost use Rattle.std.specs.Prelude.{true};
 ghost use Rattle.passkey_core.specs.declared.make_credential.SignedExtensionOutputs.{SignedExtensionOutputs as SignedOutputs};
-ghost use Rattle.passkey_kinds.specs.MakeSigned.{signed_fields, signed};
+ghost use Rattle.passkey_kinds.specs.MakeSigned.{signed_fields};
 ghost use Rattle.passkey_core.specs.SignedOutputs.{creation_item};
 ghost use Rattle.passkey_kinds.specs.ReadBack.{Any};
-ghost use Rattle.passkey_kinds.specs.RecordCost.{record_cost, record_keeps};
 
-use crate::from_cbor::FromCbor;
-use crate::read_back::ReadBack;
-use crate::record::{Record, nested_from_value, read_nested};
+use crate::read_back::RecordReadBack;
+use crate::record::Record;
 use crate::refusal::Refusal;
 use crate::rows::Row;
 use crate::source::{Source, set};
 use crate::to_cbor::ToCbor;
-use passkey_cbor::{Cursor, Value};
+use passkey_cbor::Value;
 use passkey_core::make_credential::SignedExtensionOutputs;
 use passkey_memory::OutOfMemory;
 use std::alloc::Global;
@@ -53,28 +50,6 @@ impl Record for SignedExtensionOutputs {
     }
 }
 
-impl FromCbor for SignedExtensionOutputs {
-    ghost Meaning = { SignedOutputs };
-
-    ghost view = { λ outputs. outputs };
-
-    ghost kind = { signed };
-
-    ghost takes = { true };
-
-    ghost cost = { record_cost signed_fields };
-
-    ghost keeps = { record_keeps signed_fields };
-
-    fn from_value(alloc: Global, value: &Value) -> Result<SignedExtensionOutputs, Refusal> {
-        nested_from_value(alloc, value)
-    }
-
-    fn read(alloc: Global, cursor: &mut Cursor<'_>) -> Result<SignedExtensionOutputs, Refusal> {
-        read_nested(alloc, cursor)
-    }
-}
-
 impl ToCbor for SignedExtensionOutputs {
     ghost tree = { creation_item };
 
@@ -85,9 +60,9 @@ impl ToCbor for SignedExtensionOutputs {
     }
 }
 
-impl ReadBack for SignedExtensionOutputs {
+impl RecordReadBack for SignedExtensionOutputs {
     ghost normal = { λ outputs. outputs };
 
     #[tactic(auto, using(crate::proofs::SignedBack::creation_back))]
-    fn read_back() {}
+    fn record_back() {}
 }

@@ -3,7 +3,7 @@ use Rattle.passkey_cbor.specs.View.{item_of}
 use Rattle.passkey_kinds.specs.Record.{table_of, read_item}
 use Rattle.passkey_kinds.proofs.Messages.{may_grow}
 use Rattle.passkey_kinds.proofs.Putting.{held_answers}
-use Rattle.passkey_kinds.proofs.record.nested_from_value.Goals as goal
+use Rattle.passkey_kinds.proofs.record.AnyFromCbor.from_value.Goals as goal
 
 pub returns : goal.returns
 returns g c =
