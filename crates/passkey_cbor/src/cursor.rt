@@ -337,5 +337,9 @@ pub(crate) fn is_allowed(is_text: bool, bytes: &[u8]) -> bool
 fn is_short_ascii(bytes: &[u8]) -> bool
     ensures { result ≡ true → IsAscii bytes.now }
 {
-    bytes.len() <= 12 && bytes.iter().all(|b| *b < 0x80)
+    if bytes.len() < 8 {
+        bytes.iter().all(|b| *b < 0x80)
+    } else {
+        bytes.len() <= 64 && bytes.is_ascii()
+    }
 }

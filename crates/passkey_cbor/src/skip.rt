@@ -156,6 +156,7 @@ impl<'a> Cursor<'a> {
 
     /// Skips the rest of a string whose head is decoded already; returns the string's length in
     /// bytes.
+    #[inline(always)]
     pub(crate) fn pass_string(&mut self, is_text: bool, len: Option<u64>) -> Option<usize>
         requires { IsInside self.old }
         ensures skips { Skips (string_at is_text len (ahead self.old)) self.old self.new (is_some result) }
@@ -171,6 +172,7 @@ impl<'a> Cursor<'a> {
     }
 
     // Skips the chunks of a string and the break; returns the total length of the chunks in bytes.
+    #[inline(never)]
     fn pass_chunks(&mut self, is_text: bool) -> Option<usize>
         requires { IsInside self.old }
         ensures skips { Skips (string_at is_text None (ahead self.old)) self.old self.new (is_some result) }

@@ -97,6 +97,7 @@ impl<'a> Cursor<'a> {
 
     // Passes a string of this kind; returns the length in its head, the bytes after the head, and
     // the string's length in bytes. `None`, and the cursor doesn't move, if none follows.
+    #[inline(always)]
     fn string(&mut self, is_text: bool) -> Option<(Option<u64>, &'a [u8], usize)>
         ensures front { LendsString is_text self.old self.new
             (option_map (λ r. record { len = r.0; bytes = r.1.now }) result) }
@@ -114,6 +115,7 @@ impl<'a> Cursor<'a> {
     }
 
     // The same, but the cursor may stop anywhere if no string of this kind follows.
+    #[inline(always)]
     fn string_ahead(&mut self, is_text: bool) -> Option<(Option<u64>, &'a [u8], usize)>
         ensures reads { ReadsString is_text self.old self.new
             (option_map (λ r. record { len = r.0; bytes = r.1.now }) result) }
@@ -134,6 +136,7 @@ impl<'a> Cursor<'a> {
 
     // Passes the bytes after a string's head, given the length in the head; returns these bytes and
     // the string's length in bytes.
+    #[inline(always)]
     fn region(&mut self, is_text: bool, len: Option<u64>) -> Option<(&'a [u8], usize)>
         requires { IsInside self.old }
         ensures reads { ReadsRegion is_text len self.old self.new (option_map (λ r. r.0.now) result) }
