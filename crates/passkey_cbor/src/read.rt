@@ -1,14 +1,12 @@
 //! Decoding data items to values.
-ghost use Rattle.std.specs.Prelude.{◌≡◌, ◌<◌, ◌≤◌, ◌⊎◌, ◌↔◌, ℕ, [], length, map, string_bytes, true, Err, IfOk, IfErr, OnErr, IsOk};
+ghost use Rattle.std.specs.Prelude.{◌≡◌, ◌<◌, ◌≤◌, ◌⊎◌, ℕ, [], length, true, Err, IfOk, OnErr};
 ghost use Rattle.std.specs.Option.{IsSomeAnd};
-ghost use Rattle.std.specs.Str.{IsUtf8};
 ghost use Rattle.passkey_cbor.specs.Item as item;
 ghost use Rattle.passkey_cbor.specs.Walk.{ahead, IsInside, Went};
-ghost use Rattle.passkey_cbor.specs.Reading.{start, is_allowed, piece_at, string_at, chunk, pair_by, simple_item, item_within, list_at};
+ghost use Rattle.passkey_cbor.specs.Reading.{start, is_allowed, piece_at, string_at, pair_by, simple_item, item_within, list_at};
 ghost use Rattle.passkey_cbor.specs.Steps.{IsHead, CountsChunks};
 ghost use Rattle.passkey_cbor.specs.Building.{Makes, an_item, a_counted_item, a_pair, each_of, some_bytes, a_text};
-ghost use Rattle.passkey_cbor.specs.Grows.{Grows};
-ghost use Rattle.passkey_cbor.specs.View.{item_of, pair_of};
+ghost use Rattle.passkey_cbor.specs.View.{item_of};
 ghost use Rattle.passkey_cbor.specs.Reads.{ReadsLeadingItem};
 ghost use Rattle.passkey_cbor.specs.Valued.{ReadsValue};
 ghost use Rattle.passkey_cbor.specs.EncodedAt.{IsEncodedAt, Values};

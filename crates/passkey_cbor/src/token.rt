@@ -1,5 +1,5 @@
 //! Strings that are borrowed without a copy, in one piece or in chunks.
-ghost use Rattle.std.specs.Prelude.{◌≡◌, ◌+◌, ◌≤◌, true, false, List, [], ◌∷◌, ◌++◌, take, drop, length, map, option_map, IfOk, IfSome, None};
+ghost use Rattle.std.specs.Prelude.{◌≡◌, ◌+◌, ◌≤◌, true, false, [], ◌∷◌, ◌++◌, take, drop, length, map, option_map, IfOk, IfSome, None};
 ghost use Rattle.std.specs.String.{string_bytes};
 ghost use Rattle.passkey_cbor.specs.Lent.{LendsString, LendsEncoded, LentWhole, LooksToCopy, LooksAtAll, LooksToFill, IsNamed, Copies, Fills, IsRegion, IsSized, Tells};
 ghost use Rattle.passkey_cbor.specs.Names.{IsNameOf, LooksFor};

@@ -16,7 +16,10 @@ ghost use Rattle.passkey_kinds.specs.declared.write_fault.WriteFault.TheVariants
 use crate::laws::read_hmac_input_is_coherent;
 use passkey_bytes::Bytes;
 use passkey_cbor::{Cursor, MAX_DEPTH, Value};
-use passkey_kinds::{Fault, Message, RecordReadBack, Record, Refusal, Row, Sink, Source, ToCborMap, WriteFault, message_from_slice, read_message, record_from_value, set, write_message};
+use passkey_kinds::{
+    Fault, Message, Record, RecordReadBack, Refusal, Row, Sink, Source, ToCborMap, WriteFault,
+    message_from_slice, read_message, record_from_value, set, write_message,
+};
 use passkey_memory::OutOfMemory;
 use std::alloc::Global;
 

@@ -6,7 +6,7 @@ ghost use Rattle.passkey_extensions.specs.ExtensionTrees.{PrfGetFits, prf_get_pl
 ghost use Rattle.passkey_extensions.specs.PrfWebauthn.{webauthn_used};
 
 use crate::prf_values::AuthenticatorPrfValues;
-use passkey_kinds::{RecordReadBack, Record, Refusal, Row, Shallow, Sink, Source, ToCborMap, set};
+use passkey_kinds::{Record, RecordReadBack, Refusal, Row, Shallow, Sink, Source, ToCborMap, set};
 use passkey_memory::OutOfMemory;
 use passkey_webauthn::AuthenticationExtensionsPrfOutputs;
 use std::alloc::Global;

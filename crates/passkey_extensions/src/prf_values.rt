@@ -6,7 +6,7 @@ ghost use Rattle.passkey_extensions.specs.ExtensionTrees.{PrfValuesFit, prf_valu
 ghost use Rattle.passkey_extensions.specs.PrfWebauthn.{webauthn_values};
 
 use passkey_bytes::Bytes;
-use passkey_kinds::{RecordReadBack, Record, Refusal, Row, Shallow, Sink, Source, ToCborMap, set};
+use passkey_kinds::{Record, RecordReadBack, Refusal, Row, Shallow, Sink, Source, ToCborMap, set};
 use passkey_memory::OutOfMemory;
 use passkey_webauthn::AuthenticationExtensionsPrfValues;
 use std::alloc::Global;

@@ -1,10 +1,10 @@
 //! Options of authenticatorGetAssertion requests.
 ghost use Rattle.std.specs.Prelude.{◌≡◌, true, false};
-ghost use Rattle.passkey_get_assertion.specs.GetOptions.{options_places, options_fields, options, options_default};
+ghost use Rattle.passkey_get_assertion.specs.GetOptions.{options_places, options_fields, options_default};
 ghost use Rattle.passkey_get_assertion.specs.declared.options.Options.{Options as Asked};
 ghost use Rattle.passkey_kinds.specs.ReadBack.{Any};
 
-use passkey_kinds::{RecordReadBack, Record, Refusal, Row, Shallow, Sink, Source, ToCborMap, set};
+use passkey_kinds::{Record, RecordReadBack, Refusal, Row, Shallow, Sink, Source, ToCborMap, set};
 use passkey_memory::OutOfMemory;
 use std::alloc::Global;
 

@@ -1,11 +1,11 @@
 //! Options of authenticatorGetInfo responses.
 ghost use Rattle.std.specs.Prelude.{◌≡◌, true, OnOk};
-ghost use Rattle.passkey_get_info.specs.GetInfoOptions.{long_option_places, options, options_default, options_fields, options_places, short_option_places};
+ghost use Rattle.passkey_get_info.specs.GetInfoOptions.{long_option_places, options_default, options_fields, options_places, short_option_places};
 ghost use Rattle.passkey_kinds.specs.ReadBack.{Any};
 ghost use Rattle.passkey_get_info.specs.declared.options.Options.{Options as Told};
 ghost use Rattle.passkey_kinds.specs.Sink.{AllAccepted, put_all};
 
-use passkey_kinds::{RecordReadBack, Record, Refusal, Row, Shallow, Sink, Source, ToCborMap, set};
+use passkey_kinds::{Record, RecordReadBack, Refusal, Row, Shallow, Sink, Source, ToCborMap, set};
 use passkey_memory::OutOfMemory;
 use std::alloc::Global;
 

@@ -1,8 +1,8 @@
 -- The rows that names and map keys name.
 use Rattle.std.specs.List.{find, position, position_or_len}
 use Rattle.std.specs.Str.{bytes_eq}
-use Rattle.std.proofs.Common.{◌≡◌, ◌∙◌, ◌<◌, ◌≤◌, ◌==◌, ℕ, pos, negsuc, ◌⊎◌, inl, inr, arith, suc, if◌then◌else◌, Bool, true, false, not, ◌+◌, List, [], ◌∷◌, ◌++◌, length, map, take, set, get_or, Bor, add-one, Option, Some, None, cond, nat_lt, slice_get, refl, sym, ap}
-use Rattle.std.proofs.lemmas.Bool.{cases_lt, lt-ltb, le-ltb}
+use Rattle.std.proofs.Common.{◌≡◌, ◌∙◌, ◌<◌, ◌≤◌, ◌==◌, ℕ, pos, negsuc, ◌⊎◌, inl, inr, arith, zero, suc, if◌then◌else◌, Bool, true, false, not, ◌+◌, List, [], ◌∷◌, ◌++◌, length, map, take, drop, set, get_or, Bor, add-one, Option, Some, None, cond, nat_lt, slice_get, refl, sym, ap}
+use Rattle.std.proofs.lemmas.Bool.{cases_lt, lt-ltb, le-ltb, eqb-true}
 use Rattle.std.proofs.lemmas.List.{length-map, map_push, take_more_set}
 use Rattle.std.proofs.Math.Seq.{take-suc}
 use Rattle.std.proofs.lemmas.Option.{slice_get_past}
@@ -12,7 +12,7 @@ use Rattle.passkey_cbor.specs.Initial.{major_of}
 use Rattle.passkey_kinds.specs.HeadValues.{unsigned_in}
 use Rattle.passkey_kinds.specs.Rows.{entry_of, row_at}
 use Rattle.passkey_kinds.specs.declared.rows.Row.{Row}
-use Rattle.passkey_kinds.specs.Table.{Entry, wrong, row_or_unknown, row_named, number_names, names}
+use Rattle.passkey_kinds.specs.Table.{Entry, row, wrong, row_or_unknown, row_named, number_names, names}
 
 -- ---- the row at the index of its name
 
@@ -45,6 +45,29 @@ row_of_name s es =
     row_within es (position_or_len (λ n. bytes_eq n s) (map (λ (e : Entry). e.name) es))
     (length (map (λ (e : Entry). e.name) es)) (length-map es (λ (e : Entry). e.name))
     ∙ ap row_or_unknown (at_first s es)
+
+-- ---- a row that is found among the last ones
+
+found_number : (n m : ℕ) (es : List Entry) → row_or_unknown (find (λ (e : Entry). e.number == n) es) ≡ row m → n ≡ m
+found_number n m [] h = absurd cc
+found_number n m (e ∷ es) h = elim (e.number == n) as (λ (b : Bool). (e.number == n) ≡ b
+    → row_or_unknown (cond b (Some e) (find (λ (e : Entry). e.number == n) es)) ≡ row m → n ≡ m) [
+      | true ↦ λ same found. sym (eqb-true e.number n same) ∙ row_is found
+      | false ↦ λ other found. found_number n m es found
+    ] refl h where
+      row_is : {a b : ℕ} → row a ≡ row b → a ≡ b
+      row_is is = cc
+
+pub found_behind : (n m k : ℕ) (es : List Entry)
+    → row_or_unknown (find (λ (e : Entry). e.number == n) (drop k es)) ≡ row m
+    → row_or_unknown (find (λ (e : Entry). e.number == n) es) ≡ row m
+found_behind n m zero es h = h
+found_behind n m (suc k) [] h = h
+found_behind n m (suc k) (e ∷ es) h = elim (e.number == n) as (λ (b : Bool). (e.number == n) ≡ b
+    → row_or_unknown (cond b (Some e) (find (λ (e : Entry). e.number == n) es)) ≡ row m) [
+      | true ↦ λ same. ap row (eqb-true e.number n same ∙ found_number n m (drop k es) h)
+      | false ↦ λ other. found_behind n m k es h
+    ] refl
 
 -- ---- the rows' names, one after the other
 

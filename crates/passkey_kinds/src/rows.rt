@@ -1,7 +1,6 @@
 //! The rows of a table, by number and name.
 ghost use Rattle.std.specs.Prelude.{◌≡◌, ◌==◌, map};
 ghost use Rattle.std.specs.List.{find};
-ghost use Rattle.std.specs.Str.{bytes_eq};
 ghost use Rattle.passkey_cbor.specs.View.{item_of};
 ghost use Rattle.passkey_kinds.specs.Reading.{named_as, naming_of};
 ghost use Rattle.passkey_kinds.specs.Rows.{entry_of};
@@ -55,7 +54,8 @@ pub(crate) enum Named {
     Unknown,
 }
 
-fn with_number(rows: &[Row], number: u8) -> Named
+/// Finds the row with this number among these.
+fn numbered(rows: &[Row], number: u8) -> Named
     ensures { named_as result ≡ row_or_unknown (find (λ e. e.number == number) (map entry_of rows.now)) }
 {
     for row in rows {
@@ -64,6 +64,19 @@ fn with_number(rows: &[Row], number: u8) -> Named
         }
     }
     Named::Unknown
+}
+
+/// Finds the row with this number. Tables are in the order of their numbers and leave few out, so a
+/// row is rarely far before the index that is its number.
+fn with_number(rows: &[Row], number: u8) -> Named
+    ensures { named_as result ≡ row_or_unknown (find (λ e. e.number == number) (map entry_of rows.now)) }
+{
+    let near = usize::from(number).saturating_sub(4).min(rows.len());
+    let (_, rest) = rows.split_at(near);
+    match numbered(rest, number) {
+        Named::Row(number) => Named::Row(number),
+        Named::Unknown => numbered(rows, number),
+    }
 }
 
 pub(crate) fn with_name(rows: &[Row], name: &[u8]) -> Named

@@ -1,6 +1,6 @@
 //! Users, decoded from data items and encoded.
 ghost use Rattle.passkey_kinds.specs.Trees.{webauthn_user_places};
-ghost use Rattle.passkey_kinds.specs.User.{user_fields, user};
+ghost use Rattle.passkey_kinds.specs.User.{user_fields};
 ghost use Rattle.passkey_webauthn.specs.declared.user.PublicKeyCredentialUserEntity.{PublicKeyCredentialUserEntity as UserEntity};
 ghost use Rattle.passkey_kinds.specs.ReadBack.{Any};
 

@@ -1,10 +1,10 @@
 //! Options of authenticatorMakeCredential requests.
 ghost use Rattle.std.specs.Prelude.{◌≡◌, true, false};
-ghost use Rattle.passkey_make_credential.specs.MakeOptions.{options_places, normal_options, options_fields, options, options_default};
+ghost use Rattle.passkey_make_credential.specs.MakeOptions.{options_places, normal_options, options_fields, options_default};
 ghost use Rattle.passkey_make_credential.specs.declared.options.Options.{Options as Made};
 ghost use Rattle.passkey_kinds.specs.ReadBack.{Any};
 
-use passkey_kinds::{RecordReadBack, Record, Refusal, Row, Shallow, Sink, Source, ToCborMap, set};
+use passkey_kinds::{Record, RecordReadBack, Refusal, Row, Shallow, Sink, Source, ToCborMap, set};
 use passkey_memory::OutOfMemory;
 use std::alloc::Global;
 

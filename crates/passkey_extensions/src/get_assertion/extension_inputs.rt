@@ -7,7 +7,7 @@ ghost use Rattle.passkey_extensions.specs.ExtensionTrees.{GetExtensionsFit, get_
 ghost use Rattle.passkey_cbor.specs.Depth.{depth};
 
 use crate::{AuthenticatorPrfInputs, HmacGetSecretInput};
-use passkey_kinds::{RecordReadBack, Record, Refusal, Row, Sink, Source, ToCborMap, set_tolerated};
+use passkey_kinds::{Record, RecordReadBack, Refusal, Row, Sink, Source, ToCborMap, set_tolerated};
 use passkey_memory::OutOfMemory;
 use std::alloc::Global;
 

@@ -6,7 +6,7 @@ ghost use Rattle.passkey_extensions.specs.declared.get_assertion.unsigned.Unsign
 ghost use Rattle.passkey_extensions.specs.ExtensionTrees.{UsedFits, used_places};
 
 use crate::AuthenticatorPrfGetOutputs;
-use passkey_kinds::{RecordReadBack, Record, Refusal, Row, Shallow, Sink, Source, ToCborMap, set};
+use passkey_kinds::{Record, RecordReadBack, Refusal, Row, Shallow, Sink, Source, ToCborMap, set};
 use passkey_memory::OutOfMemory;
 use std::alloc::Global;
 

@@ -6,7 +6,7 @@ ghost use Rattle.passkey_extensions.specs.declared.make_credential.unsigned.Unsi
 ghost use Rattle.passkey_extensions.specs.ExtensionTrees.{MadeFits, made_places};
 
 use crate::AuthenticatorPrfMakeOutputs;
-use passkey_kinds::{RecordReadBack, Record, Refusal, Row, Shallow, Sink, Source, ToCborMap, set};
+use passkey_kinds::{Record, RecordReadBack, Refusal, Row, Shallow, Sink, Source, ToCborMap, set};
 use passkey_memory::OutOfMemory;
 use std::alloc::Global;
 
