@@ -17,7 +17,8 @@ utf8_test bytes (Err e) P Q m = not_utf8 bytes (is_utf8 bytes) refl m.0
 pub returns-then-is_short_ascii : goal.returns-then-is_short_ascii
 returns-then-is_short_ascii c =
     let bytes = c.args.bytes.now in
-    c.if-is_short_ascii.true ∙ sym (is_utf8-from_IsUtf8 bytes (IsUtf8-from_ascii bytes (c.is_short_ascii.ensures c.if-is_short_ascii.true)))
+    c.if-is_short_ascii.true ∙ sym (is_utf8-from_IsUtf8 bytes
+    (IsUtf8-from_ascii bytes (c.is_short_ascii.ensures c.if-is_short_ascii.true)))
     ∙ ap (λ (b : Bool). is_allowed b bytes) (sym c.if-is_text.true)
 
 pub returns-else-is_short_ascii : goal.returns-else-is_short_ascii

@@ -8,4 +8,5 @@ returns-clause-put g c = rw (c.in_ok-put_long.ensures.put, c.in_ok-put_short.ens
 
 pub returns-clause-accepts : goal.returns-clause-accepts
 returns-clause-accepts g c =
-    accepted_both g.S.Sink.Accepts (short_option_places c.args.self.now) (long_option_places c.args.self.now) c.in_ok-put_short.ensures.accepts c.in_ok-put_long.ensures.accepts
+    accepted_both g.S.Sink.Accepts (short_option_places c.args.self.now) (long_option_places c.args.self.now)
+    c.in_ok-put_short.ensures.accepts c.in_ok-put_long.ensures.accepts

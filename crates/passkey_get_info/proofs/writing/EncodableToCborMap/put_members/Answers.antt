@@ -9,4 +9,5 @@ returns-clause-put g c = rw (c.in_ok-put_limits.ensures.put, c.in_ok-put_capabil
 
 pub returns-clause-accepts : goal.returns-clause-accepts
 returns-clause-accepts g c =
-    accepted_both g.S.Sink.Accepts (encodable_capabilities c.args.self.now) (limit_places (encodable_parts c.args.self.now)) c.in_ok-put_capabilities.ensures.accepts c.in_ok-put_limits.ensures.accepts
+    accepted_both g.S.Sink.Accepts (encodable_capabilities c.args.self.now)
+    (limit_places (encodable_parts c.args.self.now)) c.in_ok-put_capabilities.ensures.accepts c.in_ok-put_limits.ensures.accepts

@@ -6,4 +6,5 @@ use Rattle.passkey_kinds.proofs.to_cbor_map.AnyToCbor.to_value.Goals as goal
 pub returns-clause-tree : goal.returns-clause-tree
 returns-clause-tree g c =
     c.into_value.ensures
-    ∙ ap map_tree (c.in_ok-put_members.ensures.put ∙ rw c.new-members.ensures (appended_all _ (g.R.ToCborMap.places c.args.self.now)))
+    ∙ ap map_tree (c.in_ok-put_members.ensures.put
+    ∙ rw c.new-members.ensures (appended_all _ (g.R.ToCborMap.places c.args.self.now)))
