@@ -1,5 +1,5 @@
 //! CTAP2's canonical form.
-ghost use Rattle.std.specs.Prelude.{◌≡◌, ◌<◌, ◌↔◌, None, length, option_map, IfSome, IsTrue};
+ghost use Rattle.std.specs.Prelude.{◌<◌, ◌↔◌, None, length, option_map, IfSome, IsTrue};
 ghost use Rattle.passkey_cbor.specs.Canonical.{IsCanonical, ComesAfter};
 ghost use Rattle.passkey_cbor.specs.CanonicalReading.{Leaves, BeginsItem, BeginsContent, BeginsItems, BeginsPairs, BeginsString};
 

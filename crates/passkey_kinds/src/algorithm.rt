@@ -1,8 +1,7 @@
 //! COSE algorithm identifiers, decoded from data items and encoded.
-ghost use Rattle.std.specs.Prelude.{◌≡◌, ℕ, List, true, false, IfOk};
+ghost use Rattle.std.specs.Prelude.{◌≡◌, ℕ, List, true, false};
 ghost use Rattle.std.specs.Option.{option_and_then};
 ghost use Rattle.passkey_cbor.specs.Lent.{IsRegion, Tells};
-ghost use Rattle.passkey_cbor.specs.View.{item_of};
 ghost use Rattle.passkey_iana.specs.Iana.{algorithm_named, algorithm_number};
 ghost use Rattle.passkey_iana.specs.declared.algorithm.Algorithm.{Algorithm as Named};
 ghost use Rattle.passkey_kinds.specs.Algorithm.{algorithm, algorithm_tree};

@@ -1,5 +1,5 @@
 //! Arrays of 32 bytes, decoded from data items and encoded as arrays of integers.
-ghost use Rattle.std.specs.Prelude.{◌==◌, ◌≡◌, ℕ, List, length, map, if◌then◌else◌, false, Some, None};
+ghost use Rattle.std.specs.Prelude.{◌==◌, ℕ, List, length, map, if◌then◌else◌, false, Some, None};
 ghost use Rattle.passkey_cbor.specs.Item.{Item};
 ghost use Rattle.passkey_cbor.specs.Lent.{Tells};
 ghost use Rattle.passkey_cbor.specs.EncodedAt.{ItemsAreEncodedAt};

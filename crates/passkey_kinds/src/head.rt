@@ -1,5 +1,5 @@
 //! Decodes one head at a cursor, by the type of data item that is wanted.
-ghost use Rattle.std.specs.Prelude.{◌≡◌, ℕ, ◌+◌, ◌≤◌, ◌==◌, Bool, true, false, Option, Some as There, None as Nothing, if◌then◌else◌, IfSome};
+ghost use Rattle.std.specs.Prelude.{◌≡◌, ℕ, ◌+◌, ◌≤◌, ◌==◌, true, false, Option, Some as There, None as Nothing, if◌then◌else◌, IfSome};
 ghost use Rattle.std.specs.Option.{option_and_then};
 ghost use Rattle.passkey_cbor.specs.Item.{Item, null};
 ghost use Rattle.passkey_cbor.specs.Initial.{major_of};

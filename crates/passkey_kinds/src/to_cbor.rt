@@ -1,5 +1,5 @@
 //! Values that are encoded as data items.
-ghost use Rattle.std.specs.Prelude.{◌≡◌, ◌<◌, ◌^◌, ◌++◌, ℕ, pos, IfOk, OnOk};
+ghost use Rattle.std.specs.Prelude.{◌≡◌, ◌<◌, ◌^◌, ◌++◌, pos, IfOk, OnOk};
 ghost use Rattle.passkey_cbor.specs.Encoder.{encoding};
 ghost use Rattle.passkey_cbor.specs.Item.{Item, boolean, byte_string, text_string};
 ghost use Rattle.passkey_cbor.specs.View.{item_of};
