@@ -54,24 +54,24 @@ response_back r fits encoded =
     puts_default (accepted_place transport_back r.transports (all_of_anything r.transports)) refl ▸
     puts_default (accepted_place parameters_back r.algorithms (all_of_anything r.algorithms)) refl ▸
     puts_default (optional_place word_back refl r.mac_serialized_large_blob_array
-    fits.1.mac_serialized_large_blob_array) refl ▸
+    fits.1.0.mac_serialized_large_blob_array) refl ▸
     puts_default (optional_place truth_back refl r.force_pin_change (anything r.force_pin_change)) refl ▸
-    puts_default (optional_place word_back refl r.min_pin_length fits.1.min_pin_length) refl ▸
-    puts_default (optional_place word_back refl r.firmware_version fits.1.firmware_version) refl ▸
-    puts_default (optional_place word_back refl r.max_cred_blob_length fits.1.max_cred_blob_length) refl ▸
+    puts_default (optional_place word_back refl r.min_pin_length fits.1.0.min_pin_length) refl ▸
+    puts_default (optional_place word_back refl r.firmware_version fits.1.0.firmware_version) refl ▸
+    puts_default (optional_place word_back refl r.max_cred_blob_length fits.1.0.max_cred_blob_length) refl ▸
     puts_default (optional_place word_back refl r.max_rpids_for_set_min_pin_length
-    fits.1.max_rpids_for_set_min_pin_length) refl ▸
+    fits.1.0.max_rpids_for_set_min_pin_length) refl ▸
     puts_default (optional_place word_back refl r.preferred_platform_uv_attempts
-    fits.1.preferred_platform_uv_attempts) refl ▸
-    puts_default (optional_place word_back refl r.uv_modality fits.1.uv_modality) refl ▸
+    fits.1.0.preferred_platform_uv_attempts) refl ▸
+    puts_default (optional_place word_back refl r.uv_modality fits.1.0.uv_modality) refl ▸
     puts_default (kept_place r.certifications) refl ▸
     puts_default (optional_place word_back refl r.remaining_discoverable_credentials
-    fits.1.remaining_discoverable_credentials) refl ▸
+    fits.1.0.remaining_discoverable_credentials) refl ▸
     puts_default
-    (accepted_place word_back r.vendor_prototype_config_commands fits.1.vendor_prototype_config_commands) refl ▸
+    (accepted_place word_back r.vendor_prototype_config_commands fits.1.1.vendor_prototype_config_commands) refl ▸
     puts_default (accepted_place text_back r.attestation_formats (all_of_anything r.attestation_formats)) refl ▸
     puts_default
-    (optional_place word_back refl r.uv_count_since_last_pin_entry fits.1.uv_count_since_last_pin_entry) refl ▸
+    (optional_place word_back refl r.uv_count_since_last_pin_entry fits.1.1.uv_count_since_last_pin_entry) refl ▸
     puts_default (optional_place truth_back refl r.long_touch_for_reset (anything r.long_touch_for_reset)) refl ▸
     puts_default (optional_place bytes_back refl r.enc_identifier (anything r.enc_identifier)) refl ▸
     puts_default (accepted_place transport_back r.transports_for_reset (all_of_anything r.transports_for_reset))
@@ -79,7 +79,7 @@ response_back r fits encoded =
     puts_default (optional_place truth_back refl r.pin_complexity_policy (anything r.pin_complexity_policy)) refl ▸
     puts_default (optional_place bytes_back refl r.pin_complexity_policy_url (anything r.pin_complexity_policy_url))
     refl ▸
-    puts_default (optional_place word_back refl r.max_pin_length fits.1.max_pin_length) refl ▸
+    puts_default (optional_place word_back refl r.max_pin_length fits.1.1.max_pin_length) refl ▸
     no_more)
 
 pub get_info_returns : WrittenIsLeadingItem

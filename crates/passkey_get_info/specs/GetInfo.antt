@@ -5,10 +5,10 @@ use Rattle.passkey_get_info.specs.GetInfoNames.{version, extension}
 use Rattle.passkey_get_info.specs.GetInfoOptions.{options_fields}
 use Rattle.passkey_kinds.specs.Parameters.{parameters_fields}
 use Rattle.passkey_kinds.specs.Keeping.{nothing}
-use Rattle.passkey_kinds.specs.Record.{Fields, required, default, table_of, read_item}
+use Rattle.passkey_kinds.specs.Record.{Fields, Member, required, default, table_of, read_item}
 use Rattle.passkey_kinds.specs.RecordCost.{nested}
 use Rattle.passkey_kinds.specs.Table.{Table}
-use Rattle.passkey_kinds.specs.Typed.{aaguid, truth, below, size, text, one_named, optional, bytes, kept, growing, list, accepted, tolerated}
+use Rattle.passkey_kinds.specs.Typed.{Typed, aaguid, truth, below, size, text, one_named, optional, bytes, kept, growing, list, accepted, tolerated}
 use Rattle.passkey_kinds.specs.declared.fault.Fault.{Fault}
 use Rattle.passkey_get_info.specs.declared.extension.Extension.{Extension}
 use Rattle.passkey_get_info.specs.declared.options.Options.{Options}
@@ -79,52 +79,63 @@ get_info_empty = record {
   max_pin_length = None;
 }
 
+abbrev pub word : Typed (Option ℕ)
+word = optional (below (2 ^ 32))
+
+-- the rows of its state
+abbrev pub state_rows : List (Member GetInfoParts)
+state_rows =
+    default 21 (codes "vendorPrototypeConfigCommands") (tolerated (accepted (below (2 ^ 32))))
+    (λ x r. record r { vendor_prototype_config_commands = x })
+    ∷ default 22 (codes "attestationFormats") (tolerated (accepted text))
+    (λ x r. record r { attestation_formats = x })
+    ∷ default 23 (codes "uvCountSinceLastPinEntry") word (λ x r. record r { uv_count_since_last_pin_entry = x })
+    ∷ default 24 (codes "longTouchForReset") (optional truth) (λ x r. record r { long_touch_for_reset = x })
+    ∷ default 25 (codes "encIdentifier") (optional bytes) (λ x r. record r { enc_identifier = x })
+    ∷ default 26 (codes "transportsForReset") (tolerated (accepted (one_named transport_named)))
+    (λ x r. record r { transports_for_reset = x })
+    ∷ default 27 (codes "pinComplexityPolicy") (optional truth) (λ x r. record r { pin_complexity_policy = x })
+    ∷ default 28 (codes "pinComplexityPolicyUrl") (optional bytes)
+    (λ x r. record r { pin_complexity_policy_url = x })
+    ∷ default 29 (codes "maxPinLength") word (λ x r. record r { max_pin_length = x })
+    ∷ []
+
+-- the rows of its limits and of its state
+abbrev pub limit_rows : List (Member GetInfoParts)
+limit_rows =
+    default 11 (codes "macSerializedLargeBlobArray") word
+    (λ x r. record r { mac_serialized_large_blob_array = x })
+    ∷ default 12 (codes "forcePinChange") (optional truth) (λ x r. record r { force_pin_change = x })
+    ∷ default 13 (codes "minPinLength") word (λ x r. record r { min_pin_length = x })
+    ∷ default 14 (codes "firmwareVersion") word (λ x r. record r { firmware_version = x })
+    ∷ default 15 (codes "maxCredBlobLength") word (λ x r. record r { max_cred_blob_length = x })
+    ∷ default 16 (codes "maxRpidsForSetMinPinLength") word
+    (λ x r. record r { max_rpids_for_set_min_pin_length = x })
+    ∷ default 17 (codes "preferredPlatformUvAttempts") word
+    (λ x r. record r { preferred_platform_uv_attempts = x })
+    ∷ default 18 (codes "uvModality") word (λ x r. record r { uv_modality = x })
+    ∷ default 19 (codes "certifications") (optional kept) (λ x r. record r { certifications = x })
+    ∷ default 20 (codes "remainingDiscoverableCredentials") word
+    (λ x r. record r { remaining_discoverable_credentials = x })
+    ∷ state_rows
+
+abbrev pub fields_of : List (Member GetInfoParts) → Fields GetInfoParts
+fields_of rows = record { is_numbered = true; blank = get_info_empty; rows = rows }
+
 abbrev pub get_info_fields : Fields GetInfoParts
-get_info_fields = record {
-  is_numbered = true;
-  blank = get_info_empty;
-  rows = required 1 (codes "versions") (list (growing 2 nothing version)) (λ x r. record r { versions = x })
-      ∷ default 2 (codes "extensions") (optional (list (growing 2 nothing extension)))
-      (λ x r. record r { extensions = x })
-      ∷ required 3 (codes "aaguid") aaguid (λ x r. record r { aaguid = x })
-      ∷ default 4 (codes "options") (optional (nested options_fields)) (λ x r. record r { options = x })
-      ∷ default 5 (codes "maxMsgSize") (optional size) (λ x r. record r { max_msg_size = x })
-      ∷ default 6 (codes "pinProtocols") (optional (list (below 256))) (λ x r. record r { pin_protocols = x })
-      ∷ default 9 (codes "transports") (tolerated (accepted (one_named transport_named)))
-      (λ x r. record r { transports = x })
-      ∷ default 10 (codes "algorithms") (tolerated (accepted (nested parameters_fields)))
-      (λ x r. record r { algorithms = x })
-      ∷ default 11 (codes "macSerializedLargeBlobArray") (optional (below (2 ^ 32)))
-      (λ x r. record r { mac_serialized_large_blob_array = x })
-      ∷ default 12 (codes "forcePinChange") (optional truth) (λ x r. record r { force_pin_change = x })
-      ∷ default 13 (codes "minPinLength") (optional (below (2 ^ 32))) (λ x r. record r { min_pin_length = x })
-      ∷ default 14 (codes "firmwareVersion") (optional (below (2 ^ 32))) (λ x r. record r { firmware_version = x })
-      ∷ default 15 (codes "maxCredBlobLength") (optional (below (2 ^ 32)))
-      (λ x r. record r { max_cred_blob_length = x })
-      ∷ default 16 (codes "maxRpidsForSetMinPinLength") (optional (below (2 ^ 32)))
-      (λ x r. record r { max_rpids_for_set_min_pin_length = x })
-      ∷ default 17 (codes "preferredPlatformUvAttempts") (optional (below (2 ^ 32)))
-      (λ x r. record r { preferred_platform_uv_attempts = x })
-      ∷ default 18 (codes "uvModality") (optional (below (2 ^ 32))) (λ x r. record r { uv_modality = x })
-      ∷ default 19 (codes "certifications") (optional kept) (λ x r. record r { certifications = x })
-      ∷ default 20 (codes "remainingDiscoverableCredentials") (optional (below (2 ^ 32)))
-      (λ x r. record r { remaining_discoverable_credentials = x })
-      ∷ default 21 (codes "vendorPrototypeConfigCommands") (tolerated (accepted (below (2 ^ 32))))
-      (λ x r. record r { vendor_prototype_config_commands = x })
-      ∷ default 22 (codes "attestationFormats") (tolerated (accepted text))
-      (λ x r. record r { attestation_formats = x })
-      ∷ default 23 (codes "uvCountSinceLastPinEntry") (optional (below (2 ^ 32)))
-      (λ x r. record r { uv_count_since_last_pin_entry = x })
-      ∷ default 24 (codes "longTouchForReset") (optional truth) (λ x r. record r { long_touch_for_reset = x })
-      ∷ default 25 (codes "encIdentifier") (optional bytes) (λ x r. record r { enc_identifier = x })
-      ∷ default 26 (codes "transportsForReset") (tolerated (accepted (one_named transport_named)))
-      (λ x r. record r { transports_for_reset = x })
-      ∷ default 27 (codes "pinComplexityPolicy") (optional truth) (λ x r. record r { pin_complexity_policy = x })
-      ∷ default 28 (codes "pinComplexityPolicyUrl") (optional bytes)
-      (λ x r. record r { pin_complexity_policy_url = x })
-      ∷ default 29 (codes "maxPinLength") (optional (below (2 ^ 32))) (λ x r. record r { max_pin_length = x })
-      ∷ [];
-}
+get_info_fields = fields_of (
+    required 1 (codes "versions") (list (growing 2 nothing version)) (λ x r. record r { versions = x })
+    ∷ default 2 (codes "extensions") (optional (list (growing 2 nothing extension)))
+    (λ x r. record r { extensions = x })
+    ∷ required 3 (codes "aaguid") aaguid (λ x r. record r { aaguid = x })
+    ∷ default 4 (codes "options") (optional (nested options_fields)) (λ x r. record r { options = x })
+    ∷ default 5 (codes "maxMsgSize") (optional size) (λ x r. record r { max_msg_size = x })
+    ∷ default 6 (codes "pinProtocols") (optional (list (below 256))) (λ x r. record r { pin_protocols = x })
+    ∷ default 9 (codes "transports") (tolerated (accepted (one_named transport_named)))
+    (λ x r. record r { transports = x })
+    ∷ default 10 (codes "algorithms") (tolerated (accepted (nested parameters_fields)))
+    (λ x r. record r { algorithms = x })
+    ∷ limit_rows)
 
 abbrev pub get_info_table : Table
 get_info_table = table_of get_info_fields

@@ -35,7 +35,7 @@ capability_places_with size r =
 abbrev pub capability_places : GetInfoParts → List Place
 capability_places r = capability_places_with (option_map number_tree r.max_msg_size) r
 
--- its limits and its state
+-- its limits
 abbrev pub limit_places : GetInfoParts → List Place
 limit_places r =
     where_some (number_tree 11) number_tree r.mac_serialized_large_blob_array
@@ -48,7 +48,12 @@ limit_places r =
     ∷ where_some (number_tree 18) number_tree r.uv_modality
     ∷ where_kept (number_tree 19) r.certifications
     ∷ where_some (number_tree 20) number_tree r.remaining_discoverable_credentials
-    ∷ where_some (number_tree 21) (list_tree number_tree) r.vendor_prototype_config_commands
+    ∷ []
+
+-- its state
+abbrev pub state_places : GetInfoParts → List Place
+state_places r =
+    where_some (number_tree 21) (list_tree number_tree) r.vendor_prototype_config_commands
     ∷ where_some (number_tree 22) (list_tree text_string) r.attestation_formats
     ∷ where_some (number_tree 23) number_tree r.uv_count_since_last_pin_entry
     ∷ where_some (number_tree 24) boolean r.long_touch_for_reset
@@ -60,7 +65,7 @@ limit_places r =
     ∷ []
 
 abbrev pub get_info_places : GetInfoParts → List Place
-get_info_places r = capability_places r ++ limit_places r
+get_info_places r = capability_places r ++ limit_places r ++ state_places r
 
 abbrev pub get_info_tree : GetInfoParts → Item
 get_info_tree r = record_tree (get_info_places r)
@@ -95,12 +100,14 @@ pub record LimitsFit (r : GetInfoParts) : Type 0 where
   pub preferred_platform_uv_attempts : IfPresent IsWord r.preferred_platform_uv_attempts
   pub uv_modality : IfPresent IsWord r.uv_modality
   pub remaining_discoverable_credentials : IfPresent IsWord r.remaining_discoverable_credentials
+
+pub record StateFits (r : GetInfoParts) : Type 0 where
   pub vendor_prototype_config_commands : IfPresent (All IsWord) r.vendor_prototype_config_commands
   pub uv_count_since_last_pin_entry : IfPresent IsWord r.uv_count_since_last_pin_entry
   pub max_pin_length : IfPresent IsWord r.max_pin_length
 
 abbrev pub GetInfoFits : GetInfoParts → Type 0
-GetInfoFits r = CapabilitiesFit r × LimitsFit r
+GetInfoFits r = CapabilitiesFit r × (LimitsFit r × StateFits r)
 
 -- ---- which responses can be encoded, and decoded again
 

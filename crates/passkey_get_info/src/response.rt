@@ -1,12 +1,15 @@
 //! authenticatorGetInfo responses.
-ghost use Rattle.std.specs.Prelude.{◌≡◌};
+ghost use Rattle.std.specs.Prelude.{◌≡◌, ℕ, is_ok};
+ghost use Rattle.passkey_cbor.specs.Item.{Item};
 ghost use Rattle.passkey_cbor.specs.View.{item_of};
-ghost use Rattle.passkey_get_info.specs.GetInfo.{GetInfoParts, get_info_fields, get_info_table, read_get_info, get_info_empty};
+ghost use Rattle.passkey_get_info.specs.GetInfo.{GetInfoParts, fields_of, limit_rows, state_rows, get_info_fields, get_info_table, read_get_info, get_info_empty};
 ghost use Rattle.passkey_get_info.specs.GetInfoTree.{get_info_tree, is_get_info_coherent};
 ghost use Rattle.passkey_get_info.specs.GetInfoView.{get_info_parts};
 ghost use Rattle.passkey_kinds.specs.declared.fault.Fault.TheVariants.{OutOfMemory as NoRoom};
 ghost use Rattle.passkey_kinds.specs.Message.{ReadsMessage, ReadsHere, GrowsMessage};
 ghost use Rattle.passkey_kinds.specs.Reading.{MayGrowAt, Reads};
+ghost use Rattle.passkey_kinds.specs.RecordCost.{cost_at, keeps_at};
+ghost use Rattle.passkey_kinds.specs.RecordReading.{Puts};
 
 use crate::laws::read_get_info_is_coherent;
 use crate::{Extension, Options, Version};
@@ -145,6 +148,26 @@ impl Record for Response {
             0x06 => set(&mut self.pin_protocols, alloc, source),
             0x09 => set_accepted_or_none(&mut self.transports, alloc, source),
             0x0a => set_accepted_or_none(&mut self.algorithms, alloc, source),
+            _ => self.put_limit(alloc, number, source),
+        }
+    }
+}
+
+impl Response {
+    /// Decodes the value of a row from 0x0B on.
+    fn put_limit<S: Source>(
+        &mut self,
+        alloc: Global,
+        number: u8,
+        source: &mut S,
+    ) -> Result<(), Refusal>
+        ensures puts { (i : Item) (to : ℕ) → S.At source.old i to
+            → Puts (fields_of limit_rows) number i (get_info_parts self.old) (get_info_parts self.new) result }
+        ensures spends { (i : Item) (to : ℕ) → S.At source.old i to → S.Spent (cost_at limit_rows number)
+            (keeps_at limit_rows number) i to source.old source.new (is_ok result) }
+        ensures onward { S.Goes source.old source.new }
+    {
+        match number {
             0x0b => set(&mut self.mac_serialized_large_blob_array, alloc, source),
             0x0c => set(&mut self.force_pin_change, alloc, source),
             0x0d => set(&mut self.min_pin_length, alloc, source),
@@ -155,6 +178,24 @@ impl Record for Response {
             0x12 => set(&mut self.uv_modality, alloc, source),
             0x13 => set(&mut self.certifications, alloc, source),
             0x14 => set(&mut self.remaining_discoverable_credentials, alloc, source),
+            _ => self.put_state(alloc, number, source),
+        }
+    }
+
+    /// Decodes the value of a row from 0x15 on.
+    fn put_state<S: Source>(
+        &mut self,
+        alloc: Global,
+        number: u8,
+        source: &mut S,
+    ) -> Result<(), Refusal>
+        ensures puts { (i : Item) (to : ℕ) → S.At source.old i to
+            → Puts (fields_of state_rows) number i (get_info_parts self.old) (get_info_parts self.new) result }
+        ensures spends { (i : Item) (to : ℕ) → S.At source.old i to → S.Spent (cost_at state_rows number)
+            (keeps_at state_rows number) i to source.old source.new (is_ok result) }
+        ensures onward { S.Goes source.old source.new }
+    {
+        match number {
             0x15 => set_accepted_or_none(&mut self.vendor_prototype_config_commands, alloc, source),
             0x16 => set_accepted_or_none(&mut self.attestation_formats, alloc, source),
             0x17 => set(&mut self.uv_count_since_last_pin_entry, alloc, source),

@@ -6,7 +6,7 @@ ghost use Rattle.passkey_cbor.specs.Writable.{IsWritable};
 ghost use Rattle.passkey_cbor.specs.Written.{written};
 ghost use Rattle.passkey_core.specs.DataNormal.{IfPresent};
 ghost use Rattle.passkey_get_info.specs.Encodable.{EncodableFits, encodable_capabilities, encodable_parts, encodable_places};
-ghost use Rattle.passkey_get_info.specs.GetInfoTree.{limit_places, get_info_tree, IsPositive, CapabilitiesFit, LimitsFit, GetInfoFits, is_encodable, fault_of_size, has_room, is_get_info_coherent};
+ghost use Rattle.passkey_get_info.specs.GetInfoTree.{limit_places, state_places, get_info_tree, IsPositive, CapabilitiesFit, LimitsFit, StateFits, GetInfoFits, is_encodable, fault_of_size, has_room, is_get_info_coherent};
 ghost use Rattle.passkey_get_info.specs.GetInfoView.{get_info_parts};
 ghost use Rattle.passkey_kinds.specs.Sink.{AllAccepted, put_all};
 ghost use Rattle.passkey_kinds.specs.Tree.{number_tree};
@@ -114,6 +114,15 @@ impl Encodable<'_> {
             0x14_u8,
             &self.response.remaining_discoverable_credentials,
         )?;
+        Ok(())
+    }
+
+    fn put_state<S: Sink>(&self, alloc: Global, sink: &mut S) -> Result<(), OutOfMemory>
+        ensures put { OnOk result
+            (S.state sink.new ≡ put_all S.step (S.state sink.old) (state_places (encodable_parts self.now))) }
+        ensures accepts { OnOk result (AllAccepted S.Accepts (state_places (encodable_parts self.now))) }
+        ensures fits { OnOk result (S.Encodes → StateFits (encodable_parts self.now)) }
+    {
         sink.put_some(
             alloc,
             0x15_u8,
@@ -139,6 +148,7 @@ impl ToCborMap for Encodable<'_> {
     fn put_members<S: Sink>(&self, alloc: Global, sink: &mut S) -> Result<(), OutOfMemory> {
         self.put_capabilities(alloc, sink)?;
         self.put_limits(alloc, sink)?;
+        self.put_state(alloc, sink)?;
         Ok(())
     }
 }

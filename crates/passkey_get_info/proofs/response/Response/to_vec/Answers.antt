@@ -1,7 +1,7 @@
 use Rattle.std.proofs.Common.{◌≡◌, ◌++◌, IfOk, Option, subst}
 use Rattle.passkey_cbor.specs.Item.{Item}
 use Rattle.passkey_cbor.specs.Written.{written}
-use Rattle.passkey_get_info.specs.GetInfoTree.{capability_places_with, limit_places}
+use Rattle.passkey_get_info.specs.GetInfoTree.{capability_places_with, limit_places, state_places}
 use Rattle.passkey_get_info.specs.GetInfoView.{get_info_parts}
 use Rattle.passkey_kinds.specs.Tree.{record_tree}
 use Rattle.passkey_get_info.proofs.response.Response.to_vec.Goals as goal
@@ -10,5 +10,5 @@ pub returns-clause-written : goal.returns-clause-written
 returns-clause-written c =
     let r = get_info_parts c.args.self.now in
     subst (λ (size : Option Item). IfOk c.write_message.result
-    (λ bytes. bytes.items ≡ written (record_tree (capability_places_with size r ++ limit_places r))))
+    (λ bytes. bytes.items ≡ written (record_tree (capability_places_with size r ++ limit_places r ++ state_places r))))
     c.in_ok-max_msg_size.ensures.item c.write_message.ensures.written
