@@ -1,3 +1,2 @@
 pub mod MakeBack
-pub mod MakeLevels
-pub mod EntitiesOrdered
+pub mod EntitiesPlain

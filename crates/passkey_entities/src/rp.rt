@@ -115,6 +115,6 @@ impl RecordReadBack for PublicKeyCredentialRpEntity {
 impl Shallow for PublicKeyCredentialRpEntity {
     ghost levels = { 1 };
 
-    #[tactic(auto, using(crate::proofs::MakeLevels::rp_levels))]
+    #[tactic(auto, using(crate::proofs::EntitiesPlain::rp_levels))]
     fn shallow() {}
 }

@@ -163,6 +163,6 @@ impl RecordReadBack for PublicKeyCredentialUserEntity {
 impl Shallow for PublicKeyCredentialUserEntity {
     ghost levels = { 1 };
 
-    #[tactic(auto, using(crate::proofs::MakeLevels::made_user_levels))]
+    #[tactic(auto, using(crate::proofs::EntitiesPlain::made_user_levels))]
     fn shallow() {}
 }

@@ -3,14 +3,11 @@ use Rattle.std.specs.Result.{result_ok}
 use Rattle.std.proofs.Common.{◌≡◌, ◌∙◌, Some, Ok, refl, ap, [], ◌∷◌}
 use Rattle.passkey_cbor.specs.Item.{Item}
 use Rattle.passkey_extensions.specs.ExtensionTrees.{hmac_input_places, hmac_input_tree, HmacInputFits, prf_values_places, prf_values_tree, PrfValuesFit, prf_make_places, prf_make_tree, PrfMakeFits, prf_get_places, prf_get_tree, PrfGetFits, made_places, made_tree, MadeFits, used_places, used_tree, UsedFits, EachFits, prf_inputs_places, prf_inputs_tree, PrfInputsFit, make_extensions_places, make_extensions_tree, MakeExtensionsFit, get_extensions_places, get_extensions_tree, GetExtensionsFit}
-use Rattle.passkey_extensions.specs.GetExtensions.{GetExtensionsParts, get_extensions_fields, get_extensions}
-use Rattle.passkey_extensions.specs.GetExtensionsView.{get_extensions_parts}
-use Rattle.passkey_extensions.specs.HmacInput.{HmacInputParts, hmac_input_fields, hmac_input, read_hmac_input}
-use Rattle.passkey_extensions.specs.HmacInputView.{hmac_input_parts}
+use Rattle.passkey_extensions.specs.GetExtensions.{GetExtensionsParts, get_extensions_fields, get_extensions, get_extensions_parts}
+use Rattle.passkey_extensions.specs.HmacInput.{HmacInputParts, hmac_input_fields, hmac_input, read_hmac_input, hmac_input_parts}
 use Rattle.passkey_kinds.specs.Kind.{Kind}
 use Rattle.passkey_extensions.specs.GetUnsigned as used
-use Rattle.passkey_extensions.specs.MakeExtensions.{MakeExtensionsParts, make_extensions_fields, make_extensions}
-use Rattle.passkey_extensions.specs.MakeExtensionsView.{make_extensions_parts}
+use Rattle.passkey_extensions.specs.MakeExtensions.{MakeExtensionsParts, make_extensions_fields, make_extensions, make_extensions_parts}
 use Rattle.passkey_extensions.specs.MakeUnsigned as made
 use Rattle.passkey_kinds.specs.MapKind.{map_from_bytes}
 use Rattle.passkey_extensions.specs.PrfInputs.{prf_inputs_fields, prf_inputs}

@@ -4,101 +4,29 @@ use Rattle.std.proofs.Common.{◌≡◌, arith, leb-true, true, Option, Some, No
 use Rattle.passkey_cbor.specs.Canonical.{IsOrdered}
 use Rattle.passkey_cbor.specs.Depth.{depth}
 use Rattle.passkey_cbor.specs.LeadingItem.{max_depth}
-use Rattle.passkey_cbor.specs.Item.{Item, boolean, text_string}
+use Rattle.passkey_cbor.specs.Item.{Item, text_string}
 use Rattle.passkey_cbor.specs.Laws.{AtMostOneLeadingItem, WrittenIsLeadingItem}
 use Rattle.passkey_cbor.specs.Written.{shortest_head}
-use Rattle.passkey_extensions.specs.ExtensionTrees.{hmac_input_places, hmac_input_tree, is_hmac_input_coherent, hmac_input_kept, inputs_kept, prf_values_places, prf_values_tree, prf_make_places, prf_make_tree, prf_get_places, prf_get_tree, prf_inputs_places, prf_inputs_tree, made_places, made_tree, used_places, used_tree, make_extensions_places, make_extensions_tree, make_extensions_kept, get_extensions_places, get_extensions_tree, get_extensions_kept}
+use Rattle.passkey_extensions.specs.ExtensionTrees.{hmac_input_places, hmac_input_tree, is_hmac_input_coherent, hmac_input_kept, inputs_kept, prf_values_places, prf_make_places, prf_inputs_places, make_extensions_places, make_extensions_tree, make_extensions_kept, get_extensions_places, get_extensions_tree, get_extensions_kept}
 use Rattle.passkey_extensions.specs.GetExtensions.{GetExtensionsParts}
 use Rattle.passkey_extensions.specs.HmacInput.{HmacInputParts}
 use Rattle.passkey_extensions.specs.MakeExtensions.{MakeExtensionsParts}
-use Rattle.passkey_extensions.specs.declared.get_assertion.unsigned.UnsignedExtensionOutputs as assertion
-use Rattle.passkey_extensions.specs.declared.make_credential.unsigned.UnsignedExtensionOutputs as creation
-use Rattle.passkey_extensions.specs.declared.prf_get_outputs.AuthenticatorPrfGetOutputs.{AuthenticatorPrfGetOutputs}
-use Rattle.passkey_extensions.specs.declared.prf_inputs.AuthenticatorPrfInputs.{AuthenticatorPrfInputs}
-use Rattle.passkey_extensions.specs.declared.prf_make_outputs.AuthenticatorPrfMakeOutputs.{AuthenticatorPrfMakeOutputs}
-use Rattle.passkey_extensions.specs.declared.prf_values.AuthenticatorPrfValues.{AuthenticatorPrfValues}
 use Rattle.passkey_extensions.proofs.ExtensionLevels.{input_down}
 use Rattle.passkey_kinds.specs.MessageLaws.{AllCanonical, WrittenIsCanonical}
-use Rattle.passkey_kinds.specs.Tree.{KeysAscend, number_tree, numbers_tree, option_tree, byte_map_tree}
+use Rattle.passkey_kinds.specs.Tree.{KeysAscend}
 use Rattle.passkey_kinds.proofs.Levels.{PlaceWithin, of_record as levels_of}
-use Rattle.passkey_kinds.proofs.Ordered.{ascend, keys_ascend, PlaceOrdered, PlaceWritable, record_ordered, option_ordered, map_ordered, of_record, canonical_of, ordered_of}
-use Rattle.passkey_kinds.proofs.RecordOrdered.{numbers_ordered}
-
--- ---- prf
-
-prf_values_ascends : (v : AuthenticatorPrfValues) → ascend (prf_values_places v) ≡ true
-unfolding shortest_head
-prf_values_ascends v = refl
+use Rattle.passkey_kinds.proofs.Ordered.{ascend, keys_ascend, PlaceOrdered, PlaceWritable, record_ordered, of_record, canonical_of, ordered_of}
+use Rattle.passkey_kinds.proofs.Plain.{in_order}
+use Rattle.passkey_extensions.proofs.ExtensionPlain.{prf_values_ascends, prf_make_ascends, prf_inputs_ascends, hmac_input_each, make_extensions_each, get_extensions_each}
 
 pub prf_values_keys : KeysAscend prf_values_places
 prf_values_keys v = keys_ascend (prf_values_places v) (prf_values_ascends v)
 
-prf_values_ordered : (v : AuthenticatorPrfValues) → IsOrdered (prf_values_tree v)
-prf_values_ordered v =
-    record_ordered (prf_values_places v) (prf_values_ascends v) (
-      (tt, numbers_ordered v.first),
-      (option_ordered numbers_tree (text_string (codes "second")) tt numbers_ordered v.second, tt),
-    )
-
-prf_make_ascends : (o : AuthenticatorPrfMakeOutputs) → ascend (prf_make_places o) ≡ true
-unfolding shortest_head
-prf_make_ascends o = refl
-
 pub prf_make_keys : KeysAscend prf_make_places
 prf_make_keys o = keys_ascend (prf_make_places o) (prf_make_ascends o)
 
-prf_make_ordered : (o : AuthenticatorPrfMakeOutputs) → IsOrdered (prf_make_tree o)
-prf_make_ordered o =
-    record_ordered (prf_make_places o) (prf_make_ascends o) (
-      (tt, tt),
-      (option_ordered prf_values_tree (text_string (codes "results")) tt prf_values_ordered o.results, tt),
-    )
-
-prf_get_ascends : (o : AuthenticatorPrfGetOutputs) → ascend (prf_get_places o) ≡ true
-unfolding shortest_head
-prf_get_ascends o = refl
-
-prf_get_ordered : (o : AuthenticatorPrfGetOutputs) → IsOrdered (prf_get_tree o)
-prf_get_ordered o = record_ordered (prf_get_places o) (prf_get_ascends o) ((tt, prf_values_ordered o.results), tt)
-
-or_null : {A : Type 0} (tree : A → Item) → ((x : A) → IsOrdered (tree x)) → (o : Option A)
-    → IsOrdered (option_tree tree o)
-or_null tree each None = tt
-or_null tree each (Some x) = each x
-
-made_ascends : (o : creation.UnsignedExtensionOutputs) → ascend (made_places o) ≡ true
-unfolding shortest_head
-made_ascends o = refl
-
-pub made_ordered : (o : creation.UnsignedExtensionOutputs) → IsOrdered (made_tree o)
-made_ordered o =
-    record_ordered (made_places o) (made_ascends o) ((tt, or_null prf_make_tree prf_make_ordered o.prf), tt)
-
-used_ascends : (o : assertion.UnsignedExtensionOutputs) → ascend (used_places o) ≡ true
-unfolding shortest_head
-used_ascends o = refl
-
-pub used_ordered : (o : assertion.UnsignedExtensionOutputs) → IsOrdered (used_tree o)
-used_ordered o =
-    record_ordered (used_places o) (used_ascends o) ((tt, or_null prf_get_tree prf_get_ordered o.prf), tt)
-
-prf_inputs_ascends : (i : AuthenticatorPrfInputs) → ascend (prf_inputs_places i) ≡ true
-unfolding shortest_head
-prf_inputs_ascends i = refl
-
 pub prf_inputs_keys : KeysAscend prf_inputs_places
 prf_inputs_keys i = keys_ascend (prf_inputs_places i) (prf_inputs_ascends i)
-
-prf_inputs_ordered : (i : AuthenticatorPrfInputs) → IsOrdered (prf_inputs_tree i)
-prf_inputs_ordered i =
-    record_ordered (prf_inputs_places i) (prf_inputs_ascends i) (
-      option_ordered prf_values_tree (text_string (codes "eval")) tt prf_values_ordered i.eval,
-      (
-        option_ordered (byte_map_tree prf_values_tree) (text_string (codes "eval_by_credential")) tt
-            (map_ordered prf_values_tree prf_values_ordered) i.eval_by_credential,
-        tt,
-      ),
-    )
 
 -- ---- hmac-secret, whose key is kept
 
@@ -108,16 +36,7 @@ hmac_input_ascends h = refl
 
 hmac_input_ordered : (h : HmacInputParts) → IsOrdered h.key_agreement → IsOrdered (hmac_input_tree h)
 hmac_input_ordered h key =
-    record_ordered (hmac_input_places h) (hmac_input_ascends h) (
-      (tt, key),
-      (
-        (tt, tt),
-        (
-          (tt, tt),
-          (option_ordered number_tree (number_tree 4) tt (λ n. tt) h.pin_uv_auth_protocol, tt),
-        ),
-      ),
-    )
+    record_ordered (hmac_input_places h) (hmac_input_ascends h) (hmac_input_each (in_order 0) h key)
 
 pub hmac_input_canonical : AtMostOneLeadingItem → WrittenIsLeadingItem
     → WrittenIsCanonical hmac_input_tree is_hmac_input_coherent hmac_input_kept
@@ -155,17 +74,9 @@ make_extensions_place one front key keyed (Some e) w d kept =
     let writable = of_record (make_extensions_places e) w in
     let levels = levels_of 254 (make_extensions_places e) d.1 in (
       keyed,
-      record_ordered (make_extensions_places e) (make_extensions_ascends e) (
-        option_ordered prf_inputs_tree (text_string (codes "prf")) tt prf_inputs_ordered e.prf,
-        (
-          option_ordered boolean (text_string (codes "hmac-secret")) tt (λ b. tt) e.hmac_secret,
-          (
-            inputs_place one front (text_string (codes "hmac-secret-mc")) tt e.hmac_secret_mc writable.1.1.0
-                levels.1.1.0 kept,
-            tt,
-          ),
-        ),
-      ),
+      record_ordered (make_extensions_places e) (make_extensions_ascends e) (make_extensions_each (in_order 4) e
+          (inputs_place one front (text_string (codes "hmac-secret-mc")) tt e.hmac_secret_mc writable.1.1.0
+          levels.1.1.0 kept)),
     )
 
 get_extensions_ascends : (e : GetExtensionsParts) → ascend (get_extensions_places e) ≡ true
@@ -184,11 +95,6 @@ get_extensions_place one front key keyed (Some e) w d kept =
     let writable = of_record (get_extensions_places e) w in
     let levels = levels_of 254 (get_extensions_places e) d.1 in (
       keyed,
-      record_ordered (get_extensions_places e) (get_extensions_ascends e) (
-        option_ordered prf_inputs_tree (text_string (codes "prf")) tt prf_inputs_ordered e.prf,
-        (
-          inputs_place one front (text_string (codes "hmac-secret")) tt e.hmac_secret writable.1.0 levels.1.0 kept,
-          tt,
-        ),
-      ),
+      record_ordered (get_extensions_places e) (get_extensions_ascends e) (get_extensions_each (in_order 4) e
+          (inputs_place one front (text_string (codes "hmac-secret")) tt e.hmac_secret writable.1.0 levels.1.0 kept)),
     )

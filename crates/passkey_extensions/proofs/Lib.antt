@@ -1,4 +1,5 @@
 pub mod ExtensionBack
+pub mod ExtensionPlain
 pub mod ExtensionLevels
 pub mod Keys
 pub mod HmacInputLaws

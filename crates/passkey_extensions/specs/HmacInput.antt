@@ -6,6 +6,8 @@ use Rattle.passkey_kinds.specs.Record.{Fields, required, default, table_of, read
 use Rattle.passkey_kinds.specs.Table.{Table}
 use Rattle.passkey_kinds.specs.Typed.{below, bytes, kept, optional}
 use Rattle.passkey_kinds.specs.declared.fault.Fault.{Fault}
+use Rattle.passkey_cbor.specs.View.{item_of}
+use Rattle.passkey_extensions.specs.declared.hmac_secret.HmacGetSecretInput.{HmacGetSecretInput}
 
 -- what contracts see of an input
 pub record HmacInputParts : Type 0 where
@@ -13,6 +15,14 @@ pub record HmacInputParts : Type 0 where
   pub salt_enc : List ℕ
   pub salt_auth : List ℕ
   pub pin_uv_auth_protocol : Option ℕ
+
+abbrev pub hmac_input_parts : HmacGetSecretInput → HmacInputParts
+hmac_input_parts x = record {
+  key_agreement = item_of x.key_agreement;
+  salt_enc = x.salt_enc;
+  salt_auth = x.salt_auth;
+  pin_uv_auth_protocol = x.pin_uv_auth_protocol;
+}
 
 abbrev pub hmac_input_fields : Fields HmacInputParts
 hmac_input_fields = record {

@@ -1,5 +1,4 @@
 pub mod HmacInput
-pub mod HmacInputView
 pub mod PrfValues
 pub mod PrfMakeOutputs
 pub mod PrfGetOutputs
@@ -7,8 +6,6 @@ pub mod MakeUnsigned
 pub mod GetUnsigned
 pub mod PrfInputs
 pub mod MakeExtensions
-pub mod MakeExtensionsView
 pub mod GetExtensions
-pub mod GetExtensionsView
 pub mod ExtensionTrees
 pub mod PrfWebauthn

@@ -1,18 +1,33 @@
 -- Extension inputs of authenticatorMakeCredential requests (CTAP 2.1, section 6.1).
-use Rattle.std.specs.Prelude.{[], ◌∷◌, Bool, Option, None, codes, false}
-use Rattle.passkey_extensions.specs.HmacInput.{HmacInputParts, hmac_input_fields}
+use Rattle.std.specs.Prelude.{[], ◌∷◌, Bool, Option, None, codes, false, ◌||◌, is_some, option_map}
+use Rattle.passkey_extensions.specs.HmacInput.{HmacInputParts, hmac_input_fields, hmac_input_parts}
 use Rattle.passkey_kinds.specs.Kind.{Kind}
 use Rattle.passkey_kinds.specs.Record.{Fields, default, record_kind}
 use Rattle.passkey_kinds.specs.RecordCost.{nested}
 use Rattle.passkey_kinds.specs.Typed.{optional, truth}
 use Rattle.passkey_extensions.specs.PrfInputs.{prf_inputs_fields}
 use Rattle.passkey_extensions.specs.declared.prf_inputs.AuthenticatorPrfInputs.{AuthenticatorPrfInputs}
+use Rattle.passkey_extensions.specs.declared.make_credential.extension_inputs.ExtensionInputs.{ExtensionInputs}
 
 -- what contracts see of the inputs
 pub record MakeExtensionsParts : Type 0 where
   pub hmac_secret : Option Bool
   pub hmac_secret_mc : Option HmacInputParts
   pub prf : Option AuthenticatorPrfInputs
+
+abbrev pub make_extensions_parts : ExtensionInputs → MakeExtensionsParts
+make_extensions_parts x = record {
+  hmac_secret = x.hmac_secret;
+  hmac_secret_mc = option_map hmac_input_parts x.hmac_secret_mc;
+  prf = x.prf;
+}
+
+abbrev pub no_make_extensions : ExtensionInputs
+no_make_extensions = record { hmac_secret = None; hmac_secret_mc = None; prf = None }
+
+-- whether any input is present
+abbrev pub has_make_extension : ExtensionInputs → Bool
+has_make_extension x = is_some x.hmac_secret || is_some x.hmac_secret_mc || is_some x.prf
 
 abbrev pub make_extensions_fields : Fields MakeExtensionsParts
 make_extensions_fields = record {

@@ -1,10 +1,8 @@
 //! Laws about the extensions' records. Each is the contract of a function that does nothing.
 ghost use Rattle.passkey_extensions.specs.ExtensionTrees.{hmac_input_tree, HmacInputFits, is_hmac_input_coherent, hmac_input_kept, prf_values_places, prf_make_places, prf_inputs_places, make_extensions_places, get_extensions_places};
-ghost use Rattle.passkey_extensions.specs.HmacInput.{hmac_input_fields, read_hmac_input};
-ghost use Rattle.passkey_extensions.specs.HmacInputView.{hmac_input_parts};
+ghost use Rattle.passkey_extensions.specs.HmacInput.{hmac_input_fields, read_hmac_input, hmac_input_parts};
 ghost use Rattle.passkey_kinds.specs.MessageLaws.{WrittenIsReadBack, ReadIsCoherent, WrittenIsCanonical};
-ghost use Rattle.passkey_kinds.specs.RecordLaws.{PassesOverUnknown};
-ghost use Rattle.passkey_kinds.specs.RecordLaws.{KnowsMaps};
+ghost use Rattle.passkey_kinds.specs.RecordLaws.{PassesOverUnknown, KnowsMaps};
 ghost use Rattle.passkey_kinds.specs.Tree.{KeysAscend};
 
 /// The encoding of a coherent hmac-secret input, whatever bytes follow, decodes to the input.

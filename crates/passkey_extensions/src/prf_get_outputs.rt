@@ -87,6 +87,6 @@ impl RecordReadBack for AuthenticatorPrfGetOutputs {
 impl Shallow for AuthenticatorPrfGetOutputs {
     ghost levels = { 3 };
 
-    #[tactic(auto, using(crate::proofs::ExtensionLevels::prf_get_levels))]
+    #[tactic(auto, using(crate::proofs::ExtensionPlain::prf_get_levels))]
     fn shallow() {}
 }

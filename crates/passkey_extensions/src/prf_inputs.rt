@@ -118,6 +118,6 @@ impl RecordReadBack for AuthenticatorPrfInputs {
 impl Shallow for AuthenticatorPrfInputs {
     ghost levels = { 4 };
 
-    #[tactic(auto, using(crate::proofs::ExtensionLevels::prf_inputs_levels))]
+    #[tactic(auto, using(crate::proofs::ExtensionPlain::prf_inputs_levels))]
     fn shallow() {}
 }

@@ -95,6 +95,6 @@ impl RecordReadBack for AuthenticatorPrfMakeOutputs {
 impl Shallow for AuthenticatorPrfMakeOutputs {
     ghost levels = { 3 };
 
-    #[tactic(auto, using(crate::proofs::ExtensionLevels::prf_make_levels))]
+    #[tactic(auto, using(crate::proofs::ExtensionPlain::prf_make_levels))]
     fn shallow() {}
 }

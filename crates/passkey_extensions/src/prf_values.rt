@@ -95,6 +95,6 @@ impl RecordReadBack for AuthenticatorPrfValues {
 impl Shallow for AuthenticatorPrfValues {
     ghost levels = { 2 };
 
-    #[tactic(auto, using(crate::proofs::ExtensionLevels::prf_values_levels))]
+    #[tactic(auto, using(crate::proofs::ExtensionPlain::prf_values_levels))]
     fn shallow() {}
 }

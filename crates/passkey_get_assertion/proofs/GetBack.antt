@@ -1,13 +1,9 @@
--- The encoding of the options of authenticatorGetAssertion can be decoded again, and has one
--- nesting level.
-use Rattle.std.proofs.Common.{◌≡◌, ◌≤◌, Some, refl}
-use Rattle.passkey_cbor.specs.Depth.{depth}
+-- The encoding of the options of authenticatorGetAssertion can be decoded again.
+use Rattle.std.proofs.Common.{◌≡◌, Some, refl}
 use Rattle.passkey_get_assertion.specs.GetOptions.{options_fields, options, options_places, options_tree}
 use Rattle.passkey_get_assertion.specs.declared.options.Options.{Options}
 use Rattle.passkey_kinds.specs.ReadBack.{IsReadBack, Any}
 use Rattle.passkey_kinds.proofs.LeafBack.{truth_back}
-use Rattle.passkey_kinds.proofs.Levels.{record_within}
-use Rattle.passkey_kinds.proofs.RecordLevels.{flat}
 use Rattle.passkey_kinds.proofs.RowsBack.{puts_value, kind_back, ◌▸◌, no_more}
 
 pub options_back : IsReadBack options options_tree Any (λ o. o)
@@ -18,6 +14,3 @@ options_back = record { back = λ o h. read o } where
       (puts_value truth_back o.up tt ▸
       puts_value truth_back o.uv tt ▸
       no_more)
-
-pub options_levels : (o : Options) → depth (options_tree o) ≤ 1
-options_levels o = record_within 0 (options_places o) (flat 0, (flat 0, tt))

@@ -1,37 +1,24 @@
 -- The encodings of the messages of authenticatorGetAssertion are canonical.
 use Rattle.std.proofs.Common.{◌≡◌, nat_le, leb-true, true, refl}
 use Rattle.std.proofs.lemmas.Bool.{and_parts}
-use Rattle.passkey_cbor.specs.Canonical.{IsOrdered}
 use Rattle.passkey_cbor.specs.Depth.{depth}
 use Rattle.passkey_cbor.specs.LeadingItem.{max_depth}
-use Rattle.passkey_cbor.specs.Item.{boolean, byte_string}
 use Rattle.passkey_cbor.specs.Laws.{AtMostOneLeadingItem, WrittenIsLeadingItem}
 use Rattle.passkey_cbor.specs.Written.{shortest_head}
 use Rattle.passkey_core.specs.Coherent.{is_coherent}
-use Rattle.passkey_extensions.specs.ExtensionTrees.{used_tree}
-use Rattle.passkey_extensions.proofs.ExtensionOrdered.{used_ordered, get_extensions_place}
-use Rattle.passkey_entities.specs.MakeUser.{user_tree}
-use Rattle.passkey_entities.proofs.EntitiesOrdered.{user_ordered}
-use Rattle.passkey_get_assertion.specs.GetOptions.{options_places, options_tree}
+use Rattle.passkey_extensions.proofs.ExtensionOrdered.{get_extensions_place}
+use Rattle.passkey_get_assertion.specs.GetOptions.{options_places}
 use Rattle.passkey_get_assertion.specs.GetRequest.{GetRequestParts, get_request_places, get_request_tree, get_request_kept, is_get_request_coherent}
 use Rattle.passkey_get_assertion.specs.GetResponse.{GetResponseParts, get_response_places, get_response_tree, get_response_kept, is_get_response_coherent}
-use Rattle.passkey_get_assertion.specs.declared.options.Options.{Options}
 use Rattle.passkey_kinds.specs.MessageLaws.{WrittenIsCanonical}
-use Rattle.passkey_kinds.specs.Tree.{KeysAscend, number_tree, list_tree}
-use Rattle.passkey_kinds.specs.Trees.{descriptor_tree}
+use Rattle.passkey_kinds.specs.Tree.{KeysAscend, number_tree}
 use Rattle.passkey_kinds.proofs.Levels.{of_record as levels_of}
-use Rattle.passkey_kinds.proofs.Ordered.{ascend, keys_ascend, record_ordered, option_ordered, list_ordered, of_record, canonical_of}
-use Rattle.passkey_kinds.proofs.RecordOrdered.{descriptor_ordered}
-
-options_ascends : (o : Options) → ascend (options_places o) ≡ true
-unfolding shortest_head
-options_ascends o = refl
+use Rattle.passkey_kinds.proofs.Ordered.{ascend, keys_ascend, record_ordered, of_record, canonical_of}
+use Rattle.passkey_kinds.proofs.Plain.{in_order}
+use Rattle.passkey_get_assertion.proofs.GetPlaces.{options_ascends, get_request_each, get_response_each}
 
 pub options_keys : KeysAscend options_places
 options_keys o = keys_ascend (options_places o) (options_ascends o)
-
-options_ordered : (o : Options) → IsOrdered (options_tree o)
-options_ordered o = record_ordered (options_places o) (options_ascends o) ((tt, tt), ((tt, tt), tt))
 
 -- ---- requests
 
@@ -46,26 +33,8 @@ get_request_canonical one front r w coherent kept =
     let writable = of_record (get_request_places r) w in
     let levels = levels_of 255 (get_request_places r) shallow in
     canonical_of (get_request_tree r) w shallow
-    (record_ordered (get_request_places r) (request_ascends r) (
-      (tt, tt),
-      (
-        (tt, tt),
-        (
-          option_ordered (list_tree descriptor_tree) (number_tree 3) tt
-              (list_ordered descriptor_tree descriptor_ordered) r.allow_list,
-          (
-            get_extensions_place one front (number_tree 4) tt r.extensions writable.1.1.1.0 levels.1.1.1.0 kept,
-            (
-              (tt, options_ordered r.options),
-              (
-                option_ordered byte_string (number_tree 6) tt (λ b. tt) r.pin_auth,
-                (option_ordered number_tree (number_tree 7) tt (λ n. tt) r.pin_protocol, tt),
-              ),
-            ),
-          ),
-        ),
-      ),
-    ))
+    (record_ordered (get_request_places r) (request_ascends r) (get_request_each (in_order 4) r
+    (get_extensions_place one front (number_tree 4) tt r.extensions writable.1.1.1.0 levels.1.1.1.0 kept)))
 
 -- ---- responses
 
@@ -77,25 +46,4 @@ pub get_response_canonical : WrittenIsCanonical get_response_tree is_get_respons
 get_response_canonical r w coherent kept =
     let parts = and_parts (is_coherent r.auth_data) (nat_le (depth (get_response_tree r)) max_depth) coherent in
     canonical_of (get_response_tree r) w (leb-true (depth (get_response_tree r)) max_depth parts.1)
-    (record_ordered (get_response_places r) (response_ascends r) (
-      option_ordered descriptor_tree (number_tree 1) tt descriptor_ordered r.credential,
-      (
-        (tt, tt),
-        (
-          (tt, tt),
-          (
-            option_ordered user_tree (number_tree 4) tt user_ordered r.user,
-            (
-              option_ordered number_tree (number_tree 5) tt (λ n. tt) r.number_of_credentials,
-              (
-                option_ordered boolean (number_tree 6) tt (λ b. tt) r.user_selected,
-                (
-                  option_ordered byte_string (number_tree 7) tt (λ b. tt) r.large_blob_key,
-                  (option_ordered used_tree (number_tree 8) tt used_ordered r.unsigned_extension_outputs, tt),
-                ),
-              ),
-            ),
-          ),
-        ),
-      ),
-    ))
+    (record_ordered (get_response_places r) (response_ascends r) (get_response_each (in_order 4) r))

@@ -1,11 +1,11 @@
 -- authenticatorGetAssertion requests: decoding their encodings again, and their nesting levels.
-use Rattle.std.proofs.Common.{◌≡◌, ◌∙◌, ◌≤◌, nat_le, arith, le-leb, leb-true, true, List, Option, Some, None, option_map, Ok, refl, sym}
+use Rattle.std.proofs.Common.{◌≡◌, ◌∙◌, ◌≤◌, nat_le, arith, le-leb, leb-true, true, Option, Some, None, option_map, Ok, refl, sym}
 use Rattle.passkey_cbor.specs.Depth.{depth}
 use Rattle.passkey_cbor.specs.LeadingItem.{max_depth}
-use Rattle.passkey_cbor.specs.Item.{Item, byte_string}
+use Rattle.passkey_cbor.specs.Item.{Item}
 use Rattle.passkey_cbor.specs.Laws.{WrittenIsLeadingItem}
 use Rattle.passkey_get_assertion.specs.GetRequest.{GetRequestParts, get_request_fields, read_get_request, get_request_places, get_request_tree, GetRequestFits, is_get_request_coherent}
-use Rattle.passkey_get_assertion.proofs.GetBack.{options_back, options_levels}
+use Rattle.passkey_get_assertion.proofs.GetBack.{options_back}
 use Rattle.passkey_extensions.specs.ExtensionTrees.{hmac_input_tree, get_extensions_tree}
 use Rattle.passkey_extensions.specs.GetExtensions.{GetExtensionsParts, get_extensions}
 use Rattle.passkey_extensions.specs.HmacInput.{HmacInputParts}
@@ -13,15 +13,14 @@ use Rattle.passkey_extensions.proofs.ExtensionBack.{get_parts_back}
 use Rattle.passkey_extensions.proofs.ExtensionLevels.{same_tests, some_within, none_within, of_some, input_up, used_with, used_without}
 use Rattle.passkey_extensions.proofs.Keys.{used_key}
 use Rattle.passkey_kinds.specs.MessageLaws.{WrittenIsReadBack, ReadIsCoherent}
-use Rattle.passkey_kinds.specs.Tree.{number_tree, list_tree}
-use Rattle.passkey_kinds.specs.Trees.{descriptor_tree}
+use Rattle.passkey_kinds.specs.Tree.{number_tree}
 use Rattle.passkey_kinds.proofs.Keeping as kept
 use Rattle.passkey_kinds.proofs.Keeping.{◌▹◌, record_keeps}
 use Rattle.passkey_kinds.proofs.LeafBack.{byte_back, text_back, bytes_back, anything, all_of_anything, optional_place, accepted_place, tolerated_place}
-use Rattle.passkey_kinds.proofs.Levels.{PlaceWithin, record_within, of_record, list_within, option_within}
+use Rattle.passkey_kinds.proofs.Levels.{PlaceWithin, record_within, of_record}
 use Rattle.passkey_kinds.proofs.RecordBack.{descriptor_back}
-use Rattle.passkey_kinds.proofs.RecordLevels.{descriptor_levels, flat}
-use Rattle.passkey_webauthn.specs.declared.descriptor.PublicKeyCredentialDescriptor.{PublicKeyCredentialDescriptor}
+use Rattle.passkey_kinds.proofs.Plain.{few_levels}
+use Rattle.passkey_get_assertion.proofs.GetPlaces.{get_request_each}
 use Rattle.passkey_kinds.proofs.RowsBack.{puts_value, puts_default, rows_back, ◌▸◌, no_more}
 
 -- ---- an encoding can be decoded again
@@ -51,29 +50,7 @@ get_request_returns law r rest fits writable coherent = (
 request_up : (r : GetRequestParts) → PlaceWithin 255 (number_tree 4) (option_map get_extensions_tree r.extensions)
     → depth (get_request_tree r) ≤ 256
 request_up r extensions =
-    record_within 255 (get_request_places r) (
-      flat 255,
-      (
-        flat 255,
-        (
-          option_within (list_tree descriptor_tree) 255 (number_tree 3) (omega arith) descriptors
-              r.allow_list,
-          (
-            extensions,
-            (
-              (omega arith, omega (arith, options_levels r.options)),
-              (
-                option_within byte_string 255 (number_tree 6) (omega arith) (λ b. omega arith) r.pin_auth,
-                (option_within number_tree 255 (number_tree 7) (omega arith) (λ n. omega arith) r.pin_protocol, tt),
-              ),
-            ),
-          ),
-        ),
-      ),
-    )
-  where
-    descriptors : (ds : List PublicKeyCredentialDescriptor) → depth (list_tree descriptor_tree ds) ≤ 255
-    descriptors ds = omega (arith, list_within descriptor_tree 2 descriptor_levels ds)
+    record_within 255 (get_request_places r) (get_request_each (few_levels 4 255 (omega arith)) r extensions)
 
 pub request_without : (r : GetRequestParts) → r.extensions ≡ None → true ≡ is_get_request_coherent r
 request_without r is = sym (le-leb (depth (get_request_tree r)) 256

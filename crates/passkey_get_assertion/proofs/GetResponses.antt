@@ -3,67 +3,27 @@ use Rattle.std.proofs.Common.{◌≡◌, ◌≤◌, nat_le, arith, le-leb, leb-t
 use Rattle.std.proofs.lemmas.Bool.{and_parts, and_from}
 use Rattle.passkey_cbor.specs.Depth.{depth}
 use Rattle.passkey_cbor.specs.LeadingItem.{max_depth}
-use Rattle.passkey_cbor.specs.Item.{boolean, byte_string}
 use Rattle.passkey_cbor.specs.Laws.{WrittenIsLeadingItem}
 use Rattle.passkey_core.specs.Coherent.{is_coherent}
 use Rattle.passkey_core.specs.DataLaws.{GivenIsCoherent, ReadIsGiven, WrittenDataAreReadBack}
 use Rattle.passkey_get_assertion.specs.GetResponse.{GetResponseParts, get_response_fields, read_get_response, get_response_places, get_response_tree, GetResponseFits, is_get_response_coherent, normal_get_response}
-use Rattle.passkey_entities.specs.MakeUser.{user_tree}
-use Rattle.passkey_entities.specs.declared.user.PublicKeyCredentialUserEntity.{PublicKeyCredentialUserEntity}
 use Rattle.passkey_kinds.proofs.DataBack.{auth_data_back, auth_data_coherent}
 use Rattle.passkey_entities.proofs.MakeBack.{made_user_back}
-use Rattle.passkey_entities.proofs.MakeLevels.{made_user_levels}
-use Rattle.passkey_extensions.specs.ExtensionTrees.{used_tree}
-use Rattle.passkey_extensions.specs.declared.get_assertion.unsigned.UnsignedExtensionOutputs.{UnsignedExtensionOutputs}
 use Rattle.passkey_extensions.proofs.ExtensionBack.{used_back}
-use Rattle.passkey_extensions.proofs.ExtensionLevels.{used_levels}
 use Rattle.passkey_kinds.specs.MessageLaws.{WrittenIsReadBack, ReadIsCoherent}
-use Rattle.passkey_kinds.specs.Tree.{number_tree}
-use Rattle.passkey_kinds.specs.Trees.{descriptor_tree}
 use Rattle.passkey_kinds.proofs.Keeping as kept
 use Rattle.passkey_kinds.proofs.Keeping.{◌▹◌, record_keeps}
 use Rattle.passkey_kinds.proofs.LeafBack.{truth_back, byte_back, bytes_back, anything, optional_place}
-use Rattle.passkey_kinds.proofs.Levels.{record_within, option_within}
+use Rattle.passkey_kinds.proofs.Levels.{record_within}
 use Rattle.passkey_kinds.proofs.RecordBack.{descriptor_back}
-use Rattle.passkey_kinds.proofs.RecordLevels.{descriptor_levels, flat}
-use Rattle.passkey_webauthn.specs.declared.descriptor.PublicKeyCredentialDescriptor.{PublicKeyCredentialDescriptor}
+use Rattle.passkey_kinds.proofs.Plain.{few_levels}
+use Rattle.passkey_get_assertion.proofs.GetPlaces.{get_response_each}
 use Rattle.passkey_kinds.proofs.RowsBack.{puts_value, puts_default, rows_back, ◌▸◌, no_more}
 
 -- ---- a response has few levels
 
 response_levels : (r : GetResponseParts) → depth (get_response_tree r) ≤ 256
-response_levels r =
-    record_within 255 (get_response_places r) (
-      option_within descriptor_tree 255 (number_tree 1) (omega arith) credentials r.credential,
-      (
-        flat 255,
-        (
-          flat 255,
-          (
-            option_within user_tree 255 (number_tree 4) (omega arith) users r.user,
-            (
-              option_within number_tree 255 (number_tree 5) (omega arith) (λ n. omega arith) r.number_of_credentials,
-              (
-                option_within boolean 255 (number_tree 6) (omega arith) (λ b. omega arith) r.user_selected,
-                (
-                  option_within byte_string 255 (number_tree 7) (omega arith) (λ b. omega arith) r.large_blob_key,
-                  (option_within used_tree 255 (number_tree 8) (omega arith) outputs r.unsigned_extension_outputs, tt),
-                ),
-              ),
-            ),
-          ),
-        ),
-      ),
-    )
-  where
-    credentials : (d : PublicKeyCredentialDescriptor) → depth (descriptor_tree d) ≤ 255
-    credentials d = omega (arith, descriptor_levels d)
-
-    users : (u : PublicKeyCredentialUserEntity) → depth (user_tree u) ≤ 255
-    users u = omega (arith, made_user_levels u)
-
-    outputs : (o : UnsignedExtensionOutputs) → depth (used_tree o) ≤ 255
-    outputs o = omega (arith, used_levels o)
+response_levels r = record_within 255 (get_response_places r) (get_response_each (few_levels 4 255 (omega arith)) r)
 
 has_few_levels : (r : GetResponseParts) → nat_le (depth (get_response_tree r)) max_depth ≡ true
 has_few_levels r = le-leb (depth (get_response_tree r)) 256 (response_levels r)

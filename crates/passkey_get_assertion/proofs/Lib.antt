@@ -1,4 +1,5 @@
 pub mod GetBack
+pub mod GetPlaces
 pub mod GetRequests
 pub mod GetResponses
 pub mod GetOrdered

@@ -1,5 +1,5 @@
 -- authenticatorGetAssertion requests (CTAP 2.1, section 6.2).
-use Rattle.std.specs.Prelude.{ℕ, nat_le, Bool, true, List, [], ◌∷◌, Option, None, codes, Result}
+use Rattle.std.specs.Prelude.{ℕ, nat_le, Bool, true, List, [], ◌∷◌, Option, None, codes, Result, option_map}
 use Rattle.passkey_cbor.specs.Depth.{depth}
 use Rattle.passkey_cbor.specs.LeadingItem.{max_depth}
 use Rattle.passkey_cbor.specs.Item.{Item, byte_string, text_string}
@@ -7,7 +7,7 @@ use Rattle.passkey_core.specs.DataNormal.{IfPresent}
 use Rattle.passkey_get_assertion.specs.GetOptions.{options_default, options_tree, options_fields}
 use Rattle.passkey_get_assertion.specs.declared.options.Options.{Options}
 use Rattle.passkey_extensions.specs.ExtensionTrees.{get_extensions_tree, GetExtensionsFit, get_extensions_kept}
-use Rattle.passkey_extensions.specs.GetExtensions.{GetExtensionsParts, get_extensions_fields}
+use Rattle.passkey_extensions.specs.GetExtensions.{GetExtensionsParts, get_extensions_fields, get_extensions_parts}
 use Rattle.passkey_kinds.specs.Descriptor.{descriptor_fields}
 use Rattle.passkey_kinds.specs.Record.{Fields, required, default, table_of, read_item}
 use Rattle.passkey_kinds.specs.RecordCost.{nested}
@@ -18,6 +18,7 @@ use Rattle.passkey_kinds.specs.Tree.{Place, number_tree, list_tree, always, wher
 use Rattle.passkey_kinds.specs.Trees.{descriptor_tree}
 use Rattle.passkey_kinds.specs.declared.fault.Fault.{Fault}
 use Rattle.passkey_webauthn.specs.declared.descriptor.PublicKeyCredentialDescriptor.{PublicKeyCredentialDescriptor}
+use Rattle.passkey_get_assertion.specs.declared.request.Request.{Request}
 
 -- what contracts see of a request
 pub record GetRequestParts : Type 0 where
@@ -28,6 +29,17 @@ pub record GetRequestParts : Type 0 where
   pub options : Options
   pub pin_auth : Option (List ℕ)
   pub pin_protocol : Option ℕ
+
+abbrev pub get_request_parts : Request → GetRequestParts
+get_request_parts r = record {
+  rp_id = r.rp_id;
+  client_data_hash = r.client_data_hash;
+  allow_list = r.allow_list;
+  extensions = option_map get_extensions_parts r.extensions;
+  options = r.options;
+  pin_auth = r.pin_auth;
+  pin_protocol = r.pin_protocol;
+}
 
 abbrev pub get_request_fields : Fields GetRequestParts
 get_request_fields = record {

@@ -22,6 +22,8 @@ use Rattle.passkey_kinds.specs.Tree.{Place, number_tree, always, where_some, rec
 use Rattle.passkey_kinds.specs.Trees.{descriptor_tree}
 use Rattle.passkey_kinds.specs.declared.fault.Fault.{Fault}
 use Rattle.passkey_webauthn.specs.declared.descriptor.PublicKeyCredentialDescriptor.{PublicKeyCredentialDescriptor}
+use Rattle.passkey_core.specs.DataViews.{data_parts}
+use Rattle.passkey_get_assertion.specs.declared.response.Response.{Response}
 
 -- what contracts see of a response
 pub record GetResponseParts : Type 0 where
@@ -33,6 +35,18 @@ pub record GetResponseParts : Type 0 where
   pub user_selected : Option Bool
   pub large_blob_key : Option (List ℕ)
   pub unsigned_extension_outputs : Option UnsignedExtensionOutputs
+
+abbrev pub get_response_parts : Response → GetResponseParts
+get_response_parts r = record {
+  credential = r.credential;
+  auth_data = data_parts r.auth_data;
+  signature = r.signature;
+  user = r.user;
+  number_of_credentials = r.number_of_credentials;
+  user_selected = r.user_selected;
+  large_blob_key = r.large_blob_key;
+  unsigned_extension_outputs = r.unsigned_extension_outputs;
+}
 
 abbrev pub get_response_fields : Fields GetResponseParts
 get_response_fields = record {

@@ -1,5 +1,3 @@
 pub mod GetOptions
 pub mod GetRequest
-pub mod GetRequestView
 pub mod GetResponse
-pub mod GetResponseView

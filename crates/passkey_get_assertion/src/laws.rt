@@ -1,14 +1,11 @@
 //! Laws about the messages of authenticatorGetAssertion. Each is the contract of a function that
 //! does nothing.
-ghost use Rattle.passkey_get_assertion.specs.GetRequest.{get_request_fields, read_get_request, get_request_tree, GetRequestFits, is_get_request_coherent, get_request_kept};
-ghost use Rattle.passkey_get_assertion.specs.GetRequestView.{get_request_parts};
-ghost use Rattle.passkey_get_assertion.specs.GetResponse.{get_response_fields, read_get_response, get_response_tree, GetResponseFits, is_get_response_coherent, normal_get_response, get_response_kept};
-ghost use Rattle.passkey_get_assertion.specs.GetResponseView.{get_response_parts};
+ghost use Rattle.passkey_get_assertion.specs.GetRequest.{get_request_fields, read_get_request, get_request_tree, GetRequestFits, is_get_request_coherent, get_request_kept, get_request_parts};
+ghost use Rattle.passkey_get_assertion.specs.GetResponse.{get_response_fields, read_get_response, get_response_tree, GetResponseFits, is_get_response_coherent, normal_get_response, get_response_kept, get_response_parts};
 ghost use Rattle.passkey_get_assertion.specs.GetOptions.{options_places};
 ghost use Rattle.passkey_kinds.specs.Tree.{KeysAscend};
 ghost use Rattle.passkey_kinds.specs.MessageLaws.{WrittenIsReadBack, ReadIsCoherent, WrittenIsCanonical};
-ghost use Rattle.passkey_kinds.specs.RecordLaws.{PassesOverUnknown};
-ghost use Rattle.passkey_kinds.specs.RecordLaws.{KnowsMaps};
+ghost use Rattle.passkey_kinds.specs.RecordLaws.{PassesOverUnknown, KnowsMaps};
 
 /// The encoding of a coherent request, whatever bytes follow, decodes to the request.
 pub fn written_get_request_is_read_back()

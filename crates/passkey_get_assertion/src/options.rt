@@ -80,6 +80,6 @@ impl RecordReadBack for Options {
 impl Shallow for Options {
     ghost levels = { 1 };
 
-    #[tactic(auto, using(crate::proofs::GetBack::options_levels))]
+    #[tactic(auto, using(crate::proofs::GetPlaces::options_levels))]
     fn shallow() {}
 }

@@ -1,5 +1,5 @@
 -- authenticatorGetInfo responses: decoding their encodings again, and their nesting levels.
-use Rattle.std.proofs.Common.{◌≡◌, ◌∙◌, ℕ, pos, negsuc, ◌^◌, ◌<◌, ◌≤◌, nat_lt, nat_le, arith, le-leb, leb-true, lt-ltb, ltb-true, Bool, true, false, ◌&&◌, if◌then◌else◌, List, Option, Some, None, option_map, unwrap_or, Result, Ok, Err, is_ok, OnOk, IfErr, refl, sym, ap, subst}
+use Rattle.std.proofs.Common.{◌≡◌, ◌∙◌, ℕ, pos, negsuc, ◌^◌, ◌<◌, ◌≤◌, nat_lt, nat_le, arith, le-leb, leb-true, lt-ltb, ltb-true, Bool, true, false, ◌&&◌, if◌then◌else◌, Option, Some, None, option_map, unwrap_or, Result, Ok, Err, is_ok, OnOk, IfErr, refl, sym, ap, subst}
 use Rattle.std.proofs.lemmas.Bool.{and_parts, and_from}
 use Rattle.passkey_bytes.specs.SameMaps.{same_tests}
 use Rattle.passkey_cbor.specs.Depth.{depth}
@@ -10,13 +10,10 @@ use Rattle.passkey_cbor.specs.Laws.{WrittenIsLeadingItem}
 use Rattle.passkey_core.specs.DataNormal.{IfPresent}
 use Rattle.passkey_get_info.specs.GetInfo.{GetInfoParts, get_info_fields, read_get_info}
 use Rattle.passkey_get_info.specs.GetInfoTree.{get_info_places, get_info_tree, IsPositive, GetInfoFits, is_encodable, has_room, is_get_info_coherent, normal_get_info}
-use Rattle.passkey_get_info.specs.GetInfoNames.{version_tree, extension_tree}
-use Rattle.passkey_get_info.specs.GetInfoOptions.{options_tree}
 use Rattle.passkey_kinds.specs.Kind.{optional, kept as kept_item}
 use Rattle.passkey_kinds.specs.MessageLaws.{WrittenIsReadBack, ReadIsCoherent}
 use Rattle.passkey_kinds.specs.Size.{size, IsSize}
-use Rattle.passkey_kinds.specs.Tree.{number_tree, list_tree}
-use Rattle.passkey_kinds.specs.Trees.{parameters_tree, transport_tree}
+use Rattle.passkey_kinds.specs.Tree.{number_tree}
 use Rattle.passkey_kinds.specs.declared.write_fault.WriteFault.{WriteFault}
 use Rattle.passkey_kinds.specs.declared.write_fault.WriteFault.TheVariants.{NumberTooLarge}
 use Rattle.passkey_kinds.proofs.Back.{option_place}
@@ -26,11 +23,11 @@ use Rattle.passkey_kinds.proofs.NotNull.{not_null}
 use Rattle.passkey_kinds.proofs.RowsBack.{puts_value, puts_default, ◌▸◌, no_more, rows_back}
 use Rattle.passkey_kinds.proofs.SizedBack.{size_back, aaguid_back}
 use Rattle.passkey_get_info.proofs.GetInfoBack.{version_back, extension_back, kept_place, options_back}
-use Rattle.passkey_get_info.proofs.GetInfoLevels.{options_levels}
+use Rattle.passkey_get_info.proofs.GetInfoPlaces.{get_info_each}
 use Rattle.passkey_kinds.proofs.LeafBack.{list_same, truth_back, byte_back, word_back, text_back, bytes_back, transport_back, list_back, optional_back, anything, all_of_anything, optional_place, accepted_place}
-use Rattle.passkey_kinds.proofs.Levels.{PlaceWithin, record_within, of_record, list_within, option_within}
+use Rattle.passkey_kinds.proofs.Levels.{PlaceWithin, record_within, of_record}
 use Rattle.passkey_kinds.proofs.RecordBack.{parameters_back}
-use Rattle.passkey_kinds.proofs.RecordLevels.{parameters_levels}
+use Rattle.passkey_kinds.proofs.Plain.{few_levels}
 
 -- ---- an encoding can be decoded again
 
@@ -92,102 +89,9 @@ get_info_returns law r rest fits writable coherent =
 
 -- ---- only the certifications may have many levels
 
-word : (n : ℕ) (o : Option ℕ) → PlaceWithin 255 (number_tree n) (option_map number_tree o)
-word n o = option_within number_tree 255 (number_tree n) (omega arith) (λ k. omega arith) o
-
-truth : (n : ℕ) (o : Option Bool) → PlaceWithin 255 (number_tree n) (option_map boolean o)
-truth n o = option_within boolean 255 (number_tree n) (omega arith) (λ b. omega arith) o
-
-string : (n : ℕ) (o : Option (List ℕ)) → PlaceWithin 255 (number_tree n) (option_map byte_string o)
-string n o = option_within byte_string 255 (number_tree n) (omega arith) (λ b. omega arith) o
-
-lists : {A : Type 0} (tree : A → Item) → ((x : A) → depth (tree x) ≤ 1) → (n : ℕ) (o : Option (List A))
-    → PlaceWithin 255 (number_tree n) (option_map (list_tree tree) o)
-lists tree each n o = option_within (list_tree tree) 255 (number_tree n) (omega arith)
-    (λ xs. omega (arith, list_within tree 1 each xs)) o
-
 get_info_up : (r : GetInfoParts) → PlaceWithin 255 (number_tree 19) r.certifications → depth (get_info_tree r) ≤ 256
-get_info_up r certifications =
-    record_within 255 (get_info_places r) (
-      (omega arith, omega (arith, list_within version_tree 1 (λ v. omega arith) r.versions)),
-      (
-        lists extension_tree (λ e. omega arith) 2 r.extensions,
-        (
-          (omega arith, omega arith),
-          (
-            option_within options_tree 255 (number_tree 4) (omega arith) (λ o. omega (arith, options_levels o))
-                r.options,
-            (
-              word 5 r.max_msg_size,
-              (
-                lists number_tree (λ k. omega arith) 6 r.pin_protocols,
-                (
-                  lists transport_tree (λ x. omega arith) 9 r.transports,
-                  (
-                    lists parameters_tree parameters_levels 10
-                        r.algorithms,
-                    (
-                      word 11 r.mac_serialized_large_blob_array,
-                      (
-                        truth 12 r.force_pin_change,
-                        (
-                          word 13 r.min_pin_length,
-                          (
-                            word 14 r.firmware_version,
-                            (
-                              word 15 r.max_cred_blob_length,
-                              (
-                                word 16
-                                    r.max_rpids_for_set_min_pin_length,
-                                (
-                                  word 17 r.preferred_platform_uv_attempts,
-                                  (
-                                    word 18 r.uv_modality,
-                                    (
-                                      certifications,
-                                      (
-                                        word 20 r.remaining_discoverable_credentials,
-                                        (
-                                          lists number_tree (λ k. omega arith) 21
-                                              r.vendor_prototype_config_commands,
-                                          (
-                                            lists text_string (λ s. omega arith) 22 r.attestation_formats,
-                                            (
-                                              word 23 r.uv_count_since_last_pin_entry,
-                                              (
-                                                truth 24 r.long_touch_for_reset,
-                                                (
-                                                  string 25 r.enc_identifier,
-                                                  (
-                                                    lists transport_tree (λ x. omega arith) 26 r.transports_for_reset,
-                                                    (
-                                                      truth 27 r.pin_complexity_policy,
-                                                      (string 28 r.pin_complexity_policy_url, (word 29 r.max_pin_length, tt)),
-                                                    ),
-                                                  ),
-                                                ),
-                                              ),
-                                            ),
-                                          ),
-                                        ),
-                                      ),
-                                    ),
-                                  ),
-                                ),
-                              ),
-                            ),
-                          ),
-                        ),
-                      ),
-                    ),
-                  ),
-                ),
-              ),
-            ),
-          ),
-        ),
-      ),
-    )
+get_info_up r certifications = record_within 255 (get_info_places r)
+    (get_info_each (few_levels 2 255 (omega arith)) r certifications)
 
 get_info_down : (r : GetInfoParts) → depth (get_info_tree r) ≤ 256
     → PlaceWithin 255 (number_tree 19) r.certifications

@@ -1,4 +1,4 @@
 pub mod GetInfoBack
-pub mod GetInfoLevels
+pub mod GetInfoPlaces
 pub mod GetInfos
 pub mod GetInfoOrdered

@@ -3,9 +3,8 @@ use Rattle.std.specs.Prelude.{List, ◌++◌, option_map}
 use Rattle.passkey_cbor.specs.View.{item_of}
 use Rattle.passkey_core.specs.DataNormal.{IfPresent}
 use Rattle.passkey_kinds.specs.Tree.{Place}
-use Rattle.passkey_get_info.specs.GetInfo.{GetInfoParts}
+use Rattle.passkey_get_info.specs.GetInfo.{GetInfoParts, get_info_parts}
 use Rattle.passkey_get_info.specs.GetInfoTree.{GetInfoFits, IsPositive, capability_places_with, limit_places, state_places}
-use Rattle.passkey_get_info.specs.GetInfoView.{get_info_parts}
 use Rattle.passkey_get_info.specs.declared.writing.Encodable.{Encodable}
 
 abbrev pub encodable_parts : Encodable → GetInfoParts

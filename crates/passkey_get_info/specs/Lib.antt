@@ -2,5 +2,4 @@ pub mod GetInfoNames
 pub mod GetInfoOptions
 pub mod GetInfo
 pub mod GetInfoTree
-pub mod GetInfoView
 pub mod Encodable

@@ -230,6 +230,6 @@ impl RecordReadBack for Options {
 impl Shallow for Options {
     ghost levels = { 1 };
 
-    #[tactic(auto, using(crate::proofs::GetInfoLevels::options_levels))]
+    #[tactic(auto, using(crate::proofs::GetInfoPlaces::options_levels))]
     fn shallow() {}
 }

@@ -2,9 +2,8 @@
 ghost use Rattle.std.specs.Prelude.{◌≡◌, ℕ, is_ok};
 ghost use Rattle.passkey_cbor.specs.Item.{Item};
 ghost use Rattle.passkey_cbor.specs.View.{item_of};
-ghost use Rattle.passkey_get_info.specs.GetInfo.{GetInfoParts, fields_of, limit_rows, state_rows, get_info_fields, get_info_table, read_get_info, get_info_empty};
+ghost use Rattle.passkey_get_info.specs.GetInfo.{GetInfoParts, fields_of, limit_rows, state_rows, get_info_fields, get_info_table, read_get_info, get_info_empty, get_info_parts};
 ghost use Rattle.passkey_get_info.specs.GetInfoTree.{get_info_tree, is_get_info_coherent};
-ghost use Rattle.passkey_get_info.specs.GetInfoView.{get_info_parts};
 ghost use Rattle.passkey_kinds.specs.declared.fault.Fault.TheVariants.{OutOfMemory as NoRoom};
 ghost use Rattle.passkey_kinds.specs.Message.{ReadsMessage, ReadsHere, GrowsMessage};
 ghost use Rattle.passkey_kinds.specs.Reading.{MayGrowAt, Reads};

@@ -7,7 +7,7 @@ ghost use Rattle.passkey_cbor.specs.Written.{written};
 ghost use Rattle.passkey_core.specs.DataNormal.{IfPresent};
 ghost use Rattle.passkey_get_info.specs.Encodable.{EncodableFits, encodable_capabilities, encodable_parts, encodable_places};
 ghost use Rattle.passkey_get_info.specs.GetInfoTree.{limit_places, state_places, get_info_tree, IsPositive, CapabilitiesFit, LimitsFit, StateFits, GetInfoFits, is_encodable, fault_of_size, has_room, is_get_info_coherent};
-ghost use Rattle.passkey_get_info.specs.GetInfoView.{get_info_parts};
+ghost use Rattle.passkey_get_info.specs.GetInfo.{get_info_parts};
 ghost use Rattle.passkey_kinds.specs.Sink.{AllAccepted, put_all};
 ghost use Rattle.passkey_kinds.specs.Tree.{number_tree};
 ghost use Rattle.passkey_kinds.specs.declared.write_fault.WriteFault.TheVariants.{NumberTooLarge as TooLarge};

@@ -8,15 +8,14 @@ use Rattle.passkey_kinds.specs.ShortFirst.{short_first}
 use Rattle.passkey_kinds.specs.Table.{Members}
 use Rattle.passkey_kinds.specs.Tree.{Place, list_tree, entry_tree, byte_map_tree, under, record_tree}
 use Rattle.passkey_kinds.proofs.Back.{spread, laid_spread}
+use Rattle.passkey_kinds.proofs.Places.{PlaceHas, EachPlace, option_has}
 
 -- the place has no value, or its key and its value have at most n levels
 abbrev pub PlaceWithin : ℕ → Item → Option Item → Type 0
-PlaceWithin n key None = Unit {0}
-PlaceWithin n key (Some x) = (depth key ≤ n) × (depth x ≤ n)
+PlaceWithin n = PlaceHas (λ i. depth i ≤ n)
 
 abbrev pub Within : ℕ → List Place → Type 0
-Within n [] = Unit {0}
-Within n (p ∷ ps) = PlaceWithin n p.0 p.1 × Within n ps
+Within n = EachPlace (λ i. depth i ≤ n)
 
 both_within : (a b n : ℕ) → a ≤ n → b ≤ n → max a b ≤ n
 both_within a b n p q = omega (arith, p, q)
@@ -86,5 +85,4 @@ map_within tree n each m = omega (arith, entries_within tree n each (short_first
 
 pub option_within : {A : Type 0} (tree : A → Item) (n : ℕ) (key : Item) → depth key ≤ n
     → ((x : A) → depth (tree x) ≤ n) → (o : Option A) → PlaceWithin n key (option_map tree o)
-option_within tree n key keyed each None = tt
-option_within tree n key keyed each (Some x) = (keyed, each x)
+option_within tree n key keyed each o = option_has (λ i. depth i ≤ n) tree key keyed each o

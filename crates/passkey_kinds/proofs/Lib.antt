@@ -22,11 +22,11 @@ pub mod RecordBack
 pub mod SignedBack
 pub mod WrittenLists
 pub mod Sinks
+pub mod Places
 pub mod Levels
 pub mod Messages
 pub mod LengthAlone
 pub mod RecordLaws
-pub mod RecordLevels
 pub mod NotNull
 pub mod Keeping
 pub mod DataBack
@@ -44,4 +44,5 @@ pub mod ByteKeys
 pub mod ShortFirst
 pub mod ByteMaps
 pub mod Ordered
-pub mod RecordOrdered
+pub mod Plain
+pub mod RecordPlain

@@ -20,6 +20,7 @@ use Rattle.passkey_kinds.specs.Table.{Members}
 use Rattle.passkey_kinds.specs.Tree.{Place, list_tree, entry_tree, byte_map_tree, under, laid, record_tree}
 use Rattle.passkey_kinds.proofs.Back.{spread, laid_spread}
 use Rattle.passkey_kinds.proofs.ByteMaps.{entries_ascend}
+use Rattle.passkey_kinds.proofs.Places.{PlaceHas, EachPlace, option_has}
 
 -- ---- keys that ascend
 
@@ -76,12 +77,10 @@ keys_ascend ps h =
 -- ---- the values under them
 
 abbrev pub PlaceOrdered : Item → Option Item → Type 0
-PlaceOrdered key None = Unit {0}
-PlaceOrdered key (Some x) = IsOrdered key × IsOrdered x
+PlaceOrdered = PlaceHas IsOrdered
 
 abbrev pub AllOrdered : List Place → Type 0
-AllOrdered [] = Unit {0}
-AllOrdered (p ∷ ps) = PlaceOrdered p.0 p.1 × AllOrdered ps
+AllOrdered = EachPlace IsOrdered
 
 under_ordered : (key : Item) (o : Option Item) (ms : Members) → PlaceOrdered key o → ArePairsOrdered (pairs_of ms)
     → ArePairsOrdered (pairs_of (under key o ++ ms))
@@ -100,8 +99,7 @@ record_ordered ps h all = (
 
 pub option_ordered : {A : Type 0} (tree : A → Item) (key : Item) → IsOrdered key → ((x : A) → IsOrdered (tree x))
     → (o : Option A) → PlaceOrdered key (option_map tree o)
-option_ordered tree key keyed each None = tt
-option_ordered tree key keyed each (Some x) = (keyed, each x)
+option_ordered tree key keyed each o = option_has IsOrdered tree key keyed each o
 
 items_ordered : {A : Type 0} (tree : A → Item) → ((x : A) → IsOrdered (tree x)) → (xs : List A)
     → AreOrdered (items_of (map tree xs))

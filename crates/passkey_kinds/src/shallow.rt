@@ -81,27 +81,27 @@ impl<T: Shallow> Shallow for List<T> {
 impl Shallow for PublicKeyCredentialDescriptor {
     ghost levels = { 2 };
 
-    #[tactic(auto, using(crate::proofs::RecordLevels::descriptor_levels))]
+    #[tactic(auto, using(crate::proofs::RecordPlain::descriptor_levels))]
     fn shallow() {}
 }
 
 impl Shallow for PublicKeyCredentialParameters {
     ghost levels = { 1 };
 
-    #[tactic(auto, using(crate::proofs::RecordLevels::parameters_levels))]
+    #[tactic(auto, using(crate::proofs::RecordPlain::parameters_levels))]
     fn shallow() {}
 }
 
 impl Shallow for webauthn::PublicKeyCredentialUserEntity {
     ghost levels = { 1 };
 
-    #[tactic(auto, using(crate::proofs::RecordLevels::user_levels))]
+    #[tactic(auto, using(crate::proofs::RecordPlain::user_levels))]
     fn shallow() {}
 }
 
 impl Shallow for [u8; 32] {
     ghost levels = { 1 };
 
-    #[tactic(auto, using(crate::proofs::RecordLevels::numbers_levels))]
+    #[tactic(auto, using(crate::proofs::RecordPlain::numbers_levels))]
     fn shallow() {}
 }

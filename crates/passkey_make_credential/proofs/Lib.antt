@@ -1,5 +1,5 @@
 pub mod MakeBack
-pub mod MakeLevels
+pub mod MakePlaces
 pub mod MakeRequests
 pub mod MakeResponses
 pub mod MakeOrdered

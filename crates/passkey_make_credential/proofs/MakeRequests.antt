@@ -1,31 +1,28 @@
 -- authenticatorMakeCredential requests: decoding their encodings again, and their nesting levels.
-use Rattle.std.proofs.Common.{◌≡◌, ◌∙◌, ◌≤◌, nat_le, arith, le-leb, leb-true, true, List, Option, Some, None, option_map, Ok, refl, sym, ap}
+use Rattle.std.proofs.Common.{◌≡◌, ◌∙◌, ◌≤◌, nat_le, arith, le-leb, leb-true, true, Option, Some, None, option_map, Ok, refl, sym, ap}
 use Rattle.passkey_cbor.specs.Depth.{depth}
 use Rattle.passkey_cbor.specs.LeadingItem.{max_depth}
-use Rattle.passkey_cbor.specs.Item.{Item, byte_string}
+use Rattle.passkey_cbor.specs.Item.{Item}
 use Rattle.passkey_cbor.specs.Laws.{WrittenIsLeadingItem}
 use Rattle.passkey_make_credential.specs.MakeRequest.{MakeRequestParts, make_request_fields, read_make_request, make_request_places, make_request_tree, MakeRequestFits, is_make_request_coherent, normal_make_request}
 use Rattle.passkey_extensions.specs.ExtensionTrees.{hmac_input_tree, make_extensions_tree}
 use Rattle.passkey_extensions.specs.HmacInput.{HmacInputParts}
 use Rattle.passkey_extensions.specs.MakeExtensions.{MakeExtensionsParts, make_extensions}
 use Rattle.passkey_kinds.specs.MessageLaws.{WrittenIsReadBack, ReadIsCoherent}
-use Rattle.passkey_kinds.specs.Tree.{number_tree, list_tree}
-use Rattle.passkey_kinds.specs.Trees.{descriptor_tree, parameters_tree}
+use Rattle.passkey_kinds.specs.Tree.{number_tree}
 use Rattle.passkey_kinds.proofs.NotNull.{not_null}
 use Rattle.passkey_kinds.proofs.Keeping as kept
 use Rattle.passkey_kinds.proofs.Keeping.{◌▹◌, record_keeps}
 use Rattle.passkey_extensions.proofs.ExtensionBack.{make_parts_back}
 use Rattle.passkey_extensions.proofs.ExtensionLevels.{same_tests, some_within, none_within, of_some, input_up, made_with, made_without}
 use Rattle.passkey_kinds.proofs.LeafBack.{byte_back, bytes_back, anything, all_of_anything, optional_place, accepted_same, accepted_place}
-use Rattle.passkey_kinds.proofs.Levels.{PlaceWithin, record_within, of_record, list_within, option_within}
+use Rattle.passkey_kinds.proofs.Levels.{PlaceWithin, record_within, of_record}
 use Rattle.passkey_kinds.proofs.RecordBack.{descriptor_back, parameters_back, user_back}
-use Rattle.passkey_kinds.proofs.RecordLevels.{flat, descriptor_levels, parameters_levels, user_levels}
-use Rattle.passkey_webauthn.specs.declared.descriptor.PublicKeyCredentialDescriptor.{PublicKeyCredentialDescriptor}
+use Rattle.passkey_kinds.proofs.Plain.{few_levels}
 use Rattle.passkey_extensions.proofs.Keys.{made_key}
 use Rattle.passkey_entities.proofs.MakeBack.{rp_back}
 use Rattle.passkey_make_credential.proofs.MakeBack.{options_back}
-use Rattle.passkey_entities.proofs.MakeLevels.{rp_levels}
-use Rattle.passkey_make_credential.proofs.MakeLevels.{options_levels}
+use Rattle.passkey_make_credential.proofs.MakePlaces.{make_request_each}
 use Rattle.passkey_kinds.proofs.RowsBack.{puts_value, puts_default, rows_back, ◌▸◌, no_more}
 
 -- ---- an encoding can be decoded again
@@ -58,34 +55,7 @@ make_request_returns law r rest fits writable coherent = (
 request_up : (r : MakeRequestParts) → PlaceWithin 255 (number_tree 6) (option_map make_extensions_tree r.extensions)
     → depth (make_request_tree r) ≤ 256
 request_up r extensions =
-    record_within 255 (make_request_places r) (
-      flat 255,
-      (
-        (omega arith, omega (arith, rp_levels r.rp)),
-        (
-          (omega arith, omega (arith, user_levels r.user)),
-          (
-            (omega arith, omega (arith, list_within parameters_tree 1 parameters_levels r.pub_key_cred_params)),
-            (
-              option_within (list_tree descriptor_tree) 255 (number_tree 5) (omega arith) descriptors r.exclude_list,
-              (
-                extensions,
-                (
-                  (omega arith, omega (arith, options_levels r.options)),
-                  (
-                    option_within byte_string 255 (number_tree 8) (omega arith) (λ b. omega arith) r.pin_auth,
-                    (option_within number_tree 255 (number_tree 9) (omega arith) (λ n. omega arith) r.pin_protocol, tt),
-                  ),
-                ),
-              ),
-            ),
-          ),
-        ),
-      ),
-    )
-  where
-    descriptors : (ds : List PublicKeyCredentialDescriptor) → depth (list_tree descriptor_tree ds) ≤ 255
-    descriptors ds = omega (arith, list_within descriptor_tree 2 descriptor_levels ds)
+    record_within 255 (make_request_places r) (make_request_each (few_levels 4 255 (omega arith)) r extensions)
 
 pub request_without : (r : MakeRequestParts) → r.extensions ≡ None → true ≡ is_make_request_coherent r
 request_without r is = sym (le-leb (depth (make_request_tree r)) 256

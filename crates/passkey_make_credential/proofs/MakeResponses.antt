@@ -4,7 +4,6 @@ use Rattle.std.proofs.Common.{◌≡◌, ℕ, ◌<◌, ◌≤◌, ◌-◌, ◌^�
 use Rattle.std.proofs.lemmas.Bool.{and_parts, and_from}
 use Rattle.passkey_cbor.specs.Depth.{depth}
 use Rattle.passkey_cbor.specs.LeadingItem.{max_depth}
-use Rattle.passkey_cbor.specs.Item.{boolean, byte_string}
 use Rattle.passkey_cbor.specs.Laws.{WrittenIsLeadingItem}
 use Rattle.passkey_core.specs.Coherent.{is_coherent}
 use Rattle.passkey_core.specs.DataLaws.{GivenIsCoherent, ReadIsGiven, WrittenDataAreReadBack}
@@ -12,43 +11,23 @@ use Rattle.passkey_core.specs.DataNormal.{IsData, normal_data}
 use Rattle.passkey_core.specs.DataParts.{DataParts}
 use Rattle.passkey_kinds.proofs.DataBack.{auth_data_back, auth_data_coherent}
 use Rattle.passkey_make_credential.specs.MakeResponse.{MakeResponseParts, make_response_fields, read_make_response, make_response_places, make_response_tree, MakeResponseFits, is_make_response_coherent, normal_make_response, no_statement, attestation_places, attestation_tree, unattested}
-use Rattle.passkey_extensions.specs.ExtensionTrees.{made_tree}
 use Rattle.passkey_kinds.specs.MessageLaws.{WrittenIsReadBack, ReadIsCoherent}
-use Rattle.passkey_kinds.specs.Tree.{number_tree}
-use Rattle.passkey_extensions.specs.declared.make_credential.unsigned.UnsignedExtensionOutputs.{UnsignedExtensionOutputs}
 use Rattle.passkey_kinds.proofs.Keeping as kept
 use Rattle.passkey_kinds.proofs.Keeping.{◌▹◌, record_keeps}
 use Rattle.passkey_extensions.proofs.ExtensionBack.{made_back}
 use Rattle.passkey_extensions.proofs.ExtensionLevels.{same_tests}
 use Rattle.passkey_kinds.proofs.LeafBack.{truth_back, text_back, bytes_back, kept_back, anything, optional_place}
-use Rattle.passkey_kinds.proofs.RecordLevels.{flat}
-use Rattle.passkey_kinds.proofs.Levels.{record_within, of_record, option_within}
-use Rattle.passkey_extensions.proofs.ExtensionLevels.{made_levels}
+use Rattle.passkey_kinds.proofs.Places.{◌◂◌}
+use Rattle.passkey_kinds.proofs.Plain.{few_levels}
+use Rattle.passkey_make_credential.proofs.MakePlaces.{make_response_each}
+use Rattle.passkey_kinds.proofs.Levels.{record_within, of_record}
 use Rattle.passkey_kinds.proofs.RowsBack.{puts_value, puts_default, picked, picked_back, rows_back, ◌▸◌, no_more}
 
 -- ---- only the statement may have many levels
 
 response_up : (r : MakeResponseParts) → depth r.att_stmt ≤ 255 → depth (make_response_tree r) ≤ 256
 response_up r small =
-    record_within 255 (make_response_places r) (
-      flat 255,
-      (
-        flat 255,
-        (
-          (omega arith, small),
-          (
-            option_within boolean 255 (number_tree 4) (omega arith) (λ b. omega arith) r.ep_att,
-            (
-              option_within byte_string 255 (number_tree 5) (omega arith) (λ b. omega arith) r.large_blob_key,
-              (option_within made_tree 255 (number_tree 6) (omega arith) outputs r.unsigned_extension_outputs, tt),
-            ),
-          ),
-        ),
-      ),
-    )
-  where
-    outputs : (o : UnsignedExtensionOutputs) → depth (made_tree o) ≤ 255
-    outputs o = omega (arith, made_levels o)
+    record_within 255 (make_response_places r) (make_response_each (few_levels 4 255 (omega arith)) r small)
 
 response_down : (r : MakeResponseParts) → depth (make_response_tree r) ≤ 256 → depth r.att_stmt ≤ 255
 response_down r within = (of_record 255 (make_response_places r) within).1.1.0.1
@@ -103,10 +82,8 @@ attestation_returns law written given r rest fits writable coherent = (
   law (attestation_tree r.auth_data) rest
       writable (omega (
         arith,
-        record_within 1 (attestation_places r.auth_data) (
-          flat 1,
-          ((omega arith, omega arith), (flat 1, tt)),
-        ),
+        record_within 1 (attestation_places r.auth_data)
+            ((omega arith, omega arith) ◂ (omega arith, omega arith) ◂ (omega arith, omega arith) ◂ tt),
       )),
   attestation_back written given r.auth_data fits coherent,
 )

@@ -1,5 +1,5 @@
 -- authenticatorMakeCredential requests (CTAP 2.1, section 6.1).
-use Rattle.std.specs.Prelude.{ℕ, nat_le, Bool, true, List, [], ◌∷◌, Option, None, codes, Result}
+use Rattle.std.specs.Prelude.{ℕ, nat_le, Bool, true, List, [], ◌∷◌, Option, None, codes, Result, option_map}
 use Rattle.passkey_cbor.specs.Depth.{depth}
 use Rattle.passkey_cbor.specs.LeadingItem.{max_depth}
 use Rattle.passkey_cbor.specs.Item.{Item, byte_string}
@@ -10,7 +10,7 @@ use Rattle.passkey_kinds.specs.Record.{Fields, required, default, table_of, read
 use Rattle.passkey_kinds.specs.RecordCost.{nested}
 use Rattle.passkey_kinds.specs.Table.{Table}
 use Rattle.passkey_kinds.specs.Typed.{below, optional, bytes, accepted, tolerated}
-use Rattle.passkey_extensions.specs.MakeExtensions.{MakeExtensionsParts, make_extensions_fields}
+use Rattle.passkey_extensions.specs.MakeExtensions.{MakeExtensionsParts, make_extensions_fields, make_extensions_parts}
 use Rattle.passkey_make_credential.specs.MakeOptions.{options_default, options_tree, normal_options, options_fields}
 use Rattle.passkey_entities.specs.MakeRp.{rp_tree, rp_fields}
 use Rattle.passkey_kinds.specs.Parameters.{parameters_fields}
@@ -24,6 +24,7 @@ use Rattle.passkey_entities.specs.declared.rp.PublicKeyCredentialRpEntity.{Publi
 use Rattle.passkey_webauthn.specs.declared.descriptor.PublicKeyCredentialDescriptor.{PublicKeyCredentialDescriptor}
 use Rattle.passkey_webauthn.specs.declared.parameters.PublicKeyCredentialParameters.{PublicKeyCredentialParameters}
 use Rattle.passkey_webauthn.specs.declared.user.PublicKeyCredentialUserEntity.{PublicKeyCredentialUserEntity}
+use Rattle.passkey_make_credential.specs.declared.request.Request.{Request}
 
 -- what contracts see of a request
 pub record MakeRequestParts : Type 0 where
@@ -36,6 +37,19 @@ pub record MakeRequestParts : Type 0 where
   pub options : Options
   pub pin_auth : Option (List ℕ)
   pub pin_protocol : Option ℕ
+
+abbrev pub make_request_parts : Request → MakeRequestParts
+make_request_parts r = record {
+  client_data_hash = r.client_data_hash;
+  rp = r.rp;
+  user = r.user;
+  pub_key_cred_params = r.pub_key_cred_params;
+  exclude_list = r.exclude_list;
+  extensions = option_map make_extensions_parts r.extensions;
+  options = r.options;
+  pin_auth = r.pin_auth;
+  pin_protocol = r.pin_protocol;
+}
 
 abbrev pub make_request_fields : Fields MakeRequestParts
 make_request_fields = record {

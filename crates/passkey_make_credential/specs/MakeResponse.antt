@@ -16,6 +16,9 @@ use Rattle.passkey_extensions.specs.MakeUnsigned.{unsigned_fields}
 use Rattle.passkey_kinds.specs.Tree.{Place, number_tree, always, where_some, record_tree}
 use Rattle.passkey_kinds.specs.declared.fault.Fault.{Fault}
 use Rattle.passkey_extensions.specs.declared.make_credential.unsigned.UnsignedExtensionOutputs.{UnsignedExtensionOutputs}
+use Rattle.passkey_cbor.specs.View.{item_of}
+use Rattle.passkey_core.specs.DataViews.{data_parts}
+use Rattle.passkey_make_credential.specs.declared.response.Response.{Response}
 
 -- what contracts see of a response
 pub record MakeResponseParts : Type 0 where
@@ -25,6 +28,16 @@ pub record MakeResponseParts : Type 0 where
   pub ep_att : Option Bool
   pub large_blob_key : Option (List ℕ)
   pub unsigned_extension_outputs : Option UnsignedExtensionOutputs
+
+abbrev pub make_response_parts : Response → MakeResponseParts
+make_response_parts r = record {
+  fmt = r.fmt;
+  auth_data = data_parts r.auth_data;
+  att_stmt = item_of r.att_stmt;
+  ep_att = r.ep_att;
+  large_blob_key = r.large_blob_key;
+  unsigned_extension_outputs = r.unsigned_extension_outputs;
+}
 
 abbrev pub make_response_fields : Fields MakeResponseParts
 make_response_fields = record {

@@ -91,6 +91,6 @@ impl RecordReadBack for Options {
 impl Shallow for Options {
     ghost levels = { 1 };
 
-    #[tactic(auto, using(crate::proofs::MakeLevels::options_levels))]
+    #[tactic(auto, using(crate::proofs::MakePlaces::options_levels))]
     fn shallow() {}
 }

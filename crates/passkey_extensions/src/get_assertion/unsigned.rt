@@ -84,6 +84,6 @@ impl RecordReadBack for UnsignedExtensionOutputs {
 impl Shallow for UnsignedExtensionOutputs {
     ghost levels = { 4 };
 
-    #[tactic(auto, using(crate::proofs::ExtensionLevels::used_levels))]
+    #[tactic(auto, using(crate::proofs::ExtensionPlain::used_levels))]
     fn shallow() {}
 }

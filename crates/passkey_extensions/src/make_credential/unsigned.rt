@@ -85,6 +85,6 @@ impl RecordReadBack for UnsignedExtensionOutputs {
 impl Shallow for UnsignedExtensionOutputs {
     ghost levels = { 4 };
 
-    #[tactic(auto, using(crate::proofs::ExtensionLevels::made_levels))]
+    #[tactic(auto, using(crate::proofs::ExtensionPlain::made_levels))]
     fn shallow() {}
 }

@@ -1,4 +1,4 @@
-use Rattle.passkey_entities.proofs.EntitiesOrdered.{rp_keys, user_keys}
+use Rattle.passkey_entities.proofs.EntitiesPlain.{rp_keys, user_keys}
 use Rattle.passkey_entities.proofs.laws.written_keys_ascend.Goals as goal
 
 pub returns-clause-rp : goal.returns-clause-rp

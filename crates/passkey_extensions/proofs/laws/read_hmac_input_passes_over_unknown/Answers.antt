@@ -1,5 +1,4 @@
-use Rattle.passkey_extensions.specs.HmacInput.{hmac_input_fields}
-use Rattle.passkey_extensions.specs.HmacInputView.{hmac_input_parts}
+use Rattle.passkey_extensions.specs.HmacInput.{hmac_input_fields, hmac_input_parts}
 use Rattle.passkey_extensions.proofs.laws.read_hmac_input_passes_over_unknown.Goals as goal
 use Rattle.passkey_kinds.proofs.RecordLaws.{skips_unknown}
 

@@ -1,5 +1,4 @@
-use Rattle.passkey_get_assertion.specs.GetRequest.{get_request_fields}
-use Rattle.passkey_get_assertion.specs.GetRequestView.{get_request_parts}
+use Rattle.passkey_get_assertion.specs.GetRequest.{get_request_fields, get_request_parts}
 use Rattle.passkey_get_assertion.proofs.laws.read_get_request_passes_over_unknown.Goals as goal
 use Rattle.passkey_kinds.proofs.RecordLaws.{skips_unknown}
 

@@ -1,5 +1,4 @@
-use Rattle.passkey_get_assertion.specs.GetResponse.{get_response_fields}
-use Rattle.passkey_get_assertion.specs.GetResponseView.{get_response_parts}
+use Rattle.passkey_get_assertion.specs.GetResponse.{get_response_fields, get_response_parts}
 use Rattle.passkey_get_assertion.proofs.laws.read_get_response_passes_over_unknown.Goals as goal
 use Rattle.passkey_kinds.proofs.RecordLaws.{skips_unknown}
 

@@ -1,5 +1,4 @@
-use Rattle.passkey_get_info.specs.GetInfo.{get_info_fields}
-use Rattle.passkey_get_info.specs.GetInfoView.{get_info_parts}
+use Rattle.passkey_get_info.specs.GetInfo.{get_info_fields, get_info_parts}
 use Rattle.passkey_get_info.proofs.laws.read_get_info_passes_over_unknown.Goals as goal
 use Rattle.passkey_kinds.proofs.RecordLaws.{skips_unknown}
 

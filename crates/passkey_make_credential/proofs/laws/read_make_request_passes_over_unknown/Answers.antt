@@ -1,5 +1,4 @@
-use Rattle.passkey_make_credential.specs.MakeRequest.{make_request_fields}
-use Rattle.passkey_make_credential.specs.MakeRequestView.{make_request_parts}
+use Rattle.passkey_make_credential.specs.MakeRequest.{make_request_fields, make_request_parts}
 use Rattle.passkey_make_credential.proofs.laws.read_make_request_passes_over_unknown.Goals as goal
 use Rattle.passkey_kinds.proofs.RecordLaws.{skips_unknown}
 

@@ -1,5 +1,4 @@
-use Rattle.passkey_make_credential.specs.MakeResponse.{make_response_fields}
-use Rattle.passkey_make_credential.specs.MakeResponseView.{make_response_parts}
+use Rattle.passkey_make_credential.specs.MakeResponse.{make_response_fields, make_response_parts}
 use Rattle.passkey_make_credential.proofs.laws.read_make_response_passes_over_unknown.Goals as goal
 use Rattle.passkey_kinds.proofs.RecordLaws.{skips_unknown}
 

@@ -1,6 +1,6 @@
 use Rattle.std.proofs.Common.{◌∙◌, option_map, ap}
-use Rattle.passkey_extensions.specs.GetExtensionsView.{get_extensions_parts}
-use Rattle.passkey_get_assertion.specs.GetRequestView.{get_request_parts}
+use Rattle.passkey_extensions.specs.GetExtensions.{get_extensions_parts}
+use Rattle.passkey_get_assertion.specs.GetRequest.{get_request_parts}
 use Rattle.passkey_get_assertion.proofs.GetRequests.{request_with, request_without}
 use Rattle.passkey_get_assertion.proofs.request.Request.is_coherent.Goals as goal
 

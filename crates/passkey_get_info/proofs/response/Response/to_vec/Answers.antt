@@ -2,7 +2,7 @@ use Rattle.std.proofs.Common.{◌≡◌, ◌++◌, IfOk, Option, subst}
 use Rattle.passkey_cbor.specs.Item.{Item}
 use Rattle.passkey_cbor.specs.Written.{written}
 use Rattle.passkey_get_info.specs.GetInfoTree.{capability_places_with, limit_places, state_places}
-use Rattle.passkey_get_info.specs.GetInfoView.{get_info_parts}
+use Rattle.passkey_get_info.specs.GetInfo.{get_info_parts}
 use Rattle.passkey_kinds.specs.Tree.{record_tree}
 use Rattle.passkey_get_info.proofs.response.Response.to_vec.Goals as goal
 

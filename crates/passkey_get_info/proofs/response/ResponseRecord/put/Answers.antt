@@ -1,7 +1,6 @@
 use Rattle.std.proofs.Common.{ℕ, true, List, Option, map, option_map, refl, ap}
-use Rattle.passkey_get_info.specs.GetInfo.{GetInfoParts, get_info_fields}
+use Rattle.passkey_get_info.specs.GetInfo.{GetInfoParts, get_info_fields, get_info_parts}
 use Rattle.passkey_get_info.specs.GetInfoNames.{extension}
-use Rattle.passkey_get_info.specs.GetInfoView.{get_info_parts}
 use Rattle.passkey_get_info.specs.declared.extension.Extension.{Extension}
 use Rattle.passkey_kinds.proofs.Lists.{each_same}
 use Rattle.passkey_kinds.proofs.Putting.{sets_put}

@@ -1,6 +1,6 @@
 use Rattle.std.proofs.Common.{◌∙◌, option_map, ap}
-use Rattle.passkey_extensions.specs.MakeExtensionsView.{make_extensions_parts}
-use Rattle.passkey_make_credential.specs.MakeRequestView.{make_request_parts}
+use Rattle.passkey_extensions.specs.MakeExtensions.{make_extensions_parts}
+use Rattle.passkey_make_credential.specs.MakeRequest.{make_request_parts}
 use Rattle.passkey_make_credential.proofs.MakeRequests.{request_with, request_without}
 use Rattle.passkey_make_credential.proofs.request.Request.is_coherent.Goals as goal
 

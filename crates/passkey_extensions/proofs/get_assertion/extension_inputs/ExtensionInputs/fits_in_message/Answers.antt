@@ -1,6 +1,6 @@
 use Rattle.std.proofs.Common.{◌∙◌, option_map, ap}
-use Rattle.passkey_extensions.specs.HmacInputView.{hmac_input_parts}
-use Rattle.passkey_extensions.specs.GetExtensionsView.{get_extensions_parts}
+use Rattle.passkey_extensions.specs.HmacInput.{hmac_input_parts}
+use Rattle.passkey_extensions.specs.GetExtensions.{get_extensions_parts}
 use Rattle.passkey_extensions.proofs.ExtensionLevels.{used_with, used_without}
 use Rattle.passkey_extensions.proofs.get_assertion.extension_inputs.ExtensionInputs.fits_in_message.Goals as goal
 

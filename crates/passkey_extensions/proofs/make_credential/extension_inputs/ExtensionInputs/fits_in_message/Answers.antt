@@ -1,6 +1,6 @@
 use Rattle.std.proofs.Common.{◌∙◌, option_map, ap}
-use Rattle.passkey_extensions.specs.HmacInputView.{hmac_input_parts}
-use Rattle.passkey_extensions.specs.MakeExtensionsView.{make_extensions_parts}
+use Rattle.passkey_extensions.specs.HmacInput.{hmac_input_parts}
+use Rattle.passkey_extensions.specs.MakeExtensions.{make_extensions_parts}
 use Rattle.passkey_extensions.proofs.ExtensionLevels.{made_with, made_without}
 use Rattle.passkey_extensions.proofs.make_credential.extension_inputs.ExtensionInputs.fits_in_message.Goals as goal
 
