@@ -37,6 +37,14 @@ pub struct Passkey {
     pub extensions: CredentialExtensions,
 }
 
+/// What is stored of the user.
+#[derive(Drop)]
+struct User {
+    handle: Option<Bytes>,
+    name: Option<Text>,
+    display_name: Option<Text>,
+}
+
 fn copied_bytes(alloc: Global, bytes: &Option<Bytes>) -> Result<Option<Bytes>, OutOfMemory>
     ensures same { IfOk result (λ copy. copy ≡ bytes.now) }
     ensures grows { OnErr result (IsSomeAnd bytes.now (λ b. 0 < length b)) }
@@ -104,15 +112,33 @@ impl Passkey {
         ensures same { IfOk result (λ copy. passkey_parts copy ≡ passkey_parts self.now) }
         ensures grows { OnErr result (StoresMemory (passkey_parts self.now)) }
     {
+        let user = self.user(alloc)?;
+        let extensions = self.extensions.try_clone(alloc)?;
+        let rp_id = self.rp_id.try_clone(alloc)?;
+        let credential_id = self.credential_id.try_clone(alloc)?;
         Ok(Passkey {
             key: self.key.try_clone(alloc)?,
-            credential_id: self.credential_id.try_clone(alloc)?,
-            rp_id: self.rp_id.try_clone(alloc)?,
-            user_handle: copied_bytes(alloc, &self.user_handle)?,
-            username: copied_text(alloc, &self.username)?,
-            user_display_name: copied_text(alloc, &self.user_display_name)?,
+            credential_id,
+            rp_id,
+            user_handle: user.handle,
+            username: user.name,
+            user_display_name: user.display_name,
             counter: self.counter,
-            extensions: self.extensions.try_clone(alloc)?,
+            extensions,
+        })
+    }
+
+    /// Returns a copy of what is stored of the user.
+    fn user(&self, alloc: Global) -> Result<User, OutOfMemory>
+        ensures handle { IfOk result (λ user. user.handle ≡ self.now.user_handle) }
+        ensures name { IfOk result (λ user. user.name ≡ self.now.username) }
+        ensures display_name { IfOk result (λ user. user.display_name ≡ self.now.user_display_name) }
+        ensures grows { OnErr result (StoresMemory (passkey_parts self.now)) }
+    {
+        Ok(User {
+            handle: copied_bytes(alloc, &self.user_handle)?,
+            name: copied_text(alloc, &self.username)?,
+            display_name: copied_text(alloc, &self.user_display_name)?,
         })
     }
 }
