@@ -1,5 +1,5 @@
 //! Finite maps.
-ghost use Rattle.std.specs.Prelude.{◌≡◌, ◌↔◌, ℕ, List, None, length, map, option_map, option_copied, is_some, IfErr, IfOk, IsTrue, OnErr, OnOk};
+ghost use Rattle.std.specs.Prelude.{◌≡◌, ◌↔◌, ℕ, List, None, map, option_copied, IfErr, IfOk, IsTrue, OnErr, OnOk};
 ghost use Rattle.std.specs.FinMap as fin;
 ghost use Rattle.passkey_bytes.specs.Map.{ClonesValues, GivesEntries, LendsEntries, map_of, maps_eq};
 ghost use Rattle.passkey_bytes.specs.SameMaps.{maps_eq-equivalence, maps_eq-partial};

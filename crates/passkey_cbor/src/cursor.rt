@@ -332,7 +332,8 @@ pub(crate) fn is_allowed(is_text: bool, bytes: &[u8]) -> bool
     }
 }
 
-// Whether these are a few bytes, and all ASCII: for so few this takes less time than `from_utf8`.
+// Whether these are at most 64 bytes, and all ASCII: for so few this takes less time than
+// `from_utf8`.
 #[inline(always)]
 fn is_short_ascii(bytes: &[u8]) -> bool
     ensures { result ≡ true → IsAscii bytes.now }

@@ -1,5 +1,4 @@
 //! Values that may be rejected.
-ghost use Rattle.std.specs.Prelude.{◌≡◌};
 ghost use Rattle.passkey_json.specs.Kind.{tolerated};
 
 use crate::from_json::FromJson;

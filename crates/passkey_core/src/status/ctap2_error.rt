@@ -1,6 +1,6 @@
 //! CTAP 2.1's named status codes.
 ghost use Rattle.std.specs.Prelude.{◌≡◌, ◌↔◌, IsTrue, Some, nat_eq};
-ghost use Rattle.std.specs.Cmp.{partial_equiv_from_equiv, partial_order_from_own_ties, unsigned_ties};
+ghost use Rattle.std.specs.Cmp.{partial_order_from_own_ties, unsigned_ties};
 ghost use Rattle.std.specs.Cmp.Rules.{comparing};
 ghost use Rattle.std.specs.Ordering.{as_partial_cmp, nat_cmp, on};
 ghost use Rattle.std.proofs.Common.{rules};

@@ -1,4 +1,4 @@
-use Rattle.std.proofs.Common.{◌≡◌, ◌∙◌, ℕ, ◌+◌, ◌-◌, ◌^◌, min, List, ap, sym, arith, length, subst, ◌++◌}
+use Rattle.std.proofs.Common.{◌∙◌, ℕ, ◌+◌, ◌-◌, ◌^◌, min, ap, sym, arith, length, subst}
 use Rattle.passkey_cbor.specs.Inside.{IsAllowed}
 use Rattle.std.proofs.lemmas.Result.{err_from_is_err_and}
 use Rattle.passkey_cbor.specs.Walk.{Walk, ahead}
