@@ -1,21 +1,18 @@
 -- The key in an extension input has fewer nesting levels than the item that was decoded.
-use Rattle.std.proofs.Common.{◌≡◌, ◌∙◌, ◌+◌, ◌<◌, arith, Option, Some, Ok, ap, subst}
+use Rattle.std.proofs.Common.{◌≡◌, ◌∙◌, ◌+◌, ◌<◌, arith, Option, Some, Ok, ap}
 use Rattle.passkey_cbor.specs.Depth.{depth}
 use Rattle.passkey_cbor.specs.Item.{Item}
 use Rattle.passkey_extensions.specs.GetExtensions.{GetExtensionsParts, get_extensions_fields, get_extensions}
 use Rattle.passkey_extensions.specs.HmacInput.{HmacInputParts, hmac_input_fields, hmac_input, read_hmac_input}
 use Rattle.passkey_extensions.specs.MakeExtensions.{MakeExtensionsParts, make_extensions_fields, make_extensions}
+use Rattle.passkey_kinds.specs.Kind.{optional, tolerated}
 use Rattle.passkey_kinds.proofs.NotNull.{not_null, ok_of}
-use Rattle.passkey_kinds.proofs.Keeping.{◌▹◌, no_more, record_keeps, nested_keeps}
+use Rattle.passkey_kinds.proofs.Keeping.{kept_below, record_keeps, nested_keeps}
 
 pub read_key : (i : Item) (h : HmacInputParts) → read_hmac_input i ≡ Ok h → depth h.key_agreement < depth i
 read_key i h read =
     record_keeps hmac_input_fields (λ p. depth p.key_agreement < depth i) i h read (λ d. d)
-    ((λ x v r less e q. let same : x ≡ v = cc in subst (λ k. depth k < depth i) same less) ▹
-    (λ x v r less e q. q) ▹
-    (λ x v r less e q. q) ▹
-    (λ x v r less e q. q) ▹
-    no_more)
+    (search kept_below depth 9)
 
 input_key : (i : Item) (h : HmacInputParts) → hmac_input i ≡ Some h → depth h.key_agreement < depth i
 input_key i h e = read_key i h (ok_of (read_hmac_input i) h e)
@@ -24,22 +21,24 @@ input_key i h e = read_key i h (ok_of (read_hmac_input i) h e)
 abbrev KeyWithin : Item → Option HmacInputParts → Type 0
 KeyWithin i o = (h : HmacInputParts) → o ≡ Some h → depth h.key_agreement + 1 < depth i
 
+made_within : (i x : Item) (o : Option HmacInputParts) → optional hmac_input x ≡ Some o → depth x < depth i
+    → KeyWithin i o
+made_within i x o read less =
+    λ h is. omega (arith, input_key x h (not_null hmac_input x h (read ∙ ap Some is)), less)
+
 pub made_key : (i : Item) (e : MakeExtensionsParts) (h : HmacInputParts) → make_extensions i ≡ Some e
     → e.hmac_secret_mc ≡ Some h → depth h.key_agreement + 1 < depth i
 made_key i e =
     (λ h read. nested_keeps make_extensions_fields (λ p. KeyWithin i p.hmac_secret_mc) i e read
-    (λ d k is. absurd cc)
-    ((λ x v r less read q. q) ▹
-    (λ x v r less read q. λ k is. omega (arith, input_key x k (not_null hmac_input x k (read ∙ ap Some is)), less))
-    ▹
-    (λ x v r less read q. q) ▹
-    no_more) h)
+    (λ d k is. absurd cc) (search made_within) h)
+
+used_within : (i x : Item) (o : Option HmacInputParts) → tolerated hmac_input x ≡ Some o → depth x < depth i
+    → KeyWithin i o
+used_within i x o read less =
+    λ h is. let there : hmac_input x ≡ Some h = cc in omega (arith, input_key x h there, less)
 
 pub used_key : (i : Item) (e : GetExtensionsParts) (h : HmacInputParts) → get_extensions i ≡ Some e
     → e.hmac_secret ≡ Some h → depth h.key_agreement + 1 < depth i
 used_key i e =
     (λ h read. nested_keeps get_extensions_fields (λ p. KeyWithin i p.hmac_secret) i e read (λ d k is. absurd cc)
-    ((λ x v r less read q. λ k is. let there : hmac_input x ≡ Some k =
-    cc in omega (arith, input_key x k there, less)) ▹
-    (λ x v r less read q. q) ▹
-    no_more) h)
+    (search used_within) h)

@@ -1,5 +1,5 @@
 -- authenticatorGetAssertion requests: decoding their encodings again, and their nesting levels.
-use Rattle.std.proofs.Common.{◌≡◌, ◌∙◌, ◌≤◌, nat_le, arith, le-leb, leb-true, true, Option, Some, None, option_map, Ok, refl, sym}
+use Rattle.std.proofs.Common.{◌≡◌, ◌∙◌, ℕ, ◌<◌, ◌≤◌, nat_le, arith, le-leb, leb-true, true, Option, Some, None, option_map, Ok, refl, sym}
 use Rattle.passkey_cbor.specs.Depth.{depth}
 use Rattle.passkey_cbor.specs.LeadingItem.{max_depth}
 use Rattle.passkey_cbor.specs.Item.{Item}
@@ -12,10 +12,10 @@ use Rattle.passkey_extensions.specs.HmacInput.{HmacInputParts}
 use Rattle.passkey_extensions.proofs.ExtensionBack.{get_parts_back}
 use Rattle.passkey_extensions.proofs.ExtensionLevels.{same_tests, some_within, none_within, of_some, input_up, used_with, used_without}
 use Rattle.passkey_extensions.proofs.Keys.{used_key}
+use Rattle.passkey_kinds.specs.Kind.{tolerated}
 use Rattle.passkey_kinds.specs.MessageLaws.{WrittenIsReadBack, ReadIsCoherent}
 use Rattle.passkey_kinds.specs.Tree.{number_tree}
-use Rattle.passkey_kinds.proofs.Keeping as kept
-use Rattle.passkey_kinds.proofs.Keeping.{◌▹◌, record_keeps}
+use Rattle.passkey_kinds.proofs.Keeping.{record_keeps}
 use Rattle.passkey_kinds.proofs.LeafBack.{byte_back, text_back, bytes_back, anything, all_of_anything, optional_place, accepted_place, tolerated_place}
 use Rattle.passkey_kinds.proofs.Levels.{PlaceWithin, record_within, of_record}
 use Rattle.passkey_kinds.proofs.RecordBack.{descriptor_back}
@@ -73,23 +73,19 @@ extensions_coherent i e None small read is = sym (used_without e is)
 extensions_coherent i e (Some h) small read is = sym (used_with e h is)
     ∙ le-leb (depth (hmac_input_tree h)) 254 (input_up h 254 (omega (arith, small, used_key i e h read is)))
 
-abbrev ExtensionsAreCoherent : GetRequestParts → Type 0
-ExtensionsAreCoherent r = (e : GetExtensionsParts) → r.extensions ≡ Some e
-    → nat_le (depth (get_extensions_tree e)) 255 ≡ true
+abbrev AreCoherent : Option GetExtensionsParts → Type 0
+AreCoherent o = (e : GetExtensionsParts) → o ≡ Some e → nat_le (depth (get_extensions_tree e)) 255 ≡ true
+
+decoded_coherent : (i : Item) (o : Option GetExtensionsParts) (n : ℕ) → tolerated get_extensions i ≡ Some o
+    → depth i < n → n ≤ 256 → AreCoherent o
+decoded_coherent i o n read less small = λ e is. let there : get_extensions i ≡ Some e =
+    cc in extensions_coherent i e e.hmac_secret (omega (arith, less, small)) there refl
 
 read_extensions : (i : Item) (r : GetRequestParts) → depth i ≤ 256 → read_get_request i ≡ Ok r
-    → ExtensionsAreCoherent r
+    → AreCoherent r.extensions
 read_extensions i r small read =
-    record_keeps get_request_fields ExtensionsAreCoherent i r read (λ d e is. absurd cc)
-    ((λ x v p less e h. h) ▹
-    (λ x v p less e h. h) ▹
-    (λ x v p less e h. h) ▹
-    (λ x v p less read h. λ e is. let there : get_extensions x ≡ Some e =
-    cc in extensions_coherent x e e.hmac_secret (omega (arith, less, small)) there refl) ▹
-    (λ x v p less e h. h) ▹
-    (λ x v p less e h. h) ▹
-    (λ x v p less e h. h) ▹
-    kept.no_more)
+    record_keeps get_request_fields (λ r. AreCoherent r.extensions) i r read (λ d e is. absurd cc)
+    (search decoded_coherent depth 11 parts 11)
 
 read_coherent : (i : Item) (r : GetRequestParts) (extensions : Option GetExtensionsParts) → depth i ≤ 256
     → read_get_request i ≡ Ok r → r.extensions ≡ extensions → is_get_request_coherent r ≡ true

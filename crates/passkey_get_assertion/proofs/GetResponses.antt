@@ -11,8 +11,7 @@ use Rattle.passkey_kinds.proofs.DataBack.{auth_data_back, auth_data_coherent}
 use Rattle.passkey_entities.proofs.MakeBack.{made_user_back}
 use Rattle.passkey_extensions.proofs.ExtensionBack.{used_back}
 use Rattle.passkey_kinds.specs.MessageLaws.{WrittenIsReadBack, ReadIsCoherent}
-use Rattle.passkey_kinds.proofs.Keeping as kept
-use Rattle.passkey_kinds.proofs.Keeping.{◌▹◌, record_keeps}
+use Rattle.passkey_kinds.proofs.Keeping.{record_keeps}
 use Rattle.passkey_kinds.proofs.LeafBack.{truth_back, byte_back, bytes_back, anything, optional_place}
 use Rattle.passkey_kinds.proofs.Levels.{record_within}
 use Rattle.passkey_kinds.proofs.RecordBack.{descriptor_back}
@@ -71,13 +70,5 @@ DataAreCoherent r = is_coherent r.auth_data ≡ true
 pub get_response_coherent : GivenIsCoherent → ReadIsCoherent read_get_response is_get_response_coherent
 get_response_coherent law bytes r begins =
     let coherent = record_keeps get_response_fields DataAreCoherent begins.item r begins.holds (λ d. refl)
-    ((λ x v p less e h. h) ▹
-    (λ x v p less e h. auth_data_coherent law x v e) ▹
-    (λ x v p less e h. h) ▹
-    (λ x v p less e h. h) ▹
-    (λ x v p less e h. h) ▹
-    (λ x v p less e h. h) ▹
-    (λ x v p less e h. h) ▹
-    (λ x v p less e h. h) ▹
-    kept.no_more) in
+    (search (auth_data_coherent law) depth 12 parts 12) in
     and_from (is_coherent r.auth_data) (nat_le (depth (get_response_tree r)) max_depth) coherent (has_few_levels r)

@@ -4,6 +4,7 @@ use Rattle.std.proofs.Common.{◌≡◌, ℕ, ◌<◌, ◌==◌, arith, Bool, tr
 use Rattle.passkey_cbor.specs.Depth.{depth, pairs_depth}
 use Rattle.passkey_cbor.specs.Item as item
 use Rattle.passkey_cbor.specs.Item.{Item, Pairs, no_pairs, pair, members}
+use Rattle.passkey_kinds.specs.Kind.{kept}
 use Rattle.passkey_kinds.specs.Record.{Member, Fields, set_with, table_of, put_at, put_named, with_members, unless_missing, judged, read_item, record_kind}
 use Rattle.passkey_kinds.specs.Table.{Naming, row, unknown, wrong, named, Members, first_bad, first_missing}
 use Rattle.passkey_kinds.specs.declared.fault.Fault.{Fault}
@@ -15,17 +16,9 @@ Keeps n Inv [] = Unit {0}
 Keeps {P} n Inv (m ∷ ms) =
     ((i : Item) (v : m.Of) (r : P) → depth i < n → m.kind.of i ≡ Some v → Inv r → Inv (m.set v r)) × Keeps n Inv ms
 
-pub record KeepsAll {P : Type 0} (n : ℕ) (Inv : P → Type 0) (ms : List (Member P)) : Type 0 where
-  pub all : Keeps n Inv ms
-
-pub no_more : {P : Type 0} {n : ℕ} {Inv : P → Type 0} → KeepsAll n Inv []
-no_more = record { all = tt }
-
-infixr 5 ◌▹◌
-pub ◌▹◌ : {P : Type 0} {n : ℕ} {Inv : P → Type 0} {m : Member P} {ms : List (Member P)}
-    → ((i : Item) (v : m.Of) (r : P) → depth i < n → m.kind.of i ≡ Some v → Inv r → Inv (m.set v r))
-    → KeepsAll n Inv ms → KeepsAll n Inv (m ∷ ms)
-here ▹ rest = record { all = (here, rest.all) }
+-- a kept item is the one that was decoded
+pub kept_below : (i kept_item : Item) (n : ℕ) → kept i ≡ Some kept_item → depth i < n → depth kept_item < n
+kept_below i kept_item n e less = let same : i ≡ kept_item = cc in subst (λ k. depth k < n) same less
 
 if_some : {M P : Type 0} (Inv : P → Type 0) (set : M → P → P) (o : Option M) (r : P)
     → ((v : M) → o ≡ Some v → Inv (set v r)) → Inv r → Inv (set_with set o r)
@@ -89,14 +82,14 @@ made_from t (item.float f) p e = absurd cc
 
 -- what each row preserves holds of a decoded record
 pub record_keeps : {P : Type 0} (t : Fields P) (Inv : P → Type 0) (i : Item) (p : P) → read_item t i ≡ Ok p
-    → (0 < depth i → Inv t.blank) → KeepsAll (depth i) Inv t.rows → Inv p
+    → (0 < depth i → Inv t.blank) → Keeps (depth i) Inv t.rows → Inv p
 record_keeps t Inv i p e begun all =
     let made = made_from t i p e in
     let less : pairs_depth made.pairs < depth i =
     (let whole : depth i ≡ depth (item.map made.pairs) = ap depth made.is_map in omega (arith, whole)) in
-    subst Inv made.made (members_keep (depth i) Inv t made.pairs t.blank all.all less (begun (omega (arith, less))))
+    subst Inv made.made (members_keep (depth i) Inv t made.pairs t.blank all less (begun (omega (arith, less))))
 
 -- the same for a record inside another one
 pub nested_keeps : {P : Type 0} (t : Fields P) (Inv : P → Type 0) (i : Item) (p : P) → record_kind t i ≡ Some p
-    → (0 < depth i → Inv t.blank) → KeepsAll (depth i) Inv t.rows → Inv p
+    → (0 < depth i → Inv t.blank) → Keeps (depth i) Inv t.rows → Inv p
 nested_keeps t Inv i p e begun all = record_keeps t Inv i p (ok_of (read_item t i) p e) begun all

@@ -1,6 +1,6 @@
 -- The nesting levels of records, by those of the values under their keys.
 use Rattle.std.specs.FinMap as fin
-use Rattle.std.proofs.Common.{◌≡◌, ℕ, suc, ◌≤◌, max, arith, List, [], ◌∷◌, ◌++◌, map, Option, Some, None, option_map, ap}
+use Rattle.std.proofs.Common.{◌≡◌, ℕ, suc, ◌≤◌, max, arith, List, [], ◌∷◌, ◌++◌, map, Option, Some, None, ap}
 use Rattle.passkey_bytes.specs.Map.{ByteMap}
 use Rattle.passkey_cbor.specs.Depth.{depth, items_depth, pairs_depth}
 use Rattle.passkey_cbor.specs.Item.{Item, items_of, pairs_of}
@@ -8,7 +8,7 @@ use Rattle.passkey_kinds.specs.ShortFirst.{short_first}
 use Rattle.passkey_kinds.specs.Table.{Members}
 use Rattle.passkey_kinds.specs.Tree.{Place, list_tree, entry_tree, byte_map_tree, under, record_tree}
 use Rattle.passkey_kinds.proofs.Back.{spread, laid_spread}
-use Rattle.passkey_kinds.proofs.Places.{PlaceHas, EachPlace, option_has}
+use Rattle.passkey_kinds.proofs.Places.{PlaceHas, EachPlace}
 
 -- the place has no value, or its key and its value have at most n levels
 abbrev pub PlaceWithin : ℕ → Item → Option Item → Type 0
@@ -58,7 +58,7 @@ of_spread n (p ∷ ps) h =
 pub of_record : (n : ℕ) (ps : List Place) → depth (record_tree ps) ≤ suc n → Within n ps
 of_record n ps h = of_spread n ps (omega (arith, record_levels ps, h))
 
--- ---- lists, maps and options
+-- ---- lists and maps
 
 items_within : {A : Type 0} (tree : A → Item) (n : ℕ) → ((x : A) → depth (tree x) ≤ n) → (xs : List A)
     → items_depth (items_of (map tree xs)) ≤ n
@@ -82,7 +82,3 @@ entries_within tree n each (e ∷ es) =
 pub map_within : {A : Type 0} (tree : A → Item) (n : ℕ) → ((x : A) → depth (tree x) ≤ n) → (m : ByteMap A)
     → depth (byte_map_tree tree m) ≤ suc n
 map_within tree n each m = omega (arith, entries_within tree n each (short_first (fin.entries m)))
-
-pub option_within : {A : Type 0} (tree : A → Item) (n : ℕ) (key : Item) → depth key ≤ n
-    → ((x : A) → depth (tree x) ≤ n) → (o : Option A) → PlaceWithin n key (option_map tree o)
-option_within tree n key keyed each o = option_has (λ i. depth i ≤ n) tree key keyed each o

@@ -4,7 +4,7 @@ use Rattle.std.specs.FinMap as fin
 use Rattle.std.specs.Ordering.{is_lt}
 use Rattle.std.specs.declared.cmp.Ordering.{Ordering}
 use Rattle.std.specs.declared.cmp.Ordering.TheVariants.{Less, Equal, Greater}
-use Rattle.std.proofs.Common.{◌≡◌, ℕ, ◌≤◌, Bool, true, ◌&&◌, List, [], ◌∷◌, ◌++◌, length, map, Option, Some, None, option_map, refl, sym, subst}
+use Rattle.std.proofs.Common.{◌≡◌, ℕ, ◌≤◌, Bool, true, ◌&&◌, List, [], ◌∷◌, ◌++◌, length, map, Option, Some, None, refl, sym, subst}
 use Rattle.std.proofs.lemmas.Bool.{and_parts}
 use Rattle.passkey_bytes.specs.Map.{ByteMap}
 use Rattle.passkey_cbor.specs.Canonical.{ComesAfter, AscendFrom, Ascend, IsOrdered, AreOrdered, ArePairsOrdered, IsCanonical}
@@ -20,7 +20,7 @@ use Rattle.passkey_kinds.specs.Table.{Members}
 use Rattle.passkey_kinds.specs.Tree.{Place, list_tree, entry_tree, byte_map_tree, under, laid, record_tree}
 use Rattle.passkey_kinds.proofs.Back.{spread, laid_spread}
 use Rattle.passkey_kinds.proofs.ByteMaps.{entries_ascend}
-use Rattle.passkey_kinds.proofs.Places.{PlaceHas, EachPlace, option_has}
+use Rattle.passkey_kinds.proofs.Places.{PlaceHas, EachPlace}
 
 -- ---- keys that ascend
 
@@ -96,10 +96,6 @@ record_ordered ps h all = (
   keys_ascend ps h,
   subst (λ (ms : Members). ArePairsOrdered (pairs_of ms)) (sym (laid_spread [] ps)) (spread_ordered ps all),
 )
-
-pub option_ordered : {A : Type 0} (tree : A → Item) (key : Item) → IsOrdered key → ((x : A) → IsOrdered (tree x))
-    → (o : Option A) → PlaceOrdered key (option_map tree o)
-option_ordered tree key keyed each o = option_has IsOrdered tree key keyed each o
 
 items_ordered : {A : Type 0} (tree : A → Item) → ((x : A) → IsOrdered (tree x)) → (xs : List A)
     → AreOrdered (items_of (map tree xs))

@@ -12,11 +12,6 @@ abbrev pub EachPlace : (Item → Type 0) → List Place → Type 0
 EachPlace Q [] = Unit {0}
 EachPlace Q (p ∷ ps) = PlaceHas Q p.0 p.1 × EachPlace Q ps
 
--- a pair, written so that each place of a record takes a line
-infixr 5 ◌◂◌
-pub ◌◂◌ : {A B : Type 0} → A → B → A × B
-here ◂ rest = (here, rest)
-
 pub option_has : {A : Type 0} (Q : Item → Type 0) (tree : A → Item) (key : Item) → Q key → ((x : A) → Q (tree x))
     → (o : Option A) → PlaceHas Q key (option_map tree o)
 option_has Q tree key keyed each None = tt

@@ -1,5 +1,5 @@
 -- authenticatorMakeCredential requests: decoding their encodings again, and their nesting levels.
-use Rattle.std.proofs.Common.{◌≡◌, ◌∙◌, ◌≤◌, nat_le, arith, le-leb, leb-true, true, Option, Some, None, option_map, Ok, refl, sym, ap}
+use Rattle.std.proofs.Common.{◌≡◌, ◌∙◌, ℕ, ◌<◌, ◌≤◌, nat_le, arith, le-leb, leb-true, true, Option, Some, None, option_map, Ok, refl, sym, ap}
 use Rattle.passkey_cbor.specs.Depth.{depth}
 use Rattle.passkey_cbor.specs.LeadingItem.{max_depth}
 use Rattle.passkey_cbor.specs.Item.{Item}
@@ -8,11 +8,11 @@ use Rattle.passkey_make_credential.specs.MakeRequest.{MakeRequestParts, make_req
 use Rattle.passkey_extensions.specs.ExtensionTrees.{hmac_input_tree, make_extensions_tree}
 use Rattle.passkey_extensions.specs.HmacInput.{HmacInputParts}
 use Rattle.passkey_extensions.specs.MakeExtensions.{MakeExtensionsParts, make_extensions}
+use Rattle.passkey_kinds.specs.Kind.{optional}
 use Rattle.passkey_kinds.specs.MessageLaws.{WrittenIsReadBack, ReadIsCoherent}
 use Rattle.passkey_kinds.specs.Tree.{number_tree}
 use Rattle.passkey_kinds.proofs.NotNull.{not_null}
-use Rattle.passkey_kinds.proofs.Keeping as kept
-use Rattle.passkey_kinds.proofs.Keeping.{◌▹◌, record_keeps}
+use Rattle.passkey_kinds.proofs.Keeping.{record_keeps}
 use Rattle.passkey_extensions.proofs.ExtensionBack.{make_parts_back}
 use Rattle.passkey_extensions.proofs.ExtensionLevels.{same_tests, some_within, none_within, of_some, input_up, made_with, made_without}
 use Rattle.passkey_kinds.proofs.LeafBack.{byte_back, bytes_back, anything, all_of_anything, optional_place, accepted_same, accepted_place}
@@ -78,25 +78,19 @@ extensions_coherent i e None small read is = sym (made_without e is)
 extensions_coherent i e (Some h) small read is = sym (made_with e h is)
     ∙ le-leb (depth (hmac_input_tree h)) 254 (input_up h 254 (omega (arith, small, made_key i e h read is)))
 
-abbrev ExtensionsAreCoherent : MakeRequestParts → Type 0
-ExtensionsAreCoherent r = (e : MakeExtensionsParts) → r.extensions ≡ Some e
-    → nat_le (depth (make_extensions_tree e)) 255 ≡ true
+abbrev AreCoherent : Option MakeExtensionsParts → Type 0
+AreCoherent o = (e : MakeExtensionsParts) → o ≡ Some e → nat_le (depth (make_extensions_tree e)) 255 ≡ true
+
+decoded_coherent : (i : Item) (o : Option MakeExtensionsParts) (n : ℕ) → optional make_extensions i ≡ Some o
+    → depth i < n → n ≤ 256 → AreCoherent o
+decoded_coherent i o n read less small = λ e is. extensions_coherent i e e.hmac_secret_mc (omega (arith, less, small))
+    (not_null make_extensions i e (read ∙ ap Some is)) refl
 
 read_extensions : (i : Item) (r : MakeRequestParts) → depth i ≤ 256 → read_make_request i ≡ Ok r
-    → ExtensionsAreCoherent r
+    → AreCoherent r.extensions
 read_extensions i r small read =
-    record_keeps make_request_fields ExtensionsAreCoherent i r read (λ d e is. absurd cc)
-    ((λ x v p less e h. h) ▹
-    (λ x v p less e h. h) ▹
-    (λ x v p less e h. h) ▹
-    (λ x v p less e h. h) ▹
-    (λ x v p less e h. h) ▹
-    (λ x v p less read h. λ e is. extensions_coherent x e e.hmac_secret_mc (omega (arith, less, small))
-    (not_null make_extensions x e (read ∙ ap Some is)) refl) ▹
-    (λ x v p less e h. h) ▹
-    (λ x v p less e h. h) ▹
-    (λ x v p less e h. h) ▹
-    kept.no_more)
+    record_keeps make_request_fields (λ r. AreCoherent r.extensions) i r read (λ d e is. absurd cc)
+    (search decoded_coherent depth 13 parts 13)
 
 read_coherent : (i : Item) (r : MakeRequestParts) (extensions : Option MakeExtensionsParts) → depth i ≤ 256
     → read_make_request i ≡ Ok r → r.extensions ≡ extensions → is_make_request_coherent r ≡ true

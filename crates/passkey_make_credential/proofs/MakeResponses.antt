@@ -1,8 +1,9 @@
 -- authenticatorMakeCredential responses: decoding their encodings again, and their nesting levels.
 use Rattle.std.specs.Prelude.{codes}
-use Rattle.std.proofs.Common.{◌≡◌, ℕ, ◌<◌, ◌≤◌, ◌-◌, ◌^◌, min, nat_lt, nat_le, arith, lt-ltb, ltb-true, le-leb, leb-true, true, [], ◌∷◌, Ok, refl, subst}
+use Rattle.std.proofs.Common.{◌≡◌, ℕ, ◌<◌, ◌≤◌, ◌-◌, ◌^◌, min, nat_lt, nat_le, arith, lt-ltb, ltb-true, le-leb, leb-true, true, [], ◌∷◌, Some, Ok, refl}
 use Rattle.std.proofs.lemmas.Bool.{and_parts, and_from}
 use Rattle.passkey_cbor.specs.Depth.{depth}
+use Rattle.passkey_cbor.specs.Item.{Item}
 use Rattle.passkey_cbor.specs.LeadingItem.{max_depth}
 use Rattle.passkey_cbor.specs.Laws.{WrittenIsLeadingItem}
 use Rattle.passkey_core.specs.Coherent.{is_coherent}
@@ -11,13 +12,13 @@ use Rattle.passkey_core.specs.DataNormal.{IsData, normal_data}
 use Rattle.passkey_core.specs.DataParts.{DataParts}
 use Rattle.passkey_kinds.proofs.DataBack.{auth_data_back, auth_data_coherent}
 use Rattle.passkey_make_credential.specs.MakeResponse.{MakeResponseParts, make_response_fields, read_make_response, make_response_places, make_response_tree, MakeResponseFits, is_make_response_coherent, normal_make_response, no_statement, attestation_places, attestation_tree, unattested}
+use Rattle.passkey_kinds.specs.Data.{authenticator_data}
+use Rattle.passkey_kinds.specs.Kind.{kept}
 use Rattle.passkey_kinds.specs.MessageLaws.{WrittenIsReadBack, ReadIsCoherent}
-use Rattle.passkey_kinds.proofs.Keeping as kept
-use Rattle.passkey_kinds.proofs.Keeping.{◌▹◌, record_keeps}
+use Rattle.passkey_kinds.proofs.Keeping.{kept_below, record_keeps}
 use Rattle.passkey_extensions.proofs.ExtensionBack.{made_back}
 use Rattle.passkey_extensions.proofs.ExtensionLevels.{same_tests}
 use Rattle.passkey_kinds.proofs.LeafBack.{truth_back, text_back, bytes_back, kept_back, anything, optional_place}
-use Rattle.passkey_kinds.proofs.Places.{◌◂◌}
 use Rattle.passkey_kinds.proofs.Plain.{few_levels}
 use Rattle.passkey_make_credential.proofs.MakePlaces.{make_response_each}
 use Rattle.passkey_kinds.proofs.Levels.{record_within, of_record}
@@ -82,8 +83,7 @@ attestation_returns law written given r rest fits writable coherent = (
   law (attestation_tree r.auth_data) rest
       writable (omega (
         arith,
-        record_within 1 (attestation_places r.auth_data)
-            ((omega arith, omega arith) ◂ (omega arith, omega arith) ◂ (omega arith, omega arith) ◂ tt),
+        record_within 1 (attestation_places r.auth_data) (search arith),
       )),
   attestation_back written given r.auth_data fits coherent,
 )
@@ -94,16 +94,18 @@ attestation_returns law written given r rest fits writable coherent = (
 abbrev PartsAreGood : ℕ → MakeResponseParts → Type 0
 PartsAreGood n r = (is_coherent r.auth_data ≡ true) × (depth r.att_stmt < n)
 
+data_good : GivenIsCoherent → (n : ℕ) (i : Item) (d : DataParts) (r : MakeResponseParts) → depth i < n
+    → authenticator_data i ≡ Some d → PartsAreGood n r → PartsAreGood n (record r { auth_data = d })
+data_good law n i d r less e h = (auth_data_coherent law i d e, h.1)
+
+statement_good : (n : ℕ) (i statement : Item) (r : MakeResponseParts) → depth i < n → kept i ≡ Some statement
+    → PartsAreGood n r → PartsAreGood n (record r { att_stmt = statement })
+statement_good n i statement r less e h = (h.0, kept_below i statement n e less)
+
 pub make_response_coherent : GivenIsCoherent → ReadIsCoherent read_make_response is_make_response_coherent
 make_response_coherent law bytes r begins =
     let good = record_keeps make_response_fields (PartsAreGood (depth begins.item)) begins.item r begins.holds
     (λ d. (refl, d))
-    ((λ x v p less e h. h) ▹
-    (λ x v p less e h. (auth_data_coherent law x v e, h.1)) ▹
-    (λ x v p less e h. let same : x ≡ v = cc in (h.0, subst (λ k. depth k < depth begins.item) same less)) ▹
-    (λ x v p less e h. h) ▹
-    (λ x v p less e h. h) ▹
-    (λ x v p less e h. h) ▹
-    kept.no_more) in
+    (search (data_good law (depth begins.item), statement_good (depth begins.item)) depth 10 parts 10) in
     and_from (is_coherent r.auth_data) (nat_le (depth (make_response_tree r)) max_depth) good.0 (le-leb
     (depth (make_response_tree r)) max_depth (response_up r (omega (arith, good.1, begins.front.shallow))))
