@@ -4,7 +4,7 @@ use Rattle.std.proofs.Common.{◌≡◌, [], ◌∷◌, Option, Some, None, unwr
 use Rattle.passkey_cbor.specs.Item.{Item, number, byte_string, text_string, array, map, tagged, boolean, null, simple, float}
 use Rattle.passkey_get_info.specs.GetInfoNames.{version, version_tree, normal_version, extension, extension_tree, normal_extension}
 use Rattle.passkey_get_info.specs.GetInfoOptions.{options_fields, options, options_places, options_tree}
-use Rattle.passkey_get_info.specs.GetInfoTree.{unless_null}
+use Rattle.passkey_get_info.specs.GetInfo.{unless_null}
 use Rattle.passkey_kinds.specs.Kind.{kept, optional}
 use Rattle.passkey_kinds.specs.ReadBack.{IsReadBack, Any}
 use Rattle.passkey_kinds.proofs.Back.{Falls, accepts_it}

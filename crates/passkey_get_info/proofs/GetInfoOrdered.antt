@@ -7,14 +7,13 @@ use Rattle.passkey_cbor.specs.LeadingItem.{max_depth}
 use Rattle.passkey_cbor.specs.Item.{Item}
 use Rattle.passkey_cbor.specs.Laws.{AtMostOneLeadingItem, WrittenIsLeadingItem}
 use Rattle.passkey_cbor.specs.Written.{shortest_head}
-use Rattle.passkey_get_info.specs.GetInfo.{GetInfoParts}
+use Rattle.passkey_get_info.specs.GetInfo.{GetInfoParts, get_info_places, get_info_tree, get_info_kept, certifications_kept, is_encodable, is_get_info_coherent}
 use Rattle.passkey_get_info.specs.GetInfoOptions.{options_places}
-use Rattle.passkey_get_info.specs.GetInfoTree.{get_info_places, get_info_tree, get_info_kept, certifications_kept, is_encodable, is_get_info_coherent}
 use Rattle.passkey_get_info.proofs.GetInfoPlaces.{options_ascends, get_info_each}
 use Rattle.passkey_kinds.specs.MessageLaws.{AllCanonical, WrittenIsCanonical}
 use Rattle.passkey_kinds.specs.Tree.{KeysAscend, number_tree}
-use Rattle.passkey_kinds.proofs.Levels.{PlaceWithin, of_record as levels_of}
-use Rattle.passkey_kinds.proofs.Ordered.{ascend, keys_ascend, PlaceOrdered, PlaceWritable, record_ordered, of_record, canonical_of, ordered_of}
+use Rattle.passkey_kinds.proofs.Levels.{PlaceWithin, Within, of_record as levels_of}
+use Rattle.passkey_kinds.proofs.Ordered.{ascend, keys_ascend, PlaceOrdered, PlaceWritable, AllWritable, record_ordered, of_record, canonical_of, ordered_of}
 use Rattle.passkey_kinds.proofs.Plain.{in_order}
 
 pub options_keys : KeysAscend options_places
@@ -34,9 +33,8 @@ pub get_info_canonical : AtMostOneLeadingItem → WrittenIsLeadingItem
 get_info_canonical one front r w coherent kept =
     let parts = and_parts (is_encodable r.max_msg_size) (nat_le (depth (get_info_tree r)) max_depth) coherent in
     let shallow = leb-true (depth (get_info_tree r)) max_depth parts.1 in
-    let writable = of_record (get_info_places r) w in
-    let levels = levels_of 255 (get_info_places r) shallow in
+    let writable : AllWritable (get_info_places r) = of_record (get_info_places r) w in
+    let levels : Within 255 (get_info_places r) = levels_of 255 (get_info_places r) shallow in
     canonical_of (get_info_tree r) w shallow
     (record_ordered (get_info_places r) (response_ascends r) (get_info_each (in_order 2) r
-    (kept_place one front (number_tree 19) tt r.certifications writable.1.1.1.1.1.1.1.1.1.1.1.1.1.1.1.1.0
-    levels.1.1.1.1.1.1.1.1.1.1.1.1.1.1.1.1.0 kept)))
+    (kept_place one front (number_tree 19) tt r.certifications (search) (search) kept)))

@@ -8,8 +8,7 @@ use Rattle.passkey_cbor.specs.Item as item
 use Rattle.passkey_cbor.specs.Item.{Item, boolean, byte_string, text_string, members}
 use Rattle.passkey_cbor.specs.Laws.{WrittenIsLeadingItem}
 use Rattle.passkey_core.specs.DataNormal.{IfPresent}
-use Rattle.passkey_get_info.specs.GetInfo.{GetInfoParts, get_info_fields, read_get_info}
-use Rattle.passkey_get_info.specs.GetInfoTree.{get_info_places, get_info_tree, IsPositive, GetInfoFits, is_encodable, has_room, is_get_info_coherent, normal_get_info}
+use Rattle.passkey_get_info.specs.GetInfo.{GetInfoParts, get_info_fields, read_get_info, get_info_places, get_info_tree, IsPositive, GetInfoFits, is_encodable, has_room, is_get_info_coherent, normal_get_info}
 use Rattle.passkey_kinds.specs.Kind.{optional, kept as kept_item}
 use Rattle.passkey_kinds.specs.MessageLaws.{WrittenIsReadBack, ReadIsCoherent}
 use Rattle.passkey_kinds.specs.Size.{size, IsSize}
@@ -17,15 +16,14 @@ use Rattle.passkey_kinds.specs.Tree.{number_tree}
 use Rattle.passkey_kinds.specs.declared.write_fault.WriteFault.{WriteFault}
 use Rattle.passkey_kinds.specs.declared.write_fault.WriteFault.TheVariants.{NumberTooLarge}
 use Rattle.passkey_kinds.proofs.Back.{option_place}
-use Rattle.passkey_kinds.proofs.Keeping as kept
-use Rattle.passkey_kinds.proofs.Keeping.{◌▹◌, record_keeps}
+use Rattle.passkey_kinds.proofs.Keeping.{record_keeps}
 use Rattle.passkey_kinds.proofs.NotNull.{not_null}
 use Rattle.passkey_kinds.proofs.RowsBack.{puts_value, puts_default, ◌▸◌, no_more, rows_back}
 use Rattle.passkey_kinds.proofs.SizedBack.{size_back, aaguid_back}
 use Rattle.passkey_get_info.proofs.GetInfoBack.{version_back, extension_back, kept_place, options_back}
 use Rattle.passkey_get_info.proofs.GetInfoPlaces.{get_info_each}
 use Rattle.passkey_kinds.proofs.LeafBack.{list_same, truth_back, byte_back, word_back, text_back, bytes_back, transport_back, list_back, optional_back, anything, all_of_anything, optional_place, accepted_place}
-use Rattle.passkey_kinds.proofs.Levels.{PlaceWithin, record_within, of_record}
+use Rattle.passkey_kinds.proofs.Levels.{PlaceWithin, Within, record_within, of_record}
 use Rattle.passkey_kinds.proofs.RecordBack.{parameters_back}
 use Rattle.passkey_kinds.proofs.Plain.{few_levels}
 
@@ -43,32 +41,25 @@ response_back r fits encoded =
     puts_value (list_back version_back) r.versions (λ k d less. tt) ▸
     puts_default (option_place (optional_back (list_back extension_back) refl) r.extensions
     (all_of_anything r.extensions)) refl ▸
-    puts_value aaguid_back r.aaguid fits.0.aaguid ▸
+    puts_value aaguid_back r.aaguid (search) ▸
     puts_default (optional_place options_back refl r.options (anything r.options)) refl ▸
-    puts_default (optional_place size_back refl r.max_msg_size (sized r.max_msg_size fits.0.max_msg_size encoded))
-    refl ▸
-    puts_default (optional_place (list_same byte_back) refl r.pin_protocols fits.0.pin_protocols) refl ▸
+    puts_default (optional_place size_back refl r.max_msg_size (sized r.max_msg_size (search) encoded)) refl ▸
+    puts_default (optional_place (list_same byte_back) refl r.pin_protocols (search)) refl ▸
     puts_default (accepted_place transport_back r.transports (all_of_anything r.transports)) refl ▸
     puts_default (accepted_place parameters_back r.algorithms (all_of_anything r.algorithms)) refl ▸
-    puts_default (optional_place word_back refl r.mac_serialized_large_blob_array
-    fits.1.0.mac_serialized_large_blob_array) refl ▸
+    puts_default (optional_place word_back refl r.mac_serialized_large_blob_array (search)) refl ▸
     puts_default (optional_place truth_back refl r.force_pin_change (anything r.force_pin_change)) refl ▸
-    puts_default (optional_place word_back refl r.min_pin_length fits.1.0.min_pin_length) refl ▸
-    puts_default (optional_place word_back refl r.firmware_version fits.1.0.firmware_version) refl ▸
-    puts_default (optional_place word_back refl r.max_cred_blob_length fits.1.0.max_cred_blob_length) refl ▸
-    puts_default (optional_place word_back refl r.max_rpids_for_set_min_pin_length
-    fits.1.0.max_rpids_for_set_min_pin_length) refl ▸
-    puts_default (optional_place word_back refl r.preferred_platform_uv_attempts
-    fits.1.0.preferred_platform_uv_attempts) refl ▸
-    puts_default (optional_place word_back refl r.uv_modality fits.1.0.uv_modality) refl ▸
+    puts_default (optional_place word_back refl r.min_pin_length (search)) refl ▸
+    puts_default (optional_place word_back refl r.firmware_version (search)) refl ▸
+    puts_default (optional_place word_back refl r.max_cred_blob_length (search)) refl ▸
+    puts_default (optional_place word_back refl r.max_rpids_for_set_min_pin_length (search)) refl ▸
+    puts_default (optional_place word_back refl r.preferred_platform_uv_attempts (search)) refl ▸
+    puts_default (optional_place word_back refl r.uv_modality (search)) refl ▸
     puts_default (kept_place r.certifications) refl ▸
-    puts_default (optional_place word_back refl r.remaining_discoverable_credentials
-    fits.1.0.remaining_discoverable_credentials) refl ▸
-    puts_default
-    (accepted_place word_back r.vendor_prototype_config_commands fits.1.1.vendor_prototype_config_commands) refl ▸
+    puts_default (optional_place word_back refl r.remaining_discoverable_credentials (search)) refl ▸
+    puts_default (accepted_place word_back r.vendor_prototype_config_commands (search)) refl ▸
     puts_default (accepted_place text_back r.attestation_formats (all_of_anything r.attestation_formats)) refl ▸
-    puts_default
-    (optional_place word_back refl r.uv_count_since_last_pin_entry fits.1.1.uv_count_since_last_pin_entry) refl ▸
+    puts_default (optional_place word_back refl r.uv_count_since_last_pin_entry (search)) refl ▸
     puts_default (optional_place truth_back refl r.long_touch_for_reset (anything r.long_touch_for_reset)) refl ▸
     puts_default (optional_place bytes_back refl r.enc_identifier (anything r.enc_identifier)) refl ▸
     puts_default (accepted_place transport_back r.transports_for_reset (all_of_anything r.transports_for_reset))
@@ -76,7 +67,7 @@ response_back r fits encoded =
     puts_default (optional_place truth_back refl r.pin_complexity_policy (anything r.pin_complexity_policy)) refl ▸
     puts_default (optional_place bytes_back refl r.pin_complexity_policy_url (anything r.pin_complexity_policy_url))
     refl ▸
-    puts_default (optional_place word_back refl r.max_pin_length fits.1.1.max_pin_length) refl ▸
+    puts_default (optional_place word_back refl r.max_pin_length (search)) refl ▸
     no_more)
 
 pub get_info_returns : WrittenIsLeadingItem
@@ -95,7 +86,7 @@ get_info_up r certifications = record_within 255 (get_info_places r)
 
 get_info_down : (r : GetInfoParts) → depth (get_info_tree r) ≤ 256
     → PlaceWithin 255 (number_tree 19) r.certifications
-get_info_down r within = (of_record 255 (get_info_places r) within).1.1.1.1.1.1.1.1.1.1.1.1.1.1.1.1.0
+get_info_down r within = let levels : Within 255 (get_info_places r) = of_record 255 (get_info_places r) within in search
 
 room_up : (n : ℕ) (o : Option Item) → has_room o ≡ true → PlaceWithin 255 (number_tree n) o
 room_up n None h = tt
@@ -155,43 +146,23 @@ below_up n (Some i) small h = lt-ltb (depth i) 256 (omega (arith, h i refl, smal
 abbrev PartsAreGood : ℕ → GetInfoParts → Type 0
 PartsAreGood n r = (is_encodable r.max_msg_size ≡ true) × IsBelow n r.certifications
 
+size_good : (n : ℕ) (i : Item) (o : Option ℕ) (r : GetInfoParts) → depth i < n → optional size i ≡ Some o
+    → PartsAreGood n r → PartsAreGood n (record r { max_msg_size = o })
+size_good n i o r less e h =
+    (ap (λ (o : Option (Option ℕ)). is_encodable (unwrap_or o None)) (sym e) ∙ encoded_item i, h.1)
+
+certifications_good : (n : ℕ) (i : Item) (o : Option Item) (r : GetInfoParts) → depth i < n
+    → optional kept_item i ≡ Some o → PartsAreGood n r → PartsAreGood n (record r { certifications = o })
+certifications_good n i o r less e h = (
+  h.0,
+  λ k is. let same : i ≡ k = (let there : kept_item i ≡ Some k =
+      not_null kept_item i k (e ∙ ap Some is) in cc) in subst (λ x. depth x < n) same less,
+)
+
 read_good : (i : Item) (r : GetInfoParts) → read_get_info i ≡ Ok r → PartsAreGood (depth i) r
 read_good whole r read =
     record_keeps get_info_fields (PartsAreGood (depth whole)) whole r read (λ d. (refl, λ i is. absurd cc))
-    (
-    (λ i v r less e h. h) ▹
-    (λ i v r less e h. h) ▹
-    (λ i v r less e h. h) ▹
-    (λ i v r less e h. h) ▹
-    (λ i v r less e h.
-    (ap (λ (o : Option (Option ℕ)). is_encodable (unwrap_or o None)) (sym e) ∙ encoded_item i, h.1)) ▹
-    (λ i v r less e h. h) ▹
-    (λ i v r less e h. h) ▹
-    (λ i v r less e h. h) ▹
-    (λ i v r less e h. h) ▹
-    (λ i v r less e h. h) ▹
-    (λ i v r less e h. h) ▹
-    (λ i v r less e h. h) ▹
-    (λ i v r less e h. h) ▹
-    (λ i v r less e h. h) ▹
-    (λ i v r less e h. h) ▹
-    (λ i v r less e h. h) ▹
-    (λ i v r less e h. (
-      h.0,
-      λ k is. let same : i ≡ k = (let there : kept_item i ≡ Some k =
-          not_null kept_item i k (e ∙ ap Some is) in cc) in subst (λ x. depth x < depth whole) same less,
-    )) ▹
-    (λ i v r less e h. h) ▹
-    (λ i v r less e h. h) ▹
-    (λ i v r less e h. h) ▹
-    (λ i v r less e h. h) ▹
-    (λ i v r less e h. h) ▹
-    (λ i v r less e h. h) ▹
-    (λ i v r less e h. h) ▹
-    (λ i v r less e h. h) ▹
-    (λ i v r less e h. h) ▹
-    (λ i v r less e h. h) ▹
-    kept.no_more)
+    (search (size_good (depth whole), certifications_good (depth whole)) depth 40 parts 40)
 
 pub get_info_coherent : ReadIsCoherent read_get_info is_get_info_coherent
 get_info_coherent bytes r begins =

@@ -2,19 +2,20 @@
 use Rattle.std.specs.Prelude.{List, ◌++◌, option_map}
 use Rattle.passkey_cbor.specs.View.{item_of}
 use Rattle.passkey_core.specs.DataNormal.{IfPresent}
+use Rattle.passkey_kinds.specs.Placed.{places_of}
 use Rattle.passkey_kinds.specs.Tree.{Place}
-use Rattle.passkey_get_info.specs.GetInfo.{GetInfoParts, get_info_parts}
-use Rattle.passkey_get_info.specs.GetInfoTree.{GetInfoFits, IsPositive, capability_places_with, limit_places, state_places}
-use Rattle.passkey_get_info.specs.declared.writing.Encodable.{Encodable}
+use Rattle.passkey_get_info.specs.GetInfo.{GetInfoParts, get_info_parts, GetInfoFits, IsPositive, capabilities_with, limits, states}
+use Rattle.passkey_get_info.specs.declared.response.Encodable.{Encodable}
 
 abbrev pub encodable_parts : Encodable → GetInfoParts
 encodable_parts e = get_info_parts e.response.now
 
 abbrev pub encodable_capabilities : Encodable → List Place
-encodable_capabilities e = capability_places_with (option_map item_of e.max_msg_size) (encodable_parts e)
+encodable_capabilities e =
+    places_of (capabilities_with (λ r. option_map item_of e.max_msg_size)) (encodable_parts e)
 
 abbrev pub encodable_places : Encodable → List Place
-encodable_places e = encodable_capabilities e ++ limit_places (encodable_parts e) ++ state_places (encodable_parts e)
+encodable_places e = encodable_capabilities e ++ places_of (limits ++ states) (encodable_parts e)
 
 -- the size fits if it could be encoded
 abbrev pub EncodableFits : Encodable → Type 0

@@ -1,24 +1,35 @@
 -- authenticatorGetInfo responses (CTAP 2.1, section 6.4).
-use Rattle.std.specs.Prelude.{ℕ, ◌^◌, Bool, true, List, [], ◌∷◌, Option, None, codes, replicate, Result, option_map}
-use Rattle.passkey_cbor.specs.Item.{Item}
-use Rattle.passkey_get_info.specs.GetInfoNames.{version, extension}
-use Rattle.passkey_get_info.specs.GetInfoOptions.{options_fields}
-use Rattle.passkey_kinds.specs.Parameters.{parameters_fields}
+use Rattle.std.specs.Prelude.{ℕ, ◌<◌, ◌^◌, nat_lt, nat_le, Bool, true, ◌&&◌, if◌then◌else◌, List, [], ◌∷◌, ◌++◌, map, length, ◌≡◌, Option, Some, None, codes, replicate, Result, option_map}
+use Rattle.std.specs.Int.NonZero.{non_zero_u128_get}
+use Rattle.std.specs.List.{All}
+use Rattle.std.specs.Option.{option_and_then}
+use Rattle.passkey_cbor.specs.Depth.{depth}
+use Rattle.passkey_cbor.specs.Item.{Item, byte_string, text_string, null}
+use Rattle.passkey_cbor.specs.LeadingItem.{max_depth}
+use Rattle.passkey_cbor.specs.View.{item_of}
+use Rattle.passkey_core.specs.DataNormal.{IfPresent}
+use Rattle.passkey_get_info.specs.GetInfoNames.{version, version_tree, normal_version, extension, extension_tree, normal_extension}
+use Rattle.passkey_get_info.specs.GetInfoOptions.{options_fields, options_tree}
+use Rattle.passkey_get_info.specs.declared.extension.Extension.{Extension}
+use Rattle.passkey_get_info.specs.declared.options.Options.{Options}
+use Rattle.passkey_get_info.specs.declared.response.Response.{Response}
+use Rattle.passkey_get_info.specs.declared.version.Version.{Version}
 use Rattle.passkey_kinds.specs.Keeping.{nothing}
+use Rattle.passkey_kinds.specs.Parameters.{parameters_fields}
+use Rattle.passkey_kinds.specs.Placed.{Placed, placed, placed_if, word_at, truth_at, bytes_at, IsWord, members_of, places_of, EachFits}
+use Rattle.passkey_kinds.specs.ReadBack.{IsByte}
 use Rattle.passkey_kinds.specs.Record.{Fields, Member, required, default, table_of, read_item}
 use Rattle.passkey_kinds.specs.RecordCost.{nested}
 use Rattle.passkey_kinds.specs.Table.{Table}
-use Rattle.passkey_kinds.specs.Typed.{Typed, aaguid, truth, below, size, text, one_named, optional, bytes, kept, growing, list, accepted, tolerated}
+use Rattle.passkey_kinds.specs.Tree.{Place, number_tree, list_tree, always, where_some, record_tree}
+use Rattle.passkey_kinds.specs.Trees.{parameters_tree, transport_tree}
+use Rattle.passkey_kinds.specs.Typed.{aaguid, below, size, text, one_named, optional, kept, growing, list, accepted, tolerated}
 use Rattle.passkey_kinds.specs.declared.fault.Fault.{Fault}
-use Rattle.passkey_get_info.specs.declared.extension.Extension.{Extension}
-use Rattle.passkey_get_info.specs.declared.options.Options.{Options}
-use Rattle.passkey_get_info.specs.declared.version.Version.{Version}
+use Rattle.passkey_kinds.specs.declared.write_fault.WriteFault.{WriteFault}
+use Rattle.passkey_kinds.specs.declared.write_fault.WriteFault.TheVariants.{OutOfMemory, NumberTooLarge}
 use Rattle.passkey_webauthn.specs.Transport.{transport_named}
 use Rattle.passkey_webauthn.specs.declared.parameters.PublicKeyCredentialParameters.{PublicKeyCredentialParameters}
 use Rattle.passkey_webauthn.specs.declared.transport.AuthenticatorTransport.{AuthenticatorTransport}
-use Rattle.std.specs.Int.NonZero.{non_zero_u128_get}
-use Rattle.passkey_cbor.specs.View.{item_of}
-use Rattle.passkey_get_info.specs.declared.response.Response.{Response}
 
 -- what contracts see of a response
 pub record GetInfoParts : Type 0 where
@@ -113,63 +124,87 @@ get_info_empty = record {
   max_pin_length = None;
 }
 
-abbrev pub word : Typed (Option ℕ)
-word = optional (below (2 ^ 32))
+-- ---- its members
 
--- the rows of its state
-abbrev pub state_rows : List (Member GetInfoParts)
-state_rows =
-    default 21 (codes "vendorPrototypeConfigCommands") (tolerated (accepted (below (2 ^ 32))))
-    (λ x r. record r { vendor_prototype_config_commands = x })
-    ∷ default 22 (codes "attestationFormats") (tolerated (accepted text))
-    (λ x r. record r { attestation_formats = x })
-    ∷ default 23 (codes "uvCountSinceLastPinEntry") word (λ x r. record r { uv_count_since_last_pin_entry = x })
-    ∷ default 24 (codes "longTouchForReset") (optional truth) (λ x r. record r { long_touch_for_reset = x })
-    ∷ default 25 (codes "encIdentifier") (optional bytes) (λ x r. record r { enc_identifier = x })
-    ∷ default 26 (codes "transportsForReset") (tolerated (accepted (one_named transport_named)))
-    (λ x r. record r { transports_for_reset = x })
-    ∷ default 27 (codes "pinComplexityPolicy") (optional truth) (λ x r. record r { pin_complexity_policy = x })
-    ∷ default 28 (codes "pinComplexityPolicyUrl") (optional bytes)
-    (λ x r. record r { pin_complexity_policy_url = x })
-    ∷ default 29 (codes "maxPinLength") word (λ x r. record r { max_pin_length = x })
+abbrev pub IsPositive : ℕ → Type 0
+IsPositive n = 0 < n
+
+-- what the authenticator supports, with this data item as its greatest message size
+abbrev pub capabilities_with : (GetInfoParts → Option Item) → List (Placed GetInfoParts)
+capabilities_with encoded =
+    placed (required 1 (codes "versions") (list (growing 2 nothing version)) (λ x r. record r { versions = x }))
+    (λ r. always (number_tree 1) (list_tree version_tree) r.versions)
+    ∷ placed (default 2 (codes "extensions") (optional (list (growing 2 nothing extension)))
+    (λ x r. record r { extensions = x })) (λ r. where_some (number_tree 2) (list_tree extension_tree) r.extensions)
+    ∷ placed_if (λ r. length r.aaguid ≡ 16) (required 3 (codes "aaguid") aaguid (λ x r. record r { aaguid = x }))
+    (λ r. always (number_tree 3) byte_string r.aaguid)
+    ∷ placed (default 4 (codes "options") (optional (nested options_fields)) (λ x r. record r { options = x }))
+    (λ r. where_some (number_tree 4) options_tree r.options)
+    ∷ placed_if (λ r. IfPresent IsPositive r.max_msg_size)
+    (default 5 (codes "maxMsgSize") (optional size) (λ x r. record r { max_msg_size = x }))
+    (λ r. (number_tree 5, encoded r))
+    ∷ placed_if (λ r. IfPresent (All IsByte) r.pin_protocols)
+    (default 6 (codes "pinProtocols") (optional (list (below 256))) (λ x r. record r { pin_protocols = x }))
+    (λ r. where_some (number_tree 6) (list_tree number_tree) r.pin_protocols)
+    ∷ placed (default 9 (codes "transports") (tolerated (accepted (one_named transport_named)))
+    (λ x r. record r { transports = x })) (λ r. where_some (number_tree 9) (list_tree transport_tree) r.transports)
+    ∷ placed (default 10 (codes "algorithms") (tolerated (accepted (nested parameters_fields)))
+    (λ x r. record r { algorithms = x })) (λ r. where_some (number_tree 10) (list_tree parameters_tree) r.algorithms)
     ∷ []
 
--- the rows of its limits and of its state
-abbrev pub limit_rows : List (Member GetInfoParts)
-limit_rows =
-    default 11 (codes "macSerializedLargeBlobArray") word
-    (λ x r. record r { mac_serialized_large_blob_array = x })
-    ∷ default 12 (codes "forcePinChange") (optional truth) (λ x r. record r { force_pin_change = x })
-    ∷ default 13 (codes "minPinLength") word (λ x r. record r { min_pin_length = x })
-    ∷ default 14 (codes "firmwareVersion") word (λ x r. record r { firmware_version = x })
-    ∷ default 15 (codes "maxCredBlobLength") word (λ x r. record r { max_cred_blob_length = x })
-    ∷ default 16 (codes "maxRpidsForSetMinPinLength") word
-    (λ x r. record r { max_rpids_for_set_min_pin_length = x })
-    ∷ default 17 (codes "preferredPlatformUvAttempts") word
-    (λ x r. record r { preferred_platform_uv_attempts = x })
-    ∷ default 18 (codes "uvModality") word (λ x r. record r { uv_modality = x })
-    ∷ default 19 (codes "certifications") (optional kept) (λ x r. record r { certifications = x })
-    ∷ default 20 (codes "remainingDiscoverableCredentials") word
-    (λ x r. record r { remaining_discoverable_credentials = x })
-    ∷ state_rows
+abbrev pub capabilities : List (Placed GetInfoParts)
+capabilities = capabilities_with (λ r. option_map number_tree r.max_msg_size)
 
-abbrev pub fields_of : List (Member GetInfoParts) → Fields GetInfoParts
-fields_of rows = record { is_numbered = true; blank = get_info_empty; rows = rows }
+abbrev pub limits : List (Placed GetInfoParts)
+limits =
+    word_at 11 (codes "macSerializedLargeBlobArray") (λ r. r.mac_serialized_large_blob_array)
+    (λ x r. record r { mac_serialized_large_blob_array = x })
+    ∷ truth_at 12 (codes "forcePinChange") (λ r. r.force_pin_change) (λ x r. record r { force_pin_change = x })
+    ∷ word_at 13 (codes "minPinLength") (λ r. r.min_pin_length) (λ x r. record r { min_pin_length = x })
+    ∷ word_at 14 (codes "firmwareVersion") (λ r. r.firmware_version) (λ x r. record r { firmware_version = x })
+    ∷ word_at 15 (codes "maxCredBlobLength") (λ r. r.max_cred_blob_length)
+    (λ x r. record r { max_cred_blob_length = x })
+    ∷ word_at 16 (codes "maxRpidsForSetMinPinLength") (λ r. r.max_rpids_for_set_min_pin_length)
+    (λ x r. record r { max_rpids_for_set_min_pin_length = x })
+    ∷ word_at 17 (codes "preferredPlatformUvAttempts") (λ r. r.preferred_platform_uv_attempts)
+    (λ x r. record r { preferred_platform_uv_attempts = x })
+    ∷ word_at 18 (codes "uvModality") (λ r. r.uv_modality) (λ x r. record r { uv_modality = x })
+    ∷ placed (default 19 (codes "certifications") (optional kept) (λ x r. record r { certifications = x }))
+    (λ r. (number_tree 19, r.certifications))
+    ∷ word_at 20 (codes "remainingDiscoverableCredentials") (λ r. r.remaining_discoverable_credentials)
+    (λ x r. record r { remaining_discoverable_credentials = x })
+    ∷ []
+
+abbrev pub states : List (Placed GetInfoParts)
+states =
+    placed_if (λ r. IfPresent (All IsWord) r.vendor_prototype_config_commands)
+    (default 21 (codes "vendorPrototypeConfigCommands") (tolerated (accepted (below (2 ^ 32))))
+    (λ x r. record r { vendor_prototype_config_commands = x }))
+    (λ r. where_some (number_tree 21) (list_tree number_tree) r.vendor_prototype_config_commands)
+    ∷ placed (default 22 (codes "attestationFormats") (tolerated (accepted text))
+    (λ x r. record r { attestation_formats = x }))
+    (λ r. where_some (number_tree 22) (list_tree text_string) r.attestation_formats)
+    ∷ word_at 23 (codes "uvCountSinceLastPinEntry") (λ r. r.uv_count_since_last_pin_entry)
+    (λ x r. record r { uv_count_since_last_pin_entry = x })
+    ∷ truth_at 24 (codes "longTouchForReset") (λ r. r.long_touch_for_reset) (λ x r. record r { long_touch_for_reset = x })
+    ∷ bytes_at 25 (codes "encIdentifier") (λ r. r.enc_identifier) (λ x r. record r { enc_identifier = x })
+    ∷ placed (default 26 (codes "transportsForReset") (tolerated (accepted (one_named transport_named)))
+    (λ x r. record r { transports_for_reset = x }))
+    (λ r. where_some (number_tree 26) (list_tree transport_tree) r.transports_for_reset)
+    ∷ truth_at 27 (codes "pinComplexityPolicy") (λ r. r.pin_complexity_policy)
+    (λ x r. record r { pin_complexity_policy = x })
+    ∷ bytes_at 28 (codes "pinComplexityPolicyUrl") (λ r. r.pin_complexity_policy_url)
+    (λ x r. record r { pin_complexity_policy_url = x })
+    ∷ word_at 29 (codes "maxPinLength") (λ r. r.max_pin_length) (λ x r. record r { max_pin_length = x })
+    ∷ []
+
+-- ---- decoding
+
+abbrev pub fields_of : List (Placed GetInfoParts) → Fields GetInfoParts
+fields_of members = record { is_numbered = true; blank = get_info_empty; rows = members_of members }
 
 abbrev pub get_info_fields : Fields GetInfoParts
-get_info_fields = fields_of (
-    required 1 (codes "versions") (list (growing 2 nothing version)) (λ x r. record r { versions = x })
-    ∷ default 2 (codes "extensions") (optional (list (growing 2 nothing extension)))
-    (λ x r. record r { extensions = x })
-    ∷ required 3 (codes "aaguid") aaguid (λ x r. record r { aaguid = x })
-    ∷ default 4 (codes "options") (optional (nested options_fields)) (λ x r. record r { options = x })
-    ∷ default 5 (codes "maxMsgSize") (optional size) (λ x r. record r { max_msg_size = x })
-    ∷ default 6 (codes "pinProtocols") (optional (list (below 256))) (λ x r. record r { pin_protocols = x })
-    ∷ default 9 (codes "transports") (tolerated (accepted (one_named transport_named)))
-    (λ x r. record r { transports = x })
-    ∷ default 10 (codes "algorithms") (tolerated (accepted (nested parameters_fields)))
-    (λ x r. record r { algorithms = x })
-    ∷ limit_rows)
+get_info_fields = fields_of (capabilities ++ limits ++ states)
 
 abbrev pub get_info_table : Table
 get_info_table = table_of get_info_fields
@@ -177,3 +212,56 @@ get_info_table = table_of get_info_fields
 -- the response that a data item decodes to, or its first fault
 abbrev pub read_get_info : Item → Result GetInfoParts Fault
 read_get_info = read_item get_info_fields
+
+-- ---- encoding
+
+abbrev pub get_info_places : GetInfoParts → List Place
+get_info_places = places_of (capabilities ++ limits ++ states)
+
+abbrev pub get_info_tree : GetInfoParts → Item
+get_info_tree r = record_tree (get_info_places r)
+
+-- the data item that a response keeps undecoded, if there is one
+abbrev pub certifications_kept : Option Item → List Item
+certifications_kept None = []
+certifications_kept (Some i) = i ∷ []
+
+abbrev pub get_info_kept : GetInfoParts → List Item
+get_info_kept r = certifications_kept r.certifications
+
+-- what holds of every response
+abbrev pub GetInfoFits : GetInfoParts → Type 0
+GetInfoFits r = EachFits capabilities r × (EachFits limits r × EachFits states r)
+
+-- ---- which responses can be encoded, and decoded again
+
+-- CBOR's unsigned integers are below 2^64 (RFC 8949, section 3.1)
+abbrev pub is_encodable : Option ℕ → Bool
+is_encodable None = true
+is_encodable (Some n) = nat_lt n (2 ^ 64)
+
+-- why a response wasn't encoded: its size is too large, or else an allocation failed
+abbrev pub fault_of_size : Option ℕ → WriteFault
+fault_of_size size = if is_encodable size then OutOfMemory else NumberTooLarge
+
+-- the item has fewer than `max_depth` nesting levels, so that a message may contain it
+abbrev pub has_room : Option Item → Bool
+has_room None = true
+has_room (Some i) = nat_lt (depth i) max_depth
+
+-- the size can be encoded, and the encoding has at most `max_depth` nesting levels
+abbrev pub is_get_info_coherent : GetInfoParts → Bool
+is_get_info_coherent r = is_encodable r.max_msg_size && nat_le (depth (get_info_tree r)) max_depth
+
+-- null decodes to `None`
+abbrev pub unless_null : Item → Option Item
+unless_null null = None
+unless_null i = Some i
+
+-- the response that the encoding decodes to
+abbrev pub normal_get_info : GetInfoParts → GetInfoParts
+normal_get_info r = record r {
+  versions = map normal_version r.versions;
+  extensions = option_map (map normal_extension) r.extensions;
+  certifications = option_and_then unless_null r.certifications;
+}

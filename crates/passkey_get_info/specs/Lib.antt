@@ -1,5 +1,4 @@
 pub mod GetInfoNames
 pub mod GetInfoOptions
 pub mod GetInfo
-pub mod GetInfoTree
 pub mod Encodable

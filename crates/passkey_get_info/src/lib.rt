@@ -6,7 +6,6 @@ pub mod laws;
 mod options;
 mod response;
 mod version;
-mod writing;
 
 pub use extension::Extension;
 pub use options::Options;

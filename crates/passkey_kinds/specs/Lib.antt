@@ -15,6 +15,7 @@ pub mod SourceLaws
 pub mod Descriptor
 pub mod ShortFirst
 pub mod Tree
+pub mod Placed
 pub mod ReadBack
 pub mod Trees
 pub mod Written

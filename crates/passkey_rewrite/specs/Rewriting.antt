@@ -2,8 +2,7 @@
 use Rattle.std.specs.Prelude.{◌≡◌, ℕ, List, Ok, IsErr, ⊤}
 use Rattle.hex.specs.Hex.{decode_of, encode_lower}
 use Rattle.passkey_cose.specs.declared.error.CoseError.{CoseError}
-use Rattle.passkey_get_info.specs.GetInfo.{read_get_info}
-use Rattle.passkey_get_info.specs.GetInfoTree.{get_info_tree}
+use Rattle.passkey_get_info.specs.GetInfo.{read_get_info, get_info_tree}
 use Rattle.passkey_get_assertion.specs.GetRequest.{read_get_request, get_request_tree}
 use Rattle.passkey_get_assertion.specs.GetResponse.{read_get_response, get_response_tree}
 use Rattle.passkey_make_credential.specs.MakeRequest.{read_make_request, make_request_tree}

@@ -1,7 +1,6 @@
 use Rattle.std.proofs.Common.{◌∙◌, Bool, ◌&&◌, option_map, ap, sym}
 use Rattle.std.specs.Int.NonZero.{non_zero_u128_get}
-use Rattle.passkey_get_info.specs.GetInfoTree.{is_encodable, has_room}
-use Rattle.passkey_get_info.specs.GetInfo.{get_info_parts}
+use Rattle.passkey_get_info.specs.GetInfo.{is_encodable, has_room, get_info_parts}
 use Rattle.passkey_get_info.proofs.GetInfos.{told, parts_decide}
 use Rattle.passkey_get_info.proofs.response.Response.is_coherent.Goals as goal
 

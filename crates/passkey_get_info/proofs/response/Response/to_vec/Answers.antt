@@ -1,8 +1,8 @@
 use Rattle.std.proofs.Common.{◌≡◌, ◌++◌, IfOk, Option, subst}
 use Rattle.passkey_cbor.specs.Item.{Item}
 use Rattle.passkey_cbor.specs.Written.{written}
-use Rattle.passkey_get_info.specs.GetInfoTree.{capability_places_with, limit_places, state_places}
-use Rattle.passkey_get_info.specs.GetInfo.{get_info_parts}
+use Rattle.passkey_get_info.specs.GetInfo.{capabilities_with, limits, states, get_info_parts}
+use Rattle.passkey_kinds.specs.Placed.{places_of}
 use Rattle.passkey_kinds.specs.Tree.{record_tree}
 use Rattle.passkey_get_info.proofs.response.Response.to_vec.Goals as goal
 
@@ -10,5 +10,5 @@ pub returns-clause-written : goal.returns-clause-written
 returns-clause-written c =
     let r = get_info_parts c.args.self.now in
     subst (λ (size : Option Item). IfOk c.write_message.result
-    (λ bytes. bytes.items ≡ written (record_tree (capability_places_with size r ++ limit_places r ++ state_places r))))
+    (λ bytes. bytes.items ≡ written (record_tree (places_of (capabilities_with (λ _. size) ++ limits ++ states) r))))
     c.in_ok-max_msg_size.ensures.item c.write_message.ensures.written

@@ -1,9 +1,10 @@
 use Rattle.std.proofs.Common.{refl}
 use Rattle.passkey_get_info.specs.Encodable.{encodable_capabilities, encodable_parts}
 use Rattle.std.specs.Prelude.{◌++◌}
-use Rattle.passkey_get_info.specs.GetInfoTree.{limit_places, state_places}
+use Rattle.passkey_get_info.specs.GetInfo.{limits, states}
+use Rattle.passkey_kinds.specs.Placed.{places_of}
 use Rattle.passkey_kinds.proofs.Sinks.{accepted_both}
-use Rattle.passkey_get_info.proofs.writing.EncodableToCborMap.put_members.Goals as goal
+use Rattle.passkey_get_info.proofs.response.EncodableToCborMap.put_members.Goals as goal
 
 pub returns-clause-put : goal.returns-clause-put
 returns-clause-put g c = rw (
@@ -16,6 +17,6 @@ pub returns-clause-accepts : goal.returns-clause-accepts
 returns-clause-accepts g c =
     let parts = encodable_parts c.args.self.now in
     accepted_both g.S.Sink.Accepts (encodable_capabilities c.args.self.now)
-    (limit_places parts ++ state_places parts) c.in_ok-put_capabilities.ensures.accepts
-    (accepted_both g.S.Sink.Accepts (limit_places parts) (state_places parts) c.in_ok-put_limits.ensures.accepts
+    (places_of limits parts ++ places_of states parts) c.in_ok-put_capabilities.ensures.accepts
+    (accepted_both g.S.Sink.Accepts (places_of limits parts) (places_of states parts) c.in_ok-put_limits.ensures.accepts
     c.in_ok-put_state.ensures.accepts)
