@@ -144,9 +144,12 @@ or_null_same r none = record { back = λ o h. (or_null_back r none).back o h ∙
 
 -- ---- places whose values are their own normal forms
 
+pub if_fits : {A : Type 0} {Fits : A → Type 0} → ((x : A) → Fits x) → (o : Option A) → IfPresent Fits o
+if_fits fits None = tt
+if_fits fits (Some x) = fits x
+
 pub anything : {A : Type 0} (o : Option A) → IfPresent Any o
-anything None = tt
-anything (Some x) = tt
+anything o = if_fits (λ x. tt) o
 
 pub all_of_anything : {A : Type 0} (o : Option (List A)) → IfPresent (All Any) o
 all_of_anything None = tt

@@ -46,3 +46,4 @@ pub mod ByteMaps
 pub mod Ordered
 pub mod Plain
 pub mod RecordPlain
+pub mod Lawful

@@ -16,6 +16,7 @@ pub mod Descriptor
 pub mod ShortFirst
 pub mod Tree
 pub mod Placed
+pub mod Coded
 pub mod ReadBack
 pub mod Trees
 pub mod Written

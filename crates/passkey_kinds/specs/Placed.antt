@@ -1,10 +1,11 @@
 -- Members with the places that they are encoded at: one table for decoding and for encoding.
-use Rattle.std.specs.Prelude.{ℕ, ◌<◌, ◌^◌, Bool, List, [], ◌∷◌, Option}
-use Rattle.passkey_cbor.specs.Item.{boolean, byte_string}
+use Rattle.std.specs.Prelude.{ℕ, ◌<◌, ◌^◌, Bool, false, List, [], ◌∷◌, Option}
+use Rattle.passkey_cbor.specs.Item.{Item, boolean, byte_string, text_string}
 use Rattle.passkey_core.specs.DataNormal.{IfPresent}
-use Rattle.passkey_kinds.specs.Record.{Member, default}
-use Rattle.passkey_kinds.specs.Tree.{Place, number_tree, where_some}
-use Rattle.passkey_kinds.specs.Typed.{optional, below, truth, bytes}
+use Rattle.passkey_kinds.specs.Kind.{Kind}
+use Rattle.passkey_kinds.specs.Record.{Member, Fields, required, default, record_kind}
+use Rattle.passkey_kinds.specs.Tree.{Place, number_tree, always, where_some, record_tree}
+use Rattle.passkey_kinds.specs.Typed.{Typed, optional, below, truth, bytes}
 
 -- A member, its place, and what holds of its value in every record.
 pub record Placed (P : Type 0) : Type 1 where
@@ -42,6 +43,47 @@ abbrev pub places_of : {P : Type 0} → List (Placed P) → P → List Place
 places_of [] r = []
 places_of (m ∷ ms) r = m.place r ∷ places_of ms r
 
+abbrev pub fields_with : {P : Type 0} → Bool → P → List (Placed P) → Fields P
+fields_with is_numbered blank ms = record { is_numbered = is_numbered; blank = blank; rows = members_of ms }
+
 abbrev pub EachFits : {P : Type 0} → List (Placed P) → P → Type 0
 EachFits [] r = Unit {0}
 EachFits (m ∷ ms) r = m.Fits r × EachFits ms r
+
+-- ---- records whose members have names alone, and which keep no data item
+
+-- What the record holds before a member is decoded, and its members in the order in which they are
+-- encoded.
+pub record PlainTable (P : Type 0) : Type 1 where
+  pub blank : P
+  pub members : List (Placed P)
+
+abbrev pub fields_of : {P : Type 0} → PlainTable P → Fields P
+fields_of t = fields_with false t.blank t.members
+
+abbrev pub plain_kind : {P : Type 0} → PlainTable P → Kind P
+plain_kind t = record_kind (fields_of t)
+
+abbrev pub plain_tree : {P : Type 0} → PlainTable P → P → Item
+plain_tree t r = record_tree (places_of t.members r)
+
+-- How a value is decoded, how it is encoded, and what holds of an encoded one.
+pub record Coded (M : Type 0) : Type 1 where
+  pub typed : Typed M
+  pub tree : M → Item
+  pub Fits : M → Type 0
+
+-- a required member
+abbrev pub required_as : {M P : Type 0} → ℕ → List ℕ → Coded M → (P → M) → (M → P → P) → Placed P
+required_as n name c get set = placed_if (λ r. c.Fits (get r))
+    (required n name c.typed set) (λ r. always (text_string name) c.tree (get r))
+
+-- a member with a default, which is always encoded
+abbrev pub default_as : {M P : Type 0} → ℕ → List ℕ → Coded M → (P → M) → (M → P → P) → Placed P
+default_as n name c get set = placed_if (λ r. c.Fits (get r))
+    (default n name c.typed set) (λ r. always (text_string name) c.tree (get r))
+
+-- a member that is encoded if it is present; null is decoded as if it were absent
+abbrev pub optional_as : {M P : Type 0} → ℕ → List ℕ → Coded M → (P → Option M) → (Option M → P → P) → Placed P
+optional_as n name c get set = placed_if (λ r. IfPresent c.Fits (get r))
+    (default n name (optional c.typed) set) (λ r. where_some (text_string name) c.tree (get r))

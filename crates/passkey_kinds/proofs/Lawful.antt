@@ -1,0 +1,46 @@
+-- Records with names alone that keep no data item: they can be decoded again, have few levels, and
+-- their keys ascend.
+use Rattle.std.proofs.Common.{◌≡◌, ℕ, zero, suc, ◌≤◌, arith, ◌&&◌, true, None, refl, ap}
+use Rattle.passkey_cbor.specs.Depth.{depth}
+use Rattle.passkey_kinds.specs.Placed.{PlainTable, EachFits, members_of, places_of, fields_of, plain_kind, plain_tree}
+use Rattle.passkey_kinds.specs.ReadBack.{IsReadBack}
+use Rattle.passkey_kinds.specs.Record.{table_of}
+use Rattle.passkey_kinds.specs.Tree.{KeysAscend}
+use Rattle.passkey_kinds.proofs.Back.{have_rows, stands, are_distinct, missing_of}
+use Rattle.passkey_kinds.proofs.Ordered.{ascend, keys_ascend}
+use Rattle.passkey_kinds.proofs.Places.{EachPlace}
+use Rattle.passkey_kinds.proofs.Plain.{IsPlain, record_plain}
+use Rattle.passkey_kinds.proofs.RowsBack.{Backs, numbers, kind_back}
+
+-- n levels more than k
+abbrev pub raised : ℕ → ℕ → ℕ
+raised zero k = k
+raised (suc n) k = suc (raised n k)
+
+-- The members' encodings have at most n levels.
+pub record IsLawful {P : Type 0} (n : ℕ) (t : PlainTable P) : Type 0 where
+  pub back : IsReadBack (plain_kind t) (plain_tree t) (EachFits t.members) (λ r. r)
+  pub plain : (k : ℕ) (r : P) → IsPlain (suc (raised n k)) (plain_tree t r)
+  pub levels : (r : P) → depth (plain_tree t r) ≤ suc n
+  pub keys : KeysAscend (places_of t.members)
+
+raised_zero : (n : ℕ) → raised n 0 ≡ n
+raised_zero zero = refl
+raised_zero (suc n) = ap suc (raised_zero n)
+
+module _ {P : Type 0} (n : ℕ) (t : PlainTable P) where
+  pub lawful : ((r : P) → ascend (places_of t.members r) ≡ true)
+      → ((r : P) → (have_rows (table_of (fields_of t)) (numbers (members_of t.members)) (places_of t.members r)
+      && are_distinct (numbers (members_of t.members))) ≡ true)
+      → ((r : P) → missing_of (table_of (fields_of t)) (stands (numbers (members_of t.members)) (places_of t.members r))
+      ≡ None) → ((k : ℕ) (r : P) → EachPlace (IsPlain (raised n k)) (places_of t.members r))
+      → ((r : P) → EachFits t.members r → Backs (members_of t.members) (places_of t.members r) t.blank r)
+      → IsLawful n t
+  lawful up keys complete each backs = record {
+    back =
+        record { back = λ r fits. kind_back (fields_of t) (places_of t.members r) r (keys r) (complete r) (backs r fits) };
+    plain = λ k r. record_plain (raised n k) (places_of t.members r) (up r) (each k r);
+    levels = λ r.
+        omega (arith, raised_zero n, (record_plain (raised n 0) (places_of t.members r) (up r) (each 0 r)).levels);
+    keys = λ r. keys_ascend (places_of t.members r) (up r);
+  }

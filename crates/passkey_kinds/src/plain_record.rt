@@ -1,0 +1,116 @@
+//! Records whose members have names alone, and which keep no data item.
+ghost use Rattle.std.specs.Prelude.{◌≡◌, ◌≤◌, ℕ, suc, true, false, length, map, is_ok, OnOk};
+ghost use Rattle.passkey_cbor.specs.Depth.{depth};
+ghost use Rattle.passkey_cbor.specs.Item.{Item};
+ghost use Rattle.passkey_kinds.specs.Placed.{PlainTable, EachFits, fields_of, places_of, plain_kind, plain_tree};
+ghost use Rattle.passkey_kinds.specs.ReadBack.{IsReadBack};
+ghost use Rattle.passkey_kinds.specs.Reading.{are_small};
+ghost use Rattle.passkey_kinds.specs.Record.{table_of};
+ghost use Rattle.passkey_kinds.specs.RecordCost.{cost_at, keeps_at};
+ghost use Rattle.passkey_kinds.specs.RecordReading.{Puts};
+ghost use Rattle.passkey_kinds.specs.Rows.{entry_of};
+ghost use Rattle.passkey_kinds.specs.Sink.{AllAccepted, put_all};
+ghost use Rattle.passkey_kinds.specs.Table.{entries};
+
+use crate::read_back::RecordReadBack;
+use crate::record::Record;
+use crate::refusal::Refusal;
+use crate::rows::Row;
+use crate::shallow::Shallow;
+use crate::sink::Sink;
+use crate::source::Source;
+use crate::to_cbor_map::ToCborMap;
+use passkey_memory::OutOfMemory;
+use std::alloc::Global;
+
+/// A record whose members have names alone, which keeps no data item, and whose encoding decodes to
+/// an equal record. One table says how it is decoded and how it is encoded.
+pub trait PlainRecord: Drop {
+    /// What the record holds before a member is decoded, and its members in the order in which they
+    /// are encoded.
+    ghost table: { PlainTable Self };
+
+    /// The most nesting levels that a member's encoding has.
+    ghost levels: { ℕ };
+
+    /// Returns the table's rows, at most 32.
+    fn rows() -> &'static [Row]
+        ensures rows { map entry_of result.now ≡ entries (table_of (fields_of table)) }
+        ensures few { length result.now ≤ 32 }
+        ensures small { are_small (entries (table_of (fields_of table))) ≡ true };
+
+    /// Returns the record before a member is decoded. Allocates nothing.
+    fn blank(alloc: Global) -> Self
+        ensures { result ≡ table.blank };
+
+    /// Decodes the value of the row with this number and puts it into the record, as `Record::put`.
+    fn put<S: Source>(&mut self, alloc: Global, number: u8, source: &mut S) -> Result<(), Refusal>
+        ensures puts { (i : Item) (to : ℕ) → S.At source.old i to
+            → Puts (fields_of table) number i self.old self.new result }
+        ensures spends { (i : Item) (to : ℕ) → S.At source.old i to → S.Spent (cost_at (fields_of table).rows number)
+            (keeps_at (fields_of table).rows number) i to source.old source.new (is_ok result) }
+        ensures onward { S.Goes source.old source.new };
+
+    /// Puts the members into a sink. Returns `OutOfMemory` if an allocation fails.
+    fn put_members<S: Sink>(&self, alloc: Global, sink: &mut S) -> Result<(), OutOfMemory>
+        ensures put { OnOk result
+            (S.state sink.new ≡ put_all S.step (S.state sink.old) (places_of table.members self.now)) }
+        ensures accepts { OnOk result (AllAccepted S.Accepts (places_of table.members self.now)) }
+        ensures fits { OnOk result (S.Encodes → EachFits table.members self.now) };
+
+    /// The encoding of a record decodes to an equal record, and no member has more nesting levels.
+    /// Does nothing.
+    fn lawful()
+        ensures back { IsReadBack (plain_kind table) (plain_tree table) (EachFits table.members) (λ r. r) }
+        ensures shallow { (r : Self) → depth (plain_tree table r) ≤ suc levels };
+}
+
+impl<R: PlainRecord> Record for R {
+    ghost Parts = { R };
+
+    ghost parts = { λ r. r };
+
+    ghost fields = { fields_of R.table };
+
+    fn is_numbered() -> bool {
+        false
+    }
+
+    fn rows() -> &'static [Row] {
+        <R as PlainRecord>::rows()
+    }
+
+    fn blank(alloc: Global) -> R {
+        <R as PlainRecord>::blank(alloc)
+    }
+
+    fn put<S: Source>(&mut self, alloc: Global, number: u8, source: &mut S) -> Result<(), Refusal> {
+        <R as PlainRecord>::put(self, alloc, number, source)
+    }
+}
+
+impl<R: PlainRecord> ToCborMap for R {
+    ghost places = { λ r. places_of R.table.members r };
+
+    ghost holds = { λ r. EachFits R.table.members r };
+
+    fn put_members<S: Sink>(&self, alloc: Global, sink: &mut S) -> Result<(), OutOfMemory> {
+        <R as PlainRecord>::put_members(self, alloc, sink)
+    }
+}
+
+impl<R: PlainRecord> RecordReadBack for R {
+    ghost normal = { λ r. r };
+
+    fn record_back() {
+        R::lawful();
+    }
+}
+
+impl<R: PlainRecord> Shallow for R {
+    ghost levels = { suc R.levels };
+
+    fn shallow() {
+        R::lawful();
+    }
+}
