@@ -1,2 +1,1 @@
-pub mod MakeBack
-pub mod EntitiesPlain
+pub mod Entities

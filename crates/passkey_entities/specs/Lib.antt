@@ -1,3 +1,3 @@
-pub mod MakeRp
-pub mod MakeUser
+pub mod Rp
+pub mod User
 pub mod Entities

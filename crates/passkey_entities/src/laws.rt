@@ -1,10 +1,11 @@
 //! Laws about relying parties and users. Each is the contract of a function that does nothing.
-ghost use Rattle.passkey_entities.specs.MakeRp.{rp_places};
-ghost use Rattle.passkey_entities.specs.MakeUser.{user_places};
+ghost use Rattle.passkey_entities.specs.Rp.{rp};
+ghost use Rattle.passkey_entities.specs.User.{user};
+ghost use Rattle.passkey_kinds.specs.Placed.{places_of};
 ghost use Rattle.passkey_kinds.specs.Tree.{KeysAscend};
 
 /// Relying parties and users are encoded with their keys in CTAP2's order (CTAP 2.1, section 8).
 pub fn written_keys_ascend()
-    ensures rp { KeysAscend rp_places }
-    ensures user { KeysAscend user_places }
+    ensures rp { KeysAscend (places_of rp.members) }
+    ensures user { KeysAscend (places_of user.members) }
 {}

@@ -1,14 +1,12 @@
 //! Relying parties in CTAP2's messages.
 ghost use Rattle.std.specs.Prelude.{◌≡◌, ◌<◌, ◌⊎◌, length, IfOk, OnErr};
 ghost use Rattle.std.specs.Option.{IsSomeAnd};
-ghost use Rattle.passkey_entities.specs.MakeRp.{rp_places, rp_fields};
-ghost use Rattle.passkey_entities.specs.declared.rp.PublicKeyCredentialRpEntity.{PublicKeyCredentialRpEntity as RpEntity};
-ghost use Rattle.passkey_kinds.specs.ReadBack.{Any};
+ghost use Rattle.passkey_entities.specs.Rp.{rp};
 ghost use Rattle.passkey_entities.specs.Entities.{rp_of_webauthn};
 
 use crate::MissingRpId;
 use passkey_bytes::Text;
-use passkey_kinds::{Record, RecordReadBack, Refusal, Row, Shallow, Sink, Source, ToCborMap, set};
+use passkey_kinds::{PlainRecord, Refusal, Row, Sink, Source, set};
 use passkey_memory::OutOfMemory;
 use passkey_webauthn as webauthn;
 use std::alloc::Global;
@@ -62,16 +60,10 @@ impl TryFrom<webauthn::PublicKeyCredentialRpEntity> for PublicKeyCredentialRpEnt
     }
 }
 
-impl Record for PublicKeyCredentialRpEntity {
-    ghost Parts = { RpEntity };
+impl PlainRecord for PublicKeyCredentialRpEntity {
+    ghost table = { rp };
 
-    ghost parts = { λ rp. rp };
-
-    ghost fields = { rp_fields };
-
-    fn is_numbered() -> bool {
-        false
-    }
+    ghost levels = { 0 };
 
     fn rows() -> &'static [Row] {
         &[Row::Required(1, "id"), Row::Optional(2, "name")]
@@ -91,30 +83,13 @@ impl Record for PublicKeyCredentialRpEntity {
             _ => Err(Refusal::Refused),
         }
     }
-}
-
-impl ToCborMap for PublicKeyCredentialRpEntity {
-    ghost places = { rp_places };
-
-    ghost holds = { Any };
 
     fn put_members<S: Sink>(&self, alloc: Global, sink: &mut S) -> Result<(), OutOfMemory> {
         sink.put(alloc, "id", &self.id)?;
         sink.put_some(alloc, "name", &self.name)?;
         Ok(())
     }
-}
 
-impl RecordReadBack for PublicKeyCredentialRpEntity {
-    ghost normal = { λ r. r };
-
-    #[tactic(auto, using(crate::proofs::MakeBack::rp_back))]
-    fn record_back() {}
-}
-
-impl Shallow for PublicKeyCredentialRpEntity {
-    ghost levels = { 1 };
-
-    #[tactic(auto, using(crate::proofs::EntitiesPlain::rp_levels))]
-    fn shallow() {}
+    #[tactic(auto, using(crate::proofs::Entities::rp_law))]
+    fn lawful() {}
 }

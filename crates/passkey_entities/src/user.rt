@@ -2,13 +2,11 @@
 ghost use Rattle.std.specs.Prelude.{◌≡◌, ◌<◌, ◌⊎◌, length, IfOk, OnErr, None, IfErr, codes};
 ghost use Rattle.std.specs.Result.{result_ok};
 ghost use Rattle.std.specs.Option.{IsSomeAnd};
-ghost use Rattle.passkey_entities.specs.MakeUser.{user_places, user_fields};
-ghost use Rattle.passkey_entities.specs.declared.user.PublicKeyCredentialUserEntity.{PublicKeyCredentialUserEntity as UserEntity};
-ghost use Rattle.passkey_kinds.specs.ReadBack.{Any};
+ghost use Rattle.passkey_entities.specs.User.{user};
 ghost use Rattle.passkey_entities.specs.Entities.{user_of_webauthn, webauthn_of_user};
 
 use passkey_bytes::{Bytes, Text};
-use passkey_kinds::{Record, RecordReadBack, Refusal, Row, Shallow, Sink, Source, ToCborMap, set};
+use passkey_kinds::{PlainRecord, Refusal, Row, Sink, Source, set};
 use passkey_memory::OutOfMemory;
 use passkey_webauthn as webauthn;
 use std::alloc::Global;
@@ -99,23 +97,17 @@ impl TryFrom<PublicKeyCredentialUserEntity> for webauthn::PublicKeyCredentialUse
     }
 }
 
-impl Record for PublicKeyCredentialUserEntity {
-    ghost Parts = { UserEntity };
+impl PlainRecord for PublicKeyCredentialUserEntity {
+    ghost table = { user };
 
-    ghost parts = { λ user. user };
-
-    ghost fields = { user_fields };
-
-    fn is_numbered() -> bool {
-        false
-    }
+    ghost levels = { 0 };
 
     fn rows() -> &'static [Row] {
         &[
             Row::Required(1, "id"),
+            Row::Optional(4, "icon"),
             Row::Optional(2, "name"),
             Row::Optional(3, "displayName"),
-            Row::Optional(4, "icon"),
         ]
     }
 
@@ -137,12 +129,6 @@ impl Record for PublicKeyCredentialUserEntity {
             _ => Err(Refusal::Refused),
         }
     }
-}
-
-impl ToCborMap for PublicKeyCredentialUserEntity {
-    ghost places = { user_places };
-
-    ghost holds = { Any };
 
     fn put_members<S: Sink>(&self, alloc: Global, sink: &mut S) -> Result<(), OutOfMemory> {
         sink.put(alloc, "id", &self.id)?;
@@ -151,18 +137,7 @@ impl ToCborMap for PublicKeyCredentialUserEntity {
         sink.put_some(alloc, "displayName", &self.display_name)?;
         Ok(())
     }
-}
 
-impl RecordReadBack for PublicKeyCredentialUserEntity {
-    ghost normal = { λ u. u };
-
-    #[tactic(auto, using(crate::proofs::MakeBack::made_user_back))]
-    fn record_back() {}
-}
-
-impl Shallow for PublicKeyCredentialUserEntity {
-    ghost levels = { 1 };
-
-    #[tactic(auto, using(crate::proofs::EntitiesPlain::made_user_levels))]
-    fn shallow() {}
+    #[tactic(auto, using(crate::proofs::Entities::user_law))]
+    fn lawful() {}
 }

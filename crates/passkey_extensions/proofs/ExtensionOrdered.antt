@@ -7,7 +7,7 @@ use Rattle.passkey_cbor.specs.LeadingItem.{max_depth}
 use Rattle.passkey_cbor.specs.Item.{Item, text_string}
 use Rattle.passkey_cbor.specs.Laws.{AtMostOneLeadingItem, WrittenIsLeadingItem}
 use Rattle.passkey_cbor.specs.Written.{shortest_head}
-use Rattle.passkey_extensions.specs.ExtensionTrees.{hmac_input_places, hmac_input_tree, is_hmac_input_coherent, hmac_input_kept, inputs_kept, prf_values_places, prf_make_places, prf_inputs_places, make_extensions_places, make_extensions_tree, make_extensions_kept, get_extensions_places, get_extensions_tree, get_extensions_kept}
+use Rattle.passkey_extensions.specs.ExtensionTrees.{hmac_input_places, hmac_input_tree, is_hmac_input_coherent, hmac_input_kept, inputs_kept, make_extensions_places, make_extensions_tree, make_extensions_kept, get_extensions_places, get_extensions_tree, get_extensions_kept}
 use Rattle.passkey_extensions.specs.GetExtensions.{GetExtensionsParts}
 use Rattle.passkey_extensions.specs.HmacInput.{HmacInputParts}
 use Rattle.passkey_extensions.specs.MakeExtensions.{MakeExtensionsParts}
@@ -17,16 +17,7 @@ use Rattle.passkey_kinds.specs.Tree.{KeysAscend}
 use Rattle.passkey_kinds.proofs.Levels.{PlaceWithin, of_record as levels_of}
 use Rattle.passkey_kinds.proofs.Ordered.{ascend, keys_ascend, PlaceOrdered, PlaceWritable, record_ordered, of_record, canonical_of, ordered_of}
 use Rattle.passkey_kinds.proofs.Plain.{in_order}
-use Rattle.passkey_extensions.proofs.ExtensionPlain.{prf_values_ascends, prf_make_ascends, prf_inputs_ascends, hmac_input_each, make_extensions_each, get_extensions_each}
-
-pub prf_values_keys : KeysAscend prf_values_places
-prf_values_keys v = keys_ascend (prf_values_places v) (prf_values_ascends v)
-
-pub prf_make_keys : KeysAscend prf_make_places
-prf_make_keys o = keys_ascend (prf_make_places o) (prf_make_ascends o)
-
-pub prf_inputs_keys : KeysAscend prf_inputs_places
-prf_inputs_keys i = keys_ascend (prf_inputs_places i) (prf_inputs_ascends i)
+use Rattle.passkey_extensions.proofs.ExtensionPlain.{hmac_input_each, make_extensions_each, get_extensions_each}
 
 -- ---- hmac-secret, whose key is kept
 

@@ -1,3 +1,4 @@
+pub mod Prf
 pub mod ExtensionBack
 pub mod ExtensionPlain
 pub mod ExtensionLevels

@@ -5,7 +5,8 @@ use Rattle.passkey_kinds.specs.Kind.{Kind}
 use Rattle.passkey_kinds.specs.Record.{Fields, default, record_kind}
 use Rattle.passkey_kinds.specs.RecordCost.{nested}
 use Rattle.passkey_kinds.specs.Typed.{tolerated}
-use Rattle.passkey_extensions.specs.PrfInputs.{prf_inputs_fields}
+use Rattle.passkey_extensions.specs.Prf.{prf_inputs}
+use Rattle.passkey_kinds.specs.Placed.{fields_of}
 use Rattle.passkey_extensions.specs.declared.prf_inputs.AuthenticatorPrfInputs.{AuthenticatorPrfInputs}
 use Rattle.passkey_extensions.specs.declared.get_assertion.extension_inputs.ExtensionInputs.{ExtensionInputs}
 
@@ -30,7 +31,7 @@ get_extensions_fields = record {
   blank = record { hmac_secret = None; prf = None };
   rows =
       default 1 (codes "hmac-secret") (tolerated (nested hmac_input_fields)) (λ x r. record r { hmac_secret = x })
-      ∷ default 2 (codes "prf") (tolerated (nested prf_inputs_fields)) (λ x r. record r { prf = x })
+      ∷ default 2 (codes "prf") (tolerated (nested (fields_of prf_inputs))) (λ x r. record r { prf = x })
       ∷ [];
 }
 

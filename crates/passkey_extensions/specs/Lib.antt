@@ -1,10 +1,5 @@
 pub mod HmacInput
-pub mod PrfValues
-pub mod PrfMakeOutputs
-pub mod PrfGetOutputs
-pub mod MakeUnsigned
-pub mod GetUnsigned
-pub mod PrfInputs
+pub mod Prf
 pub mod MakeExtensions
 pub mod GetExtensions
 pub mod ExtensionTrees

@@ -5,7 +5,8 @@ use Rattle.passkey_kinds.specs.Kind.{Kind}
 use Rattle.passkey_kinds.specs.Record.{Fields, default, record_kind}
 use Rattle.passkey_kinds.specs.RecordCost.{nested}
 use Rattle.passkey_kinds.specs.Typed.{optional, truth}
-use Rattle.passkey_extensions.specs.PrfInputs.{prf_inputs_fields}
+use Rattle.passkey_extensions.specs.Prf.{prf_inputs}
+use Rattle.passkey_kinds.specs.Placed.{fields_of}
 use Rattle.passkey_extensions.specs.declared.prf_inputs.AuthenticatorPrfInputs.{AuthenticatorPrfInputs}
 use Rattle.passkey_extensions.specs.declared.make_credential.extension_inputs.ExtensionInputs.{ExtensionInputs}
 
@@ -36,7 +37,7 @@ make_extensions_fields = record {
   rows = default 1 (codes "hmac-secret") (optional truth) (λ x r. record r { hmac_secret = x })
       ∷ default 2 (codes "hmac-secret-mc") (optional (nested hmac_input_fields))
       (λ x r. record r { hmac_secret_mc = x })
-      ∷ default 3 (codes "prf") (optional (nested prf_inputs_fields)) (λ x r. record r { prf = x })
+      ∷ default 3 (codes "prf") (optional (nested (fields_of prf_inputs))) (λ x r. record r { prf = x })
       ∷ [];
 }
 

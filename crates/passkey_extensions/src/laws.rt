@@ -1,7 +1,9 @@
 //! Laws about the extensions' records. Each is the contract of a function that does nothing.
-ghost use Rattle.passkey_extensions.specs.ExtensionTrees.{hmac_input_tree, HmacInputFits, is_hmac_input_coherent, hmac_input_kept, prf_values_places, prf_make_places, prf_inputs_places, make_extensions_places, get_extensions_places};
+ghost use Rattle.passkey_extensions.specs.ExtensionTrees.{hmac_input_tree, HmacInputFits, is_hmac_input_coherent, hmac_input_kept, make_extensions_places, get_extensions_places};
 ghost use Rattle.passkey_extensions.specs.HmacInput.{hmac_input_fields, read_hmac_input, hmac_input_parts};
+ghost use Rattle.passkey_extensions.specs.Prf.{prf_values, prf_inputs, prf_made};
 ghost use Rattle.passkey_kinds.specs.MessageLaws.{WrittenIsReadBack, ReadIsCoherent, WrittenIsCanonical};
+ghost use Rattle.passkey_kinds.specs.Placed.{places_of};
 ghost use Rattle.passkey_kinds.specs.RecordLaws.{PassesOverUnknown, KnowsMaps};
 ghost use Rattle.passkey_kinds.specs.Tree.{KeysAscend};
 
@@ -24,9 +26,9 @@ pub fn written_hmac_input_is_canonical()
 /// Records with two or more members are encoded with their keys in CTAP2's order (CTAP 2.1, section
 /// 8).
 pub fn written_keys_ascend()
-    ensures prf_values { KeysAscend prf_values_places }
-    ensures prf_outputs { KeysAscend prf_make_places }
-    ensures prf_inputs { KeysAscend prf_inputs_places }
+    ensures prf_values { KeysAscend (places_of prf_values.members) }
+    ensures prf_outputs { KeysAscend (places_of prf_made.members) }
+    ensures prf_inputs { KeysAscend (places_of prf_inputs.members) }
     ensures creation { KeysAscend make_extensions_places }
     ensures assertion { KeysAscend get_extensions_places }
 {}

@@ -1,12 +1,10 @@
 //! Outputs of the extension prf at an assertion.
 ghost use Rattle.std.specs.Prelude.{◌≡◌, IfOk};
-ghost use Rattle.passkey_extensions.specs.PrfGetOutputs.{prf_get_fields};
-ghost use Rattle.passkey_extensions.specs.declared.prf_get_outputs.AuthenticatorPrfGetOutputs.{AuthenticatorPrfGetOutputs as PrfGetOutputs};
-ghost use Rattle.passkey_extensions.specs.ExtensionTrees.{PrfGetFits, prf_get_places};
+ghost use Rattle.passkey_extensions.specs.Prf.{prf_used};
 ghost use Rattle.passkey_extensions.specs.PrfWebauthn.{webauthn_used};
 
 use crate::prf_values::AuthenticatorPrfValues;
-use passkey_kinds::{Record, RecordReadBack, Refusal, Row, Shallow, Sink, Source, ToCborMap, set};
+use passkey_kinds::{PlainRecord, Refusal, Row, Sink, Source, set};
 use passkey_memory::OutOfMemory;
 use passkey_webauthn::AuthenticationExtensionsPrfOutputs;
 use std::alloc::Global;
@@ -34,16 +32,10 @@ impl AuthenticatorPrfGetOutputs {
     }
 }
 
-impl Record for AuthenticatorPrfGetOutputs {
-    ghost Parts = { PrfGetOutputs };
+impl PlainRecord for AuthenticatorPrfGetOutputs {
+    ghost table = { prf_used };
 
-    ghost parts = { λ outputs. outputs };
-
-    ghost fields = { prf_get_fields };
-
-    fn is_numbered() -> bool {
-        false
-    }
+    ghost levels = { 2 };
 
     fn rows() -> &'static [Row] {
         &[Row::Required(1, "results")]
@@ -64,29 +56,12 @@ impl Record for AuthenticatorPrfGetOutputs {
             _ => Err(Refusal::Refused),
         }
     }
-}
-
-impl ToCborMap for AuthenticatorPrfGetOutputs {
-    ghost places = { prf_get_places };
-
-    ghost holds = { PrfGetFits };
 
     fn put_members<S: Sink>(&self, alloc: Global, sink: &mut S) -> Result<(), OutOfMemory> {
         sink.put(alloc, "results", &self.results)?;
         Ok(())
     }
-}
 
-impl RecordReadBack for AuthenticatorPrfGetOutputs {
-    ghost normal = { λ o. o };
-
-    #[tactic(auto, using(crate::proofs::ExtensionBack::prf_get_back))]
-    fn record_back() {}
-}
-
-impl Shallow for AuthenticatorPrfGetOutputs {
-    ghost levels = { 3 };
-
-    #[tactic(auto, using(crate::proofs::ExtensionPlain::prf_get_levels))]
-    fn shallow() {}
+    #[tactic(auto, using(crate::proofs::Prf::used_outputs_law))]
+    fn lawful() {}
 }

@@ -2,13 +2,11 @@
 ghost use Rattle.std.specs.Prelude.{◌≡◌, IfOk, OnErr};
 ghost use Rattle.std.specs.FinMap as fin;
 ghost use Rattle.std.specs.Option.{IsSomeAnd};
-ghost use Rattle.passkey_extensions.specs.PrfInputs.{prf_inputs_fields};
-ghost use Rattle.passkey_extensions.specs.declared.prf_inputs.AuthenticatorPrfInputs.{AuthenticatorPrfInputs as PrfInputs};
-ghost use Rattle.passkey_extensions.specs.ExtensionTrees.{PrfInputsFit, prf_inputs_places};
+ghost use Rattle.passkey_extensions.specs.Prf.{prf_inputs};
 
 use crate::prf_values::AuthenticatorPrfValues;
 use passkey_bytes::{Bytes, Map};
-use passkey_kinds::{Record, RecordReadBack, Refusal, Row, Shallow, Sink, Source, ToCborMap, set};
+use passkey_kinds::{PlainRecord, Refusal, Row, Sink, Source, set};
 use passkey_memory::OutOfMemory;
 use std::alloc::Global;
 
@@ -62,16 +60,10 @@ impl AuthenticatorPrfInputs {
     }
 }
 
-impl Record for AuthenticatorPrfInputs {
-    ghost Parts = { PrfInputs };
+impl PlainRecord for AuthenticatorPrfInputs {
+    ghost table = { prf_inputs };
 
-    ghost parts = { λ inputs. inputs };
-
-    ghost fields = { prf_inputs_fields };
-
-    fn is_numbered() -> bool {
-        false
-    }
+    ghost levels = { 3 };
 
     fn rows() -> &'static [Row] {
         &[
@@ -94,30 +86,13 @@ impl Record for AuthenticatorPrfInputs {
             _ => Err(Refusal::Refused),
         }
     }
-}
-
-impl ToCborMap for AuthenticatorPrfInputs {
-    ghost places = { prf_inputs_places };
-
-    ghost holds = { PrfInputsFit };
 
     fn put_members<S: Sink>(&self, alloc: Global, sink: &mut S) -> Result<(), OutOfMemory> {
         sink.put_some(alloc, "eval", &self.eval)?;
         sink.put_some(alloc, "eval_by_credential", &self.eval_by_credential)?;
         Ok(())
     }
-}
 
-impl RecordReadBack for AuthenticatorPrfInputs {
-    ghost normal = { λ i. i };
-
-    #[tactic(auto, using(crate::proofs::ExtensionBack::prf_inputs_back))]
-    fn record_back() {}
-}
-
-impl Shallow for AuthenticatorPrfInputs {
-    ghost levels = { 4 };
-
-    #[tactic(auto, using(crate::proofs::ExtensionPlain::prf_inputs_levels))]
-    fn shallow() {}
+    #[tactic(auto, using(crate::proofs::Prf::inputs_law))]
+    fn lawful() {}
 }

@@ -1,12 +1,10 @@
 //! Outputs of the extension prf at a registration.
 ghost use Rattle.std.specs.Prelude.{true, ◌≡◌, is_some, IfOk, OnErr};
-ghost use Rattle.passkey_extensions.specs.PrfMakeOutputs.{prf_make_fields};
-ghost use Rattle.passkey_extensions.specs.declared.prf_make_outputs.AuthenticatorPrfMakeOutputs.{AuthenticatorPrfMakeOutputs as PrfMakeOutputs};
-ghost use Rattle.passkey_extensions.specs.ExtensionTrees.{PrfMakeFits, prf_make_places};
+ghost use Rattle.passkey_extensions.specs.Prf.{prf_made};
 ghost use Rattle.passkey_extensions.specs.PrfWebauthn.{webauthn_made};
 
 use crate::prf_values::AuthenticatorPrfValues;
-use passkey_kinds::{Record, RecordReadBack, Refusal, Row, Shallow, Sink, Source, ToCborMap, set};
+use passkey_kinds::{PlainRecord, Refusal, Row, Sink, Source, set};
 use passkey_memory::OutOfMemory;
 use passkey_webauthn::AuthenticationExtensionsPrfOutputs;
 use std::alloc::Global;
@@ -42,16 +40,10 @@ impl AuthenticatorPrfMakeOutputs {
     }
 }
 
-impl Record for AuthenticatorPrfMakeOutputs {
-    ghost Parts = { PrfMakeOutputs };
+impl PlainRecord for AuthenticatorPrfMakeOutputs {
+    ghost table = { prf_made };
 
-    ghost parts = { λ outputs. outputs };
-
-    ghost fields = { prf_make_fields };
-
-    fn is_numbered() -> bool {
-        false
-    }
+    ghost levels = { 2 };
 
     fn rows() -> &'static [Row] {
         &[Row::Required(1, "enabled"), Row::Optional(2, "results")]
@@ -71,30 +63,13 @@ impl Record for AuthenticatorPrfMakeOutputs {
             _ => Err(Refusal::Refused),
         }
     }
-}
-
-impl ToCborMap for AuthenticatorPrfMakeOutputs {
-    ghost places = { prf_make_places };
-
-    ghost holds = { PrfMakeFits };
 
     fn put_members<S: Sink>(&self, alloc: Global, sink: &mut S) -> Result<(), OutOfMemory> {
         sink.put(alloc, "enabled", &self.enabled)?;
         sink.put_some(alloc, "results", &self.results)?;
         Ok(())
     }
-}
 
-impl RecordReadBack for AuthenticatorPrfMakeOutputs {
-    ghost normal = { λ o. o };
-
-    #[tactic(auto, using(crate::proofs::ExtensionBack::prf_make_back))]
-    fn record_back() {}
-}
-
-impl Shallow for AuthenticatorPrfMakeOutputs {
-    ghost levels = { 3 };
-
-    #[tactic(auto, using(crate::proofs::ExtensionPlain::prf_make_levels))]
-    fn shallow() {}
+    #[tactic(auto, using(crate::proofs::Prf::made_outputs_law))]
+    fn lawful() {}
 }

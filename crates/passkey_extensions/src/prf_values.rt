@@ -1,12 +1,10 @@
 //! Salts and outputs of the extension prf.
 ghost use Rattle.std.specs.Prelude.{◌≡◌, IfOk};
-ghost use Rattle.passkey_extensions.specs.PrfValues.{prf_values_fields};
-ghost use Rattle.passkey_extensions.specs.declared.prf_values.AuthenticatorPrfValues.{AuthenticatorPrfValues as PrfValues};
-ghost use Rattle.passkey_extensions.specs.ExtensionTrees.{PrfValuesFit, prf_values_places};
+ghost use Rattle.passkey_extensions.specs.Prf.{prf_values};
 ghost use Rattle.passkey_extensions.specs.PrfWebauthn.{webauthn_values};
 
 use passkey_bytes::Bytes;
-use passkey_kinds::{Record, RecordReadBack, Refusal, Row, Shallow, Sink, Source, ToCborMap, set};
+use passkey_kinds::{PlainRecord, Refusal, Row, Sink, Source, set};
 use passkey_memory::OutOfMemory;
 use passkey_webauthn::AuthenticationExtensionsPrfValues;
 use std::alloc::Global;
@@ -42,16 +40,10 @@ impl AuthenticatorPrfValues {
     }
 }
 
-impl Record for AuthenticatorPrfValues {
-    ghost Parts = { PrfValues };
+impl PlainRecord for AuthenticatorPrfValues {
+    ghost table = { prf_values };
 
-    ghost parts = { λ values. values };
-
-    ghost fields = { prf_values_fields };
-
-    fn is_numbered() -> bool {
-        false
-    }
+    ghost levels = { 1 };
 
     fn rows() -> &'static [Row] {
         &[Row::Required(1, "first"), Row::Optional(2, "second")]
@@ -71,30 +63,13 @@ impl Record for AuthenticatorPrfValues {
             _ => Err(Refusal::Refused),
         }
     }
-}
-
-impl ToCborMap for AuthenticatorPrfValues {
-    ghost places = { prf_values_places };
-
-    ghost holds = { PrfValuesFit };
 
     fn put_members<S: Sink>(&self, alloc: Global, sink: &mut S) -> Result<(), OutOfMemory> {
         sink.put(alloc, "first", &self.first)?;
         sink.put_some(alloc, "second", &self.second)?;
         Ok(())
     }
-}
 
-impl RecordReadBack for AuthenticatorPrfValues {
-    ghost normal = { λ v. v };
-
-    #[tactic(auto, using(crate::proofs::ExtensionBack::prf_values_back))]
-    fn record_back() {}
-}
-
-impl Shallow for AuthenticatorPrfValues {
-    ghost levels = { 2 };
-
-    #[tactic(auto, using(crate::proofs::ExtensionPlain::prf_values_levels))]
-    fn shallow() {}
+    #[tactic(auto, using(crate::proofs::Prf::values_law))]
+    fn lawful() {}
 }

@@ -7,18 +7,14 @@ use Rattle.passkey_cbor.specs.Laws.{AtMostOneLeadingItem, WrittenIsLeadingItem}
 use Rattle.passkey_cbor.specs.Written.{shortest_head}
 use Rattle.passkey_core.specs.Coherent.{is_coherent}
 use Rattle.passkey_extensions.proofs.ExtensionOrdered.{get_extensions_place}
-use Rattle.passkey_get_assertion.specs.GetOptions.{options_places}
 use Rattle.passkey_get_assertion.specs.GetRequest.{GetRequestParts, get_request_places, get_request_tree, get_request_kept, is_get_request_coherent}
 use Rattle.passkey_get_assertion.specs.GetResponse.{GetResponseParts, get_response_places, get_response_tree, get_response_kept, is_get_response_coherent}
 use Rattle.passkey_kinds.specs.MessageLaws.{WrittenIsCanonical}
-use Rattle.passkey_kinds.specs.Tree.{KeysAscend, number_tree}
+use Rattle.passkey_kinds.specs.Tree.{number_tree}
 use Rattle.passkey_kinds.proofs.Levels.{of_record as levels_of}
-use Rattle.passkey_kinds.proofs.Ordered.{ascend, keys_ascend, record_ordered, of_record, canonical_of}
+use Rattle.passkey_kinds.proofs.Ordered.{ascend, record_ordered, of_record, canonical_of}
 use Rattle.passkey_kinds.proofs.Plain.{in_order}
-use Rattle.passkey_get_assertion.proofs.GetPlaces.{options_ascends, get_request_each, get_response_each}
-
-pub options_keys : KeysAscend options_places
-options_keys o = keys_ascend (options_places o) (options_ascends o)
+use Rattle.passkey_get_assertion.proofs.GetPlaces.{get_request_each, get_response_each}
 
 -- ---- requests
 

@@ -5,7 +5,7 @@ use Rattle.passkey_cbor.specs.LeadingItem.{max_depth}
 use Rattle.passkey_cbor.specs.Item.{Item}
 use Rattle.passkey_cbor.specs.Laws.{WrittenIsLeadingItem}
 use Rattle.passkey_get_assertion.specs.GetRequest.{GetRequestParts, get_request_fields, read_get_request, get_request_places, get_request_tree, GetRequestFits, is_get_request_coherent}
-use Rattle.passkey_get_assertion.proofs.GetBack.{options_back}
+use Rattle.passkey_get_assertion.proofs.GetBack.{options_law}
 use Rattle.passkey_extensions.specs.ExtensionTrees.{hmac_input_tree, get_extensions_tree}
 use Rattle.passkey_extensions.specs.GetExtensions.{GetExtensionsParts, get_extensions}
 use Rattle.passkey_extensions.specs.HmacInput.{HmacInputParts}
@@ -32,7 +32,7 @@ request_back r fits =
     puts_value bytes_back r.client_data_hash tt ▸
     puts_default (accepted_place descriptor_back r.allow_list (all_of_anything r.allow_list)) refl ▸
     puts_default (tolerated_place get_parts_back r.extensions fits.0) refl ▸
-    puts_value options_back r.options tt ▸
+    puts_value options_law.back r.options (tt, (tt, tt)) ▸
     puts_default (optional_place bytes_back refl r.pin_auth (anything r.pin_auth)) refl ▸
     puts_default (optional_place byte_back refl r.pin_protocol fits.1) refl ▸
     no_more)

@@ -8,11 +8,11 @@ use Rattle.passkey_core.specs.Coherent.{is_coherent}
 use Rattle.passkey_core.specs.DataLaws.{GivenIsCoherent, ReadIsGiven, WrittenDataAreReadBack}
 use Rattle.passkey_get_assertion.specs.GetResponse.{GetResponseParts, get_response_fields, read_get_response, get_response_places, get_response_tree, GetResponseFits, is_get_response_coherent, normal_get_response}
 use Rattle.passkey_kinds.proofs.DataBack.{auth_data_back, auth_data_coherent}
-use Rattle.passkey_entities.proofs.MakeBack.{made_user_back}
-use Rattle.passkey_extensions.proofs.ExtensionBack.{used_back}
+use Rattle.passkey_entities.proofs.Entities.{user_law, user_fits}
+use Rattle.passkey_extensions.proofs.Prf.{used_law}
 use Rattle.passkey_kinds.specs.MessageLaws.{WrittenIsReadBack, ReadIsCoherent}
 use Rattle.passkey_kinds.proofs.Keeping.{record_keeps}
-use Rattle.passkey_kinds.proofs.LeafBack.{truth_back, byte_back, bytes_back, anything, optional_place}
+use Rattle.passkey_kinds.proofs.LeafBack.{truth_back, byte_back, bytes_back, anything, optional_place, if_fits}
 use Rattle.passkey_kinds.proofs.Levels.{record_within}
 use Rattle.passkey_kinds.proofs.RecordBack.{descriptor_back}
 use Rattle.passkey_kinds.proofs.Plain.{few_levels}
@@ -47,11 +47,11 @@ response_back written given r fits coherent =
     (puts_default (optional_place descriptor_back refl r.credential (anything r.credential)) refl ▸
     puts_value (auth_data_back written given) r.auth_data (fits.auth_data, coherent) ▸
     puts_value bytes_back r.signature tt ▸
-    puts_default (optional_place made_user_back refl r.user (anything r.user)) refl ▸
+    puts_default (optional_place user_law.back refl r.user (if_fits user_fits r.user)) refl ▸
     puts_default (optional_place byte_back refl r.number_of_credentials fits.number_of_credentials) refl ▸
     puts_default (optional_place truth_back refl r.user_selected (anything r.user_selected)) refl ▸
     puts_default (optional_place bytes_back refl r.large_blob_key (anything r.large_blob_key)) refl ▸
-    puts_default (optional_place used_back refl r.unsigned_extension_outputs fits.unsigned_extension_outputs) refl ▸
+    puts_default (optional_place used_law.back refl r.unsigned_extension_outputs fits.unsigned_extension_outputs) refl ▸
     no_more)
 
 pub get_response_returns : WrittenIsLeadingItem → WrittenDataAreReadBack → ReadIsGiven → WrittenIsReadBack

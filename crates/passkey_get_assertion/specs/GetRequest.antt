@@ -4,11 +4,12 @@ use Rattle.passkey_cbor.specs.Depth.{depth}
 use Rattle.passkey_cbor.specs.LeadingItem.{max_depth}
 use Rattle.passkey_cbor.specs.Item.{Item, byte_string, text_string}
 use Rattle.passkey_core.specs.DataNormal.{IfPresent}
-use Rattle.passkey_get_assertion.specs.GetOptions.{options_default, options_tree, options_fields}
+use Rattle.passkey_get_assertion.specs.GetOptions.{options, options_default}
 use Rattle.passkey_get_assertion.specs.declared.options.Options.{Options}
 use Rattle.passkey_extensions.specs.ExtensionTrees.{get_extensions_tree, GetExtensionsFit, get_extensions_kept}
 use Rattle.passkey_extensions.specs.GetExtensions.{GetExtensionsParts, get_extensions_fields, get_extensions_parts}
 use Rattle.passkey_kinds.specs.Descriptor.{descriptor_fields}
+use Rattle.passkey_kinds.specs.Placed.{fields_of, plain_tree}
 use Rattle.passkey_kinds.specs.Record.{Fields, required, default, table_of, read_item}
 use Rattle.passkey_kinds.specs.RecordCost.{nested}
 use Rattle.passkey_kinds.specs.Table.{Table}
@@ -59,7 +60,7 @@ get_request_fields = record {
       (λ x r. record r { allow_list = x })
       ∷ default 4 (codes "extensions") (tolerated (nested get_extensions_fields))
       (λ x r. record r { extensions = x })
-      ∷ default 5 (codes "options") (nested options_fields) (λ x r. record r { options = x })
+      ∷ default 5 (codes "options") (nested (fields_of options)) (λ x r. record r { options = x })
       ∷ default 6 (codes "pinAuth") (optional bytes) (λ x r. record r { pin_auth = x })
       ∷ default 7 (codes "pinProtocol") (optional (below 256)) (λ x r. record r { pin_protocol = x })
       ∷ [];
@@ -80,7 +81,7 @@ get_request_places r =
     ∷ always (number_tree 2) byte_string r.client_data_hash
     ∷ where_some (number_tree 3) (list_tree descriptor_tree) r.allow_list
     ∷ where_some (number_tree 4) get_extensions_tree r.extensions
-    ∷ always (number_tree 5) options_tree r.options
+    ∷ always (number_tree 5) (plain_tree options) r.options
     ∷ where_some (number_tree 6) byte_string r.pin_auth
     ∷ where_some (number_tree 7) number_tree r.pin_protocol
     ∷ []

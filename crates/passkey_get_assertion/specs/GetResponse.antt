@@ -7,12 +7,12 @@ use Rattle.passkey_core.specs.Coherent.{is_coherent}
 use Rattle.passkey_core.specs.DataNormal.{IsData, IfPresent, normal_data}
 use Rattle.passkey_core.specs.DataParts.{DataParts, bare_data}
 use Rattle.passkey_kinds.specs.Data.{auth_data_tree}
-use Rattle.passkey_entities.specs.MakeUser.{user_tree, user_fields}
+use Rattle.passkey_entities.specs.User.{user}
 use Rattle.passkey_entities.specs.declared.user.PublicKeyCredentialUserEntity.{PublicKeyCredentialUserEntity}
-use Rattle.passkey_extensions.specs.ExtensionTrees.{used_tree, UsedFits}
-use Rattle.passkey_extensions.specs.GetUnsigned.{unsigned_fields}
+use Rattle.passkey_extensions.specs.Prf.{used}
 use Rattle.passkey_extensions.specs.declared.get_assertion.unsigned.UnsignedExtensionOutputs.{UnsignedExtensionOutputs}
 use Rattle.passkey_kinds.specs.Descriptor.{descriptor_fields}
+use Rattle.passkey_kinds.specs.Placed.{EachFits, fields_of, plain_tree}
 use Rattle.passkey_kinds.specs.Record.{Fields, required, default, table_of, read_item}
 use Rattle.passkey_kinds.specs.RecordCost.{nested}
 use Rattle.passkey_kinds.specs.Table.{Table}
@@ -64,12 +64,12 @@ get_response_fields = record {
   rows = default 1 (codes "credential") (optional (nested descriptor_fields)) (λ x r. record r { credential = x })
       ∷ required 2 (codes "authData") authenticator_data (λ x r. record r { auth_data = x })
       ∷ required 3 (codes "signature") bytes (λ x r. record r { signature = x })
-      ∷ default 4 (codes "user") (optional (nested user_fields)) (λ x r. record r { user = x })
+      ∷ default 4 (codes "user") (optional (nested (fields_of user))) (λ x r. record r { user = x })
       ∷ default 5 (codes "numberOfCredentials") (optional (below 256))
       (λ x r. record r { number_of_credentials = x })
       ∷ default 6 (codes "userSelected") (optional truth) (λ x r. record r { user_selected = x })
       ∷ default 7 (codes "largeBlobKey") (optional bytes) (λ x r. record r { large_blob_key = x })
-      ∷ default 8 (codes "unsignedExtensionOutputs") (optional (nested unsigned_fields))
+      ∷ default 8 (codes "unsignedExtensionOutputs") (optional (nested (fields_of used)))
       (λ x r. record r { unsigned_extension_outputs = x })
       ∷ [];
 }
@@ -88,11 +88,11 @@ get_response_places r =
     where_some (number_tree 1) descriptor_tree r.credential
     ∷ always (number_tree 2) auth_data_tree r.auth_data
     ∷ always (number_tree 3) byte_string r.signature
-    ∷ where_some (number_tree 4) user_tree r.user
+    ∷ where_some (number_tree 4) (plain_tree user) r.user
     ∷ where_some (number_tree 5) number_tree r.number_of_credentials
     ∷ where_some (number_tree 6) boolean r.user_selected
     ∷ where_some (number_tree 7) byte_string r.large_blob_key
-    ∷ where_some (number_tree 8) used_tree r.unsigned_extension_outputs
+    ∷ where_some (number_tree 8) (plain_tree used) r.unsigned_extension_outputs
     ∷ []
 
 abbrev pub get_response_tree : GetResponseParts → Item
@@ -106,7 +106,7 @@ get_response_kept r = []
 pub record GetResponseFits (r : GetResponseParts) : Type 0 where
   pub auth_data : IsData r.auth_data
   pub number_of_credentials : IfPresent IsByte r.number_of_credentials
-  pub unsigned_extension_outputs : IfPresent UsedFits r.unsigned_extension_outputs
+  pub unsigned_extension_outputs : IfPresent (EachFits used.members) r.unsigned_extension_outputs
 
 -- the authenticator data is coherent, and the encoding has at most `max_depth` nesting levels
 abbrev pub is_get_response_coherent : GetResponseParts → Bool

@@ -2,9 +2,10 @@
 //! does nothing.
 ghost use Rattle.passkey_get_assertion.specs.GetRequest.{get_request_fields, read_get_request, get_request_tree, GetRequestFits, is_get_request_coherent, get_request_kept, get_request_parts};
 ghost use Rattle.passkey_get_assertion.specs.GetResponse.{get_response_fields, read_get_response, get_response_tree, GetResponseFits, is_get_response_coherent, normal_get_response, get_response_kept, get_response_parts};
-ghost use Rattle.passkey_get_assertion.specs.GetOptions.{options_places};
+ghost use Rattle.passkey_get_assertion.specs.GetOptions.{options};
 ghost use Rattle.passkey_kinds.specs.Tree.{KeysAscend};
 ghost use Rattle.passkey_kinds.specs.MessageLaws.{WrittenIsReadBack, ReadIsCoherent, WrittenIsCanonical};
+ghost use Rattle.passkey_kinds.specs.Placed.{places_of};
 ghost use Rattle.passkey_kinds.specs.RecordLaws.{PassesOverUnknown, KnowsMaps};
 
 /// The encoding of a coherent request, whatever bytes follow, decodes to the request.
@@ -81,5 +82,5 @@ pub fn written_get_response_is_canonical()
 
 /// Options are encoded with their keys in CTAP2's order (CTAP 2.1, section 8).
 pub fn written_keys_ascend()
-    ensures { KeysAscend options_places }
+    ensures { KeysAscend (places_of options.members) }
 {}

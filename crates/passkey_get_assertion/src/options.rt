@@ -1,10 +1,8 @@
 //! Options of authenticatorGetAssertion requests.
 ghost use Rattle.std.specs.Prelude.{◌≡◌, true, false};
-ghost use Rattle.passkey_get_assertion.specs.GetOptions.{options_places, options_fields, options_default};
-ghost use Rattle.passkey_get_assertion.specs.declared.options.Options.{Options as Asked};
-ghost use Rattle.passkey_kinds.specs.ReadBack.{Any};
+ghost use Rattle.passkey_get_assertion.specs.GetOptions.{options, options_default};
 
-use passkey_kinds::{Record, RecordReadBack, Refusal, Row, Shallow, Sink, Source, ToCborMap, set};
+use passkey_kinds::{PlainRecord, Refusal, Row, Sink, Source, set};
 use passkey_memory::OutOfMemory;
 use std::alloc::Global;
 
@@ -30,16 +28,10 @@ impl Default for Options {
     }
 }
 
-impl Record for Options {
-    ghost Parts = { Asked };
+impl PlainRecord for Options {
+    ghost table = { options };
 
-    ghost parts = { λ options. options };
-
-    ghost fields = { options_fields };
-
-    fn is_numbered() -> bool {
-        false
-    }
+    ghost levels = { 0 };
 
     fn rows() -> &'static [Row] {
         &[Row::Optional(1, "up"), Row::Optional(2, "uv")]
@@ -56,30 +48,13 @@ impl Record for Options {
             _ => Err(Refusal::Refused),
         }
     }
-}
-
-impl ToCborMap for Options {
-    ghost places = { options_places };
-
-    ghost holds = { Any };
 
     fn put_members<S: Sink>(&self, alloc: Global, sink: &mut S) -> Result<(), OutOfMemory> {
         sink.put(alloc, "up", &self.up)?;
         sink.put(alloc, "uv", &self.uv)?;
         Ok(())
     }
-}
 
-impl RecordReadBack for Options {
-    ghost normal = { λ o. o };
-
-    #[tactic(auto, using(crate::proofs::GetBack::options_back))]
-    fn record_back() {}
-}
-
-impl Shallow for Options {
-    ghost levels = { 1 };
-
-    #[tactic(auto, using(crate::proofs::GetPlaces::options_levels))]
-    fn shallow() {}
+    #[tactic(auto, using(crate::proofs::GetBack::options_law))]
+    fn lawful() {}
 }

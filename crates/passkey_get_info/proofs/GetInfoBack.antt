@@ -1,15 +1,20 @@
--- An authenticatorGetInfo response is decoded again from its encoding.
+-- Values in an authenticatorGetInfo response can be decoded again from their encodings.
 use Rattle.std.specs.Option.{option_and_then}
-use Rattle.std.proofs.Common.{◌≡◌, [], ◌∷◌, Option, Some, None, unwrap_or, refl, ap}
+use Rattle.std.proofs.Common.{◌≡◌, Option, Some, None, unwrap_or, refl, ap}
 use Rattle.passkey_cbor.specs.Item.{Item, number, byte_string, text_string, array, map, tagged, boolean, null, simple, float}
+use Rattle.passkey_cbor.specs.Written.{shortest_head}
 use Rattle.passkey_get_info.specs.GetInfoNames.{version, version_tree, normal_version, extension, extension_tree, normal_extension}
-use Rattle.passkey_get_info.specs.GetInfoOptions.{options_fields, options, options_places, options_tree}
+use Rattle.passkey_get_info.specs.GetInfoOptions.{options}
+use Rattle.passkey_get_info.specs.declared.options.Options.{Options}
 use Rattle.passkey_get_info.specs.GetInfo.{unless_null}
 use Rattle.passkey_kinds.specs.Kind.{kept, optional}
+use Rattle.passkey_kinds.specs.Placed.{EachFits}
 use Rattle.passkey_kinds.specs.ReadBack.{IsReadBack, Any}
 use Rattle.passkey_kinds.proofs.Back.{Falls, accepts_it}
 use Rattle.passkey_kinds.proofs.LeafBack.{truth_back, anything, optional_place}
-use Rattle.passkey_kinds.proofs.RowsBack.{puts_value, puts_default, ◌▸◌, no_more, ordered_back}
+use Rattle.passkey_kinds.proofs.Lawful.{IsLawful, lawful}
+use Rattle.passkey_kinds.proofs.Plain.{plainly}
+use Rattle.passkey_kinds.proofs.RowsBack.{puts_value, puts_default, ◌▸◌, no_more}
 
 pub version_back : IsReadBack version version_tree Any normal_version
 version_back = record { back = λ v h. refl }
@@ -37,33 +42,32 @@ kept_place (Some i) = record {
   accepted = accepts_it (optional kept) i (unless_null i) (kept_or_null i);
 }
 
-pub options_back : IsReadBack options options_tree Any (λ o. o)
-options_back = record {
-  back = λ o h.
-      ordered_back options_fields (9 ∷ 2 ∷ 4 ∷ 5 ∷ 1 ∷ 14 ∷ 19 ∷ 15 ∷ 13 ∷ 10 ∷ 3 ∷ 8 ∷ 12 ∷ 6 ∷ 17 ∷ 18 ∷ 16 ∷ 11
-      ∷ 7 ∷ []) (options_places o) o refl refl refl
-      (
-      puts_default (optional_place truth_back refl o.ep (anything o.ep)) refl ▸
-      puts_value truth_back o.rk tt ▸
-      puts_value truth_back o.up tt ▸
-      puts_default (optional_place truth_back refl o.uv (anything o.uv)) refl ▸
-      puts_value truth_back o.plat tt ▸
-      puts_default (optional_place truth_back refl o.uv_acfg (anything o.uv_acfg)) refl ▸
-      puts_default (optional_place truth_back refl o.always_uv (anything o.always_uv)) refl ▸
-      puts_default (optional_place truth_back refl o.cred_mgmt (anything o.cred_mgmt)) refl ▸
-      puts_default (optional_place truth_back refl o.authnr_cfg (anything o.authnr_cfg)) refl ▸
-      puts_default (optional_place truth_back refl o.bio_enroll (anything o.bio_enroll)) refl ▸
-      puts_default (optional_place truth_back refl o.client_pin (anything o.client_pin)) refl ▸
-      puts_default (optional_place truth_back refl o.large_blobs (anything o.large_blobs)) refl ▸
-      puts_default (optional_place truth_back refl o.uv_bio_enroll (anything o.uv_bio_enroll)) refl ▸
-      puts_default (optional_place truth_back refl o.pin_uv_auth_token (anything o.pin_uv_auth_token)) refl ▸
-      puts_default (optional_place truth_back refl o.set_min_pin_length (anything o.set_min_pin_length)) refl ▸
-      puts_default (optional_place truth_back refl o.make_cred_uv_not_rqd (anything o.make_cred_uv_not_rqd)) refl ▸
-      puts_default (optional_place truth_back refl o.credential_mgmt_preview (anything o.credential_mgmt_preview))
-      refl ▸
-      puts_default (optional_place truth_back refl o.user_verification_mgmt_preview
-      (anything o.user_verification_mgmt_preview)) refl ▸
-      puts_default (optional_place truth_back refl o.no_mc_ga_permissions_with_client_pin
-      (anything o.no_mc_ga_permissions_with_client_pin)) refl ▸
-      no_more);
-}
+pub options_law : IsLawful 0 options
+unfolding shortest_head
+options_law = lawful 0 options (λ o. refl) (λ o. refl) (λ o. refl) (λ k o. search plainly depth 24) (λ o fits.
+    puts_default (optional_place truth_back refl o.ep (anything o.ep)) refl ▸
+    puts_value truth_back o.rk tt ▸
+    puts_value truth_back o.up tt ▸
+    puts_default (optional_place truth_back refl o.uv (anything o.uv)) refl ▸
+    puts_value truth_back o.plat tt ▸
+    puts_default (optional_place truth_back refl o.uv_acfg (anything o.uv_acfg)) refl ▸
+    puts_default (optional_place truth_back refl o.always_uv (anything o.always_uv)) refl ▸
+    puts_default (optional_place truth_back refl o.cred_mgmt (anything o.cred_mgmt)) refl ▸
+    puts_default (optional_place truth_back refl o.authnr_cfg (anything o.authnr_cfg)) refl ▸
+    puts_default (optional_place truth_back refl o.bio_enroll (anything o.bio_enroll)) refl ▸
+    puts_default (optional_place truth_back refl o.client_pin (anything o.client_pin)) refl ▸
+    puts_default (optional_place truth_back refl o.large_blobs (anything o.large_blobs)) refl ▸
+    puts_default (optional_place truth_back refl o.uv_bio_enroll (anything o.uv_bio_enroll)) refl ▸
+    puts_default (optional_place truth_back refl o.pin_uv_auth_token (anything o.pin_uv_auth_token)) refl ▸
+    puts_default (optional_place truth_back refl o.set_min_pin_length (anything o.set_min_pin_length)) refl ▸
+    puts_default (optional_place truth_back refl o.make_cred_uv_not_rqd (anything o.make_cred_uv_not_rqd)) refl ▸
+    puts_default (optional_place truth_back refl o.credential_mgmt_preview (anything o.credential_mgmt_preview))
+    refl ▸
+    puts_default (optional_place truth_back refl o.user_verification_mgmt_preview
+    (anything o.user_verification_mgmt_preview)) refl ▸
+    puts_default (optional_place truth_back refl o.no_mc_ga_permissions_with_client_pin
+    (anything o.no_mc_ga_permissions_with_client_pin)) refl ▸
+    no_more)
+
+pub options_fit : (o : Options) → EachFits options.members o
+options_fit o = search (anything) depth 24

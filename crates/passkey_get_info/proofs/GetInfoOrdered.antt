@@ -8,16 +8,12 @@ use Rattle.passkey_cbor.specs.Item.{Item}
 use Rattle.passkey_cbor.specs.Laws.{AtMostOneLeadingItem, WrittenIsLeadingItem}
 use Rattle.passkey_cbor.specs.Written.{shortest_head}
 use Rattle.passkey_get_info.specs.GetInfo.{GetInfoParts, get_info_places, get_info_tree, get_info_kept, certifications_kept, is_encodable, is_get_info_coherent}
-use Rattle.passkey_get_info.specs.GetInfoOptions.{options_places}
-use Rattle.passkey_get_info.proofs.GetInfoPlaces.{options_ascends, get_info_each}
+use Rattle.passkey_get_info.proofs.GetInfoPlaces.{get_info_each}
 use Rattle.passkey_kinds.specs.MessageLaws.{AllCanonical, WrittenIsCanonical}
-use Rattle.passkey_kinds.specs.Tree.{KeysAscend, number_tree}
+use Rattle.passkey_kinds.specs.Tree.{number_tree}
 use Rattle.passkey_kinds.proofs.Levels.{PlaceWithin, Within, of_record as levels_of}
-use Rattle.passkey_kinds.proofs.Ordered.{ascend, keys_ascend, PlaceOrdered, PlaceWritable, AllWritable, record_ordered, of_record, canonical_of, ordered_of}
+use Rattle.passkey_kinds.proofs.Ordered.{ascend, PlaceOrdered, PlaceWritable, AllWritable, record_ordered, of_record, canonical_of, ordered_of}
 use Rattle.passkey_kinds.proofs.Plain.{in_order}
-
-pub options_keys : KeysAscend options_places
-options_keys o = keys_ascend (options_places o) (options_ascends o)
 
 kept_place : AtMostOneLeadingItem → WrittenIsLeadingItem → (key : Item) → IsOrdered key → (o : Option Item)
     → PlaceWritable o → PlaceWithin 255 key o → AllCanonical (certifications_kept o) → PlaceOrdered key o

@@ -20,9 +20,9 @@ use Rattle.passkey_kinds.proofs.Keeping.{record_keeps}
 use Rattle.passkey_kinds.proofs.NotNull.{not_null}
 use Rattle.passkey_kinds.proofs.RowsBack.{puts_value, puts_default, ◌▸◌, no_more, rows_back}
 use Rattle.passkey_kinds.proofs.SizedBack.{size_back, aaguid_back}
-use Rattle.passkey_get_info.proofs.GetInfoBack.{version_back, extension_back, kept_place, options_back}
+use Rattle.passkey_get_info.proofs.GetInfoBack.{version_back, extension_back, kept_place, options_law, options_fit}
 use Rattle.passkey_get_info.proofs.GetInfoPlaces.{get_info_each}
-use Rattle.passkey_kinds.proofs.LeafBack.{list_same, truth_back, byte_back, word_back, text_back, bytes_back, transport_back, list_back, optional_back, anything, all_of_anything, optional_place, accepted_place}
+use Rattle.passkey_kinds.proofs.LeafBack.{list_same, truth_back, byte_back, word_back, text_back, bytes_back, transport_back, list_back, optional_back, anything, all_of_anything, optional_place, accepted_place, if_fits}
 use Rattle.passkey_kinds.proofs.Levels.{PlaceWithin, Within, record_within, of_record}
 use Rattle.passkey_kinds.proofs.RecordBack.{parameters_back}
 use Rattle.passkey_kinds.proofs.Plain.{few_levels}
@@ -42,7 +42,7 @@ response_back r fits encoded =
     puts_default (option_place (optional_back (list_back extension_back) refl) r.extensions
     (all_of_anything r.extensions)) refl ▸
     puts_value aaguid_back r.aaguid (search) ▸
-    puts_default (optional_place options_back refl r.options (anything r.options)) refl ▸
+    puts_default (optional_place options_law.back refl r.options (if_fits options_fit r.options)) refl ▸
     puts_default (optional_place size_back refl r.max_msg_size (sized r.max_msg_size (search) encoded)) refl ▸
     puts_default (optional_place (list_same byte_back) refl r.pin_protocols (search)) refl ▸
     puts_default (accepted_place transport_back r.transports (all_of_anything r.transports)) refl ▸

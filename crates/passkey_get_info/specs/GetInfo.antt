@@ -9,16 +9,16 @@ use Rattle.passkey_cbor.specs.LeadingItem.{max_depth}
 use Rattle.passkey_cbor.specs.View.{item_of}
 use Rattle.passkey_core.specs.DataNormal.{IfPresent}
 use Rattle.passkey_get_info.specs.GetInfoNames.{version, version_tree, normal_version, extension, extension_tree, normal_extension}
-use Rattle.passkey_get_info.specs.GetInfoOptions.{options_fields, options_tree}
+use Rattle.passkey_get_info.specs.GetInfoOptions.{options}
 use Rattle.passkey_get_info.specs.declared.extension.Extension.{Extension}
 use Rattle.passkey_get_info.specs.declared.options.Options.{Options}
 use Rattle.passkey_get_info.specs.declared.response.Response.{Response}
 use Rattle.passkey_get_info.specs.declared.version.Version.{Version}
 use Rattle.passkey_kinds.specs.Keeping.{nothing}
 use Rattle.passkey_kinds.specs.Parameters.{parameters_fields}
-use Rattle.passkey_kinds.specs.Placed.{Placed, placed, placed_if, word_at, truth_at, bytes_at, IsWord, members_of, places_of, EachFits}
+use Rattle.passkey_kinds.specs.Placed.{Placed, placed, placed_if, word_at, truth_at, bytes_at, IsWord, places_of, EachFits, fields_of, fields_with, plain_tree}
 use Rattle.passkey_kinds.specs.ReadBack.{IsByte}
-use Rattle.passkey_kinds.specs.Record.{Fields, Member, required, default, table_of, read_item}
+use Rattle.passkey_kinds.specs.Record.{Fields, required, default, table_of, read_item}
 use Rattle.passkey_kinds.specs.RecordCost.{nested}
 use Rattle.passkey_kinds.specs.Table.{Table}
 use Rattle.passkey_kinds.specs.Tree.{Place, number_tree, list_tree, always, where_some, record_tree}
@@ -138,8 +138,8 @@ capabilities_with encoded =
     (λ x r. record r { extensions = x })) (λ r. where_some (number_tree 2) (list_tree extension_tree) r.extensions)
     ∷ placed_if (λ r. length r.aaguid ≡ 16) (required 3 (codes "aaguid") aaguid (λ x r. record r { aaguid = x }))
     (λ r. always (number_tree 3) byte_string r.aaguid)
-    ∷ placed (default 4 (codes "options") (optional (nested options_fields)) (λ x r. record r { options = x }))
-    (λ r. where_some (number_tree 4) options_tree r.options)
+    ∷ placed (default 4 (codes "options") (optional (nested (fields_of options))) (λ x r. record r { options = x }))
+    (λ r. where_some (number_tree 4) (plain_tree options) r.options)
     ∷ placed_if (λ r. IfPresent IsPositive r.max_msg_size)
     (default 5 (codes "maxMsgSize") (optional size) (λ x r. record r { max_msg_size = x }))
     (λ r. (number_tree 5, encoded r))
@@ -200,11 +200,8 @@ states =
 
 -- ---- decoding
 
-abbrev pub fields_of : List (Placed GetInfoParts) → Fields GetInfoParts
-fields_of members = record { is_numbered = true; blank = get_info_empty; rows = members_of members }
-
 abbrev pub get_info_fields : Fields GetInfoParts
-get_info_fields = fields_of (capabilities ++ limits ++ states)
+get_info_fields = fields_with true get_info_empty (capabilities ++ limits ++ states)
 
 abbrev pub get_info_table : Table
 get_info_table = table_of get_info_fields

@@ -1,10 +1,7 @@
 -- Options of authenticatorGetInfo responses (CTAP 2.1, section 6.4).
-use Rattle.std.specs.Prelude.{List, [], ◌∷◌, ◌++◌, true, false, None, codes}
-use Rattle.passkey_cbor.specs.Item.{Item, boolean, text_string}
-use Rattle.passkey_kinds.specs.Kind.{Kind}
-use Rattle.passkey_kinds.specs.Record.{Fields, default, record_kind}
-use Rattle.passkey_kinds.specs.Typed.{truth, optional}
-use Rattle.passkey_kinds.specs.Tree.{Place, always, where_some, record_tree}
+use Rattle.std.specs.Prelude.{ℕ, Bool, List, [], ◌∷◌, ◌++◌, Option, true, false, None, codes}
+use Rattle.passkey_kinds.specs.Coded.{truth}
+use Rattle.passkey_kinds.specs.Placed.{Placed, PlainTable, default_as, optional_as}
 use Rattle.passkey_get_info.specs.declared.options.Options.{Options}
 
 abbrev pub options_default : Options
@@ -30,71 +27,42 @@ options_default = record {
   always_uv = None;
 }
 
-abbrev pub options_fields : Fields Options
-options_fields = record {
-  is_numbered = false;
-  blank = options_default;
-  rows = default 1 (codes "plat") truth (λ b o. record o { plat = b })
-      ∷ default 2 (codes "rk") truth (λ b o. record o { rk = b })
-      ∷ default 3 (codes "clientPin") (optional truth) (λ b o. record o { client_pin = b })
-      ∷ default 4 (codes "up") truth (λ b o. record o { up = b })
-      ∷ default 5 (codes "uv") (optional truth) (λ b o. record o { uv = b })
-      ∷ default 6 (codes "pinUvAuthToken") (optional truth) (λ b o. record o { pin_uv_auth_token = b })
-      ∷ default 7 (codes "noMcGaPermissionsWithClientPin") (optional truth)
-      (λ b o. record o { no_mc_ga_permissions_with_client_pin = b })
-      ∷ default 8 (codes "largeBlobs") (optional truth) (λ b o. record o { large_blobs = b })
-      ∷ default 9 (codes "ep") (optional truth) (λ b o. record o { ep = b })
-      ∷ default 10 (codes "bioEnroll") (optional truth) (λ b o. record o { bio_enroll = b })
-      ∷ default 11 (codes "userVerificationMgmtPreview") (optional truth)
-      (λ b o. record o { user_verification_mgmt_preview = b })
-      ∷ default 12 (codes "uvBioEnroll") (optional truth) (λ b o. record o { uv_bio_enroll = b })
-      ∷ default 13 (codes "authnrCfg") (optional truth) (λ b o. record o { authnr_cfg = b })
-      ∷ default 14 (codes "uvAcfg") (optional truth) (λ b o. record o { uv_acfg = b })
-      ∷ default 15 (codes "credMgmt") (optional truth) (λ b o. record o { cred_mgmt = b })
-      ∷ default 16 (codes "credentialMgmtPreview") (optional truth)
-      (λ b o. record o { credential_mgmt_preview = b })
-      ∷ default 17 (codes "setMinPINLength") (optional truth) (λ b o. record o { set_min_pin_length = b })
-      ∷ default 18 (codes "makeCredUvNotRqd") (optional truth) (λ b o. record o { make_cred_uv_not_rqd = b })
-      ∷ default 19 (codes "alwaysUv") (optional truth) (λ b o. record o { always_uv = b })
-      ∷ [];
-}
-
-abbrev pub options : Kind Options
-options = record_kind options_fields
-
--- ---- the encoding of the options
+abbrev flag : ℕ → List ℕ → (Options → Option Bool) → (Option Bool → Options → Options) → Placed Options
+flag n name get set = optional_as n name truth get set
 
 -- the options with keys of at most eight bytes
-abbrev pub short_option_places : Options → List Place
-short_option_places o =
-    where_some (text_string (codes "ep")) boolean o.ep
-    ∷ always (text_string (codes "rk")) boolean o.rk
-    ∷ always (text_string (codes "up")) boolean o.up
-    ∷ where_some (text_string (codes "uv")) boolean o.uv
-    ∷ always (text_string (codes "plat")) boolean o.plat
-    ∷ where_some (text_string (codes "uvAcfg")) boolean o.uv_acfg
-    ∷ where_some (text_string (codes "alwaysUv")) boolean o.always_uv
-    ∷ where_some (text_string (codes "credMgmt")) boolean o.cred_mgmt
+abbrev pub short_options : List (Placed Options)
+short_options =
+    flag 9 (codes "ep") (λ o. o.ep) (λ b o. record o { ep = b })
+    ∷ default_as 2 (codes "rk") truth (λ o. o.rk) (λ b o. record o { rk = b })
+    ∷ default_as 4 (codes "up") truth (λ o. o.up) (λ b o. record o { up = b })
+    ∷ flag 5 (codes "uv") (λ o. o.uv) (λ b o. record o { uv = b })
+    ∷ default_as 1 (codes "plat") truth (λ o. o.plat) (λ b o. record o { plat = b })
+    ∷ flag 14 (codes "uvAcfg") (λ o. o.uv_acfg) (λ b o. record o { uv_acfg = b })
+    ∷ flag 19 (codes "alwaysUv") (λ o. o.always_uv) (λ b o. record o { always_uv = b })
+    ∷ flag 15 (codes "credMgmt") (λ o. o.cred_mgmt) (λ b o. record o { cred_mgmt = b })
     ∷ []
 
-abbrev pub long_option_places : Options → List Place
-long_option_places o =
-    where_some (text_string (codes "authnrCfg")) boolean o.authnr_cfg
-    ∷ where_some (text_string (codes "bioEnroll")) boolean o.bio_enroll
-    ∷ where_some (text_string (codes "clientPin")) boolean o.client_pin
-    ∷ where_some (text_string (codes "largeBlobs")) boolean o.large_blobs
-    ∷ where_some (text_string (codes "uvBioEnroll")) boolean o.uv_bio_enroll
-    ∷ where_some (text_string (codes "pinUvAuthToken")) boolean o.pin_uv_auth_token
-    ∷ where_some (text_string (codes "setMinPINLength")) boolean o.set_min_pin_length
-    ∷ where_some (text_string (codes "makeCredUvNotRqd")) boolean o.make_cred_uv_not_rqd
-    ∷ where_some (text_string (codes "credentialMgmtPreview")) boolean o.credential_mgmt_preview
-    ∷ where_some (text_string (codes "userVerificationMgmtPreview")) boolean o.user_verification_mgmt_preview
-    ∷ where_some (text_string (codes "noMcGaPermissionsWithClientPin")) boolean
-    o.no_mc_ga_permissions_with_client_pin
+abbrev pub long_options : List (Placed Options)
+long_options =
+    flag 13 (codes "authnrCfg") (λ o. o.authnr_cfg) (λ b o. record o { authnr_cfg = b })
+    ∷ flag 10 (codes "bioEnroll") (λ o. o.bio_enroll) (λ b o. record o { bio_enroll = b })
+    ∷ flag 3 (codes "clientPin") (λ o. o.client_pin) (λ b o. record o { client_pin = b })
+    ∷ flag 8 (codes "largeBlobs") (λ o. o.large_blobs) (λ b o. record o { large_blobs = b })
+    ∷ flag 12 (codes "uvBioEnroll") (λ o. o.uv_bio_enroll) (λ b o. record o { uv_bio_enroll = b })
+    ∷ flag 6 (codes "pinUvAuthToken") (λ o. o.pin_uv_auth_token)
+    (λ b o. record o { pin_uv_auth_token = b })
+    ∷ flag 17 (codes "setMinPINLength") (λ o. o.set_min_pin_length)
+    (λ b o. record o { set_min_pin_length = b })
+    ∷ flag 18 (codes "makeCredUvNotRqd") (λ o. o.make_cred_uv_not_rqd)
+    (λ b o. record o { make_cred_uv_not_rqd = b })
+    ∷ flag 16 (codes "credentialMgmtPreview") (λ o. o.credential_mgmt_preview)
+    (λ b o. record o { credential_mgmt_preview = b })
+    ∷ flag 11 (codes "userVerificationMgmtPreview") (λ o. o.user_verification_mgmt_preview)
+    (λ b o. record o { user_verification_mgmt_preview = b })
+    ∷ flag 7 (codes "noMcGaPermissionsWithClientPin") (λ o. o.no_mc_ga_permissions_with_client_pin)
+    (λ b o. record o { no_mc_ga_permissions_with_client_pin = b })
     ∷ []
 
-abbrev pub options_places : Options → List Place
-options_places o = short_option_places o ++ long_option_places o
-
-abbrev pub options_tree : Options → Item
-options_tree o = record_tree (options_places o)
+abbrev pub options : PlainTable Options
+options = record { blank = options_default; members = short_options ++ long_options }

@@ -1,8 +1,9 @@
 //! Laws about authenticatorGetInfo responses. Each is the contract of a function that does nothing.
 ghost use Rattle.passkey_get_info.specs.GetInfo.{get_info_fields, read_get_info, get_info_parts, get_info_tree, GetInfoFits, is_get_info_coherent, normal_get_info, get_info_kept};
 ghost use Rattle.passkey_kinds.specs.MessageLaws.{WrittenIsReadBack, ReadIsCoherent, WrittenIsCanonical};
+ghost use Rattle.passkey_kinds.specs.Placed.{places_of};
 ghost use Rattle.passkey_kinds.specs.RecordLaws.{PassesOverUnknown, KnowsMaps};
-ghost use Rattle.passkey_get_info.specs.GetInfoOptions.{options_places};
+ghost use Rattle.passkey_get_info.specs.GetInfoOptions.{options};
 ghost use Rattle.passkey_kinds.specs.Tree.{KeysAscend};
 
 /// The encoding of a coherent response, whatever bytes follow, decodes to the response, in which an
@@ -44,5 +45,5 @@ pub fn written_get_info_is_canonical()
 
 /// Options are encoded with their keys in CTAP2's order (CTAP 2.1, section 8).
 pub fn written_keys_ascend()
-    ensures { KeysAscend options_places }
+    ensures { KeysAscend (places_of options.members) }
 {}

@@ -1,11 +1,10 @@
 //! Options of authenticatorGetInfo responses.
 ghost use Rattle.std.specs.Prelude.{◌≡◌, true, OnOk};
-ghost use Rattle.passkey_get_info.specs.GetInfoOptions.{long_option_places, options_default, options_fields, options_places, short_option_places};
-ghost use Rattle.passkey_kinds.specs.ReadBack.{Any};
-ghost use Rattle.passkey_get_info.specs.declared.options.Options.{Options as Told};
+ghost use Rattle.passkey_get_info.specs.GetInfoOptions.{long_options, options, options_default, short_options};
+ghost use Rattle.passkey_kinds.specs.Placed.{places_of};
 ghost use Rattle.passkey_kinds.specs.Sink.{AllAccepted, put_all};
 
-use passkey_kinds::{Record, RecordReadBack, Refusal, Row, Shallow, Sink, Source, ToCborMap, set};
+use passkey_kinds::{PlainRecord, Refusal, Row, Sink, Source, set};
 use passkey_memory::OutOfMemory;
 use std::alloc::Global;
 
@@ -92,38 +91,79 @@ impl Default for Options {
     }
 }
 
-impl Record for Options {
-    ghost Parts = { Told };
-
-    ghost parts = { λ options. options };
-
-    ghost fields = { options_fields };
-
-    fn is_numbered() -> bool {
-        false
+impl Options {
+    fn put_short<S: Sink>(&self, alloc: Global, sink: &mut S) -> Result<(), OutOfMemory>
+        ensures put { OnOk result (S.state sink.new ≡ put_all S.step (S.state sink.old) (places_of short_options self.now)) }
+        ensures accepts { OnOk result (AllAccepted S.Accepts (places_of short_options self.now)) }
+    {
+        sink.put_some(alloc, "ep", &self.ep)?;
+        sink.put(alloc, "rk", &self.rk)?;
+        sink.put(alloc, "up", &self.up)?;
+        sink.put_some(alloc, "uv", &self.uv)?;
+        sink.put(alloc, "plat", &self.plat)?;
+        sink.put_some(alloc, "uvAcfg", &self.uv_acfg)?;
+        sink.put_some(alloc, "alwaysUv", &self.always_uv)?;
+        sink.put_some(alloc, "credMgmt", &self.cred_mgmt)?;
+        Ok(())
     }
+
+    fn put_long<S: Sink>(&self, alloc: Global, sink: &mut S) -> Result<(), OutOfMemory>
+        ensures put { OnOk result (S.state sink.new ≡ put_all S.step (S.state sink.old) (places_of long_options self.now)) }
+        ensures accepts { OnOk result (AllAccepted S.Accepts (places_of long_options self.now)) }
+    {
+        sink.put_some(alloc, "authnrCfg", &self.authnr_cfg)?;
+        sink.put_some(alloc, "bioEnroll", &self.bio_enroll)?;
+        sink.put_some(alloc, "clientPin", &self.client_pin)?;
+        sink.put_some(alloc, "largeBlobs", &self.large_blobs)?;
+        sink.put_some(alloc, "uvBioEnroll", &self.uv_bio_enroll)?;
+        sink.put_some(alloc, "pinUvAuthToken", &self.pin_uv_auth_token)?;
+        sink.put_some(alloc, "setMinPINLength", &self.set_min_pin_length)?;
+        sink.put_some(alloc, "makeCredUvNotRqd", &self.make_cred_uv_not_rqd)?;
+        sink.put_some(
+            alloc,
+            "credentialMgmtPreview",
+            &self.credential_mgmt_preview,
+        )?;
+        sink.put_some(
+            alloc,
+            "userVerificationMgmtPreview",
+            &self.user_verification_mgmt_preview,
+        )?;
+        sink.put_some(
+            alloc,
+            "noMcGaPermissionsWithClientPin",
+            &self.no_mc_ga_permissions_with_client_pin,
+        )?;
+        Ok(())
+    }
+}
+
+impl PlainRecord for Options {
+    ghost table = { options };
+
+    ghost levels = { 0 };
 
     fn rows() -> &'static [Row] {
         &[
-            Row::Optional(1, "plat"),
+            Row::Optional(9, "ep"),
             Row::Optional(2, "rk"),
-            Row::Optional(3, "clientPin"),
             Row::Optional(4, "up"),
             Row::Optional(5, "uv"),
-            Row::Optional(6, "pinUvAuthToken"),
-            Row::Optional(7, "noMcGaPermissionsWithClientPin"),
-            Row::Optional(8, "largeBlobs"),
-            Row::Optional(9, "ep"),
-            Row::Optional(10, "bioEnroll"),
-            Row::Optional(11, "userVerificationMgmtPreview"),
-            Row::Optional(12, "uvBioEnroll"),
-            Row::Optional(13, "authnrCfg"),
+            Row::Optional(1, "plat"),
             Row::Optional(14, "uvAcfg"),
+            Row::Optional(19, "alwaysUv"),
             Row::Optional(15, "credMgmt"),
-            Row::Optional(16, "credentialMgmtPreview"),
+            Row::Optional(13, "authnrCfg"),
+            Row::Optional(10, "bioEnroll"),
+            Row::Optional(3, "clientPin"),
+            Row::Optional(8, "largeBlobs"),
+            Row::Optional(12, "uvBioEnroll"),
+            Row::Optional(6, "pinUvAuthToken"),
             Row::Optional(17, "setMinPINLength"),
             Row::Optional(18, "makeCredUvNotRqd"),
-            Row::Optional(19, "alwaysUv"),
+            Row::Optional(16, "credentialMgmtPreview"),
+            Row::Optional(11, "userVerificationMgmtPreview"),
+            Row::Optional(7, "noMcGaPermissionsWithClientPin"),
         ]
     }
 
@@ -159,77 +199,13 @@ impl Record for Options {
             _ => Err(Refusal::Refused),
         }
     }
-}
-
-impl Options {
-    fn put_short<S: Sink>(&self, alloc: Global, sink: &mut S) -> Result<(), OutOfMemory>
-        ensures put { OnOk result (S.state sink.new ≡ put_all S.step (S.state sink.old) (short_option_places self.now)) }
-        ensures accepts { OnOk result (AllAccepted S.Accepts (short_option_places self.now)) }
-    {
-        sink.put_some(alloc, "ep", &self.ep)?;
-        sink.put(alloc, "rk", &self.rk)?;
-        sink.put(alloc, "up", &self.up)?;
-        sink.put_some(alloc, "uv", &self.uv)?;
-        sink.put(alloc, "plat", &self.plat)?;
-        sink.put_some(alloc, "uvAcfg", &self.uv_acfg)?;
-        sink.put_some(alloc, "alwaysUv", &self.always_uv)?;
-        sink.put_some(alloc, "credMgmt", &self.cred_mgmt)?;
-        Ok(())
-    }
-
-    fn put_long<S: Sink>(&self, alloc: Global, sink: &mut S) -> Result<(), OutOfMemory>
-        ensures put { OnOk result (S.state sink.new ≡ put_all S.step (S.state sink.old) (long_option_places self.now)) }
-        ensures accepts { OnOk result (AllAccepted S.Accepts (long_option_places self.now)) }
-    {
-        sink.put_some(alloc, "authnrCfg", &self.authnr_cfg)?;
-        sink.put_some(alloc, "bioEnroll", &self.bio_enroll)?;
-        sink.put_some(alloc, "clientPin", &self.client_pin)?;
-        sink.put_some(alloc, "largeBlobs", &self.large_blobs)?;
-        sink.put_some(alloc, "uvBioEnroll", &self.uv_bio_enroll)?;
-        sink.put_some(alloc, "pinUvAuthToken", &self.pin_uv_auth_token)?;
-        sink.put_some(alloc, "setMinPINLength", &self.set_min_pin_length)?;
-        sink.put_some(alloc, "makeCredUvNotRqd", &self.make_cred_uv_not_rqd)?;
-        sink.put_some(
-            alloc,
-            "credentialMgmtPreview",
-            &self.credential_mgmt_preview,
-        )?;
-        sink.put_some(
-            alloc,
-            "userVerificationMgmtPreview",
-            &self.user_verification_mgmt_preview,
-        )?;
-        sink.put_some(
-            alloc,
-            "noMcGaPermissionsWithClientPin",
-            &self.no_mc_ga_permissions_with_client_pin,
-        )?;
-        Ok(())
-    }
-}
-
-impl ToCborMap for Options {
-    ghost places = { options_places };
-
-    ghost holds = { Any };
 
     fn put_members<S: Sink>(&self, alloc: Global, sink: &mut S) -> Result<(), OutOfMemory> {
         self.put_short(alloc, sink)?;
         self.put_long(alloc, sink)?;
         Ok(())
     }
-}
 
-impl RecordReadBack for Options {
-    ghost normal = { λ o. o };
-
-    #[tactic(auto, using(crate::proofs::GetInfoBack::options_back))]
-    fn record_back() {}
-}
-
-impl Shallow for Options {
-    ghost levels = { 1 };
-
-    #[tactic(auto, using(crate::proofs::GetInfoPlaces::options_levels))]
-    fn shallow() {}
+    #[tactic(auto, using(crate::proofs::GetInfoBack::options_law))]
+    fn lawful() {}
 }

@@ -7,9 +7,9 @@ ghost use Rattle.passkey_cbor.specs.Writable.{IsWritable};
 ghost use Rattle.passkey_cbor.specs.Written.{written};
 ghost use Rattle.passkey_core.specs.DataNormal.{IfPresent};
 ghost use Rattle.passkey_get_info.specs.Encodable.{EncodableFits, encodable_capabilities, encodable_parts, encodable_places};
-ghost use Rattle.passkey_get_info.specs.GetInfo.{GetInfoParts, capabilities, limits, states, fields_of, get_info_fields, get_info_table, read_get_info, get_info_empty, get_info_parts, get_info_tree, IsPositive, GetInfoFits, is_encodable, fault_of_size, has_room, is_get_info_coherent};
+ghost use Rattle.passkey_get_info.specs.GetInfo.{GetInfoParts, capabilities, limits, states, get_info_fields, get_info_table, read_get_info, get_info_empty, get_info_parts, get_info_tree, IsPositive, GetInfoFits, is_encodable, fault_of_size, has_room, is_get_info_coherent};
 ghost use Rattle.passkey_kinds.specs.Message.{ReadsMessage, ReadsHere, GrowsMessage};
-ghost use Rattle.passkey_kinds.specs.Placed.{EachFits, members_of, places_of};
+ghost use Rattle.passkey_kinds.specs.Placed.{EachFits, fields_with, members_of, places_of};
 ghost use Rattle.passkey_kinds.specs.Reading.{MayGrowAt, Reads};
 ghost use Rattle.passkey_kinds.specs.RecordCost.{cost_at, keeps_at};
 ghost use Rattle.passkey_kinds.specs.RecordReading.{Puts};
@@ -170,7 +170,7 @@ impl Response {
         source: &mut S,
     ) -> Result<(), Refusal>
         ensures puts { (i : Item) (to : ℕ) → S.At source.old i to
-            → Puts (fields_of (limits ++ states)) number i (get_info_parts self.old) (get_info_parts self.new) result }
+            → Puts (fields_with true get_info_empty (limits ++ states)) number i (get_info_parts self.old) (get_info_parts self.new) result }
         ensures spends { (i : Item) (to : ℕ) → S.At source.old i to → S.Spent (cost_at (members_of (limits ++ states)) number)
             (keeps_at (members_of (limits ++ states)) number) i to source.old source.new (is_ok result) }
         ensures onward { S.Goes source.old source.new }
@@ -198,7 +198,7 @@ impl Response {
         source: &mut S,
     ) -> Result<(), Refusal>
         ensures puts { (i : Item) (to : ℕ) → S.At source.old i to
-            → Puts (fields_of states) number i (get_info_parts self.old) (get_info_parts self.new) result }
+            → Puts (fields_with true get_info_empty states) number i (get_info_parts self.old) (get_info_parts self.new) result }
         ensures spends { (i : Item) (to : ℕ) → S.At source.old i to → S.Spent (cost_at (members_of states) number)
             (keeps_at (members_of states) number) i to source.old source.new (is_ok result) }
         ensures onward { S.Goes source.old source.new }

@@ -4,9 +4,9 @@ use Rattle.std.proofs.Common.{◌≡◌, ℕ, suc, ◌≤◌, Bool, true, false,
 use Rattle.passkey_cbor.specs.Depth.{depth}
 use Rattle.passkey_cbor.specs.Item.{Item, text_string}
 use Rattle.passkey_cbor.specs.Written.{shortest_head}
-use Rattle.passkey_entities.proofs.EntitiesPlain.{rp_plain}
+use Rattle.passkey_entities.proofs.Entities.{rp_law}
 use Rattle.passkey_extensions.specs.ExtensionTrees.{make_extensions_tree}
-use Rattle.passkey_extensions.proofs.ExtensionPlain.{made_plain}
+use Rattle.passkey_extensions.proofs.Prf.{made_law}
 use Rattle.passkey_kinds.specs.Tree.{number_tree, where_true}
 use Rattle.passkey_kinds.proofs.Ordered.{ascend}
 use Rattle.passkey_kinds.proofs.Places.{PlaceHas, EachPlace}
@@ -36,7 +36,7 @@ pub make_request_each : {Q : Item → Type 0} → Rule 4 Q → (r : MakeRequestP
 make_request_each rule r extensions = search (
   rule.holds,
   plainly,
-  rp_plain 3,
+  rp_law.plain 3,
   user_plain 3,
   list_plain 3,
   parameters_plain 2,
@@ -46,4 +46,4 @@ make_request_each rule r extensions = search (
 
 pub make_response_each : {Q : Item → Type 0} → Rule 4 Q → (r : MakeResponseParts) → Q r.att_stmt
     → EachPlace Q (make_response_places r)
-make_response_each rule r statement = search (rule.holds, plainly, made_plain) depth 12
+make_response_each rule r statement = search (rule.holds, plainly, made_law.plain 0) depth 12

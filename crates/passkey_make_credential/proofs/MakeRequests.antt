@@ -20,7 +20,7 @@ use Rattle.passkey_kinds.proofs.Levels.{PlaceWithin, record_within, of_record}
 use Rattle.passkey_kinds.proofs.RecordBack.{descriptor_back, parameters_back, user_back}
 use Rattle.passkey_kinds.proofs.Plain.{few_levels}
 use Rattle.passkey_extensions.proofs.Keys.{made_key}
-use Rattle.passkey_entities.proofs.MakeBack.{rp_back}
+use Rattle.passkey_entities.proofs.Entities.{rp_law, rp_fits}
 use Rattle.passkey_make_credential.proofs.MakeBack.{options_back}
 use Rattle.passkey_make_credential.proofs.MakePlaces.{make_request_each}
 use Rattle.passkey_kinds.proofs.RowsBack.{puts_value, puts_default, rows_back, ◌▸◌, no_more}
@@ -32,7 +32,7 @@ request_back : (r : MakeRequestParts) → MakeRequestFits r
 request_back r fits =
     rows_back make_request_fields (make_request_places r) (normal_make_request r) refl refl
     (puts_value bytes_back r.client_data_hash tt ▸
-    puts_value rp_back r.rp tt ▸
+    puts_value rp_law.back r.rp (rp_fits r.rp) ▸
     puts_value user_back r.user tt ▸
     puts_value (accepted_same parameters_back) r.pub_key_cred_params (λ k d less. tt) ▸
     puts_default (accepted_place descriptor_back r.exclude_list (all_of_anything r.exclude_list)) refl ▸

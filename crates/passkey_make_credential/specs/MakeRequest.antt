@@ -6,13 +6,14 @@ use Rattle.passkey_cbor.specs.Item.{Item, byte_string}
 use Rattle.passkey_core.specs.DataNormal.{IfPresent}
 use Rattle.passkey_kinds.specs.Descriptor.{descriptor_fields}
 use Rattle.passkey_extensions.specs.ExtensionTrees.{make_extensions_tree, MakeExtensionsFit, make_extensions_kept}
+use Rattle.passkey_kinds.specs.Placed.{fields_of, plain_tree}
 use Rattle.passkey_kinds.specs.Record.{Fields, required, default, table_of, read_item}
 use Rattle.passkey_kinds.specs.RecordCost.{nested}
 use Rattle.passkey_kinds.specs.Table.{Table}
 use Rattle.passkey_kinds.specs.Typed.{below, optional, bytes, accepted, tolerated}
 use Rattle.passkey_extensions.specs.MakeExtensions.{MakeExtensionsParts, make_extensions_fields, make_extensions_parts}
 use Rattle.passkey_make_credential.specs.MakeOptions.{options_default, options_tree, normal_options, options_fields}
-use Rattle.passkey_entities.specs.MakeRp.{rp_tree, rp_fields}
+use Rattle.passkey_entities.specs.Rp.{rp}
 use Rattle.passkey_kinds.specs.Parameters.{parameters_fields}
 use Rattle.passkey_kinds.specs.ReadBack.{IsByte}
 use Rattle.passkey_kinds.specs.Tree.{Place, number_tree, list_tree, always, where_some, record_tree}
@@ -66,7 +67,7 @@ make_request_fields = record {
     pin_protocol = None;
   };
   rows = required 1 (codes "clientDataHash") bytes (λ x r. record r { client_data_hash = x })
-      ∷ required 2 (codes "rp") (nested rp_fields) (λ x r. record r { rp = x })
+      ∷ required 2 (codes "rp") (nested (fields_of rp)) (λ x r. record r { rp = x })
       ∷ required 3 (codes "user") (nested user_fields) (λ x r. record r { user = x })
       ∷ required 4 (codes "pubKeyCredParams") (accepted (nested parameters_fields))
       (λ x r. record r { pub_key_cred_params = x })
@@ -92,7 +93,7 @@ read_make_request = read_item make_request_fields
 abbrev pub make_request_places : MakeRequestParts → List Place
 make_request_places r =
     always (number_tree 1) byte_string r.client_data_hash
-    ∷ always (number_tree 2) rp_tree r.rp
+    ∷ always (number_tree 2) (plain_tree rp) r.rp
     ∷ always (number_tree 3) webauthn_user_tree r.user
     ∷ always (number_tree 4) (list_tree parameters_tree) r.pub_key_cred_params
     ∷ where_some (number_tree 5) (list_tree descriptor_tree) r.exclude_list

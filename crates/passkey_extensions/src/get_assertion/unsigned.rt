@@ -1,12 +1,10 @@
 //! Unsigned extension outputs of authenticatorGetAssertion responses.
 ghost use Rattle.std.specs.Prelude.{◌≡◌, is_some, None};
 ghost use Rattle.passkey_core.specs.SignedOutputs.{where_some};
-ghost use Rattle.passkey_extensions.specs.GetUnsigned.{unsigned_fields};
-ghost use Rattle.passkey_extensions.specs.declared.get_assertion.unsigned.UnsignedExtensionOutputs.{UnsignedExtensionOutputs as UnsignedOutputs};
-ghost use Rattle.passkey_extensions.specs.ExtensionTrees.{UsedFits, used_places};
+ghost use Rattle.passkey_extensions.specs.Prf.{used};
 
 use crate::AuthenticatorPrfGetOutputs;
-use passkey_kinds::{Record, RecordReadBack, Refusal, Row, Shallow, Sink, Source, ToCborMap, set};
+use passkey_kinds::{PlainRecord, Refusal, Row, Sink, Source, set};
 use passkey_memory::OutOfMemory;
 use std::alloc::Global;
 
@@ -36,16 +34,10 @@ impl UnsignedExtensionOutputs {
     }
 }
 
-impl Record for UnsignedExtensionOutputs {
-    ghost Parts = { UnsignedOutputs };
+impl PlainRecord for UnsignedExtensionOutputs {
+    ghost table = { used };
 
-    ghost parts = { λ outputs. outputs };
-
-    ghost fields = { unsigned_fields };
-
-    fn is_numbered() -> bool {
-        false
-    }
+    ghost levels = { 3 };
 
     fn rows() -> &'static [Row] {
         &[Row::Optional(1, "prf")]
@@ -61,29 +53,12 @@ impl Record for UnsignedExtensionOutputs {
             _ => Err(Refusal::Refused),
         }
     }
-}
-
-impl ToCborMap for UnsignedExtensionOutputs {
-    ghost places = { used_places };
-
-    ghost holds = { UsedFits };
 
     fn put_members<S: Sink>(&self, alloc: Global, sink: &mut S) -> Result<(), OutOfMemory> {
         sink.put(alloc, "prf", &self.prf)?;
         Ok(())
     }
-}
 
-impl RecordReadBack for UnsignedExtensionOutputs {
-    ghost normal = { λ o. o };
-
-    #[tactic(auto, using(crate::proofs::ExtensionBack::used_back))]
-    fn record_back() {}
-}
-
-impl Shallow for UnsignedExtensionOutputs {
-    ghost levels = { 4 };
-
-    #[tactic(auto, using(crate::proofs::ExtensionPlain::used_levels))]
-    fn shallow() {}
+    #[tactic(auto, using(crate::proofs::Prf::used_law))]
+    fn lawful() {}
 }

@@ -1,12 +1,10 @@
 //! Unsigned extension outputs of authenticatorMakeCredential responses.
 ghost use Rattle.std.specs.Prelude.{◌≡◌, is_some, None};
 ghost use Rattle.passkey_core.specs.SignedOutputs.{where_some};
-ghost use Rattle.passkey_extensions.specs.MakeUnsigned.{unsigned_fields};
-ghost use Rattle.passkey_extensions.specs.declared.make_credential.unsigned.UnsignedExtensionOutputs.{UnsignedExtensionOutputs as UnsignedOutputs};
-ghost use Rattle.passkey_extensions.specs.ExtensionTrees.{MadeFits, made_places};
+ghost use Rattle.passkey_extensions.specs.Prf.{made};
 
 use crate::AuthenticatorPrfMakeOutputs;
-use passkey_kinds::{Record, RecordReadBack, Refusal, Row, Shallow, Sink, Source, ToCborMap, set};
+use passkey_kinds::{PlainRecord, Refusal, Row, Sink, Source, set};
 use passkey_memory::OutOfMemory;
 use std::alloc::Global;
 
@@ -37,16 +35,10 @@ impl UnsignedExtensionOutputs {
     }
 }
 
-impl Record for UnsignedExtensionOutputs {
-    ghost Parts = { UnsignedOutputs };
+impl PlainRecord for UnsignedExtensionOutputs {
+    ghost table = { made };
 
-    ghost parts = { λ outputs. outputs };
-
-    ghost fields = { unsigned_fields };
-
-    fn is_numbered() -> bool {
-        false
-    }
+    ghost levels = { 3 };
 
     fn rows() -> &'static [Row] {
         &[Row::Optional(1, "prf")]
@@ -62,29 +54,12 @@ impl Record for UnsignedExtensionOutputs {
             _ => Err(Refusal::Refused),
         }
     }
-}
-
-impl ToCborMap for UnsignedExtensionOutputs {
-    ghost places = { made_places };
-
-    ghost holds = { MadeFits };
 
     fn put_members<S: Sink>(&self, alloc: Global, sink: &mut S) -> Result<(), OutOfMemory> {
         sink.put(alloc, "prf", &self.prf)?;
         Ok(())
     }
-}
 
-impl RecordReadBack for UnsignedExtensionOutputs {
-    ghost normal = { λ o. o };
-
-    #[tactic(auto, using(crate::proofs::ExtensionBack::made_back))]
-    fn record_back() {}
-}
-
-impl Shallow for UnsignedExtensionOutputs {
-    ghost levels = { 4 };
-
-    #[tactic(auto, using(crate::proofs::ExtensionPlain::made_levels))]
-    fn shallow() {}
+    #[tactic(auto, using(crate::proofs::Prf::made_law))]
+    fn lawful() {}
 }

@@ -1,5 +1,5 @@
 use Rattle.std.proofs.Common.{refl}
-use Rattle.passkey_entities.proofs.user.PublicKeyCredentialUserEntityToCborMap.put_members.Goals as goal
+use Rattle.passkey_entities.proofs.user.PublicKeyCredentialUserEntityPlainRecord.put_members.Goals as goal
 
 pub returns-clause-put : goal.returns-clause-put
 returns-clause-put g c =

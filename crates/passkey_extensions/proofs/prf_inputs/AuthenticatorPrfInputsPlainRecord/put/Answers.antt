@@ -1,14 +1,14 @@
 use Rattle.std.proofs.Common.{◌≡◌, true, Option, Some, None, option_map, refl, ap}
 use Rattle.passkey_bytes.specs.Map.{ByteMap}
-use Rattle.passkey_extensions.specs.PrfInputs.{prf_inputs_fields}
-use Rattle.passkey_extensions.specs.PrfValues.{prf_values}
+use Rattle.passkey_extensions.specs.Prf.{prf_inputs, prf_values}
 use Rattle.passkey_extensions.specs.declared.prf_inputs.AuthenticatorPrfInputs.{AuthenticatorPrfInputs}
 use Rattle.passkey_extensions.specs.declared.prf_values.AuthenticatorPrfValues.{AuthenticatorPrfValues}
 use Rattle.passkey_kinds.proofs.Maps.{map_values_same}
 use Rattle.passkey_kinds.proofs.Putting.{sets_put}
 use Rattle.passkey_kinds.specs.Kind.{optional}
 use Rattle.passkey_kinds.specs.MapKind.{map_from_bytes, map_values}
-use Rattle.passkey_extensions.proofs.prf_inputs.AuthenticatorPrfInputsRecord.put.Goals as goal
+use Rattle.passkey_kinds.specs.Placed.{fields_of, plain_kind}
+use Rattle.passkey_extensions.proofs.prf_inputs.AuthenticatorPrfInputsPlainRecord.put.Goals as goal
 
 abbrev seen : Option (ByteMap AuthenticatorPrfValues) → Option (ByteMap AuthenticatorPrfValues)
 seen o = option_map (λ (m : ByteMap AuthenticatorPrfValues). map_values (λ (v : AuthenticatorPrfValues). v) m) o
@@ -22,6 +22,6 @@ returns-in-2-clause-puts g c = λ i to at.
     let old = c.args.self.now in
     let set : Option (ByteMap AuthenticatorPrfValues) → AuthenticatorPrfInputs
     → AuthenticatorPrfInputs = λ x r. record r { eval_by_credential = x } in
-    sets_put prf_inputs_fields seen (optional (map_from_bytes prf_values)) true set c.args.number 2 i
+    sets_put (fields_of prf_inputs) seen (optional (map_from_bytes (plain_kind prf_values))) true set c.args.number 2 i
     c.set-in-2.new.field old (set c.set-in-2.new.field old) c.set-in-2.result c.in-2.is refl refl refl
     (ap (λ o. set o old) (same c.set-in-2.new.field)) (c.set-in-2.ensures.sets i to at)

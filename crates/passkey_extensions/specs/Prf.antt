@@ -1,0 +1,56 @@
+-- Inputs and outputs of the extension prf (WebAuthn Level 3, sections 9 and 10.1.4).
+use Rattle.std.specs.Prelude.{[], ◌∷◌, None, codes, false, replicate}
+use Rattle.passkey_extensions.specs.declared.get_assertion.unsigned.UnsignedExtensionOutputs as assertion
+use Rattle.passkey_extensions.specs.declared.make_credential.unsigned.UnsignedExtensionOutputs as creation
+use Rattle.passkey_extensions.specs.declared.prf_get_outputs.AuthenticatorPrfGetOutputs.{AuthenticatorPrfGetOutputs}
+use Rattle.passkey_extensions.specs.declared.prf_inputs.AuthenticatorPrfInputs.{AuthenticatorPrfInputs}
+use Rattle.passkey_extensions.specs.declared.prf_make_outputs.AuthenticatorPrfMakeOutputs.{AuthenticatorPrfMakeOutputs}
+use Rattle.passkey_extensions.specs.declared.prf_values.AuthenticatorPrfValues.{AuthenticatorPrfValues}
+use Rattle.passkey_kinds.specs.Coded.{truth, sized_bytes, or_null, from_bytes, plain}
+use Rattle.passkey_kinds.specs.Placed.{PlainTable, required_as, default_as, optional_as}
+
+abbrev pub prf_values : PlainTable AuthenticatorPrfValues
+prf_values = record {
+  blank = record { first = replicate 32 0; second = None };
+  members = required_as 1 (codes "first") (sized_bytes 32) (λ v. v.first) (λ x v. record v { first = x })
+      ∷ optional_as 2 (codes "second") (sized_bytes 32) (λ v. v.second) (λ x v. record v { second = x })
+      ∷ [];
+}
+
+abbrev pub prf_inputs : PlainTable AuthenticatorPrfInputs
+prf_inputs = record {
+  blank = record { eval = None; eval_by_credential = None };
+  members = optional_as 1 (codes "eval") (plain prf_values) (λ i. i.eval) (λ x i. record i { eval = x })
+      ∷ optional_as 2 (codes "eval_by_credential") (from_bytes (plain prf_values)) (λ i. i.eval_by_credential)
+      (λ x i. record i { eval_by_credential = x })
+      ∷ [];
+}
+
+-- ---- outputs
+
+abbrev pub prf_made : PlainTable AuthenticatorPrfMakeOutputs
+prf_made = record {
+  blank = record { enabled = false; results = None };
+  members = required_as 1 (codes "enabled") truth (λ o. o.enabled) (λ x o. record o { enabled = x })
+      ∷ optional_as 2 (codes "results") (plain prf_values) (λ o. o.results) (λ x o. record o { results = x })
+      ∷ [];
+}
+
+abbrev pub prf_used : PlainTable AuthenticatorPrfGetOutputs
+prf_used = record {
+  blank = record { results = record { first = replicate 32 0; second = None } };
+  members = required_as 1 (codes "results") (plain prf_values) (λ o. o.results) (λ x o. record o { results = x }) ∷ [];
+}
+
+-- the unsigned outputs of both commands, whose member is null if there are none
+abbrev pub made : PlainTable creation.UnsignedExtensionOutputs
+made = record {
+  blank = record { prf = None };
+  members = default_as 1 (codes "prf") (or_null (plain prf_made)) (λ o. o.prf) (λ x o. record o { prf = x }) ∷ [];
+}
+
+abbrev pub used : PlainTable assertion.UnsignedExtensionOutputs
+used = record {
+  blank = record { prf = None };
+  members = default_as 1 (codes "prf") (or_null (plain prf_used)) (λ o. o.prf) (λ x o. record o { prf = x }) ∷ [];
+}
