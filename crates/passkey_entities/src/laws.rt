@@ -5,6 +5,7 @@ ghost use Rattle.passkey_kinds.specs.Placed.{places_of};
 ghost use Rattle.passkey_kinds.specs.Tree.{KeysAscend};
 
 /// Relying parties and users are encoded with their keys in CTAP2's order (CTAP 2.1, section 8).
+#[tactic(auto, using(crate::proofs::Entities::rp_law, crate::proofs::Entities::user_law))]
 pub fn written_keys_ascend()
     ensures rp { KeysAscend (places_of rp.members) }
     ensures user { KeysAscend (places_of user.members) }

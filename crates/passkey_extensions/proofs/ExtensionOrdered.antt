@@ -17,6 +17,7 @@ use Rattle.passkey_kinds.specs.Tree.{KeysAscend}
 use Rattle.passkey_kinds.proofs.Levels.{PlaceWithin, of_record as levels_of}
 use Rattle.passkey_kinds.proofs.Ordered.{ascend, keys_ascend, PlaceOrdered, PlaceWritable, record_ordered, of_record, canonical_of, ordered_of}
 use Rattle.passkey_kinds.proofs.Plain.{in_order}
+use Rattle.passkey_extensions.proofs.Prf.{values_law, inputs_law, made_outputs_law}
 use Rattle.passkey_extensions.proofs.ExtensionPlain.{hmac_input_each, make_extensions_each, get_extensions_each}
 
 -- ---- hmac-secret, whose key is kept
@@ -89,3 +90,5 @@ get_extensions_place one front key keyed (Some e) w d kept =
       record_ordered (get_extensions_places e) (get_extensions_ascends e) (get_extensions_each (in_order 4) e
           (inputs_place one front (text_string (codes "hmac-secret")) tt e.hmac_secret writable.1.0 levels.1.0 kept)),
     )
+
+pub ruleset keys = (values_law, inputs_law, made_outputs_law, make_extensions_keys, get_extensions_keys)

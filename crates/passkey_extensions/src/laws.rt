@@ -7,6 +7,8 @@ ghost use Rattle.passkey_kinds.specs.Placed.{places_of};
 ghost use Rattle.passkey_kinds.specs.RecordLaws.{PassesOverUnknown, KnowsMaps};
 ghost use Rattle.passkey_kinds.specs.Tree.{KeysAscend};
 
+use crate::HmacGetSecretInput;
+
 /// The encoding of a coherent hmac-secret input, whatever bytes follow, decodes to the input.
 pub fn written_hmac_input_is_read_back()
     ensures { WrittenIsReadBack read_hmac_input hmac_input_tree HmacInputFits is_hmac_input_coherent (λ h. h) }
@@ -16,6 +18,7 @@ pub fn written_hmac_input_is_read_back()
 
 /// The encoding of a coherent hmac-secret input is in CTAP2's canonical form if the encoding of its
 /// key is (CTAP 2.1, section 8).
+#[tactic(auto, using(crate::proofs::ExtensionOrdered::hmac_input_canonical))]
 pub fn written_hmac_input_is_canonical()
     ensures { WrittenIsCanonical hmac_input_tree is_hmac_input_coherent hmac_input_kept }
 {
@@ -25,6 +28,7 @@ pub fn written_hmac_input_is_canonical()
 
 /// Records with two or more members are encoded with their keys in CTAP2's order (CTAP 2.1, section
 /// 8).
+#[tactic(auto, using(crate::proofs::ExtensionOrdered::keys))]
 pub fn written_keys_ascend()
     ensures prf_values { KeysAscend (places_of prf_values.members) }
     ensures prf_outputs { KeysAscend (places_of prf_made.members) }
@@ -41,7 +45,9 @@ pub fn read_hmac_input_is_coherent()
 /// No map decodes to `NotAMap` as an hmac-secret input.
 pub fn read_hmac_input_knows_maps()
     ensures { KnowsMaps read_hmac_input }
-{}
+{
+    passkey_kinds::laws::reading_knows_maps::<HmacGetSecretInput>();
+}
 
 /// A member under an unknown key may be anywhere in an hmac-secret input: for any encodings of the
 /// map with and without the member, of at most 256 nesting levels, the results differ only in their
@@ -49,5 +55,5 @@ pub fn read_hmac_input_knows_maps()
 pub fn read_hmac_input_passes_over_unknown()
     ensures { PassesOverUnknown hmac_input_parts hmac_input_fields }
 {
-    passkey_cbor::laws::at_most_one_leading_item();
+    passkey_kinds::laws::unknown_member_changes_the_length_alone::<HmacGetSecretInput>();
 }

@@ -8,6 +8,8 @@ ghost use Rattle.passkey_kinds.specs.MessageLaws.{WrittenIsReadBack, ReadIsCoher
 ghost use Rattle.passkey_kinds.specs.Placed.{places_of};
 ghost use Rattle.passkey_kinds.specs.RecordLaws.{PassesOverUnknown, KnowsMaps};
 
+use crate::{Request, Response};
+
 /// The encoding of a coherent request, whatever bytes follow, decodes to the request.
 pub fn written_get_request_is_read_back()
     ensures { WrittenIsReadBack read_get_request get_request_tree GetRequestFits is_get_request_coherent (λ r. r) }
@@ -41,12 +43,16 @@ pub fn read_get_response_is_coherent()
 /// No map decodes to `NotAMap` as a request.
 pub fn read_get_request_knows_maps()
     ensures { KnowsMaps read_get_request }
-{}
+{
+    passkey_kinds::laws::reading_knows_maps::<Request>();
+}
 
 /// No map decodes to `NotAMap` as a response.
 pub fn read_get_response_knows_maps()
     ensures { KnowsMaps read_get_response }
-{}
+{
+    passkey_kinds::laws::reading_knows_maps::<Response>();
+}
 
 /// A member under an unknown key may be anywhere in a request: for any encodings of the map with
 /// and without the member, of at most 256 nesting levels, the results differ only in their length
@@ -54,7 +60,7 @@ pub fn read_get_response_knows_maps()
 pub fn read_get_request_passes_over_unknown()
     ensures { PassesOverUnknown get_request_parts get_request_fields }
 {
-    passkey_cbor::laws::at_most_one_leading_item();
+    passkey_kinds::laws::unknown_member_changes_the_length_alone::<Request>();
 }
 
 /// A member under an unknown key may be anywhere in a response: for any encodings of the map with
@@ -63,11 +69,12 @@ pub fn read_get_request_passes_over_unknown()
 pub fn read_get_response_passes_over_unknown()
     ensures { PassesOverUnknown get_response_parts get_response_fields }
 {
-    passkey_cbor::laws::at_most_one_leading_item();
+    passkey_kinds::laws::unknown_member_changes_the_length_alone::<Response>();
 }
 
 /// The encoding of a coherent request is in CTAP2's canonical form if the encoding of the key in
 /// its hmac-secret input is, or if there is no such input (CTAP 2.1, section 8).
+#[tactic(auto, using(crate::proofs::GetOrdered::get_request_canonical))]
 pub fn written_get_request_is_canonical()
     ensures { WrittenIsCanonical get_request_tree is_get_request_coherent get_request_kept }
 {
@@ -76,11 +83,13 @@ pub fn written_get_request_is_canonical()
 }
 
 /// The encoding of a coherent response is in CTAP2's canonical form (CTAP 2.1, section 8).
+#[tactic(auto, using(crate::proofs::GetOrdered::get_response_canonical))]
 pub fn written_get_response_is_canonical()
     ensures { WrittenIsCanonical get_response_tree is_get_response_coherent get_response_kept }
 {}
 
 /// Options are encoded with their keys in CTAP2's order (CTAP 2.1, section 8).
+#[tactic(auto, using(crate::proofs::GetBack::options_law))]
 pub fn written_keys_ascend()
     ensures { KeysAscend (places_of options.members) }
 {}

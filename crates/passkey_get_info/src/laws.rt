@@ -6,6 +6,8 @@ ghost use Rattle.passkey_kinds.specs.RecordLaws.{PassesOverUnknown, KnowsMaps};
 ghost use Rattle.passkey_get_info.specs.GetInfoOptions.{options};
 ghost use Rattle.passkey_kinds.specs.Tree.{KeysAscend};
 
+use crate::Response;
+
 /// The encoding of a coherent response, whatever bytes follow, decodes to the response, in which an
 /// unknown version or extension with a known name becomes the known one, and certifications that
 /// are null become `None`.
@@ -23,7 +25,9 @@ pub fn read_get_info_is_coherent()
 /// No map decodes to `NotAMap` as a response.
 pub fn read_get_info_knows_maps()
     ensures { KnowsMaps read_get_info }
-{}
+{
+    passkey_kinds::laws::reading_knows_maps::<Response>();
+}
 
 /// A member under an unknown key may be anywhere in a response: for any encodings of the map with
 /// and without the member, of at most 256 nesting levels, the results differ only in their length
@@ -31,11 +35,12 @@ pub fn read_get_info_knows_maps()
 pub fn read_get_info_passes_over_unknown()
     ensures { PassesOverUnknown get_info_parts get_info_fields }
 {
-    passkey_cbor::laws::at_most_one_leading_item();
+    passkey_kinds::laws::unknown_member_changes_the_length_alone::<Response>();
 }
 
 /// The encoding of a coherent response is in CTAP2's canonical form if the encoding of its
 /// certifications is, or if they are absent (CTAP 2.1, section 8).
+#[tactic(auto, using(crate::proofs::GetInfoOrdered::get_info_canonical))]
 pub fn written_get_info_is_canonical()
     ensures { WrittenIsCanonical get_info_tree is_get_info_coherent get_info_kept }
 {
@@ -44,6 +49,7 @@ pub fn written_get_info_is_canonical()
 }
 
 /// Options are encoded with their keys in CTAP2's order (CTAP 2.1, section 8).
+#[tactic(auto, using(crate::proofs::GetInfoBack::options_law))]
 pub fn written_keys_ascend()
     ensures { KeysAscend (places_of options.members) }
 {}

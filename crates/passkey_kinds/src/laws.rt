@@ -17,6 +17,7 @@ pub fn written_keys_ascend()
 
 /// A member under a key that the record's table doesn't know changes nothing, wherever it is: the
 /// record or the fault is the same without it.
+#[tactic(auto, using(crate::proofs::RecordLaws::unknown_is_skipped))]
 pub fn unknown_member_is_passed_over<R: Record>()
     ensures { UnknownMemberIsPassedOver R.fields }
 {}
@@ -33,6 +34,7 @@ pub fn unknown_member_changes_the_length_alone<R: Record>()
 
 /// The same holds for any two data items that a message's table decodes alike: for any of their
 /// encodings, the messages differ only in their length in bytes.
+#[tactic(auto, using(crate::proofs::RecordLaws::alike_differ_in_length))]
 pub fn alike_items_differ_in_length<R: Record>()
     ensures { AlikeDifferInLength R.parts (read_item R.fields) }
 {
@@ -48,17 +50,20 @@ pub fn refused_element_is_passed_over<M>()
 
 /// Two lists of members without a wrong key decode to the same record or fault if they name the
 /// same rows in the same order, with values that these rows decode alike.
+#[tactic(auto, using(crate::proofs::RecordLaws::same_answers_read_alike))]
 pub fn same_answers_read_alike<R: Record>()
     ensures { SameAnswersReadAlike R.fields }
 {}
 
 /// No data item decodes to `DecodeFailed` or `OutOfMemory`: which record an item decodes to, and
 /// what is wrong with it, depends neither on its encoding nor on memory.
+#[tactic(auto, using(crate::proofs::RecordLaws::knows_items))]
 pub fn reading_knows_items<R: Record>()
     ensures { KnowsItems (read_item R.fields) }
 {}
 
 /// No map decodes to `NotAMap`, whatever its members.
+#[tactic(auto, using(crate::proofs::RecordLaws::knows_maps))]
 pub fn reading_knows_maps<R: Record>()
     ensures { KnowsMaps (read_item R.fields) }
 {}

@@ -11,6 +11,8 @@ ghost use Rattle.passkey_kinds.specs.RecordLaws.{PassesOverUnknown, KnowsMaps};
 
 pub use passkey_entities::laws::written_keys_ascend as written_entity_keys_ascend;
 
+use crate::{Request, Response};
+
 /// The encoding of a coherent request, whatever bytes follow, decodes to the request with the
 /// option `up` set to true.
 pub fn written_make_request_is_read_back()
@@ -57,12 +59,16 @@ pub fn written_attestation_is_read_back()
 /// No map decodes to `NotAMap` as a request.
 pub fn read_make_request_knows_maps()
     ensures { KnowsMaps read_make_request }
-{}
+{
+    passkey_kinds::laws::reading_knows_maps::<Request>();
+}
 
 /// No map decodes to `NotAMap` as a response.
 pub fn read_make_response_knows_maps()
     ensures { KnowsMaps read_make_response }
-{}
+{
+    passkey_kinds::laws::reading_knows_maps::<Response>();
+}
 
 /// A member under an unknown key may be anywhere in a request: for any encodings of the map with
 /// and without the member, of at most 256 nesting levels, the results differ only in their length
@@ -70,7 +76,7 @@ pub fn read_make_response_knows_maps()
 pub fn read_make_request_passes_over_unknown()
     ensures { PassesOverUnknown make_request_parts make_request_fields }
 {
-    passkey_cbor::laws::at_most_one_leading_item();
+    passkey_kinds::laws::unknown_member_changes_the_length_alone::<Request>();
 }
 
 /// A member under an unknown key may be anywhere in a response: for any encodings of the map with
@@ -79,11 +85,12 @@ pub fn read_make_request_passes_over_unknown()
 pub fn read_make_response_passes_over_unknown()
     ensures { PassesOverUnknown make_response_parts make_response_fields }
 {
-    passkey_cbor::laws::at_most_one_leading_item();
+    passkey_kinds::laws::unknown_member_changes_the_length_alone::<Response>();
 }
 
 /// The encoding of a coherent request is in CTAP2's canonical form if the encoding of the key in
 /// its hmac-secret-mc input is, or if there is no such input (CTAP 2.1, section 8).
+#[tactic(auto, using(crate::proofs::MakeOrdered::make_request_canonical))]
 pub fn written_make_request_is_canonical()
     ensures { WrittenIsCanonical make_request_tree is_make_request_coherent make_request_kept }
 {
@@ -93,6 +100,7 @@ pub fn written_make_request_is_canonical()
 
 /// The encoding of a coherent response is in CTAP2's canonical form if the encoding of its
 /// attestation statement is (CTAP 2.1, section 8).
+#[tactic(auto, using(crate::proofs::MakeOrdered::make_response_canonical))]
 pub fn written_make_response_is_canonical()
     ensures { WrittenIsCanonical make_response_tree is_make_response_coherent make_response_kept }
 {
@@ -101,6 +109,7 @@ pub fn written_make_response_is_canonical()
 }
 
 /// Options are encoded with their keys in CTAP2's order (CTAP 2.1, section 8).
+#[tactic(auto, using(crate::proofs::MakeOrdered::options_keys))]
 pub fn written_keys_ascend()
     ensures { KeysAscend options_places }
 {}

@@ -1,6 +1,0 @@
-use Rattle.passkey_make_credential.specs.MakeResponse.{make_response_fields}
-use Rattle.passkey_make_credential.proofs.laws.read_make_response_knows_maps.Goals as goal
-use Rattle.passkey_kinds.proofs.RecordLaws.{knows_maps}
-
-pub returns : goal.returns
-returns c = knows_maps make_response_fields

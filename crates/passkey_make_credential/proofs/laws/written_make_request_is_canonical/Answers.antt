@@ -1,5 +1,0 @@
-use Rattle.passkey_make_credential.proofs.MakeOrdered.{make_request_canonical}
-use Rattle.passkey_make_credential.proofs.laws.written_make_request_is_canonical.Goals as goal
-
-pub returns : goal.returns
-returns c = make_request_canonical c.at_most_one_leading_item.ensures c.written_is_leading_item.ensures
