@@ -63,8 +63,6 @@ impl TryFrom<webauthn::PublicKeyCredentialRpEntity> for PublicKeyCredentialRpEnt
 impl PlainRecord for PublicKeyCredentialRpEntity {
     ghost table = { rp };
 
-    ghost levels = { 0 };
-
     fn rows() -> &'static [Row] {
         &[Row::Required(1, "id"), Row::Optional(2, "name")]
     }

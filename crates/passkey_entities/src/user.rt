@@ -100,8 +100,6 @@ impl TryFrom<PublicKeyCredentialUserEntity> for webauthn::PublicKeyCredentialUse
 impl PlainRecord for PublicKeyCredentialUserEntity {
     ghost table = { user };
 
-    ghost levels = { 0 };
-
     fn rows() -> &'static [Row] {
         &[
             Row::Required(1, "id"),

@@ -173,8 +173,6 @@ impl ToCborMap for HmacGetSecretInput {
 }
 
 impl RecordReadBack for HmacGetSecretInput {
-    ghost normal = { λ h. h };
-
     #[tactic(auto, using(crate::proofs::ExtensionBack::hmac_input_back))]
     fn record_back() {}
 }

@@ -31,8 +31,6 @@ impl Default for Options {
 impl PlainRecord for Options {
     ghost table = { options };
 
-    ghost levels = { 0 };
-
     fn rows() -> &'static [Row] {
         &[Row::Optional(1, "up"), Row::Optional(2, "uv")]
     }

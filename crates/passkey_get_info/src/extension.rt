@@ -1,8 +1,6 @@
 //! Extensions that an authenticator supports.
 ghost use Rattle.std.specs.Prelude.{◌≡◌, true, Some};
 ghost use Rattle.passkey_get_info.specs.GetInfoNames.{extension_name, extension_named, extension, extension_tree, normal_extension};
-ghost use Rattle.passkey_kinds.specs.Keeping.{nothing};
-ghost use Rattle.passkey_kinds.specs.ReadBack.{Any};
 ghost use Rattle.passkey_get_info.specs.declared.extension.Extension.{Extension as Told};
 
 use passkey_bytes::Text;
@@ -71,8 +69,6 @@ impl FromCbor for Extension {
 
     ghost cost = { 2 };
 
-    ghost keeps = { nothing };
-
     fn from_value(alloc: Global, value: &Value) -> Result<Extension, Refusal> {
         match value {
             Value::Text(name) => Ok(Extension::from_text(alloc, name.as_str())?),
@@ -87,8 +83,6 @@ impl FromCbor for Extension {
 
 impl ToCbor for Extension {
     ghost tree = { extension_tree };
-
-    ghost fits = { Any };
 
     fn to_value(&self, alloc: Global) -> Result<Value, OutOfMemory> {
         self.name().to_value(alloc)
@@ -107,7 +101,5 @@ impl ReadBack for Extension {
 }
 
 impl Shallow for Extension {
-    ghost levels = { 0 };
-
     fn shallow() {}
 }

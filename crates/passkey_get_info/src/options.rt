@@ -141,8 +141,6 @@ impl Options {
 impl PlainRecord for Options {
     ghost table = { options };
 
-    ghost levels = { 0 };
-
     fn rows() -> &'static [Row] {
         &[
             Row::Optional(9, "ep"),

@@ -1,8 +1,6 @@
 //! Versions of CTAP that an authenticator supports.
 ghost use Rattle.std.specs.Prelude.{◌≡◌, true, Some};
 ghost use Rattle.passkey_get_info.specs.GetInfoNames.{version_name, version_named, version, version_tree, normal_version};
-ghost use Rattle.passkey_kinds.specs.Keeping.{nothing};
-ghost use Rattle.passkey_kinds.specs.ReadBack.{Any};
 ghost use Rattle.passkey_get_info.specs.declared.version.Version.{Version as Told};
 
 use passkey_bytes::Text;
@@ -67,8 +65,6 @@ impl FromCbor for Version {
 
     ghost cost = { 2 };
 
-    ghost keeps = { nothing };
-
     fn from_value(alloc: Global, value: &Value) -> Result<Version, Refusal> {
         match value {
             Value::Text(name) => Ok(Version::from_text(alloc, name.as_str())?),
@@ -83,8 +79,6 @@ impl FromCbor for Version {
 
 impl ToCbor for Version {
     ghost tree = { version_tree };
-
-    ghost fits = { Any };
 
     fn to_value(&self, alloc: Global) -> Result<Value, OutOfMemory> {
         self.name().to_value(alloc)
@@ -103,7 +97,5 @@ impl ReadBack for Version {
 }
 
 impl Shallow for Version {
-    ghost levels = { 0 };
-
     fn shallow() {}
 }

@@ -17,28 +17,33 @@ abbrev pub raised : ℕ → ℕ → ℕ
 raised zero k = k
 raised (suc n) k = suc (raised n k)
 
--- The members' encodings have at most n levels.
-pub record IsLawful {P : Type 0} (n : ℕ) (t : PlainTable P) : Type 0 where
-  pub back : IsReadBack (plain_kind t) (plain_tree t) (EachFits t.members) (λ r. r)
+-- A record is decoded again as its normal form, its keys ascend, and its members' encodings have at
+-- most n levels.
+pub record IsLawfulAs {P : Type 0} (normal : P → P) (n : ℕ) (t : PlainTable P) : Type 0 where
+  pub back : IsReadBack (plain_kind t) (plain_tree t) (EachFits t.members) normal
   pub plain : (k : ℕ) (r : P) → IsPlain (suc (raised n k)) (plain_tree t r)
   pub levels : (r : P) → depth (plain_tree t r) ≤ suc n
   pub keys : KeysAscend (places_of t.members)
+
+-- a record that is its own normal form
+abbrev pub IsLawful : {P : Type 0} → ℕ → PlainTable P → Type 0
+IsLawful n t = IsLawfulAs (λ r. r) n t
 
 raised_zero : (n : ℕ) → raised n 0 ≡ n
 raised_zero zero = refl
 raised_zero (suc n) = ap suc (raised_zero n)
 
-module _ {P : Type 0} (n : ℕ) (t : PlainTable P) where
+module _ {P : Type 0} {normal : P → P} (n : ℕ) (t : PlainTable P) where
   pub lawful : ((r : P) → ascend (places_of t.members r) ≡ true)
       → ((r : P) → (have_rows (table_of (fields_of t)) (numbers (members_of t.members)) (places_of t.members r)
       && are_distinct (numbers (members_of t.members))) ≡ true)
       → ((r : P) → missing_of (table_of (fields_of t)) (stands (numbers (members_of t.members)) (places_of t.members r))
       ≡ None) → ((k : ℕ) (r : P) → EachPlace (IsPlain (raised n k)) (places_of t.members r))
-      → ((r : P) → EachFits t.members r → Backs (members_of t.members) (places_of t.members r) t.blank r)
-      → IsLawful n t
+      → ((r : P) → EachFits t.members r → Backs (members_of t.members) (places_of t.members r) t.blank (normal r))
+      → IsLawfulAs normal n t
   lawful up keys complete each backs = record {
     back =
-        record { back = λ r fits. kind_back (fields_of t) (places_of t.members r) r (keys r) (complete r) (backs r fits) };
+        record { back = λ r fits. kind_back (fields_of t) (places_of t.members r) (normal r) (keys r) (complete r) (backs r fits) };
     plain = λ k r. record_plain (raised n k) (places_of t.members r) (up r) (each k r);
     levels = λ r.
         omega (arith, raised_zero n, (record_plain (raised n 0) (places_of t.members r) (up r) (each 0 r)).levels);

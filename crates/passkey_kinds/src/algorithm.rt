@@ -5,11 +5,9 @@ ghost use Rattle.passkey_cbor.specs.Lent.{IsRegion, Tells};
 ghost use Rattle.passkey_iana.specs.Iana.{algorithm_named, algorithm_number};
 ghost use Rattle.passkey_iana.specs.declared.algorithm.Algorithm.{Algorithm as Named};
 ghost use Rattle.passkey_kinds.specs.Algorithm.{algorithm, algorithm_tree};
-ghost use Rattle.passkey_kinds.specs.Keeping.{nothing};
 ghost use Rattle.passkey_kinds.specs.Kind.{AnswersAs};
 ghost use Rattle.passkey_kinds.specs.Reader.{LooksAtMost};
 ghost use Rattle.passkey_webauthn.specs.NumberText.{whole_64};
-ghost use Rattle.passkey_kinds.specs.ReadBack.{Any};
 
 use crate::from_cbor::FromCbor;
 use crate::head::read_integer;
@@ -60,8 +58,6 @@ impl FromCbor for Algorithm {
 
     ghost cost = { 2 };
 
-    ghost keeps = { nothing };
-
     fn from_value(_alloc: Global, value: &Value) -> Result<Algorithm, Refusal> {
         match value {
             Value::Integer(n) => named(signed_64(*n)),
@@ -86,8 +82,6 @@ fn integer_of(algorithm: Algorithm) -> Integer
 
 impl ToCbor for Algorithm {
     ghost tree = { algorithm_tree };
-
-    ghost fits = { Any };
 
     fn to_value(&self, _alloc: Global) -> Result<Value, OutOfMemory> {
         Ok(Value::Integer(integer_of(*self)))

@@ -5,7 +5,6 @@ ghost use Rattle.passkey_cbor.specs.Lent.{Tells};
 ghost use Rattle.passkey_cbor.specs.EncodedAt.{ItemsAreEncodedAt};
 ghost use Rattle.passkey_kinds.specs.Reader.{Onward, Decodes, LooksAtMost};
 ghost use Rattle.passkey_cbor.specs.View.{item_of};
-ghost use Rattle.passkey_kinds.specs.Keeping.{nothing};
 ghost use Rattle.passkey_kinds.specs.Kind.{AnswersAs, each, below, sized_bytes};
 ghost use Rattle.passkey_kinds.specs.ReadBack.{AreBytes};
 ghost use Rattle.passkey_kinds.specs.Tree.{numbers_tree};
@@ -89,8 +88,6 @@ impl FromCbor for [u8; 32] {
     ghost takes = { false };
 
     ghost cost = { 3 };
-
-    ghost keeps = { nothing };
 
     fn from_value(alloc: Global, value: &Value) -> Result<[u8; 32], Refusal> {
         match value {

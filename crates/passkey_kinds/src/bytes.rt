@@ -8,7 +8,6 @@ ghost use Rattle.passkey_cbor.specs.EncodedAt.{ItemsAreEncodedAt};
 ghost use Rattle.passkey_kinds.specs.Reader.{Onward, Decodes, LooksAtMost};
 ghost use Rattle.passkey_cbor.specs.View.{item_of};
 ghost use Rattle.passkey_bytes.specs.Encoding.{text_bytes};
-ghost use Rattle.passkey_kinds.specs.Keeping.{nothing};
 ghost use Rattle.passkey_kinds.specs.Kind.{AnswersAs, each, below, bytes};
 
 use crate::from_cbor::FromCbor;
@@ -94,8 +93,6 @@ impl FromCbor for Bytes {
     ghost takes = { true };
 
     ghost cost = { 3 };
-
-    ghost keeps = { nothing };
 
     fn from_value(alloc: Global, value: &Value) -> Result<Bytes, Refusal> {
         match value {

@@ -6,7 +6,7 @@ ghost use Rattle.passkey_core.specs.DataNormal.{IsData};
 ghost use Rattle.passkey_core.specs.DataParts.{DataParts};
 ghost use Rattle.passkey_core.specs.DataViews.{data_parts};
 ghost use Rattle.passkey_kinds.specs.Data.{CountsData, authenticator_data, authenticator_data_nodes, data_tree, aaguid, aaguid_tree};
-ghost use Rattle.passkey_kinds.specs.Keeping.{nothing, counted};
+ghost use Rattle.passkey_kinds.specs.Keeping.{counted};
 ghost use Rattle.passkey_kinds.specs.Kind.{Answers};
 
 use crate::array::filled;
@@ -117,8 +117,6 @@ impl FromCbor for Aaguid {
     ghost takes = { false };
 
     ghost cost = { 2 };
-
-    ghost keeps = { nothing };
 
     fn from_value(_alloc: Global, value: &Value) -> Result<Aaguid, Refusal> {
         match value {

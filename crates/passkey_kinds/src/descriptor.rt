@@ -2,7 +2,6 @@
 ghost use Rattle.passkey_kinds.specs.Descriptor.{descriptor_fields};
 ghost use Rattle.passkey_webauthn.specs.declared.descriptor.PublicKeyCredentialDescriptor.{PublicKeyCredentialDescriptor as Descriptor};
 ghost use Rattle.passkey_kinds.specs.Trees.{descriptor_places};
-ghost use Rattle.passkey_kinds.specs.ReadBack.{Any};
 
 use crate::record::Record;
 use crate::refusal::Refusal;
@@ -59,8 +58,6 @@ impl Record for PublicKeyCredentialDescriptor {
 
 impl ToCborMap for PublicKeyCredentialDescriptor {
     ghost places = { descriptor_places };
-
-    ghost holds = { Any };
 
     fn put_members<S: Sink>(&self, alloc: Global, sink: &mut S) -> Result<(), OutOfMemory> {
         sink.put(alloc, "id", &self.id)?;

@@ -32,7 +32,7 @@ pub trait FromCbor: Drop {
 
     /// The data items that `read` makes as values at most: those that the result keeps, and in
     /// authenticator data those for the credential public key and the extensions.
-    ghost keeps: { Keeping };
+    ghost keeps: { Keeping } = { nothing };
 
     /// Decodes the value from a data item. Returns `Refused` exactly if the type doesn't accept the
     /// item, and `OutOfMemory` if an allocation fails, which can only happen for a tag, a text
@@ -76,8 +76,6 @@ impl FromCbor for bool {
 
     ghost cost = { 1 };
 
-    ghost keeps = { nothing };
-
     fn from_value(_alloc: Global, value: &Value) -> Result<bool, Refusal> {
         match value {
             Value::Bool(b) => Ok(*b),
@@ -103,8 +101,6 @@ impl FromCbor for u8 {
     ghost takes = { false };
 
     ghost cost = { 1 };
-
-    ghost keeps = { nothing };
 
     fn from_value(_alloc: Global, value: &Value) -> Result<u8, Refusal> {
         match value {
@@ -132,8 +128,6 @@ impl FromCbor for u32 {
 
     ghost cost = { 1 };
 
-    ghost keeps = { nothing };
-
     fn from_value(_alloc: Global, value: &Value) -> Result<u32, Refusal> {
         match value {
             Value::Integer(n) => u32::try_from(n.get()).or(Err(Refusal::Refused)),
@@ -159,8 +153,6 @@ impl FromCbor for Text {
     ghost takes = { true };
 
     ghost cost = { 2 };
-
-    ghost keeps = { nothing };
 
     fn from_value(alloc: Global, value: &Value) -> Result<Text, Refusal> {
         match value {

@@ -5,7 +5,6 @@ ghost use Rattle.passkey_cbor.specs.Lent.{IsRegion, Tells};
 ghost use Rattle.passkey_cbor.specs.EncodedAt.{IsEncodedAt};
 ghost use Rattle.passkey_kinds.specs.Reader.{Onward, Further, Decodes, LooksAtMost};
 ghost use Rattle.passkey_cbor.specs.View.{item_of};
-ghost use Rattle.passkey_kinds.specs.Keeping.{nothing};
 ghost use Rattle.passkey_kinds.specs.Kind.{AnswersAs, one_named};
 ghost use Rattle.passkey_webauthn.specs.CredentialType.{credential_type_named};
 ghost use Rattle.passkey_webauthn.specs.Transport.{transport_named};
@@ -65,8 +64,6 @@ impl FromCbor for PublicKeyCredentialType {
 
     ghost cost = { 2 };
 
-    ghost keeps = { nothing };
-
     fn from_value(_alloc: Global, value: &Value) -> Result<PublicKeyCredentialType, Refusal> {
         read_name(value)
     }
@@ -86,8 +83,6 @@ impl FromCbor for AuthenticatorTransport {
     ghost takes = { false };
 
     ghost cost = { 2 };
-
-    ghost keeps = { nothing };
 
     fn from_value(_alloc: Global, value: &Value) -> Result<AuthenticatorTransport, Refusal> {
         read_name(value)

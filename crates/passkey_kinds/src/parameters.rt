@@ -2,7 +2,6 @@
 ghost use Rattle.passkey_kinds.specs.Parameters.{parameters_fields};
 ghost use Rattle.passkey_kinds.specs.Trees.{parameters_places};
 ghost use Rattle.passkey_webauthn.specs.declared.parameters.PublicKeyCredentialParameters.{PublicKeyCredentialParameters as Parameters};
-ghost use Rattle.passkey_kinds.specs.ReadBack.{Any};
 
 use crate::record::Record;
 use crate::refusal::Refusal;
@@ -53,8 +52,6 @@ impl Record for PublicKeyCredentialParameters {
 
 impl ToCborMap for PublicKeyCredentialParameters {
     ghost places = { parameters_places };
-
-    ghost holds = { Any };
 
     fn put_members<S: Sink>(&self, alloc: Global, sink: &mut S) -> Result<(), OutOfMemory> {
         sink.put(alloc, "alg", &self.alg)?;

@@ -23,15 +23,18 @@ use crate::to_cbor_map::ToCborMap;
 use passkey_memory::OutOfMemory;
 use std::alloc::Global;
 
-/// A record whose members have names alone, which keeps no data item, and whose encoding decodes to
-/// an equal record. One table says how it is decoded and how it is encoded.
+/// A record whose members have names alone, and which keeps no data item. One table says how it is
+/// decoded and how it is encoded.
 pub trait PlainRecord: Drop {
     /// What the record holds before a member is decoded, and its members in the order in which they
     /// are encoded.
     ghost table: { PlainTable Self };
 
     /// The most nesting levels that a member's encoding has.
-    ghost levels: { ℕ };
+    ghost levels: { ℕ } = { 0 };
+
+    /// The record that the encoding of a record decodes to.
+    ghost normal: { Self → Self } = { λ r. r };
 
     /// Returns the table's rows, at most 32.
     fn rows() -> &'static [Row]
@@ -58,10 +61,10 @@ pub trait PlainRecord: Drop {
         ensures accepts { OnOk result (AllAccepted S.Accepts (places_of table.members self.now)) }
         ensures fits { OnOk result (S.Encodes → EachFits table.members self.now) };
 
-    /// The encoding of a record decodes to an equal record, and no member has more nesting levels.
+    /// The encoding of a record decodes to its normal form, and no member has more nesting levels.
     /// Does nothing.
     fn lawful()
-        ensures back { IsReadBack (plain_kind table) (plain_tree table) (EachFits table.members) (λ r. r) }
+        ensures back { IsReadBack (plain_kind table) (plain_tree table) (EachFits table.members) normal }
         ensures shallow { (r : Self) → depth (plain_tree table r) ≤ suc levels };
 }
 
@@ -100,7 +103,7 @@ impl<R: PlainRecord> ToCborMap for R {
 }
 
 impl<R: PlainRecord> RecordReadBack for R {
-    ghost normal = { λ r. r };
+    ghost normal = { R.normal };
 
     fn record_back() {
         R::lawful();

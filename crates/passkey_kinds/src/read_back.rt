@@ -18,7 +18,7 @@ use passkey_webauthn::{
 /// A type whose encoded values can be decoded again, and which encodes no value as null.
 pub trait ReadBack: FromCbor + ToCbor {
     /// The value that the encoding of a value decodes to.
-    ghost normal: { Self → Self };
+    ghost normal: { Self → Self } = { λ x. x };
 
     /// The encoding of a value decodes to its normal form. Does nothing.
     fn read_back()
@@ -29,7 +29,7 @@ pub trait ReadBack: FromCbor + ToCbor {
 /// A record whose encoding can be decoded again.
 pub trait RecordReadBack: Record + ToCbor {
     /// The record that the encoding of a record decodes to.
-    ghost normal: { Self → Self };
+    ghost normal: { Self → Self } = { λ x. x };
 
     /// The encoding of a record decodes to its normal form. Does nothing.
     fn record_back()
@@ -45,57 +45,41 @@ impl<R: RecordReadBack> ReadBack for R {
 }
 
 impl ReadBack for bool {
-    ghost normal = { λ b. b };
-
     #[tactic(auto, using(crate::proofs::LeafBack::truth_back))]
     fn read_back() {}
 }
 
 impl ReadBack for u8 {
-    ghost normal = { λ n. n };
-
     #[tactic(auto, using(crate::proofs::LeafBack::byte_back))]
     fn read_back() {}
 }
 
 impl ReadBack for u32 {
-    ghost normal = { λ n. n };
-
     #[tactic(auto, using(crate::proofs::LeafBack::word_back))]
     fn read_back() {}
 }
 
 impl ReadBack for Text {
-    ghost normal = { λ t. t };
-
     #[tactic(auto, using(crate::proofs::LeafBack::text_back))]
     fn read_back() {}
 }
 
 impl ReadBack for Bytes {
-    ghost normal = { λ b. b };
-
     #[tactic(auto, using(crate::proofs::LeafBack::bytes_back))]
     fn read_back() {}
 }
 
 impl ReadBack for Algorithm {
-    ghost normal = { λ a. a };
-
     #[tactic(auto, using(crate::proofs::LeafBack::algorithm_back))]
     fn read_back() {}
 }
 
 impl ReadBack for PublicKeyCredentialType {
-    ghost normal = { λ t. t };
-
     #[tactic(auto, using(crate::proofs::LeafBack::credential_type_back))]
     fn read_back() {}
 }
 
 impl ReadBack for AuthenticatorTransport {
-    ghost normal = { λ t. t };
-
     #[tactic(auto, using(crate::proofs::LeafBack::transport_back))]
     fn read_back() {}
 }
@@ -121,29 +105,21 @@ impl<T: ReadBack> ReadBack for Map<Bytes, T> {
 }
 
 impl RecordReadBack for PublicKeyCredentialDescriptor {
-    ghost normal = { λ d. d };
-
     #[tactic(auto, using(crate::proofs::RecordBack::descriptor_back))]
     fn record_back() {}
 }
 
 impl RecordReadBack for PublicKeyCredentialParameters {
-    ghost normal = { λ p. p };
-
     #[tactic(auto, using(crate::proofs::RecordBack::parameters_back))]
     fn record_back() {}
 }
 
 impl RecordReadBack for webauthn::PublicKeyCredentialUserEntity {
-    ghost normal = { λ u. u };
-
     #[tactic(auto, using(crate::proofs::RecordBack::user_back))]
     fn record_back() {}
 }
 
 impl ReadBack for [u8; 32] {
-    ghost normal = { λ b. b };
-
     #[tactic(auto, using(crate::proofs::SizedBack::numbers_back))]
     fn read_back() {}
 }

@@ -14,7 +14,7 @@ use passkey_webauthn::{
 /// A type whose encodings have at most a fixed number of nesting levels.
 pub trait Shallow: ToCbor {
     /// The most nesting levels, of arrays, maps and tags, that a value's encoding has.
-    ghost levels: { ℕ };
+    ghost levels: { ℕ } = { 0 };
 
     /// No value's encoding has more nesting levels. Does nothing.
     fn shallow()
@@ -22,50 +22,34 @@ pub trait Shallow: ToCbor {
 }
 
 impl Shallow for bool {
-    ghost levels = { 0 };
-
     fn shallow() {}
 }
 
 impl Shallow for u8 {
-    ghost levels = { 0 };
-
     fn shallow() {}
 }
 
 impl Shallow for u32 {
-    ghost levels = { 0 };
-
     fn shallow() {}
 }
 
 impl Shallow for Text {
-    ghost levels = { 0 };
-
     fn shallow() {}
 }
 
 impl Shallow for Bytes {
-    ghost levels = { 0 };
-
     fn shallow() {}
 }
 
 impl Shallow for Algorithm {
-    ghost levels = { 0 };
-
     fn shallow() {}
 }
 
 impl Shallow for PublicKeyCredentialType {
-    ghost levels = { 0 };
-
     fn shallow() {}
 }
 
 impl Shallow for AuthenticatorTransport {
-    ghost levels = { 0 };
-
     fn shallow() {}
 }
 

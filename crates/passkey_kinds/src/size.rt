@@ -4,7 +4,6 @@ ghost use Rattle.std.specs.Prelude.{◌≡◌, ℕ, pos, false, option_map};
 ghost use Rattle.std.specs.Int.NonZero.{non_zero_u128_get};
 ghost use Rattle.passkey_cbor.specs.Item.{number};
 ghost use Rattle.passkey_kinds.specs.Kind.{AnswersAs};
-ghost use Rattle.passkey_kinds.specs.Keeping.{nothing};
 ghost use Rattle.passkey_kinds.specs.Size.{size};
 
 use crate::from_cbor::FromCbor;
@@ -36,8 +35,6 @@ impl FromCbor for NonZeroU128 {
     ghost takes = { false };
 
     ghost cost = { 1 };
-
-    ghost keeps = { nothing };
 
     fn from_value(_alloc: Global, value: &Value) -> Result<NonZeroU128, Refusal> {
         match value {

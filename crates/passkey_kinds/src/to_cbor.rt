@@ -22,7 +22,7 @@ pub trait ToCbor {
     ghost tree: { Self → Item };
 
     /// What holds of a value that was encoded.
-    ghost fits: { Self → Type 0 };
+    ghost fits: { Self → Type 0 } = { Any };
 
     /// Returns the data item that the value is encoded as. Returns `OutOfMemory` if an allocation
     /// fails.
@@ -43,8 +43,6 @@ pub trait ToCbor {
 
 impl ToCbor for bool {
     ghost tree = { boolean };
-
-    ghost fits = { Any };
 
     fn to_value(&self, _alloc: Global) -> Result<Value, OutOfMemory> {
         Ok(Value::Bool(*self))
@@ -104,8 +102,6 @@ pub(crate) fn text(alloc: Global, text: &str) -> Result<Value, OutOfMemory>
 impl<'a> ToCbor for &'a str {
     ghost tree = { λ s. text_string s.now };
 
-    ghost fits = { Any };
-
     fn to_value(&self, alloc: Global) -> Result<Value, OutOfMemory> {
         text(alloc, self)
     }
@@ -117,8 +113,6 @@ impl<'a> ToCbor for &'a str {
 
 impl ToCbor for Text {
     ghost tree = { text_string };
-
-    ghost fits = { Any };
 
     fn to_value(&self, alloc: Global) -> Result<Value, OutOfMemory> {
         text(alloc, self.as_str())
@@ -132,8 +126,6 @@ impl ToCbor for Text {
 impl ToCbor for Bytes {
     ghost tree = { byte_string };
 
-    ghost fits = { Any };
-
     fn to_value(&self, alloc: Global) -> Result<Value, OutOfMemory> {
         Ok(Value::Bytes(Vec::from_slice(alloc, self.as_slice())?))
     }
@@ -145,8 +137,6 @@ impl ToCbor for Bytes {
 
 impl ToCbor for Value {
     ghost tree = { item_of };
-
-    ghost fits = { Any };
 
     fn to_value(&self, alloc: Global) -> Result<Value, OutOfMemory> {
         self.try_clone(alloc)
@@ -186,8 +176,6 @@ fn written_name<T: EnumNames>(alloc: Global, value: T) -> Result<Value, OutOfMem
 impl ToCbor for PublicKeyCredentialType {
     ghost tree = { credential_type_tree };
 
-    ghost fits = { Any };
-
     fn to_value(&self, alloc: Global) -> Result<Value, OutOfMemory> {
         written_name(alloc, *self)
     }
@@ -199,8 +187,6 @@ impl ToCbor for PublicKeyCredentialType {
 
 impl ToCbor for AuthenticatorTransport {
     ghost tree = { transport_tree };
-
-    ghost fits = { Any };
 
     fn to_value(&self, alloc: Global) -> Result<Value, OutOfMemory> {
         written_name(alloc, *self)

@@ -1,5 +1,6 @@
 //! Records that are encoded as maps.
 ghost use Rattle.std.specs.Prelude.{◌≡◌, List, OnOk};
+ghost use Rattle.passkey_kinds.specs.ReadBack.{Any};
 ghost use Rattle.passkey_kinds.specs.Sink.{AllAccepted, put_all};
 ghost use Rattle.passkey_kinds.specs.Tree.{Place, record_tree};
 
@@ -16,7 +17,7 @@ pub trait ToCborMap {
     ghost places: { Self → List Place };
 
     /// What holds of a record that was encoded.
-    ghost holds: { Self → Type 0 };
+    ghost holds: { Self → Type 0 } = { Any };
 
     /// Puts the members into a sink. Returns `OutOfMemory` if an allocation fails.
     fn put_members<S: Sink>(&self, alloc: Global, sink: &mut S) -> Result<(), OutOfMemory>

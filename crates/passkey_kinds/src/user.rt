@@ -2,7 +2,6 @@
 ghost use Rattle.passkey_kinds.specs.Trees.{webauthn_user_places};
 ghost use Rattle.passkey_kinds.specs.User.{user_fields};
 ghost use Rattle.passkey_webauthn.specs.declared.user.PublicKeyCredentialUserEntity.{PublicKeyCredentialUserEntity as UserEntity};
-ghost use Rattle.passkey_kinds.specs.ReadBack.{Any};
 
 use crate::record::Record;
 use crate::refusal::Refusal;
@@ -54,8 +53,6 @@ impl Record for PublicKeyCredentialUserEntity {
 
 impl ToCborMap for PublicKeyCredentialUserEntity {
     ghost places = { webauthn_user_places };
-
-    ghost holds = { Any };
 
     fn put_members<S: Sink>(&self, alloc: Global, sink: &mut S) -> Result<(), OutOfMemory> {
         sink.put(alloc, "id", &self.id)?;

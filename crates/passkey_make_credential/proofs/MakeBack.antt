@@ -1,21 +1,25 @@
--- The encoding of the options of authenticatorMakeCredential can be decoded again.
-use Rattle.std.proofs.Common.{◌≡◌, Some, refl}
+-- Options of authenticatorMakeCredential can be decoded again, have one level, and their keys ascend.
+use Rattle.std.proofs.Common.{ℕ, Bool, true, false, refl}
 use Rattle.std.specs.Prelude.{codes}
 use Rattle.passkey_cbor.specs.Item.{text_string}
-use Rattle.passkey_kinds.specs.ReadBack.{IsReadBack, Any}
-use Rattle.passkey_make_credential.specs.MakeOptions.{options_fields, options, options_places, options_tree, normal_options}
-use Rattle.passkey_make_credential.specs.declared.options.Options.{Options}
+use Rattle.passkey_cbor.specs.Written.{shortest_head}
 use Rattle.passkey_kinds.proofs.Back.{true_place}
+use Rattle.passkey_kinds.proofs.Lawful.{IsLawfulAs, lawful}
 use Rattle.passkey_kinds.proofs.LeafBack.{truth_back}
-use Rattle.passkey_kinds.proofs.RowsBack.{puts_value, puts_default, kind_back, ◌▸◌, no_more}
+use Rattle.passkey_kinds.proofs.Places.{PlaceHas}
+use Rattle.passkey_kinds.proofs.Plain.{IsPlain, plainly, truth_plain, text_plain}
+use Rattle.passkey_kinds.proofs.RowsBack.{puts_value, puts_default, ◌▸◌, no_more}
+use Rattle.passkey_kinds.specs.Tree.{where_true}
+use Rattle.passkey_make_credential.specs.MakeOptions.{options, normal_options}
 
--- `up` decodes to its default, true
-pub options_back : IsReadBack options options_tree Any normal_options
-options_back = record { back = λ o h. read o } where
-  read : (o : Options) → options (options_tree o) ≡ Some (normal_options o)
-  read o =
-      kind_back options_fields (options_places o) (normal_options o) refl refl
-      (puts_value truth_back o.rk tt ▸
-      puts_default (true_place (text_string (codes "up")) o.up) refl ▸
-      puts_value truth_back o.uv tt ▸
-      no_more)
+up_plain : (n : ℕ) (b : Bool) → PlaceHas (IsPlain n) (text_string (codes "up")) (where_true (text_string (codes "up")) b).1
+up_plain n true = (text_plain n (codes "up"), truth_plain n true)
+up_plain n false = tt
+
+pub options_law : IsLawfulAs normal_options 0 options
+unfolding shortest_head
+options_law = lawful 0 options (λ o. refl) (λ o. refl) (λ o. refl) (λ k o. search (plainly, up_plain)) (λ o fits.
+    puts_value truth_back o.rk tt ▸
+    puts_default (true_place (text_string (codes "up")) o.up) refl ▸
+    puts_value truth_back o.uv tt ▸
+    no_more)

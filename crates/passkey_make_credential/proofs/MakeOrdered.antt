@@ -8,17 +8,13 @@ use Rattle.passkey_cbor.specs.Written.{shortest_head}
 use Rattle.passkey_core.specs.Coherent.{is_coherent}
 use Rattle.passkey_extensions.proofs.ExtensionOrdered.{make_extensions_place}
 use Rattle.passkey_kinds.specs.MessageLaws.{WrittenIsCanonical}
-use Rattle.passkey_kinds.specs.Tree.{KeysAscend, number_tree}
+use Rattle.passkey_kinds.specs.Tree.{number_tree}
 use Rattle.passkey_kinds.proofs.Levels.{of_record as levels_of}
-use Rattle.passkey_kinds.proofs.Ordered.{ascend, keys_ascend, record_ordered, of_record, canonical_of, ordered_of}
+use Rattle.passkey_kinds.proofs.Ordered.{ascend, record_ordered, of_record, canonical_of, ordered_of}
 use Rattle.passkey_kinds.proofs.Plain.{in_order}
-use Rattle.passkey_make_credential.proofs.MakePlaces.{options_ascends, make_request_each, make_response_each}
-use Rattle.passkey_make_credential.specs.MakeOptions.{options_places}
+use Rattle.passkey_make_credential.proofs.MakePlaces.{make_request_each, make_response_each}
 use Rattle.passkey_make_credential.specs.MakeRequest.{MakeRequestParts, make_request_places, make_request_tree, make_request_kept, is_make_request_coherent}
 use Rattle.passkey_make_credential.specs.MakeResponse.{MakeResponseParts, make_response_places, make_response_tree, make_response_kept, is_make_response_coherent}
-
-pub options_keys : KeysAscend options_places
-options_keys o = keys_ascend (options_places o) (options_ascends o)
 
 -- ---- requests
 

@@ -21,7 +21,7 @@ use Rattle.passkey_kinds.proofs.RecordBack.{descriptor_back, parameters_back, us
 use Rattle.passkey_kinds.proofs.Plain.{few_levels}
 use Rattle.passkey_extensions.proofs.Keys.{made_key}
 use Rattle.passkey_entities.proofs.Entities.{rp_law, rp_fits}
-use Rattle.passkey_make_credential.proofs.MakeBack.{options_back}
+use Rattle.passkey_make_credential.proofs.MakeBack.{options_law}
 use Rattle.passkey_make_credential.proofs.MakePlaces.{make_request_each}
 use Rattle.passkey_kinds.proofs.RowsBack.{puts_value, puts_default, rows_back, ◌▸◌, no_more}
 
@@ -37,7 +37,7 @@ request_back r fits =
     puts_value (accepted_same parameters_back) r.pub_key_cred_params (λ k d less. tt) ▸
     puts_default (accepted_place descriptor_back r.exclude_list (all_of_anything r.exclude_list)) refl ▸
     puts_default (optional_place make_parts_back refl r.extensions fits.0) refl ▸
-    puts_value options_back r.options tt ▸
+    puts_value options_law.back r.options (tt, (tt, (tt, tt))) ▸
     puts_default (optional_place bytes_back refl r.pin_auth (anything r.pin_auth)) refl ▸
     puts_default (optional_place byte_back refl r.pin_protocol fits.1) refl ▸
     no_more)

@@ -12,7 +12,7 @@ use Rattle.passkey_kinds.specs.RecordCost.{nested}
 use Rattle.passkey_kinds.specs.Table.{Table}
 use Rattle.passkey_kinds.specs.Typed.{below, optional, bytes, accepted, tolerated}
 use Rattle.passkey_extensions.specs.MakeExtensions.{MakeExtensionsParts, make_extensions_fields, make_extensions_parts}
-use Rattle.passkey_make_credential.specs.MakeOptions.{options_default, options_tree, normal_options, options_fields}
+use Rattle.passkey_make_credential.specs.MakeOptions.{options, options_default, normal_options}
 use Rattle.passkey_entities.specs.Rp.{rp}
 use Rattle.passkey_kinds.specs.Parameters.{parameters_fields}
 use Rattle.passkey_kinds.specs.ReadBack.{IsByte}
@@ -75,7 +75,7 @@ make_request_fields = record {
       (λ x r. record r { exclude_list = x })
       ∷ default 6 (codes "extensions") (optional (nested make_extensions_fields))
       (λ x r. record r { extensions = x })
-      ∷ default 7 (codes "options") (nested options_fields) (λ x r. record r { options = x })
+      ∷ default 7 (codes "options") (nested (fields_of options)) (λ x r. record r { options = x })
       ∷ default 8 (codes "pinAuth") (optional bytes) (λ x r. record r { pin_auth = x })
       ∷ default 9 (codes "pinProtocol") (optional (below 256)) (λ x r. record r { pin_protocol = x })
       ∷ [];
@@ -98,7 +98,7 @@ make_request_places r =
     ∷ always (number_tree 4) (list_tree parameters_tree) r.pub_key_cred_params
     ∷ where_some (number_tree 5) (list_tree descriptor_tree) r.exclude_list
     ∷ where_some (number_tree 6) make_extensions_tree r.extensions
-    ∷ always (number_tree 7) options_tree r.options
+    ∷ always (number_tree 7) (plain_tree options) r.options
     ∷ where_some (number_tree 8) byte_string r.pin_auth
     ∷ where_some (number_tree 9) number_tree r.pin_protocol
     ∷ []

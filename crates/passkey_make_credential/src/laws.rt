@@ -4,14 +4,14 @@ ghost use Rattle.passkey_core.specs.Coherent.{is_coherent};
 ghost use Rattle.passkey_core.specs.DataNormal.{IsData, normal_data};
 ghost use Rattle.passkey_make_credential.specs.MakeRequest.{make_request_fields, read_make_request, make_request_tree, MakeRequestFits, is_make_request_coherent, normal_make_request, make_request_kept, make_request_parts};
 ghost use Rattle.passkey_make_credential.specs.MakeResponse.{make_response_fields, read_make_response, make_response_tree, MakeResponseFits, is_make_response_coherent, normal_make_response, attestation_tree, unattested, make_response_kept, make_response_parts};
-ghost use Rattle.passkey_make_credential.specs.MakeOptions.{options_places};
+ghost use Rattle.passkey_make_credential.specs.MakeOptions.{options};
 ghost use Rattle.passkey_kinds.specs.Tree.{KeysAscend};
 ghost use Rattle.passkey_kinds.specs.MessageLaws.{WrittenIsReadBack, ReadIsCoherent, WrittenIsCanonical};
+ghost use Rattle.passkey_kinds.specs.Placed.{places_of};
 ghost use Rattle.passkey_kinds.specs.RecordLaws.{PassesOverUnknown, KnowsMaps};
 
-pub use passkey_entities::laws::written_keys_ascend as written_entity_keys_ascend;
-
 use crate::{Request, Response};
+pub use passkey_entities::laws::written_keys_ascend as written_entity_keys_ascend;
 
 /// The encoding of a coherent request, whatever bytes follow, decodes to the request with the
 /// option `up` set to true.
@@ -109,7 +109,7 @@ pub fn written_make_response_is_canonical()
 }
 
 /// Options are encoded with their keys in CTAP2's order (CTAP 2.1, section 8).
-#[tactic(auto, using(crate::proofs::MakeOrdered::options_keys))]
+#[tactic(auto, using(crate::proofs::MakeBack::options_law))]
 pub fn written_keys_ascend()
-    ensures { KeysAscend options_places }
+    ensures { KeysAscend (places_of options.members) }
 {}

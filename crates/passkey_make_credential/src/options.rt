@@ -1,10 +1,8 @@
 //! Options of authenticatorMakeCredential requests.
 ghost use Rattle.std.specs.Prelude.{◌≡◌, true, false};
-ghost use Rattle.passkey_make_credential.specs.MakeOptions.{options_places, normal_options, options_fields, options_default};
-ghost use Rattle.passkey_make_credential.specs.declared.options.Options.{Options as Made};
-ghost use Rattle.passkey_kinds.specs.ReadBack.{Any};
+ghost use Rattle.passkey_make_credential.specs.MakeOptions.{normal_options, options, options_default};
 
-use passkey_kinds::{Record, RecordReadBack, Refusal, Row, Shallow, Sink, Source, ToCborMap, set};
+use passkey_kinds::{PlainRecord, Refusal, Row, Sink, Source, set};
 use passkey_memory::OutOfMemory;
 use std::alloc::Global;
 
@@ -35,16 +33,10 @@ impl Default for Options {
     }
 }
 
-impl Record for Options {
-    ghost Parts = { Made };
+impl PlainRecord for Options {
+    ghost table = { options };
 
-    ghost parts = { λ options. options };
-
-    ghost fields = { options_fields };
-
-    fn is_numbered() -> bool {
-        false
-    }
+    ghost normal = { normal_options };
 
     fn rows() -> &'static [Row] {
         &[
@@ -66,12 +58,6 @@ impl Record for Options {
             _ => Err(Refusal::Refused),
         }
     }
-}
-
-impl ToCborMap for Options {
-    ghost places = { options_places };
-
-    ghost holds = { Any };
 
     fn put_members<S: Sink>(&self, alloc: Global, sink: &mut S) -> Result<(), OutOfMemory> {
         sink.put(alloc, "rk", &self.rk)?;
@@ -79,18 +65,7 @@ impl ToCborMap for Options {
         sink.put(alloc, "uv", &self.uv)?;
         Ok(())
     }
-}
 
-impl RecordReadBack for Options {
-    ghost normal = { normal_options };
-
-    #[tactic(auto, using(crate::proofs::MakeBack::options_back))]
-    fn record_back() {}
-}
-
-impl Shallow for Options {
-    ghost levels = { 1 };
-
-    #[tactic(auto, using(crate::proofs::MakePlaces::options_levels))]
-    fn shallow() {}
+    #[tactic(auto, using(crate::proofs::MakeBack::options_law))]
+    fn lawful() {}
 }

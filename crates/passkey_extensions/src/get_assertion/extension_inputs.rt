@@ -97,8 +97,6 @@ impl ToCborMap for ExtensionInputs {
 }
 
 impl RecordReadBack for ExtensionInputs {
-    ghost normal = { λ e. e };
-
     #[tactic(auto, using(crate::proofs::ExtensionBack::get_extensions_back))]
     fn record_back() {}
 }

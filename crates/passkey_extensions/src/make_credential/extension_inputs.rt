@@ -105,8 +105,6 @@ impl ToCborMap for ExtensionInputs {
 }
 
 impl RecordReadBack for ExtensionInputs {
-    ghost normal = { λ e. e };
-
     #[tactic(auto, using(crate::proofs::ExtensionBack::make_extensions_back))]
     fn record_back() {}
 }

@@ -3,7 +3,6 @@
 ghost use Rattle.passkey_core.specs.declared.get_assertion.SignedExtensionOutputs.{SignedExtensionOutputs as SignedOutputs};
 ghost use Rattle.passkey_kinds.specs.GetSigned.{signed_fields};
 ghost use Rattle.passkey_core.specs.SignedOutputs.{assertion_item};
-ghost use Rattle.passkey_kinds.specs.ReadBack.{Any};
 
 use crate::read_back::RecordReadBack;
 use crate::record::Record;
@@ -45,8 +44,6 @@ impl Record for SignedExtensionOutputs {
 
 impl ToCbor for SignedExtensionOutputs {
     ghost tree = { assertion_item };
-
-    ghost fits = { Any };
 
     fn to_value(&self, alloc: Global) -> Result<Value, OutOfMemory> {
         self.to_value(alloc)

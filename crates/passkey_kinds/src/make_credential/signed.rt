@@ -3,7 +3,6 @@
 ghost use Rattle.passkey_core.specs.declared.make_credential.SignedExtensionOutputs.{SignedExtensionOutputs as SignedOutputs};
 ghost use Rattle.passkey_kinds.specs.MakeSigned.{signed_fields};
 ghost use Rattle.passkey_core.specs.SignedOutputs.{creation_item};
-ghost use Rattle.passkey_kinds.specs.ReadBack.{Any};
 
 use crate::read_back::RecordReadBack;
 use crate::record::Record;
@@ -52,8 +51,6 @@ impl Record for SignedExtensionOutputs {
 
 impl ToCbor for SignedExtensionOutputs {
     ghost tree = { creation_item };
-
-    ghost fits = { Any };
 
     fn to_value(&self, alloc: Global) -> Result<Value, OutOfMemory> {
         self.to_value(alloc)

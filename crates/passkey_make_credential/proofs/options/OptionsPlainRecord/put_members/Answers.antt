@@ -1,5 +1,5 @@
 use Rattle.std.proofs.Common.{refl}
-use Rattle.passkey_make_credential.proofs.options.OptionsToCborMap.put_members.Goals as goal
+use Rattle.passkey_make_credential.proofs.options.OptionsPlainRecord.put_members.Goals as goal
 
 pub returns-clause-put : goal.returns-clause-put
 returns-clause-put g c =
