@@ -30,9 +30,9 @@ options_default = record {
 abbrev flag : ℕ → List ℕ → (Options → Option Bool) → (Option Bool → Options → Options) → Placed Options
 flag n name get set = optional_as n name truth get set
 
--- the options with keys of at most eight bytes
-abbrev pub short_options : List (Placed Options)
-short_options =
+-- the options that are encoded first: the prover follows the chain of as many members
+abbrev pub first_options : List (Placed Options)
+first_options =
     flag 9 (codes "ep") (λ o. o.ep) (λ b o. record o { ep = b })
     ∷ default_as 2 (codes "rk") truth (λ o. o.rk) (λ b o. record o { rk = b })
     ∷ default_as 4 (codes "up") truth (λ o. o.up) (λ b o. record o { up = b })
@@ -41,13 +41,13 @@ short_options =
     ∷ flag 14 (codes "uvAcfg") (λ o. o.uv_acfg) (λ b o. record o { uv_acfg = b })
     ∷ flag 19 (codes "alwaysUv") (λ o. o.always_uv) (λ b o. record o { always_uv = b })
     ∷ flag 15 (codes "credMgmt") (λ o. o.cred_mgmt) (λ b o. record o { cred_mgmt = b })
+    ∷ flag 13 (codes "authnrCfg") (λ o. o.authnr_cfg) (λ b o. record o { authnr_cfg = b })
+    ∷ flag 10 (codes "bioEnroll") (λ o. o.bio_enroll) (λ b o. record o { bio_enroll = b })
     ∷ []
 
-abbrev pub long_options : List (Placed Options)
-long_options =
-    flag 13 (codes "authnrCfg") (λ o. o.authnr_cfg) (λ b o. record o { authnr_cfg = b })
-    ∷ flag 10 (codes "bioEnroll") (λ o. o.bio_enroll) (λ b o. record o { bio_enroll = b })
-    ∷ flag 3 (codes "clientPin") (λ o. o.client_pin) (λ b o. record o { client_pin = b })
+abbrev pub last_options : List (Placed Options)
+last_options =
+    flag 3 (codes "clientPin") (λ o. o.client_pin) (λ b o. record o { client_pin = b })
     ∷ flag 8 (codes "largeBlobs") (λ o. o.large_blobs) (λ b o. record o { large_blobs = b })
     ∷ flag 12 (codes "uvBioEnroll") (λ o. o.uv_bio_enroll) (λ b o. record o { uv_bio_enroll = b })
     ∷ flag 6 (codes "pinUvAuthToken") (λ o. o.pin_uv_auth_token)
@@ -65,4 +65,4 @@ long_options =
     ∷ []
 
 abbrev pub options : PlainTable Options
-options = record { blank = options_default; members = short_options ++ long_options }
+options = record { blank = options_default; members = first_options ++ last_options }

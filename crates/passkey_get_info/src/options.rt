@@ -1,6 +1,6 @@
 //! Options of authenticatorGetInfo responses.
 ghost use Rattle.std.specs.Prelude.{◌≡◌, true, OnOk};
-ghost use Rattle.passkey_get_info.specs.GetInfoOptions.{long_options, options, options_default, short_options};
+ghost use Rattle.passkey_get_info.specs.GetInfoOptions.{first_options, last_options, options, options_default};
 ghost use Rattle.passkey_kinds.specs.Placed.{places_of};
 ghost use Rattle.passkey_kinds.specs.Sink.{AllAccepted, put_all};
 
@@ -92,9 +92,9 @@ impl Default for Options {
 }
 
 impl Options {
-    fn put_short<S: Sink>(&self, alloc: Global, sink: &mut S) -> Result<(), OutOfMemory>
-        ensures put { OnOk result (S.state sink.new ≡ put_all S.step (S.state sink.old) (places_of short_options self.now)) }
-        ensures accepts { OnOk result (AllAccepted S.Accepts (places_of short_options self.now)) }
+    fn put_first<S: Sink>(&self, alloc: Global, sink: &mut S) -> Result<(), OutOfMemory>
+        ensures put { OnOk result (S.state sink.new ≡ put_all S.step (S.state sink.old) (places_of first_options self.now)) }
+        ensures accepts { OnOk result (AllAccepted S.Accepts (places_of first_options self.now)) }
     {
         sink.put_some(alloc, "ep", &self.ep)?;
         sink.put(alloc, "rk", &self.rk)?;
@@ -104,15 +104,15 @@ impl Options {
         sink.put_some(alloc, "uvAcfg", &self.uv_acfg)?;
         sink.put_some(alloc, "alwaysUv", &self.always_uv)?;
         sink.put_some(alloc, "credMgmt", &self.cred_mgmt)?;
+        sink.put_some(alloc, "authnrCfg", &self.authnr_cfg)?;
+        sink.put_some(alloc, "bioEnroll", &self.bio_enroll)?;
         Ok(())
     }
 
-    fn put_long<S: Sink>(&self, alloc: Global, sink: &mut S) -> Result<(), OutOfMemory>
-        ensures put { OnOk result (S.state sink.new ≡ put_all S.step (S.state sink.old) (places_of long_options self.now)) }
-        ensures accepts { OnOk result (AllAccepted S.Accepts (places_of long_options self.now)) }
+    fn put_last<S: Sink>(&self, alloc: Global, sink: &mut S) -> Result<(), OutOfMemory>
+        ensures put { OnOk result (S.state sink.new ≡ put_all S.step (S.state sink.old) (places_of last_options self.now)) }
+        ensures accepts { OnOk result (AllAccepted S.Accepts (places_of last_options self.now)) }
     {
-        sink.put_some(alloc, "authnrCfg", &self.authnr_cfg)?;
-        sink.put_some(alloc, "bioEnroll", &self.bio_enroll)?;
         sink.put_some(alloc, "clientPin", &self.client_pin)?;
         sink.put_some(alloc, "largeBlobs", &self.large_blobs)?;
         sink.put_some(alloc, "uvBioEnroll", &self.uv_bio_enroll)?;
@@ -199,8 +199,8 @@ impl PlainRecord for Options {
     }
 
     fn put_members<S: Sink>(&self, alloc: Global, sink: &mut S) -> Result<(), OutOfMemory> {
-        self.put_short(alloc, sink)?;
-        self.put_long(alloc, sink)?;
+        self.put_first(alloc, sink)?;
+        self.put_last(alloc, sink)?;
         Ok(())
     }
 

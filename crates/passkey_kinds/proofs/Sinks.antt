@@ -21,6 +21,7 @@ accepted_both Accepts (p ∷ ps) qs h k = (h.0, accepted_both Accepts ps qs h.1 
 -- ---- a list of members
 
 appended_one : (ms : Members) (key : Item) (o : Option Item) → put_one append_member ms key o ≡ ms ++ under key o
+unfolding put_one
 appended_one ms key None = sym (append-nil ms)
 appended_one ms key (Some x) = refl
 
@@ -36,6 +37,7 @@ count_one key x n = suc n
 
 counted_one : (n : ℕ) (key : Item) (o : Option Item) (ms : Members)
     → put_one count_one n key o + length ms ≡ n + length (under key o ++ ms)
+unfolding put_one
 counted_one n key None ms = refl
 counted_one n key (Some x) ms = omega arith
 
@@ -49,6 +51,7 @@ counted_all n (p ∷ ps) =
 encoded_one : (bytes : List ℕ) (key : Item) (o : Option Item) (ms : Members)
     → put_one encode_member bytes key o ++ pairs_written (pairs_of ms)
     ≡ bytes ++ pairs_written (pairs_of (under key o ++ ms))
+unfolding put_one
 encoded_one bytes key None ms = refl
 encoded_one bytes key (Some x) ms =
     let rest : List ℕ = pairs_written (pairs_of ms) in

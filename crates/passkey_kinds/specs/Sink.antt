@@ -6,8 +6,9 @@ use Rattle.passkey_kinds.specs.Table.{Members}
 use Rattle.passkey_kinds.specs.Tree.{Place}
 use Rattle.passkey_kinds.specs.declared.sink.Counted.{Counted}
 
--- the state after a member, if it is present
-abbrev pub put_one : {S : Type 0} → (Item → Item → S → S) → S → Item → Option Item → S
+-- The state after a member, if it is present. It is unfolded only where it is proved of a sink, so
+-- that the prover can follow a chain of members.
+unfoldable pub put_one : {S : Type 0} → (Item → Item → S → S) → S → Item → Option Item → S
 put_one step s key None = s
 put_one step s key (Some x) = step key x s
 

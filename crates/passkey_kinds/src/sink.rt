@@ -35,12 +35,14 @@ pub trait Sink {
         key: K,
         value: &T,
     ) -> Result<(), OutOfMemory>
-        ensures put { OnOk result (state self.new ≡ step (K.tree key) (T.tree value.now) (state self.old)) }
+        ensures put { OnOk result
+            (state self.new ≡ put_one step (state self.old) (K.tree key) (Some (T.tree value.now))) }
         ensures accepts { OnOk result (MemberAccepted Accepts (K.tree key) (Some (T.tree value.now))) }
         ensures fits { OnOk result (Encodes → T.fits value.now) };
 
     /// Puts a member under this key if the value is present. Returns `OutOfMemory` if an allocation
     /// fails.
+    #[tactic(auto, unfolding(crate::specs::Sink::put_one))]
     fn put_some<K: ToCbor + Drop, T: ToCbor>(
         &mut self,
         alloc: Global,
@@ -60,6 +62,7 @@ pub trait Sink {
 
     /// Puts a member with the value true under this key if the flag is true. Returns `OutOfMemory`
     /// if an allocation fails.
+    #[tactic(auto, unfolding(crate::specs::Sink::put_one))]
     fn put_true<K: ToCbor + Drop>(
         &mut self,
         alloc: Global,
@@ -96,6 +99,7 @@ impl Sink for Counted {
 
     ghost Encodes = { ⊥ };
 
+    #[tactic(auto, unfolding(crate::specs::Sink::put_one))]
     fn put<K: ToCbor + Drop, T: ToCbor>(
         &mut self,
         _alloc: Global,
@@ -118,6 +122,7 @@ impl Sink for Encoder {
 
     ghost Encodes = { Unit {0} };
 
+    #[tactic(auto, unfolding(crate::specs::Sink::put_one))]
     fn put<K: ToCbor + Drop, T: ToCbor>(
         &mut self,
         alloc: Global,

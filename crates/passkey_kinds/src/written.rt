@@ -93,6 +93,7 @@ impl Sink for Written {
 
     ghost Encodes = { Unit {0} };
 
+    #[tactic(auto, unfolding(crate::specs::Sink::put_one))]
     fn put<K: ToCbor + Drop, T: ToCbor>(
         &mut self,
         alloc: Global,

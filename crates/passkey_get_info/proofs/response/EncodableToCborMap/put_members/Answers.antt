@@ -1,17 +1,9 @@
-use Rattle.std.proofs.Common.{refl}
 use Rattle.passkey_get_info.specs.Encodable.{encodable_capabilities, encodable_parts}
 use Rattle.std.specs.Prelude.{◌++◌}
 use Rattle.passkey_get_info.specs.GetInfo.{limits, states}
 use Rattle.passkey_kinds.specs.Placed.{places_of}
 use Rattle.passkey_kinds.proofs.Sinks.{accepted_both}
 use Rattle.passkey_get_info.proofs.response.EncodableToCborMap.put_members.Goals as goal
-
-pub returns-clause-put : goal.returns-clause-put
-returns-clause-put g c = rw (
-  c.in_ok-put_state.ensures.put,
-  c.in_ok-put_limits.ensures.put,
-  c.in_ok-put_capabilities.ensures.put,
-) refl
 
 pub returns-clause-accepts : goal.returns-clause-accepts
 returns-clause-accepts g c =

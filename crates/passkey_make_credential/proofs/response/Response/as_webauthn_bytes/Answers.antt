@@ -2,11 +2,13 @@ use Rattle.std.proofs.Common.{◌∙◌, ℕ, List, [], ◌++◌, ap, refl}
 use Rattle.passkey_cbor.specs.Written.{shortest_head}
 use Rattle.passkey_cbor.proofs.Views.{item_of-Map}
 use Rattle.passkey_core.specs.DataViews.{data_parts}
+use Rattle.passkey_kinds.specs.Sink.{put_one}
 use Rattle.passkey_kinds.proofs.Sinks.{record_written}
 use Rattle.passkey_make_credential.specs.MakeResponse.{attestation_places}
 use Rattle.passkey_make_credential.proofs.response.Response.as_webauthn_bytes.Goals as goal
 
 pub returns-clause-written : goal.returns-clause-written
+unfolding put_one
 returns-clause-written c =
     c.into_vec.ensures
     ∙ record_written (attestation_places (data_parts c.args.self.now.auth_data)) 3 [] c.map_head.new.self.bytes.items

@@ -1,10 +1,9 @@
 use Rattle.std.proofs.Common.{refl}
-use Rattle.passkey_get_info.proofs.response.Encodable.put_limits.Goals as goal
+use Rattle.passkey_get_info.proofs.options.Options.put_last.Goals as goal
 
 pub returns-clause-put : goal.returns-clause-put
 returns-clause-put g c =
     rw (
-      c.in_ok-put_some-10.ensures.put,
       c.in_ok-put_some-9.ensures.put,
       c.in_ok-put_some-8.ensures.put,
       c.in_ok-put_some-7.ensures.put,
