@@ -1,19 +1,22 @@
 -- Inputs and outputs of the extension prf can be decoded again, have few levels, and their keys
 -- ascend.
-use Rattle.std.proofs.Common.{◌∙◌, ℕ, suc, Option, Some, None, refl, ap}
-use Rattle.passkey_cbor.specs.Item.{Item}
+use Rattle.std.proofs.Common.{◌∙◌, ℕ, suc, ◌≤◌, arith, Option, Some, None, refl, ap}
+use Rattle.passkey_cbor.specs.Depth.{depth}
 use Rattle.passkey_cbor.specs.Written.{shortest_head}
-use Rattle.passkey_extensions.specs.Prf.{prf_values, prf_inputs, prf_made, prf_used, made, used}
+use Rattle.passkey_extensions.specs.Prf.{prf_values, prf_inputs, prf_made, prf_used, unsigned, normal_unsigned}
+use Rattle.passkey_extensions.specs.declared.unsigned.UnsignedExtensionOutputs.{UnsignedExtensionOutputs}
 use Rattle.passkey_kinds.specs.Coded.{from_bytes, plain}
+use Rattle.passkey_kinds.specs.Placed.{PlainTable, EachFits, fields_of, places_of, plain_kind, plain_tree}
 use Rattle.passkey_kinds.specs.ReadBack.{IsReadBack}
 use Rattle.passkey_kinds.specs.Tree.{option_tree}
-use Rattle.passkey_kinds.proofs.Lawful.{IsLawful, lawful}
-use Rattle.passkey_kinds.proofs.LeafBack.{truth_back, or_null_same, optional_place}
+use Rattle.passkey_kinds.proofs.Lawful.{IsLawful, lawful, raised}
+use Rattle.passkey_kinds.proofs.LeafBack.{truth_back, or_null_back, or_null_same, optional_place}
+use Rattle.passkey_kinds.proofs.Levels.{record_within}
 use Rattle.passkey_kinds.proofs.MapBack.{map_back}
 use Rattle.passkey_kinds.proofs.Maps.{map_values_same}
 use Rattle.passkey_kinds.proofs.Plain.{IsPlain, plainly, null_plain, map_plain}
 use Rattle.passkey_kinds.proofs.RecordPlain.{numbers_plain}
-use Rattle.passkey_kinds.proofs.RowsBack.{puts_value, puts_default, ◌▸◌, no_more}
+use Rattle.passkey_kinds.proofs.RowsBack.{puts_value, puts_default, kind_back, ◌▸◌, no_more}
 use Rattle.passkey_kinds.proofs.SizedBack.{numbers_back}
 
 pub values_law : IsLawful 1 prf_values
@@ -54,21 +57,35 @@ used_outputs_law =
     puts_value values_law.back o.results (search) ▸
     no_more)
 
-or_null : (n : ℕ) {A : Type 0} (tree : A → Item) → ((x : A) → IsPlain n (tree x)) → (o : Option A)
-    → IsPlain n (option_tree tree o)
-or_null n tree each None = null_plain n
-or_null n tree each (Some x) = each x
+-- ---- unsigned outputs
 
-pub made_law : IsLawful 3 made
-unfolding shortest_head
-made_law = lawful 3 made (λ o. refl) (λ o. refl) (λ o. refl)
-    (λ k o. search (plainly, or_null (suc (suc (suc k))), made_outputs_law.plain k)) (λ o fits.
-    puts_value (or_null_same made_outputs_law.back refl) o.prf (search) ▸
-    no_more)
+module _ {P : Type 0} (t : PlainTable P) where
+  pub unsigned_back : {normal : P → P} → IsReadBack (plain_kind t) (plain_tree t) (EachFits t.members) normal
+      → IsReadBack (plain_kind (unsigned t)) (plain_tree (unsigned t)) (EachFits (unsigned t).members)
+      (normal_unsigned normal)
+  unsigned_back {normal} law = record {
+    back = λ o fits. kind_back (fields_of (unsigned t)) (places_of (unsigned t).members o) (normal_unsigned normal o)
+        refl refl (puts_value (or_null_back law refl) o.prf fits.0 ▸ no_more);
+  }
 
-pub used_law : IsLawful 3 used
-unfolding shortest_head
-used_law = lawful 3 used (λ o. refl) (λ o. refl) (λ o. refl)
-    (λ k o. search (plainly, or_null (suc (suc (suc k))), used_outputs_law.plain k)) (λ o fits.
-    puts_value (or_null_same used_outputs_law.back refl) o.prf (search) ▸
-    no_more)
+  or_null_within : (n : ℕ) → ((r : P) → depth (plain_tree t r) ≤ n) → (o : Option P)
+      → depth (option_tree (plain_tree t) o) ≤ n
+  or_null_within n each None = omega arith
+  or_null_within n each (Some r) = each r
+
+  pub unsigned_levels : (n : ℕ) → ((r : P) → depth (plain_tree t r) ≤ suc n) → (o : UnsignedExtensionOutputs P)
+      → depth (plain_tree (unsigned t) o) ≤ suc (suc n)
+  unsigned_levels n each o =
+      record_within (suc n) (places_of (unsigned t).members o) ((omega arith, or_null_within (suc n) each o.prf), tt)
+
+  or_null_plain : (n : ℕ) → ((r : P) → IsPlain n (plain_tree t r)) → (o : Option P)
+      → IsPlain n (option_tree (plain_tree t) o)
+  or_null_plain n each None = null_plain n
+  or_null_plain n each (Some r) = each r
+
+  pub unsigned_law : {n : ℕ} → IsLawful n t → IsLawful (suc n) (unsigned t)
+  unfolding shortest_head
+  unsigned_law {n} law = lawful (suc n) (unsigned t) (λ o. refl) (λ o. refl) (λ o. refl)
+      (λ k o. search (plainly, or_null_plain (suc (raised n k)) (law.plain k))) (λ o fits.
+      puts_value (or_null_same law.back refl) o.prf fits.0 ▸
+      no_more)

@@ -1,11 +1,10 @@
 -- Inputs and outputs of the extension prf (WebAuthn Level 3, sections 9 and 10.1.4).
-use Rattle.std.specs.Prelude.{[], ◌∷◌, None, codes, false, replicate}
-use Rattle.passkey_extensions.specs.declared.get_assertion.unsigned.UnsignedExtensionOutputs as assertion
-use Rattle.passkey_extensions.specs.declared.make_credential.unsigned.UnsignedExtensionOutputs as creation
+use Rattle.std.specs.Prelude.{[], ◌∷◌, None, codes, false, replicate, option_map}
 use Rattle.passkey_extensions.specs.declared.prf_get_outputs.AuthenticatorPrfGetOutputs.{AuthenticatorPrfGetOutputs}
 use Rattle.passkey_extensions.specs.declared.prf_inputs.AuthenticatorPrfInputs.{AuthenticatorPrfInputs}
 use Rattle.passkey_extensions.specs.declared.prf_make_outputs.AuthenticatorPrfMakeOutputs.{AuthenticatorPrfMakeOutputs}
 use Rattle.passkey_extensions.specs.declared.prf_values.AuthenticatorPrfValues.{AuthenticatorPrfValues}
+use Rattle.passkey_extensions.specs.declared.unsigned.UnsignedExtensionOutputs.{UnsignedExtensionOutputs}
 use Rattle.passkey_kinds.specs.Coded.{truth, sized_bytes, or_null, from_bytes, plain}
 use Rattle.passkey_kinds.specs.Placed.{PlainTable, required_as, default_as, optional_as}
 
@@ -42,15 +41,12 @@ prf_used = record {
   members = required_as 1 (codes "results") (plain prf_values) (λ o. o.results) (λ x o. record o { results = x }) ∷ [];
 }
 
--- the unsigned outputs of both commands, whose member is null if there are none
-abbrev pub made : PlainTable creation.UnsignedExtensionOutputs
-made = record {
+-- the unsigned outputs of a command with these outputs, whose member is null if there are none
+abbrev pub unsigned : {P : Type 0} → PlainTable P → PlainTable (UnsignedExtensionOutputs P)
+unsigned t = record {
   blank = record { prf = None };
-  members = default_as 1 (codes "prf") (or_null (plain prf_made)) (λ o. o.prf) (λ x o. record o { prf = x }) ∷ [];
+  members = default_as 1 (codes "prf") (or_null (plain t)) (λ o. o.prf) (λ x o. record o { prf = x }) ∷ [];
 }
 
-abbrev pub used : PlainTable assertion.UnsignedExtensionOutputs
-used = record {
-  blank = record { prf = None };
-  members = default_as 1 (codes "prf") (or_null (plain prf_used)) (λ o. o.prf) (λ x o. record o { prf = x }) ∷ [];
-}
+abbrev pub normal_unsigned : {P : Type 0} → (P → P) → UnsignedExtensionOutputs P → UnsignedExtensionOutputs P
+normal_unsigned normal o = record { prf = option_map normal o.prf }

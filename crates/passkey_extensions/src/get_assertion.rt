@@ -2,7 +2,11 @@
 //! 6.2).
 
 mod extension_inputs;
-mod unsigned;
 
 pub use extension_inputs::ExtensionInputs;
-pub use unsigned::UnsignedExtensionOutputs;
+
+/// The extension outputs of an authenticatorGetAssertion response that are outside its
+/// authenticator data (WebAuthn Level 3, section 9).
+pub type UnsignedExtensionOutputs = crate::UnsignedExtensionOutputs<
+    crate::AuthenticatorPrfGetOutputs,
+>;

@@ -10,9 +10,11 @@ mod prf_get_outputs;
 mod prf_inputs;
 mod prf_make_outputs;
 mod prf_values;
+mod unsigned;
 
 pub use hmac_secret::HmacGetSecretInput;
 pub use prf_get_outputs::AuthenticatorPrfGetOutputs;
 pub use prf_inputs::AuthenticatorPrfInputs;
 pub use prf_make_outputs::AuthenticatorPrfMakeOutputs;
 pub use prf_values::AuthenticatorPrfValues;
+pub use unsigned::UnsignedExtensionOutputs;

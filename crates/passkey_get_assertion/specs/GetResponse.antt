@@ -9,8 +9,9 @@ use Rattle.passkey_core.specs.DataParts.{DataParts, bare_data}
 use Rattle.passkey_kinds.specs.Data.{auth_data_tree}
 use Rattle.passkey_entities.specs.User.{user}
 use Rattle.passkey_entities.specs.declared.user.PublicKeyCredentialUserEntity.{PublicKeyCredentialUserEntity}
-use Rattle.passkey_extensions.specs.Prf.{used}
-use Rattle.passkey_extensions.specs.declared.get_assertion.unsigned.UnsignedExtensionOutputs.{UnsignedExtensionOutputs}
+use Rattle.passkey_extensions.specs.Prf.{prf_used, unsigned}
+use Rattle.passkey_extensions.specs.declared.prf_get_outputs.AuthenticatorPrfGetOutputs.{AuthenticatorPrfGetOutputs}
+use Rattle.passkey_extensions.specs.declared.unsigned.UnsignedExtensionOutputs.{UnsignedExtensionOutputs}
 use Rattle.passkey_kinds.specs.Descriptor.{descriptor_fields}
 use Rattle.passkey_kinds.specs.Placed.{EachFits, fields_of, plain_tree}
 use Rattle.passkey_kinds.specs.Record.{Fields, required, default, table_of, read_item}
@@ -34,7 +35,7 @@ pub record GetResponseParts : Type 0 where
   pub number_of_credentials : Option ℕ
   pub user_selected : Option Bool
   pub large_blob_key : Option (List ℕ)
-  pub unsigned_extension_outputs : Option UnsignedExtensionOutputs
+  pub unsigned_extension_outputs : Option (UnsignedExtensionOutputs AuthenticatorPrfGetOutputs)
 
 abbrev pub get_response_parts : Response → GetResponseParts
 get_response_parts r = record {
@@ -69,7 +70,7 @@ get_response_fields = record {
       (λ x r. record r { number_of_credentials = x })
       ∷ default 6 (codes "userSelected") (optional truth) (λ x r. record r { user_selected = x })
       ∷ default 7 (codes "largeBlobKey") (optional bytes) (λ x r. record r { large_blob_key = x })
-      ∷ default 8 (codes "unsignedExtensionOutputs") (optional (nested (fields_of used)))
+      ∷ default 8 (codes "unsignedExtensionOutputs") (optional (nested (fields_of (unsigned prf_used))))
       (λ x r. record r { unsigned_extension_outputs = x })
       ∷ [];
 }
@@ -92,7 +93,7 @@ get_response_places r =
     ∷ where_some (number_tree 5) number_tree r.number_of_credentials
     ∷ where_some (number_tree 6) boolean r.user_selected
     ∷ where_some (number_tree 7) byte_string r.large_blob_key
-    ∷ where_some (number_tree 8) (plain_tree used) r.unsigned_extension_outputs
+    ∷ where_some (number_tree 8) (plain_tree (unsigned prf_used)) r.unsigned_extension_outputs
     ∷ []
 
 abbrev pub get_response_tree : GetResponseParts → Item
@@ -106,7 +107,7 @@ get_response_kept r = []
 pub record GetResponseFits (r : GetResponseParts) : Type 0 where
   pub auth_data : IsData r.auth_data
   pub number_of_credentials : IfPresent IsByte r.number_of_credentials
-  pub unsigned_extension_outputs : IfPresent (EachFits used.members) r.unsigned_extension_outputs
+  pub unsigned_extension_outputs : IfPresent (EachFits (unsigned prf_used).members) r.unsigned_extension_outputs
 
 -- the authenticator data is coherent, and the encoding has at most `max_depth` nesting levels
 abbrev pub is_get_response_coherent : GetResponseParts → Bool

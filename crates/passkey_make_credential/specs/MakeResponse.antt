@@ -7,7 +7,7 @@ use Rattle.passkey_core.specs.Coherent.{is_coherent}
 use Rattle.passkey_core.specs.DataNormal.{IsData, IfPresent, normal_data}
 use Rattle.passkey_core.specs.DataParts.{DataParts, bare_data}
 use Rattle.passkey_kinds.specs.Data.{auth_data_tree}
-use Rattle.passkey_extensions.specs.Prf.{made}
+use Rattle.passkey_extensions.specs.Prf.{prf_made, unsigned}
 use Rattle.passkey_kinds.specs.Placed.{EachFits, fields_of, plain_tree}
 use Rattle.passkey_kinds.specs.Record.{Fields, required, default, table_of, read_item}
 use Rattle.passkey_kinds.specs.RecordCost.{nested}
@@ -15,7 +15,8 @@ use Rattle.passkey_kinds.specs.Table.{Table}
 use Rattle.passkey_kinds.specs.Typed.{bytes, kept, optional, text, truth, authenticator_data}
 use Rattle.passkey_kinds.specs.Tree.{Place, number_tree, always, where_some, record_tree}
 use Rattle.passkey_kinds.specs.declared.fault.Fault.{Fault}
-use Rattle.passkey_extensions.specs.declared.make_credential.unsigned.UnsignedExtensionOutputs.{UnsignedExtensionOutputs}
+use Rattle.passkey_extensions.specs.declared.prf_make_outputs.AuthenticatorPrfMakeOutputs.{AuthenticatorPrfMakeOutputs}
+use Rattle.passkey_extensions.specs.declared.unsigned.UnsignedExtensionOutputs.{UnsignedExtensionOutputs}
 use Rattle.passkey_cbor.specs.View.{item_of}
 use Rattle.passkey_core.specs.DataViews.{data_parts}
 use Rattle.passkey_make_credential.specs.declared.response.Response.{Response}
@@ -27,7 +28,7 @@ pub record MakeResponseParts : Type 0 where
   pub att_stmt : Item
   pub ep_att : Option Bool
   pub large_blob_key : Option (List ℕ)
-  pub unsigned_extension_outputs : Option UnsignedExtensionOutputs
+  pub unsigned_extension_outputs : Option (UnsignedExtensionOutputs AuthenticatorPrfMakeOutputs)
 
 abbrev pub make_response_parts : Response → MakeResponseParts
 make_response_parts r = record {
@@ -55,7 +56,7 @@ make_response_fields = record {
       ∷ required 3 (codes "attStmt") kept (λ x r. record r { att_stmt = x })
       ∷ default 4 (codes "epAtt") (optional truth) (λ x r. record r { ep_att = x })
       ∷ default 5 (codes "largeBlobKey") (optional bytes) (λ x r. record r { large_blob_key = x })
-      ∷ default 6 (codes "unsignedExtensionOutputs") (optional (nested (fields_of made)))
+      ∷ default 6 (codes "unsignedExtensionOutputs") (optional (nested (fields_of (unsigned prf_made))))
       (λ x r. record r { unsigned_extension_outputs = x })
       ∷ [];
 }
@@ -76,7 +77,7 @@ make_response_places r =
     ∷ always (number_tree 3) (λ i. i) r.att_stmt
     ∷ where_some (number_tree 4) boolean r.ep_att
     ∷ where_some (number_tree 5) byte_string r.large_blob_key
-    ∷ where_some (number_tree 6) (plain_tree made) r.unsigned_extension_outputs
+    ∷ where_some (number_tree 6) (plain_tree (unsigned prf_made)) r.unsigned_extension_outputs
     ∷ []
 
 abbrev pub make_response_tree : MakeResponseParts → Item
@@ -88,7 +89,7 @@ make_response_kept r = r.att_stmt ∷ []
 
 -- what holds of every response
 abbrev pub MakeResponseFits : MakeResponseParts → Type 0
-MakeResponseFits r = IsData r.auth_data × IfPresent (EachFits made.members) r.unsigned_extension_outputs
+MakeResponseFits r = IsData r.auth_data × IfPresent (EachFits (unsigned prf_made).members) r.unsigned_extension_outputs
 
 -- the authenticator data is coherent, and the encoding has at most `max_depth` nesting levels
 abbrev pub is_make_response_coherent : MakeResponseParts → Bool
