@@ -1,5 +1,5 @@
 -- authenticatorGetAssertion requests: decoding their encodings again, and their nesting levels.
-use Rattle.std.proofs.Common.{◌≡◌, ◌∙◌, ℕ, ◌<◌, ◌≤◌, nat_le, arith, le-leb, leb-true, true, Option, Some, None, option_map, Ok, refl, sym}
+use Rattle.std.proofs.Common.{◌≡◌, ℕ, ◌<◌, ◌≤◌, nat_le, arith, le-leb, leb-true, true, Option, Some, Ok, refl}
 use Rattle.passkey_cbor.specs.Depth.{depth}
 use Rattle.passkey_cbor.specs.LeadingItem.{max_depth}
 use Rattle.passkey_cbor.specs.Item.{Item}
@@ -8,16 +8,15 @@ use Rattle.passkey_get_assertion.specs.GetRequest.{GetRequestParts, get_request_
 use Rattle.passkey_get_assertion.proofs.GetBack.{options_law}
 use Rattle.passkey_extensions.specs.ExtensionTrees.{hmac_input_tree, get_extensions_tree}
 use Rattle.passkey_extensions.specs.GetExtensions.{GetExtensionsParts, get_extensions}
-use Rattle.passkey_extensions.specs.HmacInput.{HmacInputParts}
 use Rattle.passkey_extensions.proofs.ExtensionBack.{get_parts_back}
-use Rattle.passkey_extensions.proofs.ExtensionLevels.{same_tests, some_within, none_within, of_some, input_up, used_with, used_without}
+use Rattle.passkey_extensions.proofs.ExtensionLevels.{input_up, used_levels}
 use Rattle.passkey_extensions.proofs.Keys.{used_key}
 use Rattle.passkey_kinds.specs.Kind.{tolerated}
 use Rattle.passkey_kinds.specs.MessageLaws.{WrittenIsReadBack, ReadIsCoherent}
 use Rattle.passkey_kinds.specs.Tree.{number_tree}
+use Rattle.passkey_kinds.proofs.Deep.{OnlyDeep, only_deep, deep_coherent}
 use Rattle.passkey_kinds.proofs.Keeping.{record_keeps}
 use Rattle.passkey_kinds.proofs.LeafBack.{byte_back, text_back, bytes_back, anything, all_of_anything, optional_place, accepted_place, tolerated_place}
-use Rattle.passkey_kinds.proofs.Levels.{PlaceWithin, record_within, of_record}
 use Rattle.passkey_kinds.proofs.RecordBack.{descriptor_back}
 use Rattle.passkey_kinds.proofs.Plain.{few_levels}
 use Rattle.passkey_get_assertion.proofs.GetPlaces.{get_request_each}
@@ -47,31 +46,16 @@ get_request_returns law r rest fits writable coherent = (
 
 -- ---- only the extensions may have many levels
 
-request_up : (r : GetRequestParts) → PlaceWithin 255 (number_tree 4) (option_map get_extensions_tree r.extensions)
-    → depth (get_request_tree r) ≤ 256
-request_up r extensions =
-    record_within 255 (get_request_places r) (get_request_each (few_levels 4 255 (omega arith)) r extensions)
-
-pub request_without : (r : GetRequestParts) → r.extensions ≡ None → true ≡ is_get_request_coherent r
-request_without r is = sym (le-leb (depth (get_request_tree r)) 256
-    (request_up r (none_within get_extensions_tree 255 (number_tree 4) r.extensions is)))
-
-pub request_with : (r : GetRequestParts) (e : GetExtensionsParts) → r.extensions ≡ Some e
-    → nat_le (depth (get_extensions_tree e)) 255 ≡ is_get_request_coherent r
-request_with r e is =
-    same_tests (nat_le (depth (get_extensions_tree e)) 255) (is_get_request_coherent r)
-    (λ t. le-leb (depth (get_request_tree r)) 256 (request_up r (some_within get_extensions_tree 255 (number_tree 4)
-    r.extensions e (omega arith) is (leb-true (depth (get_extensions_tree e)) 255 t))))
-    (λ t. le-leb (depth (get_extensions_tree e)) 255 (of_some get_extensions_tree 255 (number_tree 4) r.extensions e
-    is (of_record 255 (get_request_places r) (leb-true (depth (get_request_tree r)) 256 t)).1.1.1.0))
+pub request_levels : OnlyDeep get_request_places get_extensions_tree (λ r. r.extensions) 255
+request_levels = only_deep (number_tree 4) (omega arith)
+    (λ r. get_request_each (few_levels 4 255 (omega arith)) r) (λ r within. within.1.1.1.0)
 
 -- ---- a decoded request is coherent
 
-extensions_coherent : (i : Item) (e : GetExtensionsParts) (salts : Option HmacInputParts) → depth i ≤ 255
-    → get_extensions i ≡ Some e → e.hmac_secret ≡ salts → nat_le (depth (get_extensions_tree e)) 255 ≡ true
-extensions_coherent i e None small read is = sym (used_without e is)
-extensions_coherent i e (Some h) small read is = sym (used_with e h is)
-    ∙ le-leb (depth (hmac_input_tree h)) 254 (input_up h 254 (omega (arith, small, used_key i e h read is)))
+extensions_coherent : (i : Item) (e : GetExtensionsParts) → depth i ≤ 255 → get_extensions i ≡ Some e
+    → nat_le (depth (get_extensions_tree e)) 255 ≡ true
+extensions_coherent i e small read = deep_coherent used_levels e (λ h is. le-leb (depth (hmac_input_tree h)) 254
+    (input_up h 254 (omega (arith, small, used_key i e h read is))))
 
 abbrev AreCoherent : Option GetExtensionsParts → Type 0
 AreCoherent o = (e : GetExtensionsParts) → o ≡ Some e → nat_le (depth (get_extensions_tree e)) 255 ≡ true
@@ -79,7 +63,7 @@ AreCoherent o = (e : GetExtensionsParts) → o ≡ Some e → nat_le (depth (get
 decoded_coherent : (i : Item) (o : Option GetExtensionsParts) (n : ℕ) → tolerated get_extensions i ≡ Some o
     → depth i < n → n ≤ 256 → AreCoherent o
 decoded_coherent i o n read less small = λ e is. let there : get_extensions i ≡ Some e =
-    cc in extensions_coherent i e e.hmac_secret (omega (arith, less, small)) there refl
+    cc in extensions_coherent i e (omega (arith, less, small)) there
 
 read_extensions : (i : Item) (r : GetRequestParts) → depth i ≤ 256 → read_get_request i ≡ Ok r
     → AreCoherent r.extensions
@@ -87,11 +71,6 @@ read_extensions i r small read =
     record_keeps get_request_fields (λ r. AreCoherent r.extensions) i r read (λ d e is. absurd cc)
     (search decoded_coherent depth 11 parts 11)
 
-read_coherent : (i : Item) (r : GetRequestParts) (extensions : Option GetExtensionsParts) → depth i ≤ 256
-    → read_get_request i ≡ Ok r → r.extensions ≡ extensions → is_get_request_coherent r ≡ true
-read_coherent i r None small read is = sym (request_without r is)
-read_coherent i r (Some e) small read is = sym (request_with r e is) ∙ read_extensions i r small read e is
-
 pub get_request_coherent : ReadIsCoherent read_get_request is_get_request_coherent
 get_request_coherent bytes r begins =
-    read_coherent begins.item r r.extensions begins.front.shallow begins.holds refl
+    deep_coherent request_levels r (read_extensions begins.item r begins.front.shallow begins.holds)

@@ -24,6 +24,7 @@ pub mod WrittenLists
 pub mod Sinks
 pub mod Places
 pub mod Levels
+pub mod Deep
 pub mod Messages
 pub mod LengthAlone
 pub mod RecordLaws

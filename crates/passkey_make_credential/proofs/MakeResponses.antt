@@ -18,7 +18,7 @@ use Rattle.passkey_kinds.specs.MessageLaws.{WrittenIsReadBack, ReadIsCoherent}
 use Rattle.passkey_kinds.proofs.Keeping.{kept_below, record_keeps}
 use Rattle.passkey_extensions.specs.Prf.{prf_made}
 use Rattle.passkey_extensions.proofs.Prf.{made_outputs_law, unsigned_law}
-use Rattle.passkey_extensions.proofs.ExtensionLevels.{same_tests}
+use Rattle.passkey_bytes.specs.SameMaps.{same_tests}
 use Rattle.passkey_kinds.proofs.LeafBack.{truth_back, text_back, bytes_back, kept_back, anything, optional_place}
 use Rattle.passkey_kinds.proofs.Plain.{few_levels}
 use Rattle.passkey_make_credential.proofs.MakePlaces.{make_response_each}

@@ -1,13 +1,13 @@
 use Rattle.std.proofs.Common.{◌∙◌, option_map, ap}
 use Rattle.passkey_extensions.specs.MakeExtensions.{make_extensions_parts}
 use Rattle.passkey_make_credential.specs.MakeRequest.{make_request_parts}
-use Rattle.passkey_make_credential.proofs.MakeRequests.{request_with, request_without}
+use Rattle.passkey_make_credential.proofs.MakeRequests.{request_levels}
 use Rattle.passkey_make_credential.proofs.request.Request.is_coherent.Goals as goal
 
 pub returns-in-Some : goal.returns-in-Some
-returns-in-Some c = c.fits_in_message.ensures ∙ request_with (make_request_parts c.args.self.now)
+returns-in-Some c = c.fits_in_message.ensures ∙ request_levels.present (make_request_parts c.args.self.now)
     (make_extensions_parts c.in-Some.extensions) (ap (option_map make_extensions_parts) c.in-Some.is)
 
 pub returns-in-None : goal.returns-in-None
 returns-in-None c =
-    request_without (make_request_parts c.args.self.now) (ap (option_map make_extensions_parts) c.in-None.is)
+    request_levels.absent (make_request_parts c.args.self.now) (ap (option_map make_extensions_parts) c.in-None.is)
