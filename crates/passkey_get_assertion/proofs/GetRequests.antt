@@ -1,9 +1,7 @@
 -- authenticatorGetAssertion requests: decoding their encodings again, and their nesting levels.
-use Rattle.std.proofs.Common.{◌≡◌, ℕ, ◌<◌, ◌≤◌, nat_le, arith, le-leb, leb-true, true, Option, Some, Ok, refl}
+use Rattle.std.proofs.Common.{◌≡◌, ℕ, ◌<◌, ◌≤◌, nat_le, arith, le-leb, true, Option, Some, Ok, refl}
 use Rattle.passkey_cbor.specs.Depth.{depth}
-use Rattle.passkey_cbor.specs.LeadingItem.{max_depth}
 use Rattle.passkey_cbor.specs.Item.{Item}
-use Rattle.passkey_cbor.specs.Laws.{WrittenIsLeadingItem}
 use Rattle.passkey_get_assertion.specs.GetRequest.{GetRequestParts, get_request_fields, read_get_request, get_request_places, get_request_tree, GetRequestFits, is_get_request_coherent}
 use Rattle.passkey_get_assertion.proofs.GetBack.{options_law}
 use Rattle.passkey_extensions.specs.ExtensionTrees.{hmac_input_tree, get_extensions_tree}
@@ -12,7 +10,7 @@ use Rattle.passkey_extensions.proofs.ExtensionBack.{get_parts_back}
 use Rattle.passkey_extensions.proofs.ExtensionLevels.{input_up, used_levels}
 use Rattle.passkey_extensions.proofs.Keys.{used_key}
 use Rattle.passkey_kinds.specs.Kind.{tolerated}
-use Rattle.passkey_kinds.specs.MessageLaws.{WrittenIsReadBack, ReadIsCoherent}
+use Rattle.passkey_kinds.specs.MessageLaws.{ReadIsCoherent}
 use Rattle.passkey_kinds.specs.Tree.{number_tree}
 use Rattle.passkey_kinds.proofs.Deep.{OnlyDeep, only_deep, deep_coherent}
 use Rattle.passkey_kinds.proofs.Keeping.{record_keeps}
@@ -24,7 +22,7 @@ use Rattle.passkey_kinds.proofs.RowsBack.{puts_value, puts_default, rows_back, �
 
 -- ---- an encoding can be decoded again
 
-request_back : (r : GetRequestParts) → GetRequestFits r → read_get_request (get_request_tree r) ≡ Ok r
+pub request_back : (r : GetRequestParts) → GetRequestFits r → read_get_request (get_request_tree r) ≡ Ok r
 request_back r fits =
     rows_back get_request_fields (get_request_places r) r refl refl
     (puts_value text_back r.rp_id tt ▸
@@ -35,14 +33,6 @@ request_back r fits =
     puts_default (optional_place bytes_back refl r.pin_auth (anything r.pin_auth)) refl ▸
     puts_default (optional_place byte_back refl r.pin_protocol fits.1) refl ▸
     no_more)
-
-pub get_request_returns : WrittenIsLeadingItem
-    → WrittenIsReadBack read_get_request get_request_tree GetRequestFits is_get_request_coherent (λ r. r)
-get_request_returns law r rest fits writable coherent = (
-  law (get_request_tree r) rest writable
-      (leb-true (depth (get_request_tree r)) max_depth coherent),
-  request_back r fits,
-)
 
 -- ---- only the extensions may have many levels
 

@@ -1,9 +1,8 @@
 -- authenticatorGetAssertion responses: decoding their encodings again, and their nesting levels.
-use Rattle.std.proofs.Common.{◌≡◌, ◌≤◌, nat_le, arith, le-leb, leb-true, Bool, true, false, ◌&&◌, Ok, refl, sym}
-use Rattle.std.proofs.lemmas.Bool.{and_parts, and_from}
+use Rattle.std.proofs.Common.{◌≡◌, ◌≤◌, nat_le, arith, le-leb, Bool, true, false, ◌&&◌, Ok, refl, sym}
+use Rattle.std.proofs.lemmas.Bool.{and_from}
 use Rattle.passkey_cbor.specs.Depth.{depth}
 use Rattle.passkey_cbor.specs.LeadingItem.{max_depth}
-use Rattle.passkey_cbor.specs.Laws.{WrittenIsLeadingItem}
 use Rattle.passkey_core.specs.Coherent.{is_coherent}
 use Rattle.passkey_core.specs.DataLaws.{GivenIsCoherent, ReadIsGiven, WrittenDataAreReadBack}
 use Rattle.passkey_get_assertion.specs.GetResponse.{GetResponseParts, get_response_fields, read_get_response, get_response_places, get_response_tree, GetResponseFits, is_get_response_coherent, normal_get_response}
@@ -11,7 +10,7 @@ use Rattle.passkey_kinds.proofs.DataBack.{auth_data_back, auth_data_coherent}
 use Rattle.passkey_entities.proofs.Entities.{user_law, user_fits}
 use Rattle.passkey_extensions.specs.Prf.{prf_used}
 use Rattle.passkey_extensions.proofs.Prf.{used_outputs_law, unsigned_law}
-use Rattle.passkey_kinds.specs.MessageLaws.{WrittenIsReadBack, ReadIsCoherent}
+use Rattle.passkey_kinds.specs.MessageLaws.{ReadIsCoherent}
 use Rattle.passkey_kinds.proofs.Keeping.{record_keeps}
 use Rattle.passkey_kinds.proofs.LeafBack.{truth_back, byte_back, bytes_back, anything, optional_place, if_fits}
 use Rattle.passkey_kinds.proofs.Levels.{record_within}
@@ -41,7 +40,7 @@ data_decide r =
 
 -- ---- an encoding can be decoded again
 
-response_back : WrittenDataAreReadBack → ReadIsGiven → (r : GetResponseParts) → GetResponseFits r
+pub response_back : WrittenDataAreReadBack → ReadIsGiven → (r : GetResponseParts) → GetResponseFits r
     → is_coherent r.auth_data ≡ true → read_get_response (get_response_tree r) ≡ Ok (normal_get_response r)
 response_back written given r fits coherent =
     rows_back get_response_fields (get_response_places r) (normal_get_response r) refl refl
@@ -54,14 +53,6 @@ response_back written given r fits coherent =
     puts_default (optional_place bytes_back refl r.large_blob_key (anything r.large_blob_key)) refl ▸
     puts_default (optional_place (unsigned_law prf_used used_outputs_law).back refl r.unsigned_extension_outputs fits.unsigned_extension_outputs) refl ▸
     no_more)
-
-pub get_response_returns : WrittenIsLeadingItem → WrittenDataAreReadBack → ReadIsGiven → WrittenIsReadBack
-    read_get_response get_response_tree GetResponseFits is_get_response_coherent normal_get_response
-get_response_returns law written given r rest fits writable coherent =
-    let parts = and_parts (is_coherent r.auth_data) (nat_le (depth (get_response_tree r)) max_depth) coherent in (
-      law (get_response_tree r) rest writable (leb-true (depth (get_response_tree r)) max_depth parts.1),
-      response_back written given r fits parts.0,
-    )
 
 -- ---- a decoded response is coherent
 

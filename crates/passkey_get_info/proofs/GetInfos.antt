@@ -1,16 +1,15 @@
 -- authenticatorGetInfo responses: decoding their encodings again, and their nesting levels.
 use Rattle.std.proofs.Common.{◌≡◌, ◌∙◌, ℕ, pos, negsuc, ◌^◌, ◌<◌, ◌≤◌, nat_lt, nat_le, arith, le-leb, leb-true, lt-ltb, ltb-true, Bool, true, false, ◌&&◌, if◌then◌else◌, Option, Some, None, option_map, unwrap_or, Result, Ok, Err, is_ok, OnOk, IfErr, refl, sym, ap, subst}
-use Rattle.std.proofs.lemmas.Bool.{and_parts, and_from}
+use Rattle.std.proofs.lemmas.Bool.{and_from}
 use Rattle.passkey_bytes.specs.SameMaps.{same_tests}
 use Rattle.passkey_cbor.specs.Depth.{depth}
 use Rattle.passkey_cbor.specs.LeadingItem.{max_depth}
 use Rattle.passkey_cbor.specs.Item as item
-use Rattle.passkey_cbor.specs.Item.{Item, boolean, byte_string, text_string, members}
-use Rattle.passkey_cbor.specs.Laws.{WrittenIsLeadingItem}
+use Rattle.passkey_cbor.specs.Item.{Item, boolean, byte_string, text_string}
 use Rattle.passkey_core.specs.DataNormal.{IfPresent}
 use Rattle.passkey_get_info.specs.GetInfo.{GetInfoParts, get_info_fields, read_get_info, get_info_places, get_info_tree, IsPositive, GetInfoFits, is_encodable, has_room, is_get_info_coherent, normal_get_info}
 use Rattle.passkey_kinds.specs.Kind.{optional, kept as kept_item}
-use Rattle.passkey_kinds.specs.MessageLaws.{WrittenIsReadBack, ReadIsCoherent}
+use Rattle.passkey_kinds.specs.MessageLaws.{ReadIsCoherent}
 use Rattle.passkey_kinds.specs.Size.{size, IsSize}
 use Rattle.passkey_kinds.specs.Tree.{number_tree}
 use Rattle.passkey_kinds.specs.declared.write_fault.WriteFault.{WriteFault}
@@ -33,7 +32,7 @@ sized : (o : Option ℕ) → IfPresent IsPositive o → is_encodable o ≡ true 
 sized None h e = tt
 sized (Some n) h e = (h, ltb-true n (2 ^ 64) e)
 
-response_back : (r : GetInfoParts) → GetInfoFits r → is_encodable r.max_msg_size ≡ true
+pub response_back : (r : GetInfoParts) → GetInfoFits r → is_encodable r.max_msg_size ≡ true
     → read_get_info (get_info_tree r) ≡ Ok (normal_get_info r)
 response_back r fits encoded =
     rows_back get_info_fields (get_info_places r) (normal_get_info r) refl refl
@@ -69,14 +68,6 @@ response_back r fits encoded =
     refl ▸
     puts_default (optional_place word_back refl r.max_pin_length (search)) refl ▸
     no_more)
-
-pub get_info_returns : WrittenIsLeadingItem
-    → WrittenIsReadBack read_get_info get_info_tree GetInfoFits is_get_info_coherent normal_get_info
-get_info_returns law r rest fits writable coherent =
-    let both = and_parts (is_encodable r.max_msg_size) (nat_le (depth (get_info_tree r)) max_depth) coherent in (
-      law (get_info_tree r) rest writable (leb-true (depth (get_info_tree r)) max_depth both.1),
-      response_back r fits both.0,
-    )
 
 -- ---- only the certifications may have many levels
 

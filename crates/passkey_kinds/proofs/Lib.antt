@@ -26,6 +26,7 @@ pub mod Places
 pub mod Levels
 pub mod Deep
 pub mod Messages
+pub mod MessageBack
 pub mod LengthAlone
 pub mod RecordLaws
 pub mod NotNull

@@ -1,14 +1,12 @@
 -- authenticatorMakeCredential requests: decoding their encodings again, and their nesting levels.
-use Rattle.std.proofs.Common.{◌≡◌, ◌∙◌, ℕ, ◌<◌, ◌≤◌, nat_le, arith, le-leb, leb-true, true, Option, Some, Ok, refl, ap}
+use Rattle.std.proofs.Common.{◌≡◌, ◌∙◌, ℕ, ◌<◌, ◌≤◌, nat_le, arith, le-leb, true, Option, Some, Ok, refl, ap}
 use Rattle.passkey_cbor.specs.Depth.{depth}
-use Rattle.passkey_cbor.specs.LeadingItem.{max_depth}
 use Rattle.passkey_cbor.specs.Item.{Item}
-use Rattle.passkey_cbor.specs.Laws.{WrittenIsLeadingItem}
 use Rattle.passkey_make_credential.specs.MakeRequest.{MakeRequestParts, make_request_fields, read_make_request, make_request_places, make_request_tree, MakeRequestFits, is_make_request_coherent, normal_make_request}
 use Rattle.passkey_extensions.specs.ExtensionTrees.{hmac_input_tree, make_extensions_tree}
 use Rattle.passkey_extensions.specs.MakeExtensions.{MakeExtensionsParts, make_extensions}
 use Rattle.passkey_kinds.specs.Kind.{optional}
-use Rattle.passkey_kinds.specs.MessageLaws.{WrittenIsReadBack, ReadIsCoherent}
+use Rattle.passkey_kinds.specs.MessageLaws.{ReadIsCoherent}
 use Rattle.passkey_kinds.specs.Tree.{number_tree}
 use Rattle.passkey_kinds.proofs.Deep.{OnlyDeep, only_deep, deep_coherent}
 use Rattle.passkey_kinds.proofs.NotNull.{not_null}
@@ -26,7 +24,7 @@ use Rattle.passkey_kinds.proofs.RowsBack.{puts_value, puts_default, rows_back, �
 
 -- ---- an encoding can be decoded again
 
-request_back : (r : MakeRequestParts) → MakeRequestFits r
+pub request_back : (r : MakeRequestParts) → MakeRequestFits r
     → read_make_request (make_request_tree r) ≡ Ok (normal_make_request r)
 request_back r fits =
     rows_back make_request_fields (make_request_places r) (normal_make_request r) refl refl
@@ -40,14 +38,6 @@ request_back r fits =
     puts_default (optional_place bytes_back refl r.pin_auth (anything r.pin_auth)) refl ▸
     puts_default (optional_place byte_back refl r.pin_protocol fits.1) refl ▸
     no_more)
-
-pub make_request_returns : WrittenIsLeadingItem → WrittenIsReadBack read_make_request make_request_tree
-    MakeRequestFits is_make_request_coherent normal_make_request
-make_request_returns law r rest fits writable coherent = (
-  law (make_request_tree r) rest writable
-      (leb-true (depth (make_request_tree r)) max_depth coherent),
-  request_back r fits,
-)
 
 -- ---- only the extensions may have many levels
 

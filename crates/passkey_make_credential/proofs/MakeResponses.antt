@@ -1,7 +1,7 @@
 -- authenticatorMakeCredential responses: decoding their encodings again, and their nesting levels.
 use Rattle.std.specs.Prelude.{codes}
 use Rattle.std.proofs.Common.{◌≡◌, ℕ, ◌<◌, ◌≤◌, ◌-◌, ◌^◌, min, nat_lt, nat_le, arith, lt-ltb, ltb-true, le-leb, leb-true, true, [], ◌∷◌, Some, Ok, refl}
-use Rattle.std.proofs.lemmas.Bool.{and_parts, and_from}
+use Rattle.std.proofs.lemmas.Bool.{and_from}
 use Rattle.passkey_cbor.specs.Depth.{depth}
 use Rattle.passkey_cbor.specs.Item.{Item}
 use Rattle.passkey_cbor.specs.LeadingItem.{max_depth}
@@ -46,7 +46,7 @@ statement_decides r =
 
 -- ---- an encoding can be decoded again
 
-response_back : WrittenDataAreReadBack → ReadIsGiven → (r : MakeResponseParts) → MakeResponseFits r
+pub response_back : WrittenDataAreReadBack → ReadIsGiven → (r : MakeResponseParts) → MakeResponseFits r
     → is_coherent r.auth_data ≡ true → read_make_response (make_response_tree r) ≡ Ok (normal_make_response r)
 response_back written given r fits coherent =
     rows_back make_response_fields (make_response_places r) (normal_make_response r) refl refl
@@ -57,14 +57,6 @@ response_back written given r fits coherent =
     puts_default (optional_place bytes_back refl r.large_blob_key (anything r.large_blob_key)) refl ▸
     puts_default (optional_place (unsigned_law prf_made made_outputs_law).back refl r.unsigned_extension_outputs fits.1) refl ▸
     no_more)
-
-pub make_response_returns : WrittenIsLeadingItem → WrittenDataAreReadBack → ReadIsGiven → WrittenIsReadBack
-    read_make_response make_response_tree MakeResponseFits is_make_response_coherent normal_make_response
-make_response_returns law written given r rest fits writable coherent =
-    let parts = and_parts (is_coherent r.auth_data) (nat_le (depth (make_response_tree r)) max_depth) coherent in (
-      law (make_response_tree r) rest writable (leb-true (depth (make_response_tree r)) max_depth parts.1),
-      response_back written given r fits parts.0,
-    )
 
 attestation_back : WrittenDataAreReadBack → ReadIsGiven → (d : DataParts) → IsData d → is_coherent d ≡ true
     → read_make_response (attestation_tree d) ≡ Ok (unattested (normal_data d))

@@ -1,5 +1,7 @@
-use Rattle.passkey_extensions.proofs.HmacInputLaws.{hmac_input_returns}
+use Rattle.passkey_extensions.specs.HmacInput.{read_hmac_input}
+use Rattle.passkey_extensions.proofs.ExtensionBack.{hmac_message_back}
+use Rattle.passkey_kinds.proofs.MessageBack.{back_if_few}
 use Rattle.passkey_extensions.proofs.laws.written_hmac_input_is_read_back.Goals as goal
 
 pub returns : goal.returns
-returns c = hmac_input_returns c.written_is_leading_item.ensures
+returns c = back_if_few read_hmac_input _ _ _ c.written_is_leading_item.ensures hmac_message_back

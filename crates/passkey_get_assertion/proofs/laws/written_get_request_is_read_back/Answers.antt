@@ -1,5 +1,7 @@
-use Rattle.passkey_get_assertion.proofs.GetRequests.{get_request_returns}
+use Rattle.passkey_get_assertion.specs.GetRequest.{read_get_request}
+use Rattle.passkey_get_assertion.proofs.GetRequests.{request_back}
+use Rattle.passkey_kinds.proofs.MessageBack.{back_if_few}
 use Rattle.passkey_get_assertion.proofs.laws.written_get_request_is_read_back.Goals as goal
 
 pub returns : goal.returns
-returns c = get_request_returns c.written_is_leading_item.ensures
+returns c = back_if_few read_get_request _ _ _ c.written_is_leading_item.ensures request_back

@@ -1,6 +1,8 @@
-use Rattle.passkey_get_assertion.proofs.GetResponses.{get_response_returns}
+use Rattle.passkey_get_assertion.specs.GetResponse.{read_get_response}
+use Rattle.passkey_get_assertion.proofs.GetResponses.{response_back}
+use Rattle.passkey_kinds.proofs.MessageBack.{back_if_good}
 use Rattle.passkey_get_assertion.proofs.laws.written_get_response_is_read_back.Goals as goal
 
 pub returns : goal.returns
-returns c = get_response_returns c.written_is_leading_item.ensures c.written_data_are_read_back.ensures
-    c.read_is_given.ensures
+returns c = back_if_good read_get_response _ _ _ _ c.written_is_leading_item.ensures
+    (response_back c.written_data_are_read_back.ensures c.read_is_given.ensures)

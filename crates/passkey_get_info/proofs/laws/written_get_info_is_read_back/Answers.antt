@@ -1,5 +1,7 @@
-use Rattle.passkey_get_info.proofs.GetInfos.{get_info_returns}
+use Rattle.passkey_get_info.specs.GetInfo.{read_get_info}
+use Rattle.passkey_get_info.proofs.GetInfos.{response_back}
+use Rattle.passkey_kinds.proofs.MessageBack.{back_if_good}
 use Rattle.passkey_get_info.proofs.laws.written_get_info_is_read_back.Goals as goal
 
 pub returns : goal.returns
-returns c = get_info_returns c.written_is_leading_item.ensures
+returns c = back_if_good read_get_info _ _ _ _ c.written_is_leading_item.ensures response_back

@@ -1,5 +1,7 @@
-use Rattle.passkey_make_credential.proofs.MakeRequests.{make_request_returns}
+use Rattle.passkey_make_credential.specs.MakeRequest.{read_make_request}
+use Rattle.passkey_make_credential.proofs.MakeRequests.{request_back}
+use Rattle.passkey_kinds.proofs.MessageBack.{back_if_few}
 use Rattle.passkey_make_credential.proofs.laws.written_make_request_is_read_back.Goals as goal
 
 pub returns : goal.returns
-returns c = make_request_returns c.written_is_leading_item.ensures
+returns c = back_if_few read_make_request _ _ _ c.written_is_leading_item.ensures request_back

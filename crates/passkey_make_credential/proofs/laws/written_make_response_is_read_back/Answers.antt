@@ -1,6 +1,8 @@
-use Rattle.passkey_make_credential.proofs.MakeResponses.{make_response_returns}
+use Rattle.passkey_make_credential.specs.MakeResponse.{read_make_response}
+use Rattle.passkey_make_credential.proofs.MakeResponses.{response_back}
+use Rattle.passkey_kinds.proofs.MessageBack.{back_if_good}
 use Rattle.passkey_make_credential.proofs.laws.written_make_response_is_read_back.Goals as goal
 
 pub returns : goal.returns
-returns c = make_response_returns c.written_is_leading_item.ensures c.written_data_are_read_back.ensures
-    c.read_is_given.ensures
+returns c = back_if_good read_make_response _ _ _ _ c.written_is_leading_item.ensures
+    (response_back c.written_data_are_read_back.ensures c.read_is_given.ensures)

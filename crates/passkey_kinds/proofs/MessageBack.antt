@@ -1,0 +1,24 @@
+-- Messages whose encodings have few levels can be decoded again.
+use Rattle.std.proofs.Common.{◌≡◌, nat_le, leb-true, Bool, true, ◌&&◌, Result, Ok}
+use Rattle.std.proofs.lemmas.Bool.{and_parts}
+use Rattle.passkey_cbor.specs.Depth.{depth}
+use Rattle.passkey_cbor.specs.Item.{Item}
+use Rattle.passkey_cbor.specs.Laws.{WrittenIsLeadingItem}
+use Rattle.passkey_cbor.specs.LeadingItem.{max_depth}
+use Rattle.passkey_kinds.specs.MessageLaws.{WrittenIsReadBack}
+use Rattle.passkey_kinds.specs.declared.fault.Fault.{Fault}
+
+module _ {P : Type 0} (read : Item → Result P Fault) (tree : P → Item) (Fits : P → Type 0) (normal : P → P) where
+  -- a message that can be decoded again if it has few levels
+  pub back_if_few : WrittenIsLeadingItem → ((r : P) → Fits r → read (tree r) ≡ Ok (normal r))
+      → WrittenIsReadBack read tree Fits (λ r. nat_le (depth (tree r)) max_depth) normal
+  back_if_few law back r rest fits writable coherent =
+      (law (tree r) rest writable (leb-true (depth (tree r)) max_depth coherent), back r fits)
+
+  -- the same if it is also good otherwise
+  pub back_if_good : (is_good : P → Bool) → WrittenIsLeadingItem
+      → ((r : P) → Fits r → is_good r ≡ true → read (tree r) ≡ Ok (normal r))
+      → WrittenIsReadBack read tree Fits (λ r. is_good r && nat_le (depth (tree r)) max_depth) normal
+  back_if_good is_good law back r rest fits writable coherent =
+      let parts = and_parts (is_good r) (nat_le (depth (tree r)) max_depth) coherent in
+      (law (tree r) rest writable (leb-true (depth (tree r)) max_depth parts.1), back r fits parts.0)
