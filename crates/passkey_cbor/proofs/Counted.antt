@@ -13,15 +13,7 @@ use Rattle.passkey_cbor.proofs.Gathering.{fails_within, raised-raised}
 
 nodes-pos : (x : Item) → 1 ≤ nodes x
 nodes-pos (number z) = omega arith
-nodes-pos (byte_string s) = omega arith
-nodes-pos (text_string s) = omega arith
-nodes-pos (array xs) = omega arith
-nodes-pos (map ps) = omega arith
-nodes-pos (tagged t x) = omega arith
-nodes-pos (boolean b) = omega arith
-nodes-pos null = omega arith
-nodes-pos (simple n) = omega arith
-nodes-pos (float f) = omega arith
+nodes-pos _ = omega arith
 
 items_nodes-items_of : (xs : List Item) → items_nodes (items_of xs) ≡ total nodes xs
 items_nodes-items_of [] = refl

@@ -111,10 +111,9 @@ makes_one {X = X} m read x a b v p e same none = record {
 pub fails_within : {V W X Y : Type 0} (m : Making V X) (all : Making W Y) (x : X) (y : Y) (rest rest_all : List ℕ)
     (old mid now : Walk) (e : CborError) → (m.Takes x → all.Takes y) → mid.nodes + m.size x ≤ old.nodes + all.size y
     → Made m x rest mid now (Err e) → Made all y rest_all old now (Err e)
-fails_within m all x y rest rest_all old mid now error.DecodeFailed takes size k = k
 fails_within m all x y rest rest_all old mid now error.OutOfMemory takes size k =
     (takes k.0, omega (arith, k.1, size))
-fails_within m all x y rest rest_all old mid now error.OutOfRangeIntegerValue takes size k = k
+fails_within m all x y rest rest_all old mid now _ takes size k = k
 
 -- nothing was built before
 made_from : {V X : Type 0} (m : Making V X) (x : X) (rest : List ℕ) (a b c : Walk) (result : Result V CborError)

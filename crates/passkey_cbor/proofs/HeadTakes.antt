@@ -88,8 +88,6 @@ with_argument_is (suc (suc (suc (suc (suc (suc (suc m))))))) n h t e s = absurd 
 
 without_argument_is : (major : ℕ) (h : Head) → without_argument major ≡ Some h
     → IsEncodingOfHead h (indefinite major ∷ [])
-without_argument_is zero h e = absurd (none_is_some h e)
-without_argument_is (suc zero) h e = absurd (none_is_some h e)
 without_argument_is (suc (suc zero)) h e =
     subst (λ (g : Head). IsEncodingOfHead g (95 ∷ [])) (some_is (head.Bytes None) h e) refl
 without_argument_is (suc (suc (suc zero))) h e =
@@ -98,10 +96,9 @@ without_argument_is (suc (suc (suc (suc zero)))) h e =
     subst (λ (g : Head). IsEncodingOfHead g (159 ∷ [])) (some_is (head.Array None) h e) refl
 without_argument_is (suc (suc (suc (suc (suc zero))))) h e =
     subst (λ (g : Head). IsEncodingOfHead g (191 ∷ [])) (some_is (head.Map None) h e) refl
-without_argument_is (suc (suc (suc (suc (suc (suc zero)))))) h e = absurd (none_is_some h e)
 without_argument_is (suc (suc (suc (suc (suc (suc (suc zero))))))) h e =
     subst (λ (g : Head). IsEncodingOfHead g (255 ∷ [])) (some_is head.Break h e) refl
-without_argument_is (suc (suc (suc (suc (suc (suc (suc (suc m)))))))) h e = absurd (none_is_some h e)
+without_argument_is _ h e = absurd (none_is_some h e)
 
 -- major type 7, with bytes after the initial byte
 simple_or_float_is : (s : Size) (bytes : List ℕ) (n : ℕ) (u : List ℕ) (h : Head) → IsBytes bytes → number_at s bytes

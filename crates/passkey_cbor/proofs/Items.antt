@@ -467,16 +467,8 @@ item_takes levels inner d x bytes u fits e =
 item_no_break : (inner : Option (Reader Item)) (h : Head) (bytes : List ℕ) (y : Item × List ℕ)
     → item_by inner h bytes ≡ Some y → is_break h ≡ false
 unfolding item_by
-item_no_break inner (head.Unsigned n) bytes y e = refl
-item_no_break inner (head.Negative n) bytes y e = refl
-item_no_break inner (head.Bytes len) bytes y e = refl
-item_no_break inner (head.Text len) bytes y e = refl
-item_no_break inner (head.Array len) bytes y e = refl
-item_no_break inner (head.Map len) bytes y e = refl
-item_no_break inner (head.Tag n) bytes y e = refl
-item_no_break inner (head.Simple n) bytes y e = refl
-item_no_break inner (head.Float f) bytes y e = refl
 item_no_break inner head.Break bytes y e = absurd (none_is_some y e)
+item_no_break inner _ bytes y e = refl
 
 follows_by : (levels : ℕ) (inner : Option (Reader Item)) → Deeper levels inner
     → Follows (Within levels) (item_by inner)

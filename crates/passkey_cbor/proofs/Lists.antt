@@ -159,16 +159,8 @@ parted {A = A} read others left bytes h r xs u e f =
     }
 
 break_is : (h : Head) → is_break h ≡ true → h ≡ head.Break
-break_is (head.Unsigned n) e = absurd cc
-break_is (head.Negative n) e = absurd cc
-break_is (head.Bytes len) e = absurd cc
-break_is (head.Text len) e = absurd cc
-break_is (head.Array len) e = absurd cc
-break_is (head.Map len) e = absurd cc
-break_is (head.Tag n) e = absurd cc
-break_is (head.Simple n) e = absurd cc
-break_is (head.Float f) e = absurd cc
 break_is head.Break e = refl
+break_is _ e = absurd cc
 
 took_parted : {A : Type 0} (P : A → Language) (read : Reader A) (f : Follows P read) (left after : Option ℕ)
     (others : List ℕ → Read (List A)) (bytes : List ℕ) (xs : List A) (u : List ℕ)

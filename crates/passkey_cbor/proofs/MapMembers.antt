@@ -219,16 +219,8 @@ no_head bytes a b p new same back none ms len f =
 
 -- the pairs of a data item that is a map
 abbrev pairs_in : Item → Option Pairs
-pairs_in (number z) = None
-pairs_in (byte_string s) = None
-pairs_in (text_string s) = None
-pairs_in (array xs) = None
 pairs_in (map ps) = Some ps
-pairs_in (tagged t x) = None
-pairs_in (boolean b) = None
-pairs_in null = None
-pairs_in (simple n) = None
-pairs_in (float f) = None
+pairs_in _ = None
 
 differs : (ps : Pairs) (x : Item) → map ps ≡ x → pairs_in x ≡ None → ⊥
 differs ps x e none = let q : Some ps ≡ None = ap pairs_in e ∙ none in absurd cc
@@ -248,14 +240,11 @@ not_inside : (h : Head) (ps : Pairs) (t : List ℕ) → ((left : Option ℕ) →
     → Inside h (map ps) t → ⊥
 not_inside (head.Unsigned n) ps t other i = differs ps _ i.0 refl
 not_inside (head.Negative n) ps t other i = differs ps _ i.0 refl
-not_inside (head.Bytes n) ps t other i = differs ps _ i.1.0 refl
-not_inside (head.Text n) ps t other i = differs ps _ i.1.0 refl
-not_inside (head.Array n) ps t other i = differs ps _ i.1.0 refl
 not_inside (head.Map n) ps t other i = other n refl
-not_inside (head.Tag n) ps t other i = differs ps _ i.1.0 refl
 not_inside (head.Simple n) ps t other i = differs ps _ i.0 (simple_differs n)
 not_inside (head.Float f) ps t other i = differs ps _ i.0 refl
 not_inside head.Break ps t other i = i
+not_inside _ ps t other i = differs ps _ i.1.0 refl
 
 pub no_map : (bytes : List ℕ) (a b p n : Walk) (h : Head) → a ≡ start bytes → b.bytes ≡ a.bytes
     → p ≡ record b { place = 0 } → ((left : Option ℕ) → h ≡ head.Map left → ⊥)

@@ -207,16 +207,8 @@ some_left before n a inside is some =
 -- ---- whether a break follows
 
 break_head : (h : Head) → is_break h ≡ true → h ≡ head.Break
-break_head (head.Unsigned n) e = absurd cc
-break_head (head.Negative n) e = absurd cc
-break_head (head.Bytes len) e = absurd cc
-break_head (head.Text len) e = absurd cc
-break_head (head.Array len) e = absurd cc
-break_head (head.Map len) e = absurd cc
-break_head (head.Tag n) e = absurd cc
-break_head (head.Simple n) e = absurd cc
-break_head (head.Float f) e = absurd cc
 break_head head.Break e = refl
+break_head _ e = absurd cc
 
 break_read : (bytes : List ℕ) → head_at (break ∷ bytes) ≡ Some (head.Break, bytes)
 break_read bytes = head_again head.Break (break ∷ []) bytes refl

@@ -33,14 +33,8 @@ short_other b (Some h) byte lt not_7 e = λ rest.
     short_argument b rest lt (omega (arith, not_7)) ∙ ap (λ (o : Option Head). o >>= λ g. Some (g, rest)) (sym e)
 
 small_major : (m n : ℕ) (h : Head) → with_argument m n ≡ Some h → m < 7
-small_major zero n h e = omega arith
-small_major (suc zero) n h e = omega arith
-small_major (suc (suc zero)) n h e = omega arith
-small_major (suc (suc (suc zero))) n h e = omega arith
-small_major (suc (suc (suc (suc zero)))) n h e = omega arith
-small_major (suc (suc (suc (suc (suc zero))))) n h e = omega arith
-small_major (suc (suc (suc (suc (suc (suc zero)))))) n h e = omega arith
 small_major (suc (suc (suc (suc (suc (suc (suc m))))))) n h e = absurd (none_is_some h e)
+small_major _ n h e = omega arith
 
 -- a head whose argument is the byte after the initial byte
 two_bytes : (b a : ℕ) (rest : List ℕ) (h : Head) → a < 256 → b % 32 ≡ 24 → with_argument (b / 32) a ≡ Some h

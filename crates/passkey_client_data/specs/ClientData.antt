@@ -69,12 +69,8 @@ module _ {E : Type 0} (has : List ℕ → Bool) (reads : Object → Result E Fau
 
   -- client data is an object
   abbrev pub client_data : Data → Result (ClientData E) Fault
-  client_data null = Err no_object
-  client_data (boolean b) = Err no_object
-  client_data (number n) = Err no_object
-  client_data (string s) = Err no_object
-  client_data (array ds) = Err no_object
   client_data (object ms) = client_data_in ms
+  client_data _ = Err no_object
 
 -- ---- when decoding may take memory
 

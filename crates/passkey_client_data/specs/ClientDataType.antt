@@ -16,5 +16,4 @@ client_data_type_named = named_in client_data_type_name
 -- each value's name finds the value
 pub client_data_type_own : (x : ClientDataType) → client_data_type_named (client_data_type_name x) ≡ Some x
 client_data_type_own client_data_type.Create = refl
-client_data_type_own client_data_type.Get = refl
-client_data_type_own client_data_type.PaymentGet = refl
+client_data_type_own _ = refl

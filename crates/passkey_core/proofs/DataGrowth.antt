@@ -17,17 +17,8 @@ use Rattle.passkey_core.proofs.DataReadings.{at_shape}
 -- a key is a map with at least one member, which takes memory
 key_grows : (i : Item) (p : KeyParts × List ℕ) (rest : List ℕ) → Ok p ≡ result_map_both
     (λ (k : KeyParts). (let q : KeyParts × List ℕ = (k, rest) in q)) (λ e. e) (read_key i) → Grows i
-key_grows (number z) p rest h = cc
-key_grows (byte_string s) p rest h = cc
-key_grows (text_string s) p rest h = cc
-key_grows (array xs) p rest h = cc
-key_grows (map no_pairs) p rest h = cc
 key_grows (map (pair k v ps)) p rest h = tt
-key_grows (tagged t x) p rest h = cc
-key_grows (boolean b) p rest h = cc
-key_grows null p rest h = cc
-key_grows (simple n) p rest h = cc
-key_grows (float f) p rest h = cc
+key_grows _ p rest h = cc
 
 key_front : (bytes : List ℕ) (p : KeyParts × List ℕ) → ReadsItem read_key bytes (Ok p) → HasGrowingLeadingItem bytes
 key_front bytes p (inl r) =

@@ -17,11 +17,8 @@ pub gives_fault : {A B C D : Type 0} (memory : Type 0) (other : Type 0) (seen : 
     (reads : Result B CoseError → Type 0) (answers : Result D CoseError → Type 0) → (memory → other)
     → ((e : CoseError) → reads (Err e) → answers (Err e)) → (e : CoseError) → Returns memory seen reads (Err e)
     → Returns other told answers (Err e)
-gives_fault memory other seen told reads answers grows next DecodeFailed h = next DecodeFailed h
 gives_fault memory other seen told reads answers grows next OutOfMemory h = grows h
-gives_fault memory other seen told reads answers grows next OutOfRangeIntegerValue h = next OutOfRangeIntegerValue h
-gives_fault memory other seen told reads answers grows next DuplicateMapKey h = next DuplicateMapKey h
-gives_fault memory other seen told reads answers grows next UnexpectedItem h = next UnexpectedItem h
+gives_fault memory other seen told reads answers grows next i h = next i h
 
 pub part_stands : {X : Type 0} (part : List ℕ → Begun X → Type 0) (is_there : Bool) (bytes : List ℕ) (x : X) (rest :
     List ℕ) → is_there ≡ true → part bytes (Ok (x, rest)) → ReadsWhere is_there part bytes (Ok (Some x, rest))

@@ -107,12 +107,8 @@ other_type z e =
 type_back : (kty : Named KeyType) → is_reserved kty ≡ false
     → key_type (Some (normal_named key_type_named kty)) ≡ Ok (normal_named key_type_named kty)
 type_back (assigned Reserved) e = cc
-type_back (assigned OKP) e = refl
-type_back (assigned EC2) e = refl
-type_back (assigned RSA) e = refl
-type_back (assigned Symmetric) e = refl
 type_back (other z) e = other_type z e
-type_back (text s) e = refl
+type_back _ e = refl
 
 -- ---- the key
 

@@ -17,8 +17,7 @@ members_depth-append (m ∷ ms) ns =
 
 named_depth : {T : Type 0} (number_of : T → ℤ) (x : Named T) → depth (named_item number_of x) ≡ 0
 named_depth number_of (assigned a) = refl
-named_depth number_of (other z) = refl
-named_depth number_of (text s) = refl
+named_depth number_of _ = refl
 
 name_depth : {T : Type 0} (number_of : T → ℤ) (n : ℕ) (x : Option (Named T))
     → pairs_depth (pairs_of (member n (option_map (named_item number_of) x))) ≡ 0

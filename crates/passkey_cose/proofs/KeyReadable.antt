@@ -114,13 +114,9 @@ unreserved o (assigned Reserved) e =
     let never : key_type (Some (assigned Reserved)) ≡ Ok (assigned Reserved) =
     subst (λ (n : Option (Named KeyType)). key_type n ≡ Ok (assigned Reserved)) stands e in
     cc
-unreserved o (assigned OKP) e = refl
-unreserved o (assigned EC2) e = refl
-unreserved o (assigned RSA) e = refl
-unreserved o (assigned Symmetric) e = refl
 unreserved o (other z) e =
     other_unreserved z (other_kept o z (key_type_is (option_and_then (name_in key_type_named) o) (other z) e))
-unreserved o (text s) e = refl
+unreserved o _ e = refl
 
 -- ---- a key that was read is readable
 

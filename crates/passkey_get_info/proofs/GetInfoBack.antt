@@ -25,15 +25,7 @@ extension_back = record { back = λ e h. refl }
 -- a kept data item that may be null
 kept_or_null : (i : Item) → optional kept i ≡ Some (unless_null i)
 kept_or_null (number z) = refl
-kept_or_null (byte_string s) = refl
-kept_or_null (text_string s) = refl
-kept_or_null (array xs) = refl
-kept_or_null (map ps) = refl
-kept_or_null (tagged t x) = refl
-kept_or_null (boolean b) = refl
-kept_or_null null = refl
-kept_or_null (simple n) = refl
-kept_or_null (float f) = refl
+kept_or_null _ = refl
 
 pub kept_place : (o : Option Item) → Falls (optional kept) None o (option_and_then unless_null o)
 kept_place None = record { value = refl; accepted = λ i e. absurd cc }

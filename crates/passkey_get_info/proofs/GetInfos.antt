@@ -114,16 +114,7 @@ in_range n false b e = refl
 -- each decoded size can be encoded
 encoded_item : (i : Item) → is_encodable (unwrap_or (optional size i) None) ≡ true
 encoded_item (item.number (pos n)) = in_range n (nat_lt 0 n) (nat_lt n (2 ^ 64)) refl
-encoded_item (item.number (negsuc n)) = refl
-encoded_item (item.byte_string s) = refl
-encoded_item (item.text_string s) = refl
-encoded_item (item.array xs) = refl
-encoded_item (item.map ps) = refl
-encoded_item (item.tagged t x) = refl
-encoded_item (item.boolean b) = refl
-encoded_item item.null = refl
-encoded_item (item.simple n) = refl
-encoded_item (item.float f) = refl
+encoded_item _ = refl
 
 -- a kept data item has fewer levels
 abbrev IsBelow : ℕ → Option Item → Type 0

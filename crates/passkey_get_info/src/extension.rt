@@ -2,6 +2,8 @@
 ghost use Rattle.std.specs.Prelude.{◌≡◌, true, Some};
 ghost use Rattle.passkey_get_info.specs.GetInfoNames.{extension_name, extension_named, extension, extension_tree, normal_extension};
 ghost use Rattle.passkey_get_info.specs.declared.extension.Extension.{Extension as Told};
+ghost use Rattle.passkey_kinds.specs.Keeping.{nothing};
+ghost use Rattle.passkey_kinds.specs.Typed.{growing};
 
 use passkey_bytes::Text;
 use passkey_cbor::{Cursor, Encoder, Value};
@@ -63,11 +65,7 @@ impl FromCbor for Extension {
 
     ghost view = { λ e. e };
 
-    ghost kind = { extension };
-
-    ghost takes = { true };
-
-    ghost cost = { 2 };
+    ghost typed = { growing 2 nothing extension };
 
     fn from_value(alloc: Global, value: &Value) -> Result<Extension, Refusal> {
         match value {

@@ -2,6 +2,8 @@
 ghost use Rattle.std.specs.Prelude.{◌≡◌, true, Some};
 ghost use Rattle.passkey_get_info.specs.GetInfoNames.{version_name, version_named, version, version_tree, normal_version};
 ghost use Rattle.passkey_get_info.specs.declared.version.Version.{Version as Told};
+ghost use Rattle.passkey_kinds.specs.Keeping.{nothing};
+ghost use Rattle.passkey_kinds.specs.Typed.{growing};
 
 use passkey_bytes::Text;
 use passkey_cbor::{Cursor, Encoder, Value};
@@ -59,11 +61,7 @@ impl FromCbor for Version {
 
     ghost view = { λ v. v };
 
-    ghost kind = { version };
-
-    ghost takes = { true };
-
-    ghost cost = { 2 };
+    ghost typed = { growing 2 nothing version };
 
     fn from_value(alloc: Global, value: &Value) -> Result<Version, Refusal> {
         match value {

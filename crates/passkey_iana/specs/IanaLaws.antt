@@ -13,46 +13,21 @@ use Rattle.passkey_iana.specs.Iana.{algorithms, algorithm_number, algorithm_name
 
 algorithm_own : (a : Algorithm) → algorithm_named (algorithm_number a) ≡ Some a
 algorithm_own algorithm.RS1 = refl
-algorithm_own algorithm.RS512 = refl
-algorithm_own algorithm.RS384 = refl
-algorithm_own algorithm.RS256 = refl
-algorithm_own algorithm.ML_DSA_87 = refl
-algorithm_own algorithm.ML_DSA_65 = refl
-algorithm_own algorithm.ML_DSA_44 = refl
-algorithm_own algorithm.ES256K = refl
-algorithm_own algorithm.PS512 = refl
-algorithm_own algorithm.PS384 = refl
-algorithm_own algorithm.PS256 = refl
-algorithm_own algorithm.ES512 = refl
-algorithm_own algorithm.ES384 = refl
-algorithm_own algorithm.ECDH_ES_HKDF_256 = refl
-algorithm_own algorithm.EdDSA = refl
-algorithm_own algorithm.ES256 = refl
+algorithm_own _ = refl
 
 pub algorithm_named-number : (z : ℤ) (a : Algorithm) → (algorithm_named z ≡ Some a ↔ algorithm_number a ≡ z)
 algorithm_named-number = numbered_as int_eq signed_Decides algorithm_number algorithms algorithm_own
 
 key_type_own : (a : KeyType) → key_type_named (key_type_number a) ≡ Some a
 key_type_own key_type.Reserved = refl
-key_type_own key_type.OKP = refl
-key_type_own key_type.EC2 = refl
-key_type_own key_type.RSA = refl
-key_type_own key_type.Symmetric = refl
+key_type_own _ = refl
 
 pub key_type_named-number : (z : ℤ) (a : KeyType) → (key_type_named z ≡ Some a ↔ key_type_number a ≡ z)
 key_type_named-number = numbered_as int_eq signed_Decides key_type_number key_types key_type_own
 
 key_operation_own : (a : KeyOperation) → key_operation_named (key_operation_number a) ≡ Some a
 key_operation_own key_operation.Sign = refl
-key_operation_own key_operation.Verify = refl
-key_operation_own key_operation.Encrypt = refl
-key_operation_own key_operation.Decrypt = refl
-key_operation_own key_operation.WrapKey = refl
-key_operation_own key_operation.UnwrapKey = refl
-key_operation_own key_operation.DeriveKey = refl
-key_operation_own key_operation.DeriveBits = refl
-key_operation_own key_operation.MacCreate = refl
-key_operation_own key_operation.MacVerify = refl
+key_operation_own _ = refl
 
 pub key_operation_named-number : (z : ℤ) (a : KeyOperation)
     → (key_operation_named z ≡ Some a ↔ key_operation_number a ≡ z)

@@ -9,11 +9,7 @@ use Rattle.passkey_json.specs.declared.json_fault.JsonFault.TheVariants as fault
 first_fault : {A B : Type 0} (Part Whole : Type 0) (reads : Result A Fault) (e : JsonFault)
     (rest : A → Result B Fault) → Gives Part reads (Err e) → (Part → Whole) → Gives Whole (reads >>= rest) (Err e)
 first_fault Part Whole reads fault.OutOfMemory rest h takes = takes h
-first_fault Part Whole reads fault.NotAnObject rest h takes = ap (λ w. w >>= rest) h
-first_fault Part Whole reads (fault.Missing name) rest h takes = ap (λ w. w >>= rest) h
-first_fault Part Whole reads (fault.Refused name) rest h takes = ap (λ w. w >>= rest) h
-first_fault Part Whole reads (fault.Float name) rest h takes = ap (λ w. w >>= rest) h
-first_fault Part Whole reads (fault.Repeated name) rest h takes = ap (λ w. w >>= rest) h
+first_fault Part Whole reads _ rest h takes = ap (λ w. w >>= rest) h
 
 pub first_fault_passed : {A B : Type 0} (Part Whole : Type 0) (reads : Result A Fault) (e : JsonFault)
     (rest : A → Result B Fault) (passed : Result B JsonFault) → Gives Part reads (Err e)

@@ -12,21 +12,7 @@ use Rattle.serde_json.specs.View.{items_of}
 
 number_back : (a : Algorithm) → numeral (algorithm_json a) ≡ Some (algorithm_number a)
 number_back named.RS1 = refl
-number_back named.RS512 = refl
-number_back named.RS384 = refl
-number_back named.RS256 = refl
-number_back named.ML_DSA_87 = refl
-number_back named.ML_DSA_65 = refl
-number_back named.ML_DSA_44 = refl
-number_back named.ES256K = refl
-number_back named.PS512 = refl
-number_back named.PS384 = refl
-number_back named.PS256 = refl
-number_back named.ES512 = refl
-number_back named.ES384 = refl
-number_back named.ECDH_ES_HKDF_256 = refl
-number_back named.EdDSA = refl
-number_back named.ES256 = refl
+number_back _ = refl
 
 pub algorithm_back : (a : Algorithm) → algorithm (algorithm_json a) ≡ Some a
 unfolding algorithm

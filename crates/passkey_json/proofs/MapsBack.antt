@@ -22,8 +22,7 @@ module _ {A : Type 0} (json : A → Data) where
   in_order : (r : Ordering) (x y z : List (List ℕ × A)) → match_ordering r (members_json json x)
       (members_json json y) (members_json json z) ≡ members_json json (by_order r x y z)
   in_order Less x y z = refl
-  in_order Equal x y z = refl
-  in_order Greater x y z = refl
+  in_order _ x y z = refl
 
   -- an entry has the same place among the members as among the entries
   put_member : (k : List ℕ) (v : A) (es : List (List ℕ × A))

@@ -27,8 +27,4 @@ Gives Takes wanted (Err (json_fault.Repeated name)) = wanted ≡ Err (repeated n
 -- the fault of a record inside another one: `Refused`, except if memory ran out
 abbrev pub refusal_of : JsonFault → JsonRefusal
 refusal_of json_fault.OutOfMemory = refusal.OutOfMemory
-refusal_of json_fault.NotAnObject = refusal.Refused
-refusal_of (json_fault.Missing name) = refusal.Refused
-refusal_of (json_fault.Refused name) = refusal.Refused
-refusal_of (json_fault.Float name) = refusal.Refused
-refusal_of (json_fault.Repeated name) = refusal.Refused
+refusal_of _ = refusal.Refused

@@ -16,5 +16,4 @@ resident_key_named =
 -- each value's name finds the value
 pub resident_key_own : (x : ResidentKeyRequirement) → resident_key_named (resident_key_name x) ≡ Some x
 resident_key_own resident_key.Discouraged = refl
-resident_key_own resident_key.Preferred = refl
-resident_key_own resident_key.Required = refl
+resident_key_own _ = refl

@@ -18,5 +18,4 @@ user_verification_named = named_in user_verification_name
 pub user_verification_own : (x : UserVerificationRequirement)
     → user_verification_named (user_verification_name x) ≡ Some x
 user_verification_own user_verification.Required = refl
-user_verification_own user_verification.Preferred = refl
-user_verification_own user_verification.Discouraged = refl
+user_verification_own _ = refl

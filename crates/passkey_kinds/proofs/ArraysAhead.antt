@@ -25,16 +25,9 @@ other_length {X} n o other = ap (λ (b : Bool). if b then o else None) (ne_eqb n
 
 pub no_sized : (n : ℕ) (i : Item) → ((s : List ℕ) → i ≡ item.byte_string s → ⊥)
     → ((xs : item.Items) → i ≡ item.array xs → ⊥) → sized_bytes n i ≡ None
-no_sized n (item.number z) b a = refl
 no_sized n (item.byte_string s) b a = absurd (b s refl)
-no_sized n (item.text_string s) b a = refl
 no_sized n (item.array xs) b a = absurd (a xs refl)
-no_sized n (item.map ps) b a = refl
-no_sized n (item.tagged t x) b a = refl
-no_sized n (item.boolean v) b a = refl
-no_sized n item.null b a = refl
-no_sized n (item.simple m) b a = refl
-no_sized n (item.float f) b a = refl
+no_sized n _ b a = refl
 
 -- one head that isn't a byte string's, and then the item
 pub after_missed : (to : ℕ) (a b d : Walk) → LendsNothing a b → a.place < to → Spends 2 0 to b d → Spends 3 0 to a d

@@ -7,7 +7,7 @@ use Rattle.passkey_cbor.specs.Item.{Item, boolean}
 use Rattle.passkey_core.specs.DataNormal.{IfPresent}
 use Rattle.passkey_kinds.specs.Kind.{Kind, truth}
 use Rattle.passkey_kinds.specs.ReadBack.{IsReadBack}
-use Rattle.passkey_kinds.specs.Table.{Entry, Row, Table, Naming, row, unknown, wrong, entries, named, is_row, Members, found, accepts_at, first_bad, ◌>>=◌}
+use Rattle.passkey_kinds.specs.Table.{Entry, Row, Table, Naming, row, entries, named, is_row, Members, found, accepts_at, first_bad, ◌>>=◌}
 use Rattle.passkey_kinds.specs.Tree.{Place, where_true, under, laid}
 use Rattle.passkey_kinds.proofs.Members.{was_good, found_push}
 
@@ -50,8 +50,7 @@ Free table earlier (n ∷ ns) = (found table earlier n ≡ None) × Free table e
 
 pub names_it : (naming : Naming) (n : ℕ) → is_row n naming ≡ true → naming ≡ row n
 names_it (row m) n h = ap row (sym (eqb-true n m h))
-names_it unknown n h = absurd cc
-names_it wrong n h = absurd cc
+names_it _ n h = absurd cc
 
 pub neither : (a b : Bool) → (a || b) ≡ false → (a ≡ false) × (b ≡ false)
 neither true b e = absurd cc

@@ -6,7 +6,7 @@ use Rattle.std.specs.FinMap.Entries.{below_all, is_sorted}
 use Rattle.std.specs.List.{AllByRecursion}
 use Rattle.std.specs.Ordering.{eq_by_cmp, is_eq, is_lt, nat_cmp}
 use Rattle.std.specs.declared.cmp.Ordering.{Ordering}
-use Rattle.std.specs.declared.cmp.Ordering.TheVariants.{Less, Equal, Greater}
+use Rattle.std.specs.declared.cmp.Ordering.TheVariants.{Less}
 use Rattle.std.proofs.Common.{◌≡◌, ◌≢◌, ◌∙◌, ◌⊎◌, ℕ, ◌<◌, ◌≤◌, Bool, true, false, ◌&&◌, cond, T, List, [], ◌∷◌, length, map, Option, Some, None, option_map, refl, sym, ap, arith, inl, inr}
 use Rattle.std.proofs.lemmas.Bool.{cases_lt}
 use Rattle.std.proofs.lemmas.Cmp.{nat_list_cmp_total}
@@ -28,8 +28,7 @@ both false b h = absurd h
 
 less_is : (o : Ordering) → T (is_lt o) → o ≡ Less
 less_is Less h = refl
-less_is Equal h = absurd h
-less_is Greater h = absurd h
+less_is _ h = absurd h
 
 not_tied : (o : Ordering) → o ≡ Less → is_eq o ≡ true → ⊥
 not_tied o less tied = let e : false ≡ true = ap is_eq (sym less) ∙ tied in absurd cc

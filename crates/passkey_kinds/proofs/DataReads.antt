@@ -8,7 +8,7 @@ use Rattle.passkey_cbor.specs.Item.{Item, byte_string}
 use Rattle.passkey_cbor.specs.Languages.{Each}
 use Rattle.passkey_cbor.specs.Lent.{Region, PassesString, LendsFrom, string_head}
 use Rattle.passkey_cbor.specs.Encoding.{Definite}
-use Rattle.passkey_cbor.specs.Walk.{Walk, ahead, Went}
+use Rattle.passkey_cbor.specs.Walk.{Walk, ahead}
 use Rattle.passkey_cbor.proofs.HeadAgain.{head_again}
 use Rattle.passkey_cbor.proofs.Lists.{head_long}
 use Rattle.passkey_core.specs.DataReading.{fixed_at, DataGrow}
@@ -16,7 +16,8 @@ use Rattle.passkey_core.specs.DataViews.{data_parts}
 use Rattle.passkey_core.specs.declared.authenticator_data.AuthenticatorData.{AuthenticatorData}
 use Rattle.passkey_kinds.specs.Data.{CountsData, authenticator_data, authenticator_data_nodes}
 use Rattle.passkey_kinds.specs.Kind.{Answers, AnswersAs, MayGrow}
-use Rattle.passkey_kinds.specs.Reader.{Onward, Further, Decodes, LooksAtMost}
+use Rattle.passkey_kinds.specs.Typed as typed
+use Rattle.passkey_kinds.specs.Reader.{Further, Decodes, LooksAtMost}
 use Rattle.passkey_kinds.specs.declared.refusal.Refusal.{Refusal}
 use Rattle.passkey_kinds.proofs.Going.{string_further}
 use Rattle.passkey_kinds.proofs.Leaves.{on_ok}
@@ -72,19 +73,9 @@ region_shorter a b r p =
 
 -- ---- all of the data
 
-pub data_onward : (a b e d : Walk) (r : Region) (s : List ℕ) → Went a b → LooksAtMost r b e → CountsData s e d
-    → Onward a d
-data_onward a b e d r s went looks counts = record {
-  same = counts.same ∙ looks.bytes ∙ went.same;
-  within = λ h. omega (arith, went.within, looks.place, counts.place, ap length counts.same, ap length looks.bytes);
-  forward = omega (arith, went.forward, looks.place, counts.place);
-  heads = omega (arith, went.heads, looks.rises, counts.heads_rise);
-  nodes = omega (arith, went.nodes, looks.nodes, counts.nodes_rise);
-}
-
 pub data_decodes : (a b e d : Walk) (r : Region) (i : Item) (to : ℕ) (t : List ℕ)
     (result : Result AuthenticatorData Refusal) → PassesString false a b r → (f : LendsFrom false i to a b (Some r))
-    → LooksAtMost r b e → t ≡ f.0 → CountsData t e d → Answers data_parts authenticator_data true (byte_string t)
+    → LooksAtMost r b e → t ≡ f.0 → CountsData t e d → Answers data_parts typed.authenticator_data (byte_string t)
     result → Decodes data_parts (authenticator_data i) (MayGrow true i) 6 (authenticator_data_nodes i) to a d result
 data_decodes a b e d r i to t result p f looks same counts h =
     let is : i ≡ byte_string t = f.1.0 ∙ ap byte_string (sym same) in
@@ -114,13 +105,5 @@ pub data_further : (a b e d : Walk) (r : Region) (s : List ℕ) → PassesString
 data_further a b e d r s p looks counts = omega (arith, string_further false a b r p, looks.place, counts.place)
 
 pub no_data : (i : Item) → ((s : List ℕ) → i ≡ byte_string s → ⊥) → authenticator_data i ≡ None
-no_data (item.number n) h = refl
 no_data (item.byte_string s) h = absurd (h s refl)
-no_data (item.text_string s) h = refl
-no_data (item.array xs) h = refl
-no_data (item.map ps) h = refl
-no_data (item.tagged t x) h = refl
-no_data (item.boolean b) h = refl
-no_data item.null h = refl
-no_data (item.simple n) h = refl
-no_data (item.float f) h = refl
+no_data _ h = refl

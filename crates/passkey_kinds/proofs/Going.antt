@@ -35,17 +35,6 @@ onward_then a b c p q = record {
   nodes = omega (arith, p.nodes, q.nodes);
 }
 
--- moving on, and then back to the first place
-pub onward_back : (a b c : Walk) → Onward a b → c ≡ record b { place = a.place } → Onward a c
-onward_back a b c p e = record {
-  same = ap (λ (w : Walk). w.bytes) e ∙ p.same;
-  within =
-      λ h. omega (arith, h, ap length p.same, ap (λ (w : Walk). length w.bytes) e, ap (λ (w : Walk). w.place) e);
-  forward = omega (arith, ap (λ (w : Walk). w.place) e);
-  heads = omega (arith, p.heads, ap (λ (w : Walk). w.heads) e);
-  nodes = omega (arith, p.nodes, ap (λ (w : Walk). w.nodes) e);
-}
-
 -- only heads were counted
 pub onward_looks : (a b c : Walk) → Onward a b → c.bytes ≡ b.bytes → c.place ≡ b.place → c.nodes ≡ b.nodes
     → b.heads ≤ c.heads → Onward a c

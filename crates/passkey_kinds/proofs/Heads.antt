@@ -114,16 +114,13 @@ none_some (Some y) x a b = absurd cc
 -- if it isn't `None`, the head is the whole item
 nothing_left : {X : Type 0} (g : Head → Option X) → IsFlat g → (h : Head) (i : Item) (t : List ℕ) (x : X)
     → g h ≡ Some x → Inside h i t → t ≡ []
-nothing_left g flat (head.Unsigned n) i t x e w = w.1
-nothing_left g flat (head.Negative n) i t x e w = w.1
 nothing_left g flat (head.Bytes len) i t x e w = absurd (none_some _ x (flat.bytes len) e)
 nothing_left g flat (head.Text len) i t x e w = absurd (none_some _ x (flat.text len) e)
 nothing_left g flat (head.Array len) i t x e w = absurd (none_some _ x (flat.array len) e)
 nothing_left g flat (head.Map len) i t x e w = absurd (none_some _ x (flat.map len) e)
 nothing_left g flat (head.Tag n) i t x e w = absurd (none_some _ x (flat.tag n) e)
-nothing_left g flat (head.Simple n) i t x e w = w.1
-nothing_left g flat (head.Float y) i t x e w = w.1
 nothing_left g flat head.Break i t x e w = absurd w
+nothing_left g flat _ i t x e w = w.1
 
 -- One head was decoded, and this is what it says about the item.
 reads_flat : {X : Type 0} (f : Item → Option X) (g : Head → Option X) → IsFlat g
@@ -232,15 +229,7 @@ array_opened (head.Array left) i to b o = (
     record { text = o.text; encoded = o.encoded.1.1; parts = o.parts; forward = o.forward; within = o.within },
   ),
 )
-array_opened (head.Unsigned n) i to b o = no_array (head.Unsigned n) i o.text o.encoded refl
-array_opened (head.Negative n) i to b o = no_array (head.Negative n) i o.text o.encoded refl
-array_opened (head.Bytes len) i to b o = no_array (head.Bytes len) i o.text o.encoded refl
-array_opened (head.Text len) i to b o = no_array (head.Text len) i o.text o.encoded refl
-array_opened (head.Map len) i to b o = no_array (head.Map len) i o.text o.encoded refl
-array_opened (head.Tag n) i to b o = no_array (head.Tag n) i o.text o.encoded refl
-array_opened (head.Simple n) i to b o = no_array (head.Simple n) i o.text o.encoded refl
-array_opened (head.Float x) i to b o = no_array (head.Float x) i o.text o.encoded refl
-array_opened head.Break i to b o = no_array head.Break i o.text o.encoded refl
+array_opened x i to b o = no_array x i o.text o.encoded refl
 
 pub map_opened : (h : Head) (i : Item) (to : ℕ) (b : Walk) → Opens i to b (Some h) → OpensMap i to b (head_map h)
 map_opened (head.Map left) i to b o = (
@@ -250,29 +239,13 @@ map_opened (head.Map left) i to b o = (
     record { text = o.text; encoded = o.encoded.1.1; parts = o.parts; forward = o.forward; within = o.within },
   ),
 )
-map_opened (head.Unsigned n) i to b o = no_map (head.Unsigned n) i o.text o.encoded refl
-map_opened (head.Negative n) i to b o = no_map (head.Negative n) i o.text o.encoded refl
-map_opened (head.Bytes len) i to b o = no_map (head.Bytes len) i o.text o.encoded refl
-map_opened (head.Text len) i to b o = no_map (head.Text len) i o.text o.encoded refl
-map_opened (head.Array len) i to b o = no_map (head.Array len) i o.text o.encoded refl
-map_opened (head.Tag n) i to b o = no_map (head.Tag n) i o.text o.encoded refl
-map_opened (head.Simple n) i to b o = no_map (head.Simple n) i o.text o.encoded refl
-map_opened (head.Float x) i to b o = no_map (head.Float x) i o.text o.encoded refl
-map_opened head.Break i to b o = no_map head.Break i o.text o.encoded refl
+map_opened x i to b o = no_map x i o.text o.encoded refl
 
 -- ---- null
 
 pub not_null_in : (i : Item) → (i ≡ item.null → ⊥) → null_in i ≡ false
-not_null_in (item.number n) other = refl
-not_null_in (item.byte_string s) other = refl
-not_null_in (item.text_string s) other = refl
-not_null_in (item.array xs) other = refl
-not_null_in (item.map ps) other = refl
-not_null_in (item.tagged n x) other = refl
-not_null_in (item.boolean v) other = refl
 not_null_in item.null other = absurd (other refl)
-not_null_in (item.simple n) other = refl
-not_null_in (item.float f) other = refl
+not_null_in _ other = refl
 
 -- nothing was decoded, since the item isn't null
 pub null_missed : (a : Walk) (i : Item) (to : ℕ) → IsEncodedAt i a.bytes a.place to → (i ≡ item.null → ⊥)

@@ -6,7 +6,7 @@ use Rattle.passkey_cbor.specs.Item as item
 use Rattle.passkey_cbor.specs.Item.{Item, Pairs, no_pairs, pair, members}
 use Rattle.passkey_kinds.specs.Kind.{kept}
 use Rattle.passkey_kinds.specs.Record.{Member, Fields, set_with, table_of, put_at, put_named, with_members, unless_missing, judged, read_item, record_kind}
-use Rattle.passkey_kinds.specs.Table.{Naming, row, unknown, wrong, named, Members, first_bad, first_missing}
+use Rattle.passkey_kinds.specs.Table.{Naming, row, named, Members, first_bad, first_missing}
 use Rattle.passkey_kinds.specs.declared.fault.Fault.{Fault}
 use Rattle.passkey_kinds.proofs.NotNull.{ok_of}
 
@@ -39,8 +39,7 @@ module _ {P : Type 0} (n : ℕ) (Inv : P → Type 0) where
   named_keeps : (fs : List (Member P)) (naming : Naming) (i : Item) (r : P) → Keeps n Inv fs → depth i < n → Inv r
       → Inv (put_named fs naming i r)
   named_keeps fs (row k) i r all less h = put_keeps fs k i r all less h
-  named_keeps fs unknown i r all less h = h
-  named_keeps fs wrong i r all less h = h
+  named_keeps fs _ i r all less h = h
 
   members_keep : (t : Fields P) (ps : Pairs) (r : P) → Keeps n Inv t.rows → pairs_depth ps < n → Inv r
       → Inv (with_members t (members ps) r)
@@ -70,15 +69,7 @@ made_from t (item.map ps) p e = record {
   is_map = refl;
   made = judged_made t (members ps) (first_bad (table_of t) _ (members ps)) p e;
 }
-made_from t (item.number z) p e = absurd cc
-made_from t (item.byte_string s) p e = absurd cc
-made_from t (item.text_string s) p e = absurd cc
-made_from t (item.array xs) p e = absurd cc
-made_from t (item.tagged n x) p e = absurd cc
-made_from t (item.boolean b) p e = absurd cc
-made_from t item.null p e = absurd cc
-made_from t (item.simple n) p e = absurd cc
-made_from t (item.float f) p e = absurd cc
+made_from t _ p e = absurd cc
 
 -- what each row preserves holds of a decoded record
 pub record_keeps : {P : Type 0} (t : Fields P) (Inv : P → Type 0) (i : Item) (p : P) → read_item t i ≡ Ok p

@@ -103,13 +103,7 @@ names_number b es (item.number (pos n)) t h = refl
 names_number b es (item.number (negsuc n)) t h = refl
 names_number b es (item.byte_string s) t h = absurd (h s refl)
 names_number b es (item.text_string s) t h = absurd (t s refl)
-names_number b es (item.array xs) t h = none_wrong b es
-names_number b es (item.map ps) t h = none_wrong b es
-names_number b es (item.tagged n x) t h = none_wrong b es
-names_number b es (item.boolean v) t h = none_wrong b es
-names_number b es item.null t h = none_wrong b es
-names_number b es (item.simple n) t h = none_wrong b es
-names_number b es (item.float f) t h = none_wrong b es
+names_number b es _ t h = none_wrong b es
 
 -- ---- data items by their major types
 
@@ -122,13 +116,4 @@ other_major i x major is says same other e =
 
 pub not_unsigned : (i : Item) (is : Bool) → is ≡ (major_of i == 0) → is ≡ false → unsigned_in i ≡ None
 not_unsigned (item.number (pos n)) is says other = cc
-not_unsigned (item.number (negsuc n)) is says other = refl
-not_unsigned (item.byte_string s) is says other = refl
-not_unsigned (item.text_string s) is says other = refl
-not_unsigned (item.array xs) is says other = refl
-not_unsigned (item.map ps) is says other = refl
-not_unsigned (item.tagged n x) is says other = refl
-not_unsigned (item.boolean v) is says other = refl
-not_unsigned item.null is says other = refl
-not_unsigned (item.simple n) is says other = refl
-not_unsigned (item.float f) is says other = refl
+not_unsigned _ is says other = refl

@@ -4,7 +4,7 @@ use Rattle.std.specs.Option.{option_and_then}
 use Rattle.std.specs.Prelude.{ℤ}
 use Rattle.std.proofs.Common.{◌≡◌, ◌∙◌, sym, ◌<◌, ◌^◌, lt-ltb, List, [], ◌∷◌, map, Option, Some, None, option_map, unwrap_or, refl, ap}
 use Rattle.std.proofs.lemmas.List.Elements.{All-head, All-tail}
-use Rattle.passkey_cbor.specs.Item.{Item, number, byte_string, text_string, array, map as item_map, tagged, boolean, null, simple, float}
+use Rattle.passkey_cbor.specs.Item.{Item, byte_string, text_string, boolean, null}
 use Rattle.passkey_cbor.specs.View.{item_of}
 use Rattle.passkey_core.specs.DataNormal.{IfPresent}
 use Rattle.passkey_iana.specs.Iana.{algorithm_number, algorithm_named}
@@ -57,21 +57,7 @@ algorithm_back = record {
 } where
   is_signed : (a : Algorithm) → signed_64 (algorithm_number a) ≡ Some (algorithm_number a)
   is_signed algorithm.RS1 = refl
-  is_signed algorithm.RS512 = refl
-  is_signed algorithm.RS384 = refl
-  is_signed algorithm.RS256 = refl
-  is_signed algorithm.ML_DSA_87 = refl
-  is_signed algorithm.ML_DSA_65 = refl
-  is_signed algorithm.ML_DSA_44 = refl
-  is_signed algorithm.ES256K = refl
-  is_signed algorithm.PS512 = refl
-  is_signed algorithm.PS384 = refl
-  is_signed algorithm.PS256 = refl
-  is_signed algorithm.ES512 = refl
-  is_signed algorithm.ES384 = refl
-  is_signed algorithm.ECDH_ES_HKDF_256 = refl
-  is_signed algorithm.EdDSA = refl
-  is_signed algorithm.ES256 = refl
+  is_signed _ = refl
 
 -- ---- options, lists and tolerated values
 
@@ -83,15 +69,7 @@ map-map f g (x ∷ xs) = ap (λ ys. f (g x) ∷ ys) (map-map f g xs)
 optional_some : {M : Type 0} (kind : Kind M) (i : Item) (y : M) → kind null ≡ None → kind i ≡ Some y
     → optional kind i ≡ Some (Some y)
 optional_some kind null y none h = absurd cc
-optional_some kind (number z) y none h = ap (option_map Some) h
-optional_some kind (byte_string s) y none h = ap (option_map Some) h
-optional_some kind (text_string s) y none h = ap (option_map Some) h
-optional_some kind (array xs) y none h = ap (option_map Some) h
-optional_some kind (item_map ps) y none h = ap (option_map Some) h
-optional_some kind (tagged t x) y none h = ap (option_map Some) h
-optional_some kind (boolean b) y none h = ap (option_map Some) h
-optional_some kind (simple n) y none h = ap (option_map Some) h
-optional_some kind (float f) y none h = ap (option_map Some) h
+optional_some kind _ y none h = ap (option_map Some) h
 
 -- a list, if each of its elements can be decoded again
 module _ {A X M : Type 0} (kind : X → Option M) (tree : A → X) (Fits : A → Type 0) (normal : A → M)

@@ -30,16 +30,7 @@ tells law view read bytes x len front (Ok r) some h =
     (sym told.0, told.1)
 tells law view read bytes x len front (Err fault.DecodeFailed) some h = absurd (h x len front)
 tells law view read bytes x len front (Err fault.OutOfMemory) some h = absurd (some refl)
-tells law view read bytes x len front (Err fault.NotAMap) some h =
-    holds_at law bytes x len (λ i n. read i ≡ Err fault.NotAMap) front h
-tells law view read bytes x len front (Err fault.BadKey) some h =
-    holds_at law bytes x len (λ i n. read i ≡ Err fault.BadKey) front h
-tells law view read bytes x len front (Err (fault.Repeated k)) some h =
-    holds_at law bytes x len (λ i n. read i ≡ Err (fault.Repeated k)) front h
-tells law view read bytes x len front (Err (fault.Refused k)) some h =
-    holds_at law bytes x len (λ i n. read i ≡ Err (fault.Refused k)) front h
-tells law view read bytes x len front (Err (fault.Missing k)) some h =
-    holds_at law bytes x len (λ i n. read i ≡ Err (fault.Missing k)) front h
+tells law view read bytes x len front (Err e) some h = holds_at law bytes x len (λ i n. read i ≡ Err e) front h
 
 may_tell : {A M : Type 0} (view : A → M) (read : Item → Result M Fault) → KnowsItems read
     → (bytes : List ℕ) (x : Item) (len : ℕ) → IsLeadingItem bytes x len → (r : Result (A × ℕ) Fault)
@@ -48,16 +39,7 @@ may_tell view read knows bytes x len front (Ok r) some told =
     record { item = x; len = len; front = front; holds = (sym told.0, told.1) }
 may_tell view read knows bytes x len front (Err fault.DecodeFailed) some told = absurd ((knows x).0 told)
 may_tell view read knows bytes x len front (Err fault.OutOfMemory) some told = absurd (some refl)
-may_tell view read knows bytes x len front (Err fault.NotAMap) some told =
-    record { item = x; len = len; front = front; holds = told }
-may_tell view read knows bytes x len front (Err fault.BadKey) some told =
-    record { item = x; len = len; front = front; holds = told }
-may_tell view read knows bytes x len front (Err (fault.Repeated k)) some told =
-    record { item = x; len = len; front = front; holds = told }
-may_tell view read knows bytes x len front (Err (fault.Refused k)) some told =
-    record { item = x; len = len; front = front; holds = told }
-may_tell view read knows bytes x len front (Err (fault.Missing k)) some told =
-    record { item = x; len = len; front = front; holds = told }
+may_tell view read knows bytes x len front (Err _) some told = record { item = x; len = len; front = front; holds = told }
 
 -- ---- two results of decoding that are the same but for the length
 

@@ -1,11 +1,11 @@
 -- Strings that are lent at a cursor: the cost of decoding them and of looking at their chunks
 -- again.
-use Rattle.std.proofs.Common.{◌≡◌, ◌∙◌, ℕ, ◌+◌, ◌≤◌, ◌<◌, arith, Bool, true, false, cond, List, [], ◌∷◌, ◌++◌, length, Option, Some, None, Result, Ok, Err, refl, sym, ap, subst}
+use Rattle.std.proofs.Common.{◌≡◌, ◌∙◌, ℕ, ◌+◌, ◌≤◌, ◌<◌, arith, Bool, true, false, cond, List, [], ◌∷◌, ◌++◌, length, Option, Some, None, Result, Err, refl, sym, ap, subst}
 use Rattle.std.proofs.lemmas.List.{length-append, length-take}
 use Rattle.passkey_cbor.specs.Item.{Item, byte_string, text_string}
 use Rattle.passkey_cbor.specs.Grows.{Grows}
 use Rattle.passkey_cbor.specs.Inside.{Content}
-use Rattle.passkey_cbor.specs.Lent.{Region, PassesString, LendsFrom, LooksAtAll, LooksAtSome, LooksToCopy, LooksToFill, IsRegion, heads_in}
+use Rattle.passkey_cbor.specs.Lent.{Region, PassesString, LendsFrom, LooksAtAll, LooksAtSome, IsRegion, heads_in}
 use Rattle.passkey_cbor.specs.Names.{LooksFor, heads_until, heads_sought, begins_one}
 use Rattle.passkey_cbor.specs.EncodedAt.{IsEncodedAt}
 use Rattle.passkey_cbor.specs.Walk.{Walk, ahead}
@@ -83,11 +83,6 @@ module _ (r : Region) (a b : Walk) (rises : a.heads ≤ b.heads) where
     bytes = l.bytes;
   }
 
-  pub looks_copy : {T E : Type 0} (is_text : Bool) (result : Result T E) → IsRegion is_text r
-      → LooksToCopy is_text r a b result → LooksAtMost r a b
-  looks_copy is_text (Ok x) t l = looks_all is_text t l
-  looks_copy is_text (Err e) t l = looks_some is_text t l
-
   pub looks_names : (is_text : Bool) (names : List (List ℕ)) → IsRegion is_text r → LooksFor is_text names r a b
       → LooksAtMost r a b
   looks_names is_text names t l = record {
@@ -105,11 +100,6 @@ module _ (r : Region) (a b : Walk) (rises : a.heads ≤ b.heads) where
 
 pub looks_none : (r : Region) (a : Walk) → LooksAtMost r a a
 looks_none r a = record { heads = omega arith; rises = omega arith; place = refl; nodes = refl; bytes = refl }
-
-pub looks_fill : (r : Region) (a b : Walk) (done : Bool) → a.heads ≤ b.heads → IsRegion false r
-    → LooksToFill r a b done → LooksAtMost r a b
-looks_fill r a b true rises t l = looks_all r a b rises false t l
-looks_fill r a b false rises t l = subst (λ (w : Walk). LooksAtMost r a w) (sym l) (looks_none r a)
 
 -- ---- what a string costs
 

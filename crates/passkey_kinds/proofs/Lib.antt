@@ -37,6 +37,7 @@ pub mod Tokens
 pub mod DataReads
 pub mod Ahead
 pub mod Loops
+pub mod Collecting
 pub mod PairsAhead
 pub mod ArraysAhead
 pub mod Keys

@@ -1,20 +1,19 @@
 -- Lists of values, decoded from arrays.
 use Rattle.std.specs.List.{filter_map}
-use Rattle.std.proofs.Common.{◌≡◌, ◌<◌, arith, ◌∙◌, List, [], ◌∷◌, ◌++◌, length, map, Option, Some, None, option_map, unwrap_or, Result, Ok, Err, refl, sym, ap, true}
+use Rattle.std.proofs.Common.{◌≡◌, ◌<◌, arith, ◌∙◌, List, [], ◌∷◌, ◌++◌, length, map, Option, Some, None, option_map, Result, Err, refl, ap, true}
 use Rattle.std.proofs.lemmas.List.{append_assoc}
 use Rattle.passkey_cbor.specs.Item.{Item, array, items_of}
 use Rattle.passkey_core.specs.DataNormal.{IfPresent}
 use Rattle.passkey_cose.proofs.KeyLists.{elements-items_of}
 use Rattle.passkey_kinds.specs.Kind.{Kind, AnswersAs, MayGrow, each, list, accepted}
 use Rattle.passkey_kinds.specs.declared.refusal.Refusal.{Refusal}
-use Rattle.passkey_kinds.specs.declared.refusal.Refusal.TheVariants.{Refused, OutOfMemory}
+use Rattle.passkey_kinds.specs.declared.refusal.Refusal.TheVariants.{OutOfMemory}
 
 -- the same result, if the same value is wanted and memory may run out too
 pub answers_from : {A M : Type 0} {wanted given : Option M} {takes may : Type 0} (view : A → M) (result : Result A
     Refusal) → given ≡ wanted → (takes → may) → AnswersAs view wanted takes result → AnswersAs view given may result
-answers_from view (Ok x) e f h = e ∙ h
-answers_from view (Err Refused) e f h = e ∙ h
 answers_from view (Err OutOfMemory) e f h = f h
+answers_from view _ e f h = e ∙ h
 
 pub list_array : {M : Type 0} (kind : Kind M) (xs : List Item) → list kind (array (items_of xs)) ≡ each kind xs
 list_array kind xs = ap (each kind) (elements-items_of xs)
@@ -46,16 +45,6 @@ map_same (x ∷ xs) = ap (λ ys. x ∷ ys) (map_same xs)
 pub each_same : {X : Type 0} (o : Option (List X)) → option_map (λ xs. map (λ x. x) xs) o ≡ o
 each_same None = refl
 each_same (Some xs) = ap Some (map_same xs)
-
--- a value or its default, and the same of an option
-pub unwrap_same : {X : Type 0} (default : X) {y : X} (o : Option X) → y ≡ unwrap_or o default
-    → y ≡ unwrap_or (option_map (λ x. x) o) default
-unwrap_same {X} default o e = e ∙ sym (ap (λ (p : Option X). unwrap_or p default) (option_same o))
-
-pub unwrap_option_same : {X : Type 0} {y : Option X} (o : Option (Option X)) → y ≡ unwrap_or o None
-    → y ≡ unwrap_or (option_map (λ p. option_map (λ x. x) p) o) None
-unwrap_option_same None e = e
-unwrap_option_same (Some p) e = e ∙ sym (option_same p)
 
 -- an option under two views, one after the other
 pub option_twice : {X Y Z : Type 0} (f : Y → Z) (g : X → Y) (o : Option X)

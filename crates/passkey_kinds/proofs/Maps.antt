@@ -66,7 +66,7 @@ map_values_same m = fin.same_map nat_list_cmp_total same_bytes _ _
     (λ q. get-map_values (λ x. x) m q ∙ option_same (fin.get m q))
 
 module _ {M : Type 0} (kind : Kind M) where
-  put_first : (m : ByteMap M) (k : List ℕ) (v : M) (rest : Option (List (List ℕ × M))) → option_map (put_each m)
+  pub put_first : (m : ByteMap M) (k : List ℕ) (v : M) (rest : Option (List (List ℕ × M))) → option_map (put_each m)
       (option_map (λ es. (k, v) ∷ es) rest) ≡ option_map (put_each (fin.insert m k v)) rest
   put_first m k v None = refl
   put_first m k v (Some es) = refl

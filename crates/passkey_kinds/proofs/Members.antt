@@ -86,13 +86,7 @@ pub row_small : (is_numbered : Bool) (key : Item) (n : ℕ) (es : List Entry) �
 row_small b (item.number z) n es small e = number_small b (below 256 (item.number z)) n es small e
 row_small b (item.byte_string s) n es small e = found_small (λ x. bytes_eq x.name s) n es small e
 row_small b (item.text_string s) n es small e = found_small (λ x. bytes_eq x.name s) n es small e
-row_small b (item.array xs) n es small e = cc
-row_small b (item.map ps) n es small e = cc
-row_small b (item.tagged k x) n es small e = cc
-row_small b (item.boolean v) n es small e = cc
-row_small b item.null n es small e = cc
-row_small b (item.simple k) n es small e = cc
-row_small b (item.float f) n es small e = cc
+row_small b _ n es small e = cc
 
 -- ---- marks
 

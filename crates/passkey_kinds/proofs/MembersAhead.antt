@@ -56,8 +56,7 @@ none_at (m ∷ ms) n i e =
 none_by : {P : Type 0} (rows : List (Member P)) (naming : Naming) (i : Item) → none_keeps rows ≡ true
     → kept_of (keeps_by rows naming) i ≡ 0
 none_by rows (row n) i e = none_at rows n i e
-none_by rows unknown i e = refl
-none_by rows wrong i e = refl
+none_by rows _ i e = refl
 
 none_in : {P : Type 0} (t : Fields P) (ms : Members) → none_keeps t.rows ≡ true → kept_in t ms ≡ 0
 none_in t [] e = refl
@@ -65,15 +64,7 @@ none_in t (m ∷ ms) e = omega (arith, none_by t.rows (named (table_of t) m.0) m
 
 none_in_map : {P : Type 0} (t : Fields P) (i : Item) → none_keeps t.rows ≡ true → kept_in_map t i ≡ 0
 none_in_map t (item.map ps) e = none_in t (members ps) e
-none_in_map t (item.number n) e = refl
-none_in_map t (item.byte_string s) e = refl
-none_in_map t (item.text_string s) e = refl
-none_in_map t (item.array xs) e = refl
-none_in_map t (item.tagged n x) e = refl
-none_in_map t (item.boolean b) e = refl
-none_in_map t item.null e = refl
-none_in_map t (item.simple n) e = refl
-none_in_map t (item.float f) e = refl
+none_in_map t _ e = refl
 
 keeps_if : {P : Type 0} (t : Fields P) (i : Item) (b : Bool) → none_keeps t.rows ≡ b
     → kept_in_map t i ≤ kept_of (if b then nothing else counted (kept_in_map t)) i

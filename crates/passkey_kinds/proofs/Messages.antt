@@ -1,12 +1,11 @@
 -- Messages at the beginning of bytes, and messages at a cursor.
 use Rattle.std.proofs.Common.{◌≡◌, ◌∙◌, ℕ, suc, ◌+◌, ◌*◌, ◌≤◌, arith, List, ◌++◌, length, take, drop, Result, Ok, Err, OnErr, refl, sym, ap, subst}
 use Rattle.std.proofs.lemmas.List.{take-append-drop, drop-drop, length-drop}
-use Rattle.std.proofs.Math.Nat.{mul-le-mul_left}
 use Rattle.passkey_cbor.specs.LeadingItem.{IsLeadingItem}
 use Rattle.passkey_cbor.specs.Grows.{Grows}
 use Rattle.passkey_cbor.specs.Item as item
 use Rattle.passkey_cbor.specs.Item.{Item, Pairs, no_pairs, pair}
-use Rattle.passkey_cbor.specs.Skipped.{PassesLeadingItem, FindsNoLeadingItem}
+use Rattle.passkey_cbor.specs.Skipped.{PassesLeadingItem}
 use Rattle.passkey_cbor.specs.EncodedAt.{IsEncodedAt}
 use Rattle.passkey_cbor.specs.Walk.{Walk, ahead, Went}
 use Rattle.passkey_cbor.proofs.EncodedFrom.{only_one}
@@ -29,15 +28,7 @@ map_grows table (pair k v ps) h = tt
 
 pub may_grow : (table : Table) (i : Item) → MayGrowAt table i → Grows i
 may_grow table (item.map ps) h = map_grows table ps h
-may_grow table (item.number z) h = absurd h
-may_grow table (item.byte_string s) h = absurd h
-may_grow table (item.text_string s) h = absurd h
-may_grow table (item.array xs) h = absurd h
-may_grow table (item.tagged t x) h = absurd h
-may_grow table (item.boolean b) h = absurd h
-may_grow table item.null h = absurd h
-may_grow table (item.simple n) h = absurd h
-may_grow table (item.float f) h = absurd h
+may_grow table _ h = absurd h
 
 pub message_fails : {A M : Type 0} (view : A → M) (table : Table) (read : Item → Result M Fault) (bytes : List ℕ)
     (i : Item) (len : ℕ) (e : Fault) → IsLeadingItem bytes i len → Reads view (MayGrowAt table i) (read i) (Err e)
@@ -45,14 +36,7 @@ pub message_fails : {A M : Type 0} (view : A → M) (table : Table) (read : Item
 message_fails view table read bytes i len fault.DecodeFailed f h = absurd h
 message_fails view table read bytes i len fault.OutOfMemory f h =
     record { item = i; len = len; front = f; grows = may_grow table i h }
-message_fails view table read bytes i len fault.NotAMap f h = record { item = i; len = len; front = f; holds = h }
-message_fails view table read bytes i len fault.BadKey f h = record { item = i; len = len; front = f; holds = h }
-message_fails view table read bytes i len (fault.Repeated n) f h =
-    record { item = i; len = len; front = f; holds = h }
-message_fails view table read bytes i len (fault.Refused n) f h =
-    record { item = i; len = len; front = f; holds = h }
-message_fails view table read bytes i len (fault.Missing n) f h =
-    record { item = i; len = len; front = f; holds = h }
+message_fails view table read bytes i len _ f h = record { item = i; len = len; front = f; holds = h }
 
 -- ---- at a cursor
 
@@ -147,11 +131,7 @@ module _ {A P : Type 0} (view : A → P) (t : Fields P) (old s a b : Walk) (p : 
       → ◌≡◌ {A = Result A Fault} (Err e) (Err fault.OutOfMemory) → GrowsMessage t (ahead old)
   grows_there fault.DecodeFailed h same = absurd h
   grows_there fault.OutOfMemory h same = record { item = p.item; len = p.len; front = p.front; holds = h }
-  grows_there fault.NotAMap h same = absurd cc
-  grows_there fault.BadKey h same = absurd cc
-  grows_there (fault.Repeated n) h same = absurd cc
-  grows_there (fault.Refused n) h same = absurd cc
-  grows_there (fault.Missing n) h same = absurd cc
+  grows_there _ h same = absurd cc
 
   pub fault_is : (e : Fault) (c : Walk) (k : ℕ) → k ≡ old.place → c ≡ record b { place = k } → DecodesRecord view t
       p.item (old.place + p.len) a b (Err e) → ReadsHere view t (suc (record_cost t)) old c (Err e)
@@ -163,33 +143,3 @@ module _ {A P : Type 0} (view : A → P) (t : Fields P) (old s a b : Walk) (p : 
       (omega (arith, place, skipped.forward, skipped.within, ap length (bytes ∙ on.same ∙ back.bytes)))
       (message_fails view (table_of t) (read_item t) (ahead old) p.item p.len e p.front d.answers)
       (grows_there e d.answers) place
-
--- there is no data item at the cursor
-pub none_is : {A P : Type 0} (view : A → P) (t : Fields P) (cost : ℕ) (old new : Walk) → FindsNoLeadingItem old new
-    → Went old new → ReadsHere {A = A} view t cost old new (Err fault.DecodeFailed)
-none_is view t cost old new f went = record {
-  reads = f.none;
-  grows = λ e. absurd cc;
-  stays = f.place;
-  went = went;
-  least = f.least;
-  heads = λ i len front. absurd (f.none i len front);
-  nodes = λ i len front. absurd (f.none i len front);
-  few_heads = λ none. f.heads;
-  no_nodes = λ none. f.nodes;
-}
-
--- a lower cost for each byte is within a higher one
-pub here_cheaper : {A P : Type 0} (view : A → P) (t : Fields P) (c d : ℕ) (old new : Walk) (result : Result A Fault)
-    → c ≤ d → ReadsHere view t c old new result → ReadsHere view t d old new result
-here_cheaper view t c d old new result le h = record {
-  reads = h.reads;
-  grows = h.grows;
-  stays = h.stays;
-  went = h.went;
-  least = h.least;
-  heads = λ i len front. omega (arith, h.heads i len front, mul-le-mul_left {m = c} {n = d} len le);
-  nodes = h.nodes;
-  few_heads = h.few_heads;
-  no_nodes = h.no_nodes;
-}

@@ -17,12 +17,4 @@ some_of (Some y) x e = cc
 -- an optional value that is decoded and isn't `None`
 pub not_null : {M : Type 0} (kind : Kind M) (i : Item) (x : M) → optional kind i ≡ Some (Some x) → kind i ≡ Some x
 not_null kind item.null x e = absurd cc
-not_null kind (item.number z) x e = some_of (kind (item.number z)) x e
-not_null kind (item.byte_string s) x e = some_of (kind (item.byte_string s)) x e
-not_null kind (item.text_string s) x e = some_of (kind (item.text_string s)) x e
-not_null kind (item.array xs) x e = some_of (kind (item.array xs)) x e
-not_null kind (item.map ps) x e = some_of (kind (item.map ps)) x e
-not_null kind (item.tagged t y) x e = some_of (kind (item.tagged t y)) x e
-not_null kind (item.boolean b) x e = some_of (kind (item.boolean b)) x e
-not_null kind (item.simple n) x e = some_of (kind (item.simple n)) x e
-not_null kind (item.float f) x e = some_of (kind (item.float f)) x e
+not_null kind i x e = some_of (kind i) x e

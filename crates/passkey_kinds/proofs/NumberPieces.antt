@@ -69,16 +69,8 @@ module _ {whole left next : Region} {a b d : Walk} {n : NumberState} (u : AddsUp
 
 other_number : (i : Item) → ((s : List ℕ) → i ≡ item.text_string s → ⊥)
     → algorithm i ≡ option_and_then algorithm_named (option_and_then signed_64 (integer_in i))
-other_number (item.number n) h = refl
-other_number (item.byte_string s) h = refl
 other_number (item.text_string s) h = absurd (h s refl)
-other_number (item.array xs) h = refl
-other_number (item.map ps) h = refl
-other_number (item.tagged t x) h = refl
-other_number (item.boolean b) h = refl
-other_number item.null h = refl
-other_number (item.simple n) h = refl
-other_number (item.float f) h = refl
+other_number _ h = refl
 
 -- if the item isn't a text string, the integer decides
 module _ (i : Item) (to : ℕ) (a b : Walk) (other : (s : List ℕ) → i ≡ item.text_string s → ⊥) where

@@ -3,7 +3,7 @@
 use Rattle.std.specs.FinMap as fin
 use Rattle.std.specs.Ordering.{is_lt}
 use Rattle.std.specs.declared.cmp.Ordering.{Ordering}
-use Rattle.std.specs.declared.cmp.Ordering.TheVariants.{Less, Equal, Greater}
+use Rattle.std.specs.declared.cmp.Ordering.TheVariants.{Less}
 use Rattle.std.proofs.Common.{◌≡◌, ℕ, ◌≤◌, Bool, true, ◌&&◌, List, [], ◌∷◌, ◌++◌, length, map, Option, Some, None, refl, sym, subst}
 use Rattle.std.proofs.lemmas.Bool.{and_parts}
 use Rattle.passkey_bytes.specs.Map.{ByteMap}
@@ -26,8 +26,7 @@ use Rattle.passkey_kinds.proofs.Places.{PlaceHas, EachPlace}
 
 less_is : (o : Ordering) → is_lt o ≡ true → o ≡ Less
 less_is Less h = refl
-less_is Equal h = absurd cc
-less_is Greater h = absurd cc
+less_is _ h = absurd cc
 
 -- the key comes before those of the places
 abbrev pub leads : Item → List Place → Bool

@@ -4,7 +4,7 @@ use Rattle.std.proofs.lemmas.List.{append-nil}
 use Rattle.std.specs.Result.{result_ok}
 use Rattle.passkey_cbor.specs.Item as item
 use Rattle.passkey_cbor.specs.Item.{Item}
-use Rattle.passkey_kinds.specs.Kind.{Kind, MayGrow, AnswersAs}
+use Rattle.passkey_kinds.specs.Kind.{Typed, MayGrow, AnswersAs}
 use Rattle.passkey_kinds.specs.Reading.{takes_at, MayGrowIn, Reads, Marks, Steps, are_small, first_unmarked}
 use Rattle.passkey_kinds.specs.Record.{Fields, set_with, rows_of, table_of, put_at, put_named, with_members, unless_missing, judged, read_members, read_item}
 use Rattle.passkey_kinds.specs.RecordReading.{Sets, Puts, HasRead, HasReadTo, held_as}
@@ -75,25 +75,18 @@ module _ {P : Type 0} (t : Fields P) where
 
     pub fails : (later : List Bool) (f : Fault) → Steps (table_of t) h.earlier m later (Err f)
         → Reads view (MayGrowIn (table_of t) ms) (read_members t ms) (Err f)
-    fails later fault.DecodeFailed s = absurd s
     fails later fault.OutOfMemory s = subst (MayGrowIn (table_of t))
         (sym (h.whole ∙ ap (λ (r : Members). h.earlier ++ r) at)) (grows_behind (table_of t) h.earlier m others s)
-    fails later fault.NotAMap s = absurd s
     fails later fault.BadKey s = bad_is fault.BadKey s
     fails later (fault.Repeated n) s = bad_is (fault.Repeated n) s
     fails later (fault.Refused n) s = bad_is (fault.Refused n) s
-    fails later (fault.Missing n) s = absurd s
+    fails later _ s = absurd s
 
   pub reads_from : {A : Type 0} {takes may : Type 0} (view : A → P) (wanted other : Result P Fault)
       (r : Result A Fault) → wanted ≡ other → (takes → may) → Reads view takes other r → Reads view may wanted r
-  reads_from view wanted other (Ok x) same grows h = same ∙ h
   reads_from view wanted other (Err fault.DecodeFailed) same grows h = absurd h
   reads_from view wanted other (Err fault.OutOfMemory) same grows h = grows h
-  reads_from view wanted other (Err fault.NotAMap) same grows h = same ∙ h
-  reads_from view wanted other (Err fault.BadKey) same grows h = same ∙ h
-  reads_from view wanted other (Err (fault.Repeated n)) same grows h = same ∙ h
-  reads_from view wanted other (Err (fault.Refused n)) same grows h = same ∙ h
-  reads_from view wanted other (Err (fault.Missing n)) same grows h = same ∙ h
+  reads_from view wanted other _ same grows h = same ∙ h
 
   -- all members were decoded
   pub all_read : {A : Type 0} (view : A → P) (ms rest : Members) (held : P) (marks : List Bool) (r : Result A Fault)
@@ -115,52 +108,34 @@ module _ {P : Type 0} (t : Fields P) where
 pub no_record : {P : Type 0} (t : Fields P) (i : Item) → ((ps : item.Pairs) → i ≡ item.map ps → ⊥)
     → read_item t i ≡ Err fault.NotAMap
 no_record t (item.map ps) h = absurd (h ps refl)
-no_record t (item.number n) h = refl
-no_record t (item.byte_string s) h = refl
-no_record t (item.text_string s) h = refl
-no_record t (item.array xs) h = refl
-no_record t (item.tagged n x) h = refl
-no_record t (item.boolean b) h = refl
-no_record t item.null h = refl
-no_record t (item.simple n) h = refl
-no_record t (item.float f) h = refl
+no_record t _ h = refl
 
 -- ---- records inside others
 
 pub held_answers : {A P : Type 0} {takes may : Type 0} (t : Fields P) (view : A → P) (wanted : Result P Fault) (r :
     Result A Fault) → (takes → may) → Reads view takes wanted r → AnswersAs view (result_ok wanted) may (held_as r)
-held_answers t view wanted (Ok x) grows h = ap result_ok h
 held_answers t view wanted (Err fault.DecodeFailed) grows h = absurd h
 held_answers t view wanted (Err fault.OutOfMemory) grows h = grows h
-held_answers t view wanted (Err fault.NotAMap) grows h = ap result_ok h
-held_answers t view wanted (Err fault.BadKey) grows h = ap result_ok h
-held_answers t view wanted (Err (fault.Repeated n)) grows h = ap result_ok h
-held_answers t view wanted (Err (fault.Refused n)) grows h = ap result_ok h
-held_answers t view wanted (Err (fault.Missing n)) grows h = ap result_ok h
+held_answers t view wanted _ grows h = ap result_ok h
 
 pub held_ok : {A : Type 0} (Q : Type 0) (r : Result A Fault) → OnOk r Q → OnOk (held_as r) Q
 held_ok Q (Ok x) h = h
-held_ok Q (Err fault.DecodeFailed) h = tt
 held_ok Q (Err fault.OutOfMemory) h = tt
-held_ok Q (Err fault.NotAMap) h = tt
-held_ok Q (Err fault.BadKey) h = tt
-held_ok Q (Err (fault.Repeated n)) h = tt
-held_ok Q (Err (fault.Refused n)) h = tt
-held_ok Q (Err (fault.Missing n)) h = tt
+held_ok Q (Err _) h = tt
 
 pub puts_refused : {P : Type 0} (t : Fields P) (n : ℕ) (i : Item) (old new : P) (why : Refusal)
     → why ≡ refusal.Refused → Puts t n i old new (Err why) → accepts_at (rows_of t.rows) n i ≡ false
 puts_refused t n i old new why e h = subst (λ (w : Refusal). Puts t n i old new (Err w)) e h
 
 -- setting a field is what its row puts
-pub sets_put : {A M P : Type 0} (t : Fields P) (view : A → M) (kind : Kind M) (takes : Bool) (set : M → P → P)
-    (n k : ℕ) (i : Item) (field : A) (old new : P) (result : Result (Unit {0}) Refusal) → n ≡ k
-    → accepts_at (rows_of t.rows) k i ≡ is_some (kind i) → put_at t.rows k i old ≡ set_with set (kind i) old
-    → takes_at (rows_of t.rows) k ≡ takes → set (view field) old ≡ new → Sets view kind takes i field result
+pub sets_put : {A M P : Type 0} (t : Fields P) (view : A → M) (kind : Typed M) (set : M → P → P) (n k : ℕ) (i : Item)
+    (field : A) (old new : P) (result : Result (Unit {0}) Refusal) → n ≡ k
+    → accepts_at (rows_of t.rows) k i ≡ is_some (kind.of i) → put_at t.rows k i old ≡ set_with set (kind.of i) old
+    → takes_at (rows_of t.rows) k ≡ kind.takes → set (view field) old ≡ new → Sets view kind i field result
     → Puts t n i old new result
-sets_put {M = M} t view kind takes set n k i field old new result same accepts puts may made h =
+sets_put {M = M} t view kind set n k i field old new result same accepts puts may made h =
     subst (λ (j : ℕ). Puts t j i old new result) (sym same) (there result h) where
-      there : (r : Result (Unit {0}) Refusal) → Sets view kind takes i field r → Puts t k i old new r
+      there : (r : Result (Unit {0}) Refusal) → Sets view kind i field r → Puts t k i old new r
       there (Ok x) h =
           (accepts ∙ ap (λ (o : Option M). is_some o) h, puts ∙ ap (λ (o : Option M). set_with set o old) h ∙ made)
       there (Err refusal.Refused) h = accepts ∙ ap (λ (o : Option M). is_some o) h

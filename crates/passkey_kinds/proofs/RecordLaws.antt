@@ -8,7 +8,7 @@ use Rattle.passkey_cose.proofs.KeyLists.{members-pairs_of}
 use Rattle.passkey_kinds.specs.MessageLaws.{AlikeDifferInLength}
 use Rattle.passkey_kinds.specs.Record.{Fields, table_of, put_at, put_named, with_members, unless_missing, judged, read_members, read_item}
 use Rattle.passkey_kinds.specs.RecordLaws.{known_member, known, HasNoWrongKey, SameAnswers, PassesOverUnknown, KnowsItems, KnowsMaps}
-use Rattle.passkey_kinds.specs.Table.{Naming, row, unknown, wrong, named, Members, first_bad, first_missing}
+use Rattle.passkey_kinds.specs.Table.{Naming, row, unknown, named, Members, first_bad, first_missing}
 use Rattle.passkey_kinds.specs.Tree.{map_tree}
 use Rattle.passkey_kinds.specs.declared.fault.Fault.{Fault}
 use Rattle.passkey_kinds.specs.declared.fault.Fault.TheVariants as fault
@@ -53,8 +53,7 @@ module _ {P : Type 0} (t : Fields P) where
   made_by : (naming : Naming) (value : Item) (xs : List (ℕ × Item)) (r : P)
       → put_known xs (put_named t.rows naming value r) ≡ put_known (cons_option (known_member naming value) xs) r
   made_by (row n) value xs r = refl
-  made_by unknown value xs r = refl
-  made_by wrong value xs r = refl
+  made_by _ value xs r = refl
 
   made_known : (ms : Members) (r : P) → with_members t ms r ≡ put_known (known (table_of t) ms) r
   made_known [] r = refl
@@ -101,15 +100,7 @@ module _ {P : Type 0} (t : Fields P) where
       → read_item t i ≢ Err e
   told e member missing map (item.map ps) h =
       told_of_map (members ps) e member missing (first_bad (table_of t) [] (members ps)) refl h
-  told e member missing map (item.number z) h = map cc
-  told e member missing map (item.byte_string s) h = map cc
-  told e member missing map (item.text_string s) h = map cc
-  told e member missing map (item.array xs) h = map cc
-  told e member missing map (item.tagged n x) h = map cc
-  told e member missing map (item.boolean b) h = map cc
-  told e member missing map item.null h = map cc
-  told e member missing map (item.simple n) h = map cc
-  told e member missing map (item.float f) h = map cc
+  told e member missing map _ h = map cc
 
   pub knows_items : KnowsItems (read_item t)
   knows_items i = (

@@ -21,8 +21,7 @@ found_in (x ∷ xs) = with_row x.0 x.1 (found_in xs)
 found_by : (naming : Naming) (value : Item) (o : Option Item) (xs : List (ℕ × Item)) (k : ℕ) → o ≡ found_in xs k
     → (if is_row k naming then Some value else o) ≡ found_in (cons_option (known_member naming value) xs) k
 found_by (row n) value o xs k rest = ap (λ (p : Option Item). if k == n then Some value else p) rest
-found_by unknown value o xs k rest = rest
-found_by wrong value o xs k rest = rest
+found_by _ value o xs k rest = rest
 
 pub found_known : (table : Table) (ms : Members) (k : ℕ) → found table ms k ≡ found_in (known table ms) k
 found_known table [] k = refl

@@ -1,19 +1,18 @@
 -- Strings that are lent at a cursor and looked at again: what they are, and where the cursor is
 -- then.
 use Rattle.std.specs.Option.{ok_or}
-use Rattle.std.proofs.Common.{◌≡◌, ◌∙◌, ℕ, suc, ◌+◌, ◌*◌, ◌≤◌, ◌<◌, arith, Bool, List, Option, Some, None, option_map, Result, refl, sym, ap, subst}
-use Rattle.std.proofs.Math.Nat.{mul-le-mul_left}
+use Rattle.std.proofs.Common.{◌≡◌, ◌∙◌, ℕ, suc, ◌*◌, ◌≤◌, ◌<◌, arith, Bool, List, Option, Some, None, option_map, Result, refl, sym, ap, subst}
 use Rattle.passkey_cbor.specs.Inside.{Content}
 use Rattle.passkey_cbor.specs.Item as item
 use Rattle.passkey_cbor.specs.Item.{Item}
 use Rattle.passkey_cbor.specs.Lent.{Region, Tells, PassesString, LendsNothing, LentWhole}
 use Rattle.passkey_cbor.specs.EncodedAt.{IsEncodedAt}
-use Rattle.passkey_cbor.specs.Walk.{Walk, Went}
+use Rattle.passkey_cbor.specs.Walk.{Walk}
 use Rattle.passkey_kinds.specs.Kind.{AnswersAs, bytes}
-use Rattle.passkey_kinds.specs.Reader.{Onward, Further, Decodes, LooksAtMost}
+use Rattle.passkey_kinds.specs.Reader.{Further, Decodes, LooksAtMost}
 use Rattle.passkey_kinds.specs.declared.refusal.Refusal.{Refusal}
 use Rattle.passkey_kinds.specs.declared.refusal.Refusal.TheVariants.{Refused}
-use Rattle.passkey_kinds.proofs.Going.{eased, onward_of, onward_looks, stands_back, string_further}
+use Rattle.passkey_kinds.proofs.Going.{eased, stands_back, string_further}
 use Rattle.passkey_kinds.proofs.Lists.{answers_from}
 
 whole_is : (is_text : Bool) (len : Option ℕ) (bytes t s : List ℕ) → Some t ≡ option_map (λ (n : ℕ). bytes) len
@@ -28,9 +27,6 @@ pub lent_is : (is_text : Bool) (r : Region) (t s : List ℕ) → LentWhole r (So
 lent_is is_text r t s e tells = whole_is is_text r.len r.bytes t s e tells
 
 module _ (a b d : Walk) (r : Region) where
-  pub looked_onward : Went a b → LooksAtMost r b d → Onward a d
-  looked_onward went looks = onward_looks a b d (onward_of a b went) looks.bytes looks.place looks.nodes looks.rises
-
   pub looked_further : (is_text : Bool) → PassesString is_text a b r → LooksAtMost r b d → Further a d
   looked_further is_text p looks = omega (arith, string_further is_text a b r p, looks.place)
 
@@ -76,20 +72,6 @@ missed_then view wanted takes cost kept to a b d result p less r = record {
     within = r.spends.within;
     heads = omega (arith, r.spends.heads, p.heads, less, ap (λ (n : ℕ). cost * n) p.place);
     nodes = omega (arith, r.spends.nodes, p.nodes);
-  };
-  ends = r.ends;
-}
-
--- the elements that follow an array's head
-pub opened_then : {A M : Type 0} (view : A → M) (wanted : Option M) (takes : Type 0) (cost to : ℕ) (a b d : Walk)
-    (result : Result A Refusal) → b.heads ≤ a.heads + 1 → a.place < b.place → b.nodes ≤ a.nodes
-    → Decodes view wanted takes (suc cost) 0 to b d result → Decodes view wanted takes (suc cost) 0 to a d result
-opened_then view wanted takes cost to a b d result one less none r = record {
-  answers = r.answers;
-  spends = record {
-    within = r.spends.within;
-    heads = omega (arith, r.spends.heads, one, mul-le-mul_left {m = suc a.place} {n = b.place} (suc cost) less);
-    nodes = omega (arith, r.spends.nodes, none);
   };
   ends = r.ends;
 }

@@ -4,7 +4,7 @@ use Rattle.std.specs.Option.{option_or}
 use Rattle.std.proofs.Common.{◌≡◌, ◌∙◌, ℕ, Bool, true, false, ◌&&◌, if◌then◌else◌, [], ◌∷◌, ◌++◌, Option, Some, None, is_some, is_none, option_map, refl, sym, ap}
 use Rattle.std.proofs.lemmas.List.{append-nil}
 use Rattle.passkey_cbor.specs.Item.{Item}
-use Rattle.passkey_kinds.specs.Table.{Entry, Table, Naming, row, unknown, wrong, entries, named, is_row, Members, found, accepts_at, bad_by, first_bad, first_missing}
+use Rattle.passkey_kinds.specs.Table.{Entry, Table, Naming, row, unknown, entries, named, is_row, Members, found, accepts_at, bad_by, first_bad, first_missing}
 use Rattle.passkey_kinds.specs.declared.fault.Fault.TheVariants.{Repeated, Refused}
 
 pub found_append : (table : Table) (ms ns : Members) (k : ℕ)
@@ -33,8 +33,7 @@ bad_alike : (table : Table) (one other : Members) → ((k : ℕ) → found table
     → (naming : Naming) (value : Item) → bad_by table one naming value ≡ bad_by table other naming value
 bad_alike table one other same (row n) value = ap (λ (o : Option Item). if is_some o then Some (Repeated n)
     else (if accepts_at table.rows n value then None else Some (Refused n))) (same n)
-bad_alike table one other same unknown value = refl
-bad_alike table one other same wrong value = refl
+bad_alike table one other same _ value = refl
 
 found_more : (table : Table) (one other more : Members) → ((k : ℕ) → found table one k ≡ found table other k)
     → (k : ℕ) → found table (one ++ more) k ≡ found table (other ++ more) k

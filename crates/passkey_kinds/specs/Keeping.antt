@@ -12,22 +12,19 @@ abbrev pub kept_of : Keeping → Item → ℕ
 kept_of nothing i = 0
 kept_of (counted count) i = count i
 
-abbrev pub kept_each : (Item → ℕ) → List Item → ℕ
-kept_each count [] = 0
-kept_each count (i ∷ is) = count i + kept_each count is
-
-abbrev pub kept_values : (Item → ℕ) → List (Item × Item) → ℕ
-kept_values count [] = 0
-kept_values count (m ∷ ms) = count m.1 + kept_values count ms
+-- the sum for each of these
+abbrev pub kept_sum : {X : Type 0} → (X → ℕ) → List X → ℕ
+kept_sum count [] = 0
+kept_sum count (x ∷ xs) = count x + kept_sum count xs
 
 -- the sum for the elements of an array
 abbrev pub kept_elements : (Item → ℕ) → Item → ℕ
-kept_elements count (item.array xs) = kept_each count (elements xs)
+kept_elements count (item.array xs) = kept_sum count (elements xs)
 kept_elements count _ = 0
 
 -- the sum for the values of a map
 abbrev pub kept_members : (Item → ℕ) → Item → ℕ
-kept_members count (item.map ps) = kept_values count (members ps)
+kept_members count (item.map ps) = kept_sum (λ m. count m.1) (members ps)
 kept_members count _ = 0
 
 abbrev pub in_elements : Keeping → Keeping

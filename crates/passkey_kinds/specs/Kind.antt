@@ -5,27 +5,40 @@ use Rattle.std.specs.Option.{option_and_then}
 use Rattle.std.specs.Str.{trim}
 use Rattle.passkey_bytes.specs.Encoding.{text_bytes}
 use Rattle.passkey_cbor.specs.Grows.{Grows}
-use Rattle.passkey_cbor.specs.Item.{Item, number, text_string, byte_string, array, map, tagged, boolean, null, simple, float, elements}
+use Rattle.passkey_cbor.specs.Item.{Item, number, text_string, byte_string, array, boolean, null, elements}
+use Rattle.passkey_kinds.specs.Keeping.{Keeping}
 use Rattle.passkey_kinds.specs.declared.refusal.Refusal.{Refusal}
 use Rattle.passkey_kinds.specs.declared.refusal.Refusal.TheVariants.{Refused, OutOfMemory}
 
 abbrev pub Kind : Type 0 → Type 0
 Kind M = Item → Option M
 
--- The result of decoding: a value whose view is the wanted one; `Refused`, if no value is wanted;
--- or `OutOfMemory`, only if decoding may allocate memory.
+-- The error of decoding: `Refused`, if no value is wanted; or `OutOfMemory`, only if decoding may
+-- allocate memory.
+abbrev pub FailsAs : {M : Type 0} → Option M → Type 0 → Refusal → Type 0
+FailsAs wanted takes Refused = wanted ≡ None
+FailsAs wanted takes OutOfMemory = takes
+
+-- The result of decoding: a value whose view is the wanted one, or an error.
 abbrev pub AnswersAs : {A M : Type 0} → (A → M) → Option M → Type 0 → Result A Refusal → Type 0
 AnswersAs view wanted takes (Ok x) = wanted ≡ Some (view x)
-AnswersAs view wanted takes (Err Refused) = wanted ≡ None
-AnswersAs view wanted takes (Err OutOfMemory) = takes
+AnswersAs view wanted takes (Err e) = FailsAs wanted takes e
 
 -- decoding this item may allocate memory: the kind takes memory, and so does the item
 abbrev pub MayGrow : Bool → Item → Type 0
 MayGrow takes i = IsTrue takes × Grows i
 
--- the same for a kind and an item
-abbrev pub Answers : {A M : Type 0} → (A → M) → Kind M → Bool → Item → Result A Refusal → Type 0
-Answers view kind takes i = AnswersAs view (kind i) (MayGrow takes i)
+-- A kind; whether decoding a value may allocate memory; how many heads it decodes at most for each
+-- byte of the data item; and which data items it makes as values.
+pub record Typed (M : Type 0) : Type 0 where
+  pub of : Kind M
+  pub takes : Bool
+  pub cost : ℕ
+  pub keeps : Keeping
+
+-- the result of decoding an item
+abbrev pub Answers : {A M : Type 0} → (A → M) → Typed M → Item → Result A Refusal → Type 0
+Answers view k i = AnswersAs view (k.of i) (MayGrow k.takes i)
 
 abbrev pub truth : Kind Bool
 truth (boolean b) = Some b
@@ -52,15 +65,7 @@ kept i = Some i
 -- null decodes to `None`
 abbrev pub optional : {M : Type 0} → Kind M → Kind (Option M)
 optional kind null = Some None
-optional kind (number z) = option_map Some (kind (number z))
-optional kind (byte_string s) = option_map Some (kind (byte_string s))
-optional kind (text_string s) = option_map Some (kind (text_string s))
-optional kind (array xs) = option_map Some (kind (array xs))
-optional kind (map ps) = option_map Some (kind (map ps))
-optional kind (tagged t x) = option_map Some (kind (tagged t x))
-optional kind (boolean b) = option_map Some (kind (boolean b))
-optional kind (simple n) = option_map Some (kind (simple n))
-optional kind (float f) = option_map Some (kind (float f))
+optional kind i = option_map Some (kind i)
 
 -- the values of all elements, if every element has one
 abbrev pub each : {X M : Type 0} → (X → Option M) → List X → Option (List M)

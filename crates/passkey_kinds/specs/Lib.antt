@@ -9,6 +9,7 @@ pub mod HeadValues
 pub mod Typed
 pub mod Record
 pub mod RecordCost
+pub mod Collecting
 pub mod RecordReading
 pub mod Rows
 pub mod SourceLaws

@@ -25,11 +25,7 @@ abbrev pub ReadsMessage : {A M : Type 0} → (A → M) → (Item → Result M Fa
 ReadsMessage view read bytes (Ok r) = Begins bytes (λ i len. (len ≡ r.1) × (read i ≡ Ok (view r.0)))
 ReadsMessage view read bytes (Err fault.DecodeFailed) = HasNoLeadingItem bytes
 ReadsMessage view read bytes (Err fault.OutOfMemory) = HasGrowingLeadingItem bytes
-ReadsMessage view read bytes (Err fault.NotAMap) = Begins bytes (λ i len. read i ≡ Err fault.NotAMap)
-ReadsMessage view read bytes (Err fault.BadKey) = Begins bytes (λ i len. read i ≡ Err fault.BadKey)
-ReadsMessage view read bytes (Err (fault.Repeated n)) = Begins bytes (λ i len. read i ≡ Err (fault.Repeated n))
-ReadsMessage view read bytes (Err (fault.Refused n)) = Begins bytes (λ i len. read i ≡ Err (fault.Refused n))
-ReadsMessage view read bytes (Err (fault.Missing n)) = Begins bytes (λ i len. read i ≡ Err (fault.Missing n))
+ReadsMessage view read bytes (Err e) = Begins bytes (λ i len. read i ≡ Err e)
 
 -- Memory may run out only for a member whose map key names a row that takes memory and whose value
 -- takes memory.

@@ -2,10 +2,10 @@
 use Rattle.std.specs.Prelude.{ℕ, ◌<◌, ◌^◌, Bool, false, List, [], ◌∷◌, Option}
 use Rattle.passkey_cbor.specs.Item.{Item, boolean, byte_string, text_string}
 use Rattle.passkey_core.specs.DataNormal.{IfPresent}
-use Rattle.passkey_kinds.specs.Kind.{Kind}
+use Rattle.passkey_kinds.specs.Kind.{Kind, Typed}
 use Rattle.passkey_kinds.specs.Record.{Member, Fields, required, default, record_kind}
 use Rattle.passkey_kinds.specs.Tree.{Place, number_tree, always, where_some, record_tree}
-use Rattle.passkey_kinds.specs.Typed.{Typed, optional, below, truth, bytes}
+use Rattle.passkey_kinds.specs.Typed.{optional, below, truth, bytes}
 
 -- A member, its place, and what holds of its value in every record.
 pub record Placed (P : Type 0) : Type 1 where

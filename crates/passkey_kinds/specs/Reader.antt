@@ -1,10 +1,10 @@
 -- Decoding a value over a cursor.
-use Rattle.std.specs.Prelude.{◌≡◌, ℕ, ◌+◌, ◌*◌, ◌≤◌, ◌<◌, Bool, true, List, [], ◌∷◌, length, Option, Result, OnOk}
+use Rattle.std.specs.Prelude.{◌≡◌, ℕ, ◌+◌, ◌*◌, ◌≤◌, ◌<◌, Bool, true, length, Option, Result, OnOk}
 use Rattle.passkey_cbor.specs.Item.{Item}
 use Rattle.passkey_cbor.specs.Lent.{Region}
 use Rattle.passkey_cbor.specs.Walk.{Walk}
 use Rattle.passkey_kinds.specs.Keeping.{Keeping, kept_of}
-use Rattle.passkey_kinds.specs.Kind.{Kind, AnswersAs, MayGrow}
+use Rattle.passkey_kinds.specs.Kind.{Typed, AnswersAs, MayGrow}
 use Rattle.passkey_kinds.specs.declared.refusal.Refusal.{Refusal}
 
 -- The cursor has the same bytes, didn't move back, is still within the bytes if it was before, and
@@ -35,26 +35,14 @@ pub record Decodes {A M : Type 0} (view : A → M) (wanted : Option M) (takes : 
   pub ends : OnOk result (new.place ≡ to)
 
 -- The same, where the wanted value is the one that the kind has for the item.
-abbrev pub ReadsAs : {A M : Type 0} → (A → M) → Kind M → Bool → ℕ → Keeping → Item → ℕ → Walk → Walk
-    → Result A Refusal → Type 0
-ReadsAs view kind takes cost keeps i to old new result =
-    Decodes view (kind i) (MayGrow takes i) cost (kept_of keeps i) to old new result
+abbrev pub ReadsAs : {A M : Type 0} → (A → M) → Typed M → Item → ℕ → Walk → Walk → Result A Refusal → Type 0
+ReadsAs view k i to old new result = Decodes view (k.of i) (MayGrow k.takes i) k.cost (kept_of k.keeps i) to old new result
 
 -- Decoding the item, which ends at `to`, has at most this cost; after a success the cursor is at
 -- `to`.
 pub record Costs (cost : ℕ) (keeps : Keeping) (i : Item) (to : ℕ) (old new : Walk) (ok : Bool) : Type 0 where
   pub spends : Spends cost (kept_of keeps i) to old new
   pub ends : ok ≡ true → new.place ≡ to
-
--- how many data items decoding all of these items makes as values at most
-abbrev pub kept_all : Keeping → List Item → ℕ
-kept_all keeps [] = 0
-kept_all keeps (i ∷ is) = kept_of keeps i + kept_all keeps is
-
--- the same for the values of a map's members
-abbrev pub kept_values_of : Keeping → List (Item × Item) → ℕ
-kept_values_of keeps [] = 0
-kept_values_of keeps (m ∷ ms) = kept_of keeps m.1 + kept_values_of keeps ms
 
 -- ---- looking at a string again
 

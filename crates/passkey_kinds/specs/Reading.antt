@@ -35,11 +35,7 @@ abbrev pub Reads : {A M : Type 0} → (A → M) → Type 0 → Result M Fault �
 Reads view takes wanted (Ok x) = wanted ≡ Ok (view x)
 Reads view takes wanted (Err fault.OutOfMemory) = takes
 Reads view takes wanted (Err fault.DecodeFailed) = ⊥
-Reads view takes wanted (Err fault.NotAMap) = wanted ≡ Err fault.NotAMap
-Reads view takes wanted (Err fault.BadKey) = wanted ≡ Err fault.BadKey
-Reads view takes wanted (Err (fault.Repeated n)) = wanted ≡ Err (fault.Repeated n)
-Reads view takes wanted (Err (fault.Refused n)) = wanted ≡ Err (fault.Refused n)
-Reads view takes wanted (Err (fault.Missing n)) = wanted ≡ Err (fault.Missing n)
+Reads view takes wanted (Err e) = wanted ≡ Err e
 
 -- what a map key names, for the code's type
 abbrev pub named_as : Named → Naming
@@ -64,10 +60,8 @@ Steps table earlier m marks (Ok x) = (bad_member table earlier m ≡ None) × Ma
 Steps table earlier m marks (Err fault.OutOfMemory) = MayGrowBy table (named table m.0) m.1
 Steps table earlier m marks (Err fault.DecodeFailed) = ⊥
 Steps table earlier m marks (Err fault.NotAMap) = ⊥
-Steps table earlier m marks (Err fault.BadKey) = bad_member table earlier m ≡ Some fault.BadKey
-Steps table earlier m marks (Err (fault.Repeated n)) = bad_member table earlier m ≡ Some (fault.Repeated n)
-Steps table earlier m marks (Err (fault.Refused n)) = bad_member table earlier m ≡ Some (fault.Refused n)
 Steps table earlier m marks (Err (fault.Missing n)) = ⊥
+Steps table earlier m marks (Err e) = bad_member table earlier m ≡ Some e
 
 -- whether each row's number is below 32
 abbrev pub are_small : List Entry → Bool

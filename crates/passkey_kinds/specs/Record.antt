@@ -3,9 +3,8 @@ use Rattle.std.specs.Prelude.{ℕ, ◌==◌, Bool, true, false, if◌then◌else
 use Rattle.std.specs.Result.{result_ok}
 use Rattle.passkey_cbor.specs.Item as item
 use Rattle.passkey_cbor.specs.Item.{Item, members}
-use Rattle.passkey_kinds.specs.Kind.{Kind}
-use Rattle.passkey_kinds.specs.Table.{Entry, Row, Table, Naming, row, unknown, wrong, named, Members, first_bad, first_missing}
-use Rattle.passkey_kinds.specs.Typed.{Typed}
+use Rattle.passkey_kinds.specs.Kind.{Kind, Typed}
+use Rattle.passkey_kinds.specs.Table.{Entry, Row, Table, Naming, row, named, Members, first_bad, first_missing}
 use Rattle.passkey_kinds.specs.declared.fault.Fault.{Fault}
 use Rattle.passkey_kinds.specs.declared.fault.Fault.TheVariants.{NotAMap, Missing}
 
@@ -54,8 +53,7 @@ put_at (m ∷ ms) n i r = if m.entry.number == n then set_with m.set (m.kind.of 
 
 abbrev pub put_named : {P : Type 0} → List (Member P) → Naming → Item → P → P
 put_named rows (row n) i r = put_at rows n i r
-put_named rows unknown i r = r
-put_named rows wrong i r = r
+put_named rows _ i r = r
 
 -- the record with the values of the members put into it one after the other
 abbrev pub with_members : {P : Type 0} → Fields P → Members → P → P

@@ -1,11 +1,12 @@
 -- The cost of decoding a record over a cursor.
-use Rattle.std.specs.Prelude.{ℕ, ◌+◌, max, ◌==◌, Bool, true, false, ◌&&◌, if◌then◌else◌, List, [], ◌∷◌}
+use Rattle.std.specs.Prelude.{ℕ, max, ◌==◌, Bool, true, false, ◌&&◌, if◌then◌else◌, List, [], ◌∷◌}
 use Rattle.passkey_cbor.specs.Item as item
 use Rattle.passkey_cbor.specs.Item.{Item, members}
-use Rattle.passkey_kinds.specs.Keeping.{Keeping, nothing, counted, kept_of}
+use Rattle.passkey_kinds.specs.Keeping.{Keeping, nothing, counted, kept_of, kept_sum}
+use Rattle.passkey_kinds.specs.Kind.{Typed}
 use Rattle.passkey_kinds.specs.Record.{Fields, Member, table_of, record_kind}
 use Rattle.passkey_kinds.specs.Table.{Naming, row, unknown, wrong, named, Members}
-use Rattle.passkey_kinds.specs.Typed.{Typed, growing}
+use Rattle.passkey_kinds.specs.Typed.{growing}
 
 -- the greatest cost of a value, and at least 4: 3 for a map key, and 1 to look for the map's end
 abbrev pub greatest_cost : {P : Type 0} → List (Member P) → ℕ
@@ -33,13 +34,11 @@ cost_by rows wrong = 0
 
 abbrev pub keeps_by : {P : Type 0} → List (Member P) → Naming → Keeping
 keeps_by rows (row n) = keeps_at rows n
-keeps_by rows unknown = nothing
-keeps_by rows wrong = nothing
+keeps_by rows _ = nothing
 
 -- how many data items decoding these members makes as values, by the rows that their keys name
 abbrev pub kept_in : {P : Type 0} → Fields P → Members → ℕ
-kept_in t [] = 0
-kept_in t (m ∷ ms) = kept_of (keeps_by t.rows (named (table_of t) m.0)) m.1 + kept_in t ms
+kept_in t ms = kept_sum (λ m. kept_of (keeps_by t.rows (named (table_of t) m.0)) m.1) ms
 
 abbrev pub kept_in_map : {P : Type 0} → Fields P → Item → ℕ
 kept_in_map t (item.map ps) = kept_in t (members ps)

@@ -25,8 +25,7 @@ UnknownMemberIsPassedOver t = (before behind : Members) (key value : Item) → n
 
 abbrev pub known_member : Naming → Item → Option (ℕ × Item)
 known_member (row n) i = Some (n, i)
-known_member unknown i = None
-known_member wrong i = None
+known_member _ i = None
 
 -- the rows that the keys name, in the order of the members, each with the member's value
 abbrev pub known : Table → Members → List (ℕ × Item)

@@ -2,7 +2,7 @@
 use Rattle.std.specs.Prelude.{◌≡◌, ℕ, Bool, true, false, List, [], ◌∷◌, ◌++◌, Option, Some, None, Result, Ok, Err, IfSome, OnOk}
 use Rattle.passkey_cbor.specs.Item.{Item}
 use Rattle.passkey_cbor.specs.Walk.{Walk}
-use Rattle.passkey_kinds.specs.Kind.{Kind, MayGrow}
+use Rattle.passkey_kinds.specs.Kind.{Typed, MayGrow}
 use Rattle.passkey_kinds.specs.Reader.{Spends}
 use Rattle.passkey_kinds.specs.Reading.{takes_at, MayGrowIn, MayGrowAt, Reads, Marks, Steps, naming_of}
 use Rattle.passkey_kinds.specs.Record.{Fields, rows_of, table_of, put_at, with_members, read_members, read_item}
@@ -16,10 +16,10 @@ use Rattle.passkey_kinds.specs.declared.refusal.Refusal.TheVariants.{Refused, Ou
 
 -- The result of decoding an item into a field: on success, the field's new value is the one that
 -- the kind has for the item.
-abbrev pub Sets : {A M : Type 0} → (A → M) → Kind M → Bool → Item → A → Result (Unit {0}) Refusal → Type 0
-Sets view kind takes i new (Ok x) = kind i ≡ Some (view new)
-Sets view kind takes i new (Err Refused) = kind i ≡ None
-Sets view kind takes i new (Err OutOfMemory) = MayGrow takes i
+abbrev pub Sets : {A M : Type 0} → (A → M) → Typed M → Item → A → Result (Unit {0}) Refusal → Type 0
+Sets view k i new (Ok x) = k.of i ≡ Some (view new)
+Sets view k i new (Err Refused) = k.of i ≡ None
+Sets view k i new (Err OutOfMemory) = MayGrow k.takes i
 
 -- The result of decoding an item for row n into a record, and the record after it.
 abbrev pub Puts : {P : Type 0} → Fields P → ℕ → Item → P → P → Result (Unit {0}) Refusal → Type 0
@@ -72,9 +72,4 @@ pub record DecodesMembers {A P : Type 0} (view : A → P) (t : Fields P) (ms : M
 abbrev pub held_as : {A : Type 0} → Result A Fault → Result A Refusal
 held_as (Ok x) = Ok x
 held_as (Err fault.OutOfMemory) = Err OutOfMemory
-held_as (Err fault.DecodeFailed) = Err Refused
-held_as (Err fault.NotAMap) = Err Refused
-held_as (Err fault.BadKey) = Err Refused
-held_as (Err (fault.Repeated n)) = Err Refused
-held_as (Err (fault.Refused n)) = Err Refused
-held_as (Err (fault.Missing n)) = Err Refused
+held_as (Err _) = Err Refused

@@ -61,8 +61,7 @@ named table key = names table.is_numbered (entries table) key
 
 abbrev pub is_row : ℕ → Naming → Bool
 is_row n (row m) = n == m
-is_row n unknown = false
-is_row n wrong = false
+is_row n _ = false
 
 -- the value of the first member that names row n
 abbrev pub found : Table → Members → ℕ → Option Item

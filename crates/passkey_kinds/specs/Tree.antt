@@ -3,7 +3,7 @@ use Rattle.std.specs.Prelude.{ℕ, pos, Bool, true, length, if◌then◌else◌,
 use Rattle.std.specs.FinMap as fin
 use Rattle.passkey_bytes.specs.Map.{ByteMap}
 use Rattle.passkey_cbor.specs.Canonical.{Ascend}
-use Rattle.passkey_cbor.specs.Item.{Item, number, byte_string, text_string, array, map, tagged, boolean, null, simple, float, items_of, pairs_of}
+use Rattle.passkey_cbor.specs.Item.{Item, number, byte_string, array, map, boolean, null, items_of, pairs_of}
 use Rattle.passkey_kinds.specs.ShortFirst.{short_first}
 use Rattle.passkey_kinds.specs.Table.{Members}
 
@@ -35,16 +35,8 @@ byte_map_tree tree m = map_tree (each (entry_tree tree) (short_first (fin.entrie
 
 -- the length of a byte string, and 0 for any other item
 abbrev pub key_size : Item → ℕ
-key_size (number z) = 0
 key_size (byte_string s) = length s
-key_size (text_string s) = 0
-key_size (array xs) = 0
-key_size (map ps) = 0
-key_size (tagged t x) = 0
-key_size (boolean b) = 0
-key_size null = 0
-key_size (simple n) = 0
-key_size (float f) = 0
+key_size _ = 0
 
 -- A map key with its value, or with `None` if the member is absent.
 abbrev pub Place : Type 0

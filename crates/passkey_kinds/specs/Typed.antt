@@ -9,17 +9,9 @@ use Rattle.passkey_kinds.specs.Algorithm as numbered
 use Rattle.passkey_kinds.specs.Data as core
 use Rattle.passkey_kinds.specs.Keeping.{Keeping, nothing, counted, in_elements, in_members}
 use Rattle.passkey_kinds.specs.Kind as kind
-use Rattle.passkey_kinds.specs.Kind.{Kind}
+use Rattle.passkey_kinds.specs.Kind.{Kind, Typed}
 use Rattle.passkey_kinds.specs.MapKind as mapped
 use Rattle.passkey_kinds.specs.Size as sized
-
--- A kind; whether decoding a value may allocate memory; how many heads it decodes at most for each
--- byte of the data item; and which data items it makes as values.
-pub record Typed (M : Type 0) : Type 0 where
-  pub of : Kind M
-  pub takes : Bool
-  pub cost : ℕ
-  pub keeps : Keeping
 
 -- a kind whose values take no memory, at the cost of this many heads for each byte
 abbrev pub fixed : {M : Type 0} → ℕ → Kind M → Typed M

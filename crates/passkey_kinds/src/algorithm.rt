@@ -1,12 +1,13 @@
 //! COSE algorithm identifiers, decoded from data items and encoded.
-ghost use Rattle.std.specs.Prelude.{◌≡◌, ℕ, List, true, false};
+ghost use Rattle.std.specs.Prelude.{◌≡◌, ℕ, List, true};
 ghost use Rattle.std.specs.Option.{option_and_then};
 ghost use Rattle.passkey_cbor.specs.Lent.{IsRegion, Tells};
 ghost use Rattle.passkey_iana.specs.Iana.{algorithm_named, algorithm_number};
 ghost use Rattle.passkey_iana.specs.declared.algorithm.Algorithm.{Algorithm as Named};
-ghost use Rattle.passkey_kinds.specs.Algorithm.{algorithm, algorithm_tree};
+ghost use Rattle.passkey_kinds.specs.Algorithm.{algorithm_tree};
 ghost use Rattle.passkey_kinds.specs.Kind.{AnswersAs};
 ghost use Rattle.passkey_kinds.specs.Reader.{LooksAtMost};
+ghost use Rattle.passkey_kinds.specs.Typed.{algorithm};
 ghost use Rattle.passkey_webauthn.specs.NumberText.{whole_64};
 
 use crate::from_cbor::FromCbor;
@@ -52,11 +53,7 @@ impl FromCbor for Algorithm {
 
     ghost view = { λ a. a };
 
-    ghost kind = { algorithm };
-
-    ghost takes = { false };
-
-    ghost cost = { 2 };
+    ghost typed = { algorithm };
 
     fn from_value(_alloc: Global, value: &Value) -> Result<Algorithm, Refusal> {
         match value {

@@ -1,14 +1,17 @@
 //! Arrays of 32 bytes, decoded from data items and encoded as arrays of integers.
-ghost use Rattle.std.specs.Prelude.{◌==◌, ℕ, List, length, map, if◌then◌else◌, false, Some, None};
+ghost use Rattle.std.specs.Prelude.{◌==◌, ℕ, List, length, map, take, if◌then◌else◌, false, Some, None};
 ghost use Rattle.passkey_cbor.specs.Item.{Item};
 ghost use Rattle.passkey_cbor.specs.Lent.{Tells};
 ghost use Rattle.passkey_cbor.specs.EncodedAt.{ItemsAreEncodedAt};
+ghost use Rattle.passkey_kinds.specs.Collecting.{filling};
 ghost use Rattle.passkey_kinds.specs.Reader.{Onward, Decodes, LooksAtMost};
 ghost use Rattle.passkey_cbor.specs.View.{item_of};
-ghost use Rattle.passkey_kinds.specs.Kind.{AnswersAs, each, below, sized_bytes};
+ghost use Rattle.passkey_kinds.specs.Kind.{AnswersAs, each, below};
 ghost use Rattle.passkey_kinds.specs.ReadBack.{AreBytes};
 ghost use Rattle.passkey_kinds.specs.Tree.{numbers_tree};
+ghost use Rattle.passkey_kinds.specs.Typed.{sized_bytes};
 
+use crate::collect::{Collect, read_all};
 use crate::from_cbor::FromCbor;
 use crate::head::read_array;
 use crate::refusal::Refusal;
@@ -34,10 +37,36 @@ fn read_numbers(alloc: Global, elements: &[Value]) -> Result<[u8; 32], Refusal>
     Ok(bytes)
 }
 
+/// The first bytes of an array.
+#[derive(Drop)]
+struct Front {
+    bytes: [u8; 32],
+    len: usize,
+}
+
+impl Collect for Front {
+    ghost Element = { Item };
+
+    ghost Value = { List ℕ };
+
+    ghost value = { λ front. take front.len front.bytes };
+
+    ghost way = { filling 32 };
+
+    fn add(&mut self, alloc: Global, cursor: &mut Cursor<'_>) -> Result<(), Refusal> {
+        if self.len >= 32 {
+            return Err(Refusal::Refused);
+        }
+        self.bytes[self.len] = u8::read(alloc, cursor)?;
+        self.len += 1;
+        Ok(())
+    }
+}
+
 /// Decodes the bytes from the elements that follow an array's head.
 fn read_numbers_ahead(
     alloc: Global,
-    mut left: Option<u64>,
+    left: Option<u64>,
     cursor: &mut Cursor<'_>,
 ) -> Result<[u8; 32], Refusal>
     ensures reads { (is : List Item) (to : ℕ) → ItemsAreEncodedAt left is cursor.old.bytes cursor.old.place to
@@ -45,17 +74,13 @@ fn read_numbers_ahead(
         result }
     ensures onward { Onward cursor.old cursor.new }
 {
-    let mut bytes = [0; 32];
-    let mut len = 0;
-    while cursor.more(&mut left) {
-        if len == 32 {
-            return Err(Refusal::Refused);
-        }
-        bytes[len] = u8::read(alloc, cursor)?;
-        len += 1;
-    }
-    if len == 32 {
-        Ok(bytes)
+    let empty = Front {
+        bytes: [0; 32],
+        len: 0,
+    };
+    let front = read_all(alloc, empty, left, cursor)?;
+    if front.len >= 32 {
+        Ok(front.bytes)
     } else {
         Err(Refusal::Refused)
     }
@@ -83,11 +108,7 @@ impl FromCbor for [u8; 32] {
 
     ghost view = { λ b. b };
 
-    ghost kind = { sized_bytes 32 };
-
-    ghost takes = { false };
-
-    ghost cost = { 3 };
+    ghost typed = { sized_bytes 32 };
 
     fn from_value(alloc: Global, value: &Value) -> Result<[u8; 32], Refusal> {
         match value {

@@ -8,7 +8,8 @@ ghost use Rattle.passkey_cbor.specs.EncodedAt.{ItemsAreEncodedAt};
 ghost use Rattle.passkey_kinds.specs.Reader.{Onward, Decodes, LooksAtMost};
 ghost use Rattle.passkey_cbor.specs.View.{item_of};
 ghost use Rattle.passkey_bytes.specs.Encoding.{text_bytes};
-ghost use Rattle.passkey_kinds.specs.Kind.{AnswersAs, each, below, bytes};
+ghost use Rattle.passkey_kinds.specs.Kind.{AnswersAs, each, below};
+ghost use Rattle.passkey_kinds.specs.Typed.{bytes};
 
 use crate::from_cbor::FromCbor;
 use crate::head::read_array;
@@ -88,11 +89,7 @@ impl FromCbor for Bytes {
 
     ghost view = { λ b. b };
 
-    ghost kind = { bytes };
-
-    ghost takes = { true };
-
-    ghost cost = { 3 };
+    ghost typed = { bytes };
 
     fn from_value(alloc: Global, value: &Value) -> Result<Bytes, Refusal> {
         match value {

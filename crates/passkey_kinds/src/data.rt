@@ -5,9 +5,9 @@ ghost use Rattle.passkey_core.specs.DataNodes.{data_nodes};
 ghost use Rattle.passkey_core.specs.DataNormal.{IsData};
 ghost use Rattle.passkey_core.specs.DataParts.{DataParts};
 ghost use Rattle.passkey_core.specs.DataViews.{data_parts};
-ghost use Rattle.passkey_kinds.specs.Data.{CountsData, authenticator_data, authenticator_data_nodes, data_tree, aaguid, aaguid_tree};
-ghost use Rattle.passkey_kinds.specs.Keeping.{counted};
+ghost use Rattle.passkey_kinds.specs.Data.{CountsData, data_tree, aaguid_tree};
 ghost use Rattle.passkey_kinds.specs.Kind.{Answers};
+ghost use Rattle.passkey_kinds.specs.Typed.{authenticator_data, aaguid};
 
 use crate::array::filled;
 use crate::from_cbor::FromCbor;
@@ -21,7 +21,7 @@ use std::alloc::Global;
 
 /// Decodes the content of a byte string as authenticator data, and adds the cost to `count`.
 fn read_data(alloc: Global, bytes: &[u8], count: &mut Count) -> Result<AuthenticatorData, Refusal>
-    ensures answers { Answers data_parts authenticator_data true (byte_string bytes.now) result }
+    ensures answers { Answers data_parts authenticator_data (byte_string bytes.now) result }
     ensures heads { count.new.heads ≤ count.old.heads + (4 * length bytes.now + 4) }
     ensures nodes { count.new.nodes ≤ count.old.nodes + data_nodes bytes.now }
 {
@@ -40,7 +40,7 @@ fn read_counted(
     bytes: &[u8],
     cursor: &mut Cursor<'_>,
 ) -> Result<AuthenticatorData, Refusal>
-    ensures answers { Answers data_parts authenticator_data true (byte_string bytes.now) result }
+    ensures answers { Answers data_parts authenticator_data (byte_string bytes.now) result }
     ensures counts { CountsData bytes.now cursor.old cursor.new }
 {
     let mut count = Count { heads: 0, nodes: 0 };
@@ -54,13 +54,7 @@ impl FromCbor for AuthenticatorData {
 
     ghost view = { data_parts };
 
-    ghost kind = { authenticator_data };
-
-    ghost takes = { true };
-
-    ghost cost = { 6 };
-
-    ghost keeps = { counted authenticator_data_nodes };
+    ghost typed = { authenticator_data };
 
     fn from_value(alloc: Global, value: &Value) -> Result<AuthenticatorData, Refusal> {
         match value {
@@ -99,7 +93,7 @@ impl ToCbor for AuthenticatorData {
 
 /// Decodes the content of a byte string as an AAGUID. `Refused` unless it has 16 bytes.
 fn read_aaguid(bytes: &[u8]) -> Result<Aaguid, Refusal>
-    ensures { Answers (λ a. a.0) aaguid false (byte_string bytes.now) result }
+    ensures { Answers (λ a. a.0) aaguid (byte_string bytes.now) result }
 {
     match <[u8; 16]>::try_from(bytes) {
         Ok(bytes) => Ok(Aaguid(bytes)),
@@ -112,11 +106,7 @@ impl FromCbor for Aaguid {
 
     ghost view = { λ a. a.0 };
 
-    ghost kind = { aaguid };
-
-    ghost takes = { false };
-
-    ghost cost = { 2 };
+    ghost typed = { aaguid };
 
     fn from_value(_alloc: Global, value: &Value) -> Result<Aaguid, Refusal> {
         match value {

@@ -1,12 +1,11 @@
 //! Values that are decoded from data items.
-ghost use Rattle.std.specs.Prelude.{◌^◌, ℕ, suc, nat_lt, Bool, true, false, if◌then◌else◌, List, Option, option_map, OnOk};
+ghost use Rattle.std.specs.Prelude.{◌^◌, ℕ, nat_lt, Bool, true, false, if◌then◌else◌, List, Option, option_map, OnOk};
 ghost use Rattle.passkey_cbor.specs.Item.{Item};
-ghost use Rattle.passkey_cbor.specs.Nodes.{nodes};
 ghost use Rattle.passkey_cbor.specs.EncodedAt.{IsEncodedAt};
 ghost use Rattle.passkey_cbor.specs.View.{item_of};
-ghost use Rattle.passkey_kinds.specs.Keeping.{Keeping, nothing, counted};
-ghost use Rattle.passkey_kinds.specs.Kind.{Answers, AnswersAs, truth, below, text, kept, optional};
+ghost use Rattle.passkey_kinds.specs.Kind.{Answers, AnswersAs, Typed};
 ghost use Rattle.passkey_kinds.specs.Reader.{Onward, Further, ReadsAs};
+ghost use Rattle.passkey_kinds.specs.Typed.{truth, below, text, kept, optional};
 
 use crate::head::{read_null, read_truth, read_unsigned};
 use crate::refusal::Refusal;
@@ -21,24 +20,17 @@ pub trait FromCbor: Drop {
 
     ghost view: { Self → Meaning };
 
-    /// The value that each data item decodes to, if it decodes to one.
-    ghost kind: { Item → Option Meaning };
-
-    /// Whether decoding may take memory.
-    ghost takes: { Bool };
-
-    /// The most heads that `read` decodes for each byte of the data item.
-    ghost cost: { ℕ };
-
-    /// The data items that `read` makes as values at most: those that the result keeps, and in
-    /// authenticator data those for the credential public key and the extensions.
-    ghost keeps: { Keeping } = { nothing };
+    /// The value that each data item decodes to, if it decodes to one; whether decoding may take
+    /// memory; the most heads that `read` decodes for each byte of the data item; and the data items
+    /// that it makes as values at most: those that the result keeps, and in authenticator data those
+    /// for the credential public key and the extensions.
+    ghost typed: { Typed Meaning };
 
     /// Decodes the value from a data item. Returns `Refused` exactly if the type doesn't accept the
     /// item, and `OutOfMemory` if an allocation fails, which can only happen for a tag, a text
     /// string, or a byte string, array or map that isn't empty.
     fn from_value(alloc: Global, value: &Value) -> Result<Self, Refusal>
-        ensures { Answers view kind takes (item_of value.now) result };
+        ensures { Answers view typed (item_of value.now) result };
 
     /// Decodes the data item at the cursor, head by head and without building it, and moves past
     /// it. If a well-formed item of at most 256 nesting levels is there, the result is one that
@@ -46,7 +38,7 @@ pub trait FromCbor: Drop {
     /// its counts include what was spent.
     fn read(alloc: Global, cursor: &mut Cursor<'_>) -> Result<Self, Refusal>
         ensures reads { (i : Item) (to : ℕ) → IsEncodedAt i cursor.old.bytes cursor.old.place to
-            → ReadsAs view kind takes cost keeps i to cursor.old cursor.new result }
+            → ReadsAs view typed i to cursor.old cursor.new result }
 
         // Whatever the bytes are, the cursor doesn't move back, and its counts don't fall.
         ensures onward { Onward cursor.old cursor.new }
@@ -70,11 +62,7 @@ impl FromCbor for bool {
 
     ghost view = { λ b. b };
 
-    ghost kind = { truth };
-
-    ghost takes = { false };
-
-    ghost cost = { 1 };
+    ghost typed = { truth };
 
     fn from_value(_alloc: Global, value: &Value) -> Result<bool, Refusal> {
         match value {
@@ -96,11 +84,7 @@ impl FromCbor for u8 {
 
     ghost view = { λ n. n };
 
-    ghost kind = { below (2 ^ 8) };
-
-    ghost takes = { false };
-
-    ghost cost = { 1 };
+    ghost typed = { below (2 ^ 8) };
 
     fn from_value(_alloc: Global, value: &Value) -> Result<u8, Refusal> {
         match value {
@@ -122,11 +106,7 @@ impl FromCbor for u32 {
 
     ghost view = { λ n. n };
 
-    ghost kind = { below (2 ^ 32) };
-
-    ghost takes = { false };
-
-    ghost cost = { 1 };
+    ghost typed = { below (2 ^ 32) };
 
     fn from_value(_alloc: Global, value: &Value) -> Result<u32, Refusal> {
         match value {
@@ -148,11 +128,7 @@ impl FromCbor for Text {
 
     ghost view = { λ t. t };
 
-    ghost kind = { text };
-
-    ghost takes = { true };
-
-    ghost cost = { 2 };
+    ghost typed = { text };
 
     fn from_value(alloc: Global, value: &Value) -> Result<Text, Refusal> {
         match value {
@@ -174,13 +150,7 @@ impl FromCbor for Value {
 
     ghost view = { item_of };
 
-    ghost kind = { kept };
-
-    ghost takes = { true };
-
-    ghost cost = { 2 };
-
-    ghost keeps = { counted nodes };
+    ghost typed = { kept };
 
     fn from_value(alloc: Global, value: &Value) -> Result<Value, Refusal> {
         Ok(value.try_clone(alloc)?)
@@ -201,13 +171,7 @@ impl<T: FromCbor> FromCbor for Option<T> {
 
     ghost view = { λ o. option_map T.view o };
 
-    ghost kind = { optional T.kind };
-
-    ghost takes = { T.takes };
-
-    ghost cost = { suc T.cost };
-
-    ghost keeps = { T.keeps };
+    ghost typed = { optional T.typed };
 
     fn from_value(alloc: Global, value: &Value) -> Result<Option<T>, Refusal> {
         match value {

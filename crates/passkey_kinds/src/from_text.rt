@@ -6,6 +6,7 @@ ghost use Rattle.passkey_cbor.specs.EncodedAt.{IsEncodedAt};
 ghost use Rattle.passkey_kinds.specs.Keeping.{nothing};
 ghost use Rattle.passkey_kinds.specs.Kind.{one_named};
 ghost use Rattle.passkey_kinds.specs.Reader.{Onward, Further, ReadsAs, LooksAtMost};
+ghost use Rattle.passkey_kinds.specs.Typed.{growing};
 
 use crate::refusal::Refusal;
 use passkey_cbor::{Cursor, TextToken};
@@ -45,7 +46,7 @@ fn text_value<T: FromText>(
 /// text string is there, and `OutOfMemory` if an allocation fails.
 pub fn read_text_value<T: FromText>(alloc: Global, cursor: &mut Cursor<'_>) -> Result<T, Refusal>
     ensures reads { (i : Item) (to : ℕ) → IsEncodedAt i cursor.old.bytes cursor.old.place to
-        → ReadsAs (λ v. v) (one_named (λ s. Some (T.of_text s))) true 2 nothing i to cursor.old cursor.new result }
+        → ReadsAs (λ v. v) (growing 2 nothing (one_named (λ s. Some (T.of_text s)))) i to cursor.old cursor.new result }
     ensures onward { Onward cursor.old cursor.new }
     ensures further { OnOk result (Further cursor.old cursor.new) }
 {

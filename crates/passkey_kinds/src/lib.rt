@@ -5,6 +5,7 @@
 mod algorithm;
 mod array;
 mod bytes;
+mod collect;
 mod data;
 mod descriptor;
 mod fault;

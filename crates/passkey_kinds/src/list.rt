@@ -4,10 +4,13 @@ ghost use Rattle.std.specs.List.{filter_map};
 ghost use Rattle.passkey_cbor.specs.View.{item_of};
 ghost use Rattle.passkey_cbor.specs.Item.{Item};
 ghost use Rattle.passkey_cbor.specs.EncodedAt.{ItemsAreEncodedAt};
-ghost use Rattle.passkey_kinds.specs.Keeping.{in_elements};
-ghost use Rattle.passkey_kinds.specs.Kind.{AnswersAs, each, list, accepted};
-ghost use Rattle.passkey_kinds.specs.Reader.{Onward, Decodes, kept_all};
+ghost use Rattle.passkey_kinds.specs.Collecting.{pushing, pushing_if};
+ghost use Rattle.passkey_kinds.specs.Keeping.{kept_of, kept_sum};
+ghost use Rattle.passkey_kinds.specs.Kind.{AnswersAs, each};
+ghost use Rattle.passkey_kinds.specs.Reader.{Onward, Decodes};
+ghost use Rattle.passkey_kinds.specs.Typed.{list, accepted};
 
+use crate::collect::{Collect, read_all};
 use crate::from_cbor::FromCbor;
 use crate::head::read_array;
 use crate::refusal::Refusal;
@@ -17,7 +20,7 @@ use passkey_cbor::{Cursor, Value};
 use std::alloc::Global;
 
 pub(crate) fn read_each<T: FromCbor>(alloc: Global, elements: &[Value]) -> Result<List<T>, Refusal>
-    ensures { AnswersAs (λ xs. map T.view xs) (each T.kind (map item_of elements.now)) (0 < length elements.now)
+    ensures { AnswersAs (λ xs. map T.view xs) (each T.typed.of (map item_of elements.now)) (0 < length elements.now)
         result }
 {
     let mut read = Vec::new(alloc);
@@ -28,7 +31,7 @@ pub(crate) fn read_each<T: FromCbor>(alloc: Global, elements: &[Value]) -> Resul
 }
 
 fn read_accepted<T: FromCbor>(alloc: Global, elements: &[Value]) -> Result<TolerantList<T>, Refusal>
-    ensures { AnswersAs (λ l. map T.view l.0) (Some (filter_map T.kind (map item_of elements.now)))
+    ensures { AnswersAs (λ l. map T.view l.0) (Some (filter_map T.typed.of (map item_of elements.now)))
         (0 < length elements.now) result }
 {
     let mut read = Vec::new(alloc);
@@ -42,44 +45,72 @@ fn read_accepted<T: FromCbor>(alloc: Global, elements: &[Value]) -> Result<Toler
     Ok(TolerantList(List::from(read)))
 }
 
+/// Elements behind one another.
+impl<T: FromCbor> Collect for Vec<T> {
+    ghost Element = { Item };
+
+    ghost Value = { Items T.Meaning };
+
+    ghost value = { λ v. map T.view v.items };
+
+    ghost way = { pushing T.typed };
+
+    fn add(&mut self, alloc: Global, cursor: &mut Cursor<'_>) -> Result<(), Refusal> {
+        self.push(T::read(alloc, cursor)?)?;
+        Ok(())
+    }
+}
+
 /// Decodes the elements that follow an array's head.
 pub(crate) fn read_elements<T: FromCbor>(
     alloc: Global,
-    mut left: Option<u64>,
+    left: Option<u64>,
     cursor: &mut Cursor<'_>,
 ) -> Result<List<T>, Refusal>
     ensures reads { (is : Items Item) (to : ℕ) → ItemsAreEncodedAt left is cursor.old.bytes cursor.old.place to
-        → Decodes (λ xs. map T.view xs) (each T.kind is) (0 < length is) (suc T.cost) (kept_all T.keeps is) to
+        → Decodes (λ xs. map T.view xs) (each T.typed.of is) (0 < length is) (suc T.typed.cost) (kept_sum (kept_of T.typed.keeps) is) to
         cursor.old cursor.new result }
     ensures onward { Onward cursor.old cursor.new }
 {
-    let mut read = Vec::new(alloc);
-    while cursor.more(&mut left) {
-        read.push(T::read(alloc, cursor)?)?;
+    Ok(List::from(read_all(alloc, Vec::new(alloc), left, cursor)?))
+}
+
+/// Elements behind one another, without those that aren't accepted.
+#[derive(Drop)]
+struct Accepted<T>(Vec<T>);
+
+impl<T: FromCbor> Collect for Accepted<T> {
+    ghost Element = { Item };
+
+    ghost Value = { Items T.Meaning };
+
+    ghost value = { λ l. map T.view l.0.items };
+
+    ghost way = { pushing_if T.typed };
+
+    fn add(&mut self, alloc: Global, cursor: &mut Cursor<'_>) -> Result<(), Refusal> {
+        let element: Tolerated<T> = Tolerated::read(alloc, cursor)?;
+        match element.0 {
+            Some(accepted) => self.0.push(accepted)?,
+            None => {}
+        }
+        Ok(())
     }
-    Ok(List::from(read))
 }
 
 /// Decodes the elements that follow an array's head, and skips those that aren't accepted.
 fn read_accepted_elements<T: FromCbor>(
     alloc: Global,
-    mut left: Option<u64>,
+    left: Option<u64>,
     cursor: &mut Cursor<'_>,
 ) -> Result<TolerantList<T>, Refusal>
     ensures reads { (is : Items Item) (to : ℕ) → ItemsAreEncodedAt left is cursor.old.bytes cursor.old.place to
-        → Decodes (λ l. map T.view l.0) (Some (filter_map T.kind is)) (0 < length is) (suc (suc T.cost))
-        (kept_all T.keeps is) to cursor.old cursor.new result }
+        → Decodes (λ l. map T.view l.0) (Some (filter_map T.typed.of is)) (0 < length is) (suc (suc T.typed.cost))
+        (kept_sum (kept_of T.typed.keeps) is) to cursor.old cursor.new result }
     ensures onward { Onward cursor.old cursor.new }
 {
-    let mut read = Vec::new(alloc);
-    while cursor.more(&mut left) {
-        let element: Tolerated<T> = Tolerated::read(alloc, cursor)?;
-        match element.0 {
-            Some(accepted) => read.push(accepted)?,
-            None => {}
-        }
-    }
-    Ok(TolerantList(List::from(read)))
+    let accepted = read_all(alloc, Accepted(Vec::new(alloc)), left, cursor)?;
+    Ok(TolerantList(List::from(accepted.0)))
 }
 
 impl<T: FromCbor> FromCbor for List<T> {
@@ -87,13 +118,7 @@ impl<T: FromCbor> FromCbor for List<T> {
 
     ghost view = { λ xs. map T.view xs };
 
-    ghost kind = { list T.kind };
-
-    ghost takes = { true };
-
-    ghost cost = { suc T.cost };
-
-    ghost keeps = { in_elements T.keeps };
+    ghost typed = { list T.typed };
 
     fn from_value(alloc: Global, value: &Value) -> Result<List<T>, Refusal> {
         match value {
@@ -120,13 +145,7 @@ impl<T: FromCbor> FromCbor for TolerantList<T> {
 
     ghost view = { λ l. map T.view l.0 };
 
-    ghost kind = { accepted T.kind };
-
-    ghost takes = { true };
-
-    ghost cost = { suc (suc T.cost) };
-
-    ghost keeps = { in_elements T.keeps };
+    ghost typed = { accepted T.typed };
 
     fn from_value(alloc: Global, value: &Value) -> Result<TolerantList<T>, Refusal> {
         match value {

@@ -6,13 +6,14 @@ ghost use Rattle.passkey_bytes.specs.Map.{ByteMap};
 ghost use Rattle.passkey_cbor.specs.View.{item_of, pair_of};
 ghost use Rattle.passkey_kinds.specs.Kind.{AnswersAs};
 ghost use Rattle.passkey_cbor.specs.Item.{Item};
-ghost use Rattle.passkey_cbor.specs.EncodedAt.{PairsAreEncodedAt};
-ghost use Rattle.passkey_kinds.specs.Keeping.{in_members};
-ghost use Rattle.passkey_kinds.specs.MapKind.{map_from_bytes, map_values, with_members};
-ghost use Rattle.passkey_kinds.specs.Reader.{Onward, Decodes, kept_values_of};
+ghost use Rattle.passkey_kinds.specs.Collecting.{entering};
+ghost use Rattle.passkey_kinds.specs.Keeping.{kept_of};
+ghost use Rattle.passkey_kinds.specs.MapKind.{map_values, with_members};
 ghost use Rattle.passkey_kinds.specs.ShortFirst.{sorted_by};
 ghost use Rattle.passkey_kinds.specs.Tree.{byte_map_tree, entry_tree, key_size};
+ghost use Rattle.passkey_kinds.specs.Typed.{map_from_bytes};
 
+use crate::collect::{Collect, read_all};
 use crate::from_cbor::FromCbor;
 use crate::head::read_map;
 use crate::refusal::Refusal;
@@ -26,7 +27,7 @@ fn read_entries<T: FromCbor>(
     alloc: Global,
     pairs: &[(Value, Value)],
 ) -> Result<Map<Bytes, T>, Refusal>
-    ensures { AnswersAs (λ m. map_values T.view m) (with_members T.kind fin.empty (map pair_of pairs.now))
+    ensures { AnswersAs (λ m. map_values T.view m) (with_members T.typed.of fin.empty (map pair_of pairs.now))
         (0 < length pairs.now) result }
 {
     let mut read = Map::empty(alloc);
@@ -36,23 +37,20 @@ fn read_entries<T: FromCbor>(
     Ok(read)
 }
 
-/// Decodes the entries that follow a map's head.
-fn read_entries_ahead<T: FromCbor>(
-    alloc: Global,
-    mut left: Option<u64>,
-    cursor: &mut Cursor<'_>,
-) -> Result<Map<Bytes, T>, Refusal>
-    ensures reads { (ms : List (Item × Item)) (to : ℕ) → PairsAreEncodedAt left ms cursor.old.bytes cursor.old.place
-        to → Decodes (λ m. map_values T.view m) (with_members T.kind fin.empty ms) (0 < length ms)
-        (suc (max 3 T.cost)) (kept_values_of T.keeps ms) to cursor.old cursor.new result }
-    ensures onward { Onward cursor.old cursor.new }
-{
-    let mut read = Map::empty(alloc);
-    while cursor.more(&mut left) {
+impl<T: FromCbor> Collect for Map<Bytes, T> {
+    ghost Element = { Item × Item };
+
+    ghost Value = { ByteMap T.Meaning };
+
+    ghost value = { λ m. map_values T.view m };
+
+    ghost way = { entering T.typed };
+
+    fn add(&mut self, alloc: Global, cursor: &mut Cursor<'_>) -> Result<(), Refusal> {
         let key = Bytes::read(alloc, cursor)?;
-        read.insert(key, T::read(alloc, cursor)?)?;
+        self.insert(key, T::read(alloc, cursor)?)?;
+        Ok(())
     }
-    Ok(read)
 }
 
 impl<T: FromCbor> FromCbor for Map<Bytes, T> {
@@ -60,13 +58,7 @@ impl<T: FromCbor> FromCbor for Map<Bytes, T> {
 
     ghost view = { λ m. map_values T.view m };
 
-    ghost kind = { map_from_bytes T.kind };
-
-    ghost takes = { true };
-
-    ghost cost = { suc (max 3 T.cost) };
-
-    ghost keeps = { in_members T.keeps };
+    ghost typed = { map_from_bytes T.typed };
 
     fn from_value(alloc: Global, value: &Value) -> Result<Map<Bytes, T>, Refusal> {
         match value {
@@ -77,7 +69,7 @@ impl<T: FromCbor> FromCbor for Map<Bytes, T> {
 
     fn read(alloc: Global, cursor: &mut Cursor<'_>) -> Result<Map<Bytes, T>, Refusal> {
         match read_map(cursor) {
-            Some(left) => read_entries_ahead(alloc, left, cursor),
+            Some(left) => read_all(alloc, Map::empty(alloc), left, cursor),
             None => Err(Refusal::Refused),
         }
     }

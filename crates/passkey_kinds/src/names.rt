@@ -5,7 +5,9 @@ ghost use Rattle.passkey_cbor.specs.Lent.{IsRegion, Tells};
 ghost use Rattle.passkey_cbor.specs.EncodedAt.{IsEncodedAt};
 ghost use Rattle.passkey_kinds.specs.Reader.{Onward, Further, Decodes, LooksAtMost};
 ghost use Rattle.passkey_cbor.specs.View.{item_of};
-ghost use Rattle.passkey_kinds.specs.Kind.{AnswersAs, one_named};
+ghost use Rattle.passkey_kinds.specs.Kind.{AnswersAs};
+ghost use Rattle.passkey_kinds.specs.Kind as kind;
+ghost use Rattle.passkey_kinds.specs.Typed.{one_named};
 ghost use Rattle.passkey_webauthn.specs.CredentialType.{credential_type_named};
 ghost use Rattle.passkey_webauthn.specs.Transport.{transport_named};
 ghost use Rattle.passkey_webauthn.specs.declared.credential_type.PublicKeyCredentialType.{PublicKeyCredentialType as CredentialType};
@@ -18,7 +20,7 @@ use passkey_webauthn::{AuthenticatorTransport, EnumNames, NameTable, PublicKeyCr
 use std::alloc::Global;
 
 fn read_name<T: EnumNames>(value: &Value) -> Result<T, Refusal>
-    ensures { AnswersAs (λ x. x) (one_named T.named (item_of value.now)) ⊥ result }
+    ensures { AnswersAs (λ x. x) (kind.one_named T.named (item_of value.now)) ⊥ result }
 {
     match value {
         Value::Text(name) => T::from_name(name.as_str()).ok_or(Refusal::Refused),
@@ -43,7 +45,7 @@ fn named<T: NameTable>(token: &TextToken<'_>, cursor: &mut Cursor<'_>) -> Option
 
 fn read_named<T: NameTable>(cursor: &mut Cursor<'_>) -> Result<T, Refusal>
     ensures reads { (i : Item) (to : ℕ) → IsEncodedAt i cursor.old.bytes cursor.old.place to
-        → Decodes (λ x. x) (one_named T.named i) ⊥ 2 0 to cursor.old cursor.new result }
+        → Decodes (λ x. x) (kind.one_named T.named i) ⊥ 2 0 to cursor.old cursor.new result }
     ensures onward { Onward cursor.old cursor.new }
     ensures further { OnOk result (Further cursor.old cursor.new) }
 {
@@ -58,11 +60,7 @@ impl FromCbor for PublicKeyCredentialType {
 
     ghost view = { λ t. t };
 
-    ghost kind = { one_named credential_type_named };
-
-    ghost takes = { false };
-
-    ghost cost = { 2 };
+    ghost typed = { one_named credential_type_named };
 
     fn from_value(_alloc: Global, value: &Value) -> Result<PublicKeyCredentialType, Refusal> {
         read_name(value)
@@ -78,11 +76,7 @@ impl FromCbor for AuthenticatorTransport {
 
     ghost view = { λ t. t };
 
-    ghost kind = { one_named transport_named };
-
-    ghost takes = { false };
-
-    ghost cost = { 2 };
+    ghost typed = { one_named transport_named };
 
     fn from_value(_alloc: Global, value: &Value) -> Result<AuthenticatorTransport, Refusal> {
         read_name(value)

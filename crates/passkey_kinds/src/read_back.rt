@@ -22,8 +22,8 @@ pub trait ReadBack: FromCbor + ToCbor {
 
     /// The encoding of a value decodes to its normal form. Does nothing.
     fn read_back()
-        ensures back { IsReadBack Self.kind Self.tree Self.fits (λ x. Self.view (normal x)) }
-        ensures not_null { Self.kind null ≡ None };
+        ensures back { IsReadBack Self.typed.of Self.tree Self.fits (λ x. Self.view (normal x)) }
+        ensures not_null { Self.typed.of null ≡ None };
 }
 
 /// A record whose encoding can be decoded again.

@@ -5,8 +5,8 @@ ghost use Rattle.passkey_cbor.specs.EncodedAt.{IsEncodedAt, PairsAreEncodedAt};
 ghost use Rattle.passkey_cbor.specs.View.{item_of, pair_of};
 ghost use Rattle.passkey_kinds.specs.Reader.{Onward, Further};
 ghost use Rattle.passkey_kinds.specs.Reading.{MayGrowIn, MayGrowAt, Reads, are_small, first_unmarked, named_as};
-ghost use Rattle.passkey_kinds.specs.Record.{Fields, table_of, read_members, read_item, record_kind, unless_missing};
-ghost use Rattle.passkey_kinds.specs.RecordCost.{record_cost, record_keeps, cost_at, keeps_at, cost_by, keeps_by};
+ghost use Rattle.passkey_kinds.specs.Record.{Fields, table_of, read_members, read_item, unless_missing};
+ghost use Rattle.passkey_kinds.specs.RecordCost.{nested, cost_at, keeps_at, cost_by, keeps_by};
 ghost use Rattle.passkey_kinds.specs.RecordReading.{Puts, HasRead, ReadsOne, DecodesMembers, DecodesRecord, held_as};
 ghost use Rattle.passkey_kinds.specs.Rows.{entry_of};
 ghost use Rattle.passkey_kinds.specs.Table.{Members, entries, named};
@@ -231,13 +231,7 @@ impl<R: Record> FromCbor for R {
 
     ghost view = { R.parts };
 
-    ghost kind = { record_kind R.fields };
-
-    ghost takes = { true };
-
-    ghost cost = { record_cost R.fields };
-
-    ghost keeps = { record_keeps R.fields };
+    ghost typed = { nested R.fields };
 
     fn from_value(alloc: Global, value: &Value) -> Result<R, Refusal> {
         held(record_from_value::<R>(alloc, value))

@@ -4,7 +4,8 @@ ghost use Rattle.std.specs.Prelude.{◌≡◌, ℕ, pos, false, option_map};
 ghost use Rattle.std.specs.Int.NonZero.{non_zero_u128_get};
 ghost use Rattle.passkey_cbor.specs.Item.{number};
 ghost use Rattle.passkey_kinds.specs.Kind.{AnswersAs};
-ghost use Rattle.passkey_kinds.specs.Size.{size};
+ghost use Rattle.passkey_kinds.specs.Size.{size as size_of};
+ghost use Rattle.passkey_kinds.specs.Typed.{size};
 
 use crate::from_cbor::FromCbor;
 use crate::head::read_unsigned;
@@ -14,13 +15,13 @@ use std::alloc::Global;
 use std::num::NonZeroU128;
 
 fn positive(n: Integer) -> Option<NonZeroU128>
-    ensures { option_map non_zero_u128_get result ≡ size (number n) }
+    ensures { option_map non_zero_u128_get result ≡ size_of (number n) }
 {
     NonZeroU128::new(u128::try_from(n.get()).ok()?)
 }
 
 fn not_zero(n: u64) -> Result<NonZeroU128, Refusal>
-    ensures { AnswersAs non_zero_u128_get (size (number (pos n))) ⊥ result }
+    ensures { AnswersAs non_zero_u128_get (size_of (number (pos n))) ⊥ result }
 {
     NonZeroU128::new(u128::from(n)).ok_or(Refusal::Refused)
 }
@@ -30,11 +31,7 @@ impl FromCbor for NonZeroU128 {
 
     ghost view = { non_zero_u128_get };
 
-    ghost kind = { size };
-
-    ghost takes = { false };
-
-    ghost cost = { 1 };
+    ghost typed = { size };
 
     fn from_value(_alloc: Global, value: &Value) -> Result<NonZeroU128, Refusal> {
         match value {

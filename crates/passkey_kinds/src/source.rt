@@ -4,10 +4,11 @@ ghost use Rattle.passkey_cbor.specs.Item.{Item};
 ghost use Rattle.passkey_cbor.specs.EncodedAt.{IsEncodedAt};
 ghost use Rattle.passkey_cbor.specs.View.{item_of};
 ghost use Rattle.passkey_kinds.specs.Keeping.{Keeping, nothing, in_elements};
-ghost use Rattle.passkey_kinds.specs.Kind.{Answers, accepted, or_else, tolerated};
+ghost use Rattle.passkey_kinds.specs.Kind.{Answers};
 ghost use Rattle.passkey_kinds.specs.Reader.{Onward, Costs};
 ghost use Rattle.passkey_kinds.specs.RecordReading.{Sets};
 ghost use Rattle.passkey_kinds.specs.SourceLaws.{costs_nothing, onward_same};
+ghost use Rattle.passkey_kinds.specs.Typed.{accepted, or_else, tolerated};
 
 use crate::from_cbor::FromCbor;
 use crate::list::TolerantList;
@@ -32,9 +33,9 @@ pub trait Source {
     /// Decodes the item. Returns `Refused` exactly if the type doesn't accept it, and `OutOfMemory`
     /// if an allocation fails, which can only happen for an item that takes memory.
     fn read<T: FromCbor>(&mut self, alloc: Global) -> Result<T, Refusal>
-        ensures answers { (i : Item) (to : ℕ) → At self.old i to → Answers T.view T.kind T.takes i result }
+        ensures answers { (i : Item) (to : ℕ) → At self.old i to → Answers T.view T.typed i result }
         ensures spends { (i : Item) (to : ℕ) → At self.old i to
-            → Spent T.cost T.keeps i to self.old self.new (is_ok result) }
+            → Spent T.typed.cost T.typed.keeps i to self.old self.new (is_ok result) }
         ensures onward { Goes self.old self.new };
 
     /// Skips the item, which is the value of an unknown member, and returns whether there is one.
@@ -102,9 +103,9 @@ pub fn set<T: FromCbor, S: Source>(
     alloc: Global,
     source: &mut S,
 ) -> Result<(), Refusal>
-    ensures sets { (i : Item) (to : ℕ) → S.At source.old i to → Sets T.view T.kind T.takes i field.new result }
+    ensures sets { (i : Item) (to : ℕ) → S.At source.old i to → Sets T.view T.typed i field.new result }
     ensures spends { (i : Item) (to : ℕ) → S.At source.old i to
-        → S.Spent T.cost T.keeps i to source.old source.new (is_ok result) }
+        → S.Spent T.typed.cost T.typed.keeps i to source.old source.new (is_ok result) }
     ensures onward { S.Goes source.old source.new }
 {
     *field = source.read(alloc)?;
@@ -119,9 +120,9 @@ pub fn set_tolerated<T: FromCbor, S: Source>(
     source: &mut S,
 ) -> Result<(), Refusal>
     ensures sets { (i : Item) (to : ℕ) → S.At source.old i to
-        → Sets (option_map T.view) (tolerated T.kind) T.takes i field.new result }
+        → Sets (option_map T.view) (tolerated T.typed) i field.new result }
     ensures spends { (i : Item) (to : ℕ) → S.At source.old i to
-        → S.Spent (suc T.cost) T.keeps i to source.old source.new (is_ok result) }
+        → S.Spent (suc T.typed.cost) T.typed.keeps i to source.old source.new (is_ok result) }
     ensures onward { S.Goes source.old source.new }
 {
     let read: Tolerated<T> = source.read(alloc)?;
@@ -138,9 +139,9 @@ pub fn set_or<T: FromCbor, S: Source>(
     source: &mut S,
 ) -> Result<(), Refusal>
     ensures sets { (i : Item) (to : ℕ) → S.At source.old i to
-        → Sets T.view (or_else (T.view default) T.kind) T.takes i field.new result }
+        → Sets T.view (or_else (T.view default) T.typed) i field.new result }
     ensures spends { (i : Item) (to : ℕ) → S.At source.old i to
-        → S.Spent (suc T.cost) T.keeps i to source.old source.new (is_ok result) }
+        → S.Spent (suc T.typed.cost) T.typed.keeps i to source.old source.new (is_ok result) }
     ensures onward { S.Goes source.old source.new }
 {
     let read: Tolerated<T> = source.read(alloc)?;
@@ -157,9 +158,9 @@ pub fn set_accepted<T: FromCbor, S: Source>(
     source: &mut S,
 ) -> Result<(), Refusal>
     ensures sets { (i : Item) (to : ℕ) → S.At source.old i to
-        → Sets (λ xs. map T.view xs) (accepted T.kind) true i field.new result }
+        → Sets (λ xs. map T.view xs) (accepted T.typed) i field.new result }
     ensures spends { (i : Item) (to : ℕ) → S.At source.old i to
-        → S.Spent (suc (suc T.cost)) (in_elements T.keeps) i to source.old source.new (is_ok result) }
+        → S.Spent (suc (suc T.typed.cost)) (in_elements T.typed.keeps) i to source.old source.new (is_ok result) }
     ensures onward { S.Goes source.old source.new }
 {
     let read: TolerantList<T> = source.read(alloc)?;
@@ -174,9 +175,9 @@ pub fn set_accepted_or_none<T: FromCbor, S: Source>(
     source: &mut S,
 ) -> Result<(), Refusal>
     ensures sets { (i : Item) (to : ℕ) → S.At source.old i to
-        → Sets (λ o. option_map (λ xs. map T.view xs) o) (tolerated (accepted T.kind)) true i field.new result }
+        → Sets (λ o. option_map (λ xs. map T.view xs) o) (tolerated (accepted T.typed)) i field.new result }
     ensures spends { (i : Item) (to : ℕ) → S.At source.old i to
-        → S.Spent (suc (suc (suc T.cost))) (in_elements T.keeps) i to source.old source.new (is_ok result) }
+        → S.Spent (suc (suc (suc T.typed.cost))) (in_elements T.typed.keeps) i to source.old source.new (is_ok result) }
     ensures onward { S.Goes source.old source.new }
 {
     let read: Tolerated<TolerantList<T>> = source.read(alloc)?;

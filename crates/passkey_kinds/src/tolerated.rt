@@ -1,6 +1,6 @@
 //! Values that become `None` if they can't be decoded.
 ghost use Rattle.std.specs.Prelude.{suc, Option, option_map};
-ghost use Rattle.passkey_kinds.specs.Kind.{tolerated};
+ghost use Rattle.passkey_kinds.specs.Typed.{tolerated};
 
 use crate::from_cbor::FromCbor;
 use crate::refusal::Refusal;
@@ -17,13 +17,7 @@ impl<T: FromCbor> FromCbor for Tolerated<T> {
 
     ghost view = { λ t. option_map T.view t.0 };
 
-    ghost kind = { tolerated T.kind };
-
-    ghost takes = { T.takes };
-
-    ghost cost = { suc T.cost };
-
-    ghost keeps = { T.keeps };
+    ghost typed = { tolerated T.typed };
 
     fn from_value(alloc: Global, value: &Value) -> Result<Tolerated<T>, Refusal> {
         match T::from_value(alloc, value) {

@@ -18,6 +18,4 @@ conveyance_named = named_in conveyance_name
 -- each value's name finds the value
 pub conveyance_own : (x : AttestationConveyancePreference) → conveyance_named (conveyance_name x) ≡ Some x
 conveyance_own conveyance.None = refl
-conveyance_own conveyance.Indirect = refl
-conveyance_own conveyance.Direct = refl
-conveyance_own conveyance.Enterprise = refl
+conveyance_own _ = refl

@@ -25,9 +25,4 @@ format_named = named_in format_name every_format
 -- each value's name finds the value
 pub format_own : (x : AttestationStatementFormatIdentifiers) → format_named (format_name x) ≡ Some x
 format_own format.Packed = refl
-format_own format.Tpm = refl
-format_own format.AndroidKey = refl
-format_own format.AndroidSafetynet = refl
-format_own format.FidoU2f = refl
-format_own format.Apple = refl
-format_own format.None = refl
+format_own _ = refl

@@ -15,5 +15,4 @@ hint_named = named_in hint_name (hint.SecurityKey ∷ hint.ClientDevice ∷ hint
 -- each value's name finds the value
 pub hint_own : (x : PublicKeyCredentialHints) → hint_named (hint_name x) ≡ Some x
 hint_own hint.SecurityKey = refl
-hint_own hint.ClientDevice = refl
-hint_own hint.Hybrid = refl
+hint_own _ = refl

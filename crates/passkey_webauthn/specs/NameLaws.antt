@@ -16,10 +16,7 @@ credential_type_own kind.Unknown = refl
 
 pub transport_own : (t : AuthenticatorTransport) → transport_named (transport_name t) ≡ Some t
 transport_own transport.Usb = refl
-transport_own transport.Nfc = refl
-transport_own transport.Ble = refl
-transport_own transport.Hybrid = refl
-transport_own transport.Internal = refl
+transport_own _ = refl
 
 pub credential_type_by_index : (s : List ℕ)
     → credential_type_named s ≡ by_index credential_type_names credential_type_at s

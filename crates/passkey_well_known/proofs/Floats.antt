@@ -14,17 +14,9 @@ none_after (Some u) rest none = rw none refl
 
 float_in_items : (ds : Items) → items_have_float ds ≡ true → each url ds ≡ None
 float_in_items no_items float = absurd (true≢false (sym float))
-float_in_items (item null ds) float = refl
-float_in_items (item (boolean b) ds) float = refl
-float_in_items (item (number n) ds) float = refl
 float_in_items (item (string s) ds) float = none_after (url (string s)) (each url ds) (float_in_items ds float)
-float_in_items (item (array es) ds) float = refl
-float_in_items (item (object ms) ds) float = refl
+float_in_items _ float = refl
 
 pub float_refused : (d : Data) → has_float d ≡ true → list url d ≡ None
-float_refused null float = refl
-float_refused (boolean b) float = refl
-float_refused (number n) float = refl
-float_refused (string s) float = refl
 float_refused (array ds) float = float_in_items ds float
-float_refused (object ms) float = refl
+float_refused _ float = refl

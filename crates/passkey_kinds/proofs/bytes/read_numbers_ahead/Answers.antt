@@ -1,9 +1,7 @@
-use Rattle.std.proofs.Common.{◌∙◌, ℕ, List, length, map, ◌<◌, Some, sym, ap, subst}
-use Rattle.passkey_kinds.specs.Keeping.{nothing}
-use Rattle.passkey_kinds.specs.Kind.{each, below}
-use Rattle.passkey_kinds.specs.Reader.{Spends, kept_all}
+use Rattle.std.proofs.Common.{◌∙◌, ℕ, Some, sym, ap, subst}
+use Rattle.passkey_kinds.specs.Reader.{Spends}
 use Rattle.passkey_kinds.proofs.Ahead.{kept_nothing}
-use Rattle.passkey_kinds.proofs.Leaves.{seen_as}
+use Rattle.passkey_kinds.proofs.Leaves.{fails_as}
 use Rattle.passkey_kinds.proofs.Lists.{map_same}
 use Rattle.passkey_kinds.proofs.bytes.read_numbers_ahead.Goals as goal
 
@@ -19,6 +17,4 @@ returns-in-Ok-clause-reads c = λ is to l.
 
 pub returns-in-Err-clause-reads : goal.returns-in-Err-clause-reads
 returns-in-Err-clause-reads c = λ is to l.
-    seen_as (λ (xs : List ℕ). map (λ n. n) xs) (λ (b : List ℕ). b) (each (below 256) is) (each (below 256) is)
-    (0 < length is) 2 (kept_all nothing is) 0 to c.args.cursor.now c.read_elements.new.cursor c.in-Err.refusal
-    (kept_nothing is) (λ h. h) (c.in-Err.ensures.reads is to l)
+    fails_as c.in-Err.refusal (kept_nothing is) (λ h. h) (λ h. h) (c.in-Err.ensures.reads is to l)

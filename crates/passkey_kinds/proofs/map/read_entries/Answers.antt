@@ -6,14 +6,14 @@ use Rattle.passkey_kinds.proofs.map.read_entries.Goals as goal
 
 pub loop-key-init : goal.loop-key-init
 loop-key-init g c =
-    ap (λ m. with_members g.T.FromCbor.kind m (map pair_of c.args.pairs.now))
+    ap (λ m. with_members g.T.FromCbor.typed.of m (map pair_of c.args.pairs.now))
     (sym (map_values-empty g.T.FromCbor.view) ∙ sym (ap (map_values g.T.FromCbor.view) c.empty-read.ensures))
 
 pub loop-key-preserved : goal.loop-key-preserved
 loop-key-preserved g c =
     c.loop-key.invariant
-    ∙ read_more g.T.FromCbor.kind g.T.FromCbor.view c.args.pairs.now c.loop-key.key-index c.loop-key-item.result
+    ∙ read_more g.T.FromCbor.typed.of g.T.FromCbor.view c.args.pairs.now c.loop-key.key-index c.loop-key-item.result
     c.loop-key.read c.in_ok-from_value.field-0 c.in_ok-from_value-2.field-0 c.loop-key-item.is
     c.loop-key-test.true c.in_ok-from_value.ensures c.in_ok-from_value-2.ensures
-    ∙ ap (λ m. with_members g.T.FromCbor.kind (map_values g.T.FromCbor.view m)
+    ∙ ap (λ m. with_members g.T.FromCbor.typed.of (map_values g.T.FromCbor.view m)
     (map pair_of (drop (c.loop-key.key-index + 1) c.args.pairs.now))) (sym c.in_ok-insert.ensures.ok)

@@ -6,5 +6,5 @@ use Rattle.passkey_kinds.proofs.map.read_entries.Given as goal
 
 abbrev pub invariant-loop-key : goal.invariant-loop-key
 invariant-loop-key g l =
-    with_members g.T.FromCbor.kind fin.empty (map pair_of l.pairs)
-    ≡ with_members g.T.FromCbor.kind (map_values g.T.FromCbor.view l.read) (map pair_of (drop l.key-index l.pairs))
+    with_members g.T.FromCbor.typed.of fin.empty (map pair_of l.pairs)
+    ≡ with_members g.T.FromCbor.typed.of (map_values g.T.FromCbor.view l.read) (map pair_of (drop l.key-index l.pairs))

@@ -5,9 +5,10 @@ use Rattle.passkey_extensions.specs.declared.prf_inputs.AuthenticatorPrfInputs.{
 use Rattle.passkey_extensions.specs.declared.prf_values.AuthenticatorPrfValues.{AuthenticatorPrfValues}
 use Rattle.passkey_kinds.proofs.Maps.{map_values_same}
 use Rattle.passkey_kinds.proofs.Putting.{sets_put}
-use Rattle.passkey_kinds.specs.Kind.{optional}
-use Rattle.passkey_kinds.specs.MapKind.{map_from_bytes, map_values}
-use Rattle.passkey_kinds.specs.Placed.{fields_of, plain_kind}
+use Rattle.passkey_kinds.specs.Typed.{optional, map_from_bytes}
+use Rattle.passkey_kinds.specs.MapKind.{map_values}
+use Rattle.passkey_kinds.specs.Placed.{fields_of}
+use Rattle.passkey_kinds.specs.RecordCost.{nested}
 use Rattle.passkey_extensions.proofs.prf_inputs.AuthenticatorPrfInputsPlainRecord.put.Goals as goal
 
 abbrev seen : Option (ByteMap AuthenticatorPrfValues) → Option (ByteMap AuthenticatorPrfValues)
@@ -22,6 +23,6 @@ returns-in-2-clause-puts g c = λ i to at.
     let old = c.args.self.now in
     let set : Option (ByteMap AuthenticatorPrfValues) → AuthenticatorPrfInputs
     → AuthenticatorPrfInputs = λ x r. record r { eval_by_credential = x } in
-    sets_put (fields_of prf_inputs) seen (optional (map_from_bytes (plain_kind prf_values))) true set c.args.number 2 i
+    sets_put (fields_of prf_inputs) seen (optional (map_from_bytes (nested (fields_of prf_values)))) set c.args.number 2 i
     c.set-in-2.new.field old (set c.set-in-2.new.field old) c.set-in-2.result c.in-2.is refl refl refl
     (ap (λ o. set o old) (same c.set-in-2.new.field)) (c.set-in-2.ensures.sets i to at)

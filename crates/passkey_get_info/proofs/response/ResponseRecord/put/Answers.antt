@@ -1,10 +1,11 @@
-use Rattle.std.proofs.Common.{ℕ, true, List, Option, map, option_map, refl, ap}
+use Rattle.std.proofs.Common.{ℕ, List, Option, map, option_map, refl, ap}
 use Rattle.passkey_get_info.specs.GetInfo.{GetInfoParts, get_info_fields, get_info_parts}
 use Rattle.passkey_get_info.specs.GetInfoNames.{extension}
 use Rattle.passkey_get_info.specs.declared.extension.Extension.{Extension}
 use Rattle.passkey_kinds.proofs.Lists.{each_same}
 use Rattle.passkey_kinds.proofs.Putting.{sets_put}
-use Rattle.passkey_kinds.specs.Kind.{below, list, optional}
+use Rattle.passkey_kinds.specs.Typed.{below, growing, list, optional}
+use Rattle.passkey_kinds.specs.Keeping.{nothing}
 use Rattle.passkey_get_info.proofs.response.ResponseRecord.put.Goals as goal
 
 pub returns-in-2-clause-puts : goal.returns-in-2-clause-puts
@@ -12,7 +13,7 @@ returns-in-2-clause-puts g c = λ i to at.
     let old = get_info_parts c.args.self.now in
     let set : Option (List Extension) → GetInfoParts → GetInfoParts = λ x r. record r { extensions = x } in
     sets_put get_info_fields (λ (o : Option (List Extension)). option_map
-    (λ (xs : List Extension). map (λ (e : Extension). e) xs) o) (optional (list extension)) true set
+    (λ (xs : List Extension). map (λ (e : Extension). e) xs) o) (optional (list (growing 2 nothing extension))) set
     c.args.number 2 i c.set-in-2.new.field old (set c.set-in-2.new.field old) c.set-in-2.result c.in-2.is refl
     refl refl (ap (λ o. set o old) (each_same c.set-in-2.new.field)) (c.set-in-2.ensures.sets i to at)
 
@@ -21,6 +22,6 @@ returns-in-6-clause-puts g c = λ i to at.
     let old = get_info_parts c.args.self.now in
     let set : Option (List ℕ) → GetInfoParts → GetInfoParts = λ x r. record r { pin_protocols = x } in
     sets_put get_info_fields (λ (o : Option (List ℕ)). option_map (λ (xs : List ℕ). map (λ (n : ℕ). n) xs) o)
-    (optional (list (below 256))) true set c.args.number 6 i c.set-in-6.new.field old
+    (optional (list (below 256))) set c.args.number 6 i c.set-in-6.new.field old
     (set c.set-in-6.new.field old) c.set-in-6.result c.in-6.is refl refl refl
     (ap (λ o. set o old) (each_same c.set-in-6.new.field)) (c.set-in-6.ensures.sets i to at)

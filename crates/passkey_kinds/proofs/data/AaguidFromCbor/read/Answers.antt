@@ -1,14 +1,10 @@
-use Rattle.std.proofs.Common.{◌∙◌, ◌==◌, List, ℕ, length, if◌then◌else◌, Option, Some, None, Err, false, ap, arith}
+use Rattle.std.proofs.Common.{◌∙◌, Err, false, ap, arith}
 use Rattle.std.proofs.lemmas.Result.{err_from_is_err_and}
-use Rattle.passkey_core.specs.declared.aaguid.Aaguid.{Aaguid}
 use Rattle.passkey_kinds.specs.Data.{aaguid}
 use Rattle.passkey_kinds.specs.Kind.{MayGrow}
-use Rattle.passkey_kinds.proofs.Leaves.{refused_as, no_aaguid}
+use Rattle.passkey_kinds.proofs.Leaves.{failed, no_aaguid}
 use Rattle.passkey_kinds.proofs.Lent.{lent_decodes, not_lent_decodes}
 use Rattle.passkey_kinds.proofs.data.AaguidFromCbor.read.Goals as goal
-
-abbrev sixteen : List ℕ → Option (List ℕ)
-sixteen s = if length s == 16 then Some s else None
 
 pub returns-in_err-filled-in-Some-clause-reads : goal.returns-in_err-filled-in-Some-clause-reads
 returns-in_err-filled-in-Some-clause-reads c = λ i to l.
@@ -18,7 +14,7 @@ returns-in_err-filled-in-Some-clause-reads c = λ i to l.
     rw (p.1, p.2)
     (lent_decodes _ (aaguid i) (MayGrow false i) false c.args.cursor.now c.bytes.new.self c.filled.new.cursor
     c.in-Some.token i to (Err e) l c.in-Some.ensures.front f c.in_err-filled-in-Some.ensures.looks
-    (refused_as {B = Aaguid} (λ b. b) (λ a. a.0) (sixteen f.0) (aaguid i) (MayGrow false i) e (ap aaguid f.1.0)
+    (failed e (λ none. ap aaguid f.1.0 ∙ none) (λ h. absurd h)
     (c.in_err-filled-in-Some.ensures.answers f.0 f.1.1.tells)))
 
 pub returns-in_ok-filled-in-Some-clause-reads : goal.returns-in_ok-filled-in-Some-clause-reads

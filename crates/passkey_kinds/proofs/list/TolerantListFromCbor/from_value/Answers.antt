@@ -11,7 +11,7 @@ pub returns-in-Array : goal.returns-in-Array
 returns-in-Array g c =
     let elements = c.in-Array.elements in
     let read = subst (λ (vs : List Value). AnswersAs (λ l. map g.T.FromCbor.view l.0)
-    (Some (filter_map g.T.FromCbor.kind (map item_of vs))) (0 < length vs) c.read_accepted.result)
+    (Some (filter_map g.T.FromCbor.typed.of (map item_of vs))) (0 < length vs) c.read_accepted.result)
     c.deref.ensures.value c.read_accepted.ensures in
     rw (c.in-Array.is, item_of-Array elements) (answers_from (λ l. map g.T.FromCbor.view l.0) c.read_accepted.result
-    (accepted_array g.T.FromCbor.kind (map item_of elements.items)) (grows_array item_of elements.items) read)
+    (accepted_array g.T.FromCbor.typed.of (map item_of elements.items)) (grows_array item_of elements.items) read)

@@ -1,7 +1,6 @@
 use Rattle.std.proofs.Common.{◌∙◌, ◌<◌, suc, length, true, sym, ap, subst, arith}
-use Rattle.passkey_kinds.specs.Keeping.{kept_of, in_elements}
+use Rattle.passkey_kinds.specs.Keeping.{kept_of, kept_sum, in_elements}
 use Rattle.passkey_kinds.specs.Kind.{accepted, MayGrow}
-use Rattle.passkey_kinds.specs.Reader.{kept_all}
 use Rattle.passkey_kinds.proofs.Ahead.{decodes_in, kept_array, grows_items, none_accepted}
 use Rattle.passkey_kinds.proofs.Going.{eased, stands_long}
 use Rattle.passkey_kinds.proofs.Lists.{accepted_array}
@@ -11,9 +10,9 @@ pub returns-in-Some-clause-reads : goal.returns-in-Some-clause-reads
 returns-in-Some-clause-reads g c = λ i to l.
     let opened = c.in-Some.ensures.opens i to l in
     let is = opened.0 in
-    let same = ap (accepted g.T.FromCbor.kind) opened.1.0 ∙ accepted_array g.T.FromCbor.kind is in
-    let kept = kept_array g.T.FromCbor.keeps is ∙ ap (kept_of (in_elements g.T.FromCbor.keeps)) (sym opened.1.0) in
-    decodes_in _ (suc g.T.FromCbor.cost) (kept_all g.T.FromCbor.keeps is) (kept_of (in_elements g.T.FromCbor.keeps)
+    let same = ap (accepted g.T.FromCbor.typed.of) opened.1.0 ∙ accepted_array g.T.FromCbor.typed.of is in
+    let kept = kept_array g.T.FromCbor.typed.keeps is ∙ ap (kept_of (in_elements g.T.FromCbor.typed.keeps)) (sym opened.1.0) in
+    decodes_in _ (suc g.T.FromCbor.typed.cost) (kept_sum (kept_of g.T.FromCbor.typed.keeps) is) (kept_of (in_elements g.T.FromCbor.typed.keeps)
     i) to c.args.cursor.now c.read_array.new.cursor c.read_accepted_elements.new.cursor
     c.read_accepted_elements.result same (λ (h : 0 < length is). subst (MayGrow true) (sym opened.1.0)
     (grows_items is h)) (omega (arith, kept)) c.in-Some.ensures.further c.in-Some.ensures.counted
@@ -23,7 +22,7 @@ pub returns-in-None-clause-reads : goal.returns-in-None-clause-reads
 returns-in-None-clause-reads g c = λ i to l.
     let a = c.args.cursor.now in
     record {
-      answers = none_accepted g.T.FromCbor.kind i (c.in-None.ensures.opens i to l);
+      answers = none_accepted g.T.FromCbor.typed.of i (c.in-None.ensures.opens i to l);
       spends = eased 1 _ 0 _ to a c.read_array.new.cursor (omega arith) (omega arith)
           (omega (arith, stands_long i a.bytes a.place to l)) (c.in-None.ensures.spends i to l);
       ends = tt;

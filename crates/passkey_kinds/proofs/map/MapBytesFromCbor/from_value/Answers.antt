@@ -13,7 +13,7 @@ pub returns-in-Map : goal.returns-in-Map
 returns-in-Map g c =
     let pairs = c.in-Map.pairs in
     let read = subst (λ (ps : List (Value × Value)). AnswersAs (λ m. map_values g.T.FromCbor.view m)
-    (with_members g.T.FromCbor.kind fin.empty (map pair_of ps)) (0 < length ps) c.read_entries.result)
+    (with_members g.T.FromCbor.typed.of fin.empty (map pair_of ps)) (0 < length ps) c.read_entries.result)
     c.deref.ensures.value c.read_entries.ensures in
     rw (c.in-Map.is, item_of-Map pairs) (answers_from (λ m. map_values g.T.FromCbor.view m) c.read_entries.result
-    (map_from_bytes-map g.T.FromCbor.kind (map pair_of pairs.items)) (grows_map pair_of pairs.items) read)
+    (map_from_bytes-map g.T.FromCbor.typed.of (map pair_of pairs.items)) (grows_map pair_of pairs.items) read)

@@ -9,11 +9,11 @@ use Rattle.passkey_kinds.proofs.tolerated.ToleratedFromCbor.read.Goals as goal
 pub returns-in-Ok-clause-reads : goal.returns-in-Ok-clause-reads
 returns-in-Ok-clause-reads g c = λ i to l.
     let a = c.args.cursor.now in
-    let kept = kept_of g.T.FromCbor.keeps i in
+    let kept = kept_of g.T.FromCbor.typed.keeps i in
     let read = c.in-Ok.ensures.reads i to l in
     record {
       answers = ap Some read.answers;
-      spends = eased g.T.FromCbor.cost (suc g.T.FromCbor.cost) kept kept to a c.read.new.cursor (omega arith)
+      spends = eased g.T.FromCbor.typed.cost (suc g.T.FromCbor.typed.cost) kept kept to a c.read.new.cursor (omega arith)
           (omega arith) (omega (arith, stands_long i a.bytes a.place to l)) read.spends;
       ends = read.ends;
     }
@@ -21,9 +21,8 @@ returns-in-Ok-clause-reads g c = λ i to l.
 pub returns-then-skip-clause-reads : goal.returns-then-skip-clause-reads
 returns-then-skip-clause-reads g c = λ i to l.
     let a = c.args.cursor.now in
-    let kept = kept_of g.T.FromCbor.keeps i in
-    let read = subst (λ (e : Refusal). ReadsAs g.T.FromCbor.view g.T.FromCbor.kind g.T.FromCbor.takes
-    g.T.FromCbor.cost g.T.FromCbor.keeps i to a c.read.new.cursor (Err e)) c.in-Err-Refused.field-0-is
+    let kept = kept_of g.T.FromCbor.typed.keeps i in
+    let read = subst (λ (e : Refusal). ReadsAs g.T.FromCbor.view g.T.FromCbor.typed i to a c.read.new.cursor (Err e)) c.in-Err-Refused.field-0-is
     (c.in-Err-Refused.ensures.reads i to l) in
     let back = c.go_back.ensures ∙ ap (λ (n : ℕ). record c.read.new.cursor { place = n }) c.place-start.ensures in
     let there = stands_back i a c.go_back.new.self to (ap (λ (w : Walk). w.bytes) back
@@ -34,12 +33,12 @@ returns-then-skip-clause-reads g c = λ i to l.
       heads = omega (arith, passed.heads);
       nodes = omega (arith, passed.nodes);
     } in
-    let spent = spends_again g.T.FromCbor.cost 1 kept 0 to a c.read.new.cursor c.go_back.new.self c.skip.new.self
+    let spent = spends_again g.T.FromCbor.typed.cost 1 kept 0 to a c.read.new.cursor c.go_back.new.self c.skip.new.self
     c.in-Err-Refused.ensures.onward back read.spends skipped in
     record {
       answers = ap Some read.answers;
       spends = subst (λ (n : ℕ). Spends n kept to a c.skip.new.self) (omega arith)
-          (subst (λ (k : ℕ). Spends (g.T.FromCbor.cost + 1) k to a c.skip.new.self) (omega arith) spent);
+          (subst (λ (k : ℕ). Spends (g.T.FromCbor.typed.cost + 1) k to a c.skip.new.self) (omega arith) spent);
       ends = passed.place;
     }
 
@@ -64,13 +63,12 @@ returns-else-skip-clause-reads g c = λ i to l.
 pub returns-in-Err-OutOfMemory-clause-reads : goal.returns-in-Err-OutOfMemory-clause-reads
 returns-in-Err-OutOfMemory-clause-reads g c = λ i to l.
     let a = c.args.cursor.now in
-    let kept = kept_of g.T.FromCbor.keeps i in
-    let read = subst (λ (e : Refusal). ReadsAs g.T.FromCbor.view g.T.FromCbor.kind g.T.FromCbor.takes
-    g.T.FromCbor.cost g.T.FromCbor.keeps i to a c.read.new.cursor (Err e)) c.in-Err-OutOfMemory.field-0-is
+    let kept = kept_of g.T.FromCbor.typed.keeps i in
+    let read = subst (λ (e : Refusal). ReadsAs g.T.FromCbor.view g.T.FromCbor.typed i to a c.read.new.cursor (Err e)) c.in-Err-OutOfMemory.field-0-is
     (c.in-Err-OutOfMemory.ensures.reads i to l) in
     record {
       answers = read.answers;
-      spends = eased g.T.FromCbor.cost (suc g.T.FromCbor.cost) kept kept to a c.read.new.cursor (omega arith)
+      spends = eased g.T.FromCbor.typed.cost (suc g.T.FromCbor.typed.cost) kept kept to a c.read.new.cursor (omega arith)
           (omega arith) (omega (arith, stands_long i a.bytes a.place to l)) read.spends;
       ends = tt;
     }

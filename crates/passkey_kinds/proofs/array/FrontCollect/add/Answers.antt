@@ -1,0 +1,45 @@
+use Rattle.std.proofs.Common.{◌∙◌, [], ◌∷◌, ◌++◌, length, take, Some, option_map, refl, sym, ap, arith}
+use Rattle.std.proofs.lemmas.Bool.{lt-ltb, le-ltb}
+use Rattle.std.proofs.lemmas.List.{length-take, take_more_set}
+use Rattle.std.proofs.lemmas.Result.{err_from_is_err_and}
+use Rattle.passkey_kinds.proofs.ArraysAhead.{never_grows, none_either}
+use Rattle.passkey_kinds.proofs.Going.{stands_long}
+use Rattle.passkey_kinds.proofs.Leaves.{fails_as}
+use Rattle.passkey_kinds.proofs.array.FrontCollect.add.Goals as goal
+
+pub returns-then-self-ge32-clause-adds : goal.returns-then-self-ge32-clause-adds
+returns-then-self-ge32-clause-adds c = λ i to l.
+    let b = c.args.cursor.now in
+    let long = stands_long i b.bytes b.place to l in
+    record {
+      decodes = record {
+        answers = rw (le-ltb (length (take c.args.self.now.len c.args.self.now.bytes)) 32 (omega (arith, length-take c.args.self.now.len c.args.self.now.bytes, c.if-self-ge32.true))) refl;
+        spends = record { within = omega (arith, long); heads = omega (arith, long); nodes = omega arith };
+        ends = tt;
+      };
+      further = long;
+    }
+
+pub returns-in_err-self-clause-adds : goal.returns-in_err-self-clause-adds
+returns-in_err-self-clause-adds c = λ i to l.
+    let p = err_from_is_err_and c.from_residual.result c.from_residual.ensures.1 in
+    rw (p.1, p.2) (record {
+      decodes = fails_as c.in_err-self.field-0.0 refl (λ none. none_either _ _ (ap (option_map _) none)) (λ h. absurd (never_grows i h))
+          (c.in_err-self.ensures.reads i to l);
+      further = stands_long i _ _ to l;
+    })
+
+pub returns-clause-adds : goal.returns-clause-adds
+returns-clause-adds c = λ i to l.
+    let bytes = c.args.self.now.bytes in
+    let len = c.args.self.now.len in
+    let read = c.in_ok-self.ensures.reads i to l in
+    record {
+      decodes = record {
+        answers = rw (lt-ltb (length (take len bytes)) 32 (omega (arith, length-take len bytes, c.if-self-ge32.false)))
+            (ap (option_map (λ n. take len bytes ++ n ∷ [])) read.answers ∙ ap Some (sym (take_more_set bytes len _ (omega (arith, c.if-self-ge32.false)))));
+        spends = read.spends;
+        ends = read.ends;
+      };
+      further = stands_long i _ _ to l;
+    }

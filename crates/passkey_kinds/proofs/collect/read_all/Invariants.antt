@@ -1,0 +1,21 @@
+use Rattle.std.proofs.Common.{◌≡◌, ◌-◌, ℕ, suc, List, length}
+use Rattle.passkey_cbor.specs.EncodedAt.{Lies}
+use Rattle.passkey_cbor.specs.Inside.{Left}
+use Rattle.passkey_kinds.specs.Collecting.{collected}
+use Rattle.passkey_kinds.specs.Keeping.{kept_sum}
+use Rattle.passkey_kinds.specs.Reader.{Onward}
+use Rattle.passkey_kinds.proofs.Loops.{EachTo}
+use Rattle.passkey_kinds.proofs.collect.read_all.Given as goal
+
+abbrev pub invariant-loop-alloc : goal.invariant-loop-alloc
+invariant-loop-alloc g l = record {
+  onward : Onward l.fn.cursor l.cursor;
+  each : (xs : List g.C.Collect.Element) (to : ℕ)
+      → Lies (Left g.C.Collect.way.Encoded l.fn.left xs) l.fn.cursor.bytes l.fn.cursor.place to
+      → EachTo g.C.Collect.way.Encoded (λ rest. collected g.C.Collect.way.next rest (g.C.Collect.value l.into)
+      ≡ collected g.C.Collect.way.next xs (g.C.Collect.value l.fn.empty)) (kept_sum g.C.Collect.way.kept)
+      (suc g.C.Collect.way.cost) l.left xs to l.fn.cursor l.cursor;
+}
+
+abbrev pub decreases-loop-alloc : goal.decreases-loop-alloc
+decreases-loop-alloc g l = length l.cursor.bytes - l.cursor.place

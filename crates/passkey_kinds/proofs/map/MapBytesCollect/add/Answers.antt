@@ -1,0 +1,93 @@
+use Rattle.std.proofs.Common.{◌∙◌, Some, refl, sym, ap, arith}
+use Rattle.std.proofs.lemmas.Result.{err_from_is_err_and}
+use Rattle.passkey_cbor.specs.LeadingItem.{max_depth}
+use Rattle.passkey_cbor.specs.Inside.{Within}
+use Rattle.passkey_cbor.proofs.More.{split}
+use Rattle.passkey_kinds.specs.Keeping.{kept_of}
+use Rattle.passkey_kinds.specs.MapKind.{map_values}
+use Rattle.passkey_kinds.proofs.Going.{stands_long, stands_back}
+use Rattle.passkey_kinds.proofs.Leaves.{failed}
+use Rattle.passkey_kinds.proofs.Maps.{map_values-insert}
+use Rattle.passkey_kinds.proofs.PairsAhead.{key_spends, pair_spends}
+use Rattle.passkey_kinds.proofs.map.MapBytesCollect.add.Goals as goal
+
+pub returns-in_err-key-clause-adds : goal.returns-in_err-key-clause-adds
+returns-in_err-key-clause-adds g c = λ x to l.
+    let p = err_from_is_err_and c.from_residual.result c.from_residual.ensures.1 in
+    let b = c.args.cursor.now in
+    let s = split (Within max_depth x.0) (Within max_depth x.1) b.bytes b.place to l in
+    let long = stands_long x.0 b.bytes b.place s.middle s.front in
+    let key = c.in_err-key.ensures.reads x.0 s.middle s.front in
+    rw (p.1, p.2) (record {
+      decodes = record {
+        answers = failed c.in_err-key.field-0.0 (λ none. rw none refl) (λ h. refl) key.answers;
+        spends = key_spends g.T.FromCbor.typed.cost (kept_of g.T.FromCbor.typed.keeps x.1) s.middle to b
+            c.read.new.cursor (omega (arith, long)) s.back.forward key.spends;
+        ends = tt;
+      };
+      further = omega (arith, long, s.back.forward);
+    })
+
+pub returns-in_err-read-clause-adds : goal.returns-in_err-read-clause-adds
+returns-in_err-read-clause-adds g c = λ x to l.
+    let p = err_from_is_err_and c.from_residual-in_err-read.result c.from_residual-in_err-read.ensures.1 in
+    let b = c.args.cursor.now in
+    let s = split (Within max_depth x.0) (Within max_depth x.1) b.bytes b.place to l in
+    let long = stands_long x.0 b.bytes b.place s.middle s.front in
+    let key = c.in_ok-key.ensures.reads x.0 s.middle s.front in
+    let there = stands_back x.1 (record b { place = s.middle }) c.read.new.cursor to c.in_ok-key.ensures.onward.same
+    key.ends s.back in
+    let value = c.in_err-read.ensures.reads x.1 to there in
+    rw (p.1, p.2) (record {
+      decodes = record {
+        answers = failed c.in_err-read.field-0.0 (λ none. rw (key.answers, none) refl) (λ h. refl)
+            value.answers;
+        spends = pair_spends g.T.FromCbor.typed.cost (kept_of g.T.FromCbor.typed.keeps x.1) s.middle to b
+            c.read.new.cursor (omega (arith, long)) s.back.forward c.read-2.new.cursor key.ends key.spends
+            value.spends;
+        ends = tt;
+      };
+      further = omega (arith, long, s.back.forward);
+    })
+
+pub returns-in_err-insert-clause-adds : goal.returns-in_err-insert-clause-adds
+returns-in_err-insert-clause-adds g c = λ x to l.
+    let p = err_from_is_err_and c.from_residual-in_err-insert.result c.from_residual-in_err-insert.ensures.1 in
+    let b = c.args.cursor.now in
+    let s = split (Within max_depth x.0) (Within max_depth x.1) b.bytes b.place to l in
+    let long = stands_long x.0 b.bytes b.place s.middle s.front in
+    let key = c.in_ok-key.ensures.reads x.0 s.middle s.front in
+    let there = stands_back x.1 (record b { place = s.middle }) c.read.new.cursor to c.in_ok-key.ensures.onward.same
+    key.ends s.back in
+    let value = c.in_ok-read.ensures.reads x.1 to there in
+    rw (p.1, p.2) (record {
+      decodes = record {
+        answers = refl;
+        spends = pair_spends g.T.FromCbor.typed.cost (kept_of g.T.FromCbor.typed.keeps x.1) s.middle to b
+            c.read.new.cursor (omega (arith, long)) s.back.forward c.read-2.new.cursor key.ends key.spends
+            value.spends;
+        ends = tt;
+      };
+      further = omega (arith, long, s.back.forward);
+    })
+
+pub returns-clause-adds : goal.returns-clause-adds
+returns-clause-adds g c = λ x to l.
+    let b = c.args.cursor.now in
+    let s = split (Within max_depth x.0) (Within max_depth x.1) b.bytes b.place to l in
+    let long = stands_long x.0 b.bytes b.place s.middle s.front in
+    let key = c.in_ok-key.ensures.reads x.0 s.middle s.front in
+    let there = stands_back x.1 (record b { place = s.middle }) c.read.new.cursor to c.in_ok-key.ensures.onward.same
+    key.ends s.back in
+    let value = c.in_ok-read.ensures.reads x.1 to there in
+    record {
+      decodes = record {
+        answers = rw (key.answers, value.answers) (ap Some (sym (ap (map_values g.T.FromCbor.view)
+            c.in_ok-insert.ensures.ok ∙ map_values-insert g.T.FromCbor.view c.args.self.now _ _)));
+        spends = pair_spends g.T.FromCbor.typed.cost (kept_of g.T.FromCbor.typed.keeps x.1) s.middle to b
+            c.read.new.cursor (omega (arith, long)) s.back.forward c.read-2.new.cursor key.ends key.spends
+            value.spends;
+        ends = value.ends;
+      };
+      further = omega (arith, long, s.back.forward);
+    }
