@@ -23,6 +23,7 @@ use std::alloc::Global;
 
 /// Decodes the bytes from an array of integers. Returns `Refused` exactly if it doesn't have 32
 /// elements or one of them isn't an integer from 0 to 255.
+#[tactic(auto, using(crate::proofs::Arrays::one_more_set, crate::proofs::Arrays::all_set))]
 fn read_numbers(alloc: Global, elements: &[Value]) -> Result<[u8; 32], Refusal>
     ensures { AnswersAs (λ b. b)
         (if length elements.now == 32 then each (below 256) (map item_of elements.now) else None) ⊥ result }
@@ -87,6 +88,7 @@ fn read_numbers_ahead(
 }
 
 /// Copies a byte string of exactly `N` bytes. Returns `Refused` if its length differs.
+#[tactic(auto, using(crate::proofs::ArraysAhead::tells_one))]
 pub(crate) fn filled<const N: usize>(
     token: &BytesToken<'_>,
     cursor: &mut Cursor<'_>,
@@ -118,6 +120,7 @@ impl FromCbor for [u8; 32] {
         }
     }
 
+    #[tactic(auto, using(crate::proofs::Going::string_further, crate::proofs::Leaves::on_ok))]
     fn read(alloc: Global, cursor: &mut Cursor<'_>) -> Result<[u8; 32], Refusal> {
         match cursor.bytes() {
             Some(token) => filled(&token, cursor),

@@ -20,6 +20,7 @@ use passkey_memory::OutOfMemory;
 use std::alloc::Global;
 
 /// Decodes the content of a byte string as authenticator data, and adds the cost to `count`.
+#[tactic(auto, using(crate::proofs::DataReads::parts_grow))]
 fn read_data(alloc: Global, bytes: &[u8], count: &mut Count) -> Result<AuthenticatorData, Refusal>
     ensures answers { Answers data_parts authenticator_data (byte_string bytes.now) result }
     ensures heads { count.new.heads ≤ count.old.heads + (4 * length bytes.now + 4) }
@@ -63,6 +64,7 @@ impl FromCbor for AuthenticatorData {
         }
     }
 
+    #[tactic(auto, using(crate::proofs::DataReads::data_further, crate::proofs::Leaves::on_ok, crate::proofs::Lent::looks_all))]
     fn read(alloc: Global, cursor: &mut Cursor<'_>) -> Result<AuthenticatorData, Refusal> {
         match cursor.bytes() {
             Some(token) => match token.lent() {

@@ -14,6 +14,7 @@ use crate::rows::{Named, Row, of_number, with_name};
 use passkey_cbor::{BytesToken, Cursor, TextToken};
 
 /// Returns the names of at most 32 rows, followed by empty names.
+#[tactic(auto, using(crate::proofs::Keys::one_more_name))]
 fn names_of(rows: &[Row]) -> [&'static str; 32]
     requires { length rows.now ≤ 32 }
     ensures { map (λ n. n.now) (take (length rows.now) result) ≡ map (λ e. e.name) (map entry_of rows.now) }
@@ -54,6 +55,7 @@ fn with_text(rows: &[Row], token: &TextToken<'_>, cursor: &mut Cursor<'_>) -> Na
 
 // The same for a text in chunks. Not inlined, so that no room for the names is made without them.
 #[inline(never)]
+#[tactic(auto, using(crate::proofs::Keys::row_of_name))]
 fn with_text_chunks(rows: &[Row], token: &TextToken<'_>, cursor: &mut Cursor<'_>) -> Named
     requires region { IsRegion true token.now }
     requires few { length rows.now ≤ 32 }
@@ -79,6 +81,7 @@ fn with_bytes(rows: &[Row], token: &BytesToken<'_>, cursor: &mut Cursor<'_>) -> 
 
 // The same for a byte string in chunks.
 #[inline(never)]
+#[tactic(auto, using(crate::proofs::Keys::row_of_name))]
 fn with_byte_chunks(rows: &[Row], token: &BytesToken<'_>, cursor: &mut Cursor<'_>) -> Named
     requires region { IsRegion false token.now }
     requires few { length rows.now ≤ 32 }

@@ -75,6 +75,7 @@ impl<T: FromCbor> FromCbor for Map<Bytes, T> {
     }
 }
 
+#[tactic(auto, using(passkey_bytes::proofs::Placed::entries_by_bytes))]
 fn write_entries<T: ToCbor>(
     alloc: Global,
     entries: &Map<Bytes, T>,

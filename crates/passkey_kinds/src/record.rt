@@ -58,6 +58,7 @@ pub trait Record: Drop {
 }
 
 /// Decodes the value of the next member, by what its map key names.
+#[tactic(auto, using(crate::proofs::Members::was_refused, crate::proofs::Members::was_good, crate::proofs::Members::was_unknown, crate::proofs::Members::marked_as, crate::proofs::Members::stays, crate::proofs::Members::marks_one, crate::proofs::Members::row_small, crate::proofs::Putting::passes, crate::proofs::Putting::puts, crate::proofs::Putting::puts_refused))]
 fn read_member<R: Record, S: Source>(
     alloc: Global,
     read: &mut R,
@@ -145,6 +146,7 @@ fn finish<R: Record>(read: R, seen: &[bool; 32]) -> Result<R, Fault>
     }
 }
 
+#[tactic(auto, using(crate::proofs::Members::key_names, crate::proofs::Pairs::member_at, crate::proofs::Putting::has_begun, crate::proofs::Putting::key_fails))]
 fn read_pairs<R: Record>(alloc: Global, pairs: &[(Value, Value)]) -> Result<R, Fault>
     ensures { Reads R.parts (MayGrowIn (table_of R.fields) (map pair_of pairs.now))
         (read_members R.fields (map pair_of pairs.now)) result }
@@ -177,6 +179,7 @@ pub fn record_from_value<R: Record>(alloc: Global, value: &Value) -> Result<R, F
 }
 
 /// Decodes the members that follow a map's head.
+#[tactic(auto, using(crate::proofs::Loops::begun, crate::proofs::Putting::has_begun))]
 fn read_pairs_ahead<R: Record>(
     alloc: Global,
     mut left: Option<u64>,
@@ -233,10 +236,12 @@ impl<R: Record> FromCbor for R {
 
     ghost typed = { nested R.fields };
 
+    #[tactic(auto, using(crate::proofs::Messages::may_grow, crate::proofs::Putting::held_answers))]
     fn from_value(alloc: Global, value: &Value) -> Result<R, Refusal> {
         held(record_from_value::<R>(alloc, value))
     }
 
+    #[tactic(auto, using(crate::proofs::Putting::held_ok))]
     fn read(alloc: Global, cursor: &mut Cursor<'_>) -> Result<R, Refusal> {
         held(read_record::<R>(alloc, cursor))
     }

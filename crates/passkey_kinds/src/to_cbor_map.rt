@@ -31,6 +31,7 @@ impl<R: ToCborMap> ToCbor for R {
 
     ghost fits = { R.holds };
 
+    #[tactic(auto, using(crate::proofs::Sinks::appended_all))]
     fn to_value(&self, alloc: Global) -> Result<Value, OutOfMemory> {
         let mut members = Written::new(alloc);
         self.put_members(alloc, &mut members)?;
@@ -38,6 +39,7 @@ impl<R: ToCborMap> ToCbor for R {
     }
 
     // The head needs the number of members, so they are counted first.
+    #[tactic(auto, using(crate::proofs::Sinks::record_written))]
     fn append(&self, alloc: Global, encoder: &mut Encoder) -> Result<(), OutOfMemory> {
         let mut counted = Counted { members: 0 };
         self.put_members(alloc, &mut counted)?;

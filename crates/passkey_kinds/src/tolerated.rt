@@ -27,6 +27,7 @@ impl<T: FromCbor> FromCbor for Tolerated<T> {
         }
     }
 
+    #[tactic(auto, using(crate::proofs::Going::skip_further))]
     fn read(alloc: Global, cursor: &mut Cursor<'_>) -> Result<Tolerated<T>, Refusal> {
         let start = cursor.place();
         match T::read(alloc, cursor) {

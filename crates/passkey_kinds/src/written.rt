@@ -28,6 +28,7 @@ pub(crate) fn write_each<T: ToCbor>(alloc: Global, list: &[T]) -> Result<Vec<Val
     Ok(values)
 }
 
+#[tactic(auto, using(crate::proofs::WrittenLists::fits_more))]
 pub(crate) fn append_each<T: ToCbor>(
     alloc: Global,
     list: &[T],

@@ -1,9 +1,6 @@
 use Rattle.std.proofs.Common.{arith}
-use Rattle.passkey_kinds.proofs.NumberPieces.{adds_none, adds_one, adds_all, adds_looks}
+use Rattle.passkey_kinds.proofs.NumberPieces.{adds_one, adds_all, adds_looks}
 use Rattle.passkey_kinds.proofs.algorithm.whole_of.Goals as goal
-
-pub loop-piece-init : goal.loop-piece-init
-loop-piece-init c = adds_none c.args.cursor.now c.new-number.result c.chunks-pieces.ensures c.new-number.ensures
 
 pub loop-piece-preserved : goal.loop-piece-preserved
 loop-piece-preserved c =

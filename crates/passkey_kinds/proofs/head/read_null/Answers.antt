@@ -1,7 +1,6 @@
 use Rattle.std.proofs.Common.{◌≡◌, true, false, subst}
 use Rattle.passkey_cbor.specs.Item.{Item}
 use Rattle.passkey_cbor.specs.EncodedAt.{IsEncodedAt}
-use Rattle.passkey_kinds.proofs.Going.{onward_of}
 use Rattle.passkey_kinds.proofs.Heads.{null_read, null_missed}
 use Rattle.passkey_kinds.proofs.head.read_null.Goals as goal
 
@@ -10,14 +9,8 @@ returns-in-Some-clause-reads c = λ i to l.
     null_read c.args.cursor.now c.head.new.self c.in-Some.head i to c.is_null.result c.is_null.ensures
     c.in-Some.ensures.found (c.in-Some.ensures.opens i to l) l
 
-pub returns-in-Some-clause-onward : goal.returns-in-Some-clause-onward
-returns-in-Some-clause-onward c = onward_of c.args.cursor.now c.head.new.self c.in-Some.ensures.went
-
 pub returns-in-None-clause-reads : goal.returns-in-None-clause-reads
 returns-in-None-clause-reads c = λ i to l. absurd (c.in-None.ensures.opens i to l)
-
-pub returns-in-None-clause-onward : goal.returns-in-None-clause-onward
-returns-in-None-clause-onward c = onward_of c.args.cursor.now c.head.new.self c.in-None.ensures.went
 
 pub returns-then-not-begins_null-clause-reads : goal.returns-then-not-begins_null-clause-reads
 returns-then-not-begins_null-clause-reads c = λ i to l.

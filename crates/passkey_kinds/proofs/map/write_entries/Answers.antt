@@ -1,10 +1,8 @@
 use Rattle.std.specs.FinMap as fin
-use Rattle.std.specs.List.{All}
 use Rattle.std.specs.Map.Iter.{deref_pair}
-use Rattle.std.proofs.Common.{◌≡◌, ◌∙◌, ◌++◌, ℕ, List, map, ap, subst}
+use Rattle.std.proofs.Common.{◌∙◌, ℕ, List, map, ap}
 use Rattle.std.proofs.lemmas.List.{map_push}
 use Rattle.std.proofs.lemmas.Map.Iter.{rest_more}
-use Rattle.passkey_bytes.proofs.Placed.{entries_by_bytes}
 use Rattle.passkey_cbor.specs.Item.{byte_string}
 use Rattle.passkey_cbor.specs.View.{pair_of}
 use Rattle.passkey_cbor.specs.declared.value.Value.{Value}
@@ -13,17 +11,6 @@ use Rattle.passkey_cbor.proofs.Views.{item_of-Bytes}
 use Rattle.passkey_kinds.specs.Tree.{entry_tree}
 use Rattle.passkey_kinds.proofs.WrittenLists.{fits_next, written_next}
 use Rattle.passkey_kinds.proofs.map.write_entries.Goals as goal
-
-pub loop-key-init : goal.loop-key-init
-loop-key-init g c =
-    let entries = c.into_iter-key-iterator.result in
-    let are : entries ≡ fin.entries c.args.entries.now =
-    entries_by_bytes c.args.entries.now entries c.into_iter-key-iterator.ensures.into_iter_gives.0 in
-    record {
-      items = ap (λ es. map pair_of es ++ map (entry_tree g.T.ToCbor.tree) entries) c.in_ok-pairs.ensures.items
-          ∙ ap (map (entry_tree g.T.ToCbor.tree)) are;
-      fits = subst (All (λ e. g.T.ToCbor.fits e.1)) are;
-    }
 
 pub loop-key-preserved : goal.loop-key-preserved
 loop-key-preserved g c =

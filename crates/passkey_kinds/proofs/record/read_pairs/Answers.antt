@@ -4,18 +4,10 @@ use Rattle.passkey_cbor.specs.View.{pair_of}
 use Rattle.passkey_kinds.specs.Reading.{named_as}
 use Rattle.passkey_kinds.specs.Record.{table_of}
 use Rattle.passkey_kinds.specs.Rows.{entry_of}
-use Rattle.passkey_kinds.specs.Table.{wrong}
 use Rattle.passkey_kinds.proofs.Members.{key_names}
 use Rattle.passkey_kinds.proofs.Pairs.{member_at}
-use Rattle.passkey_kinds.proofs.Putting.{has_begun, goes_on, key_fails, fails, all_read}
+use Rattle.passkey_kinds.proofs.Putting.{goes_on, fails, all_read}
 use Rattle.passkey_kinds.proofs.record.read_pairs.Goals as goal
-
-pub loop-key-init : goal.loop-key-init
-loop-key-init g c =
-    let t = g.R.Record.fields in
-    let ms = map pair_of c.args.pairs.now in
-    has_begun t ms (g.R.Record.parts c.blank-read.result) c.no_marks-seen.result c.blank-read.ensures
-    c.no_marks-seen.ensures
 
 pub loop-key-preserved : goal.loop-key-preserved
 loop-key-preserved g c =
@@ -45,17 +37,6 @@ returns-in_err-read_member g c =
     let result : c.from_residual.result ≡ Err c.in_err-read_member.field-0.0 = search rules in
     rw result (fails t g.R.Record.parts ms (drop i ms) (drop (i + 1) ms) m _ c.loop-key.seen at h
     c.read_member.new.seen c.in_err-read_member.field-0.0 told.0)
-
-pub returns-in-None : goal.returns-in-None
-returns-in-None g c =
-    let t = g.R.Record.fields in
-    let ms = map pair_of c.args.pairs.now in
-    let m = pair_of c.loop-key-item.result in
-    let i = c.loop-key.key-index in
-    let at = member_at pair_of c.args.pairs.now i c.loop-key-item.result c.loop-key-item.is c.loop-key-test.true in
-    let naming = key_names (table_of t) c.is_numbered.result (map entry_of c.rows.result.now) m.0 wrong
-    c.is_numbered.ensures c.rows.ensures.rows c.in-None.ensures in
-    key_fails t g.R.Record.parts ms (drop i ms) (drop (i + 1) ms) m _ c.loop-key.seen at c.loop-key.invariant naming
 
 pub returns : goal.returns
 returns g c =

@@ -7,24 +7,14 @@ use Rattle.passkey_kinds.specs.Reading.{named_as}
 use Rattle.passkey_kinds.specs.Record.{table_of}
 use Rattle.passkey_kinds.specs.RecordCost.{record_cost, cost_by}
 use Rattle.passkey_kinds.specs.Rows.{entry_of}
-use Rattle.passkey_kinds.specs.SourceLaws.{onward_same}
 use Rattle.passkey_kinds.specs.Table.{wrong}
 use Rattle.passkey_kinds.proofs.Going.{onward_of, onward_then, stands_long, stands_back}
 use Rattle.passkey_kinds.proofs.Leaves.{on_ok}
-use Rattle.passkey_kinds.proofs.Loops.{begun, next_is, spent_within, one_more, each_done}
+use Rattle.passkey_kinds.proofs.Loops.{next_is, spent_within, one_more, each_done}
 use Rattle.passkey_kinds.proofs.Members.{key_names}
 use Rattle.passkey_kinds.proofs.MembersAhead.{at_least, cost_by_le, key_spent, member_spent, all_spent}
-use Rattle.passkey_kinds.proofs.Putting.{has_begun, goes_on, key_fails, fails, all_read}
+use Rattle.passkey_kinds.proofs.Putting.{goes_on, key_fails, fails, all_read}
 use Rattle.passkey_kinds.proofs.record.read_pairs_ahead.Goals as goal
-
-pub loop-alloc-init : goal.loop-alloc-init
-loop-alloc-init g c =
-    let start = c.args.cursor.now in
-    record {
-      onward = onward_same start;
-      each = λ ms to l. begun _ _ _ _ ms to start c.args.left (has_begun g.R.Record.fields ms (g.R.Record.parts
-          c.blank-read.result) c.no_marks-seen.result c.blank-read.ensures c.no_marks-seen.ensures) l;
-    }
 
 pub loop-alloc-preserved : goal.loop-alloc-preserved
 loop-alloc-preserved g c = record {

@@ -4,8 +4,7 @@ use Rattle.passkey_cose.proofs.KeyLists.{elements-items_of}
 use Rattle.passkey_kinds.specs.Kind.{below, each, sized_bytes, MayGrow}
 use Rattle.passkey_kinds.proofs.Ahead.{decodes_in}
 use Rattle.passkey_kinds.proofs.ArraysAhead.{after_missed, no_sized}
-use Rattle.passkey_kinds.proofs.Going.{eased, stands_back, stands_long, string_further}
-use Rattle.passkey_kinds.proofs.Leaves.{on_ok}
+use Rattle.passkey_kinds.proofs.Going.{eased, stands_back, stands_long}
 use Rattle.passkey_kinds.proofs.Lent.{lent_decodes}
 use Rattle.passkey_kinds.proofs.Lists.{answers_from}
 use Rattle.passkey_kinds.proofs.array.ArrayU832FromCbor.read.Goals as goal
@@ -25,15 +24,6 @@ returns-in-Some-clause-reads c = λ i to l.
           (omega (arith, stands_long i a.bytes a.place to l)) lent.spends;
       ends = lent.ends;
     }
-
-pub returns-in-Some-clause-further : goal.returns-in-Some-clause-further
-returns-in-Some-clause-further c =
-    on_ok c.filled.result (omega (
-      arith,
-      string_further false c.args.cursor.now c.bytes.new.self c.in-Some.token
-          c.in-Some.ensures.front,
-      c.filled.ensures.looks.place,
-    ))
 
 pub returns-in-Some-read_array-clause-reads : goal.returns-in-Some-read_array-clause-reads
 returns-in-Some-read_array-clause-reads c = λ i to l.

@@ -4,9 +4,8 @@ use Rattle.passkey_core.specs.DataViews.{data_parts}
 use Rattle.passkey_kinds.specs.Data.{authenticator_data, authenticator_data_nodes}
 use Rattle.passkey_kinds.specs.Kind.{MayGrow}
 use Rattle.passkey_kinds.specs.declared.refusal.Refusal.TheVariants.{OutOfMemory}
-use Rattle.passkey_kinds.proofs.DataReads.{data_decodes, data_further, no_data}
+use Rattle.passkey_kinds.proofs.DataReads.{data_decodes, no_data}
 use Rattle.passkey_kinds.proofs.Going.{stands_long}
-use Rattle.passkey_kinds.proofs.Leaves.{on_ok}
 use Rattle.passkey_kinds.proofs.Lent.{looks_all, looks_some, looks_none, lent_decodes, not_lent_decodes, bytes_grow}
 use Rattle.passkey_kinds.proofs.Tokens.{lent_is, decodes_dearer}
 use Rattle.passkey_kinds.proofs.data.AuthenticatorDataFromCbor.read.Goals as goal
@@ -59,15 +58,3 @@ returns-in_ok-bytes-in-None-lent-clause-reads c = λ i to l.
     c.read_counted-in-None-lent.result c.in-Some.ensures.front f looks
     (c.deref.ensures.value ∙ c.in_ok-bytes-in-None-lent.ensures.copies f.0 f.1.1.tells)
     c.read_counted-in-None-lent.ensures.counts c.read_counted-in-None-lent.ensures.answers
-
-pub returns-in_ok-bytes-in-None-lent-clause-further : goal.returns-in_ok-bytes-in-None-lent-clause-further
-returns-in_ok-bytes-in-None-lent-clause-further c =
-    let a = c.args.cursor.now in
-    let b = c.bytes.new.self in
-    let e = c.copy.new.cursor in
-    let r = c.in-Some.token in
-    let p = c.in-Some.ensures.front in
-    let looks = looks_all r b e c.in_ok-bytes-in-None-lent.ensures.rises false (p.content, p.tells)
-    c.in_ok-bytes-in-None-lent.ensures.looks in
-    on_ok c.read_counted-in-None-lent.result (data_further a b e c.read_counted-in-None-lent.new.cursor r
-    c.deref.result.now p looks c.read_counted-in-None-lent.ensures.counts)

@@ -3,7 +3,7 @@ use Rattle.passkey_cbor.specs.Nodes.{nodes}
 use Rattle.passkey_cbor.specs.EncodedAt.{Values, NotValued}
 use Rattle.passkey_cbor.specs.declared.error.CborError.{CborError}
 use Rattle.passkey_cbor.proofs.Gathering.{raised-le}
-use Rattle.passkey_kinds.proofs.Going.{stands_long, value_further}
+use Rattle.passkey_kinds.proofs.Going.{stands_long}
 use Rattle.passkey_kinds.proofs.from_cbor.ValueFromCbor.read.Goals as goal
 
 pub returns-in-Ok-clause-reads : goal.returns-in-Ok-clause-reads
@@ -18,9 +18,6 @@ returns-in-Ok-clause-reads c = λ i to l.
       };
       ends = v.place;
     }
-
-pub returns-in-Ok-clause-further : goal.returns-in-Ok-clause-further
-returns-in-Ok-clause-further c = value_further c.args.cursor.now c.value.new.self _ c.in-Ok.ensures.front
 
 pub returns-in-Err-OutOfMemory-clause-reads : goal.returns-in-Err-OutOfMemory-clause-reads
 returns-in-Err-OutOfMemory-clause-reads c = λ i to l.
@@ -45,8 +42,3 @@ pub returns-in-Err-DecodeFailed-clause-reads : goal.returns-in-Err-DecodeFailed-
 returns-in-Err-DecodeFailed-clause-reads c = λ i to l.
     absurd (subst (λ (e : CborError). Values i to c.args.cursor.now c.value.new.self (Err e))
     c.in-Err-DecodeFailed.field-0-is (c.in-Err-DecodeFailed.ensures.values i to l))
-
-pub returns-in-Err-OutOfRangeIntegerValue-clause-reads : goal.returns-in-Err-OutOfRangeIntegerValue-clause-reads
-returns-in-Err-OutOfRangeIntegerValue-clause-reads c = λ i to l.
-    absurd (subst (λ (e : CborError). Values i to c.args.cursor.now c.value.new.self (Err e))
-    c.in-Err-OutOfRangeIntegerValue.field-0-is (c.in-Err-OutOfRangeIntegerValue.ensures.values i to l))

@@ -21,6 +21,3 @@ returns-clause-reads g c = λ i to l.
           (omega (arith, stands_long i a.bytes a.place to l)) r.spends;
       ends = held_ok _ c.read_record.result r.ends;
     })
-
-pub returns-clause-further : goal.returns-clause-further
-returns-clause-further g c = rw c.held.ensures (held_ok _ c.read_record.result c.read_record.ensures.further)

@@ -3,7 +3,7 @@ use Rattle.passkey_cbor.specs.Walk.{Walk}
 use Rattle.passkey_kinds.specs.Keeping.{kept_of}
 use Rattle.passkey_kinds.specs.Reader.{ReadsAs, Spends}
 use Rattle.passkey_kinds.specs.declared.refusal.Refusal.{Refusal}
-use Rattle.passkey_kinds.proofs.Going.{eased, stands_long, stands_back, spends_again, skip_further}
+use Rattle.passkey_kinds.proofs.Going.{eased, stands_long, stands_back, spends_again}
 use Rattle.passkey_kinds.proofs.tolerated.ToleratedFromCbor.read.Goals as goal
 
 pub returns-in-Ok-clause-reads : goal.returns-in-Ok-clause-reads
@@ -41,15 +41,6 @@ returns-then-skip-clause-reads g c = λ i to l.
           (subst (λ (k : ℕ). Spends (g.T.FromCbor.typed.cost + 1) k to a c.skip.new.self) (omega arith) spent);
       ends = passed.place;
     }
-
-pub returns-then-skip-clause-further : goal.returns-then-skip-clause-further
-returns-then-skip-clause-further g c =
-    let back = c.go_back.ensures ∙ ap (λ (n : ℕ). record c.read.new.cursor { place = n }) c.place-start.ensures in
-    omega (
-      arith,
-      skip_further c.go_back.new.self c.skip.new.self c.if-skip.ensures.front,
-      ap (λ (w : Walk). w.place) back,
-    )
 
 pub returns-else-skip-clause-reads : goal.returns-else-skip-clause-reads
 returns-else-skip-clause-reads g c = λ i to l.
