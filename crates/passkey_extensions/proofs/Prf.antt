@@ -83,9 +83,15 @@ module _ {P : Type 0} (t : PlainTable P) where
   or_null_plain n each None = null_plain n
   or_null_plain n each (Some r) = each r
 
-  pub unsigned_law : {n : ℕ} → IsLawful n t → IsLawful (suc n) (unsigned t)
+  unsigned_law : {n : ℕ} → IsLawful n t → IsLawful (suc n) (unsigned t)
   unfolding shortest_head
   unsigned_law {n} law = lawful (suc n) (unsigned t) (λ o. refl) (λ o. refl) (λ o. refl)
       (λ k o. search (plainly, or_null_plain (suc (raised n k)) (law.plain k))) (λ o fits.
       puts_value (or_null_same law.back refl) o.prf fits.0 ▸
       no_more)
+
+pub made_unsigned_law : IsLawful 3 (unsigned prf_made)
+made_unsigned_law = unsigned_law prf_made made_outputs_law
+
+pub used_unsigned_law : IsLawful 3 (unsigned prf_used)
+used_unsigned_law = unsigned_law prf_used used_outputs_law

@@ -3,8 +3,7 @@ use Rattle.std.proofs.Common.{option_map}
 use Rattle.passkey_cbor.specs.Item.{Item}
 use Rattle.passkey_entities.proofs.Entities.{user_law}
 use Rattle.passkey_extensions.specs.ExtensionTrees.{get_extensions_tree}
-use Rattle.passkey_extensions.specs.Prf.{prf_used}
-use Rattle.passkey_extensions.proofs.Prf.{used_outputs_law, unsigned_law}
+use Rattle.passkey_extensions.proofs.Prf.{used_unsigned_law}
 use Rattle.passkey_get_assertion.proofs.GetBack.{options_law}
 use Rattle.passkey_get_assertion.specs.GetRequest.{GetRequestParts, get_request_places}
 use Rattle.passkey_get_assertion.specs.GetResponse.{GetResponseParts, get_response_places}
@@ -19,4 +18,4 @@ get_request_each rule r extensions =
     search (rule.holds, plainly, list_plain 3, descriptor_plain 1, options_law.plain 3) depth 13
 
 pub get_response_each : {Q : Item → Type 0} → Rule 4 Q → (r : GetResponseParts) → EachPlace Q (get_response_places r)
-get_response_each rule r = search (rule.holds, plainly, descriptor_plain 2, user_law.plain 3, (unsigned_law prf_used used_outputs_law).plain 0) depth 14
+get_response_each rule r = search (rule.holds, plainly, descriptor_plain 2, user_law.plain 3, used_unsigned_law.plain 0) depth 14

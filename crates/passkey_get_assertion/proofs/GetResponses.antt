@@ -8,8 +8,7 @@ use Rattle.passkey_core.specs.DataLaws.{GivenIsCoherent, ReadIsGiven, WrittenDat
 use Rattle.passkey_get_assertion.specs.GetResponse.{GetResponseParts, get_response_fields, read_get_response, get_response_places, get_response_tree, GetResponseFits, is_get_response_coherent, normal_get_response}
 use Rattle.passkey_kinds.proofs.DataBack.{auth_data_back, auth_data_coherent}
 use Rattle.passkey_entities.proofs.Entities.{user_law, user_fits}
-use Rattle.passkey_extensions.specs.Prf.{prf_used}
-use Rattle.passkey_extensions.proofs.Prf.{used_outputs_law, unsigned_law}
+use Rattle.passkey_extensions.proofs.Prf.{used_unsigned_law}
 use Rattle.passkey_kinds.specs.MessageLaws.{ReadIsCoherent}
 use Rattle.passkey_kinds.proofs.Keeping.{record_keeps}
 use Rattle.passkey_kinds.proofs.LeafBack.{truth_back, byte_back, bytes_back, anything, optional_place, if_fits}
@@ -51,7 +50,7 @@ response_back written given r fits coherent =
     puts_default (optional_place byte_back refl r.number_of_credentials fits.number_of_credentials) refl ▸
     puts_default (optional_place truth_back refl r.user_selected (anything r.user_selected)) refl ▸
     puts_default (optional_place bytes_back refl r.large_blob_key (anything r.large_blob_key)) refl ▸
-    puts_default (optional_place (unsigned_law prf_used used_outputs_law).back refl r.unsigned_extension_outputs fits.unsigned_extension_outputs) refl ▸
+    puts_default (optional_place used_unsigned_law.back refl r.unsigned_extension_outputs fits.unsigned_extension_outputs) refl ▸
     no_more)
 
 -- ---- a decoded response is coherent

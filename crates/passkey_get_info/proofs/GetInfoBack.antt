@@ -1,7 +1,7 @@
 -- Values in an authenticatorGetInfo response can be decoded again from their encodings.
 use Rattle.std.specs.Option.{option_and_then}
 use Rattle.std.proofs.Common.{◌≡◌, Option, Some, None, unwrap_or, refl, ap}
-use Rattle.passkey_cbor.specs.Item.{Item, number, byte_string, text_string, array, map, tagged, boolean, null, simple, float}
+use Rattle.passkey_cbor.specs.Item.{Item, number}
 use Rattle.passkey_cbor.specs.Written.{shortest_head}
 use Rattle.passkey_get_info.specs.GetInfoNames.{version, version_tree, normal_version, extension, extension_tree, normal_extension}
 use Rattle.passkey_get_info.specs.GetInfoOptions.{options}

@@ -198,6 +198,7 @@ impl PlainRecord for Options {
         }
     }
 
+    #[tactic(auto, using(passkey_kinds::proofs::Sinks::accepted_both))]
     fn put_members<S: Sink>(&self, alloc: Global, sink: &mut S) -> Result<(), OutOfMemory> {
         self.put_first(alloc, sink)?;
         self.put_last(alloc, sink)?;

@@ -170,7 +170,8 @@ impl Response {
         source: &mut S,
     ) -> Result<(), Refusal>
         ensures puts { (i : Item) (to : ℕ) → S.At source.old i to
-            → Puts (fields_with true get_info_empty (limits ++ states)) number i (get_info_parts self.old) (get_info_parts self.new) result }
+            → Puts (fields_with true get_info_empty (limits ++ states)) number i (get_info_parts self.old)
+            (get_info_parts self.new) result }
         ensures spends { (i : Item) (to : ℕ) → S.At source.old i to → S.Spent (cost_at (members_of (limits ++ states)) number)
             (keeps_at (members_of (limits ++ states)) number) i to source.old source.new (is_ok result) }
         ensures onward { S.Goes source.old source.new }
@@ -477,6 +478,7 @@ impl ToCborMap for Encodable<'_> {
 
     ghost holds = { EncodableFits };
 
+    #[tactic(auto, using(passkey_kinds::proofs::Sinks::accepted_both))]
     fn put_members<S: Sink>(&self, alloc: Global, sink: &mut S) -> Result<(), OutOfMemory> {
         self.put_capabilities(alloc, sink)?;
         self.put_limits(alloc, sink)?;

@@ -15,21 +15,13 @@ use Rattle.passkey_kinds.proofs.Lists.{answers_from}
 
 pub head_before : (cost kept many to : ℕ) (a b d : Walk) → kept ≤ many → a.place < b.place → b.heads ≤ a.heads + 1
     → b.nodes ≤ a.nodes + 0 → Spends (suc cost) kept to b d → Spends (suc cost) many to a d
-head_before cost kept many to a b d few further one none s = record {
-  within = s.within;
-  heads = omega (arith, s.heads, one, further, mul-le-mul_left {m = suc a.place} {n = b.place} cost further);
-  nodes = omega (arith, s.nodes, none, few);
-}
+head_before cost kept many to a b d few further one none s = grind (arith, mul-le-mul_left)
 
 pub decodes_in : {A M : Type 0} {wanted given : Option M} {takes may : Type 0} (view : A → M)
     (cost kept many to : ℕ) (a b d : Walk) (result : Result A Refusal) → given ≡ wanted → (takes → may)
     → kept ≤ many → a.place < b.place → b.heads ≤ a.heads + 1 → b.nodes ≤ a.nodes + 0
     → Decodes view wanted takes (suc cost) kept to b d result → Decodes view given may (suc cost) many to a d result
-decodes_in view cost kept many to a b d result same grows few further one none r = record {
-  answers = answers_from view result same grows r.answers;
-  spends = head_before cost kept many to a b d few further one none r.spends;
-  ends = r.ends;
-}
+decodes_in view cost kept many to a b d result same grows few further one none r = grind (arith, answers_from, head_before)
 
 -- ---- arrays
 

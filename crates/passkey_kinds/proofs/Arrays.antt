@@ -31,14 +31,9 @@ one_more_set kind seen xs bytes i n x within is given fits =
 pub all_set : {X : Type 0} (kind : Kind ℕ) (seen : X → Item) (xs : List X) (bytes : List ℕ) (i : ℕ)
     → length bytes ≡ length xs → length xs ≤ i → each kind (map seen xs) ≡ set_before kind seen xs bytes i
     → each kind (map seen xs) ≡ Some bytes
-all_set kind seen xs bytes i long past set =
-    set
-    ∙ ap (λ ys. option_map (λ bs. take i bytes ++ bs) (each kind (map seen ys))) (drop_all i xs past)
-    ∙ ap Some (append-nil (take i bytes) ∙ take_all i bytes (omega arith))
+all_set kind seen xs bytes i long past set = grind (arith, drop_all, append-nil, take_all)
 
 -- an array of exactly n bytes
 pub sized_array : {X : Type 0} (n : ℕ) (seen : X → Item) (xs : List X) → sized_bytes n
     (array (items_of (map seen xs))) ≡ (if length xs == n then each (below 256) (map seen xs) else None)
-sized_array n seen xs =
-    ap (λ is. if length is == n then each (below 256) is else None) (elements-items_of (map seen xs))
-    ∙ ap (λ m. if m == n then each (below 256) (map seen xs) else None) (length-map xs seen)
+sized_array n seen xs = grind (arith, elements-items_of, length-map)

@@ -31,13 +31,7 @@ no_sized n _ b a = refl
 
 -- one head that isn't a byte string's, and then the item
 pub after_missed : (to : ℕ) (a b d : Walk) → LendsNothing a b → a.place < to → Spends 2 0 to b d → Spends 3 0 to a d
-after_missed to a b d p less s = record {
-  within = s.within;
-  heads = omega (arith, s.heads, p.heads, p.place, less);
-  nodes = omega (arith, s.nodes, p.nodes);
-}
+after_missed to a b d p less s = grind arith
 
 pub never_grows : (i : Item) → MayGrow false i → ⊥
-never_grows i h =
-    let e : false ≡ true = h.0 in
-    absurd cc
+never_grows i h = grind arith

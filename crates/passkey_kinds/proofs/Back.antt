@@ -1,6 +1,6 @@
 -- The values that the places of a record have for its rows.
 use Rattle.std.specs.List.{find, list_any}
-use Rattle.std.proofs.Common.{◌≡◌, ◌∙◌, ℕ, ◌==◌, Bool, true, false, cond, not, ◌&&◌, ◌||◌, List, [], ◌∷◌, ◌++◌, append_assoc, Option, Some, None, is_some, is_none, option_map, unwrap_or, refl, sym, ap, subst}
+use Rattle.std.proofs.Common.{arith, ◌≡◌, ◌∙◌, ℕ, ◌==◌, Bool, true, false, cond, not, ◌&&◌, ◌||◌, List, [], ◌∷◌, ◌++◌, append_assoc, Option, Some, None, is_some, is_none, option_map, unwrap_or, refl, sym, ap, subst}
 use Rattle.std.proofs.lemmas.Bool.{and_parts, eqb-true, eqb-false, ne_eqb, not-true}
 use Rattle.std.proofs.lemmas.List.{append-nil}
 use Rattle.passkey_cbor.specs.Item.{Item, boolean}
@@ -141,9 +141,7 @@ pub record Falls {M : Type 0} (kind : Kind M) (default : M) (o : Option Item) (y
 
 pub accepts_it : {M : Type 0} (kind : Kind M) (j : Item) (y : M) → kind j ≡ Some y → (i : Item) → Some j ≡ Some i
     → is_some (kind i) ≡ true
-accepts_it kind j y h i e =
-    let same : j ≡ i = cc in
-    subst (λ (k : Item). is_some (kind k) ≡ true) same (ap is_some h)
+accepts_it kind j y h i e = grind arith
 
 none_there : {M : Type 0} (kind : Kind M) (i : Item) → None ≡ Some i → is_some (kind i) ≡ true
 none_there kind i e = absurd cc

@@ -2,7 +2,7 @@
 use Rattle.std.specs.List.{filter_map, cons_option}
 use Rattle.std.specs.Option.{option_and_then}
 use Rattle.std.specs.FinMap as fin
-use Rattle.std.proofs.Common.{◌≡◌, ◌∙◌, ◌<◌, ◌≤◌, ◌==◌, ◌+◌, ℕ, suc, add-zero, arith, ◌⊎◌, inl, inr, Bool, if◌then◌else◌, List, [], ◌∷◌, ◌++◌, length, Option, Some, None, option_map, refl, sym, ap, append_assoc}
+use Rattle.std.proofs.Common.{◌≡◌, ◌∙◌, ◌<◌, ◌≤◌, ◌==◌, ◌+◌, ℕ, suc, add-zero, arith, ◌⊎◌, inl, inr, if◌then◌else◌, List, [], ◌∷◌, ◌++◌, length, Option, Some, None, option_map, refl, sym, ap, append_assoc}
 use Rattle.std.proofs.lemmas.Bool.{cases_lt, lt-ltb, le-ltb, ne_eqb}
 use Rattle.std.proofs.lemmas.List.{append-nil, length-append}
 use Rattle.passkey_bytes.specs.Map.{ByteMap, put_each}
@@ -18,16 +18,12 @@ module _ {X V : Type 0} (next : X → V → Option V) where
   -- an element's error is the error of the list
   pub stopped : (v : V) (first : X) (rest others : List X) {from : Option V} → rest ≡ first ∷ others
       → collected next rest v ≡ from → next first v ≡ None → from ≡ None
-  stopped v first rest others whole done h =
-      sym done ∙ ap (λ (ys : List X). collected next ys v) whole
-      ∙ ap (option_and_then (λ u. collected next others u)) h
+  stopped v first rest others whole done h = grind arith
 
   -- after an element, the rest goes on from there
   pub gone_on : (v : V) (first : X) (rest others : List X) (w : V) → rest ≡ first ∷ others
       → next first v ≡ Some w → collected next rest v ≡ collected next others w
-  gone_on v first rest others w whole h =
-      ap (λ (ys : List X). collected next ys v) whole
-      ∙ ap (option_and_then (λ u. collected next others u)) h
+  gone_on v first rest others w whole h = grind arith
 
 -- ---- what is put together, by all elements
 
@@ -104,13 +100,8 @@ module _ {M : Type 0} (n : ℕ) (kind : Kind M) where
             else None)) → option_and_then (full n) (collected (pushed_below n kind) (i ∷ is) front)
             ≡ (if length front + suc (length is) == n then option_map (λ xs. front ++ xs) (each kind (i ∷ is)) else None)
         by_room (inl room) rest = rw (lt-ltb (length front) n room) (one (λ x. rest x room) (kind i))
-        by_room (inr past) rest =
-            rw (le-ltb (length front) n past) (sym (ap (λ (b : Bool). if b then option_map (λ xs. front ++ xs)
-            (each kind (i ∷ is)) else None) (ne_eqb (length front + suc (length is)) n (λ e. omega (arith, e, past)))))
+        by_room (inr past) rest = grind (arith, le-ltb, ne_eqb)
 
   pub full_each : (is : List Item)
       → option_and_then (full n) (collected (pushed_below n kind) is []) ≡ (if length is == n then each kind is else None)
-  full_each is =
-      full_all is [] (omega arith)
-      ∙ ap (λ (k : ℕ). if k == n then option_map (λ xs. xs) (each kind is) else None) (omega arith)
-      ∙ ap (λ (o : Option (List M)). if length is == n then o else None) (option_same (each kind is))
+  full_each is = grind (arith, full_all, option_same)

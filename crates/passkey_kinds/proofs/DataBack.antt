@@ -1,7 +1,7 @@
 -- Authenticator data in a byte string: its encoding can be decoded again, and decoded data is
 -- coherent.
 use Rattle.std.specs.Result.{result_ok}
-use Rattle.std.proofs.Common.{◌≡◌, ℕ, true, List, [], Some, Result, Ok, Err, ap, subst}
+use Rattle.std.proofs.Common.{arith, ◌≡◌, true, Some, Result, Ok, Err}
 use Rattle.std.proofs.lemmas.List.{append-nil}
 use Rattle.passkey_cbor.specs.Item.{Item, byte_string}
 use Rattle.passkey_core.specs.Coherent.{is_coherent}
@@ -9,8 +9,6 @@ use Rattle.passkey_core.specs.DataLaws.{GivenIsCoherent, ReadIsGiven, WrittenDat
 use Rattle.passkey_core.specs.DataNormal.{IsData, normal_data}
 use Rattle.passkey_core.specs.DataParts.{DataParts}
 use Rattle.passkey_core.specs.DataRead.{read_data}
-use Rattle.passkey_core.specs.DataReading.{ReadsData}
-use Rattle.passkey_core.specs.DataWritten.{data_written}
 use Rattle.passkey_cose.specs.declared.error.CoseError.{CoseError}
 use Rattle.passkey_kinds.specs.Data.{authenticator_data, auth_data_tree}
 use Rattle.passkey_kinds.specs.ReadBack.{IsReadBack}
@@ -20,11 +18,7 @@ IsCoherentData d = IsData d × (is_coherent d ≡ true)
 
 pub auth_data_back : WrittenDataAreReadBack → ReadIsGiven
     → IsReadBack authenticator_data auth_data_tree IsCoherentData normal_data
-auth_data_back written given =
-    record {
-      back = λ d h. ap result_ok (given (data_written d) (normal_data d) (subst (λ (bytes : List ℕ).
-          ReadsData bytes (Ok (normal_data d))) (append-nil (data_written d)) (written d [] h.0 h.1)));
-    }
+auth_data_back written given = grind (arith, append-nil)
 
 data_of : (r : Result DataParts CoseError) (d : DataParts) → result_ok r ≡ Some d → r ≡ Ok d
 data_of (Ok x) d e = cc

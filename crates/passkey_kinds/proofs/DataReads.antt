@@ -33,28 +33,11 @@ parts_grow (b ∷ bytes) e = (refl, tt)
 chunks_whole : (IsAllowed : List ℕ → Type 0) (major : ℕ) (cs : List (List ℕ)) (t : List ℕ)
     → Each (Definite IsAllowed major) cs t → length (concat cs) ≤ length t
 chunks_whole IsAllowed major [] t e = omega arith
-chunks_whole IsAllowed major (c ∷ cs) t e =
-    omega (
-      arith,
-      chunks_whole IsAllowed major cs e.back e.second,
-      ap length e.whole,
-      length-append e.front e.back,
-      length-append c (concat cs),
-      ap length e.first.1.whole,
-      length-append e.first.1.front e.first.1.back,
-      ap length e.first.1.second,
-    )
+chunks_whole IsAllowed major (c ∷ cs) t e = grind (arith, length-append, chunks_whole IsAllowed major cs e.back e.second)
 
 content_short : (len : Option ℕ) (s bytes : List ℕ) → Content false len s bytes → length s ≤ length bytes
 content_short (Some n) s bytes c = omega (arith, ap length c.1)
-content_short None s bytes c =
-    omega (
-      arith,
-      chunks_whole _ _ c.first.0 c.front c.first.1.1,
-      ap length c.first.1.0,
-      ap length c.whole,
-      length-append c.front c.back,
-    )
+content_short None s bytes c = grind (arith, chunks_whole, length-append)
 
 region_shorter : (a b : Walk) (r : Region) → PassesString false a b r → a.place + length r.bytes < b.place
 region_shorter a b r p =

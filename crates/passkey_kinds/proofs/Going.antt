@@ -1,5 +1,5 @@
 -- How a cursor moves, and what it spends.
-use Rattle.std.proofs.Common.{◌≡◌, ◌∙◌, ℕ, ◌+◌, ◌-◌, ◌*◌, ◌≤◌, ◌<◌, arith, List, [], ◌++◌, length, take, Option, Some, None, IfSome, ap, subst}
+use Rattle.std.proofs.Common.{◌≡◌, ℕ, ◌+◌, ◌-◌, ◌≤◌, ◌<◌, arith, List, [], ◌++◌, length, take, Option, Some, None, IfSome, subst}
 use Rattle.std.proofs.lemmas.List.{length-append, length-take}
 use Rattle.std.proofs.Math.Nat.{mul-le-mul_left}
 use Rattle.passkey_cbor.specs.Item.{Item}
@@ -27,24 +27,12 @@ onward_of a b w =
     record { same = w.same; within = λ h. w.within; forward = w.forward; heads = w.heads; nodes = w.nodes }
 
 pub onward_then : (a b c : Walk) → Onward a b → Onward b c → Onward a c
-onward_then a b c p q = record {
-  same = q.same ∙ p.same;
-  within = λ h. q.within (p.within h);
-  forward = omega (arith, p.forward, q.forward);
-  heads = omega (arith, p.heads, q.heads);
-  nodes = omega (arith, p.nodes, q.nodes);
-}
+onward_then a b c p q = grind arith
 
 -- only heads were counted
 pub onward_looks : (a b c : Walk) → Onward a b → c.bytes ≡ b.bytes → c.place ≡ b.place → c.nodes ≡ b.nodes
     → b.heads ≤ c.heads → Onward a c
-onward_looks a b c p bytes place nodes heads = record {
-  same = bytes ∙ p.same;
-  within = λ h. omega (arith, p.within h, place, ap length bytes);
-  forward = omega (arith, p.forward, place);
-  heads = omega (arith, p.heads, heads);
-  nodes = omega (arith, p.nodes, nodes);
-}
+onward_looks a b c p bytes place nodes heads = grind arith
 
 -- ---- further on
 
@@ -99,11 +87,7 @@ head_spends a b (Some h) x to p o l = record {
 
 dearer : (c e kept more to : ℕ) (a b : Walk) → a.place ≤ to → Spends c kept to a b
     → Spends (c + e) (kept + more) to a b
-dearer c e kept more to a b le p = record {
-  within = p.within;
-  heads = omega (arith, p.heads, mul-le-mul_left {m = a.place} {n = to} e le);
-  nodes = omega (arith, p.nodes);
-}
+dearer c e kept more to a b le p = grind (arith, mul-le-mul_left)
 
 -- a lower cost is within a higher one
 pub eased : (c d kept more to : ℕ) (a b : Walk) → c ≤ d → kept ≤ more → a.place ≤ to → Spends c kept to a b
@@ -116,11 +100,7 @@ eased c d kept more to a b le few within p =
 -- one item after the other
 pub spends_then : (c kept more middle to : ℕ) (a b d : Walk) → middle ≤ to → b.place ≡ middle
     → Spends c kept middle a b → Spends c more to b d → Spends c (kept + more) to a d
-spends_then c kept more middle to a b d le ends p q = record {
-  within = q.within;
-  heads = omega (arith, p.heads, q.heads, ap (λ (n : ℕ). c * n) ends);
-  nodes = omega (arith, p.nodes, q.nodes);
-}
+spends_then c kept more middle to a b d le ends p q = grind arith
 
 -- the item is still encoded at the place that the cursor went back to
 pub stands_back : (i : Item) (a b : Walk) (to : ℕ) → b.bytes ≡ a.bytes → b.place ≡ a.place
@@ -130,8 +110,4 @@ stands_back i a b to bytes place l = rw (bytes, place) l
 -- decoded twice from the same place
 pub spends_again : (c e kept more to : ℕ) (a b d f : Walk) → Onward a b → d ≡ record b { place = a.place }
     → Spends c kept to a b → Spends e more to d f → Spends (c + e) (kept + more) to a f
-spends_again c e kept more to a b d f p back q r = record {
-  within = r.within;
-  heads = omega (arith, q.heads, r.heads, ap (λ (w : Walk). w.heads) back, ap (λ (w : Walk). e * w.place) back);
-  nodes = omega (arith, q.nodes, r.nodes, ap (λ (w : Walk). w.nodes) back);
-}
+spends_again c e kept more to a b d f p back q r = grind arith

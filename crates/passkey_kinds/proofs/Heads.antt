@@ -1,6 +1,6 @@
 -- Heads, and what they say about their data items.
 use Rattle.std.specs.Option.{option_and_then}
-use Rattle.std.proofs.Common.{◌≡◌, ◌∙◌, ℕ, ℤ, pos, negsuc, ◌⊎◌, inl, inr, ◌≤◌, ◌<◌, ◌==◌, nat_lt, arith, Bool, true, false, if◌then◌else◌, List, [], length, Option, Some, None, refl, sym, ap, subst}
+use Rattle.std.proofs.Common.{◌≡◌, ◌∙◌, ℕ, ℤ, pos, negsuc, ◌⊎◌, inl, inr, ◌≤◌, ◌<◌, nat_lt, arith, Bool, true, false, if◌then◌else◌, List, [], length, Option, Some, None, refl, sym, ap, subst}
 use Rattle.std.proofs.lemmas.Bool.{cases_eq, cases_lt, le-ltb, ne_eqb}
 use Rattle.passkey_cbor.specs.Item as item
 use Rattle.passkey_cbor.specs.Item.{Item, items_of, pairs_of}
@@ -28,11 +28,7 @@ either_way f r false x y p q = q
 -- what holds of all simple values holds of this one
 simple_any : {X : Type 0} (f : Item → X) (r : X) → ((b : Bool) → f (item.boolean b) ≡ r) → f item.null ≡ r
     → ((n : ℕ) → f (item.simple n) ≡ r) → (n : ℕ) → f (simple_item n) ≡ r
-simple_any f r truths nulls others n =
-    either_way f r (nat_lt n 20) _ _ (others n)
-    (either_way f r (n == 20) _ _ (truths false)
-    (either_way f r (n == 21) _ _ (truths true)
-    (either_way f r (nat_lt n 24) _ _ nulls (others n))))
+simple_any f r truths nulls others n = grind (arith, either_way)
 
 simple_truth : (n : ℕ) → head_truth (head.Simple n) ≡ truth (simple_item n)
 simple_truth n = by_20 (cases_eq n 20) where
@@ -206,39 +202,19 @@ true_false b p q = absurd cc
 
 no_array : (h : Head) (i : Item) (t : List ℕ) → Inside h i t → is_array_head h ≡ false → (xs : item.Items)
     → i ≡ item.array xs → ⊥
-no_array h i t w other xs e =
-    true_false (array_in i) (ap array_in e)
-    (sym (head_says array_in is_array_head (λ n. refl) (λ n. refl) (λ n s. refl) (λ n s. refl) (λ n s. refl)
-    (λ n s. refl) (λ n s. refl) (λ n. sym (simple_any array_in false (λ b. refl) refl (λ m. refl) n))
-    (λ x. refl) h i t w) ∙ other)
+no_array h i t w other xs e = grind (arith, true_false, head_says, simple_any)
 
 no_map : (h : Head) (i : Item) (t : List ℕ) → Inside h i t → is_map_head h ≡ false → (ps : item.Pairs)
     → i ≡ item.map ps → ⊥
-no_map h i t w other ps e =
-    true_false (map_in i) (ap map_in e)
-    (sym (head_says map_in is_map_head (λ n. refl) (λ n. refl) (λ n s. refl) (λ n s. refl) (λ n s. refl) (λ n s.
-    refl) (λ n s. refl) (λ n. sym (simple_any map_in false (λ b. refl) refl (λ m. refl) n)) (λ x. refl) h i t w)
-    ∙ other)
+no_map h i t w other ps e = grind (arith, true_false, head_says, simple_any)
 
 pub array_opened : (h : Head) (i : Item) (to : ℕ) (b : Walk) → Opens i to b (Some h)
     → OpensArray i to b (head_array h)
-array_opened (head.Array left) i to b o = (
-  o.encoded.0,
-  (
-    o.encoded.1.0,
-    record { text = o.text; encoded = o.encoded.1.1; parts = o.parts; forward = o.forward; within = o.within },
-  ),
-)
+array_opened (head.Array left) i to b o = grind arith
 array_opened x i to b o = no_array x i o.text o.encoded refl
 
 pub map_opened : (h : Head) (i : Item) (to : ℕ) (b : Walk) → Opens i to b (Some h) → OpensMap i to b (head_map h)
-map_opened (head.Map left) i to b o = (
-  o.encoded.0,
-  (
-    o.encoded.1.0,
-    record { text = o.text; encoded = o.encoded.1.1; parts = o.parts; forward = o.forward; within = o.within },
-  ),
-)
+map_opened (head.Map left) i to b o = grind arith
 map_opened x i to b o = no_map x i o.text o.encoded refl
 
 -- ---- null
@@ -250,8 +226,4 @@ not_null_in _ other = refl
 -- nothing was decoded, since the item isn't null
 pub null_missed : (a : Walk) (i : Item) (to : ℕ) → IsEncodedAt i a.bytes a.place to → (i ≡ item.null → ⊥)
     → ReadsFlat (some_null (null_in i)) to a a None
-null_missed a i to l other = record {
-  is = sym (ap some_null (not_null_in i other));
-  spends = record { within = l.forward; heads = omega (arith, l.forward); nodes = omega arith };
-  ends = λ x some. absurd (none_some None x refl some);
-}
+null_missed a i to l other = grind (arith, not_null_in, none_some)

@@ -1,6 +1,6 @@
 -- What holds of the blank record, and still holds after each value is put into it, holds of the
 -- decoded record.
-use Rattle.std.proofs.Common.{◌≡◌, ℕ, ◌<◌, ◌==◌, arith, Bool, true, false, if◌then◌else◌, List, [], ◌∷◌, Option, Some, None, Ok, refl, ap, subst}
+use Rattle.std.proofs.Common.{◌≡◌, ℕ, ◌<◌, arith, List, [], ◌∷◌, Option, Some, None, Ok, refl, ap, subst}
 use Rattle.passkey_cbor.specs.Depth.{depth, pairs_depth}
 use Rattle.passkey_cbor.specs.Item as item
 use Rattle.passkey_cbor.specs.Item.{Item, Pairs, no_pairs, pair, members}
@@ -29,12 +29,7 @@ module _ {P : Type 0} (n : ℕ) (Inv : P → Type 0) where
   put_keeps : (fs : List (Member P)) (k : ℕ) (i : Item) (r : P) → Keeps n Inv fs → depth i < n → Inv r
       → Inv (put_at fs k i r)
   put_keeps [] k i r all less h = h
-  put_keeps (f ∷ fs) k i r all less h =
-      (elim (f.entry.number == k)
-      as (λ (b : Bool). Inv (if b then set_with f.set (f.kind.of i) r else put_at fs k i r)) [
-        | true ↦ if_some Inv f.set (f.kind.of i) r (λ v e. all.0 i v r less e h) h
-        | false ↦ put_keeps fs k i r all.1 less h
-      ])
+  put_keeps (f ∷ fs) k i r all less h = grind (arith, if_some, put_keeps fs k i r all.1 less h)
 
   named_keeps : (fs : List (Member P)) (naming : Naming) (i : Item) (r : P) → Keeps n Inv fs → depth i < n → Inv r
       → Inv (put_named fs naming i r)

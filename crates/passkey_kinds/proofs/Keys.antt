@@ -1,7 +1,7 @@
 -- The rows that names and map keys name.
 use Rattle.std.specs.List.{find, position, position_or_len}
 use Rattle.std.specs.Str.{bytes_eq}
-use Rattle.std.proofs.Common.{◌≡◌, ◌∙◌, ◌<◌, ◌≤◌, ◌==◌, ℕ, pos, negsuc, ◌⊎◌, inl, inr, arith, zero, suc, if◌then◌else◌, Bool, true, false, not, ◌+◌, List, [], ◌∷◌, ◌++◌, length, map, take, drop, set, get_or, Bor, add-one, Option, Some, None, cond, nat_lt, slice_get, refl, sym, ap}
+use Rattle.std.proofs.Common.{◌≡◌, ◌∙◌, ◌<◌, ◌≤◌, ◌==◌, ℕ, pos, negsuc, ◌⊎◌, inl, inr, arith, zero, suc, if◌then◌else◌, Bool, true, false, ◌+◌, List, [], ◌∷◌, ◌++◌, length, map, take, drop, set, get_or, Bor, add-one, Option, Some, None, cond, nat_lt, slice_get, refl, sym, ap}
 use Rattle.std.proofs.lemmas.Bool.{cases_lt, lt-ltb, le-ltb, eqb-true}
 use Rattle.std.proofs.lemmas.List.{length-map, map_push, take_more_set}
 use Rattle.std.proofs.Math.Seq.{take-suc}
@@ -22,13 +22,7 @@ one_and k = omega arith
 at_first : (s : List ℕ) (es : List Entry) → slice_get es (position_or_len (λ n. bytes_eq n s)
     (map (λ (e : Entry). e.name) es)) ≡ find (λ (e : Entry). bytes_eq e.name s) es
 at_first s [] = refl
-at_first s (e ∷ es) =
-    elim (bytes_eq e.name s) as (λ (b : Bool). slice_get (e ∷ es) (cond (not b) (1 + position_or_len (λ n. bytes_eq
-    n s) (map (λ (e : Entry). e.name) es)) 0) ≡ cond b (Some e) (find (λ (e : Entry). bytes_eq e.name s) es)) [
-      | true ↦ refl
-      | false ↦ ap (slice_get (e ∷ es))
-          (one_and (position_or_len (λ n. bytes_eq n s) (map (λ (e : Entry). e.name) es))) ∙ at_first s es
-    ]
+at_first s (e ∷ es) = grind (arith, one_and, at_first s es)
 
 row_within : (es : List Entry) (k len : ℕ) → len ≡ length es
     → row_at es (cond (nat_lt k len) (Some k) None) ≡ row_or_unknown (slice_get es k)
@@ -41,10 +35,7 @@ row_within es k len same = by_place (cases_lt k len) where
 
 pub row_of_name : (s : List ℕ) (es : List Entry)
     → row_at es (position (λ n. bytes_eq n s) (map (λ (e : Entry). e.name) es)) ≡ row_named es s
-row_of_name s es =
-    row_within es (position_or_len (λ n. bytes_eq n s) (map (λ (e : Entry). e.name) es))
-    (length (map (λ (e : Entry). e.name) es)) (length-map es (λ (e : Entry). e.name))
-    ∙ ap row_or_unknown (at_first s es)
+row_of_name s es = grind (arith, row_within, length-map, at_first)
 
 -- ---- a row that is found among the last ones
 
@@ -63,11 +54,7 @@ pub found_behind : (n m k : ℕ) (es : List Entry)
     → row_or_unknown (find (λ (e : Entry). e.number == n) es) ≡ row m
 found_behind n m zero es h = h
 found_behind n m (suc k) [] h = h
-found_behind n m (suc k) (e ∷ es) h = elim (e.number == n) as (λ (b : Bool). (e.number == n) ≡ b
-    → row_or_unknown (cond b (Some e) (find (λ (e : Entry). e.number == n) es)) ≡ row m) [
-      | true ↦ λ same. ap row (eqb-true e.number n same ∙ found_number n m (drop k es) h)
-      | false ↦ λ other. found_behind n m k es h
-    ] refl
+found_behind n m (suc k) (e ∷ es) h = grind (arith, eqb-true, found_number, found_behind n m k es h)
 
 -- ---- the rows' names, one after the other
 
@@ -110,9 +97,7 @@ names_number b es _ t h = none_wrong b es
 -- an item of another major type isn't x
 pub other_major : (i x : Item) (major : ℕ) (is : Bool) → is ≡ (major_of i == major) → is ≡ true
     → (major_of x == major) ≡ false → i ≡ x → ⊥
-other_major i x major is says same other e =
-    let both : true ≡ false = sym same ∙ says ∙ ap (λ (k : Item). major_of k == major) e ∙ other in
-    cc
+other_major i x major is says same other e = grind arith
 
 pub not_unsigned : (i : Item) (is : Bool) → is ≡ (major_of i == 0) → is ≡ false → unsigned_in i ≡ None
 not_unsigned (item.number (pos n)) is says other = cc

@@ -1,13 +1,13 @@
 -- Values of one head or of one string, decoded at a cursor.
 use Rattle.std.specs.Option.{option_and_then}
-use Rattle.std.proofs.Common.{◌≡◌, ℕ, pos, nat_lt, true, if◌then◌else◌, List, Option, Some, None, option_map, Result, Ok, Err, OnOk, is_ok, refl, subst}
+use Rattle.std.proofs.Common.{arith, ◌≡◌, ℕ, pos, nat_lt, true, if◌then◌else◌, List, Option, Some, None, option_map, Result, Ok, Err, OnOk, is_ok, refl}
 use Rattle.passkey_cbor.specs.Item as item
 use Rattle.passkey_cbor.specs.Item.{Item}
 use Rattle.passkey_cbor.specs.Walk.{Walk}
 use Rattle.passkey_kinds.specs.HeadValues.{unsigned_in, null_in, ReadsFlat}
 use Rattle.passkey_kinds.specs.Data.{aaguid}
 use Rattle.passkey_kinds.specs.Kind.{Kind, AnswersAs, FailsAs, below, text, one_named, optional}
-use Rattle.passkey_kinds.specs.Reader.{Spends, Decodes}
+use Rattle.passkey_kinds.specs.Reader.{Decodes}
 use Rattle.passkey_kinds.specs.declared.refusal.Refusal.{Refusal}
 use Rattle.passkey_kinds.specs.declared.refusal.Refusal.TheVariants.{Refused, OutOfMemory}
 
@@ -74,8 +74,4 @@ pub fails_as : {A B M N : Type 0} {view : A → M} {seen : B → N} {wanted : Op
     {takes may : Type 0} {cost kept more to : ℕ} {a b : Walk} (e : Refusal) → kept ≡ more
     → (wanted ≡ None → given ≡ None) → (takes → may) → Decodes view wanted takes cost kept to a b (Err e)
     → Decodes seen given may cost more to a b (Err e)
-fails_as {cost = cost} {to = to} {a = a} {b} e few none grows r = record {
-  answers = failed e none grows r.answers;
-  spends = subst (λ (k : ℕ). Spends cost k to a b) few r.spends;
-  ends = tt;
-}
+fails_as {cost = cost} {to = to} {a = a} {b} e few none grows r = grind (arith, failed)

@@ -1,5 +1,5 @@
 -- Bytes whose leading data items decode alike: the results differ only in the length.
-use Rattle.std.proofs.Common.{◌≡◌, ◌≢◌, ◌∙◌, ℕ, List, Result, Ok, Err, refl, sym, ap, subst}
+use Rattle.std.proofs.Common.{arith, ◌≡◌, ◌≢◌, ◌∙◌, ℕ, List, Result, Ok, Err, refl, sym, ap}
 use Rattle.passkey_cbor.specs.LeadingItem.{IsLeadingItem}
 use Rattle.passkey_cbor.specs.Item.{Item}
 use Rattle.passkey_cbor.specs.Laws.{AtMostOneLeadingItem}
@@ -18,16 +18,12 @@ Tells view wanted len (Err e) = wanted ≡ Err e
 
 holds_at : AtMostOneLeadingItem → (bytes : List ℕ) (x : Item) (len : ℕ) (Holds : Item → ℕ → Type 0)
     → IsLeadingItem bytes x len → Begins bytes Holds → Holds x len
-holds_at law bytes x len Holds front begun =
-    let same = law bytes begun.item x begun.len len begun.front front in
-    subst (λ (n : ℕ). Holds x n) same.1 (subst (λ (i : Item). Holds i begun.len) same.0 begun.holds)
+holds_at law bytes x len Holds front begun = grind arith
 
 tells : {A M : Type 0} → AtMostOneLeadingItem → (view : A → M) (read : Item → Result M Fault) (bytes : List ℕ)
     (x : Item) (len : ℕ) → IsLeadingItem bytes x len → (r : Result (A × ℕ) Fault) → r ≢ Err fault.OutOfMemory
     → ReadsMessage view read bytes r → Tells view (read x) len r
-tells law view read bytes x len front (Ok r) some h =
-    let told = holds_at law bytes x len (λ i n. (n ≡ r.1) × (read i ≡ Ok (view r.0))) front h in
-    (sym told.0, told.1)
+tells law view read bytes x len front (Ok r) some h = grind (arith, holds_at)
 tells law view read bytes x len front (Err fault.DecodeFailed) some h = absurd (h x len front)
 tells law view read bytes x len front (Err fault.OutOfMemory) some h = absurd (some refl)
 tells law view read bytes x len front (Err e) some h = holds_at law bytes x len (λ i n. read i ≡ Err e) front h
@@ -61,16 +57,8 @@ told_same view one other same n m (Err e) (Err f) t u = sym same ∙ t ∙ ap Er
 carries_over : {A M : Type 0} → AtMostOneLeadingItem → (view : A → M) (read : Item → Result M Fault)
     → KnowsItems read → (x y : Item) → read x ≡ read y → (bytes others : List ℕ) (n m : ℕ) → IsLeadingItem bytes x n
     → IsLeadingItem others y m → AnswersCarryOver view read bytes others m
-carries_over law view read knows x y same bytes others n m front other r s some some_too h =
-    let told = tells law view read bytes x n front r some h in (
-      λ k. same_told view (read x) (read y) same n m r s told (tells law view read others y m other s some_too k),
-      λ k. may_tell view read knows others y m other s some_too
-          (told_same view (read x) (read y) same n m r s told k),
-    )
+carries_over law view read knows x y same bytes others n m front other r s some some_too h = grind (arith, tells, same_told, may_tell, told_same)
 
 pub alike : {A M : Type 0} → AtMostOneLeadingItem → (view : A → M) (read : Item → Result M Fault) → KnowsItems read
     → AlikeDifferInLength view read
-alike law view read knows x y same bytes others n m front other = (
-  carries_over law view read knows x y same bytes others n m front other,
-  carries_over law view read knows y x (sym same) others bytes m n other front,
-)
+alike law view read knows x y same bytes others n m front other = grind (arith, carries_over)

@@ -6,7 +6,7 @@ use Rattle.passkey_cbor.specs.Item.{Item, byte_string, text_string}
 use Rattle.passkey_cbor.specs.Grows.{Grows}
 use Rattle.passkey_cbor.specs.Inside.{Content}
 use Rattle.passkey_cbor.specs.Lent.{Region, PassesString, LendsFrom, LooksAtAll, LooksAtSome, IsRegion, heads_in}
-use Rattle.passkey_cbor.specs.Names.{LooksFor, heads_until, heads_sought, begins_one}
+use Rattle.passkey_cbor.specs.Names.{LooksFor, heads_until, heads_sought}
 use Rattle.passkey_cbor.specs.EncodedAt.{IsEncodedAt}
 use Rattle.passkey_cbor.specs.Walk.{Walk, ahead}
 use Rattle.passkey_cbor.proofs.Gathering.{raised-le}
@@ -45,12 +45,7 @@ either_few false n k h = omega arith
 until_few : (names : List (List ℕ)) (joined : List ℕ) (cs : List (List ℕ))
     → heads_until names joined cs ≤ length cs + 1
 until_few names joined [] = omega arith
-until_few names joined (c ∷ cs) =
-    omega (
-      arith,
-      either_few (begins_one (joined ++ c) names) (heads_until names (joined ++ c) cs) (length cs + 1)
-          (until_few names (joined ++ c) cs),
-    )
+until_few names joined (c ∷ cs) = grind (arith, either_few, until_few names (joined ++ c) cs)
 
 sought_few : (is_text : Bool) (names : List (List ℕ)) (len : Option ℕ) (s bytes : List ℕ)
     (c : Content is_text len s bytes) → heads_sought is_text names len s bytes c ≤ length bytes

@@ -45,9 +45,7 @@ record_within n ps h = omega (arith, record_levels ps, spread_within n ps h)
 place_of_member : (n : ℕ) (key : Item) (o : Option Item) (ms : Members)
     → pairs_depth (pairs_of (under key o ++ ms)) ≤ n → PlaceWithin n key o × (pairs_depth (pairs_of ms) ≤ n)
 place_of_member n key None ms h = (tt, h)
-place_of_member n key (Some x) ms h =
-    let parts = each_within (max (depth key) (depth x)) (pairs_depth (pairs_of ms)) n h in
-    (each_within (depth key) (depth x) n parts.0, parts.1)
+place_of_member n key (Some x) ms h = grind (arith, each_within)
 
 of_spread : (n : ℕ) (ps : List Place) → pairs_depth (pairs_of (spread ps)) ≤ n → Within n ps
 of_spread n [] h = tt
@@ -74,9 +72,7 @@ list_within tree n each xs = omega (arith, items_within tree n each xs)
 entries_within : {A : Type 0} (tree : A → Item) (n : ℕ) → ((x : A) → depth (tree x) ≤ n) → (es : List (List ℕ × A))
     → pairs_depth (pairs_of (map (entry_tree tree) es)) ≤ n
 entries_within tree n each [] = omega arith
-entries_within tree n each (e ∷ es) =
-    both_within (max 0 (depth (tree e.1))) (pairs_depth (pairs_of (map (entry_tree tree) es))) n
-    (both_within 0 (depth (tree e.1)) n (omega arith) (each e.1)) (entries_within tree n each es)
+entries_within tree n each (e ∷ es) = grind (arith, both_within, entries_within tree n each es)
 
 -- a map has one level more than its values
 pub map_within : {A : Type 0} (tree : A → Item) (n : ℕ) → ((x : A) → depth (tree x) ≤ n) → (m : ByteMap A)

@@ -109,12 +109,4 @@ module _ (table : Table) (earlier : Members) (key value : Item) (marks : List Bo
       pushed k = found_push table key value n naming earlier (none_of (found table earlier n) none) k
 
       mark_of : get_or (set marks n true) k false ≡ is_some (with_row n value (found table earlier) k)
-      mark_of =
-          (elim (k == n) as (λ (b : Bool). (k == n) ≡ b
-          → get_or (set marks n true) k false ≡ is_some (if b then Some value else found table earlier k)) [
-            | true ↦ λ e. (let same : k ≡ n = (unsigned_Decides k n).0 e in ap (λ (j : ℕ). get_or (set marks n true)
-                j false) same ∙ get_or-set_same marks n true false (omega (arith, small, long)))
-            | false ↦ λ e. get_or-set_other marks n k true false
-                (λ same. true≢false (sym ((unsigned_Decides k n).1 same) ∙ e))
-                ∙ get_or_from_slice_get marks k (is_some (found table earlier k)) false (marked k less)
-          ]) refl
+      mark_of = grind (arith, get_or-set_same, get_or-set_other, get_or_from_slice_get)

@@ -82,9 +82,7 @@ kept_pairs t ms i e = omega (arith, ap (kept_in_map t) e, ap (kept_in t) (member
 
 key_heads : (e from start place a b d middle : ℕ) → a + suc (3 + e) * from ≤ start + suc (3 + e) * place → b ≤ a + 1
     → d + 3 * place ≤ b + 3 * middle → place < middle → d + suc (3 + e) * from ≤ start + suc (3 + e) * middle
-key_heads e from start place a b d middle before look key less =
-    let le : place ≤ middle = omega (arith, less) in
-    omega (arith, before, look, key, less, mul-le-mul_left {m = place} {n = middle} e le)
+key_heads e from start place a b d middle before look key less = grind (arith, mul-le-mul_left)
 
 then_heads : (c from start middle d f to : ℕ) → d + c * from ≤ start + c * middle → f + c * middle ≤ d + c * to
     → f + c * from ≤ start + c * to
@@ -99,17 +97,7 @@ all_spent t kept to start now s = subst (λ (n : ℕ). Spends n kept to start no
 pub head_then : {P : Type 0} (t : Fields P) (kept many to : ℕ) (a b d : Walk) → kept ≤ many → a.place < b.place
     → b.heads ≤ a.heads + 1 → b.nodes ≤ a.nodes + 0 → Spends (record_cost t) kept to b d
     → Spends (record_cost t) many to a d
-head_then t kept many to a b d few further one none s = record {
-  within = s.within;
-  heads = omega (
-    arith,
-    s.heads,
-    one,
-    at_least t.rows,
-    mul-le-mul_left {m = suc a.place} {n = b.place} (record_cost t) further,
-  );
-  nodes = omega (arith, s.nodes, none, few);
-}
+head_then t kept many to a b d few further one none s = grind (arith, at_least, mul-le-mul_left)
 
 module _ {P : Type 0} {Done : Members → Type 0} (t : Fields P) (e : ℕ) (ms : Members) (to : ℕ) (start : Walk)
     (before after : Option ℕ) (a b : Walk)
@@ -117,19 +105,11 @@ module _ {P : Type 0} {Done : Members → Type 0} (t : Fields P) (e : ℕ) (ms :
     Looks before after a b true) (n : Next (PairWithin max_depth) after each.rest b.bytes b.place to) (d : Walk)
     (middle : ℕ) (less : b.place < middle) (within : middle ≤ n.middle) (key : Spends 3 0 middle b d) where
   keyed : d.heads + suc (3 + e) * start.place ≤ start.heads + suc (3 + e) * middle
-  keyed =
-      let stays : b.place ≡ a.place = looks.stays refl in
-      key_heads e start.place start.heads b.place a.heads b.heads d.heads middle (subst
-      (λ (p : ℕ). a.heads + suc (3 + e) * start.place ≤ start.heads + suc (3 + e) * p) (sym stays) each.heads)
-      (one_looked before after a b true looks) key.heads less
+  keyed = grind (arith, key_heads, one_looked)
 
   -- a map key by itself
   pub key_spent : SpentTo (suc (3 + e)) (kept_in t n.others) (kept_in t ms) n.middle start d
-  key_spent = record {
-    within = omega (arith, key.within, within);
-    heads = omega (arith, keyed, mul-le-mul_left {m = middle} {n = n.middle} (suc (3 + e)) within);
-    nodes = omega (arith, each.nodes, looks.nodes, key.nodes, ap (kept_in t) n.whole);
-  }
+  key_spent = grind (arith, keyed, mul-le-mul_left)
 
   -- a member: its map key, and then its value
   pub member_spent : (f : Walk) (naming : Naming) (ok : Bool) → naming ≡ named (table_of t) n.first.0 → d.place

@@ -1,6 +1,5 @@
 -- Messages whose encodings have few levels can be decoded again.
-use Rattle.std.proofs.Common.{◌≡◌, nat_le, leb-true, Bool, true, ◌&&◌, Result, Ok}
-use Rattle.std.proofs.lemmas.Bool.{and_parts}
+use Rattle.std.proofs.Common.{arith, ◌≡◌, nat_le, leb-true, Bool, true, ◌&&◌, Result, Ok}
 use Rattle.passkey_cbor.specs.Depth.{depth}
 use Rattle.passkey_cbor.specs.Item.{Item}
 use Rattle.passkey_cbor.specs.Laws.{WrittenIsLeadingItem}
@@ -19,6 +18,4 @@ module _ {P : Type 0} (read : Item → Result P Fault) (tree : P → Item) (Fits
   pub back_if_good : (is_good : P → Bool) → WrittenIsLeadingItem
       → ((r : P) → Fits r → is_good r ≡ true → read (tree r) ≡ Ok (normal r))
       → WrittenIsReadBack read tree Fits (λ r. is_good r && nat_le (depth (tree r)) max_depth) normal
-  back_if_good is_good law back r rest fits writable coherent =
-      let parts = and_parts (is_good r) (nat_le (depth (tree r)) max_depth) coherent in
-      (law (tree r) rest writable (leb-true (depth (tree r)) max_depth parts.1), back r fits parts.0)
+  back_if_good is_good law back r rest fits writable coherent = grind arith

@@ -1,5 +1,5 @@
 -- Messages at the beginning of bytes, and messages at a cursor.
-use Rattle.std.proofs.Common.{◌≡◌, ◌∙◌, ℕ, suc, ◌+◌, ◌*◌, ◌≤◌, arith, List, ◌++◌, length, take, drop, Result, Ok, Err, OnErr, refl, sym, ap, subst}
+use Rattle.std.proofs.Common.{◌≡◌, ◌∙◌, ℕ, suc, ◌+◌, ◌*◌, ◌≤◌, arith, List, ◌++◌, length, take, drop, Result, Ok, Err, OnErr, refl, sym, ap}
 use Rattle.std.proofs.lemmas.List.{take-append-drop, drop-drop, length-drop}
 use Rattle.passkey_cbor.specs.LeadingItem.{IsLeadingItem}
 use Rattle.passkey_cbor.specs.Grows.{Grows}
@@ -82,21 +82,11 @@ module _ {A P : Type 0} (view : A → P) (t : Fields P) (old s a b : Walk) (p : 
   module _ (result : Result A Fault) (decoded : DecodesRecord view t p.item (old.place + p.len) a b result)
       (c : Walk) (bytes : c.bytes ≡ b.bytes) (heads : c.heads ≡ b.heads) (nodes : c.nodes ≡ b.nodes) where
     went_here : old.place ≤ c.place → c.place ≤ length c.bytes → Went old c
-    went_here forward within = record {
-      same = bytes ∙ on.same ∙ back.bytes ∙ p.bytes;
-      within = within;
-      forward = forward;
-      heads = omega (arith, skipped.heads, back.heads, on.heads, heads);
-      nodes = omega (arith, skipped.nodes, back.nodes, on.nodes, nodes);
-    }
+    went_here forward within = grind (arith, bytes, heads, nodes)
 
     heads_here : (i : Item) (len : ℕ) → IsLeadingItem (ahead old) i len
         → c.heads ≤ old.heads + suc (record_cost t) * len
-    heads_here i len f =
-        let spent : b.heads + record_cost t * old.place ≤ a.heads + record_cost t * (old.place + p.len) =
-        subst (λ (k : ℕ). b.heads + record_cost t * k ≤ a.heads + record_cost t * (old.place + p.len))
-        back.place decoded.spends.heads in
-        rw (only i len f).1 (omega (arith, spent, p.heads, back.heads, heads))
+    heads_here i len f = grind (arith, only, heads)
 
     nodes_here : (i : Item) (len : ℕ) → IsLeadingItem (ahead old) i len → c.nodes ≤ old.nodes + kept_in_map t i
     nodes_here i len f = rw (only i len f).0 (omega (arith, decoded.spends.nodes, p.nodes, back.nodes, nodes))

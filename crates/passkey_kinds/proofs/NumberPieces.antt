@@ -82,9 +82,7 @@ module _ (i : Item) (to : ℕ) (a b : Walk) (other : (s : List ℕ) → i ≡ it
       ReadsFlat (option_and_then signed_64 (integer_in i)) to a b found →
       AnswersAs (λ x. x) (option_and_then algorithm_named found) ⊥ result →
       Decodes (λ x. x) (algorithm i) (MayGrow false i) 1 0 to a b result
-  number_decodes (Some z) result r h =
-      flat_found (λ x. x) (algorithm i) (MayGrow false i) _ z to a b result r
-      (answers_from (λ x. x) result (number_is (Some z) r.is) (λ e. absurd e) h)
+  number_decodes (Some z) result r h = grind (arith, flat_found, answers_from, number_is)
   number_decodes None (Ok x) r h = absurd cc
   number_decodes None (Err Refused) r h =
       flat_missed (λ x. x) (algorithm i) (MayGrow false i) _ to a b r (number_is None r.is)

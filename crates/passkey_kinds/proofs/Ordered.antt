@@ -4,7 +4,7 @@ use Rattle.std.specs.FinMap as fin
 use Rattle.std.specs.Ordering.{is_lt}
 use Rattle.std.specs.declared.cmp.Ordering.{Ordering}
 use Rattle.std.specs.declared.cmp.Ordering.TheVariants.{Less}
-use Rattle.std.proofs.Common.{◌≡◌, ℕ, ◌≤◌, Bool, true, ◌&&◌, List, [], ◌∷◌, ◌++◌, length, map, Option, Some, None, refl, sym, subst}
+use Rattle.std.proofs.Common.{arith, ◌≡◌, ℕ, ◌≤◌, Bool, true, ◌&&◌, List, [], ◌∷◌, ◌++◌, length, map, Option, Some, None, refl, sym, subst}
 use Rattle.std.proofs.lemmas.Bool.{and_parts}
 use Rattle.passkey_bytes.specs.Map.{ByteMap}
 use Rattle.passkey_cbor.specs.Canonical.{ComesAfter, AscendFrom, Ascend, IsOrdered, AreOrdered, ArePairsOrdered, IsCanonical}
@@ -69,9 +69,7 @@ none_before [] = tt
 none_before (p ∷ ps) = (tt, none_before ps)
 
 pub keys_ascend : (ps : List Place) → ascend ps ≡ true → Ascend (pairs_of (laid [] ps))
-keys_ascend ps h =
-    subst (λ (ms : Members). Ascend (pairs_of ms)) (sym (laid_spread [] ps))
-    (spread_ascends None ps h (none_before ps))
+keys_ascend ps h = grind (arith, laid_spread, spread_ascends, none_before)
 
 -- ---- the values under them
 

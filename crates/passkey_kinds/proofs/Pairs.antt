@@ -43,10 +43,7 @@ module _ (table : Table) where
   pub still_good : (ms earlier rest others : Members) (m : Item × Item) → rest ≡ m ∷ others
       → first_bad table [] ms ≡ first_bad table earlier rest → bad_member table earlier m ≡ None
       → first_bad table [] ms ≡ first_bad table (earlier ++ m ∷ []) others
-  still_good ms earlier rest others m next good none =
-      good
-      ∙ ap (first_bad table earlier) next
-      ∙ ap (λ (o : Option Fault). option_or o (first_bad table (earlier ++ m ∷ []) others)) none
+  still_good ms earlier rest others m next good none = grind arith
 
   same_missing : (ms : Members) (marks : List Bool) → Marks table ms marks → (es : List Entry) → are_small es ≡ true
       → find (λ (e : Entry). e.is_required && not (get_or marks e.number false)) es

@@ -1,5 +1,5 @@
 -- Records that are decoded one member after the other.
-use Rattle.std.proofs.Common.{◌≡◌, ◌∙◌, ℕ, Bool, true, false, List, [], ◌∷◌, ◌++◌, replicate, slice_get, Option, Some, None, is_some, Result, Ok, Err, OnOk, refl, sym, ap, subst, append_assoc}
+use Rattle.std.proofs.Common.{arith, ◌≡◌, ◌∙◌, ℕ, Bool, true, false, List, [], ◌∷◌, ◌++◌, replicate, slice_get, Option, Some, None, is_some, Result, Ok, Err, OnOk, refl, sym, ap, subst, append_assoc}
 use Rattle.std.proofs.lemmas.List.{append-nil}
 use Rattle.std.specs.Result.{result_ok}
 use Rattle.passkey_cbor.specs.Item as item
@@ -25,19 +25,12 @@ module _ {P : Type 0} (t : Fields P) where
 
   pub passes : (earlier : Members) (key value : Item) (held : P) → named (table_of t) key ≡ unknown
       → with_members t earlier t.blank ≡ held → with_members t (earlier ++ (key, value) ∷ []) t.blank ≡ held
-  passes earlier key value held naming made =
-      put_last earlier (key, value) t.blank
-      ∙ ap (λ (n : Naming). put_named t.rows n value (with_members t earlier t.blank)) naming
-      ∙ made
+  passes earlier key value held naming made = grind (arith, put_last)
 
   pub puts : (earlier : Members) (key value : Item) (n : ℕ) (held next : P) → named (table_of t) key ≡ row n
       → with_members t earlier t.blank ≡ held → put_at t.rows n value held ≡ next
       → with_members t (earlier ++ (key, value) ∷ []) t.blank ≡ next
-  puts earlier key value n held next naming made put =
-      put_last earlier (key, value) t.blank
-      ∙ ap (λ (m : Naming). put_named t.rows m value (with_members t earlier t.blank)) naming
-      ∙ ap (put_at t.rows n value) made
-      ∙ put
+  puts earlier key value n held next naming made put = grind (arith, put_last)
 
   -- ---- all members
 

@@ -1,9 +1,9 @@
 -- Records that are their own normal forms.
-use Rattle.std.proofs.Common.{[], ◌∷◌, refl}
+use Rattle.std.proofs.Common.{arith, [], ◌∷◌, refl}
 use Rattle.passkey_kinds.specs.ReadBack.{IsReadBack, Any}
-use Rattle.passkey_kinds.specs.Trees.{descriptor_places, descriptor_tree, parameters_places, parameters_tree, webauthn_user_places, webauthn_user_tree}
+use Rattle.passkey_kinds.specs.Trees.{descriptor_places, descriptor_tree, parameters_tree, webauthn_user_places, webauthn_user_tree}
 use Rattle.passkey_kinds.specs.Descriptor.{descriptor_fields, descriptor}
-use Rattle.passkey_kinds.specs.Parameters.{parameters_fields, parameters}
+use Rattle.passkey_kinds.specs.Parameters.{parameters}
 use Rattle.passkey_kinds.specs.User.{user_fields, user}
 use Rattle.passkey_kinds.proofs.LeafBack.{text_back, bytes_back, credential_type_back, transport_back, algorithm_back, or_else_back, all_of_anything, accepted_place}
 use Rattle.passkey_kinds.proofs.RowsBack.{puts_value, puts_default, ◌▸◌, no_more, ordered_back}
@@ -17,11 +17,7 @@ descriptor_back = record {
 }
 
 pub parameters_back : IsReadBack parameters parameters_tree Any (λ p. p)
-parameters_back = record {
-  back =
-      λ p h. ordered_back parameters_fields (2 ∷ 1 ∷ []) (parameters_places p) p refl refl refl (puts_value
-      algorithm_back p.alg tt ▸ puts_value (or_else_back credential_type_back Unknown) p.ty tt ▸ no_more);
-}
+parameters_back = grind (arith, ordered_back, puts_value, algorithm_back, or_else_back, credential_type_back, no_more)
 
 pub user_back : IsReadBack user webauthn_user_tree Any (λ u. u)
 user_back = record {

@@ -1,6 +1,6 @@
 -- Laws of records, by what their rows decode and put.
 use Rattle.std.specs.List.{cons_option}
-use Rattle.std.proofs.Common.{◌≡◌, ◌≢◌, ◌∙◌, ℕ, Bool, false, List, [], ◌∷◌, ◌++◌, Option, Some, None, is_none, Err, refl, sym, ap, subst}
+use Rattle.std.proofs.Common.{arith, ◌≡◌, ◌≢◌, ◌∙◌, ℕ, Bool, false, List, [], ◌∷◌, ◌++◌, Option, Some, None, is_none, Err, refl, sym, ap, subst}
 use Rattle.passkey_cbor.specs.Item as item
 use Rattle.passkey_cbor.specs.Item.{Item, members}
 use Rattle.passkey_cbor.specs.Laws.{AtMostOneLeadingItem}
@@ -64,10 +64,7 @@ module _ {P : Type 0} (t : Fields P) where
   same_made [] [] h r = refl
   same_made [] (y ∷ ys) h r = absurd h
   same_made (x ∷ xs) [] h r = absurd h
-  same_made (x ∷ xs) (y ∷ ys) h r =
-      let here : put_at t.rows x.0 x.1 r ≡ put_at t.rows y.0 y.1 r =
-      h.1.puts r ∙ ap (λ (n : ℕ). put_at t.rows n y.1 r) h.0 in
-      ap (put_known xs) here ∙ same_made xs ys h.2 (put_at t.rows y.0 y.1 r)
+  same_made (x ∷ xs) (y ∷ ys) h r = grind (arith, same_made xs ys h.2 (put_at t.rows y.0 y.1 r))
 
   pub same_answers_read_alike : (ms ns : Members) → HasNoWrongKey (table_of t) ms → HasNoWrongKey (table_of t) ns
       → SameAnswers t (known (table_of t) ms) (known (table_of t) ns) → read_members t ms ≡ read_members t ns

@@ -2,14 +2,14 @@
 use Rattle.std.specs.Cmp.{unsigned_Decides}
 use Rattle.std.specs.List.{list_any}
 use Rattle.std.specs.Result.{result_ok}
-use Rattle.std.proofs.Common.{◌≡◌, ◌∙◌, ℕ, ◌==◌, Bool, true, false, not, ◌&&◌, List, [], ◌∷◌, ◌++◌, Option, Some, None, is_some, unwrap_or, Ok, refl, sym, ap}
+use Rattle.std.proofs.Common.{arith, ◌≡◌, ◌∙◌, ℕ, ◌==◌, Bool, true, false, not, ◌&&◌, List, [], ◌∷◌, ◌++◌, Option, Some, None, is_some, unwrap_or, Ok, refl, sym, ap}
 use Rattle.std.proofs.lemmas.Bool.{and_parts, not-true}
 use Rattle.passkey_cbor.specs.Item.{Item}
 use Rattle.passkey_cose.proofs.KeyLists.{members-pairs_of}
 use Rattle.passkey_kinds.specs.ReadBack.{IsReadBack}
-use Rattle.passkey_kinds.specs.Record.{Member, Fields, set_with, rows_of, table_of, put_at, put_named, with_members, unless_missing, judged, read_members, read_item, record_kind}
+use Rattle.passkey_kinds.specs.Record.{Member, Fields, set_with, rows_of, table_of, put_at, put_named, with_members, read_members, read_item, record_kind}
 use Rattle.passkey_kinds.specs.Table.{Naming, row, named, is_row, Members, found, accepts_at, first_bad}
-use Rattle.passkey_kinds.specs.Tree.{Place, under, laid, record_tree}
+use Rattle.passkey_kinds.specs.Tree.{Place, under, record_tree}
 use Rattle.passkey_kinds.proofs.Back.{spread, laid_spread, stands, have_rows, are_distinct, Fit, names_it, neither, none_bad, all_free, found_spread, missing_of, Falls, accepts_it}
 
 -- ---- what the members of the places put
@@ -132,10 +132,7 @@ fit_rows all (m ∷ ms) (p ∷ ps) finds fit = (λ i e. finds.0 i ∙ fit.0 i e,
 judged_good : {P : Type 0} (t : Fields P) (ms : Members) (f : ℕ → Option Item) (x : P)
     → first_bad (table_of t) [] ms ≡ None → found (table_of t) ms ≡ f → missing_of (table_of t) f ≡ None
     → with_members t ms t.blank ≡ x → read_members t ms ≡ Ok x
-judged_good t ms f x good is complete made =
-    ap (judged t ms) good
-    ∙ (λ i. unless_missing (missing_of (table_of t) (is i)) (made i))
-    ∙ ap (λ (m : Option ℕ). unless_missing m x) complete
+judged_good t ms f x good is complete made = grind (arith, missing_of)
 
 -- the rows with these numbers, in this order
 abbrev either : {A : Type 1} → Bool → A → A → A
@@ -154,24 +151,12 @@ picked all (n ∷ ns) = member_at all n (picked all ns)
 pub picked_back : {P : Type 0} (t : Fields P) (fs : List (Member P)) (ps : List Place) (x : P) → Finds t.rows fs
     → (have_rows (table_of t) (numbers fs) ps && are_distinct (numbers fs)) ≡ true → missing_of (table_of t)
     (stands (numbers fs) ps) ≡ None → Backs fs ps t.blank x → read_item t (record_tree ps) ≡ Ok x
-picked_back t fs ps x finds keys complete backs =
-    let ns = numbers fs in
-    let k = and_parts (have_rows (table_of t) ns ps) (are_distinct ns) keys in
-    ap (read_members t) (members-pairs_of (laid [] ps) ∙ laid_spread [] ps)
-    ∙ judged_good t (spread ps) (stands ns ps) x
-    (none_bad (table_of t) [] ns ps k.0 k.1 (fit_rows t.rows fs ps finds backs.fit) (all_free (table_of t) ns))
-    (λ i m. found_spread (table_of t) ns ps m k.0 k.1 i)
-    complete
-    (with_spread t fs ps t.blank finds k.0 ∙ backs.made)
+picked_back t fs ps x finds keys complete backs = grind (arith, have_rows, are_distinct, members-pairs_of, laid_spread, judged_good, spread, stands, none_bad, fit_rows, all_free, found_spread, with_spread)
 
 member_found : {P : Type 0} (all ms : List (Member P)) (n : ℕ) (rest : List (Member P)) → Finds all ms
     → Finds all rest → Finds all (member_at ms n rest)
 member_found all [] n rest found others = others
-member_found all (m ∷ ms) n rest found others =
-    (elim (m.entry.number == n) as (λ (b : Bool). Finds all (either b (m ∷ rest) (member_at ms n rest))) [
-      | true ↦ (found.0, found.1, others)
-      | false ↦ member_found all ms n rest found.2 others
-    ])
+member_found all (m ∷ ms) n rest found others = grind (arith, member_found all ms n rest found.2 others)
 
 picked_found : {P : Type 0} (all : List (Member P)) (ns : List ℕ) → Finds all all → Finds all (picked all ns)
 picked_found all [] found = tt

@@ -1,7 +1,7 @@
 -- Members for the same rows, with values that these rows decode alike.
 use Rattle.std.specs.List.{cons_option}
 use Rattle.std.specs.Option.{option_or}
-use Rattle.std.proofs.Common.{◌≡◌, ◌≢◌, ◌∙◌, ◌==◌, ℕ, Bool, true, false, ◌||◌, if◌then◌else◌, List, [], ◌∷◌, ◌++◌, Option, Some, None, is_some, is_none, refl, ap}
+use Rattle.std.proofs.Common.{arith, ◌≡◌, ◌≢◌, ◌∙◌, ◌==◌, ℕ, Bool, true, false, ◌||◌, if◌then◌else◌, List, [], ◌∷◌, ◌++◌, Option, Some, None, is_some, is_none, refl, ap}
 use Rattle.std.proofs.lemmas.List.Elements.{All-head, All-tail}
 use Rattle.passkey_cbor.specs.Item.{Item}
 use Rattle.passkey_kinds.proofs.Unknown.{found_append, found_pushed}
@@ -48,12 +48,7 @@ is_some_or (Some y) x b = refl
 marked_also : (table : Table) (earlier : Members) (key value : Item) (n : ℕ) (seen : ℕ → Bool)
     → named table key ≡ row n → ((k : ℕ) → is_some (found table earlier k) ≡ seen k) → (k : ℕ)
     → is_some (found table (earlier ++ (key, value) ∷ []) k) ≡ seen k || (k == n)
-marked_also table earlier key value n seen naming same k =
-    ap is_some (found_append table earlier ((key, value) ∷ []) k)
-    ∙ ap (λ (m : Naming). is_some (option_or (found table earlier k) (if is_row k m then Some value else None)))
-    naming
-    ∙ is_some_or (found table earlier k) value (k == n)
-    ∙ ap (λ (b : Bool). b || (k == n)) (same k)
+marked_also table earlier key value n seen naming same k = grind (arith, found_append, is_some_or)
 
 -- the rest is the same, with any marks that are right after one more member
 first_bad_by : (table : Table) (earlier : Members) (key value : Item) (later : Option Fault) (xs : List (ℕ × Item))
@@ -61,9 +56,7 @@ first_bad_by : (table : Table) (earlier : Members) (key value : Item) (later : O
     → ((k : ℕ) → is_some (found table (earlier ++ (key, value) ∷ []) k) ≡ next k) → later ≡ bad_in table next xs)
     → (naming : Naming) → named table key ≡ naming → naming ≢ wrong → option_or (bad_by table earlier naming value)
     later ≡ bad_in table seen (cons_option (known_member naming value) xs)
-first_bad_by table earlier key value later xs seen same rest (row n) e right =
-    let after = rest (λ k. seen k || (k == n)) (marked_also table earlier key value n seen e same) in
-    λ i. option_or (bad_at table (same n i) n value) (after i)
+first_bad_by table earlier key value later xs seen same rest (row n) e right = grind (arith, marked_also)
 first_bad_by table earlier key value later xs seen same rest unknown e right =
     rest seen (λ k. ap is_some (found_pushed table earlier key value e k) ∙ same k)
 first_bad_by table earlier key value later xs seen same rest wrong e right = absurd (right refl)
@@ -88,26 +81,11 @@ module _ {P : Type 0} (t : Fields P) where
   same_bad [] [] h seen = refl
   same_bad [] (y ∷ ys) h seen = absurd h
   same_bad (x ∷ xs) [] h seen = absurd h
-  same_bad (x ∷ xs) (y ∷ ys) h seen =
-      let answer : bad_at (table_of t) (seen x.0) x.0 x.1 ≡ bad_at (table_of t) (seen x.0) x.0 y.1 =
-      ap (λ (b : Bool). if seen x.0 then Some (Repeated x.0) else (if b then None else Some (Refused x.0)))
-      h.1.accepts in
-      let here : bad_at (table_of t) (seen x.0) x.0 x.1 ≡ bad_at (table_of t) (seen y.0) y.0 y.1 =
-      answer ∙ ap (λ (n : ℕ). bad_at (table_of t) (seen n) n y.1) h.0 in
-      let rest : bad_in (table_of t) (λ k. seen k || (k == x.0)) xs
-      ≡ bad_in (table_of t) (λ k. seen k || (k == y.0)) ys = same_bad xs ys h.2 (λ k. seen k || (k == x.0))
-      ∙ ap (λ (n : ℕ). bad_in (table_of t) (λ k. seen k || (k == n)) ys) h.0 in
-      λ i. option_or (here i) (rest i)
+  same_bad (x ∷ xs) (y ∷ ys) h seen = grind (arith, same_bad xs ys h.2 (λ k. seen k || (k == x.0)))
 
   pub same_filled : (xs ys : List (ℕ × Item)) → SameAnswers t xs ys → (k : ℕ)
       → is_none (found_in xs k) ≡ is_none (found_in ys k)
   same_filled [] [] h k = refl
   same_filled [] (y ∷ ys) h k = absurd h
   same_filled (x ∷ xs) [] h k = absurd h
-  same_filled (x ∷ xs) (y ∷ ys) h k =
-      let rest = same_filled xs ys h.2 k in
-      (elim (k == x.0) as (λ (b : Bool). is_none (if b then Some x.1 else found_in xs k)
-      ≡ is_none (if b then Some y.1 else found_in ys k)) [
-        | true ↦ refl
-        | false ↦ rest
-      ]) ∙ ap (λ (n : ℕ). is_none (if k == n then Some y.1 else found_in ys k)) h.0
+  same_filled (x ∷ xs) (y ∷ ys) h k = grind (arith, same_filled xs ys h.2 k)

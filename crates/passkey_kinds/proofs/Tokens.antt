@@ -1,7 +1,7 @@
 -- Strings that are lent at a cursor and looked at again: what they are, and where the cursor is
 -- then.
 use Rattle.std.specs.Option.{ok_or}
-use Rattle.std.proofs.Common.{◌≡◌, ◌∙◌, ℕ, suc, ◌*◌, ◌≤◌, ◌<◌, arith, Bool, List, Option, Some, None, option_map, Result, refl, sym, ap, subst}
+use Rattle.std.proofs.Common.{◌≡◌, ℕ, suc, ◌≤◌, ◌<◌, arith, Bool, List, Option, Some, None, option_map, Result, refl, sym, subst}
 use Rattle.passkey_cbor.specs.Inside.{Content}
 use Rattle.passkey_cbor.specs.Item as item
 use Rattle.passkey_cbor.specs.Item.{Item}
@@ -18,9 +18,7 @@ use Rattle.passkey_kinds.proofs.Lists.{answers_from}
 whole_is : (is_text : Bool) (len : Option ℕ) (bytes t s : List ℕ) → Some t ≡ option_map (λ (n : ℕ). bytes) len
     → Content is_text len s bytes → t ≡ s
 whole_is is_text None bytes t s e c = absurd cc
-whole_is is_text (Some n) bytes t s e c =
-    let same : t ≡ bytes = cc in
-    same ∙ c.1
+whole_is is_text (Some n) bytes t s e c = grind arith
 
 -- what is lent of a string in one piece is the whole string
 pub lent_is : (is_text : Bool) (r : Region) (t s : List ℕ) → LentWhole r (Some t) → Tells is_text r s → t ≡ s
@@ -66,15 +64,7 @@ stands_missed i a b to p l = stands_back i a b to p.bytes p.place l
 pub missed_then : {A M : Type 0} (view : A → M) (wanted : Option M) (takes : Type 0) (cost kept to : ℕ)
     (a b d : Walk) (result : Result A Refusal) → LendsNothing a b → a.place < to
     → Decodes view wanted takes cost kept to b d result → Decodes view wanted takes (suc cost) kept to a d result
-missed_then view wanted takes cost kept to a b d result p less r = record {
-  answers = r.answers;
-  spends = record {
-    within = r.spends.within;
-    heads = omega (arith, r.spends.heads, p.heads, less, ap (λ (n : ℕ). cost * n) p.place);
-    nodes = omega (arith, r.spends.nodes, p.nodes);
-  };
-  ends = r.ends;
-}
+missed_then view wanted takes cost kept to a b d result p less r = grind arith
 
 -- ---- byte strings
 

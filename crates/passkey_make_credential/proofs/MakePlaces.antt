@@ -3,8 +3,7 @@ use Rattle.std.proofs.Common.{option_map}
 use Rattle.passkey_cbor.specs.Item.{Item}
 use Rattle.passkey_entities.proofs.Entities.{rp_law}
 use Rattle.passkey_extensions.specs.ExtensionTrees.{make_extensions_tree}
-use Rattle.passkey_extensions.specs.Prf.{prf_made}
-use Rattle.passkey_extensions.proofs.Prf.{made_outputs_law, unsigned_law}
+use Rattle.passkey_extensions.proofs.Prf.{made_unsigned_law}
 use Rattle.passkey_kinds.specs.Tree.{number_tree}
 use Rattle.passkey_kinds.proofs.Places.{PlaceHas, EachPlace}
 use Rattle.passkey_kinds.proofs.Plain.{Rule, plainly, list_plain}
@@ -28,4 +27,4 @@ make_request_each rule r extensions = search (
 
 pub make_response_each : {Q : Item → Type 0} → Rule 4 Q → (r : MakeResponseParts) → Q r.att_stmt
     → EachPlace Q (make_response_places r)
-make_response_each rule r statement = search (rule.holds, plainly, (unsigned_law prf_made made_outputs_law).plain 0) depth 12
+make_response_each rule r statement = search (rule.holds, plainly, made_unsigned_law.plain 0) depth 12

@@ -16,8 +16,7 @@ use Rattle.passkey_kinds.specs.Data.{authenticator_data}
 use Rattle.passkey_kinds.specs.Kind.{kept}
 use Rattle.passkey_kinds.specs.MessageLaws.{WrittenIsReadBack, ReadIsCoherent}
 use Rattle.passkey_kinds.proofs.Keeping.{kept_below, record_keeps}
-use Rattle.passkey_extensions.specs.Prf.{prf_made}
-use Rattle.passkey_extensions.proofs.Prf.{made_outputs_law, unsigned_law}
+use Rattle.passkey_extensions.proofs.Prf.{made_unsigned_law}
 use Rattle.passkey_bytes.specs.SameMaps.{same_tests}
 use Rattle.passkey_kinds.proofs.LeafBack.{truth_back, text_back, bytes_back, kept_back, anything, optional_place}
 use Rattle.passkey_kinds.proofs.Plain.{few_levels}
@@ -55,7 +54,7 @@ response_back written given r fits coherent =
     puts_value kept_back r.att_stmt tt ▸
     puts_default (optional_place truth_back refl r.ep_att (anything r.ep_att)) refl ▸
     puts_default (optional_place bytes_back refl r.large_blob_key (anything r.large_blob_key)) refl ▸
-    puts_default (optional_place (unsigned_law prf_made made_outputs_law).back refl r.unsigned_extension_outputs fits.1) refl ▸
+    puts_default (optional_place made_unsigned_law.back refl r.unsigned_extension_outputs fits.1) refl ▸
     no_more)
 
 attestation_back : WrittenDataAreReadBack → ReadIsGiven → (d : DataParts) → IsData d → is_coherent d ≡ true
