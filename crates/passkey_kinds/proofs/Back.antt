@@ -79,8 +79,7 @@ place_good : (table : Table) (earlier : Members) (key : Item) (n : ℕ) (ms : Me
     → first_bad table earlier ms ≡ None → ((i : Item) → first_bad table (earlier ++ (key, i) ∷ []) ms ≡ None)
     → first_bad table earlier (under key o ++ ms) ≡ None
 place_good table earlier key n ms None e free fit without with = without
-place_good table earlier key n ms (Some i) e free fit without with =
-    rw (was_good table earlier key i n e (ap is_some free) (fit i refl)) (with i)
+place_good table earlier key n ms (Some i) e free fit without with = grind (arith, was_good)
 
 pub none_bad : (table : Table) (earlier : Members) (ns : List ℕ) (ps : List Place) → have_rows table ns ps ≡ true
     → are_distinct ns ≡ true → Fit table.rows ns ps → Free table earlier ns
@@ -148,15 +147,13 @@ none_there kind i e = absurd cc
 
 given_it : {M : Type 0} (kind : Kind M) (default : M) (j : Item) (y : M) → kind j ≡ Some y
     → Falls kind default (Some j) y
-given_it {M} kind default j y h =
-    record { value = ap (λ (o : Option M). unwrap_or o default) h; accepted = accepts_it kind j y h }
+given_it {M} kind default j y h = grind (arith, accepts_it)
 
 pub option_place : {A M : Type 0} {kind : Kind (Option M)} {tree : A → Item} {Fits : A → Type 0} {normal : A → M}
     → IsReadBack kind tree Fits (λ x. Some (normal x)) → (o : Option A) → IfPresent Fits o
     → Falls kind None (option_map tree o) (option_map normal o)
 option_place {kind = kind} r None h = record { value = refl; accepted = none_there kind }
-option_place {kind = kind} {tree = tree} {normal = normal} r (Some x) h =
-    given_it kind None (tree x) (Some (normal x)) (r.back x h)
+option_place {kind = kind} {tree = tree} {normal = normal} r (Some x) h = grind (arith, given_it)
 
 -- a flag that is encoded only if it is true decodes to itself
 pub true_place : (key : Item) (b : Bool) → Falls truth true (where_true key b).1 true

@@ -1,11 +1,11 @@
 -- Byte strings as map keys: their encodings are in CTAP2's order if the shorter key comes first,
 -- and of two keys with the same length the lower one.
-use Rattle.std.proofs.Common.{◌≡◌, ℕ, ◌+◌, ◌*◌, ◌^◌, ◌<◌, ◌≤◌, nat_lt, if◌then◌else◌, List, [], ◌∷◌, ◌++◌, length, refl, sym, ap, ◌∙◌, arith, inl, inr}
+use Rattle.std.proofs.Common.{rules, ◌≡◌, ℕ, ◌+◌, ◌*◌, ◌^◌, ◌<◌, ◌≤◌, nat_lt, if◌then◌else◌, List, [], ◌∷◌, ◌++◌, length, refl, sym, ap, ◌∙◌, arith, inl, inr}
 use Rattle.std.specs.Int.{w8, w16, w32, w64, to_be_bytes}
 use Rattle.std.specs.Cmp.{nat_cmp_is}
 use Rattle.std.specs.Cmp.Lexicographic.{slice_cmp}
 use Rattle.std.specs.Ordering.{nat_cmp}
-use Rattle.std.specs.declared.cmp.Ordering.TheVariants.{Less, Equal}
+use Rattle.std.specs.declared.cmp.Ordering.TheVariants.{Equal}
 use Rattle.std.proofs.lemmas.Bool.{cases_lt, lt-ltb, le-ltb}
 use Rattle.std.proofs.lemmas.Bool.Decides.{nat_tests}
 use Rattle.std.proofs.lemmas.List.{length-append}
@@ -100,14 +100,5 @@ types_tie : (a b : List ℕ)
 types_tie a b = sym (nat_cmp_is _ _ Equal (key_type_is a ∙ sym (key_type_is b)))
 
 pub byte_keys : (a b : List ℕ) → IsShortFirst a b → IsBefore (written (byte_string a)) (written (byte_string b))
-byte_keys a b (inl less) =
-    let shorter : length (written (byte_string a)) < length (written (byte_string b)) =
-    omega (arith, less, encoded_long a, encoded_long b, behind_rises (length a) (length b) (omega (arith, less))) in
-    rw (types_tie a b, sym (nat_cmp_is _ _ Less shorter)) refl
-byte_keys a b (inr tie) =
-    let same : length (written (byte_string a)) ≡ length (written (byte_string b)) =
-    encoded_long a ∙ ap (λ (n : ℕ). 1 + behind n + n) tie.0 ∙ sym (encoded_long b) in
-    rw (types_tie a b, sym (nat_cmp_is _ _ Equal same))
-    (ap (λ (n : ℕ). slice_cmp nat_cmp (shortest_head 2 (length a) ++ a) (shortest_head 2 n ++ b)) (sym tie.0)
-    ∙ behind_common (shortest_head 2 (length a)) a b
-    ∙ tie.1)
+byte_keys a b (inl less) = search (rules, encoded_long, behind_rises, types_tie)
+byte_keys a b (inr tie) = search (rules, encoded_long, types_tie, behind_common)

@@ -84,12 +84,15 @@ module _ {V : Type 0} where
   put_by-placed : (m : ByteMap V) (e : List ℕ × V) (fs : List (List ℕ × V)) → AllByRecursion
       (λ (f : List ℕ × V). e.0 ≢ f.0) fs → put_each m (put_by size e fs) ≡ put_each (fin.insert m e.0 e.1) fs
   put_by-placed m e [] apart = refl
-  put_by-placed m e (f ∷ fs) apart = elim (cases_lt (length f.0) (length e.0)) [
-    | inr le ↦ rw (at_most (length e.0) (length f.0) le) refl
-    | inl lt ↦ rw (above (length e.0) (length f.0) lt)
-        (put_by-placed (fin.insert m f.0 f.1) e fs apart.1
-        ∙ ap (λ (n : ByteMap V). put_each n fs) (sym (inserts_swap m e.0 f.0 e.1 f.1 apart.0)))
-  ]
+  put_by-placed m e (f ∷ fs) apart = grind (
+    arith,
+    cases_lt,
+    at_most,
+    above,
+    inserts_swap,
+    put_by-placed
+        (fin.insert m f.0 f.1) e fs apart.1,
+  )
 
   differ : (k : List ℕ) (es : List (List ℕ × V)) → Below k es → AllByRecursion (λ (f : List ℕ × V). k ≢ f.0) es
   differ k [] h = tt

@@ -33,7 +33,8 @@ module _ {M : Type 0} (kind : Kind M) where
   pushed_all [] front = ap Some (sym (append-nil front))
   pushed_all (i ∷ is) front = one (λ x. pushed_all is (front ++ x ∷ [])) (kind i) where
     one : ((x : M) → collected (pushed kind) is (front ++ x ∷ []) ≡ option_map (λ xs. (front ++ x ∷ []) ++ xs)
-        (each kind is)) → (o : Option M) → option_and_then (λ w. collected (pushed kind) is w) (option_map (λ x. front ++ x ∷ []) o)
+        (each kind is)) → (o : Option M) → option_and_then (λ w. collected (pushed kind) is w) (option_map (λ x.
+        front ++ x ∷ []) o)
         ≡ option_map (λ xs. front ++ xs) (option_and_then (λ x. option_map (λ xs. x ∷ xs) (each kind is)) o)
     one rest None = refl
     one rest (Some x) = rest x ∙ sym (each_more front x (each kind is))
@@ -61,7 +62,8 @@ module _ {M : Type 0} (kind : Kind M) where
       → collected (entered kind) ms m ≡ with_members kind m ms
   entered_all [] m = refl
   entered_all (x ∷ ms) m = one (λ n. entered_all ms n) (entry kind x) where
-    one : ((n : ByteMap M) → collected (entered kind) ms n ≡ with_members kind n ms) → (o : Option (List ℕ × M)) → option_and_then (λ w. collected (entered kind) ms w) (option_map (λ e. fin.insert
+    one : ((n : ByteMap M) → collected (entered kind) ms n ≡ with_members kind n ms) → (o : Option (List ℕ × M))
+        → option_and_then (λ w. collected (entered kind) ms w) (option_map (λ e. fin.insert
         m e.0 e.1) o) ≡ option_map (put_each m) (option_and_then (λ e. option_map (λ es. e ∷ es) (each (entry kind)
         ms)) o)
     one rest None = refl
@@ -77,13 +79,16 @@ module _ {M : Type 0} (n : ℕ) (kind : Kind M) where
   full_all : (is : List Item) (front : List M) → length front ≤ n
       → option_and_then (full n) (collected (pushed_below n kind) is front)
       ≡ (if length front + length is == n then option_map (λ xs. front ++ xs) (each kind is) else None)
-  full_all [] front few = rw add-zero (ap (λ (xs : List M). if length front == n then Some xs else None) (sym (append-nil front)))
+  full_all [] front few = rw add-zero (ap (λ (xs : List M). if length front == n then Some xs else None) (sym
+      (append-nil front)))
   full_all (i ∷ is) front few =
       by_room (cases_lt (length front) n)
       (λ x room. full_all is (front ++ x ∷ []) (omega (arith, room, length-append front (x ∷ [])))) where
         one : ((x : M) → option_and_then (full n) (collected (pushed_below n kind) is (front ++ x ∷ []))
-            ≡ (if length (front ++ x ∷ []) + length is == n then option_map (λ xs. (front ++ x ∷ []) ++ xs) (each kind is)
-            else None)) → (o : Option M) → option_and_then (full n) (option_and_then (λ w. collected (pushed_below n kind)
+            ≡ (if length (front ++ x ∷ []) + length is == n then option_map (λ xs. (front ++ x ∷ []) ++ xs)
+            (each kind is)
+            else None)) → (o : Option M) → option_and_then (full n) (option_and_then (λ w. collected
+            (pushed_below n kind)
             is w) (option_map (λ x. front ++ x ∷ []) o)) ≡ (if length front + suc (length is) == n then option_map
             (λ xs. front ++ xs) (option_and_then (λ x. option_map (λ xs. x ∷ xs) (each kind is)) o) else None)
         one rest None = sym (none_either (length front + suc (length is) == n) None refl)
@@ -96,12 +101,15 @@ module _ {M : Type 0} (n : ℕ) (kind : Kind M) where
 
         by_room : (length front < n) ⊎ (n ≤ length front) → ((x : M) → length front < n
             → option_and_then (full n) (collected (pushed_below n kind) is (front ++ x ∷ []))
-            ≡ (if length (front ++ x ∷ []) + length is == n then option_map (λ xs. (front ++ x ∷ []) ++ xs) (each kind is)
+            ≡ (if length (front ++ x ∷ []) + length is == n then option_map (λ xs. (front ++ x ∷ []) ++ xs)
+            (each kind is)
             else None)) → option_and_then (full n) (collected (pushed_below n kind) (i ∷ is) front)
-            ≡ (if length front + suc (length is) == n then option_map (λ xs. front ++ xs) (each kind (i ∷ is)) else None)
+            ≡ (if length front + suc (length is) == n then option_map (λ xs. front ++ xs) (each kind (i ∷ is))
+            else None)
         by_room (inl room) rest = rw (lt-ltb (length front) n room) (one (λ x. rest x room) (kind i))
         by_room (inr past) rest = grind (arith, le-ltb, ne_eqb)
 
   pub full_each : (is : List Item)
-      → option_and_then (full n) (collected (pushed_below n kind) is []) ≡ (if length is == n then each kind is else None)
+      → option_and_then (full n) (collected (pushed_below n kind) is []) ≡ (if length is == n then each kind is
+      else None)
   full_each is = grind (arith, full_all, option_same)

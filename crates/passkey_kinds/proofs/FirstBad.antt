@@ -1,8 +1,8 @@
 -- The faults that members can have.
 use Rattle.std.specs.Option.{option_or}
-use Rattle.std.proofs.Common.{◌≡◌, ℕ, Bool, true, false, if◌then◌else◌, [], ◌∷◌, ◌++◌, Option, Some, None, is_some, subst}
+use Rattle.std.proofs.Common.{arith, ◌≡◌, ℕ, Bool, true, false, if◌then◌else◌, [], ◌∷◌, ◌++◌, Option, Some, None, subst}
 use Rattle.passkey_cbor.specs.Item.{Item}
-use Rattle.passkey_kinds.specs.Table.{Table, Naming, row, unknown, wrong, named, Members, found, accepts_at, bad_by, first_bad}
+use Rattle.passkey_kinds.specs.Table.{Table, Naming, row, unknown, wrong, named, Members, bad_by, first_bad}
 use Rattle.passkey_kinds.specs.declared.fault.Fault.{Fault}
 use Rattle.passkey_kinds.specs.declared.fault.Fault.TheVariants as fault
 
@@ -22,8 +22,7 @@ row_fault false false n f e = (let same : fault.Refused n ≡ f = cc in subst Is
 
 member_fault : (table : Table) (earlier : Members) (naming : Naming) (value : Item) (f : Fault)
     → bad_by table earlier naming value ≡ Some f → IsOfMember f
-member_fault table earlier (row n) value f e =
-    row_fault (is_some (found table earlier n)) (accepts_at table.rows n value) n f e
+member_fault table earlier (row n) value f e = grind (arith, row_fault)
 member_fault table earlier unknown value f e = absurd cc
 member_fault table earlier wrong value f e = (let same : fault.BadKey ≡ f = cc in subst IsOfMember same tt)
 

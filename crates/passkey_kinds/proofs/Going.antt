@@ -1,5 +1,5 @@
 -- How a cursor moves, and what it spends.
-use Rattle.std.proofs.Common.{◌≡◌, ℕ, ◌+◌, ◌-◌, ◌≤◌, ◌<◌, arith, List, [], ◌++◌, length, take, Option, Some, None, IfSome, subst}
+use Rattle.std.proofs.Common.{rules, ◌≡◌, ℕ, ◌+◌, ◌-◌, ◌≤◌, ◌<◌, arith, List, [], ◌++◌, length, take, Option, Some, None, IfSome, subst}
 use Rattle.std.proofs.lemmas.List.{length-append, length-take}
 use Rattle.std.proofs.Math.Nat.{mul-le-mul_left}
 use Rattle.passkey_cbor.specs.Item.{Item}
@@ -23,8 +23,7 @@ use Rattle.passkey_kinds.specs.Reader.{Onward, Further, Spends}
 -- ---- moving on
 
 pub onward_of : (a b : Walk) → Went a b → Onward a b
-onward_of a b w =
-    record { same = w.same; within = λ h. w.within; forward = w.forward; heads = w.heads; nodes = w.nodes }
+onward_of a b w = grind arith
 
 pub onward_then : (a b c : Walk) → Onward a b → Onward b c → Onward a c
 onward_then a b c p q = grind arith
@@ -79,11 +78,7 @@ if_some (Some x) h = h
 pub head_spends : (a b : Walk) (found : Option Head) (x : Item) (to : ℕ) → FindsHead a b found → Opens x to b found
     → IsEncodedAt x a.bytes a.place to → Spends 1 0 to a b
 head_spends a b None x to p o l = absurd o
-head_spends a b (Some h) x to p o l = record {
-  within = o.forward;
-  heads = omega (arith, p.heads, stands_long x a.bytes a.place to l);
-  nodes = omega (arith, p.nodes);
-}
+head_spends a b (Some h) x to p o l = search (rules, stands_long)
 
 dearer : (c e kept more to : ℕ) (a b : Walk) → a.place ≤ to → Spends c kept to a b
     → Spends (c + e) (kept + more) to a b

@@ -16,7 +16,7 @@ use Rattle.passkey_cbor.proofs.EncodedFrom.{lies_size}
 use Rattle.passkey_kinds.specs.HeadValues.{unsigned_in, integer_in, null_in, head_unsigned, head_integer, head_truth, head_null, head_array, head_map, ReadsFlat, OpensArray, OpensMap}
 use Rattle.passkey_kinds.specs.Kind.{truth}
 use Rattle.passkey_webauthn.specs.NumberText.{signed_64}
-use Rattle.passkey_kinds.proofs.Going.{head_spends}
+use Rattle.passkey_kinds.proofs.Going.{onward_of, head_further, head_spends, if_some}
 
 -- ---- the item of a simple value
 
@@ -227,3 +227,5 @@ not_null_in _ other = refl
 pub null_missed : (a : Walk) (i : Item) (to : ℕ) → IsEncodedAt i a.bytes a.place to → (i ≡ item.null → ⊥)
     → ReadsFlat (some_null (null_in i)) to a a None
 null_missed a i to l other = grind (arith, not_null_in, none_some)
+
+pub ruleset heads = (onward_of, head_further, if_some, array_opened, map_opened)

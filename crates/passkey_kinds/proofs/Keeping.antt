@@ -39,8 +39,13 @@ module _ {P : Type 0} (n : ℕ) (Inv : P → Type 0) where
   members_keep : (t : Fields P) (ps : Pairs) (r : P) → Keeps n Inv t.rows → pairs_depth ps < n → Inv r
       → Inv (with_members t (members ps) r)
   members_keep t no_pairs r all less h = h
-  members_keep t (pair k v ps) r all less h = members_keep t ps (put_named t.rows (named (table_of t) k) v r) all
-      (omega (arith, less)) (named_keeps t.rows (named (table_of t) k) v r all (omega (arith, less)) h)
+  members_keep t (pair k v ps) r all less h = grind (
+    arith,
+    named_keeps,
+    members_keep t ps (put_named t.rows
+        (named (table_of t) k) v r) all (omega (arith, less)) (named_keeps t.rows (named (table_of t) k) v r all
+        (omega (arith, less)) h),
+  )
 
 -- ---- a decoded record was put together from its members
 

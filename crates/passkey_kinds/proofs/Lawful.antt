@@ -43,7 +43,10 @@ module _ {P : Type 0} {normal : P → P} (n : ℕ) (t : PlainTable P) where
       → IsLawfulAs normal n t
   lawful up keys complete each backs = record {
     back =
-        record { back = λ r fits. kind_back (fields_of t) (places_of t.members r) (normal r) (keys r) (complete r) (backs r fits) };
+        record {
+          back = λ r fits. kind_back (fields_of t) (places_of t.members r) (normal r) (keys r) (complete
+              r) (backs r fits);
+        };
     plain = λ k r. record_plain (raised n k) (places_of t.members r) (up r) (each k r);
     levels = λ r.
         omega (arith, raised_zero n, (record_plain (raised n 0) (places_of t.members r) (up r) (each 0 r)).levels);

@@ -2,7 +2,7 @@
 use Rattle.std.specs.List.{All, filter_map}
 use Rattle.std.specs.Option.{option_and_then}
 use Rattle.std.specs.Prelude.{ℤ}
-use Rattle.std.proofs.Common.{◌≡◌, ◌∙◌, sym, ◌<◌, ◌^◌, lt-ltb, List, [], ◌∷◌, map, Option, Some, None, option_map, unwrap_or, refl, ap}
+use Rattle.std.proofs.Common.{arith, ◌≡◌, ◌∙◌, ◌<◌, ◌^◌, lt-ltb, List, [], ◌∷◌, map, Option, Some, None, option_map, unwrap_or, refl, ap}
 use Rattle.std.proofs.lemmas.List.Elements.{All-head, All-tail}
 use Rattle.passkey_cbor.specs.Item.{Item, byte_string, text_string, boolean, null}
 use Rattle.passkey_cbor.specs.View.{item_of}
@@ -103,8 +103,7 @@ module _ {A M : Type 0} {kind : Kind M} {tree : A → Item} {Fits : A → Type 0
 pub seen_list_back : {A M : Type 0} {kind : Kind M} {tree : A → Item} {Fits : A → Type 0} {view : A → M}
     {normal : A → A} → IsReadBack kind tree Fits (λ x. view (normal x))
     → IsReadBack (list kind) (list_tree tree) (All Fits) (λ xs. map view (map normal xs))
-seen_list_back {view = view} {normal = normal} r =
-    record { back = λ xs h. (list_back r).back xs h ∙ ap Some (sym (map-map view normal xs)) }
+seen_list_back {view = view} {normal = normal} r = grind (arith, list_back, map-map)
 
 -- null or the value
 pub or_null_back : {A M : Type 0} {kind : Kind M} {tree : A → Item} {Fits : A → Type 0} {normal : A → M}

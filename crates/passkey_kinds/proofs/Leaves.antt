@@ -30,8 +30,7 @@ on_ok (Err e) h = tt
 pub flat_found : {A M X : Type 0} (view : A → M) (wanted : Option M) (takes : Type 0) (said : Option X) (x : X)
     (to : ℕ) (a b : Walk) (result : Result A Refusal) → ReadsFlat said to a b (Some x)
     → AnswersAs view wanted takes result → Decodes view wanted takes 1 0 to a b result
-flat_found view wanted takes said x to a b result r h =
-    record { answers = h; spends = r.spends; ends = on_ok result (r.ends x refl) }
+flat_found view wanted takes said x to a b result r h = grind (arith, on_ok)
 
 -- the item's head doesn't say this
 pub flat_missed : {A M X : Type 0} (view : A → M) (wanted : Option M) (takes : Type 0) (said : Option X) (to : ℕ)

@@ -31,18 +31,21 @@ tells law view read bytes x len front (Err e) some h = holds_at law bytes x len 
 may_tell : {A M : Type 0} (view : A → M) (read : Item → Result M Fault) → KnowsItems read
     → (bytes : List ℕ) (x : Item) (len : ℕ) → IsLeadingItem bytes x len → (r : Result (A × ℕ) Fault)
     → r ≢ Err fault.OutOfMemory → Tells view (read x) len r → ReadsMessage view read bytes r
-may_tell view read knows bytes x len front (Ok r) some told =
-    record { item = x; len = len; front = front; holds = (sym told.0, told.1) }
+may_tell view read knows bytes x len front (Ok r) some told = grind arith
 may_tell view read knows bytes x len front (Err fault.DecodeFailed) some told = absurd ((knows x).0 told)
 may_tell view read knows bytes x len front (Err fault.OutOfMemory) some told = absurd (some refl)
-may_tell view read knows bytes x len front (Err _) some told = record { item = x; len = len; front = front; holds = told }
+may_tell view read knows bytes x len front (Err _) some told = record {
+  item = x;
+  len = len;
+  front = front;
+  holds = told;
+}
 
 -- ---- two results of decoding that are the same but for the length
 
 same_told : {A M : Type 0} (view : A → M) (one other : Result M Fault) → one ≡ other → (n m : ℕ)
     (r s : Result (A × ℕ) Fault) → Tells view one n r → Tells view other m s → SameButForLength view m r s
-same_told view one other same n m (Ok r) (Ok s) t u =
-    (let values : view r.0 ≡ view s.0 = cc (t.1, u.1) in (values, u.0))
+same_told view one other same n m (Ok r) (Ok s) t u = grind arith
 same_told view one other same n m (Ok r) (Err f) t u = absurd (cc t.1)
 same_told view one other same n m (Err e) (Ok s) t u = absurd (cc u.1)
 same_told view one other same n m (Err e) (Err f) t u = cc
@@ -57,7 +60,13 @@ told_same view one other same n m (Err e) (Err f) t u = sym same ∙ t ∙ ap Er
 carries_over : {A M : Type 0} → AtMostOneLeadingItem → (view : A → M) (read : Item → Result M Fault)
     → KnowsItems read → (x y : Item) → read x ≡ read y → (bytes others : List ℕ) (n m : ℕ) → IsLeadingItem bytes x n
     → IsLeadingItem others y m → AnswersCarryOver view read bytes others m
-carries_over law view read knows x y same bytes others n m front other r s some some_too h = grind (arith, tells, same_told, may_tell, told_same)
+carries_over law view read knows x y same bytes others n m front other r s some some_too h = grind (
+  arith,
+  tells,
+  same_told,
+  may_tell,
+  told_same,
+)
 
 pub alike : {A M : Type 0} → AtMostOneLeadingItem → (view : A → M) (read : Item → Result M Fault) → KnowsItems read
     → AlikeDifferInLength view read

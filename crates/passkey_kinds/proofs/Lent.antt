@@ -1,6 +1,6 @@
 -- Strings that are lent at a cursor: the cost of decoding them and of looking at their chunks
 -- again.
-use Rattle.std.proofs.Common.{◌≡◌, ◌∙◌, ℕ, ◌+◌, ◌≤◌, ◌<◌, arith, Bool, true, false, cond, List, [], ◌∷◌, ◌++◌, length, Option, Some, None, Result, Err, refl, sym, ap, subst}
+use Rattle.std.proofs.Common.{rules, ◌≡◌, ℕ, ◌+◌, ◌≤◌, ◌<◌, arith, Bool, true, false, cond, List, [], ◌∷◌, ◌++◌, length, Option, Some, None, Result, Err, refl, sym, ap, subst}
 use Rattle.std.proofs.lemmas.List.{length-append, length-take}
 use Rattle.passkey_cbor.specs.Item.{Item, byte_string, text_string}
 use Rattle.passkey_cbor.specs.Grows.{Grows}
@@ -115,24 +115,12 @@ region_less is_text a b r p =
 pub lent_spends : (is_text : Bool) (a b d : Walk) (r : Region) (i : Item) (to : ℕ)
     → IsEncodedAt i a.bytes a.place to → PassesString is_text a b r → LendsFrom is_text i to a b (Some r)
     → LooksAtMost r b d → Spends 2 0 to a d × (d.place ≡ to)
-lent_spends is_text a b d r i to l p f looks =
-    let there = f.1.1 in (
-      record {
-        within = omega (arith, looks.place, there.place);
-        heads = omega (arith, looks.heads, there.heads, region_less is_text a b r p, there.place);
-        nodes = omega (arith, looks.nodes, there.nodes);
-      },
-      looks.place ∙ there.place,
-    )
+lent_spends is_text a b d r i to l p f looks = search (rules, region_less)
 
 -- no string of this type is encoded there, and one head was decoded
 pub not_lent_spends : (is_text : Bool) (a b : Walk) (i : Item) (to : ℕ) → IsEncodedAt i a.bytes a.place to
     → LendsFrom is_text i to a b None → Spends 1 0 to a b
-not_lent_spends is_text a b i to l f = record {
-  within = omega (arith, f.1.place, stands_long i a.bytes a.place to l);
-  heads = omega (arith, f.1.heads, stands_long i a.bytes a.place to l);
-  nodes = omega (arith, f.1.nodes);
-}
+not_lent_spends is_text a b i to l f = search (rules, stands_long)
 
 -- The result for a string that is lent, and then looked at again at most once.
 pub lent_decodes : {A M : Type 0} (view : A → M) (wanted : Option M) (takes : Type 0) (is_text : Bool)

@@ -26,8 +26,7 @@ each_within a b n p = (omega (arith, p), omega (arith, p))
 member_within : (n : ℕ) (key : Item) (o : Option Item) (ms : Members) → PlaceWithin n key o
     → pairs_depth (pairs_of ms) ≤ n → pairs_depth (pairs_of (under key o ++ ms)) ≤ n
 member_within n key None ms here rest = rest
-member_within n key (Some x) ms here rest = both_within (max (depth key) (depth x)) (pairs_depth (pairs_of ms)) n
-    (both_within (depth key) (depth x) n here.0 here.1) rest
+member_within n key (Some x) ms here rest = grind (arith, both_within)
 
 spread_within : (n : ℕ) (ps : List Place) → Within n ps → pairs_depth (pairs_of (spread ps)) ≤ n
 spread_within n [] h = omega arith
@@ -61,8 +60,7 @@ of_record n ps h = of_spread n ps (omega (arith, record_levels ps, h))
 items_within : {A : Type 0} (tree : A → Item) (n : ℕ) → ((x : A) → depth (tree x) ≤ n) → (xs : List A)
     → items_depth (items_of (map tree xs)) ≤ n
 items_within tree n each [] = omega arith
-items_within tree n each (x ∷ xs) =
-    both_within (depth (tree x)) (items_depth (items_of (map tree xs))) n (each x) (items_within tree n each xs)
+items_within tree n each (x ∷ xs) = grind (arith, both_within, items_within tree n each xs)
 
 -- a list has one level more than its elements
 pub list_within : {A : Type 0} (tree : A → Item) (n : ℕ) → ((x : A) → depth (tree x) ≤ n) → (xs : List A)

@@ -37,8 +37,7 @@ break_one None = omega arith
 
 pub one_looked : (before after : Option ℕ) (a b : Walk) (found : Bool) → Looks before after a b found
     → b.heads ≤ a.heads + 1
-one_looked before after a b found l =
-    omega (arith, l.heads, raised-le a.heads (break_heads before), break_one before)
+one_looked before after a b found l = grind (arith, raised-le, break_one)
 
 -- one head to look for the next element, and the element's heads
 heads_more : (k from start place a b d middle : ℕ) → a + suc k * from ≤ start + suc k * place → b ≤ a + 1

@@ -2,7 +2,7 @@
 use Rattle.std.specs.FinMap as fin
 use Rattle.std.specs.List.{All}
 use Rattle.std.proofs.lemmas.List.Elements.{All-from_recursion, recursion_from_All}
-use Rattle.std.proofs.Common.{◌≡◌, ◌∙◌, ℕ, List, length, map, Some, option_map, refl, sym, ap}
+use Rattle.std.proofs.Common.{arith, ◌≡◌, ◌∙◌, ℕ, List, length, map, Some, option_map, refl, ap}
 use Rattle.passkey_bytes.specs.Map.{put_each}
 use Rattle.passkey_bytes.proofs.Placed.{put_each-seen}
 use Rattle.passkey_cbor.specs.Item.{Item}
@@ -44,5 +44,4 @@ module _ {A M : Type 0} {kind : Kind M} {tree : A → Item} {Fits : A → Type 0
 pub seen_map_back : {A M : Type 0} {kind : Kind M} {tree : A → Item} {Fits : A → Type 0} (view : A → M)
     (normal : A → A) → IsReadBack kind tree Fits (λ x. view (normal x)) → IsReadBack (map_from_bytes kind)
     (byte_map_tree tree) (λ m. All (λ e. Fits e.1) (fin.entries m)) (λ m. map_values view (map_values normal m))
-seen_map_back view normal r =
-    record { back = λ m h. (map_back r).back m h ∙ ap Some (sym (map_values-map_values view normal m)) }
+seen_map_back view normal r = grind (arith, map_back, map_values-map_values)

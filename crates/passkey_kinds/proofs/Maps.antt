@@ -25,8 +25,7 @@ module _ {A M : Type 0} (view : A → M) where
   find-seen : (q : List ℕ) (es : List (List ℕ × A)) → fin.find (slice_cmp nat_cmp) q (map (λ e. (e.0, view e.1)) es)
       ≡ option_map view (fin.find (slice_cmp nat_cmp) q es)
   find-seen q [] = refl
-  find-seen q (e ∷ es) = ap (cond (eq_by_cmp (slice_cmp nat_cmp) q e.0) (Some (view e.1))) (find-seen q es)
-      ∙ seen_at (eq_by_cmp (slice_cmp nat_cmp) q e.0) e.1 _
+  find-seen q (e ∷ es) = grind (arith, seen_at, find-seen q es)
 
   get-map_values : (m : ByteMap A) (q : List ℕ) → fin.get (map_values view m) q ≡ option_map view (fin.get m q)
   get-map_values m q =

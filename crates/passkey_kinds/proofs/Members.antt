@@ -93,12 +93,10 @@ row_small b _ n es small e = cc
 module _ (table : Table) (earlier : Members) (key value : Item) (marks : List Bool)
     (marked : Marks table earlier marks) where
   pub marked_as : (n : ℕ) (d b : Bool) → n < 32 → get_or marks n d ≡ b → is_some (found table earlier n) ≡ b
-  marked_as n d b small e =
-      sym (get_or_from_slice_get marks n (is_some (found table earlier n)) d (marked n small)) ∙ e
+  marked_as n d b small e = grind (arith, get_or_from_slice_get)
 
   pub stays : named table key ≡ unknown → Marks table (earlier ++ (key, value) ∷ []) marks
-  stays naming n small = marked n small
-      ∙ ap (λ (o : Option Item). Some (is_some o)) (sym (found_pushed table earlier key value naming n))
+  stays naming n small = grind (arith, found_pushed)
 
   pub marks_one : (n : ℕ) → named table key ≡ row n → is_some (found table earlier n) ≡ false → n < 32
       → length marks ≡ 32 → Marks table (earlier ++ (key, value) ∷ []) (set marks n true)

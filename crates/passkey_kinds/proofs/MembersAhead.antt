@@ -25,8 +25,7 @@ either_le false x y n p q = q
 
 cost_at_le : {P : Type 0} (rows : List (Member P)) (n : ℕ) → cost_at rows n ≤ greatest_cost rows
 cost_at_le [] n = omega arith
-cost_at_le (m ∷ ms) n =
-    either_le (m.entry.number == n) m.kind.cost (cost_at ms n) _ (omega arith) (omega (arith, cost_at_le ms n))
+cost_at_le (m ∷ ms) n = grind (arith, either_le, cost_at_le ms n)
 
 pub at_least : {P : Type 0} (rows : List (Member P)) → 4 ≤ greatest_cost rows
 at_least [] = omega arith

@@ -1,5 +1,5 @@
 -- Messages whose encodings have few levels can be decoded again.
-use Rattle.std.proofs.Common.{arith, ◌≡◌, nat_le, leb-true, Bool, true, ◌&&◌, Result, Ok}
+use Rattle.std.proofs.Common.{arith, ◌≡◌, nat_le, Bool, true, ◌&&◌, Result, Ok}
 use Rattle.passkey_cbor.specs.Depth.{depth}
 use Rattle.passkey_cbor.specs.Item.{Item}
 use Rattle.passkey_cbor.specs.Laws.{WrittenIsLeadingItem}
@@ -11,8 +11,7 @@ module _ {P : Type 0} (read : Item → Result P Fault) (tree : P → Item) (Fits
   -- a message that can be decoded again if it has few levels
   pub back_if_few : WrittenIsLeadingItem → ((r : P) → Fits r → read (tree r) ≡ Ok (normal r))
       → WrittenIsReadBack read tree Fits (λ r. nat_le (depth (tree r)) max_depth) normal
-  back_if_few law back r rest fits writable coherent =
-      (law (tree r) rest writable (leb-true (depth (tree r)) max_depth coherent), back r fits)
+  back_if_few law back r rest fits writable coherent = grind arith
 
   -- the same if it is also good otherwise
   pub back_if_good : (is_good : P → Bool) → WrittenIsLeadingItem

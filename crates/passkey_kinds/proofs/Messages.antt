@@ -34,8 +34,7 @@ pub message_fails : {A M : Type 0} (view : A → M) (table : Table) (read : Item
     (i : Item) (len : ℕ) (e : Fault) → IsLeadingItem bytes i len → Reads view (MayGrowAt table i) (read i) (Err e)
     → ReadsMessage view read bytes (Err e)
 message_fails view table read bytes i len fault.DecodeFailed f h = absurd h
-message_fails view table read bytes i len fault.OutOfMemory f h =
-    record { item = i; len = len; front = f; grows = may_grow table i h }
+message_fails view table read bytes i len fault.OutOfMemory f h = grind (arith, may_grow)
 message_fails view table read bytes i len _ f h = record { item = i; len = len; front = f; holds = h }
 
 -- ---- at a cursor

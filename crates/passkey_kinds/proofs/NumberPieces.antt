@@ -84,6 +84,5 @@ module _ (i : Item) (to : ℕ) (a b : Walk) (other : (s : List ℕ) → i ≡ it
       Decodes (λ x. x) (algorithm i) (MayGrow false i) 1 0 to a b result
   number_decodes (Some z) result r h = grind (arith, flat_found, answers_from, number_is)
   number_decodes None (Ok x) r h = absurd cc
-  number_decodes None (Err Refused) r h =
-      flat_missed (λ x. x) (algorithm i) (MayGrow false i) _ to a b r (number_is None r.is)
+  number_decodes None (Err Refused) r h = grind (arith, flat_missed, number_is)
   number_decodes None (Err OutOfMemory) r h = absurd h

@@ -37,8 +37,7 @@ module _ (table : Table) where
   pub first_is : (ms earlier rest others : Members) (m : Item × Item) (f : Fault) → rest ≡ m ∷ others
       → first_bad table [] ms ≡ first_bad table earlier rest → bad_member table earlier m ≡ Some f
       → first_bad table [] ms ≡ Some f
-  first_is ms earlier rest others m f next good bad =
-      good ∙ ap (first_bad table earlier) next ∙ bad_here (bad_member table earlier m) f _ bad
+  first_is ms earlier rest others m f next good bad = grind (arith, bad_here)
 
   pub still_good : (ms earlier rest others : Members) (m : Item × Item) → rest ≡ m ∷ others
       → first_bad table [] ms ≡ first_bad table earlier rest → bad_member table earlier m ≡ None

@@ -13,7 +13,8 @@ use Rattle.passkey_kinds.specs.declared.fault.Fault.{Fault}
 use Rattle.passkey_kinds.specs.declared.fault.Fault.TheVariants as fault
 use Rattle.passkey_kinds.specs.declared.refusal.Refusal.{Refusal}
 use Rattle.passkey_kinds.specs.declared.refusal.Refusal.TheVariants as refusal
-use Rattle.passkey_kinds.proofs.Pairs.{grows_behind, none_marked, first_is, still_good, missing_is}
+use Rattle.passkey_kinds.proofs.Members.{key_names, was_repeated, was_refused, was_good, was_unknown, marked_as, stays, marks_one, row_small}
+use Rattle.passkey_kinds.proofs.Pairs.{member_at, grows_behind, none_marked, first_is, still_good, missing_is}
 
 module _ {P : Type 0} (t : Fields P) where
   pub put_last : (ms : Members) (m : Item × Item) (r : P)
@@ -68,8 +69,7 @@ module _ {P : Type 0} (t : Fields P) where
 
     pub fails : (later : List Bool) (f : Fault) → Steps (table_of t) h.earlier m later (Err f)
         → Reads view (MayGrowIn (table_of t) ms) (read_members t ms) (Err f)
-    fails later fault.OutOfMemory s = subst (MayGrowIn (table_of t))
-        (sym (h.whole ∙ ap (λ (r : Members). h.earlier ++ r) at)) (grows_behind (table_of t) h.earlier m others s)
+    fails later fault.OutOfMemory s = grind (arith, grows_behind)
     fails later fault.BadKey s = bad_is fault.BadKey s
     fails later (fault.Repeated n) s = bad_is (fault.Repeated n) s
     fails later (fault.Refused n) s = bad_is (fault.Refused n) s
@@ -133,3 +133,20 @@ sets_put {M = M} t view kind set n k i field old new result same accepts puts ma
           (accepts ∙ ap (λ (o : Option M). is_some o) h, puts ∙ ap (λ (o : Option M). set_with set o old) h ∙ made)
       there (Err refusal.Refused) h = accepts ∙ ap (λ (o : Option M). is_some o) h
       there (Err refusal.OutOfMemory) h = subst (λ (b : Bool). MayGrow b i) (sym may) h
+
+-- ---- what the prover needs for one more member, and for the members of a map
+
+pub ruleset reads_one = (
+  was_refused,
+  was_good,
+  was_unknown,
+  marked_as,
+  stays,
+  marks_one,
+  row_small,
+  passes,
+  puts,
+  puts_refused,
+)
+
+pub ruleset reads_pairs = (key_names, member_at, has_begun, key_fails)

@@ -1,6 +1,6 @@
 -- Laws of records, by what their rows decode and put.
 use Rattle.std.specs.List.{cons_option}
-use Rattle.std.proofs.Common.{arith, ◌≡◌, ◌≢◌, ◌∙◌, ℕ, Bool, false, List, [], ◌∷◌, ◌++◌, Option, Some, None, is_none, Err, refl, sym, ap, subst}
+use Rattle.std.proofs.Common.{rules, arith, ◌≡◌, ◌≢◌, ◌∙◌, ℕ, Bool, false, List, [], ◌∷◌, ◌++◌, Option, Some, None, is_none, Err, refl, sym, ap}
 use Rattle.passkey_cbor.specs.Item as item
 use Rattle.passkey_cbor.specs.Item.{Item, members}
 use Rattle.passkey_cbor.specs.Laws.{AtMostOneLeadingItem}
@@ -9,7 +9,6 @@ use Rattle.passkey_kinds.specs.MessageLaws.{AlikeDifferInLength}
 use Rattle.passkey_kinds.specs.Record.{Fields, table_of, put_at, put_named, with_members, unless_missing, judged, read_members, read_item}
 use Rattle.passkey_kinds.specs.RecordLaws.{known_member, known, HasNoWrongKey, SameAnswers, PassesOverUnknown, KnowsItems, KnowsMaps}
 use Rattle.passkey_kinds.specs.Table.{Naming, row, unknown, named, Members, first_bad, first_missing}
-use Rattle.passkey_kinds.specs.Tree.{map_tree}
 use Rattle.passkey_kinds.specs.declared.fault.Fault.{Fault}
 use Rattle.passkey_kinds.specs.declared.fault.Fault.TheVariants as fault
 use Rattle.passkey_kinds.proofs.FirstBad.{IsOfMember, first_bad_fault}
@@ -30,19 +29,23 @@ module _ {P : Type 0} (t : Fields P) where
 
   made_without : (before behind : Members) (key value : Item) (r : P) → named (table_of t) key ≡ unknown
       → with_members t (before ++ (key, value) ∷ behind) r ≡ with_members t (before ++ behind) r
-  made_without [] behind key value r naming =
-      ap (λ (n : Naming). with_members t behind (put_named t.rows n value r)) naming
-  made_without (m ∷ before) behind key value r naming =
-      made_without before behind key value (put_named t.rows (named (table_of t) m.0) m.1 r) naming
+  made_without [] behind key value r naming = grind arith
+  made_without (m ∷ before) behind key value r naming = grind (
+    arith,
+    made_without before behind key value
+        (put_named t.rows (named (table_of t) m.0) m.1 r) naming,
+  )
 
   pub unknown_is_skipped : (before behind : Members) (key value : Item) → named (table_of t) key ≡ unknown
       → read_members t (before ++ (key, value) ∷ behind) ≡ read_members t (before ++ behind)
-  unknown_is_skipped before behind key value naming =
-      judged_alike (before ++ (key, value) ∷ behind) (before ++ behind)
-      (first_bad_without (table_of t) [] before behind key value naming)
-      (missing_alike (table_of t) (before ++ (key, value) ∷ behind) (before ++ behind)
-      (λ k. ap is_none (found_without (table_of t) before behind key value naming k)))
-      (made_without before behind key value t.blank naming)
+  unknown_is_skipped before behind key value naming = search (
+    rules,
+    judged_alike,
+    first_bad_without,
+    missing_alike,
+    found_without,
+    made_without,
+  )
 
   -- ---- members that are decoded alike
 
@@ -57,8 +60,7 @@ module _ {P : Type 0} (t : Fields P) where
 
   made_known : (ms : Members) (r : P) → with_members t ms r ≡ put_known (known (table_of t) ms) r
   made_known [] r = refl
-  made_known (m ∷ ms) r = made_known ms (put_named t.rows (named (table_of t) m.0) m.1 r)
-      ∙ made_by (named (table_of t) m.0) m.1 (known (table_of t) ms) r
+  made_known (m ∷ ms) r = grind (arith, made_by, made_known ms (put_named t.rows (named (table_of t) m.0) m.1 r))
 
   same_made : (xs ys : List (ℕ × Item)) → SameAnswers t xs ys → (r : P) → put_known xs r ≡ put_known ys r
   same_made [] [] h r = refl
@@ -88,15 +90,12 @@ module _ {P : Type 0} (t : Fields P) where
 
   told_of_map : (ms : Members) (e : Fault) → (IsOfMember e → ⊥) → ((n : ℕ) → fault.Missing n ≢ e)
       → (bad : Option Fault) → first_bad (table_of t) [] ms ≡ bad → judged t ms bad ≢ Err e
-  told_of_map ms e member missing (Some f) first h =
-      (let same : f ≡ e = cc in member (subst IsOfMember same (first_bad_fault (table_of t) [] ms f first)))
-  told_of_map ms e member missing None first h =
-      missing_or (first_missing (table_of t) ms) (with_members t ms t.blank) e missing h
+  told_of_map ms e member missing (Some f) first h = grind (arith, first_bad_fault)
+  told_of_map ms e member missing None first h = grind (arith, missing_or)
 
   told : (e : Fault) → (IsOfMember e → ⊥) → ((n : ℕ) → fault.Missing n ≢ e) → fault.NotAMap ≢ e → (i : Item)
       → read_item t i ≢ Err e
-  told e member missing map (item.map ps) h =
-      told_of_map (members ps) e member missing (first_bad (table_of t) [] (members ps)) refl h
+  told e member missing map (item.map ps) h = grind (arith, told_of_map)
   told e member missing map _ h = map cc
 
   pub knows_items : KnowsItems (read_item t)
@@ -114,10 +113,9 @@ pub alike_differ_in_length : {A P : Type 0} → AtMostOneLeadingItem → (view :
 alike_differ_in_length law view t = alike law view (read_item t) (knows_items t)
 
 pub skips_unknown : {A P : Type 0} → AtMostOneLeadingItem → (view : A → P) (t : Fields P) → PassesOverUnknown view t
-skips_unknown law view t before behind key value naming =
-    let without : Members = before ++ behind in
-    let with_it : Members = before ++ (key, value) ∷ behind in
-    alike_differ_in_length law view t (map_tree without) (map_tree with_it)
-    (ap (read_members t) (members-pairs_of without)
-    ∙ sym (unknown_is_skipped t before behind key value naming)
-    ∙ sym (ap (read_members t) (members-pairs_of with_it)))
+skips_unknown law view t before behind key value naming = search (
+  rules,
+  alike_differ_in_length,
+  members-pairs_of,
+  unknown_is_skipped,
+)

@@ -7,8 +7,8 @@ use Rattle.std.proofs.lemmas.Bool.{and_parts, not-true}
 use Rattle.passkey_cbor.specs.Item.{Item}
 use Rattle.passkey_cose.proofs.KeyLists.{members-pairs_of}
 use Rattle.passkey_kinds.specs.ReadBack.{IsReadBack}
-use Rattle.passkey_kinds.specs.Record.{Member, Fields, set_with, rows_of, table_of, put_at, put_named, with_members, read_members, read_item, record_kind}
-use Rattle.passkey_kinds.specs.Table.{Naming, row, named, is_row, Members, found, accepts_at, first_bad}
+use Rattle.passkey_kinds.specs.Record.{Member, Fields, set_with, rows_of, table_of, put_at, with_members, read_members, read_item, record_kind}
+use Rattle.passkey_kinds.specs.Table.{row, named, is_row, Members, found, accepts_at, first_bad}
 use Rattle.passkey_kinds.specs.Tree.{Place, under, record_tree}
 use Rattle.passkey_kinds.proofs.Back.{spread, laid_spread, stands, have_rows, are_distinct, Fit, names_it, neither, none_bad, all_free, found_spread, missing_of, Falls, accepts_it}
 
@@ -55,8 +55,7 @@ module _ {P : Type 0} (t : Fields P) where
       m.entry.number → ((i : Item) (r : P) → put_at t.rows m.entry.number i r ≡ set_with m.set (m.kind.of i) r)
       → with_members t (under key o ++ ms) r ≡ with_members t ms (put_if m o r)
   with_place m key None ms r e put = refl
-  with_place m key (Some i) ms r e put =
-      ap (λ (n : Naming). with_members t ms (put_named t.rows n i r)) e ∙ ap (with_members t ms) (put i r)
+  with_place m key (Some i) ms r e put = grind (arith, put)
 
   with_spread : (fs : List (Member P)) (ps : List Place) (r : P) → Finds t.rows fs
       → have_rows (table_of t) (numbers fs) ps ≡ true → with_members t (spread ps) r ≡ put_places fs ps r
@@ -151,7 +150,21 @@ picked all (n ∷ ns) = member_at all n (picked all ns)
 pub picked_back : {P : Type 0} (t : Fields P) (fs : List (Member P)) (ps : List Place) (x : P) → Finds t.rows fs
     → (have_rows (table_of t) (numbers fs) ps && are_distinct (numbers fs)) ≡ true → missing_of (table_of t)
     (stands (numbers fs) ps) ≡ None → Backs fs ps t.blank x → read_item t (record_tree ps) ≡ Ok x
-picked_back t fs ps x finds keys complete backs = grind (arith, have_rows, are_distinct, members-pairs_of, laid_spread, judged_good, spread, stands, none_bad, fit_rows, all_free, found_spread, with_spread)
+picked_back t fs ps x finds keys complete backs = grind (
+  arith,
+  have_rows,
+  are_distinct,
+  members-pairs_of,
+  laid_spread,
+  judged_good,
+  spread,
+  stands,
+  none_bad,
+  fit_rows,
+  all_free,
+  found_spread,
+  with_spread,
+)
 
 member_found : {P : Type 0} (all ms : List (Member P)) (n : ℕ) (rest : List (Member P)) → Finds all ms
     → Finds all rest → Finds all (member_at ms n rest)

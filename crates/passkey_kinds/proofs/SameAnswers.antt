@@ -1,7 +1,7 @@
 -- Members for the same rows, with values that these rows decode alike.
 use Rattle.std.specs.List.{cons_option}
 use Rattle.std.specs.Option.{option_or}
-use Rattle.std.proofs.Common.{arith, ◌≡◌, ◌≢◌, ◌∙◌, ◌==◌, ℕ, Bool, true, false, ◌||◌, if◌then◌else◌, List, [], ◌∷◌, ◌++◌, Option, Some, None, is_some, is_none, refl, ap}
+use Rattle.std.proofs.Common.{arith, ◌≡◌, ◌≢◌, ◌==◌, ℕ, Bool, true, false, ◌||◌, if◌then◌else◌, List, [], ◌∷◌, ◌++◌, Option, Some, None, is_some, is_none, refl, ap}
 use Rattle.std.proofs.lemmas.List.Elements.{All-head, All-tail}
 use Rattle.passkey_cbor.specs.Item.{Item}
 use Rattle.passkey_kinds.proofs.Unknown.{found_append, found_pushed}
@@ -25,8 +25,7 @@ found_by _ value o xs k rest = rest
 
 pub found_known : (table : Table) (ms : Members) (k : ℕ) → found table ms k ≡ found_in (known table ms) k
 found_known table [] k = refl
-found_known table (m ∷ ms) k =
-    found_by (named table m.0) m.1 (found table ms k) (known table ms) k (found_known table ms k)
+found_known table (m ∷ ms) k = grind (arith, found_by, found_known table ms k)
 
 -- ---- the faults, by the known members alone
 
@@ -57,8 +56,7 @@ first_bad_by : (table : Table) (earlier : Members) (key value : Item) (later : O
     → (naming : Naming) → named table key ≡ naming → naming ≢ wrong → option_or (bad_by table earlier naming value)
     later ≡ bad_in table seen (cons_option (known_member naming value) xs)
 first_bad_by table earlier key value later xs seen same rest (row n) e right = grind (arith, marked_also)
-first_bad_by table earlier key value later xs seen same rest unknown e right =
-    rest seen (λ k. ap is_some (found_pushed table earlier key value e k) ∙ same k)
+first_bad_by table earlier key value later xs seen same rest unknown e right = grind (arith, found_pushed)
 first_bad_by table earlier key value later xs seen same rest wrong e right = absurd (right refl)
 
 pub first_bad_known : (table : Table) (earlier ms : Members) (seen : ℕ → Bool)

@@ -1,12 +1,10 @@
 -- Sorting by numbers: a stable sort returns `sorted_by`.
-use Rattle.std.specs.Cmp.{nat_cmp_is}
 use Rattle.std.specs.List.{AllByRecursion, filter}
 use Rattle.std.specs.Fn.{ComputesKey, Called, Mut}
 use Rattle.std.specs.List.Sorted.{IsNonDecreasingBy, IsSortedByKey, IsStableByKey, ties}
 use Rattle.std.specs.Prelude.{slice_index_or}
 use Rattle.std.specs.Ordering.{nat_cmp, is_lt}
-use Rattle.std.specs.declared.cmp.Ordering.TheVariants.{Less, Equal, Greater}
-use Rattle.std.proofs.Common.{◌≡◌, ◌⊎◌, ℕ, suc, ◌<◌, ◌≤◌, ◌==◌, nat_le, Bool, true, false, cond, List, [], ◌∷◌, length, map, refl, sym, ap, subst, ◌∙◌, arith, inl, inr, Bor}
+use Rattle.std.proofs.Common.{◌≡◌, ◌⊎◌, ℕ, suc, ◌<◌, ◌≤◌, ◌==◌, nat_le, Bool, true, false, cond, List, [], ◌∷◌, length, map, refl, sym, ap, ◌∙◌, arith, inl, inr, Bor}
 use Rattle.std.proofs.lemmas.Fn.{always_returns_same}
 use Rattle.std.proofs.lemmas.List.Sorted.{IsNonDecreasingBy-from_sort_by_key}
 use Rattle.std.proofs.lemmas.Bool.{cases_lt, cases_eq}
@@ -29,14 +27,7 @@ pub above : (n m : ℕ) → m < n → nat_le n m ≡ false
 above n m lt = grind (arith, nat_tests)
 
 tie_of : (n m : ℕ) → ties (λ a b. is_lt (nat_cmp a b)) n m ≡ (m == n)
-tie_of n m = elim (cases_lt n m) [
-  | inl lt ↦ rw (sym (nat_cmp_is n m Less lt), other_number m n (inr lt)) refl
-  | inr le ↦ elim (cases_lt m n) [
-    | inl lt ↦ rw (sym (nat_cmp_is n m Greater lt), sym (nat_cmp_is m n Less lt), other_number m n (inl lt)) refl
-    | inr ge ↦ (let e : n ≡ m = omega (arith, le, ge) in rw
-        (sym (nat_cmp_is n m Equal e), sym (nat_cmp_is m n Equal (sym e)), same_number m n (sym e)) refl)
-  ]
-]
+tie_of n m = grind (arith, cases_lt, other_number, same_number)
 
 module _ {X : Type 0} (number : X → ℕ) where
   -- the elements with this number
@@ -65,17 +56,11 @@ module _ {X : Type 0} (number : X → ℕ) where
 
   of-put_by : (n : ℕ) (x : X) (ys : List X) → of n (put_by number x ys) ≡ kept (number x == n) x (of n ys)
   of-put_by n x [] = of-cons n x []
-  of-put_by n x (y ∷ ys) = elim (cases_lt (number y) (number x)) [
-    | inr le ↦ rw (at_most (number x) (number y) le) (of-cons n x (y ∷ ys))
-    | inl lt ↦ rw (above (number x) (number y) lt)
-        (of-cons n y (put_by number x ys) ∙ ap (kept (number y == n) y) (of-put_by n x ys)
-        ∙ swapped n x y (of n ys) lt ∙ ap (kept (number x == n) x) (sym (of-cons n y ys)))
-  ]
+  of-put_by n x (y ∷ ys) = grind (arith, cases_lt, at_most, of-cons, above, swapped, of-put_by n x ys)
 
   of-sorted_by : (n : ℕ) (xs : List X) → of n (sorted_by number xs) ≡ of n xs
   of-sorted_by n [] = refl
-  of-sorted_by n (x ∷ xs) =
-      of-put_by n x (sorted_by number xs) ∙ ap (kept (number x == n) x) (of-sorted_by n xs) ∙ sym (of-cons n x xs)
+  of-sorted_by n (x ∷ xs) = grind (arith, of-put_by, of-cons, of-sorted_by n xs)
 
   -- ---- ascending numbers
 
@@ -96,9 +81,13 @@ module _ {X : Type 0} (number : X → ℕ) where
 
   none_below : (n low : ℕ) (xs : List X) → n < low → Rising low xs → of n xs ≡ []
   none_below n low [] lt r = refl
-  none_below n low (x ∷ xs) lt r =
-      of-cons n x xs ∙ rw (other_number (number x) n (inr (omega (arith, lt, r.0))))
-      (none_below n (number x) xs (omega (arith, lt, r.0)) r.1)
+  none_below n low (x ∷ xs) lt r = grind (
+    arith,
+    of-cons,
+    other_number,
+    none_below n (number x) xs (omega
+        (arith, lt, r.0)) r.1,
+  )
 
   first_is : (x y : X) (xs ys : List X) → x ∷ xs ≡ y ∷ ys → (x ≡ y) × (xs ≡ ys)
   first_is x y xs ys e = (cc, cc)
@@ -116,15 +105,7 @@ module _ {X : Type 0} (number : X → ℕ) where
   tied : (x y : X) (xs ys : List X) → Rising (number x) xs → Rising (number y) ys
       → ((z : X) → of (number z) (x ∷ xs) ≡ of (number z) (y ∷ ys)) → number x ≡ number y → (Rising (number x) xs
       → Rising (number x) ys → ((z : X) → of (number z) xs ≡ of (number z) ys) → xs ≡ ys) → x ∷ xs ≡ y ∷ ys
-  tied x y xs ys r s same e others_same =
-      let heads = first_is x y (of (number x) xs) (of (number x) ys) (sym (of-first x xs) ∙ same x
-      ∙ ap (λ n. of n (y ∷ ys)) e ∙ of-first y ys ∙ ap (λ n. y ∷ of n ys) (sym e)) in
-      let others : (z : X) → of (number z) xs ≡ of (number z) ys = λ z.
-      same_kept (number x == number z) x (of (number z) xs) (of (number z) ys)
-      (sym (of-cons (number z) x xs) ∙ same z ∙ of-cons (number z) y ys
-      ∙ ap (λ w. kept (number w == number z) w (of (number z) ys)) (sym heads.0)) in
-      let tails = others_same r (subst (λ n. Rising n ys) (sym e) s) others in
-      ap (λ z. z ∷ xs) heads.0 ∙ ap (λ zs. y ∷ zs) tails
+  tied x y xs ys r s same e others_same = grind (arith, first_is, of-first, same_kept, of-cons)
 
   -- ascending lists with the same elements of each number, in the same order, are equal
   rising_same : (low : ℕ) (xs ys : List X) → Rising low xs → Rising low ys
@@ -183,25 +164,18 @@ module _ {X : Type 0} (number : X → ℕ) where
 put_by-map : {X Y : Type 0} (f : X → Y) (number : Y → ℕ) (x : X) (ys : List X)
     → map f (put_by (λ z. number (f z)) x ys) ≡ put_by number (f x) (map f ys)
 put_by-map f number x [] = refl
-put_by-map f number x (y ∷ ys) = elim (cases_lt (number (f y)) (number (f x))) [
-  | inr le ↦ rw (at_most (number (f x)) (number (f y)) le) refl
-  | inl lt ↦ rw (above (number (f x)) (number (f y)) lt) (ap (λ zs. f y ∷ zs) (put_by-map f number x ys))
-]
+put_by-map f number x (y ∷ ys) = grind (arith, cases_lt, at_most, above, put_by-map f number x ys)
 
 pub sorted_by-map : {X Y : Type 0} (f : X → Y) (number : Y → ℕ) (xs : List X)
     → map f (sorted_by (λ z. number (f z)) xs) ≡ sorted_by number (map f xs)
 sorted_by-map f number [] = refl
-sorted_by-map f number (x ∷ xs) =
-    put_by-map f number x (sorted_by (λ z. number (f z)) xs) ∙ ap (put_by number (f x)) (sorted_by-map f number xs)
+sorted_by-map f number (x ∷ xs) = grind (arith, put_by-map, sorted_by-map f number xs)
 
 -- what holds of each element
 module _ {X : Type 0} (number : X → ℕ) (P : X → Type 0) where
   put_by-each : (x : X) (ys : List X) → P x → AllByRecursion P ys → AllByRecursion P (put_by number x ys)
   put_by-each x [] h hs = (h, tt)
-  put_by-each x (y ∷ ys) h hs = elim (cases_lt (number y) (number x)) [
-    | inr le ↦ rw (at_most (number x) (number y) le) (h, hs)
-    | inl lt ↦ rw (above (number x) (number y) lt) (hs.0, put_by-each x ys h hs.1)
-  ]
+  put_by-each x (y ∷ ys) h hs = grind (arith, cases_lt, at_most, above, put_by-each x ys h hs.1)
 
   pub sorted_by-each : (xs : List X) → AllByRecursion P xs → AllByRecursion P (sorted_by number xs)
   sorted_by-each [] hs = tt

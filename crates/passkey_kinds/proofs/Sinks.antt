@@ -27,8 +27,7 @@ appended_one ms key (Some x) = refl
 
 pub appended_all : (ms : Members) (ps : List Place) → put_all append_member ms ps ≡ laid ms ps
 appended_all ms [] = refl
-appended_all ms (p ∷ ps) =
-    appended_all (put_one append_member ms p.0 p.1) ps ∙ ap (λ ns. laid ns ps) (appended_one ms p.0 p.1)
+appended_all ms (p ∷ ps) = grind (arith, appended_one, appended_all (put_one append_member ms p.0 p.1) ps)
 
 -- ---- a counter
 
@@ -43,8 +42,7 @@ counted_one n key (Some x) ms = omega arith
 
 counted_all : (n : ℕ) (ps : List Place) → put_all count_one n ps ≡ n + length (spread ps)
 counted_all n [] = omega arith
-counted_all n (p ∷ ps) =
-    counted_all (put_one count_one n p.0 p.1) ps ∙ counted_one n p.0 p.1 (spread ps)
+counted_all n (p ∷ ps) = grind (arith, counted_one, spread, counted_all (put_one count_one n p.0 p.1) ps)
 
 -- ---- an encoder
 
@@ -61,8 +59,7 @@ encoded_one bytes key (Some x) ms =
 encoded_all : (bytes : List ℕ) (ps : List Place)
     → put_all encode_member bytes ps ≡ bytes ++ pairs_written (pairs_of (spread ps))
 encoded_all bytes [] = sym (append-nil bytes)
-encoded_all bytes (p ∷ ps) =
-    encoded_all (put_one encode_member bytes p.0 p.1) ps ∙ encoded_one bytes p.0 p.1 (spread ps)
+encoded_all bytes (p ∷ ps) = grind (arith, encoded_one, spread, encoded_all (put_one encode_member bytes p.0 p.1) ps)
 
 accepted_one : (key : Item) (o : Option Item) (ms : Members) → MemberAccepted IsWritable key o
     → ArePairsWritable (pairs_of ms) → ArePairsWritable (pairs_of (under key o ++ ms))

@@ -1,7 +1,7 @@
 -- Strings that are lent at a cursor and looked at again: what they are, and where the cursor is
 -- then.
 use Rattle.std.specs.Option.{ok_or}
-use Rattle.std.proofs.Common.{◌≡◌, ℕ, suc, ◌≤◌, ◌<◌, arith, Bool, List, Option, Some, None, option_map, Result, refl, sym, subst}
+use Rattle.std.proofs.Common.{rules, ◌≡◌, ℕ, suc, ◌≤◌, ◌<◌, arith, Bool, List, Option, Some, None, option_map, Result, refl}
 use Rattle.passkey_cbor.specs.Inside.{Content}
 use Rattle.passkey_cbor.specs.Item as item
 use Rattle.passkey_cbor.specs.Item.{Item}
@@ -33,27 +33,20 @@ module _ (a b d : Walk) (r : Region) where
 -- the value, or a refusal if there is none
 pub or_refused : {X : Type 0} (wanted found : Option X) (result : Result X Refusal) (takes : Type 0)
     → wanted ≡ found → result ≡ ok_or found Refused → AnswersAs (λ x. x) wanted takes result
-or_refused wanted (Some x) result takes e r =
-    subst (λ (a : Result _ Refusal). AnswersAs (λ x. x) wanted takes a) (sym r) e
-or_refused wanted None result takes e r =
-    subst (λ (a : Result _ Refusal). AnswersAs (λ x. x) wanted takes a) (sym r) e
+or_refused wanted (Some x) result takes e r = grind arith
+or_refused wanted None result takes e r = grind arith
 
 -- the same, if memory may run out too
 pub decodes_from : {A M : Type 0} {takes may : Type 0} (view : A → M) (wanted : Option M) (cost kept to : ℕ)
     (a b : Walk) (result : Result A Refusal) → (takes → may) → Decodes view wanted takes cost kept to a b result
     → Decodes view wanted may cost kept to a b result
-decodes_from view wanted cost kept to a b result may d =
-    record { answers = answers_from view result refl may d.answers; spends = d.spends; ends = d.ends }
+decodes_from view wanted cost kept to a b result may d = grind (arith, answers_from)
 
 -- a lower cost is within a higher one
 pub decodes_dearer : {A M : Type 0} (view : A → M) (wanted : Option M) (takes : Type 0) (c d kept more to : ℕ)
     (a b : Walk) (result : Result A Refusal) → c ≤ d → kept ≤ more → a.place ≤ to
     → Decodes view wanted takes c kept to a b result → Decodes view wanted takes d more to a b result
-decodes_dearer view wanted takes c d kept more to a b result le few within r = record {
-  answers = r.answers;
-  spends = eased c d kept more to a b le few within r.spends;
-  ends = r.ends;
-}
+decodes_dearer view wanted takes c d kept more to a b result le few within r = search (rules, eased)
 
 -- the item is still encoded there after one head that isn't its string's
 pub stands_missed : (i : Item) (a b : Walk) (to : ℕ) → LendsNothing a b → IsEncodedAt i a.bytes a.place to

@@ -1,10 +1,9 @@
 -- A member under an unknown key changes nothing.
 use Rattle.std.specs.Option.{option_or}
-use Rattle.std.proofs.Common.{arith, ◌≡◌, ◌∙◌, ℕ, if◌then◌else◌, [], ◌∷◌, ◌++◌, Option, Some, None, is_some, is_none, refl, ap}
+use Rattle.std.proofs.Common.{arith, ◌≡◌, ℕ, [], ◌∷◌, ◌++◌, is_none, refl}
 use Rattle.std.proofs.lemmas.List.{append-nil}
 use Rattle.passkey_cbor.specs.Item.{Item}
-use Rattle.passkey_kinds.specs.Table.{Table, Naming, row, unknown, named, Members, found, accepts_at, bad_by, first_bad, first_missing}
-use Rattle.passkey_kinds.specs.declared.fault.Fault.TheVariants.{Repeated, Refused}
+use Rattle.passkey_kinds.specs.Table.{Table, Naming, row, unknown, named, Members, found, bad_by, first_bad, first_missing}
 
 pub found_append : (table : Table) (ms ns : Members) (k : ℕ)
     → found table (ms ++ ns) k ≡ option_or (found table ms k) (found table ns k)
@@ -20,8 +19,7 @@ found_without table before behind key value naming k = grind (arith, found_appen
 
 bad_alike : (table : Table) (one other : Members) → ((k : ℕ) → found table one k ≡ found table other k)
     → (naming : Naming) (value : Item) → bad_by table one naming value ≡ bad_by table other naming value
-bad_alike table one other same (row n) value = ap (λ (o : Option Item). if is_some o then Some (Repeated n)
-    else (if accepts_at table.rows n value then None else Some (Refused n))) (same n)
+bad_alike table one other same (row n) value = grind arith
 bad_alike table one other same _ value = refl
 
 found_more : (table : Table) (one other more : Members) → ((k : ℕ) → found table one k ≡ found table other k)
@@ -31,18 +29,27 @@ found_more table one other more same k = grind (arith, found_append)
 first_bad_alike : (table : Table) (one other : Members) → ((k : ℕ) → found table one k ≡ found table other k)
     → (ms : Members) → first_bad table one ms ≡ first_bad table other ms
 first_bad_alike table one other same [] = refl
-first_bad_alike table one other same (m ∷ ms) = grind (arith, bad_alike, found_more, first_bad_alike table (one ++ m ∷ []) (other ++ m ∷ []) (found_more table one other (m ∷ []) same) ms)
+first_bad_alike table one other same (m ∷ ms) = grind (
+  arith,
+  bad_alike,
+  found_more,
+  first_bad_alike table (one
+      ++ m ∷ []) (other ++ m ∷ []) (found_more table one other (m ∷ []) same) ms,
+)
 
 pub found_pushed : (table : Table) (earlier : Members) (key value : Item) → named table key ≡ unknown → (k : ℕ)
     → found table (earlier ++ (key, value) ∷ []) k ≡ found table earlier k
-found_pushed table earlier key value naming k =
-    found_without table earlier [] key value naming k ∙ ap (λ (ms : Members). found table ms k) (append-nil earlier)
+found_pushed table earlier key value naming k = grind (arith, found_without, append-nil)
 
 pub first_bad_without : (table : Table) (earlier before behind : Members) (key value : Item)
     → named table key ≡ unknown
     → first_bad table earlier (before ++ (key, value) ∷ behind) ≡ first_bad table earlier (before ++ behind)
 first_bad_without table earlier [] behind key value naming = grind (arith, first_bad_alike, found_pushed)
-first_bad_without table earlier (m ∷ before) behind key value naming = grind (arith, first_bad_without table (earlier ++ m ∷ []) before behind key value naming)
+first_bad_without table earlier (m ∷ before) behind key value naming = grind (
+  arith,
+  first_bad_without table
+      (earlier ++ m ∷ []) before behind key value naming,
+)
 
 -- ---- if the same rows are named, the same row is missing
 

@@ -1,7 +1,6 @@
 -- Lists that are encoded one value after the other.
 use Rattle.std.specs.List.{All}
-use Rattle.std.proofs.Common.{◌≡◌, ◌∙◌, ℕ, suc, ◌+◌, ◌<◌, add-one, List, [], ◌∷◌, ◌++◌, length, map, drop, get_or, append_assoc, sym, ap, subst}
-use Rattle.std.proofs.lemmas.List.Elements.{All-cons}
+use Rattle.std.proofs.Common.{arith, ◌≡◌, ◌∙◌, ℕ, suc, ◌+◌, ◌<◌, add-one, List, [], ◌∷◌, ◌++◌, length, map, drop, get_or, append_assoc, sym, ap, subst}
 use Rattle.std.proofs.Math.Seq.{drop-cons}
 use Rattle.passkey_cbor.specs.Item.{Item, Items, items_of}
 use Rattle.passkey_cbor.specs.Writable.{IsWritable, AreWritable}
@@ -16,8 +15,7 @@ rest_is xs i x e within = rw add-one (drop-cons xs i x within ∙ ap (λ y. y �
 -- if all of the rest fit, so do they with this value before them
 pub fits_next : {X : Type 0} (Fits : X → Type 0) (xs left rest : List X) (x : X) → left ≡ x ∷ rest → Fits x
     → (All Fits left → All Fits xs) → All Fits rest → All Fits xs
-fits_next Fits xs left rest x next fits so_far others =
-    so_far (subst (All Fits) (sym next) (All-cons Fits x rest fits others))
+fits_next Fits xs left rest x next fits so_far others = grind arith
 
 -- the same for the value at an index
 pub fits_more : {X : Type 0} (Fits : X → Type 0) (xs : List X) (i : ℕ) (x : X) → x ≡ get_or xs i x → i < length xs
@@ -38,11 +36,11 @@ written_next tree xs left rest x y before next same so_far =
 pub written_more : {X Y : Type 0} (tree : X → Y) (xs : List X) (i : ℕ) (x : X) (y : Y) (before : List Y)
     → x ≡ get_or xs i x → i < length xs → y ≡ tree x → before ++ map tree (drop i xs) ≡ map tree xs
     → (before ++ y ∷ []) ++ map tree (drop (i + 1) xs) ≡ map tree xs
-written_more tree xs i x y before e within =
-    written_next tree xs (drop i xs) (drop (i + 1) xs) x y before (rest_is xs i x e within)
+written_more tree xs i x y before e within = grind (arith, written_next, rest_is)
 
 -- the bytes of the list so far and one more element's
-pub writes_items-more : {X : Type 0} (tree : X → Item) (xs : List X) (i : ℕ) (x : X) (all : Items) (old mid new : List ℕ)
+pub writes_items-more : {X : Type 0} (tree : X → Item) (xs : List X) (i : ℕ) (x : X) (all : Items) (old mid new
+    : List ℕ)
     → x ≡ get_or xs i x → i < length xs → new ≡ mid ++ written (tree x) → IsWritable (tree x)
     → WritesItems all (items_of (map tree (drop i xs))) old mid
     → WritesItems all (items_of (map tree (drop (i + 1) xs))) old new

@@ -36,7 +36,8 @@ pub record Decodes {A M : Type 0} (view : A → M) (wanted : Option M) (takes : 
 
 -- The same, where the wanted value is the one that the kind has for the item.
 abbrev pub ReadsAs : {A M : Type 0} → (A → M) → Typed M → Item → ℕ → Walk → Walk → Result A Refusal → Type 0
-ReadsAs view k i to old new result = Decodes view (k.of i) (MayGrow k.takes i) k.cost (kept_of k.keeps i) to old new result
+ReadsAs view k i to old new result = Decodes view (k.of i) (MayGrow k.takes i) k.cost (kept_of k.keeps i) to old
+    new result
 
 -- Decoding the item, which ends at `to`, has at most this cost; after a success the cursor is at
 -- `to`.

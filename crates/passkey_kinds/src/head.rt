@@ -95,7 +95,7 @@ fn begins_null(cursor: &Cursor<'_>) -> bool
 }
 
 /// Decodes the unsigned integer at the cursor. Returns `None` if none is there.
-#[tactic(auto, using(crate::proofs::Going::onward_of, crate::proofs::Going::head_further, crate::proofs::Going::if_some))]
+#[tactic(auto, using(crate::proofs::Heads::heads))]
 pub(crate) fn read_unsigned(cursor: &mut Cursor<'_>) -> Option<u64>
     ensures reads { (i : Item) (to : ℕ) → IsEncodedAt i cursor.old.bytes cursor.old.place to
         → ReadsFlat (unsigned_in i) to cursor.old cursor.new result }
@@ -110,7 +110,7 @@ pub(crate) fn read_unsigned(cursor: &mut Cursor<'_>) -> Option<u64>
 
 /// Decodes the integer at the cursor. Returns `None` if none is there, or if it doesn't fit in
 /// `i64`.
-#[tactic(auto, using(crate::proofs::Going::onward_of, crate::proofs::Going::head_further, crate::proofs::Going::if_some))]
+#[tactic(auto, using(crate::proofs::Heads::heads))]
 pub(crate) fn read_integer(cursor: &mut Cursor<'_>) -> Option<i64>
     ensures reads { (i : Item) (to : ℕ) → IsEncodedAt i cursor.old.bytes cursor.old.place to
         → ReadsFlat (option_and_then signed_64 (integer_in i)) to cursor.old cursor.new result }
@@ -124,7 +124,7 @@ pub(crate) fn read_integer(cursor: &mut Cursor<'_>) -> Option<i64>
 }
 
 /// Decodes the boolean at the cursor. Returns `None` if none is there.
-#[tactic(auto, using(crate::proofs::Going::onward_of))]
+#[tactic(auto, using(crate::proofs::Heads::heads))]
 pub(crate) fn read_truth(cursor: &mut Cursor<'_>) -> Option<bool>
     ensures reads { (i : Item) (to : ℕ) → IsEncodedAt i cursor.old.bytes cursor.old.place to
         → ReadsFlat (truth i) to cursor.old cursor.new result }
@@ -139,7 +139,7 @@ pub(crate) fn read_truth(cursor: &mut Cursor<'_>) -> Option<bool>
 
 /// Decodes null or undefined at the cursor. Returns whether one of them is there. Decodes no head if
 /// the next byte is that of another data item.
-#[tactic(auto, using(crate::proofs::Going::onward_of))]
+#[tactic(auto, using(crate::proofs::Heads::heads))]
 pub(crate) fn read_null(cursor: &mut Cursor<'_>) -> bool
     ensures reads { (i : Item) (to : ℕ) → IsEncodedAt i cursor.old.bytes cursor.old.place to → ReadsFlat (if null_in
         i then There true else Nothing) to cursor.old cursor.new (if result then There true else Nothing) }
@@ -157,7 +157,7 @@ pub(crate) fn read_null(cursor: &mut Cursor<'_>) -> bool
 
 /// Decodes the head of the array at the cursor and returns its length, which is `Some(None)` if it
 /// is indefinite. Returns `None` if no array is there.
-#[tactic(auto, using(crate::proofs::Going::onward_of, crate::proofs::Going::head_further, crate::proofs::Going::if_some, crate::proofs::Heads::array_opened))]
+#[tactic(auto, using(crate::proofs::Heads::heads))]
 pub(crate) fn read_array(cursor: &mut Cursor<'_>) -> Option<Option<u64>>
     ensures opens { (i : Item) (to : ℕ) → IsEncodedAt i cursor.old.bytes cursor.old.place to
         → OpensArray i to cursor.new result }
@@ -175,7 +175,7 @@ pub(crate) fn read_array(cursor: &mut Cursor<'_>) -> Option<Option<u64>>
 
 /// Decodes the head of the map at the cursor and returns its length, which is `Some(None)` if it is
 /// indefinite. Returns `None` if no map is there.
-#[tactic(auto, using(crate::proofs::Going::onward_of, crate::proofs::Going::head_further, crate::proofs::Going::if_some, crate::proofs::Heads::map_opened))]
+#[tactic(auto, using(crate::proofs::Heads::heads))]
 pub(crate) fn read_map(cursor: &mut Cursor<'_>) -> Option<Option<u64>>
     ensures opens { (i : Item) (to : ℕ) → IsEncodedAt i cursor.old.bytes cursor.old.place to
         → OpensMap i to cursor.new result }

@@ -68,8 +68,8 @@ pub(crate) fn read_elements<T: FromCbor>(
     cursor: &mut Cursor<'_>,
 ) -> Result<List<T>, Refusal>
     ensures reads { (is : Items Item) (to : ℕ) → ItemsAreEncodedAt left is cursor.old.bytes cursor.old.place to
-        → Decodes (λ xs. map T.view xs) (each T.typed.of is) (0 < length is) (suc T.typed.cost) (kept_sum (kept_of T.typed.keeps) is) to
-        cursor.old cursor.new result }
+        → Decodes (λ xs. map T.view xs) (each T.typed.of is) (0 < length is) (suc T.typed.cost)
+        (kept_sum (kept_of T.typed.keeps) is) to cursor.old cursor.new result }
     ensures onward { Onward cursor.old cursor.new }
 {
     Ok(List::from(read_all(alloc, Vec::new(alloc), left, cursor)?))

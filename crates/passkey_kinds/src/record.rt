@@ -58,7 +58,7 @@ pub trait Record: Drop {
 }
 
 /// Decodes the value of the next member, by what its map key names.
-#[tactic(auto, using(crate::proofs::Members::was_refused, crate::proofs::Members::was_good, crate::proofs::Members::was_unknown, crate::proofs::Members::marked_as, crate::proofs::Members::stays, crate::proofs::Members::marks_one, crate::proofs::Members::row_small, crate::proofs::Putting::passes, crate::proofs::Putting::puts, crate::proofs::Putting::puts_refused))]
+#[tactic(auto, using(crate::proofs::Putting::reads_one))]
 fn read_member<R: Record, S: Source>(
     alloc: Global,
     read: &mut R,
@@ -146,7 +146,7 @@ fn finish<R: Record>(read: R, seen: &[bool; 32]) -> Result<R, Fault>
     }
 }
 
-#[tactic(auto, using(crate::proofs::Members::key_names, crate::proofs::Pairs::member_at, crate::proofs::Putting::has_begun, crate::proofs::Putting::key_fails))]
+#[tactic(auto, using(crate::proofs::Putting::reads_pairs))]
 fn read_pairs<R: Record>(alloc: Global, pairs: &[(Value, Value)]) -> Result<R, Fault>
     ensures { Reads R.parts (MayGrowIn (table_of R.fields) (map pair_of pairs.now))
         (read_members R.fields (map pair_of pairs.now)) result }

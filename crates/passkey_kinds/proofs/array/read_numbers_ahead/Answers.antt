@@ -40,7 +40,8 @@ returns-else-front-ge32-clause-reads c = λ is to l.
     record {
       answers = sym (full_each 32 (below 256) is)
           ∙ ap (option_and_then (full 32)) r.answers
-          ∙ ap (λ (b : Bool). if b then Some (take front.len front.bytes) else None) (ne_eqb (length (take front.len front.bytes)) 32 (omega (arith, length-take front.len front.bytes)));
+          ∙ ap (λ (b : Bool). if b then Some (take front.len front.bytes) else None) (ne_eqb (length (take
+          front.len front.bytes)) 32 (omega (arith, length-take front.len front.bytes)));
       spends =
           subst (λ (k : ℕ). Spends 2 k to c.args.cursor.now c.read_all.new.cursor) (kept_nothing is) r.spends;
       ends = tt;

@@ -15,7 +15,8 @@ pub returns-clause-reads : goal.returns-clause-reads
 returns-clause-reads g c = λ is to l.
     let r = c.in_ok-accepted.ensures.reads is to l in
     record {
-      answers = sym (pushed_accepted g.T.FromCbor.typed.of is (ap (map g.T.FromCbor.view) c.new.ensures.items)) ∙ r.answers
+      answers = sym (pushed_accepted g.T.FromCbor.typed.of is (ap (map g.T.FromCbor.view) c.new.ensures.items))
+          ∙ r.answers
           ∙ ap (λ xs. Some (map g.T.FromCbor.view xs)) (sym c.from.ensures);
       spends = r.spends;
       ends = r.ends;

@@ -13,7 +13,11 @@ returns-then-self-ge32-clause-adds c = λ i to l.
     let long = stands_long i b.bytes b.place to l in
     record {
       decodes = record {
-        answers = rw (le-ltb (length (take c.args.self.now.len c.args.self.now.bytes)) 32 (omega (arith, length-take c.args.self.now.len c.args.self.now.bytes, c.if-self-ge32.true))) refl;
+        answers = rw (le-ltb (length (take c.args.self.now.len c.args.self.now.bytes)) 32 (omega (
+          arith,
+          length-take c.args.self.now.len c.args.self.now.bytes,
+          c.if-self-ge32.true,
+        ))) refl;
         spends = record { within = omega (arith, long); heads = omega (arith, long); nodes = omega arith };
         ends = tt;
       };
@@ -24,7 +28,8 @@ pub returns-in_err-self-clause-adds : goal.returns-in_err-self-clause-adds
 returns-in_err-self-clause-adds c = λ i to l.
     let p = err_from_is_err_and c.from_residual.result c.from_residual.ensures.1 in
     rw (p.1, p.2) (record {
-      decodes = fails_as c.in_err-self.field-0.0 refl (λ none. none_either _ _ (ap (option_map _) none)) (λ h. absurd (never_grows i h))
+      decodes = fails_as c.in_err-self.field-0.0 refl (λ none. none_either _ _ (ap (option_map _) none)) (λ h.
+          absurd (never_grows i h))
           (c.in_err-self.ensures.reads i to l);
       further = stands_long i _ _ to l;
     })
@@ -37,7 +42,8 @@ returns-clause-adds c = λ i to l.
     record {
       decodes = record {
         answers = rw (lt-ltb (length (take len bytes)) 32 (omega (arith, length-take len bytes, c.if-self-ge32.false)))
-            (ap (option_map (λ n. take len bytes ++ n ∷ [])) read.answers ∙ ap Some (sym (take_more_set bytes len _ (omega (arith, c.if-self-ge32.false)))));
+            (ap (option_map (λ n. take len bytes ++ n ∷ [])) read.answers ∙ ap Some (sym (take_more_set bytes
+            len _ (omega (arith, c.if-self-ge32.false)))));
         spends = read.spends;
         ends = read.ends;
       };

@@ -29,7 +29,8 @@ returns-in_err-read-clause-reads g c = λ i to l.
     let there = stands_back i a c.go_back.new.self to (ap (λ (w : Walk). w.bytes) back
     ∙ c.if-read_null.ensures.onward.same) (ap (λ (w : Walk). w.place) back) l in
     let read = c.in_err-read.ensures.reads i to there in
-    let spent = spends_again 1 g.T.FromCbor.typed.cost 0 (kept_of g.T.FromCbor.typed.keeps i) to a c.read_null.new.cursor
+    let spent = spends_again 1 g.T.FromCbor.typed.cost 0 (kept_of g.T.FromCbor.typed.keeps i) to a
+    c.read_null.new.cursor
     c.go_back.new.self c.read.new.cursor c.if-read_null.ensures.onward back r.spends read.spends in
     rw (p.1, p.2) (record {
       answers = failed c.in_err-read.field-0.0 (λ none. other_item g.T.FromCbor.typed.of i r.is ∙ ap (option_map Some)
@@ -48,7 +49,8 @@ returns-clause-reads g c = λ i to l.
     let there = stands_back i a c.go_back.new.self to (ap (λ (w : Walk). w.bytes) back
     ∙ c.if-read_null.ensures.onward.same) (ap (λ (w : Walk). w.place) back) l in
     let read = c.in_ok-read.ensures.reads i to there in
-    let spent = spends_again 1 g.T.FromCbor.typed.cost 0 (kept_of g.T.FromCbor.typed.keeps i) to a c.read_null.new.cursor
+    let spent = spends_again 1 g.T.FromCbor.typed.cost 0 (kept_of g.T.FromCbor.typed.keeps i) to a
+    c.read_null.new.cursor
     c.go_back.new.self c.read.new.cursor c.if-read_null.ensures.onward back r.spends read.spends in
     record {
       answers = other_item g.T.FromCbor.typed.of i r.is ∙ ap (option_map Some) read.answers;

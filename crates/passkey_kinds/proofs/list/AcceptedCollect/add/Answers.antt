@@ -36,7 +36,8 @@ returns-in_ok-push-in-Some-clause-adds g c = λ i to l.
     ∙ ap (λ (x : g.row.T.Denot). map view xs ++ view x ∷ []) c.in-Some.accepted-is in
     record {
       decodes = record {
-        answers = ap (λ (o : Option g.T.FromCbor.Meaning). Some (map view xs ++ cons_option o [])) given ∙ ap Some (sym items);
+        answers = ap (λ (o : Option g.T.FromCbor.Meaning). Some (map view xs ++ cons_option o [])) given ∙ ap
+            Some (sym items);
         spends = read.spends;
         ends = read.ends;
       };

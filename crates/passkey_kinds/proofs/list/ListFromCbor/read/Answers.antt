@@ -11,8 +11,10 @@ returns-in-Some-clause-reads g c = λ i to l.
     let opened = c.in-Some.ensures.opens i to l in
     let is = opened.0 in
     let same = ap (list g.T.FromCbor.typed.of) opened.1.0 ∙ list_array g.T.FromCbor.typed.of is in
-    let kept = kept_array g.T.FromCbor.typed.keeps is ∙ ap (kept_of (in_elements g.T.FromCbor.typed.keeps)) (sym opened.1.0) in
-    decodes_in _ g.T.FromCbor.typed.cost (kept_sum (kept_of g.T.FromCbor.typed.keeps) is) (kept_of (in_elements g.T.FromCbor.typed.keeps) i) to
+    let kept = kept_array g.T.FromCbor.typed.keeps is ∙ ap (kept_of (in_elements g.T.FromCbor.typed.keeps)) (sym
+    opened.1.0) in
+    decodes_in _ g.T.FromCbor.typed.cost (kept_sum (kept_of g.T.FromCbor.typed.keeps) is) (kept_of (in_elements
+    g.T.FromCbor.typed.keeps) i) to
     c.args.cursor.now c.read_array.new.cursor c.read_elements.new.cursor c.read_elements.result same
     (λ (h : 0 < length is). subst (MayGrow true) (sym opened.1.0) (grows_items is h)) (omega (arith, kept))
     c.in-Some.ensures.further c.in-Some.ensures.counted (c.in-Some.ensures.spends i to l).nodes

@@ -19,7 +19,8 @@ returns-in-Some-clause-reads g c = λ i to l.
     ∙ sym (entered_all g.T.FromCbor.typed.of ms fin.empty)
     ∙ ap (collected (entered g.T.FromCbor.typed.of) ms)
     (sym (ap (map_values g.T.FromCbor.view) c.empty.ensures ∙ map_values-empty g.T.FromCbor.view)) in
-    let kept = kept_map g.T.FromCbor.typed.keeps ms ∙ ap (kept_of (in_members g.T.FromCbor.typed.keeps)) (sym opened.1.0) in
+    let kept = kept_map g.T.FromCbor.typed.keeps ms ∙ ap (kept_of (in_members g.T.FromCbor.typed.keeps)) (sym
+    opened.1.0) in
     decodes_in _ (max 3 g.T.FromCbor.typed.cost) (kept_sum (λ m. kept_of g.T.FromCbor.typed.keeps m.1) ms)
     (kept_of (in_members g.T.FromCbor.typed.keeps) i) to c.args.cursor.now c.read_map.new.cursor
     c.read_all.new.cursor c.read_all.result same

@@ -13,7 +13,8 @@ returns-in-Ok-clause-reads g c = λ i to l.
     let read = c.in-Ok.ensures.reads i to l in
     record {
       answers = ap Some read.answers;
-      spends = eased g.T.FromCbor.typed.cost (suc g.T.FromCbor.typed.cost) kept kept to a c.read.new.cursor (omega arith)
+      spends = eased g.T.FromCbor.typed.cost (suc g.T.FromCbor.typed.cost) kept kept to a c.read.new.cursor
+          (omega arith)
           (omega arith) (omega (arith, stands_long i a.bytes a.place to l)) read.spends;
       ends = read.ends;
     }
@@ -22,7 +23,8 @@ pub returns-then-skip-clause-reads : goal.returns-then-skip-clause-reads
 returns-then-skip-clause-reads g c = λ i to l.
     let a = c.args.cursor.now in
     let kept = kept_of g.T.FromCbor.typed.keeps i in
-    let read = subst (λ (e : Refusal). ReadsAs g.T.FromCbor.view g.T.FromCbor.typed i to a c.read.new.cursor (Err e)) c.in-Err-Refused.field-0-is
+    let read = subst (λ (e : Refusal). ReadsAs g.T.FromCbor.view g.T.FromCbor.typed i to a c.read.new.cursor
+    (Err e)) c.in-Err-Refused.field-0-is
     (c.in-Err-Refused.ensures.reads i to l) in
     let back = c.go_back.ensures ∙ ap (λ (n : ℕ). record c.read.new.cursor { place = n }) c.place-start.ensures in
     let there = stands_back i a c.go_back.new.self to (ap (λ (w : Walk). w.bytes) back
@@ -55,11 +57,13 @@ pub returns-in-Err-OutOfMemory-clause-reads : goal.returns-in-Err-OutOfMemory-cl
 returns-in-Err-OutOfMemory-clause-reads g c = λ i to l.
     let a = c.args.cursor.now in
     let kept = kept_of g.T.FromCbor.typed.keeps i in
-    let read = subst (λ (e : Refusal). ReadsAs g.T.FromCbor.view g.T.FromCbor.typed i to a c.read.new.cursor (Err e)) c.in-Err-OutOfMemory.field-0-is
+    let read = subst (λ (e : Refusal). ReadsAs g.T.FromCbor.view g.T.FromCbor.typed i to a c.read.new.cursor
+    (Err e)) c.in-Err-OutOfMemory.field-0-is
     (c.in-Err-OutOfMemory.ensures.reads i to l) in
     record {
       answers = read.answers;
-      spends = eased g.T.FromCbor.typed.cost (suc g.T.FromCbor.typed.cost) kept kept to a c.read.new.cursor (omega arith)
+      spends = eased g.T.FromCbor.typed.cost (suc g.T.FromCbor.typed.cost) kept kept to a c.read.new.cursor
+          (omega arith)
           (omega arith) (omega (arith, stands_long i a.bytes a.place to l)) read.spends;
       ends = tt;
     }
