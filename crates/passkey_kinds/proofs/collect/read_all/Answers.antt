@@ -1,4 +1,4 @@
-use Rattle.std.proofs.Common.{◌∙◌, true, false, refl, sym}
+use Rattle.std.proofs.Common.{arith, ◌∙◌, true, false, refl, sym}
 use Rattle.std.proofs.lemmas.Result.{err_from_is_err_and}
 use Rattle.passkey_kinds.proofs.Collecting.{stopped, gone_on}
 use Rattle.passkey_kinds.proofs.Going.{onward_of, onward_then}
@@ -15,18 +15,12 @@ returns-in_err-add-clause-reads g c = λ xs to l.
     let d = c.add.new.cursor in
     let walks = c.loop-alloc-test.ensures.walks in
     let e = c.loop-alloc.invariant.each xs to l in
-    let n = next_is _ _ _ _ xs to start c.loop-alloc.left c.more.new.left a b true refl
-    (g.C.Collect.way.walked _ _ _ _ _ walks) e in
+    let n = next_is _ _ _ _ xs to start c.loop-alloc.left c.more.new.left a b true refl (g.C.Collect.way.walked
+    _ _ _ _ _ walks) e in
     let added = c.in_err-add.ensures.adds n.first n.middle n.here in
-    let spent = element_spends _ _ _ _ xs to start c.loop-alloc.left c.more.new.left a b d true refl walks.looks e n
-    (g.C.Collect.way.kept n.first) refl added.further added.decodes.spends in
-    rw (p.1, p.2) (record {
-      answers = failed c.in_err-add.field-0.0
-          (stopped g.C.Collect.way.next _ n.first e.rest n.others n.whole e.done)
-          (λ h. (h, some_are _ _ _ _ xs to start c.loop-alloc.left c.more.new.left a b e n)) added.decodes.answers;
-      spends = spent_within _ _ _ to start c.more.new.left e.rest b d n spent;
-      ends = tt;
-    })
+    let spent = element_spends _ _ _ _ xs to start c.loop-alloc.left c.more.new.left a b d true refl walks.looks
+    e n (g.C.Collect.way.kept n.first) refl added.further added.decodes.spends in
+    grind (arith, failed, stopped, some_are, spent_within, p, e, n, added, spent)
 
 pub loop-alloc-preserved : goal.loop-alloc-preserved
 loop-alloc-preserved g c =
@@ -57,7 +51,6 @@ returns-clause-reads g c = λ xs to l.
     let b = c.more.new.self in
     let walks = c.loop-alloc-test.ensures.walks in
     let e = c.loop-alloc.invariant.each xs to l in
-    let ended =
-    each_done _ _ _ _ xs to start c.loop-alloc.left c.more.new.left a b false refl
+    let ended = each_done _ _ _ _ xs to start c.loop-alloc.left c.more.new.left a b false refl
     (g.C.Collect.way.walked _ _ _ _ _ walks) walks.looks e in
-    record { answers = sym ended.done; spends = ended.spends; ends = ended.place }
+    grind (arith, ended)

@@ -1,10 +1,10 @@
-use Rattle.std.proofs.Common.{◌∙◌, ◌*◌, ℕ, false, true, map, sym, ap, refl, arith}
-use Rattle.passkey_cbor.specs.Item.{Item, text_string, byte_string}
+use Rattle.std.proofs.Common.{◌∙◌, ℕ, false, true, map, sym, ap, arith}
+use Rattle.passkey_cbor.specs.Item.{Item}
 use Rattle.passkey_cbor.specs.EncodedAt.{IsEncodedAt}
 use Rattle.passkey_cbor.specs.Walk.{Walk}
 use Rattle.passkey_kinds.specs.Reader.{Spends}
 use Rattle.passkey_kinds.specs.Rows.{entry_of}
-use Rattle.passkey_kinds.specs.Table.{names, number_names}
+use Rattle.passkey_kinds.specs.Table.{number_names}
 use Rattle.passkey_kinds.proofs.Going.{eased, if_some, stands_long}
 use Rattle.passkey_kinds.proofs.Keys.{none_wrong, names_number, fits_byte, other_major, not_unsigned}
 use Rattle.passkey_kinds.proofs.Lent.{lent_spends}
@@ -19,33 +19,27 @@ one_head key to a b l spent =
 
 pub returns-then-begins-clause-names : goal.returns-then-begins-clause-names
 returns-then-begins-clause-names c = λ key to l.
-    let a = c.args.cursor.now in
-    let es = map entry_of c.args.rows.now in
     let r = c.in-Some.ensures.reads key to l in
     let says = c.begins.ensures key to l in
-    record {
-      is = c.of_number.ensures ∙ ap (λ o. number_names c.args.is_numbered o es) (c.byte.ensures ∙ ap fits_byte r.is)
-          ∙ sym (names_number c.args.is_numbered es key
-          (λ s. other_major key (text_string s) 0 c.begins.result says c.if-begins.true refl)
-          (λ s. other_major key (byte_string s) 0 c.begins.result says c.if-begins.true refl));
-      spends = one_head key to a c.read_unsigned.new.cursor l r.spends;
-      ends = if_some c.of_number.result (r.ends c.in-Some.number refl);
-    }
+    grind (
+      arith,
+      fits_byte,
+      names_number,
+      other_major,
+      one_head,
+      if_some,
+      r,
+      says,
+      c.of_number.ensures,
+      c.byte.ensures,
+      c.if-begins.true,
+    )
 
 pub returns-in_default-clause-names : goal.returns-in_default-clause-names
 returns-in_default-clause-names c = λ key to l.
-    let a = c.args.cursor.now in
-    let es = map entry_of c.args.rows.now in
     let r = c.in_default.ensures.reads key to l in
     let says = c.begins.ensures key to l in
-    record {
-      is = none_wrong c.args.is_numbered es ∙ ap (λ o. number_names c.args.is_numbered (fits_byte o) es) r.is
-          ∙ sym (names_number c.args.is_numbered es key
-          (λ s. other_major key (text_string s) 0 c.begins.result says c.if-begins.true refl)
-          (λ s. other_major key (byte_string s) 0 c.begins.result says c.if-begins.true refl));
-      spends = one_head key to a c.read_unsigned.new.cursor l r.spends;
-      ends = tt;
-    }
+    grind (arith, none_wrong, fits_byte, names_number, other_major, one_head, r, says, c.if-begins.true)
 
 pub returns-in-Some-text-clause-names : goal.returns-in-Some-text-clause-names
 returns-in-Some-text-clause-names c = λ key to l.
@@ -53,13 +47,7 @@ returns-in-Some-text-clause-names c = λ key to l.
     let f = c.in-Some-text.ensures.lends key to l in
     let spent = lent_spends true a c.text.new.self c.with_text.new.cursor c.in-Some-text.token key to l
     c.in-Some-text.ensures.front f c.with_text.ensures.looks in
-    record {
-      is = c.with_text.ensures.names f.0 f.1.1.tells
-          ∙ sym (ap (names c.args.is_numbered (map entry_of c.args.rows.now)) f.1.0);
-      spends = eased 2 3 0 0 to a c.with_text.new.cursor (omega arith) (omega arith)
-          (omega (arith, stands_long key a.bytes a.place to l)) spent.0;
-      ends = spent.1;
-    }
+    grind (arith, eased, stands_long, f, spent, c.with_text.ensures.names)
 
 pub returns-in-Some-bytes-clause-names : goal.returns-in-Some-bytes-clause-names
 returns-in-Some-bytes-clause-names c = λ key to l.
@@ -70,23 +58,7 @@ returns-in-Some-bytes-clause-names c = λ key to l.
     let f = c.in-Some-bytes.ensures.lends key to there in
     let spent = lent_spends false b c.bytes.new.self c.with_bytes.new.cursor c.in-Some-bytes.token key to there
     c.in-Some-bytes.ensures.front f c.with_bytes.ensures.looks in
-    record {
-      is = c.with_bytes.ensures.names f.0 f.1.1.tells
-          ∙ sym (ap (names c.args.is_numbered (map entry_of c.args.rows.now)) f.1.0);
-      spends = record {
-        within = spent.0.within;
-        heads = omega (
-          arith,
-          spent.0.heads,
-          e.1.heads,
-          e.1.place,
-          ap (λ p. 2 * p) e.1.place,
-          stands_long key a.bytes a.place to l,
-        );
-        nodes = omega (arith, spent.0.nodes, e.1.nodes);
-      };
-      ends = spent.1;
-    }
+    grind (arith, stands_long, e, f, spent, c.with_bytes.ensures.names)
 
 pub returns-in-None-bytes-clause-names : goal.returns-in-None-bytes-clause-names
 returns-in-None-bytes-clause-names c = λ key to l.

@@ -1,4 +1,4 @@
-use Rattle.std.proofs.Common.{◌∙◌, map, Some, refl, sym, ap}
+use Rattle.std.proofs.Common.{arith, ◌∙◌, map, refl, sym, ap}
 use Rattle.std.proofs.lemmas.Result.{err_from_is_err_and}
 use Rattle.passkey_kinds.proofs.Collecting.{pushed_each}
 use Rattle.passkey_kinds.proofs.Leaves.{fails_as}
@@ -14,9 +14,4 @@ returns-in_err-read_all-clause-reads g c = λ is to l.
 pub returns-clause-reads : goal.returns-clause-reads
 returns-clause-reads g c = λ is to l.
     let r = c.in_ok-read_all.ensures.reads is to l in
-    record {
-      answers = sym (pushed_each g.T.FromCbor.typed.of is (ap (map g.T.FromCbor.view) c.new.ensures.items)) ∙ r.answers
-          ∙ ap (λ xs. Some (map g.T.FromCbor.view xs)) (sym c.from.ensures);
-      spends = r.spends;
-      ends = r.ends;
-    }
+    grind (arith, pushed_each, r, c.new.ensures.items, c.from.ensures)

@@ -13,17 +13,12 @@ pub returns-in-Some-clause-reads : goal.returns-in-Some-clause-reads
 returns-in-Some-clause-reads c = λ i to l.
     let a = c.args.cursor.now in
     let f = c.in-Some.ensures.lends i to l in
-    let answers = answers_from (λ (bs : List ℕ). bs) c.filled.result (ap (sized_bytes 32) f.1.0)
-    (λ (h : ⊥). absurd h) (c.filled.ensures.answers f.0 f.1.1.tells) in
+    let answers = answers_from (λ (bs : List ℕ). bs) c.filled.result (ap (sized_bytes 32) f.1.0) (λ (h : ⊥).
+    absurd h) (c.filled.ensures.answers f.0 f.1.1.tells) in
     let lent = lent_decodes (λ (bs : List ℕ). bs) (sized_bytes 32 i) (MayGrow false i) false a c.bytes.new.self
-    c.filled.new.cursor c.in-Some.token i to c.filled.result l c.in-Some.ensures.front f c.filled.ensures.looks
-    answers in
-    record {
-      answers = lent.answers;
-      spends = eased 2 3 0 0 to a c.filled.new.cursor (omega arith) (omega arith)
-          (omega (arith, stands_long i a.bytes a.place to l)) lent.spends;
-      ends = lent.ends;
-    }
+    c.filled.new.cursor c.in-Some.token i to c.filled.result l c.in-Some.ensures.front f
+    c.filled.ensures.looks answers in
+    grind (arith, eased, stands_long, answers, lent)
 
 pub returns-in-Some-read_array-clause-reads : goal.returns-in-Some-read_array-clause-reads
 returns-in-Some-read_array-clause-reads c = λ i to l.

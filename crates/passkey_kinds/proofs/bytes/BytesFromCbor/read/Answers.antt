@@ -51,14 +51,14 @@ returns-in-Some-text-clause-reads c = λ i to l.
     (c.read_base64.ensures.answers f.0 f.1.1.tells)))
 
 pub returns-in-Some-text-clause-further : goal.returns-in-Some-text-clause-further
-returns-in-Some-text-clause-further c =
-    on_ok c.read_base64.result
-    (omega (
-      arith,
-      looked_further c.bytes.new.self c.text.new.self c.read_base64.new.cursor c.in-Some-text.token
-          true c.in-Some-text.ensures.front c.read_base64.ensures.looks,
-      c.in_default.ensures.went.forward,
-    ))
+returns-in-Some-text-clause-further c = grind (
+  arith,
+  on_ok,
+  looked_further,
+  c.in-Some-text.ensures.front,
+  c.read_base64.ensures.looks,
+  c.in_default.ensures.went.forward,
+)
 
 pub returns-in-Some-read_array-clause-reads : goal.returns-in-Some-read_array-clause-reads
 returns-in-Some-read_array-clause-reads c = λ i to l.

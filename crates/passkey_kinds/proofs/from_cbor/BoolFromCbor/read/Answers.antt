@@ -1,4 +1,4 @@
-use Rattle.std.proofs.Common.{Ok, sym}
+use Rattle.std.proofs.Common.{arith, sym}
 use Rattle.passkey_kinds.specs.Kind.{truth}
 use Rattle.passkey_kinds.proofs.Leaves.{flat_found, flat_missed}
 use Rattle.passkey_kinds.proofs.from_cbor.BoolFromCbor.read.Goals as goal
@@ -6,8 +6,7 @@ use Rattle.passkey_kinds.proofs.from_cbor.BoolFromCbor.read.Goals as goal
 pub returns-in-Some-clause-reads : goal.returns-in-Some-clause-reads
 returns-in-Some-clause-reads c = λ i to l.
     let r = c.in-Some.ensures.reads i to l in
-    flat_found (λ b. b) (truth i) _ (truth i) c.in-Some.b to c.args.cursor.now c.read_truth.new.cursor
-    (Ok c.in-Some.b) r (sym r.is)
+    grind (arith, flat_found, r)
 
 pub returns-in-None-clause-reads : goal.returns-in-None-clause-reads
 returns-in-None-clause-reads c = λ i to l.

@@ -1,60 +1,39 @@
-use Rattle.std.proofs.Common.{◌∙◌, ℕ, suc, ◌+◌, true, Some, option_map, refl, ap, subst, arith}
+use Rattle.std.proofs.Common.{◌∙◌, ℕ, ap, arith}
 use Rattle.std.proofs.lemmas.Result.{err_from_is_err_and}
 use Rattle.passkey_cbor.specs.Walk.{Walk}
 use Rattle.passkey_kinds.specs.Keeping.{kept_of}
-use Rattle.passkey_kinds.specs.Kind.{optional}
-use Rattle.passkey_kinds.specs.Reader.{Spends}
 use Rattle.passkey_kinds.proofs.Going.{eased, stands_long, stands_back, spends_again}
 use Rattle.passkey_kinds.proofs.Leaves.{failed, null_item, other_item}
 use Rattle.passkey_kinds.proofs.from_cbor.OptionFromCbor.read.Goals as goal
 
 pub returns-then-read_null-clause-reads : goal.returns-then-read_null-clause-reads
 returns-then-read_null-clause-reads g c = λ i to l.
-    let a = c.args.cursor.now in
     let r = c.if-read_null.ensures.reads i to l in
-    record {
-      answers = ap (optional g.T.FromCbor.typed.of) (null_item i r.is);
-      spends = eased 1 (suc g.T.FromCbor.typed.cost) 0 (kept_of g.T.FromCbor.typed.keeps i) to a c.read_null.new.cursor
-          (omega arith) (omega arith) (omega (arith, stands_long i a.bytes a.place to l)) r.spends;
-      ends = r.ends true refl;
-    }
+    grind (arith, null_item, eased, stands_long, r)
 
 pub returns-in_err-read-clause-reads : goal.returns-in_err-read-clause-reads
 returns-in_err-read-clause-reads g c = λ i to l.
     let a = c.args.cursor.now in
     let p = err_from_is_err_and c.from_residual.result c.from_residual.ensures.1 in
     let r = c.if-read_null.ensures.reads i to l in
-    let back =
-    c.go_back.ensures ∙ ap (λ (n : ℕ). record c.read_null.new.cursor { place = n }) c.place-start.ensures in
-    let there = stands_back i a c.go_back.new.self to (ap (λ (w : Walk). w.bytes) back
-    ∙ c.if-read_null.ensures.onward.same) (ap (λ (w : Walk). w.place) back) l in
+    let back = c.go_back.ensures ∙ ap (λ (n : ℕ). record c.read_null.new.cursor { place = n }) c.place-start.ensures in
+    let there = stands_back i a c.go_back.new.self to (ap (λ (w : Walk). w.bytes) back ∙
+    c.if-read_null.ensures.onward.same) (ap (λ (w : Walk). w.place) back) l in
     let read = c.in_err-read.ensures.reads i to there in
     let spent = spends_again 1 g.T.FromCbor.typed.cost 0 (kept_of g.T.FromCbor.typed.keeps i) to a
-    c.read_null.new.cursor
-    c.go_back.new.self c.read.new.cursor c.if-read_null.ensures.onward back r.spends read.spends in
-    rw (p.1, p.2) (record {
-      answers = failed c.in_err-read.field-0.0 (λ none. other_item g.T.FromCbor.typed.of i r.is ∙ ap (option_map Some)
-          none) (λ h. h) read.answers;
-      spends = subst (λ (n : ℕ). Spends n (kept_of g.T.FromCbor.typed.keeps i) to a c.read.new.cursor) (omega arith)
-          (subst (λ (k : ℕ). Spends (1 + g.T.FromCbor.typed.cost) k to a c.read.new.cursor) (omega arith) spent);
-      ends = tt;
-    })
+    c.read_null.new.cursor c.go_back.new.self c.read.new.cursor c.if-read_null.ensures.onward back r.spends
+    read.spends in
+    grind (arith, failed, other_item, p, r, read, spent)
 
 pub returns-clause-reads : goal.returns-clause-reads
 returns-clause-reads g c = λ i to l.
     let a = c.args.cursor.now in
     let r = c.if-read_null.ensures.reads i to l in
-    let back =
-    c.go_back.ensures ∙ ap (λ (n : ℕ). record c.read_null.new.cursor { place = n }) c.place-start.ensures in
-    let there = stands_back i a c.go_back.new.self to (ap (λ (w : Walk). w.bytes) back
-    ∙ c.if-read_null.ensures.onward.same) (ap (λ (w : Walk). w.place) back) l in
+    let back = c.go_back.ensures ∙ ap (λ (n : ℕ). record c.read_null.new.cursor { place = n }) c.place-start.ensures in
+    let there = stands_back i a c.go_back.new.self to (ap (λ (w : Walk). w.bytes) back ∙
+    c.if-read_null.ensures.onward.same) (ap (λ (w : Walk). w.place) back) l in
     let read = c.in_ok-read.ensures.reads i to there in
     let spent = spends_again 1 g.T.FromCbor.typed.cost 0 (kept_of g.T.FromCbor.typed.keeps i) to a
-    c.read_null.new.cursor
-    c.go_back.new.self c.read.new.cursor c.if-read_null.ensures.onward back r.spends read.spends in
-    record {
-      answers = other_item g.T.FromCbor.typed.of i r.is ∙ ap (option_map Some) read.answers;
-      spends = subst (λ (n : ℕ). Spends n (kept_of g.T.FromCbor.typed.keeps i) to a c.read.new.cursor) (omega arith)
-          (subst (λ (k : ℕ). Spends (1 + g.T.FromCbor.typed.cost) k to a c.read.new.cursor) (omega arith) spent);
-      ends = read.ends;
-    }
+    c.read_null.new.cursor c.go_back.new.self c.read.new.cursor c.if-read_null.ensures.onward back r.spends
+    read.spends in
+    grind (arith, other_item, r, read, spent)

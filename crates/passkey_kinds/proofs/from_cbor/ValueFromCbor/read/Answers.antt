@@ -1,42 +1,20 @@
-use Rattle.std.proofs.Common.{Some, Err, ap, sym, subst, refl, arith}
-use Rattle.passkey_cbor.specs.Nodes.{nodes}
+use Rattle.std.proofs.Common.{Err, subst, arith}
 use Rattle.passkey_cbor.specs.EncodedAt.{Values, NotValued}
 use Rattle.passkey_cbor.specs.declared.error.CborError.{CborError}
-use Rattle.passkey_cbor.proofs.Gathering.{raised-le}
 use Rattle.passkey_kinds.proofs.Going.{stands_long}
 use Rattle.passkey_kinds.proofs.from_cbor.ValueFromCbor.read.Goals as goal
 
 pub returns-in-Ok-clause-reads : goal.returns-in-Ok-clause-reads
 returns-in-Ok-clause-reads c = λ i to l.
     let v = c.in-Ok.ensures.values i to l in
-    record {
-      answers = ap Some (sym v.value);
-      spends = record {
-        within = omega (arith, v.place);
-        heads = v.heads;
-        nodes = omega (arith, v.nodes, raised-le c.args.cursor.now.nodes (nodes i));
-      };
-      ends = v.place;
-    }
+    grind (arith, v)
 
 pub returns-in-Err-OutOfMemory-clause-reads : goal.returns-in-Err-OutOfMemory-clause-reads
 returns-in-Err-OutOfMemory-clause-reads c = λ i to l.
-    let v : NotValued i to c.args.cursor.now c.value.new.self =
-    subst (λ (e : CborError). Values i to c.args.cursor.now c.value.new.self (Err e))
-    c.in-Err-OutOfMemory.field-0-is (c.in-Err-OutOfMemory.ensures.values i to l) in
-    record {
-      answers = (refl, v.grows);
-      spends = record {
-        within = omega (
-          arith,
-          v.place,
-          stands_long i c.args.cursor.now.bytes c.args.cursor.now.place to l,
-        );
-        heads = v.heads;
-        nodes = v.nodes;
-      };
-      ends = tt;
-    }
+    let v : NotValued i to c.args.cursor.now c.value.new.self = subst (λ (e : CborError). Values i to
+    c.args.cursor.now c.value.new.self (Err e)) c.in-Err-OutOfMemory.field-0-is
+    (c.in-Err-OutOfMemory.ensures.values i to l) in
+    grind (arith, stands_long, v)
 
 pub returns-in-Err-DecodeFailed-clause-reads : goal.returns-in-Err-DecodeFailed-clause-reads
 returns-in-Err-DecodeFailed-clause-reads c = λ i to l.

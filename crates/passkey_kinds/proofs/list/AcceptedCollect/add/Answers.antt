@@ -1,5 +1,5 @@
 use Rattle.std.specs.List.{cons_option}
-use Rattle.std.proofs.Common.{◌∙◌, [], ◌∷◌, ◌++◌, map, Option, Some, option_map, refl, sym, ap}
+use Rattle.std.proofs.Common.{arith, ◌∙◌, [], ◌∷◌, ◌++◌, map, Option, Some, option_map, refl, ap}
 use Rattle.std.proofs.lemmas.List.{append-nil, map_push}
 use Rattle.std.proofs.lemmas.Result.{err_from_is_err_and}
 use Rattle.passkey_cbor.proofs.Binds.{some_is}
@@ -21,28 +21,18 @@ returns-in_err-push-in-Some-clause-adds g c = λ i to l.
     let p = err_from_is_err_and c.from_residual-in_err-push-in-Some.result
     c.from_residual-in_err-push-in-Some.ensures.1 in
     let read = c.in_ok-element.ensures.reads i to l in
-    rw (p.1, p.2)
-    (record { decodes = record { answers = refl; spends = read.spends; ends = tt }; further = stands_long i _ _ to l })
+    grind (arith, stands_long, p, read)
 
 pub returns-in_ok-push-in-Some-clause-adds : goal.returns-in_ok-push-in-Some-clause-adds
 returns-in_ok-push-in-Some-clause-adds g c = λ i to l.
     let view = g.T.FromCbor.view in
     let xs = c.args.self.now.0.items in
     let read = c.in_ok-element.ensures.reads i to l in
-    let given = some_is (g.T.FromCbor.typed.of i) (option_map view c.in_ok-element.element.0) read.answers
-    ∙ ap (option_map view) c.in-Some.is in
-    let items = ap (map view) c.in_ok-push-in-Some.ensures.items
-    ∙ map_push view xs _
-    ∙ ap (λ (x : g.row.T.Denot). map view xs ++ view x ∷ []) c.in-Some.accepted-is in
-    record {
-      decodes = record {
-        answers = ap (λ (o : Option g.T.FromCbor.Meaning). Some (map view xs ++ cons_option o [])) given ∙ ap
-            Some (sym items);
-        spends = read.spends;
-        ends = read.ends;
-      };
-      further = stands_long i _ _ to l;
-    }
+    let given = some_is (g.T.FromCbor.typed.of i) (option_map view c.in_ok-element.element.0) read.answers ∙ ap
+    (option_map view) c.in-Some.is in
+    let items = ap (map view) c.in_ok-push-in-Some.ensures.items ∙ map_push view xs _ ∙ ap (λ (x :
+    g.row.T.Denot). map view xs ++ view x ∷ []) c.in-Some.accepted-is in
+    grind (arith, stands_long, read, given, items)
 
 pub returns-in-None-clause-adds : goal.returns-in-None-clause-adds
 returns-in-None-clause-adds g c = λ i to l.

@@ -1,4 +1,4 @@
-use Rattle.std.proofs.Common.{◌∙◌, [], ◌∷◌, ◌++◌, map, Some, option_map, refl, sym, ap}
+use Rattle.std.proofs.Common.{arith, ◌∙◌, [], ◌∷◌, ◌++◌, map, option_map, refl, ap}
 use Rattle.std.proofs.lemmas.List.{map_push}
 use Rattle.std.proofs.lemmas.Result.{err_from_is_err_and}
 use Rattle.passkey_kinds.proofs.Going.{stands_long}
@@ -19,20 +19,11 @@ pub returns-in_err-push-clause-adds : goal.returns-in_err-push-clause-adds
 returns-in_err-push-clause-adds g c = λ i to l.
     let p = err_from_is_err_and c.from_residual-in_err-push.result c.from_residual-in_err-push.ensures.1 in
     let read = c.in_ok-read.ensures.reads i to l in
-    rw (p.1, p.2)
-    (record { decodes = record { answers = refl; spends = read.spends; ends = tt }; further = stands_long i _ _ to l })
+    grind (arith, stands_long, p, read)
 
 pub returns-clause-adds : goal.returns-clause-adds
 returns-clause-adds g c = λ i to l.
     let view = g.T.FromCbor.view in
     let read = c.in_ok-read.ensures.reads i to l in
-    let items = ap (map view) c.in_ok-push.ensures.items
-    ∙ map_push view c.args.self.now.items c.in_ok-read.field-0 in
-    record {
-      decodes = record {
-        answers = ap (option_map (λ x. map view c.args.self.now.items ++ x ∷ [])) read.answers ∙ ap Some (sym items);
-        spends = read.spends;
-        ends = read.ends;
-      };
-      further = stands_long i _ _ to l;
-    }
+    let items = ap (map view) c.in_ok-push.ensures.items ∙ map_push view c.args.self.now.items c.in_ok-read.field-0 in
+    grind (arith, stands_long, read, items)

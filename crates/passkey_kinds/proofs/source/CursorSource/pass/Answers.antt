@@ -7,11 +7,4 @@ returns-clause-passes c = λ i to l. (c.skip.ensures.passes i to l).is_found
 pub returns-clause-spends : goal.returns-clause-spends
 returns-clause-spends c = λ i to l.
     let p = c.skip.ensures.passes i to l in
-    record {
-      spends = record {
-        within = omega (arith, p.place);
-        heads = omega (arith, p.heads);
-        nodes = omega (arith, p.nodes);
-      };
-      ends = λ ok. p.place;
-    }
+    grind (arith, p)

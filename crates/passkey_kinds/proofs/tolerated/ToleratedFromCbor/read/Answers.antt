@@ -1,4 +1,4 @@
-use Rattle.std.proofs.Common.{◌≡◌, ◌∙◌, ℕ, suc, ◌+◌, true, false, Some, Err, ap, subst, arith}
+use Rattle.std.proofs.Common.{◌≡◌, ◌∙◌, ℕ, true, false, Err, ap, subst, arith}
 use Rattle.passkey_cbor.specs.Walk.{Walk}
 use Rattle.passkey_kinds.specs.Keeping.{kept_of}
 use Rattle.passkey_kinds.specs.Reader.{ReadsAs, Spends}
@@ -8,41 +8,30 @@ use Rattle.passkey_kinds.proofs.tolerated.ToleratedFromCbor.read.Goals as goal
 
 pub returns-in-Ok-clause-reads : goal.returns-in-Ok-clause-reads
 returns-in-Ok-clause-reads g c = λ i to l.
-    let a = c.args.cursor.now in
-    let kept = kept_of g.T.FromCbor.typed.keeps i in
     let read = c.in-Ok.ensures.reads i to l in
-    record {
-      answers = ap Some read.answers;
-      spends = eased g.T.FromCbor.typed.cost (suc g.T.FromCbor.typed.cost) kept kept to a c.read.new.cursor
-          (omega arith)
-          (omega arith) (omega (arith, stands_long i a.bytes a.place to l)) read.spends;
-      ends = read.ends;
-    }
+    grind (arith, eased, stands_long, read)
 
 pub returns-then-skip-clause-reads : goal.returns-then-skip-clause-reads
 returns-then-skip-clause-reads g c = λ i to l.
     let a = c.args.cursor.now in
     let kept = kept_of g.T.FromCbor.typed.keeps i in
     let read = subst (λ (e : Refusal). ReadsAs g.T.FromCbor.view g.T.FromCbor.typed i to a c.read.new.cursor
-    (Err e)) c.in-Err-Refused.field-0-is
-    (c.in-Err-Refused.ensures.reads i to l) in
+    (Err e)) c.in-Err-Refused.field-0-is (c.in-Err-Refused.ensures.reads i to l) in
     let back = c.go_back.ensures ∙ ap (λ (n : ℕ). record c.read.new.cursor { place = n }) c.place-start.ensures in
-    let there = stands_back i a c.go_back.new.self to (ap (λ (w : Walk). w.bytes) back
-    ∙ c.in-Err-Refused.ensures.onward.same) (ap (λ (w : Walk). w.place) back) l in
+    let there = stands_back i a c.go_back.new.self to (ap (λ (w : Walk). w.bytes) back ∙
+    c.in-Err-Refused.ensures.onward.same) (ap (λ (w : Walk). w.place) back) l in
     let passed = c.if-skip.ensures.passes i to there in
     let skipped : Spends 1 0 to c.go_back.new.self c.skip.new.self = record {
-      within = omega (arith, passed.place);
+      within = omega (
+        arith,
+        passed.place,
+      );
       heads = omega (arith, passed.heads);
       nodes = omega (arith, passed.nodes);
     } in
-    let spent = spends_again g.T.FromCbor.typed.cost 1 kept 0 to a c.read.new.cursor c.go_back.new.self c.skip.new.self
-    c.in-Err-Refused.ensures.onward back read.spends skipped in
-    record {
-      answers = ap Some read.answers;
-      spends = subst (λ (n : ℕ). Spends n kept to a c.skip.new.self) (omega arith)
-          (subst (λ (k : ℕ). Spends (g.T.FromCbor.typed.cost + 1) k to a c.skip.new.self) (omega arith) spent);
-      ends = passed.place;
-    }
+    let spent = spends_again g.T.FromCbor.typed.cost 1 kept 0 to a c.read.new.cursor c.go_back.new.self
+    c.skip.new.self c.in-Err-Refused.ensures.onward back read.spends skipped in
+    grind (arith, read, passed, spent)
 
 pub returns-else-skip-clause-reads : goal.returns-else-skip-clause-reads
 returns-else-skip-clause-reads g c = λ i to l.
@@ -56,14 +45,6 @@ returns-else-skip-clause-reads g c = λ i to l.
 pub returns-in-Err-OutOfMemory-clause-reads : goal.returns-in-Err-OutOfMemory-clause-reads
 returns-in-Err-OutOfMemory-clause-reads g c = λ i to l.
     let a = c.args.cursor.now in
-    let kept = kept_of g.T.FromCbor.typed.keeps i in
     let read = subst (λ (e : Refusal). ReadsAs g.T.FromCbor.view g.T.FromCbor.typed i to a c.read.new.cursor
-    (Err e)) c.in-Err-OutOfMemory.field-0-is
-    (c.in-Err-OutOfMemory.ensures.reads i to l) in
-    record {
-      answers = read.answers;
-      spends = eased g.T.FromCbor.typed.cost (suc g.T.FromCbor.typed.cost) kept kept to a c.read.new.cursor
-          (omega arith)
-          (omega arith) (omega (arith, stands_long i a.bytes a.place to l)) read.spends;
-      ends = tt;
-    }
+    (Err e)) c.in-Err-OutOfMemory.field-0-is (c.in-Err-OutOfMemory.ensures.reads i to l) in
+    grind (arith, eased, stands_long, read)
