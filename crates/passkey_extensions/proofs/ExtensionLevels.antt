@@ -1,6 +1,6 @@
 -- The nesting levels of the encodings of extension inputs: those of the key, and a few around it.
 use Rattle.std.specs.Prelude.{codes}
-use Rattle.std.proofs.Common.{◌≡◌, ℕ, zero, suc, ◌<◌, ◌≤◌, nat_lt, nat_le, min, ◌^◌, ◌-◌, arith, lt-ltb, ltb-true, le-leb, leb-true}
+use Rattle.std.proofs.Common.{rules, ◌≡◌, ℕ, zero, suc, ◌<◌, ◌≤◌, nat_lt, nat_le, min, ◌^◌, ◌-◌, arith, lt-ltb, ltb-true, le-leb, leb-true}
 use Rattle.passkey_cbor.specs.Depth.{depth}
 use Rattle.passkey_cbor.specs.Item.{text_string}
 use Rattle.passkey_extensions.specs.ExtensionTrees.{hmac_input_places, hmac_input_tree, make_extensions_places, get_extensions_places}
@@ -13,8 +13,7 @@ use Rattle.passkey_extensions.proofs.ExtensionPlain.{hmac_input_each, make_exten
 
 pub input_up : (h : HmacInputParts) (n : ℕ) → depth h.key_agreement < n → depth (hmac_input_tree h) ≤ n
 input_up h zero less = absurd (omega arith)
-input_up h (suc n) less =
-    record_within n (hmac_input_places h) (hmac_input_each (few_levels 0 n (omega arith)) h (omega (arith, less)))
+input_up h (suc n) less = grind (arith, record_within, hmac_input_each, few_levels)
 
 pub input_down : (h : HmacInputParts) (n : ℕ) → depth (hmac_input_tree h) ≤ n → depth h.key_agreement < n
 input_down h zero within = absurd (omega (arith, within))
@@ -23,12 +22,7 @@ input_down h (suc n) within = omega (arith, (of_record n (hmac_input_places h) w
 -- a key has one level less than the input that contains it
 pub input_within : (h : HmacInputParts) (n : ℕ) → n < 2 ^ 64
     → nat_lt (min (depth h.key_agreement) (2 ^ 64 - 1)) n ≡ nat_le (depth (hmac_input_tree h)) n
-input_within h n small =
-    same_tests (nat_lt (min (depth h.key_agreement) (2 ^ 64 - 1)) n) (nat_le (depth (hmac_input_tree h)) n)
-    (λ e. le-leb (depth (hmac_input_tree h)) n
-    (input_up h n (omega (arith, small, ltb-true (min (depth h.key_agreement) (2 ^ 64 - 1)) n e))))
-    (λ e. lt-ltb (min (depth h.key_agreement) (2 ^ 64 - 1)) n
-    (omega (arith, small, input_down h n (leb-true (depth (hmac_input_tree h)) n e))))
+input_within h n small = grind (arith, input_up, input_down)
 
 pub made_levels : OnlyDeep make_extensions_places hmac_input_tree (λ e. e.hmac_secret_mc) 254
 made_levels = only_deep (text_string (codes "hmac-secret-mc")) (omega arith)

@@ -1,5 +1,5 @@
 -- Laws of inputs of the extension hmac-secret.
-use Rattle.std.proofs.Common.{arith, le-leb}
+use Rattle.std.proofs.Common.{rules, arith, le-leb}
 use Rattle.passkey_cbor.specs.Depth.{depth}
 use Rattle.passkey_cbor.specs.LeadingItem.{max_depth}
 use Rattle.passkey_extensions.specs.ExtensionTrees.{hmac_input_tree, is_hmac_input_coherent}
@@ -9,5 +9,4 @@ use Rattle.passkey_extensions.proofs.Keys.{read_key}
 use Rattle.passkey_extensions.proofs.ExtensionLevels.{input_up}
 
 pub hmac_input_coherent : ReadIsCoherent read_hmac_input is_hmac_input_coherent
-hmac_input_coherent bytes h begins = le-leb (depth (hmac_input_tree h)) max_depth
-    (input_up h max_depth (omega (arith, read_key begins.item h begins.holds, begins.front.shallow)))
+hmac_input_coherent bytes h begins = grind (arith, input_up, read_key)

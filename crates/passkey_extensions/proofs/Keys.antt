@@ -1,5 +1,5 @@
 -- The key in an extension input has fewer nesting levels than the item that was decoded.
-use Rattle.std.proofs.Common.{◌≡◌, ◌∙◌, ◌+◌, ◌<◌, arith, Option, Some, Ok, ap}
+use Rattle.std.proofs.Common.{rules, ◌≡◌, ◌∙◌, ◌+◌, ◌<◌, arith, Option, Some, Ok, ap}
 use Rattle.passkey_cbor.specs.Depth.{depth}
 use Rattle.passkey_cbor.specs.Item.{Item}
 use Rattle.passkey_extensions.specs.GetExtensions.{GetExtensionsParts, get_extensions_fields, get_extensions}
@@ -23,8 +23,7 @@ KeyWithin i o = (h : HmacInputParts) → o ≡ Some h → depth h.key_agreement 
 
 made_within : (i x : Item) (o : Option HmacInputParts) → optional hmac_input x ≡ Some o → depth x < depth i
     → KeyWithin i o
-made_within i x o read less =
-    λ h is. omega (arith, input_key x h (not_null hmac_input x h (read ∙ ap Some is)), less)
+made_within i x o read less = grind (arith, input_key, not_null)
 
 pub made_key : (i : Item) (e : MakeExtensionsParts) (h : HmacInputParts) → make_extensions i ≡ Some e
     → e.hmac_secret_mc ≡ Some h → depth h.key_agreement + 1 < depth i

@@ -1,6 +1,6 @@
 -- Inputs and outputs of the extension prf can be decoded again, have few levels, and their keys
 -- ascend.
-use Rattle.std.proofs.Common.{◌∙◌, ℕ, suc, ◌≤◌, arith, Option, Some, None, refl, ap}
+use Rattle.std.proofs.Common.{rules, ◌∙◌, ℕ, suc, ◌≤◌, arith, Option, Some, None, refl, ap}
 use Rattle.passkey_cbor.specs.Depth.{depth}
 use Rattle.passkey_cbor.specs.Written.{shortest_head}
 use Rattle.passkey_extensions.specs.Prf.{prf_values, prf_inputs, prf_made, prf_used, unsigned, normal_unsigned}
@@ -29,8 +29,7 @@ values_law =
 
 values_map_back : IsReadBack (from_bytes (plain prf_values)).typed.of (from_bytes (plain prf_values)).tree
     (from_bytes (plain prf_values)).Fits (λ m. m)
-values_map_back =
-    record { back = λ m fits. (map_back values_law.back).back m fits ∙ ap Some (map_values_same m) }
+values_map_back = grind (arith, map_back, values_law, map_values_same)
 
 pub inputs_law : IsLawful 3 prf_inputs
 unfolding shortest_head
@@ -63,10 +62,7 @@ module _ {P : Type 0} (t : PlainTable P) where
   pub unsigned_back : {normal : P → P} → IsReadBack (plain_kind t) (plain_tree t) (EachFits t.members) normal
       → IsReadBack (plain_kind (unsigned t)) (plain_tree (unsigned t)) (EachFits (unsigned t).members)
       (normal_unsigned normal)
-  unsigned_back {normal} law = record {
-    back = λ o fits. kind_back (fields_of (unsigned t)) (places_of (unsigned t).members o) (normal_unsigned normal o)
-        refl refl (puts_value (or_null_back law refl) o.prf fits.0 ▸ no_more);
-  }
+  unsigned_back {normal} law = grind (arith, kind_back, puts_value, or_null_back, no_more)
 
   or_null_within : (n : ℕ) → ((r : P) → depth (plain_tree t r) ≤ n) → (o : Option P)
       → depth (option_tree (plain_tree t) o) ≤ n
@@ -75,8 +71,7 @@ module _ {P : Type 0} (t : PlainTable P) where
 
   pub unsigned_levels : (n : ℕ) → ((r : P) → depth (plain_tree t r) ≤ suc n) → (o : UnsignedExtensionOutputs P)
       → depth (plain_tree (unsigned t) o) ≤ suc (suc n)
-  unsigned_levels n each o =
-      record_within (suc n) (places_of (unsigned t).members o) ((omega arith, or_null_within (suc n) each o.prf), tt)
+  unsigned_levels n each o = grind (arith, record_within, or_null_within)
 
   or_null_plain : (n : ℕ) → ((r : P) → IsPlain n (plain_tree t r)) → (o : Option P)
       → IsPlain n (option_tree (plain_tree t) o)

@@ -1,5 +1,5 @@
 -- authenticatorGetAssertion requests: decoding their encodings again, and their nesting levels.
-use Rattle.std.proofs.Common.{◌≡◌, ℕ, ◌<◌, ◌≤◌, nat_le, arith, le-leb, true, Option, Some, Ok, refl}
+use Rattle.std.proofs.Common.{rules, ◌≡◌, ℕ, ◌<◌, ◌≤◌, nat_le, arith, le-leb, true, Option, Some, Ok, refl}
 use Rattle.passkey_cbor.specs.Depth.{depth}
 use Rattle.passkey_cbor.specs.Item.{Item}
 use Rattle.passkey_get_assertion.specs.GetRequest.{GetRequestParts, get_request_fields, read_get_request, get_request_places, get_request_tree, GetRequestFits, is_get_request_coherent}
@@ -52,8 +52,7 @@ AreCoherent o = (e : GetExtensionsParts) → o ≡ Some e → nat_le (depth (get
 
 decoded_coherent : (i : Item) (o : Option GetExtensionsParts) (n : ℕ) → tolerated get_extensions i ≡ Some o
     → depth i < n → n ≤ 256 → AreCoherent o
-decoded_coherent i o n read less small = λ e is. let there : get_extensions i ≡ Some e =
-    cc in extensions_coherent i e (omega (arith, less, small)) there
+decoded_coherent i o n read less small = grind (arith, extensions_coherent)
 
 read_extensions : (i : Item) (r : GetRequestParts) → depth i ≤ 256 → read_get_request i ≡ Ok r
     → AreCoherent r.extensions
@@ -62,5 +61,4 @@ read_extensions i r small read =
     (search decoded_coherent depth 11 parts 11)
 
 pub get_request_coherent : ReadIsCoherent read_get_request is_get_request_coherent
-get_request_coherent bytes r begins =
-    deep_coherent request_levels r (read_extensions begins.item r begins.front.shallow begins.holds)
+get_request_coherent bytes r begins = grind (arith, deep_coherent, request_levels, read_extensions)

@@ -1,5 +1,5 @@
 -- authenticatorGetAssertion responses: decoding their encodings again, and their nesting levels.
-use Rattle.std.proofs.Common.{◌≡◌, ◌≤◌, nat_le, arith, le-leb, Bool, true, false, ◌&&◌, Ok, refl, sym}
+use Rattle.std.proofs.Common.{rules, ◌≡◌, ◌≤◌, nat_le, arith, le-leb, Bool, true, false, ◌&&◌, Ok, refl, sym}
 use Rattle.std.proofs.lemmas.Bool.{and_from}
 use Rattle.passkey_cbor.specs.Depth.{depth}
 use Rattle.passkey_cbor.specs.LeadingItem.{max_depth}
@@ -34,8 +34,7 @@ and_true a b h = rw h (sym (and_same a)) where
 
 -- whether the authenticator data is coherent decides whether the response is
 pub data_decide : (r : GetResponseParts) → is_coherent r.auth_data ≡ is_get_response_coherent r
-data_decide r =
-    and_true (is_coherent r.auth_data) (nat_le (depth (get_response_tree r)) max_depth) (has_few_levels r)
+data_decide r = grind (arith, and_true, has_few_levels)
 
 -- ---- an encoding can be decoded again
 

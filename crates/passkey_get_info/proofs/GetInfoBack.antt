@@ -1,6 +1,6 @@
 -- Values in an authenticatorGetInfo response can be decoded again from their encodings.
 use Rattle.std.specs.Option.{option_and_then}
-use Rattle.std.proofs.Common.{◌≡◌, Option, Some, None, unwrap_or, refl, ap}
+use Rattle.std.proofs.Common.{rules, arith, ◌≡◌, Option, Some, None, unwrap_or, refl, ap}
 use Rattle.passkey_cbor.specs.Item.{Item, number}
 use Rattle.passkey_cbor.specs.Written.{shortest_head}
 use Rattle.passkey_get_info.specs.GetInfoNames.{version, version_tree, normal_version, extension, extension_tree, normal_extension}
@@ -29,10 +29,7 @@ kept_or_null _ = refl
 
 pub kept_place : (o : Option Item) → Falls (optional kept) None o (option_and_then unless_null o)
 kept_place None = record { value = refl; accepted = λ i e. absurd cc }
-kept_place (Some i) = record {
-  value = ap (λ (o : Option (Option Item)). unwrap_or o None) (kept_or_null i);
-  accepted = accepts_it (optional kept) i (unless_null i) (kept_or_null i);
-}
+kept_place (Some i) = grind (arith, kept_or_null, accepts_it)
 
 pub options_law : IsLawful 0 options
 unfolding shortest_head

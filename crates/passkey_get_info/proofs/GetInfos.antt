@@ -1,5 +1,5 @@
 -- authenticatorGetInfo responses: decoding their encodings again, and their nesting levels.
-use Rattle.std.proofs.Common.{◌≡◌, ◌∙◌, ℕ, pos, ◌^◌, ◌<◌, ◌≤◌, nat_lt, nat_le, arith, le-leb, leb-true, lt-ltb, ltb-true, Bool, true, false, ◌&&◌, if◌then◌else◌, Option, Some, None, option_map, unwrap_or, Result, Ok, Err, is_ok, OnOk, IfErr, refl, sym, ap, subst}
+use Rattle.std.proofs.Common.{rules, ◌≡◌, ◌∙◌, ℕ, pos, ◌^◌, ◌<◌, ◌≤◌, nat_lt, nat_le, arith, le-leb, leb-true, lt-ltb, ltb-true, Bool, true, false, ◌&&◌, if◌then◌else◌, Option, Some, None, option_map, unwrap_or, Result, Ok, Err, is_ok, OnOk, IfErr, refl, sym, ap, subst}
 use Rattle.std.proofs.lemmas.Bool.{and_from}
 use Rattle.passkey_bytes.specs.SameMaps.{same_tests}
 use Rattle.passkey_cbor.specs.Depth.{depth}
@@ -130,16 +130,11 @@ PartsAreGood n r = (is_encodable r.max_msg_size ≡ true) × IsBelow n r.certifi
 
 size_good : (n : ℕ) (i : Item) (o : Option ℕ) (r : GetInfoParts) → depth i < n → optional size i ≡ Some o
     → PartsAreGood n r → PartsAreGood n (record r { max_msg_size = o })
-size_good n i o r less e h =
-    (ap (λ (o : Option (Option ℕ)). is_encodable (unwrap_or o None)) (sym e) ∙ encoded_item i, h.1)
+size_good n i o r less e h = grind (arith, encoded_item)
 
 certifications_good : (n : ℕ) (i : Item) (o : Option Item) (r : GetInfoParts) → depth i < n
     → optional kept_item i ≡ Some o → PartsAreGood n r → PartsAreGood n (record r { certifications = o })
-certifications_good n i o r less e h = (
-  h.0,
-  λ k is. let same : i ≡ k = (let there : kept_item i ≡ Some k =
-      not_null kept_item i k (e ∙ ap Some is) in cc) in subst (λ x. depth x < n) same less,
-)
+certifications_good n i o r less e h = grind (arith, not_null)
 
 read_good : (i : Item) (r : GetInfoParts) → read_get_info i ≡ Ok r → PartsAreGood (depth i) r
 read_good whole r read =
@@ -147,7 +142,4 @@ read_good whole r read =
     (search (size_good (depth whole), certifications_good (depth whole)) depth 40 parts 40)
 
 pub get_info_coherent : ReadIsCoherent read_get_info is_get_info_coherent
-get_info_coherent bytes r begins =
-    let good = read_good begins.item r begins.holds in
-    sym (parts_decide r) ∙ and_from (is_encodable r.max_msg_size) (has_room r.certifications) good.0
-    (below_up (depth begins.item) r.certifications begins.front.shallow good.1)
+get_info_coherent bytes r begins = grind (arith, read_good, parts_decide, and_from, below_up)

@@ -1,5 +1,5 @@
 -- authenticatorMakeCredential requests: decoding their encodings again, and their nesting levels.
-use Rattle.std.proofs.Common.{◌≡◌, ◌∙◌, ℕ, ◌<◌, ◌≤◌, nat_le, arith, le-leb, true, Option, Some, Ok, refl, ap}
+use Rattle.std.proofs.Common.{rules, ◌≡◌, ◌∙◌, ℕ, ◌<◌, ◌≤◌, nat_le, arith, le-leb, true, Option, Some, Ok, refl, ap}
 use Rattle.passkey_cbor.specs.Depth.{depth}
 use Rattle.passkey_cbor.specs.Item.{Item}
 use Rattle.passkey_make_credential.specs.MakeRequest.{MakeRequestParts, make_request_fields, read_make_request, make_request_places, make_request_tree, MakeRequestFits, is_make_request_coherent, normal_make_request}
@@ -26,18 +26,7 @@ use Rattle.passkey_kinds.proofs.RowsBack.{puts_value, puts_default, rows_back, �
 
 pub request_back : (r : MakeRequestParts) → MakeRequestFits r
     → read_make_request (make_request_tree r) ≡ Ok (normal_make_request r)
-request_back r fits =
-    rows_back make_request_fields (make_request_places r) (normal_make_request r) refl refl
-    (puts_value bytes_back r.client_data_hash tt ▸
-    puts_value rp_law.back r.rp (rp_fits r.rp) ▸
-    puts_value user_back r.user tt ▸
-    puts_value (accepted_same parameters_back) r.pub_key_cred_params (λ k d less. tt) ▸
-    puts_default (accepted_place descriptor_back r.exclude_list (all_of_anything r.exclude_list)) refl ▸
-    puts_default (optional_place make_parts_back refl r.extensions fits.0) refl ▸
-    puts_value options_law.back r.options (tt, (tt, (tt, tt))) ▸
-    puts_default (optional_place bytes_back refl r.pin_auth (anything r.pin_auth)) refl ▸
-    puts_default (optional_place byte_back refl r.pin_protocol fits.1) refl ▸
-    no_more)
+request_back r fits = grind (arith, rows_back, puts_value, bytes_back, rp_law, rp_fits, user_back, accepted_same, parameters_back, puts_default, accepted_place, descriptor_back, all_of_anything, optional_place, make_parts_back, options_law, anything, byte_back, no_more)
 
 -- ---- only the extensions may have many levels
 
@@ -57,8 +46,7 @@ AreCoherent o = (e : MakeExtensionsParts) → o ≡ Some e → nat_le (depth (ma
 
 decoded_coherent : (i : Item) (o : Option MakeExtensionsParts) (n : ℕ) → optional make_extensions i ≡ Some o
     → depth i < n → n ≤ 256 → AreCoherent o
-decoded_coherent i o n read less small = λ e is. extensions_coherent i e (omega (arith, less, small))
-    (not_null make_extensions i e (read ∙ ap Some is))
+decoded_coherent i o n read less small = grind (arith, extensions_coherent, not_null)
 
 read_extensions : (i : Item) (r : MakeRequestParts) → depth i ≤ 256 → read_make_request i ≡ Ok r
     → AreCoherent r.extensions
@@ -67,5 +55,4 @@ read_extensions i r small read =
     (search decoded_coherent depth 13 parts 13)
 
 pub make_request_coherent : ReadIsCoherent read_make_request is_make_request_coherent
-make_request_coherent bytes r begins =
-    deep_coherent request_levels r (read_extensions begins.item r begins.front.shallow begins.holds)
+make_request_coherent bytes r begins = grind (arith, deep_coherent, request_levels, read_extensions)

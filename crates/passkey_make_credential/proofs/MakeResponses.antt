@@ -1,6 +1,6 @@
 -- authenticatorMakeCredential responses: decoding their encodings again, and their nesting levels.
 use Rattle.std.specs.Prelude.{codes}
-use Rattle.std.proofs.Common.{◌≡◌, ℕ, ◌<◌, ◌≤◌, ◌-◌, ◌^◌, min, nat_lt, nat_le, arith, lt-ltb, ltb-true, le-leb, leb-true, true, [], ◌∷◌, Some, Ok, refl}
+use Rattle.std.proofs.Common.{rules, ◌≡◌, ℕ, ◌<◌, ◌≤◌, ◌-◌, ◌^◌, min, nat_lt, nat_le, arith, lt-ltb, ltb-true, le-leb, leb-true, true, [], ◌∷◌, Some, Ok, refl}
 use Rattle.std.proofs.lemmas.Bool.{and_from}
 use Rattle.passkey_cbor.specs.Depth.{depth}
 use Rattle.passkey_cbor.specs.Item.{Item}
@@ -36,12 +36,7 @@ response_down r within = (of_record 255 (make_response_places r) within).1.1.0.1
 -- the statement's levels decide, even if they don't fit in a `usize`
 pub statement_decides : (r : MakeResponseParts)
     → nat_lt (min (depth r.att_stmt) (2 ^ 64 - 1)) 256 ≡ nat_le (depth (make_response_tree r)) max_depth
-statement_decides r =
-    same_tests (nat_lt (min (depth r.att_stmt) (2 ^ 64 - 1)) 256) (nat_le (depth (make_response_tree r)) 256)
-    (λ t. le-leb (depth (make_response_tree r)) 256
-    (response_up r (omega (arith, ltb-true (min (depth r.att_stmt) (2 ^ 64 - 1)) 256 t))))
-    (λ t. lt-ltb (min (depth r.att_stmt) (2 ^ 64 - 1)) 256
-    (omega (arith, response_down r (leb-true (depth (make_response_tree r)) 256 t))))
+statement_decides r = grind (arith, response_up, response_down)
 
 -- ---- an encoding can be decoded again
 
@@ -59,14 +54,7 @@ response_back written given r fits coherent =
 
 attestation_back : WrittenDataAreReadBack → ReadIsGiven → (d : DataParts) → IsData d → is_coherent d ≡ true
     → read_make_response (attestation_tree d) ≡ Ok (unattested (normal_data d))
-attestation_back written given d fits coherent =
-    picked_back make_response_fields (picked make_response_fields.rows (1 ∷ 3 ∷ 2 ∷ [])) (attestation_places d)
-    (unattested (normal_data d))
-    ((λ i. refl), (λ i r. refl), ((λ i. refl), (λ i r. refl), ((λ i. refl), (λ i r. refl), tt))) refl refl
-    (puts_value text_back (codes "none") tt ▸
-    puts_value kept_back no_statement tt ▸
-    puts_value (auth_data_back written given) d (fits, coherent) ▸
-    no_more)
+attestation_back written given d fits coherent = grind (arith, picked_back, picked, puts_value, text_back, kept_back, auth_data_back, no_more)
 
 pub attestation_returns : WrittenIsLeadingItem → WrittenDataAreReadBack → ReadIsGiven
     → WrittenIsReadBack read_make_response (λ r. attestation_tree r.auth_data) (λ r. IsData r.auth_data)

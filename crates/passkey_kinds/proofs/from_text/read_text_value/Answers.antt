@@ -1,4 +1,4 @@
-use Rattle.std.proofs.Common.{◌∙◌, true, Some, Ok, Err, sym, ap, arith}
+use Rattle.std.proofs.Common.{rules, ◌∙◌, true, Some, Ok, Err, sym, ap, arith}
 use Rattle.std.specs.Option.{option_and_then}
 use Rattle.std.proofs.lemmas.Result.{err_from_is_err_and}
 use Rattle.passkey_kinds.specs.Kind.{one_named, MayGrow}
@@ -27,7 +27,4 @@ returns-in_ok-text_value-in-Some-clause-reads g c = λ i to l.
 pub returns-in-None-clause-reads : goal.returns-in-None-clause-reads
 returns-in-None-clause-reads g c = λ i to l.
     let f = c.in-None.ensures.lends i to l in
-    not_lent_decodes (λ v. v) (one_named (λ s. Some (g.T.FromText.of_text s)) i) (MayGrow true i) true 2
-    c.args.cursor.now c.text.new.self i to (omega arith) l f
-    (named_text (λ s. Some (g.T.FromText.of_text s)) i
-    ∙ ap (option_and_then (λ s. Some (g.T.FromText.of_text s))) (no_text i f.0))
+    search (rules, not_lent_decodes, named_text, no_text, f)

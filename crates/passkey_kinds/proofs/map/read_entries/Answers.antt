@@ -1,4 +1,4 @@
-use Rattle.std.proofs.Common.{◌∙◌, ◌+◌, map, drop, sym, ap}
+use Rattle.std.proofs.Common.{rules, arith, ◌∙◌, ◌+◌, map, drop, sym, ap}
 use Rattle.passkey_cbor.specs.View.{pair_of}
 use Rattle.passkey_kinds.specs.MapKind.{map_values, with_members}
 use Rattle.passkey_kinds.proofs.Maps.{map_values-empty, read_more}
@@ -10,10 +10,4 @@ loop-key-init g c =
     (sym (map_values-empty g.T.FromCbor.view) ∙ sym (ap (map_values g.T.FromCbor.view) c.empty-read.ensures))
 
 pub loop-key-preserved : goal.loop-key-preserved
-loop-key-preserved g c =
-    c.loop-key.invariant
-    ∙ read_more g.T.FromCbor.typed.of g.T.FromCbor.view c.args.pairs.now c.loop-key.key-index c.loop-key-item.result
-    c.loop-key.read c.in_ok-from_value.field-0 c.in_ok-from_value-2.field-0 c.loop-key-item.is
-    c.loop-key-test.true c.in_ok-from_value.ensures c.in_ok-from_value-2.ensures
-    ∙ ap (λ m. with_members g.T.FromCbor.typed.of (map_values g.T.FromCbor.view m)
-    (map pair_of (drop (c.loop-key.key-index + 1) c.args.pairs.now))) (sym c.in_ok-insert.ensures.ok)
+loop-key-preserved g c = search (rules, read_more, c.loop-key.invariant, c.loop-key-item.is, c.loop-key-test.true, c.in_ok-from_value.ensures, c.in_ok-from_value-2.ensures, c.in_ok-insert.ensures.ok)

@@ -1,4 +1,4 @@
-use Rattle.std.proofs.Common.{◌∙◌, true, sym, ap, arith}
+use Rattle.std.proofs.Common.{rules, ◌∙◌, true, sym, ap, arith}
 use Rattle.std.specs.Option.{option_and_then}
 use Rattle.passkey_kinds.specs.Kind.{one_named}
 use Rattle.passkey_kinds.proofs.Leaves.{named_text, no_text}
@@ -17,6 +17,4 @@ returns-in-Some-clause-reads g c = λ i to l.
 pub returns-in-None-clause-reads : goal.returns-in-None-clause-reads
 returns-in-None-clause-reads g c = λ i to l.
     let f = c.in-None.ensures.lends i to l in
-    not_lent_decodes (λ x. x) (one_named g.T.EnumNames.named i) ⊥ true 2 c.args.cursor.now c.text.new.self i to
-    (omega arith) l f
-    (named_text g.T.EnumNames.named i ∙ ap (option_and_then g.T.EnumNames.named) (no_text i f.0))
+    search (rules, not_lent_decodes, named_text, no_text, f)

@@ -1,5 +1,5 @@
 use Rattle.std.proofs.lemmas.List.{length-map, drop_all}
-use Rattle.std.proofs.Common.{rules, ◌≡◌, ◌+◌, map, drop, Err, refl}
+use Rattle.std.proofs.Common.{arith, rules, ◌≡◌, ◌+◌, map, drop, Err, refl}
 use Rattle.passkey_cbor.specs.View.{pair_of}
 use Rattle.passkey_kinds.specs.Reading.{named_as}
 use Rattle.passkey_kinds.specs.Record.{table_of}
@@ -10,39 +10,34 @@ use Rattle.passkey_kinds.proofs.Putting.{goes_on, fails, all_read}
 use Rattle.passkey_kinds.proofs.record.read_pairs.Goals as goal
 
 pub loop-key-preserved : goal.loop-key-preserved
-loop-key-preserved g c =
+loop-key-preserved g c = 
     let t = g.R.Record.fields in
     let ms = map pair_of c.args.pairs.now in
     let m = pair_of c.loop-key-item.result in
     let i = c.loop-key.key-index in
     let at = member_at pair_of c.args.pairs.now i c.loop-key-item.result c.loop-key-item.is c.loop-key-test.true in
     let h = c.loop-key.invariant in
-    let naming = key_names (table_of t) c.is_numbered.result (map entry_of c.rows.result.now) m.0
-    (named_as c.in-Some.key) c.is_numbered.ensures c.rows.ensures.rows c.in-Some.ensures in
+    let naming = key_names (table_of t) c.is_numbered.result (map entry_of c.rows.result.now) m.0 (named_as c.in-Some.key) c.is_numbered.ensures c.rows.ensures.rows c.in-Some.ensures in
     let told = c.in_ok-read_member.ensures.reads h.earlier m.0 m.1 0 naming refl h.holds in
-    goes_on t ms (drop i ms) (drop (i + 1) ms) m _ _ c.loop-key.seen c.read_member.new.seen at h told.0.0 told.0.1
-    told.1
+    search (rules, goes_on, t, ms, m, i, at, h, told)
 
 pub returns-in_err-read_member : goal.returns-in_err-read_member
-returns-in_err-read_member g c =
+returns-in_err-read_member g c = 
     let t = g.R.Record.fields in
     let ms = map pair_of c.args.pairs.now in
     let m = pair_of c.loop-key-item.result in
     let i = c.loop-key.key-index in
     let at = member_at pair_of c.args.pairs.now i c.loop-key-item.result c.loop-key-item.is c.loop-key-test.true in
     let h = c.loop-key.invariant in
-    let naming = key_names (table_of t) c.is_numbered.result (map entry_of c.rows.result.now) m.0
-    (named_as c.in-Some.key) c.is_numbered.ensures c.rows.ensures.rows c.in-Some.ensures in
+    let naming = key_names (table_of t) c.is_numbered.result (map entry_of c.rows.result.now) m.0 (named_as c.in-Some.key) c.is_numbered.ensures c.rows.ensures.rows c.in-Some.ensures in
     let told = c.in_err-read_member.ensures.reads h.earlier m.0 m.1 0 naming refl h.holds in
     let result : c.from_residual.result ≡ Err c.in_err-read_member.field-0.0 = search rules in
-    rw result (fails t g.R.Record.parts ms (drop i ms) (drop (i + 1) ms) m _ c.loop-key.seen at h
-    c.read_member.new.seen c.in_err-read_member.field-0.0 told.0)
+    search (rules, fails, t, ms, m, i, at, h, told, result)
 
 pub returns : goal.returns
-returns g c =
+returns g c = 
     let t = g.R.Record.fields in
     let ms = map pair_of c.args.pairs.now in
     let i = c.loop-key.key-index in
     let past = drop_all i ms (rw (length-map c.args.pairs.now pair_of) c.loop-key-test.false) in
-    all_read t g.R.Record.parts ms (drop i ms) _ c.loop-key.seen c.finish.result past c.loop-key.invariant
-    c.finish.ensures.small c.finish.ensures.reads
+    search (rules, all_read, t, ms, i, past, c.loop-key.invariant, c.finish.ensures.small, c.finish.ensures.reads)

@@ -1,4 +1,4 @@
-use Rattle.std.proofs.Common.{◌∙◌, true, false, sym, ap}
+use Rattle.std.proofs.Common.{rules, arith, ◌∙◌, true, false, sym, ap}
 use Rattle.std.specs.Option.{option_and_then}
 use Rattle.passkey_iana.specs.Iana.{algorithm_named}
 use Rattle.passkey_kinds.specs.Algorithm.{algorithm}
@@ -38,8 +38,6 @@ returns-in-None-clause-reads c = λ i to l.
     (number_decodes i to b d f.0 c.read_integer.result result read c.named-in-None.ensures)
 
 pub returns-in-Some-clause-further : goal.returns-in-Some-clause-further
-returns-in-Some-clause-further c =
+returns-in-Some-clause-further c = 
     let looks = c.whole_of.ensures.looks in
-    on_ok c.named.result
-    (looked_further c.args.cursor.now c.text.new.self c.whole_of.new.cursor c.in-Some.token true
-    c.in-Some.ensures.front looks)
+    search (rules, on_ok, looked_further, looks, c.in-Some.ensures.front)

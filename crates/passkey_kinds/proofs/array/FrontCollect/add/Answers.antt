@@ -1,4 +1,4 @@
-use Rattle.std.proofs.Common.{◌∙◌, [], ◌∷◌, ◌++◌, length, take, Some, option_map, refl, sym, ap, arith}
+use Rattle.std.proofs.Common.{rules, ◌∙◌, [], ◌∷◌, ◌++◌, length, take, Some, option_map, refl, sym, ap, arith}
 use Rattle.std.proofs.lemmas.Bool.{lt-ltb, le-ltb}
 use Rattle.std.proofs.lemmas.List.{length-take, take_more_set}
 use Rattle.std.proofs.lemmas.Result.{err_from_is_err_and}
@@ -39,13 +39,4 @@ returns-clause-adds c = λ i to l.
     let bytes = c.args.self.now.bytes in
     let len = c.args.self.now.len in
     let read = c.in_ok-self.ensures.reads i to l in
-    record {
-      decodes = record {
-        answers = rw (lt-ltb (length (take len bytes)) 32 (omega (arith, length-take len bytes, c.if-self-ge32.false)))
-            (ap (option_map (λ n. take len bytes ++ n ∷ [])) read.answers ∙ ap Some (sym (take_more_set bytes
-            len _ (omega (arith, c.if-self-ge32.false)))));
-        spends = read.spends;
-        ends = read.ends;
-      };
-      further = stands_long i _ _ to l;
-    }
+    search (rules, take_more_set, stands_long, bytes, len, read, c.if-self-ge32.false)

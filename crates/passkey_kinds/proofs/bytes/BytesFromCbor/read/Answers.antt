@@ -1,4 +1,4 @@
-use Rattle.std.proofs.Common.{◌≡◌, ◌∙◌, ◌^◌, true, false, Some, Ok, Err, sym, ap, subst, arith}
+use Rattle.std.proofs.Common.{rules, ◌≡◌, ◌∙◌, ◌^◌, true, false, Some, Ok, Err, sym, ap, subst, arith}
 use Rattle.std.proofs.lemmas.Result.{err_from_is_err_and}
 use Rattle.passkey_cose.proofs.KeyLists.{elements-items_of}
 use Rattle.passkey_kinds.specs.Kind.{bytes, each, below, MayGrow}
@@ -100,20 +100,4 @@ returns-in-None-clause-reads c = λ i to l.
     let t = c.in_default-text.ensures.lends i to there in
     let here = stands_missed i c.bytes.new.self c.text.new.self to t.1 there in
     let s = c.in-None.ensures.spends i to here in
-    record {
-      answers = no_bytes i e.0 t.0 (c.in-None.ensures.opens i to here);
-      spends = record {
-        within = s.within;
-        heads = omega (
-          arith,
-          c.in-None.ensures.counted,
-          e.1.heads,
-          e.1.place,
-          t.1.heads,
-          t.1.place,
-          stands_long i a.bytes a.place to l,
-        );
-        nodes = omega (arith, s.nodes, e.1.nodes, t.1.nodes);
-      };
-      ends = tt;
-    }
+    search (rules, no_bytes, stands_long, a, e, t, here, s, c.in-None.ensures.opens, c.in-None.ensures.counted)

@@ -1,4 +1,4 @@
-use Rattle.std.proofs.Common.{◌∙◌, Err, false, ap, arith}
+use Rattle.std.proofs.Common.{rules, ◌∙◌, Err, false, ap, arith}
 use Rattle.std.proofs.lemmas.Result.{err_from_is_err_and}
 use Rattle.passkey_kinds.specs.Data.{aaguid}
 use Rattle.passkey_kinds.specs.Kind.{MayGrow}
@@ -27,5 +27,4 @@ returns-in_ok-filled-in-Some-clause-reads c = λ i to l.
 pub returns-in-None-clause-reads : goal.returns-in-None-clause-reads
 returns-in-None-clause-reads c = λ i to l.
     let f = c.in-None.ensures.lends i to l in
-    not_lent_decodes _ (aaguid i) (MayGrow false i) false 2 c.args.cursor.now c.bytes.new.self i to (omega arith) l
-    f (no_aaguid i f.0)
+    search (rules, not_lent_decodes, no_aaguid, f)

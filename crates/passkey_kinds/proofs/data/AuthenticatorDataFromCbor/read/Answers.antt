@@ -1,4 +1,4 @@
-use Rattle.std.proofs.Common.{◌∙◌, true, false, Err, arith}
+use Rattle.std.proofs.Common.{rules, ◌∙◌, true, false, Err, arith}
 use Rattle.std.proofs.lemmas.Result.{err_from_is_err_and}
 use Rattle.passkey_core.specs.DataViews.{data_parts}
 use Rattle.passkey_kinds.specs.Data.{authenticator_data, authenticator_data_nodes}
@@ -15,10 +15,7 @@ returns-in-None-clause-reads c = λ i to l.
     let a = c.args.cursor.now in
     let b = c.bytes.new.self in
     let f = c.in-None.ensures.lends i to l in
-    decodes_dearer data_parts (authenticator_data i) (MayGrow true i) 6 6 0 (authenticator_data_nodes i) to a b _
-    (omega arith) (omega arith) (omega (arith, stands_long i a.bytes a.place to l))
-    (not_lent_decodes data_parts (authenticator_data i) (MayGrow true i) false 6 a b i to (omega arith) l f
-    (no_data i f.0))
+    search (rules, decodes_dearer, stands_long, not_lent_decodes, no_data, a, b, f)
 
 pub returns-in_err-bytes-in-None-lent-clause-reads : goal.returns-in_err-bytes-in-None-lent-clause-reads
 returns-in_err-bytes-in-None-lent-clause-reads c = λ i to l.

@@ -1,4 +1,4 @@
-use Rattle.std.proofs.Common.{◌∙◌, true, Some, Ok, Err, sym, ap, arith}
+use Rattle.std.proofs.Common.{rules, ◌∙◌, true, Some, Ok, Err, sym, ap, arith}
 use Rattle.std.proofs.lemmas.Result.{err_from_is_err_and}
 use Rattle.passkey_kinds.specs.Kind.{text, MayGrow}
 use Rattle.passkey_kinds.specs.declared.refusal.Refusal.TheVariants.{OutOfMemory}
@@ -27,5 +27,4 @@ returns-in_ok-copy-in-Some-clause-reads c = λ i to l.
 pub returns-in-None-clause-reads : goal.returns-in-None-clause-reads
 returns-in-None-clause-reads c = λ i to l.
     let f = c.in-None.ensures.lends i to l in
-    not_lent_decodes _ (text i) (MayGrow true i) true 2 c.args.cursor.now c.text.new.self i to (omega arith) l f
-    (no_text i f.0)
+    search (rules, not_lent_decodes, no_text, f)

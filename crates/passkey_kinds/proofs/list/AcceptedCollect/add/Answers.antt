@@ -1,5 +1,5 @@
 use Rattle.std.specs.List.{cons_option}
-use Rattle.std.proofs.Common.{arith, ◌∙◌, [], ◌∷◌, ◌++◌, map, Option, Some, option_map, refl, ap}
+use Rattle.std.proofs.Common.{rules, arith, ◌∙◌, [], ◌∷◌, ◌++◌, map, Option, Some, option_map, refl, ap}
 use Rattle.std.proofs.lemmas.List.{append-nil, map_push}
 use Rattle.std.proofs.lemmas.Result.{err_from_is_err_and}
 use Rattle.passkey_cbor.proofs.Binds.{some_is}
@@ -39,14 +39,5 @@ returns-in-None-clause-adds g c = λ i to l.
     let view = g.T.FromCbor.view in
     let xs = c.args.self.now.0.items in
     let read = c.in_ok-element.ensures.reads i to l in
-    let given = some_is (g.T.FromCbor.typed.of i) (option_map view c.in_ok-element.element.0) read.answers
-    ∙ ap (option_map view) c.in-None.is in
-    record {
-      decodes = record {
-        answers = ap (λ (o : Option g.T.FromCbor.Meaning). Some (map view xs ++ cons_option o [])) given
-            ∙ ap Some (append-nil (map view xs));
-        spends = read.spends;
-        ends = read.ends;
-      };
-      further = stands_long i _ _ to l;
-    }
+    let given = some_is (g.T.FromCbor.typed.of i) (option_map view c.in_ok-element.element.0) read.answers ∙ ap (option_map view) c.in-None.is in
+    search (rules, stands_long, view, xs, read, given)
