@@ -1,15 +1,9 @@
 -- Relying parties and users can be decoded again, have one level, and their keys ascend.
-use Rattle.std.proofs.Common.{refl}
-use Rattle.passkey_cbor.specs.Written.{shortest_head}
+use Rattle.passkey_kinds.proofs.Steps.{refl, shortest_head, EachFits, IsLawful, lawful, text_back, bytes_back, anything, optional_place, plainly, puts_value, puts_default, ◌▸◌, no_more}
 use Rattle.passkey_entities.specs.Rp.{rp}
 use Rattle.passkey_entities.specs.User.{user}
 use Rattle.passkey_entities.specs.declared.rp.PublicKeyCredentialRpEntity.{PublicKeyCredentialRpEntity}
 use Rattle.passkey_entities.specs.declared.user.PublicKeyCredentialUserEntity.{PublicKeyCredentialUserEntity}
-use Rattle.passkey_kinds.specs.Placed.{EachFits}
-use Rattle.passkey_kinds.proofs.Lawful.{IsLawful, lawful}
-use Rattle.passkey_kinds.proofs.LeafBack.{text_back, bytes_back, anything, optional_place}
-use Rattle.passkey_kinds.proofs.Plain.{plainly}
-use Rattle.passkey_kinds.proofs.RowsBack.{puts_value, puts_default, ◌▸◌, no_more}
 
 pub rp_law : IsLawful 0 rp
 unfolding shortest_head

@@ -1,14 +1,9 @@
 -- The nesting levels of the encodings of extension inputs: those of the key, and a few around it.
-use Rattle.std.specs.Prelude.{codes}
-use Rattle.std.proofs.Common.{rules, ◌≡◌, ℕ, zero, suc, ◌<◌, ◌≤◌, nat_lt, nat_le, min, ◌^◌, ◌-◌, arith, lt-ltb, ltb-true, le-leb, leb-true}
-use Rattle.passkey_cbor.specs.Depth.{depth}
-use Rattle.passkey_cbor.specs.Item.{text_string}
+use Rattle.passkey_kinds.proofs.Steps.{codes, rules, ◌≡◌, ℕ, zero, suc, ◌<◌, ◌≤◌, nat_lt, nat_le, min, ◌^◌, ◌-◌, arith, ltb-true, le-leb, depth, text_string, same_tests, OnlyDeep, only_deep, record_within, few_levels}
+use Rattle.std.proofs.Common.{lt-ltb, leb-true}
 use Rattle.passkey_extensions.specs.ExtensionTrees.{hmac_input_places, hmac_input_tree, make_extensions_places, get_extensions_places}
 use Rattle.passkey_extensions.specs.HmacInput.{HmacInputParts}
-use Rattle.passkey_bytes.specs.SameMaps.{same_tests}
-use Rattle.passkey_kinds.proofs.Deep.{OnlyDeep, only_deep}
-use Rattle.passkey_kinds.proofs.Levels.{record_within, of_record}
-use Rattle.passkey_kinds.proofs.Plain.{few_levels}
+use Rattle.passkey_kinds.proofs.Levels.{of_record}
 use Rattle.passkey_extensions.proofs.ExtensionPlain.{hmac_input_each, make_extensions_each, get_extensions_each}
 
 pub input_up : (h : HmacInputParts) (n : ℕ) → depth h.key_agreement < n → depth (hmac_input_tree h) ≤ n

@@ -1,22 +1,13 @@
 -- Inputs and outputs of extensions are ordered.
-use Rattle.std.specs.Prelude.{codes}
-use Rattle.std.proofs.Common.{◌≡◌, arith, leb-true, true, Option, Some, None, option_map, refl}
-use Rattle.passkey_cbor.specs.Canonical.{IsOrdered}
-use Rattle.passkey_cbor.specs.Depth.{depth}
-use Rattle.passkey_cbor.specs.LeadingItem.{max_depth}
-use Rattle.passkey_cbor.specs.Item.{Item, text_string}
-use Rattle.passkey_cbor.specs.Laws.{AtMostOneLeadingItem, WrittenIsLeadingItem}
-use Rattle.passkey_cbor.specs.Written.{shortest_head}
+use Rattle.passkey_kinds.proofs.Steps.{codes, ◌≡◌, arith, true, Option, Some, None, option_map, refl, IsOrdered, depth, max_depth, Item, text_string, AtMostOneLeadingItem, WrittenIsLeadingItem, shortest_head, AllCanonical, WrittenIsCanonical, KeysAscend, PlaceWithin, ascend, keys_ascend, PlaceOrdered, PlaceWritable, record_ordered, canonical_of, ordered_of, in_order}
+use Rattle.std.proofs.Common.{leb-true}
 use Rattle.passkey_extensions.specs.ExtensionTrees.{hmac_input_places, hmac_input_tree, is_hmac_input_coherent, hmac_input_kept, inputs_kept, make_extensions_places, make_extensions_tree, make_extensions_kept, get_extensions_places, get_extensions_tree, get_extensions_kept}
 use Rattle.passkey_extensions.specs.GetExtensions.{GetExtensionsParts}
 use Rattle.passkey_extensions.specs.HmacInput.{HmacInputParts}
 use Rattle.passkey_extensions.specs.MakeExtensions.{MakeExtensionsParts}
 use Rattle.passkey_extensions.proofs.ExtensionLevels.{input_down}
-use Rattle.passkey_kinds.specs.MessageLaws.{AllCanonical, WrittenIsCanonical}
-use Rattle.passkey_kinds.specs.Tree.{KeysAscend}
-use Rattle.passkey_kinds.proofs.Levels.{PlaceWithin, of_record as levels_of}
-use Rattle.passkey_kinds.proofs.Ordered.{ascend, keys_ascend, PlaceOrdered, PlaceWritable, record_ordered, of_record, canonical_of, ordered_of}
-use Rattle.passkey_kinds.proofs.Plain.{in_order}
+use Rattle.passkey_kinds.proofs.Levels.{of_record as levels_of}
+use Rattle.passkey_kinds.proofs.Ordered.{of_record}
 use Rattle.passkey_extensions.proofs.Prf.{values_law, inputs_law, made_outputs_law}
 use Rattle.passkey_extensions.proofs.ExtensionPlain.{hmac_input_each, make_extensions_each, get_extensions_each}
 

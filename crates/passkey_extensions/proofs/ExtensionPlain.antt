@@ -1,15 +1,11 @@
 -- What holds of each key and value that extension inputs are encoded as, if it holds of the key that
 -- an input of hmac-secret keeps.
-use Rattle.std.specs.Prelude.{codes}
-use Rattle.std.proofs.Common.{ℕ, option_map}
-use Rattle.passkey_cbor.specs.Item.{Item, text_string}
+use Rattle.passkey_kinds.proofs.Steps.{codes, ℕ, option_map, Item, text_string, PlaceHas, EachPlace, Rule, plainly}
 use Rattle.passkey_extensions.specs.ExtensionTrees.{hmac_input_places, hmac_input_tree, make_extensions_places, get_extensions_places}
 use Rattle.passkey_extensions.specs.GetExtensions.{GetExtensionsParts}
 use Rattle.passkey_extensions.specs.HmacInput.{HmacInputParts}
 use Rattle.passkey_extensions.specs.MakeExtensions.{MakeExtensionsParts}
 use Rattle.passkey_extensions.proofs.Prf.{inputs_law}
-use Rattle.passkey_kinds.proofs.Places.{PlaceHas, EachPlace}
-use Rattle.passkey_kinds.proofs.Plain.{Rule, plainly}
 
 pub hmac_input_each : {n : ℕ} {Q : Item → Type 0} → Rule n Q → (h : HmacInputParts) → Q h.key_agreement
     → EachPlace Q (hmac_input_places h)

@@ -1,10 +1,7 @@
 -- Laws of inputs of the extension hmac-secret.
-use Rattle.std.proofs.Common.{rules, arith, le-leb}
-use Rattle.passkey_cbor.specs.Depth.{depth}
-use Rattle.passkey_cbor.specs.LeadingItem.{max_depth}
+use Rattle.passkey_kinds.proofs.Common.{rules, arith, le-leb, depth, max_depth, ReadIsCoherent}
 use Rattle.passkey_extensions.specs.ExtensionTrees.{hmac_input_tree, is_hmac_input_coherent}
 use Rattle.passkey_extensions.specs.HmacInput.{read_hmac_input}
-use Rattle.passkey_kinds.specs.MessageLaws.{ReadIsCoherent}
 use Rattle.passkey_extensions.proofs.Keys.{read_key}
 use Rattle.passkey_extensions.proofs.ExtensionLevels.{input_up}
 

@@ -1,13 +1,8 @@
 -- The key in an extension input has fewer nesting levels than the item that was decoded.
-use Rattle.std.proofs.Common.{rules, ◌≡◌, ◌∙◌, ◌+◌, ◌<◌, arith, Option, Some, Ok, ap}
-use Rattle.passkey_cbor.specs.Depth.{depth}
-use Rattle.passkey_cbor.specs.Item.{Item}
+use Rattle.passkey_kinds.proofs.Steps.{rules, ◌≡◌, ◌∙◌, ◌+◌, ◌<◌, arith, Option, Some, Ok, ap, depth, Item, optional, tolerated, not_null, ok_of, kept_below, record_keeps, nested_keeps}
 use Rattle.passkey_extensions.specs.GetExtensions.{GetExtensionsParts, get_extensions_fields, get_extensions}
 use Rattle.passkey_extensions.specs.HmacInput.{HmacInputParts, hmac_input_fields, hmac_input, read_hmac_input}
 use Rattle.passkey_extensions.specs.MakeExtensions.{MakeExtensionsParts, make_extensions_fields, make_extensions}
-use Rattle.passkey_kinds.specs.Kind.{optional, tolerated}
-use Rattle.passkey_kinds.proofs.NotNull.{not_null, ok_of}
-use Rattle.passkey_kinds.proofs.Keeping.{kept_below, record_keeps, nested_keeps}
 
 pub read_key : (i : Item) (h : HmacInputParts) → read_hmac_input i ≡ Ok h → depth h.key_agreement < depth i
 read_key i h read =

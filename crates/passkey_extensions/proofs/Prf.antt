@@ -1,23 +1,11 @@
 -- Inputs and outputs of the extension prf can be decoded again, have few levels, and their keys
 -- ascend.
-use Rattle.std.proofs.Common.{rules, ◌∙◌, ℕ, suc, ◌≤◌, arith, Option, Some, None, refl, ap}
-use Rattle.passkey_cbor.specs.Depth.{depth}
-use Rattle.passkey_cbor.specs.Written.{shortest_head}
+use Rattle.passkey_kinds.proofs.Steps.{rules, ◌∙◌, ℕ, suc, ◌≤◌, arith, Option, Some, None, refl, ap, depth, shortest_head, EachFits, fields_of, places_of, IsReadBack, IsLawful, lawful, raised, truth_back, or_null_back, or_null_same, optional_place, record_within, map_back, map_values_same, IsPlain, plainly, null_plain, map_plain, numbers_plain, puts_value, puts_default, kind_back, ◌▸◌, no_more, numbers_back}
 use Rattle.passkey_extensions.specs.Prf.{prf_values, prf_inputs, prf_made, prf_used, unsigned, normal_unsigned}
 use Rattle.passkey_extensions.specs.declared.unsigned.UnsignedExtensionOutputs.{UnsignedExtensionOutputs}
 use Rattle.passkey_kinds.specs.Coded.{from_bytes, plain}
-use Rattle.passkey_kinds.specs.Placed.{PlainTable, EachFits, fields_of, places_of, plain_kind, plain_tree}
-use Rattle.passkey_kinds.specs.ReadBack.{IsReadBack}
+use Rattle.passkey_kinds.specs.Placed.{PlainTable, plain_kind, plain_tree}
 use Rattle.passkey_kinds.specs.Tree.{option_tree}
-use Rattle.passkey_kinds.proofs.Lawful.{IsLawful, lawful, raised}
-use Rattle.passkey_kinds.proofs.LeafBack.{truth_back, or_null_back, or_null_same, optional_place}
-use Rattle.passkey_kinds.proofs.Levels.{record_within}
-use Rattle.passkey_kinds.proofs.MapBack.{map_back}
-use Rattle.passkey_kinds.proofs.Maps.{map_values_same}
-use Rattle.passkey_kinds.proofs.Plain.{IsPlain, plainly, null_plain, map_plain}
-use Rattle.passkey_kinds.proofs.RecordPlain.{numbers_plain}
-use Rattle.passkey_kinds.proofs.RowsBack.{puts_value, puts_default, kind_back, ◌▸◌, no_more}
-use Rattle.passkey_kinds.proofs.SizedBack.{numbers_back}
 
 pub values_law : IsLawful 1 prf_values
 unfolding shortest_head

@@ -1,19 +1,11 @@
 -- The encodings of the messages of authenticatorGetAssertion are canonical.
-use Rattle.std.proofs.Common.{◌≡◌, nat_le, leb-true, true, refl}
-use Rattle.std.proofs.lemmas.Bool.{and_parts}
-use Rattle.passkey_cbor.specs.Depth.{depth}
-use Rattle.passkey_cbor.specs.LeadingItem.{max_depth}
-use Rattle.passkey_cbor.specs.Laws.{AtMostOneLeadingItem, WrittenIsLeadingItem}
-use Rattle.passkey_cbor.specs.Written.{shortest_head}
-use Rattle.passkey_core.specs.Coherent.{is_coherent}
+use Rattle.passkey_kinds.proofs.Steps.{◌≡◌, nat_le, true, refl, and_parts, depth, max_depth, AtMostOneLeadingItem, WrittenIsLeadingItem, shortest_head, is_coherent, WrittenIsCanonical, number_tree, ascend, record_ordered, canonical_of, in_order}
+use Rattle.std.proofs.Common.{leb-true}
 use Rattle.passkey_extensions.proofs.ExtensionOrdered.{get_extensions_place}
 use Rattle.passkey_get_assertion.specs.GetRequest.{GetRequestParts, get_request_places, get_request_tree, get_request_kept, is_get_request_coherent}
 use Rattle.passkey_get_assertion.specs.GetResponse.{GetResponseParts, get_response_places, get_response_tree, get_response_kept, is_get_response_coherent}
-use Rattle.passkey_kinds.specs.MessageLaws.{WrittenIsCanonical}
-use Rattle.passkey_kinds.specs.Tree.{number_tree}
 use Rattle.passkey_kinds.proofs.Levels.{of_record as levels_of}
-use Rattle.passkey_kinds.proofs.Ordered.{ascend, record_ordered, of_record, canonical_of}
-use Rattle.passkey_kinds.proofs.Plain.{in_order}
+use Rattle.passkey_kinds.proofs.Ordered.{of_record}
 use Rattle.passkey_get_assertion.proofs.GetPlaces.{get_request_each, get_response_each}
 
 -- ---- requests

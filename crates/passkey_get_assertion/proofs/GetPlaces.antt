@@ -1,16 +1,11 @@
 -- What holds of each key and value of the messages of authenticatorGetAssertion, if it holds of what is kept.
-use Rattle.std.proofs.Common.{option_map}
-use Rattle.passkey_cbor.specs.Item.{Item}
+use Rattle.passkey_kinds.proofs.Steps.{option_map, Item, number_tree, PlaceHas, EachPlace, Rule, plainly, list_plain, descriptor_plain}
 use Rattle.passkey_entities.proofs.Entities.{user_law}
 use Rattle.passkey_extensions.specs.ExtensionTrees.{get_extensions_tree}
 use Rattle.passkey_extensions.proofs.Prf.{used_unsigned_law}
 use Rattle.passkey_get_assertion.proofs.GetBack.{options_law}
 use Rattle.passkey_get_assertion.specs.GetRequest.{GetRequestParts, get_request_places}
 use Rattle.passkey_get_assertion.specs.GetResponse.{GetResponseParts, get_response_places}
-use Rattle.passkey_kinds.specs.Tree.{number_tree}
-use Rattle.passkey_kinds.proofs.Places.{PlaceHas, EachPlace}
-use Rattle.passkey_kinds.proofs.Plain.{Rule, plainly, list_plain}
-use Rattle.passkey_kinds.proofs.RecordPlain.{descriptor_plain}
 
 pub get_request_each : {Q : Item → Type 0} → Rule 4 Q → (r : GetRequestParts)
     → PlaceHas Q (number_tree 4) (option_map get_extensions_tree r.extensions) → EachPlace Q (get_request_places r)

@@ -1,7 +1,5 @@
 -- authenticatorGetAssertion requests: decoding their encodings again, and their nesting levels.
-use Rattle.std.proofs.Common.{rules, ◌≡◌, ℕ, ◌<◌, ◌≤◌, nat_le, arith, le-leb, true, Option, Some, Ok, refl}
-use Rattle.passkey_cbor.specs.Depth.{depth}
-use Rattle.passkey_cbor.specs.Item.{Item}
+use Rattle.passkey_kinds.proofs.Steps.{rules, ◌≡◌, ℕ, ◌<◌, ◌≤◌, nat_le, arith, le-leb, true, Option, Some, Ok, refl, depth, Item, tolerated, ReadIsCoherent, number_tree, OnlyDeep, only_deep, deep_coherent, record_keeps, byte_back, text_back, bytes_back, anything, all_of_anything, optional_place, accepted_place, tolerated_place, descriptor_back, few_levels, puts_value, puts_default, rows_back, ◌▸◌, no_more}
 use Rattle.passkey_get_assertion.specs.GetRequest.{GetRequestParts, get_request_fields, read_get_request, get_request_places, get_request_tree, GetRequestFits, is_get_request_coherent}
 use Rattle.passkey_get_assertion.proofs.GetBack.{options_law}
 use Rattle.passkey_extensions.specs.ExtensionTrees.{hmac_input_tree, get_extensions_tree}
@@ -9,16 +7,7 @@ use Rattle.passkey_extensions.specs.GetExtensions.{GetExtensionsParts, get_exten
 use Rattle.passkey_extensions.proofs.ExtensionBack.{get_parts_back}
 use Rattle.passkey_extensions.proofs.ExtensionLevels.{input_up, used_levels}
 use Rattle.passkey_extensions.proofs.Keys.{used_key}
-use Rattle.passkey_kinds.specs.Kind.{tolerated}
-use Rattle.passkey_kinds.specs.MessageLaws.{ReadIsCoherent}
-use Rattle.passkey_kinds.specs.Tree.{number_tree}
-use Rattle.passkey_kinds.proofs.Deep.{OnlyDeep, only_deep, deep_coherent}
-use Rattle.passkey_kinds.proofs.Keeping.{record_keeps}
-use Rattle.passkey_kinds.proofs.LeafBack.{byte_back, text_back, bytes_back, anything, all_of_anything, optional_place, accepted_place, tolerated_place}
-use Rattle.passkey_kinds.proofs.RecordBack.{descriptor_back}
-use Rattle.passkey_kinds.proofs.Plain.{few_levels}
 use Rattle.passkey_get_assertion.proofs.GetPlaces.{get_request_each}
-use Rattle.passkey_kinds.proofs.RowsBack.{puts_value, puts_default, rows_back, ◌▸◌, no_more}
 
 -- ---- an encoding can be decoded again
 

@@ -1,20 +1,10 @@
 -- Values in an authenticatorGetInfo response can be decoded again from their encodings.
-use Rattle.std.specs.Option.{option_and_then}
-use Rattle.std.proofs.Common.{rules, arith, ◌≡◌, Option, Some, None, unwrap_or, refl, ap}
-use Rattle.passkey_cbor.specs.Item.{Item, number}
-use Rattle.passkey_cbor.specs.Written.{shortest_head}
+use Rattle.passkey_kinds.proofs.Steps.{option_and_then, rules, arith, ◌≡◌, Option, Some, None, unwrap_or, refl, ap, Item, shortest_head, kept, optional, EachFits, IsReadBack, Any, Falls, accepts_it, truth_back, anything, optional_place, IsLawful, lawful, plainly, puts_value, puts_default, ◌▸◌, no_more}
+use Rattle.passkey_cbor.specs.Item.{number}
 use Rattle.passkey_get_info.specs.GetInfoNames.{version, version_tree, normal_version, extension, extension_tree, normal_extension}
 use Rattle.passkey_get_info.specs.GetInfoOptions.{options}
 use Rattle.passkey_get_info.specs.declared.options.Options.{Options}
 use Rattle.passkey_get_info.specs.GetInfo.{unless_null}
-use Rattle.passkey_kinds.specs.Kind.{kept, optional}
-use Rattle.passkey_kinds.specs.Placed.{EachFits}
-use Rattle.passkey_kinds.specs.ReadBack.{IsReadBack, Any}
-use Rattle.passkey_kinds.proofs.Back.{Falls, accepts_it}
-use Rattle.passkey_kinds.proofs.LeafBack.{truth_back, anything, optional_place}
-use Rattle.passkey_kinds.proofs.Lawful.{IsLawful, lawful}
-use Rattle.passkey_kinds.proofs.Plain.{plainly}
-use Rattle.passkey_kinds.proofs.RowsBack.{puts_value, puts_default, ◌▸◌, no_more}
 
 pub version_back : IsReadBack version version_tree Any normal_version
 version_back = record { back = λ v h. refl }

@@ -1,19 +1,10 @@
 -- The encodings of authenticatorGetInfo responses are canonical.
-use Rattle.std.proofs.Common.{◌≡◌, nat_le, arith, leb-true, true, Option, Some, None, refl}
-use Rattle.std.proofs.lemmas.Bool.{and_parts}
-use Rattle.passkey_cbor.specs.Canonical.{IsOrdered}
-use Rattle.passkey_cbor.specs.Depth.{depth}
-use Rattle.passkey_cbor.specs.LeadingItem.{max_depth}
-use Rattle.passkey_cbor.specs.Item.{Item}
-use Rattle.passkey_cbor.specs.Laws.{AtMostOneLeadingItem, WrittenIsLeadingItem}
-use Rattle.passkey_cbor.specs.Written.{shortest_head}
+use Rattle.passkey_kinds.proofs.Steps.{◌≡◌, nat_le, arith, true, Option, Some, None, refl, and_parts, IsOrdered, depth, max_depth, Item, AtMostOneLeadingItem, WrittenIsLeadingItem, shortest_head, AllCanonical, WrittenIsCanonical, number_tree, PlaceWithin, Within, ascend, PlaceOrdered, PlaceWritable, AllWritable, record_ordered, canonical_of, ordered_of, in_order}
+use Rattle.std.proofs.Common.{leb-true}
 use Rattle.passkey_get_info.specs.GetInfo.{GetInfoParts, get_info_places, get_info_tree, get_info_kept, certifications_kept, is_encodable, is_get_info_coherent}
 use Rattle.passkey_get_info.proofs.GetInfoPlaces.{get_info_each}
-use Rattle.passkey_kinds.specs.MessageLaws.{AllCanonical, WrittenIsCanonical}
-use Rattle.passkey_kinds.specs.Tree.{number_tree}
-use Rattle.passkey_kinds.proofs.Levels.{PlaceWithin, Within, of_record as levels_of}
-use Rattle.passkey_kinds.proofs.Ordered.{ascend, PlaceOrdered, PlaceWritable, AllWritable, record_ordered, of_record, canonical_of, ordered_of}
-use Rattle.passkey_kinds.proofs.Plain.{in_order}
+use Rattle.passkey_kinds.proofs.Levels.{of_record as levels_of}
+use Rattle.passkey_kinds.proofs.Ordered.{of_record}
 
 kept_place : AtMostOneLeadingItem → WrittenIsLeadingItem → (key : Item) → IsOrdered key → (o : Option Item)
     → PlaceWritable o → PlaceWithin 255 key o → AllCanonical (certifications_kept o) → PlaceOrdered key o

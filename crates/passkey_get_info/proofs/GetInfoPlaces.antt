@@ -1,12 +1,8 @@
 -- What holds of each key and value that an authenticatorGetInfo response is encoded as: certifications alone may
 -- have many levels.
-use Rattle.passkey_cbor.specs.Item.{Item}
+use Rattle.passkey_kinds.proofs.Steps.{Item, number_tree, PlaceHas, EachPlace, Rule, plainly, list_plain, parameters_plain}
 use Rattle.passkey_get_info.specs.GetInfo.{GetInfoParts, get_info_places}
 use Rattle.passkey_get_info.proofs.GetInfoBack.{options_law}
-use Rattle.passkey_kinds.specs.Tree.{number_tree}
-use Rattle.passkey_kinds.proofs.Places.{PlaceHas, EachPlace}
-use Rattle.passkey_kinds.proofs.Plain.{Rule, plainly, list_plain}
-use Rattle.passkey_kinds.proofs.RecordPlain.{parameters_plain}
 
 pub get_info_each : {Q : Item → Type 0} → Rule 2 Q → (r : GetInfoParts)
     → PlaceHas Q (number_tree 19) r.certifications → EachPlace Q (get_info_places r)

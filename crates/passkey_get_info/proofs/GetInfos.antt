@@ -1,30 +1,15 @@
 -- authenticatorGetInfo responses: decoding their encodings again, and their nesting levels.
-use Rattle.std.proofs.Common.{rules, ◌≡◌, ◌∙◌, ℕ, pos, ◌^◌, ◌<◌, ◌≤◌, nat_lt, nat_le, arith, le-leb, leb-true, lt-ltb, ltb-true, Bool, true, false, ◌&&◌, if◌then◌else◌, Option, Some, None, option_map, unwrap_or, Result, Ok, Err, is_ok, OnOk, IfErr, refl, sym, ap, subst}
-use Rattle.std.proofs.lemmas.Bool.{and_from}
-use Rattle.passkey_bytes.specs.SameMaps.{same_tests}
-use Rattle.passkey_cbor.specs.Depth.{depth}
-use Rattle.passkey_cbor.specs.LeadingItem.{max_depth}
-use Rattle.passkey_cbor.specs.Item as item
-use Rattle.passkey_cbor.specs.Item.{Item, boolean, byte_string, text_string}
-use Rattle.passkey_core.specs.DataNormal.{IfPresent}
+use Rattle.passkey_kinds.proofs.Steps.{rules, ◌≡◌, ◌∙◌, ℕ, pos, ◌^◌, ◌<◌, ◌≤◌, nat_lt, nat_le, arith, le-leb, ltb-true, Bool, true, false, ◌&&◌, if◌then◌else◌, Option, Some, None, option_map, unwrap_or, Result, Ok, Err, OnOk, refl, sym, ap, subst, and_from, same_tests, depth, max_depth, Item, boolean, byte_string, text_string, IfPresent, optional, ReadIsCoherent, size, number_tree, option_place, record_keeps, not_null, puts_value, puts_default, ◌▸◌, no_more, rows_back, size_back, aaguid_back, list_same, truth_back, byte_back, word_back, text_back, bytes_back, transport_back, list_back, optional_back, anything, all_of_anything, optional_place, accepted_place, if_fits, PlaceWithin, Within, record_within, parameters_back, few_levels}
+use Rattle.std.proofs.Common.{leb-true, lt-ltb, is_ok, IfErr}
 use Rattle.passkey_get_info.specs.GetInfo.{GetInfoParts, get_info_fields, read_get_info, get_info_places, get_info_tree, IsPositive, GetInfoFits, is_encodable, has_room, is_get_info_coherent, normal_get_info}
-use Rattle.passkey_kinds.specs.Kind.{optional, kept as kept_item}
-use Rattle.passkey_kinds.specs.MessageLaws.{ReadIsCoherent}
-use Rattle.passkey_kinds.specs.Size.{size, IsSize}
-use Rattle.passkey_kinds.specs.Tree.{number_tree}
+use Rattle.passkey_kinds.specs.Kind.{kept as kept_item}
+use Rattle.passkey_kinds.specs.Size.{IsSize}
 use Rattle.passkey_kinds.specs.declared.write_fault.WriteFault.{WriteFault}
 use Rattle.passkey_kinds.specs.declared.write_fault.WriteFault.TheVariants.{NumberTooLarge}
-use Rattle.passkey_kinds.proofs.Back.{option_place}
-use Rattle.passkey_kinds.proofs.Keeping.{record_keeps}
-use Rattle.passkey_kinds.proofs.NotNull.{not_null}
-use Rattle.passkey_kinds.proofs.RowsBack.{puts_value, puts_default, ◌▸◌, no_more, rows_back}
-use Rattle.passkey_kinds.proofs.SizedBack.{size_back, aaguid_back}
 use Rattle.passkey_get_info.proofs.GetInfoBack.{version_back, extension_back, kept_place, options_law, options_fit}
 use Rattle.passkey_get_info.proofs.GetInfoPlaces.{get_info_each}
-use Rattle.passkey_kinds.proofs.LeafBack.{list_same, truth_back, byte_back, word_back, text_back, bytes_back, transport_back, list_back, optional_back, anything, all_of_anything, optional_place, accepted_place, if_fits}
-use Rattle.passkey_kinds.proofs.Levels.{PlaceWithin, Within, record_within, of_record}
-use Rattle.passkey_kinds.proofs.RecordBack.{parameters_back}
-use Rattle.passkey_kinds.proofs.Plain.{few_levels}
+use Rattle.passkey_kinds.proofs.Levels.{of_record}
+use Rattle.passkey_cbor.specs.Item as item
 
 -- ---- an encoding can be decoded again
 

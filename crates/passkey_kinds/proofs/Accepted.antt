@@ -1,9 +1,6 @@
 -- What a tolerant list skips.
-use Rattle.std.specs.List.{filter_map}
-use Rattle.std.proofs.Common.{arith, ◌≡◌, List, ◌∷◌, ◌++◌, None}
+use Rattle.passkey_kinds.proofs.Common.{filter_map, arith, ◌≡◌, List, ◌∷◌, ◌++◌, None, Item, array, items_of, Kind, accepted}
 use Rattle.std.proofs.lemmas.List.Elements.{filter_map-append}
-use Rattle.passkey_cbor.specs.Item.{Item, array, items_of}
-use Rattle.passkey_kinds.specs.Kind.{Kind, accepted}
 use Rattle.passkey_kinds.proofs.Lists.{accepted_array}
 
 values_without : {M : Type 0} (kind : Kind M) (before behind : List Item) (x : Item) → kind x ≡ None

@@ -1,15 +1,7 @@
 -- Arrays, lists and maps whose head was decoded at a cursor.
-use Rattle.std.proofs.Common.{◌≡◌, ℕ, suc, ◌+◌, ◌≤◌, ◌<◌, arith, true, List, [], ◌∷◌, length, Option, None, Result, refl, sym, ap}
-use Rattle.std.proofs.Math.Nat.{mul-le-mul_left}
-use Rattle.passkey_cbor.specs.Item as item
-use Rattle.passkey_cbor.specs.Item.{Item, array, items_of, pairs_of}
-use Rattle.passkey_cbor.specs.Walk.{Walk}
-use Rattle.passkey_cose.proofs.KeyLists.{elements-items_of}
-use Rattle.passkey_kinds.specs.Keeping.{Keeping, nothing, counted, kept_of, kept_sum, in_elements}
-use Rattle.passkey_kinds.specs.Kind.{Kind, MayGrow, list, accepted}
-use Rattle.passkey_kinds.specs.Reader.{Spends, Decodes}
-use Rattle.passkey_kinds.specs.declared.refusal.Refusal.{Refusal}
+use Rattle.passkey_kinds.proofs.Common.{◌≡◌, ℕ, suc, ◌+◌, ◌≤◌, ◌<◌, arith, true, List, [], ◌∷◌, length, Option, None, Result, refl, sym, ap, mul-le-mul_left, Item, array, items_of, Walk, elements-items_of, Keeping, nothing, counted, kept_of, kept_sum, in_elements, Kind, MayGrow, list, accepted, Spends, Decodes, Refusal}
 use Rattle.passkey_kinds.proofs.Lists.{answers_from}
+use Rattle.passkey_cbor.specs.Item as item
 
 -- ---- the head before the elements
 

@@ -1,10 +1,7 @@
 -- Bytes of an array's elements, set one after the other.
-use Rattle.std.specs.Option.{option_and_then}
-use Rattle.std.proofs.Common.{◌≡◌, ◌==◌, ◌∙◌, ◌<◌, ◌≤◌, ◌+◌, arith, ℕ, List, ◌∷◌, ◌++◌, length, map, take, drop, get_or, slice_set, if◌then◌else◌, Option, Some, None, option_map, sym, ap}
-use Rattle.std.proofs.lemmas.List.{append-nil, drop_all, drop_more, length-map, take_all, take_more_set}
-use Rattle.passkey_cbor.specs.Item.{Item, array, items_of}
-use Rattle.passkey_cose.proofs.KeyLists.{elements-items_of}
-use Rattle.passkey_kinds.specs.Kind.{Kind, below, each, sized_bytes}
+use Rattle.passkey_kinds.proofs.Common.{option_and_then, ◌≡◌, ◌==◌, ◌∙◌, ◌<◌, ◌≤◌, ◌+◌, arith, ℕ, List, ◌∷◌, ◌++◌, length, map, take, drop, get_or, if◌then◌else◌, Option, Some, None, option_map, sym, ap, append-nil, drop_all, length-map, take_all, take_more_set, Item, array, items_of, elements-items_of, Kind, below, each, sized_bytes}
+use Rattle.std.proofs.Common.{slice_set}
+use Rattle.std.proofs.lemmas.List.{drop_more}
 use Rattle.passkey_kinds.proofs.Lists.{each_more}
 
 -- the bytes set so far, before those of the remaining elements

@@ -1,14 +1,7 @@
 -- Arrays of bytes, decoded at a cursor.
-use Rattle.std.proofs.Common.{◌≡◌, ◌∙◌, ℕ, ◌<◌, ◌==◌, arith, Bool, true, false, if◌then◌else◌, List, [], Option, None, refl, sym, ap}
-use Rattle.std.proofs.lemmas.Bool.{ne_eqb}
-use Rattle.passkey_cbor.specs.Item as item
-use Rattle.passkey_cbor.specs.Item.{Item}
-use Rattle.passkey_cbor.specs.Lent.{Region, Tells, LendsNothing}
-use Rattle.passkey_cbor.specs.Walk.{Walk}
-use Rattle.passkey_cbor.proofs.Binds.{some_is}
+use Rattle.passkey_kinds.proofs.Common.{◌≡◌, ◌∙◌, ℕ, ◌<◌, ◌==◌, arith, Bool, true, false, if◌then◌else◌, List, [], Option, None, refl, sym, ap, ne_eqb, Item, Region, Tells, LendsNothing, Walk, some_is, sized_bytes, MayGrow, Spends}
 use Rattle.passkey_cbor.proofs.Strings.{string_again}
-use Rattle.passkey_kinds.specs.Kind.{sized_bytes, MayGrow}
-use Rattle.passkey_kinds.specs.Reader.{Spends}
+use Rattle.passkey_cbor.specs.Item as item
 
 -- a region is that of one string
 pub tells_one : (is_text : Bool) (r : Region) (s t : List ℕ) → Tells is_text r s → Tells is_text r t → s ≡ t

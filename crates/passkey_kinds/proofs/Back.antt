@@ -1,14 +1,8 @@
 -- The values that the places of a record have for its rows.
-use Rattle.std.specs.List.{find, list_any}
-use Rattle.std.proofs.Common.{arith, ◌≡◌, ◌∙◌, ℕ, ◌==◌, Bool, true, false, cond, not, ◌&&◌, ◌||◌, List, [], ◌∷◌, ◌++◌, append_assoc, Option, Some, None, is_some, is_none, option_map, unwrap_or, refl, sym, ap, subst}
-use Rattle.std.proofs.lemmas.Bool.{and_parts, eqb-true, eqb-false, ne_eqb, not-true}
-use Rattle.std.proofs.lemmas.List.{append-nil}
-use Rattle.passkey_cbor.specs.Item.{Item, boolean}
-use Rattle.passkey_core.specs.DataNormal.{IfPresent}
-use Rattle.passkey_kinds.specs.Kind.{Kind, truth}
-use Rattle.passkey_kinds.specs.ReadBack.{IsReadBack}
-use Rattle.passkey_kinds.specs.Table.{Entry, Row, Table, Naming, row, entries, named, is_row, Members, found, accepts_at, first_bad, ◌>>=◌}
-use Rattle.passkey_kinds.specs.Tree.{Place, where_true, under, laid}
+use Rattle.passkey_kinds.proofs.Common.{find, list_any, arith, ◌≡◌, ◌∙◌, ℕ, ◌==◌, Bool, true, false, cond, not, ◌&&◌, ◌||◌, List, [], ◌∷◌, ◌++◌, append_assoc, Option, Some, None, is_some, is_none, option_map, unwrap_or, refl, sym, ap, subst, and_parts, eqb-true, ne_eqb, not-true, append-nil, Item, boolean, IfPresent, Kind, truth, IsReadBack, Entry, Table, Naming, row, entries, named, is_row, Members, found, accepts_at, first_bad, Place, under, laid}
+use Rattle.std.proofs.lemmas.Bool.{eqb-false}
+use Rattle.passkey_kinds.specs.Table.{Row, ◌>>=◌}
+use Rattle.passkey_kinds.specs.Tree.{where_true}
 use Rattle.passkey_kinds.proofs.Members.{was_good, found_push}
 
 -- the members of the places that have a value

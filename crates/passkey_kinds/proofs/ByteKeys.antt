@@ -1,18 +1,10 @@
 -- Byte strings as map keys: their encodings are in CTAP2's order if the shorter key comes first,
 -- and of two keys with the same length the lower one.
-use Rattle.std.proofs.Common.{rules, ◌≡◌, ℕ, ◌+◌, ◌*◌, ◌^◌, ◌<◌, ◌≤◌, nat_lt, if◌then◌else◌, List, [], ◌∷◌, ◌++◌, length, refl, sym, ap, ◌∙◌, arith, inl, inr}
+use Rattle.passkey_kinds.proofs.Common.{rules, ◌≡◌, ℕ, ◌+◌, ◌*◌, ◌^◌, ◌<◌, ◌≤◌, nat_lt, if◌then◌else◌, List, [], ◌∷◌, ◌++◌, length, refl, sym, ap, ◌∙◌, arith, inl, inr, slice_cmp, nat_cmp, cases_lt, lt-ltb, le-ltb, nat_tests, length-append, byte_string, IsShortFirst, shortest_head, written}
 use Rattle.std.specs.Int.{w8, w16, w32, w64, to_be_bytes}
 use Rattle.std.specs.Cmp.{nat_cmp_is}
-use Rattle.std.specs.Cmp.Lexicographic.{slice_cmp}
-use Rattle.std.specs.Ordering.{nat_cmp}
 use Rattle.std.specs.declared.cmp.Ordering.TheVariants.{Equal}
-use Rattle.std.proofs.lemmas.Bool.{cases_lt, lt-ltb, le-ltb}
-use Rattle.std.proofs.lemmas.Bool.Decides.{nat_tests}
-use Rattle.std.proofs.lemmas.List.{length-append}
-use Rattle.passkey_cbor.specs.Item.{byte_string}
-use Rattle.passkey_kinds.specs.ShortFirst.{IsShortFirst}
 use Rattle.passkey_cbor.specs.Order.{key_type, IsBefore}
-use Rattle.passkey_cbor.specs.Written.{shortest_head, written}
 
 -- the number of bytes after the initial byte of the shortest head
 abbrev behind : ℕ → ℕ

@@ -1,24 +1,13 @@
 -- Maps from byte strings, with their entries in CTAP2's order: they are the same maps, and their
 -- keys ascend.
-use Rattle.std.specs.Cmp.Lexicographic.{bytes_decides, slice_cmp, texts_ties}
-use Rattle.std.specs.FinMap as fin
+use Rattle.passkey_kinds.proofs.Common.{slice_cmp, AllByRecursion, eq_by_cmp, is_lt, nat_cmp, Ordering, Less, ◌≡◌, ◌≢◌, ◌∙◌, ◌⊎◌, ℕ, ◌<◌, ◌≤◌, Bool, true, false, ◌&&◌, cond, List, [], ◌∷◌, length, map, Option, Some, None, option_map, refl, sym, ap, arith, inl, inr, cases_lt, nat_list_cmp_total, ByteMap, put_each, same_bytes, ComesAfter, AscendFrom, Ascend, Item, byte_string, pairs_of, written, IsShortFirst, put_by, short_first, entry_tree}
+use Rattle.std.specs.Cmp.Lexicographic.{bytes_decides, texts_ties}
 use Rattle.std.specs.FinMap.Entries.{below_all, is_sorted}
-use Rattle.std.specs.List.{AllByRecursion}
-use Rattle.std.specs.Ordering.{eq_by_cmp, is_eq, is_lt, nat_cmp}
-use Rattle.std.specs.declared.cmp.Ordering.{Ordering}
-use Rattle.std.specs.declared.cmp.Ordering.TheVariants.{Less}
-use Rattle.std.proofs.Common.{◌≡◌, ◌≢◌, ◌∙◌, ◌⊎◌, ℕ, ◌<◌, ◌≤◌, Bool, true, false, ◌&&◌, cond, T, List, [], ◌∷◌, length, map, Option, Some, None, option_map, refl, sym, ap, arith, inl, inr}
-use Rattle.std.proofs.lemmas.Bool.{cases_lt}
-use Rattle.std.proofs.lemmas.Cmp.{nat_list_cmp_total}
-use Rattle.passkey_bytes.specs.Map.{ByteMap, put_each}
-use Rattle.passkey_bytes.proofs.Placed.{same_bytes}
-use Rattle.passkey_cbor.specs.Canonical.{ComesAfter, AscendFrom, Ascend}
-use Rattle.passkey_cbor.specs.Item.{Item, byte_string, pairs_of}
-use Rattle.passkey_cbor.specs.Written.{written}
-use Rattle.passkey_kinds.specs.ShortFirst.{IsShortFirst, put_by, short_first}
-use Rattle.passkey_kinds.specs.Tree.{entry_tree}
+use Rattle.std.specs.Ordering.{is_eq}
+use Rattle.std.proofs.Common.{T}
 use Rattle.passkey_kinds.proofs.ByteKeys.{byte_keys}
 use Rattle.passkey_kinds.proofs.ShortFirst.{at_most, above, sorted_by-each}
+use Rattle.std.specs.FinMap as fin
 
 -- ---- entries in their order have distinct keys
 

@@ -1,18 +1,11 @@
 -- Elements that are decoded one after the other and put together.
-use Rattle.std.specs.List.{filter_map, cons_option}
-use Rattle.std.specs.Option.{option_and_then}
-use Rattle.std.specs.FinMap as fin
-use Rattle.std.proofs.Common.{◌≡◌, ◌∙◌, ◌<◌, ◌≤◌, ◌==◌, ◌+◌, ℕ, suc, add-zero, arith, ◌⊎◌, inl, inr, if◌then◌else◌, List, [], ◌∷◌, ◌++◌, length, Option, Some, None, option_map, refl, sym, ap, append_assoc}
-use Rattle.std.proofs.lemmas.Bool.{cases_lt, lt-ltb, le-ltb, ne_eqb}
-use Rattle.std.proofs.lemmas.List.{append-nil, length-append}
-use Rattle.passkey_bytes.specs.Map.{ByteMap, put_each}
-use Rattle.passkey_cbor.specs.Item.{Item}
-use Rattle.passkey_kinds.specs.Collecting.{collected, pushed, pushed_if, pushed_below, entered}
-use Rattle.passkey_kinds.specs.Kind.{Kind, each}
-use Rattle.passkey_kinds.specs.MapKind.{entry, with_members}
+use Rattle.passkey_kinds.proofs.Common.{filter_map, cons_option, option_and_then, ◌≡◌, ◌∙◌, ◌<◌, ◌≤◌, ◌==◌, ◌+◌, ℕ, suc, arith, ◌⊎◌, inl, inr, if◌then◌else◌, List, [], ◌∷◌, ◌++◌, length, Option, Some, None, option_map, refl, sym, ap, append_assoc, cases_lt, lt-ltb, le-ltb, ne_eqb, append-nil, length-append, ByteMap, put_each, Item, collected, entered, Kind, each, entry, with_members}
+use Rattle.std.proofs.Common.{add-zero}
+use Rattle.passkey_kinds.specs.Collecting.{pushed, pushed_if, pushed_below}
 use Rattle.passkey_kinds.proofs.ArraysAhead.{none_either}
 use Rattle.passkey_kinds.proofs.Lists.{each_more, option_same}
 use Rattle.passkey_kinds.proofs.Maps.{put_first}
+use Rattle.std.specs.FinMap as fin
 
 module _ {X V : Type 0} (next : X → V → Option V) where
   -- an element's error is the error of the list

@@ -1,17 +1,13 @@
 -- Authenticator data in a byte string: its encoding can be decoded again, and decoded data is
 -- coherent.
-use Rattle.std.specs.Result.{result_ok}
-use Rattle.std.proofs.Common.{arith, ◌≡◌, true, Some, Result, Ok, Err}
-use Rattle.std.proofs.lemmas.List.{append-nil}
-use Rattle.passkey_cbor.specs.Item.{Item, byte_string}
+use Rattle.passkey_kinds.proofs.Common.{result_ok, arith, ◌≡◌, true, Some, Result, Ok, Err, append-nil, Item, byte_string, authenticator_data, IsReadBack}
 use Rattle.passkey_core.specs.Coherent.{is_coherent}
 use Rattle.passkey_core.specs.DataLaws.{GivenIsCoherent, ReadIsGiven, WrittenDataAreReadBack}
 use Rattle.passkey_core.specs.DataNormal.{IsData, normal_data}
 use Rattle.passkey_core.specs.DataParts.{DataParts}
 use Rattle.passkey_core.specs.DataRead.{read_data}
 use Rattle.passkey_cose.specs.declared.error.CoseError.{CoseError}
-use Rattle.passkey_kinds.specs.Data.{authenticator_data, auth_data_tree}
-use Rattle.passkey_kinds.specs.ReadBack.{IsReadBack}
+use Rattle.passkey_kinds.specs.Data.{auth_data_tree}
 
 abbrev pub IsCoherentData : DataParts → Type 0
 IsCoherentData d = IsData d × (is_coherent d ≡ true)

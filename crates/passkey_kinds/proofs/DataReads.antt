@@ -1,26 +1,17 @@
 -- Authenticator data, decoded from a byte string at a cursor.
+use Rattle.passkey_kinds.proofs.Common.{◌≡◌, ◌∙◌, ℕ, ◌+◌, ◌≤◌, ◌<◌, arith, true, false, List, [], ◌∷◌, ◌++◌, length, Option, Some, None, Result, refl, sym, ap, subst, length-append, length-take, Content, Item, byte_string, Region, PassesString, LendsFrom, Walk, ahead, head_again, head_long, data_parts, authenticator_data, authenticator_data_nodes, AnswersAs, MayGrow, Further, Decodes, LooksAtMost, Refusal}
 use Rattle.std.specs.List.{concat}
-use Rattle.std.proofs.Common.{◌≡◌, ◌∙◌, ℕ, ◌+◌, ◌≤◌, ◌<◌, arith, true, false, List, [], ◌∷◌, ◌++◌, length, Option, Some, None, Result, refl, sym, ap, subst}
-use Rattle.std.proofs.lemmas.List.{length-append, length-take}
-use Rattle.passkey_cbor.specs.Inside.{Content}
-use Rattle.passkey_cbor.specs.Item as item
-use Rattle.passkey_cbor.specs.Item.{Item, byte_string}
 use Rattle.passkey_cbor.specs.Languages.{Each}
-use Rattle.passkey_cbor.specs.Lent.{Region, PassesString, LendsFrom, string_head}
+use Rattle.passkey_cbor.specs.Lent.{string_head}
 use Rattle.passkey_cbor.specs.Encoding.{Definite}
-use Rattle.passkey_cbor.specs.Walk.{Walk, ahead}
-use Rattle.passkey_cbor.proofs.HeadAgain.{head_again}
-use Rattle.passkey_cbor.proofs.Lists.{head_long}
 use Rattle.passkey_core.specs.DataReading.{fixed_at, DataGrow}
-use Rattle.passkey_core.specs.DataViews.{data_parts}
 use Rattle.passkey_core.specs.declared.authenticator_data.AuthenticatorData.{AuthenticatorData}
-use Rattle.passkey_kinds.specs.Data.{CountsData, authenticator_data, authenticator_data_nodes}
-use Rattle.passkey_kinds.specs.Kind.{Answers, AnswersAs, MayGrow}
-use Rattle.passkey_kinds.specs.Typed as typed
-use Rattle.passkey_kinds.specs.Reader.{Further, Decodes, LooksAtMost}
-use Rattle.passkey_kinds.specs.declared.refusal.Refusal.{Refusal}
+use Rattle.passkey_kinds.specs.Data.{CountsData}
+use Rattle.passkey_kinds.specs.Kind.{Answers}
 use Rattle.passkey_kinds.proofs.Going.{string_further}
 use Rattle.passkey_kinds.proofs.Leaves.{on_ok}
+use Rattle.passkey_cbor.specs.Item as item
+use Rattle.passkey_kinds.specs.Typed as typed
 
 -- parts that take memory are encoded in the bytes, so these aren't empty
 pub parts_grow : (bytes : List ℕ) → DataGrow bytes → MayGrow true (byte_string bytes)

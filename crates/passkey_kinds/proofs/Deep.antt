@@ -1,9 +1,7 @@
 -- Records of which one optional member alone may have many levels.
-use Rattle.std.proofs.Common.{◌≡◌, ◌∙◌, ℕ, suc, ◌≤◌, nat_le, le-leb, leb-true, true, List, Option, Some, None, option_map, refl, sym, subst}
+use Rattle.passkey_kinds.proofs.Common.{◌≡◌, ◌∙◌, ℕ, suc, ◌≤◌, nat_le, true, List, Option, Some, None, option_map, refl, sym, subst, depth, Item, Place, record_tree}
+use Rattle.std.proofs.Common.{le-leb, leb-true}
 use Rattle.passkey_bytes.specs.SameMaps.{same_tests}
-use Rattle.passkey_cbor.specs.Depth.{depth}
-use Rattle.passkey_cbor.specs.Item.{Item}
-use Rattle.passkey_kinds.specs.Tree.{Place, record_tree}
 use Rattle.passkey_kinds.proofs.Levels.{PlaceWithin, Within, record_within, of_record}
 
 -- The record has at most n + 1 levels exactly if its member is absent or has at most n.

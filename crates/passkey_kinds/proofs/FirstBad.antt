@@ -1,9 +1,5 @@
 -- The faults that members can have.
-use Rattle.std.specs.Option.{option_or}
-use Rattle.std.proofs.Common.{arith, ◌≡◌, ℕ, Bool, true, false, if◌then◌else◌, [], ◌∷◌, ◌++◌, Option, Some, None, subst}
-use Rattle.passkey_cbor.specs.Item.{Item}
-use Rattle.passkey_kinds.specs.Table.{Table, Naming, row, unknown, wrong, named, Members, bad_by, first_bad}
-use Rattle.passkey_kinds.specs.declared.fault.Fault.{Fault}
+use Rattle.passkey_kinds.proofs.Common.{option_or, arith, ◌≡◌, ℕ, Bool, true, false, if◌then◌else◌, [], ◌∷◌, ◌++◌, Option, Some, None, subst, Item, Table, Naming, row, unknown, wrong, named, Members, bad_by, first_bad, Fault}
 use Rattle.passkey_kinds.specs.declared.fault.Fault.TheVariants as fault
 
 -- ---- the faults that members have

@@ -1,24 +1,12 @@
 -- How a cursor moves, and what it spends.
-use Rattle.std.proofs.Common.{rules, ◌≡◌, ℕ, ◌+◌, ◌-◌, ◌≤◌, ◌<◌, arith, List, [], ◌++◌, length, take, Option, Some, None, IfSome, subst}
-use Rattle.std.proofs.lemmas.List.{length-append, length-take}
-use Rattle.std.proofs.Math.Nat.{mul-le-mul_left}
-use Rattle.passkey_cbor.specs.Item.{Item}
-use Rattle.passkey_cbor.specs.LeadingItem.{max_depth, IsLeadingItem}
-use Rattle.passkey_cbor.specs.Found.{FindsHead}
+use Rattle.passkey_kinds.proofs.Common.{rules, ◌≡◌, ℕ, ◌+◌, ◌-◌, ◌≤◌, ◌<◌, arith, List, [], ◌++◌, length, take, Option, Some, None, subst, length-append, length-take, mul-le-mul_left, Item, max_depth, IsLeadingItem, FindsHead, Region, PassesString, PassesLeadingItem, IsEncodedAt, Opens, Walk, ahead, Went, Head, head_again, head_long, lies_size, Onward, Further, Spends}
+use Rattle.std.proofs.Common.{IfSome}
 use Rattle.passkey_cbor.specs.HeadEncoding.{IsEncodingOfHead}
 use Rattle.passkey_cbor.specs.Inside.{Within}
-use Rattle.passkey_cbor.specs.Lent.{Region, PassesString}
-use Rattle.passkey_cbor.specs.Skipped.{PassesLeadingItem}
-use Rattle.passkey_cbor.specs.EncodedAt.{IsEncodedAt, Opens}
 use Rattle.passkey_cbor.specs.Valued.{MakesLeadingItem}
-use Rattle.passkey_cbor.specs.Walk.{Walk, ahead, Went}
 use Rattle.passkey_cbor.specs.Reading.{item_within}
-use Rattle.passkey_cbor.specs.declared.head.Head.{Head}
-use Rattle.passkey_cbor.proofs.HeadAgain.{head_again}
 use Rattle.passkey_cbor.proofs.Items.{follows_item}
-use Rattle.passkey_cbor.proofs.Lists.{head_long, encoded_long}
-use Rattle.passkey_cbor.proofs.EncodedFrom.{lies_size}
-use Rattle.passkey_kinds.specs.Reader.{Onward, Further, Spends}
+use Rattle.passkey_cbor.proofs.Lists.{encoded_long}
 
 -- ---- moving on
 

@@ -1,22 +1,12 @@
 -- Heads, and what they say about their data items.
-use Rattle.std.specs.Option.{option_and_then}
-use Rattle.std.proofs.Common.{◌≡◌, ◌∙◌, ℕ, ℤ, pos, negsuc, ◌⊎◌, inl, inr, ◌≤◌, ◌<◌, nat_lt, arith, Bool, true, false, if◌then◌else◌, List, [], length, Option, Some, None, refl, sym, ap, subst}
-use Rattle.std.proofs.lemmas.Bool.{cases_eq, cases_lt, le-ltb, ne_eqb}
-use Rattle.passkey_cbor.specs.Item as item
-use Rattle.passkey_cbor.specs.Item.{Item, items_of, pairs_of}
-use Rattle.passkey_cbor.specs.Found.{FindsHead}
+use Rattle.passkey_kinds.proofs.Common.{option_and_then, ◌≡◌, ◌∙◌, ℕ, ℤ, pos, negsuc, ◌⊎◌, inl, inr, ◌≤◌, ◌<◌, nat_lt, arith, Bool, true, false, if◌then◌else◌, List, [], length, Option, Some, None, refl, sym, ap, subst, cases_eq, cases_lt, le-ltb, ne_eqb, Item, items_of, pairs_of, FindsHead, IsEncodedAt, Opens, Walk, Head, lies_size, unsigned_in, integer_in, null_in, ReadsFlat, truth, signed_64}
 use Rattle.passkey_cbor.specs.Inside.{Inside}
 use Rattle.passkey_cbor.specs.Reading.{simple_item}
-use Rattle.passkey_cbor.specs.EncodedAt.{IsEncodedAt, Opens}
-use Rattle.passkey_cbor.specs.Walk.{Walk}
-use Rattle.passkey_cbor.specs.declared.head.Head.{Head}
-use Rattle.passkey_cbor.specs.declared.head.Head.TheVariants as head
 use Rattle.passkey_cbor.proofs.Items.{low_simple}
-use Rattle.passkey_cbor.proofs.EncodedFrom.{lies_size}
-use Rattle.passkey_kinds.specs.HeadValues.{unsigned_in, integer_in, null_in, head_unsigned, head_integer, head_truth, head_null, head_array, head_map, ReadsFlat, OpensArray, OpensMap}
-use Rattle.passkey_kinds.specs.Kind.{truth}
-use Rattle.passkey_webauthn.specs.NumberText.{signed_64}
+use Rattle.passkey_kinds.specs.HeadValues.{head_unsigned, head_integer, head_truth, head_null, head_array, head_map, OpensArray, OpensMap}
 use Rattle.passkey_kinds.proofs.Going.{onward_of, head_further, head_spends, if_some}
+use Rattle.passkey_cbor.specs.Item as item
+use Rattle.passkey_cbor.specs.declared.head.Head.TheVariants as head
 
 -- ---- the item of a simple value
 

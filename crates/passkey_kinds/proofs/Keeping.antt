@@ -1,14 +1,9 @@
 -- What holds of the blank record, and still holds after each value is put into it, holds of the
 -- decoded record.
-use Rattle.std.proofs.Common.{◌≡◌, ℕ, ◌<◌, arith, List, [], ◌∷◌, Option, Some, None, Ok, refl, ap, subst}
-use Rattle.passkey_cbor.specs.Depth.{depth, pairs_depth}
-use Rattle.passkey_cbor.specs.Item as item
-use Rattle.passkey_cbor.specs.Item.{Item, Pairs, no_pairs, pair, members}
-use Rattle.passkey_kinds.specs.Kind.{kept}
-use Rattle.passkey_kinds.specs.Record.{Member, Fields, set_with, table_of, put_at, put_named, with_members, unless_missing, judged, read_item, record_kind}
-use Rattle.passkey_kinds.specs.Table.{Naming, row, named, Members, first_bad, first_missing}
-use Rattle.passkey_kinds.specs.declared.fault.Fault.{Fault}
+use Rattle.passkey_kinds.proofs.Common.{◌≡◌, ℕ, ◌<◌, arith, List, [], ◌∷◌, Option, Some, None, Ok, refl, ap, subst, depth, pairs_depth, Item, Pairs, no_pairs, pair, members, kept, Member, Fields, set_with, table_of, put_at, put_named, unless_missing, judged, read_item, record_kind, Naming, row, named, Members, first_bad, first_missing, Fault}
+use Rattle.passkey_kinds.specs.Record.{with_members}
 use Rattle.passkey_kinds.proofs.NotNull.{ok_of}
+use Rattle.passkey_cbor.specs.Item as item
 
 -- each member preserves it, for items of fewer levels than n
 abbrev pub Keeps : {P : Type 0} → ℕ → (P → Type 0) → List (Member P) → Type 0

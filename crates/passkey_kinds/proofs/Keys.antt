@@ -1,18 +1,12 @@
 -- The rows that names and map keys name.
-use Rattle.std.specs.List.{find, position, position_or_len}
-use Rattle.std.specs.Str.{bytes_eq}
-use Rattle.std.proofs.Common.{◌≡◌, ◌∙◌, ◌<◌, ◌≤◌, ◌==◌, ℕ, pos, negsuc, ◌⊎◌, inl, inr, arith, zero, suc, if◌then◌else◌, Bool, true, false, ◌+◌, List, [], ◌∷◌, ◌++◌, length, map, take, drop, set, get_or, Bor, add-one, Option, Some, None, cond, nat_lt, slice_get, refl, sym, ap}
-use Rattle.std.proofs.lemmas.Bool.{cases_lt, lt-ltb, le-ltb, eqb-true}
-use Rattle.std.proofs.lemmas.List.{length-map, map_push, take_more_set}
+use Rattle.passkey_kinds.proofs.Common.{find, bytes_eq, ◌≡◌, ◌∙◌, ◌<◌, ◌≤◌, ◌==◌, ℕ, pos, negsuc, ◌⊎◌, inl, inr, arith, zero, suc, if◌then◌else◌, Bool, true, false, ◌+◌, List, [], ◌∷◌, ◌++◌, length, map, take, drop, set, get_or, Bor, add-one, Option, Some, None, cond, nat_lt, slice_get, refl, sym, ap, cases_lt, lt-ltb, le-ltb, eqb-true, length-map, map_push, take_more_set, Item, unsigned_in, entry_of, Row, Entry, row, wrong, row_or_unknown, number_names, names}
+use Rattle.std.specs.List.{position, position_or_len}
 use Rattle.std.proofs.Math.Seq.{take-suc}
 use Rattle.std.proofs.lemmas.Option.{slice_get_past}
-use Rattle.passkey_cbor.specs.Item as item
-use Rattle.passkey_cbor.specs.Item.{Item}
 use Rattle.passkey_cbor.specs.Initial.{major_of}
-use Rattle.passkey_kinds.specs.HeadValues.{unsigned_in}
-use Rattle.passkey_kinds.specs.Rows.{entry_of, row_at}
-use Rattle.passkey_kinds.specs.declared.rows.Row.{Row}
-use Rattle.passkey_kinds.specs.Table.{Entry, row, wrong, row_or_unknown, row_named, number_names, names}
+use Rattle.passkey_kinds.specs.Rows.{row_at}
+use Rattle.passkey_kinds.specs.Table.{row_named}
+use Rattle.passkey_cbor.specs.Item as item
 
 -- ---- the row at the index of its name
 

@@ -1,11 +1,7 @@
 -- Records with names alone that keep no data item: they can be decoded again, have few levels, and
 -- their keys ascend.
-use Rattle.std.proofs.Common.{◌≡◌, ℕ, zero, suc, ◌≤◌, arith, ◌&&◌, true, None, refl, ap}
-use Rattle.passkey_cbor.specs.Depth.{depth}
+use Rattle.passkey_kinds.proofs.Common.{◌≡◌, ℕ, zero, suc, ◌≤◌, arith, ◌&&◌, true, None, refl, ap, depth, IsReadBack, table_of, KeysAscend}
 use Rattle.passkey_kinds.specs.Placed.{PlainTable, EachFits, members_of, places_of, fields_of, plain_kind, plain_tree}
-use Rattle.passkey_kinds.specs.ReadBack.{IsReadBack}
-use Rattle.passkey_kinds.specs.Record.{table_of}
-use Rattle.passkey_kinds.specs.Tree.{KeysAscend}
 use Rattle.passkey_kinds.proofs.Back.{have_rows, stands, are_distinct, missing_of}
 use Rattle.passkey_kinds.proofs.Ordered.{ascend, keys_ascend}
 use Rattle.passkey_kinds.proofs.Places.{EachPlace}

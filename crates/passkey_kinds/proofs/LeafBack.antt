@@ -1,27 +1,17 @@
 -- Kinds that decode the encoding of a value to that value.
-use Rattle.std.specs.List.{All, filter_map}
-use Rattle.std.specs.Option.{option_and_then}
+use Rattle.passkey_kinds.proofs.Common.{All, filter_map, option_and_then, arith, ◌≡◌, ◌∙◌, ◌<◌, ◌^◌, List, [], ◌∷◌, map, Option, Some, None, option_map, unwrap_or, refl, ap, All-head, All-tail, Item, byte_string, text_string, boolean, null, item_of, IfPresent, algorithm_named, Algorithm, Kind, truth, below, text, one_named, kept, optional, each, bytes, list, accepted, IsReadBack, Any, IsByte, number_tree, list_tree, credential_type_named, signed_64, transport_named}
 use Rattle.std.specs.Prelude.{ℤ}
-use Rattle.std.proofs.Common.{arith, ◌≡◌, ◌∙◌, ◌<◌, ◌^◌, lt-ltb, List, [], ◌∷◌, map, Option, Some, None, option_map, unwrap_or, refl, ap}
-use Rattle.std.proofs.lemmas.List.Elements.{All-head, All-tail}
-use Rattle.passkey_cbor.specs.Item.{Item, byte_string, text_string, boolean, null}
-use Rattle.passkey_cbor.specs.View.{item_of}
-use Rattle.passkey_core.specs.DataNormal.{IfPresent}
-use Rattle.passkey_iana.specs.Iana.{algorithm_number, algorithm_named}
+use Rattle.std.proofs.Common.{lt-ltb}
+use Rattle.passkey_iana.specs.Iana.{algorithm_number}
 use Rattle.passkey_iana.specs.IanaLaws.{algorithm_named-number}
-use Rattle.passkey_iana.specs.declared.algorithm.Algorithm.{Algorithm}
-use Rattle.passkey_iana.specs.declared.algorithm.Algorithm.TheVariants as algorithm
 use Rattle.passkey_kinds.specs.Algorithm.{algorithm as an_algorithm, algorithm_tree}
-use Rattle.passkey_kinds.specs.Kind.{Kind, truth, below, text, one_named, kept, optional, each, bytes, list, accepted, tolerated, or_else}
-use Rattle.passkey_kinds.specs.ReadBack.{IsReadBack, Any, IsByte}
-use Rattle.passkey_kinds.specs.Tree.{number_tree, option_tree, list_tree}
+use Rattle.passkey_kinds.specs.Kind.{tolerated, or_else}
+use Rattle.passkey_kinds.specs.Tree.{option_tree}
 use Rattle.passkey_kinds.specs.Trees.{credential_type_tree, transport_tree}
 use Rattle.passkey_kinds.proofs.Back.{Falls, option_place, falls_as}
 use Rattle.passkey_kinds.proofs.Lists.{list_array, accepted_array, option_same, map_same}
-use Rattle.passkey_webauthn.specs.CredentialType.{credential_type_named}
 use Rattle.passkey_webauthn.specs.NameLaws.{credential_type_own, transport_own}
-use Rattle.passkey_webauthn.specs.NumberText.{signed_64}
-use Rattle.passkey_webauthn.specs.Transport.{transport_named}
+use Rattle.passkey_iana.specs.declared.algorithm.Algorithm.TheVariants as algorithm
 
 pub truth_back : IsReadBack truth boolean Any (λ b. b)
 truth_back = record { back = λ b h. refl }

@@ -1,15 +1,8 @@
 -- Values of one head or of one string, decoded at a cursor.
-use Rattle.std.specs.Option.{option_and_then}
-use Rattle.std.proofs.Common.{arith, ◌≡◌, ℕ, pos, nat_lt, true, if◌then◌else◌, List, Option, Some, None, option_map, Result, Ok, Err, OnOk, is_ok, refl}
+use Rattle.passkey_kinds.proofs.Common.{option_and_then, arith, ◌≡◌, ℕ, pos, nat_lt, true, if◌then◌else◌, List, Option, Some, None, option_map, Result, Ok, Err, OnOk, refl, Item, Walk, unsigned_in, null_in, ReadsFlat, aaguid, Kind, AnswersAs, below, text, one_named, optional, Decodes, Refusal, Refused, OutOfMemory}
+use Rattle.std.proofs.Common.{is_ok}
+use Rattle.passkey_kinds.specs.Kind.{FailsAs}
 use Rattle.passkey_cbor.specs.Item as item
-use Rattle.passkey_cbor.specs.Item.{Item}
-use Rattle.passkey_cbor.specs.Walk.{Walk}
-use Rattle.passkey_kinds.specs.HeadValues.{unsigned_in, null_in, ReadsFlat}
-use Rattle.passkey_kinds.specs.Data.{aaguid}
-use Rattle.passkey_kinds.specs.Kind.{Kind, AnswersAs, FailsAs, below, text, one_named, optional}
-use Rattle.passkey_kinds.specs.Reader.{Decodes}
-use Rattle.passkey_kinds.specs.declared.refusal.Refusal.{Refusal}
-use Rattle.passkey_kinds.specs.declared.refusal.Refusal.TheVariants.{Refused, OutOfMemory}
 
 -- an error of a part is one of the whole
 pub failed : {M N : Type 0} {one : Option M} {wanted : Option N} {takes may : Type 0} (e : Refusal)

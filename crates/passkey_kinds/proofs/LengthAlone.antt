@@ -1,12 +1,7 @@
 -- Bytes whose leading data items decode alike: the results differ only in the length.
-use Rattle.std.proofs.Common.{arith, ◌≡◌, ◌≢◌, ◌∙◌, ℕ, List, Result, Ok, Err, refl, sym, ap}
-use Rattle.passkey_cbor.specs.LeadingItem.{IsLeadingItem}
-use Rattle.passkey_cbor.specs.Item.{Item}
-use Rattle.passkey_cbor.specs.Laws.{AtMostOneLeadingItem}
-use Rattle.passkey_kinds.specs.Message.{Begins, ReadsMessage}
-use Rattle.passkey_kinds.specs.MessageLaws.{SameButForLength, AnswersCarryOver, AlikeDifferInLength}
-use Rattle.passkey_kinds.specs.RecordLaws.{KnowsItems}
-use Rattle.passkey_kinds.specs.declared.fault.Fault.{Fault}
+use Rattle.passkey_kinds.proofs.Common.{arith, ◌≡◌, ◌≢◌, ◌∙◌, ℕ, List, Result, Ok, Err, refl, sym, ap, IsLeadingItem, Item, AtMostOneLeadingItem, ReadsMessage, AlikeDifferInLength, KnowsItems, Fault}
+use Rattle.passkey_kinds.specs.Message.{Begins}
+use Rattle.passkey_kinds.specs.MessageLaws.{SameButForLength, AnswersCarryOver}
 use Rattle.passkey_kinds.specs.declared.fault.Fault.TheVariants as fault
 
 -- the result of decoding the leading data item, with its length

@@ -1,22 +1,11 @@
 -- Strings that are lent at a cursor: the cost of decoding them and of looking at their chunks
 -- again.
-use Rattle.std.proofs.Common.{rules, ◌≡◌, ℕ, ◌+◌, ◌≤◌, ◌<◌, arith, Bool, true, false, cond, List, [], ◌∷◌, ◌++◌, length, Option, Some, None, Result, Err, refl, sym, ap, subst}
-use Rattle.std.proofs.lemmas.List.{length-append, length-take}
-use Rattle.passkey_cbor.specs.Item.{Item, byte_string, text_string}
-use Rattle.passkey_cbor.specs.Grows.{Grows}
-use Rattle.passkey_cbor.specs.Inside.{Content}
-use Rattle.passkey_cbor.specs.Lent.{Region, PassesString, LendsFrom, LooksAtAll, LooksAtSome, IsRegion, heads_in}
+use Rattle.passkey_kinds.proofs.Common.{rules, ◌≡◌, ℕ, ◌+◌, ◌≤◌, ◌<◌, arith, Bool, true, false, cond, List, [], ◌∷◌, ◌++◌, length, Option, Some, None, Result, Err, refl, sym, ap, subst, length-append, length-take, Item, byte_string, text_string, Grows, Content, Region, PassesString, LendsFrom, IsRegion, heads_in, IsEncodedAt, Walk, ahead, raised-le, Spends, Decodes, LooksAtMost, AnswersAs, MayGrow, Refusal, Refused}
+use Rattle.passkey_cbor.specs.Lent.{LooksAtAll, LooksAtSome}
 use Rattle.passkey_cbor.specs.Names.{LooksFor, heads_until, heads_sought}
-use Rattle.passkey_cbor.specs.EncodedAt.{IsEncodedAt}
-use Rattle.passkey_cbor.specs.Walk.{Walk, ahead}
-use Rattle.passkey_cbor.proofs.Gathering.{raised-le}
 use Rattle.passkey_cbor.proofs.Lists.{each_long}
 use Rattle.passkey_cbor.proofs.Strings.{AChunk, follows_chunk}
 use Rattle.passkey_cbor.specs.Reading.{chunk}
-use Rattle.passkey_kinds.specs.Reader.{Spends, Decodes, LooksAtMost}
-use Rattle.passkey_kinds.specs.Kind.{AnswersAs, MayGrow}
-use Rattle.passkey_kinds.specs.declared.refusal.Refusal.{Refusal}
-use Rattle.passkey_kinds.specs.declared.refusal.Refusal.TheVariants.{Refused}
 use Rattle.passkey_kinds.proofs.Going.{stands_long, eased}
 use Rattle.passkey_kinds.proofs.Leaves.{on_ok}
 

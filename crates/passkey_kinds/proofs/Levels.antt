@@ -1,12 +1,7 @@
 -- The nesting levels of records, by those of the values under their keys.
 use Rattle.std.specs.FinMap as fin
-use Rattle.std.proofs.Common.{◌≡◌, ℕ, suc, ◌≤◌, max, arith, List, [], ◌∷◌, ◌++◌, map, Option, Some, None, ap}
-use Rattle.passkey_bytes.specs.Map.{ByteMap}
-use Rattle.passkey_cbor.specs.Depth.{depth, items_depth, pairs_depth}
-use Rattle.passkey_cbor.specs.Item.{Item, items_of, pairs_of}
-use Rattle.passkey_kinds.specs.ShortFirst.{short_first}
-use Rattle.passkey_kinds.specs.Table.{Members}
-use Rattle.passkey_kinds.specs.Tree.{Place, list_tree, entry_tree, byte_map_tree, under, record_tree}
+use Rattle.passkey_kinds.proofs.Common.{◌≡◌, ℕ, suc, ◌≤◌, max, arith, List, [], ◌∷◌, ◌++◌, map, Option, Some, None, ap, ByteMap, depth, pairs_depth, Item, items_of, pairs_of, short_first, Members, Place, list_tree, entry_tree, byte_map_tree, under, record_tree}
+use Rattle.passkey_cbor.specs.Depth.{items_depth}
 use Rattle.passkey_kinds.proofs.Back.{spread, laid_spread}
 use Rattle.passkey_kinds.proofs.Places.{PlaceHas, EachPlace}
 

@@ -1,3 +1,4 @@
+pub mod Common
 pub mod Going
 pub mod Heads
 pub mod Lent
@@ -50,3 +51,4 @@ pub mod Ordered
 pub mod Plain
 pub mod RecordPlain
 pub mod Lawful
+pub mod Steps

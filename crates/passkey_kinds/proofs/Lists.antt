@@ -1,13 +1,6 @@
 -- Lists of values, decoded from arrays.
-use Rattle.std.specs.List.{filter_map}
-use Rattle.std.proofs.Common.{◌≡◌, ◌<◌, arith, ◌∙◌, List, [], ◌∷◌, ◌++◌, length, map, Option, Some, None, option_map, Result, Err, refl, ap, true}
+use Rattle.passkey_kinds.proofs.Common.{filter_map, ◌≡◌, ◌<◌, arith, ◌∙◌, List, [], ◌∷◌, ◌++◌, length, map, Option, Some, None, option_map, Result, Err, refl, ap, true, Item, array, items_of, IfPresent, elements-items_of, Kind, AnswersAs, MayGrow, each, list, accepted, Refusal, OutOfMemory}
 use Rattle.std.proofs.lemmas.List.{append_assoc}
-use Rattle.passkey_cbor.specs.Item.{Item, array, items_of}
-use Rattle.passkey_core.specs.DataNormal.{IfPresent}
-use Rattle.passkey_cose.proofs.KeyLists.{elements-items_of}
-use Rattle.passkey_kinds.specs.Kind.{Kind, AnswersAs, MayGrow, each, list, accepted}
-use Rattle.passkey_kinds.specs.declared.refusal.Refusal.{Refusal}
-use Rattle.passkey_kinds.specs.declared.refusal.Refusal.TheVariants.{OutOfMemory}
 
 -- the same result, if the same value is wanted and memory may run out too
 pub answers_from : {A M : Type 0} {wanted given : Option M} {takes may : Type 0} (view : A → M) (result : Result A

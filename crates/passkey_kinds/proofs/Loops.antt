@@ -1,12 +1,8 @@
 -- A loop over the rest of a list at a cursor: of an array's elements, or of a map's members.
-use Rattle.std.proofs.Common.{◌≡◌, ◌∙◌, ℕ, suc, ◌+◌, ◌*◌, ◌≤◌, ◌<◌, arith, Bool, true, false, List, [], ◌∷◌, length, Option, Some, None, sym, ap, subst}
-use Rattle.std.proofs.Math.Nat.{mul-le-mul_left}
+use Rattle.passkey_kinds.proofs.Common.{◌≡◌, ◌∙◌, ℕ, suc, ◌+◌, ◌*◌, ◌≤◌, ◌<◌, arith, Bool, true, false, List, [], ◌∷◌, length, Option, Some, None, sym, ap, subst, mul-le-mul_left, Left, Lies, Next, Looks, Walk, raised-le, Spends}
 use Rattle.passkey_cbor.specs.Languages.{Language}
-use Rattle.passkey_cbor.specs.Inside.{Left}
-use Rattle.passkey_cbor.specs.EncodedAt.{Lies, Next, NextIf, Walks, Looks}
-use Rattle.passkey_cbor.specs.Walk.{Walk, break_heads}
-use Rattle.passkey_cbor.proofs.Gathering.{raised-le}
-use Rattle.passkey_kinds.specs.Reader.{Spends}
+use Rattle.passkey_cbor.specs.EncodedAt.{NextIf, Walks}
+use Rattle.passkey_cbor.specs.Walk.{break_heads}
 
 -- How far the loop is: which elements are left, what is known with these ahead, and what was spent
 -- on those before them.

@@ -1,16 +1,8 @@
 -- The encoding of a map from byte strings can be decoded again.
 use Rattle.std.specs.FinMap as fin
-use Rattle.std.specs.List.{All}
+use Rattle.passkey_kinds.proofs.Common.{All, arith, ◌≡◌, ◌∙◌, ℕ, List, length, map, Some, option_map, refl, ap, put_each, Item, Kind, entry, map_from_bytes, map_values, IsReadBack, short_first, entry_tree, byte_map_tree}
 use Rattle.std.proofs.lemmas.List.Elements.{All-from_recursion, recursion_from_All}
-use Rattle.std.proofs.Common.{arith, ◌≡◌, ◌∙◌, ℕ, List, length, map, Some, option_map, refl, ap}
-use Rattle.passkey_bytes.specs.Map.{put_each}
 use Rattle.passkey_bytes.proofs.Placed.{put_each-seen}
-use Rattle.passkey_cbor.specs.Item.{Item}
-use Rattle.passkey_kinds.specs.Kind.{Kind}
-use Rattle.passkey_kinds.specs.MapKind.{entry, map_from_bytes, map_values}
-use Rattle.passkey_kinds.specs.ReadBack.{IsReadBack}
-use Rattle.passkey_kinds.specs.ShortFirst.{short_first}
-use Rattle.passkey_kinds.specs.Tree.{entry_tree, byte_map_tree}
 use Rattle.passkey_kinds.proofs.ByteMaps.{entries_sorted, seen_sorted, short_first-placed}
 use Rattle.passkey_kinds.proofs.LeafBack.{each_back}
 use Rattle.passkey_kinds.proofs.ShortFirst.{sorted_by-each, sorted_by-map}

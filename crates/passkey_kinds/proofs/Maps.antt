@@ -1,20 +1,9 @@
 -- Maps from byte strings: the views of their values, and entries that are put in.
-use Rattle.std.specs.Cmp.Lexicographic.{slice_cmp}
-use Rattle.std.specs.FinMap as fin
-use Rattle.std.specs.Ordering.{eq_by_cmp, nat_cmp}
-use Rattle.std.proofs.Common.{◌≡◌, ◌∙◌, ◌<◌, ◌+◌, ℕ, suc, add-one, arith, Bool, true, false, cond, List, [], ◌∷◌, length, map, drop, get_or, Option, Some, None, option_map, refl, sym, ap}
-use Rattle.std.proofs.Math.Seq.{drop-cons}
-use Rattle.std.proofs.lemmas.Cmp.{nat_list_cmp_total}
-use Rattle.passkey_bytes.specs.Map.{ByteMap, put_each}
-use Rattle.passkey_bytes.proofs.Placed.{entries_empty, same_bytes}
-use Rattle.passkey_cbor.specs.Item as item
-use Rattle.passkey_cbor.specs.Item.{Item, pairs_of}
-use Rattle.passkey_cbor.specs.View.{item_of, pair_of}
-use Rattle.passkey_cbor.specs.declared.value.Value.{Value}
-use Rattle.passkey_cose.proofs.KeyLists.{members-pairs_of}
-use Rattle.passkey_kinds.specs.Kind.{Kind, MayGrow, bytes, each}
-use Rattle.passkey_kinds.specs.MapKind.{entry, map_from_bytes, map_values, with_members}
+use Rattle.passkey_kinds.proofs.Common.{slice_cmp, eq_by_cmp, nat_cmp, ◌≡◌, ◌∙◌, ◌<◌, ◌+◌, ℕ, suc, add-one, arith, Bool, true, false, cond, List, [], ◌∷◌, length, map, drop, get_or, Option, Some, None, option_map, refl, sym, ap, drop-cons, nat_list_cmp_total, ByteMap, put_each, same_bytes, Item, pairs_of, item_of, pair_of, Value, members-pairs_of, Kind, MayGrow, bytes, each, entry, map_from_bytes, map_values, with_members}
+use Rattle.passkey_bytes.proofs.Placed.{entries_empty}
 use Rattle.passkey_kinds.proofs.Lists.{option_same}
+use Rattle.std.specs.FinMap as fin
+use Rattle.passkey_cbor.specs.Item as item
 
 module _ {A M : Type 0} (view : A → M) where
   seen_at : (b : Bool) (x : A) (o : Option A)

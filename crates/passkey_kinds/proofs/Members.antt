@@ -1,18 +1,9 @@
 -- What decoding one more member changes.
-use Rattle.std.specs.Cmp.{unsigned_Decides}
-use Rattle.std.specs.List.{find}
-use Rattle.std.specs.Str.{bytes_eq}
-use Rattle.std.proofs.Common.{◌≡◌, ◌∙◌, ◌<◌, ◌==◌, nat_lt, cond, ℕ, arith, Bool, true, false, if◌then◌else◌, List, [], ◌∷◌, ◌++◌, length, set, get_or, Option, Some, None, is_some, refl, sym, ap}
-use Rattle.std.proofs.lemmas.Bool.{and_parts, leb-true, true≢false}
+use Rattle.passkey_kinds.proofs.Common.{unsigned_Decides, find, bytes_eq, ◌≡◌, ◌∙◌, ◌<◌, ◌==◌, nat_lt, cond, ℕ, arith, Bool, true, false, if◌then◌else◌, List, [], ◌∷◌, ◌++◌, length, set, get_or, Option, Some, None, is_some, refl, sym, ap, and_parts, leb-true, true≢false, slice_get-get_or, get_or_from_slice_get, Item, below, with_row, Marks, are_small, Entry, Table, Naming, row, unknown, row_or_unknown, number_names, entries, names, named, is_row, Members, found, accepts_at, bad_member, Repeated}
 use Rattle.std.proofs.lemmas.List.{get_or-set_same, get_or-set_other, length-set}
-use Rattle.std.proofs.lemmas.Option.{slice_get-get_or, get_or_from_slice_get}
-use Rattle.passkey_cbor.specs.Item as item
-use Rattle.passkey_cbor.specs.Item.{Item}
-use Rattle.passkey_kinds.specs.Kind.{below}
-use Rattle.passkey_kinds.specs.Reading.{with_row, Marks, are_small}
-use Rattle.passkey_kinds.specs.Table.{Entry, Table, Naming, row, unknown, row_or_unknown, number_names, entries, names, named, is_row, Members, found, accepts_at, bad_member}
-use Rattle.passkey_kinds.specs.declared.fault.Fault.TheVariants.{Repeated, Refused}
+use Rattle.passkey_kinds.specs.declared.fault.Fault.TheVariants.{Refused}
 use Rattle.passkey_kinds.proofs.Unknown.{found_pushed}
+use Rattle.passkey_cbor.specs.Item as item
 
 none_of : {X : Type 0} (o : Option X) → is_some o ≡ false → o ≡ None
 none_of None e = refl

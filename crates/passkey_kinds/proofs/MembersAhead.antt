@@ -1,21 +1,10 @@
 -- A record's members, decoded at a cursor: what each costs, and which data items it keeps.
-use Rattle.std.proofs.Common.{◌≡◌, ℕ, suc, ◌+◌, ◌-◌, ◌*◌, ◌≤◌, ◌<◌, ◌==◌, arith, Bool, true, false, if◌then◌else◌, List, [], ◌∷◌, Option, refl, sym, ap, subst}
-use Rattle.std.proofs.lemmas.Bool.{and_parts, true≢false}
-use Rattle.std.proofs.Math.Nat.{mul-le-mul_left}
-use Rattle.passkey_cbor.specs.LeadingItem.{max_depth}
-use Rattle.passkey_cbor.specs.Inside.{PairWithin}
-use Rattle.passkey_cbor.specs.Item as item
-use Rattle.passkey_cbor.specs.Item.{Item, members, pairs_of}
-use Rattle.passkey_cbor.specs.EncodedAt.{Next, Looks}
-use Rattle.passkey_cbor.specs.Walk.{Walk}
-use Rattle.passkey_cose.proofs.KeyLists.{members-pairs_of}
-use Rattle.passkey_kinds.specs.Keeping.{Keeping, nothing, counted, kept_of}
-use Rattle.passkey_kinds.specs.Reader.{Spends, Costs}
-use Rattle.passkey_kinds.specs.Record.{Fields, Member, table_of}
-use Rattle.passkey_kinds.specs.RecordCost.{greatest_cost, record_cost, cost_at, keeps_at, cost_by, keeps_by, kept_in, kept_in_map, keeps_nothing, none_keeps, record_keeps}
-use Rattle.passkey_kinds.specs.Table.{Naming, row, unknown, wrong, named, Members}
+use Rattle.passkey_kinds.proofs.Common.{◌≡◌, ℕ, suc, ◌+◌, ◌-◌, ◌*◌, ◌≤◌, ◌<◌, ◌==◌, arith, Bool, true, false, if◌then◌else◌, List, [], ◌∷◌, Option, refl, sym, ap, subst, and_parts, true≢false, mul-le-mul_left, max_depth, PairWithin, Item, members, pairs_of, Next, Looks, Walk, members-pairs_of, Keeping, nothing, counted, kept_of, Spends, Fields, Member, table_of, record_cost, cost_by, kept_in, kept_in_map, Naming, row, unknown, wrong, named, Members}
+use Rattle.passkey_kinds.specs.Reader.{Costs}
+use Rattle.passkey_kinds.specs.RecordCost.{greatest_cost, cost_at, keeps_at, keeps_by, keeps_nothing, none_keeps, record_keeps}
 use Rattle.passkey_kinds.proofs.Going.{eased}
 use Rattle.passkey_kinds.proofs.Loops.{EachTo, SpentTo, one_looked}
+use Rattle.passkey_cbor.specs.Item as item
 
 -- ---- the greatest cost
 

@@ -1,11 +1,6 @@
 -- Messages whose encodings have few levels can be decoded again.
-use Rattle.std.proofs.Common.{arith, ◌≡◌, nat_le, Bool, true, ◌&&◌, Result, Ok}
-use Rattle.passkey_cbor.specs.Depth.{depth}
-use Rattle.passkey_cbor.specs.Item.{Item}
-use Rattle.passkey_cbor.specs.Laws.{WrittenIsLeadingItem}
-use Rattle.passkey_cbor.specs.LeadingItem.{max_depth}
+use Rattle.passkey_kinds.proofs.Common.{arith, ◌≡◌, nat_le, Bool, true, ◌&&◌, Result, Ok, depth, Item, WrittenIsLeadingItem, max_depth, Fault}
 use Rattle.passkey_kinds.specs.MessageLaws.{WrittenIsReadBack}
-use Rattle.passkey_kinds.specs.declared.fault.Fault.{Fault}
 
 module _ {P : Type 0} (read : Item → Result P Fault) (tree : P → Item) (Fits : P → Type 0) (normal : P → P) where
   -- a message that can be decoded again if it has few levels

@@ -1,24 +1,13 @@
 -- Messages at the beginning of bytes, and messages at a cursor.
-use Rattle.std.proofs.Common.{◌≡◌, ◌∙◌, ℕ, suc, ◌+◌, ◌*◌, ◌≤◌, arith, List, ◌++◌, length, take, drop, Result, Ok, Err, OnErr, refl, sym, ap}
+use Rattle.passkey_kinds.proofs.Common.{◌≡◌, ◌∙◌, ℕ, suc, ◌+◌, ◌*◌, ◌≤◌, arith, List, ◌++◌, length, take, drop, Result, Ok, Err, refl, sym, ap, IsLeadingItem, Grows, Item, Pairs, no_pairs, pair, PassesLeadingItem, IsEncodedAt, Walk, ahead, Went, ReadsMessage, Onward, MayGrowAt, Reads, Fields, table_of, read_item, record_cost, kept_in_map, Table, Fault}
+use Rattle.std.proofs.Common.{OnErr}
 use Rattle.std.proofs.lemmas.List.{take-append-drop, drop-drop, length-drop}
-use Rattle.passkey_cbor.specs.LeadingItem.{IsLeadingItem}
-use Rattle.passkey_cbor.specs.Grows.{Grows}
-use Rattle.passkey_cbor.specs.Item as item
-use Rattle.passkey_cbor.specs.Item.{Item, Pairs, no_pairs, pair}
-use Rattle.passkey_cbor.specs.Skipped.{PassesLeadingItem}
-use Rattle.passkey_cbor.specs.EncodedAt.{IsEncodedAt}
-use Rattle.passkey_cbor.specs.Walk.{Walk, ahead, Went}
 use Rattle.passkey_cbor.proofs.EncodedFrom.{only_one}
-use Rattle.passkey_kinds.specs.Message.{ReadsMessage, GrowsMessage, ReadsHere, with_length}
-use Rattle.passkey_kinds.specs.Reader.{Onward}
-use Rattle.passkey_kinds.specs.Reading.{MayGrowAt, Reads}
-use Rattle.passkey_kinds.specs.Record.{Fields, table_of, read_item}
-use Rattle.passkey_kinds.specs.RecordCost.{record_cost, kept_in_map}
+use Rattle.passkey_kinds.specs.Message.{GrowsMessage, ReadsHere, with_length}
 use Rattle.passkey_kinds.specs.RecordReading.{DecodesRecord}
-use Rattle.passkey_kinds.specs.Table.{Table}
-use Rattle.passkey_kinds.specs.declared.fault.Fault.{Fault}
-use Rattle.passkey_kinds.specs.declared.fault.Fault.TheVariants as fault
 use Rattle.passkey_kinds.proofs.Going.{front_long}
+use Rattle.passkey_cbor.specs.Item as item
+use Rattle.passkey_kinds.specs.declared.fault.Fault.TheVariants as fault
 
 -- ---- memory runs out only for an item that takes memory
 

@@ -1,10 +1,6 @@
 -- A value that isn't null, and a record that is a value.
-use Rattle.std.proofs.Common.{◌≡◌, Option, Some, None, option_map, Result, Ok, Err}
-use Rattle.std.specs.Result.{result_ok}
+use Rattle.passkey_kinds.proofs.Common.{◌≡◌, Option, Some, None, option_map, Result, Ok, Err, result_ok, Item, Kind, optional, Fault}
 use Rattle.passkey_cbor.specs.Item as item
-use Rattle.passkey_cbor.specs.Item.{Item}
-use Rattle.passkey_kinds.specs.Kind.{Kind, optional}
-use Rattle.passkey_kinds.specs.declared.fault.Fault.{Fault}
 
 pub ok_of : {M : Type 0} (r : Result M Fault) (p : M) → result_ok r ≡ Some p → r ≡ Ok p
 ok_of (Ok x) p e = cc

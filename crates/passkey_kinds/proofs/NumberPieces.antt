@@ -1,27 +1,16 @@
 -- Texts of numbers whose pieces are lent one after the other, and other items that decode to an
 -- algorithm.
-use Rattle.std.specs.Option.{option_and_then}
-use Rattle.std.proofs.Common.{◌≡◌, ◌∙◌, ℕ, ℤ, zero, suc, ◌++◌, ◌-◌, ◌^◌, ◌≤◌, arith, true, false, List, [], Option, Some, None, Result, Ok, Err, refl, sym, ap}
-use Rattle.passkey_cbor.specs.Item as item
-use Rattle.passkey_cbor.specs.Item.{Item}
-use Rattle.passkey_cbor.specs.Lent.{Region, IsRegion, Tells, heads_in}
+use Rattle.passkey_kinds.proofs.Common.{option_and_then, ◌≡◌, ◌∙◌, ℕ, ℤ, zero, suc, ◌++◌, ◌-◌, ◌^◌, ◌≤◌, arith, true, false, List, [], Option, Some, None, Result, Ok, Err, refl, sym, ap, Item, Region, IsRegion, Tells, heads_in, Walk, algorithm_named, Algorithm, signed_64, algorithm, integer_in, ReadsFlat, AnswersAs, MayGrow, Decodes, LooksAtMost, Refusal, Refused, OutOfMemory}
 use Rattle.passkey_cbor.specs.Pieces.{LendsPiece, LendsNoPiece, LooksAhead, LendsUpTo}
-use Rattle.passkey_cbor.specs.Walk.{Walk, raised}
+use Rattle.passkey_cbor.specs.Walk.{raised}
 use Rattle.passkey_cbor.proofs.Pieces.{lends_start, lends_on, lends_all}
-use Rattle.passkey_iana.specs.Iana.{algorithm_named}
-use Rattle.passkey_iana.specs.declared.algorithm.Algorithm.{Algorithm}
 use Rattle.passkey_webauthn.specs.NumberState.{IsOf}
-use Rattle.passkey_webauthn.specs.NumberText.{signed_64, whole_64}
+use Rattle.passkey_webauthn.specs.NumberText.{whole_64}
 use Rattle.passkey_webauthn.specs.declared.number_state.NumberState.{NumberState}
-use Rattle.passkey_kinds.specs.Algorithm.{algorithm}
-use Rattle.passkey_kinds.specs.HeadValues.{integer_in, ReadsFlat}
-use Rattle.passkey_kinds.specs.Kind.{AnswersAs, MayGrow}
-use Rattle.passkey_kinds.specs.Reader.{Decodes, LooksAtMost}
-use Rattle.passkey_kinds.specs.declared.refusal.Refusal.{Refusal}
-use Rattle.passkey_kinds.specs.declared.refusal.Refusal.TheVariants.{Refused, OutOfMemory}
 use Rattle.passkey_kinds.proofs.Leaves.{flat_found, flat_missed}
 use Rattle.passkey_kinds.proofs.Lent.{looks_all}
 use Rattle.passkey_kinds.proofs.Lists.{answers_from}
+use Rattle.passkey_cbor.specs.Item as item
 
 -- a raised count doesn't fall, if it was at most the greatest number
 raised_rises : (n k : ℕ) → n ≤ 2 ^ 128 - 1 → n ≤ raised n k

@@ -1,23 +1,9 @@
 -- A record whose keys ascend is ordered if its values are; and the encoding of an ordered item is
 -- canonical.
 use Rattle.std.specs.FinMap as fin
-use Rattle.std.specs.Ordering.{is_lt}
-use Rattle.std.specs.declared.cmp.Ordering.{Ordering}
-use Rattle.std.specs.declared.cmp.Ordering.TheVariants.{Less}
-use Rattle.std.proofs.Common.{arith, ◌≡◌, ℕ, ◌≤◌, Bool, true, ◌&&◌, List, [], ◌∷◌, ◌++◌, length, map, Option, Some, None, refl, sym, subst}
-use Rattle.std.proofs.lemmas.Bool.{and_parts}
-use Rattle.passkey_bytes.specs.Map.{ByteMap}
-use Rattle.passkey_cbor.specs.Canonical.{ComesAfter, AscendFrom, Ascend, IsOrdered, AreOrdered, ArePairsOrdered, IsCanonical}
-use Rattle.passkey_cbor.specs.Depth.{depth}
-use Rattle.passkey_cbor.specs.LeadingItem.{max_depth, IsLeadingItem}
-use Rattle.passkey_cbor.specs.Item.{Item, items_of, pairs_of}
-use Rattle.passkey_cbor.specs.Laws.{AtMostOneLeadingItem, WrittenIsLeadingItem}
+use Rattle.passkey_kinds.proofs.Common.{is_lt, Ordering, Less, arith, ◌≡◌, ℕ, ◌≤◌, Bool, true, ◌&&◌, List, [], ◌∷◌, ◌++◌, length, map, Option, Some, None, refl, sym, subst, and_parts, ByteMap, ComesAfter, AscendFrom, Ascend, IsOrdered, depth, max_depth, IsLeadingItem, Item, items_of, pairs_of, AtMostOneLeadingItem, WrittenIsLeadingItem, IsWritable, ArePairsWritable, written, short_first, Members, Place, list_tree, entry_tree, byte_map_tree, under, laid, record_tree}
+use Rattle.passkey_cbor.specs.Canonical.{AreOrdered, ArePairsOrdered, IsCanonical}
 use Rattle.passkey_cbor.specs.Order.{ctap2_order}
-use Rattle.passkey_cbor.specs.Writable.{IsWritable, ArePairsWritable}
-use Rattle.passkey_cbor.specs.Written.{written}
-use Rattle.passkey_kinds.specs.ShortFirst.{short_first}
-use Rattle.passkey_kinds.specs.Table.{Members}
-use Rattle.passkey_kinds.specs.Tree.{Place, list_tree, entry_tree, byte_map_tree, under, laid, record_tree}
 use Rattle.passkey_kinds.proofs.Back.{spread, laid_spread}
 use Rattle.passkey_kinds.proofs.ByteMaps.{entries_ascend}
 use Rattle.passkey_kinds.proofs.Places.{PlaceHas, EachPlace}

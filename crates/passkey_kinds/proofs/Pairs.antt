@@ -1,15 +1,7 @@
 -- Members that are decoded one after the other.
-use Rattle.std.specs.List.{find}
-use Rattle.std.specs.Option.{option_or}
-use Rattle.std.proofs.Common.{◌≡◌, ◌∙◌, ◌<◌, ◌+◌, nat_lt, ℕ, suc, add-one, arith, Bool, true, false, not, ◌&&◌, if◌then◌else◌, List, [], ◌∷◌, ◌++◌, length, map, replicate, drop, get_or, Option, Some, None, is_some, is_none, option_map, slice_get, inl, inr, refl, sym, ap}
-use Rattle.std.proofs.lemmas.Bool.{and_parts, leb-true}
-use Rattle.std.proofs.lemmas.List.{length-map, get_or-map, get_or-replicate, length-replicate}
-use Rattle.std.proofs.Math.Seq.{drop-cons}
-use Rattle.std.proofs.lemmas.Option.{get_or_from_slice_get, slice_get-get_or}
-use Rattle.passkey_cbor.specs.Item.{Item}
-use Rattle.passkey_kinds.specs.Reading.{MayGrowBy, MayGrowIn, Marks, are_small, first_unmarked}
-use Rattle.passkey_kinds.specs.Table.{Entry, Table, entries, named, Members, found, bad_member, first_bad, first_missing}
-use Rattle.passkey_kinds.specs.declared.fault.Fault.{Fault}
+use Rattle.passkey_kinds.proofs.Common.{find, option_or, ◌≡◌, ◌∙◌, ◌<◌, ◌+◌, nat_lt, ℕ, suc, add-one, arith, Bool, true, false, not, ◌&&◌, if◌then◌else◌, List, [], ◌∷◌, ◌++◌, length, map, replicate, drop, get_or, Option, Some, None, is_some, is_none, option_map, slice_get, inl, inr, refl, sym, ap, and_parts, leb-true, length-map, drop-cons, get_or_from_slice_get, slice_get-get_or, Item, MayGrowIn, Marks, are_small, first_unmarked, Entry, Table, entries, named, Members, found, bad_member, first_bad, first_missing, Fault}
+use Rattle.std.proofs.lemmas.List.{get_or-map, get_or-replicate, length-replicate}
+use Rattle.passkey_kinds.specs.Reading.{MayGrowBy}
 
 -- the member at an index, and those after it
 pub member_at : {X : Type 0} (seen : X → Item × Item) (xs : List X) (i : ℕ) (x : X) → x ≡ get_or xs i x

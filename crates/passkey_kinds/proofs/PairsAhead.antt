@@ -1,16 +1,8 @@
 -- A map's members, decoded at a cursor, each a key and then its value.
-use Rattle.std.proofs.Common.{◌≡◌, ℕ, max, ◌+◌, ◌≤◌, ◌<◌, arith, true, List, [], ◌∷◌, length, None, refl, sym, ap}
-use Rattle.std.proofs.Math.Nat.{mul-le-mul_left}
-use Rattle.passkey_cbor.specs.Item as item
-use Rattle.passkey_cbor.specs.Item.{Item, pairs_of}
-use Rattle.passkey_cbor.specs.Walk.{Walk}
-use Rattle.passkey_cose.proofs.KeyLists.{members-pairs_of}
-use Rattle.passkey_kinds.specs.Keeping.{Keeping, nothing, counted, kept_of, kept_sum, in_members}
-use Rattle.passkey_kinds.specs.Kind.{Kind, MayGrow}
-use Rattle.passkey_kinds.specs.MapKind.{map_from_bytes}
-use Rattle.passkey_kinds.specs.Reader.{Spends}
+use Rattle.passkey_kinds.proofs.Common.{◌≡◌, ℕ, max, ◌+◌, ◌≤◌, ◌<◌, arith, true, List, [], ◌∷◌, length, None, refl, sym, ap, mul-le-mul_left, Item, pairs_of, Walk, members-pairs_of, Keeping, nothing, counted, kept_of, kept_sum, in_members, Kind, MayGrow, map_from_bytes, Spends}
 use Rattle.passkey_kinds.proofs.Ahead.{kept_nothing}
 use Rattle.passkey_kinds.proofs.Going.{eased, spends_then}
+use Rattle.passkey_cbor.specs.Item as item
 
 -- ---- what a member costs
 

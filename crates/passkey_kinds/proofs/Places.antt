@@ -1,7 +1,5 @@
 -- What holds of each key and value of a record's places.
-use Rattle.std.proofs.Common.{List, [], ◌∷◌, Option, Some, None, option_map}
-use Rattle.passkey_cbor.specs.Item.{Item}
-use Rattle.passkey_kinds.specs.Tree.{Place}
+use Rattle.passkey_kinds.proofs.Common.{List, [], ◌∷◌, Option, Some, None, option_map, Item, Place}
 
 -- the place has no value, or its key and its value have the property
 abbrev pub PlaceHas : (Item → Type 0) → Item → Option Item → Type 0

@@ -1,10 +1,6 @@
 -- Items that keep no other item: how many levels they have, and that they are ordered.
-use Rattle.std.proofs.Common.{◌≡◌, ℕ, ℤ, suc, ◌≤◌, arith, Bool, true, List, [], ◌∷◌, Option, Some, None}
-use Rattle.passkey_bytes.specs.Map.{ByteMap}
-use Rattle.passkey_cbor.specs.Canonical.{IsOrdered}
-use Rattle.passkey_cbor.specs.Depth.{depth}
-use Rattle.passkey_cbor.specs.Item.{Item, boolean, byte_string, null, number, text_string}
-use Rattle.passkey_kinds.specs.Tree.{Place, list_tree, byte_map_tree, record_tree}
+use Rattle.passkey_kinds.proofs.Common.{◌≡◌, ℕ, ℤ, suc, ◌≤◌, arith, Bool, true, List, [], ◌∷◌, Option, Some, None, ByteMap, IsOrdered, depth, Item, boolean, byte_string, null, text_string, Place, list_tree, byte_map_tree, record_tree}
+use Rattle.passkey_cbor.specs.Item.{number}
 use Rattle.passkey_kinds.proofs.Levels.{PlaceWithin, Within, record_within, list_within, map_within}
 use Rattle.passkey_kinds.proofs.Ordered.{PlaceOrdered, AllOrdered, ascend, record_ordered, list_ordered, map_ordered}
 use Rattle.passkey_kinds.proofs.Places.{PlaceHas, EachPlace, option_has}

@@ -1,20 +1,14 @@
 -- Records that are decoded one member after the other.
-use Rattle.std.proofs.Common.{arith, ◌≡◌, ◌∙◌, ℕ, Bool, true, false, List, [], ◌∷◌, ◌++◌, replicate, slice_get, Option, Some, None, is_some, Result, Ok, Err, OnOk, refl, sym, ap, subst, append_assoc}
-use Rattle.std.proofs.lemmas.List.{append-nil}
-use Rattle.std.specs.Result.{result_ok}
-use Rattle.passkey_cbor.specs.Item as item
-use Rattle.passkey_cbor.specs.Item.{Item}
-use Rattle.passkey_kinds.specs.Kind.{Typed, MayGrow, AnswersAs}
-use Rattle.passkey_kinds.specs.Reading.{takes_at, MayGrowIn, Reads, Marks, Steps, are_small, first_unmarked}
-use Rattle.passkey_kinds.specs.Record.{Fields, set_with, rows_of, table_of, put_at, put_named, with_members, unless_missing, judged, read_members, read_item}
-use Rattle.passkey_kinds.specs.RecordReading.{Sets, Puts, HasRead, HasReadTo, held_as}
-use Rattle.passkey_kinds.specs.Table.{Naming, row, unknown, wrong, entries, named, Members, accepts_at, bad_by, bad_member, first_bad, first_missing}
-use Rattle.passkey_kinds.specs.declared.fault.Fault.{Fault}
-use Rattle.passkey_kinds.specs.declared.fault.Fault.TheVariants as fault
-use Rattle.passkey_kinds.specs.declared.refusal.Refusal.{Refusal}
-use Rattle.passkey_kinds.specs.declared.refusal.Refusal.TheVariants as refusal
+use Rattle.passkey_kinds.proofs.Common.{arith, ◌≡◌, ◌∙◌, ℕ, Bool, true, false, List, [], ◌∷◌, ◌++◌, replicate, slice_get, Option, Some, None, is_some, Result, Ok, Err, OnOk, refl, sym, ap, subst, append_assoc, append-nil, result_ok, Item, MayGrow, AnswersAs, MayGrowIn, Reads, Marks, are_small, first_unmarked, Fields, set_with, rows_of, table_of, put_at, put_named, unless_missing, judged, read_members, read_item, HasReadTo, Naming, row, unknown, wrong, entries, named, Members, accepts_at, bad_by, bad_member, first_bad, first_missing, Fault, Refusal}
+use Rattle.passkey_kinds.specs.Kind.{Typed}
+use Rattle.passkey_kinds.specs.Reading.{takes_at, Steps}
+use Rattle.passkey_kinds.specs.Record.{with_members}
+use Rattle.passkey_kinds.specs.RecordReading.{Sets, Puts, HasRead, held_as}
 use Rattle.passkey_kinds.proofs.Members.{key_names, was_repeated, was_refused, was_good, was_unknown, marked_as, stays, marks_one, row_small}
 use Rattle.passkey_kinds.proofs.Pairs.{member_at, grows_behind, none_marked, first_is, still_good, missing_is}
+use Rattle.passkey_cbor.specs.Item as item
+use Rattle.passkey_kinds.specs.declared.fault.Fault.TheVariants as fault
+use Rattle.passkey_kinds.specs.declared.refusal.Refusal.TheVariants as refusal
 
 module _ {P : Type 0} (t : Fields P) where
   pub put_last : (ms : Members) (m : Item × Item) (r : P)

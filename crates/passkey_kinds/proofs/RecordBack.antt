@@ -1,7 +1,5 @@
 -- Records that are their own normal forms.
-use Rattle.std.proofs.Common.{arith, [], ◌∷◌, refl}
-use Rattle.passkey_kinds.specs.ReadBack.{IsReadBack, Any}
-use Rattle.passkey_kinds.specs.Trees.{descriptor_places, descriptor_tree, parameters_tree, webauthn_user_places, webauthn_user_tree}
+use Rattle.passkey_kinds.proofs.Common.{arith, [], ◌∷◌, refl, IsReadBack, Any, descriptor_places, descriptor_tree, parameters_tree, webauthn_user_places, webauthn_user_tree}
 use Rattle.passkey_kinds.specs.Descriptor.{descriptor_fields, descriptor}
 use Rattle.passkey_kinds.specs.Parameters.{parameters}
 use Rattle.passkey_kinds.specs.User.{user_fields, user}

@@ -1,20 +1,13 @@
 -- Laws of records, by what their rows decode and put.
-use Rattle.std.specs.List.{cons_option}
-use Rattle.std.proofs.Common.{rules, arith, ◌≡◌, ◌≢◌, ◌∙◌, ℕ, Bool, false, List, [], ◌∷◌, ◌++◌, Option, Some, None, is_none, Err, refl, sym, ap}
-use Rattle.passkey_cbor.specs.Item as item
-use Rattle.passkey_cbor.specs.Item.{Item, members}
-use Rattle.passkey_cbor.specs.Laws.{AtMostOneLeadingItem}
-use Rattle.passkey_cose.proofs.KeyLists.{members-pairs_of}
-use Rattle.passkey_kinds.specs.MessageLaws.{AlikeDifferInLength}
-use Rattle.passkey_kinds.specs.Record.{Fields, table_of, put_at, put_named, with_members, unless_missing, judged, read_members, read_item}
-use Rattle.passkey_kinds.specs.RecordLaws.{known_member, known, HasNoWrongKey, SameAnswers, PassesOverUnknown, KnowsItems, KnowsMaps}
-use Rattle.passkey_kinds.specs.Table.{Naming, row, unknown, named, Members, first_bad, first_missing}
-use Rattle.passkey_kinds.specs.declared.fault.Fault.{Fault}
-use Rattle.passkey_kinds.specs.declared.fault.Fault.TheVariants as fault
+use Rattle.passkey_kinds.proofs.Common.{cons_option, rules, arith, ◌≡◌, ◌≢◌, ◌∙◌, ℕ, Bool, false, List, [], ◌∷◌, ◌++◌, Option, Some, None, is_none, Err, refl, sym, ap, Item, members, AtMostOneLeadingItem, members-pairs_of, AlikeDifferInLength, Fields, table_of, put_at, put_named, unless_missing, judged, read_members, read_item, known_member, known, HasNoWrongKey, SameAnswers, KnowsItems, Naming, row, unknown, named, Members, first_bad, first_missing, Fault}
+use Rattle.passkey_kinds.specs.Record.{with_members}
+use Rattle.passkey_kinds.specs.RecordLaws.{PassesOverUnknown, KnowsMaps}
 use Rattle.passkey_kinds.proofs.FirstBad.{IsOfMember, first_bad_fault}
 use Rattle.passkey_kinds.proofs.LengthAlone.{alike}
 use Rattle.passkey_kinds.proofs.SameAnswers.{found_known, first_bad_known, same_bad, same_filled}
 use Rattle.passkey_kinds.proofs.Unknown.{found_without, first_bad_without, missing_alike}
+use Rattle.passkey_cbor.specs.Item as item
+use Rattle.passkey_kinds.specs.declared.fault.Fault.TheVariants as fault
 
 module _ {P : Type 0} (t : Fields P) where
   judged_alike : (one other : Members) → first_bad (table_of t) [] one ≡ first_bad (table_of t) [] other

@@ -1,9 +1,6 @@
 -- Descriptors, parameters and users keep no item.
-use Rattle.std.proofs.Common.{◌≡◌, ℕ, pos, suc, ◌≤◌, List, true, refl}
-use Rattle.passkey_cbor.specs.Depth.{depth}
-use Rattle.passkey_cbor.specs.Written.{shortest_head}
-use Rattle.passkey_kinds.specs.Tree.{KeysAscend, number_tree, numbers_tree}
-use Rattle.passkey_kinds.specs.Trees.{descriptor_places, descriptor_tree, parameters_places, parameters_tree, webauthn_user_places, webauthn_user_tree}
+use Rattle.passkey_kinds.proofs.Common.{◌≡◌, ℕ, pos, suc, ◌≤◌, List, true, refl, depth, shortest_head, KeysAscend, number_tree, numbers_tree, descriptor_places, descriptor_tree, parameters_tree, webauthn_user_places, webauthn_user_tree}
+use Rattle.passkey_kinds.specs.Trees.{parameters_places}
 use Rattle.passkey_kinds.proofs.Ordered.{ascend, keys_ascend}
 use Rattle.passkey_kinds.proofs.Plain.{IsPlain, plainly, number_plain, list_plain, record_plain}
 use Rattle.passkey_webauthn.specs.declared.descriptor.PublicKeyCredentialDescriptor.{PublicKeyCredentialDescriptor}

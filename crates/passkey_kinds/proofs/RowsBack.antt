@@ -1,15 +1,6 @@
 -- Records can be decoded again from the encodings of their members.
-use Rattle.std.specs.Cmp.{unsigned_Decides}
-use Rattle.std.specs.List.{list_any}
-use Rattle.std.specs.Result.{result_ok}
-use Rattle.std.proofs.Common.{arith, ◌≡◌, ◌∙◌, ℕ, ◌==◌, Bool, true, false, not, ◌&&◌, List, [], ◌∷◌, ◌++◌, Option, Some, None, is_some, unwrap_or, Ok, refl, sym, ap}
-use Rattle.std.proofs.lemmas.Bool.{and_parts, not-true}
-use Rattle.passkey_cbor.specs.Item.{Item}
-use Rattle.passkey_cose.proofs.KeyLists.{members-pairs_of}
-use Rattle.passkey_kinds.specs.ReadBack.{IsReadBack}
-use Rattle.passkey_kinds.specs.Record.{Member, Fields, set_with, rows_of, table_of, put_at, with_members, read_members, read_item, record_kind}
-use Rattle.passkey_kinds.specs.Table.{row, named, is_row, Members, found, accepts_at, first_bad}
-use Rattle.passkey_kinds.specs.Tree.{Place, under, record_tree}
+use Rattle.passkey_kinds.proofs.Common.{unsigned_Decides, list_any, result_ok, arith, ◌≡◌, ◌∙◌, ℕ, ◌==◌, Bool, true, false, not, ◌&&◌, List, [], ◌∷◌, ◌++◌, Option, Some, None, is_some, unwrap_or, Ok, refl, sym, ap, and_parts, not-true, Item, members-pairs_of, IsReadBack, Member, Fields, set_with, rows_of, table_of, put_at, read_members, read_item, record_kind, row, named, is_row, Members, found, accepts_at, first_bad, Place, under, record_tree}
+use Rattle.passkey_kinds.specs.Record.{with_members}
 use Rattle.passkey_kinds.proofs.Back.{spread, laid_spread, stands, have_rows, are_distinct, Fit, names_it, neither, none_bad, all_free, found_spread, missing_of, Falls, accepts_it}
 
 -- ---- what the members of the places put

@@ -1,16 +1,7 @@
 -- Members for the same rows, with values that these rows decode alike.
-use Rattle.std.specs.List.{cons_option}
-use Rattle.std.specs.Option.{option_or}
-use Rattle.std.proofs.Common.{arith, ◌≡◌, ◌≢◌, ◌==◌, ℕ, Bool, true, false, ◌||◌, if◌then◌else◌, List, [], ◌∷◌, ◌++◌, Option, Some, None, is_some, is_none, refl, ap}
-use Rattle.std.proofs.lemmas.List.Elements.{All-head, All-tail}
-use Rattle.passkey_cbor.specs.Item.{Item}
+use Rattle.passkey_kinds.proofs.Common.{cons_option, option_or, arith, ◌≡◌, ◌≢◌, ◌==◌, ℕ, Bool, true, false, ◌||◌, if◌then◌else◌, List, [], ◌∷◌, ◌++◌, Option, Some, None, is_some, is_none, refl, ap, All-head, All-tail, Item, with_row, Table, Naming, row, unknown, wrong, named, is_row, Members, found, accepts_at, bad_by, first_bad, Fields, table_of, known_member, known, HasNoWrongKey, SameAnswers, Fault, Repeated}
 use Rattle.passkey_kinds.proofs.Unknown.{found_append, found_pushed}
-use Rattle.passkey_kinds.specs.Reading.{with_row}
-use Rattle.passkey_kinds.specs.Table.{Table, Naming, row, unknown, wrong, named, is_row, Members, found, accepts_at, bad_by, first_bad}
-use Rattle.passkey_kinds.specs.Record.{Fields, table_of}
-use Rattle.passkey_kinds.specs.RecordLaws.{known_member, known, HasNoWrongKey, SameAnswers}
-use Rattle.passkey_kinds.specs.declared.fault.Fault.{Fault}
-use Rattle.passkey_kinds.specs.declared.fault.Fault.TheVariants.{Repeated, Refused}
+use Rattle.passkey_kinds.specs.declared.fault.Fault.TheVariants.{Refused}
 
 -- ---- the value of each row, by the known members alone
 

@@ -1,15 +1,11 @@
 -- Sorting by numbers: a stable sort returns `sorted_by`.
-use Rattle.std.specs.List.{AllByRecursion, filter}
+use Rattle.passkey_kinds.proofs.Common.{AllByRecursion, nat_cmp, is_lt, ◌≡◌, ◌⊎◌, ℕ, suc, ◌<◌, ◌≤◌, ◌==◌, nat_le, Bool, true, false, cond, List, [], ◌∷◌, length, map, refl, sym, ap, ◌∙◌, arith, inl, inr, Bor, cases_lt, cases_eq, nat_tests, put_by, sorted_by}
+use Rattle.std.specs.List.{filter}
 use Rattle.std.specs.Fn.{ComputesKey, Called, Mut}
 use Rattle.std.specs.List.Sorted.{IsNonDecreasingBy, IsSortedByKey, IsStableByKey, ties}
 use Rattle.std.specs.Prelude.{slice_index_or}
-use Rattle.std.specs.Ordering.{nat_cmp, is_lt}
-use Rattle.std.proofs.Common.{◌≡◌, ◌⊎◌, ℕ, suc, ◌<◌, ◌≤◌, ◌==◌, nat_le, Bool, true, false, cond, List, [], ◌∷◌, length, map, refl, sym, ap, ◌∙◌, arith, inl, inr, Bor}
 use Rattle.std.proofs.lemmas.Fn.{always_returns_same}
 use Rattle.std.proofs.lemmas.List.Sorted.{IsNonDecreasingBy-from_sort_by_key}
-use Rattle.std.proofs.lemmas.Bool.{cases_lt, cases_eq}
-use Rattle.std.proofs.lemmas.Bool.Decides.{nat_tests}
-use Rattle.passkey_kinds.specs.ShortFirst.{put_by, sorted_by}
 
 -- ---- numbers
 

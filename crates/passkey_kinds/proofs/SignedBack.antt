@@ -1,15 +1,13 @@
 -- The encodings of signed extension outputs can be decoded again.
-use Rattle.std.proofs.Common.{◌≡◌, ◌∙◌, ℕ, Bool, List, [], ◌∷◌, Option, Some, None, refl, ap}
-use Rattle.passkey_cbor.specs.Item.{boolean, byte_string, text_string}
+use Rattle.passkey_kinds.proofs.Common.{◌≡◌, ◌∙◌, ℕ, Bool, List, [], ◌∷◌, Option, Some, None, refl, ap, boolean, byte_string, text_string, IsReadBack, Any, Place, record_tree}
 use Rattle.passkey_core.specs.SignedOutputs.{creation_item, assertion_item, hmac_secret, hmac_secret_mc}
+use Rattle.passkey_kinds.specs.Tree.{where_some}
+use Rattle.passkey_kinds.proofs.LeafBack.{truth_back, bytes_back, anything, optional_place}
+use Rattle.passkey_kinds.proofs.RowsBack.{puts_default, ◌▸◌, no_more, kind_back}
 use Rattle.passkey_core.specs.declared.get_assertion.SignedExtensionOutputs as assertion
 use Rattle.passkey_core.specs.declared.make_credential.SignedExtensionOutputs as creation
 use Rattle.passkey_kinds.specs.GetSigned as used
 use Rattle.passkey_kinds.specs.MakeSigned as made
-use Rattle.passkey_kinds.specs.ReadBack.{IsReadBack, Any}
-use Rattle.passkey_kinds.specs.Tree.{Place, where_some, record_tree}
-use Rattle.passkey_kinds.proofs.LeafBack.{truth_back, bytes_back, anything, optional_place}
-use Rattle.passkey_kinds.proofs.RowsBack.{puts_default, ◌▸◌, no_more, kind_back}
 
 abbrev creation_places : creation.SignedExtensionOutputs → List Place
 creation_places o =

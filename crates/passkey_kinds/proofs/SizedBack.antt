@@ -1,13 +1,9 @@
 -- The encodings of arrays of bytes, AAGUIDs and sizes can be decoded again.
-use Rattle.std.proofs.Common.{◌≡◌, ◌∙◌, ℕ, ◌==◌, ◌^◌, eq-eqb, lt-ltb, if◌then◌else◌, length, map, List, Some, None, refl, ap}
-use Rattle.std.proofs.lemmas.List.{length-map}
-use Rattle.passkey_cbor.specs.Item.{Item, byte_string, elements, items_of}
-use Rattle.passkey_cose.proofs.KeyLists.{elements-items_of}
-use Rattle.passkey_kinds.specs.Data.{aaguid}
-use Rattle.passkey_kinds.specs.Kind.{below, each, sized_bytes}
-use Rattle.passkey_kinds.specs.ReadBack.{IsReadBack, IsByte, AreBytes}
-use Rattle.passkey_kinds.specs.Size.{size, IsSize}
-use Rattle.passkey_kinds.specs.Tree.{number_tree, numbers_tree}
+use Rattle.passkey_kinds.proofs.Common.{◌≡◌, ◌∙◌, ℕ, ◌==◌, ◌^◌, eq-eqb, if◌then◌else◌, length, map, List, Some, None, refl, ap, length-map, Item, byte_string, items_of, elements-items_of, aaguid, below, each, sized_bytes, IsReadBack, IsByte, size, number_tree, numbers_tree}
+use Rattle.std.proofs.Common.{lt-ltb}
+use Rattle.passkey_cbor.specs.Item.{elements}
+use Rattle.passkey_kinds.specs.ReadBack.{AreBytes}
+use Rattle.passkey_kinds.specs.Size.{IsSize}
 use Rattle.passkey_kinds.proofs.LeafBack.{byte_back, each_back}
 use Rattle.passkey_kinds.proofs.Lists.{map_same}
 

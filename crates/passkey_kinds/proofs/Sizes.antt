@@ -1,10 +1,6 @@
 -- Sizes, as unsigned integers.
-use Rattle.std.specs.Option.{option_and_then}
-use Rattle.std.proofs.Common.{◌≡◌, ℕ, pos, Option, refl}
+use Rattle.passkey_kinds.proofs.Common.{option_and_then, ◌≡◌, ℕ, pos, Option, refl, Item, unsigned_in, size}
 use Rattle.passkey_cbor.specs.Item as item
-use Rattle.passkey_cbor.specs.Item.{Item}
-use Rattle.passkey_kinds.specs.HeadValues.{unsigned_in}
-use Rattle.passkey_kinds.specs.Size.{size}
 
 -- this number as a size
 abbrev pub size_of : ℕ → Option ℕ

@@ -1,10 +1,6 @@
 -- The bytes that texts and arrays decode to.
-use Rattle.std.proofs.Common.{◌≡◌, ℕ, List, Option, Some, None, Ok, Err, refl, ap}
+use Rattle.passkey_kinds.proofs.Common.{◌≡◌, ℕ, List, Option, Some, None, Ok, Err, refl, ap, BytesFault, Item, array, items_of, elements-items_of, each, below, bytes}
 use Rattle.passkey_bytes.specs.Bytes.{bytes_or_fault}
-use Rattle.passkey_bytes.specs.declared.bytes.BytesFault.{BytesFault}
-use Rattle.passkey_cbor.specs.Item.{Item, array, items_of}
-use Rattle.passkey_cose.proofs.KeyLists.{elements-items_of}
-use Rattle.passkey_kinds.specs.Kind.{each, below, bytes}
 
 pub text_read : (o : Option (List ℕ)) (b : List ℕ) → bytes_or_fault o ≡ Ok b → o ≡ Some b
 text_read (Some x) b e = cc

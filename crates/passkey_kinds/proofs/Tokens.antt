@@ -1,19 +1,11 @@
 -- Strings that are lent at a cursor and looked at again: what they are, and where the cursor is
 -- then.
+use Rattle.passkey_kinds.proofs.Common.{rules, ◌≡◌, ℕ, suc, ◌≤◌, ◌<◌, arith, Bool, List, Option, Some, None, option_map, Result, refl, Content, Item, Region, Tells, PassesString, LendsNothing, IsEncodedAt, Walk, AnswersAs, bytes, Further, Decodes, LooksAtMost, Refusal, Refused}
 use Rattle.std.specs.Option.{ok_or}
-use Rattle.std.proofs.Common.{rules, ◌≡◌, ℕ, suc, ◌≤◌, ◌<◌, arith, Bool, List, Option, Some, None, option_map, Result, refl}
-use Rattle.passkey_cbor.specs.Inside.{Content}
-use Rattle.passkey_cbor.specs.Item as item
-use Rattle.passkey_cbor.specs.Item.{Item}
-use Rattle.passkey_cbor.specs.Lent.{Region, Tells, PassesString, LendsNothing, LentWhole}
-use Rattle.passkey_cbor.specs.EncodedAt.{IsEncodedAt}
-use Rattle.passkey_cbor.specs.Walk.{Walk}
-use Rattle.passkey_kinds.specs.Kind.{AnswersAs, bytes}
-use Rattle.passkey_kinds.specs.Reader.{Further, Decodes, LooksAtMost}
-use Rattle.passkey_kinds.specs.declared.refusal.Refusal.{Refusal}
-use Rattle.passkey_kinds.specs.declared.refusal.Refusal.TheVariants.{Refused}
+use Rattle.passkey_cbor.specs.Lent.{LentWhole}
 use Rattle.passkey_kinds.proofs.Going.{eased, stands_back, string_further}
 use Rattle.passkey_kinds.proofs.Lists.{answers_from}
+use Rattle.passkey_cbor.specs.Item as item
 
 whole_is : (is_text : Bool) (len : Option ℕ) (bytes t s : List ℕ) → Some t ≡ option_map (λ (n : ℕ). bytes) len
     → Content is_text len s bytes → t ≡ s

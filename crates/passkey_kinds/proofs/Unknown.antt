@@ -1,9 +1,5 @@
 -- A member under an unknown key changes nothing.
-use Rattle.std.specs.Option.{option_or}
-use Rattle.std.proofs.Common.{arith, ◌≡◌, ℕ, [], ◌∷◌, ◌++◌, is_none, refl}
-use Rattle.std.proofs.lemmas.List.{append-nil}
-use Rattle.passkey_cbor.specs.Item.{Item}
-use Rattle.passkey_kinds.specs.Table.{Table, Naming, row, unknown, named, Members, found, bad_by, first_bad, first_missing}
+use Rattle.passkey_kinds.proofs.Common.{option_or, arith, ◌≡◌, ℕ, [], ◌∷◌, ◌++◌, is_none, refl, append-nil, Item, Table, Naming, row, unknown, named, Members, found, bad_by, first_bad, first_missing}
 
 pub found_append : (table : Table) (ms ns : Members) (k : ℕ)
     → found table (ms ++ ns) k ≡ option_or (found table ms k) (found table ns k)

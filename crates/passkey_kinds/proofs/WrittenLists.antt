@@ -1,11 +1,8 @@
 -- Lists that are encoded one value after the other.
-use Rattle.std.specs.List.{All}
-use Rattle.std.proofs.Common.{arith, ◌≡◌, ◌∙◌, ℕ, suc, ◌+◌, ◌<◌, add-one, List, [], ◌∷◌, ◌++◌, length, map, drop, get_or, append_assoc, sym, ap, subst}
-use Rattle.std.proofs.Math.Seq.{drop-cons}
-use Rattle.passkey_cbor.specs.Item.{Item, Items, items_of}
-use Rattle.passkey_cbor.specs.Writable.{IsWritable, AreWritable}
-use Rattle.passkey_cbor.specs.Written.{written, items_written}
-use Rattle.passkey_cbor.proofs.Writing.{WritesItems}
+use Rattle.passkey_kinds.proofs.Common.{All, arith, ◌≡◌, ◌∙◌, ℕ, suc, ◌+◌, ◌<◌, add-one, List, [], ◌∷◌, ◌++◌, length, map, drop, get_or, append_assoc, sym, ap, subst, drop-cons, Item, items_of, IsWritable, written, WritesItems}
+use Rattle.passkey_cbor.specs.Item.{Items}
+use Rattle.passkey_cbor.specs.Writable.{AreWritable}
+use Rattle.passkey_cbor.specs.Written.{items_written}
 
 -- the rest begins with the value at this index
 rest_is : {X : Type 0} (xs : List X) (i : ℕ) (x : X) → x ≡ get_or xs i x → i < length xs

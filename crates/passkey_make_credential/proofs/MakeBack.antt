@@ -1,14 +1,5 @@
 -- Options of authenticatorMakeCredential can be decoded again, have one level, and their keys ascend.
-use Rattle.std.proofs.Common.{ℕ, Bool, true, false, refl}
-use Rattle.std.specs.Prelude.{codes}
-use Rattle.passkey_cbor.specs.Item.{text_string}
-use Rattle.passkey_cbor.specs.Written.{shortest_head}
-use Rattle.passkey_kinds.proofs.Back.{true_place}
-use Rattle.passkey_kinds.proofs.Lawful.{IsLawfulAs, lawful}
-use Rattle.passkey_kinds.proofs.LeafBack.{truth_back}
-use Rattle.passkey_kinds.proofs.Places.{PlaceHas}
-use Rattle.passkey_kinds.proofs.Plain.{IsPlain, plainly, truth_plain, text_plain}
-use Rattle.passkey_kinds.proofs.RowsBack.{puts_value, puts_default, ◌▸◌, no_more}
+use Rattle.passkey_kinds.proofs.Steps.{ℕ, Bool, true, false, refl, codes, text_string, shortest_head, true_place, IsLawfulAs, lawful, truth_back, PlaceHas, IsPlain, plainly, truth_plain, text_plain, puts_value, puts_default, ◌▸◌, no_more}
 use Rattle.passkey_kinds.specs.Tree.{where_true}
 use Rattle.passkey_make_credential.specs.MakeOptions.{options, normal_options}
 

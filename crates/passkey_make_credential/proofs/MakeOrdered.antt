@@ -1,17 +1,9 @@
 -- The encodings of the messages of authenticatorMakeCredential are canonical.
-use Rattle.std.proofs.Common.{◌≡◌, nat_le, arith, leb-true, true, refl}
-use Rattle.std.proofs.lemmas.Bool.{and_parts}
-use Rattle.passkey_cbor.specs.Depth.{depth}
-use Rattle.passkey_cbor.specs.LeadingItem.{max_depth}
-use Rattle.passkey_cbor.specs.Laws.{AtMostOneLeadingItem, WrittenIsLeadingItem}
-use Rattle.passkey_cbor.specs.Written.{shortest_head}
-use Rattle.passkey_core.specs.Coherent.{is_coherent}
+use Rattle.passkey_kinds.proofs.Steps.{◌≡◌, nat_le, arith, true, refl, and_parts, depth, max_depth, AtMostOneLeadingItem, WrittenIsLeadingItem, shortest_head, is_coherent, WrittenIsCanonical, number_tree, ascend, record_ordered, canonical_of, ordered_of, in_order}
+use Rattle.std.proofs.Common.{leb-true}
 use Rattle.passkey_extensions.proofs.ExtensionOrdered.{make_extensions_place}
-use Rattle.passkey_kinds.specs.MessageLaws.{WrittenIsCanonical}
-use Rattle.passkey_kinds.specs.Tree.{number_tree}
 use Rattle.passkey_kinds.proofs.Levels.{of_record as levels_of}
-use Rattle.passkey_kinds.proofs.Ordered.{ascend, record_ordered, of_record, canonical_of, ordered_of}
-use Rattle.passkey_kinds.proofs.Plain.{in_order}
+use Rattle.passkey_kinds.proofs.Ordered.{of_record}
 use Rattle.passkey_make_credential.proofs.MakePlaces.{make_request_each, make_response_each}
 use Rattle.passkey_make_credential.specs.MakeRequest.{MakeRequestParts, make_request_places, make_request_tree, make_request_kept, is_make_request_coherent}
 use Rattle.passkey_make_credential.specs.MakeResponse.{MakeResponseParts, make_response_places, make_response_tree, make_response_kept, is_make_response_coherent}

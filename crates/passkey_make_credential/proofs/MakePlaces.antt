@@ -1,13 +1,8 @@
 -- What holds of each key and value of the messages of authenticatorMakeCredential, if it holds of what is kept.
-use Rattle.std.proofs.Common.{option_map}
-use Rattle.passkey_cbor.specs.Item.{Item}
+use Rattle.passkey_kinds.proofs.Steps.{option_map, Item, number_tree, PlaceHas, EachPlace, Rule, plainly, list_plain, descriptor_plain, parameters_plain, user_plain}
 use Rattle.passkey_entities.proofs.Entities.{rp_law}
 use Rattle.passkey_extensions.specs.ExtensionTrees.{make_extensions_tree}
 use Rattle.passkey_extensions.proofs.Prf.{made_unsigned_law}
-use Rattle.passkey_kinds.specs.Tree.{number_tree}
-use Rattle.passkey_kinds.proofs.Places.{PlaceHas, EachPlace}
-use Rattle.passkey_kinds.proofs.Plain.{Rule, plainly, list_plain}
-use Rattle.passkey_kinds.proofs.RecordPlain.{descriptor_plain, parameters_plain, user_plain}
 use Rattle.passkey_make_credential.proofs.MakeBack.{options_law}
 use Rattle.passkey_make_credential.specs.MakeRequest.{MakeRequestParts, make_request_places}
 use Rattle.passkey_make_credential.specs.MakeResponse.{MakeResponseParts, make_response_places}

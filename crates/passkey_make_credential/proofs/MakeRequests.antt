@@ -1,26 +1,14 @@
 -- authenticatorMakeCredential requests: decoding their encodings again, and their nesting levels.
-use Rattle.std.proofs.Common.{rules, ◌≡◌, ◌∙◌, ℕ, ◌<◌, ◌≤◌, nat_le, arith, le-leb, true, Option, Some, Ok, refl, ap}
-use Rattle.passkey_cbor.specs.Depth.{depth}
-use Rattle.passkey_cbor.specs.Item.{Item}
+use Rattle.passkey_kinds.proofs.Steps.{rules, ◌≡◌, ◌∙◌, ℕ, ◌<◌, ◌≤◌, nat_le, arith, le-leb, true, Option, Some, Ok, refl, ap, depth, Item, optional, ReadIsCoherent, number_tree, OnlyDeep, only_deep, deep_coherent, not_null, record_keeps, byte_back, bytes_back, anything, all_of_anything, optional_place, accepted_same, accepted_place, descriptor_back, parameters_back, user_back, few_levels, puts_value, puts_default, rows_back, ◌▸◌, no_more}
 use Rattle.passkey_make_credential.specs.MakeRequest.{MakeRequestParts, make_request_fields, read_make_request, make_request_places, make_request_tree, MakeRequestFits, is_make_request_coherent, normal_make_request}
 use Rattle.passkey_extensions.specs.ExtensionTrees.{hmac_input_tree, make_extensions_tree}
 use Rattle.passkey_extensions.specs.MakeExtensions.{MakeExtensionsParts, make_extensions}
-use Rattle.passkey_kinds.specs.Kind.{optional}
-use Rattle.passkey_kinds.specs.MessageLaws.{ReadIsCoherent}
-use Rattle.passkey_kinds.specs.Tree.{number_tree}
-use Rattle.passkey_kinds.proofs.Deep.{OnlyDeep, only_deep, deep_coherent}
-use Rattle.passkey_kinds.proofs.NotNull.{not_null}
-use Rattle.passkey_kinds.proofs.Keeping.{record_keeps}
 use Rattle.passkey_extensions.proofs.ExtensionBack.{make_parts_back}
 use Rattle.passkey_extensions.proofs.ExtensionLevels.{input_up, made_levels}
-use Rattle.passkey_kinds.proofs.LeafBack.{byte_back, bytes_back, anything, all_of_anything, optional_place, accepted_same, accepted_place}
-use Rattle.passkey_kinds.proofs.RecordBack.{descriptor_back, parameters_back, user_back}
-use Rattle.passkey_kinds.proofs.Plain.{few_levels}
 use Rattle.passkey_extensions.proofs.Keys.{made_key}
 use Rattle.passkey_entities.proofs.Entities.{rp_law, rp_fits}
 use Rattle.passkey_make_credential.proofs.MakeBack.{options_law}
 use Rattle.passkey_make_credential.proofs.MakePlaces.{make_request_each}
-use Rattle.passkey_kinds.proofs.RowsBack.{puts_value, puts_default, rows_back, ◌▸◌, no_more}
 
 -- ---- an encoding can be decoded again
 

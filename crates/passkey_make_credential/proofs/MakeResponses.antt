@@ -1,28 +1,13 @@
 -- authenticatorMakeCredential responses: decoding their encodings again, and their nesting levels.
-use Rattle.std.specs.Prelude.{codes}
-use Rattle.std.proofs.Common.{rules, ◌≡◌, ℕ, ◌<◌, ◌≤◌, ◌-◌, ◌^◌, min, nat_lt, nat_le, arith, lt-ltb, ltb-true, le-leb, leb-true, true, [], ◌∷◌, Some, Ok, refl}
-use Rattle.std.proofs.lemmas.Bool.{and_from}
-use Rattle.passkey_cbor.specs.Depth.{depth}
-use Rattle.passkey_cbor.specs.Item.{Item}
-use Rattle.passkey_cbor.specs.LeadingItem.{max_depth}
-use Rattle.passkey_cbor.specs.Laws.{WrittenIsLeadingItem}
-use Rattle.passkey_core.specs.Coherent.{is_coherent}
-use Rattle.passkey_core.specs.DataLaws.{GivenIsCoherent, ReadIsGiven, WrittenDataAreReadBack}
+use Rattle.passkey_kinds.proofs.Steps.{codes, rules, ◌≡◌, ℕ, ◌<◌, ◌≤◌, ◌-◌, ◌^◌, min, nat_lt, nat_le, arith, ltb-true, le-leb, true, [], ◌∷◌, Some, Ok, refl, and_from, depth, Item, max_depth, WrittenIsLeadingItem, is_coherent, GivenIsCoherent, ReadIsGiven, WrittenDataAreReadBack, authenticator_data, kept, ReadIsCoherent, same_tests, auth_data_back, auth_data_coherent, kept_below, record_keeps, truth_back, text_back, bytes_back, kept_back, anything, optional_place, few_levels, record_within, puts_value, puts_default, picked, picked_back, rows_back, ◌▸◌, no_more}
+use Rattle.std.proofs.Common.{lt-ltb, leb-true}
 use Rattle.passkey_core.specs.DataNormal.{IsData, normal_data}
 use Rattle.passkey_core.specs.DataParts.{DataParts}
-use Rattle.passkey_kinds.proofs.DataBack.{auth_data_back, auth_data_coherent}
 use Rattle.passkey_make_credential.specs.MakeResponse.{MakeResponseParts, make_response_fields, read_make_response, make_response_places, make_response_tree, MakeResponseFits, is_make_response_coherent, normal_make_response, no_statement, attestation_places, attestation_tree, unattested}
-use Rattle.passkey_kinds.specs.Data.{authenticator_data}
-use Rattle.passkey_kinds.specs.Kind.{kept}
-use Rattle.passkey_kinds.specs.MessageLaws.{WrittenIsReadBack, ReadIsCoherent}
-use Rattle.passkey_kinds.proofs.Keeping.{kept_below, record_keeps}
+use Rattle.passkey_kinds.specs.MessageLaws.{WrittenIsReadBack}
 use Rattle.passkey_extensions.proofs.Prf.{made_unsigned_law}
-use Rattle.passkey_bytes.specs.SameMaps.{same_tests}
-use Rattle.passkey_kinds.proofs.LeafBack.{truth_back, text_back, bytes_back, kept_back, anything, optional_place}
-use Rattle.passkey_kinds.proofs.Plain.{few_levels}
 use Rattle.passkey_make_credential.proofs.MakePlaces.{make_response_each}
-use Rattle.passkey_kinds.proofs.Levels.{record_within, of_record}
-use Rattle.passkey_kinds.proofs.RowsBack.{puts_value, puts_default, picked, picked_back, rows_back, ◌▸◌, no_more}
+use Rattle.passkey_kinds.proofs.Levels.{of_record}
 
 -- ---- only the statement may have many levels
 

@@ -1,6 +1,6 @@
+use Rattle.passkey_kinds.proofs.Steps.{back_if_good}
 use Rattle.passkey_get_info.specs.GetInfo.{read_get_info}
 use Rattle.passkey_get_info.proofs.GetInfos.{response_back}
-use Rattle.passkey_kinds.proofs.MessageBack.{back_if_good}
 use Rattle.passkey_get_info.proofs.laws.written_get_info_is_read_back.Goals as goal
 
 pub returns : goal.returns

@@ -1,5 +1,4 @@
-use Rattle.std.proofs.Common.{arith}
-use Rattle.passkey_kinds.proofs.NumberPieces.{adds_one, adds_all, adds_looks}
+use Rattle.passkey_kinds.proofs.Steps.{arith, adds_one, adds_all, adds_looks}
 use Rattle.passkey_kinds.proofs.algorithm.whole_of.Goals as goal
 
 pub loop-piece-preserved : goal.loop-piece-preserved

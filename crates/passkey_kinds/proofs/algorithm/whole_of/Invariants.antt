@@ -1,5 +1,4 @@
-use Rattle.std.proofs.Common.{length}
-use Rattle.passkey_kinds.proofs.NumberPieces.{AddsUpTo}
+use Rattle.passkey_kinds.proofs.Steps.{length, AddsUpTo}
 use Rattle.passkey_kinds.proofs.algorithm.whole_of.Given as goal
 
 abbrev pub invariant-loop-piece : goal.invariant-loop-piece

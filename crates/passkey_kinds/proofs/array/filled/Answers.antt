@@ -1,5 +1,4 @@
-use Rattle.std.proofs.Common.{false}
-use Rattle.passkey_kinds.proofs.Lent.{looks_all}
+use Rattle.passkey_kinds.proofs.Steps.{false, looks_all}
 use Rattle.passkey_kinds.proofs.array.filled.Goals as goal
 
 pub returns-then-fill-clause-looks : goal.returns-then-fill-clause-looks

@@ -1,7 +1,4 @@
-use Rattle.std.proofs.Common.{◌≡◌, length, map}
-use Rattle.passkey_cbor.specs.View.{item_of}
-use Rattle.passkey_kinds.specs.Kind.{each, below}
-use Rattle.passkey_kinds.proofs.Arrays.{set_before}
+use Rattle.passkey_kinds.proofs.Steps.{◌≡◌, length, map, item_of, each, below, set_before}
 use Rattle.passkey_kinds.proofs.array.read_numbers.Given as goal
 
 abbrev pub invariant-loop-i : goal.invariant-loop-i

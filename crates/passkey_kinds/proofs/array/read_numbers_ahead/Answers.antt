@@ -1,13 +1,4 @@
-use Rattle.std.specs.Option.{option_and_then}
-use Rattle.std.proofs.Common.{◌≡◌, ◌∙◌, ℕ, Bool, true, false, if◌then◌else◌, length, take, Some, None, sym, ap, subst, arith, eq-eqb}
-use Rattle.std.proofs.lemmas.Bool.{ne_eqb}
-use Rattle.std.proofs.lemmas.List.{length-take, take_all}
-use Rattle.std.proofs.lemmas.Result.{err_from_is_err_and}
-use Rattle.passkey_kinds.specs.Kind.{below}
-use Rattle.passkey_kinds.specs.Reader.{Spends}
-use Rattle.passkey_kinds.proofs.Ahead.{kept_nothing}
-use Rattle.passkey_kinds.proofs.Collecting.{full, full_each}
-use Rattle.passkey_kinds.proofs.Leaves.{fails_as}
+use Rattle.passkey_kinds.proofs.Steps.{option_and_then, ◌≡◌, ◌∙◌, ℕ, Bool, true, false, if◌then◌else◌, length, take, Some, None, sym, ap, subst, arith, eq-eqb, ne_eqb, length-take, take_all, err_from_is_err_and, below, Spends, kept_nothing, full, full_each, fails_as}
 use Rattle.passkey_kinds.proofs.array.read_numbers_ahead.Goals as goal
 
 pub returns-in_err-front-clause-reads : goal.returns-in_err-front-clause-reads

@@ -1,8 +1,4 @@
-use Rattle.std.proofs.Common.{◌∙◌, ℕ, Some, sym, ap, subst}
-use Rattle.passkey_kinds.specs.Reader.{Spends}
-use Rattle.passkey_kinds.proofs.Ahead.{kept_nothing}
-use Rattle.passkey_kinds.proofs.Leaves.{fails_as}
-use Rattle.passkey_kinds.proofs.Lists.{map_same}
+use Rattle.passkey_kinds.proofs.Steps.{◌∙◌, ℕ, Some, sym, ap, subst, Spends, kept_nothing, fails_as, map_same}
 use Rattle.passkey_kinds.proofs.bytes.read_numbers_ahead.Goals as goal
 
 pub returns-in-Ok-clause-reads : goal.returns-in-Ok-clause-reads

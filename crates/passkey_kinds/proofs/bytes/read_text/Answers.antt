@@ -1,8 +1,6 @@
-use Rattle.std.proofs.Common.{Err, subst}
+use Rattle.passkey_kinds.proofs.Steps.{Err, subst, BytesFault, text_read, text_refused}
 use Rattle.passkey_bytes.specs.Bytes.{ReadsText}
 use Rattle.passkey_bytes.specs.Encoding.{text_bytes}
-use Rattle.passkey_bytes.specs.declared.bytes.BytesFault.{BytesFault}
-use Rattle.passkey_kinds.proofs.Texts.{text_read, text_refused}
 use Rattle.passkey_kinds.proofs.bytes.read_text.Goals as goal
 
 pub returns-in-Ok : goal.returns-in-Ok

@@ -1,9 +1,4 @@
-use Rattle.std.proofs.Common.{arith, ◌∙◌, true, false, refl, sym}
-use Rattle.std.proofs.lemmas.Result.{err_from_is_err_and}
-use Rattle.passkey_kinds.proofs.Collecting.{stopped, gone_on}
-use Rattle.passkey_kinds.proofs.Going.{onward_of, onward_then}
-use Rattle.passkey_kinds.proofs.Leaves.{failed}
-use Rattle.passkey_kinds.proofs.Loops.{next_is, element_spends, spent_within, some_are, one_more, each_done}
+use Rattle.passkey_kinds.proofs.Steps.{arith, ◌∙◌, true, false, refl, sym, err_from_is_err_and, stopped, gone_on, onward_of, onward_then, failed, next_is, element_spends, spent_within, some_are, one_more, each_done}
 use Rattle.passkey_kinds.proofs.collect.read_all.Goals as goal
 
 pub returns-in_err-add-clause-reads : goal.returns-in_err-add-clause-reads

@@ -1,10 +1,4 @@
-use Rattle.std.proofs.Common.{◌≡◌, ◌-◌, ℕ, suc, List, length}
-use Rattle.passkey_cbor.specs.EncodedAt.{Lies}
-use Rattle.passkey_cbor.specs.Inside.{Left}
-use Rattle.passkey_kinds.specs.Collecting.{collected}
-use Rattle.passkey_kinds.specs.Keeping.{kept_sum}
-use Rattle.passkey_kinds.specs.Reader.{Onward}
-use Rattle.passkey_kinds.proofs.Loops.{EachTo}
+use Rattle.passkey_kinds.proofs.Steps.{◌≡◌, ◌-◌, ℕ, suc, List, length, Lies, Left, collected, kept_sum, Onward, EachTo}
 use Rattle.passkey_kinds.proofs.collect.read_all.Given as goal
 
 abbrev pub invariant-loop-alloc : goal.invariant-loop-alloc

@@ -1,10 +1,4 @@
-use Rattle.std.proofs.Common.{rules, ◌∙◌, true, Some, Ok, Err, sym, ap, arith}
-use Rattle.std.specs.Option.{option_and_then}
-use Rattle.std.proofs.lemmas.Result.{err_from_is_err_and}
-use Rattle.passkey_kinds.specs.Kind.{one_named, MayGrow}
-use Rattle.passkey_kinds.specs.declared.refusal.Refusal.TheVariants.{OutOfMemory}
-use Rattle.passkey_kinds.proofs.Leaves.{named_text, no_text}
-use Rattle.passkey_kinds.proofs.Lent.{lent_decodes, not_lent_decodes, text_grows}
+use Rattle.passkey_kinds.proofs.Steps.{rules, ◌∙◌, true, Some, Ok, Err, sym, ap, err_from_is_err_and, one_named, MayGrow, OutOfMemory, named_text, no_text, lent_decodes, not_lent_decodes, text_grows}
 use Rattle.passkey_kinds.proofs.from_text.read_text_value.Goals as goal
 
 pub returns-in_err-text_value-in-Some-clause-reads : goal.returns-in_err-text_value-in-Some-clause-reads

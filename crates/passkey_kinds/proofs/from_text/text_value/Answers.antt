@@ -1,5 +1,4 @@
-use Rattle.std.proofs.Common.{true}
-use Rattle.passkey_kinds.proofs.Lent.{looks_all, looks_some}
+use Rattle.passkey_kinds.proofs.Steps.{true, looks_all, looks_some}
 use Rattle.passkey_kinds.proofs.from_text.text_value.Goals as goal
 
 pub returns-in_err-text-in-None-clause-looks : goal.returns-in_err-text-in-None-clause-looks

@@ -1,4 +1,4 @@
-use Rattle.std.proofs.Common.{◌==◌, ℕ, ap}
+use Rattle.passkey_kinds.proofs.Common.{◌==◌, ℕ, ap}
 use Rattle.passkey_kinds.proofs.head.begins.Goals as goal
 
 pub returns-in-Some : goal.returns-in-Some

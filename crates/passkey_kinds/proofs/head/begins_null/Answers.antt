@@ -1,5 +1,4 @@
-use Rattle.std.proofs.Common.{◌≡◌, ◌⊎◌, ℕ, inl, inr, ◌==◌, true, refl, ap}
-use Rattle.passkey_cbor.specs.Item.{null}
+use Rattle.passkey_kinds.proofs.Common.{◌≡◌, ◌⊎◌, ℕ, inl, inr, ◌==◌, true, refl, ap, null}
 use Rattle.passkey_kinds.proofs.head.begins_null.Goals as goal
 
 other_byte : (b : ℕ) → (b ≡ 246) ⊎ (b ≡ 247) → (b ≡ 246 → ⊥) → (b == 247) ≡ true

@@ -1,4 +1,4 @@
-use Rattle.passkey_kinds.proofs.Heads.{integer_read}
+use Rattle.passkey_kinds.proofs.Steps.{integer_read}
 use Rattle.passkey_kinds.proofs.head.read_integer.Goals as goal
 
 pub returns-in-Some-clause-reads : goal.returns-in-Some-clause-reads

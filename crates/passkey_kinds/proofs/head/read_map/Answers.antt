@@ -1,5 +1,4 @@
-use Rattle.std.proofs.Common.{Some}
-use Rattle.passkey_kinds.proofs.Going.{head_spends}
+use Rattle.passkey_kinds.proofs.Steps.{Some, head_spends}
 use Rattle.passkey_kinds.proofs.head.read_map.Goals as goal
 
 pub returns-in-Some-clause-spends : goal.returns-in-Some-clause-spends

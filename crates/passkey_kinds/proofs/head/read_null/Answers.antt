@@ -1,7 +1,4 @@
-use Rattle.std.proofs.Common.{◌≡◌, true, false, subst}
-use Rattle.passkey_cbor.specs.Item.{Item}
-use Rattle.passkey_cbor.specs.EncodedAt.{IsEncodedAt}
-use Rattle.passkey_kinds.proofs.Heads.{null_read, null_missed}
+use Rattle.passkey_kinds.proofs.Steps.{◌≡◌, true, false, subst, Item, IsEncodedAt, null_read, null_missed}
 use Rattle.passkey_kinds.proofs.head.read_null.Goals as goal
 
 pub returns-in-Some-clause-reads : goal.returns-in-Some-clause-reads

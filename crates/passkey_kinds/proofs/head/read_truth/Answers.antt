@@ -1,4 +1,4 @@
-use Rattle.passkey_kinds.proofs.Heads.{truth_read}
+use Rattle.passkey_kinds.proofs.Steps.{truth_read}
 use Rattle.passkey_kinds.proofs.head.read_truth.Goals as goal
 
 pub returns-in-Some-clause-reads : goal.returns-in-Some-clause-reads

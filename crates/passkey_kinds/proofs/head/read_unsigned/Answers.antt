@@ -1,4 +1,4 @@
-use Rattle.passkey_kinds.proofs.Heads.{unsigned_read}
+use Rattle.passkey_kinds.proofs.Steps.{unsigned_read}
 use Rattle.passkey_kinds.proofs.head.read_unsigned.Goals as goal
 
 pub returns-in-Some-clause-reads : goal.returns-in-Some-clause-reads

@@ -1,6 +1,4 @@
-use Rattle.std.proofs.Common.{◌≡◌, length, map, take}
-use Rattle.passkey_kinds.specs.Rows.{entry_of}
-use Rattle.passkey_kinds.specs.Table.{Entry}
+use Rattle.passkey_kinds.proofs.Common.{◌≡◌, length, map, take, entry_of, Entry}
 use Rattle.passkey_kinds.proofs.key.names_of.Given as goal
 
 abbrev pub invariant-loop-i : goal.invariant-loop-i

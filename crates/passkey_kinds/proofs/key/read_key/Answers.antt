@@ -1,14 +1,4 @@
-use Rattle.std.proofs.Common.{◌∙◌, ℕ, false, true, map, sym, ap, arith}
-use Rattle.passkey_cbor.specs.Item.{Item}
-use Rattle.passkey_cbor.specs.EncodedAt.{IsEncodedAt}
-use Rattle.passkey_cbor.specs.Walk.{Walk}
-use Rattle.passkey_kinds.specs.Reader.{Spends}
-use Rattle.passkey_kinds.specs.Rows.{entry_of}
-use Rattle.passkey_kinds.specs.Table.{number_names}
-use Rattle.passkey_kinds.proofs.Going.{eased, if_some, stands_long}
-use Rattle.passkey_kinds.proofs.Keys.{none_wrong, names_number, fits_byte, other_major, not_unsigned}
-use Rattle.passkey_kinds.proofs.Lent.{lent_spends}
-use Rattle.passkey_kinds.proofs.Tokens.{stands_missed}
+use Rattle.passkey_kinds.proofs.Steps.{◌∙◌, ℕ, false, true, map, sym, ap, arith, Item, IsEncodedAt, Walk, Spends, entry_of, number_names, eased, if_some, stands_long, none_wrong, names_number, fits_byte, other_major, not_unsigned, lent_spends, stands_missed}
 use Rattle.passkey_kinds.proofs.key.read_key.Goals as goal
 
 -- one head is within the cost of a key

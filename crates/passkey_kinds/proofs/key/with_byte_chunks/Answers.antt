@@ -1,5 +1,4 @@
-use Rattle.std.proofs.Common.{false}
-use Rattle.passkey_kinds.proofs.Lent.{looks_names}
+use Rattle.passkey_kinds.proofs.Steps.{false, looks_names}
 use Rattle.passkey_kinds.proofs.key.with_byte_chunks.Goals as goal
 
 pub returns-clause-looks : goal.returns-clause-looks

@@ -1,5 +1,4 @@
-use Rattle.std.proofs.Common.{true}
-use Rattle.passkey_kinds.proofs.Lent.{looks_names}
+use Rattle.passkey_kinds.proofs.Steps.{true, looks_names}
 use Rattle.passkey_kinds.proofs.key.with_text_chunks.Goals as goal
 
 pub returns-clause-looks : goal.returns-clause-looks

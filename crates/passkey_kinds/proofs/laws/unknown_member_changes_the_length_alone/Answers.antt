@@ -1,4 +1,4 @@
-use Rattle.passkey_kinds.proofs.RecordLaws.{skips_unknown}
+use Rattle.passkey_kinds.proofs.Steps.{skips_unknown}
 use Rattle.passkey_kinds.proofs.laws.unknown_member_changes_the_length_alone.Goals as goal
 
 pub returns : goal.returns

@@ -1,4 +1,4 @@
-use Rattle.passkey_kinds.proofs.RecordPlain.{descriptor_keys, parameters_keys, user_keys}
+use Rattle.passkey_kinds.proofs.Steps.{descriptor_keys, parameters_keys, user_keys}
 use Rattle.passkey_kinds.proofs.laws.written_keys_ascend.Goals as goal
 
 pub returns-clause-descriptor : goal.returns-clause-descriptor

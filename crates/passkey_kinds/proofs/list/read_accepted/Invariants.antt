@@ -1,6 +1,4 @@
-use Rattle.std.specs.List.{filter_map}
-use Rattle.std.proofs.Common.{◌≡◌, ◌++◌, map, drop}
-use Rattle.passkey_cbor.specs.View.{item_of}
+use Rattle.passkey_kinds.proofs.Common.{filter_map, ◌≡◌, ◌++◌, map, drop, item_of}
 use Rattle.passkey_kinds.proofs.list.read_accepted.Given as goal
 
 abbrev pub invariant-loop-element : goal.invariant-loop-element

@@ -1,6 +1,4 @@
-use Rattle.std.proofs.Common.{◌≡◌, ◌++◌, map, drop, option_map}
-use Rattle.passkey_cbor.specs.View.{item_of}
-use Rattle.passkey_kinds.specs.Kind.{each}
+use Rattle.passkey_kinds.proofs.Common.{◌≡◌, ◌++◌, map, drop, option_map, item_of, each}
 use Rattle.passkey_kinds.proofs.list.read_each.Given as goal
 
 abbrev pub invariant-loop-element : goal.invariant-loop-element

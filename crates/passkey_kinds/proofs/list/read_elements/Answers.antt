@@ -1,7 +1,4 @@
-use Rattle.std.proofs.Common.{arith, ◌∙◌, map, refl, sym, ap}
-use Rattle.std.proofs.lemmas.Result.{err_from_is_err_and}
-use Rattle.passkey_kinds.proofs.Collecting.{pushed_each}
-use Rattle.passkey_kinds.proofs.Leaves.{fails_as}
+use Rattle.passkey_kinds.proofs.Steps.{arith, ◌∙◌, map, refl, sym, ap, err_from_is_err_and, pushed_each, fails_as}
 use Rattle.passkey_kinds.proofs.list.read_elements.Goals as goal
 
 pub returns-in_err-read_all-clause-reads : goal.returns-in_err-read_all-clause-reads

@@ -1,7 +1,4 @@
-use Rattle.std.proofs.Common.{rules, arith, ◌∙◌, ◌+◌, map, drop, sym, ap}
-use Rattle.passkey_cbor.specs.View.{pair_of}
-use Rattle.passkey_kinds.specs.MapKind.{map_values, with_members}
-use Rattle.passkey_kinds.proofs.Maps.{map_values-empty, read_more}
+use Rattle.passkey_kinds.proofs.Steps.{rules, ◌∙◌, map, sym, ap, pair_of, map_values, with_members, map_values-empty, read_more}
 use Rattle.passkey_kinds.proofs.map.read_entries.Goals as goal
 
 pub loop-key-init : goal.loop-key-init

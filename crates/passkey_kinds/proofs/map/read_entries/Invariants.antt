@@ -1,7 +1,5 @@
 use Rattle.std.specs.FinMap as fin
-use Rattle.std.proofs.Common.{◌≡◌, map, drop}
-use Rattle.passkey_cbor.specs.View.{pair_of}
-use Rattle.passkey_kinds.specs.MapKind.{map_values, with_members}
+use Rattle.passkey_kinds.proofs.Common.{◌≡◌, map, drop, pair_of, map_values, with_members}
 use Rattle.passkey_kinds.proofs.map.read_entries.Given as goal
 
 abbrev pub invariant-loop-key : goal.invariant-loop-key

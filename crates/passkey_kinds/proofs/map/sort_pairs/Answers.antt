@@ -1,7 +1,4 @@
-use Rattle.std.proofs.Common.{rules}
-use Rattle.passkey_cbor.specs.View.{item_of}
-use Rattle.passkey_kinds.specs.Tree.{key_size}
-use Rattle.passkey_kinds.proofs.ShortFirst.{sorted_is}
+use Rattle.passkey_kinds.proofs.Steps.{rules, item_of, key_size, sorted_is}
 use Rattle.passkey_kinds.proofs.map.sort_pairs.Goals as goal
 
 pub returns : goal.returns

@@ -1,8 +1,5 @@
 use Rattle.std.specs.FinMap as fin
-use Rattle.std.specs.List.{All}
-use Rattle.std.proofs.Common.{◌≡◌, ◌++◌, map}
-use Rattle.passkey_cbor.specs.View.{pair_of}
-use Rattle.passkey_kinds.specs.Tree.{entry_tree}
+use Rattle.passkey_kinds.proofs.Common.{All, ◌≡◌, ◌++◌, map, pair_of, entry_tree}
 use Rattle.passkey_kinds.proofs.map.write_entries.Given as goal
 
 abbrev pub invariant-loop-key : goal.invariant-loop-key

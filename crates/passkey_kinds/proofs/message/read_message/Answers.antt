@@ -1,5 +1,4 @@
-use Rattle.std.proofs.Common.{◌+◌}
-use Rattle.passkey_kinds.proofs.Messages.{went_back, item_stands, message_is, fault_is}
+use Rattle.passkey_kinds.proofs.Steps.{◌+◌, went_back, item_stands, message_is, fault_is}
 use Rattle.passkey_kinds.proofs.message.read_message.Goals as goal
 
 pub returns-in-Ok : goal.returns-in-Ok

@@ -1,5 +1,4 @@
-use Rattle.std.proofs.Common.{true}
-use Rattle.passkey_kinds.proofs.Lent.{looks_names}
+use Rattle.passkey_kinds.proofs.Steps.{true, looks_names}
 use Rattle.passkey_kinds.proofs.names.named.Goals as goal
 
 pub returns-in-Some-name_of-clause-looks : goal.returns-in-Some-name_of-clause-looks

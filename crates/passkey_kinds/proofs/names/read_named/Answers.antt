@@ -1,9 +1,4 @@
-use Rattle.std.proofs.Common.{rules, ◌∙◌, true, sym, ap, arith}
-use Rattle.std.specs.Option.{option_and_then}
-use Rattle.passkey_kinds.specs.Kind.{one_named}
-use Rattle.passkey_kinds.proofs.Leaves.{named_text, no_text}
-use Rattle.passkey_kinds.proofs.Lent.{lent_decodes, not_lent_decodes}
-use Rattle.passkey_kinds.proofs.Tokens.{or_refused}
+use Rattle.passkey_kinds.proofs.Steps.{rules, ◌∙◌, true, sym, ap, one_named, named_text, no_text, lent_decodes, not_lent_decodes, or_refused}
 use Rattle.passkey_kinds.proofs.names.read_named.Goals as goal
 
 pub returns-in-Some-clause-reads : goal.returns-in-Some-clause-reads

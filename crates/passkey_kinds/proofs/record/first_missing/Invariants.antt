@@ -1,6 +1,4 @@
-use Rattle.std.proofs.Common.{◌≡◌, map, drop}
-use Rattle.passkey_kinds.specs.Reading.{first_unmarked}
-use Rattle.passkey_kinds.specs.Rows.{entry_of}
+use Rattle.passkey_kinds.proofs.Common.{◌≡◌, map, drop, first_unmarked, entry_of}
 use Rattle.passkey_kinds.proofs.record.first_missing.Given as goal
 
 abbrev pub invariant-loop-row : goal.invariant-loop-row

@@ -1,8 +1,4 @@
-use Rattle.std.proofs.Common.{◌∙◌, false, true, ap, sym}
-use Rattle.passkey_kinds.specs.Reading.{named_as}
-use Rattle.passkey_kinds.specs.Record.{table_of}
-use Rattle.passkey_kinds.specs.Table.{entries}
-use Rattle.passkey_kinds.proofs.Members.{was_repeated, marked_as, row_small}
+use Rattle.passkey_kinds.proofs.Steps.{◌∙◌, false, true, ap, sym, named_as, table_of, entries, was_repeated, marked_as, row_small}
 use Rattle.passkey_kinds.proofs.record.read_member.Goals as goal
 
 pub returns-then-is_marked-clause-reads : goal.returns-then-is_marked-clause-reads

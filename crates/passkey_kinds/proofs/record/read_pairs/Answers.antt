@@ -1,16 +1,8 @@
-use Rattle.std.proofs.lemmas.List.{length-map, drop_all}
-use Rattle.std.proofs.Common.{arith, rules, ◌≡◌, ◌+◌, map, drop, Err, refl}
-use Rattle.passkey_cbor.specs.View.{pair_of}
-use Rattle.passkey_kinds.specs.Reading.{named_as}
-use Rattle.passkey_kinds.specs.Record.{table_of}
-use Rattle.passkey_kinds.specs.Rows.{entry_of}
-use Rattle.passkey_kinds.proofs.Members.{key_names}
-use Rattle.passkey_kinds.proofs.Pairs.{member_at}
-use Rattle.passkey_kinds.proofs.Putting.{goes_on, fails, all_read}
+use Rattle.passkey_kinds.proofs.Steps.{length-map, drop_all, rules, ◌≡◌, map, Err, refl, pair_of, named_as, table_of, entry_of, key_names, member_at, goes_on, fails, all_read}
 use Rattle.passkey_kinds.proofs.record.read_pairs.Goals as goal
 
 pub loop-key-preserved : goal.loop-key-preserved
-loop-key-preserved g c = 
+loop-key-preserved g c =
     let t = g.R.Record.fields in
     let ms = map pair_of c.args.pairs.now in
     let m = pair_of c.loop-key-item.result in
@@ -22,7 +14,7 @@ loop-key-preserved g c =
     search (rules, goes_on, t, ms, m, i, at, h, told)
 
 pub returns-in_err-read_member : goal.returns-in_err-read_member
-returns-in_err-read_member g c = 
+returns-in_err-read_member g c =
     let t = g.R.Record.fields in
     let ms = map pair_of c.args.pairs.now in
     let m = pair_of c.loop-key-item.result in
@@ -35,7 +27,7 @@ returns-in_err-read_member g c =
     search (rules, fails, t, ms, m, i, at, h, told, result)
 
 pub returns : goal.returns
-returns g c = 
+returns g c =
     let t = g.R.Record.fields in
     let ms = map pair_of c.args.pairs.now in
     let i = c.loop-key.key-index in

@@ -1,6 +1,4 @@
-use Rattle.std.proofs.Common.{map, drop}
-use Rattle.passkey_cbor.specs.View.{pair_of}
-use Rattle.passkey_kinds.specs.RecordReading.{HasReadTo}
+use Rattle.passkey_kinds.proofs.Common.{map, drop, pair_of, HasReadTo}
 use Rattle.passkey_kinds.proofs.record.read_pairs.Given as goal
 
 abbrev pub invariant-loop-key : goal.invariant-loop-key

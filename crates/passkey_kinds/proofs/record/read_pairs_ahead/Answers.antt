@@ -1,19 +1,5 @@
-use Rattle.std.proofs.Common.{rules, ◌∙◌, ◌≤◌, ◌+◌, ◌-◌, suc, true, false, [], map, sym, refl, arith}
-use Rattle.std.proofs.lemmas.Result.{err_from_is_err_and}
-use Rattle.passkey_cbor.specs.LeadingItem.{max_depth}
+use Rattle.passkey_kinds.proofs.Steps.{rules, ◌∙◌, ◌≤◌, ◌+◌, ◌-◌, suc, true, false, map, sym, refl, arith, err_from_is_err_and, max_depth, split, named_as, table_of, record_cost, cost_by, entry_of, wrong, onward_of, onward_then, stands_long, stands_back, on_ok, next_is, spent_within, one_more, each_done, key_names, at_least, cost_by_le, key_spent, member_spent, all_spent, goes_on, key_fails, fails, all_read}
 use Rattle.passkey_cbor.specs.Inside.{Within}
-use Rattle.passkey_cbor.proofs.More.{split}
-use Rattle.passkey_kinds.specs.Reading.{named_as}
-use Rattle.passkey_kinds.specs.Record.{table_of}
-use Rattle.passkey_kinds.specs.RecordCost.{record_cost, cost_by}
-use Rattle.passkey_kinds.specs.Rows.{entry_of}
-use Rattle.passkey_kinds.specs.Table.{wrong}
-use Rattle.passkey_kinds.proofs.Going.{onward_of, onward_then, stands_long, stands_back}
-use Rattle.passkey_kinds.proofs.Leaves.{on_ok}
-use Rattle.passkey_kinds.proofs.Loops.{next_is, spent_within, one_more, each_done}
-use Rattle.passkey_kinds.proofs.Members.{key_names}
-use Rattle.passkey_kinds.proofs.MembersAhead.{at_least, cost_by_le, key_spent, member_spent, all_spent}
-use Rattle.passkey_kinds.proofs.Putting.{goes_on, key_fails, fails, all_read}
 use Rattle.passkey_kinds.proofs.record.read_pairs_ahead.Goals as goal
 
 pub loop-alloc-preserved : goal.loop-alloc-preserved

@@ -1,12 +1,5 @@
-use Rattle.std.proofs.Common.{ℕ, ◌+◌, ◌-◌, suc, length}
-use Rattle.passkey_cbor.specs.LeadingItem.{max_depth}
-use Rattle.passkey_cbor.specs.Inside.{PairWithin}
+use Rattle.passkey_kinds.proofs.Steps.{ℕ, ◌+◌, ◌-◌, suc, length, max_depth, PairWithin, Onward, record_cost, kept_in, HasReadTo, Members, EachTo}
 use Rattle.passkey_cbor.specs.EncodedAt.{PairsAreEncodedAt}
-use Rattle.passkey_kinds.specs.Reader.{Onward}
-use Rattle.passkey_kinds.specs.RecordCost.{record_cost, kept_in}
-use Rattle.passkey_kinds.specs.RecordReading.{HasReadTo}
-use Rattle.passkey_kinds.specs.Table.{Members}
-use Rattle.passkey_kinds.proofs.Loops.{EachTo}
 use Rattle.passkey_kinds.proofs.record.read_pairs_ahead.Given as goal
 
 abbrev pub invariant-loop-alloc : goal.invariant-loop-alloc

@@ -1,11 +1,4 @@
-use Rattle.std.proofs.Common.{◌≡◌, ◌∙◌, sym, ap, subst, arith}
-use Rattle.passkey_cose.proofs.KeyLists.{members-pairs_of}
-use Rattle.passkey_kinds.specs.Reading.{MayGrowIn, MayGrowAt}
-use Rattle.passkey_kinds.specs.Record.{table_of, read_item, read_members}
-use Rattle.passkey_kinds.specs.RecordCost.{record_cost, kept_in_map}
-use Rattle.passkey_kinds.proofs.Going.{eased, stands_long}
-use Rattle.passkey_kinds.proofs.MembersAhead.{at_least, kept_pairs, head_then}
-use Rattle.passkey_kinds.proofs.Putting.{reads_from, no_record}
+use Rattle.passkey_kinds.proofs.Steps.{◌≡◌, ◌∙◌, sym, ap, subst, arith, members-pairs_of, MayGrowIn, MayGrowAt, table_of, read_item, read_members, record_cost, kept_in_map, eased, stands_long, at_least, kept_pairs, head_then, reads_from, no_record}
 use Rattle.passkey_kinds.proofs.record.read_record.Goals as goal
 
 pub returns-in-Some-clause-reads : goal.returns-in-Some-clause-reads

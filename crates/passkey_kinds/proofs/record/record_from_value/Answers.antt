@@ -1,10 +1,4 @@
-use Rattle.std.proofs.Common.{List, map, subst}
-use Rattle.passkey_cbor.specs.View.{pair_of}
-use Rattle.passkey_cbor.specs.declared.value.Value.{Value}
-use Rattle.passkey_cbor.proofs.Views.{item_of-Map}
-use Rattle.passkey_cose.proofs.KeyLists.{members-pairs_of}
-use Rattle.passkey_kinds.specs.Reading.{MayGrowIn, Reads}
-use Rattle.passkey_kinds.specs.Record.{table_of, read_members}
+use Rattle.passkey_kinds.proofs.Common.{List, map, subst, pair_of, Value, item_of-Map, members-pairs_of, MayGrowIn, Reads, table_of, read_members}
 use Rattle.passkey_kinds.proofs.record.record_from_value.Goals as goal
 
 pub returns-in-Map : goal.returns-in-Map

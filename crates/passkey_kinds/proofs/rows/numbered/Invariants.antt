@@ -1,7 +1,4 @@
-use Rattle.std.specs.List.{find}
-use Rattle.std.proofs.Common.{◌≡◌, ◌==◌, map, drop}
-use Rattle.passkey_kinds.specs.Rows.{entry_of}
-use Rattle.passkey_kinds.specs.Table.{Entry}
+use Rattle.passkey_kinds.proofs.Common.{find, ◌≡◌, ◌==◌, map, drop, entry_of, Entry}
 use Rattle.passkey_kinds.proofs.rows.numbered.Given as goal
 
 abbrev pub invariant-loop-row : goal.invariant-loop-row

@@ -1,10 +1,5 @@
-use Rattle.std.proofs.Common.{◌∙◌, ◌==◌, List, ap, map, sym}
+use Rattle.passkey_kinds.proofs.Steps.{◌∙◌, ◌==◌, List, ap, map, sym, find, Row, entry_of, Entry, Naming, row_or_unknown, found_behind}
 use Rattle.std.proofs.lemmas.List.{drop-map}
-use Rattle.std.specs.List.{find}
-use Rattle.passkey_kinds.specs.declared.rows.Row.{Row}
-use Rattle.passkey_kinds.specs.Rows.{entry_of}
-use Rattle.passkey_kinds.specs.Table.{Entry, Naming, row_or_unknown}
-use Rattle.passkey_kinds.proofs.Keys.{found_behind}
 use Rattle.passkey_kinds.proofs.rows.with_number.Goals as goal
 
 pub returns-in-Row : goal.returns-in-Row

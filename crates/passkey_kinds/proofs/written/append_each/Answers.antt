@@ -1,4 +1,4 @@
-use Rattle.std.proofs.Common.{arith}
+use Rattle.passkey_kinds.proofs.Common.{arith}
 use Rattle.passkey_cbor.proofs.Writing.{writes_items-begin}
 use Rattle.passkey_kinds.proofs.written.append_each.Goals as goal
 

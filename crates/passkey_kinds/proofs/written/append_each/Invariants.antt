@@ -1,7 +1,4 @@
-use Rattle.std.specs.List.{All}
-use Rattle.std.proofs.Common.{map, drop}
-use Rattle.passkey_cbor.specs.Item.{items_of}
-use Rattle.passkey_cbor.proofs.Writing.{WritesItems}
+use Rattle.passkey_kinds.proofs.Common.{All, map, drop, items_of, WritesItems}
 use Rattle.passkey_kinds.proofs.written.append_each.Given as goal
 
 abbrev pub invariant-loop-value : goal.invariant-loop-value

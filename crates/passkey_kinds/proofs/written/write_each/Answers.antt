@@ -1,7 +1,4 @@
-use Rattle.std.proofs.Common.{map}
-use Rattle.std.proofs.lemmas.List.{map_push}
-use Rattle.passkey_cbor.specs.View.{item_of}
-use Rattle.passkey_kinds.proofs.WrittenLists.{fits_more, written_more}
+use Rattle.passkey_kinds.proofs.Steps.{map, map_push, item_of, fits_more, written_more}
 use Rattle.passkey_kinds.proofs.written.write_each.Goals as goal
 
 pub loop-value-preserved : goal.loop-value-preserved

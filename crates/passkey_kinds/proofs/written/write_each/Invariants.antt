@@ -1,6 +1,4 @@
-use Rattle.std.specs.List.{All}
-use Rattle.std.proofs.Common.{◌≡◌, ◌++◌, map, drop}
-use Rattle.passkey_cbor.specs.View.{item_of}
+use Rattle.passkey_kinds.proofs.Common.{All, ◌≡◌, ◌++◌, map, drop, item_of}
 use Rattle.passkey_kinds.proofs.written.write_each.Given as goal
 
 abbrev pub invariant-loop-value : goal.invariant-loop-value

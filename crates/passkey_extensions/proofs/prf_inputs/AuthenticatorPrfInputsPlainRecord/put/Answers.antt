@@ -1,13 +1,8 @@
-use Rattle.std.proofs.Common.{◌≡◌, true, Option, Some, None, option_map, refl, ap}
-use Rattle.passkey_bytes.specs.Map.{ByteMap}
+use Rattle.passkey_kinds.proofs.Steps.{◌≡◌, true, Option, Some, None, option_map, refl, ap, ByteMap, map_values, fields_of, map_values_same, sets_put}
 use Rattle.passkey_extensions.specs.Prf.{prf_inputs, prf_values}
 use Rattle.passkey_extensions.specs.declared.prf_inputs.AuthenticatorPrfInputs.{AuthenticatorPrfInputs}
 use Rattle.passkey_extensions.specs.declared.prf_values.AuthenticatorPrfValues.{AuthenticatorPrfValues}
-use Rattle.passkey_kinds.proofs.Maps.{map_values_same}
-use Rattle.passkey_kinds.proofs.Putting.{sets_put}
 use Rattle.passkey_kinds.specs.Typed.{optional, map_from_bytes}
-use Rattle.passkey_kinds.specs.MapKind.{map_values}
-use Rattle.passkey_kinds.specs.Placed.{fields_of}
 use Rattle.passkey_kinds.specs.RecordCost.{nested}
 use Rattle.passkey_extensions.proofs.prf_inputs.AuthenticatorPrfInputsPlainRecord.put.Goals as goal
 

@@ -1,4 +1,4 @@
-use Rattle.std.proofs.Common.{refl}
+use Rattle.passkey_kinds.proofs.Common.{refl}
 use Rattle.passkey_get_info.proofs.options.Options.put_last.Goals as goal
 
 pub returns-clause-put : goal.returns-clause-put

@@ -1,4 +1,4 @@
-use Rattle.std.proofs.Common.{◌∙◌, Bool, ◌&&◌, option_map, ap, sym}
+use Rattle.passkey_kinds.proofs.Common.{◌∙◌, Bool, ◌&&◌, option_map, ap, sym}
 use Rattle.std.specs.Int.NonZero.{non_zero_u128_get}
 use Rattle.passkey_get_info.specs.GetInfo.{is_encodable, has_room, get_info_parts}
 use Rattle.passkey_get_info.proofs.GetInfos.{told, parts_decide}

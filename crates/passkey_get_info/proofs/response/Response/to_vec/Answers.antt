@@ -1,9 +1,6 @@
-use Rattle.std.proofs.Common.{◌≡◌, ◌++◌, IfOk, Option, subst}
-use Rattle.passkey_cbor.specs.Item.{Item}
-use Rattle.passkey_cbor.specs.Written.{written}
+use Rattle.passkey_kinds.proofs.Common.{◌≡◌, ◌++◌, Option, subst, Item, written, places_of, record_tree}
+use Rattle.std.proofs.Common.{IfOk}
 use Rattle.passkey_get_info.specs.GetInfo.{capabilities_with, limits, states, get_info_parts}
-use Rattle.passkey_kinds.specs.Placed.{places_of}
-use Rattle.passkey_kinds.specs.Tree.{record_tree}
 use Rattle.passkey_get_info.proofs.response.Response.to_vec.Goals as goal
 
 pub returns-clause-written : goal.returns-clause-written

@@ -1,11 +1,8 @@
-use Rattle.std.proofs.Common.{ℕ, List, Option, map, option_map, refl, ap}
+use Rattle.passkey_kinds.proofs.Steps.{ℕ, List, Option, map, option_map, refl, ap, nothing, each_same, sets_put}
 use Rattle.passkey_get_info.specs.GetInfo.{GetInfoParts, get_info_fields, get_info_parts}
 use Rattle.passkey_get_info.specs.GetInfoNames.{extension}
 use Rattle.passkey_get_info.specs.declared.extension.Extension.{Extension}
-use Rattle.passkey_kinds.proofs.Lists.{each_same}
-use Rattle.passkey_kinds.proofs.Putting.{sets_put}
 use Rattle.passkey_kinds.specs.Typed.{below, growing, list, optional}
-use Rattle.passkey_kinds.specs.Keeping.{nothing}
 use Rattle.passkey_get_info.proofs.response.ResponseRecord.put.Goals as goal
 
 pub returns-in-2-clause-puts : goal.returns-in-2-clause-puts

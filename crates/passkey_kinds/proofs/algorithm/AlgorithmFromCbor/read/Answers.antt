@@ -1,14 +1,4 @@
-use Rattle.std.proofs.Common.{rules, arith, ◌∙◌, true, false, sym, ap}
-use Rattle.std.specs.Option.{option_and_then}
-use Rattle.passkey_iana.specs.Iana.{algorithm_named}
-use Rattle.passkey_kinds.specs.Algorithm.{algorithm}
-use Rattle.passkey_kinds.specs.Kind.{MayGrow}
-use Rattle.passkey_kinds.proofs.Going.{stands_long}
-use Rattle.passkey_kinds.proofs.Leaves.{on_ok}
-use Rattle.passkey_kinds.proofs.Lent.{lent_decodes}
-use Rattle.passkey_kinds.proofs.Lists.{answers_from}
-use Rattle.passkey_kinds.proofs.NumberPieces.{number_decodes}
-use Rattle.passkey_kinds.proofs.Tokens.{missed_then, stands_missed, looked_further}
+use Rattle.passkey_kinds.proofs.Steps.{rules, ◌∙◌, true, false, sym, ap, option_and_then, algorithm_named, algorithm, MayGrow, stands_long, on_ok, lent_decodes, answers_from, number_decodes, missed_then, stands_missed, looked_further}
 use Rattle.passkey_kinds.proofs.algorithm.AlgorithmFromCbor.read.Goals as goal
 
 pub returns-in-Some-clause-reads : goal.returns-in-Some-clause-reads
@@ -38,6 +28,6 @@ returns-in-None-clause-reads c = λ i to l.
     (number_decodes i to b d f.0 c.read_integer.result result read c.named-in-None.ensures)
 
 pub returns-in-Some-clause-further : goal.returns-in-Some-clause-further
-returns-in-Some-clause-further c = 
+returns-in-Some-clause-further c =
     let looks = c.whole_of.ensures.looks in
     search (rules, on_ok, looked_further, looks, c.in-Some.ensures.front)

@@ -1,10 +1,4 @@
-use Rattle.std.proofs.Common.{◌==◌, length, map, if◌then◌else◌, None, List, subst}
-use Rattle.passkey_cbor.specs.View.{item_of}
-use Rattle.passkey_cbor.specs.declared.value.Value.{Value}
-use Rattle.passkey_cbor.proofs.Views.{item_of-Array}
-use Rattle.passkey_kinds.specs.Kind.{AnswersAs, each, below}
-use Rattle.passkey_kinds.proofs.Arrays.{sized_array}
-use Rattle.passkey_kinds.proofs.Lists.{answers_from}
+use Rattle.passkey_kinds.proofs.Steps.{◌==◌, length, map, if◌then◌else◌, None, List, subst, item_of, Value, item_of-Array, AnswersAs, each, below, sized_array, answers_from}
 use Rattle.passkey_kinds.proofs.array.ArrayU832FromCbor.from_value.Goals as goal
 
 pub returns-in-Array : goal.returns-in-Array

@@ -1,12 +1,4 @@
-use Rattle.std.proofs.Common.{◌∙◌, ◌==◌, ℕ, false, List, length, if◌then◌else◌, None, ap, refl, arith}
-use Rattle.passkey_cbor.specs.Item.{Item}
-use Rattle.passkey_cose.proofs.KeyLists.{elements-items_of}
-use Rattle.passkey_kinds.specs.Kind.{below, each, sized_bytes, MayGrow}
-use Rattle.passkey_kinds.proofs.Ahead.{decodes_in}
-use Rattle.passkey_kinds.proofs.ArraysAhead.{after_missed, no_sized}
-use Rattle.passkey_kinds.proofs.Going.{eased, stands_back, stands_long}
-use Rattle.passkey_kinds.proofs.Lent.{lent_decodes}
-use Rattle.passkey_kinds.proofs.Lists.{answers_from}
+use Rattle.passkey_kinds.proofs.Steps.{◌∙◌, ◌==◌, ℕ, false, List, length, if◌then◌else◌, None, ap, refl, arith, Item, elements-items_of, below, each, sized_bytes, MayGrow, decodes_in, after_missed, no_sized, eased, stands_back, stands_long, lent_decodes, answers_from}
 use Rattle.passkey_kinds.proofs.array.ArrayU832FromCbor.read.Goals as goal
 
 pub returns-in-Some-clause-reads : goal.returns-in-Some-clause-reads

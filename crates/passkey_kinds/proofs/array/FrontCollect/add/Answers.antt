@@ -1,10 +1,4 @@
-use Rattle.std.proofs.Common.{rules, ◌∙◌, [], ◌∷◌, ◌++◌, length, take, Some, option_map, refl, sym, ap, arith}
-use Rattle.std.proofs.lemmas.Bool.{lt-ltb, le-ltb}
-use Rattle.std.proofs.lemmas.List.{length-take, take_more_set}
-use Rattle.std.proofs.lemmas.Result.{err_from_is_err_and}
-use Rattle.passkey_kinds.proofs.ArraysAhead.{never_grows, none_either}
-use Rattle.passkey_kinds.proofs.Going.{stands_long}
-use Rattle.passkey_kinds.proofs.Leaves.{fails_as}
+use Rattle.passkey_kinds.proofs.Steps.{rules, length, take, option_map, refl, ap, arith, le-ltb, length-take, take_more_set, err_from_is_err_and, never_grows, none_either, stands_long, fails_as}
 use Rattle.passkey_kinds.proofs.array.FrontCollect.add.Goals as goal
 
 pub returns-then-self-ge32-clause-adds : goal.returns-then-self-ge32-clause-adds

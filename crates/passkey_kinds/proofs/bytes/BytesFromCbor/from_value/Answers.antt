@@ -1,10 +1,4 @@
-use Rattle.std.proofs.Common.{◌<◌, length, List, map, subst}
-use Rattle.passkey_cbor.specs.View.{item_of}
-use Rattle.passkey_cbor.specs.declared.value.Value.{Value}
-use Rattle.passkey_cbor.proofs.Views.{item_of-Array}
-use Rattle.passkey_kinds.specs.Kind.{AnswersAs, each, below}
-use Rattle.passkey_kinds.proofs.Lists.{answers_from, grows_array}
-use Rattle.passkey_kinds.proofs.Texts.{bytes_array}
+use Rattle.passkey_kinds.proofs.Steps.{◌<◌, length, List, map, subst, item_of, Value, item_of-Array, AnswersAs, each, below, answers_from, grows_array, bytes_array}
 use Rattle.passkey_kinds.proofs.bytes.BytesFromCbor.from_value.Goals as goal
 
 pub returns-in-Array : goal.returns-in-Array

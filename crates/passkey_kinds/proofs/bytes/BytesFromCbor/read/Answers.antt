@@ -1,14 +1,4 @@
-use Rattle.std.proofs.Common.{rules, ◌≡◌, ◌∙◌, ◌^◌, true, false, Some, Ok, Err, sym, ap, subst, arith}
-use Rattle.std.proofs.lemmas.Result.{err_from_is_err_and}
-use Rattle.passkey_cose.proofs.KeyLists.{elements-items_of}
-use Rattle.passkey_kinds.specs.Kind.{bytes, each, below, MayGrow}
-use Rattle.passkey_kinds.specs.declared.refusal.Refusal.TheVariants.{OutOfMemory}
-use Rattle.passkey_kinds.proofs.Ahead.{grows_items}
-use Rattle.passkey_kinds.proofs.Going.{stands_long}
-use Rattle.passkey_kinds.proofs.Leaves.{on_ok}
-use Rattle.passkey_kinds.proofs.Lent.{looks_all, looks_some, lent_decodes, text_grows, bytes_grow}
-use Rattle.passkey_kinds.proofs.Lists.{answers_from}
-use Rattle.passkey_kinds.proofs.Tokens.{decodes_dearer, missed_then, stands_missed, looked_further, no_bytes}
+use Rattle.passkey_kinds.proofs.Steps.{rules, ◌≡◌, ◌∙◌, ◌^◌, true, false, Some, Ok, Err, sym, ap, subst, arith, err_from_is_err_and, elements-items_of, bytes, each, below, MayGrow, OutOfMemory, grows_items, stands_long, on_ok, looks_all, looks_some, lent_decodes, text_grows, bytes_grow, answers_from, decodes_dearer, missed_then, stands_missed, looked_further, no_bytes}
 use Rattle.passkey_kinds.proofs.bytes.BytesFromCbor.read.Goals as goal
 
 pub returns-in_err-copy-clause-reads : goal.returns-in_err-copy-clause-reads

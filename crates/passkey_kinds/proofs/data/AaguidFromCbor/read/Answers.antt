@@ -1,9 +1,4 @@
-use Rattle.std.proofs.Common.{rules, ◌∙◌, Err, false, ap, arith}
-use Rattle.std.proofs.lemmas.Result.{err_from_is_err_and}
-use Rattle.passkey_kinds.specs.Data.{aaguid}
-use Rattle.passkey_kinds.specs.Kind.{MayGrow}
-use Rattle.passkey_kinds.proofs.Leaves.{failed, no_aaguid}
-use Rattle.passkey_kinds.proofs.Lent.{lent_decodes, not_lent_decodes}
+use Rattle.passkey_kinds.proofs.Steps.{rules, ◌∙◌, Err, false, ap, err_from_is_err_and, aaguid, MayGrow, failed, no_aaguid, lent_decodes, not_lent_decodes}
 use Rattle.passkey_kinds.proofs.data.AaguidFromCbor.read.Goals as goal
 
 pub returns-in_err-filled-in-Some-clause-reads : goal.returns-in_err-filled-in-Some-clause-reads

@@ -1,13 +1,4 @@
-use Rattle.std.proofs.Common.{rules, ◌∙◌, true, false, Err, arith}
-use Rattle.std.proofs.lemmas.Result.{err_from_is_err_and}
-use Rattle.passkey_core.specs.DataViews.{data_parts}
-use Rattle.passkey_kinds.specs.Data.{authenticator_data, authenticator_data_nodes}
-use Rattle.passkey_kinds.specs.Kind.{MayGrow}
-use Rattle.passkey_kinds.specs.declared.refusal.Refusal.TheVariants.{OutOfMemory}
-use Rattle.passkey_kinds.proofs.DataReads.{data_decodes, no_data}
-use Rattle.passkey_kinds.proofs.Going.{stands_long}
-use Rattle.passkey_kinds.proofs.Lent.{looks_all, looks_some, looks_none, lent_decodes, not_lent_decodes, bytes_grow}
-use Rattle.passkey_kinds.proofs.Tokens.{lent_is, decodes_dearer}
+use Rattle.passkey_kinds.proofs.Steps.{rules, ◌∙◌, true, false, Err, arith, err_from_is_err_and, data_parts, authenticator_data, authenticator_data_nodes, MayGrow, OutOfMemory, data_decodes, no_data, stands_long, looks_all, looks_some, looks_none, lent_decodes, not_lent_decodes, bytes_grow, lent_is, decodes_dearer}
 use Rattle.passkey_kinds.proofs.data.AuthenticatorDataFromCbor.read.Goals as goal
 
 pub returns-in-None-clause-reads : goal.returns-in-None-clause-reads

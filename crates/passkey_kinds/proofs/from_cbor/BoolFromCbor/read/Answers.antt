@@ -1,6 +1,4 @@
-use Rattle.std.proofs.Common.{arith, sym}
-use Rattle.passkey_kinds.specs.Kind.{truth}
-use Rattle.passkey_kinds.proofs.Leaves.{flat_found, flat_missed}
+use Rattle.passkey_kinds.proofs.Steps.{arith, sym, truth, flat_found, flat_missed}
 use Rattle.passkey_kinds.proofs.from_cbor.BoolFromCbor.read.Goals as goal
 
 pub returns-in-Some-clause-reads : goal.returns-in-Some-clause-reads

@@ -1,9 +1,4 @@
-use Rattle.std.proofs.Common.{◌∙◌, ℕ, ap, arith}
-use Rattle.std.proofs.lemmas.Result.{err_from_is_err_and}
-use Rattle.passkey_cbor.specs.Walk.{Walk}
-use Rattle.passkey_kinds.specs.Keeping.{kept_of}
-use Rattle.passkey_kinds.proofs.Going.{eased, stands_long, stands_back, spends_again}
-use Rattle.passkey_kinds.proofs.Leaves.{failed, null_item, other_item}
+use Rattle.passkey_kinds.proofs.Steps.{◌∙◌, ℕ, ap, arith, err_from_is_err_and, Walk, kept_of, eased, stands_long, stands_back, spends_again, failed, null_item, other_item}
 use Rattle.passkey_kinds.proofs.from_cbor.OptionFromCbor.read.Goals as goal
 
 pub returns-then-read_null-clause-reads : goal.returns-then-read_null-clause-reads

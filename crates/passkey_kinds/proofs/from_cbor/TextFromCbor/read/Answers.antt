@@ -1,9 +1,4 @@
-use Rattle.std.proofs.Common.{rules, ◌∙◌, true, Some, Ok, Err, sym, ap, arith}
-use Rattle.std.proofs.lemmas.Result.{err_from_is_err_and}
-use Rattle.passkey_kinds.specs.Kind.{text, MayGrow}
-use Rattle.passkey_kinds.specs.declared.refusal.Refusal.TheVariants.{OutOfMemory}
-use Rattle.passkey_kinds.proofs.Leaves.{no_text}
-use Rattle.passkey_kinds.proofs.Lent.{looks_all, looks_some, lent_decodes, not_lent_decodes, text_grows}
+use Rattle.passkey_kinds.proofs.Steps.{rules, ◌∙◌, true, Some, Ok, Err, sym, ap, err_from_is_err_and, text, MayGrow, OutOfMemory, no_text, looks_all, looks_some, lent_decodes, not_lent_decodes, text_grows}
 use Rattle.passkey_kinds.proofs.from_cbor.TextFromCbor.read.Goals as goal
 
 pub returns-in_err-copy-in-Some-clause-reads : goal.returns-in_err-copy-in-Some-clause-reads

@@ -1,7 +1,4 @@
-use Rattle.std.specs.Option.{option_and_then}
-use Rattle.std.proofs.Common.{arith, ◌^◌, ℕ, nat_lt, if◌then◌else◌, Option, Some, None}
-use Rattle.passkey_kinds.proofs.Leaves.{flat_found, flat_missed, unsigned_below}
-use Rattle.passkey_kinds.proofs.Lists.{answers_from}
+use Rattle.passkey_kinds.proofs.Steps.{option_and_then, arith, ◌^◌, ℕ, nat_lt, if◌then◌else◌, Option, Some, None, flat_found, flat_missed, unsigned_below, answers_from}
 use Rattle.passkey_kinds.proofs.from_cbor.U8FromCbor.read.Goals as goal
 
 abbrev fitting : Option ℕ → Option ℕ

@@ -1,10 +1,4 @@
-use Rattle.std.specs.List.{cons_option}
-use Rattle.std.proofs.Common.{rules, arith, ◌∙◌, [], ◌∷◌, ◌++◌, map, Option, Some, option_map, refl, ap}
-use Rattle.std.proofs.lemmas.List.{append-nil, map_push}
-use Rattle.std.proofs.lemmas.Result.{err_from_is_err_and}
-use Rattle.passkey_cbor.proofs.Binds.{some_is}
-use Rattle.passkey_kinds.proofs.Going.{stands_long}
-use Rattle.passkey_kinds.proofs.Leaves.{fails_as}
+use Rattle.passkey_kinds.proofs.Steps.{rules, arith, ◌∙◌, [], ◌∷◌, ◌++◌, map, option_map, refl, ap, map_push, err_from_is_err_and, some_is, stands_long, fails_as}
 use Rattle.passkey_kinds.proofs.list.AcceptedCollect.add.Goals as goal
 
 pub returns-in_err-element-clause-adds : goal.returns-in_err-element-clause-adds

@@ -1,9 +1,4 @@
-use Rattle.std.proofs.Common.{◌∙◌, ◌<◌, length, true, sym, ap, subst, arith}
-use Rattle.passkey_kinds.specs.Keeping.{kept_of, kept_sum, in_elements}
-use Rattle.passkey_kinds.specs.Kind.{list, MayGrow}
-use Rattle.passkey_kinds.proofs.Ahead.{decodes_in, kept_array, grows_items, no_list}
-use Rattle.passkey_kinds.proofs.Going.{eased, stands_long}
-use Rattle.passkey_kinds.proofs.Lists.{list_array}
+use Rattle.passkey_kinds.proofs.Steps.{◌∙◌, ◌<◌, length, true, sym, ap, subst, arith, kept_of, kept_sum, in_elements, list, MayGrow, decodes_in, kept_array, grows_items, no_list, eased, stands_long, list_array}
 use Rattle.passkey_kinds.proofs.list.ListFromCbor.read.Goals as goal
 
 pub returns-in-Some-clause-reads : goal.returns-in-Some-clause-reads

@@ -1,10 +1,4 @@
-use Rattle.std.specs.List.{filter_map}
-use Rattle.std.proofs.Common.{◌<◌, length, List, map, Some, subst}
-use Rattle.passkey_cbor.specs.View.{item_of}
-use Rattle.passkey_cbor.specs.declared.value.Value.{Value}
-use Rattle.passkey_cbor.proofs.Views.{item_of-Array}
-use Rattle.passkey_kinds.specs.Kind.{AnswersAs}
-use Rattle.passkey_kinds.proofs.Lists.{answers_from, accepted_array, grows_array}
+use Rattle.passkey_kinds.proofs.Steps.{filter_map, ◌<◌, length, List, map, Some, subst, item_of, Value, item_of-Array, AnswersAs, answers_from, accepted_array, grows_array}
 use Rattle.passkey_kinds.proofs.list.TolerantListFromCbor.from_value.Goals as goal
 
 pub returns-in-Array : goal.returns-in-Array

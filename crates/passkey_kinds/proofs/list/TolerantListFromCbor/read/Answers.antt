@@ -1,9 +1,4 @@
-use Rattle.std.proofs.Common.{◌∙◌, ◌<◌, suc, length, true, sym, ap, subst, arith}
-use Rattle.passkey_kinds.specs.Keeping.{kept_of, kept_sum, in_elements}
-use Rattle.passkey_kinds.specs.Kind.{accepted, MayGrow}
-use Rattle.passkey_kinds.proofs.Ahead.{decodes_in, kept_array, grows_items, none_accepted}
-use Rattle.passkey_kinds.proofs.Going.{eased, stands_long}
-use Rattle.passkey_kinds.proofs.Lists.{accepted_array}
+use Rattle.passkey_kinds.proofs.Steps.{◌∙◌, ◌<◌, suc, length, true, sym, ap, subst, arith, kept_of, kept_sum, in_elements, accepted, MayGrow, decodes_in, kept_array, grows_items, none_accepted, eased, stands_long, accepted_array}
 use Rattle.passkey_kinds.proofs.list.TolerantListFromCbor.read.Goals as goal
 
 pub returns-in-Some-clause-reads : goal.returns-in-Some-clause-reads

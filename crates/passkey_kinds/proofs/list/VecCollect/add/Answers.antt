@@ -1,8 +1,4 @@
-use Rattle.std.proofs.Common.{arith, ◌∙◌, [], ◌∷◌, ◌++◌, map, option_map, refl, ap}
-use Rattle.std.proofs.lemmas.List.{map_push}
-use Rattle.std.proofs.lemmas.Result.{err_from_is_err_and}
-use Rattle.passkey_kinds.proofs.Going.{stands_long}
-use Rattle.passkey_kinds.proofs.Leaves.{fails_as}
+use Rattle.passkey_kinds.proofs.Steps.{arith, ◌∙◌, [], ◌∷◌, ◌++◌, map, option_map, refl, ap, map_push, err_from_is_err_and, stands_long, fails_as}
 use Rattle.passkey_kinds.proofs.list.VecCollect.add.Goals as goal
 
 pub returns-in_err-read-clause-adds : goal.returns-in_err-read-clause-adds

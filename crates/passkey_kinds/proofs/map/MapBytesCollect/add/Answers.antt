@@ -1,14 +1,5 @@
-use Rattle.std.proofs.Common.{◌∙◌, Some, refl, sym, ap, arith}
-use Rattle.std.proofs.lemmas.Result.{err_from_is_err_and}
-use Rattle.passkey_cbor.specs.LeadingItem.{max_depth}
+use Rattle.passkey_kinds.proofs.Steps.{◌∙◌, Some, refl, sym, ap, arith, err_from_is_err_and, max_depth, split, kept_of, map_values, stands_long, stands_back, failed, map_values-insert, key_spends, pair_spends}
 use Rattle.passkey_cbor.specs.Inside.{Within}
-use Rattle.passkey_cbor.proofs.More.{split}
-use Rattle.passkey_kinds.specs.Keeping.{kept_of}
-use Rattle.passkey_kinds.specs.MapKind.{map_values}
-use Rattle.passkey_kinds.proofs.Going.{stands_long, stands_back}
-use Rattle.passkey_kinds.proofs.Leaves.{failed}
-use Rattle.passkey_kinds.proofs.Maps.{map_values-insert}
-use Rattle.passkey_kinds.proofs.PairsAhead.{key_spends, pair_spends}
 use Rattle.passkey_kinds.proofs.map.MapBytesCollect.add.Goals as goal
 
 pub returns-in_err-key-clause-adds : goal.returns-in_err-key-clause-adds

@@ -1,12 +1,5 @@
 use Rattle.std.specs.FinMap as fin
-use Rattle.std.proofs.Common.{◌<◌, length, List, map, subst}
-use Rattle.passkey_cbor.specs.View.{pair_of}
-use Rattle.passkey_cbor.specs.declared.value.Value.{Value}
-use Rattle.passkey_cbor.proofs.Views.{item_of-Map}
-use Rattle.passkey_kinds.specs.Kind.{AnswersAs}
-use Rattle.passkey_kinds.specs.MapKind.{map_values, with_members}
-use Rattle.passkey_kinds.proofs.Lists.{answers_from}
-use Rattle.passkey_kinds.proofs.Maps.{grows_map, map_from_bytes-map}
+use Rattle.passkey_kinds.proofs.Steps.{◌<◌, length, List, map, subst, pair_of, Value, item_of-Map, AnswersAs, map_values, with_members, answers_from, grows_map, map_from_bytes-map}
 use Rattle.passkey_kinds.proofs.map.MapBytesFromCbor.from_value.Goals as goal
 
 pub returns-in-Map : goal.returns-in-Map

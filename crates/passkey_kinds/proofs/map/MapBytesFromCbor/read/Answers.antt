@@ -1,14 +1,5 @@
-use Rattle.std.proofs.Common.{◌∙◌, max, true, sym, ap, subst, arith}
-use Rattle.passkey_kinds.specs.Keeping.{kept_of, kept_sum, in_members}
-use Rattle.passkey_kinds.specs.Kind.{MayGrow}
-use Rattle.passkey_kinds.specs.MapKind.{map_from_bytes, map_values}
-use Rattle.passkey_kinds.specs.Collecting.{collected, entered}
+use Rattle.passkey_kinds.proofs.Steps.{◌∙◌, max, true, sym, ap, subst, arith, kept_of, kept_sum, in_members, MayGrow, map_from_bytes, map_values, collected, entered, entered_all, decodes_in, eased, stands_long, map_from_bytes-map, map_values-empty, kept_map, grows_pairs, no_map_there}
 use Rattle.std.specs.FinMap as fin
-use Rattle.passkey_kinds.proofs.Collecting.{entered_all}
-use Rattle.passkey_kinds.proofs.Ahead.{decodes_in}
-use Rattle.passkey_kinds.proofs.Going.{eased, stands_long}
-use Rattle.passkey_kinds.proofs.Maps.{map_from_bytes-map, map_values-empty}
-use Rattle.passkey_kinds.proofs.PairsAhead.{kept_map, grows_pairs, no_map_there}
 use Rattle.passkey_kinds.proofs.map.MapBytesFromCbor.read.Goals as goal
 
 pub returns-in-Some-clause-reads : goal.returns-in-Some-clause-reads

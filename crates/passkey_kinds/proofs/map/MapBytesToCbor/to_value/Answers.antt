@@ -1,13 +1,6 @@
 use Rattle.std.specs.FinMap as fin
-use Rattle.std.proofs.Common.{◌∙◌, map, sym, ap}
+use Rattle.passkey_kinds.proofs.Steps.{◌∙◌, map, sym, ap, pairs_of, pair_of, item_of-Map, sorted_by, Members, entry_tree, key_size, sorted_by-map}
 use Rattle.passkey_cbor.specs.Item as item
-use Rattle.passkey_cbor.specs.Item.{pairs_of}
-use Rattle.passkey_cbor.specs.View.{pair_of}
-use Rattle.passkey_cbor.proofs.Views.{item_of-Map}
-use Rattle.passkey_kinds.specs.ShortFirst.{sorted_by}
-use Rattle.passkey_kinds.specs.Table.{Members}
-use Rattle.passkey_kinds.specs.Tree.{entry_tree, key_size}
-use Rattle.passkey_kinds.proofs.ShortFirst.{sorted_by-map}
 use Rattle.passkey_kinds.proofs.map.MapBytesToCbor.to_value.Goals as goal
 
 pub returns-clause-tree : goal.returns-clause-tree

@@ -1,6 +1,4 @@
-use Rattle.passkey_webauthn.specs.Transport.{transport_named}
-use Rattle.passkey_kinds.specs.Kind.{one_named}
-use Rattle.passkey_kinds.proofs.Tokens.{decodes_from}
+use Rattle.passkey_kinds.proofs.Steps.{transport_named, one_named, decodes_from}
 use Rattle.passkey_kinds.proofs.names.AuthenticatorTransportFromCbor.read.Goals as goal
 
 pub returns-clause-reads : goal.returns-clause-reads

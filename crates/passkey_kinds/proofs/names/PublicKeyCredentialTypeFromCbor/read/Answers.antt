@@ -1,6 +1,4 @@
-use Rattle.passkey_webauthn.specs.CredentialType.{credential_type_named}
-use Rattle.passkey_kinds.specs.Kind.{one_named}
-use Rattle.passkey_kinds.proofs.Tokens.{decodes_from}
+use Rattle.passkey_kinds.proofs.Steps.{credential_type_named, one_named, decodes_from}
 use Rattle.passkey_kinds.proofs.names.PublicKeyCredentialTypeFromCbor.read.Goals as goal
 
 pub returns-clause-reads : goal.returns-clause-reads

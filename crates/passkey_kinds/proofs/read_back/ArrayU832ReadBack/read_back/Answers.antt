@@ -1,4 +1,4 @@
-use Rattle.passkey_kinds.proofs.SizedBack.{numbers_back}
+use Rattle.passkey_kinds.proofs.Steps.{numbers_back}
 use Rattle.passkey_kinds.proofs.read_back.ArrayU832ReadBack.read_back.Goals as goal
 
 pub returns-clause-back : goal.returns-clause-back

@@ -1,4 +1,4 @@
-use Rattle.passkey_kinds.proofs.LeafBack.{seen_list_back}
+use Rattle.passkey_kinds.proofs.Steps.{seen_list_back}
 use Rattle.passkey_kinds.proofs.read_back.ListReadBack.read_back.Goals as goal
 
 pub returns-clause-back : goal.returns-clause-back

@@ -1,4 +1,4 @@
-use Rattle.passkey_kinds.proofs.MapBack.{seen_map_back}
+use Rattle.passkey_kinds.proofs.Steps.{seen_map_back}
 use Rattle.passkey_kinds.proofs.read_back.MapBytesReadBack.read_back.Goals as goal
 
 pub returns-clause-back : goal.returns-clause-back

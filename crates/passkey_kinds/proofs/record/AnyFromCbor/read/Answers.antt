@@ -1,8 +1,4 @@
-use Rattle.std.proofs.Common.{arith}
-use Rattle.passkey_kinds.proofs.Going.{eased, stands_long}
-use Rattle.passkey_kinds.proofs.MembersAhead.{kept_record}
-use Rattle.passkey_kinds.proofs.Messages.{may_grow}
-use Rattle.passkey_kinds.proofs.Putting.{held_answers, held_ok}
+use Rattle.passkey_kinds.proofs.Steps.{arith, eased, stands_long, kept_record, may_grow, held_answers, held_ok}
 use Rattle.passkey_kinds.proofs.record.AnyFromCbor.read.Goals as goal
 
 pub returns-clause-reads : goal.returns-clause-reads

@@ -1,4 +1,4 @@
-use Rattle.passkey_kinds.proofs.Levels.{list_within}
+use Rattle.passkey_kinds.proofs.Steps.{list_within}
 use Rattle.passkey_kinds.proofs.shallow.ListShallow.shallow.Goals as goal
 
 pub returns : goal.returns

@@ -1,8 +1,4 @@
-use Rattle.std.specs.Option.{option_and_then}
-use Rattle.std.proofs.Common.{arith, ℕ, Option}
-use Rattle.passkey_kinds.proofs.Leaves.{flat_found, flat_missed}
-use Rattle.passkey_kinds.proofs.Lists.{answers_from}
-use Rattle.passkey_kinds.proofs.Sizes.{size_of, unsigned_size}
+use Rattle.passkey_kinds.proofs.Steps.{option_and_then, arith, ℕ, Option, flat_found, flat_missed, answers_from, size_of, unsigned_size}
 use Rattle.passkey_kinds.proofs.size.NonZeroU128FromCbor.read.Goals as goal
 
 abbrev sized : Option ℕ → Option ℕ

@@ -1,4 +1,4 @@
-use Rattle.std.proofs.Common.{arith}
+use Rattle.passkey_kinds.proofs.Common.{arith}
 use Rattle.passkey_kinds.proofs.source.CursorSource.pass.Goals as goal
 
 pub returns-clause-passes : goal.returns-clause-passes

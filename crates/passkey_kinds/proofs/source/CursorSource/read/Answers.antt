@@ -1,4 +1,4 @@
-use Rattle.passkey_kinds.proofs.Leaves.{ok_ends}
+use Rattle.passkey_kinds.proofs.Steps.{ok_ends}
 use Rattle.passkey_kinds.proofs.source.CursorSource.read.Goals as goal
 
 pub returns-clause-answers : goal.returns-clause-answers

@@ -1,4 +1,4 @@
-use Rattle.passkey_kinds.proofs.Sinks.{record_writable}
+use Rattle.passkey_kinds.proofs.Steps.{record_writable}
 use Rattle.passkey_kinds.proofs.to_cbor_map.AnyToCbor.append.Goals as goal
 
 pub returns-clause-writable : goal.returns-clause-writable

@@ -1,9 +1,5 @@
-use Rattle.std.proofs.Common.{◌≡◌, ◌∙◌, ℕ, true, false, Err, ap, subst, arith}
-use Rattle.passkey_cbor.specs.Walk.{Walk}
-use Rattle.passkey_kinds.specs.Keeping.{kept_of}
-use Rattle.passkey_kinds.specs.Reader.{ReadsAs, Spends}
-use Rattle.passkey_kinds.specs.declared.refusal.Refusal.{Refusal}
-use Rattle.passkey_kinds.proofs.Going.{eased, stands_long, stands_back, spends_again}
+use Rattle.passkey_kinds.proofs.Steps.{◌≡◌, ◌∙◌, ℕ, true, false, Err, ap, subst, arith, Walk, kept_of, Spends, Refusal, eased, stands_long, stands_back, spends_again}
+use Rattle.passkey_kinds.specs.Reader.{ReadsAs}
 use Rattle.passkey_kinds.proofs.tolerated.ToleratedFromCbor.read.Goals as goal
 
 pub returns-in-Ok-clause-reads : goal.returns-in-Ok-clause-reads

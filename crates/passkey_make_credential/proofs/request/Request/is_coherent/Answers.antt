@@ -1,4 +1,4 @@
-use Rattle.std.proofs.Common.{◌∙◌, option_map, ap}
+use Rattle.passkey_kinds.proofs.Common.{◌∙◌, option_map, ap}
 use Rattle.passkey_extensions.specs.MakeExtensions.{make_extensions_parts}
 use Rattle.passkey_make_credential.specs.MakeRequest.{make_request_parts}
 use Rattle.passkey_make_credential.proofs.MakeRequests.{request_levels}

@@ -1,9 +1,5 @@
-use Rattle.std.proofs.Common.{◌∙◌, ℕ, List, [], ◌++◌, ap, refl}
-use Rattle.passkey_cbor.specs.Written.{shortest_head}
-use Rattle.passkey_cbor.proofs.Views.{item_of-Map}
-use Rattle.passkey_core.specs.DataViews.{data_parts}
+use Rattle.passkey_kinds.proofs.Steps.{◌∙◌, ℕ, List, [], ◌++◌, ap, refl, shortest_head, item_of-Map, data_parts, record_written}
 use Rattle.passkey_kinds.specs.Sink.{put_one}
-use Rattle.passkey_kinds.proofs.Sinks.{record_written}
 use Rattle.passkey_make_credential.specs.MakeResponse.{attestation_places}
 use Rattle.passkey_make_credential.proofs.response.Response.as_webauthn_bytes.Goals as goal
 

@@ -1,6 +1,4 @@
-use Rattle.std.proofs.Common.{◌∙◌, nat_lt, nat_le, Bool, ◌&&◌, ap, sym}
-use Rattle.passkey_cbor.specs.Depth.{depth}
-use Rattle.passkey_cbor.specs.LeadingItem.{max_depth}
+use Rattle.passkey_kinds.proofs.Common.{◌∙◌, nat_lt, nat_le, Bool, ◌&&◌, ap, sym, depth, max_depth}
 use Rattle.passkey_make_credential.specs.MakeResponse.{make_response_tree, make_response_parts}
 use Rattle.passkey_make_credential.proofs.MakeResponses.{statement_decides}
 use Rattle.passkey_make_credential.proofs.response.Response.is_coherent.Goals as goal
