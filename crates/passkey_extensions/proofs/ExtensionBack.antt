@@ -1,8 +1,8 @@
 -- The encodings of the extensions' records can be decoded again.
-use Rattle.passkey_kinds.proofs.Steps.{result_ok, rules, arith, ◌≡◌, Some, Ok, refl, ap, [], ◌∷◌, Item, Kind, IsReadBack, truth_back, byte_back, bytes_back, kept_back, anything, optional_place, tolerated_place, puts_value, puts_default, ordered_back, rows_back, ◌▸◌, no_more}
-use Rattle.passkey_extensions.specs.ExtensionTrees.{hmac_input_places, hmac_input_tree, HmacInputFits, make_extensions_places, make_extensions_tree, MakeExtensionsFit, get_extensions_places, get_extensions_tree, GetExtensionsFit}
+use Rattle.passkey_kinds.proofs.Steps.{result_ok, arith, ◌≡◌, Some, Ok, refl, ap, [], ◌∷◌, Item, Kind, IsReadBack, truth_back, byte_back, bytes_back, kept_back, anything, optional_place, tolerated_place, puts_value, puts_default, ordered_back, rows_back, ◌▸◌, no_more}
+use Rattle.passkey_extensions.specs.ExtensionTrees.{hmac_input_tree, HmacInputFits, make_extensions_places, make_extensions_tree, MakeExtensionsFit, get_extensions_places, get_extensions_tree, GetExtensionsFit}
 use Rattle.passkey_extensions.specs.GetExtensions.{GetExtensionsParts, get_extensions_fields, get_extensions, get_extensions_parts}
-use Rattle.passkey_extensions.specs.HmacInput.{HmacInputParts, hmac_input_fields, hmac_input, read_hmac_input, hmac_input_parts}
+use Rattle.passkey_extensions.specs.HmacInput.{HmacInputParts, hmac_input, read_hmac_input, hmac_input_parts}
 use Rattle.passkey_extensions.specs.MakeExtensions.{MakeExtensionsParts, make_extensions_fields, make_extensions, make_extensions_parts}
 use Rattle.passkey_extensions.proofs.Prf.{inputs_law}
 

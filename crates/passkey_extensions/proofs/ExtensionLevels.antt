@@ -1,6 +1,5 @@
 -- The nesting levels of the encodings of extension inputs: those of the key, and a few around it.
-use Rattle.passkey_kinds.proofs.Steps.{codes, rules, ◌≡◌, ℕ, zero, suc, ◌<◌, ◌≤◌, nat_lt, nat_le, min, ◌^◌, ◌-◌, arith, ltb-true, le-leb, depth, text_string, same_tests, OnlyDeep, only_deep, record_within, few_levels}
-use Rattle.std.proofs.Common.{lt-ltb, leb-true}
+use Rattle.passkey_kinds.proofs.Steps.{codes, ◌≡◌, ℕ, zero, suc, ◌<◌, ◌≤◌, nat_lt, nat_le, min, ◌^◌, ◌-◌, arith, depth, text_string, OnlyDeep, only_deep, record_within, few_levels}
 use Rattle.passkey_extensions.specs.ExtensionTrees.{hmac_input_places, hmac_input_tree, make_extensions_places, get_extensions_places}
 use Rattle.passkey_extensions.specs.HmacInput.{HmacInputParts}
 use Rattle.passkey_kinds.proofs.Levels.{of_record}

@@ -1,5 +1,5 @@
 -- The key in an extension input has fewer nesting levels than the item that was decoded.
-use Rattle.passkey_kinds.proofs.Steps.{rules, ◌≡◌, ◌∙◌, ◌+◌, ◌<◌, arith, Option, Some, Ok, ap, depth, Item, optional, tolerated, not_null, ok_of, kept_below, record_keeps, nested_keeps}
+use Rattle.passkey_kinds.proofs.Steps.{◌≡◌, ◌+◌, ◌<◌, arith, Option, Some, Ok, depth, Item, optional, tolerated, not_null, ok_of, kept_below, record_keeps, nested_keeps}
 use Rattle.passkey_extensions.specs.GetExtensions.{GetExtensionsParts, get_extensions_fields, get_extensions}
 use Rattle.passkey_extensions.specs.HmacInput.{HmacInputParts, hmac_input_fields, hmac_input, read_hmac_input}
 use Rattle.passkey_extensions.specs.MakeExtensions.{MakeExtensionsParts, make_extensions_fields, make_extensions}

@@ -1,6 +1,6 @@
 -- Inputs and outputs of the extension prf can be decoded again, have few levels, and their keys
 -- ascend.
-use Rattle.passkey_kinds.proofs.Steps.{rules, ◌∙◌, ℕ, suc, ◌≤◌, arith, Option, Some, None, refl, ap, depth, shortest_head, EachFits, fields_of, places_of, IsReadBack, IsLawful, lawful, raised, truth_back, or_null_back, or_null_same, optional_place, record_within, map_back, map_values_same, IsPlain, plainly, null_plain, map_plain, numbers_plain, puts_value, puts_default, kind_back, ◌▸◌, no_more, numbers_back}
+use Rattle.passkey_kinds.proofs.Steps.{ℕ, suc, ◌≤◌, arith, Option, Some, None, refl, depth, shortest_head, EachFits, IsReadBack, IsLawful, lawful, raised, truth_back, or_null_back, or_null_same, optional_place, record_within, map_back, map_values_same, IsPlain, plainly, null_plain, map_plain, numbers_plain, puts_value, puts_default, kind_back, ◌▸◌, no_more, numbers_back}
 use Rattle.passkey_extensions.specs.Prf.{prf_values, prf_inputs, prf_made, prf_used, unsigned, normal_unsigned}
 use Rattle.passkey_extensions.specs.declared.unsigned.UnsignedExtensionOutputs.{UnsignedExtensionOutputs}
 use Rattle.passkey_kinds.specs.Coded.{from_bytes, plain}

@@ -1,17 +1,10 @@
 -- The data items that the extensions' records are encoded as (CTAP 2.1, section 12.5; WebAuthn
 -- Level 3, section 10.1.4).
-use Rattle.std.specs.Prelude.{nat_le, Bool, List, [], ◌∷◌, Option, Some, None, codes}
-use Rattle.passkey_cbor.specs.Depth.{depth}
-use Rattle.passkey_cbor.specs.LeadingItem.{max_depth}
-use Rattle.passkey_cbor.specs.Item.{Item, boolean, byte_string, text_string}
-use Rattle.passkey_core.specs.DataNormal.{IfPresent}
+use Rattle.passkey_kinds.specs.Words.{nat_le, Bool, List, [], ◌∷◌, Option, Some, None, codes, depth, max_depth, Item, boolean, byte_string, text_string, IfPresent, EachFits, plain_tree, IsByte, Place, number_tree, always, where_some, record_tree}
 use Rattle.passkey_extensions.specs.GetExtensions.{GetExtensionsParts}
 use Rattle.passkey_extensions.specs.HmacInput.{HmacInputParts}
 use Rattle.passkey_extensions.specs.MakeExtensions.{MakeExtensionsParts}
 use Rattle.passkey_extensions.specs.Prf.{prf_inputs}
-use Rattle.passkey_kinds.specs.Placed.{EachFits, plain_tree}
-use Rattle.passkey_kinds.specs.ReadBack.{IsByte}
-use Rattle.passkey_kinds.specs.Tree.{Place, number_tree, always, where_some, record_tree}
 
 -- ---- hmac-secret
 

@@ -1,12 +1,11 @@
 -- Inputs and outputs of the extension prf (WebAuthn Level 3, sections 9 and 10.1.4).
-use Rattle.std.specs.Prelude.{[], ◌∷◌, None, codes, false, replicate, option_map}
+use Rattle.passkey_kinds.specs.Words.{[], ◌∷◌, None, codes, false, replicate, option_map, PlainTable, required_as, default_as, optional_as}
 use Rattle.passkey_extensions.specs.declared.prf_get_outputs.AuthenticatorPrfGetOutputs.{AuthenticatorPrfGetOutputs}
 use Rattle.passkey_extensions.specs.declared.prf_inputs.AuthenticatorPrfInputs.{AuthenticatorPrfInputs}
 use Rattle.passkey_extensions.specs.declared.prf_make_outputs.AuthenticatorPrfMakeOutputs.{AuthenticatorPrfMakeOutputs}
 use Rattle.passkey_extensions.specs.declared.prf_values.AuthenticatorPrfValues.{AuthenticatorPrfValues}
 use Rattle.passkey_extensions.specs.declared.unsigned.UnsignedExtensionOutputs.{UnsignedExtensionOutputs}
 use Rattle.passkey_kinds.specs.Coded.{truth, sized_bytes, or_null, from_bytes, plain}
-use Rattle.passkey_kinds.specs.Placed.{PlainTable, required_as, default_as, optional_as}
 
 abbrev pub prf_values : PlainTable AuthenticatorPrfValues
 prf_values = record {

@@ -1,15 +1,8 @@
 //! Inputs of the extension hmac-secret.
-ghost use Rattle.std.specs.Prelude.{◌≡◌, ◌<◌, ◌⊎◌, length, true, nat_le, IfOk, IfErr, OnErr, OnOk};
-ghost use Rattle.passkey_cbor.specs.Depth.{depth};
-ghost use Rattle.passkey_cbor.specs.Grows.{Grows};
-ghost use Rattle.passkey_cbor.specs.View.{item_of};
-ghost use Rattle.passkey_cbor.specs.Writable.{IsWritable};
-ghost use Rattle.passkey_cbor.specs.Written.{written};
+ghost use Rattle.passkey_kinds.specs.Words.{◌≡◌, ◌<◌, ◌⊎◌, length, true, nat_le, IfOk, IfErr, OnErr, OnOk, depth, Grows, item_of, IsWritable, written, ReadsMessage, ReadsHere, GrowsMessage, MayGrowAt, Reads};
 ghost use Rattle.passkey_extensions.specs.HmacInput.{HmacInputParts, hmac_input_fields, hmac_input_table, read_hmac_input, hmac_input_parts};
 ghost use Rattle.passkey_extensions.specs.ExtensionTrees.{HmacInputFits, hmac_input_places, hmac_input_tree, is_hmac_input_coherent};
 ghost use Rattle.passkey_kinds.specs.declared.fault.Fault.TheVariants.{OutOfMemory as NoRoom};
-ghost use Rattle.passkey_kinds.specs.Message.{ReadsMessage, ReadsHere, GrowsMessage};
-ghost use Rattle.passkey_kinds.specs.Reading.{MayGrowAt, Reads};
 ghost use Rattle.passkey_kinds.specs.declared.write_fault.WriteFault.TheVariants.{OutOfMemory as NoMemory};
 
 use crate::laws::read_hmac_input_is_coherent;

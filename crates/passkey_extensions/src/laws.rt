@@ -1,11 +1,8 @@
 //! Laws about the extensions' records. Each is the contract of a function that does nothing.
+ghost use Rattle.passkey_kinds.specs.Words.{WrittenIsReadBack, ReadIsCoherent, WrittenIsCanonical, places_of, PassesOverUnknown, KnowsMaps, KeysAscend};
 ghost use Rattle.passkey_extensions.specs.ExtensionTrees.{hmac_input_tree, HmacInputFits, is_hmac_input_coherent, hmac_input_kept, make_extensions_places, get_extensions_places};
 ghost use Rattle.passkey_extensions.specs.HmacInput.{hmac_input_fields, read_hmac_input, hmac_input_parts};
 ghost use Rattle.passkey_extensions.specs.Prf.{prf_values, prf_inputs, prf_made};
-ghost use Rattle.passkey_kinds.specs.MessageLaws.{WrittenIsReadBack, ReadIsCoherent, WrittenIsCanonical};
-ghost use Rattle.passkey_kinds.specs.Placed.{places_of};
-ghost use Rattle.passkey_kinds.specs.RecordLaws.{PassesOverUnknown, KnowsMaps};
-ghost use Rattle.passkey_kinds.specs.Tree.{KeysAscend};
 
 use crate::HmacGetSecretInput;
 

@@ -1,5 +1,5 @@
 -- authenticatorGetAssertion responses: decoding their encodings again, and their nesting levels.
-use Rattle.passkey_kinds.proofs.Steps.{rules, ◌≡◌, ◌≤◌, nat_le, arith, le-leb, Bool, true, false, ◌&&◌, Ok, refl, sym, and_from, depth, max_depth, is_coherent, GivenIsCoherent, ReadIsGiven, WrittenDataAreReadBack, ReadIsCoherent, auth_data_back, auth_data_coherent, record_keeps, truth_back, byte_back, bytes_back, anything, optional_place, if_fits, record_within, descriptor_back, few_levels, puts_value, puts_default, rows_back, ◌▸◌, no_more}
+use Rattle.passkey_kinds.proofs.Steps.{◌≡◌, ◌≤◌, nat_le, arith, le-leb, Bool, true, false, ◌&&◌, Ok, refl, sym, and_from, depth, max_depth, is_coherent, GivenIsCoherent, ReadIsGiven, WrittenDataAreReadBack, ReadIsCoherent, auth_data_back, auth_data_coherent, record_keeps, truth_back, byte_back, bytes_back, anything, optional_place, if_fits, record_within, descriptor_back, few_levels, puts_value, puts_default, rows_back, ◌▸◌, no_more}
 use Rattle.passkey_get_assertion.specs.GetResponse.{GetResponseParts, get_response_fields, read_get_response, get_response_places, get_response_tree, GetResponseFits, is_get_response_coherent, normal_get_response}
 use Rattle.passkey_entities.proofs.Entities.{user_law, user_fits}
 use Rattle.passkey_extensions.proofs.Prf.{used_unsigned_law}

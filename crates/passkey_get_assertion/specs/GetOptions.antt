@@ -1,8 +1,7 @@
 -- Options of authenticatorGetAssertion requests (CTAP 2.1, section 6.2).
-use Rattle.std.specs.Prelude.{[], ◌∷◌, true, false, codes}
+use Rattle.passkey_kinds.specs.Words.{[], ◌∷◌, true, false, codes, PlainTable, default_as}
 use Rattle.passkey_get_assertion.specs.declared.options.Options.{Options}
 use Rattle.passkey_kinds.specs.Coded.{truth}
-use Rattle.passkey_kinds.specs.Placed.{PlainTable, default_as}
 
 abbrev pub options_default : Options
 options_default = record { up = true; uv = false }

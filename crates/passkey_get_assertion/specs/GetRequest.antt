@@ -1,24 +1,10 @@
 -- authenticatorGetAssertion requests (CTAP 2.1, section 6.2).
-use Rattle.std.specs.Prelude.{ℕ, nat_le, Bool, true, List, [], ◌∷◌, Option, None, codes, Result, option_map}
-use Rattle.passkey_cbor.specs.Depth.{depth}
-use Rattle.passkey_cbor.specs.LeadingItem.{max_depth}
-use Rattle.passkey_cbor.specs.Item.{Item, byte_string, text_string}
-use Rattle.passkey_core.specs.DataNormal.{IfPresent}
+use Rattle.passkey_kinds.specs.Words.{ℕ, nat_le, Bool, true, List, [], ◌∷◌, Option, None, codes, Result, option_map, depth, max_depth, Item, byte_string, text_string, IfPresent, descriptor_fields, fields_of, plain_tree, Fields, required, default, table_of, read_item, nested, Table, below, optional, bytes, text, accepted, tolerated, IsByte, Place, number_tree, list_tree, always, where_some, record_tree, descriptor_tree, PublicKeyCredentialDescriptor}
+use Rattle.passkey_kinds.specs.declared.fault.Fault.{Fault}
 use Rattle.passkey_get_assertion.specs.GetOptions.{options, options_default}
 use Rattle.passkey_get_assertion.specs.declared.options.Options.{Options}
 use Rattle.passkey_extensions.specs.ExtensionTrees.{get_extensions_tree, GetExtensionsFit, get_extensions_kept}
 use Rattle.passkey_extensions.specs.GetExtensions.{GetExtensionsParts, get_extensions_fields, get_extensions_parts}
-use Rattle.passkey_kinds.specs.Descriptor.{descriptor_fields}
-use Rattle.passkey_kinds.specs.Placed.{fields_of, plain_tree}
-use Rattle.passkey_kinds.specs.Record.{Fields, required, default, table_of, read_item}
-use Rattle.passkey_kinds.specs.RecordCost.{nested}
-use Rattle.passkey_kinds.specs.Table.{Table}
-use Rattle.passkey_kinds.specs.Typed.{below, optional, bytes, text, accepted, tolerated}
-use Rattle.passkey_kinds.specs.ReadBack.{IsByte}
-use Rattle.passkey_kinds.specs.Tree.{Place, number_tree, list_tree, always, where_some, record_tree}
-use Rattle.passkey_kinds.specs.Trees.{descriptor_tree}
-use Rattle.passkey_kinds.specs.declared.fault.Fault.{Fault}
-use Rattle.passkey_webauthn.specs.declared.descriptor.PublicKeyCredentialDescriptor.{PublicKeyCredentialDescriptor}
 use Rattle.passkey_get_assertion.specs.declared.request.Request.{Request}
 
 -- what contracts see of a request

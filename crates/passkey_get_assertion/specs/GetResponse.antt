@@ -1,29 +1,11 @@
 -- authenticatorGetAssertion responses (CTAP 2.1, section 6.2).
-use Rattle.std.specs.Prelude.{ℕ, nat_le, Bool, true, ◌&&◌, List, [], ◌∷◌, Option, None, codes, Result, replicate}
-use Rattle.passkey_cbor.specs.Depth.{depth}
-use Rattle.passkey_cbor.specs.LeadingItem.{max_depth}
-use Rattle.passkey_cbor.specs.Item.{Item, boolean, byte_string}
-use Rattle.passkey_core.specs.Coherent.{is_coherent}
-use Rattle.passkey_core.specs.DataNormal.{IsData, IfPresent, normal_data}
-use Rattle.passkey_core.specs.DataParts.{DataParts, bare_data}
-use Rattle.passkey_kinds.specs.Data.{auth_data_tree}
+use Rattle.passkey_kinds.specs.Words.{ℕ, nat_le, Bool, true, ◌&&◌, List, [], ◌∷◌, Option, None, codes, Result, replicate, depth, max_depth, Item, boolean, byte_string, is_coherent, IsData, IfPresent, normal_data, DataParts, bare_data, auth_data_tree, descriptor_fields, EachFits, fields_of, plain_tree, Fields, required, default, table_of, read_item, nested, Table, below, bytes, optional, truth, authenticator_data, IsByte, Place, number_tree, always, where_some, record_tree, descriptor_tree, PublicKeyCredentialDescriptor, data_parts}
+use Rattle.passkey_kinds.specs.declared.fault.Fault.{Fault}
 use Rattle.passkey_entities.specs.User.{user}
 use Rattle.passkey_entities.specs.declared.user.PublicKeyCredentialUserEntity.{PublicKeyCredentialUserEntity}
 use Rattle.passkey_extensions.specs.Prf.{prf_used, unsigned}
 use Rattle.passkey_extensions.specs.declared.prf_get_outputs.AuthenticatorPrfGetOutputs.{AuthenticatorPrfGetOutputs}
 use Rattle.passkey_extensions.specs.declared.unsigned.UnsignedExtensionOutputs.{UnsignedExtensionOutputs}
-use Rattle.passkey_kinds.specs.Descriptor.{descriptor_fields}
-use Rattle.passkey_kinds.specs.Placed.{EachFits, fields_of, plain_tree}
-use Rattle.passkey_kinds.specs.Record.{Fields, required, default, table_of, read_item}
-use Rattle.passkey_kinds.specs.RecordCost.{nested}
-use Rattle.passkey_kinds.specs.Table.{Table}
-use Rattle.passkey_kinds.specs.Typed.{below, bytes, optional, truth, authenticator_data}
-use Rattle.passkey_kinds.specs.ReadBack.{IsByte}
-use Rattle.passkey_kinds.specs.Tree.{Place, number_tree, always, where_some, record_tree}
-use Rattle.passkey_kinds.specs.Trees.{descriptor_tree}
-use Rattle.passkey_kinds.specs.declared.fault.Fault.{Fault}
-use Rattle.passkey_webauthn.specs.declared.descriptor.PublicKeyCredentialDescriptor.{PublicKeyCredentialDescriptor}
-use Rattle.passkey_core.specs.DataViews.{data_parts}
 use Rattle.passkey_get_assertion.specs.declared.response.Response.{Response}
 
 -- what contracts see of a response

@@ -1,5 +1,5 @@
 -- authenticatorGetInfo responses: decoding their encodings again, and their nesting levels.
-use Rattle.passkey_kinds.proofs.Steps.{rules, ◌≡◌, ◌∙◌, ℕ, pos, ◌^◌, ◌<◌, ◌≤◌, nat_lt, nat_le, arith, le-leb, ltb-true, Bool, true, false, ◌&&◌, if◌then◌else◌, Option, Some, None, option_map, unwrap_or, Result, Ok, Err, OnOk, refl, sym, ap, subst, and_from, same_tests, depth, max_depth, Item, boolean, byte_string, text_string, IfPresent, optional, ReadIsCoherent, size, number_tree, option_place, record_keeps, not_null, puts_value, puts_default, ◌▸◌, no_more, rows_back, size_back, aaguid_back, list_same, truth_back, byte_back, word_back, text_back, bytes_back, transport_back, list_back, optional_back, anything, all_of_anything, optional_place, accepted_place, if_fits, PlaceWithin, Within, record_within, parameters_back, few_levels}
+use Rattle.passkey_kinds.proofs.Steps.{◌≡◌, ℕ, pos, ◌^◌, ◌<◌, ◌≤◌, nat_lt, nat_le, arith, le-leb, ltb-true, Bool, true, false, ◌&&◌, if◌then◌else◌, Option, Some, None, option_map, unwrap_or, Result, Ok, Err, OnOk, refl, sym, ap, and_from, same_tests, depth, max_depth, Item, IfPresent, optional, ReadIsCoherent, size, number_tree, option_place, record_keeps, not_null, puts_value, puts_default, ◌▸◌, no_more, rows_back, size_back, aaguid_back, list_same, truth_back, byte_back, word_back, text_back, bytes_back, transport_back, list_back, optional_back, anything, all_of_anything, optional_place, accepted_place, if_fits, PlaceWithin, Within, record_within, parameters_back, few_levels}
 use Rattle.std.proofs.Common.{leb-true, lt-ltb, is_ok, IfErr}
 use Rattle.passkey_get_info.specs.GetInfo.{GetInfoParts, get_info_fields, read_get_info, get_info_places, get_info_tree, IsPositive, GetInfoFits, is_encodable, has_room, is_get_info_coherent, normal_get_info}
 use Rattle.passkey_kinds.specs.Kind.{kept as kept_item}

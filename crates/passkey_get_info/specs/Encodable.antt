@@ -1,9 +1,5 @@
 -- A response, with its greatest message size as the data item that it is encoded as.
-use Rattle.std.specs.Prelude.{List, ◌++◌, option_map}
-use Rattle.passkey_cbor.specs.View.{item_of}
-use Rattle.passkey_core.specs.DataNormal.{IfPresent}
-use Rattle.passkey_kinds.specs.Placed.{places_of}
-use Rattle.passkey_kinds.specs.Tree.{Place}
+use Rattle.passkey_kinds.specs.Words.{List, ◌++◌, option_map, item_of, IfPresent, places_of, Place}
 use Rattle.passkey_get_info.specs.GetInfo.{GetInfoParts, get_info_parts, GetInfoFits, IsPositive, capabilities_with, limits, states}
 use Rattle.passkey_get_info.specs.declared.response.Encodable.{Encodable}
 

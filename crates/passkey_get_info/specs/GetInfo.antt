@@ -1,35 +1,15 @@
 -- authenticatorGetInfo responses (CTAP 2.1, section 6.4).
-use Rattle.std.specs.Prelude.{ℕ, ◌<◌, ◌^◌, nat_lt, nat_le, Bool, true, ◌&&◌, if◌then◌else◌, List, [], ◌∷◌, ◌++◌, map, length, ◌≡◌, Option, Some, None, codes, replicate, Result, option_map}
-use Rattle.std.specs.Int.NonZero.{non_zero_u128_get}
-use Rattle.std.specs.List.{All}
-use Rattle.std.specs.Option.{option_and_then}
-use Rattle.passkey_cbor.specs.Depth.{depth}
-use Rattle.passkey_cbor.specs.Item.{Item, byte_string, text_string, null}
-use Rattle.passkey_cbor.specs.LeadingItem.{max_depth}
-use Rattle.passkey_cbor.specs.View.{item_of}
-use Rattle.passkey_core.specs.DataNormal.{IfPresent}
+use Rattle.passkey_kinds.specs.Words.{ℕ, ◌<◌, ◌^◌, nat_lt, nat_le, Bool, true, ◌&&◌, if◌then◌else◌, List, [], ◌∷◌, ◌++◌, map, length, ◌≡◌, Option, Some, None, codes, replicate, Result, option_map, non_zero_u128_get, All, option_and_then, depth, Item, byte_string, text_string, null, max_depth, item_of, IfPresent, nothing, parameters_fields, Placed, placed, places_of, EachFits, fields_of, fields_with, plain_tree, IsByte, Fields, required, default, table_of, read_item, nested, Table, Place, number_tree, list_tree, always, where_some, record_tree, parameters_tree, transport_tree, aaguid, below, size, text, one_named, optional, kept, growing, list, accepted, tolerated, transport_named, PublicKeyCredentialParameters, AuthenticatorTransport}
+use Rattle.passkey_kinds.specs.declared.fault.Fault.{Fault}
 use Rattle.passkey_get_info.specs.GetInfoNames.{version, version_tree, normal_version, extension, extension_tree, normal_extension}
 use Rattle.passkey_get_info.specs.GetInfoOptions.{options}
 use Rattle.passkey_get_info.specs.declared.extension.Extension.{Extension}
 use Rattle.passkey_get_info.specs.declared.options.Options.{Options}
 use Rattle.passkey_get_info.specs.declared.response.Response.{Response}
 use Rattle.passkey_get_info.specs.declared.version.Version.{Version}
-use Rattle.passkey_kinds.specs.Keeping.{nothing}
-use Rattle.passkey_kinds.specs.Parameters.{parameters_fields}
-use Rattle.passkey_kinds.specs.Placed.{Placed, placed, placed_if, word_at, truth_at, bytes_at, IsWord, places_of, EachFits, fields_of, fields_with, plain_tree}
-use Rattle.passkey_kinds.specs.ReadBack.{IsByte}
-use Rattle.passkey_kinds.specs.Record.{Fields, required, default, table_of, read_item}
-use Rattle.passkey_kinds.specs.RecordCost.{nested}
-use Rattle.passkey_kinds.specs.Table.{Table}
-use Rattle.passkey_kinds.specs.Tree.{Place, number_tree, list_tree, always, where_some, record_tree}
-use Rattle.passkey_kinds.specs.Trees.{parameters_tree, transport_tree}
-use Rattle.passkey_kinds.specs.Typed.{aaguid, below, size, text, one_named, optional, kept, growing, list, accepted, tolerated}
-use Rattle.passkey_kinds.specs.declared.fault.Fault.{Fault}
+use Rattle.passkey_kinds.specs.Placed.{placed_if, word_at, truth_at, bytes_at, IsWord}
 use Rattle.passkey_kinds.specs.declared.write_fault.WriteFault.{WriteFault}
 use Rattle.passkey_kinds.specs.declared.write_fault.WriteFault.TheVariants.{OutOfMemory, NumberTooLarge}
-use Rattle.passkey_webauthn.specs.Transport.{transport_named}
-use Rattle.passkey_webauthn.specs.declared.parameters.PublicKeyCredentialParameters.{PublicKeyCredentialParameters}
-use Rattle.passkey_webauthn.specs.declared.transport.AuthenticatorTransport.{AuthenticatorTransport}
 
 -- what contracts see of a response
 pub record GetInfoParts : Type 0 where

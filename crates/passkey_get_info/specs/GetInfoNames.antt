@@ -1,12 +1,11 @@
 -- The names of versions and extensions that an authenticator supports (CTAP 2.1, section 6.4).
-use Rattle.std.specs.Prelude.{ℕ, List, [], ◌∷◌, Some, codes, unwrap_or}
-use Rattle.passkey_cbor.specs.Item.{Item, text_string}
-use Rattle.passkey_kinds.specs.Kind.{Kind, one_named}
+use Rattle.passkey_kinds.specs.Words.{ℕ, List, [], ◌∷◌, Some, codes, unwrap_or, Item, text_string, Kind}
+use Rattle.passkey_kinds.specs.Kind.{one_named}
 use Rattle.passkey_get_info.specs.declared.extension.Extension.{Extension}
-use Rattle.passkey_get_info.specs.declared.extension.Extension.TheVariants as extensions
 use Rattle.passkey_get_info.specs.declared.version.Version.{Version}
-use Rattle.passkey_get_info.specs.declared.version.Version.TheVariants as versions
 use Rattle.passkey_webauthn.specs.Names.{named_in}
+use Rattle.passkey_get_info.specs.declared.extension.Extension.TheVariants as extensions
+use Rattle.passkey_get_info.specs.declared.version.Version.TheVariants as versions
 
 abbrev pub version_name : Version → List ℕ
 version_name versions.FIDO_2_0 = codes "FIDO_2_0"

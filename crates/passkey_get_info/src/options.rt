@@ -1,8 +1,6 @@
 //! Options of authenticatorGetInfo responses.
-ghost use Rattle.std.specs.Prelude.{◌≡◌, true, OnOk};
+ghost use Rattle.passkey_kinds.specs.Words.{◌≡◌, true, OnOk, places_of, AllAccepted, put_all};
 ghost use Rattle.passkey_get_info.specs.GetInfoOptions.{first_options, last_options, options, options_default};
-ghost use Rattle.passkey_kinds.specs.Placed.{places_of};
-ghost use Rattle.passkey_kinds.specs.Sink.{AllAccepted, put_all};
 
 use passkey_kinds::{PlainRecord, Refusal, Row, Sink, Source, set};
 use passkey_memory::OutOfMemory;

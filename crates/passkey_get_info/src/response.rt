@@ -1,20 +1,9 @@
 //! authenticatorGetInfo responses.
-ghost use Rattle.std.specs.Prelude.{◌≡◌, ◌^◌, ◌++◌, ℕ, is_ok, nat_lt, pos, true, false, if◌then◌else◌, option_map, Some as There, None as Nothing, IfOk, IfErr, OnOk};
-ghost use Rattle.std.specs.Int.NonZero.{non_zero_u128_get};
-ghost use Rattle.passkey_cbor.specs.Item.{Item};
-ghost use Rattle.passkey_cbor.specs.View.{item_of};
-ghost use Rattle.passkey_cbor.specs.Writable.{IsWritable};
-ghost use Rattle.passkey_cbor.specs.Written.{written};
-ghost use Rattle.passkey_core.specs.DataNormal.{IfPresent};
+ghost use Rattle.passkey_kinds.specs.Words.{◌≡◌, ◌^◌, ◌++◌, ℕ, is_ok, nat_lt, pos, true, false, if◌then◌else◌, option_map, IfOk, IfErr, OnOk, non_zero_u128_get, Item, item_of, IsWritable, written, IfPresent, ReadsMessage, ReadsHere, GrowsMessage, EachFits, fields_with, places_of, MayGrowAt, Reads, cost_at, keeps_at, Puts, AllAccepted, put_all, number_tree};
+ghost use Rattle.std.specs.Prelude.{Some as There, None as Nothing};
 ghost use Rattle.passkey_get_info.specs.Encodable.{EncodableFits, encodable_capabilities, encodable_parts, encodable_places};
 ghost use Rattle.passkey_get_info.specs.GetInfo.{GetInfoParts, capabilities, limits, states, get_info_fields, get_info_table, read_get_info, get_info_empty, get_info_parts, get_info_tree, IsPositive, GetInfoFits, is_encodable, fault_of_size, has_room, is_get_info_coherent};
-ghost use Rattle.passkey_kinds.specs.Message.{ReadsMessage, ReadsHere, GrowsMessage};
-ghost use Rattle.passkey_kinds.specs.Placed.{EachFits, fields_with, members_of, places_of};
-ghost use Rattle.passkey_kinds.specs.Reading.{MayGrowAt, Reads};
-ghost use Rattle.passkey_kinds.specs.RecordCost.{cost_at, keeps_at};
-ghost use Rattle.passkey_kinds.specs.RecordReading.{Puts};
-ghost use Rattle.passkey_kinds.specs.Sink.{AllAccepted, put_all};
-ghost use Rattle.passkey_kinds.specs.Tree.{number_tree};
+ghost use Rattle.passkey_kinds.specs.Placed.{members_of};
 ghost use Rattle.passkey_kinds.specs.declared.fault.Fault.TheVariants.{OutOfMemory as NoRoom};
 ghost use Rattle.passkey_kinds.specs.declared.write_fault.WriteFault.TheVariants.{NumberTooLarge as TooLarge};
 

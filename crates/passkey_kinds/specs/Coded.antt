@@ -1,14 +1,10 @@
 -- Values of members, as they are decoded and as they are encoded.
-use Rattle.std.specs.Prelude.{ℕ, Bool, List, Option}
-use Rattle.std.specs.FinMap as fin
-use Rattle.std.specs.List.{All}
-use Rattle.passkey_bytes.specs.Map.{ByteMap}
-use Rattle.passkey_cbor.specs.Item.{boolean, byte_string, text_string}
-use Rattle.passkey_core.specs.DataNormal.{IfPresent}
+use Rattle.passkey_kinds.specs.Base.{ℕ, Bool, List, Option, All, ByteMap, boolean, byte_string, text_string, IfPresent}
 use Rattle.passkey_kinds.specs.Placed.{Coded, PlainTable, EachFits, fields_of, plain_tree}
 use Rattle.passkey_kinds.specs.ReadBack.{Any, AreBytes}
 use Rattle.passkey_kinds.specs.RecordCost.{nested}
 use Rattle.passkey_kinds.specs.Tree.{option_tree, numbers_tree, byte_map_tree}
+use Rattle.std.specs.FinMap as fin
 use Rattle.passkey_kinds.specs.Typed as typed
 
 abbrev pub truth : Coded Bool

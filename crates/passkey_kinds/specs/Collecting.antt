@@ -1,20 +1,15 @@
 -- Elements that are decoded one after the other and put together.
+use Rattle.passkey_kinds.specs.Base.{option_and_then, ◌<◌, ℕ, suc, max, nat_lt, Bool, IsTrue, true, false, if◌then◌else◌, length, List, [], ◌∷◌, ◌++◌, Option, Some, None, option_map, Result, ByteMap, Item, max_depth, Walk}
 use Rattle.std.specs.List.{cons_option}
-use Rattle.std.specs.Option.{option_and_then}
-use Rattle.std.specs.Prelude.{◌<◌, ℕ, suc, max, nat_lt, Bool, IsTrue, true, false, if◌then◌else◌, length, List, [], ◌∷◌, ◌++◌, Option, Some, None, option_map, Result}
-use Rattle.std.specs.FinMap as fin
-use Rattle.passkey_bytes.specs.Map.{ByteMap}
 use Rattle.passkey_cbor.specs.EncodedAt.{Walks, WalksOn}
 use Rattle.passkey_cbor.specs.Inside.{Within, PairWithin}
-use Rattle.passkey_cbor.specs.Item.{Item}
 use Rattle.passkey_cbor.specs.Languages.{Language}
-use Rattle.passkey_cbor.specs.LeadingItem.{max_depth}
-use Rattle.passkey_cbor.specs.Walk.{Walk}
 use Rattle.passkey_kinds.specs.Keeping.{kept_of}
 use Rattle.passkey_kinds.specs.Kind.{Kind, Typed, below}
 use Rattle.passkey_kinds.specs.MapKind.{entry}
 use Rattle.passkey_kinds.specs.Reader.{Decodes}
 use Rattle.passkey_kinds.specs.declared.refusal.Refusal.{Refusal}
+use Rattle.std.specs.FinMap as fin
 
 -- What is put together from this value on, if no element is refused.
 abbrev pub collected : {X V : Type 0} → (X → V → Option V) → List X → V → Option V

@@ -1,12 +1,8 @@
 -- Credential descriptors (WebAuthn Level 3, section 5.8.3).
-use Rattle.std.specs.Prelude.{[], ◌∷◌, None, codes, false}
+use Rattle.passkey_kinds.specs.Base.{[], ◌∷◌, None, codes, false, credential_type_named, transport_named, Unknown, PublicKeyCredentialDescriptor}
 use Rattle.passkey_kinds.specs.Kind.{Kind}
 use Rattle.passkey_kinds.specs.Record.{Fields, required, default, record_kind}
 use Rattle.passkey_kinds.specs.Typed.{one_named, bytes, accepted, tolerated, or_else}
-use Rattle.passkey_webauthn.specs.CredentialType.{credential_type_named}
-use Rattle.passkey_webauthn.specs.Transport.{transport_named}
-use Rattle.passkey_webauthn.specs.declared.credential_type.PublicKeyCredentialType.TheVariants.{Unknown}
-use Rattle.passkey_webauthn.specs.declared.descriptor.PublicKeyCredentialDescriptor.{PublicKeyCredentialDescriptor}
 
 abbrev pub descriptor_fields : Fields PublicKeyCredentialDescriptor
 descriptor_fields = record {

@@ -1,12 +1,10 @@
 -- What a head says about its data item (RFC 8949, section 3).
-use Rattle.std.specs.Prelude.{◌≡◌, ℕ, ℤ, pos, negsuc, ◌==◌, ◌||◌, Bool, true, false, if◌then◌else◌, List, Option, Some, None}
-use Rattle.passkey_cbor.specs.Item as item
-use Rattle.passkey_cbor.specs.Item.{Item, number, items_of, pairs_of}
-use Rattle.passkey_cbor.specs.EncodedAt.{ItemsAreEncodedAt, PairsAreEncodedAt}
-use Rattle.passkey_cbor.specs.Walk.{Walk}
+use Rattle.passkey_kinds.specs.Base.{◌≡◌, ℕ, pos, ◌==◌, ◌||◌, Bool, true, false, if◌then◌else◌, List, Option, Some, None, Item, number, items_of, pairs_of, ItemsAreEncodedAt, PairsAreEncodedAt, Walk}
+use Rattle.std.specs.Prelude.{ℤ, negsuc}
 use Rattle.passkey_cbor.specs.declared.head.Head.{Head}
-use Rattle.passkey_cbor.specs.declared.head.Head.TheVariants as head
 use Rattle.passkey_kinds.specs.Reader.{Spends}
+use Rattle.passkey_cbor.specs.Item as item
+use Rattle.passkey_cbor.specs.declared.head.Head.TheVariants as head
 
 abbrev pub unsigned_in : Item → Option ℕ
 unsigned_in (number (pos n)) = Some n

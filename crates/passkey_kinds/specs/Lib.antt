@@ -1,3 +1,4 @@
+pub mod Base
 pub mod Names
 pub mod Kind
 pub mod MapKind
@@ -32,3 +33,4 @@ pub mod Data
 pub mod MessageLaws
 pub mod RecordLaws
 pub mod Size
+pub mod Words

@@ -1,11 +1,8 @@
 -- Laws about messages: an encoded message can be decoded again, decoded messages are coherent, and
 -- some bytes decode alike.
-use Rattle.std.specs.Prelude.{◌≡◌, ◌≢◌, ◌↔◌, ℕ, List, [], ◌∷◌, ◌++◌, length, Bool, true, Result, Ok, Err}
+use Rattle.passkey_kinds.specs.Base.{◌≡◌, ◌≢◌, ℕ, List, [], ◌∷◌, ◌++◌, length, Bool, true, Result, Ok, Err, IsLeadingItem, Item, IsWritable, written}
+use Rattle.std.specs.Prelude.{◌↔◌}
 use Rattle.passkey_cbor.specs.Canonical.{IsCanonical}
-use Rattle.passkey_cbor.specs.LeadingItem.{IsLeadingItem}
-use Rattle.passkey_cbor.specs.Item.{Item}
-use Rattle.passkey_cbor.specs.Writable.{IsWritable}
-use Rattle.passkey_cbor.specs.Written.{written}
 use Rattle.passkey_kinds.specs.Message.{Begins, ReadsMessage}
 use Rattle.passkey_kinds.specs.declared.fault.Fault.{Fault}
 use Rattle.passkey_kinds.specs.declared.fault.Fault.TheVariants.{OutOfMemory}

@@ -1,12 +1,9 @@
 -- Credential parameters (WebAuthn Level 3, section 5.3).
-use Rattle.std.specs.Prelude.{[], ◌∷◌, codes, false}
+use Rattle.passkey_kinds.specs.Base.{[], ◌∷◌, codes, false, credential_type_named, Unknown, PublicKeyCredentialParameters}
 use Rattle.passkey_iana.specs.declared.algorithm.Algorithm.TheVariants.{ES256}
 use Rattle.passkey_kinds.specs.Kind.{Kind}
 use Rattle.passkey_kinds.specs.Record.{Fields, required, record_kind}
 use Rattle.passkey_kinds.specs.Typed.{algorithm, one_named, or_else}
-use Rattle.passkey_webauthn.specs.CredentialType.{credential_type_named}
-use Rattle.passkey_webauthn.specs.declared.credential_type.PublicKeyCredentialType.TheVariants.{Unknown}
-use Rattle.passkey_webauthn.specs.declared.parameters.PublicKeyCredentialParameters.{PublicKeyCredentialParameters}
 
 abbrev pub parameters_fields : Fields PublicKeyCredentialParameters
 parameters_fields = record {

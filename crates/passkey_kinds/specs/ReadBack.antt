@@ -1,7 +1,5 @@
 -- An encoded value can be decoded again.
-use Rattle.std.specs.Prelude.{◌≡◌, ℕ, ◌<◌, ◌^◌, Some, List, length}
-use Rattle.std.specs.List.{All}
-use Rattle.passkey_cbor.specs.Item.{Item}
+use Rattle.passkey_kinds.specs.Base.{◌≡◌, ℕ, ◌<◌, ◌^◌, Some, List, length, All, Item}
 use Rattle.passkey_kinds.specs.Kind.{Kind}
 
 -- Each value that fits is encoded as a data item that the kind decodes to the value's normal form.

@@ -1,13 +1,12 @@
 -- The result of decoding a record, and the steps of decoding it.
-use Rattle.std.specs.Prelude.{◌≡◌, ℕ, ◌<◌, ◌==◌, nat_lt, ◌⊎◌, Bool, true, false, not, ◌&&◌, if◌then◌else◌, List, [], ◌∷◌, ◌++◌, slice_get, get_or, option_map, Option, Some, None, is_some, Result, Ok, Err}
-use Rattle.std.specs.List.{find}
-use Rattle.passkey_cbor.specs.Item as item
-use Rattle.passkey_cbor.specs.Item.{Item, members}
+use Rattle.passkey_kinds.specs.Base.{◌≡◌, ℕ, ◌<◌, ◌==◌, nat_lt, ◌⊎◌, Bool, true, false, ◌&&◌, if◌then◌else◌, List, [], ◌∷◌, ◌++◌, slice_get, get_or, option_map, Option, Some, None, is_some, Result, Ok, Err, find, Item, members}
+use Rattle.std.specs.Prelude.{not}
 use Rattle.passkey_kinds.specs.Kind.{MayGrow}
 use Rattle.passkey_kinds.specs.Table.{Entry, Row, Table, Naming, row, unknown, wrong, named, Members, found, bad_member}
 use Rattle.passkey_kinds.specs.declared.fault.Fault.{Fault}
-use Rattle.passkey_kinds.specs.declared.fault.Fault.TheVariants as fault
 use Rattle.passkey_kinds.specs.declared.rows.Named.{Named}
+use Rattle.passkey_cbor.specs.Item as item
+use Rattle.passkey_kinds.specs.declared.fault.Fault.TheVariants as fault
 use Rattle.passkey_kinds.specs.declared.rows.Named.TheVariants as code
 
 -- whether decoding the value of row n may take memory

@@ -1,12 +1,11 @@
 -- The cost of decoding a record over a cursor.
-use Rattle.std.specs.Prelude.{ℕ, max, ◌==◌, Bool, true, false, ◌&&◌, if◌then◌else◌, List, [], ◌∷◌}
-use Rattle.passkey_cbor.specs.Item as item
-use Rattle.passkey_cbor.specs.Item.{Item, members}
+use Rattle.passkey_kinds.specs.Base.{ℕ, max, ◌==◌, Bool, true, false, ◌&&◌, if◌then◌else◌, List, [], ◌∷◌, Item, members}
 use Rattle.passkey_kinds.specs.Keeping.{Keeping, nothing, counted, kept_of, kept_sum}
 use Rattle.passkey_kinds.specs.Kind.{Typed}
 use Rattle.passkey_kinds.specs.Record.{Fields, Member, table_of, record_kind}
 use Rattle.passkey_kinds.specs.Table.{Naming, row, unknown, wrong, named, Members}
 use Rattle.passkey_kinds.specs.Typed.{growing}
+use Rattle.passkey_cbor.specs.Item as item
 
 -- the greatest cost of a value, and at least 4: 3 for a map key, and 1 to look for the map's end
 abbrev pub greatest_cost : {P : Type 0} → List (Member P) → ℕ

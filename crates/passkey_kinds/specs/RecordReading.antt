@@ -1,7 +1,5 @@
 -- The steps of decoding a record.
-use Rattle.std.specs.Prelude.{◌≡◌, ℕ, Bool, true, false, List, [], ◌∷◌, ◌++◌, Option, Some, None, Result, Ok, Err, IfSome, OnOk}
-use Rattle.passkey_cbor.specs.Item.{Item}
-use Rattle.passkey_cbor.specs.Walk.{Walk}
+use Rattle.passkey_kinds.specs.Base.{◌≡◌, ℕ, Bool, true, false, List, [], ◌∷◌, ◌++◌, Option, Some, None, Result, Ok, Err, IfSome, OnOk, Item, Walk}
 use Rattle.passkey_kinds.specs.Kind.{Typed, MayGrow}
 use Rattle.passkey_kinds.specs.Reader.{Spends}
 use Rattle.passkey_kinds.specs.Reading.{takes_at, MayGrowIn, MayGrowAt, Reads, Marks, Steps, naming_of}
@@ -9,10 +7,10 @@ use Rattle.passkey_kinds.specs.Record.{Fields, rows_of, table_of, put_at, with_m
 use Rattle.passkey_kinds.specs.RecordCost.{record_cost, kept_in, kept_in_map}
 use Rattle.passkey_kinds.specs.Table.{Naming, Members, accepts_at, first_bad}
 use Rattle.passkey_kinds.specs.declared.fault.Fault.{Fault}
-use Rattle.passkey_kinds.specs.declared.fault.Fault.TheVariants as fault
 use Rattle.passkey_kinds.specs.declared.refusal.Refusal.{Refusal}
 use Rattle.passkey_kinds.specs.declared.rows.Named.{Named}
 use Rattle.passkey_kinds.specs.declared.refusal.Refusal.TheVariants.{Refused, OutOfMemory}
+use Rattle.passkey_kinds.specs.declared.fault.Fault.TheVariants as fault
 
 -- The result of decoding an item into a field: on success, the field's new value is the one that
 -- the kind has for the item.

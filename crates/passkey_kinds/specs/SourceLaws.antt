@@ -1,10 +1,8 @@
 -- Laws about a cursor that doesn't move: it has spent nothing, and `Onward` holds from it to
 -- itself.
+use Rattle.passkey_kinds.specs.Base.{Item, IsEncodedAt, Walk}
 use Rattle.std.proofs.Common.{ℕ, arith, false, refl}
 use Rattle.std.proofs.Math.Nat.{mul-le-mul_left}
-use Rattle.passkey_cbor.specs.Item.{Item}
-use Rattle.passkey_cbor.specs.EncodedAt.{IsEncodedAt}
-use Rattle.passkey_cbor.specs.Walk.{Walk}
 use Rattle.passkey_kinds.specs.Keeping.{Keeping}
 use Rattle.passkey_kinds.specs.Reader.{Onward, Costs}
 

@@ -1,16 +1,12 @@
 -- The data items that records are encoded as, with their keys in CTAP2's order (CTAP 2.1, section
 -- 6; WebAuthn Level 3, section 5).
-use Rattle.std.specs.Prelude.{List, [], ◌∷◌, codes}
-use Rattle.passkey_cbor.specs.Item.{Item, byte_string, text_string}
+use Rattle.passkey_kinds.specs.Base.{List, [], ◌∷◌, codes, Item, byte_string, text_string, PublicKeyCredentialDescriptor, PublicKeyCredentialParameters, AuthenticatorTransport}
 use Rattle.passkey_kinds.specs.Algorithm.{algorithm_tree}
 use Rattle.passkey_kinds.specs.Tree.{Place, list_tree, always, where_some, record_tree}
 use Rattle.passkey_webauthn.specs.CredentialType.{credential_type_name}
 use Rattle.passkey_webauthn.specs.Transport.{transport_name}
 use Rattle.passkey_webauthn.specs.declared.credential_type.PublicKeyCredentialType.{PublicKeyCredentialType}
-use Rattle.passkey_webauthn.specs.declared.descriptor.PublicKeyCredentialDescriptor.{PublicKeyCredentialDescriptor}
 use Rattle.passkey_webauthn.specs.declared.user.PublicKeyCredentialUserEntity as webauthn
-use Rattle.passkey_webauthn.specs.declared.parameters.PublicKeyCredentialParameters.{PublicKeyCredentialParameters}
-use Rattle.passkey_webauthn.specs.declared.transport.AuthenticatorTransport.{AuthenticatorTransport}
 
 abbrev pub credential_type_tree : PublicKeyCredentialType → Item
 credential_type_tree t = text_string (credential_type_name t)

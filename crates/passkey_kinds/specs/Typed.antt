@@ -1,15 +1,11 @@
 -- Kinds with their costs.
-use Rattle.std.specs.Prelude.{ℕ, suc, max, Bool, true, false, List, Option}
-use Rattle.passkey_bytes.specs.Map.{ByteMap}
-use Rattle.passkey_cbor.specs.Item.{Item}
+use Rattle.passkey_kinds.specs.Base.{ℕ, suc, max, Bool, true, false, List, Option, ByteMap, Item, DataParts, Algorithm}
 use Rattle.passkey_cbor.specs.Nodes.{nodes}
-use Rattle.passkey_core.specs.DataParts.{DataParts}
-use Rattle.passkey_iana.specs.declared.algorithm.Algorithm.{Algorithm}
+use Rattle.passkey_kinds.specs.Keeping.{Keeping, nothing, counted, in_elements, in_members}
+use Rattle.passkey_kinds.specs.Kind.{Kind, Typed}
 use Rattle.passkey_kinds.specs.Algorithm as numbered
 use Rattle.passkey_kinds.specs.Data as core
-use Rattle.passkey_kinds.specs.Keeping.{Keeping, nothing, counted, in_elements, in_members}
 use Rattle.passkey_kinds.specs.Kind as kind
-use Rattle.passkey_kinds.specs.Kind.{Kind, Typed}
 use Rattle.passkey_kinds.specs.MapKind as mapped
 use Rattle.passkey_kinds.specs.Size as sized
 

@@ -1,9 +1,8 @@
 -- Users (WebAuthn Level 3, section 5.4.3).
-use Rattle.std.specs.Prelude.{[], ◌∷◌, codes, false}
+use Rattle.passkey_kinds.specs.Base.{[], ◌∷◌, codes, false, PublicKeyCredentialUserEntity}
 use Rattle.passkey_kinds.specs.Kind.{Kind}
 use Rattle.passkey_kinds.specs.Record.{Fields, required, record_kind}
 use Rattle.passkey_kinds.specs.Typed.{bytes, text}
-use Rattle.passkey_webauthn.specs.declared.user.PublicKeyCredentialUserEntity.{PublicKeyCredentialUserEntity}
 
 abbrev pub user_fields : Fields PublicKeyCredentialUserEntity
 user_fields = record {

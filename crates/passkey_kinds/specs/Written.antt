@@ -1,6 +1,5 @@
 -- The members appended so far.
-use Rattle.std.specs.Prelude.{map}
-use Rattle.passkey_cbor.specs.View.{pair_of}
+use Rattle.passkey_kinds.specs.Base.{map, pair_of}
 use Rattle.passkey_kinds.specs.Table.{Members}
 use Rattle.passkey_kinds.specs.declared.written.Written.{Written}
 

@@ -1,14 +1,6 @@
 //! COSE algorithm identifiers, decoded from data items and encoded.
-ghost use Rattle.std.specs.Prelude.{◌≡◌, ℕ, List, true};
-ghost use Rattle.std.specs.Option.{option_and_then};
-ghost use Rattle.passkey_cbor.specs.Lent.{IsRegion, Tells};
-ghost use Rattle.passkey_iana.specs.Iana.{algorithm_named, algorithm_number};
+ghost use Rattle.passkey_kinds.specs.Words.{◌≡◌, ℕ, List, true, option_and_then, IsRegion, Tells, algorithm_named, algorithm_number, algorithm_tree, AnswersAs, LooksAtMost, algorithm, whole_64};
 ghost use Rattle.passkey_iana.specs.declared.algorithm.Algorithm.{Algorithm as Named};
-ghost use Rattle.passkey_kinds.specs.Algorithm.{algorithm_tree};
-ghost use Rattle.passkey_kinds.specs.Kind.{AnswersAs};
-ghost use Rattle.passkey_kinds.specs.Reader.{LooksAtMost};
-ghost use Rattle.passkey_kinds.specs.Typed.{algorithm};
-ghost use Rattle.passkey_webauthn.specs.NumberText.{whole_64};
 
 use crate::from_cbor::FromCbor;
 use crate::head::read_integer;

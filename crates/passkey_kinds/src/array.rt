@@ -1,15 +1,7 @@
 //! Arrays of 32 bytes, decoded from data items and encoded as arrays of integers.
-ghost use Rattle.std.specs.Prelude.{◌==◌, ℕ, List, length, map, take, if◌then◌else◌, false, Some, None};
-ghost use Rattle.passkey_cbor.specs.Item.{Item};
-ghost use Rattle.passkey_cbor.specs.Lent.{Tells};
-ghost use Rattle.passkey_cbor.specs.EncodedAt.{ItemsAreEncodedAt};
+ghost use Rattle.passkey_kinds.specs.Words.{◌==◌, ℕ, List, length, map, take, if◌then◌else◌, false, Some, None, Item, Tells, ItemsAreEncodedAt, Onward, Decodes, LooksAtMost, item_of, AnswersAs, each, AreBytes, numbers_tree, sized_bytes};
 ghost use Rattle.passkey_kinds.specs.Collecting.{filling};
-ghost use Rattle.passkey_kinds.specs.Reader.{Onward, Decodes, LooksAtMost};
-ghost use Rattle.passkey_cbor.specs.View.{item_of};
-ghost use Rattle.passkey_kinds.specs.Kind.{AnswersAs, each, below};
-ghost use Rattle.passkey_kinds.specs.ReadBack.{AreBytes};
-ghost use Rattle.passkey_kinds.specs.Tree.{numbers_tree};
-ghost use Rattle.passkey_kinds.specs.Typed.{sized_bytes};
+ghost use Rattle.passkey_kinds.specs.Kind.{below};
 
 use crate::collect::{Collect, read_all};
 use crate::from_cbor::FromCbor;

@@ -1,15 +1,8 @@
 //! Bytes, decoded from byte strings, from arrays of integers, and from text strings in base64url or
 //! base64.
-ghost use Rattle.std.specs.Prelude.{◌≡◌, ◌<◌, ℕ, List, length, map, true, ⊤};
-ghost use Rattle.std.specs.Str.{trim};
-ghost use Rattle.passkey_cbor.specs.Item.{Item};
-ghost use Rattle.passkey_cbor.specs.Lent.{IsRegion, Tells};
-ghost use Rattle.passkey_cbor.specs.EncodedAt.{ItemsAreEncodedAt};
-ghost use Rattle.passkey_kinds.specs.Reader.{Onward, Decodes, LooksAtMost};
-ghost use Rattle.passkey_cbor.specs.View.{item_of};
-ghost use Rattle.passkey_bytes.specs.Encoding.{text_bytes};
-ghost use Rattle.passkey_kinds.specs.Kind.{AnswersAs, each, below};
-ghost use Rattle.passkey_kinds.specs.Typed.{bytes};
+ghost use Rattle.passkey_kinds.specs.Words.{◌≡◌, ◌<◌, ℕ, List, length, map, true, trim, Item, IsRegion, Tells, ItemsAreEncodedAt, Onward, Decodes, LooksAtMost, item_of, text_bytes, AnswersAs, each, bytes};
+ghost use Rattle.std.specs.Prelude.{⊤};
+ghost use Rattle.passkey_kinds.specs.Kind.{below};
 
 use crate::from_cbor::FromCbor;
 use crate::head::read_array;

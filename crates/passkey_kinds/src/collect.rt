@@ -1,10 +1,8 @@
 //! Elements of arrays and members of maps, decoded one after the other at a cursor.
-ghost use Rattle.std.specs.Prelude.{◌<◌, ℕ, suc, IsTrue, List, length, OnOk};
+ghost use Rattle.passkey_kinds.specs.Words.{◌<◌, ℕ, suc, IsTrue, List, length, OnOk, kept_sum, Decodes, Further, Onward};
 ghost use Rattle.passkey_cbor.specs.EncodedAt.{Lies};
 ghost use Rattle.passkey_cbor.specs.Inside.{Left};
 ghost use Rattle.passkey_kinds.specs.Collecting.{Way, AddsOne, collected};
-ghost use Rattle.passkey_kinds.specs.Keeping.{kept_sum};
-ghost use Rattle.passkey_kinds.specs.Reader.{Decodes, Further, Onward};
 
 use crate::refusal::Refusal;
 use passkey_cbor::Cursor;

@@ -1,13 +1,6 @@
 //! Authenticator data and AAGUIDs, decoded from byte strings and encoded as byte strings.
-ghost use Rattle.std.specs.Prelude.{◌≡◌, ℕ, ◌+◌, ◌*◌, ◌≤◌, true, false, length, List};
-ghost use Rattle.passkey_cbor.specs.Item.{byte_string};
-ghost use Rattle.passkey_core.specs.DataNodes.{data_nodes};
-ghost use Rattle.passkey_core.specs.DataNormal.{IsData};
-ghost use Rattle.passkey_core.specs.DataParts.{DataParts};
-ghost use Rattle.passkey_core.specs.DataViews.{data_parts};
+ghost use Rattle.passkey_kinds.specs.Words.{◌≡◌, ℕ, ◌+◌, ◌*◌, ◌≤◌, true, false, length, List, byte_string, data_nodes, IsData, DataParts, data_parts, Answers, authenticator_data, aaguid};
 ghost use Rattle.passkey_kinds.specs.Data.{CountsData, data_tree, aaguid_tree};
-ghost use Rattle.passkey_kinds.specs.Kind.{Answers};
-ghost use Rattle.passkey_kinds.specs.Typed.{authenticator_data, aaguid};
 
 use crate::array::filled;
 use crate::from_cbor::FromCbor;

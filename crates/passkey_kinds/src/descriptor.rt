@@ -1,7 +1,6 @@
 //! Credential descriptors, decoded from data items and encoded.
-ghost use Rattle.passkey_kinds.specs.Descriptor.{descriptor_fields};
+ghost use Rattle.passkey_kinds.specs.Words.{descriptor_fields, descriptor_places};
 ghost use Rattle.passkey_webauthn.specs.declared.descriptor.PublicKeyCredentialDescriptor.{PublicKeyCredentialDescriptor as Descriptor};
-ghost use Rattle.passkey_kinds.specs.Trees.{descriptor_places};
 
 use crate::record::Record;
 use crate::refusal::Refusal;

@@ -1,11 +1,5 @@
 //! Values that are decoded from data items.
-ghost use Rattle.std.specs.Prelude.{◌^◌, ℕ, nat_lt, Bool, true, false, if◌then◌else◌, List, Option, option_map, OnOk};
-ghost use Rattle.passkey_cbor.specs.Item.{Item};
-ghost use Rattle.passkey_cbor.specs.EncodedAt.{IsEncodedAt};
-ghost use Rattle.passkey_cbor.specs.View.{item_of};
-ghost use Rattle.passkey_kinds.specs.Kind.{Answers, AnswersAs, Typed};
-ghost use Rattle.passkey_kinds.specs.Reader.{Onward, Further, ReadsAs};
-ghost use Rattle.passkey_kinds.specs.Typed.{truth, below, text, kept, optional};
+ghost use Rattle.passkey_kinds.specs.Words.{◌^◌, ℕ, nat_lt, Bool, true, false, if◌then◌else◌, List, Option, option_map, OnOk, Item, IsEncodedAt, item_of, Answers, AnswersAs, Typed, Onward, Further, ReadsAs, truth, below, text, kept, optional};
 
 use crate::head::{read_null, read_truth, read_unsigned};
 use crate::refusal::Refusal;

@@ -1,12 +1,6 @@
 //! Values that are decoded from text strings, whatever the text.
-ghost use Rattle.std.specs.Prelude.{◌≡◌, ℕ, List, true, IfOk, OnOk};
-ghost use Rattle.passkey_cbor.specs.Item.{Item};
-ghost use Rattle.passkey_cbor.specs.Lent.{IsRegion, Tells};
-ghost use Rattle.passkey_cbor.specs.EncodedAt.{IsEncodedAt};
-ghost use Rattle.passkey_kinds.specs.Keeping.{nothing};
+ghost use Rattle.passkey_kinds.specs.Words.{◌≡◌, ℕ, List, true, IfOk, OnOk, Item, IsRegion, Tells, IsEncodedAt, nothing, Onward, Further, ReadsAs, LooksAtMost, growing};
 ghost use Rattle.passkey_kinds.specs.Kind.{one_named};
-ghost use Rattle.passkey_kinds.specs.Reader.{Onward, Further, ReadsAs, LooksAtMost};
-ghost use Rattle.passkey_kinds.specs.Typed.{growing};
 
 use crate::refusal::Refusal;
 use passkey_cbor::{Cursor, TextToken};

@@ -1,13 +1,7 @@
 //! Map keys at a cursor, and the rows that they name.
-ghost use Rattle.std.specs.Prelude.{◌≡◌, ◌≤◌, ℕ, nat_lt, if◌then◌else◌, List, Option, length, map, take, true, false, IfSome};
-ghost use Rattle.passkey_cbor.specs.Item.{Item};
-ghost use Rattle.passkey_cbor.specs.Lent.{IsRegion, Tells};
-ghost use Rattle.passkey_cbor.specs.EncodedAt.{IsEncodedAt};
-ghost use Rattle.passkey_kinds.specs.Reader.{Onward, Further, LooksAtMost};
-ghost use Rattle.passkey_kinds.specs.Reading.{named_as};
+ghost use Rattle.passkey_kinds.specs.Words.{◌≡◌, ◌≤◌, ℕ, nat_lt, if◌then◌else◌, List, Option, length, map, take, true, false, IfSome, Item, IsRegion, Tells, IsEncodedAt, Onward, Further, LooksAtMost, named_as, entry_of, names, row_named};
 ghost use Rattle.passkey_kinds.specs.RecordReading.{ReadsKey};
-ghost use Rattle.passkey_kinds.specs.Rows.{entry_of, row_at};
-ghost use Rattle.passkey_kinds.specs.Table.{names, row_named};
+ghost use Rattle.passkey_kinds.specs.Rows.{row_at};
 
 use crate::head::{begins, read_unsigned};
 use crate::rows::{Named, Row, of_number, with_name};

@@ -1,9 +1,7 @@
 //! Laws about decoding records and lists. Each is the contract of a function that does nothing.
+ghost use Rattle.passkey_kinds.specs.Words.{read_item, KeysAscend, descriptor_places, parameters_places, webauthn_user_places, KnowsMaps, PassesOverUnknown};
 ghost use Rattle.passkey_kinds.specs.MessageLaws.{AlikeDifferInLength};
-ghost use Rattle.passkey_kinds.specs.Record.{read_item};
-ghost use Rattle.passkey_kinds.specs.Tree.{KeysAscend};
-ghost use Rattle.passkey_kinds.specs.Trees.{descriptor_places, parameters_places, webauthn_user_places};
-ghost use Rattle.passkey_kinds.specs.RecordLaws.{KnowsItems, KnowsMaps, RefusedElementIsPassedOver, SameAnswersReadAlike, PassesOverUnknown, UnknownMemberIsPassedOver};
+ghost use Rattle.passkey_kinds.specs.RecordLaws.{KnowsItems, RefusedElementIsPassedOver, SameAnswersReadAlike, UnknownMemberIsPassedOver};
 
 use crate::record::Record;
 

@@ -1,14 +1,7 @@
 //! Lists, decoded from arrays.
-ghost use Rattle.std.specs.Prelude.{◌<◌, ℕ, suc, List as Items, length, map, Some, true};
-ghost use Rattle.std.specs.List.{filter_map};
-ghost use Rattle.passkey_cbor.specs.View.{item_of};
-ghost use Rattle.passkey_cbor.specs.Item.{Item};
-ghost use Rattle.passkey_cbor.specs.EncodedAt.{ItemsAreEncodedAt};
+ghost use Rattle.passkey_kinds.specs.Words.{◌<◌, ℕ, suc, length, map, Some, true, filter_map, item_of, Item, ItemsAreEncodedAt, kept_of, kept_sum, AnswersAs, each, Onward, Decodes, list, accepted};
+ghost use Rattle.std.specs.Prelude.{List as Items};
 ghost use Rattle.passkey_kinds.specs.Collecting.{pushing, pushing_if};
-ghost use Rattle.passkey_kinds.specs.Keeping.{kept_of, kept_sum};
-ghost use Rattle.passkey_kinds.specs.Kind.{AnswersAs, each};
-ghost use Rattle.passkey_kinds.specs.Reader.{Onward, Decodes};
-ghost use Rattle.passkey_kinds.specs.Typed.{list, accepted};
 
 use crate::collect::{Collect, read_all};
 use crate::from_cbor::FromCbor;

@@ -1,17 +1,11 @@
 //! Maps from byte strings, decoded from CBOR maps and encoded as CBOR maps.
-ghost use Rattle.std.specs.Prelude.{◌≡◌, ◌<◌, ℕ, suc, max, List, length, map, true, IfOk, OnOk};
-ghost use Rattle.std.specs.FinMap as fin;
-ghost use Rattle.std.specs.List.{All};
-ghost use Rattle.passkey_bytes.specs.Map.{ByteMap};
-ghost use Rattle.passkey_cbor.specs.View.{item_of, pair_of};
-ghost use Rattle.passkey_kinds.specs.Kind.{AnswersAs};
-ghost use Rattle.passkey_cbor.specs.Item.{Item};
+ghost use Rattle.passkey_kinds.specs.Words.{◌≡◌, ◌<◌, ℕ, suc, max, List, length, map, true, IfOk, OnOk, All, ByteMap, item_of, pair_of, AnswersAs, Item, kept_of, byte_map_tree};
 ghost use Rattle.passkey_kinds.specs.Collecting.{entering};
-ghost use Rattle.passkey_kinds.specs.Keeping.{kept_of};
 ghost use Rattle.passkey_kinds.specs.MapKind.{map_values, with_members};
 ghost use Rattle.passkey_kinds.specs.ShortFirst.{sorted_by};
-ghost use Rattle.passkey_kinds.specs.Tree.{byte_map_tree, entry_tree, key_size};
+ghost use Rattle.passkey_kinds.specs.Tree.{entry_tree, key_size};
 ghost use Rattle.passkey_kinds.specs.Typed.{map_from_bytes};
+ghost use Rattle.std.specs.FinMap as fin;
 
 use crate::collect::{Collect, read_all};
 use crate::from_cbor::FromCbor;

@@ -1,14 +1,5 @@
 //! Messages, decoded from bytes and encoded.
-ghost use Rattle.std.specs.Prelude.{◌≡◌, suc, Bool, true, IfOk, IfErr, OnOk};
-ghost use Rattle.passkey_cbor.specs.Item.{Item};
-ghost use Rattle.passkey_cbor.specs.View.{item_of};
-ghost use Rattle.passkey_cbor.specs.Writable.{IsWritable};
-ghost use Rattle.passkey_cbor.specs.Written.{written};
-ghost use Rattle.passkey_kinds.specs.Message.{ReadsMessage, ReadsHere, GrowsMessage};
-ghost use Rattle.passkey_kinds.specs.MessageLaws.{ReadIsCoherent};
-ghost use Rattle.passkey_kinds.specs.Reading.{MayGrowAt, Reads};
-ghost use Rattle.passkey_kinds.specs.Record.{Fields, read_item, table_of};
-ghost use Rattle.passkey_kinds.specs.RecordCost.{record_cost};
+ghost use Rattle.passkey_kinds.specs.Words.{◌≡◌, suc, Bool, true, IfOk, IfErr, OnOk, Item, item_of, IsWritable, written, ReadsMessage, ReadsHere, GrowsMessage, ReadIsCoherent, MayGrowAt, Reads, Fields, read_item, table_of, record_cost};
 ghost use Rattle.passkey_kinds.specs.declared.fault.Fault.TheVariants.{OutOfMemory as NoRoom};
 ghost use Rattle.passkey_kinds.specs.declared.write_fault.WriteFault.TheVariants.{OutOfMemory as NoMemory};
 

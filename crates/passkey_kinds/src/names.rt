@@ -1,17 +1,8 @@
 //! Names of enumerations, decoded from data items.
-ghost use Rattle.std.specs.Prelude.{◌≡◌, ℕ, List, true, false, OnOk};
-ghost use Rattle.passkey_cbor.specs.Item.{Item};
-ghost use Rattle.passkey_cbor.specs.Lent.{IsRegion, Tells};
-ghost use Rattle.passkey_cbor.specs.EncodedAt.{IsEncodedAt};
-ghost use Rattle.passkey_kinds.specs.Reader.{Onward, Further, Decodes, LooksAtMost};
-ghost use Rattle.passkey_cbor.specs.View.{item_of};
-ghost use Rattle.passkey_kinds.specs.Kind.{AnswersAs};
-ghost use Rattle.passkey_kinds.specs.Kind as kind;
-ghost use Rattle.passkey_kinds.specs.Typed.{one_named};
-ghost use Rattle.passkey_webauthn.specs.CredentialType.{credential_type_named};
-ghost use Rattle.passkey_webauthn.specs.Transport.{transport_named};
+ghost use Rattle.passkey_kinds.specs.Words.{◌≡◌, ℕ, List, true, false, OnOk, Item, IsRegion, Tells, IsEncodedAt, Onward, Further, Decodes, LooksAtMost, item_of, AnswersAs, one_named, credential_type_named, transport_named};
 ghost use Rattle.passkey_webauthn.specs.declared.credential_type.PublicKeyCredentialType.{PublicKeyCredentialType as CredentialType};
 ghost use Rattle.passkey_webauthn.specs.declared.transport.AuthenticatorTransport.{AuthenticatorTransport as Transport};
+ghost use Rattle.passkey_kinds.specs.Kind as kind;
 
 use crate::from_cbor::FromCbor;
 use crate::refusal::Refusal;

@@ -1,6 +1,5 @@
 //! Credential parameters, decoded from data items and encoded.
-ghost use Rattle.passkey_kinds.specs.Parameters.{parameters_fields};
-ghost use Rattle.passkey_kinds.specs.Trees.{parameters_places};
+ghost use Rattle.passkey_kinds.specs.Words.{parameters_fields, parameters_places};
 ghost use Rattle.passkey_webauthn.specs.declared.parameters.PublicKeyCredentialParameters.{PublicKeyCredentialParameters as Parameters};
 
 use crate::record::Record;

@@ -1,16 +1,6 @@
 //! Records whose members have names alone, and which keep no data item.
-ghost use Rattle.std.specs.Prelude.{◌≡◌, ◌≤◌, ℕ, suc, true, false, length, map, is_ok, OnOk};
-ghost use Rattle.passkey_cbor.specs.Depth.{depth};
-ghost use Rattle.passkey_cbor.specs.Item.{Item};
-ghost use Rattle.passkey_kinds.specs.Placed.{PlainTable, EachFits, fields_of, places_of, plain_kind, plain_tree};
-ghost use Rattle.passkey_kinds.specs.ReadBack.{IsReadBack};
-ghost use Rattle.passkey_kinds.specs.Reading.{are_small};
-ghost use Rattle.passkey_kinds.specs.Record.{table_of};
-ghost use Rattle.passkey_kinds.specs.RecordCost.{cost_at, keeps_at};
-ghost use Rattle.passkey_kinds.specs.RecordReading.{Puts};
-ghost use Rattle.passkey_kinds.specs.Rows.{entry_of};
-ghost use Rattle.passkey_kinds.specs.Sink.{AllAccepted, put_all};
-ghost use Rattle.passkey_kinds.specs.Table.{entries};
+ghost use Rattle.passkey_kinds.specs.Words.{◌≡◌, ◌≤◌, ℕ, suc, true, false, length, map, is_ok, OnOk, depth, Item, PlainTable, EachFits, fields_of, places_of, plain_tree, IsReadBack, are_small, table_of, cost_at, keeps_at, Puts, entry_of, AllAccepted, put_all, entries};
+ghost use Rattle.passkey_kinds.specs.Placed.{plain_kind};
 
 use crate::read_back::RecordReadBack;
 use crate::record::Record;

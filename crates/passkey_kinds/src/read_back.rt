@@ -1,8 +1,5 @@
 //! Encodings that are decoded to the value again.
-ghost use Rattle.std.specs.Prelude.{◌≡◌, None};
-ghost use Rattle.passkey_cbor.specs.Item.{null};
-ghost use Rattle.passkey_kinds.specs.ReadBack.{IsReadBack};
-ghost use Rattle.passkey_kinds.specs.Record.{record_kind};
+ghost use Rattle.passkey_kinds.specs.Words.{◌≡◌, None, null, IsReadBack, record_kind};
 
 use crate::from_cbor::FromCbor;
 use crate::record::Record;

@@ -1,15 +1,10 @@
 //! Records, decoded member by member.
-ghost use Rattle.std.specs.Prelude.{◌≡◌, ◌<◌, ◌≤◌, ℕ, true, false, length, map, replicate, get_or, set, is_ok, OnOk};
-ghost use Rattle.passkey_cbor.specs.Item.{Item};
-ghost use Rattle.passkey_cbor.specs.EncodedAt.{IsEncodedAt, PairsAreEncodedAt};
-ghost use Rattle.passkey_cbor.specs.View.{item_of, pair_of};
-ghost use Rattle.passkey_kinds.specs.Reader.{Onward, Further};
-ghost use Rattle.passkey_kinds.specs.Reading.{MayGrowIn, MayGrowAt, Reads, are_small, first_unmarked, named_as};
-ghost use Rattle.passkey_kinds.specs.Record.{Fields, table_of, read_members, read_item, unless_missing};
-ghost use Rattle.passkey_kinds.specs.RecordCost.{nested, cost_at, keeps_at, cost_by, keeps_by};
-ghost use Rattle.passkey_kinds.specs.RecordReading.{Puts, HasRead, ReadsOne, DecodesMembers, DecodesRecord, held_as};
-ghost use Rattle.passkey_kinds.specs.Rows.{entry_of};
-ghost use Rattle.passkey_kinds.specs.Table.{Members, entries, named};
+ghost use Rattle.passkey_kinds.specs.Words.{◌≡◌, ◌<◌, ◌≤◌, ℕ, true, false, length, map, replicate, get_or, is_ok, OnOk, Item, IsEncodedAt, PairsAreEncodedAt, item_of, pair_of, Onward, Further, MayGrowIn, MayGrowAt, Reads, are_small, named_as, Fields, table_of, read_members, read_item, nested, cost_at, keeps_at, Puts, entry_of, Members, entries, named};
+ghost use Rattle.std.specs.Prelude.{set};
+ghost use Rattle.passkey_kinds.specs.Reading.{first_unmarked};
+ghost use Rattle.passkey_kinds.specs.Record.{unless_missing};
+ghost use Rattle.passkey_kinds.specs.RecordCost.{cost_by, keeps_by};
+ghost use Rattle.passkey_kinds.specs.RecordReading.{HasRead, ReadsOne, DecodesMembers, DecodesRecord, held_as};
 
 use crate::fault::Fault;
 use crate::from_cbor::FromCbor;

@@ -1,6 +1,5 @@
 //! Bounds on the nesting levels of encodings.
-ghost use Rattle.std.specs.Prelude.{ℕ, suc, ◌≤◌};
-ghost use Rattle.passkey_cbor.specs.Depth.{depth};
+ghost use Rattle.passkey_kinds.specs.Words.{ℕ, suc, ◌≤◌, depth};
 
 use crate::to_cbor::ToCbor;
 use passkey_bytes::{Bytes, List, Text};

@@ -1,11 +1,7 @@
 //! Sizes, decoded from data items. They aren't encoded here, since CBOR has no integer above 2^64 -
 //! 1.
-ghost use Rattle.std.specs.Prelude.{◌≡◌, ℕ, pos, false, option_map};
-ghost use Rattle.std.specs.Int.NonZero.{non_zero_u128_get};
-ghost use Rattle.passkey_cbor.specs.Item.{number};
-ghost use Rattle.passkey_kinds.specs.Kind.{AnswersAs};
+ghost use Rattle.passkey_kinds.specs.Words.{◌≡◌, ℕ, pos, false, option_map, non_zero_u128_get, number, AnswersAs, size};
 ghost use Rattle.passkey_kinds.specs.Size.{size as size_of};
-ghost use Rattle.passkey_kinds.specs.Typed.{size};
 
 use crate::from_cbor::FromCbor;
 use crate::head::read_unsigned;

@@ -1,14 +1,7 @@
 //! Where a record's values are decoded from.
-ghost use Rattle.std.specs.Prelude.{◌≡◌, ℕ, suc, map, option_map, is_ok, Bool, true, false};
-ghost use Rattle.passkey_cbor.specs.Item.{Item};
-ghost use Rattle.passkey_cbor.specs.EncodedAt.{IsEncodedAt};
-ghost use Rattle.passkey_cbor.specs.View.{item_of};
-ghost use Rattle.passkey_kinds.specs.Keeping.{Keeping, nothing, in_elements};
-ghost use Rattle.passkey_kinds.specs.Kind.{Answers};
-ghost use Rattle.passkey_kinds.specs.Reader.{Onward, Costs};
+ghost use Rattle.passkey_kinds.specs.Words.{◌≡◌, ℕ, suc, map, option_map, is_ok, Bool, true, false, Item, IsEncodedAt, item_of, Keeping, nothing, in_elements, Answers, Onward, Costs, accepted, or_else, tolerated};
 ghost use Rattle.passkey_kinds.specs.RecordReading.{Sets};
 ghost use Rattle.passkey_kinds.specs.SourceLaws.{costs_nothing, onward_same};
-ghost use Rattle.passkey_kinds.specs.Typed.{accepted, or_else, tolerated};
 
 use crate::from_cbor::FromCbor;
 use crate::list::TolerantList;

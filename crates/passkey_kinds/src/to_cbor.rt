@@ -1,14 +1,6 @@
 //! Values that are encoded as data items.
-ghost use Rattle.std.specs.Prelude.{◌≡◌, ◌<◌, ◌^◌, ◌++◌, pos, IfOk, OnOk};
-ghost use Rattle.passkey_cbor.specs.Encoder.{encoding};
-ghost use Rattle.passkey_cbor.specs.Item.{Item, boolean, byte_string, text_string};
-ghost use Rattle.passkey_cbor.specs.View.{item_of};
-ghost use Rattle.passkey_cbor.specs.Writable.{IsWritable};
-ghost use Rattle.passkey_cbor.specs.Written.{written};
-ghost use Rattle.passkey_core.specs.DataNormal.{IfPresent};
-ghost use Rattle.passkey_kinds.specs.ReadBack.{Any};
-ghost use Rattle.passkey_kinds.specs.Tree.{number_tree, option_tree};
-ghost use Rattle.passkey_kinds.specs.Trees.{credential_type_tree, transport_tree};
+ghost use Rattle.passkey_kinds.specs.Words.{◌≡◌, ◌<◌, ◌^◌, ◌++◌, pos, IfOk, OnOk, encoding, Item, boolean, byte_string, text_string, item_of, IsWritable, written, IfPresent, Any, number_tree, option_tree, transport_tree};
+ghost use Rattle.passkey_kinds.specs.Trees.{credential_type_tree};
 
 use passkey_bytes::{Bytes, Text};
 use passkey_cbor::{Encoder, Integer, Value};

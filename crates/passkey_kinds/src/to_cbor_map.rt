@@ -1,8 +1,5 @@
 //! Records that are encoded as maps.
-ghost use Rattle.std.specs.Prelude.{◌≡◌, List, OnOk};
-ghost use Rattle.passkey_kinds.specs.ReadBack.{Any};
-ghost use Rattle.passkey_kinds.specs.Sink.{AllAccepted, put_all};
-ghost use Rattle.passkey_kinds.specs.Tree.{Place, record_tree};
+ghost use Rattle.passkey_kinds.specs.Words.{◌≡◌, List, OnOk, Any, AllAccepted, put_all, Place, record_tree};
 
 use crate::sink::{Counted, Sink};
 use crate::to_cbor::ToCbor;

@@ -1,6 +1,5 @@
 //! Values that become `None` if they can't be decoded.
-ghost use Rattle.std.specs.Prelude.{suc, Option, option_map};
-ghost use Rattle.passkey_kinds.specs.Typed.{tolerated};
+ghost use Rattle.passkey_kinds.specs.Words.{suc, Option, option_map, tolerated};
 
 use crate::from_cbor::FromCbor;
 use crate::refusal::Refusal;

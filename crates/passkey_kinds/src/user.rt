@@ -1,6 +1,5 @@
 //! Users, decoded from data items and encoded.
-ghost use Rattle.passkey_kinds.specs.Trees.{webauthn_user_places};
-ghost use Rattle.passkey_kinds.specs.User.{user_fields};
+ghost use Rattle.passkey_kinds.specs.Words.{webauthn_user_places, user_fields};
 ghost use Rattle.passkey_webauthn.specs.declared.user.PublicKeyCredentialUserEntity.{PublicKeyCredentialUserEntity as UserEntity};
 
 use crate::record::Record;

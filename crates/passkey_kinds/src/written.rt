@@ -1,14 +1,6 @@
 //! Lists and maps to encode.
-ghost use Rattle.std.specs.Prelude.{◌≡◌, ◌++◌, [], map, IfOk, OnOk};
-ghost use Rattle.std.specs.List.{All};
-ghost use Rattle.passkey_cbor.specs.Encoder.{encoding};
-ghost use Rattle.passkey_cbor.specs.View.{item_of};
-ghost use Rattle.passkey_cbor.specs.Writable.{IsWritable};
-ghost use Rattle.passkey_cbor.specs.Written.{written};
+ghost use Rattle.passkey_kinds.specs.Words.{◌≡◌, ◌++◌, [], map, IfOk, OnOk, All, encoding, item_of, IsWritable, written, Members, list_tree, map_tree, members_of};
 ghost use Rattle.passkey_kinds.specs.Sink.{append_member};
-ghost use Rattle.passkey_kinds.specs.Table.{Members};
-ghost use Rattle.passkey_kinds.specs.Tree.{list_tree, map_tree};
-ghost use Rattle.passkey_kinds.specs.Written.{members_of};
 
 use crate::sink::Sink;
 use crate::to_cbor::ToCbor;

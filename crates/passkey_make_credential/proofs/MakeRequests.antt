@@ -1,5 +1,5 @@
 -- authenticatorMakeCredential requests: decoding their encodings again, and their nesting levels.
-use Rattle.passkey_kinds.proofs.Steps.{rules, ◌≡◌, ◌∙◌, ℕ, ◌<◌, ◌≤◌, nat_le, arith, le-leb, true, Option, Some, Ok, refl, ap, depth, Item, optional, ReadIsCoherent, number_tree, OnlyDeep, only_deep, deep_coherent, not_null, record_keeps, byte_back, bytes_back, anything, all_of_anything, optional_place, accepted_same, accepted_place, descriptor_back, parameters_back, user_back, few_levels, puts_value, puts_default, rows_back, ◌▸◌, no_more}
+use Rattle.passkey_kinds.proofs.Steps.{◌≡◌, ℕ, ◌<◌, ◌≤◌, nat_le, arith, le-leb, true, Option, Some, Ok, depth, Item, optional, ReadIsCoherent, number_tree, OnlyDeep, only_deep, deep_coherent, not_null, record_keeps, byte_back, bytes_back, anything, all_of_anything, optional_place, accepted_same, accepted_place, descriptor_back, parameters_back, user_back, few_levels, puts_value, puts_default, rows_back, no_more}
 use Rattle.passkey_make_credential.specs.MakeRequest.{MakeRequestParts, make_request_fields, read_make_request, make_request_places, make_request_tree, MakeRequestFits, is_make_request_coherent, normal_make_request}
 use Rattle.passkey_extensions.specs.ExtensionTrees.{hmac_input_tree, make_extensions_tree}
 use Rattle.passkey_extensions.specs.MakeExtensions.{MakeExtensionsParts, make_extensions}

@@ -1,9 +1,8 @@
 -- authenticatorMakeCredential responses: decoding their encodings again, and their nesting levels.
-use Rattle.passkey_kinds.proofs.Steps.{codes, rules, ◌≡◌, ℕ, ◌<◌, ◌≤◌, ◌-◌, ◌^◌, min, nat_lt, nat_le, arith, ltb-true, le-leb, true, [], ◌∷◌, Some, Ok, refl, and_from, depth, Item, max_depth, WrittenIsLeadingItem, is_coherent, GivenIsCoherent, ReadIsGiven, WrittenDataAreReadBack, authenticator_data, kept, ReadIsCoherent, same_tests, auth_data_back, auth_data_coherent, kept_below, record_keeps, truth_back, text_back, bytes_back, kept_back, anything, optional_place, few_levels, record_within, puts_value, puts_default, picked, picked_back, rows_back, ◌▸◌, no_more}
-use Rattle.std.proofs.Common.{lt-ltb, leb-true}
+use Rattle.passkey_kinds.proofs.Steps.{◌≡◌, ℕ, ◌<◌, ◌≤◌, ◌-◌, ◌^◌, min, nat_lt, nat_le, arith, le-leb, true, Some, Ok, refl, and_from, depth, Item, max_depth, WrittenIsLeadingItem, is_coherent, GivenIsCoherent, ReadIsGiven, WrittenDataAreReadBack, authenticator_data, kept, ReadIsCoherent, auth_data_back, auth_data_coherent, kept_below, record_keeps, truth_back, text_back, bytes_back, kept_back, anything, optional_place, few_levels, record_within, puts_value, puts_default, picked, picked_back, rows_back, ◌▸◌, no_more}
 use Rattle.passkey_core.specs.DataNormal.{IsData, normal_data}
 use Rattle.passkey_core.specs.DataParts.{DataParts}
-use Rattle.passkey_make_credential.specs.MakeResponse.{MakeResponseParts, make_response_fields, read_make_response, make_response_places, make_response_tree, MakeResponseFits, is_make_response_coherent, normal_make_response, no_statement, attestation_places, attestation_tree, unattested}
+use Rattle.passkey_make_credential.specs.MakeResponse.{MakeResponseParts, make_response_fields, read_make_response, make_response_places, make_response_tree, MakeResponseFits, is_make_response_coherent, normal_make_response, attestation_places, attestation_tree, unattested}
 use Rattle.passkey_kinds.specs.MessageLaws.{WrittenIsReadBack}
 use Rattle.passkey_extensions.proofs.Prf.{made_unsigned_law}
 use Rattle.passkey_make_credential.proofs.MakePlaces.{make_response_each}

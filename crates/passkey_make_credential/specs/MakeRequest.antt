@@ -1,30 +1,13 @@
 -- authenticatorMakeCredential requests (CTAP 2.1, section 6.1).
-use Rattle.std.specs.Prelude.{ℕ, nat_le, Bool, true, List, [], ◌∷◌, Option, None, codes, Result, option_map}
-use Rattle.passkey_cbor.specs.Depth.{depth}
-use Rattle.passkey_cbor.specs.LeadingItem.{max_depth}
-use Rattle.passkey_cbor.specs.Item.{Item, byte_string}
-use Rattle.passkey_core.specs.DataNormal.{IfPresent}
-use Rattle.passkey_kinds.specs.Descriptor.{descriptor_fields}
+use Rattle.passkey_kinds.specs.Words.{ℕ, nat_le, Bool, true, List, [], ◌∷◌, Option, None, codes, Result, option_map, depth, max_depth, Item, byte_string, IfPresent, descriptor_fields, fields_of, plain_tree, Fields, required, default, table_of, read_item, nested, Table, below, optional, bytes, accepted, tolerated, parameters_fields, IsByte, Place, number_tree, list_tree, always, where_some, record_tree, descriptor_tree, parameters_tree, user_fields, PublicKeyCredentialDescriptor, PublicKeyCredentialParameters, PublicKeyCredentialUserEntity}
+use Rattle.passkey_kinds.specs.declared.fault.Fault.{Fault}
 use Rattle.passkey_extensions.specs.ExtensionTrees.{make_extensions_tree, MakeExtensionsFit, make_extensions_kept}
-use Rattle.passkey_kinds.specs.Placed.{fields_of, plain_tree}
-use Rattle.passkey_kinds.specs.Record.{Fields, required, default, table_of, read_item}
-use Rattle.passkey_kinds.specs.RecordCost.{nested}
-use Rattle.passkey_kinds.specs.Table.{Table}
-use Rattle.passkey_kinds.specs.Typed.{below, optional, bytes, accepted, tolerated}
 use Rattle.passkey_extensions.specs.MakeExtensions.{MakeExtensionsParts, make_extensions_fields, make_extensions_parts}
 use Rattle.passkey_make_credential.specs.MakeOptions.{options, options_default, normal_options}
 use Rattle.passkey_entities.specs.Rp.{rp}
-use Rattle.passkey_kinds.specs.Parameters.{parameters_fields}
-use Rattle.passkey_kinds.specs.ReadBack.{IsByte}
-use Rattle.passkey_kinds.specs.Tree.{Place, number_tree, list_tree, always, where_some, record_tree}
-use Rattle.passkey_kinds.specs.Trees.{descriptor_tree, parameters_tree, webauthn_user_tree}
-use Rattle.passkey_kinds.specs.User.{user_fields}
-use Rattle.passkey_kinds.specs.declared.fault.Fault.{Fault}
+use Rattle.passkey_kinds.specs.Trees.{webauthn_user_tree}
 use Rattle.passkey_make_credential.specs.declared.options.Options.{Options}
 use Rattle.passkey_entities.specs.declared.rp.PublicKeyCredentialRpEntity.{PublicKeyCredentialRpEntity}
-use Rattle.passkey_webauthn.specs.declared.descriptor.PublicKeyCredentialDescriptor.{PublicKeyCredentialDescriptor}
-use Rattle.passkey_webauthn.specs.declared.parameters.PublicKeyCredentialParameters.{PublicKeyCredentialParameters}
-use Rattle.passkey_webauthn.specs.declared.user.PublicKeyCredentialUserEntity.{PublicKeyCredentialUserEntity}
 use Rattle.passkey_make_credential.specs.declared.request.Request.{Request}
 
 -- what contracts see of a request

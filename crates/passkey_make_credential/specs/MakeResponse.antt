@@ -1,24 +1,10 @@
 -- authenticatorMakeCredential responses (CTAP 2.1, section 6.1).
-use Rattle.std.specs.Prelude.{ℕ, nat_le, Bool, true, ◌&&◌, List, [], ◌∷◌, Option, None, codes, Result, replicate}
-use Rattle.passkey_cbor.specs.Depth.{depth}
-use Rattle.passkey_cbor.specs.LeadingItem.{max_depth}
-use Rattle.passkey_cbor.specs.Item.{Item, boolean, byte_string, text_string, map, no_pairs, null}
-use Rattle.passkey_core.specs.Coherent.{is_coherent}
-use Rattle.passkey_core.specs.DataNormal.{IsData, IfPresent, normal_data}
-use Rattle.passkey_core.specs.DataParts.{DataParts, bare_data}
-use Rattle.passkey_kinds.specs.Data.{auth_data_tree}
-use Rattle.passkey_extensions.specs.Prf.{prf_made, unsigned}
-use Rattle.passkey_kinds.specs.Placed.{EachFits, fields_of, plain_tree}
-use Rattle.passkey_kinds.specs.Record.{Fields, required, default, table_of, read_item}
-use Rattle.passkey_kinds.specs.RecordCost.{nested}
-use Rattle.passkey_kinds.specs.Table.{Table}
-use Rattle.passkey_kinds.specs.Typed.{bytes, kept, optional, text, truth, authenticator_data}
-use Rattle.passkey_kinds.specs.Tree.{Place, number_tree, always, where_some, record_tree}
+use Rattle.passkey_kinds.specs.Words.{ℕ, nat_le, Bool, true, ◌&&◌, List, [], ◌∷◌, Option, None, codes, Result, replicate, depth, max_depth, Item, boolean, byte_string, text_string, null, is_coherent, IsData, IfPresent, normal_data, DataParts, bare_data, auth_data_tree, EachFits, fields_of, plain_tree, Fields, required, default, table_of, read_item, nested, Table, bytes, kept, optional, text, truth, authenticator_data, Place, number_tree, always, where_some, record_tree, item_of, data_parts}
 use Rattle.passkey_kinds.specs.declared.fault.Fault.{Fault}
+use Rattle.passkey_cbor.specs.Item.{map, no_pairs}
+use Rattle.passkey_extensions.specs.Prf.{prf_made, unsigned}
 use Rattle.passkey_extensions.specs.declared.prf_make_outputs.AuthenticatorPrfMakeOutputs.{AuthenticatorPrfMakeOutputs}
 use Rattle.passkey_extensions.specs.declared.unsigned.UnsignedExtensionOutputs.{UnsignedExtensionOutputs}
-use Rattle.passkey_cbor.specs.View.{item_of}
-use Rattle.passkey_core.specs.DataViews.{data_parts}
 use Rattle.passkey_make_credential.specs.declared.response.Response.{Response}
 
 -- what contracts see of a response

@@ -1,4 +1,4 @@
-use Rattle.passkey_kinds.proofs.Steps.{◌≡◌, true, Option, Some, None, option_map, refl, ap, ByteMap, map_values, fields_of, map_values_same, sets_put}
+use Rattle.passkey_kinds.proofs.Steps.{◌≡◌, Option, Some, None, option_map, refl, ap, ByteMap, map_values, fields_of, map_values_same, sets_put}
 use Rattle.passkey_extensions.specs.Prf.{prf_inputs, prf_values}
 use Rattle.passkey_extensions.specs.declared.prf_inputs.AuthenticatorPrfInputs.{AuthenticatorPrfInputs}
 use Rattle.passkey_extensions.specs.declared.prf_values.AuthenticatorPrfValues.{AuthenticatorPrfValues}
