@@ -2,14 +2,11 @@
 ghost use Rattle.passkey_kinds.specs.Words.{◌≡◌, ℕ, List, true, option_and_then, IsRegion, Tells, algorithm_named, algorithm_number, algorithm_tree, AnswersAs, LooksAtMost, algorithm, whole_64};
 ghost use Rattle.passkey_iana.specs.declared.algorithm.Algorithm.{Algorithm as Named};
 
-use crate::from_cbor::FromCbor;
 use crate::head::read_integer;
-use crate::refusal::Refusal;
-use crate::to_cbor::ToCbor;
+use crate::{FromCbor, OutOfMemory, Refusal, ToCbor};
 use passkey_cbor::{Cursor, Encoder, Integer, TextToken, Value};
 use passkey_cose::signed_64;
 use passkey_iana::{Algorithm, EnumI64};
-use passkey_memory::OutOfMemory;
 use passkey_webauthn::{NumberText, whole_part};
 use std::alloc::Global;
 

@@ -4,13 +4,10 @@ ghost use Rattle.passkey_kinds.specs.Collecting.{filling};
 ghost use Rattle.passkey_kinds.specs.Kind.{below};
 
 use crate::collect::{Collect, read_all};
-use crate::from_cbor::FromCbor;
 use crate::head::read_array;
-use crate::refusal::Refusal;
-use crate::to_cbor::ToCbor;
 use crate::written::{append_each, write_each};
+use crate::{FromCbor, OutOfMemory, Refusal, ToCbor};
 use passkey_cbor::{BytesToken, Cursor, Encoder, Value};
-use passkey_memory::OutOfMemory;
 use std::alloc::Global;
 
 /// Decodes the bytes from an array of integers. Returns `Refused` exactly if it doesn't have 32

@@ -4,10 +4,9 @@ ghost use Rattle.passkey_kinds.specs.Words.{◌≡◌, ◌<◌, ℕ, List, lengt
 ghost use Rattle.std.specs.Prelude.{⊤};
 ghost use Rattle.passkey_kinds.specs.Kind.{below};
 
-use crate::from_cbor::FromCbor;
 use crate::head::read_array;
 use crate::list::{read_each, read_elements};
-use crate::refusal::Refusal;
+use crate::{FromCbor, Refusal};
 use passkey_bytes::{Bytes, BytesFault, List as Numbers};
 use passkey_cbor::{Cursor, TextToken, Value};
 use std::alloc::Global;

@@ -3,13 +3,10 @@ ghost use Rattle.passkey_kinds.specs.Words.{◌≡◌, ℕ, ◌+◌, ◌*◌, �
 ghost use Rattle.passkey_kinds.specs.Data.{CountsData, data_tree, aaguid_tree};
 
 use crate::array::filled;
-use crate::from_cbor::FromCbor;
-use crate::refusal::Refusal;
-use crate::to_cbor::ToCbor;
+use crate::{FromCbor, OutOfMemory, Refusal, ToCbor};
 use passkey_cbor::{Count, Cursor, Encoder, Value};
 use passkey_core::{Aaguid, AuthenticatorData, laws};
 use passkey_cose::CoseError;
-use passkey_memory::OutOfMemory;
 use std::alloc::Global;
 
 /// Decodes the content of a byte string as authenticator data, and adds the cost to `count`.

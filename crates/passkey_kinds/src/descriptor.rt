@@ -2,14 +2,10 @@
 ghost use Rattle.passkey_kinds.specs.Words.{descriptor_fields, descriptor_places};
 ghost use Rattle.passkey_webauthn.specs.declared.descriptor.PublicKeyCredentialDescriptor.{PublicKeyCredentialDescriptor as Descriptor};
 
-use crate::record::Record;
-use crate::refusal::Refusal;
-use crate::rows::Row;
-use crate::sink::Sink;
-use crate::source::{Source, set, set_accepted_or_none, set_or};
-use crate::to_cbor_map::ToCborMap;
+use crate::{
+    OutOfMemory, Record, Refusal, Row, Sink, Source, ToCborMap, set, set_accepted_or_none, set_or,
+};
 use passkey_bytes::Bytes;
-use passkey_memory::OutOfMemory;
 use passkey_webauthn::{PublicKeyCredentialDescriptor, PublicKeyCredentialType};
 use std::alloc::Global;
 

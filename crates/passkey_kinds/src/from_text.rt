@@ -2,9 +2,8 @@
 ghost use Rattle.passkey_kinds.specs.Words.{◌≡◌, ℕ, List, true, IfOk, OnOk, Item, IsRegion, Tells, IsEncodedAt, nothing, Onward, Further, ReadsAs, LooksAtMost, growing};
 ghost use Rattle.passkey_kinds.specs.Kind.{one_named};
 
-use crate::refusal::Refusal;
+use crate::{OutOfMemory, Refusal};
 use passkey_cbor::{Cursor, TextToken};
-use passkey_memory::OutOfMemory;
 use std::alloc::Global;
 
 /// A type with a value for each text, such as names of which unknown ones are kept.

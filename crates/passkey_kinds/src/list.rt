@@ -4,10 +4,8 @@ ghost use Rattle.std.specs.Prelude.{List as Items};
 ghost use Rattle.passkey_kinds.specs.Collecting.{pushing, pushing_if};
 
 use crate::collect::{Collect, read_all};
-use crate::from_cbor::FromCbor;
 use crate::head::read_array;
-use crate::refusal::Refusal;
-use crate::tolerated::Tolerated;
+use crate::{FromCbor, Refusal, Tolerated};
 use passkey_bytes::List;
 use passkey_cbor::{Cursor, Value};
 use std::alloc::Global;

@@ -8,13 +8,10 @@ ghost use Rattle.passkey_kinds.specs.Typed.{map_from_bytes};
 ghost use Rattle.std.specs.FinMap as fin;
 
 use crate::collect::{Collect, read_all};
-use crate::from_cbor::FromCbor;
 use crate::head::read_map;
-use crate::refusal::Refusal;
-use crate::to_cbor::ToCbor;
+use crate::{FromCbor, OutOfMemory, Refusal, ToCbor};
 use passkey_bytes::{Bytes, Map};
 use passkey_cbor::{Cursor, Value};
-use passkey_memory::OutOfMemory;
 use std::alloc::{AllocError, Global};
 
 fn read_entries<T: FromCbor>(

@@ -3,10 +3,8 @@ ghost use Rattle.passkey_kinds.specs.Words.{◌≡◌, suc, Bool, true, IfOk, If
 ghost use Rattle.passkey_kinds.specs.declared.fault.Fault.TheVariants.{OutOfMemory as NoRoom};
 ghost use Rattle.passkey_kinds.specs.declared.write_fault.WriteFault.TheVariants.{OutOfMemory as NoMemory};
 
-use crate::fault::Fault;
-use crate::record::{Record, read_record};
-use crate::to_cbor::ToCbor;
-use crate::write_fault::WriteFault;
+use crate::record::read_record;
+use crate::{Fault, Record, ToCbor, WriteFault};
 use passkey_cbor::{Cursor, Encoder, Value};
 use std::alloc::Global;
 

@@ -4,8 +4,7 @@ ghost use Rattle.passkey_webauthn.specs.declared.credential_type.PublicKeyCreden
 ghost use Rattle.passkey_webauthn.specs.declared.transport.AuthenticatorTransport.{AuthenticatorTransport as Transport};
 ghost use Rattle.passkey_kinds.specs.Kind as kind;
 
-use crate::from_cbor::FromCbor;
-use crate::refusal::Refusal;
+use crate::{FromCbor, Refusal};
 use passkey_cbor::{Cursor, TextToken, Value};
 use passkey_webauthn::{AuthenticatorTransport, EnumNames, NameTable, PublicKeyCredentialType};
 use std::alloc::Global;

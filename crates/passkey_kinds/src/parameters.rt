@@ -2,14 +2,8 @@
 ghost use Rattle.passkey_kinds.specs.Words.{parameters_fields, parameters_places};
 ghost use Rattle.passkey_webauthn.specs.declared.parameters.PublicKeyCredentialParameters.{PublicKeyCredentialParameters as Parameters};
 
-use crate::record::Record;
-use crate::refusal::Refusal;
-use crate::rows::Row;
-use crate::sink::Sink;
-use crate::source::{Source, set, set_or};
-use crate::to_cbor_map::ToCborMap;
+use crate::{OutOfMemory, Record, Refusal, Row, Sink, Source, ToCborMap, set, set_or};
 use passkey_iana::Algorithm;
-use passkey_memory::OutOfMemory;
 use passkey_webauthn::{PublicKeyCredentialParameters, PublicKeyCredentialType};
 use std::alloc::Global;
 

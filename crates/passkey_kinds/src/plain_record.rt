@@ -2,15 +2,7 @@
 ghost use Rattle.passkey_kinds.specs.Words.{◌≡◌, ◌≤◌, ℕ, suc, true, false, length, map, is_ok, OnOk, depth, Item, PlainTable, EachFits, fields_of, places_of, plain_tree, IsReadBack, are_small, table_of, cost_at, keeps_at, Puts, entry_of, AllAccepted, put_all, entries};
 ghost use Rattle.passkey_kinds.specs.Placed.{plain_kind};
 
-use crate::read_back::RecordReadBack;
-use crate::record::Record;
-use crate::refusal::Refusal;
-use crate::rows::Row;
-use crate::shallow::Shallow;
-use crate::sink::Sink;
-use crate::source::Source;
-use crate::to_cbor_map::ToCborMap;
-use passkey_memory::OutOfMemory;
+use crate::{OutOfMemory, Record, RecordReadBack, Refusal, Row, Shallow, Sink, Source, ToCborMap};
 use std::alloc::Global;
 
 /// A record whose members have names alone, and which keeps no data item. One table says how it is

@@ -1,9 +1,7 @@
 //! Encodings that are decoded to the value again.
 ghost use Rattle.passkey_kinds.specs.Words.{◌≡◌, None, null, IsReadBack, record_kind};
 
-use crate::from_cbor::FromCbor;
-use crate::record::Record;
-use crate::to_cbor::ToCbor;
+use crate::{FromCbor, Record, ToCbor};
 use passkey_bytes::{Bytes, List, Map, Text};
 use passkey_iana::Algorithm;
 use passkey_webauthn as webauthn;

@@ -6,13 +6,10 @@ ghost use Rattle.passkey_kinds.specs.Record.{unless_missing};
 ghost use Rattle.passkey_kinds.specs.RecordCost.{cost_by, keeps_by};
 ghost use Rattle.passkey_kinds.specs.RecordReading.{HasRead, ReadsOne, DecodesMembers, DecodesRecord, held_as};
 
-use crate::fault::Fault;
-use crate::from_cbor::FromCbor;
 use crate::head::read_map;
 use crate::key::read_key;
-use crate::refusal::Refusal;
-use crate::rows::{Named, Row, row_of};
-use crate::source::{Source, Tree};
+use crate::rows::{Named, row_of};
+use crate::{Fault, FromCbor, Refusal, Row, Source, Tree};
 use passkey_cbor::{Cursor, Value};
 use std::alloc::Global;
 

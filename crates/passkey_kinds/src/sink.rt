@@ -2,9 +2,8 @@
 ghost use Rattle.passkey_kinds.specs.Words.{◌≡◌, ℕ, suc, true, List, None, Some, if◌then◌else◌, option_map, OnOk, encoding, Item, boolean, IsWritable, IfPresent};
 ghost use Rattle.passkey_kinds.specs.Sink.{MemberAccepted, count_of, encode_member, put_one};
 
-use crate::to_cbor::ToCbor;
+use crate::{OutOfMemory, ToCbor};
 use passkey_cbor::Encoder;
-use passkey_memory::OutOfMemory;
 use std::alloc::Global;
 
 /// What the members of a map are put into, one after the other.

@@ -3,9 +3,8 @@
 ghost use Rattle.passkey_kinds.specs.Words.{◌≡◌, ℕ, pos, false, option_map, non_zero_u128_get, number, AnswersAs, size};
 ghost use Rattle.passkey_kinds.specs.Size.{size as size_of};
 
-use crate::from_cbor::FromCbor;
 use crate::head::read_unsigned;
-use crate::refusal::Refusal;
+use crate::{FromCbor, Refusal};
 use passkey_cbor::{Cursor, Integer, Value};
 use std::alloc::Global;
 use std::num::NonZeroU128;

@@ -3,10 +3,7 @@ ghost use Rattle.passkey_kinds.specs.Words.{◌≡◌, ℕ, suc, map, option_map
 ghost use Rattle.passkey_kinds.specs.RecordReading.{Sets};
 ghost use Rattle.passkey_kinds.specs.SourceLaws.{costs_nothing, onward_same};
 
-use crate::from_cbor::FromCbor;
-use crate::list::TolerantList;
-use crate::refusal::Refusal;
-use crate::tolerated::Tolerated;
+use crate::{FromCbor, Refusal, TolerantList, Tolerated};
 use passkey_bytes::List;
 use passkey_cbor::{Cursor, Value};
 use std::alloc::Global;

@@ -1,11 +1,9 @@
 //! Records that are encoded as maps.
 ghost use Rattle.passkey_kinds.specs.Words.{◌≡◌, List, OnOk, Any, AllAccepted, put_all, Place, record_tree};
 
-use crate::sink::{Counted, Sink};
-use crate::to_cbor::ToCbor;
-use crate::written::Written;
+use crate::sink::Counted;
+use crate::{OutOfMemory, Sink, ToCbor, Written};
 use passkey_cbor::{Encoder, Value};
-use passkey_memory::OutOfMemory;
 use std::alloc::Global;
 
 /// A record that is encoded as a map.

@@ -1,8 +1,7 @@
 //! Values that become `None` if they can't be decoded.
 ghost use Rattle.passkey_kinds.specs.Words.{suc, Option, option_map, tolerated};
 
-use crate::from_cbor::FromCbor;
-use crate::refusal::Refusal;
+use crate::{FromCbor, Refusal};
 use passkey_cbor::{Cursor, Value};
 use std::alloc::Global;
 

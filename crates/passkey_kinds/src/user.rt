@@ -2,14 +2,8 @@
 ghost use Rattle.passkey_kinds.specs.Words.{webauthn_user_places, user_fields};
 ghost use Rattle.passkey_webauthn.specs.declared.user.PublicKeyCredentialUserEntity.{PublicKeyCredentialUserEntity as UserEntity};
 
-use crate::record::Record;
-use crate::refusal::Refusal;
-use crate::rows::Row;
-use crate::sink::Sink;
-use crate::source::{Source, set};
-use crate::to_cbor_map::ToCborMap;
+use crate::{OutOfMemory, Record, Refusal, Row, Sink, Source, ToCborMap, set};
 use passkey_bytes::{Bytes, Text};
-use passkey_memory::OutOfMemory;
 use passkey_webauthn::PublicKeyCredentialUserEntity;
 use std::alloc::Global;
 

@@ -2,11 +2,9 @@
 ghost use Rattle.passkey_kinds.specs.Words.{◌≡◌, ◌++◌, [], map, IfOk, OnOk, All, encoding, item_of, IsWritable, written, Members, list_tree, map_tree, members_of};
 ghost use Rattle.passkey_kinds.specs.Sink.{append_member};
 
-use crate::sink::Sink;
-use crate::to_cbor::ToCbor;
+use crate::{OutOfMemory, Sink, ToCbor};
 use passkey_bytes::List;
 use passkey_cbor::{Encoder, Value};
-use passkey_memory::OutOfMemory;
 use std::alloc::Global;
 
 pub(crate) fn write_each<T: ToCbor>(alloc: Global, list: &[T]) -> Result<Vec<Value>, OutOfMemory>

@@ -4,15 +4,9 @@ ghost use Rattle.passkey_core.specs.declared.make_credential.SignedExtensionOutp
 ghost use Rattle.passkey_kinds.specs.MakeSigned.{signed_fields};
 ghost use Rattle.passkey_core.specs.SignedOutputs.{creation_item};
 
-use crate::read_back::RecordReadBack;
-use crate::record::Record;
-use crate::refusal::Refusal;
-use crate::rows::Row;
-use crate::source::{Source, set};
-use crate::to_cbor::ToCbor;
+use crate::{OutOfMemory, Record, RecordReadBack, Refusal, Row, Source, ToCbor, set};
 use passkey_cbor::Value;
 use passkey_core::make_credential::SignedExtensionOutputs;
-use passkey_memory::OutOfMemory;
 use std::alloc::Global;
 
 impl Record for SignedExtensionOutputs {
