@@ -1,5 +1,6 @@
 -- Users in CTAP2's messages (CTAP 2.1, section 6.1).
-use Rattle.passkey_kinds.specs.Words.{[], ◌∷◌, None, codes, PlainTable, required_as, optional_as}
+use Rattle.std.specs.Prelude.{[], ◌∷◌, None, codes}
+use Rattle.passkey_kinds.specs.Words.{PlainTable, required_as, optional_as}
 use Rattle.passkey_kinds.specs.Coded.{bytes, text}
 use Rattle.passkey_entities.specs.declared.user.PublicKeyCredentialUserEntity.{PublicKeyCredentialUserEntity}
 

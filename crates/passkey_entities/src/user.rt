@@ -1,5 +1,7 @@
 //! Users in CTAP2's messages.
-ghost use Rattle.passkey_kinds.specs.Words.{◌≡◌, ◌<◌, ◌⊎◌, length, IfOk, OnErr, None, IfErr, codes, result_ok, IsSomeAnd};
+ghost use Rattle.std.specs.Prelude.{◌≡◌, ◌<◌, ◌⊎◌, length, IfOk, OnErr, None, IfErr, codes};
+ghost use Rattle.std.specs.Result.{result_ok};
+ghost use Rattle.std.specs.Option.{IsSomeAnd};
 ghost use Rattle.passkey_entities.specs.User.{user};
 ghost use Rattle.passkey_entities.specs.Entities.{user_of_webauthn, webauthn_of_user};
 

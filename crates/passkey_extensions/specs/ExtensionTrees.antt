@@ -1,6 +1,7 @@
 -- The data items that the extensions' records are encoded as (CTAP 2.1, section 12.5; WebAuthn
 -- Level 3, section 10.1.4).
-use Rattle.passkey_kinds.specs.Words.{nat_le, Bool, List, [], ◌∷◌, Option, Some, None, codes, depth, max_depth, Item, boolean, byte_string, text_string, IfPresent, EachFits, plain_tree, IsByte, Place, number_tree, always, where_some, record_tree}
+use Rattle.std.specs.Prelude.{nat_le, Bool, List, [], ◌∷◌, Option, Some, None, codes}
+use Rattle.passkey_kinds.specs.Words.{depth, max_depth, Item, boolean, byte_string, text_string, IfPresent, EachFits, plain_tree, IsByte, Place, number_tree, always, where_some, record_tree}
 use Rattle.passkey_extensions.specs.GetExtensions.{GetExtensionsParts}
 use Rattle.passkey_extensions.specs.HmacInput.{HmacInputParts}
 use Rattle.passkey_extensions.specs.MakeExtensions.{MakeExtensionsParts}

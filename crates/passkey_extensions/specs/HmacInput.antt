@@ -1,5 +1,6 @@
 -- Inputs of the extension hmac-secret (CTAP 2.1, section 12.5).
-use Rattle.passkey_kinds.specs.Words.{ℕ, List, [], ◌∷◌, Option, None, codes, true, Result, Item, null, Kind, Fields, required, default, table_of, read_item, record_kind, Table, below, bytes, kept, optional, item_of}
+use Rattle.std.specs.Prelude.{ℕ, List, [], ◌∷◌, Option, None, codes, true, Result}
+use Rattle.passkey_kinds.specs.Words.{Item, null, Kind, Fields, required, default, table_of, read_item, record_kind, Table, below, bytes, kept, optional, item_of}
 use Rattle.passkey_kinds.specs.declared.fault.Fault.{Fault}
 use Rattle.passkey_extensions.specs.declared.hmac_secret.HmacGetSecretInput.{HmacGetSecretInput}
 

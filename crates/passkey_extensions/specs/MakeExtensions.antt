@@ -1,5 +1,6 @@
 -- Extension inputs of authenticatorMakeCredential requests (CTAP 2.1, section 6.1).
-use Rattle.passkey_kinds.specs.Words.{[], ◌∷◌, Bool, Option, None, codes, false, ◌||◌, is_some, option_map, Kind, Fields, default, record_kind, nested, optional, truth, fields_of}
+use Rattle.std.specs.Prelude.{[], ◌∷◌, Bool, Option, None, codes, false, ◌||◌, is_some, option_map}
+use Rattle.passkey_kinds.specs.Words.{Kind, Fields, default, record_kind, nested, optional, truth, fields_of}
 use Rattle.passkey_extensions.specs.HmacInput.{HmacInputParts, hmac_input_fields, hmac_input_parts}
 use Rattle.passkey_extensions.specs.Prf.{prf_inputs}
 use Rattle.passkey_extensions.specs.declared.prf_inputs.AuthenticatorPrfInputs.{AuthenticatorPrfInputs}

@@ -1,5 +1,6 @@
 -- Inputs and outputs of the extension prf (WebAuthn Level 3, sections 9 and 10.1.4).
-use Rattle.passkey_kinds.specs.Words.{[], ◌∷◌, None, codes, false, replicate, option_map, PlainTable, required_as, default_as, optional_as}
+use Rattle.std.specs.Prelude.{[], ◌∷◌, None, codes, false, replicate, option_map}
+use Rattle.passkey_kinds.specs.Words.{PlainTable, required_as, default_as, optional_as}
 use Rattle.passkey_extensions.specs.declared.prf_get_outputs.AuthenticatorPrfGetOutputs.{AuthenticatorPrfGetOutputs}
 use Rattle.passkey_extensions.specs.declared.prf_inputs.AuthenticatorPrfInputs.{AuthenticatorPrfInputs}
 use Rattle.passkey_extensions.specs.declared.prf_make_outputs.AuthenticatorPrfMakeOutputs.{AuthenticatorPrfMakeOutputs}

@@ -1,5 +1,6 @@
 //! Inputs of the extension prf.
-ghost use Rattle.passkey_kinds.specs.Words.{◌≡◌, IfOk, OnErr, IsSomeAnd};
+ghost use Rattle.std.specs.Prelude.{◌≡◌, IfOk, OnErr};
+ghost use Rattle.std.specs.Option.{IsSomeAnd};
 ghost use Rattle.passkey_extensions.specs.Prf.{prf_inputs};
 ghost use Rattle.std.specs.FinMap as fin;
 

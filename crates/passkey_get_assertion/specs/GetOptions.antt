@@ -1,5 +1,6 @@
 -- Options of authenticatorGetAssertion requests (CTAP 2.1, section 6.2).
-use Rattle.passkey_kinds.specs.Words.{[], ◌∷◌, true, false, codes, PlainTable, default_as}
+use Rattle.std.specs.Prelude.{[], ◌∷◌, true, false, codes}
+use Rattle.passkey_kinds.specs.Words.{PlainTable, default_as}
 use Rattle.passkey_get_assertion.specs.declared.options.Options.{Options}
 use Rattle.passkey_kinds.specs.Coded.{truth}
 

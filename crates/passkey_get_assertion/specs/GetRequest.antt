@@ -1,5 +1,6 @@
 -- authenticatorGetAssertion requests (CTAP 2.1, section 6.2).
-use Rattle.passkey_kinds.specs.Words.{ℕ, nat_le, Bool, true, List, [], ◌∷◌, Option, None, codes, Result, option_map, depth, max_depth, Item, byte_string, text_string, IfPresent, descriptor_fields, fields_of, plain_tree, Fields, required, default, table_of, read_item, nested, Table, below, optional, bytes, text, accepted, tolerated, IsByte, Place, number_tree, list_tree, always, where_some, record_tree, descriptor_tree, PublicKeyCredentialDescriptor}
+use Rattle.std.specs.Prelude.{ℕ, nat_le, Bool, true, List, [], ◌∷◌, Option, None, codes, Result, option_map}
+use Rattle.passkey_kinds.specs.Words.{depth, max_depth, Item, byte_string, text_string, IfPresent, descriptor_fields, fields_of, plain_tree, Fields, required, default, table_of, read_item, nested, Table, below, optional, bytes, text, accepted, tolerated, IsByte, Place, number_tree, list_tree, always, where_some, record_tree, descriptor_tree, PublicKeyCredentialDescriptor}
 use Rattle.passkey_kinds.specs.declared.fault.Fault.{Fault}
 use Rattle.passkey_get_assertion.specs.GetOptions.{options, options_default}
 use Rattle.passkey_get_assertion.specs.declared.options.Options.{Options}

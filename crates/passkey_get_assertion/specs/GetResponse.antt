@@ -1,5 +1,6 @@
 -- authenticatorGetAssertion responses (CTAP 2.1, section 6.2).
-use Rattle.passkey_kinds.specs.Words.{ℕ, nat_le, Bool, true, ◌&&◌, List, [], ◌∷◌, Option, None, codes, Result, replicate, depth, max_depth, Item, boolean, byte_string, is_coherent, IsData, IfPresent, normal_data, DataParts, bare_data, auth_data_tree, descriptor_fields, EachFits, fields_of, plain_tree, Fields, required, default, table_of, read_item, nested, Table, below, bytes, optional, truth, authenticator_data, IsByte, Place, number_tree, always, where_some, record_tree, descriptor_tree, PublicKeyCredentialDescriptor, data_parts}
+use Rattle.std.specs.Prelude.{ℕ, nat_le, Bool, true, ◌&&◌, List, [], ◌∷◌, Option, None, codes, Result, replicate}
+use Rattle.passkey_kinds.specs.Words.{depth, max_depth, Item, boolean, byte_string, is_coherent, IsData, IfPresent, normal_data, DataParts, bare_data, auth_data_tree, descriptor_fields, EachFits, fields_of, plain_tree, Fields, required, default, table_of, read_item, nested, Table, below, bytes, optional, truth, authenticator_data, IsByte, Place, number_tree, always, where_some, record_tree, descriptor_tree, PublicKeyCredentialDescriptor, data_parts}
 use Rattle.passkey_kinds.specs.declared.fault.Fault.{Fault}
 use Rattle.passkey_entities.specs.User.{user}
 use Rattle.passkey_entities.specs.declared.user.PublicKeyCredentialUserEntity.{PublicKeyCredentialUserEntity}

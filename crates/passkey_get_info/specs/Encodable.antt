@@ -1,5 +1,6 @@
 -- A response, with its greatest message size as the data item that it is encoded as.
-use Rattle.passkey_kinds.specs.Words.{List, ◌++◌, option_map, item_of, IfPresent, places_of, Place}
+use Rattle.std.specs.Prelude.{List, ◌++◌, option_map}
+use Rattle.passkey_kinds.specs.Words.{item_of, IfPresent, places_of, Place}
 use Rattle.passkey_get_info.specs.GetInfo.{GetInfoParts, get_info_parts, GetInfoFits, IsPositive, capabilities_with, limits, states}
 use Rattle.passkey_get_info.specs.declared.response.Encodable.{Encodable}
 

@@ -1,5 +1,9 @@
 -- authenticatorGetInfo responses (CTAP 2.1, section 6.4).
-use Rattle.passkey_kinds.specs.Words.{ℕ, ◌<◌, ◌^◌, nat_lt, nat_le, Bool, true, ◌&&◌, if◌then◌else◌, List, [], ◌∷◌, ◌++◌, map, length, ◌≡◌, Option, Some, None, codes, replicate, Result, option_map, non_zero_u128_get, All, option_and_then, depth, Item, byte_string, text_string, null, max_depth, item_of, IfPresent, nothing, parameters_fields, Placed, placed, places_of, EachFits, fields_of, fields_with, plain_tree, IsByte, Fields, required, default, table_of, read_item, nested, Table, Place, number_tree, list_tree, always, where_some, record_tree, parameters_tree, transport_tree, aaguid, below, size, text, one_named, optional, kept, growing, list, accepted, tolerated, transport_named, PublicKeyCredentialParameters, AuthenticatorTransport}
+use Rattle.std.specs.Prelude.{ℕ, ◌<◌, ◌^◌, nat_lt, nat_le, Bool, true, ◌&&◌, if◌then◌else◌, List, [], ◌∷◌, ◌++◌, map, length, ◌≡◌, Option, Some, None, codes, replicate, Result, option_map}
+use Rattle.std.specs.Int.NonZero.{non_zero_u128_get}
+use Rattle.std.specs.List.{All}
+use Rattle.std.specs.Option.{option_and_then}
+use Rattle.passkey_kinds.specs.Words.{depth, Item, byte_string, text_string, null, max_depth, item_of, IfPresent, nothing, parameters_fields, Placed, placed, places_of, EachFits, fields_of, fields_with, plain_tree, IsByte, Fields, required, default, table_of, read_item, nested, Table, Place, number_tree, list_tree, always, where_some, record_tree, parameters_tree, transport_tree, aaguid, below, size, text, one_named, optional, kept, growing, list, accepted, tolerated, transport_named, PublicKeyCredentialParameters, AuthenticatorTransport}
 use Rattle.passkey_kinds.specs.declared.fault.Fault.{Fault}
 use Rattle.passkey_get_info.specs.GetInfoNames.{version, version_tree, normal_version, extension, extension_tree, normal_extension}
 use Rattle.passkey_get_info.specs.GetInfoOptions.{options}

@@ -1,5 +1,6 @@
 -- The names of versions and extensions that an authenticator supports (CTAP 2.1, section 6.4).
-use Rattle.passkey_kinds.specs.Words.{ℕ, List, [], ◌∷◌, Some, codes, unwrap_or, Item, text_string, Kind}
+use Rattle.std.specs.Prelude.{ℕ, List, [], ◌∷◌, Some, codes, unwrap_or}
+use Rattle.passkey_kinds.specs.Words.{Item, text_string, Kind}
 use Rattle.passkey_kinds.specs.Kind.{one_named}
 use Rattle.passkey_get_info.specs.declared.extension.Extension.{Extension}
 use Rattle.passkey_get_info.specs.declared.version.Version.{Version}

@@ -1,5 +1,6 @@
 -- Options of authenticatorGetInfo responses (CTAP 2.1, section 6.4).
-use Rattle.passkey_kinds.specs.Words.{ℕ, Bool, List, [], ◌∷◌, ◌++◌, Option, true, false, None, codes, Placed, PlainTable, default_as, optional_as}
+use Rattle.std.specs.Prelude.{ℕ, Bool, List, [], ◌∷◌, ◌++◌, Option, true, false, None, codes}
+use Rattle.passkey_kinds.specs.Words.{Placed, PlainTable, default_as, optional_as}
 use Rattle.passkey_kinds.specs.Coded.{truth}
 use Rattle.passkey_get_info.specs.declared.options.Options.{Options}
 

@@ -1,5 +1,6 @@
 //! Options of authenticatorGetInfo responses.
-ghost use Rattle.passkey_kinds.specs.Words.{◌≡◌, true, OnOk, places_of, AllAccepted, put_all};
+ghost use Rattle.std.specs.Prelude.{◌≡◌, true, OnOk};
+ghost use Rattle.passkey_kinds.specs.Words.{places_of, AllAccepted, put_all};
 ghost use Rattle.passkey_get_info.specs.GetInfoOptions.{first_options, last_options, options, options_default};
 
 use passkey_kinds::{PlainRecord, Refusal, Row, Sink, Source, set};

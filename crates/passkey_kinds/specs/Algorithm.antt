@@ -1,5 +1,7 @@
 -- COSE algorithm identifiers (RFC 9053, section 2; IANA's COSE Algorithms registry).
-use Rattle.passkey_kinds.specs.Base.{None, option_and_then, Item, number, text_string, algorithm_number, algorithm_named, Algorithm, signed_64, whole_64}
+use Rattle.std.specs.Prelude.{None}
+use Rattle.std.specs.Option.{option_and_then}
+use Rattle.passkey_kinds.specs.Base.{Item, number, text_string, algorithm_number, algorithm_named, Algorithm, signed_64, whole_64}
 use Rattle.passkey_kinds.specs.Kind.{Kind}
 
 -- an integer, or the whole part of a number in a text string, if it fits in 64 bits and is the

@@ -28,9 +28,3 @@ pub use Rattle.passkey_webauthn.specs.declared.descriptor.PublicKeyCredentialDes
 pub use Rattle.passkey_webauthn.specs.declared.parameters.PublicKeyCredentialParameters.{PublicKeyCredentialParameters}
 pub use Rattle.passkey_webauthn.specs.declared.transport.AuthenticatorTransport.{AuthenticatorTransport}
 pub use Rattle.passkey_webauthn.specs.declared.user.PublicKeyCredentialUserEntity.{PublicKeyCredentialUserEntity}
-pub use Rattle.std.specs.Int.NonZero.{non_zero_u128_get}
-pub use Rattle.std.specs.List.{All, find, filter_map}
-pub use Rattle.std.specs.Option.{option_and_then, IsSomeAnd}
-pub use Rattle.std.specs.Prelude.{[], ◌∷◌, None, codes, false, ℕ, List, ◌++◌, ◌≡◌, pos, ◌==◌, ◌||◌, Bool, true, if◌then◌else◌, Option, Some, ◌+◌, ◌*◌, ◌≤◌, length, Result, Ok, Err, OnErr, map, ◌⊎◌, ◌<◌, nat_le, suc, max, ◌^◌, ◌&&◌, nat_lt, slice_get, get_or, option_map, is_some, IsTrue, unwrap_or, IfSome, OnOk, ◌≢◌, is_ok, IfOk, take, replicate, IfErr}
-pub use Rattle.std.specs.Result.{result_ok}
-pub use Rattle.std.specs.Str.{trim}

@@ -1,5 +1,7 @@
 -- Values of members, as they are decoded and as they are encoded.
-use Rattle.passkey_kinds.specs.Base.{ℕ, Bool, List, Option, All, ByteMap, boolean, byte_string, text_string, IfPresent}
+use Rattle.std.specs.Prelude.{ℕ, Bool, List, Option}
+use Rattle.std.specs.List.{All}
+use Rattle.passkey_kinds.specs.Base.{ByteMap, boolean, byte_string, text_string, IfPresent}
 use Rattle.passkey_kinds.specs.Placed.{Coded, PlainTable, EachFits, fields_of, plain_tree}
 use Rattle.passkey_kinds.specs.ReadBack.{Any, AreBytes}
 use Rattle.passkey_kinds.specs.RecordCost.{nested}

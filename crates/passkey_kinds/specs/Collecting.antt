@@ -1,5 +1,7 @@
 -- Elements that are decoded one after the other and put together.
-use Rattle.passkey_kinds.specs.Base.{option_and_then, ◌<◌, ℕ, suc, max, nat_lt, Bool, IsTrue, true, false, if◌then◌else◌, length, List, [], ◌∷◌, ◌++◌, Option, Some, None, option_map, Result, ByteMap, Item, max_depth, Walk}
+use Rattle.std.specs.Option.{option_and_then}
+use Rattle.std.specs.Prelude.{◌<◌, ℕ, suc, max, nat_lt, Bool, IsTrue, true, false, if◌then◌else◌, length, List, [], ◌∷◌, ◌++◌, Option, Some, None, option_map, Result}
+use Rattle.passkey_kinds.specs.Base.{ByteMap, Item, max_depth, Walk}
 use Rattle.std.specs.List.{cons_option}
 use Rattle.passkey_cbor.specs.EncodedAt.{Walks, WalksOn}
 use Rattle.passkey_cbor.specs.Inside.{Within, PairWithin}

@@ -1,5 +1,7 @@
 -- Authenticator data and AAGUIDs (WebAuthn Level 3, sections 6.1 and 6.5.1).
-use Rattle.passkey_kinds.specs.Base.{◌≡◌, ℕ, ◌+◌, ◌*◌, ◌≤◌, ◌==◌, if◌then◌else◌, List, length, Some, None, result_ok, Item, byte_string, Walk, data_nodes, DataParts, data_parts}
+use Rattle.std.specs.Prelude.{◌≡◌, ℕ, ◌+◌, ◌*◌, ◌≤◌, ◌==◌, if◌then◌else◌, List, length, Some, None}
+use Rattle.std.specs.Result.{result_ok}
+use Rattle.passkey_kinds.specs.Base.{Item, byte_string, Walk, data_nodes, DataParts, data_parts}
 use Rattle.passkey_core.specs.DataRead.{read_data}
 use Rattle.passkey_core.specs.DataWritten.{data_written}
 use Rattle.passkey_core.specs.declared.aaguid.Aaguid.{Aaguid}

@@ -1,5 +1,6 @@
 -- Credential descriptors (WebAuthn Level 3, section 5.8.3).
-use Rattle.passkey_kinds.specs.Base.{[], ◌∷◌, None, codes, false, credential_type_named, transport_named, Unknown, PublicKeyCredentialDescriptor}
+use Rattle.std.specs.Prelude.{[], ◌∷◌, None, codes, false}
+use Rattle.passkey_kinds.specs.Base.{credential_type_named, transport_named, Unknown, PublicKeyCredentialDescriptor}
 use Rattle.passkey_kinds.specs.Kind.{Kind}
 use Rattle.passkey_kinds.specs.Record.{Fields, required, default, record_kind}
 use Rattle.passkey_kinds.specs.Typed.{one_named, bytes, accepted, tolerated, or_else}

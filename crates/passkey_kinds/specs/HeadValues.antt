@@ -1,6 +1,6 @@
 -- What a head says about its data item (RFC 8949, section 3).
-use Rattle.passkey_kinds.specs.Base.{◌≡◌, ℕ, pos, ◌==◌, ◌||◌, Bool, true, false, if◌then◌else◌, List, Option, Some, None, Item, number, items_of, pairs_of, ItemsAreEncodedAt, PairsAreEncodedAt, Walk}
-use Rattle.std.specs.Prelude.{ℤ, negsuc}
+use Rattle.std.specs.Prelude.{◌≡◌, ℕ, pos, ◌==◌, ◌||◌, Bool, true, false, if◌then◌else◌, List, Option, Some, None, ℤ, negsuc}
+use Rattle.passkey_kinds.specs.Base.{Item, number, items_of, pairs_of, ItemsAreEncodedAt, PairsAreEncodedAt, Walk}
 use Rattle.passkey_cbor.specs.declared.head.Head.{Head}
 use Rattle.passkey_kinds.specs.Reader.{Spends}
 use Rattle.passkey_cbor.specs.Item as item

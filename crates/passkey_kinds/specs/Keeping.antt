@@ -1,5 +1,6 @@
 -- How many data items decoding makes as values at most: none, or this many for an item.
-use Rattle.passkey_kinds.specs.Base.{ℕ, ◌+◌, List, [], ◌∷◌, Item, elements, members}
+use Rattle.std.specs.Prelude.{ℕ, ◌+◌, List, [], ◌∷◌}
+use Rattle.passkey_kinds.specs.Base.{Item, elements, members}
 use Rattle.passkey_cbor.specs.Item as item
 
 pub data Keeping : Type 0 where

@@ -1,5 +1,9 @@
 -- Kinds: what data items decode to. A kind accepts some items and has a value for each of them.
-use Rattle.passkey_kinds.specs.Base.{◌≡◌, ◌==◌, ℕ, pos, nat_lt, length, Bool, IsTrue, if◌then◌else◌, List, [], ◌∷◌, Option, Some, None, option_map, unwrap_or, Result, Ok, Err, filter_map, option_and_then, trim, text_bytes, Grows, Item, number, text_string, byte_string, array, boolean, null, elements}
+use Rattle.std.specs.Prelude.{◌≡◌, ◌==◌, ℕ, pos, nat_lt, length, Bool, IsTrue, if◌then◌else◌, List, [], ◌∷◌, Option, Some, None, option_map, unwrap_or, Result, Ok, Err}
+use Rattle.std.specs.List.{filter_map}
+use Rattle.std.specs.Option.{option_and_then}
+use Rattle.std.specs.Str.{trim}
+use Rattle.passkey_kinds.specs.Base.{text_bytes, Grows, Item, number, text_string, byte_string, array, boolean, null, elements}
 use Rattle.passkey_kinds.specs.Keeping.{Keeping}
 use Rattle.passkey_kinds.specs.declared.refusal.Refusal.{Refusal}
 use Rattle.passkey_kinds.specs.declared.refusal.Refusal.TheVariants.{Refused, OutOfMemory}

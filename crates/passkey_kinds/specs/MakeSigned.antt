@@ -1,5 +1,6 @@
 -- Extension outputs in the authenticator data of a registration (WebAuthn Level 3, section 9.5).
-use Rattle.passkey_kinds.specs.Base.{[], ◌∷◌, None, codes, false, SignedExtensionOutputs}
+use Rattle.std.specs.Prelude.{[], ◌∷◌, None, codes, false}
+use Rattle.passkey_kinds.specs.Base.{SignedExtensionOutputs}
 use Rattle.passkey_kinds.specs.Kind.{Kind}
 use Rattle.passkey_kinds.specs.Record.{Fields, default, record_kind}
 use Rattle.passkey_kinds.specs.Typed.{bytes, optional, truth}

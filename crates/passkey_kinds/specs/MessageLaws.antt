@@ -1,7 +1,7 @@
 -- Laws about messages: an encoded message can be decoded again, decoded messages are coherent, and
 -- some bytes decode alike.
-use Rattle.passkey_kinds.specs.Base.{◌≡◌, ◌≢◌, ℕ, List, [], ◌∷◌, ◌++◌, length, Bool, true, Result, Ok, Err, IsLeadingItem, Item, IsWritable, written}
-use Rattle.std.specs.Prelude.{◌↔◌}
+use Rattle.std.specs.Prelude.{◌≡◌, ◌≢◌, ℕ, List, [], ◌∷◌, ◌++◌, length, Bool, true, Result, Ok, Err, ◌↔◌}
+use Rattle.passkey_kinds.specs.Base.{IsLeadingItem, Item, IsWritable, written}
 use Rattle.passkey_cbor.specs.Canonical.{IsCanonical}
 use Rattle.passkey_kinds.specs.Message.{Begins, ReadsMessage}
 use Rattle.passkey_kinds.specs.declared.fault.Fault.{Fault}

@@ -1,5 +1,6 @@
 -- Credential parameters (WebAuthn Level 3, section 5.3).
-use Rattle.passkey_kinds.specs.Base.{[], ◌∷◌, codes, false, credential_type_named, Unknown, PublicKeyCredentialParameters}
+use Rattle.std.specs.Prelude.{[], ◌∷◌, codes, false}
+use Rattle.passkey_kinds.specs.Base.{credential_type_named, Unknown, PublicKeyCredentialParameters}
 use Rattle.passkey_iana.specs.declared.algorithm.Algorithm.TheVariants.{ES256}
 use Rattle.passkey_kinds.specs.Kind.{Kind}
 use Rattle.passkey_kinds.specs.Record.{Fields, required, record_kind}

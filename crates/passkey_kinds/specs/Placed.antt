@@ -1,5 +1,6 @@
 -- Members with the places that they are encoded at: one table for decoding and for encoding.
-use Rattle.passkey_kinds.specs.Base.{ℕ, ◌<◌, ◌^◌, Bool, false, List, [], ◌∷◌, Option, Item, boolean, byte_string, text_string, IfPresent}
+use Rattle.std.specs.Prelude.{ℕ, ◌<◌, ◌^◌, Bool, false, List, [], ◌∷◌, Option}
+use Rattle.passkey_kinds.specs.Base.{Item, boolean, byte_string, text_string, IfPresent}
 use Rattle.passkey_kinds.specs.Kind.{Kind, Typed}
 use Rattle.passkey_kinds.specs.Record.{Member, Fields, required, default, record_kind}
 use Rattle.passkey_kinds.specs.Tree.{Place, number_tree, always, where_some, record_tree}

@@ -1,5 +1,7 @@
 -- An encoded value can be decoded again.
-use Rattle.passkey_kinds.specs.Base.{◌≡◌, ℕ, ◌<◌, ◌^◌, Some, List, length, All, Item}
+use Rattle.std.specs.Prelude.{◌≡◌, ℕ, ◌<◌, ◌^◌, Some, List, length}
+use Rattle.std.specs.List.{All}
+use Rattle.passkey_kinds.specs.Base.{Item}
 use Rattle.passkey_kinds.specs.Kind.{Kind}
 
 -- Each value that fits is encoded as a data item that the kind decodes to the value's normal form.

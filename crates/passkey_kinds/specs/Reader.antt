@@ -1,5 +1,6 @@
 -- Decoding a value over a cursor.
-use Rattle.passkey_kinds.specs.Base.{◌≡◌, ℕ, ◌+◌, ◌*◌, ◌≤◌, ◌<◌, Bool, true, length, Option, Result, OnOk, Item, Walk}
+use Rattle.std.specs.Prelude.{◌≡◌, ℕ, ◌+◌, ◌*◌, ◌≤◌, ◌<◌, Bool, true, length, Option, Result, OnOk}
+use Rattle.passkey_kinds.specs.Base.{Item, Walk}
 use Rattle.passkey_cbor.specs.Lent.{Region}
 use Rattle.passkey_kinds.specs.Keeping.{Keeping, kept_of}
 use Rattle.passkey_kinds.specs.Kind.{Typed, AnswersAs, MayGrow}

@@ -1,6 +1,7 @@
 -- The result of decoding a record, and the steps of decoding it.
-use Rattle.passkey_kinds.specs.Base.{◌≡◌, ℕ, ◌<◌, ◌==◌, nat_lt, ◌⊎◌, Bool, true, false, ◌&&◌, if◌then◌else◌, List, [], ◌∷◌, ◌++◌, slice_get, get_or, option_map, Option, Some, None, is_some, Result, Ok, Err, find, Item, members}
-use Rattle.std.specs.Prelude.{not}
+use Rattle.std.specs.Prelude.{◌≡◌, ℕ, ◌<◌, ◌==◌, nat_lt, ◌⊎◌, Bool, true, false, ◌&&◌, if◌then◌else◌, List, [], ◌∷◌, ◌++◌, slice_get, get_or, option_map, Option, Some, None, is_some, Result, Ok, Err, not}
+use Rattle.std.specs.List.{find}
+use Rattle.passkey_kinds.specs.Base.{Item, members}
 use Rattle.passkey_kinds.specs.Kind.{MayGrow}
 use Rattle.passkey_kinds.specs.Table.{Entry, Row, Table, Naming, row, unknown, wrong, named, Members, found, bad_member}
 use Rattle.passkey_kinds.specs.declared.fault.Fault.{Fault}

@@ -1,5 +1,7 @@
 -- Records as tables of members, each with the function that puts its value into the record.
-use Rattle.passkey_kinds.specs.Base.{ℕ, ◌==◌, Bool, true, false, if◌then◌else◌, List, [], ◌∷◌, Option, Some, None, is_some, Result, Ok, Err, result_ok, Item, members}
+use Rattle.std.specs.Prelude.{ℕ, ◌==◌, Bool, true, false, if◌then◌else◌, List, [], ◌∷◌, Option, Some, None, is_some, Result, Ok, Err}
+use Rattle.std.specs.Result.{result_ok}
+use Rattle.passkey_kinds.specs.Base.{Item, members}
 use Rattle.passkey_kinds.specs.Kind.{Kind, Typed}
 use Rattle.passkey_kinds.specs.Table.{Entry, Row, Table, Naming, row, named, Members, first_bad, first_missing}
 use Rattle.passkey_kinds.specs.declared.fault.Fault.{Fault}

@@ -1,5 +1,6 @@
 -- The cost of decoding a record over a cursor.
-use Rattle.passkey_kinds.specs.Base.{ℕ, max, ◌==◌, Bool, true, false, ◌&&◌, if◌then◌else◌, List, [], ◌∷◌, Item, members}
+use Rattle.std.specs.Prelude.{ℕ, max, ◌==◌, Bool, true, false, ◌&&◌, if◌then◌else◌, List, [], ◌∷◌}
+use Rattle.passkey_kinds.specs.Base.{Item, members}
 use Rattle.passkey_kinds.specs.Keeping.{Keeping, nothing, counted, kept_of, kept_sum}
 use Rattle.passkey_kinds.specs.Kind.{Typed}
 use Rattle.passkey_kinds.specs.Record.{Fields, Member, table_of, record_kind}

@@ -1,6 +1,8 @@
 -- Laws about records: which members and elements change nothing, which decode alike, and which
 -- faults no item has.
-use Rattle.passkey_kinds.specs.Base.{◌≡◌, ◌≢◌, ℕ, List, [], ◌∷◌, ◌++◌, Option, Some, None, Result, Err, All, filter_map, Item, array, items_of}
+use Rattle.std.specs.Prelude.{◌≡◌, ◌≢◌, ℕ, List, [], ◌∷◌, ◌++◌, Option, Some, None, Result, Err}
+use Rattle.std.specs.List.{All, filter_map}
+use Rattle.passkey_kinds.specs.Base.{Item, array, items_of}
 use Rattle.passkey_cbor.specs.Item.{Pairs, map}
 use Rattle.passkey_kinds.specs.Kind.{Kind, accepted}
 use Rattle.passkey_kinds.specs.MessageLaws.{DifferInLength}

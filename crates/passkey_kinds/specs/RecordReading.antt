@@ -1,5 +1,6 @@
 -- The steps of decoding a record.
-use Rattle.passkey_kinds.specs.Base.{◌≡◌, ℕ, Bool, true, false, List, [], ◌∷◌, ◌++◌, Option, Some, None, Result, Ok, Err, IfSome, OnOk, Item, Walk}
+use Rattle.std.specs.Prelude.{◌≡◌, ℕ, Bool, true, false, List, [], ◌∷◌, ◌++◌, Option, Some, None, Result, Ok, Err, IfSome, OnOk}
+use Rattle.passkey_kinds.specs.Base.{Item, Walk}
 use Rattle.passkey_kinds.specs.Kind.{Typed, MayGrow}
 use Rattle.passkey_kinds.specs.Reader.{Spends}
 use Rattle.passkey_kinds.specs.Reading.{takes_at, MayGrowIn, MayGrowAt, Reads, Marks, Steps, naming_of}

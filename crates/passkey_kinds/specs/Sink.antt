@@ -1,5 +1,6 @@
 -- Members that are put into a sink, one after the other.
-use Rattle.passkey_kinds.specs.Base.{ℕ, List, [], ◌∷◌, ◌++◌, Option, Some, None, Item, written}
+use Rattle.std.specs.Prelude.{ℕ, List, [], ◌∷◌, ◌++◌, Option, Some, None}
+use Rattle.passkey_kinds.specs.Base.{Item, written}
 use Rattle.passkey_kinds.specs.Table.{Members}
 use Rattle.passkey_kinds.specs.Tree.{Place}
 use Rattle.passkey_kinds.specs.declared.sink.Counted.{Counted}

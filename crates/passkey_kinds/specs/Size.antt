@@ -1,6 +1,7 @@
 -- Sizes: unsigned integers of at most 64 bits, except 0 (CTAP 2.1, section 6.4; RFC 8949, section
 -- 3.1).
-use Rattle.passkey_kinds.specs.Base.{ℕ, pos, ◌^◌, ◌<◌, nat_lt, ◌&&◌, if◌then◌else◌, Some, None, number}
+use Rattle.std.specs.Prelude.{ℕ, pos, ◌^◌, ◌<◌, nat_lt, ◌&&◌, if◌then◌else◌, Some, None}
+use Rattle.passkey_kinds.specs.Base.{number}
 use Rattle.passkey_kinds.specs.Kind.{Kind}
 
 abbrev pub size : Kind ℕ

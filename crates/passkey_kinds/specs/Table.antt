@@ -1,6 +1,7 @@
 -- Tables of members.
-use Rattle.passkey_kinds.specs.Base.{ℕ, ◌==◌, Bool, true, false, ◌&&◌, if◌then◌else◌, List, [], ◌∷◌, ◌++◌, map, Option, Some, None, is_some, option_map, find, Item, number, text_string, byte_string}
-use Rattle.std.specs.Prelude.{is_none}
+use Rattle.std.specs.Prelude.{ℕ, ◌==◌, Bool, true, false, ◌&&◌, if◌then◌else◌, List, [], ◌∷◌, ◌++◌, map, Option, Some, None, is_some, option_map, is_none}
+use Rattle.std.specs.List.{find}
+use Rattle.passkey_kinds.specs.Base.{Item, number, text_string, byte_string}
 use Rattle.std.specs.Option.{option_or}
 use Rattle.std.specs.Str.{bytes_eq}
 use Rattle.passkey_kinds.specs.Kind.{below}

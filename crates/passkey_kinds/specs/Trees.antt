@@ -1,6 +1,7 @@
 -- The data items that records are encoded as, with their keys in CTAP2's order (CTAP 2.1, section
 -- 6; WebAuthn Level 3, section 5).
-use Rattle.passkey_kinds.specs.Base.{List, [], ◌∷◌, codes, Item, byte_string, text_string, PublicKeyCredentialDescriptor, PublicKeyCredentialParameters, AuthenticatorTransport}
+use Rattle.std.specs.Prelude.{List, [], ◌∷◌, codes}
+use Rattle.passkey_kinds.specs.Base.{Item, byte_string, text_string, PublicKeyCredentialDescriptor, PublicKeyCredentialParameters, AuthenticatorTransport}
 use Rattle.passkey_kinds.specs.Algorithm.{algorithm_tree}
 use Rattle.passkey_kinds.specs.Tree.{Place, list_tree, always, where_some, record_tree}
 use Rattle.passkey_webauthn.specs.CredentialType.{credential_type_name}

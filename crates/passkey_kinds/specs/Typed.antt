@@ -1,5 +1,6 @@
 -- Kinds with their costs.
-use Rattle.passkey_kinds.specs.Base.{ℕ, suc, max, Bool, true, false, List, Option, ByteMap, Item, DataParts, Algorithm}
+use Rattle.std.specs.Prelude.{ℕ, suc, max, Bool, true, false, List, Option}
+use Rattle.passkey_kinds.specs.Base.{ByteMap, Item, DataParts, Algorithm}
 use Rattle.passkey_cbor.specs.Nodes.{nodes}
 use Rattle.passkey_kinds.specs.Keeping.{Keeping, nothing, counted, in_elements, in_members}
 use Rattle.passkey_kinds.specs.Kind.{Kind, Typed}

@@ -1,5 +1,6 @@
 -- Users (WebAuthn Level 3, section 5.4.3).
-use Rattle.passkey_kinds.specs.Base.{[], ◌∷◌, codes, false, PublicKeyCredentialUserEntity}
+use Rattle.std.specs.Prelude.{[], ◌∷◌, codes, false}
+use Rattle.passkey_kinds.specs.Base.{PublicKeyCredentialUserEntity}
 use Rattle.passkey_kinds.specs.Kind.{Kind}
 use Rattle.passkey_kinds.specs.Record.{Fields, required, record_kind}
 use Rattle.passkey_kinds.specs.Typed.{bytes, text}

@@ -1,5 +1,5 @@
 -- The same, and the names of this crate that contracts and tables cite. Declares nothing.
-pub use Rattle.passkey_kinds.specs.Base.{text_bytes, ByteMap, depth, ItemsAreEncodedAt, PairsAreEncodedAt, IsEncodedAt, encoding, Grows, Item, number, items_of, pairs_of, boolean, byte_string, text_string, elements, members, array, null, IsLeadingItem, max_depth, IsRegion, Tells, pair_of, item_of, Walk, IsWritable, written, is_coherent, data_nodes, IfPresent, IsData, normal_data, DataParts, bare_data, data_parts, SignedExtensionOutputs, algorithm_number, algorithm_named, Algorithm, credential_type_named, signed_64, whole_64, transport_named, Unknown, PublicKeyCredentialDescriptor, PublicKeyCredentialParameters, AuthenticatorTransport, PublicKeyCredentialUserEntity, non_zero_u128_get, All, find, filter_map, option_and_then, IsSomeAnd, [], ◌∷◌, None, codes, false, ℕ, List, ◌++◌, ◌≡◌, pos, ◌==◌, ◌||◌, Bool, true, if◌then◌else◌, Option, Some, ◌+◌, ◌*◌, ◌≤◌, length, Result, Ok, Err, OnErr, map, ◌⊎◌, ◌<◌, nat_le, suc, max, ◌^◌, ◌&&◌, nat_lt, slice_get, get_or, option_map, is_some, IsTrue, unwrap_or, IfSome, OnOk, ◌≢◌, is_ok, IfOk, take, replicate, IfErr, result_ok, trim}
+pub use Rattle.passkey_kinds.specs.Base.{text_bytes, ByteMap, depth, ItemsAreEncodedAt, PairsAreEncodedAt, IsEncodedAt, encoding, Grows, Item, number, items_of, pairs_of, boolean, byte_string, text_string, elements, members, array, null, IsLeadingItem, max_depth, IsRegion, Tells, pair_of, item_of, Walk, IsWritable, written, is_coherent, data_nodes, IfPresent, IsData, normal_data, DataParts, bare_data, data_parts, SignedExtensionOutputs, algorithm_number, algorithm_named, Algorithm, credential_type_named, signed_64, whole_64, transport_named, Unknown, PublicKeyCredentialDescriptor, PublicKeyCredentialParameters, AuthenticatorTransport, PublicKeyCredentialUserEntity}
 pub use Rattle.passkey_kinds.specs.Algorithm.{algorithm_tree}
 pub use Rattle.passkey_kinds.specs.Data.{auth_data_tree}
 pub use Rattle.passkey_kinds.specs.Descriptor.{descriptor_fields}

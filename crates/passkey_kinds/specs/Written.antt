@@ -1,5 +1,6 @@
 -- The members appended so far.
-use Rattle.passkey_kinds.specs.Base.{map, pair_of}
+use Rattle.std.specs.Prelude.{map}
+use Rattle.passkey_kinds.specs.Base.{pair_of}
 use Rattle.passkey_kinds.specs.Table.{Members}
 use Rattle.passkey_kinds.specs.declared.written.Written.{Written}
 

@@ -1,5 +1,6 @@
 //! Arrays of 32 bytes, decoded from data items and encoded as arrays of integers.
-ghost use Rattle.passkey_kinds.specs.Words.{◌==◌, ℕ, List, length, map, take, if◌then◌else◌, false, Some, None, Item, Tells, ItemsAreEncodedAt, Onward, Decodes, LooksAtMost, item_of, AnswersAs, each, AreBytes, numbers_tree, sized_bytes};
+ghost use Rattle.std.specs.Prelude.{◌==◌, ℕ, List, length, map, take, if◌then◌else◌, false, Some, None};
+ghost use Rattle.passkey_kinds.specs.Words.{Item, Tells, ItemsAreEncodedAt, Onward, Decodes, LooksAtMost, item_of, AnswersAs, each, AreBytes, numbers_tree, sized_bytes};
 ghost use Rattle.passkey_kinds.specs.Collecting.{filling};
 ghost use Rattle.passkey_kinds.specs.Kind.{below};
 

@@ -1,7 +1,8 @@
 //! Bytes, decoded from byte strings, from arrays of integers, and from text strings in base64url or
 //! base64.
-ghost use Rattle.passkey_kinds.specs.Words.{◌≡◌, ◌<◌, ℕ, List, length, map, true, trim, Item, IsRegion, Tells, ItemsAreEncodedAt, Onward, Decodes, LooksAtMost, item_of, text_bytes, AnswersAs, each, bytes};
-ghost use Rattle.std.specs.Prelude.{⊤};
+ghost use Rattle.std.specs.Prelude.{◌≡◌, ◌<◌, ℕ, List, length, map, true, ⊤};
+ghost use Rattle.std.specs.Str.{trim};
+ghost use Rattle.passkey_kinds.specs.Words.{Item, IsRegion, Tells, ItemsAreEncodedAt, Onward, Decodes, LooksAtMost, item_of, text_bytes, AnswersAs, each, bytes};
 ghost use Rattle.passkey_kinds.specs.Kind.{below};
 
 use crate::head::read_array;

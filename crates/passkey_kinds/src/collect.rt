@@ -1,5 +1,6 @@
 //! Elements of arrays and members of maps, decoded one after the other at a cursor.
-ghost use Rattle.passkey_kinds.specs.Words.{◌<◌, ℕ, suc, IsTrue, List, length, OnOk, kept_sum, Decodes, Further, Onward};
+ghost use Rattle.std.specs.Prelude.{◌<◌, ℕ, suc, IsTrue, List, length, OnOk};
+ghost use Rattle.passkey_kinds.specs.Words.{kept_sum, Decodes, Further, Onward};
 ghost use Rattle.passkey_cbor.specs.EncodedAt.{Lies};
 ghost use Rattle.passkey_cbor.specs.Inside.{Left};
 ghost use Rattle.passkey_kinds.specs.Collecting.{Way, AddsOne, collected};

@@ -1,5 +1,6 @@
 //! Values that are decoded from data items.
-ghost use Rattle.passkey_kinds.specs.Words.{◌^◌, ℕ, nat_lt, Bool, true, false, if◌then◌else◌, List, Option, option_map, OnOk, Item, IsEncodedAt, item_of, Answers, AnswersAs, Typed, Onward, Further, ReadsAs, truth, below, text, kept, optional};
+ghost use Rattle.std.specs.Prelude.{◌^◌, ℕ, nat_lt, Bool, true, false, if◌then◌else◌, List, Option, option_map, OnOk};
+ghost use Rattle.passkey_kinds.specs.Words.{Item, IsEncodedAt, item_of, Answers, AnswersAs, Typed, Onward, Further, ReadsAs, truth, below, text, kept, optional};
 
 use crate::head::{read_null, read_truth, read_unsigned};
 use crate::refusal::Refusal;

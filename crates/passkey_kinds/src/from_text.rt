@@ -1,5 +1,6 @@
 //! Values that are decoded from text strings, whatever the text.
-ghost use Rattle.passkey_kinds.specs.Words.{◌≡◌, ℕ, List, true, IfOk, OnOk, Item, IsRegion, Tells, IsEncodedAt, nothing, Onward, Further, ReadsAs, LooksAtMost, growing};
+ghost use Rattle.std.specs.Prelude.{◌≡◌, ℕ, List, true, IfOk, OnOk};
+ghost use Rattle.passkey_kinds.specs.Words.{Item, IsRegion, Tells, IsEncodedAt, nothing, Onward, Further, ReadsAs, LooksAtMost, growing};
 ghost use Rattle.passkey_kinds.specs.Kind.{one_named};
 
 use crate::{OutOfMemory, Refusal};

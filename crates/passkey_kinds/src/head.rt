@@ -1,6 +1,7 @@
 //! Decodes one head at a cursor, by the type of data item that is wanted.
-ghost use Rattle.passkey_kinds.specs.Words.{◌≡◌, ℕ, ◌+◌, ◌≤◌, ◌==◌, true, false, Option, if◌then◌else◌, IfSome, option_and_then, Item, null, signed_64, IsEncodedAt, Onward, Further, Spends};
-ghost use Rattle.std.specs.Prelude.{Some as There, None as Nothing};
+ghost use Rattle.std.specs.Prelude.{◌≡◌, ℕ, ◌+◌, ◌≤◌, ◌==◌, true, false, Option, if◌then◌else◌, IfSome, Some as There, None as Nothing};
+ghost use Rattle.std.specs.Option.{option_and_then};
+ghost use Rattle.passkey_kinds.specs.Words.{Item, null, signed_64, IsEncodedAt, Onward, Further, Spends};
 ghost use Rattle.passkey_cbor.specs.Initial.{major_of};
 ghost use Rattle.passkey_kinds.specs.HeadValues.{unsigned_in, integer_in, null_in, head_unsigned, head_integer, head_truth, head_null, head_array, head_map, ReadsFlat, OpensArray, OpensMap};
 ghost use Rattle.passkey_kinds.specs.Kind.{truth};

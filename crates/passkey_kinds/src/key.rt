@@ -1,5 +1,6 @@
 //! Map keys at a cursor, and the rows that they name.
-ghost use Rattle.passkey_kinds.specs.Words.{◌≡◌, ◌≤◌, ℕ, nat_lt, if◌then◌else◌, List, Option, length, map, take, true, false, IfSome, Item, IsRegion, Tells, IsEncodedAt, Onward, Further, LooksAtMost, named_as, entry_of, names, row_named};
+ghost use Rattle.std.specs.Prelude.{◌≡◌, ◌≤◌, ℕ, nat_lt, if◌then◌else◌, List, Option, length, map, take, true, false, IfSome};
+ghost use Rattle.passkey_kinds.specs.Words.{Item, IsRegion, Tells, IsEncodedAt, Onward, Further, LooksAtMost, named_as, entry_of, names, row_named};
 ghost use Rattle.passkey_kinds.specs.RecordReading.{ReadsKey};
 ghost use Rattle.passkey_kinds.specs.Rows.{row_at};
 

@@ -1,6 +1,7 @@
 //! Lists, decoded from arrays.
-ghost use Rattle.passkey_kinds.specs.Words.{◌<◌, ℕ, suc, length, map, Some, true, filter_map, item_of, Item, ItemsAreEncodedAt, kept_of, kept_sum, AnswersAs, each, Onward, Decodes, list, accepted};
-ghost use Rattle.std.specs.Prelude.{List as Items};
+ghost use Rattle.std.specs.Prelude.{◌<◌, ℕ, suc, length, map, Some, true, List as Items};
+ghost use Rattle.std.specs.List.{filter_map};
+ghost use Rattle.passkey_kinds.specs.Words.{item_of, Item, ItemsAreEncodedAt, kept_of, kept_sum, AnswersAs, each, Onward, Decodes, list, accepted};
 ghost use Rattle.passkey_kinds.specs.Collecting.{pushing, pushing_if};
 
 use crate::collect::{Collect, read_all};

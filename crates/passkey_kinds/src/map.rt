@@ -1,5 +1,7 @@
 //! Maps from byte strings, decoded from CBOR maps and encoded as CBOR maps.
-ghost use Rattle.passkey_kinds.specs.Words.{◌≡◌, ◌<◌, ℕ, suc, max, List, length, map, true, IfOk, OnOk, All, ByteMap, item_of, pair_of, AnswersAs, Item, kept_of, byte_map_tree};
+ghost use Rattle.std.specs.Prelude.{◌≡◌, ◌<◌, ℕ, suc, max, List, length, map, true, IfOk, OnOk};
+ghost use Rattle.std.specs.List.{All};
+ghost use Rattle.passkey_kinds.specs.Words.{ByteMap, item_of, pair_of, AnswersAs, Item, kept_of, byte_map_tree};
 ghost use Rattle.passkey_kinds.specs.Collecting.{entering};
 ghost use Rattle.passkey_kinds.specs.MapKind.{map_values, with_members};
 ghost use Rattle.passkey_kinds.specs.ShortFirst.{sorted_by};

@@ -1,5 +1,6 @@
 //! Messages, decoded from bytes and encoded.
-ghost use Rattle.passkey_kinds.specs.Words.{◌≡◌, suc, Bool, true, IfOk, IfErr, OnOk, Item, item_of, IsWritable, written, ReadsMessage, ReadsHere, GrowsMessage, ReadIsCoherent, MayGrowAt, Reads, Fields, read_item, table_of, record_cost};
+ghost use Rattle.std.specs.Prelude.{◌≡◌, suc, Bool, true, IfOk, IfErr, OnOk};
+ghost use Rattle.passkey_kinds.specs.Words.{Item, item_of, IsWritable, written, ReadsMessage, ReadsHere, GrowsMessage, ReadIsCoherent, MayGrowAt, Reads, Fields, read_item, table_of, record_cost};
 ghost use Rattle.passkey_kinds.specs.declared.fault.Fault.TheVariants.{OutOfMemory as NoRoom};
 ghost use Rattle.passkey_kinds.specs.declared.write_fault.WriteFault.TheVariants.{OutOfMemory as NoMemory};
 

@@ -1,5 +1,6 @@
 //! Encodings that are decoded to the value again.
-ghost use Rattle.passkey_kinds.specs.Words.{◌≡◌, None, null, IsReadBack, record_kind};
+ghost use Rattle.std.specs.Prelude.{◌≡◌, None};
+ghost use Rattle.passkey_kinds.specs.Words.{null, IsReadBack, record_kind};
 
 use crate::{FromCbor, Record, ToCbor};
 use passkey_bytes::{Bytes, List, Map, Text};

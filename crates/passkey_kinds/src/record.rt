@@ -1,6 +1,6 @@
 //! Records, decoded member by member.
-ghost use Rattle.passkey_kinds.specs.Words.{◌≡◌, ◌<◌, ◌≤◌, ℕ, true, false, length, map, replicate, get_or, is_ok, OnOk, Item, IsEncodedAt, PairsAreEncodedAt, item_of, pair_of, Onward, Further, MayGrowIn, MayGrowAt, Reads, are_small, named_as, Fields, table_of, read_members, read_item, nested, cost_at, keeps_at, Puts, entry_of, Members, entries, named};
-ghost use Rattle.std.specs.Prelude.{set};
+ghost use Rattle.std.specs.Prelude.{◌≡◌, ◌<◌, ◌≤◌, ℕ, true, false, length, map, replicate, get_or, is_ok, OnOk, set};
+ghost use Rattle.passkey_kinds.specs.Words.{Item, IsEncodedAt, PairsAreEncodedAt, item_of, pair_of, Onward, Further, MayGrowIn, MayGrowAt, Reads, are_small, named_as, Fields, table_of, read_members, read_item, nested, cost_at, keeps_at, Puts, entry_of, Members, entries, named};
 ghost use Rattle.passkey_kinds.specs.Reading.{first_unmarked};
 ghost use Rattle.passkey_kinds.specs.Record.{unless_missing};
 ghost use Rattle.passkey_kinds.specs.RecordCost.{cost_by, keeps_by};

@@ -1,5 +1,6 @@
 //! Bounds on the nesting levels of encodings.
-ghost use Rattle.passkey_kinds.specs.Words.{ℕ, suc, ◌≤◌, depth};
+ghost use Rattle.std.specs.Prelude.{ℕ, suc, ◌≤◌};
+ghost use Rattle.passkey_kinds.specs.Words.{depth};
 
 use crate::to_cbor::ToCbor;
 use passkey_bytes::{Bytes, List, Text};

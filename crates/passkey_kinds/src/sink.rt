@@ -1,5 +1,6 @@
 //! What the members of a map are put into: a counter, an encoder, or a list of members.
-ghost use Rattle.passkey_kinds.specs.Words.{◌≡◌, ℕ, suc, true, List, None, Some, if◌then◌else◌, option_map, OnOk, encoding, Item, boolean, IsWritable, IfPresent};
+ghost use Rattle.std.specs.Prelude.{◌≡◌, ℕ, suc, true, List, None, Some, if◌then◌else◌, option_map, OnOk};
+ghost use Rattle.passkey_kinds.specs.Words.{encoding, Item, boolean, IsWritable, IfPresent};
 ghost use Rattle.passkey_kinds.specs.Sink.{MemberAccepted, count_of, encode_member, put_one};
 
 use crate::{OutOfMemory, ToCbor};

@@ -1,5 +1,6 @@
 //! Where a record's values are decoded from.
-ghost use Rattle.passkey_kinds.specs.Words.{◌≡◌, ℕ, suc, map, option_map, is_ok, Bool, true, false, Item, IsEncodedAt, item_of, Keeping, nothing, in_elements, Answers, Onward, Costs, accepted, or_else, tolerated};
+ghost use Rattle.std.specs.Prelude.{◌≡◌, ℕ, suc, map, option_map, is_ok, Bool, true, false};
+ghost use Rattle.passkey_kinds.specs.Words.{Item, IsEncodedAt, item_of, Keeping, nothing, in_elements, Answers, Onward, Costs, accepted, or_else, tolerated};
 ghost use Rattle.passkey_kinds.specs.RecordReading.{Sets};
 ghost use Rattle.passkey_kinds.specs.SourceLaws.{costs_nothing, onward_same};
 

@@ -1,5 +1,6 @@
 //! Values that are encoded as data items.
-ghost use Rattle.passkey_kinds.specs.Words.{◌≡◌, ◌<◌, ◌^◌, ◌++◌, pos, IfOk, OnOk, encoding, Item, boolean, byte_string, text_string, item_of, IsWritable, written, IfPresent, Any, number_tree, option_tree, transport_tree};
+ghost use Rattle.std.specs.Prelude.{◌≡◌, ◌<◌, ◌^◌, ◌++◌, pos, IfOk, OnOk};
+ghost use Rattle.passkey_kinds.specs.Words.{encoding, Item, boolean, byte_string, text_string, item_of, IsWritable, written, IfPresent, Any, number_tree, option_tree, transport_tree};
 ghost use Rattle.passkey_kinds.specs.Trees.{credential_type_tree};
 
 use passkey_bytes::{Bytes, Text};

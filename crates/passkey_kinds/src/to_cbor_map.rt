@@ -1,5 +1,6 @@
 //! Records that are encoded as maps.
-ghost use Rattle.passkey_kinds.specs.Words.{◌≡◌, List, OnOk, Any, AllAccepted, put_all, Place, record_tree};
+ghost use Rattle.std.specs.Prelude.{◌≡◌, List, OnOk};
+ghost use Rattle.passkey_kinds.specs.Words.{Any, AllAccepted, put_all, Place, record_tree};
 
 use crate::sink::Counted;
 use crate::{OutOfMemory, Sink, ToCbor, Written};

@@ -1,5 +1,6 @@
 //! Values that become `None` if they can't be decoded.
-ghost use Rattle.passkey_kinds.specs.Words.{suc, Option, option_map, tolerated};
+ghost use Rattle.std.specs.Prelude.{suc, Option, option_map};
+ghost use Rattle.passkey_kinds.specs.Words.{tolerated};
 
 use crate::{FromCbor, Refusal};
 use passkey_cbor::{Cursor, Value};

@@ -1,5 +1,6 @@
 -- Options of authenticatorMakeCredential requests (CTAP 2.1, section 6.1).
-use Rattle.passkey_kinds.specs.Words.{[], ◌∷◌, true, false, codes, text_string, PlainTable, placed, default_as, default}
+use Rattle.std.specs.Prelude.{[], ◌∷◌, true, false, codes}
+use Rattle.passkey_kinds.specs.Words.{text_string, PlainTable, placed, default_as, default}
 use Rattle.passkey_kinds.specs.Coded.{truth}
 use Rattle.passkey_kinds.specs.Tree.{where_true}
 use Rattle.passkey_make_credential.specs.declared.options.Options.{Options}

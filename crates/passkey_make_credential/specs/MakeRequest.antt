@@ -1,5 +1,6 @@
 -- authenticatorMakeCredential requests (CTAP 2.1, section 6.1).
-use Rattle.passkey_kinds.specs.Words.{ℕ, nat_le, Bool, true, List, [], ◌∷◌, Option, None, codes, Result, option_map, depth, max_depth, Item, byte_string, IfPresent, descriptor_fields, fields_of, plain_tree, Fields, required, default, table_of, read_item, nested, Table, below, optional, bytes, accepted, tolerated, parameters_fields, IsByte, Place, number_tree, list_tree, always, where_some, record_tree, descriptor_tree, parameters_tree, user_fields, PublicKeyCredentialDescriptor, PublicKeyCredentialParameters, PublicKeyCredentialUserEntity}
+use Rattle.std.specs.Prelude.{ℕ, nat_le, Bool, true, List, [], ◌∷◌, Option, None, codes, Result, option_map}
+use Rattle.passkey_kinds.specs.Words.{depth, max_depth, Item, byte_string, IfPresent, descriptor_fields, fields_of, plain_tree, Fields, required, default, table_of, read_item, nested, Table, below, optional, bytes, accepted, tolerated, parameters_fields, IsByte, Place, number_tree, list_tree, always, where_some, record_tree, descriptor_tree, parameters_tree, user_fields, PublicKeyCredentialDescriptor, PublicKeyCredentialParameters, PublicKeyCredentialUserEntity}
 use Rattle.passkey_kinds.specs.declared.fault.Fault.{Fault}
 use Rattle.passkey_extensions.specs.ExtensionTrees.{make_extensions_tree, MakeExtensionsFit, make_extensions_kept}
 use Rattle.passkey_extensions.specs.MakeExtensions.{MakeExtensionsParts, make_extensions_fields, make_extensions_parts}

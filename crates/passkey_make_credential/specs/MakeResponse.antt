@@ -1,5 +1,6 @@
 -- authenticatorMakeCredential responses (CTAP 2.1, section 6.1).
-use Rattle.passkey_kinds.specs.Words.{ℕ, nat_le, Bool, true, ◌&&◌, List, [], ◌∷◌, Option, None, codes, Result, replicate, depth, max_depth, Item, boolean, byte_string, text_string, null, is_coherent, IsData, IfPresent, normal_data, DataParts, bare_data, auth_data_tree, EachFits, fields_of, plain_tree, Fields, required, default, table_of, read_item, nested, Table, bytes, kept, optional, text, truth, authenticator_data, Place, number_tree, always, where_some, record_tree, item_of, data_parts}
+use Rattle.std.specs.Prelude.{ℕ, nat_le, Bool, true, ◌&&◌, List, [], ◌∷◌, Option, None, codes, Result, replicate}
+use Rattle.passkey_kinds.specs.Words.{depth, max_depth, Item, boolean, byte_string, text_string, null, is_coherent, IsData, IfPresent, normal_data, DataParts, bare_data, auth_data_tree, EachFits, fields_of, plain_tree, Fields, required, default, table_of, read_item, nested, Table, bytes, kept, optional, text, truth, authenticator_data, Place, number_tree, always, where_some, record_tree, item_of, data_parts}
 use Rattle.passkey_kinds.specs.declared.fault.Fault.{Fault}
 use Rattle.passkey_cbor.specs.Item.{map, no_pairs}
 use Rattle.passkey_extensions.specs.Prf.{prf_made, unsigned}

@@ -1,5 +1,6 @@
 //! Extension inputs of authenticatorGetAssertion requests.
-ghost use Rattle.passkey_kinds.specs.Words.{nat_le, ◌≡◌, true, depth};
+ghost use Rattle.std.specs.Prelude.{nat_le, ◌≡◌, true};
+ghost use Rattle.passkey_kinds.specs.Words.{depth};
 ghost use Rattle.passkey_core.specs.SignedOutputs.{where_some};
 ghost use Rattle.passkey_extensions.specs.GetExtensions.{GetExtensionsParts, get_extensions_fields, get_extensions_parts, no_get_extensions, has_get_extension};
 ghost use Rattle.passkey_extensions.specs.ExtensionTrees.{GetExtensionsFit, get_extensions_places, get_extensions_tree};

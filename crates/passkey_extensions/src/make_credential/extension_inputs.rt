@@ -1,5 +1,6 @@
 //! Extension inputs of authenticatorMakeCredential requests.
-ghost use Rattle.passkey_kinds.specs.Words.{nat_le, ◌≡◌, true, depth};
+ghost use Rattle.std.specs.Prelude.{nat_le, ◌≡◌, true};
+ghost use Rattle.passkey_kinds.specs.Words.{depth};
 ghost use Rattle.passkey_core.specs.SignedOutputs.{where_some};
 ghost use Rattle.passkey_extensions.specs.MakeExtensions.{MakeExtensionsParts, make_extensions_fields, make_extensions_parts, no_make_extensions, has_make_extension};
 ghost use Rattle.passkey_extensions.specs.ExtensionTrees.{MakeExtensionsFit, make_extensions_places, make_extensions_tree};
