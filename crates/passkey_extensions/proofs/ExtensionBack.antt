@@ -1,8 +1,8 @@
 -- The encodings of the extensions' records can be decoded again.
-use Rattle.passkey_kinds.proofs.Steps.{result_ok, arith, ◌≡◌, Some, Ok, refl, ap, [], ◌∷◌, Item, Kind, IsReadBack, truth_back, byte_back, bytes_back, kept_back, anything, optional_place, tolerated_place, puts_value, puts_default, ordered_back, rows_back, ◌▸◌, no_more}
-use Rattle.passkey_extensions.specs.ExtensionTrees.{hmac_input_tree, HmacInputFits, make_extensions_places, make_extensions_tree, MakeExtensionsFit, get_extensions_places, get_extensions_tree, GetExtensionsFit}
+use Rattle.passkey_kinds.proofs.Steps.{result_ok, ◌≡◌, Some, Ok, refl, ap, [], ◌∷◌, Item, Kind, IsReadBack, truth_back, byte_back, bytes_back, kept_back, anything, optional_place, tolerated_place, puts_value, puts_default, ordered_back, rows_back, ◌▸◌, no_more}
+use Rattle.passkey_extensions.specs.ExtensionTrees.{hmac_input_tree, HmacInputFits, make_extensions_places, make_extensions_tree, MakeExtensionsFit, get_extensions_places, get_extensions_tree, GetExtensionsFit, hmac_input_places}
 use Rattle.passkey_extensions.specs.GetExtensions.{GetExtensionsParts, get_extensions_fields, get_extensions, get_extensions_parts}
-use Rattle.passkey_extensions.specs.HmacInput.{HmacInputParts, hmac_input, read_hmac_input, hmac_input_parts}
+use Rattle.passkey_extensions.specs.HmacInput.{hmac_input_fields, HmacInputParts, hmac_input, read_hmac_input, hmac_input_parts}
 use Rattle.passkey_extensions.specs.MakeExtensions.{MakeExtensionsParts, make_extensions_fields, make_extensions, make_extensions_parts}
 use Rattle.passkey_extensions.proofs.Prf.{inputs_law}
 
@@ -13,7 +13,13 @@ pub seen_back : {A P M : Type 0} {kind : Kind M} {tree : P → Item} {Fits : P �
 seen_back seen r = record { back = λ x h. r.back (seen x) h }
 
 pub hmac_message_back : (h : HmacInputParts) → HmacInputFits h → read_hmac_input (hmac_input_tree h) ≡ Ok h
-hmac_message_back h fits = grind (arith, rows_back, puts_value, kept_back, bytes_back, puts_default, optional_place, byte_back, no_more)
+hmac_message_back h fits =
+    rows_back hmac_input_fields (hmac_input_places h) h refl refl
+    (puts_value kept_back h.key_agreement tt ▸
+    puts_value bytes_back h.salt_enc tt ▸
+    puts_value bytes_back h.salt_auth tt ▸
+    puts_default (optional_place byte_back refl h.pin_uv_auth_protocol fits) refl ▸
+    no_more)
 
 pub hmac_parts_back : IsReadBack hmac_input hmac_input_tree HmacInputFits (λ h. h)
 hmac_parts_back = record { back = λ h fits. ap result_ok (hmac_message_back h fits) }

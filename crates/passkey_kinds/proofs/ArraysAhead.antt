@@ -1,5 +1,5 @@
 -- Arrays of bytes, decoded at a cursor.
-use Rattle.passkey_kinds.proofs.Common.{◌≡◌, ◌∙◌, ℕ, ◌<◌, ◌==◌, arith, Bool, true, false, if◌then◌else◌, List, [], Option, None, refl, sym, ap, ne_eqb, Item, Region, Tells, LendsNothing, Walk, some_is, sized_bytes, MayGrow, Spends}
+use Rattle.passkey_kinds.proofs.Common.{◌≡◌, ◌∙◌, ℕ, ◌<◌, arith, Bool, true, false, if◌then◌else◌, List, [], Option, None, refl, sym, ap, Item, Region, Tells, LendsNothing, Walk, some_is, sized_bytes, MayGrow, Spends}
 use Rattle.passkey_cbor.proofs.Strings.{string_again}
 use Rattle.passkey_cbor.specs.Item as item
 
@@ -12,9 +12,6 @@ tells_one is_text r s t p q =
 pub none_either : {X : Type 0} (b : Bool) (o : Option X) → o ≡ None → (if b then o else None) ≡ None
 none_either true o h = h
 none_either false o h = refl
-
-pub other_length : {X : Type 0} (n : ℕ) (o : Option X) → (n ≡ 32 → ⊥) → (if n == 32 then o else None) ≡ None
-other_length {X} n o other = ap (λ (b : Bool). if b then o else None) (ne_eqb n 32 other)
 
 pub no_sized : (n : ℕ) (i : Item) → ((s : List ℕ) → i ≡ item.byte_string s → ⊥)
     → ((xs : item.Items) → i ≡ item.array xs → ⊥) → sized_bytes n i ≡ None

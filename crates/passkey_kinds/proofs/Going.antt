@@ -16,11 +16,6 @@ onward_of a b w = grind arith
 pub onward_then : (a b c : Walk) → Onward a b → Onward b c → Onward a c
 onward_then a b c p q = grind arith
 
--- only heads were counted
-pub onward_looks : (a b c : Walk) → Onward a b → c.bytes ≡ b.bytes → c.place ≡ b.place → c.nodes ≡ b.nodes
-    → b.heads ≤ c.heads → Onward a c
-onward_looks a b c p bytes place nodes heads = grind arith
-
 -- ---- further on
 
 pub stands_long : (x : Item) (bytes : List ℕ) (from to : ℕ) → IsEncodedAt x bytes from to → from < to

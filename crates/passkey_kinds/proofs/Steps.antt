@@ -44,5 +44,4 @@ pub use Rattle.passkey_kinds.proofs.SizedBack.{numbers_back, size_back, aaguid_b
 pub use Rattle.passkey_kinds.proofs.Sizes.{size_of, unsigned_size}
 pub use Rattle.passkey_kinds.proofs.Texts.{bytes_array, text_read, text_refused}
 pub use Rattle.passkey_kinds.proofs.Tokens.{stands_missed, decodes_from, or_refused, missed_then, looked_further, lent_is, decodes_dearer, no_bytes}
-pub use Rattle.passkey_kinds.proofs.Unknown.{found_pushed, found_append}
 pub use Rattle.passkey_kinds.proofs.WrittenLists.{fits_more, written_more, fits_next, written_next}

@@ -1,8 +1,5 @@
 -- Lists that are encoded one value after the other.
-use Rattle.passkey_kinds.proofs.Common.{All, arith, ◌≡◌, ◌∙◌, ℕ, suc, ◌+◌, ◌<◌, add-one, List, [], ◌∷◌, ◌++◌, length, map, drop, get_or, append_assoc, sym, ap, subst, drop-cons, Item, items_of, IsWritable, written, WritesItems}
-use Rattle.passkey_cbor.specs.Item.{Items}
-use Rattle.passkey_cbor.specs.Writable.{AreWritable}
-use Rattle.passkey_cbor.specs.Written.{items_written}
+use Rattle.passkey_kinds.proofs.Common.{All, arith, ◌≡◌, ◌∙◌, ℕ, suc, ◌+◌, ◌<◌, add-one, List, [], ◌∷◌, ◌++◌, length, map, drop, get_or, append_assoc, sym, ap, drop-cons}
 
 -- the rest begins with the value at this index
 rest_is : {X : Type 0} (xs : List X) (i : ℕ) (x : X) → x ≡ get_or xs i x → i < length xs
@@ -34,19 +31,3 @@ pub written_more : {X Y : Type 0} (tree : X → Y) (xs : List X) (i : ℕ) (x : 
     → x ≡ get_or xs i x → i < length xs → y ≡ tree x → before ++ map tree (drop i xs) ≡ map tree xs
     → (before ++ y ∷ []) ++ map tree (drop (i + 1) xs) ≡ map tree xs
 written_more tree xs i x y before e within = grind (arith, written_next, rest_is)
-
--- the bytes of the list so far and one more element's
-pub writes_items-more : {X : Type 0} (tree : X → Item) (xs : List X) (i : ℕ) (x : X) (all : Items) (old mid new
-    : List ℕ)
-    → x ≡ get_or xs i x → i < length xs → new ≡ mid ++ written (tree x) → IsWritable (tree x)
-    → WritesItems all (items_of (map tree (drop i xs))) old mid
-    → WritesItems all (items_of (map tree (drop (i + 1) xs))) old new
-writes_items-more tree xs i x all old mid new e within one fits so_far =
-    let next = ap (λ ys. items_of (map tree ys)) (rest_is xs i x e within) in
-    let rest : Items = items_of (map tree (drop (i + 1) xs)) in
-    record {
-      appended = ap (λ (s : List ℕ). s ++ items_written rest) one
-          ∙ append_assoc mid (written (tree x)) (items_written rest)
-          ∙ ap (λ (is : Items). mid ++ items_written is) (sym next) ∙ so_far.appended;
-      writable = λ h. so_far.writable (subst AreWritable (sym next) (fits, h));
-    }

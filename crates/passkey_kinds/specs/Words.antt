@@ -3,9 +3,8 @@ pub use Rattle.passkey_kinds.specs.Base.{text_bytes, ByteMap, depth, ItemsAreEnc
 pub use Rattle.passkey_kinds.specs.Algorithm.{algorithm_tree}
 pub use Rattle.passkey_kinds.specs.Data.{auth_data_tree}
 pub use Rattle.passkey_kinds.specs.Descriptor.{descriptor_fields}
-pub use Rattle.passkey_kinds.specs.Keeping.{Keeping, nothing, counted, in_elements, kept_of, kept_sum}
-pub use Rattle.passkey_kinds.specs.Kind.{Kind, Typed, MayGrow, each, AnswersAs, Answers}
-pub use Rattle.passkey_kinds.specs.MakeSigned.{signed_fields}
+pub use Rattle.passkey_kinds.specs.Keeping.{Keeping, nothing, in_elements, kept_of, kept_sum}
+pub use Rattle.passkey_kinds.specs.Kind.{Kind, Typed, each, AnswersAs, Answers}
 pub use Rattle.passkey_kinds.specs.Message.{ReadsMessage, ReadsHere, GrowsMessage}
 pub use Rattle.passkey_kinds.specs.MessageLaws.{ReadIsCoherent, WrittenIsReadBack, WrittenIsCanonical}
 pub use Rattle.passkey_kinds.specs.Parameters.{parameters_fields}
@@ -13,20 +12,15 @@ pub use Rattle.passkey_kinds.specs.Placed.{PlainTable, EachFits, fields_of, plai
 pub use Rattle.passkey_kinds.specs.ReadBack.{Any, AreBytes, IsReadBack, IsByte}
 pub use Rattle.passkey_kinds.specs.Reader.{Spends, Decodes, Onward, Costs, Further, LooksAtMost, ReadsAs}
 pub use Rattle.passkey_kinds.specs.Reading.{MayGrowAt, MayGrowIn, Reads, naming_of, named_as, are_small}
-pub use Rattle.passkey_kinds.specs.Record.{Fields, default, record_kind, read_item, table_of, required, Member, rows_of, put_at, with_members, read_members}
-pub use Rattle.passkey_kinds.specs.RecordCost.{kept_in_map, nested, record_cost, cost_at, keeps_at}
+pub use Rattle.passkey_kinds.specs.Record.{Fields, default, record_kind, read_item, table_of, required, read_members}
+pub use Rattle.passkey_kinds.specs.RecordCost.{nested, record_cost, cost_at, keeps_at}
 pub use Rattle.passkey_kinds.specs.RecordLaws.{KnowsMaps, PassesOverUnknown}
 pub use Rattle.passkey_kinds.specs.RecordReading.{Puts}
 pub use Rattle.passkey_kinds.specs.Rows.{entry_of}
 pub use Rattle.passkey_kinds.specs.Sink.{AllAccepted, put_all}
-pub use Rattle.passkey_kinds.specs.Table.{Members, Naming, row, unknown, wrong, named, Entry, Row, Table, first_bad, accepts_at, row_or_unknown, names, row_named, entries}
+pub use Rattle.passkey_kinds.specs.Table.{Members, named, Table, row_or_unknown, names, row_named, entries}
 pub use Rattle.passkey_kinds.specs.Tree.{option_tree, numbers_tree, byte_map_tree, Place, number_tree, always, where_some, record_tree, list_tree, map_tree, KeysAscend}
 pub use Rattle.passkey_kinds.specs.Trees.{webauthn_user_places, descriptor_places, parameters_places, transport_tree, descriptor_tree, parameters_tree}
 pub use Rattle.passkey_kinds.specs.Typed.{bytes, optional, truth, one_named, accepted, tolerated, or_else, below, growing, text, algorithm, list, authenticator_data, aaguid, sized_bytes, kept, size}
 pub use Rattle.passkey_kinds.specs.User.{user_fields}
 pub use Rattle.passkey_kinds.specs.Written.{members_of}
-pub use Rattle.passkey_kinds.specs.declared.fault.Fault.{Fault}
-pub use Rattle.passkey_kinds.specs.declared.fault.Fault.TheVariants.{NotAMap}
-pub use Rattle.passkey_kinds.specs.declared.refusal.Refusal.{Refusal}
-pub use Rattle.passkey_kinds.specs.declared.refusal.Refusal.TheVariants.{Refused, OutOfMemory}
-pub use Rattle.passkey_kinds.specs.declared.rows.Named.{Named}

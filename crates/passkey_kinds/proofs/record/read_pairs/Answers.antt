@@ -9,7 +9,8 @@ loop-key-preserved g c =
     let i = c.loop-key.key-index in
     let at = member_at pair_of c.args.pairs.now i c.loop-key-item.result c.loop-key-item.is c.loop-key-test.true in
     let h = c.loop-key.invariant in
-    let naming = key_names (table_of t) c.is_numbered.result (map entry_of c.rows.result.now) m.0 (named_as c.in-Some.key) c.is_numbered.ensures c.rows.ensures.rows c.in-Some.ensures in
+    let naming = key_names (table_of t) c.is_numbered.result (map entry_of c.rows.result.now) m.0 (named_as
+    c.in-Some.key) c.is_numbered.ensures c.rows.ensures.rows c.in-Some.ensures in
     let told = c.in_ok-read_member.ensures.reads h.earlier m.0 m.1 0 naming refl h.holds in
     search (rules, goes_on, t, ms, m, i, at, h, told)
 
@@ -21,7 +22,8 @@ returns-in_err-read_member g c =
     let i = c.loop-key.key-index in
     let at = member_at pair_of c.args.pairs.now i c.loop-key-item.result c.loop-key-item.is c.loop-key-test.true in
     let h = c.loop-key.invariant in
-    let naming = key_names (table_of t) c.is_numbered.result (map entry_of c.rows.result.now) m.0 (named_as c.in-Some.key) c.is_numbered.ensures c.rows.ensures.rows c.in-Some.ensures in
+    let naming = key_names (table_of t) c.is_numbered.result (map entry_of c.rows.result.now) m.0 (named_as
+    c.in-Some.key) c.is_numbered.ensures c.rows.ensures.rows c.in-Some.ensures in
     let told = c.in_err-read_member.ensures.reads h.earlier m.0 m.1 0 naming refl h.holds in
     let result : c.from_residual.result ≡ Err c.in_err-read_member.field-0.0 = search rules in
     search (rules, fails, t, ms, m, i, at, h, told, result)

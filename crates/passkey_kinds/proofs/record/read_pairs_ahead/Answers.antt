@@ -51,8 +51,10 @@ returns-in-None-clause-reads g c = λ ms to l.
     let long = stands_long n.first.0 b.bytes b.place s.middle s.front in
     let d = c.read_key.new.cursor in
     let key = c.in-None.ensures.names n.first.0 s.middle s.front in
-    let naming = key_names (table_of t) c.is_numbered.result (map entry_of c.rows.result.now) n.first.0 wrong c.is_numbered.ensures c.rows.ensures.rows key.is in
-    let spent = key_spent t (record_cost t - 4) ms to start c.loop-alloc.left c.more.new.left a b e walks.looks n d s.middle long s.back.forward key.spends in
+    let naming = key_names (table_of t) c.is_numbered.result (map entry_of c.rows.result.now) n.first.0 wrong
+    c.is_numbered.ensures c.rows.ensures.rows key.is in
+    let spent = key_spent t (record_cost t - 4) ms to start c.loop-alloc.left c.more.new.left a b e walks.looks
+    n d s.middle long s.back.forward key.spends in
     search (rules, key_fails, all_spent, spent_within, t, start, b, e, n, d, naming, spent)
 
 pub returns-in_err-read_member-clause-reads : goal.returns-in_err-read_member-clause-reads
@@ -97,5 +99,6 @@ returns-clause-reads g c = λ ms to l.
     let b = c.more.new.self in
     let walks = c.loop-alloc-test.ensures.walks in
     let e = c.loop-alloc.invariant.each ms to l in
-    let ended = each_done _ _ _ _ ms to start c.loop-alloc.left c.more.new.left a b false refl walks.pairs walks.looks e in
+    let ended = each_done _ _ _ _ ms to start c.loop-alloc.left c.more.new.left a b false refl walks.pairs
+    walks.looks e in
     search (rules, all_read, all_spent, on_ok, t, start, b, ended, c.finish.ensures.small, c.finish.ensures.reads)

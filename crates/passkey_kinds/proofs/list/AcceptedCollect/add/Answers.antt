@@ -33,5 +33,6 @@ returns-in-None-clause-adds g c = λ i to l.
     let view = g.T.FromCbor.view in
     let xs = c.args.self.now.0.items in
     let read = c.in_ok-element.ensures.reads i to l in
-    let given = some_is (g.T.FromCbor.typed.of i) (option_map view c.in_ok-element.element.0) read.answers ∙ ap (option_map view) c.in-None.is in
+    let given = some_is (g.T.FromCbor.typed.of i) (option_map view c.in_ok-element.element.0) read.answers ∙ ap
+    (option_map view) c.in-None.is in
     search (rules, stands_long, view, xs, read, given)
