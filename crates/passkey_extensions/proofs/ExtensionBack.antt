@@ -1,9 +1,8 @@
 -- The encodings of the extensions' records can be decoded again.
-use Rattle.passkey_kinds.proofs.Steps.{result_ok, ◌≡◌, Some, Ok, refl, ap, [], ◌∷◌, Item, Kind, IsReadBack, truth_back, byte_back, bytes_back, kept_back, anything, optional_place, tolerated_place, puts_value, puts_default, ordered_back, rows_back, ◌▸◌, no_more}
-use Rattle.passkey_extensions.specs.ExtensionTrees.{hmac_input_tree, HmacInputFits, make_extensions_places, make_extensions_tree, MakeExtensionsFit, get_extensions_places, get_extensions_tree, GetExtensionsFit, hmac_input_places}
-use Rattle.passkey_extensions.specs.GetExtensions.{GetExtensionsParts, get_extensions_fields, get_extensions, get_extensions_parts}
-use Rattle.passkey_extensions.specs.HmacInput.{hmac_input_fields, HmacInputParts, hmac_input, read_hmac_input, hmac_input_parts}
-use Rattle.passkey_extensions.specs.MakeExtensions.{MakeExtensionsParts, make_extensions_fields, make_extensions, make_extensions_parts}
+use Rattle.passkey_kinds.proofs.Steps.{result_ok, ◌≡◌, Some, Ok, refl, ap, Item, Kind, IsReadBack, truth_back, byte_back, bytes_back, kept_back, anything, optional_place, tolerated_place, puts_value, puts_default, kind_back, rows_back, ◌▸◌, no_more}
+use Rattle.passkey_extensions.specs.GetExtensions.{GetExtensionsParts, get_extensions_fields, get_extensions, get_extensions_parts, get_extensions_places, get_extensions_tree, GetExtensionsFit}
+use Rattle.passkey_extensions.specs.HmacInput.{hmac_input_fields, HmacInputParts, hmac_input, read_hmac_input, hmac_input_parts, hmac_input_tree, HmacInputFits, hmac_input_places}
+use Rattle.passkey_extensions.specs.MakeExtensions.{MakeExtensionsParts, make_extensions_fields, make_extensions, make_extensions_parts, make_extensions_places, make_extensions_tree, MakeExtensionsFit}
 use Rattle.passkey_extensions.proofs.Prf.{inputs_law}
 
 -- the same for the view of a value
@@ -18,7 +17,7 @@ hmac_message_back h fits =
     (puts_value kept_back h.key_agreement tt ▸
     puts_value bytes_back h.salt_enc tt ▸
     puts_value bytes_back h.salt_auth tt ▸
-    puts_default (optional_place byte_back refl h.pin_uv_auth_protocol fits) refl ▸
+    puts_default (optional_place byte_back refl h.pin_uv_auth_protocol (search)) refl ▸
     no_more)
 
 pub hmac_parts_back : IsReadBack hmac_input hmac_input_tree HmacInputFits (λ h. h)
@@ -32,10 +31,10 @@ pub make_parts_back : IsReadBack make_extensions make_extensions_tree MakeExtens
 make_parts_back = record { back = λ e fits. read e fits } where
   read : (e : MakeExtensionsParts) → MakeExtensionsFit e → make_extensions (make_extensions_tree e) ≡ Some e
   read e fits =
-      ordered_back make_extensions_fields (3 ∷ 1 ∷ 2 ∷ []) (make_extensions_places e) e refl refl refl
-      (puts_default (optional_place inputs_law.back refl e.prf fits.1) refl ▸
+      kind_back make_extensions_fields (make_extensions_places e) e refl refl
+      (puts_default (optional_place inputs_law.back refl e.prf (search)) refl ▸
       puts_default (optional_place truth_back refl e.hmac_secret (anything e.hmac_secret)) refl ▸
-      puts_default (optional_place hmac_parts_back refl e.hmac_secret_mc fits.0) refl ▸
+      puts_default (optional_place hmac_parts_back refl e.hmac_secret_mc (search)) refl ▸
       no_more)
 
 pub make_extensions_back : IsReadBack make_extensions (λ e. make_extensions_tree (make_extensions_parts e))
@@ -46,9 +45,9 @@ pub get_parts_back : IsReadBack get_extensions get_extensions_tree GetExtensions
 get_parts_back = record { back = λ e fits. read e fits } where
   read : (e : GetExtensionsParts) → GetExtensionsFit e → get_extensions (get_extensions_tree e) ≡ Some e
   read e fits =
-      ordered_back get_extensions_fields (2 ∷ 1 ∷ []) (get_extensions_places e) e refl refl refl
-      (puts_default (tolerated_place inputs_law.back e.prf fits.1) refl ▸
-      puts_default (tolerated_place hmac_parts_back e.hmac_secret fits.0) refl ▸
+      kind_back get_extensions_fields (get_extensions_places e) e refl refl
+      (puts_default (tolerated_place inputs_law.back e.prf (search)) refl ▸
+      puts_default (tolerated_place hmac_parts_back e.hmac_secret (search)) refl ▸
       no_more)
 
 pub get_extensions_back : IsReadBack get_extensions (λ e. get_extensions_tree (get_extensions_parts e))

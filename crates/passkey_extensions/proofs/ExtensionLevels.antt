@@ -1,7 +1,8 @@
 -- The nesting levels of the encodings of extension inputs: those of the key, and a few around it.
 use Rattle.passkey_kinds.proofs.Steps.{codes, ◌≡◌, ℕ, zero, suc, ◌<◌, ◌≤◌, nat_lt, nat_le, min, ◌^◌, ◌-◌, arith, depth, text_string, OnlyDeep, only_deep, record_within, few_levels}
-use Rattle.passkey_extensions.specs.ExtensionTrees.{hmac_input_places, hmac_input_tree, make_extensions_places, get_extensions_places}
-use Rattle.passkey_extensions.specs.HmacInput.{HmacInputParts}
+use Rattle.passkey_extensions.specs.MakeExtensions.{make_extensions_places}
+use Rattle.passkey_extensions.specs.GetExtensions.{get_extensions_places}
+use Rattle.passkey_extensions.specs.HmacInput.{HmacInputParts, hmac_input_places, hmac_input_tree}
 use Rattle.passkey_kinds.proofs.Levels.{of_record}
 use Rattle.passkey_extensions.proofs.ExtensionPlain.{hmac_input_each, make_extensions_each, get_extensions_each}
 

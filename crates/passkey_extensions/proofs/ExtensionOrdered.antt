@@ -1,10 +1,9 @@
 -- Inputs and outputs of extensions are ordered.
 use Rattle.passkey_kinds.proofs.Steps.{codes, ◌≡◌, arith, true, Option, Some, None, option_map, refl, IsOrdered, depth, max_depth, Item, text_string, AtMostOneLeadingItem, WrittenIsLeadingItem, shortest_head, AllCanonical, WrittenIsCanonical, KeysAscend, PlaceWithin, ascend, keys_ascend, PlaceOrdered, PlaceWritable, record_ordered, canonical_of, ordered_of, in_order}
 use Rattle.std.proofs.Common.{leb-true}
-use Rattle.passkey_extensions.specs.ExtensionTrees.{hmac_input_places, hmac_input_tree, is_hmac_input_coherent, hmac_input_kept, inputs_kept, make_extensions_places, make_extensions_tree, make_extensions_kept, get_extensions_places, get_extensions_tree, get_extensions_kept}
-use Rattle.passkey_extensions.specs.GetExtensions.{GetExtensionsParts}
-use Rattle.passkey_extensions.specs.HmacInput.{HmacInputParts}
-use Rattle.passkey_extensions.specs.MakeExtensions.{MakeExtensionsParts}
+use Rattle.passkey_extensions.specs.GetExtensions.{GetExtensionsParts, get_extensions_places, get_extensions_tree, get_extensions_kept}
+use Rattle.passkey_extensions.specs.HmacInput.{HmacInputParts, hmac_input_places, hmac_input_tree, is_hmac_input_coherent, hmac_input_kept, inputs_kept}
+use Rattle.passkey_extensions.specs.MakeExtensions.{MakeExtensionsParts, make_extensions_places, make_extensions_tree, make_extensions_kept}
 use Rattle.passkey_extensions.proofs.ExtensionLevels.{input_down}
 use Rattle.passkey_kinds.proofs.Levels.{of_record as levels_of}
 use Rattle.passkey_kinds.proofs.Ordered.{of_record}

@@ -1,10 +1,9 @@
 -- What holds of each key and value that extension inputs are encoded as, if it holds of the key that
 -- an input of hmac-secret keeps.
 use Rattle.passkey_kinds.proofs.Steps.{codes, ℕ, option_map, Item, text_string, PlaceHas, EachPlace, Rule, plainly}
-use Rattle.passkey_extensions.specs.ExtensionTrees.{hmac_input_places, hmac_input_tree, make_extensions_places, get_extensions_places}
-use Rattle.passkey_extensions.specs.GetExtensions.{GetExtensionsParts}
-use Rattle.passkey_extensions.specs.HmacInput.{HmacInputParts}
-use Rattle.passkey_extensions.specs.MakeExtensions.{MakeExtensionsParts}
+use Rattle.passkey_extensions.specs.GetExtensions.{GetExtensionsParts, get_extensions_places}
+use Rattle.passkey_extensions.specs.HmacInput.{HmacInputParts, hmac_input_places, hmac_input_tree}
+use Rattle.passkey_extensions.specs.MakeExtensions.{MakeExtensionsParts, make_extensions_places}
 use Rattle.passkey_extensions.proofs.Prf.{inputs_law}
 
 pub hmac_input_each : {n : ℕ} {Q : Item → Type 0} → Rule n Q → (h : HmacInputParts) → Q h.key_agreement

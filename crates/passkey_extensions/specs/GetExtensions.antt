@@ -1,7 +1,9 @@
 -- Extension inputs of authenticatorGetAssertion requests (CTAP 2.1, section 6.2).
-use Rattle.std.specs.Prelude.{[], ◌∷◌, Option, None, codes, false, Bool, ◌||◌, is_some, option_map}
-use Rattle.passkey_kinds.specs.Words.{Kind, Fields, default, record_kind, nested, tolerated, fields_of}
-use Rattle.passkey_extensions.specs.HmacInput.{HmacInputParts, hmac_input_fields, hmac_input_parts}
+use Rattle.std.specs.Prelude.{List, [], ◌∷◌, Bool, Option, Some, None, codes, false, ◌||◌, is_some, option_map}
+use Rattle.passkey_kinds.specs.Words.{Item, Kind, Placed, tolerated_as, places_of, EachFits, Fields, fields_with, nested, record_kind, Place, record_tree}
+use Rattle.passkey_kinds.specs.Coded.{plain}
+use Rattle.passkey_kinds.specs.Placed.{Coded}
+use Rattle.passkey_extensions.specs.HmacInput.{HmacInputParts, hmac_input_parts, hmac_coded, inputs_kept}
 use Rattle.passkey_extensions.specs.Prf.{prf_inputs}
 use Rattle.passkey_extensions.specs.declared.prf_inputs.AuthenticatorPrfInputs.{AuthenticatorPrfInputs}
 use Rattle.passkey_extensions.specs.declared.get_assertion.extension_inputs.ExtensionInputs.{ExtensionInputs}
@@ -21,15 +23,34 @@ no_get_extensions = record { hmac_secret = None; prf = None }
 abbrev pub has_get_extension : ExtensionInputs → Bool
 has_get_extension x = is_some x.hmac_secret || is_some x.prf
 
+abbrev pub get_extensions_members : List (Placed GetExtensionsParts)
+get_extensions_members =
+    tolerated_as 2 (codes "prf") (plain prf_inputs) (λ e. e.prf) (λ x e. record e { prf = x })
+    ∷ tolerated_as 1 (codes "hmac-secret") hmac_coded (λ e. e.hmac_secret) (λ x e. record e { hmac_secret = x })
+    ∷ []
+
 abbrev pub get_extensions_fields : Fields GetExtensionsParts
-get_extensions_fields = record {
-  is_numbered = false;
-  blank = record { hmac_secret = None; prf = None };
-  rows =
-      default 1 (codes "hmac-secret") (tolerated (nested hmac_input_fields)) (λ x r. record r { hmac_secret = x })
-      ∷ default 2 (codes "prf") (tolerated (nested (fields_of prf_inputs))) (λ x r. record r { prf = x })
-      ∷ [];
-}
+get_extensions_fields = fields_with false (record { hmac_secret = None; prf = None }) get_extensions_members
 
 abbrev pub get_extensions : Kind GetExtensionsParts
 get_extensions = record_kind get_extensions_fields
+
+-- ---- the encoding of the inputs
+
+abbrev pub get_extensions_places : GetExtensionsParts → List Place
+get_extensions_places = places_of get_extensions_members
+
+abbrev pub get_extensions_tree : GetExtensionsParts → Item
+get_extensions_tree e = record_tree (get_extensions_places e)
+
+abbrev pub get_extensions_kept : Option GetExtensionsParts → List Item
+get_extensions_kept None = []
+get_extensions_kept (Some e) = inputs_kept e.hmac_secret
+
+-- what holds of all inputs
+abbrev pub GetExtensionsFit : GetExtensionsParts → Type 0
+GetExtensionsFit = EachFits get_extensions_members
+
+-- the inputs as a member of a message
+abbrev pub get_extensions_coded : Coded GetExtensionsParts
+get_extensions_coded = record { typed = nested get_extensions_fields; tree = get_extensions_tree; Fits = GetExtensionsFit }

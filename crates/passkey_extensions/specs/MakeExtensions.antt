@@ -1,7 +1,9 @@
 -- Extension inputs of authenticatorMakeCredential requests (CTAP 2.1, section 6.1).
-use Rattle.std.specs.Prelude.{[], ◌∷◌, Bool, Option, None, codes, false, ◌||◌, is_some, option_map}
-use Rattle.passkey_kinds.specs.Words.{Kind, Fields, default, record_kind, nested, optional, truth, fields_of}
-use Rattle.passkey_extensions.specs.HmacInput.{HmacInputParts, hmac_input_fields, hmac_input_parts}
+use Rattle.std.specs.Prelude.{List, [], ◌∷◌, Bool, Option, Some, None, codes, false, ◌||◌, is_some, option_map}
+use Rattle.passkey_kinds.specs.Words.{Item, Kind, Placed, optional_as, places_of, EachFits, Fields, fields_with, nested, record_kind, Place, record_tree}
+use Rattle.passkey_kinds.specs.Coded.{truth, plain}
+use Rattle.passkey_kinds.specs.Placed.{Coded}
+use Rattle.passkey_extensions.specs.HmacInput.{HmacInputParts, hmac_input_parts, hmac_coded, inputs_kept}
 use Rattle.passkey_extensions.specs.Prf.{prf_inputs}
 use Rattle.passkey_extensions.specs.declared.prf_inputs.AuthenticatorPrfInputs.{AuthenticatorPrfInputs}
 use Rattle.passkey_extensions.specs.declared.make_credential.extension_inputs.ExtensionInputs.{ExtensionInputs}
@@ -26,16 +28,36 @@ no_make_extensions = record { hmac_secret = None; hmac_secret_mc = None; prf = N
 abbrev pub has_make_extension : ExtensionInputs → Bool
 has_make_extension x = is_some x.hmac_secret || is_some x.hmac_secret_mc || is_some x.prf
 
+abbrev pub make_extensions_members : List (Placed MakeExtensionsParts)
+make_extensions_members =
+    optional_as 3 (codes "prf") (plain prf_inputs) (λ e. e.prf) (λ x e. record e { prf = x })
+    ∷ optional_as 1 (codes "hmac-secret") truth (λ e. e.hmac_secret) (λ x e. record e { hmac_secret = x })
+    ∷ optional_as 2 (codes "hmac-secret-mc") hmac_coded (λ e. e.hmac_secret_mc) (λ x e. record e { hmac_secret_mc = x })
+    ∷ []
+
 abbrev pub make_extensions_fields : Fields MakeExtensionsParts
-make_extensions_fields = record {
-  is_numbered = false;
-  blank = record { hmac_secret = None; hmac_secret_mc = None; prf = None };
-  rows = default 1 (codes "hmac-secret") (optional truth) (λ x r. record r { hmac_secret = x })
-      ∷ default 2 (codes "hmac-secret-mc") (optional (nested hmac_input_fields))
-      (λ x r. record r { hmac_secret_mc = x })
-      ∷ default 3 (codes "prf") (optional (nested (fields_of prf_inputs))) (λ x r. record r { prf = x })
-      ∷ [];
-}
+make_extensions_fields = fields_with false
+    (record { hmac_secret = None; hmac_secret_mc = None; prf = None }) make_extensions_members
 
 abbrev pub make_extensions : Kind MakeExtensionsParts
 make_extensions = record_kind make_extensions_fields
+
+-- ---- the encoding of the inputs
+
+abbrev pub make_extensions_places : MakeExtensionsParts → List Place
+make_extensions_places = places_of make_extensions_members
+
+abbrev pub make_extensions_tree : MakeExtensionsParts → Item
+make_extensions_tree e = record_tree (make_extensions_places e)
+
+abbrev pub make_extensions_kept : Option MakeExtensionsParts → List Item
+make_extensions_kept None = []
+make_extensions_kept (Some e) = inputs_kept e.hmac_secret_mc
+
+-- what holds of all inputs
+abbrev pub MakeExtensionsFit : MakeExtensionsParts → Type 0
+MakeExtensionsFit = EachFits make_extensions_members
+
+-- the inputs as a member of a message
+abbrev pub make_extensions_coded : Coded MakeExtensionsParts
+make_extensions_coded = record { typed = nested make_extensions_fields; tree = make_extensions_tree; Fits = MakeExtensionsFit }

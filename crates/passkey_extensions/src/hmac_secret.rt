@@ -1,8 +1,7 @@
 //! Inputs of the extension hmac-secret.
 ghost use Rattle.std.specs.Prelude.{◌≡◌, ◌<◌, ◌⊎◌, length, true, nat_le, IfOk, IfErr, OnErr, OnOk};
 ghost use Rattle.passkey_kinds.specs.Words.{depth, Grows, item_of, IsWritable, written, ReadsMessage, ReadsHere, GrowsMessage, MayGrowAt, Reads};
-ghost use Rattle.passkey_extensions.specs.HmacInput.{HmacInputParts, hmac_input_fields, hmac_input_table, read_hmac_input, hmac_input_parts};
-ghost use Rattle.passkey_extensions.specs.ExtensionTrees.{HmacInputFits, hmac_input_places, hmac_input_tree, is_hmac_input_coherent};
+ghost use Rattle.passkey_extensions.specs.HmacInput.{HmacInputParts, hmac_input_fields, hmac_input_table, read_hmac_input, hmac_input_parts, HmacInputFits, hmac_input_places, hmac_input_tree, is_hmac_input_coherent};
 ghost use Rattle.passkey_kinds.specs.declared.fault.Fault.TheVariants.{OutOfMemory as NoRoom};
 ghost use Rattle.passkey_kinds.specs.declared.write_fault.WriteFault.TheVariants.{OutOfMemory as NoMemory};
 

@@ -1,7 +1,8 @@
 //! Laws about the extensions' records. Each is the contract of a function that does nothing.
 ghost use Rattle.passkey_kinds.specs.Words.{WrittenIsReadBack, ReadIsCoherent, WrittenIsCanonical, places_of, PassesOverUnknown, KnowsMaps, KeysAscend};
-ghost use Rattle.passkey_extensions.specs.ExtensionTrees.{hmac_input_tree, HmacInputFits, is_hmac_input_coherent, hmac_input_kept, make_extensions_places, get_extensions_places};
-ghost use Rattle.passkey_extensions.specs.HmacInput.{hmac_input_fields, read_hmac_input, hmac_input_parts};
+ghost use Rattle.passkey_extensions.specs.MakeExtensions.{make_extensions_places};
+ghost use Rattle.passkey_extensions.specs.GetExtensions.{get_extensions_places};
+ghost use Rattle.passkey_extensions.specs.HmacInput.{hmac_input_fields, read_hmac_input, hmac_input_parts, hmac_input_tree, HmacInputFits, is_hmac_input_coherent, hmac_input_kept};
 ghost use Rattle.passkey_extensions.specs.Prf.{prf_values, prf_inputs, prf_made};
 
 use crate::HmacGetSecretInput;

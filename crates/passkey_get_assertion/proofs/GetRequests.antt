@@ -1,9 +1,9 @@
 -- authenticatorGetAssertion requests: decoding their encodings again, and their nesting levels.
-use Rattle.passkey_kinds.proofs.Steps.{◌≡◌, ℕ, ◌<◌, ◌≤◌, nat_le, arith, le-leb, true, Option, Some, Ok, refl, depth, Item, tolerated, ReadIsCoherent, number_tree, OnlyDeep, only_deep, deep_coherent, record_keeps, byte_back, text_back, bytes_back, anything, all_of_anything, optional_place, accepted_place, tolerated_place, descriptor_back, few_levels, puts_value, puts_default, rows_back, ◌▸◌, no_more}
+use Rattle.passkey_kinds.proofs.Steps.{◌≡◌, ℕ, ◌<◌, ◌≤◌, nat_le, arith, le-leb, true, Option, Some, Ok, refl, depth, Item, tolerated, ReadIsCoherent, number_tree, OnlyDeep, only_deep, deep_coherent, record_keeps, byte_back, text_back, bytes_back, anything, all_of_anything, optional_place, accepted_place, tolerated_place, descriptor_law, few_levels, puts_value, puts_default, rows_back, ◌▸◌, no_more}
 use Rattle.passkey_get_assertion.specs.GetRequest.{GetRequestParts, get_request_fields, read_get_request, get_request_places, get_request_tree, GetRequestFits, is_get_request_coherent}
 use Rattle.passkey_get_assertion.proofs.GetBack.{options_law}
-use Rattle.passkey_extensions.specs.ExtensionTrees.{hmac_input_tree, get_extensions_tree}
-use Rattle.passkey_extensions.specs.GetExtensions.{GetExtensionsParts, get_extensions}
+use Rattle.passkey_extensions.specs.HmacInput.{hmac_input_tree}
+use Rattle.passkey_extensions.specs.GetExtensions.{GetExtensionsParts, get_extensions, get_extensions_tree}
 use Rattle.passkey_extensions.proofs.ExtensionBack.{get_parts_back}
 use Rattle.passkey_extensions.proofs.ExtensionLevels.{input_up, used_levels}
 use Rattle.passkey_extensions.proofs.Keys.{used_key}
@@ -16,11 +16,11 @@ request_back r fits =
     rows_back get_request_fields (get_request_places r) r refl refl
     (puts_value text_back r.rp_id tt ▸
     puts_value bytes_back r.client_data_hash tt ▸
-    puts_default (accepted_place descriptor_back r.allow_list (all_of_anything r.allow_list)) refl ▸
-    puts_default (tolerated_place get_parts_back r.extensions fits.0) refl ▸
-    puts_value options_law.back r.options (tt, (tt, tt)) ▸
+    puts_default (accepted_place descriptor_law.back r.allow_list (search)) refl ▸
+    puts_default (tolerated_place get_parts_back r.extensions (search)) refl ▸
+    puts_value options_law.back r.options (search) ▸
     puts_default (optional_place bytes_back refl r.pin_auth (anything r.pin_auth)) refl ▸
-    puts_default (optional_place byte_back refl r.pin_protocol fits.1) refl ▸
+    puts_default (optional_place byte_back refl r.pin_protocol (search)) refl ▸
     no_more)
 
 -- ---- only the extensions may have many levels

@@ -1,5 +1,5 @@
 -- authenticatorGetAssertion responses: decoding their encodings again, and their nesting levels.
-use Rattle.passkey_kinds.proofs.Steps.{◌≡◌, ◌≤◌, nat_le, arith, le-leb, Bool, true, false, ◌&&◌, Ok, refl, sym, and_from, depth, max_depth, is_coherent, GivenIsCoherent, ReadIsGiven, WrittenDataAreReadBack, ReadIsCoherent, auth_data_back, auth_data_coherent, record_keeps, truth_back, byte_back, bytes_back, anything, optional_place, if_fits, record_within, descriptor_back, few_levels, puts_value, puts_default, rows_back, ◌▸◌, no_more}
+use Rattle.passkey_kinds.proofs.Steps.{◌≡◌, ◌≤◌, nat_le, arith, le-leb, Bool, true, false, ◌&&◌, Ok, refl, sym, and_from, depth, max_depth, is_coherent, GivenIsCoherent, ReadIsGiven, WrittenDataAreReadBack, ReadIsCoherent, auth_data_back, auth_data_coherent, record_keeps, truth_back, byte_back, bytes_back, anything, optional_place, if_fits, record_within, descriptor_law, few_levels, puts_value, puts_default, rows_back, ◌▸◌, no_more}
 use Rattle.passkey_get_assertion.specs.GetResponse.{GetResponseParts, get_response_fields, read_get_response, get_response_places, get_response_tree, GetResponseFits, is_get_response_coherent, normal_get_response}
 use Rattle.passkey_entities.proofs.Entities.{user_law, user_fits}
 use Rattle.passkey_extensions.proofs.Prf.{used_unsigned_law}
@@ -29,14 +29,14 @@ pub response_back : WrittenDataAreReadBack → ReadIsGiven → (r : GetResponseP
     → is_coherent r.auth_data ≡ true → read_get_response (get_response_tree r) ≡ Ok (normal_get_response r)
 response_back written given r fits coherent =
     rows_back get_response_fields (get_response_places r) (normal_get_response r) refl refl
-    (puts_default (optional_place descriptor_back refl r.credential (anything r.credential)) refl ▸
-    puts_value (auth_data_back written given) r.auth_data (fits.auth_data, coherent) ▸
+    (puts_default (optional_place descriptor_law.back refl r.credential (search)) refl ▸
+    puts_value (auth_data_back written given) r.auth_data (search) ▸
     puts_value bytes_back r.signature tt ▸
-    puts_default (optional_place user_law.back refl r.user (if_fits user_fits r.user)) refl ▸
-    puts_default (optional_place byte_back refl r.number_of_credentials fits.number_of_credentials) refl ▸
+    puts_default (optional_place user_law.back refl r.user (search)) refl ▸
+    puts_default (optional_place byte_back refl r.number_of_credentials (search)) refl ▸
     puts_default (optional_place truth_back refl r.user_selected (anything r.user_selected)) refl ▸
     puts_default (optional_place bytes_back refl r.large_blob_key (anything r.large_blob_key)) refl ▸
-    puts_default (optional_place used_unsigned_law.back refl r.unsigned_extension_outputs fits.unsigned_extension_outputs) refl ▸
+    puts_default (optional_place used_unsigned_law.back refl r.unsigned_extension_outputs (search)) refl ▸
     no_more)
 
 -- ---- a decoded response is coherent

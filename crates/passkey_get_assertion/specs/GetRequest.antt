@@ -1,11 +1,11 @@
 -- authenticatorGetAssertion requests (CTAP 2.1, section 6.2).
 use Rattle.std.specs.Prelude.{ℕ, nat_le, Bool, true, List, [], ◌∷◌, Option, None, codes, Result, option_map}
-use Rattle.passkey_kinds.specs.Words.{depth, max_depth, Item, byte_string, text_string, IfPresent, descriptor_fields, fields_of, plain_tree, Fields, required, default, table_of, read_item, nested, Table, below, optional, bytes, text, accepted, tolerated, IsByte, Place, number_tree, list_tree, always, where_some, record_tree, descriptor_tree, PublicKeyCredentialDescriptor}
+use Rattle.passkey_kinds.specs.Words.{depth, max_depth, Item, Placed, required_at, default_at, optional_at, tolerated_at, places_of, EachFits, descriptor, Fields, fields_with, table_of, read_item, Table, Place, record_tree, PublicKeyCredentialDescriptor}
+use Rattle.passkey_kinds.specs.Coded.{byte, text, bytes, accepted, plain}
 use Rattle.passkey_kinds.specs.declared.fault.Fault.{Fault}
 use Rattle.passkey_get_assertion.specs.GetOptions.{options, options_default}
 use Rattle.passkey_get_assertion.specs.declared.options.Options.{Options}
-use Rattle.passkey_extensions.specs.ExtensionTrees.{get_extensions_tree, GetExtensionsFit, get_extensions_kept}
-use Rattle.passkey_extensions.specs.GetExtensions.{GetExtensionsParts, get_extensions_fields, get_extensions_parts}
+use Rattle.passkey_extensions.specs.GetExtensions.{GetExtensionsParts, get_extensions_coded, get_extensions_parts, get_extensions_kept}
 use Rattle.passkey_get_assertion.specs.declared.request.Request.{Request}
 
 -- what contracts see of a request
@@ -29,29 +29,28 @@ get_request_parts r = record {
   pin_protocol = r.pin_protocol;
 }
 
+abbrev pub get_request_members : List (Placed GetRequestParts)
+get_request_members =
+    required_at 1 (codes "rpId") text (λ r. r.rp_id) (λ x r. record r { rp_id = x })
+    ∷ required_at 2 (codes "clientDataHash") bytes (λ r. r.client_data_hash) (λ x r. record r { client_data_hash = x })
+    ∷ tolerated_at 3 (codes "allowList") (accepted (plain descriptor)) (λ r. r.allow_list)
+    (λ x r. record r { allow_list = x })
+    ∷ tolerated_at 4 (codes "extensions") get_extensions_coded (λ r. r.extensions) (λ x r. record r { extensions = x })
+    ∷ default_at 5 (codes "options") (plain options) (λ r. r.options) (λ x r. record r { options = x })
+    ∷ optional_at 6 (codes "pinAuth") bytes (λ r. r.pin_auth) (λ x r. record r { pin_auth = x })
+    ∷ optional_at 7 (codes "pinProtocol") byte (λ r. r.pin_protocol) (λ x r. record r { pin_protocol = x })
+    ∷ []
+
 abbrev pub get_request_fields : Fields GetRequestParts
-get_request_fields = record {
-  is_numbered = true;
-  blank = record {
-    rp_id = [];
-    client_data_hash = [];
-    allow_list = None;
-    extensions = None;
-    options = options_default;
-    pin_auth = None;
-    pin_protocol = None;
-  };
-  rows = required 1 (codes "rpId") text (λ x r. record r { rp_id = x })
-      ∷ required 2 (codes "clientDataHash") bytes (λ x r. record r { client_data_hash = x })
-      ∷ default 3 (codes "allowList") (tolerated (accepted (nested descriptor_fields)))
-      (λ x r. record r { allow_list = x })
-      ∷ default 4 (codes "extensions") (tolerated (nested get_extensions_fields))
-      (λ x r. record r { extensions = x })
-      ∷ default 5 (codes "options") (nested (fields_of options)) (λ x r. record r { options = x })
-      ∷ default 6 (codes "pinAuth") (optional bytes) (λ x r. record r { pin_auth = x })
-      ∷ default 7 (codes "pinProtocol") (optional (below 256)) (λ x r. record r { pin_protocol = x })
-      ∷ [];
-}
+get_request_fields = fields_with true (record {
+  rp_id = [];
+  client_data_hash = [];
+  allow_list = None;
+  extensions = None;
+  options = options_default;
+  pin_auth = None;
+  pin_protocol = None;
+}) get_request_members
 
 abbrev pub get_request_table : Table
 get_request_table = table_of get_request_fields
@@ -63,15 +62,7 @@ read_get_request = read_item get_request_fields
 -- ---- the encoding of a request
 
 abbrev pub get_request_places : GetRequestParts → List Place
-get_request_places r =
-    always (number_tree 1) text_string r.rp_id
-    ∷ always (number_tree 2) byte_string r.client_data_hash
-    ∷ where_some (number_tree 3) (list_tree descriptor_tree) r.allow_list
-    ∷ where_some (number_tree 4) get_extensions_tree r.extensions
-    ∷ always (number_tree 5) (plain_tree options) r.options
-    ∷ where_some (number_tree 6) byte_string r.pin_auth
-    ∷ where_some (number_tree 7) number_tree r.pin_protocol
-    ∷ []
+get_request_places = places_of get_request_members
 
 abbrev pub get_request_tree : GetRequestParts → Item
 get_request_tree r = record_tree (get_request_places r)
@@ -82,7 +73,7 @@ get_request_kept r = get_extensions_kept r.extensions
 
 -- what holds of every request
 abbrev pub GetRequestFits : GetRequestParts → Type 0
-GetRequestFits r = IfPresent GetExtensionsFit r.extensions × IfPresent IsByte r.pin_protocol
+GetRequestFits = EachFits get_request_members
 
 -- the encoding has at most `max_depth` nesting levels, so it can be decoded again
 abbrev pub is_get_request_coherent : GetRequestParts → Bool

@@ -1,6 +1,7 @@
 -- authenticatorGetAssertion responses (CTAP 2.1, section 6.2).
 use Rattle.std.specs.Prelude.{ℕ, nat_le, Bool, true, ◌&&◌, List, [], ◌∷◌, Option, None, codes, Result, replicate}
-use Rattle.passkey_kinds.specs.Words.{depth, max_depth, Item, boolean, byte_string, is_coherent, IsData, IfPresent, normal_data, DataParts, bare_data, auth_data_tree, descriptor_fields, EachFits, fields_of, plain_tree, Fields, required, default, table_of, read_item, nested, Table, below, bytes, optional, truth, authenticator_data, IsByte, Place, number_tree, always, where_some, record_tree, descriptor_tree, PublicKeyCredentialDescriptor, data_parts}
+use Rattle.passkey_kinds.specs.Words.{depth, max_depth, Item, is_coherent, normal_data, DataParts, bare_data, Placed, required_at, optional_at, places_of, EachFits, descriptor, Fields, fields_with, table_of, read_item, Table, Place, record_tree, PublicKeyCredentialDescriptor, data_parts}
+use Rattle.passkey_kinds.specs.Coded.{truth, byte, bytes, authenticator_data, plain}
 use Rattle.passkey_kinds.specs.declared.fault.Fault.{Fault}
 use Rattle.passkey_entities.specs.User.{user}
 use Rattle.passkey_entities.specs.declared.user.PublicKeyCredentialUserEntity.{PublicKeyCredentialUserEntity}
@@ -32,31 +33,31 @@ get_response_parts r = record {
   unsigned_extension_outputs = r.unsigned_extension_outputs;
 }
 
+abbrev pub get_response_members : List (Placed GetResponseParts)
+get_response_members =
+    optional_at 1 (codes "credential") (plain descriptor) (λ r. r.credential) (λ x r. record r { credential = x })
+    ∷ required_at 2 (codes "authData") authenticator_data (λ r. r.auth_data) (λ x r. record r { auth_data = x })
+    ∷ required_at 3 (codes "signature") bytes (λ r. r.signature) (λ x r. record r { signature = x })
+    ∷ optional_at 4 (codes "user") (plain user) (λ r. r.user) (λ x r. record r { user = x })
+    ∷ optional_at 5 (codes "numberOfCredentials") byte (λ r. r.number_of_credentials)
+    (λ x r. record r { number_of_credentials = x })
+    ∷ optional_at 6 (codes "userSelected") truth (λ r. r.user_selected) (λ x r. record r { user_selected = x })
+    ∷ optional_at 7 (codes "largeBlobKey") bytes (λ r. r.large_blob_key) (λ x r. record r { large_blob_key = x })
+    ∷ optional_at 8 (codes "unsignedExtensionOutputs") (plain (unsigned prf_used)) (λ r. r.unsigned_extension_outputs)
+    (λ x r. record r { unsigned_extension_outputs = x })
+    ∷ []
+
 abbrev pub get_response_fields : Fields GetResponseParts
-get_response_fields = record {
-  is_numbered = true;
-  blank = record {
-    credential = None;
-    auth_data = bare_data (replicate 32 0) 24 None;
-    signature = [];
-    user = None;
-    number_of_credentials = None;
-    user_selected = None;
-    large_blob_key = None;
-    unsigned_extension_outputs = None;
-  };
-  rows = default 1 (codes "credential") (optional (nested descriptor_fields)) (λ x r. record r { credential = x })
-      ∷ required 2 (codes "authData") authenticator_data (λ x r. record r { auth_data = x })
-      ∷ required 3 (codes "signature") bytes (λ x r. record r { signature = x })
-      ∷ default 4 (codes "user") (optional (nested (fields_of user))) (λ x r. record r { user = x })
-      ∷ default 5 (codes "numberOfCredentials") (optional (below 256))
-      (λ x r. record r { number_of_credentials = x })
-      ∷ default 6 (codes "userSelected") (optional truth) (λ x r. record r { user_selected = x })
-      ∷ default 7 (codes "largeBlobKey") (optional bytes) (λ x r. record r { large_blob_key = x })
-      ∷ default 8 (codes "unsignedExtensionOutputs") (optional (nested (fields_of (unsigned prf_used))))
-      (λ x r. record r { unsigned_extension_outputs = x })
-      ∷ [];
-}
+get_response_fields = fields_with true (record {
+  credential = None;
+  auth_data = bare_data (replicate 32 0) 24 None;
+  signature = [];
+  user = None;
+  number_of_credentials = None;
+  user_selected = None;
+  large_blob_key = None;
+  unsigned_extension_outputs = None;
+}) get_response_members
 
 abbrev pub get_response_table : Table
 get_response_table = table_of get_response_fields
@@ -68,16 +69,7 @@ read_get_response = read_item get_response_fields
 -- ---- the encoding of a response
 
 abbrev pub get_response_places : GetResponseParts → List Place
-get_response_places r =
-    where_some (number_tree 1) descriptor_tree r.credential
-    ∷ always (number_tree 2) auth_data_tree r.auth_data
-    ∷ always (number_tree 3) byte_string r.signature
-    ∷ where_some (number_tree 4) (plain_tree user) r.user
-    ∷ where_some (number_tree 5) number_tree r.number_of_credentials
-    ∷ where_some (number_tree 6) boolean r.user_selected
-    ∷ where_some (number_tree 7) byte_string r.large_blob_key
-    ∷ where_some (number_tree 8) (plain_tree (unsigned prf_used)) r.unsigned_extension_outputs
-    ∷ []
+get_response_places = places_of get_response_members
 
 abbrev pub get_response_tree : GetResponseParts → Item
 get_response_tree r = record_tree (get_response_places r)
@@ -87,10 +79,8 @@ abbrev pub get_response_kept : GetResponseParts → List Item
 get_response_kept r = []
 
 -- what holds of every response
-pub record GetResponseFits (r : GetResponseParts) : Type 0 where
-  pub auth_data : IsData r.auth_data
-  pub number_of_credentials : IfPresent IsByte r.number_of_credentials
-  pub unsigned_extension_outputs : IfPresent (EachFits (unsigned prf_used).members) r.unsigned_extension_outputs
+abbrev pub GetResponseFits : GetResponseParts → Type 0
+GetResponseFits = EachFits get_response_members
 
 -- the authenticator data is coherent, and the encoding has at most `max_depth` nesting levels
 abbrev pub is_get_response_coherent : GetResponseParts → Bool

@@ -1,5 +1,5 @@
 -- authenticatorGetInfo responses: decoding their encodings again, and their nesting levels.
-use Rattle.passkey_kinds.proofs.Steps.{◌≡◌, ℕ, pos, ◌^◌, ◌<◌, ◌≤◌, nat_lt, nat_le, arith, le-leb, ltb-true, Bool, true, false, ◌&&◌, if◌then◌else◌, Option, Some, None, option_map, unwrap_or, Result, Ok, Err, OnOk, refl, sym, ap, and_from, same_tests, depth, max_depth, Item, IfPresent, optional, ReadIsCoherent, size, number_tree, option_place, record_keeps, not_null, puts_value, puts_default, ◌▸◌, no_more, rows_back, size_back, aaguid_back, list_same, truth_back, byte_back, word_back, text_back, bytes_back, transport_back, list_back, optional_back, anything, all_of_anything, optional_place, accepted_place, if_fits, PlaceWithin, Within, record_within, parameters_back, few_levels}
+use Rattle.passkey_kinds.proofs.Steps.{◌≡◌, ℕ, pos, ◌^◌, ◌<◌, ◌≤◌, nat_lt, nat_le, arith, le-leb, ltb-true, Bool, true, false, ◌&&◌, if◌then◌else◌, Option, Some, None, option_map, unwrap_or, Result, Ok, Err, OnOk, refl, sym, ap, and_from, same_tests, depth, max_depth, Item, IfPresent, optional, ReadIsCoherent, size, number_tree, option_place, record_keeps, not_null, puts_value, puts_default, ◌▸◌, no_more, rows_back, size_back, aaguid_back, list_same, truth_back, byte_back, word_back, text_back, bytes_back, transport_back, list_back, optional_back, anything, all_of_anything, optional_place, accepted_place, if_fits, PlaceWithin, Within, record_within, parameters_law, few_levels}
 use Rattle.std.proofs.Common.{leb-true, lt-ltb, is_ok, IfErr}
 use Rattle.passkey_get_info.specs.GetInfo.{GetInfoParts, get_info_fields, read_get_info, get_info_places, get_info_tree, IsPositive, GetInfoFits, is_encodable, has_room, is_get_info_coherent, normal_get_info}
 use Rattle.passkey_kinds.specs.Kind.{kept as kept_item}
@@ -26,11 +26,11 @@ response_back r fits encoded =
     puts_default (option_place (optional_back (list_back extension_back) refl) r.extensions
     (all_of_anything r.extensions)) refl ▸
     puts_value aaguid_back r.aaguid (search) ▸
-    puts_default (optional_place options_law.back refl r.options (if_fits options_fit r.options)) refl ▸
+    puts_default (optional_place options_law.back refl r.options (search)) refl ▸
     puts_default (optional_place size_back refl r.max_msg_size (sized r.max_msg_size (search) encoded)) refl ▸
     puts_default (optional_place (list_same byte_back) refl r.pin_protocols (search)) refl ▸
     puts_default (accepted_place transport_back r.transports (all_of_anything r.transports)) refl ▸
-    puts_default (accepted_place parameters_back r.algorithms (all_of_anything r.algorithms)) refl ▸
+    puts_default (accepted_place parameters_law.back r.algorithms (search)) refl ▸
     puts_default (optional_place word_back refl r.mac_serialized_large_blob_array (search)) refl ▸
     puts_default (optional_place truth_back refl r.force_pin_change (anything r.force_pin_change)) refl ▸
     puts_default (optional_place word_back refl r.min_pin_length (search)) refl ▸

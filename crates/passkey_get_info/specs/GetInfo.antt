@@ -1,17 +1,17 @@
 -- authenticatorGetInfo responses (CTAP 2.1, section 6.4).
-use Rattle.std.specs.Prelude.{ℕ, ◌<◌, ◌^◌, nat_lt, nat_le, Bool, true, ◌&&◌, if◌then◌else◌, List, [], ◌∷◌, ◌++◌, map, length, ◌≡◌, Option, Some, None, codes, replicate, Result, option_map}
+use Rattle.std.specs.Prelude.{ℕ, ◌<◌, ◌^◌, nat_lt, nat_le, Bool, true, ◌&&◌, if◌then◌else◌, List, [], ◌∷◌, ◌++◌, map, Option, Some, None, codes, replicate, Result, option_map}
 use Rattle.std.specs.Int.NonZero.{non_zero_u128_get}
-use Rattle.std.specs.List.{All}
 use Rattle.std.specs.Option.{option_and_then}
-use Rattle.passkey_kinds.specs.Words.{depth, Item, byte_string, text_string, null, max_depth, item_of, IfPresent, nothing, parameters_fields, Placed, placed, places_of, EachFits, fields_of, fields_with, plain_tree, IsByte, Fields, required, default, table_of, read_item, nested, Table, Place, number_tree, list_tree, always, where_some, record_tree, parameters_tree, transport_tree, aaguid, below, size, text, one_named, optional, kept, growing, list, accepted, tolerated, transport_named, PublicKeyCredentialParameters, AuthenticatorTransport}
+use Rattle.passkey_kinds.specs.Words.{depth, Item, null, max_depth, item_of, IfPresent, parameters, Placed, placed, required_at, optional_at, tolerated_at, places_of, EachFits, fields_with, Fields, default, table_of, read_item, Table, Place, number_tree, record_tree, size, optional, kept, PublicKeyCredentialParameters, AuthenticatorTransport}
+use Rattle.passkey_kinds.specs.Coded.{truth, byte, word, text, bytes, aaguid, transport, list, accepted, plain}
 use Rattle.passkey_kinds.specs.declared.fault.Fault.{Fault}
-use Rattle.passkey_get_info.specs.GetInfoNames.{version, version_tree, normal_version, extension, extension_tree, normal_extension}
+use Rattle.passkey_get_info.specs.GetInfoNames.{version_coded, normal_version, extension_coded, normal_extension}
 use Rattle.passkey_get_info.specs.GetInfoOptions.{options}
 use Rattle.passkey_get_info.specs.declared.extension.Extension.{Extension}
 use Rattle.passkey_get_info.specs.declared.options.Options.{Options}
 use Rattle.passkey_get_info.specs.declared.response.Response.{Response}
 use Rattle.passkey_get_info.specs.declared.version.Version.{Version}
-use Rattle.passkey_kinds.specs.Placed.{placed_if, word_at, truth_at, bytes_at, IsWord}
+use Rattle.passkey_kinds.specs.Placed.{placed_if}
 use Rattle.passkey_kinds.specs.declared.write_fault.WriteFault.{WriteFault}
 use Rattle.passkey_kinds.specs.declared.write_fault.WriteFault.TheVariants.{OutOfMemory, NumberTooLarge}
 
@@ -116,24 +116,17 @@ IsPositive n = 0 < n
 -- what the authenticator supports, with this data item as its greatest message size
 abbrev pub capabilities_with : (GetInfoParts → Option Item) → List (Placed GetInfoParts)
 capabilities_with encoded =
-    placed (required 1 (codes "versions") (list (growing 2 nothing version)) (λ x r. record r { versions = x }))
-    (λ r. always (number_tree 1) (list_tree version_tree) r.versions)
-    ∷ placed (default 2 (codes "extensions") (optional (list (growing 2 nothing extension)))
-    (λ x r. record r { extensions = x })) (λ r. where_some (number_tree 2) (list_tree extension_tree) r.extensions)
-    ∷ placed_if (λ r. length r.aaguid ≡ 16) (required 3 (codes "aaguid") aaguid (λ x r. record r { aaguid = x }))
-    (λ r. always (number_tree 3) byte_string r.aaguid)
-    ∷ placed (default 4 (codes "options") (optional (nested (fields_of options))) (λ x r. record r { options = x }))
-    (λ r. where_some (number_tree 4) (plain_tree options) r.options)
+    required_at 1 (codes "versions") (list version_coded) (λ r. r.versions) (λ x r. record r { versions = x })
+    ∷ optional_at 2 (codes "extensions") (list extension_coded) (λ r. r.extensions) (λ x r. record r { extensions = x })
+    ∷ required_at 3 (codes "aaguid") aaguid (λ r. r.aaguid) (λ x r. record r { aaguid = x })
+    ∷ optional_at 4 (codes "options") (plain options) (λ r. r.options) (λ x r. record r { options = x })
     ∷ placed_if (λ r. IfPresent IsPositive r.max_msg_size)
     (default 5 (codes "maxMsgSize") (optional size) (λ x r. record r { max_msg_size = x }))
     (λ r. (number_tree 5, encoded r))
-    ∷ placed_if (λ r. IfPresent (All IsByte) r.pin_protocols)
-    (default 6 (codes "pinProtocols") (optional (list (below 256))) (λ x r. record r { pin_protocols = x }))
-    (λ r. where_some (number_tree 6) (list_tree number_tree) r.pin_protocols)
-    ∷ placed (default 9 (codes "transports") (tolerated (accepted (one_named transport_named)))
-    (λ x r. record r { transports = x })) (λ r. where_some (number_tree 9) (list_tree transport_tree) r.transports)
-    ∷ placed (default 10 (codes "algorithms") (tolerated (accepted (nested parameters_fields)))
-    (λ x r. record r { algorithms = x })) (λ r. where_some (number_tree 10) (list_tree parameters_tree) r.algorithms)
+    ∷ optional_at 6 (codes "pinProtocols") (list byte) (λ r. r.pin_protocols) (λ x r. record r { pin_protocols = x })
+    ∷ tolerated_at 9 (codes "transports") (accepted transport) (λ r. r.transports) (λ x r. record r { transports = x })
+    ∷ tolerated_at 10 (codes "algorithms") (accepted (plain parameters)) (λ r. r.algorithms)
+    (λ x r. record r { algorithms = x })
     ∷ []
 
 abbrev pub capabilities : List (Placed GetInfoParts)
@@ -141,45 +134,44 @@ capabilities = capabilities_with (λ r. option_map number_tree r.max_msg_size)
 
 abbrev pub limits : List (Placed GetInfoParts)
 limits =
-    word_at 11 (codes "macSerializedLargeBlobArray") (λ r. r.mac_serialized_large_blob_array)
+    optional_at 11 (codes "macSerializedLargeBlobArray") word (λ r. r.mac_serialized_large_blob_array)
     (λ x r. record r { mac_serialized_large_blob_array = x })
-    ∷ truth_at 12 (codes "forcePinChange") (λ r. r.force_pin_change) (λ x r. record r { force_pin_change = x })
-    ∷ word_at 13 (codes "minPinLength") (λ r. r.min_pin_length) (λ x r. record r { min_pin_length = x })
-    ∷ word_at 14 (codes "firmwareVersion") (λ r. r.firmware_version) (λ x r. record r { firmware_version = x })
-    ∷ word_at 15 (codes "maxCredBlobLength") (λ r. r.max_cred_blob_length)
+    ∷ optional_at 12 (codes "forcePinChange") truth (λ r. r.force_pin_change)
+    (λ x r. record r { force_pin_change = x })
+    ∷ optional_at 13 (codes "minPinLength") word (λ r. r.min_pin_length) (λ x r. record r { min_pin_length = x })
+    ∷ optional_at 14 (codes "firmwareVersion") word (λ r. r.firmware_version)
+    (λ x r. record r { firmware_version = x })
+    ∷ optional_at 15 (codes "maxCredBlobLength") word (λ r. r.max_cred_blob_length)
     (λ x r. record r { max_cred_blob_length = x })
-    ∷ word_at 16 (codes "maxRpidsForSetMinPinLength") (λ r. r.max_rpids_for_set_min_pin_length)
+    ∷ optional_at 16 (codes "maxRpidsForSetMinPinLength") word (λ r. r.max_rpids_for_set_min_pin_length)
     (λ x r. record r { max_rpids_for_set_min_pin_length = x })
-    ∷ word_at 17 (codes "preferredPlatformUvAttempts") (λ r. r.preferred_platform_uv_attempts)
+    ∷ optional_at 17 (codes "preferredPlatformUvAttempts") word (λ r. r.preferred_platform_uv_attempts)
     (λ x r. record r { preferred_platform_uv_attempts = x })
-    ∷ word_at 18 (codes "uvModality") (λ r. r.uv_modality) (λ x r. record r { uv_modality = x })
+    ∷ optional_at 18 (codes "uvModality") word (λ r. r.uv_modality) (λ x r. record r { uv_modality = x })
     ∷ placed (default 19 (codes "certifications") (optional kept) (λ x r. record r { certifications = x }))
     (λ r. (number_tree 19, r.certifications))
-    ∷ word_at 20 (codes "remainingDiscoverableCredentials") (λ r. r.remaining_discoverable_credentials)
+    ∷ optional_at 20 (codes "remainingDiscoverableCredentials") word (λ r. r.remaining_discoverable_credentials)
     (λ x r. record r { remaining_discoverable_credentials = x })
     ∷ []
 
 abbrev pub states : List (Placed GetInfoParts)
 states =
-    placed_if (λ r. IfPresent (All IsWord) r.vendor_prototype_config_commands)
-    (default 21 (codes "vendorPrototypeConfigCommands") (tolerated (accepted (below (2 ^ 32))))
-    (λ x r. record r { vendor_prototype_config_commands = x }))
-    (λ r. where_some (number_tree 21) (list_tree number_tree) r.vendor_prototype_config_commands)
-    ∷ placed (default 22 (codes "attestationFormats") (tolerated (accepted text))
-    (λ x r. record r { attestation_formats = x }))
-    (λ r. where_some (number_tree 22) (list_tree text_string) r.attestation_formats)
-    ∷ word_at 23 (codes "uvCountSinceLastPinEntry") (λ r. r.uv_count_since_last_pin_entry)
+    tolerated_at 21 (codes "vendorPrototypeConfigCommands") (accepted word) (λ r. r.vendor_prototype_config_commands)
+    (λ x r. record r { vendor_prototype_config_commands = x })
+    ∷ tolerated_at 22 (codes "attestationFormats") (accepted text) (λ r. r.attestation_formats)
+    (λ x r. record r { attestation_formats = x })
+    ∷ optional_at 23 (codes "uvCountSinceLastPinEntry") word (λ r. r.uv_count_since_last_pin_entry)
     (λ x r. record r { uv_count_since_last_pin_entry = x })
-    ∷ truth_at 24 (codes "longTouchForReset") (λ r. r.long_touch_for_reset) (λ x r. record r { long_touch_for_reset = x })
-    ∷ bytes_at 25 (codes "encIdentifier") (λ r. r.enc_identifier) (λ x r. record r { enc_identifier = x })
-    ∷ placed (default 26 (codes "transportsForReset") (tolerated (accepted (one_named transport_named)))
-    (λ x r. record r { transports_for_reset = x }))
-    (λ r. where_some (number_tree 26) (list_tree transport_tree) r.transports_for_reset)
-    ∷ truth_at 27 (codes "pinComplexityPolicy") (λ r. r.pin_complexity_policy)
+    ∷ optional_at 24 (codes "longTouchForReset") truth (λ r. r.long_touch_for_reset)
+    (λ x r. record r { long_touch_for_reset = x })
+    ∷ optional_at 25 (codes "encIdentifier") bytes (λ r. r.enc_identifier) (λ x r. record r { enc_identifier = x })
+    ∷ tolerated_at 26 (codes "transportsForReset") (accepted transport) (λ r. r.transports_for_reset)
+    (λ x r. record r { transports_for_reset = x })
+    ∷ optional_at 27 (codes "pinComplexityPolicy") truth (λ r. r.pin_complexity_policy)
     (λ x r. record r { pin_complexity_policy = x })
-    ∷ bytes_at 28 (codes "pinComplexityPolicyUrl") (λ r. r.pin_complexity_policy_url)
+    ∷ optional_at 28 (codes "pinComplexityPolicyUrl") bytes (λ r. r.pin_complexity_policy_url)
     (λ x r. record r { pin_complexity_policy_url = x })
-    ∷ word_at 29 (codes "maxPinLength") (λ r. r.max_pin_length) (λ x r. record r { max_pin_length = x })
+    ∷ optional_at 29 (codes "maxPinLength") word (λ r. r.max_pin_length) (λ x r. record r { max_pin_length = x })
     ∷ []
 
 -- ---- decoding

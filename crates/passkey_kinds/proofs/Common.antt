@@ -58,7 +58,6 @@ pub use Rattle.passkey_kinds.specs.ShortFirst.{put_by, sorted_by, IsShortFirst, 
 pub use Rattle.passkey_kinds.specs.Size.{size}
 pub use Rattle.passkey_kinds.specs.Table.{Entry, Table, entries, named, Members, found, bad_member, first_bad, first_missing, Naming, row, unknown, wrong, accepts_at, bad_by, row_or_unknown, number_names, names, is_row}
 pub use Rattle.passkey_kinds.specs.Tree.{Place, record_tree, KeysAscend, number_tree, numbers_tree, entry_tree, under, laid, list_tree, byte_map_tree, key_size}
-pub use Rattle.passkey_kinds.specs.Trees.{descriptor_places, descriptor_tree, parameters_tree, webauthn_user_places, webauthn_user_tree}
 pub use Rattle.passkey_kinds.specs.declared.fault.Fault.{Fault}
 pub use Rattle.passkey_kinds.specs.declared.fault.Fault.TheVariants.{Repeated}
 pub use Rattle.passkey_kinds.specs.declared.refusal.Refusal.{Refusal}

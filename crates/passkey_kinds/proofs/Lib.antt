@@ -19,7 +19,6 @@ pub mod RowsBack
 pub mod LeafBack
 pub mod SizedBack
 pub mod MapBack
-pub mod RecordBack
 pub mod SignedBack
 pub mod WrittenLists
 pub mod Sinks
@@ -49,6 +48,6 @@ pub mod ShortFirst
 pub mod ByteMaps
 pub mod Ordered
 pub mod Plain
-pub mod RecordPlain
 pub mod Lawful
+pub mod Webauthn
 pub mod Steps

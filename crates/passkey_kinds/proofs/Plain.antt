@@ -1,5 +1,5 @@
 -- Items that keep no other item: how many levels they have, and that they are ordered.
-use Rattle.passkey_kinds.proofs.Common.{◌≡◌, ℕ, ℤ, suc, ◌≤◌, arith, Bool, true, List, [], ◌∷◌, Option, Some, None, ByteMap, IsOrdered, depth, Item, boolean, byte_string, null, text_string, Place, list_tree, byte_map_tree, record_tree}
+use Rattle.passkey_kinds.proofs.Common.{◌≡◌, ℕ, ℤ, pos, suc, ◌≤◌, arith, Bool, true, List, [], ◌∷◌, Option, Some, None, ByteMap, IsOrdered, depth, Item, boolean, byte_string, null, text_string, Place, list_tree, number_tree, numbers_tree, byte_map_tree, record_tree}
 use Rattle.passkey_cbor.specs.Item.{number}
 use Rattle.passkey_kinds.proofs.Levels.{PlaceWithin, Within, record_within, list_within, map_within}
 use Rattle.passkey_kinds.proofs.Ordered.{PlaceOrdered, AllOrdered, ascend, record_ordered, list_ordered, map_ordered}
@@ -47,6 +47,12 @@ list_plain n tree each xs = record {
   levels = list_within tree n (λ x. (each x).levels) xs;
   order = list_ordered tree (λ x. (each x).order) xs;
 }
+
+pub numbers_plain : (n : ℕ) (b : List ℕ) → IsPlain (suc n) (numbers_tree b)
+numbers_plain n b = list_plain n number_tree (λ k. number_plain n (pos k)) b
+
+pub numbers_levels : (b : List ℕ) → depth (numbers_tree b) ≤ 1
+numbers_levels b = (numbers_plain 0 b).levels
 
 pub map_plain : (n : ℕ) {A : Type 0} (tree : A → Item) → ((x : A) → IsPlain n (tree x)) → (m : ByteMap A)
     → IsPlain (suc n) (byte_map_tree tree m)

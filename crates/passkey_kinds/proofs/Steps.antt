@@ -1,5 +1,5 @@
 -- The same, and the lemmas that proofs of the code cite. Declares nothing.
-pub use Rattle.passkey_kinds.proofs.Common.{same_bytes, ByteMap, put_each, same_tests, BytesFault, some_is, lies_size, raised-le, head_again, head_long, split, item_of-Array, item_of-Map, WritesItems, ComesAfter, AscendFrom, Ascend, IsOrdered, depth, pairs_depth, IsEncodedAt, Lies, Next, Looks, Opens, FindsHead, Grows, Content, Left, PairWithin, Item, Pairs, no_pairs, pair, members, items_of, pairs_of, byte_string, array, boolean, null, text_string, AtMostOneLeadingItem, WrittenIsLeadingItem, max_depth, IsLeadingItem, Region, Tells, PassesString, LendsNothing, IsRegion, heads_in, LendsFrom, PassesLeadingItem, item_of, pair_of, Walk, ahead, Went, IsWritable, ArePairsWritable, written, Head, Value, is_coherent, GivenIsCoherent, ReadIsGiven, WrittenDataAreReadBack, IfPresent, data_parts, members-pairs_of, elements-items_of, algorithm_named, Algorithm, algorithm, collected, entered, aaguid, authenticator_data, authenticator_data_nodes, unsigned_in, integer_in, null_in, ReadsFlat, Keeping, nothing, counted, kept_of, kept_sum, in_members, in_elements, AnswersAs, bytes, MayGrow, below, kept, truth, Kind, optional, each, sized_bytes, list, accepted, text, one_named, tolerated, with_members, map_from_bytes, entry, map_values, ReadsMessage, AlikeDifferInLength, ReadIsCoherent, AllCanonical, WrittenIsCanonical, EachFits, fields_of, places_of, IsReadBack, Any, IsByte, Further, Decodes, LooksAtMost, Spends, Onward, MayGrowIn, Marks, are_small, first_unmarked, Reads, with_row, MayGrowAt, named_as, Fields, set_with, rows_of, table_of, put_at, put_named, unless_missing, judged, read_members, read_item, Member, record_kind, record_cost, cost_by, kept_in, kept_in_map, KnowsItems, known_member, known, HasNoWrongKey, SameAnswers, HasReadTo, entry_of, put_by, sorted_by, IsShortFirst, short_first, size, Entry, Table, entries, named, Members, found, bad_member, first_bad, first_missing, Naming, row, unknown, wrong, accepts_at, bad_by, row_or_unknown, number_names, names, is_row, Place, record_tree, KeysAscend, number_tree, numbers_tree, entry_tree, under, laid, list_tree, byte_map_tree, key_size, descriptor_places, descriptor_tree, parameters_tree, webauthn_user_places, webauthn_user_tree, Fault, Repeated, Refusal, Refused, OutOfMemory, Row, credential_type_named, signed_64, transport_named, ◌≡◌, ◌∙◌, ◌<◌, ◌+◌, nat_lt, ℕ, suc, add-one, arith, Bool, true, false, not, ◌&&◌, if◌then◌else◌, List, [], ◌∷◌, ◌++◌, length, map, replicate, drop, get_or, Option, Some, None, is_some, is_none, option_map, slice_get, inl, inr, refl, sym, ap, rules, ◌≤◌, Result, ◌*◌, subst, ◌-◌, take, nat_le, Ok, Err, OnOk, append_assoc, ◌==◌, cond, set, ◌⊎◌, Bor, pos, ℤ, negsuc, ◌≢◌, ◌^◌, max, ◌||◌, unwrap_or, zero, eq-eqb, min, ltb-true, le-leb, mul-le-mul_left, drop-cons, and_parts, leb-true, true≢false, cases_lt, cases_eq, le-ltb, ne_eqb, lt-ltb, eqb-true, not-true, and_from, nat_tests, nat_list_cmp_total, length-map, length-append, length-take, append-nil, drop_all, take_all, take_more_set, map_push, All-head, All-tail, get_or_from_slice_get, slice_get-get_or, err_from_is_err_and, unsigned_Decides, slice_cmp, find, AllByRecursion, list_any, filter_map, cons_option, All, option_or, option_and_then, nat_cmp, is_lt, eq_by_cmp, codes, result_ok, bytes_eq, Ordering, Less}
+pub use Rattle.passkey_kinds.proofs.Common.{same_bytes, ByteMap, put_each, same_tests, BytesFault, some_is, lies_size, raised-le, head_again, head_long, split, item_of-Array, item_of-Map, WritesItems, ComesAfter, AscendFrom, Ascend, IsOrdered, depth, pairs_depth, IsEncodedAt, Lies, Next, Looks, Opens, FindsHead, Grows, Content, Left, PairWithin, Item, Pairs, no_pairs, pair, members, items_of, pairs_of, byte_string, array, boolean, null, text_string, AtMostOneLeadingItem, WrittenIsLeadingItem, max_depth, IsLeadingItem, Region, Tells, PassesString, LendsNothing, IsRegion, heads_in, LendsFrom, PassesLeadingItem, item_of, pair_of, Walk, ahead, Went, IsWritable, ArePairsWritable, written, Head, Value, is_coherent, GivenIsCoherent, ReadIsGiven, WrittenDataAreReadBack, IfPresent, data_parts, members-pairs_of, elements-items_of, algorithm_named, Algorithm, algorithm, collected, entered, aaguid, authenticator_data, authenticator_data_nodes, unsigned_in, integer_in, null_in, ReadsFlat, Keeping, nothing, counted, kept_of, kept_sum, in_members, in_elements, AnswersAs, bytes, MayGrow, below, kept, truth, Kind, optional, each, sized_bytes, list, accepted, text, one_named, tolerated, with_members, map_from_bytes, entry, map_values, ReadsMessage, AlikeDifferInLength, ReadIsCoherent, AllCanonical, WrittenIsCanonical, EachFits, fields_of, places_of, IsReadBack, Any, IsByte, Further, Decodes, LooksAtMost, Spends, Onward, MayGrowIn, Marks, are_small, first_unmarked, Reads, with_row, MayGrowAt, named_as, Fields, set_with, rows_of, table_of, put_at, put_named, unless_missing, judged, read_members, read_item, Member, record_kind, record_cost, cost_by, kept_in, kept_in_map, KnowsItems, known_member, known, HasNoWrongKey, SameAnswers, HasReadTo, entry_of, put_by, sorted_by, IsShortFirst, short_first, size, Entry, Table, entries, named, Members, found, bad_member, first_bad, first_missing, Naming, row, unknown, wrong, accepts_at, bad_by, row_or_unknown, number_names, names, is_row, Place, record_tree, KeysAscend, number_tree, numbers_tree, entry_tree, under, laid, list_tree, byte_map_tree, key_size, Fault, Repeated, Refusal, Refused, OutOfMemory, Row, credential_type_named, signed_64, transport_named, ◌≡◌, ◌∙◌, ◌<◌, ◌+◌, nat_lt, ℕ, suc, add-one, arith, Bool, true, false, not, ◌&&◌, if◌then◌else◌, List, [], ◌∷◌, ◌++◌, length, map, replicate, drop, get_or, Option, Some, None, is_some, is_none, option_map, slice_get, inl, inr, refl, sym, ap, rules, ◌≤◌, Result, ◌*◌, subst, ◌-◌, take, nat_le, Ok, Err, OnOk, append_assoc, ◌==◌, cond, set, ◌⊎◌, Bor, pos, ℤ, negsuc, ◌≢◌, ◌^◌, max, ◌||◌, unwrap_or, zero, eq-eqb, min, ltb-true, le-leb, mul-le-mul_left, drop-cons, and_parts, leb-true, true≢false, cases_lt, cases_eq, le-ltb, ne_eqb, lt-ltb, eqb-true, not-true, and_from, nat_tests, nat_list_cmp_total, length-map, length-append, length-take, append-nil, drop_all, take_all, take_more_set, map_push, All-head, All-tail, get_or_from_slice_get, slice_get-get_or, err_from_is_err_and, unsigned_Decides, slice_cmp, find, AllByRecursion, list_any, filter_map, cons_option, All, option_or, option_and_then, nat_cmp, is_lt, eq_by_cmp, codes, result_ok, bytes_eq, Ordering, Less}
 unfoldable pub use Rattle.passkey_kinds.proofs.Common.{shortest_head}
 pub use Rattle.passkey_kinds.proofs.Ahead.{kept_nothing, decodes_in, kept_array, grows_items, no_list, none_accepted}
 pub use Rattle.passkey_kinds.proofs.Arrays.{sized_array, set_before}
@@ -32,11 +32,9 @@ pub use Rattle.passkey_kinds.proofs.Ordered.{ascend, keys_ascend, PlaceOrdered, 
 pub use Rattle.passkey_kinds.proofs.Pairs.{member_at}
 pub use Rattle.passkey_kinds.proofs.PairsAhead.{key_spends, pair_spends, kept_map, grows_pairs, no_map_there}
 pub use Rattle.passkey_kinds.proofs.Places.{PlaceHas, EachPlace}
-pub use Rattle.passkey_kinds.proofs.Plain.{few_levels, Rule, plainly, IsPlain, null_plain, map_plain, in_order, list_plain, truth_plain, text_plain}
+pub use Rattle.passkey_kinds.proofs.Plain.{few_levels, Rule, plainly, IsPlain, null_plain, map_plain, in_order, list_plain, numbers_plain, truth_plain, text_plain}
 pub use Rattle.passkey_kinds.proofs.Putting.{goes_on, fails, all_read, reads_from, no_record, held_answers, held_ok, key_fails, sets_put}
-pub use Rattle.passkey_kinds.proofs.RecordBack.{descriptor_back, parameters_back, user_back}
 pub use Rattle.passkey_kinds.proofs.RecordLaws.{skips_unknown}
-pub use Rattle.passkey_kinds.proofs.RecordPlain.{descriptor_keys, parameters_keys, user_keys, numbers_plain, descriptor_plain, parameters_plain, user_plain}
 pub use Rattle.passkey_kinds.proofs.RowsBack.{puts_value, puts_default, kind_back, ◌▸◌, no_more, ordered_back, rows_back, picked, picked_back}
 pub use Rattle.passkey_kinds.proofs.ShortFirst.{sorted_by-map, sorted_is}
 pub use Rattle.passkey_kinds.proofs.Sinks.{record_writable, record_written}
@@ -44,4 +42,5 @@ pub use Rattle.passkey_kinds.proofs.SizedBack.{numbers_back, size_back, aaguid_b
 pub use Rattle.passkey_kinds.proofs.Sizes.{size_of, unsigned_size}
 pub use Rattle.passkey_kinds.proofs.Texts.{bytes_array, text_read, text_refused}
 pub use Rattle.passkey_kinds.proofs.Tokens.{stands_missed, decodes_from, or_refused, missed_then, looked_further, lent_is, decodes_dearer, no_bytes}
+pub use Rattle.passkey_kinds.proofs.Webauthn.{descriptor_law, parameters_law, user_law}
 pub use Rattle.passkey_kinds.proofs.WrittenLists.{fits_more, written_more, fits_next, written_next}

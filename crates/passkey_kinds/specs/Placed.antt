@@ -1,10 +1,10 @@
 -- Members with the places that they are encoded at: one table for decoding and for encoding.
-use Rattle.std.specs.Prelude.{ℕ, ◌<◌, ◌^◌, Bool, false, List, [], ◌∷◌, Option}
-use Rattle.passkey_kinds.specs.Base.{Item, boolean, byte_string, text_string, IfPresent}
+use Rattle.std.specs.Prelude.{ℕ, Bool, false, List, [], ◌∷◌, Option}
+use Rattle.passkey_kinds.specs.Base.{Item, text_string, IfPresent}
 use Rattle.passkey_kinds.specs.Kind.{Kind, Typed}
 use Rattle.passkey_kinds.specs.Record.{Member, Fields, required, default, record_kind}
 use Rattle.passkey_kinds.specs.Tree.{Place, number_tree, always, where_some, record_tree}
-use Rattle.passkey_kinds.specs.Typed.{optional, below, truth, bytes}
+use Rattle.passkey_kinds.specs.Typed.{optional, tolerated}
 
 -- A member, its place, and what holds of its value in every record.
 pub record Placed (P : Type 0) : Type 1 where
@@ -17,22 +17,6 @@ placed member place = record { member = member; place = place; Fits = λ r. Unit
 
 abbrev pub placed_if : {P : Type 0} → (P → Type 0) → Member P → (P → Place) → Placed P
 placed_if Fits member place = record { member = member; place = place; Fits = Fits }
-
-abbrev pub IsWord : ℕ → Type 0
-IsWord n = n < 2 ^ 32
-
--- an optional number below 2^32, a boolean and a byte string, each under its number
-abbrev pub word_at : {P : Type 0} → ℕ → List ℕ → (P → Option ℕ) → (Option ℕ → P → P) → Placed P
-word_at n name get set = placed_if (λ r. IfPresent IsWord (get r))
-    (default n name (optional (below (2 ^ 32))) set) (λ r. where_some (number_tree n) number_tree (get r))
-
-abbrev pub truth_at : {P : Type 0} → ℕ → List ℕ → (P → Option Bool) → (Option Bool → P → P) → Placed P
-truth_at n name get set =
-    placed (default n name (optional truth) set) (λ r. where_some (number_tree n) boolean (get r))
-
-abbrev pub bytes_at : {P : Type 0} → ℕ → List ℕ → (P → Option (List ℕ)) → (Option (List ℕ) → P → P) → Placed P
-bytes_at n name get set =
-    placed (default n name (optional bytes) set) (λ r. where_some (number_tree n) byte_string (get r))
 
 abbrev pub members_of : {P : Type 0} → List (Placed P) → List (Member P)
 members_of [] = []
@@ -72,17 +56,47 @@ pub record Coded (M : Type 0) : Type 1 where
   pub tree : M → Item
   pub Fits : M → Type 0
 
--- a required member
+-- ---- members by their keys; those of the second and third form have a default
+
+-- required
+abbrev pub required_under : {M P : Type 0} → Item → ℕ → List ℕ → Coded M → (P → M) → (M → P → P) → Placed P
+required_under key n name c get set =
+    placed_if (λ r. c.Fits (get r)) (required n name c.typed set) (λ r. always key c.tree (get r))
+
+-- always encoded
+abbrev pub default_under : {M P : Type 0} → Item → ℕ → List ℕ → Coded M → (P → M) → (M → P → P) → Placed P
+default_under key n name c get set =
+    placed_if (λ r. c.Fits (get r)) (default n name c.typed set) (λ r. always key c.tree (get r))
+
+-- encoded if it is present, and decoded by a kind of its own
+abbrev pub present_under : {M P : Type 0} → Typed (Option M) → Item → ℕ → List ℕ → Coded M → (P → Option M)
+    → (Option M → P → P) → Placed P
+present_under kind key n name c get set =
+    placed_if (λ r. IfPresent c.Fits (get r)) (default n name kind set) (λ r. where_some key c.tree (get r))
+
+-- the same under their names; null is decoded as if an optional member were absent, and what a
+-- tolerated member refuses as well
 abbrev pub required_as : {M P : Type 0} → ℕ → List ℕ → Coded M → (P → M) → (M → P → P) → Placed P
-required_as n name c get set = placed_if (λ r. c.Fits (get r))
-    (required n name c.typed set) (λ r. always (text_string name) c.tree (get r))
+required_as n name = required_under (text_string name) n name
 
--- a member with a default, which is always encoded
 abbrev pub default_as : {M P : Type 0} → ℕ → List ℕ → Coded M → (P → M) → (M → P → P) → Placed P
-default_as n name c get set = placed_if (λ r. c.Fits (get r))
-    (default n name c.typed set) (λ r. always (text_string name) c.tree (get r))
+default_as n name = default_under (text_string name) n name
 
--- a member that is encoded if it is present; null is decoded as if it were absent
 abbrev pub optional_as : {M P : Type 0} → ℕ → List ℕ → Coded M → (P → Option M) → (Option M → P → P) → Placed P
-optional_as n name c get set = placed_if (λ r. IfPresent c.Fits (get r))
-    (default n name (optional c.typed) set) (λ r. where_some (text_string name) c.tree (get r))
+optional_as n name c = present_under (optional c.typed) (text_string name) n name c
+
+abbrev pub tolerated_as : {M P : Type 0} → ℕ → List ℕ → Coded M → (P → Option M) → (Option M → P → P) → Placed P
+tolerated_as n name c = present_under (tolerated c.typed) (text_string name) n name c
+
+-- the same under their numbers
+abbrev pub required_at : {M P : Type 0} → ℕ → List ℕ → Coded M → (P → M) → (M → P → P) → Placed P
+required_at n name = required_under (number_tree n) n name
+
+abbrev pub default_at : {M P : Type 0} → ℕ → List ℕ → Coded M → (P → M) → (M → P → P) → Placed P
+default_at n name = default_under (number_tree n) n name
+
+abbrev pub optional_at : {M P : Type 0} → ℕ → List ℕ → Coded M → (P → Option M) → (Option M → P → P) → Placed P
+optional_at n name c = present_under (optional c.typed) (number_tree n) n name c
+
+abbrev pub tolerated_at : {M P : Type 0} → ℕ → List ℕ → Coded M → (P → Option M) → (Option M → P → P) → Placed P
+tolerated_at n name c = present_under (tolerated c.typed) (number_tree n) n name c

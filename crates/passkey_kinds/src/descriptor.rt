@@ -1,29 +1,22 @@
 //! Credential descriptors, decoded from data items and encoded.
-ghost use Rattle.passkey_kinds.specs.Words.{descriptor_fields, descriptor_places};
-ghost use Rattle.passkey_webauthn.specs.declared.descriptor.PublicKeyCredentialDescriptor.{PublicKeyCredentialDescriptor as Descriptor};
+ghost use Rattle.passkey_kinds.specs.Words.{descriptor};
 
 use crate::{
-    OutOfMemory, Record, Refusal, Row, Sink, Source, ToCborMap, set, set_accepted_or_none, set_or,
+    OutOfMemory, PlainRecord, Refusal, Row, Sink, Source, set, set_accepted_or_none, set_or,
 };
 use passkey_bytes::Bytes;
 use passkey_webauthn::{PublicKeyCredentialDescriptor, PublicKeyCredentialType};
 use std::alloc::Global;
 
-impl Record for PublicKeyCredentialDescriptor {
-    ghost Parts = { Descriptor };
+impl PlainRecord for PublicKeyCredentialDescriptor {
+    ghost table = { descriptor };
 
-    ghost parts = { λ d. d };
-
-    ghost fields = { descriptor_fields };
-
-    fn is_numbered() -> bool {
-        false
-    }
+    ghost levels = { 1 };
 
     fn rows() -> &'static [Row] {
         &[
-            Row::Required(1, "type"),
             Row::Required(2, "id"),
+            Row::Required(1, "type"),
             Row::Optional(3, "transports"),
         ]
     }
@@ -49,10 +42,6 @@ impl Record for PublicKeyCredentialDescriptor {
             _ => Err(Refusal::Refused),
         }
     }
-}
-
-impl ToCborMap for PublicKeyCredentialDescriptor {
-    ghost places = { descriptor_places };
 
     fn put_members<S: Sink>(&self, alloc: Global, sink: &mut S) -> Result<(), OutOfMemory> {
         sink.put(alloc, "id", &self.id)?;
@@ -60,4 +49,7 @@ impl ToCborMap for PublicKeyCredentialDescriptor {
         sink.put_some(alloc, "transports", &self.transports)?;
         Ok(())
     }
+
+    #[tactic(auto, using(crate::proofs::Webauthn::descriptor_law))]
+    fn lawful() {}
 }

@@ -1,5 +1,5 @@
 //! Laws about decoding records and lists. Each is the contract of a function that does nothing.
-ghost use Rattle.passkey_kinds.specs.Words.{read_item, KeysAscend, descriptor_places, parameters_places, webauthn_user_places, KnowsMaps, PassesOverUnknown};
+ghost use Rattle.passkey_kinds.specs.Words.{read_item, KeysAscend, places_of, descriptor, parameters, webauthn_user, KnowsMaps, PassesOverUnknown};
 ghost use Rattle.passkey_kinds.specs.MessageLaws.{AlikeDifferInLength};
 ghost use Rattle.passkey_kinds.specs.RecordLaws.{KnowsItems, RefusedElementIsPassedOver, SameAnswersReadAlike, UnknownMemberIsPassedOver};
 
@@ -7,10 +7,11 @@ use crate::record::Record;
 
 /// Records whose members have names alone are encoded with their keys in CTAP2's order (CTAP 2.1,
 /// section 8).
+#[tactic(auto, using(crate::proofs::Webauthn::descriptor_law, crate::proofs::Webauthn::parameters_law, crate::proofs::Webauthn::user_law))]
 pub fn written_keys_ascend()
-    ensures descriptor { KeysAscend descriptor_places }
-    ensures parameters { KeysAscend parameters_places }
-    ensures user { KeysAscend webauthn_user_places }
+    ensures descriptor { KeysAscend (places_of descriptor.members) }
+    ensures parameters { KeysAscend (places_of parameters.members) }
+    ensures user { KeysAscend (places_of webauthn_user.members) }
 {}
 
 /// A member under a key that the record's table doesn't know changes nothing, wherever it is: the

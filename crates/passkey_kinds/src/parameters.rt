@@ -1,25 +1,16 @@
 //! Credential parameters, decoded from data items and encoded.
-ghost use Rattle.passkey_kinds.specs.Words.{parameters_fields, parameters_places};
-ghost use Rattle.passkey_webauthn.specs.declared.parameters.PublicKeyCredentialParameters.{PublicKeyCredentialParameters as Parameters};
+ghost use Rattle.passkey_kinds.specs.Words.{parameters};
 
-use crate::{OutOfMemory, Record, Refusal, Row, Sink, Source, ToCborMap, set, set_or};
+use crate::{OutOfMemory, PlainRecord, Refusal, Row, Sink, Source, set, set_or};
 use passkey_iana::Algorithm;
 use passkey_webauthn::{PublicKeyCredentialParameters, PublicKeyCredentialType};
 use std::alloc::Global;
 
-impl Record for PublicKeyCredentialParameters {
-    ghost Parts = { Parameters };
-
-    ghost parts = { λ p. p };
-
-    ghost fields = { parameters_fields };
-
-    fn is_numbered() -> bool {
-        false
-    }
+impl PlainRecord for PublicKeyCredentialParameters {
+    ghost table = { parameters };
 
     fn rows() -> &'static [Row] {
-        &[Row::Required(1, "type"), Row::Required(2, "alg")]
+        &[Row::Required(2, "alg"), Row::Required(1, "type")]
     }
 
     fn blank(_alloc: Global) -> PublicKeyCredentialParameters {
@@ -41,14 +32,13 @@ impl Record for PublicKeyCredentialParameters {
             _ => Err(Refusal::Refused),
         }
     }
-}
-
-impl ToCborMap for PublicKeyCredentialParameters {
-    ghost places = { parameters_places };
 
     fn put_members<S: Sink>(&self, alloc: Global, sink: &mut S) -> Result<(), OutOfMemory> {
         sink.put(alloc, "alg", &self.alg)?;
         sink.put(alloc, "type", &self.ty)?;
         Ok(())
     }
+
+    #[tactic(auto, using(crate::proofs::Webauthn::parameters_law))]
+    fn lawful() {}
 }

@@ -5,11 +5,7 @@ ghost use Rattle.passkey_kinds.specs.Words.{null, IsReadBack, record_kind};
 use crate::{FromCbor, Record, ToCbor};
 use passkey_bytes::{Bytes, List, Map, Text};
 use passkey_iana::Algorithm;
-use passkey_webauthn as webauthn;
-use passkey_webauthn::{
-    AuthenticatorTransport, PublicKeyCredentialDescriptor, PublicKeyCredentialParameters,
-    PublicKeyCredentialType,
-};
+use passkey_webauthn::{AuthenticatorTransport, PublicKeyCredentialType};
 
 /// A type whose encoded values can be decoded again, and which encodes no value as null.
 pub trait ReadBack: FromCbor + ToCbor {
@@ -98,21 +94,6 @@ impl<T: ReadBack> ReadBack for Map<Bytes, T> {
     fn read_back() {
         T::read_back();
     }
-}
-
-impl RecordReadBack for PublicKeyCredentialDescriptor {
-    #[tactic(auto, using(crate::proofs::RecordBack::descriptor_back))]
-    fn record_back() {}
-}
-
-impl RecordReadBack for PublicKeyCredentialParameters {
-    #[tactic(auto, using(crate::proofs::RecordBack::parameters_back))]
-    fn record_back() {}
-}
-
-impl RecordReadBack for webauthn::PublicKeyCredentialUserEntity {
-    #[tactic(auto, using(crate::proofs::RecordBack::user_back))]
-    fn record_back() {}
 }
 
 impl ReadBack for [u8; 32] {

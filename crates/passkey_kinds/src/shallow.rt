@@ -5,11 +5,7 @@ ghost use Rattle.passkey_kinds.specs.Words.{depth};
 use crate::to_cbor::ToCbor;
 use passkey_bytes::{Bytes, List, Text};
 use passkey_iana::Algorithm;
-use passkey_webauthn as webauthn;
-use passkey_webauthn::{
-    AuthenticatorTransport, PublicKeyCredentialDescriptor, PublicKeyCredentialParameters,
-    PublicKeyCredentialType,
-};
+use passkey_webauthn::{AuthenticatorTransport, PublicKeyCredentialType};
 
 /// A type whose encodings have at most a fixed number of nesting levels.
 pub trait Shallow: ToCbor {
@@ -62,30 +58,9 @@ impl<T: Shallow> Shallow for List<T> {
     }
 }
 
-impl Shallow for PublicKeyCredentialDescriptor {
-    ghost levels = { 2 };
-
-    #[tactic(auto, using(crate::proofs::RecordPlain::descriptor_levels))]
-    fn shallow() {}
-}
-
-impl Shallow for PublicKeyCredentialParameters {
-    ghost levels = { 1 };
-
-    #[tactic(auto, using(crate::proofs::RecordPlain::parameters_levels))]
-    fn shallow() {}
-}
-
-impl Shallow for webauthn::PublicKeyCredentialUserEntity {
-    ghost levels = { 1 };
-
-    #[tactic(auto, using(crate::proofs::RecordPlain::user_levels))]
-    fn shallow() {}
-}
-
 impl Shallow for [u8; 32] {
     ghost levels = { 1 };
 
-    #[tactic(auto, using(crate::proofs::RecordPlain::numbers_levels))]
+    #[tactic(auto, using(crate::proofs::Plain::numbers_levels))]
     fn shallow() {}
 }

@@ -1,28 +1,19 @@
 //! Users, decoded from data items and encoded.
-ghost use Rattle.passkey_kinds.specs.Words.{webauthn_user_places, user_fields};
-ghost use Rattle.passkey_webauthn.specs.declared.user.PublicKeyCredentialUserEntity.{PublicKeyCredentialUserEntity as UserEntity};
+ghost use Rattle.passkey_kinds.specs.Words.{webauthn_user};
 
-use crate::{OutOfMemory, Record, Refusal, Row, Sink, Source, ToCborMap, set};
+use crate::{OutOfMemory, PlainRecord, Refusal, Row, Sink, Source, set};
 use passkey_bytes::{Bytes, Text};
 use passkey_webauthn::PublicKeyCredentialUserEntity;
 use std::alloc::Global;
 
-impl Record for PublicKeyCredentialUserEntity {
-    ghost Parts = { UserEntity };
-
-    ghost parts = { λ user. user };
-
-    ghost fields = { user_fields };
-
-    fn is_numbered() -> bool {
-        false
-    }
+impl PlainRecord for PublicKeyCredentialUserEntity {
+    ghost table = { webauthn_user };
 
     fn rows() -> &'static [Row] {
         &[
             Row::Required(1, "id"),
-            Row::Required(2, "displayName"),
             Row::Required(3, "name"),
+            Row::Required(2, "displayName"),
         ]
     }
 
@@ -42,10 +33,6 @@ impl Record for PublicKeyCredentialUserEntity {
             _ => Err(Refusal::Refused),
         }
     }
-}
-
-impl ToCborMap for PublicKeyCredentialUserEntity {
-    ghost places = { webauthn_user_places };
 
     fn put_members<S: Sink>(&self, alloc: Global, sink: &mut S) -> Result<(), OutOfMemory> {
         sink.put(alloc, "id", &self.id)?;
@@ -53,4 +40,7 @@ impl ToCborMap for PublicKeyCredentialUserEntity {
         sink.put(alloc, "displayName", &self.display_name)?;
         Ok(())
     }
+
+    #[tactic(auto, using(crate::proofs::Webauthn::user_law))]
+    fn lawful() {}
 }

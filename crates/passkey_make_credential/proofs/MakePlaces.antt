@@ -1,7 +1,7 @@
 -- What holds of each key and value of the messages of authenticatorMakeCredential, if it holds of what is kept.
-use Rattle.passkey_kinds.proofs.Steps.{option_map, Item, number_tree, PlaceHas, EachPlace, Rule, plainly, list_plain, descriptor_plain, parameters_plain, user_plain}
+use Rattle.passkey_kinds.proofs.Steps.{option_map, Item, number_tree, PlaceHas, EachPlace, Rule, plainly, list_plain, descriptor_law, parameters_law, user_law}
 use Rattle.passkey_entities.proofs.Entities.{rp_law}
-use Rattle.passkey_extensions.specs.ExtensionTrees.{make_extensions_tree}
+use Rattle.passkey_extensions.specs.MakeExtensions.{make_extensions_tree}
 use Rattle.passkey_extensions.proofs.Prf.{made_unsigned_law}
 use Rattle.passkey_make_credential.proofs.MakeBack.{options_law}
 use Rattle.passkey_make_credential.specs.MakeRequest.{MakeRequestParts, make_request_places}
@@ -13,10 +13,10 @@ make_request_each rule r extensions = search (
   rule.holds,
   plainly,
   rp_law.plain 3,
-  user_plain 3,
+  user_law.plain 3,
   list_plain 3,
-  parameters_plain 2,
-  descriptor_plain 1,
+  parameters_law.plain 2,
+  descriptor_law.plain 1,
   options_law.plain 3,
 ) depth 15
 

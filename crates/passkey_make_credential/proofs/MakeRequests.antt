@@ -1,8 +1,8 @@
 -- authenticatorMakeCredential requests: decoding their encodings again, and their nesting levels.
-use Rattle.passkey_kinds.proofs.Steps.{◌≡◌, ℕ, ◌<◌, ◌≤◌, nat_le, arith, le-leb, true, Option, Some, Ok, depth, Item, optional, ReadIsCoherent, number_tree, OnlyDeep, only_deep, deep_coherent, not_null, record_keeps, byte_back, bytes_back, anything, all_of_anything, optional_place, accepted_same, accepted_place, descriptor_back, parameters_back, user_back, few_levels, puts_value, puts_default, rows_back, no_more, refl, ◌▸◌}
+use Rattle.passkey_kinds.proofs.Steps.{◌≡◌, ℕ, ◌<◌, ◌≤◌, nat_le, arith, le-leb, true, Option, Some, Ok, depth, Item, optional, ReadIsCoherent, number_tree, OnlyDeep, only_deep, deep_coherent, not_null, record_keeps, byte_back, bytes_back, anything, all_of_anything, optional_place, accepted_same, accepted_place, descriptor_law, parameters_law, user_law, few_levels, puts_value, puts_default, rows_back, no_more, refl, ◌▸◌}
 use Rattle.passkey_make_credential.specs.MakeRequest.{MakeRequestParts, make_request_fields, read_make_request, make_request_places, make_request_tree, MakeRequestFits, is_make_request_coherent, normal_make_request}
-use Rattle.passkey_extensions.specs.ExtensionTrees.{hmac_input_tree, make_extensions_tree}
-use Rattle.passkey_extensions.specs.MakeExtensions.{MakeExtensionsParts, make_extensions}
+use Rattle.passkey_extensions.specs.HmacInput.{hmac_input_tree}
+use Rattle.passkey_extensions.specs.MakeExtensions.{MakeExtensionsParts, make_extensions, make_extensions_tree}
 use Rattle.passkey_extensions.proofs.ExtensionBack.{make_parts_back}
 use Rattle.passkey_extensions.proofs.ExtensionLevels.{input_up, made_levels}
 use Rattle.passkey_extensions.proofs.Keys.{made_key}
@@ -17,14 +17,14 @@ pub request_back : (r : MakeRequestParts) → MakeRequestFits r
 request_back r fits =
     rows_back make_request_fields (make_request_places r) (normal_make_request r) refl refl
     (puts_value bytes_back r.client_data_hash tt ▸
-    puts_value rp_law.back r.rp (rp_fits r.rp) ▸
-    puts_value user_back r.user tt ▸
-    puts_value (accepted_same parameters_back) r.pub_key_cred_params (λ k d less. tt) ▸
-    puts_default (accepted_place descriptor_back r.exclude_list (all_of_anything r.exclude_list)) refl ▸
-    puts_default (optional_place make_parts_back refl r.extensions fits.0) refl ▸
-    puts_value options_law.back r.options (tt, (tt, (tt, tt))) ▸
+    puts_value rp_law.back r.rp (search) ▸
+    puts_value user_law.back r.user (search) ▸
+    puts_value (accepted_same parameters_law.back) r.pub_key_cred_params (search) ▸
+    puts_default (accepted_place descriptor_law.back r.exclude_list (search)) refl ▸
+    puts_default (optional_place make_parts_back refl r.extensions (search)) refl ▸
+    puts_value options_law.back r.options (search) ▸
     puts_default (optional_place bytes_back refl r.pin_auth (anything r.pin_auth)) refl ▸
-    puts_default (optional_place byte_back refl r.pin_protocol fits.1) refl ▸
+    puts_default (optional_place byte_back refl r.pin_protocol (search)) refl ▸
     no_more)
 
 -- ---- only the extensions may have many levels

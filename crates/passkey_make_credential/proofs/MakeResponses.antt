@@ -29,11 +29,11 @@ pub response_back : WrittenDataAreReadBack → ReadIsGiven → (r : MakeResponse
 response_back written given r fits coherent =
     rows_back make_response_fields (make_response_places r) (normal_make_response r) refl refl
     (puts_value text_back r.fmt tt ▸
-    puts_value (auth_data_back written given) r.auth_data (fits.0, coherent) ▸
+    puts_value (auth_data_back written given) r.auth_data (search) ▸
     puts_value kept_back r.att_stmt tt ▸
     puts_default (optional_place truth_back refl r.ep_att (anything r.ep_att)) refl ▸
     puts_default (optional_place bytes_back refl r.large_blob_key (anything r.large_blob_key)) refl ▸
-    puts_default (optional_place made_unsigned_law.back refl r.unsigned_extension_outputs fits.1) refl ▸
+    puts_default (optional_place made_unsigned_law.back refl r.unsigned_extension_outputs (search)) refl ▸
     no_more)
 
 attestation_back : WrittenDataAreReadBack → ReadIsGiven → (d : DataParts) → IsData d → is_coherent d ≡ true

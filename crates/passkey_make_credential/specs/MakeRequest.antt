@@ -1,12 +1,11 @@
 -- authenticatorMakeCredential requests (CTAP 2.1, section 6.1).
 use Rattle.std.specs.Prelude.{ℕ, nat_le, Bool, true, List, [], ◌∷◌, Option, None, codes, Result, option_map}
-use Rattle.passkey_kinds.specs.Words.{depth, max_depth, Item, byte_string, IfPresent, descriptor_fields, fields_of, plain_tree, Fields, required, default, table_of, read_item, nested, Table, below, optional, bytes, accepted, tolerated, parameters_fields, IsByte, Place, number_tree, list_tree, always, where_some, record_tree, descriptor_tree, parameters_tree, user_fields, PublicKeyCredentialDescriptor, PublicKeyCredentialParameters, PublicKeyCredentialUserEntity}
+use Rattle.passkey_kinds.specs.Words.{depth, max_depth, Item, Placed, required_at, default_at, optional_at, tolerated_at, places_of, EachFits, descriptor, parameters, webauthn_user, Fields, fields_with, table_of, read_item, Table, Place, record_tree, PublicKeyCredentialDescriptor, PublicKeyCredentialParameters, PublicKeyCredentialUserEntity}
+use Rattle.passkey_kinds.specs.Coded.{byte, bytes, accepted, plain}
 use Rattle.passkey_kinds.specs.declared.fault.Fault.{Fault}
-use Rattle.passkey_extensions.specs.ExtensionTrees.{make_extensions_tree, MakeExtensionsFit, make_extensions_kept}
-use Rattle.passkey_extensions.specs.MakeExtensions.{MakeExtensionsParts, make_extensions_fields, make_extensions_parts}
+use Rattle.passkey_extensions.specs.MakeExtensions.{MakeExtensionsParts, make_extensions_coded, make_extensions_parts, make_extensions_kept}
 use Rattle.passkey_make_credential.specs.MakeOptions.{options, options_default, normal_options}
 use Rattle.passkey_entities.specs.Rp.{rp}
-use Rattle.passkey_kinds.specs.Trees.{webauthn_user_tree}
 use Rattle.passkey_make_credential.specs.declared.options.Options.{Options}
 use Rattle.passkey_entities.specs.declared.rp.PublicKeyCredentialRpEntity.{PublicKeyCredentialRpEntity}
 use Rattle.passkey_make_credential.specs.declared.request.Request.{Request}
@@ -36,34 +35,33 @@ make_request_parts r = record {
   pin_protocol = r.pin_protocol;
 }
 
+abbrev pub make_request_members : List (Placed MakeRequestParts)
+make_request_members =
+    required_at 1 (codes "clientDataHash") bytes (λ r. r.client_data_hash) (λ x r. record r { client_data_hash = x })
+    ∷ required_at 2 (codes "rp") (plain rp) (λ r. r.rp) (λ x r. record r { rp = x })
+    ∷ required_at 3 (codes "user") (plain webauthn_user) (λ r. r.user) (λ x r. record r { user = x })
+    ∷ required_at 4 (codes "pubKeyCredParams") (accepted (plain parameters)) (λ r. r.pub_key_cred_params)
+    (λ x r. record r { pub_key_cred_params = x })
+    ∷ tolerated_at 5 (codes "excludeList") (accepted (plain descriptor)) (λ r. r.exclude_list)
+    (λ x r. record r { exclude_list = x })
+    ∷ optional_at 6 (codes "extensions") make_extensions_coded (λ r. r.extensions) (λ x r. record r { extensions = x })
+    ∷ default_at 7 (codes "options") (plain options) (λ r. r.options) (λ x r. record r { options = x })
+    ∷ optional_at 8 (codes "pinAuth") bytes (λ r. r.pin_auth) (λ x r. record r { pin_auth = x })
+    ∷ optional_at 9 (codes "pinProtocol") byte (λ r. r.pin_protocol) (λ x r. record r { pin_protocol = x })
+    ∷ []
+
 abbrev pub make_request_fields : Fields MakeRequestParts
-make_request_fields = record {
-  is_numbered = true;
-  blank = record {
-    client_data_hash = [];
-    rp = record { id = []; name = None };
-    user = record { id = []; display_name = []; name = [] };
-    pub_key_cred_params = [];
-    exclude_list = None;
-    extensions = None;
-    options = options_default;
-    pin_auth = None;
-    pin_protocol = None;
-  };
-  rows = required 1 (codes "clientDataHash") bytes (λ x r. record r { client_data_hash = x })
-      ∷ required 2 (codes "rp") (nested (fields_of rp)) (λ x r. record r { rp = x })
-      ∷ required 3 (codes "user") (nested user_fields) (λ x r. record r { user = x })
-      ∷ required 4 (codes "pubKeyCredParams") (accepted (nested parameters_fields))
-      (λ x r. record r { pub_key_cred_params = x })
-      ∷ default 5 (codes "excludeList") (tolerated (accepted (nested descriptor_fields)))
-      (λ x r. record r { exclude_list = x })
-      ∷ default 6 (codes "extensions") (optional (nested make_extensions_fields))
-      (λ x r. record r { extensions = x })
-      ∷ default 7 (codes "options") (nested (fields_of options)) (λ x r. record r { options = x })
-      ∷ default 8 (codes "pinAuth") (optional bytes) (λ x r. record r { pin_auth = x })
-      ∷ default 9 (codes "pinProtocol") (optional (below 256)) (λ x r. record r { pin_protocol = x })
-      ∷ [];
-}
+make_request_fields = fields_with true (record {
+  client_data_hash = [];
+  rp = record { id = []; name = None };
+  user = record { id = []; display_name = []; name = [] };
+  pub_key_cred_params = [];
+  exclude_list = None;
+  extensions = None;
+  options = options_default;
+  pin_auth = None;
+  pin_protocol = None;
+}) make_request_members
 
 abbrev pub make_request_table : Table
 make_request_table = table_of make_request_fields
@@ -75,17 +73,7 @@ read_make_request = read_item make_request_fields
 -- ---- the encoding of a request
 
 abbrev pub make_request_places : MakeRequestParts → List Place
-make_request_places r =
-    always (number_tree 1) byte_string r.client_data_hash
-    ∷ always (number_tree 2) (plain_tree rp) r.rp
-    ∷ always (number_tree 3) webauthn_user_tree r.user
-    ∷ always (number_tree 4) (list_tree parameters_tree) r.pub_key_cred_params
-    ∷ where_some (number_tree 5) (list_tree descriptor_tree) r.exclude_list
-    ∷ where_some (number_tree 6) make_extensions_tree r.extensions
-    ∷ always (number_tree 7) (plain_tree options) r.options
-    ∷ where_some (number_tree 8) byte_string r.pin_auth
-    ∷ where_some (number_tree 9) number_tree r.pin_protocol
-    ∷ []
+make_request_places = places_of make_request_members
 
 abbrev pub make_request_tree : MakeRequestParts → Item
 make_request_tree r = record_tree (make_request_places r)
@@ -96,7 +84,7 @@ make_request_kept r = make_extensions_kept r.extensions
 
 -- what holds of every request
 abbrev pub MakeRequestFits : MakeRequestParts → Type 0
-MakeRequestFits r = IfPresent MakeExtensionsFit r.extensions × IfPresent IsByte r.pin_protocol
+MakeRequestFits = EachFits make_request_members
 
 -- the encoding has at most `max_depth` nesting levels, so it can be decoded again
 abbrev pub is_make_request_coherent : MakeRequestParts → Bool

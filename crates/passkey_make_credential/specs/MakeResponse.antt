@@ -1,6 +1,7 @@
 -- authenticatorMakeCredential responses (CTAP 2.1, section 6.1).
 use Rattle.std.specs.Prelude.{ℕ, nat_le, Bool, true, ◌&&◌, List, [], ◌∷◌, Option, None, codes, Result, replicate}
-use Rattle.passkey_kinds.specs.Words.{depth, max_depth, Item, boolean, byte_string, text_string, null, is_coherent, IsData, IfPresent, normal_data, DataParts, bare_data, auth_data_tree, EachFits, fields_of, plain_tree, Fields, required, default, table_of, read_item, nested, Table, bytes, kept, optional, text, truth, authenticator_data, Place, number_tree, always, where_some, record_tree, item_of, data_parts}
+use Rattle.passkey_kinds.specs.Words.{depth, max_depth, Item, text_string, null, is_coherent, normal_data, DataParts, bare_data, auth_data_tree, Placed, required_at, optional_at, places_of, EachFits, Fields, fields_with, table_of, read_item, Table, Place, always, record_tree, item_of, data_parts}
+use Rattle.passkey_kinds.specs.Coded.{truth, text, bytes, authenticator_data, item, plain}
 use Rattle.passkey_kinds.specs.declared.fault.Fault.{Fault}
 use Rattle.passkey_cbor.specs.Item.{map, no_pairs}
 use Rattle.passkey_extensions.specs.Prf.{prf_made, unsigned}
@@ -27,26 +28,26 @@ make_response_parts r = record {
   unsigned_extension_outputs = r.unsigned_extension_outputs;
 }
 
+abbrev pub make_response_members : List (Placed MakeResponseParts)
+make_response_members =
+    required_at 1 (codes "fmt") text (λ r. r.fmt) (λ x r. record r { fmt = x })
+    ∷ required_at 2 (codes "authData") authenticator_data (λ r. r.auth_data) (λ x r. record r { auth_data = x })
+    ∷ required_at 3 (codes "attStmt") item (λ r. r.att_stmt) (λ x r. record r { att_stmt = x })
+    ∷ optional_at 4 (codes "epAtt") truth (λ r. r.ep_att) (λ x r. record r { ep_att = x })
+    ∷ optional_at 5 (codes "largeBlobKey") bytes (λ r. r.large_blob_key) (λ x r. record r { large_blob_key = x })
+    ∷ optional_at 6 (codes "unsignedExtensionOutputs") (plain (unsigned prf_made)) (λ r. r.unsigned_extension_outputs)
+    (λ x r. record r { unsigned_extension_outputs = x })
+    ∷ []
+
 abbrev pub make_response_fields : Fields MakeResponseParts
-make_response_fields = record {
-  is_numbered = true;
-  blank = record {
-    fmt = [];
-    auth_data = bare_data (replicate 32 0) 24 None;
-    att_stmt = null;
-    ep_att = None;
-    large_blob_key = None;
-    unsigned_extension_outputs = None;
-  };
-  rows = required 1 (codes "fmt") text (λ x r. record r { fmt = x })
-      ∷ required 2 (codes "authData") authenticator_data (λ x r. record r { auth_data = x })
-      ∷ required 3 (codes "attStmt") kept (λ x r. record r { att_stmt = x })
-      ∷ default 4 (codes "epAtt") (optional truth) (λ x r. record r { ep_att = x })
-      ∷ default 5 (codes "largeBlobKey") (optional bytes) (λ x r. record r { large_blob_key = x })
-      ∷ default 6 (codes "unsignedExtensionOutputs") (optional (nested (fields_of (unsigned prf_made))))
-      (λ x r. record r { unsigned_extension_outputs = x })
-      ∷ [];
-}
+make_response_fields = fields_with true (record {
+  fmt = [];
+  auth_data = bare_data (replicate 32 0) 24 None;
+  att_stmt = null;
+  ep_att = None;
+  large_blob_key = None;
+  unsigned_extension_outputs = None;
+}) make_response_members
 
 abbrev pub make_response_table : Table
 make_response_table = table_of make_response_fields
@@ -58,14 +59,7 @@ read_make_response = read_item make_response_fields
 -- ---- the encoding of a response
 
 abbrev pub make_response_places : MakeResponseParts → List Place
-make_response_places r =
-    always (number_tree 1) text_string r.fmt
-    ∷ always (number_tree 2) auth_data_tree r.auth_data
-    ∷ always (number_tree 3) (λ i. i) r.att_stmt
-    ∷ where_some (number_tree 4) boolean r.ep_att
-    ∷ where_some (number_tree 5) byte_string r.large_blob_key
-    ∷ where_some (number_tree 6) (plain_tree (unsigned prf_made)) r.unsigned_extension_outputs
-    ∷ []
+make_response_places = places_of make_response_members
 
 abbrev pub make_response_tree : MakeResponseParts → Item
 make_response_tree r = record_tree (make_response_places r)
@@ -76,7 +70,7 @@ make_response_kept r = r.att_stmt ∷ []
 
 -- what holds of every response
 abbrev pub MakeResponseFits : MakeResponseParts → Type 0
-MakeResponseFits r = IsData r.auth_data × IfPresent (EachFits (unsigned prf_made).members) r.unsigned_extension_outputs
+MakeResponseFits = EachFits make_response_members
 
 -- the authenticator data is coherent, and the encoding has at most `max_depth` nesting levels
 abbrev pub is_make_response_coherent : MakeResponseParts → Bool

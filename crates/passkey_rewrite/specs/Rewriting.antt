@@ -7,8 +7,7 @@ use Rattle.passkey_get_assertion.specs.GetRequest.{read_get_request, get_request
 use Rattle.passkey_get_assertion.specs.GetResponse.{read_get_response, get_response_tree}
 use Rattle.passkey_make_credential.specs.MakeRequest.{read_make_request, make_request_tree}
 use Rattle.passkey_make_credential.specs.MakeResponse.{read_make_response, make_response_tree}
-use Rattle.passkey_extensions.specs.ExtensionTrees.{hmac_input_tree}
-use Rattle.passkey_extensions.specs.HmacInput.{read_hmac_input}
+use Rattle.passkey_extensions.specs.HmacInput.{read_hmac_input, hmac_input_tree}
 use Rattle.passkey_kinds.specs.declared.fault.Fault.{Fault}
 use Rattle.passkey_rewrite_json.specs.RewritesJson.{RewritesJson, IsJsonRefusal, json_rewritten}
 use Rattle.passkey_run.specs.Checking.{IsChecked, HasNoBytes}

@@ -2,8 +2,7 @@
 ghost use Rattle.std.specs.Prelude.{nat_le, ◌≡◌, true};
 ghost use Rattle.passkey_kinds.specs.Words.{depth};
 ghost use Rattle.passkey_core.specs.SignedOutputs.{where_some};
-ghost use Rattle.passkey_extensions.specs.GetExtensions.{GetExtensionsParts, get_extensions_fields, get_extensions_parts, no_get_extensions, has_get_extension};
-ghost use Rattle.passkey_extensions.specs.ExtensionTrees.{GetExtensionsFit, get_extensions_places, get_extensions_tree};
+ghost use Rattle.passkey_extensions.specs.GetExtensions.{GetExtensionsParts, get_extensions_fields, get_extensions_parts, no_get_extensions, has_get_extension, GetExtensionsFit, get_extensions_places, get_extensions_tree};
 
 use crate::{AuthenticatorPrfInputs, HmacGetSecretInput};
 use passkey_kinds::{Record, RecordReadBack, Refusal, Row, Sink, Source, ToCborMap, set_tolerated};
@@ -67,7 +66,7 @@ impl Record for ExtensionInputs {
     }
 
     fn rows() -> &'static [Row] {
-        &[Row::Optional(1, "hmac-secret"), Row::Optional(2, "prf")]
+        &[Row::Optional(2, "prf"), Row::Optional(1, "hmac-secret")]
     }
 
     fn blank(_alloc: Global) -> ExtensionInputs {

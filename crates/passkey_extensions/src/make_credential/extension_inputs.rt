@@ -2,8 +2,7 @@
 ghost use Rattle.std.specs.Prelude.{nat_le, ◌≡◌, true};
 ghost use Rattle.passkey_kinds.specs.Words.{depth};
 ghost use Rattle.passkey_core.specs.SignedOutputs.{where_some};
-ghost use Rattle.passkey_extensions.specs.MakeExtensions.{MakeExtensionsParts, make_extensions_fields, make_extensions_parts, no_make_extensions, has_make_extension};
-ghost use Rattle.passkey_extensions.specs.ExtensionTrees.{MakeExtensionsFit, make_extensions_places, make_extensions_tree};
+ghost use Rattle.passkey_extensions.specs.MakeExtensions.{MakeExtensionsParts, make_extensions_fields, make_extensions_parts, no_make_extensions, has_make_extension, MakeExtensionsFit, make_extensions_places, make_extensions_tree};
 
 use crate::{AuthenticatorPrfInputs, HmacGetSecretInput};
 use passkey_kinds::{Record, RecordReadBack, Refusal, Row, Sink, Source, ToCborMap, set};
@@ -70,9 +69,9 @@ impl Record for ExtensionInputs {
 
     fn rows() -> &'static [Row] {
         &[
+            Row::Optional(3, "prf"),
             Row::Optional(1, "hmac-secret"),
             Row::Optional(2, "hmac-secret-mc"),
-            Row::Optional(3, "prf"),
         ]
     }
 

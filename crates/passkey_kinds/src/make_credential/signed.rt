@@ -1,7 +1,8 @@
 //! Extension outputs in the authenticator data of a registration, decoded from data items and
 //! encoded.
 ghost use Rattle.passkey_core.specs.declared.make_credential.SignedExtensionOutputs.{SignedExtensionOutputs as SignedOutputs};
-ghost use Rattle.passkey_kinds.specs.MakeSigned.{signed_fields};
+ghost use Rattle.passkey_kinds.specs.Placed.{fields_of};
+ghost use Rattle.passkey_kinds.specs.Signed.{made_signed};
 ghost use Rattle.passkey_core.specs.SignedOutputs.{creation_item};
 
 use crate::{OutOfMemory, Record, RecordReadBack, Refusal, Row, Source, ToCbor, set};
@@ -14,7 +15,7 @@ impl Record for SignedExtensionOutputs {
 
     ghost parts = { λ outputs. outputs };
 
-    ghost fields = { signed_fields };
+    ghost fields = { fields_of made_signed };
 
     fn is_numbered() -> bool {
         false
