@@ -1,11 +1,12 @@
 -- A record whose keys ascend is ordered if its values are; and the encoding of an ordered item is
 -- canonical.
 use Rattle.std.specs.FinMap as fin
-use Rattle.passkey_kinds.proofs.Common.{is_lt, Ordering, Less, arith, ◌≡◌, ℕ, ◌≤◌, Bool, true, ◌&&◌, List, [], ◌∷◌, ◌++◌, length, map, Option, Some, None, refl, sym, subst, and_parts, ByteMap, ComesAfter, AscendFrom, Ascend, IsOrdered, depth, max_depth, IsLeadingItem, Item, items_of, pairs_of, AtMostOneLeadingItem, WrittenIsLeadingItem, IsWritable, ArePairsWritable, written, short_first, Members, Place, list_tree, entry_tree, byte_map_tree, under, laid, record_tree}
+use Rattle.passkey_kinds.proofs.Common.{is_lt, Ordering, Less, arith, ◌≡◌, ℕ, ◌≤◌, Bool, true, ◌&&◌, List, [], ◌∷◌, ◌++◌, length, map, Option, Some, None, refl, sym, subst, and_parts, ByteMap, ComesAfter, AscendFrom, Ascend, IsOrdered, depth, max_depth, IsLeadingItem, Item, items_of, pairs_of, AtMostOneLeadingItem, WrittenIsLeadingItem, IsWritable, ArePairsWritable, written, short_first, Members, Place, list_tree, entry_tree, byte_map_tree, under, laid, record_tree, AllCanonical, WrittenIsCanonical}
 use Rattle.passkey_cbor.specs.Canonical.{AreOrdered, ArePairsOrdered, IsCanonical}
 use Rattle.passkey_cbor.specs.Order.{ctap2_order}
 use Rattle.passkey_kinds.proofs.Back.{spread, laid_spread}
 use Rattle.passkey_kinds.proofs.ByteMaps.{entries_ascend}
+use Rattle.passkey_kinds.proofs.Levels.{Within, of_record as levels_of}
 use Rattle.passkey_kinds.proofs.Places.{PlaceHas, EachPlace}
 
 -- ---- keys that ascend
@@ -136,3 +137,13 @@ ordered_of one front x w d c =
     let same = one (written x ++ []) x c.item (length (written x)) (length (written c.item)) mine
     (subst (λ (s : List ℕ). IsLeadingItem (s ++ []) c.item (length (written c.item))) (sym c.whole) its) in
     subst IsOrdered (sym same.0) c.ordered
+
+-- a record is ordered if its keys ascend and its values are, and so its encoding is canonical
+pub record_canonical : {P : Type 0} (places : P → List Place) {coherent : P → Bool} (kept : P → List Item)
+    → ((r : P) → ascend (places r) ≡ true)
+    → ((r : P) → coherent r ≡ true → depth (record_tree (places r)) ≤ max_depth)
+    → ((r : P) → AllWritable (places r) → Within 255 (places r) → AllCanonical (kept r) → AllOrdered (places r))
+    → WrittenIsCanonical (λ r. record_tree (places r)) coherent kept
+record_canonical places kept_items up few each r w coherent kept =
+    canonical_of (record_tree (places r)) w (few r coherent) (record_ordered (places r) (up r)
+    (each r (of_record (places r) w) (levels_of 255 (places r) (few r coherent)) kept))

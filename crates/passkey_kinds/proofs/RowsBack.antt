@@ -157,24 +157,6 @@ picked_back t fs ps x finds keys complete backs = grind (
   with_spread,
 )
 
-member_found : {P : Type 0} (all ms : List (Member P)) (n : ℕ) (rest : List (Member P)) → Finds all ms
-    → Finds all rest → Finds all (member_at ms n rest)
-member_found all [] n rest found others = others
-member_found all (m ∷ ms) n rest found others = grind (arith, member_found all ms n rest found.2 others)
-
-picked_found : {P : Type 0} (all : List (Member P)) (ns : List ℕ) → Finds all all → Finds all (picked all ns)
-picked_found all [] found = tt
-picked_found all (n ∷ ns) found = member_found all all n (picked all ns) found (picked_found all ns found)
-
--- members laid out in the order of these numbers can be decoded again
-pub ordered_back : {P : Type 0} (t : Fields P) (ns : List ℕ) (ps : List Place) (x : P)
-    → are_distinct (numbers t.rows) ≡ true → (have_rows (table_of t) (numbers (picked t.rows ns)) ps && are_distinct
-    (numbers (picked t.rows ns))) ≡ true → missing_of (table_of t) (stands (numbers (picked t.rows ns)) ps) ≡ None
-    → Backs (picked t.rows ns) ps t.blank x → record_kind t (record_tree ps) ≡ Some x
-ordered_back t ns ps x apart keys complete backs =
-    ap result_ok (picked_back t (picked t.rows ns) ps x (picked_found t.rows ns (finds_all t.rows apart)) keys
-    complete backs)
-
 -- members laid out in the order of the rows can be decoded again
 pub rows_back : {P : Type 0} (t : Fields P) (ps : List Place) (x : P)
     → (have_rows (table_of t) (numbers t.rows) ps && are_distinct (numbers t.rows)) ≡ true → missing_of (table_of t)

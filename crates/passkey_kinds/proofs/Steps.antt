@@ -28,14 +28,14 @@ pub use Rattle.passkey_kinds.proofs.MessageBack.{back_if_few, back_if_good}
 pub use Rattle.passkey_kinds.proofs.Messages.{may_grow, went_back, item_stands, message_is, fault_is}
 pub use Rattle.passkey_kinds.proofs.NotNull.{not_null, ok_of}
 pub use Rattle.passkey_kinds.proofs.NumberPieces.{number_decodes, AddsUpTo, adds_one, adds_all, adds_looks}
-pub use Rattle.passkey_kinds.proofs.Ordered.{ascend, keys_ascend, PlaceOrdered, PlaceWritable, record_ordered, canonical_of, ordered_of, AllWritable}
+pub use Rattle.passkey_kinds.proofs.Ordered.{ascend, keys_ascend, PlaceOrdered, PlaceWritable, record_ordered, record_canonical, ordered_of, AllWritable}
 pub use Rattle.passkey_kinds.proofs.Pairs.{member_at}
 pub use Rattle.passkey_kinds.proofs.PairsAhead.{key_spends, pair_spends, kept_map, grows_pairs, no_map_there}
 pub use Rattle.passkey_kinds.proofs.Places.{PlaceHas, EachPlace}
 pub use Rattle.passkey_kinds.proofs.Plain.{few_levels, Rule, plainly, IsPlain, null_plain, map_plain, in_order, list_plain, numbers_plain, truth_plain, text_plain}
 pub use Rattle.passkey_kinds.proofs.Putting.{goes_on, fails, all_read, reads_from, no_record, held_answers, held_ok, key_fails, sets_put}
 pub use Rattle.passkey_kinds.proofs.RecordLaws.{skips_unknown}
-pub use Rattle.passkey_kinds.proofs.RowsBack.{puts_value, puts_default, kind_back, ◌▸◌, no_more, ordered_back, rows_back, picked, picked_back}
+pub use Rattle.passkey_kinds.proofs.RowsBack.{puts_value, puts_default, kind_back, ◌▸◌, no_more, rows_back, picked, picked_back}
 pub use Rattle.passkey_kinds.proofs.ShortFirst.{sorted_by-map, sorted_is}
 pub use Rattle.passkey_kinds.proofs.Sinks.{record_writable, record_written}
 pub use Rattle.passkey_kinds.proofs.SizedBack.{numbers_back, size_back, aaguid_back}
