@@ -1,5 +1,5 @@
 -- Inputs and outputs of extensions are ordered.
-use Rattle.passkey_kinds.proofs.Steps.{codes, ◌≡◌, arith, true, Option, Some, None, option_map, refl, IsOrdered, depth, max_depth, Item, text_string, AtMostOneLeadingItem, WrittenIsLeadingItem, shortest_head, AllCanonical, WrittenIsCanonical, KeysAscend, PlaceWithin, ascend, keys_ascend, PlaceOrdered, PlaceWritable, record_ordered, record_canonical, ordered_of, in_order}
+use Rattle.passkey_kinds.proofs.Steps.{codes, ◌≡◌, arith, true, Option, Some, None, option_map, refl, IsOrdered, Item, text_string, AtMostOneLeadingItem, WrittenIsLeadingItem, shortest_head, AllCanonical, WrittenIsCanonical, KeysAscend, PlaceWithin, ascend, keys_ascend, PlaceOrdered, PlaceWritable, record_ordered, record_canonical, ordered_of, in_order}
 use Rattle.std.proofs.Common.{leb-true}
 use Rattle.passkey_extensions.specs.GetExtensions.{GetExtensionsParts, get_extensions_places, get_extensions_tree, get_extensions_kept}
 use Rattle.passkey_extensions.specs.HmacInput.{HmacInputParts, hmac_input_places, hmac_input_tree, is_hmac_input_coherent, hmac_input_kept, inputs_kept}
@@ -23,8 +23,8 @@ hmac_input_ordered h key =
 pub hmac_input_canonical : AtMostOneLeadingItem → WrittenIsLeadingItem
     → WrittenIsCanonical hmac_input_tree is_hmac_input_coherent hmac_input_kept
 hmac_input_canonical one front =
-    record_canonical hmac_input_places hmac_input_kept hmac_input_ascends (λ h coherent. leb-true _ _ coherent) (λ h w d kept. hmac_input_each (in_order 0) h
-    (ordered_of one front h.key_agreement w.0 (omega (arith, d.0.1)) kept.0))
+    record_canonical hmac_input_places hmac_input_kept hmac_input_ascends (λ h coherent. leb-true _ _ coherent)
+    (λ h w d kept. hmac_input_each (in_order 0) h (ordered_of one front h.key_agreement w.0 (omega (arith, d.0.1)) kept.0))
 
 -- ---- extension inputs
 

@@ -28,8 +28,7 @@ made_key i e =
 
 used_within : (i x : Item) (o : Option HmacInputParts) → tolerated hmac_input x ≡ Some o → depth x < depth i
     → KeyWithin i o
-used_within i x o read less =
-    λ h is. let there : hmac_input x ≡ Some h = cc in omega (arith, input_key x h there, less)
+used_within i x o read less = grind (arith, input_key)
 
 pub used_key : (i : Item) (e : GetExtensionsParts) (h : HmacInputParts) → get_extensions i ≡ Some e
     → e.hmac_secret ≡ Some h → depth h.key_agreement + 1 < depth i

@@ -17,5 +17,6 @@ get_request_canonical one front =
 pub get_response_canonical : WrittenIsCanonical get_response_tree is_get_response_coherent get_response_kept
 unfolding shortest_head
 get_response_canonical =
-    record_canonical get_response_places get_response_kept (λ r. refl) (λ r coherent. leb-true _ _ (and_parts (is_coherent r.auth_data) _ coherent).1)
+    record_canonical get_response_places get_response_kept (λ r. refl)
+    (λ r coherent. leb-true _ _ (and_parts (is_coherent r.auth_data) _ coherent).1)
     (λ r w d kept. get_response_each (in_order 4) r)

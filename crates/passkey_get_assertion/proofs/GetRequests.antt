@@ -1,5 +1,5 @@
 -- authenticatorGetAssertion requests: decoding their encodings again, and their nesting levels.
-use Rattle.passkey_kinds.proofs.Steps.{◌≡◌, ℕ, ◌<◌, ◌≤◌, nat_le, arith, le-leb, true, Option, Some, Ok, refl, depth, Item, tolerated, ReadIsCoherent, number_tree, OnlyDeep, only_deep, deep_coherent, record_keeps, byte_back, text_back, bytes_back, anything, all_of_anything, optional_place, accepted_place, tolerated_place, descriptor_law, few_levels, puts_value, puts_default, rows_back, ◌▸◌, no_more}
+use Rattle.passkey_kinds.proofs.Steps.{◌≡◌, ℕ, ◌<◌, ◌≤◌, nat_le, arith, le-leb, true, Option, Some, Ok, refl, depth, Item, tolerated, ReadIsCoherent, number_tree, OnlyDeep, only_deep, deep_coherent, record_keeps, byte_back, text_back, bytes_back, anything, optional_place, accepted_place, tolerated_place, descriptor_law, few_levels, puts_value, puts_default, rows_back, ◌▸◌, no_more}
 use Rattle.passkey_get_assertion.specs.GetRequest.{GetRequestParts, get_request_fields, read_get_request, get_request_places, get_request_tree, GetRequestFits, is_get_request_coherent}
 use Rattle.passkey_get_assertion.proofs.GetBack.{options_law}
 use Rattle.passkey_extensions.specs.HmacInput.{hmac_input_tree}

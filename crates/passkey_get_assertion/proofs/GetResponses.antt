@@ -1,7 +1,7 @@
 -- authenticatorGetAssertion responses: decoding their encodings again, and their nesting levels.
-use Rattle.passkey_kinds.proofs.Steps.{◌≡◌, ◌≤◌, nat_le, arith, le-leb, Bool, true, false, ◌&&◌, Ok, refl, sym, and_from, depth, max_depth, is_coherent, GivenIsCoherent, ReadIsGiven, WrittenDataAreReadBack, ReadIsCoherent, auth_data_back, auth_data_coherent, record_keeps, truth_back, byte_back, bytes_back, anything, optional_place, if_fits, record_within, descriptor_law, few_levels, puts_value, puts_default, rows_back, ◌▸◌, no_more}
+use Rattle.passkey_kinds.proofs.Steps.{◌≡◌, ◌≤◌, nat_le, arith, le-leb, Bool, true, ◌&&◌, Ok, refl, and_from, depth, max_depth, is_coherent, GivenIsCoherent, ReadIsGiven, WrittenDataAreReadBack, ReadIsCoherent, auth_data_back, auth_data_coherent, record_keeps, truth_back, byte_back, bytes_back, anything, optional_place, record_within, descriptor_law, few_levels, puts_value, puts_default, rows_back, ◌▸◌, no_more}
 use Rattle.passkey_get_assertion.specs.GetResponse.{GetResponseParts, get_response_fields, read_get_response, get_response_places, get_response_tree, GetResponseFits, is_get_response_coherent, normal_get_response}
-use Rattle.passkey_entities.proofs.Entities.{user_law, user_fits}
+use Rattle.passkey_entities.proofs.Entities.{user_law}
 use Rattle.passkey_extensions.proofs.Prf.{used_unsigned_law}
 use Rattle.passkey_get_assertion.proofs.GetPlaces.{get_response_each}
 
@@ -14,10 +14,7 @@ has_few_levels : (r : GetResponseParts) → nat_le (depth (get_response_tree r))
 has_few_levels r = le-leb (depth (get_response_tree r)) 256 (response_levels r)
 
 and_true : (a b : Bool) → b ≡ true → a ≡ a && b
-and_true a b h = rw h (sym (and_same a)) where
-  and_same : (a : Bool) → a && true ≡ a
-  and_same true = refl
-  and_same false = refl
+and_true a b h = grind arith
 
 -- whether the authenticator data is coherent decides whether the response is
 pub data_decide : (r : GetResponseParts) → is_coherent r.auth_data ≡ is_get_response_coherent r

@@ -47,6 +47,3 @@ options_law = lawful 0 options (λ o. refl) (λ o. refl) (λ o. refl) (λ k o. s
     puts_default (optional_place truth_back refl o.no_mc_ga_permissions_with_client_pin
     (anything o.no_mc_ga_permissions_with_client_pin)) refl ▸
     no_more)
-
-pub options_fit : (o : Options) → EachFits options.members o
-options_fit o = search (anything) depth 24

@@ -13,6 +13,7 @@ pub get_info_canonical : AtMostOneLeadingItem → WrittenIsLeadingItem
     → WrittenIsCanonical get_info_tree is_get_info_coherent get_info_kept
 unfolding shortest_head
 get_info_canonical one front =
-    record_canonical get_info_places get_info_kept (λ r. refl) (λ r coherent. leb-true _ _ (and_parts (is_encodable r.max_msg_size) _ coherent).1)
+    record_canonical get_info_places get_info_kept (λ r. refl)
+    (λ r coherent. leb-true _ _ (and_parts (is_encodable r.max_msg_size) _ coherent).1)
     (λ r w d kept. get_info_each (in_order 2) r (kept_place one front (number_tree 19) tt r.certifications (search)
     (search) kept))

@@ -1,12 +1,12 @@
 -- authenticatorGetInfo responses: decoding their encodings again, and their nesting levels.
-use Rattle.passkey_kinds.proofs.Steps.{◌≡◌, ℕ, pos, ◌^◌, ◌<◌, ◌≤◌, nat_lt, nat_le, arith, le-leb, ltb-true, Bool, true, false, ◌&&◌, if◌then◌else◌, Option, Some, None, option_map, unwrap_or, Result, Ok, Err, OnOk, refl, sym, ap, and_from, same_tests, depth, max_depth, Item, IfPresent, optional, ReadIsCoherent, size, number_tree, option_place, record_keeps, not_null, puts_value, puts_default, ◌▸◌, no_more, rows_back, size_back, aaguid_back, list_same, truth_back, byte_back, word_back, text_back, bytes_back, transport_back, list_back, optional_back, anything, all_of_anything, optional_place, accepted_place, if_fits, PlaceWithin, Within, record_within, parameters_law, few_levels}
-use Rattle.std.proofs.Common.{leb-true, lt-ltb, is_ok, IfErr}
+use Rattle.passkey_kinds.proofs.Steps.{nat_tests, ◌≡◌, ℕ, pos, ◌^◌, ◌<◌, ◌≤◌, nat_lt, nat_le, arith, ltb-true, Bool, true, false, ◌&&◌, if◌then◌else◌, Option, Some, None, option_map, unwrap_or, Result, Ok, Err, OnOk, refl, sym, ap, and_from, depth, max_depth, Item, IfPresent, optional, ReadIsCoherent, size, number_tree, option_place, record_keeps, not_null, puts_value, puts_default, ◌▸◌, no_more, rows_back, size_back, aaguid_back, list_same, truth_back, byte_back, word_back, text_back, bytes_back, transport_back, list_back, optional_back, anything, all_of_anything, optional_place, accepted_place, PlaceWithin, Within, record_within, parameters_law, few_levels}
+use Rattle.std.proofs.Common.{lt-ltb, is_ok, IfErr}
 use Rattle.passkey_get_info.specs.GetInfo.{GetInfoParts, get_info_fields, read_get_info, get_info_places, get_info_tree, IsPositive, GetInfoFits, is_encodable, has_room, is_get_info_coherent, normal_get_info}
 use Rattle.passkey_kinds.specs.Kind.{kept as kept_item}
 use Rattle.passkey_kinds.specs.Size.{IsSize}
 use Rattle.passkey_kinds.specs.declared.write_fault.WriteFault.{WriteFault}
 use Rattle.passkey_kinds.specs.declared.write_fault.WriteFault.TheVariants.{NumberTooLarge}
-use Rattle.passkey_get_info.proofs.GetInfoBack.{version_back, extension_back, kept_place, options_law, options_fit}
+use Rattle.passkey_get_info.proofs.GetInfoBack.{version_back, extension_back, kept_place, options_law}
 use Rattle.passkey_get_info.proofs.GetInfoPlaces.{get_info_each}
 use Rattle.passkey_kinds.proofs.Levels.{of_record}
 use Rattle.passkey_cbor.specs.Item as item
@@ -73,10 +73,7 @@ room_down n None h = refl
 room_down n (Some i) h = lt-ltb (depth i) 256 (omega (arith, h.1))
 
 room_decides : (r : GetInfoParts) → has_room r.certifications ≡ nat_le (depth (get_info_tree r)) max_depth
-room_decides r =
-    same_tests (has_room r.certifications) (nat_le (depth (get_info_tree r)) max_depth)
-    (λ t. le-leb (depth (get_info_tree r)) max_depth (get_info_up r (room_up 19 r.certifications t)))
-    (λ t. room_down 19 r.certifications (get_info_down r (leb-true (depth (get_info_tree r)) max_depth t)))
+room_decides r = grind (arith, get_info_up, room_up, room_down, get_info_down, nat_tests)
 
 pub parts_decide : (r : GetInfoParts)
     → (is_encodable r.max_msg_size && has_room r.certifications) ≡ is_get_info_coherent r

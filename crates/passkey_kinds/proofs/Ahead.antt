@@ -13,11 +13,7 @@ pub decodes_in : {A M : Type 0} {wanted given : Option M} {takes may : Type 0} (
     (cost kept many to : ℕ) (a b d : Walk) (result : Result A Refusal) → given ≡ wanted → (takes → may)
     → kept ≤ many → a.place < b.place → b.heads ≤ a.heads + 1 → b.nodes ≤ a.nodes + 0
     → Decodes view wanted takes (suc cost) kept to b d result → Decodes view given may (suc cost) many to a d result
-decodes_in view cost kept many to a b d result same grows few further one none r = grind (
-  arith,
-  answers_from,
-  head_before,
-)
+decodes_in view cost kept many to a b d result same grows few further one none r = grind (arith, answers_from, head_before)
 
 -- ---- arrays
 

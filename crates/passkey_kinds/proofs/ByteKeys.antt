@@ -1,7 +1,6 @@
 -- Byte strings as map keys: their encodings are in CTAP2's order if the shorter key comes first,
 -- and of two keys with the same length the lower one.
-use Rattle.passkey_kinds.proofs.Common.{rules, ◌≡◌, ℕ, ◌+◌, ◌*◌, ◌^◌, ◌<◌, ◌≤◌, nat_lt, if◌then◌else◌, List, [], ◌∷◌, ◌++◌, length, refl, sym, ap, ◌∙◌, arith, inl, inr, slice_cmp, nat_cmp, cases_lt, lt-ltb, le-ltb, nat_tests, length-append, byte_string, IsShortFirst, shortest_head, written}
-use Rattle.std.specs.Int.{w8, w16, w32, w64, to_be_bytes}
+use Rattle.passkey_kinds.proofs.Common.{rules, ◌≡◌, ℕ, ◌+◌, ◌^◌, ◌≤◌, nat_lt, if◌then◌else◌, List, [], ◌∷◌, ◌++◌, length, refl, sym, ◌∙◌, arith, inl, inr, slice_cmp, nat_cmp, nat_tests, length-append, byte_string, IsShortFirst, shortest_head, written}
 use Rattle.std.specs.Cmp.{nat_cmp_is}
 use Rattle.std.specs.declared.cmp.Ordering.TheVariants.{Equal}
 use Rattle.passkey_cbor.specs.Order.{key_type, IsBefore}
@@ -15,72 +14,23 @@ behind n =
     else if nat_lt n (2 ^ 32) then 4
     else 8
 
--- The shortest head has an initial byte with its major type, and this many bytes after it.
-record HeadOf (n : ℕ) : Type 0 where
-  info : ℕ
-  small : info < 32
-  rest : List ℕ
-  is : shortest_head 2 n ≡ (32 * 2 + info) ∷ rest
-  long : length rest ≡ behind n
-
-head_of : (n : ℕ) → HeadOf n
+-- the shortest head has an initial byte with its major type, and this many bytes after it
+head_type : (n : ℕ) (s : List ℕ) → key_type (shortest_head 2 n ++ s) ≡ 2
 unfolding shortest_head
-head_of n = elim (cases_lt n 24) [
-  | inl a ↦ record {
-    info = n;
-    small = omega (arith, a);
-    rest = [];
-    is = rw (lt-ltb n 24 a) refl;
-    long = rw (lt-ltb n 24 a) refl;
-  }
-  | inr a ↦ elim (cases_lt n (2 ^ 8)) [
-    | inl b ↦ record {
-      info = 24;
-      small = omega arith;
-      rest = to_be_bytes w8 n;
-      is = rw (le-ltb n 24 a, lt-ltb n (2 ^ 8) b) refl;
-      long = rw (le-ltb n 24 a, lt-ltb n (2 ^ 8) b) refl;
-    }
-    | inr b ↦ elim (cases_lt n (2 ^ 16)) [
-      | inl c ↦ record {
-        info = 25;
-        small = omega arith;
-        rest = to_be_bytes w16 n;
-        is = rw (le-ltb n 24 a, le-ltb n (2 ^ 8) b, lt-ltb n (2 ^ 16) c) refl;
-        long = rw (le-ltb n 24 a, le-ltb n (2 ^ 8) b, lt-ltb n (2 ^ 16) c) refl;
-      }
-      | inr c ↦ elim (cases_lt n (2 ^ 32)) [
-        | inl d ↦ record {
-          info = 26;
-          small = omega arith;
-          rest = to_be_bytes w32 n;
-          is = rw (le-ltb n 24 a, le-ltb n (2 ^ 8) b, le-ltb n (2 ^ 16) c, lt-ltb n (2 ^ 32) d) refl;
-          long = rw (le-ltb n 24 a, le-ltb n (2 ^ 8) b, le-ltb n (2 ^ 16) c, lt-ltb n (2 ^ 32) d) refl;
-        }
-        | inr d ↦ record {
-          info = 27;
-          small = omega arith;
-          rest = to_be_bytes w64 n;
-          is = rw (le-ltb n 24 a, le-ltb n (2 ^ 8) b, le-ltb n (2 ^ 16) c, le-ltb n (2 ^ 32) d) refl;
-          long = rw (le-ltb n 24 a, le-ltb n (2 ^ 8) b, le-ltb n (2 ^ 16) c, le-ltb n (2 ^ 32) d) refl;
-        }
-      ]
-    ]
-  ]
-]
+head_type n s = grind (arith, nat_tests)
+
+head_length : (n : ℕ) → length (shortest_head 2 n) ≡ 1 + behind n
+unfolding shortest_head
+head_length n = grind (arith, nat_tests)
 
 behind_rises : (n m : ℕ) → n ≤ m → behind n ≤ behind m
 behind_rises n m le = grind (arith, nat_tests)
 
 key_type_is : (s : List ℕ) → key_type (written (byte_string s)) ≡ 2
-key_type_is s =
-    let h = head_of (length s) in
-    ap (λ (t : List ℕ). key_type (t ++ s)) h.is ∙ omega (arith, h.small)
+key_type_is s = head_type (length s) s
 
 encoded_long : (s : List ℕ) → length (written (byte_string s)) ≡ 1 + behind (length s) + length s
-encoded_long s =
-    let h = head_of (length s) in
-    omega (arith, length-append (shortest_head 2 (length s)) s, ap length h.is, h.long)
+encoded_long s = omega (arith, length-append (shortest_head 2 (length s)) s, head_length (length s))
 
 -- a common prefix doesn't matter
 behind_common : (t a b : List ℕ) → slice_cmp nat_cmp (t ++ a) (t ++ b) ≡ slice_cmp nat_cmp a b

@@ -1,6 +1,6 @@
 -- Maps from byte strings, with their entries in CTAP2's order: they are the same maps, and their
 -- keys ascend.
-use Rattle.passkey_kinds.proofs.Common.{slice_cmp, AllByRecursion, eq_by_cmp, is_lt, nat_cmp, Ordering, Less, ◌≡◌, ◌≢◌, ◌∙◌, ◌⊎◌, ℕ, ◌<◌, ◌≤◌, Bool, true, false, ◌&&◌, cond, List, [], ◌∷◌, length, map, Option, Some, None, option_map, refl, sym, ap, arith, inl, inr, cases_lt, nat_list_cmp_total, ByteMap, put_each, same_bytes, ComesAfter, AscendFrom, Ascend, Item, byte_string, pairs_of, written, IsShortFirst, put_by, short_first, entry_tree}
+use Rattle.passkey_kinds.proofs.Common.{nat_tests, slice_cmp, AllByRecursion, eq_by_cmp, is_lt, nat_cmp, Ordering, Less, ◌≡◌, ◌≢◌, ◌∙◌, ◌⊎◌, ℕ, ◌<◌, ◌≤◌, Bool, true, false, ◌&&◌, cond, List, [], ◌∷◌, length, map, Option, Some, None, option_map, refl, sym, ap, arith, inl, inr, cases_lt, nat_list_cmp_total, ByteMap, put_each, same_bytes, ComesAfter, AscendFrom, Ascend, Item, byte_string, pairs_of, written, IsShortFirst, put_by, short_first, entry_tree}
 use Rattle.std.specs.Cmp.Lexicographic.{bytes_decides, texts_ties}
 use Rattle.std.specs.FinMap.Entries.{below_all, is_sorted}
 use Rattle.std.specs.Ordering.{is_eq}
@@ -73,15 +73,7 @@ module _ {V : Type 0} where
   put_by-placed : (m : ByteMap V) (e : List ℕ × V) (fs : List (List ℕ × V)) → AllByRecursion
       (λ (f : List ℕ × V). e.0 ≢ f.0) fs → put_each m (put_by size e fs) ≡ put_each (fin.insert m e.0 e.1) fs
   put_by-placed m e [] apart = refl
-  put_by-placed m e (f ∷ fs) apart = grind (
-    arith,
-    cases_lt,
-    at_most,
-    above,
-    inserts_swap,
-    put_by-placed
-        (fin.insert m f.0 f.1) e fs apart.1,
-  )
+  put_by-placed m e (f ∷ fs) apart = grind (arith, cases_lt, at_most, above, inserts_swap, put_by-placed (fin.insert m f.0 f.1) e fs apart.1, nat_tests)
 
   differ : (k : List ℕ) (es : List (List ℕ × V)) → Below k es → AllByRecursion (λ (f : List ℕ × V). k ≢ f.0) es
   differ k [] h = tt

@@ -1,6 +1,5 @@
 -- Elements that are decoded one after the other and put together.
 use Rattle.passkey_kinds.proofs.Common.{filter_map, cons_option, option_and_then, ◌≡◌, ◌∙◌, ◌<◌, ◌≤◌, ◌==◌, ◌+◌, ℕ, suc, arith, ◌⊎◌, inl, inr, if◌then◌else◌, List, [], ◌∷◌, ◌++◌, length, Option, Some, None, option_map, refl, sym, ap, append_assoc, cases_lt, lt-ltb, le-ltb, ne_eqb, append-nil, length-append, ByteMap, put_each, Item, collected, entered, Kind, each, entry, with_members}
-use Rattle.std.proofs.Common.{add-zero}
 use Rattle.passkey_kinds.specs.Collecting.{pushed, pushed_if, pushed_below}
 use Rattle.passkey_kinds.proofs.ArraysAhead.{none_either}
 use Rattle.passkey_kinds.proofs.Lists.{each_more, option_same}
@@ -38,14 +37,7 @@ module _ {M : Type 0} (kind : Kind M) where
   pushed_if_all : (is : List Item) (front : List M)
       → collected (pushed_if kind) is front ≡ Some (front ++ filter_map kind is)
   pushed_if_all [] front = ap Some (sym (append-nil front))
-  pushed_if_all (i ∷ is) front =
-      pushed_if_all is (front ++ cons_option (kind i) [])
-      ∙ ap Some (append_assoc front (cons_option (kind i) []) (filter_map kind is)
-      ∙ ap (λ (xs : List M). front ++ xs) (one (kind i)))
-    where
-      one : (o : Option M) → cons_option o [] ++ filter_map kind is ≡ cons_option o (filter_map kind is)
-      one None = refl
-      one (Some x) = refl
+  pushed_if_all (i ∷ is) front = grind (arith, append_assoc, pushed_if_all is (front ++ cons_option (kind i) []))
 
   pub pushed_accepted : (is : List Item) {none : List M} → none ≡ []
       → collected (pushed_if kind) is none ≡ Some (filter_map kind is)
@@ -72,8 +64,7 @@ module _ {M : Type 0} (n : ℕ) (kind : Kind M) where
   full_all : (is : List Item) (front : List M) → length front ≤ n
       → option_and_then (full n) (collected (pushed_below n kind) is front)
       ≡ (if length front + length is == n then option_map (λ xs. front ++ xs) (each kind is) else None)
-  full_all [] front few = rw add-zero (ap (λ (xs : List M). if length front == n then Some xs else None) (sym
-      (append-nil front)))
+  full_all [] front few = grind (arith, append-nil)
   full_all (i ∷ is) front few =
       by_room (cases_lt (length front) n)
       (λ x room. full_all is (front ++ x ∷ []) (omega (arith, room, length-append front (x ∷ [])))) where

@@ -1,7 +1,6 @@
 -- The names that most proofs cite, passed on from one place. Declares nothing.
 pub use Rattle.passkey_bytes.proofs.Placed.{same_bytes}
 pub use Rattle.passkey_bytes.specs.Map.{ByteMap, put_each}
-pub use Rattle.passkey_bytes.specs.SameMaps.{same_tests}
 pub use Rattle.passkey_bytes.specs.declared.bytes.BytesFault.{BytesFault}
 pub use Rattle.passkey_cbor.proofs.Binds.{some_is}
 pub use Rattle.passkey_cbor.proofs.EncodedFrom.{lies_size}

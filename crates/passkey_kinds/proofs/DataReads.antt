@@ -24,12 +24,7 @@ parts_grow (b ∷ bytes) e = (refl, tt)
 chunks_whole : (IsAllowed : List ℕ → Type 0) (major : ℕ) (cs : List (List ℕ)) (t : List ℕ)
     → Each (Definite IsAllowed major) cs t → length (concat cs) ≤ length t
 chunks_whole IsAllowed major [] t e = omega arith
-chunks_whole IsAllowed major (c ∷ cs) t e = grind (
-  arith,
-  length-append,
-  chunks_whole IsAllowed major cs e.back
-      e.second,
-)
+chunks_whole IsAllowed major (c ∷ cs) t e = grind (arith, length-append, chunks_whole IsAllowed major cs e.back e.second)
 
 content_short : (len : Option ℕ) (s bytes : List ℕ) → Content false len s bytes → length s ≤ length bytes
 content_short (Some n) s bytes c = omega (arith, ap length c.1)

@@ -1,5 +1,5 @@
 -- Heads, and what they say about their data items.
-use Rattle.passkey_kinds.proofs.Common.{option_and_then, ◌≡◌, ◌∙◌, ℕ, ℤ, pos, negsuc, ◌⊎◌, inl, inr, ◌≤◌, ◌<◌, nat_lt, arith, Bool, true, false, if◌then◌else◌, List, [], length, Option, Some, None, refl, sym, ap, subst, cases_eq, cases_lt, le-ltb, ne_eqb, Item, items_of, pairs_of, FindsHead, IsEncodedAt, Opens, Walk, Head, lies_size, unsigned_in, integer_in, null_in, ReadsFlat, truth, signed_64}
+use Rattle.passkey_kinds.proofs.Common.{option_and_then, ◌≡◌, ◌∙◌, ℕ, ℤ, pos, negsuc, arith, Bool, true, false, if◌then◌else◌, List, [], length, Option, Some, None, refl, sym, ap, cases_eq, cases_lt, nat_tests, Item, items_of, pairs_of, FindsHead, IsEncodedAt, Opens, Walk, Head, lies_size, unsigned_in, integer_in, null_in, ReadsFlat, truth, signed_64}
 use Rattle.passkey_cbor.specs.Inside.{Inside}
 use Rattle.passkey_cbor.specs.Reading.{simple_item}
 use Rattle.passkey_cbor.proofs.Items.{low_simple}
@@ -21,44 +21,10 @@ simple_any : {X : Type 0} (f : Item → X) (r : X) → ((b : Bool) → f (item.b
 simple_any f r truths nulls others n = grind (arith, either_way)
 
 simple_truth : (n : ℕ) → head_truth (head.Simple n) ≡ truth (simple_item n)
-simple_truth n = by_20 (cases_eq n 20) where
-  by_21 : (n ≡ 20 → ⊥) → (n ≡ 21) ⊎ (n ≡ 21 → ⊥) → head_truth (head.Simple n) ≡ truth (simple_item n)
-  by_21 less (inl e) = subst (λ (k : ℕ). head_truth (head.Simple k) ≡ truth (simple_item k)) (sym e) refl
-  by_21 less (inr other) =
-      rw (ne_eqb n 20 less, ne_eqb n 21 other)
-      (sym (either_way truth None (nat_lt n 20) _ _ refl (either_way truth None (nat_lt n 24) _ _ refl refl)))
-
-  by_20 : (n ≡ 20) ⊎ (n ≡ 20 → ⊥) → head_truth (head.Simple n) ≡ truth (simple_item n)
-  by_20 (inl e) = subst (λ (k : ℕ). head_truth (head.Simple k) ≡ truth (simple_item k)) (sym e) refl
-  by_20 (inr less) = by_21 less (cases_eq n 21)
-
-middle_simple : (n : ℕ) → (n ≡ 22 → ⊥) → (n ≡ 23 → ⊥) → null_in (simple_item n) ≡ false
-middle_simple n a b = by_20 (cases_lt n 20) where
-  by_24 : (n < 24) ⊎ (24 ≤ n) → (n ≡ 20 → ⊥) → (n ≡ 21 → ⊥) → 20 ≤ n → null_in (simple_item n) ≡ false
-  by_24 (inl less) x y le = absurd (omega (arith, a, b, x, y))
-  by_24 (inr more) x y le = rw (le-ltb n 20 le, ne_eqb n 20 x, ne_eqb n 21 y, le-ltb n 24 more) refl
-
-  by_21 : (n ≡ 21) ⊎ (n ≡ 21 → ⊥) → (n ≡ 20 → ⊥) → 20 ≤ n → null_in (simple_item n) ≡ false
-  by_21 (inl e) x le = subst (λ (k : ℕ). null_in (simple_item k) ≡ false) (sym e) refl
-  by_21 (inr y) x le = by_24 (cases_lt n 24) x y le
-
-  by_even : (n ≡ 20) ⊎ (n ≡ 20 → ⊥) → 20 ≤ n → null_in (simple_item n) ≡ false
-  by_even (inl e) le = subst (λ (k : ℕ). null_in (simple_item k) ≡ false) (sym e) refl
-  by_even (inr x) le = by_21 (cases_eq n 21) x le
-
-  by_20 : (n < 20) ⊎ (20 ≤ n) → null_in (simple_item n) ≡ false
-  by_20 (inl less) = ap null_in (low_simple n less)
-  by_20 (inr le) = by_even (cases_eq n 20) le
+simple_truth n = grind (arith, nat_tests, cases_lt, cases_eq, low_simple)
 
 simple_null : (n : ℕ) → head_null (head.Simple n) ≡ null_in (simple_item n)
-simple_null n = by_22 (cases_eq n 22) where
-  by_23 : (n ≡ 22 → ⊥) → (n ≡ 23) ⊎ (n ≡ 23 → ⊥) → head_null (head.Simple n) ≡ null_in (simple_item n)
-  by_23 less (inl e) = subst (λ (k : ℕ). head_null (head.Simple k) ≡ null_in (simple_item k)) (sym e) refl
-  by_23 less (inr other) = rw (ne_eqb n 22 less, ne_eqb n 23 other) (sym (middle_simple n less other))
-
-  by_22 : (n ≡ 22) ⊎ (n ≡ 22 → ⊥) → head_null (head.Simple n) ≡ null_in (simple_item n)
-  by_22 (inl e) = subst (λ (k : ℕ). head_null (head.Simple k) ≡ null_in (simple_item k)) (sym e) refl
-  by_22 (inr less) = by_23 less (cases_eq n 23)
+simple_null n = grind (arith, nat_tests, cases_lt, cases_eq, low_simple)
 
 -- ---- what a head says holds of its item
 

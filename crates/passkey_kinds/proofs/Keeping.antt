@@ -37,9 +37,11 @@ module _ {P : Type 0} (n : ℕ) (Inv : P → Type 0) where
   members_keep t (pair k v ps) r all less h = grind (
     arith,
     named_keeps,
-    members_keep t ps (put_named t.rows
-        (named (table_of t) k) v r) all (omega (arith, less)) (named_keeps t.rows (named (table_of t) k) v r all
-        (omega (arith, less)) h),
+    members_keep t ps (put_named t.rows (named
+        (table_of t) k) v r) all (omega (arith, less)) (named_keeps t.rows (named (table_of t) k) v r all (omega (
+          arith,
+          less,
+        )) h),
   )
 
 -- ---- a decoded record was put together from its members

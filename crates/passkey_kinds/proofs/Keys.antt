@@ -1,5 +1,5 @@
 -- The rows that names and map keys name.
-use Rattle.passkey_kinds.proofs.Common.{find, bytes_eq, ◌≡◌, ◌∙◌, ◌<◌, ◌≤◌, ◌==◌, ℕ, pos, negsuc, ◌⊎◌, inl, inr, arith, zero, suc, if◌then◌else◌, Bool, true, false, ◌+◌, List, [], ◌∷◌, ◌++◌, length, map, take, drop, set, get_or, Bor, add-one, Option, Some, None, cond, nat_lt, slice_get, refl, sym, ap, cases_lt, lt-ltb, le-ltb, eqb-true, length-map, map_push, take_more_set, Item, unsigned_in, entry_of, Row, Entry, row, wrong, row_or_unknown, number_names, names}
+use Rattle.passkey_kinds.proofs.Common.{nat_tests, find, bytes_eq, ◌≡◌, ◌∙◌, ◌<◌, ◌==◌, ℕ, pos, negsuc, arith, zero, suc, if◌then◌else◌, Bool, true, false, ◌+◌, List, [], ◌∷◌, ◌++◌, length, map, take, drop, set, get_or, Bor, add-one, Option, Some, None, cond, nat_lt, slice_get, refl, sym, ap, cases_lt, eqb-true, length-map, map_push, take_more_set, Item, unsigned_in, entry_of, Row, Entry, row, wrong, row_or_unknown, number_names, names}
 use Rattle.std.specs.List.{position, position_or_len}
 use Rattle.std.proofs.Math.Seq.{take-suc}
 use Rattle.std.proofs.lemmas.Option.{slice_get_past}
@@ -20,12 +20,7 @@ at_first s (e ∷ es) = grind (arith, one_and, at_first s es)
 
 row_within : (es : List Entry) (k len : ℕ) → len ≡ length es
     → row_at es (cond (nat_lt k len) (Some k) None) ≡ row_or_unknown (slice_get es k)
-row_within es k len same = by_place (cases_lt k len) where
-  by_place : (k < len) ⊎ (len ≤ k) → row_at es (cond (nat_lt k len) (Some k) None) ≡ row_or_unknown (slice_get es k)
-  by_place (inl less) = ap (λ (b : Bool). row_at es (cond b (Some k) None)) (lt-ltb k len less)
-  by_place (inr past) =
-      ap (λ (b : Bool). row_at es (cond b (Some k) None)) (le-ltb k len past)
-      ∙ sym (ap row_or_unknown (slice_get_past es k (omega (arith, past, same))))
+row_within es k len same = grind (arith, cases_lt, slice_get_past, nat_tests)
 
 pub row_of_name : (s : List ℕ) (es : List Entry)
     → row_at es (position (λ n. bytes_eq n s) (map (λ (e : Entry). e.name) es)) ≡ row_named es s

@@ -1,9 +1,6 @@
 -- Kinds that decode the encoding of a value to that value.
-use Rattle.passkey_kinds.proofs.Common.{All, filter_map, option_and_then, arith, ◌≡◌, ◌∙◌, ◌<◌, ◌^◌, List, [], ◌∷◌, map, Option, Some, None, option_map, unwrap_or, refl, ap, All-head, All-tail, Item, byte_string, text_string, boolean, null, item_of, IfPresent, algorithm_named, Algorithm, Kind, truth, below, text, one_named, kept, optional, each, bytes, list, accepted, IsReadBack, Any, IsByte, number_tree, list_tree, credential_type_named, signed_64, transport_named}
-use Rattle.std.specs.Prelude.{ℤ}
+use Rattle.passkey_kinds.proofs.Common.{All, filter_map, arith, ◌≡◌, ◌∙◌, ◌<◌, ◌^◌, List, [], ◌∷◌, map, Option, Some, None, option_map, unwrap_or, refl, ap, All-head, All-tail, Item, byte_string, text_string, boolean, null, item_of, IfPresent, Kind, truth, below, text, one_named, kept, optional, each, bytes, list, accepted, IsReadBack, Any, IsByte, number_tree, list_tree, credential_type_named, transport_named}
 use Rattle.std.proofs.Common.{lt-ltb}
-use Rattle.passkey_iana.specs.Iana.{algorithm_number}
-use Rattle.passkey_iana.specs.IanaLaws.{algorithm_named-number}
 use Rattle.passkey_kinds.specs.Algorithm.{algorithm as an_algorithm, algorithm_tree}
 use Rattle.passkey_kinds.specs.Kind.{tolerated, or_else}
 use Rattle.passkey_kinds.specs.Tree.{option_tree}
@@ -11,7 +8,6 @@ use Rattle.passkey_kinds.specs.Trees.{credential_type_tree, transport_tree}
 use Rattle.passkey_kinds.proofs.Back.{Falls, option_place, falls_as}
 use Rattle.passkey_kinds.proofs.Lists.{list_array, accepted_array, option_same, map_same}
 use Rattle.passkey_webauthn.specs.NameLaws.{credential_type_own, transport_own}
-use Rattle.passkey_iana.specs.declared.algorithm.Algorithm.TheVariants as algorithm
 
 pub truth_back : IsReadBack truth boolean Any (λ b. b)
 truth_back = record { back = λ b h. refl }
@@ -41,13 +37,7 @@ pub transport_back : IsReadBack (one_named transport_named) transport_tree Any (
 transport_back = record { back = λ t h. transport_own t }
 
 pub algorithm_back : IsReadBack an_algorithm algorithm_tree Any (λ a. a)
-algorithm_back = record {
-  back = λ a h. ap (λ (o : Option ℤ). option_and_then algorithm_named o) (is_signed a)
-      ∙ (algorithm_named-number (algorithm_number a) a).1 refl;
-} where
-  is_signed : (a : Algorithm) → signed_64 (algorithm_number a) ≡ Some (algorithm_number a)
-  is_signed algorithm.RS1 = refl
-  is_signed _ = refl
+algorithm_back = grind arith
 
 -- ---- options, lists and tolerated values
 
@@ -99,10 +89,7 @@ seen_list_back {view = view} {normal = normal} r = grind (arith, list_back, map-
 pub or_null_back : {A M : Type 0} {kind : Kind M} {tree : A → Item} {Fits : A → Type 0} {normal : A → M}
     → IsReadBack kind tree Fits normal → kind null ≡ None
     → IsReadBack (optional kind) (option_tree tree) (IfPresent Fits) (option_map normal)
-or_null_back {A} {M} {kind} {tree} {Fits} {normal} r none = record { back = there } where
-  there : (o : Option A) → IfPresent Fits o → optional kind (option_tree tree o) ≡ Some (option_map normal o)
-  there None h = refl
-  there (Some x) h = optional_some kind (tree x) (normal x) none (r.back x h)
+or_null_back {A} {M} {kind} {tree} {Fits} {normal} r none = grind (arith, optional_some)
 
 -- null or the value, where the value is its own normal form
 pub or_null_same : {M : Type 0} {kind : Kind M} {tree : M → Item} {Fits : M → Type 0} → IsReadBack kind tree Fits

@@ -29,12 +29,7 @@ may_tell : {A M : Type 0} (view : A → M) (read : Item → Result M Fault) → 
 may_tell view read knows bytes x len front (Ok r) some told = grind arith
 may_tell view read knows bytes x len front (Err fault.DecodeFailed) some told = absurd ((knows x).0 told)
 may_tell view read knows bytes x len front (Err fault.OutOfMemory) some told = absurd (some refl)
-may_tell view read knows bytes x len front (Err _) some told = record {
-  item = x;
-  len = len;
-  front = front;
-  holds = told;
-}
+may_tell view read knows bytes x len front (Err _) some told = grind arith
 
 -- ---- two results of decoding that are the same but for the length
 
@@ -55,13 +50,7 @@ told_same view one other same n m (Err e) (Err f) t u = sym same ∙ t ∙ ap Er
 carries_over : {A M : Type 0} → AtMostOneLeadingItem → (view : A → M) (read : Item → Result M Fault)
     → KnowsItems read → (x y : Item) → read x ≡ read y → (bytes others : List ℕ) (n m : ℕ) → IsLeadingItem bytes x n
     → IsLeadingItem others y m → AnswersCarryOver view read bytes others m
-carries_over law view read knows x y same bytes others n m front other r s some some_too h = grind (
-  arith,
-  tells,
-  same_told,
-  may_tell,
-  told_same,
-)
+carries_over law view read knows x y same bytes others n m front other r s some some_too h = grind (arith, same_told, may_tell, told_same)
 
 pub alike : {A M : Type 0} → AtMostOneLeadingItem → (view : A → M) (read : Item → Result M Fault) → KnowsItems read
     → AlikeDifferInLength view read

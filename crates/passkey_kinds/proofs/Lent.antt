@@ -1,6 +1,6 @@
 -- Strings that are lent at a cursor: the cost of decoding them and of looking at their chunks
 -- again.
-use Rattle.passkey_kinds.proofs.Common.{rules, ◌≡◌, ℕ, ◌+◌, ◌≤◌, ◌<◌, arith, Bool, true, false, cond, List, [], ◌∷◌, ◌++◌, length, Option, Some, None, Result, Err, refl, sym, ap, subst, length-append, length-take, Item, byte_string, text_string, Grows, Content, Region, PassesString, LendsFrom, IsRegion, heads_in, IsEncodedAt, Walk, ahead, raised-le, Spends, Decodes, LooksAtMost, AnswersAs, MayGrow, Refusal, Refused}
+use Rattle.passkey_kinds.proofs.Common.{rules, ◌≡◌, ℕ, ◌+◌, ◌≤◌, ◌<◌, arith, Bool, true, false, cond, List, [], ◌∷◌, ◌++◌, length, Option, Some, None, Result, Err, refl, sym, ap, subst, length-append, length-take, Item, byte_string, text_string, Content, Region, PassesString, LendsFrom, IsRegion, heads_in, IsEncodedAt, Walk, ahead, raised-le, Spends, Decodes, LooksAtMost, AnswersAs, MayGrow, Refusal, Refused}
 use Rattle.passkey_cbor.specs.Lent.{LooksAtAll, LooksAtSome}
 use Rattle.passkey_cbor.specs.Names.{LooksFor, heads_until, heads_sought}
 use Rattle.passkey_cbor.proofs.Lists.{each_long}
@@ -125,10 +125,7 @@ pub text_grows : (i : Item) (s : List ℕ) → i ≡ text_string s → MayGrow t
 text_grows i s e = subst (MayGrow true) (sym e) (refl, tt)
 
 pub bytes_grow : (i : Item) (s : List ℕ) → i ≡ byte_string s → 0 < length s → MayGrow true i
-bytes_grow i s e some = subst (MayGrow true) (sym e) (refl, not_empty s some) where
-  not_empty : (s : List ℕ) → 0 < length s → Grows (byte_string s)
-  not_empty [] h = absurd (omega (arith, h))
-  not_empty (b ∷ bs) h = tt
+bytes_grow i s e some = grind arith
 
 -- The result if no string of this type is encoded there.
 pub not_lent_decodes : {A M : Type 0} (view : A → M) (wanted : Option M) (takes : Type 0) (is_text : Bool)

@@ -76,10 +76,7 @@ spread_ordered [] h = tt
 spread_ordered (p ∷ ps) h = under_ordered p.0 p.1 (spread ps) h.0 (spread_ordered ps h.1)
 
 pub record_ordered : (ps : List Place) → ascend ps ≡ true → AllOrdered ps → IsOrdered (record_tree ps)
-record_ordered ps h all = (
-  keys_ascend ps h,
-  subst (λ (ms : Members). ArePairsOrdered (pairs_of ms)) (sym (laid_spread [] ps)) (spread_ordered ps all),
-)
+record_ordered ps h all = grind (arith, keys_ascend, laid_spread, spread_ordered)
 
 items_ordered : {A : Type 0} (tree : A → Item) → ((x : A) → IsOrdered (tree x)) → (xs : List A)
     → AreOrdered (items_of (map tree xs))

@@ -1,5 +1,5 @@
 -- Records that are decoded one member after the other.
-use Rattle.passkey_kinds.proofs.Common.{arith, ◌≡◌, ◌∙◌, ℕ, Bool, true, false, List, [], ◌∷◌, ◌++◌, replicate, slice_get, Option, Some, None, is_some, Result, Ok, Err, OnOk, refl, sym, ap, subst, append_assoc, append-nil, result_ok, Item, MayGrow, AnswersAs, MayGrowIn, Reads, Marks, are_small, first_unmarked, Fields, set_with, rows_of, table_of, put_at, put_named, unless_missing, judged, read_members, read_item, HasReadTo, Naming, row, unknown, wrong, entries, named, Members, accepts_at, bad_by, bad_member, first_bad, first_missing, Fault, Refusal}
+use Rattle.passkey_kinds.proofs.Common.{arith, ◌≡◌, ◌∙◌, ℕ, Bool, true, false, List, [], ◌∷◌, ◌++◌, replicate, slice_get, Some, None, is_some, Result, Ok, Err, OnOk, refl, sym, ap, subst, append_assoc, append-nil, result_ok, Item, AnswersAs, MayGrowIn, Reads, Marks, are_small, first_unmarked, Fields, set_with, rows_of, table_of, put_at, put_named, unless_missing, judged, read_members, read_item, HasReadTo, Naming, row, unknown, wrong, entries, named, Members, accepts_at, bad_by, bad_member, first_bad, first_missing, Fault, Refusal}
 use Rattle.passkey_kinds.specs.Kind.{Typed}
 use Rattle.passkey_kinds.specs.Reading.{takes_at, Steps}
 use Rattle.passkey_kinds.specs.Record.{with_members}
@@ -45,12 +45,7 @@ module _ {P : Type 0} (t : Fields P) where
       → rest ≡ m ∷ others → (h : HasReadTo t ms rest old marks) → bad_member (table_of t) h.earlier m ≡ None
       → Marks (table_of t) (h.earlier ++ m ∷ []) next → with_members t (h.earlier ++ m ∷ []) t.blank ≡ new
       → HasReadTo t ms others new next
-  goes_on ms rest others m old new marks next at h good marked made = record {
-    earlier = h.earlier ++ m ∷ [];
-    whole = h.whole ∙ ap (λ (r : Members). h.earlier ++ r) at ∙ sym (append_assoc h.earlier (m ∷ []) others);
-    good = still_good (table_of t) ms h.earlier rest others m at h.good good;
-    holds = record { marked = marked; made = made };
-  }
+  goes_on ms rest others m old new marks next at h good marked made = grind (arith, append_assoc, still_good)
 
   module _ {A : Type 0} (view : A → P) (ms rest others : Members) (m : Item × Item) (old : P) (marks : List Bool)
       (at : rest ≡ m ∷ others) (h : HasReadTo t ms rest old marks) where
@@ -120,13 +115,7 @@ pub sets_put : {A M P : Type 0} (t : Fields P) (view : A → M) (kind : Typed M)
     → accepts_at (rows_of t.rows) k i ≡ is_some (kind.of i) → put_at t.rows k i old ≡ set_with set (kind.of i) old
     → takes_at (rows_of t.rows) k ≡ kind.takes → set (view field) old ≡ new → Sets view kind i field result
     → Puts t n i old new result
-sets_put {M = M} t view kind set n k i field old new result same accepts puts may made h =
-    subst (λ (j : ℕ). Puts t j i old new result) (sym same) (there result h) where
-      there : (r : Result (Unit {0}) Refusal) → Sets view kind i field r → Puts t k i old new r
-      there (Ok x) h =
-          (accepts ∙ ap (λ (o : Option M). is_some o) h, puts ∙ ap (λ (o : Option M). set_with set o old) h ∙ made)
-      there (Err refusal.Refused) h = accepts ∙ ap (λ (o : Option M). is_some o) h
-      there (Err refusal.OutOfMemory) h = subst (λ (b : Bool). MayGrow b i) (sym may) h
+sets_put {M = M} t view kind set n k i field old new result same accepts puts may made h = grind arith
 
 -- ---- what the prover needs for one more member, and for the members of a map
 

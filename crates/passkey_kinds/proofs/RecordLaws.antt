@@ -13,21 +13,14 @@ module _ {P : Type 0} (t : Fields P) where
   judged_alike : (one other : Members) → first_bad (table_of t) [] one ≡ first_bad (table_of t) [] other
       → first_missing (table_of t) one ≡ first_missing (table_of t) other
       → with_members t one t.blank ≡ with_members t other t.blank → read_members t one ≡ read_members t other
-  judged_alike one other bad missing made = ap (judged t one) bad ∙ by (first_bad (table_of t) [] other) where
-    by : (f : Option Fault) → judged t one f ≡ judged t other f
-    by (Some f) = refl
-    by None = λ i. unless_missing (missing i) (made i)
+  judged_alike one other bad missing made = grind arith
 
   -- ---- unknown members
 
   made_without : (before behind : Members) (key value : Item) (r : P) → named (table_of t) key ≡ unknown
       → with_members t (before ++ (key, value) ∷ behind) r ≡ with_members t (before ++ behind) r
   made_without [] behind key value r naming = grind arith
-  made_without (m ∷ before) behind key value r naming = grind (
-    arith,
-    made_without before behind key value
-        (put_named t.rows (named (table_of t) m.0) m.1 r) naming,
-  )
+  made_without (m ∷ before) behind key value r naming = grind (arith, made_without before behind key value (put_named t.rows (named (table_of t) m.0) m.1 r) naming)
 
   pub unknown_is_skipped : (before behind : Members) (key value : Item) → named (table_of t) key ≡ unknown
       → read_members t (before ++ (key, value) ∷ behind) ≡ read_members t (before ++ behind)

@@ -149,7 +149,6 @@ picked_back t fs ps x finds keys complete backs = grind (
   laid_spread,
   judged_good,
   spread,
-  stands,
   none_bad,
   fit_rows,
   all_free,

@@ -1,5 +1,5 @@
 -- Sorting by numbers: a stable sort returns `sorted_by`.
-use Rattle.passkey_kinds.proofs.Common.{AllByRecursion, nat_cmp, is_lt, ◌≡◌, ◌⊎◌, ℕ, suc, ◌<◌, ◌≤◌, ◌==◌, nat_le, Bool, true, false, cond, List, [], ◌∷◌, length, map, refl, sym, ap, ◌∙◌, arith, inl, inr, Bor, cases_lt, cases_eq, nat_tests, put_by, sorted_by}
+use Rattle.passkey_kinds.proofs.Common.{AllByRecursion, nat_cmp, is_lt, ◌≡◌, ◌⊎◌, ℕ, suc, ◌<◌, ◌≤◌, ◌==◌, nat_le, Bool, true, false, cond, List, [], ◌∷◌, length, map, refl, sym, ap, ◌∙◌, arith, inl, inr, Bor, cases_lt, nat_tests, put_by, sorted_by}
 use Rattle.std.specs.List.{filter}
 use Rattle.std.specs.Fn.{ComputesKey, Called, Mut}
 use Rattle.std.specs.List.Sorted.{IsNonDecreasingBy, IsSortedByKey, IsStableByKey, ties}
@@ -35,20 +35,12 @@ module _ {X : Type 0} (number : X → ℕ) where
   kept false x xs = xs
 
   of-cons : (n : ℕ) (x : X) (xs : List X) → of n (x ∷ xs) ≡ kept (number x == n) x (of n xs)
-  of-cons n x xs = by (number x == n) refl where
-    by : (b : Bool) → (number x == n) ≡ b → of n (x ∷ xs) ≡ kept b x (of n xs)
-    by true e = rw e refl
-    by false e = rw e refl
+  of-cons n x xs = grind arith
 
   -- two elements with different numbers change places
   swapped : (n : ℕ) (x y : X) (xs : List X) → number y < number x
       → kept (number y == n) y (kept (number x == n) x xs) ≡ kept (number x == n) x (kept (number y == n) y xs)
-  swapped n x y xs lt = elim (cases_eq (number x) n) [
-    | inl e ↦ rw (other_number (number y) n (inl (omega (arith, lt, e)))) refl
-    | inr d ↦ rw (other_number (number x) n (split d)) refl
-  ] where
-    split : (number x ≡ n → ⊥) → (number x < n) ⊎ (n < number x)
-    split d = elim (cases_lt (number x) n) [ inl l ↦ inl l | inr g ↦ inr (omega (arith, g, d)) ]
+  swapped n x y xs lt = grind (arith, nat_tests, other_number)
 
   of-put_by : (n : ℕ) (x : X) (ys : List X) → of n (put_by number x ys) ≡ kept (number x == n) x (of n ys)
   of-put_by n x [] = of-cons n x []
@@ -66,10 +58,7 @@ module _ {X : Type 0} (number : X → ℕ) where
 
   put_by-rising : (low : ℕ) (x : X) (ys : List X) → low ≤ number x → Rising low ys → Rising low (put_by number x ys)
   put_by-rising low x [] le r = (le, tt)
-  put_by-rising low x (y ∷ ys) le r = elim (cases_lt (number y) (number x)) [
-    | inr ge ↦ rw (at_most (number x) (number y) ge) (le, (ge, r.1))
-    | inl lt ↦ rw (above (number x) (number y) lt) (r.0, put_by-rising (number y) x ys (omega (arith, lt)) r.1)
-  ]
+  put_by-rising low x (y ∷ ys) le r = grind (arith, cases_lt, at_most, above, put_by-rising (number y) x ys)
 
   sorted_by-rising : (xs : List X) → Rising 0 (sorted_by number xs)
   sorted_by-rising [] = tt
@@ -77,13 +66,7 @@ module _ {X : Type 0} (number : X → ℕ) where
 
   none_below : (n low : ℕ) (xs : List X) → n < low → Rising low xs → of n xs ≡ []
   none_below n low [] lt r = refl
-  none_below n low (x ∷ xs) lt r = grind (
-    arith,
-    of-cons,
-    other_number,
-    none_below n (number x) xs (omega
-        (arith, lt, r.0)) r.1,
-  )
+  none_below n low (x ∷ xs) lt r = grind (arith, of-cons, other_number, none_below n (number x) xs (omega (arith, lt, r.0)) r.1, nat_tests)
 
   first_is : (x y : X) (xs ys : List X) → x ∷ xs ≡ y ∷ ys → (x ≡ y) × (xs ≡ ys)
   first_is x y xs ys e = (cc, cc)

@@ -1,12 +1,10 @@
 -- The encodings of signed extension outputs can be decoded again.
-use Rattle.passkey_kinds.proofs.Common.{◌≡◌, ◌∙◌, ℕ, Bool, List, Option, Some, None, refl, ap, IsReadBack, Any, record_tree}
+use Rattle.passkey_kinds.proofs.Common.{arith, ◌≡◌, ℕ, Bool, List, Option, Some, None, refl, IsReadBack, Any}
 use Rattle.passkey_core.specs.SignedOutputs.{creation_item, assertion_item}
-use Rattle.passkey_kinds.specs.Placed.{fields_of, places_of, plain_kind, plain_tree}
+use Rattle.passkey_kinds.specs.Placed.{plain_kind, plain_tree}
 use Rattle.passkey_kinds.specs.Signed.{made_signed, used_signed}
 use Rattle.passkey_kinds.proofs.LeafBack.{truth_back, bytes_back, anything, optional_place}
-use Rattle.passkey_kinds.proofs.RowsBack.{puts_default, ◌▸◌, no_more, kind_back}
-use Rattle.passkey_core.specs.declared.get_assertion.SignedExtensionOutputs as used
-use Rattle.passkey_core.specs.declared.make_credential.SignedExtensionOutputs as made
+use Rattle.passkey_kinds.proofs.RowsBack.{puts_default, no_more, kind_back}
 
 creation_laid : (made : Option Bool) (secrets : Option (List ℕ))
     → creation_item (record { hmac_secret = made; hmac_secret_mc = secrets })
@@ -17,13 +15,7 @@ creation_laid (Some t) None = refl
 creation_laid (Some t) (Some b) = refl
 
 pub creation_back : IsReadBack (plain_kind made_signed) creation_item Any (λ o. o)
-creation_back = record {
-  back = λ o h. ap (plain_kind made_signed) (creation_laid o.hmac_secret o.hmac_secret_mc)
-      ∙ kind_back (fields_of made_signed) (places_of made_signed.members o) o refl refl
-      (puts_default (optional_place truth_back refl o.hmac_secret (anything o.hmac_secret)) refl ▸
-      puts_default (optional_place bytes_back refl o.hmac_secret_mc (anything o.hmac_secret_mc)) refl ▸
-      no_more);
-}
+creation_back = grind (arith, creation_laid, kind_back, puts_default, optional_place, truth_back, anything, bytes_back, no_more)
 
 assertion_laid : (secrets : Option (List ℕ)) → assertion_item (record { hmac_secret = secrets })
     ≡ plain_tree used_signed (record { hmac_secret = secrets })
@@ -31,9 +23,4 @@ assertion_laid None = refl
 assertion_laid (Some b) = refl
 
 pub assertion_back : IsReadBack (plain_kind used_signed) assertion_item Any (λ o. o)
-assertion_back = record {
-  back = λ o h. ap (plain_kind used_signed) (assertion_laid o.hmac_secret)
-      ∙ kind_back (fields_of used_signed) (places_of used_signed.members o) o refl refl
-      (puts_default (optional_place bytes_back refl o.hmac_secret (anything o.hmac_secret)) refl ▸
-      no_more);
-}
+assertion_back = grind (arith, assertion_laid, kind_back, puts_default, optional_place, bytes_back, anything, no_more)

@@ -1,5 +1,5 @@
 -- What sinks hold after the members of a record: a counter, an encoder, and a list of members.
-use Rattle.passkey_kinds.proofs.Common.{◌≡◌, ◌∙◌, ℕ, suc, ◌+◌, ◌<◌, ◌^◌, List, [], ◌∷◌, ◌++◌, length, append_assoc, Option, Some, None, refl, sym, ap, subst, arith, append-nil, Item, pairs_of, IsWritable, ArePairsWritable, shortest_head, written, Members, Place, laid, record_tree, under}
+use Rattle.passkey_kinds.proofs.Common.{◌≡◌, ℕ, suc, ◌+◌, ◌<◌, ◌^◌, List, [], ◌∷◌, ◌++◌, length, append_assoc, Option, Some, None, refl, sym, arith, append-nil, Item, pairs_of, IsWritable, ArePairsWritable, shortest_head, written, Members, Place, laid, record_tree, under}
 use Rattle.passkey_cbor.specs.Encoding.{pairs_len}
 use Rattle.passkey_cbor.specs.Written.{pairs_written}
 use Rattle.passkey_cbor.proofs.Items.{pairs_len-pairs_of}
@@ -46,10 +46,7 @@ encoded_one : (bytes : List ℕ) (key : Item) (o : Option Item) (ms : Members)
     ≡ bytes ++ pairs_written (pairs_of (under key o ++ ms))
 unfolding put_one
 encoded_one bytes key None ms = refl
-encoded_one bytes key (Some x) ms =
-    let rest : List ℕ = pairs_written (pairs_of ms) in
-    append_assoc (bytes ++ written key) (written x) rest ∙ append_assoc bytes (written key) (written x ++ rest)
-    ∙ ap (λ (s : List ℕ). bytes ++ s) (sym (append_assoc (written key) (written x) rest))
+encoded_one bytes key (Some x) ms = grind (arith, append_assoc)
 
 encoded_all : (bytes : List ℕ) (ps : List Place)
     → put_all encode_member bytes ps ≡ bytes ++ pairs_written (pairs_of (spread ps))
@@ -73,18 +70,8 @@ members_len ps = omega (arith, counted_all 0 ps, pairs_len-pairs_of (spread ps))
 pub record_written : (ps : List Place) (n : ℕ) (old behind new : List ℕ) → n ≡ put_all count_one 0 ps
     → behind ≡ old ++ shortest_head 5 n → new ≡ put_all encode_member behind ps
     → new ≡ old ++ written (record_tree ps)
-record_written ps n old behind new count head put =
-    let ms : Members = spread ps in
-    put ∙ encoded_all behind ps
-    ∙ ap (λ (s : List ℕ). s ++ pairs_written (pairs_of ms)) head
-    ∙ append_assoc old (shortest_head 5 n) (pairs_written (pairs_of ms))
-    ∙ ap (λ (k : ℕ). old ++ (shortest_head 5 k ++ pairs_written (pairs_of ms))) (count ∙ members_len ps)
-    ∙ ap (λ (ns : Members). old ++ (shortest_head 5 (pairs_len (pairs_of ns)) ++ pairs_written (pairs_of ns)))
-    (sym (laid_spread [] ps))
+record_written ps n old behind new count head put = grind (arith, spread, encoded_all, append_assoc, members_len, laid_spread)
 
 pub record_writable : (ps : List Place) (n : ℕ) → n ≡ put_all count_one 0 ps → n < 2 ^ 64
     → AllAccepted IsWritable ps → IsWritable (record_tree ps)
-record_writable ps n count fits accepted =
-    let few : pairs_len (pairs_of (spread ps)) < 2 ^ 64 = omega (arith, count, members_len ps, fits) in
-    subst (λ (ms : Members). (pairs_len (pairs_of ms) < 2 ^ 64) × ArePairsWritable (pairs_of ms))
-    (sym (laid_spread [] ps)) (few, accepted_all ps accepted)
+record_writable ps n count fits accepted = grind (arith, spread, members_len, laid_spread, accepted_all)

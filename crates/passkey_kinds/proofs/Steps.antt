@@ -1,5 +1,5 @@
 -- The same, and the lemmas that proofs of the code cite. Declares nothing.
-pub use Rattle.passkey_kinds.proofs.Common.{same_bytes, ByteMap, put_each, same_tests, BytesFault, some_is, lies_size, raised-le, head_again, head_long, split, item_of-Array, item_of-Map, WritesItems, ComesAfter, AscendFrom, Ascend, IsOrdered, depth, pairs_depth, IsEncodedAt, Lies, Next, Looks, Opens, FindsHead, Grows, Content, Left, PairWithin, Item, Pairs, no_pairs, pair, members, items_of, pairs_of, byte_string, array, boolean, null, text_string, AtMostOneLeadingItem, WrittenIsLeadingItem, max_depth, IsLeadingItem, Region, Tells, PassesString, LendsNothing, IsRegion, heads_in, LendsFrom, PassesLeadingItem, item_of, pair_of, Walk, ahead, Went, IsWritable, ArePairsWritable, written, Head, Value, is_coherent, GivenIsCoherent, ReadIsGiven, WrittenDataAreReadBack, IfPresent, data_parts, members-pairs_of, elements-items_of, algorithm_named, Algorithm, algorithm, collected, entered, aaguid, authenticator_data, authenticator_data_nodes, unsigned_in, integer_in, null_in, ReadsFlat, Keeping, nothing, counted, kept_of, kept_sum, in_members, in_elements, AnswersAs, bytes, MayGrow, below, kept, truth, Kind, optional, each, sized_bytes, list, accepted, text, one_named, tolerated, with_members, map_from_bytes, entry, map_values, ReadsMessage, AlikeDifferInLength, ReadIsCoherent, AllCanonical, WrittenIsCanonical, EachFits, fields_of, places_of, IsReadBack, Any, IsByte, Further, Decodes, LooksAtMost, Spends, Onward, MayGrowIn, Marks, are_small, first_unmarked, Reads, with_row, MayGrowAt, named_as, Fields, set_with, rows_of, table_of, put_at, put_named, unless_missing, judged, read_members, read_item, Member, record_kind, record_cost, cost_by, kept_in, kept_in_map, KnowsItems, known_member, known, HasNoWrongKey, SameAnswers, HasReadTo, entry_of, put_by, sorted_by, IsShortFirst, short_first, size, Entry, Table, entries, named, Members, found, bad_member, first_bad, first_missing, Naming, row, unknown, wrong, accepts_at, bad_by, row_or_unknown, number_names, names, is_row, Place, record_tree, KeysAscend, number_tree, numbers_tree, entry_tree, under, laid, list_tree, byte_map_tree, key_size, Fault, Repeated, Refusal, Refused, OutOfMemory, Row, credential_type_named, signed_64, transport_named, ◌≡◌, ◌∙◌, ◌<◌, ◌+◌, nat_lt, ℕ, suc, add-one, arith, Bool, true, false, not, ◌&&◌, if◌then◌else◌, List, [], ◌∷◌, ◌++◌, length, map, replicate, drop, get_or, Option, Some, None, is_some, is_none, option_map, slice_get, inl, inr, refl, sym, ap, rules, ◌≤◌, Result, ◌*◌, subst, ◌-◌, take, nat_le, Ok, Err, OnOk, append_assoc, ◌==◌, cond, set, ◌⊎◌, Bor, pos, ℤ, negsuc, ◌≢◌, ◌^◌, max, ◌||◌, unwrap_or, zero, eq-eqb, min, ltb-true, le-leb, mul-le-mul_left, drop-cons, and_parts, leb-true, true≢false, cases_lt, cases_eq, le-ltb, ne_eqb, lt-ltb, eqb-true, not-true, and_from, nat_tests, nat_list_cmp_total, length-map, length-append, length-take, append-nil, drop_all, take_all, take_more_set, map_push, All-head, All-tail, get_or_from_slice_get, slice_get-get_or, err_from_is_err_and, unsigned_Decides, slice_cmp, find, AllByRecursion, list_any, filter_map, cons_option, All, option_or, option_and_then, nat_cmp, is_lt, eq_by_cmp, codes, result_ok, bytes_eq, Ordering, Less}
+pub use Rattle.passkey_kinds.proofs.Common.{ByteMap, BytesFault, some_is, split, item_of-Array, item_of-Map, IsOrdered, depth, IsEncodedAt, Lies, Left, PairWithin, Item, pairs_of, byte_string, text_string, AtMostOneLeadingItem, WrittenIsLeadingItem, max_depth, item_of, pair_of, Walk, Value, is_coherent, GivenIsCoherent, ReadIsGiven, WrittenDataAreReadBack, IfPresent, data_parts, members-pairs_of, elements-items_of, algorithm_named, algorithm, collected, entered, aaguid, authenticator_data, authenticator_data_nodes, nothing, kept_of, kept_sum, in_members, in_elements, AnswersAs, bytes, MayGrow, below, kept, truth, Kind, optional, each, sized_bytes, list, accepted, text, one_named, tolerated, with_members, map_from_bytes, map_values, ReadIsCoherent, AllCanonical, WrittenIsCanonical, EachFits, fields_of, IsReadBack, Any, Spends, Onward, MayGrowIn, MayGrowAt, named_as, table_of, read_members, read_item, record_cost, cost_by, kept_in, kept_in_map, HasReadTo, entry_of, sorted_by, size, Entry, entries, Members, Naming, wrong, row_or_unknown, number_names, KeysAscend, number_tree, entry_tree, key_size, Refusal, OutOfMemory, Row, credential_type_named, transport_named, ◌≡◌, ◌∙◌, ◌<◌, ◌+◌, nat_lt, ℕ, suc, arith, Bool, true, false, ◌&&◌, if◌then◌else◌, List, [], ◌∷◌, ◌++◌, length, map, Option, Some, None, option_map, refl, sym, ap, rules, ◌≤◌, Result, subst, ◌-◌, take, nat_le, Ok, Err, OnOk, ◌==◌, pos, ◌^◌, max, unwrap_or, zero, eq-eqb, min, ltb-true, le-leb, and_parts, le-ltb, ne_eqb, and_from, nat_tests, length-map, length-take, drop_all, take_all, take_more_set, map_push, err_from_is_err_and, find, filter_map, option_and_then, codes, result_ok}
 unfoldable pub use Rattle.passkey_kinds.proofs.Common.{shortest_head}
 pub use Rattle.passkey_kinds.proofs.Ahead.{kept_nothing, decodes_in, kept_array, grows_items, no_list, none_accepted}
 pub use Rattle.passkey_kinds.proofs.Arrays.{sized_array, set_before}
@@ -14,7 +14,7 @@ pub use Rattle.passkey_kinds.proofs.Heads.{truth_read, unsigned_read, integer_re
 pub use Rattle.passkey_kinds.proofs.Keeping.{kept_below, record_keeps, nested_keeps}
 pub use Rattle.passkey_kinds.proofs.Keys.{none_wrong, names_number, fits_byte, other_major, not_unsigned, found_behind}
 pub use Rattle.passkey_kinds.proofs.Lawful.{IsLawful, lawful, raised, IsLawfulAs}
-pub use Rattle.passkey_kinds.proofs.LeafBack.{seen_list_back, truth_back, or_null_back, or_null_same, optional_place, byte_back, bytes_back, kept_back, anything, tolerated_place, text_back, all_of_anything, accepted_same, accepted_place, if_fits, list_same, word_back, transport_back, list_back, optional_back}
+pub use Rattle.passkey_kinds.proofs.LeafBack.{seen_list_back, truth_back, or_null_back, or_null_same, optional_place, byte_back, bytes_back, kept_back, anything, tolerated_place, text_back, all_of_anything, accepted_same, accepted_place, list_same, word_back, transport_back, list_back, optional_back}
 pub use Rattle.passkey_kinds.proofs.Leaves.{flat_found, flat_missed, on_ok, fails_as, ok_ends, named_text, no_text, failed, null_item, other_item, unsigned_below, no_aaguid}
 pub use Rattle.passkey_kinds.proofs.Lent.{looks_all, lent_spends, looks_names, lent_decodes, not_lent_decodes, text_grows, looks_some, looks_none, bytes_grow}
 pub use Rattle.passkey_kinds.proofs.Levels.{list_within, record_within, PlaceWithin, Within}
@@ -28,7 +28,7 @@ pub use Rattle.passkey_kinds.proofs.MessageBack.{back_if_few, back_if_good}
 pub use Rattle.passkey_kinds.proofs.Messages.{may_grow, went_back, item_stands, message_is, fault_is}
 pub use Rattle.passkey_kinds.proofs.NotNull.{not_null, ok_of}
 pub use Rattle.passkey_kinds.proofs.NumberPieces.{number_decodes, AddsUpTo, adds_one, adds_all, adds_looks}
-pub use Rattle.passkey_kinds.proofs.Ordered.{ascend, keys_ascend, PlaceOrdered, PlaceWritable, record_ordered, record_canonical, ordered_of, AllWritable}
+pub use Rattle.passkey_kinds.proofs.Ordered.{ascend, keys_ascend, PlaceOrdered, PlaceWritable, record_ordered, record_canonical, ordered_of}
 pub use Rattle.passkey_kinds.proofs.Pairs.{member_at}
 pub use Rattle.passkey_kinds.proofs.PairsAhead.{key_spends, pair_spends, kept_map, grows_pairs, no_map_there}
 pub use Rattle.passkey_kinds.proofs.Places.{PlaceHas, EachPlace}

@@ -29,8 +29,8 @@ first_bad_alike table one other same (m ∷ ms) = grind (
   arith,
   bad_alike,
   found_more,
-  first_bad_alike table (one
-      ++ m ∷ []) (other ++ m ∷ []) (found_more table one other (m ∷ []) same) ms,
+  first_bad_alike table (one ++ m ∷
+      []) (other ++ m ∷ []) (found_more table one other (m ∷ []) same) ms,
 )
 
 pub found_pushed : (table : Table) (earlier : Members) (key value : Item) → named table key ≡ unknown → (k : ℕ)
@@ -41,11 +41,7 @@ pub first_bad_without : (table : Table) (earlier before behind : Members) (key v
     → named table key ≡ unknown
     → first_bad table earlier (before ++ (key, value) ∷ behind) ≡ first_bad table earlier (before ++ behind)
 first_bad_without table earlier [] behind key value naming = grind (arith, first_bad_alike, found_pushed)
-first_bad_without table earlier (m ∷ before) behind key value naming = grind (
-  arith,
-  first_bad_without table
-      (earlier ++ m ∷ []) before behind key value naming,
-)
+first_bad_without table earlier (m ∷ before) behind key value naming = grind (arith, first_bad_without table (earlier ++ m ∷ []) before behind key value naming)
 
 -- ---- if the same rows are named, the same row is missing
 

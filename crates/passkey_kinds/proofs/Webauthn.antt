@@ -1,5 +1,5 @@
 -- Records of WebAuthn can be decoded again, have few levels, and their keys ascend.
-use Rattle.passkey_kinds.proofs.Common.{refl, shortest_head}
+use Rattle.passkey_kinds.proofs.Common.{arith, refl, shortest_head}
 use Rattle.passkey_kinds.specs.Webauthn.{descriptor, parameters, webauthn_user}
 use Rattle.passkey_kinds.proofs.Lawful.{IsLawful, lawful}
 use Rattle.passkey_kinds.proofs.LeafBack.{text_back, bytes_back, credential_type_back, transport_back, algorithm_back, or_else_back, accepted_place}
@@ -18,15 +18,8 @@ descriptor_law =
 
 pub parameters_law : IsLawful 0 parameters
 unfolding shortest_head
-parameters_law = lawful 0 parameters (λ p. refl) (λ p. refl) (λ p. refl) (λ k p. search plainly) (λ p fits.
-    puts_value algorithm_back p.alg tt ▸
-    puts_value (or_else_back credential_type_back Unknown) p.ty tt ▸
-    no_more)
+parameters_law = grind (arith, lawful, plainly, puts_value, algorithm_back, or_else_back, credential_type_back, no_more)
 
 pub user_law : IsLawful 0 webauthn_user
 unfolding shortest_head
-user_law = lawful 0 webauthn_user (λ u. refl) (λ u. refl) (λ u. refl) (λ k u. search plainly) (λ u fits.
-    puts_value bytes_back u.id tt ▸
-    puts_value text_back u.name tt ▸
-    puts_value text_back u.display_name tt ▸
-    no_more)
+user_law = grind (arith, lawful, plainly, puts_value, bytes_back, text_back, no_more)

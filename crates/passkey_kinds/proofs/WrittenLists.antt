@@ -20,11 +20,7 @@ fits_more Fits xs i x e within = fits_next Fits xs (drop i xs) (drop (i + 1) xs)
 pub written_next : {X Y : Type 0} (tree : X → Y) (xs left rest : List X) (x : X) (y : Y) (before : List Y)
     → left ≡ x ∷ rest → y ≡ tree x → before ++ map tree left ≡ map tree xs
     → (before ++ y ∷ []) ++ map tree rest ≡ map tree xs
-written_next tree xs left rest x y before next same so_far =
-    append_assoc before (y ∷ []) (map tree rest)
-    ∙ ap (λ z. before ++ z ∷ map tree rest) same
-    ∙ ap (λ zs. before ++ map tree zs) (sym next)
-    ∙ so_far
+written_next tree xs left rest x y before next same so_far = grind (arith, append_assoc)
 
 -- the same for the value at an index
 pub written_more : {X Y : Type 0} (tree : X → Y) (xs : List X) (i : ℕ) (x : X) (y : Y) (before : List Y)

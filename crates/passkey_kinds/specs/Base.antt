@@ -17,7 +17,6 @@ pub use Rattle.passkey_core.specs.DataNodes.{data_nodes}
 pub use Rattle.passkey_core.specs.DataNormal.{IfPresent, IsData, normal_data}
 pub use Rattle.passkey_core.specs.DataParts.{DataParts, bare_data}
 pub use Rattle.passkey_core.specs.DataViews.{data_parts}
-pub use Rattle.passkey_core.specs.declared.make_credential.SignedExtensionOutputs.{SignedExtensionOutputs}
 pub use Rattle.passkey_iana.specs.Iana.{algorithm_number, algorithm_named}
 pub use Rattle.passkey_iana.specs.declared.algorithm.Algorithm.{Algorithm}
 pub use Rattle.passkey_webauthn.specs.CredentialType.{credential_type_named}

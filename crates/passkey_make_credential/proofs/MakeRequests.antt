@@ -1,12 +1,12 @@
 -- authenticatorMakeCredential requests: decoding their encodings again, and their nesting levels.
-use Rattle.passkey_kinds.proofs.Steps.{◌≡◌, ℕ, ◌<◌, ◌≤◌, nat_le, arith, le-leb, true, Option, Some, Ok, depth, Item, optional, ReadIsCoherent, number_tree, OnlyDeep, only_deep, deep_coherent, not_null, record_keeps, byte_back, bytes_back, anything, all_of_anything, optional_place, accepted_same, accepted_place, descriptor_law, parameters_law, user_law, few_levels, puts_value, puts_default, rows_back, no_more, refl, ◌▸◌}
+use Rattle.passkey_kinds.proofs.Steps.{◌≡◌, ℕ, ◌<◌, ◌≤◌, nat_le, arith, le-leb, true, Option, Some, Ok, depth, Item, optional, ReadIsCoherent, number_tree, OnlyDeep, only_deep, deep_coherent, not_null, record_keeps, byte_back, bytes_back, anything, optional_place, accepted_same, accepted_place, descriptor_law, parameters_law, user_law, few_levels, puts_value, puts_default, rows_back, no_more, refl, ◌▸◌}
 use Rattle.passkey_make_credential.specs.MakeRequest.{MakeRequestParts, make_request_fields, read_make_request, make_request_places, make_request_tree, MakeRequestFits, is_make_request_coherent, normal_make_request}
 use Rattle.passkey_extensions.specs.HmacInput.{hmac_input_tree}
 use Rattle.passkey_extensions.specs.MakeExtensions.{MakeExtensionsParts, make_extensions, make_extensions_tree}
 use Rattle.passkey_extensions.proofs.ExtensionBack.{make_parts_back}
 use Rattle.passkey_extensions.proofs.ExtensionLevels.{input_up, made_levels}
 use Rattle.passkey_extensions.proofs.Keys.{made_key}
-use Rattle.passkey_entities.proofs.Entities.{rp_law, rp_fits}
+use Rattle.passkey_entities.proofs.Entities.{rp_law}
 use Rattle.passkey_make_credential.proofs.MakeBack.{options_law}
 use Rattle.passkey_make_credential.proofs.MakePlaces.{make_request_each}
 

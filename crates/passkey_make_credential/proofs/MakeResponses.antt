@@ -1,8 +1,8 @@
 -- authenticatorMakeCredential responses: decoding their encodings again, and their nesting levels.
-use Rattle.passkey_kinds.proofs.Steps.{◌∷◌, [], refl, ◌≡◌, ℕ, ◌<◌, ◌≤◌, ◌-◌, ◌^◌, min, nat_lt, nat_le, arith, le-leb, true, Some, Ok, and_from, depth, Item, max_depth, WrittenIsLeadingItem, is_coherent, GivenIsCoherent, ReadIsGiven, WrittenDataAreReadBack, authenticator_data, kept, ReadIsCoherent, auth_data_back, auth_data_coherent, kept_below, record_keeps, truth_back, text_back, bytes_back, kept_back, anything, optional_place, few_levels, record_within, puts_value, puts_default, picked, picked_back, rows_back, ◌▸◌, no_more, codes}
+use Rattle.passkey_kinds.proofs.Steps.{refl, ◌≡◌, ℕ, ◌<◌, ◌≤◌, ◌-◌, ◌^◌, min, nat_lt, nat_le, arith, le-leb, true, Some, Ok, and_from, depth, Item, max_depth, WrittenIsLeadingItem, is_coherent, GivenIsCoherent, ReadIsGiven, WrittenDataAreReadBack, authenticator_data, kept, ReadIsCoherent, auth_data_back, auth_data_coherent, kept_below, record_keeps, truth_back, text_back, bytes_back, kept_back, anything, optional_place, few_levels, record_within, puts_value, puts_default, picked, picked_back, rows_back, ◌▸◌, no_more, codes}
 use Rattle.passkey_core.specs.DataNormal.{IsData, normal_data}
 use Rattle.passkey_core.specs.DataParts.{DataParts}
-use Rattle.passkey_make_credential.specs.MakeResponse.{MakeResponseParts, make_response_fields, read_make_response, make_response_places, make_response_tree, MakeResponseFits, is_make_response_coherent, normal_make_response, attestation_places, attestation_tree, unattested, no_statement}
+use Rattle.passkey_make_credential.specs.MakeResponse.{MakeResponseParts, make_response_fields, read_make_response, make_response_places, make_response_tree, MakeResponseFits, is_make_response_coherent, normal_make_response, attestation_places, attestation_tree, unattested}
 use Rattle.passkey_kinds.specs.MessageLaws.{WrittenIsReadBack}
 use Rattle.passkey_extensions.proofs.Prf.{made_unsigned_law}
 use Rattle.passkey_make_credential.proofs.MakePlaces.{make_response_each}
@@ -38,14 +38,7 @@ response_back written given r fits coherent =
 
 attestation_back : WrittenDataAreReadBack → ReadIsGiven → (d : DataParts) → IsData d → is_coherent d ≡ true
     → read_make_response (attestation_tree d) ≡ Ok (unattested (normal_data d))
-attestation_back written given d fits coherent =
-    picked_back make_response_fields (picked make_response_fields.rows (1 ∷ 3 ∷ 2 ∷ [])) (attestation_places d)
-    (unattested (normal_data d))
-    ((λ i. refl), (λ i r. refl), ((λ i. refl), (λ i r. refl), ((λ i. refl), (λ i r. refl), tt))) refl refl
-    (puts_value text_back (codes "none") tt ▸
-    puts_value kept_back no_statement tt ▸
-    puts_value (auth_data_back written given) d (fits, coherent) ▸
-    no_more)
+attestation_back written given d fits coherent = grind (arith, picked_back, picked, puts_value, text_back, codes, kept_back, auth_data_back, no_more)
 
 pub attestation_returns : WrittenIsLeadingItem → WrittenDataAreReadBack → ReadIsGiven
     → WrittenIsReadBack read_make_response (λ r. attestation_tree r.auth_data) (λ r. IsData r.auth_data)
