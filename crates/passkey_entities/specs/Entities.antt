@@ -4,7 +4,7 @@ use Rattle.std.specs.Prelude.{List, ℕ, Option, Some, None, Result, Ok, Err}
 use Rattle.passkey_entities.specs.declared.missing_rp_id.MissingRpId.{MissingRpId}
 use Rattle.passkey_entities.specs.declared.rp.PublicKeyCredentialRpEntity.{PublicKeyCredentialRpEntity}
 use Rattle.passkey_entities.specs.declared.user.PublicKeyCredentialUserEntity.{PublicKeyCredentialUserEntity}
-use Rattle.passkey_kinds.specs.Table.{◌>>=◌}
+use Rattle.passkey_kinds.specs.Record.{◌>>=◌}
 use Rattle.passkey_webauthn.specs.declared.rp.PublicKeyCredentialRpEntity as webauthn_rp
 use Rattle.passkey_webauthn.specs.declared.user.PublicKeyCredentialUserEntity as webauthn_user
 

@@ -2,8 +2,7 @@
 use Rattle.passkey_kinds.proofs.Steps.{nat_tests, ◌≡◌, ℕ, pos, ◌^◌, ◌<◌, ◌≤◌, nat_lt, nat_le, arith, ltb-true, Bool, true, false, ◌&&◌, if◌then◌else◌, Option, Some, None, option_map, unwrap_or, Result, Ok, Err, OnOk, refl, sym, ap, and_from, depth, max_depth, Item, IfPresent, optional, ReadIsCoherent, size, number_tree, option_place, record_keeps, not_null, puts_value, puts_default, ◌▸◌, no_more, rows_back, size_back, aaguid_back, list_same, truth_back, byte_back, word_back, text_back, bytes_back, transport_back, list_back, optional_back, anything, all_of_anything, optional_place, accepted_place, PlaceWithin, Within, record_within, parameters_law, few_levels}
 use Rattle.std.proofs.Common.{lt-ltb, is_ok, IfErr}
 use Rattle.passkey_get_info.specs.GetInfo.{GetInfoParts, get_info_fields, read_get_info, get_info_places, get_info_tree, IsPositive, GetInfoFits, is_encodable, has_room, is_get_info_coherent, normal_get_info}
-use Rattle.passkey_kinds.specs.Kind.{kept as kept_item}
-use Rattle.passkey_kinds.specs.Size.{IsSize}
+use Rattle.passkey_kinds.specs.Kind.{kept as kept_item, IsSize}
 use Rattle.passkey_kinds.specs.declared.write_fault.WriteFault.{WriteFault}
 use Rattle.passkey_kinds.specs.declared.write_fault.WriteFault.TheVariants.{NumberTooLarge}
 use Rattle.passkey_get_info.proofs.GetInfoBack.{version_back, extension_back, kept_place, options_law}

@@ -1,9 +1,25 @@
--- What holds of the blank record, and still holds after each value is put into it, holds of the
--- decoded record.
-use Rattle.passkey_kinds.proofs.Common.{◌≡◌, ℕ, ◌<◌, arith, List, [], ◌∷◌, Option, Some, None, Ok, refl, ap, subst, depth, pairs_depth, Item, Pairs, no_pairs, pair, members, kept, Member, Fields, set_with, table_of, put_at, put_named, unless_missing, judged, read_item, record_kind, Naming, row, named, Members, first_bad, first_missing, Fault}
+-- What decoded records keep: values that aren't null, and what holds of each value that is put.
+use Rattle.passkey_kinds.proofs.Common.{◌≡◌, Option, Some, None, option_map, Result, Ok, Err, result_ok, Item, Kind, optional, Fault, ℕ, ◌<◌, arith, List, [], ◌∷◌, refl, ap, subst, depth, pairs_depth, Pairs, no_pairs, pair, members, kept, Member, Fields, set_with, table_of, put_at, put_named, unless_missing, judged, read_item, record_kind, Naming, row, named, Members, first_bad, first_missing}
 use Rattle.passkey_kinds.specs.Record.{with_members}
-use Rattle.passkey_kinds.proofs.NotNull.{ok_of}
 use Rattle.passkey_cbor.specs.Item as item
+
+-- ---- a value that isn't null, and a record that is a value
+
+pub ok_of : {M : Type 0} (r : Result M Fault) (p : M) → result_ok r ≡ Some p → r ≡ Ok p
+ok_of (Ok x) p e = cc
+ok_of (Err f) p e = absurd cc
+
+some_of : {M : Type 0} (o : Option M) (x : M) → option_map Some o ≡ Some (Some x) → o ≡ Some x
+some_of None x e = absurd cc
+some_of (Some y) x e = cc
+
+-- an optional value that is decoded and isn't `None`
+pub not_null : {M : Type 0} (kind : Kind M) (i : Item) (x : M) → optional kind i ≡ Some (Some x) → kind i ≡ Some x
+not_null kind item.null x e = absurd cc
+not_null kind i x e = some_of (kind i) x e
+
+-- ---- what holds of the blank record, and still holds after each value is put into it, holds of the
+-- decoded record
 
 -- each member preserves it, for items of fewer levels than n
 abbrev pub Keeps : {P : Type 0} → ℕ → (P → Type 0) → List (Member P) → Type 0

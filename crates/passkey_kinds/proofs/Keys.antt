@@ -1,11 +1,5 @@
 -- The rows that names and map keys name.
-use Rattle.passkey_kinds.proofs.Common.{nat_tests, find, bytes_eq, ◌≡◌, ◌∙◌, ◌<◌, ◌==◌, ℕ, pos, negsuc, arith, zero, suc, if◌then◌else◌, Bool, true, false, ◌+◌, List, [], ◌∷◌, ◌++◌, length, map, take, drop, set, get_or, Bor, add-one, Option, Some, None, cond, nat_lt, slice_get, refl, sym, ap, cases_lt, eqb-true, length-map, map_push, take_more_set, Item, unsigned_in, entry_of, Row, Entry, row, wrong, row_or_unknown, number_names, names}
-use Rattle.std.specs.List.{position, position_or_len}
-use Rattle.std.proofs.Math.Seq.{take-suc}
-use Rattle.std.proofs.lemmas.Option.{slice_get_past}
-use Rattle.passkey_cbor.specs.Initial.{major_of}
-use Rattle.passkey_kinds.specs.Rows.{row_at}
-use Rattle.passkey_kinds.specs.Table.{row_named}
+use Rattle.passkey_kinds.proofs.Common.{nat_tests, find, bytes_eq, ◌≡◌, ◌∙◌, ◌<◌, ◌==◌, ℕ, pos, negsuc, arith, zero, suc, if◌then◌else◌, Bool, true, false, ◌+◌, List, [], ◌∷◌, ◌++◌, length, map, take, drop, set, get_or, Bor, add-one, Option, Some, None, cond, nat_lt, slice_get, refl, sym, ap, cases_lt, eqb-true, length-map, map_push, take_more_set, Item, unsigned_in, entry_of, Row, Entry, row, wrong, row_or_unknown, number_names, names, position, position_or_len, take-suc, slice_get_past, major_of, row_at, row_named}
 use Rattle.passkey_cbor.specs.Item as item
 
 -- ---- the row at the index of its name

@@ -1,12 +1,12 @@
--- Records with names alone that keep no data item: they can be decoded again, have few levels, and
--- their keys ascend.
-use Rattle.passkey_kinds.proofs.Common.{◌≡◌, ℕ, zero, suc, ◌≤◌, arith, ◌&&◌, true, None, refl, ap, depth, IsReadBack, table_of, KeysAscend}
-use Rattle.passkey_kinds.specs.Placed.{PlainTable, EachFits, members_of, places_of, fields_of, plain_kind, plain_tree}
-use Rattle.passkey_kinds.proofs.Back.{have_rows, stands, are_distinct, missing_of}
-use Rattle.passkey_kinds.proofs.Ordered.{ascend, keys_ascend}
-use Rattle.passkey_kinds.proofs.Places.{EachPlace}
-use Rattle.passkey_kinds.proofs.Plain.{IsPlain, record_plain}
-use Rattle.passkey_kinds.proofs.RowsBack.{Backs, numbers, kind_back}
+-- Plain records: they can be decoded again, have few levels, and their keys ascend.
+use Rattle.passkey_kinds.proofs.Common.{◌≡◌, ℕ, zero, suc, ◌≤◌, arith, ◌&&◌, true, None, refl, ap, depth, IsReadBack, table_of, KeysAscend, shortest_head, PlainTable, EachFits, members_of, places_of, fields_of, plain_kind, plain_tree, descriptor, parameters, webauthn_user, Unknown}
+use Rattle.passkey_kinds.proofs.Back.{have_rows, stands, are_distinct, missing_of, Backs, numbers, kind_back, puts_value, puts_default, ◌▸◌, no_more}
+use Rattle.passkey_kinds.proofs.LeafBack.{text_back, bytes_back, credential_type_back, transport_back, algorithm_back, or_else_back, accepted_place}
+use Rattle.passkey_kinds.proofs.Levels.{EachPlace}
+use Rattle.passkey_kinds.proofs.Ordered.{ascend, keys_ascend, IsPlain, record_plain, plainly, list_plain}
+
+-- ---- records with names alone that keep no data item: they can be decoded again, have few levels, and
+-- their keys ascend
 
 -- n levels more than k
 abbrev pub raised : ℕ → ℕ → ℕ
@@ -48,3 +48,22 @@ module _ {P : Type 0} {normal : P → P} (n : ℕ) (t : PlainTable P) where
         omega (arith, raised_zero n, (record_plain (raised n 0) (places_of t.members r) (up r) (each 0 r)).levels);
     keys = λ r. keys_ascend (places_of t.members r) (up r);
   }
+
+-- ---- records of WebAuthn can be decoded again, have few levels, and their keys ascend
+
+pub descriptor_law : IsLawful 1 descriptor
+unfolding shortest_head
+descriptor_law =
+    lawful 1 descriptor (λ d. refl) (λ d. refl) (λ d. refl) (λ k d. search (plainly, list_plain k)) (λ d fits.
+    puts_value bytes_back d.id tt ▸
+    puts_value (or_else_back credential_type_back Unknown) d.ty tt ▸
+    puts_default (accepted_place transport_back d.transports (search)) refl ▸
+    no_more)
+
+pub parameters_law : IsLawful 0 parameters
+unfolding shortest_head
+parameters_law = grind (arith, lawful, plainly, puts_value, algorithm_back, or_else_back, credential_type_back, no_more)
+
+pub user_law : IsLawful 0 webauthn_user
+unfolding shortest_head
+user_law = grind (arith, lawful, plainly, puts_value, bytes_back, text_back, no_more)

@@ -1,13 +1,13 @@
--- Kinds that decode the encoding of a value to that value.
-use Rattle.passkey_kinds.proofs.Common.{All, filter_map, arith, ◌≡◌, ◌∙◌, ◌<◌, ◌^◌, List, [], ◌∷◌, map, Option, Some, None, option_map, unwrap_or, refl, ap, All-head, All-tail, Item, byte_string, text_string, boolean, null, item_of, IfPresent, Kind, truth, below, text, one_named, kept, optional, each, bytes, list, accepted, IsReadBack, Any, IsByte, number_tree, list_tree, credential_type_named, transport_named}
+-- Values can be decoded again from their encodings.
+use Rattle.passkey_kinds.proofs.Common.{All, filter_map, arith, ◌≡◌, ◌∙◌, ◌<◌, ◌^◌, List, [], ◌∷◌, map, Option, Some, None, option_map, unwrap_or, refl, ap, All-head, All-tail, Item, byte_string, text_string, boolean, null, item_of, IfPresent, Kind, truth, below, text, one_named, kept, optional, each, bytes, list, accepted, IsReadBack, Any, IsByte, number_tree, list_tree, credential_type_named, transport_named, ℕ, ◌==◌, eq-eqb, if◌then◌else◌, length, length-map, items_of, elements-items_of, aaguid, sized_bytes, size, numbers_tree, result_ok, true, Result, Ok, Err, append-nil, authenticator_data, Bool, put_each, entry, map_from_bytes, map_values, short_first, entry_tree, byte_map_tree, put_each-seen, elements, is_coherent, GivenIsCoherent, ReadIsGiven, WrittenDataAreReadBack, IsData, normal_data, DataParts, read_data, creation_item, assertion_item, CoseError, algorithm_tree, auth_data_tree, tolerated, or_else, plain_kind, plain_tree, AreBytes, made_signed, used_signed, IsSize, option_tree, credential_type_tree, transport_tree, credential_type_own, transport_own, All-from_recursion, recursion_from_All}
 use Rattle.std.proofs.Common.{lt-ltb}
-use Rattle.passkey_kinds.specs.Algorithm.{algorithm as an_algorithm, algorithm_tree}
-use Rattle.passkey_kinds.specs.Kind.{tolerated, or_else}
-use Rattle.passkey_kinds.specs.Tree.{option_tree}
-use Rattle.passkey_kinds.specs.Trees.{credential_type_tree, transport_tree}
-use Rattle.passkey_kinds.proofs.Back.{Falls, option_place, falls_as}
-use Rattle.passkey_kinds.proofs.Lists.{list_array, accepted_array, option_same, map_same}
-use Rattle.passkey_webauthn.specs.NameLaws.{credential_type_own, transport_own}
+use Rattle.passkey_kinds.proofs.Back.{Falls, option_place, falls_as, puts_default, no_more, kind_back}
+use Rattle.passkey_kinds.proofs.ByteMaps.{entries_sorted, seen_sorted, short_first-placed, sorted_by-each, sorted_by-map}
+use Rattle.passkey_kinds.proofs.Lists.{list_array, accepted_array, option_same, map_same, map_from_bytes-map, map_values-map_values}
+use Rattle.passkey_kinds.specs.Kind.{algorithm as an_algorithm}
+use Rattle.std.specs.FinMap as fin
+
+-- ---- kinds that decode the encoding of a value to that value
 
 pub truth_back : IsReadBack truth boolean Any (λ b. b)
 truth_back = record { back = λ b h. refl }
@@ -131,3 +131,93 @@ module _ {M : Type 0} {kind : Kind M} {tree : M → Item} {Fits : M → Type 0} 
 pub list_same : {M : Type 0} {kind : Kind M} {tree : M → Item} {Fits : M → Type 0}
     → IsReadBack kind tree Fits (λ x. x) → IsReadBack (list kind) (list_tree tree) (All Fits) (λ xs. xs)
 list_same r = record { back = λ xs h. (list_back r).back xs h ∙ ap Some (map_same xs) }
+
+-- ---- the encodings of arrays of bytes, AAGUIDs and sizes can be decoded again
+
+pub numbers_back : (n : ℕ) → IsReadBack (sized_bytes n) numbers_tree (AreBytes n) (λ b. b)
+numbers_back n = record {
+  back =
+      λ b h. sized n (elements (items_of (map number_tree b))) b (ap length (elements-items_of (map number_tree b))
+      ∙ length-map b number_tree ∙ h.0) (ap (each (below 256)) (elements-items_of (map number_tree b))
+      ∙ each_back (below (2 ^ 8)) number_tree IsByte (λ n. n) byte_back.back b h.1 ∙ ap Some (map_same b));
+} where
+  sized : (n : ℕ) (xs : List Item) (b : List ℕ) → length xs ≡ n → each (below 256) xs ≡ Some b
+      → (if length xs == n then each (below 256) xs else None) ≡ Some b
+  sized n xs b long h = rw (eq-eqb (length xs) n long) h
+
+pub size_back : IsReadBack size number_tree IsSize (λ n. n)
+size_back = record { back = λ n h. rw (lt-ltb 0 n h.0, lt-ltb n (2 ^ 64) h.1) refl }
+
+pub aaguid_back : IsReadBack aaguid byte_string (λ b. length b ≡ 16) (λ b. b)
+aaguid_back = record { back = λ b h. rw h refl }
+
+-- ---- authenticator data in a byte string: its encoding can be decoded again, and decoded data is coherent
+
+abbrev pub IsCoherentData : DataParts → Type 0
+IsCoherentData d = IsData d × (is_coherent d ≡ true)
+
+pub auth_data_back : WrittenDataAreReadBack → ReadIsGiven
+    → IsReadBack authenticator_data auth_data_tree IsCoherentData normal_data
+auth_data_back written given = grind (arith, append-nil)
+
+data_of : (r : Result DataParts CoseError) (d : DataParts) → result_ok r ≡ Some d → r ≡ Ok d
+data_of (Ok x) d e = cc
+data_of (Err f) d e = absurd cc
+
+pub auth_data_coherent : GivenIsCoherent → (i : Item) (d : DataParts) → authenticator_data i ≡ Some d
+    → is_coherent d ≡ true
+auth_data_coherent law (byte_string s) d e = law s d (data_of (read_data s) d e)
+auth_data_coherent law i d e = absurd cc
+
+-- ---- the encodings of signed extension outputs can be decoded again
+
+creation_laid : (made : Option Bool) (secrets : Option (List ℕ))
+    → creation_item (record { hmac_secret = made; hmac_secret_mc = secrets })
+    ≡ plain_tree made_signed (record { hmac_secret = made; hmac_secret_mc = secrets })
+creation_laid None None = refl
+creation_laid None (Some b) = refl
+creation_laid (Some t) None = refl
+creation_laid (Some t) (Some b) = refl
+
+pub creation_back : IsReadBack (plain_kind made_signed) creation_item Any (λ o. o)
+creation_back = grind (arith, creation_laid, kind_back, puts_default, optional_place, truth_back, anything, bytes_back, no_more)
+
+assertion_laid : (secrets : Option (List ℕ)) → assertion_item (record { hmac_secret = secrets })
+    ≡ plain_tree used_signed (record { hmac_secret = secrets })
+assertion_laid None = refl
+assertion_laid (Some b) = refl
+
+pub assertion_back : IsReadBack (plain_kind used_signed) assertion_item Any (λ o. o)
+assertion_back = grind (arith, assertion_laid, kind_back, puts_default, optional_place, bytes_back, anything, no_more)
+
+-- ---- the encoding of a map from byte strings can be decoded again
+
+module _ {A M : Type 0} {kind : Kind M} {tree : A → Item} {Fits : A → Type 0} {normal : A → M}
+    (r : IsReadBack kind tree Fits normal) where
+  abbrev normal_entry : List ℕ × A → List ℕ × M
+  normal_entry e = (e.0, normal e.1)
+
+  entry_back : (e : List ℕ × A) → Fits e.1 → entry kind (entry_tree tree e) ≡ Some (normal_entry e)
+  entry_back e h = rw (r.back e.1 h) refl
+
+  all_short_first : (es : List (List ℕ × A)) → All (λ e. Fits e.1) es → All (λ e. Fits e.1) (short_first es)
+  all_short_first es h = All-from_recursion _ _
+      (sorted_by-each (λ e. length e.0) (λ (e : List ℕ × A). Fits e.1) es (recursion_from_All _ _ h))
+
+  pub map_back : IsReadBack (map_from_bytes kind) (byte_map_tree tree) (λ m. All (λ e. Fits e.1) (fin.entries m))
+      (map_values normal)
+  map_back = record {
+    back = λ m h.
+        map_from_bytes-map kind (map (entry_tree tree) (short_first (fin.entries m)))
+        ∙ ap (option_map (put_each fin.empty)) (each_back (entry kind) (entry_tree tree) (λ e. Fits e.1)
+        normal_entry entry_back (short_first (fin.entries m)) (all_short_first (fin.entries m) h))
+        ∙ ap (λ es. Some (put_each fin.empty es)) (sorted_by-map normal_entry (λ e. length e.0) (fin.entries m))
+        ∙ ap Some (short_first-placed fin.empty (map normal_entry (fin.entries m))
+        (seen_sorted normal (fin.entries m) (entries_sorted m)) ∙ put_each-seen normal m);
+  }
+
+-- the same for a view of the normal form
+pub seen_map_back : {A M : Type 0} {kind : Kind M} {tree : A → Item} {Fits : A → Type 0} (view : A → M)
+    (normal : A → A) → IsReadBack kind tree Fits (λ x. view (normal x)) → IsReadBack (map_from_bytes kind)
+    (byte_map_tree tree) (λ m. All (λ e. Fits e.1) (fin.entries m)) (λ m. map_values view (map_values normal m))
+seen_map_back view normal r = grind (arith, map_back, map_values-map_values)

@@ -1,13 +1,10 @@
--- Strings that are lent at a cursor: the cost of decoding them and of looking at their chunks
--- again.
-use Rattle.passkey_kinds.proofs.Common.{rules, ◌≡◌, ℕ, ◌+◌, ◌≤◌, ◌<◌, arith, Bool, true, false, cond, List, [], ◌∷◌, ◌++◌, length, Option, Some, None, Result, Err, refl, sym, ap, subst, length-append, length-take, Item, byte_string, text_string, Content, Region, PassesString, LendsFrom, IsRegion, heads_in, IsEncodedAt, Walk, ahead, raised-le, Spends, Decodes, LooksAtMost, AnswersAs, MayGrow, Refusal, Refused}
-use Rattle.passkey_cbor.specs.Lent.{LooksAtAll, LooksAtSome}
-use Rattle.passkey_cbor.specs.Names.{LooksFor, heads_until, heads_sought}
-use Rattle.passkey_cbor.proofs.Lists.{each_long}
-use Rattle.passkey_cbor.proofs.Strings.{AChunk, follows_chunk}
-use Rattle.passkey_cbor.specs.Reading.{chunk}
-use Rattle.passkey_kinds.proofs.Going.{stands_long, eased}
-use Rattle.passkey_kinds.proofs.Leaves.{on_ok}
+-- Strings that are lent at a cursor.
+use Rattle.passkey_kinds.proofs.Common.{rules, ◌≡◌, ℕ, ◌+◌, ◌≤◌, ◌<◌, arith, Bool, true, false, cond, List, [], ◌∷◌, ◌++◌, length, Option, Some, None, Result, Err, refl, sym, ap, subst, length-append, length-take, Item, byte_string, text_string, Content, Region, PassesString, LendsFrom, IsRegion, heads_in, IsEncodedAt, Walk, ahead, raised-le, Spends, Decodes, LooksAtMost, AnswersAs, MayGrow, Refusal, Refused, suc, option_map, Tells, LendsNothing, bytes, Further, option_and_then, ◌∙◌, ℤ, zero, ◌-◌, ◌^◌, Ok, algorithm_named, Algorithm, signed_64, algorithm, integer_in, ReadsFlat, OutOfMemory, head_again, head_long, data_parts, authenticator_data, authenticator_data_nodes, each_long, lends_start, lends_on, lends_all, AChunk, follows_chunk, Definite, Each, LooksAtAll, LooksAtSome, LentWhole, string_head, LooksFor, heads_until, heads_sought, LendsPiece, LendsNoPiece, LooksAhead, LendsUpTo, chunk, raised, DataGrow, AuthenticatorData, CountsData, Answers, IsOf, whole_64, NumberState, concat, ok_or}
+use Rattle.passkey_core.specs.DataReading.{fixed_at}
+use Rattle.passkey_kinds.proofs.Going.{stands_long, eased, on_ok, stands_back, string_further, flat_found, flat_missed}
+use Rattle.passkey_kinds.proofs.Lists.{answers_from}
+use Rattle.passkey_cbor.specs.Item as item
+use Rattle.passkey_kinds.specs.Typed as typed
 
 -- ---- no more heads than bytes
 
@@ -137,3 +134,202 @@ not_lent_decodes view wanted takes is_text cost a b i to one l f none = record {
       (not_lent_spends is_text a b i to l f);
   ends = tt;
 }
+
+-- ---- strings that are lent at a cursor and looked at again: what they are, and where the cursor is then
+
+whole_is : (is_text : Bool) (len : Option ℕ) (bytes t s : List ℕ) → Some t ≡ option_map (λ (n : ℕ). bytes) len
+    → Content is_text len s bytes → t ≡ s
+whole_is is_text None bytes t s e c = absurd cc
+whole_is is_text (Some n) bytes t s e c = grind arith
+
+-- what is lent of a string in one piece is the whole string
+pub lent_is : (is_text : Bool) (r : Region) (t s : List ℕ) → LentWhole r (Some t) → Tells is_text r s → t ≡ s
+lent_is is_text r t s e tells = whole_is is_text r.len r.bytes t s e tells
+
+module _ (a b d : Walk) (r : Region) where
+  pub looked_further : (is_text : Bool) → PassesString is_text a b r → LooksAtMost r b d → Further a d
+  looked_further is_text p looks = omega (arith, string_further is_text a b r p, looks.place)
+
+-- ---- results
+
+-- the value, or a refusal if there is none
+pub or_refused : {X : Type 0} (wanted found : Option X) (result : Result X Refusal) (takes : Type 0)
+    → wanted ≡ found → result ≡ ok_or found Refused → AnswersAs (λ x. x) wanted takes result
+or_refused wanted (Some x) result takes e r = grind arith
+or_refused wanted None result takes e r = grind arith
+
+-- the same, if memory may run out too
+pub decodes_from : {A M : Type 0} {takes may : Type 0} (view : A → M) (wanted : Option M) (cost kept to : ℕ)
+    (a b : Walk) (result : Result A Refusal) → (takes → may) → Decodes view wanted takes cost kept to a b result
+    → Decodes view wanted may cost kept to a b result
+decodes_from view wanted cost kept to a b result may d = grind (arith, answers_from)
+
+-- a lower cost is within a higher one
+pub decodes_dearer : {A M : Type 0} (view : A → M) (wanted : Option M) (takes : Type 0) (c d kept more to : ℕ)
+    (a b : Walk) (result : Result A Refusal) → c ≤ d → kept ≤ more → a.place ≤ to
+    → Decodes view wanted takes c kept to a b result → Decodes view wanted takes d more to a b result
+decodes_dearer view wanted takes c d kept more to a b result le few within r = search (rules, eased)
+
+-- the item is still encoded there after one head that isn't its string's
+pub stands_missed : (i : Item) (a b : Walk) (to : ℕ) → LendsNothing a b → IsEncodedAt i a.bytes a.place to
+    → IsEncodedAt i b.bytes b.place to
+stands_missed i a b to p l = stands_back i a b to p.bytes p.place l
+
+-- decoded after one head that isn't its string's
+pub missed_then : {A M : Type 0} (view : A → M) (wanted : Option M) (takes : Type 0) (cost kept to : ℕ)
+    (a b d : Walk) (result : Result A Refusal) → LendsNothing a b → a.place < to
+    → Decodes view wanted takes cost kept to b d result → Decodes view wanted takes (suc cost) kept to a d result
+missed_then view wanted takes cost kept to a b d result p less r = grind arith
+
+-- ---- byte strings
+
+pub no_bytes : (i : Item) → ((s : List ℕ) → i ≡ item.byte_string s → ⊥)
+    → ((s : List ℕ) → i ≡ item.text_string s → ⊥) → ((xs : item.Items) → i ≡ item.array xs → ⊥) → bytes i ≡ None
+no_bytes (item.number n) b t a = refl
+no_bytes (item.byte_string s) b t a = absurd (b s refl)
+no_bytes (item.text_string s) b t a = absurd (t s refl)
+no_bytes (item.array xs) b t a = absurd (a xs refl)
+no_bytes (item.map ps) b t a = refl
+no_bytes (item.tagged t x) b t2 a = refl
+no_bytes (item.boolean v) b t a = refl
+no_bytes item.null b t a = refl
+no_bytes (item.simple n) b t a = refl
+no_bytes (item.float f) b t a = refl
+
+-- ---- texts of numbers whose pieces are lent one after the other, and other items that decode to an
+-- algorithm
+
+-- a raised count doesn't fall, if it was at most the greatest number
+raised_rises : (n k : ℕ) → n ≤ 2 ^ 128 - 1 → n ≤ raised n k
+raised_rises n zero h = omega arith
+raised_rises n (suc k) h = omega arith
+
+-- ---- a loop over the pieces
+
+-- The pieces lent so far were added to the text of the number.
+pub record AddsUpTo (whole left : Region) (old now : Walk) (number : NumberState) : Type 0 where
+  pub bytes : List ℕ
+  pub lent : LendsUpTo true whole left old now bytes
+  pub is_of : IsOf number bytes
+
+pub adds_none : {whole left : Region} (a : Walk) (n : NumberState) → left ≡ whole → IsOf n []
+    → AddsUpTo whole left a a n
+adds_none {whole} a n e h = record { bytes = []; lent = rw e (lends_start true whole a); is_of = h }
+
+module _ {whole left next : Region} {a b d : Walk} {n : NumberState} (u : AddsUpTo whole left a b n)
+    (looks : LooksAhead left b d) where
+  pub adds_one : (m : NumberState) {piece : List ℕ} →
+      LendsPiece true left next piece → ((text : List ℕ) → IsOf n text → IsOf m (text ++ piece))
+      → AddsUpTo whole next a d m
+  adds_one m {piece} p push = record {
+    bytes = u.bytes ++ piece;
+    lent = lends_on true whole left next a b d u.bytes (u.bytes ++ piece) piece u.lent p looks refl;
+    is_of = push u.bytes u.is_of;
+  }
+
+  -- at the end, the text of the number is the string
+  pub adds_all : LendsNoPiece true left next → (found : Option ℤ)
+      → ((text : List ℕ) → IsOf n text → found ≡ whole_64 text) →
+      (s : List ℕ) → Tells true whole s → found ≡ whole_64 s
+  adds_all p found h s t =
+      h u.bytes u.is_of ∙ ap whole_64 (sym ((lends_all true whole left next a b d u.bytes u.lent p looks).0 s t))
+
+  -- and each head was looked at once
+  pub adds_looks : LendsNoPiece true left next → IsRegion true whole → a.heads ≤ 2 ^ 128 - 1 → LooksAtMost whole a d
+  adds_looks p t fits =
+      let all = (lends_all true whole left next a b d u.bytes u.lent p looks).1 in
+      let rises = raised_rises a.heads (heads_in true whole.len t.0 whole.bytes t.1) fits in
+      looks_all whole a d (omega (arith, all.heads t.0 t.1, rises)) true t all
+
+-- ---- numbers
+
+other_number : (i : Item) → ((s : List ℕ) → i ≡ item.text_string s → ⊥)
+    → algorithm i ≡ option_and_then algorithm_named (option_and_then signed_64 (integer_in i))
+other_number (item.text_string s) h = absurd (h s refl)
+other_number _ h = refl
+
+-- if the item isn't a text string, the integer decides
+module _ (i : Item) (to : ℕ) (a b : Walk) (other : (s : List ℕ) → i ≡ item.text_string s → ⊥) where
+  number_is : (found : Option ℤ) → found ≡ option_and_then signed_64 (integer_in i)
+      → algorithm i ≡ option_and_then algorithm_named found
+  number_is found e = other_number i other ∙ ap (option_and_then algorithm_named) (sym e)
+
+  pub number_decodes : (found : Option ℤ) (result : Result Algorithm Refusal) →
+      ReadsFlat (option_and_then signed_64 (integer_in i)) to a b found →
+      AnswersAs (λ x. x) (option_and_then algorithm_named found) ⊥ result →
+      Decodes (λ x. x) (algorithm i) (MayGrow false i) 1 0 to a b result
+  number_decodes (Some z) result r h = grind (arith, flat_found, answers_from, number_is)
+  number_decodes None (Ok x) r h = absurd cc
+  number_decodes None (Err Refused) r h = grind (arith, flat_missed, number_is)
+  number_decodes None (Err OutOfMemory) r h = absurd h
+
+-- ---- authenticator data, decoded from a byte string at a cursor
+
+-- parts that take memory are encoded in the bytes, so these aren't empty
+pub parts_grow : (bytes : List ℕ) → DataGrow bytes → MayGrow true (byte_string bytes)
+unfolding fixed_at
+parts_grow [] e = absurd e
+parts_grow (b ∷ bytes) e = (refl, tt)
+
+-- ---- no string is longer than its region, which is shorter than the string's encoding
+
+chunks_whole : (IsAllowed : List ℕ → Type 0) (major : ℕ) (cs : List (List ℕ)) (t : List ℕ)
+    → Each (Definite IsAllowed major) cs t → length (concat cs) ≤ length t
+chunks_whole IsAllowed major [] t e = omega arith
+chunks_whole IsAllowed major (c ∷ cs) t e = grind (arith, length-append, chunks_whole IsAllowed major cs e.back e.second)
+
+content_short : (len : Option ℕ) (s bytes : List ℕ) → Content false len s bytes → length s ≤ length bytes
+content_short (Some n) s bytes c = omega (arith, ap length c.1)
+content_short None s bytes c = grind (arith, chunks_whole, length-append)
+
+region_shorter : (a b : Walk) (r : Region) → PassesString false a b r → a.place + length r.bytes < b.place
+region_shorter a b r p =
+    let h = string_head false r.len in
+    omega (
+      arith,
+      p.place,
+      length-take p.len (ahead a),
+      ap length p.headed.whole,
+      length-append p.headed.front p.headed.back,
+      ap length p.headed.second,
+      head_long (p.headed.front ++ []) h []
+          (head_again h p.headed.front [] p.headed.first),
+      length-append p.headed.front [],
+    )
+
+-- ---- all of the data
+
+pub data_decodes : (a b e d : Walk) (r : Region) (i : Item) (to : ℕ) (t : List ℕ)
+    (result : Result AuthenticatorData Refusal) → PassesString false a b r → (f : LendsFrom false i to a b (Some r))
+    → LooksAtMost r b e → t ≡ f.0 → CountsData t e d → Answers data_parts typed.authenticator_data (byte_string t)
+    result → Decodes data_parts (authenticator_data i) (MayGrow true i) 6 (authenticator_data_nodes i) to a d result
+data_decodes a b e d r i to t result p f looks same counts h =
+    let is : i ≡ byte_string t = f.1.0 ∙ ap byte_string (sym same) in
+    record {
+      answers =
+          subst (λ (x : Item). AnswersAs data_parts (authenticator_data x) (MayGrow true x) result) (sym is) h;
+      spends = record {
+        within = omega (arith, counts.place, looks.place, f.1.1.place);
+        heads = omega (
+          arith,
+          counts.heads,
+          looks.heads,
+          f.1.1.heads,
+          f.1.1.place,
+          region_shorter a b r p,
+          content_short r.len f.0 r.bytes f.1.1.tells,
+          ap length same,
+        );
+        nodes = omega (arith, counts.nodes, looks.nodes, f.1.1.nodes, ap authenticator_data_nodes is);
+      };
+      ends = on_ok result (counts.place ∙ looks.place ∙ f.1.1.place);
+    }
+
+-- the data is decoded after the string
+pub data_further : (a b e d : Walk) (r : Region) (s : List ℕ) → PassesString false a b r → LooksAtMost r b e
+    → CountsData s e d → Further a d
+data_further a b e d r s p looks counts = omega (arith, string_further false a b r p, looks.place, counts.place)
+
+pub no_data : (i : Item) → ((s : List ℕ) → i ≡ byte_string s → ⊥) → authenticator_data i ≡ None
+no_data (item.byte_string s) h = absurd (h s refl)
+no_data _ h = refl

@@ -1,9 +1,26 @@
 -- The nesting levels of records, by those of the values under their keys.
-use Rattle.std.specs.FinMap as fin
-use Rattle.passkey_kinds.proofs.Common.{◌≡◌, ℕ, suc, ◌≤◌, max, arith, List, [], ◌∷◌, ◌++◌, map, Option, Some, None, ap, ByteMap, depth, pairs_depth, Item, items_of, pairs_of, short_first, Members, Place, list_tree, entry_tree, byte_map_tree, under, record_tree}
-use Rattle.passkey_cbor.specs.Depth.{items_depth}
+use Rattle.passkey_kinds.proofs.Common.{List, [], ◌∷◌, Option, Some, None, option_map, Item, Place, ◌≡◌, ℕ, suc, ◌≤◌, max, arith, ◌++◌, map, ap, ByteMap, depth, pairs_depth, items_of, pairs_of, short_first, Members, list_tree, entry_tree, byte_map_tree, under, record_tree, ◌∙◌, nat_le, true, refl, sym, subst, Bool, ◌&&◌, Result, Ok, WrittenIsLeadingItem, max_depth, Fault, le-leb, same_tests, items_depth, WrittenIsReadBack}
+use Rattle.std.proofs.Common.{leb-true}
 use Rattle.passkey_kinds.proofs.Back.{spread, laid_spread}
-use Rattle.passkey_kinds.proofs.Places.{PlaceHas, EachPlace}
+use Rattle.std.specs.FinMap as fin
+
+-- ---- what holds of each key and value of a record's places
+
+-- the place has no value, or its key and its value have the property
+abbrev pub PlaceHas : (Item → Type 0) → Item → Option Item → Type 0
+PlaceHas Q key None = Unit {0}
+PlaceHas Q key (Some x) = Q key × Q x
+
+abbrev pub EachPlace : (Item → Type 0) → List Place → Type 0
+EachPlace Q [] = Unit {0}
+EachPlace Q (p ∷ ps) = PlaceHas Q p.0 p.1 × EachPlace Q ps
+
+pub option_has : {A : Type 0} (Q : Item → Type 0) (tree : A → Item) (key : Item) → Q key → ((x : A) → Q (tree x))
+    → (o : Option A) → PlaceHas Q key (option_map tree o)
+option_has Q tree key keyed each None = tt
+option_has Q tree key keyed each (Some x) = (keyed, each x)
+
+-- ---- the nesting levels of records, by those of the values under their keys
 
 -- the place has no value, or its key and its value have at most n levels
 abbrev pub PlaceWithin : ℕ → Item → Option Item → Type 0
@@ -71,3 +88,49 @@ entries_within tree n each (e ∷ es) = grind (arith, both_within, entries_withi
 pub map_within : {A : Type 0} (tree : A → Item) (n : ℕ) → ((x : A) → depth (tree x) ≤ n) → (m : ByteMap A)
     → depth (byte_map_tree tree m) ≤ suc n
 map_within tree n each m = omega (arith, entries_within tree n each (short_first (fin.entries m)))
+
+-- ---- records of which one optional member alone may have many levels
+
+-- The record has at most n + 1 levels exactly if its member is absent or has at most n.
+pub record OnlyDeep {P A : Type 0} (places : P → List Place) (tree : A → Item) (get : P → Option A) (n : ℕ) : Type 0
+  where
+    pub absent : (r : P) → get r ≡ None → true ≡ nat_le (depth (record_tree (places r))) (suc n)
+    pub present : (r : P) (x : A) → get r ≡ Some x
+        → nat_le (depth (tree x)) n ≡ nat_le (depth (record_tree (places r))) (suc n)
+
+module _ {P A : Type 0} {places : P → List Place} {tree : A → Item} {get : P → Option A} {n : ℕ} where
+  pub only_deep : (key : Item) → depth key ≤ n
+      → ((r : P) → PlaceWithin n key (option_map tree (get r)) → Within n (places r))
+      → ((r : P) → Within n (places r) → PlaceWithin n key (option_map tree (get r))) → OnlyDeep places tree get n
+  only_deep key keyed up down = record {
+    absent = λ r is. sym (le-leb (depth (record_tree (places r))) (suc n) (record_within n (places r)
+        (up r (subst (λ (o : Option A). PlaceWithin n key (option_map tree o)) (sym is) tt))));
+    present = λ r x is. same_tests (nat_le (depth (tree x)) n) (nat_le (depth (record_tree (places r))) (suc n))
+        (λ t. le-leb (depth (record_tree (places r))) (suc n) (record_within n (places r)
+        (up r (subst (λ (o : Option A). PlaceWithin n key (option_map tree o)) (sym is)
+        (keyed, leb-true (depth (tree x)) n t)))))
+        (λ t. le-leb (depth (tree x)) n (subst (λ (o : Option A). PlaceWithin n key (option_map tree o)) is
+        (down r (of_record n (places r) (leb-true (depth (record_tree (places r))) (suc n) t)))).1);
+  }
+
+  pub deep_coherent : OnlyDeep places tree get n → (r : P)
+      → ((x : A) → get r ≡ Some x → nat_le (depth (tree x)) n ≡ true)
+      → nat_le (depth (record_tree (places r))) (suc n) ≡ true
+  deep_coherent deep r few = by_cases (get r) refl where
+    by_cases : (o : Option A) → get r ≡ o → nat_le (depth (record_tree (places r))) (suc n) ≡ true
+    by_cases None is = sym (deep.absent r is)
+    by_cases (Some x) is = sym (deep.present r x is) ∙ few x is
+
+-- ---- messages whose encodings have few levels can be decoded again
+
+module _ {P : Type 0} (read : Item → Result P Fault) (tree : P → Item) (Fits : P → Type 0) (normal : P → P) where
+  -- a message that can be decoded again if it has few levels
+  pub back_if_few : WrittenIsLeadingItem → ((r : P) → Fits r → read (tree r) ≡ Ok (normal r))
+      → WrittenIsReadBack read tree Fits (λ r. nat_le (depth (tree r)) max_depth) normal
+  back_if_few law back r rest fits writable coherent = grind arith
+
+  -- the same if it is also good otherwise
+  pub back_if_good : (is_good : P → Bool) → WrittenIsLeadingItem
+      → ((r : P) → Fits r → is_good r ≡ true → read (tree r) ≡ Ok (normal r))
+      → WrittenIsReadBack read tree Fits (λ r. is_good r && nat_le (depth (tree r)) max_depth) normal
+  back_if_good is_good law back r rest fits writable coherent = grind arith

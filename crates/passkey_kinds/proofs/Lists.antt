@@ -1,6 +1,10 @@
--- Lists of values, decoded from arrays.
-use Rattle.passkey_kinds.proofs.Common.{filter_map, ◌≡◌, ◌<◌, arith, ◌∙◌, List, [], ◌∷◌, ◌++◌, length, map, Option, Some, None, option_map, Result, Err, refl, ap, true, Item, array, items_of, IfPresent, elements-items_of, Kind, AnswersAs, MayGrow, each, list, accepted, Refusal, OutOfMemory}
+-- Lists, arrays and maps, decoded and encoded element by element.
+use Rattle.passkey_kinds.proofs.Common.{filter_map, ◌≡◌, ◌<◌, arith, ◌∙◌, List, [], ◌∷◌, ◌++◌, length, map, Option, Some, None, option_map, Result, Err, refl, ap, true, Item, array, items_of, IfPresent, elements-items_of, Kind, AnswersAs, MayGrow, each, list, accepted, Refusal, OutOfMemory, ℕ, suc, ◌+◌, ◌≤◌, sym, mul-le-mul_left, Walk, Keeping, nothing, counted, kept_of, kept_sum, in_elements, Spends, Decodes, option_and_then, ◌==◌, take, drop, get_or, if◌then◌else◌, append-nil, drop_all, length-map, take_all, take_more_set, below, sized_bytes, Bool, false, Region, Tells, LendsNothing, some_is, All, add-one, append_assoc, drop-cons, slice_cmp, eq_by_cmp, nat_cmp, cond, nat_list_cmp_total, ByteMap, put_each, same_bytes, pairs_of, item_of, pair_of, Value, members-pairs_of, bytes, entry, map_from_bytes, map_values, with_members, cons_option, ◌⊎◌, inl, inr, cases_lt, lt-ltb, le-ltb, ne_eqb, length-append, collected, entered, slice_set, entries_empty, string_again, pushed, pushed_if, pushed_below, drop_more, filter_map-append}
 use Rattle.std.proofs.lemmas.List.{append_assoc}
+use Rattle.std.specs.FinMap as fin
+use Rattle.passkey_cbor.specs.Item as item
+
+-- ---- lists of values, decoded from arrays
 
 -- the same result, if the same value is wanted and memory may run out too
 pub answers_from : {A M : Type 0} {wanted given : Option M} {takes may : Type 0} (view : A → M) (result : Result A
@@ -49,3 +53,312 @@ pub where_twice : {X Y : Type 0} (P : Y → Type 0) (g : X → Y) (o : Option X)
     → IfPresent P (option_map g o)
 where_twice P g None h = h
 where_twice P g (Some x) h = h
+
+-- ---- the head before the elements
+
+pub head_before : (cost kept many to : ℕ) (a b d : Walk) → kept ≤ many → a.place < b.place → b.heads ≤ a.heads + 1
+    → b.nodes ≤ a.nodes + 0 → Spends (suc cost) kept to b d → Spends (suc cost) many to a d
+head_before cost kept many to a b d few further one none s = grind (arith, mul-le-mul_left)
+
+pub decodes_in : {A M : Type 0} {wanted given : Option M} {takes may : Type 0} (view : A → M)
+    (cost kept many to : ℕ) (a b d : Walk) (result : Result A Refusal) → given ≡ wanted → (takes → may)
+    → kept ≤ many → a.place < b.place → b.heads ≤ a.heads + 1 → b.nodes ≤ a.nodes + 0
+    → Decodes view wanted takes (suc cost) kept to b d result → Decodes view given may (suc cost) many to a d result
+decodes_in view cost kept many to a b d result same grows few further one none r = grind (arith, answers_from, head_before)
+
+-- ---- arrays
+
+pub kept_nothing : {X : Type 0} (xs : List X) → kept_sum (λ x. 0) xs ≡ 0
+kept_nothing [] = refl
+kept_nothing (x ∷ xs) = ap (λ (n : ℕ). 0 + n) (kept_nothing xs)
+
+pub kept_array : (keeps : Keeping) (is : List Item)
+    → kept_sum (kept_of keeps) is ≡ kept_of (in_elements keeps) (array (items_of is))
+kept_array nothing is = kept_nothing is
+kept_array (counted count) is = ap (kept_sum count) (sym (elements-items_of is))
+
+pub grows_items : (is : List Item) → 0 < length is → MayGrow true (array (items_of is))
+grows_items [] h = absurd (omega (arith, h))
+grows_items (i ∷ is) h = (refl, tt)
+
+pub no_list : {M : Type 0} (kind : Kind M) (i : Item) → ((xs : item.Items) → i ≡ array xs → ⊥) → list kind i ≡ None
+no_list kind (item.array xs) h = absurd (h xs refl)
+no_list kind _ h = refl
+
+pub none_accepted : {M : Type 0} (kind : Kind M) (i : Item) → ((xs : item.Items) → i ≡ array xs → ⊥)
+    → accepted kind i ≡ None
+none_accepted kind (item.array xs) h = absurd (h xs refl)
+none_accepted kind _ h = refl
+
+-- ---- bytes of an array's elements, set one after the other
+
+-- the bytes set so far, before those of the remaining elements
+abbrev pub set_before : {X : Type 0} (kind : Kind ℕ) (seen : X → Item) (xs : List X) (bytes : List ℕ) (i : ℕ)
+    → Option (List ℕ)
+set_before kind seen xs bytes i = option_map (λ bs. take i bytes ++ bs) (each kind (map seen (drop i xs)))
+
+first_given : (kind : Kind ℕ) (i : Item) (is : List Item) (n : ℕ) → kind i ≡ Some n
+    → each kind (i ∷ is) ≡ option_map (λ bs. n ∷ bs) (each kind is)
+first_given kind i is n e = ap (option_and_then (λ m. option_map (λ bs. m ∷ bs) (each kind is))) e
+
+pub one_more_set : {X : Type 0} (kind : Kind ℕ) (seen : X → Item) (xs : List X) (bytes : List ℕ) (i n : ℕ) (x : X)
+    → i < length xs → x ≡ get_or xs i x → kind (seen x) ≡ Some n → i < length bytes
+    → set_before kind seen xs bytes i ≡ set_before kind seen xs (slice_set bytes i n) (i + 1)
+one_more_set kind seen xs bytes i n x within is given fits =
+    ap (λ ys. option_map (λ bs. take i bytes ++ bs) (each kind (map seen ys)))
+    (drop_more xs i x within ∙ ap (λ y. y ∷ drop (i + 1) xs) (sym is))
+    ∙ ap (option_map (λ bs. take i bytes ++ bs)) (first_given kind (seen x) (map seen (drop (i + 1) xs)) n given)
+    ∙ each_more (take i bytes) n (each kind (map seen (drop (i + 1) xs)))
+    ∙ ap (λ front. option_map (λ bs. front ++ bs) (each kind (map seen (drop (i + 1) xs))))
+    (sym (take_more_set bytes i n fits))
+
+-- once all are set, they are the elements' bytes
+pub all_set : {X : Type 0} (kind : Kind ℕ) (seen : X → Item) (xs : List X) (bytes : List ℕ) (i : ℕ)
+    → length bytes ≡ length xs → length xs ≤ i → each kind (map seen xs) ≡ set_before kind seen xs bytes i
+    → each kind (map seen xs) ≡ Some bytes
+all_set kind seen xs bytes i long past set = grind (arith, drop_all, append-nil, take_all)
+
+-- an array of exactly n bytes
+pub sized_array : {X : Type 0} (n : ℕ) (seen : X → Item) (xs : List X) → sized_bytes n
+    (array (items_of (map seen xs))) ≡ (if length xs == n then each (below 256) (map seen xs) else None)
+sized_array n seen xs = grind (arith, elements-items_of, length-map)
+
+-- ---- arrays of bytes, decoded at a cursor
+
+-- a region is that of one string
+pub tells_one : (is_text : Bool) (r : Region) (s t : List ℕ) → Tells is_text r s → Tells is_text r t → s ≡ t
+tells_one is_text r s t p q =
+    ap (λ (x : List ℕ × List ℕ). x.0) (some_is (s, []) (t, [])
+    (sym (string_again is_text r.len s r.bytes [] p) ∙ string_again is_text r.len t r.bytes [] q))
+
+pub none_either : {X : Type 0} (b : Bool) (o : Option X) → o ≡ None → (if b then o else None) ≡ None
+none_either true o h = h
+none_either false o h = refl
+
+pub no_sized : (n : ℕ) (i : Item) → ((s : List ℕ) → i ≡ item.byte_string s → ⊥)
+    → ((xs : item.Items) → i ≡ item.array xs → ⊥) → sized_bytes n i ≡ None
+no_sized n (item.byte_string s) b a = absurd (b s refl)
+no_sized n (item.array xs) b a = absurd (a xs refl)
+no_sized n _ b a = refl
+
+-- one head that isn't a byte string's, and then the item
+pub after_missed : (to : ℕ) (a b d : Walk) → LendsNothing a b → a.place < to → Spends 2 0 to b d → Spends 3 0 to a d
+after_missed to a b d p less s = grind arith
+
+pub never_grows : (i : Item) → MayGrow false i → ⊥
+never_grows i h = grind arith
+
+-- ---- what a tolerant list skips
+
+values_without : {M : Type 0} (kind : Kind M) (before behind : List Item) (x : Item) → kind x ≡ None
+    → filter_map kind (before ++ x ∷ behind) ≡ filter_map kind (before ++ behind)
+values_without {M} kind before behind x refused = grind (arith, filter_map-append)
+
+pub refused_is_passed_over : {M : Type 0} (kind : Kind M) (before behind : List Item) (x : Item) → kind x ≡ None
+    → accepted kind (array (items_of (before ++ x ∷ behind))) ≡ accepted kind (array (items_of (before ++ behind)))
+refused_is_passed_over kind before behind x refused = grind (arith, accepted_array, values_without)
+
+-- ---- lists that are encoded one value after the other
+
+-- the rest begins with the value at this index
+rest_is : {X : Type 0} (xs : List X) (i : ℕ) (x : X) → x ≡ get_or xs i x → i < length xs
+    → drop i xs ≡ x ∷ drop (i + 1) xs
+rest_is xs i x e within = rw add-one (drop-cons xs i x within ∙ ap (λ y. y ∷ drop (suc i) xs) (sym e))
+
+-- if all of the rest fit, so do they with this value before them
+pub fits_next : {X : Type 0} (Fits : X → Type 0) (xs left rest : List X) (x : X) → left ≡ x ∷ rest → Fits x
+    → (All Fits left → All Fits xs) → All Fits rest → All Fits xs
+fits_next Fits xs left rest x next fits so_far others = grind arith
+
+-- the same for the value at an index
+pub fits_more : {X : Type 0} (Fits : X → Type 0) (xs : List X) (i : ℕ) (x : X) → x ≡ get_or xs i x → i < length xs
+    → Fits x → (All Fits (drop i xs) → All Fits xs) → All Fits (drop (i + 1) xs) → All Fits xs
+fits_more Fits xs i x e within = fits_next Fits xs (drop i xs) (drop (i + 1) xs) x (rest_is xs i x e within)
+
+-- the encoded values and one more, before the encodings of the rest
+pub written_next : {X Y : Type 0} (tree : X → Y) (xs left rest : List X) (x : X) (y : Y) (before : List Y)
+    → left ≡ x ∷ rest → y ≡ tree x → before ++ map tree left ≡ map tree xs
+    → (before ++ y ∷ []) ++ map tree rest ≡ map tree xs
+written_next tree xs left rest x y before next same so_far = grind (arith, append_assoc)
+
+-- the same for the value at an index
+pub written_more : {X Y : Type 0} (tree : X → Y) (xs : List X) (i : ℕ) (x : X) (y : Y) (before : List Y)
+    → x ≡ get_or xs i x → i < length xs → y ≡ tree x → before ++ map tree (drop i xs) ≡ map tree xs
+    → (before ++ y ∷ []) ++ map tree (drop (i + 1) xs) ≡ map tree xs
+written_more tree xs i x y before e within = grind (arith, written_next, rest_is)
+
+-- ---- maps from byte strings: the views of their values, and entries that are put in
+
+module _ {A M : Type 0} (view : A → M) where
+  seen_at : (b : Bool) (x : A) (o : Option A)
+      → cond b (Some (view x)) (option_map view o) ≡ option_map view (cond b (Some x) o)
+  seen_at true x o = refl
+  seen_at false x o = refl
+
+  find-seen : (q : List ℕ) (es : List (List ℕ × A)) → fin.find (slice_cmp nat_cmp) q (map (λ e. (e.0, view e.1)) es)
+      ≡ option_map view (fin.find (slice_cmp nat_cmp) q es)
+  find-seen q [] = refl
+  find-seen q (e ∷ es) = grind (arith, seen_at, find-seen q es)
+
+  get-map_values : (m : ByteMap A) (q : List ℕ) → fin.get (map_values view m) q ≡ option_map view (fin.get m q)
+  get-map_values m q =
+      fin.get-from_entries nat_list_cmp_total _ q
+      ∙ find-seen q (fin.entries m)
+      ∙ ap (option_map view) (sym (fin.get-entries m q))
+
+  pub map_values-empty : map_values view fin.empty ≡ fin.empty
+  map_values-empty = ap (λ (es : List (List ℕ × A)). fin.from_entries (map (λ e. (e.0, view e.1)) es)) entries_empty
+
+  pub map_values-insert : (m : ByteMap A) (k : List ℕ) (v : A)
+      → map_values view (fin.insert m k v) ≡ fin.insert (map_values view m) k (view v)
+  map_values-insert m k v = fin.same_map nat_list_cmp_total same_bytes _ _
+      (λ q. get-map_values (fin.insert m k v) q
+      ∙ ap (option_map view) (fin.get-insert nat_list_cmp_total m k v q)
+      ∙ sym (seen_at (eq_by_cmp (slice_cmp nat_cmp) q k) v (fin.get m q))
+      ∙ ap (cond (eq_by_cmp (slice_cmp nat_cmp) q k) (Some (view v))) (sym (get-map_values m q))
+      ∙ sym (fin.get-insert nat_list_cmp_total (map_values view m) k (view v) q))
+
+mapped : {A B C : Type 0} (f : B → C) (g : A → B) (o : Option A)
+    → option_map f (option_map g o) ≡ option_map (λ x. f (g x)) o
+mapped f g None = refl
+mapped f g (Some x) = refl
+
+-- the values under two views, one after the other
+pub map_values-map_values : {A B C : Type 0} (f : B → C) (g : A → B) (m : ByteMap A)
+    → map_values f (map_values g m) ≡ map_values (λ x. f (g x)) m
+map_values-map_values f g m = fin.same_map nat_list_cmp_total same_bytes _ _
+    (λ q. get-map_values f (map_values g m) q
+    ∙ ap (option_map f) (get-map_values g m q)
+    ∙ mapped f g (fin.get m q)
+    ∙ sym (get-map_values (λ x. f (g x)) m q))
+
+-- a map under the identity view
+pub map_values_same : {X : Type 0} (m : ByteMap X) → map_values (λ x. x) m ≡ m
+map_values_same m = fin.same_map nat_list_cmp_total same_bytes _ _
+    (λ q. get-map_values (λ x. x) m q ∙ option_same (fin.get m q))
+
+module _ {M : Type 0} (kind : Kind M) where
+  pub put_first : (m : ByteMap M) (k : List ℕ) (v : M) (rest : Option (List (List ℕ × M))) → option_map (put_each m)
+      (option_map (λ es. (k, v) ∷ es) rest) ≡ option_map (put_each (fin.insert m k v)) rest
+  put_first m k v None = refl
+  put_first m k v (Some es) = refl
+
+  pub with_member : (m : ByteMap M) (x : Item × Item) (ms : List (Item × Item)) (k : List ℕ) (v : M) → bytes x.0
+      ≡ Some k → kind x.1 ≡ Some v → with_members kind m (x ∷ ms) ≡ with_members kind (fin.insert m k v) ms
+  with_member m x ms k v key value = rw (key, value) (put_first m k v (each (entry kind) ms))
+
+  -- one more pair that is decoded
+  pub read_more : {A : Type 0} (view : A → M) (pairs : List (Value × Value)) (i : ℕ) (x : Value × Value)
+      (m : ByteMap A) (k : List ℕ) (v : A) → x ≡ get_or pairs i x → i < length pairs → bytes (item_of x.0) ≡ Some k
+      → kind (item_of x.1) ≡ Some (view v) → with_members kind (map_values view m) (map pair_of (drop i pairs))
+      ≡ with_members kind (map_values view (fin.insert m k v)) (map pair_of (drop (i + 1) pairs))
+  read_more view pairs i x m k v e within key value =
+      let opened : drop i pairs ≡ x ∷ drop (i + 1) pairs =
+      rw add-one (drop-cons pairs i x within ∙ ap (λ (y : Value × Value). y ∷ drop (suc i) pairs) (sym e)) in
+      ap (λ (ps : List (Value × Value)). with_members kind (map_values view m) (map pair_of ps)) opened
+      ∙ with_member (map_values view m) (pair_of x) (map pair_of (drop (i + 1) pairs)) k (view v) key value
+      ∙ ap (λ (n : ByteMap M). with_members kind n (map pair_of (drop (i + 1) pairs)))
+      (sym (map_values-insert view m k v))
+
+  pub map_from_bytes-map : (ms : List (Item × Item))
+      → map_from_bytes kind (item.map (pairs_of ms)) ≡ with_members kind fin.empty ms
+  map_from_bytes-map ms = ap (with_members kind fin.empty) (members-pairs_of ms)
+
+pub grows_map : {X : Type 0} (seen : X → Item × Item) (xs : List X) → 0 < length xs
+    → MayGrow true (item.map (pairs_of (map seen xs)))
+grows_map seen [] h = absurd (omega arith)
+grows_map seen (x ∷ xs) h = (refl, tt)
+
+-- ---- elements that are decoded one after the other and put together
+
+module _ {X V : Type 0} (next : X → V → Option V) where
+  -- an element's error is the error of the list
+  pub stopped : (v : V) (first : X) (rest others : List X) {from : Option V} → rest ≡ first ∷ others
+      → collected next rest v ≡ from → next first v ≡ None → from ≡ None
+  stopped v first rest others whole done h = grind arith
+
+  -- after an element, the rest goes on from there
+  pub gone_on : (v : V) (first : X) (rest others : List X) (w : V) → rest ≡ first ∷ others
+      → next first v ≡ Some w → collected next rest v ≡ collected next others w
+  gone_on v first rest others w whole h = grind arith
+
+-- ---- what is put together, by all elements
+
+module _ {M : Type 0} (kind : Kind M) where
+  pushed_all : (is : List Item) (front : List M)
+      → collected (pushed kind) is front ≡ option_map (λ xs. front ++ xs) (each kind is)
+  pushed_all [] front = ap Some (sym (append-nil front))
+  pushed_all (i ∷ is) front = one (λ x. pushed_all is (front ++ x ∷ [])) (kind i) where
+    one : ((x : M) → collected (pushed kind) is (front ++ x ∷ []) ≡ option_map (λ xs. (front ++ x ∷ []) ++ xs)
+        (each kind is)) → (o : Option M) → option_and_then (λ w. collected (pushed kind) is w) (option_map (λ x.
+        front ++ x ∷ []) o)
+        ≡ option_map (λ xs. front ++ xs) (option_and_then (λ x. option_map (λ xs. x ∷ xs) (each kind is)) o)
+    one rest None = refl
+    one rest (Some x) = rest x ∙ sym (each_more front x (each kind is))
+
+  pub pushed_each : (is : List Item) {none : List M} → none ≡ [] → collected (pushed kind) is none ≡ each kind is
+  pushed_each is e = ap (collected (pushed kind) is) e ∙ pushed_all is [] ∙ option_same (each kind is)
+
+  pushed_if_all : (is : List Item) (front : List M)
+      → collected (pushed_if kind) is front ≡ Some (front ++ filter_map kind is)
+  pushed_if_all [] front = ap Some (sym (append-nil front))
+  pushed_if_all (i ∷ is) front = grind (arith, append_assoc, pushed_if_all is (front ++ cons_option (kind i) []))
+
+  pub pushed_accepted : (is : List Item) {none : List M} → none ≡ []
+      → collected (pushed_if kind) is none ≡ Some (filter_map kind is)
+  pushed_accepted is e = ap (collected (pushed_if kind) is) e ∙ pushed_if_all is []
+
+  pub entered_all : (ms : List (Item × Item)) (m : ByteMap M)
+      → collected (entered kind) ms m ≡ with_members kind m ms
+  entered_all [] m = refl
+  entered_all (x ∷ ms) m = one (λ n. entered_all ms n) (entry kind x) where
+    one : ((n : ByteMap M) → collected (entered kind) ms n ≡ with_members kind n ms) → (o : Option (List ℕ × M))
+        → option_and_then (λ w. collected (entered kind) ms w) (option_map (λ e. fin.insert
+        m e.0 e.1) o) ≡ option_map (put_each m) (option_and_then (λ e. option_map (λ es. e ∷ es) (each (entry kind)
+        ms)) o)
+    one rest None = refl
+    one rest (Some e) = rest (fin.insert m e.0 e.1) ∙ sym (put_first kind m e.0 e.1 (each (entry kind) ms))
+
+-- ---- exactly n elements
+
+-- the list, if it has n elements
+abbrev pub full : {M : Type 0} → ℕ → List M → Option (List M)
+full n xs = if length xs == n then Some xs else None
+
+module _ {M : Type 0} (n : ℕ) (kind : Kind M) where
+  full_all : (is : List Item) (front : List M) → length front ≤ n
+      → option_and_then (full n) (collected (pushed_below n kind) is front)
+      ≡ (if length front + length is == n then option_map (λ xs. front ++ xs) (each kind is) else None)
+  full_all [] front few = grind (arith, append-nil)
+  full_all (i ∷ is) front few =
+      by_room (cases_lt (length front) n)
+      (λ x room. full_all is (front ++ x ∷ []) (omega (arith, room, length-append front (x ∷ [])))) where
+        one : ((x : M) → option_and_then (full n) (collected (pushed_below n kind) is (front ++ x ∷ []))
+            ≡ (if length (front ++ x ∷ []) + length is == n then option_map (λ xs. (front ++ x ∷ []) ++ xs)
+            (each kind is)
+            else None)) → (o : Option M) → option_and_then (full n) (option_and_then (λ w. collected
+            (pushed_below n kind)
+            is w) (option_map (λ x. front ++ x ∷ []) o)) ≡ (if length front + suc (length is) == n then option_map
+            (λ xs. front ++ xs) (option_and_then (λ x. option_map (λ xs. x ∷ xs) (each kind is)) o) else None)
+        one rest None = sym (none_either (length front + suc (length is) == n) None refl)
+        one rest (Some x) =
+            rest x
+            ∙ ap (λ (k : ℕ). if k == n then option_map (λ xs. (front ++ x ∷ []) ++ xs) (each kind is) else None)
+            (omega (arith, length-append front (x ∷ [])))
+            ∙ ap (λ (o : Option (List M)). if length front + suc (length is) == n then o else None)
+            (sym (each_more front x (each kind is)))
+
+        by_room : (length front < n) ⊎ (n ≤ length front) → ((x : M) → length front < n
+            → option_and_then (full n) (collected (pushed_below n kind) is (front ++ x ∷ []))
+            ≡ (if length (front ++ x ∷ []) + length is == n then option_map (λ xs. (front ++ x ∷ []) ++ xs)
+            (each kind is)
+            else None)) → option_and_then (full n) (collected (pushed_below n kind) (i ∷ is) front)
+            ≡ (if length front + suc (length is) == n then option_map (λ xs. front ++ xs) (each kind (i ∷ is))
+            else None)
+        by_room (inl room) rest = rw (lt-ltb (length front) n room) (one (λ x. rest x room) (kind i))
+        by_room (inr past) rest = grind (arith, le-ltb, ne_eqb)
+
+  pub full_each : (is : List Item)
+      → option_and_then (full n) (collected (pushed_below n kind) is []) ≡ (if length is == n then each kind is
+      else None)
+  full_each is = grind (arith, full_all, option_same)

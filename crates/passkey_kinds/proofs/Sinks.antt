@@ -1,9 +1,6 @@
 -- What sinks hold after the members of a record: a counter, an encoder, and a list of members.
-use Rattle.passkey_kinds.proofs.Common.{◌≡◌, ℕ, suc, ◌+◌, ◌<◌, ◌^◌, List, [], ◌∷◌, ◌++◌, length, append_assoc, Option, Some, None, refl, sym, arith, append-nil, Item, pairs_of, IsWritable, ArePairsWritable, shortest_head, written, Members, Place, laid, record_tree, under}
-use Rattle.passkey_cbor.specs.Encoding.{pairs_len}
-use Rattle.passkey_cbor.specs.Written.{pairs_written}
-use Rattle.passkey_cbor.proofs.Items.{pairs_len-pairs_of}
-use Rattle.passkey_kinds.specs.Sink.{AllAccepted, MemberAccepted, append_member, encode_member, put_all, put_one}
+use Rattle.passkey_kinds.proofs.Common.{◌≡◌, ℕ, suc, ◌+◌, ◌<◌, ◌^◌, List, [], ◌∷◌, ◌++◌, length, append_assoc, Option, Some, None, refl, sym, arith, append-nil, Item, pairs_of, IsWritable, ArePairsWritable, shortest_head, written, Members, Place, laid, record_tree, under, pairs_len, pairs_written, pairs_len-pairs_of, AllAccepted, MemberAccepted, append_member, encode_member, put_all}
+use Rattle.passkey_kinds.specs.Tree.{put_one}
 use Rattle.passkey_kinds.proofs.Back.{laid_spread, spread}
 
 -- ---- two lists of places, one after the other, in any sink

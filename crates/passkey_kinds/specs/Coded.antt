@@ -1,17 +1,19 @@
--- Values of members, as they are decoded and as they are encoded.
-use Rattle.std.specs.Prelude.{◌≡◌, ℕ, ◌<◌, ◌^◌, Bool, List, length, Option}
-use Rattle.std.specs.List.{All}
-use Rattle.passkey_kinds.specs.Base.{ByteMap, Item, boolean, byte_string, text_string, credential_type_named, transport_named, IfPresent, IsData, DataParts, Algorithm, AuthenticatorTransport, Unknown}
-use Rattle.passkey_kinds.specs.Algorithm.{algorithm_tree}
-use Rattle.passkey_kinds.specs.Data.{auth_data_tree}
-use Rattle.passkey_kinds.specs.Placed.{Coded, PlainTable, EachFits, fields_of, plain_tree}
-use Rattle.passkey_kinds.specs.ReadBack.{Any, AreBytes, IsByte}
-use Rattle.passkey_kinds.specs.RecordCost.{nested}
-use Rattle.passkey_kinds.specs.Tree.{number_tree, option_tree, list_tree, numbers_tree, byte_map_tree}
-use Rattle.passkey_kinds.specs.Trees.{credential_type_tree, transport_tree}
+-- Values of members, as they are decoded and as they are encoded, and the records of WebAuthn.
+use Rattle.passkey_kinds.specs.Base.{ByteMap, Item, boolean, byte_string, text_string, credential_type_named, transport_named, IfPresent, IsData, DataParts, Algorithm, AuthenticatorTransport, Unknown, PublicKeyCredentialDescriptor, PublicKeyCredentialParameters, PublicKeyCredentialUserEntity}
+use Rattle.std.specs.Prelude.{◌≡◌, ℕ, ◌<◌, ◌^◌, Bool, List, length, Option, [], ◌∷◌, None, codes}
+use Rattle.passkey_iana.specs.declared.algorithm.Algorithm.TheVariants.{ES256}
+use Rattle.passkey_kinds.specs.Kind.{algorithm_tree, auth_data_tree}
+use Rattle.passkey_kinds.specs.Placed.{Coded, PlainTable, EachFits, fields_of, plain_tree, Any, AreBytes, IsByte, required_as, tolerated_as, optional_as}
+use Rattle.passkey_kinds.specs.RecordReading.{nested}
+use Rattle.passkey_kinds.specs.Tree.{number_tree, option_tree, list_tree, numbers_tree, byte_map_tree, credential_type_tree, transport_tree}
 use Rattle.passkey_webauthn.specs.declared.credential_type.PublicKeyCredentialType.{PublicKeyCredentialType}
+use Rattle.std.specs.List.{All}
 use Rattle.std.specs.FinMap as fin
+use Rattle.passkey_core.specs.declared.make_credential.SignedExtensionOutputs as made
 use Rattle.passkey_kinds.specs.Typed as typed
+use Rattle.passkey_core.specs.declared.get_assertion.SignedExtensionOutputs as used
+
+-- ---- values of members, as they are decoded and as they are encoded
 
 abbrev pub truth : Coded Bool
 truth = record { typed = typed.truth; tree = boolean; Fits = Any }
@@ -79,3 +81,51 @@ from_bytes c = record {
 -- a record as a member of another one
 abbrev pub plain : {P : Type 0} → PlainTable P → Coded P
 plain t = record { typed = nested (fields_of t); tree = plain_tree t; Fits = EachFits t.members }
+
+-- ---- records of WebAuthn in CTAP2's messages, with their members in CTAP2's order (CTAP 2.1, section 6)
+
+-- credential descriptors (WebAuthn Level 3, section 5.8.3)
+abbrev pub descriptor : PlainTable PublicKeyCredentialDescriptor
+descriptor = record {
+  blank = record { ty = Unknown; id = []; transports = None };
+  members = required_as 2 (codes "id") bytes (λ d. d.id) (λ x d. record d { id = x })
+      ∷ required_as 1 (codes "type") credential_type (λ d. d.ty) (λ x d. record d { ty = x })
+      ∷ tolerated_as 3 (codes "transports") (accepted transport) (λ d. d.transports) (λ x d. record d { transports = x })
+      ∷ [];
+}
+
+-- credential parameters (WebAuthn Level 3, section 5.3)
+abbrev pub parameters : PlainTable PublicKeyCredentialParameters
+parameters = record {
+  blank = record { ty = Unknown; alg = ES256 };
+  members = required_as 2 (codes "alg") algorithm (λ p. p.alg) (λ x p. record p { alg = x })
+      ∷ required_as 1 (codes "type") credential_type (λ p. p.ty) (λ x p. record p { ty = x })
+      ∷ [];
+}
+
+-- users (WebAuthn Level 3, section 5.4.3)
+abbrev pub webauthn_user : PlainTable PublicKeyCredentialUserEntity
+webauthn_user = record {
+  blank = record { id = []; display_name = []; name = [] };
+  members = required_as 1 (codes "id") bytes (λ u. u.id) (λ x u. record u { id = x })
+      ∷ required_as 3 (codes "name") text (λ u. u.name) (λ x u. record u { name = x })
+      ∷ required_as 2 (codes "displayName") text (λ u. u.display_name) (λ x u. record u { display_name = x })
+      ∷ [];
+}
+
+-- ---- extension outputs in authenticator data, of a registration and of an assertion (WebAuthn Level 3,
+-- section 9.5)
+
+abbrev pub made_signed : PlainTable made.SignedExtensionOutputs
+made_signed = record {
+  blank = record { hmac_secret = None; hmac_secret_mc = None };
+  members = optional_as 1 (codes "hmac-secret") truth (λ o. o.hmac_secret) (λ x o. record o { hmac_secret = x })
+      ∷ optional_as 2 (codes "hmac-secret-mc") bytes (λ o. o.hmac_secret_mc) (λ x o. record o { hmac_secret_mc = x })
+      ∷ [];
+}
+
+abbrev pub used_signed : PlainTable used.SignedExtensionOutputs
+used_signed = record {
+  blank = record { hmac_secret = None };
+  members = optional_as 1 (codes "hmac-secret") bytes (λ o. o.hmac_secret) (λ x o. record o { hmac_secret = x }) ∷ [];
+}

@@ -1,12 +1,55 @@
--- Kinds: what data items decode to. A kind accepts some items and has a value for each of them.
-use Rattle.std.specs.Prelude.{◌≡◌, ◌==◌, ℕ, pos, nat_lt, length, Bool, IsTrue, if◌then◌else◌, List, [], ◌∷◌, Option, Some, None, option_map, unwrap_or, Result, Ok, Err}
-use Rattle.std.specs.List.{filter_map}
-use Rattle.std.specs.Option.{option_and_then}
-use Rattle.std.specs.Str.{trim}
-use Rattle.passkey_kinds.specs.Base.{text_bytes, Grows, Item, number, text_string, byte_string, array, boolean, null, elements}
-use Rattle.passkey_kinds.specs.Keeping.{Keeping}
+-- Kinds: what data items decode to, and how many data items a decoded value keeps.
+use Rattle.passkey_kinds.specs.Base.{Item, elements, members, text_bytes, Grows, number, text_string, byte_string, array, boolean, null, algorithm_number, algorithm_named, Algorithm, signed_64, whole_64, Walk, data_nodes, DataParts, data_parts}
+use Rattle.std.specs.Prelude.{ℕ, ◌+◌, List, [], ◌∷◌, ◌≡◌, ◌==◌, pos, nat_lt, length, Bool, IsTrue, if◌then◌else◌, Option, Some, None, option_map, unwrap_or, Result, Ok, Err, ◌*◌, ◌≤◌, map as each_one, ◌^◌, ◌<◌, ◌&&◌}
+use Rattle.passkey_bytes.specs.Map.{ByteMap, put_each}
+use Rattle.passkey_core.specs.DataRead.{read_data}
+use Rattle.passkey_core.specs.DataWritten.{data_written}
+use Rattle.passkey_core.specs.declared.aaguid.Aaguid.{Aaguid}
+use Rattle.passkey_core.specs.declared.authenticator_data.AuthenticatorData.{AuthenticatorData}
 use Rattle.passkey_kinds.specs.declared.refusal.Refusal.{Refusal}
 use Rattle.passkey_kinds.specs.declared.refusal.Refusal.TheVariants.{Refused, OutOfMemory}
+use Rattle.std.specs.List.{filter_map}
+use Rattle.std.specs.Option.{option_and_then, option_zip}
+use Rattle.std.specs.Result.{result_ok}
+use Rattle.std.specs.Str.{trim}
+use Rattle.std.specs.FinMap as fin
+use Rattle.passkey_cbor.specs.Item as item
+
+-- ---- how many data items decoding makes as values at most: none, or this many for an item
+
+pub data Keeping : Type 0 where
+  nothing : Keeping
+  counted : (Item → ℕ) → Keeping
+
+-- how many it is for this item
+abbrev pub kept_of : Keeping → Item → ℕ
+kept_of nothing i = 0
+kept_of (counted count) i = count i
+
+-- the sum for each of these
+abbrev pub kept_sum : {X : Type 0} → (X → ℕ) → List X → ℕ
+kept_sum count [] = 0
+kept_sum count (x ∷ xs) = count x + kept_sum count xs
+
+-- the sum for the elements of an array
+abbrev pub kept_elements : (Item → ℕ) → Item → ℕ
+kept_elements count (item.array xs) = kept_sum count (elements xs)
+kept_elements count _ = 0
+
+-- the sum for the values of a map
+abbrev pub kept_members : (Item → ℕ) → Item → ℕ
+kept_members count (item.map ps) = kept_sum (λ m. count m.1) (members ps)
+kept_members count _ = 0
+
+abbrev pub in_elements : Keeping → Keeping
+in_elements nothing = nothing
+in_elements (counted count) = counted (kept_elements count)
+
+abbrev pub in_members : Keeping → Keeping
+in_members nothing = nothing
+in_members (counted count) = counted (kept_members count)
+
+-- ---- kinds: what data items decode to. A kind accepts some items and has a value for each of them
 
 abbrev pub Kind : Type 0 → Type 0
 Kind M = Item → Option M
@@ -100,3 +143,79 @@ tolerated kind i = Some (kind i)
 -- the value, or this default if the kind refuses the item
 abbrev pub or_else : {M : Type 0} → M → Kind M → Kind M
 or_else default kind i = Some (unwrap_or (kind i) default)
+
+-- ---- cOSE algorithm identifiers (RFC 9053, section 2; IANA's COSE Algorithms registry)
+
+-- an integer, or the whole part of a number in a text string, if it fits in 64 bits and is the
+-- identifier of an algorithm
+abbrev pub algorithm : Kind Algorithm
+algorithm (number z) = option_and_then algorithm_named (signed_64 z)
+algorithm (text_string s) = option_and_then algorithm_named (whole_64 s)
+algorithm _ = None
+
+abbrev pub algorithm_tree : Algorithm → Item
+algorithm_tree a = number (algorithm_number a)
+
+-- ---- authenticator data and AAGUIDs (WebAuthn Level 3, sections 6.1 and 6.5.1)
+
+-- a byte string that decodes as authenticator data; the kind refuses it for any fault
+abbrev pub authenticator_data : Kind DataParts
+authenticator_data (byte_string s) = result_ok (read_data s)
+authenticator_data _ = None
+
+-- how many data items decoding makes as values, for the credential public key and the extensions
+abbrev pub authenticator_data_nodes : Item → ℕ
+authenticator_data_nodes (byte_string s) = data_nodes s
+authenticator_data_nodes _ = 0
+
+abbrev pub auth_data_tree : DataParts → Item
+auth_data_tree d = byte_string (data_written d)
+
+abbrev pub data_tree : AuthenticatorData → Item
+data_tree d = auth_data_tree (data_parts d)
+
+-- a byte string of 16 bytes
+abbrev pub aaguid : Kind (List ℕ)
+aaguid (byte_string s) = if length s == 16 then Some s else None
+aaguid _ = None
+
+abbrev pub aaguid_tree : Aaguid → Item
+aaguid_tree a = byte_string a.0
+
+-- The cost of decoding these bytes as authenticator data, in a cursor's counts: at most four heads
+-- for each byte and four more, and the data items made as values for the credential public key and
+-- the extensions. The cursor doesn't move.
+pub record CountsData (bytes : List ℕ) (old new : Walk) : Type 0 where
+  pub heads : new.heads ≤ old.heads + (4 * length bytes + 4)
+  pub nodes : new.nodes ≤ old.nodes + data_nodes bytes
+  pub heads_rise : old.heads ≤ new.heads
+  pub nodes_rise : old.nodes ≤ new.nodes
+  pub place : new.place ≡ old.place
+  pub same : new.bytes ≡ old.bytes
+
+-- ---- maps from byte strings, decoded from maps whose keys decode to byte strings
+
+-- the key and the value of a member, if both are accepted
+abbrev pub entry : {M : Type 0} → Kind M → Item × Item → Option (List ℕ × M)
+entry kind m = option_zip (bytes m.0) (kind m.1)
+
+-- the map with the entries of these members, if all members are accepted
+abbrev pub with_members : {M : Type 0} → Kind M → ByteMap M → List (Item × Item) → Option (ByteMap M)
+with_members kind m ms = option_map (put_each m) (each (entry kind) ms)
+
+abbrev pub map_from_bytes : {M : Type 0} → Kind M → Kind (ByteMap M)
+map_from_bytes kind (item.map ps) = with_members kind fin.empty (members ps)
+map_from_bytes kind _ = None
+
+-- the map with the view of each of its values
+abbrev pub map_values : {A M : Type 0} → (A → M) → ByteMap A → ByteMap M
+map_values view m = fin.from_entries (each_one (λ e. (e.0, view e.1)) (fin.entries m))
+
+-- ---- sizes: unsigned integers of at most 64 bits, except 0 (CTAP 2.1, section 6.4; RFC 8949, section 3.1)
+
+abbrev pub size : Kind ℕ
+size (number (pos n)) = if nat_lt 0 n && nat_lt n (2 ^ 64) then Some n else None
+size _ = None
+
+abbrev pub IsSize : ℕ → Type 0
+IsSize n = (0 < n) × (n < 2 ^ 64)

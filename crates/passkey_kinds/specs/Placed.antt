@@ -1,10 +1,31 @@
 -- Members with the places that they are encoded at: one table for decoding and for encoding.
-use Rattle.std.specs.Prelude.{ℕ, Bool, false, List, [], ◌∷◌, Option}
 use Rattle.passkey_kinds.specs.Base.{Item, text_string, IfPresent}
+use Rattle.std.specs.Prelude.{◌≡◌, ℕ, ◌<◌, ◌^◌, Some, List, length, Bool, false, [], ◌∷◌, Option}
 use Rattle.passkey_kinds.specs.Kind.{Kind, Typed}
 use Rattle.passkey_kinds.specs.Record.{Member, Fields, required, default, record_kind}
 use Rattle.passkey_kinds.specs.Tree.{Place, number_tree, always, where_some, record_tree}
 use Rattle.passkey_kinds.specs.Typed.{optional, tolerated}
+use Rattle.std.specs.List.{All}
+
+-- ---- an encoded value can be decoded again
+
+-- Each value that fits is encoded as a data item that the kind decodes to the value's normal form.
+pub record IsReadBack {A M : Type 0} (kind : Kind M) (tree : A → Item) (Fits : A → Type 0) (normal : A → M) : Type 0
+  where
+    pub back : (x : A) → Fits x → kind (tree x) ≡ Some (normal x)
+
+-- every value fits
+abbrev pub Any : {A : Type 0} → A → Type 0
+Any x = Unit {0}
+
+abbrev pub IsByte : ℕ → Type 0
+IsByte n = n < 2 ^ 8
+
+-- exactly this many bytes
+abbrev pub AreBytes : ℕ → List ℕ → Type 0
+AreBytes n bytes = (length bytes ≡ n) × All IsByte bytes
+
+-- ---- members with the places that they are encoded at: one table for decoding and for encoding
 
 -- A member, its place, and what holds of its value in every record.
 pub record Placed (P : Type 0) : Type 1 where

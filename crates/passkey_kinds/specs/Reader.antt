@@ -1,10 +1,22 @@
--- Decoding a value over a cursor.
-use Rattle.std.specs.Prelude.{◌≡◌, ℕ, ◌+◌, ◌*◌, ◌≤◌, ◌<◌, Bool, true, length, Option, Result, OnOk}
-use Rattle.passkey_kinds.specs.Base.{Item, Walk}
+-- Decoding values over a cursor.
+use Rattle.passkey_kinds.specs.Base.{Item, Walk, number, items_of, pairs_of, ItemsAreEncodedAt, PairsAreEncodedAt, IsEncodedAt, ByteMap, max_depth}
+use Rattle.std.proofs.Common.{ℕ, arith, false, refl}
+use Rattle.std.specs.Prelude.{◌≡◌, ℕ, ◌+◌, ◌*◌, ◌≤◌, ◌<◌, Bool, true, length, Option, Result, OnOk, pos, ◌==◌, ◌||◌, false, if◌then◌else◌, List, Some, None, ℤ, negsuc, ℕ, suc, max, nat_lt, IsTrue, false, [], ◌∷◌, ◌++◌, option_map}
+use Rattle.passkey_cbor.specs.EncodedAt.{Walks, WalksOn}
+use Rattle.passkey_cbor.specs.Inside.{Within, PairWithin}
+use Rattle.passkey_cbor.specs.Languages.{Language}
 use Rattle.passkey_cbor.specs.Lent.{Region}
-use Rattle.passkey_kinds.specs.Keeping.{Keeping, kept_of}
-use Rattle.passkey_kinds.specs.Kind.{Typed, AnswersAs, MayGrow}
+use Rattle.passkey_cbor.specs.declared.head.Head.{Head}
+use Rattle.passkey_kinds.specs.Kind.{Keeping, kept_of, Typed, AnswersAs, MayGrow, Kind, below, entry}
 use Rattle.passkey_kinds.specs.declared.refusal.Refusal.{Refusal}
+use Rattle.std.proofs.Math.Nat.{mul-le-mul_left}
+use Rattle.std.specs.List.{cons_option}
+use Rattle.std.specs.Option.{option_and_then}
+use Rattle.std.specs.FinMap as fin
+use Rattle.passkey_cbor.specs.declared.head.Head.TheVariants as head
+use Rattle.passkey_cbor.specs.Item as item
+
+-- ---- decoding a value over a cursor
 
 -- The cursor has the same bytes, didn't move back, is still within the bytes if it was before, and
 -- its counts didn't fall.
@@ -53,3 +65,150 @@ pub record LooksAtMost (r : Region) (old new : Walk) : Type 0 where
   pub place : new.place ≡ old.place
   pub nodes : new.nodes ≡ old.nodes
   pub bytes : new.bytes ≡ old.bytes
+
+-- ---- what a head says about its data item (RFC 8949, section 3)
+
+abbrev pub unsigned_in : Item → Option ℕ
+unsigned_in (number (pos n)) = Some n
+unsigned_in _ = None
+
+abbrev pub integer_in : Item → Option ℤ
+integer_in (number z) = Some z
+integer_in _ = None
+
+abbrev pub null_in : Item → Bool
+null_in item.null = true
+null_in _ = false
+
+abbrev pub head_unsigned : Head → Option ℕ
+head_unsigned (head.Unsigned n) = Some n
+head_unsigned _ = None
+
+abbrev pub head_integer : Head → Option ℤ
+head_integer (head.Unsigned n) = Some (pos n)
+head_integer (head.Negative n) = Some (negsuc n)
+head_integer _ = None
+
+abbrev pub head_truth : Head → Option Bool
+head_truth (head.Simple n) = if n == 20 then Some false else (if n == 21 then Some true else None)
+head_truth _ = None
+
+abbrev pub head_null : Head → Bool
+head_null (head.Simple n) = (n == 22) || (n == 23)
+head_null _ = false
+
+abbrev pub head_array : Head → Option (Option ℕ)
+head_array (head.Array left) = Some left
+head_array _ = None
+
+abbrev pub head_map : Head → Option (Option ℕ)
+head_map (head.Map left) = Some left
+head_map _ = None
+
+-- Decoding one head returns the wanted value, at a cost of at most one head for each byte. If there
+-- is a value, the cursor is after the item.
+pub record ReadsFlat {X : Type 0} (wanted : Option X) (to : ℕ) (old new : Walk) (found : Option X) : Type 0 where
+  pub is : found ≡ wanted
+  pub spends : Spends 1 0 to old new
+  pub ends : (x : X) → found ≡ Some x → new.place ≡ to
+
+-- Decoding one head returns the length of the array (`Some None` for an indefinite length), and the
+-- elements come next; or it returns `None`, and the item isn't an array.
+abbrev pub OpensArray : Item → ℕ → Walk → Option (Option ℕ) → Type 0
+OpensArray i to new (Some left) =
+    (is : List Item) × ((i ≡ item.array (items_of is)) × ItemsAreEncodedAt left is new.bytes new.place to)
+OpensArray i to new None = (xs : item.Items) → (i ≡ item.array xs) → ⊥
+
+abbrev pub OpensMap : Item → ℕ → Walk → Option (Option ℕ) → Type 0
+OpensMap i to new (Some left) =
+    (ms : List (Item × Item)) × ((i ≡ item.map (pairs_of ms)) × PairsAreEncodedAt left ms new.bytes new.place to)
+OpensMap i to new None = (ps : item.Pairs) → (i ≡ item.map ps) → ⊥
+
+-- ---- laws about a cursor that doesn't move: it has spent nothing, and `Onward` holds from it to itself
+
+pub costs_nothing : (cost : ℕ) (keeps : Keeping) (i : Item) (to : ℕ) (s : Walk) → IsEncodedAt i s.bytes s.place to
+    → Costs cost keeps i to s s false
+costs_nothing cost keeps i to s l = record {
+  spends = record {
+    within = l.forward;
+    heads = omega (arith, mul-le-mul_left {m = s.place} {n = to} cost l.forward);
+    nodes = omega arith;
+  };
+  ends = λ e. absurd cc;
+}
+
+pub onward_same : (a : Walk) → Onward a a
+onward_same a =
+    record { same = refl; within = λ h. h; forward = omega arith; heads = omega arith; nodes = omega arith }
+
+-- ---- elements that are decoded one after the other and put together
+
+-- What is put together from this value on, if no element is refused.
+abbrev pub collected : {X V : Type 0} → (X → V → Option V) → List X → V → Option V
+collected next [] v = Some v
+collected next (x ∷ xs) v = option_and_then (λ w. collected next xs w) (next x v)
+
+-- A way of putting elements together: their encodings; what one more makes of the value, if it isn't
+-- refused; whether decoding an element may take memory; the most heads that it decodes for each byte
+-- of the element; the data items that it makes as values at most; and that a list goes from one
+-- element to the next.
+pub record Way (X V : Type 0) : Type 1 where
+  pub Encoded : X → Language
+  pub next : X → V → Option V
+  pub takes : Bool
+  pub cost : ℕ
+  pub kept : X → ℕ
+  pub walked : (before after : Option ℕ) (old new : Walk) (found : Bool) → WalksOn before after old new found
+      → Walks Encoded before after old new found
+
+-- Decoding and adding an element that ends at `to`, and what was put together before and after it.
+pub record AddsOne {X V : Type 0} (w : Way X V) (x : X) (before after : V) (to : ℕ) (old new : Walk)
+    (result : Result (Unit {0}) Refusal) : Type 0 where
+  pub decodes : Decodes (λ _. after) (w.next x before) (IsTrue w.takes) w.cost (w.kept x) to old new result
+  pub further : old.place < to
+
+abbrev pub by_items : {V : Type 0} → (Item → V → Option V) → Bool → ℕ → (Item → ℕ) → Way Item V
+by_items next takes cost kept = record {
+  Encoded = Within max_depth;
+  next = next;
+  takes = takes;
+  cost = cost;
+  kept = kept;
+  walked = λ before after old new found walks. walks.items;
+}
+
+-- behind the others
+abbrev pub pushed : {M : Type 0} → Kind M → Item → List M → Option (List M)
+pushed kind i xs = option_map (λ x. xs ++ x ∷ []) (kind i)
+
+abbrev pub pushing : {M : Type 0} → Typed M → Way Item (List M)
+pushing k = by_items (pushed k.of) true k.cost (kept_of k.keeps)
+
+-- behind the others, unless the kind refuses it
+abbrev pub pushed_if : {M : Type 0} → Kind M → Item → List M → Option (List M)
+pushed_if kind i xs = Some (xs ++ cons_option (kind i) [])
+
+abbrev pub pushing_if : {M : Type 0} → Typed M → Way Item (List M)
+pushing_if k = by_items (pushed_if k.of) true (suc k.cost) (kept_of k.keeps)
+
+-- behind the others, of which there are fewer than n
+abbrev pub pushed_below : {M : Type 0} → ℕ → Kind M → Item → List M → Option (List M)
+pushed_below n kind i xs = if nat_lt (length xs) n then pushed kind i xs else None
+
+-- bytes, at most n of them
+abbrev pub filling : ℕ → Way Item (List ℕ)
+filling n = by_items (pushed_below n (below 256)) false 1 (λ i. 0)
+
+-- under its key
+abbrev pub entered : {M : Type 0} → Kind M → Item × Item → ByteMap M → Option (ByteMap M)
+entered kind x m = option_map (λ e. fin.insert m e.0 e.1) (entry kind x)
+
+abbrev pub entering : {M : Type 0} → Typed M → Way (Item × Item) (ByteMap M)
+entering k = record {
+  Encoded = PairWithin max_depth;
+  next = entered k.of;
+  takes = true;
+  cost = max 3 k.cost;
+  kept = λ m. kept_of k.keeps m.1;
+  walked = λ before after old new found walks. walks.pairs;
+}

@@ -1,12 +1,112 @@
--- Records as tables of members, each with the function that puts its value into the record.
-use Rattle.std.specs.Prelude.{ℕ, ◌==◌, Bool, true, false, if◌then◌else◌, List, [], ◌∷◌, Option, Some, None, is_some, Result, Ok, Err}
-use Rattle.std.specs.Result.{result_ok}
-use Rattle.passkey_kinds.specs.Base.{Item, members}
-use Rattle.passkey_kinds.specs.Kind.{Kind, Typed}
-use Rattle.passkey_kinds.specs.Table.{Entry, Row, Table, Naming, row, named, Members, first_bad, first_missing}
+-- Records as tables of members, and what a data item decodes to by such a table.
+use Rattle.passkey_kinds.specs.Base.{Item, number, text_string, byte_string, members}
+use Rattle.std.specs.Prelude.{ℕ, ◌==◌, Bool, true, false, ◌&&◌, if◌then◌else◌, List, [], ◌∷◌, ◌++◌, map, Option, Some, None, is_some, option_map, is_none, Result, Ok, Err, ◌≡◌, ◌<◌, nat_lt, ◌⊎◌, slice_get, get_or, not}
+use Rattle.passkey_kinds.specs.Kind.{below, Kind, Typed, MayGrow}
 use Rattle.passkey_kinds.specs.declared.fault.Fault.{Fault}
-use Rattle.passkey_kinds.specs.declared.fault.Fault.TheVariants.{NotAMap, Missing}
+use Rattle.passkey_kinds.specs.declared.fault.Fault.TheVariants.{BadKey, Repeated, Refused, NotAMap, Missing}
+use Rattle.passkey_kinds.specs.declared.rows.Named.{Named}
+use Rattle.std.specs.List.{find}
+use Rattle.std.specs.Option.{option_or}
+use Rattle.std.specs.Result.{result_ok}
+use Rattle.std.specs.Str.{bytes_eq}
+use Rattle.passkey_kinds.specs.declared.rows.Named.TheVariants as code
+use Rattle.passkey_kinds.specs.declared.fault.Fault.TheVariants as fault
 use Rattle.passkey_cbor.specs.Item as item
+
+-- ---- tables of members
+
+-- a member's number and name, and whether it is required
+pub record Entry : Type 0 where
+  pub number : ℕ
+  pub name : List ℕ
+  pub is_required : Bool
+
+pub record Row : Type 0 where
+  pub entry : Entry
+  pub accepts : Item → Bool
+  pub takes : Bool
+
+-- A table of members. They have numbers and names, or names alone.
+pub record Table : Type 0 where
+  pub is_numbered : Bool
+  pub rows : List Row
+
+abbrev pub entries : Table → List Entry
+entries table = map (λ r. r.entry) table.rows
+
+-- What a map key names: a row, by its number; or nothing in the table; or the key is wrong.
+pub data Naming : Type 0 where
+  row : ℕ → Naming
+  unknown : Naming
+  wrong : Naming
+
+abbrev pub row_or_unknown : Option Entry → Naming
+row_or_unknown (Some e) = row e.number
+row_or_unknown None = unknown
+
+abbrev pub row_named : List Entry → List ℕ → Naming
+row_named rows name = row_or_unknown (find (λ e. bytes_eq e.name name) rows)
+
+-- what an integer names: if members have numbers and it is below 256, the row with this number, if
+-- there is one
+abbrev pub number_names : Bool → Option ℕ → List Entry → Naming
+number_names true (Some n) rows = row_or_unknown (find (λ e. e.number == n) rows)
+number_names true None rows = wrong
+number_names false n rows = wrong
+
+abbrev pub names : Bool → List Entry → Item → Naming
+names is_numbered rows (number z) = number_names is_numbered (below 256 (number z)) rows
+names is_numbered rows (text_string name) = row_named rows name
+names is_numbered rows (byte_string name) = row_named rows name
+names is_numbered rows _ = wrong
+
+abbrev pub Members : Type 0
+Members = List (Item × Item)
+
+abbrev pub named : Table → Item → Naming
+named table key = names table.is_numbered (entries table) key
+
+abbrev pub is_row : ℕ → Naming → Bool
+is_row n (row m) = n == m
+is_row n _ = false
+
+-- the value of the first member that names row n
+abbrev pub found : Table → Members → ℕ → Option Item
+found table [] n = None
+found table (m ∷ ms) n = if is_row n (named table m.0) then Some m.1 else found table ms n
+
+-- whether the kind of row n accepts the item
+abbrev pub accepts_at : List Row → ℕ → Item → Bool
+accepts_at [] n i = false
+accepts_at (r ∷ rs) n i = if r.entry.number == n then r.accepts i else accepts_at rs n i
+
+-- the fault of a member after the earlier ones, by what its key names
+abbrev pub bad_by : Table → Members → Naming → Item → Option Fault
+bad_by table earlier wrong value = Some BadKey
+bad_by table earlier unknown value = None
+bad_by table earlier (row n) value =
+    if is_some (found table earlier n) then Some (Repeated n)
+    else (if accepts_at table.rows n value then None else Some (Refused n))
+
+abbrev pub bad_member : Table → Members → Item × Item → Option Fault
+bad_member table earlier m = bad_by table earlier (named table m.0) m.1
+
+-- the fault of the first bad member, after the earlier ones
+abbrev pub first_bad : Table → Members → Members → Option Fault
+first_bad table earlier [] = None
+first_bad table earlier (m ∷ ms) = option_or (bad_member table earlier m) (first_bad table (earlier ++ m ∷ []) ms)
+
+-- the number of the first required row in the table's order that no key names
+abbrev pub first_missing : Table → Members → Option ℕ
+first_missing table ms = option_map (λ (e : Entry). e.number)
+    (find (λ (e : Entry). e.is_required && is_none (found table ms e.number)) (entries table))
+
+infixl 10 ◌>>=◌
+abbrev pub ◌>>=◌ : {X Y : Type 0} → Option X → (X → Option Y) → Option Y
+None >>= f = None
+(Some x) >>= f = f x
+
+-- ---- records as tables of members, each with the function that puts its value into the record
 
 -- A member of a record: its number and name, its kind, and the function that puts its value into
 -- the record.
@@ -81,3 +181,68 @@ read_item t _ = Err NotAMap
 -- a record as a kind
 abbrev pub record_kind : {P : Type 0} → Fields P → Kind P
 record_kind t i = result_ok (read_item t i)
+
+-- ---- the result of decoding a record, and the steps of decoding it
+
+-- whether decoding the value of row n may take memory
+abbrev pub takes_at : List Row → ℕ → Bool
+takes_at [] n = false
+takes_at (r ∷ rs) n = if r.entry.number == n then r.takes else takes_at rs n
+
+abbrev pub MayGrowBy : Table → Naming → Item → Type 0
+MayGrowBy table (row n) i = MayGrow (takes_at table.rows n) i
+MayGrowBy table unknown i = ⊥
+MayGrowBy table wrong i = ⊥
+
+-- decoding one of these members may allocate memory
+abbrev pub MayGrowIn : Table → Members → Type 0
+MayGrowIn table [] = ⊥
+MayGrowIn table (m ∷ ms) = MayGrowBy table (named table m.0) m.1 ⊎ MayGrowIn table ms
+
+abbrev pub MayGrowAt : Table → Item → Type 0
+MayGrowAt table (item.map ps) = MayGrowIn table (members ps)
+MayGrowAt table _ = ⊥
+
+-- The result of decoding a record: one whose view is the wanted record; the wanted fault; or
+-- `OutOfMemory`, only if decoding may allocate memory. It is never `DecodeFailed`.
+abbrev pub Reads : {A M : Type 0} → (A → M) → Type 0 → Result M Fault → Result A Fault → Type 0
+Reads view takes wanted (Ok x) = wanted ≡ Ok (view x)
+Reads view takes wanted (Err fault.OutOfMemory) = takes
+Reads view takes wanted (Err fault.DecodeFailed) = ⊥
+Reads view takes wanted (Err e) = wanted ≡ Err e
+
+-- what a map key names, for the code's type
+abbrev pub named_as : Named → Naming
+named_as (code.Row n) = row n
+named_as code.Unknown = unknown
+
+abbrev pub naming_of : Option Named → Naming
+naming_of (Some key) = named_as key
+naming_of None = wrong
+
+-- the same function, but with item i for row n
+abbrev pub with_row : ℕ → Item → (ℕ → Option Item) → ℕ → Option Item
+with_row n i f m = if m == n then Some i else f m
+
+-- Exactly the rows that the earlier members name are marked.
+abbrev pub Marks : Table → Members → List Bool → Type 0
+Marks table earlier marks = (n : ℕ) → n < 32 → slice_get marks n ≡ Some (is_some (found table earlier n))
+
+-- The result of decoding one more member, and the marks after it.
+abbrev pub Steps : Table → Members → Item × Item → List Bool → Result (Unit {0}) Fault → Type 0
+Steps table earlier m marks (Ok x) = (bad_member table earlier m ≡ None) × Marks table (earlier ++ m ∷ []) marks
+Steps table earlier m marks (Err fault.OutOfMemory) = MayGrowBy table (named table m.0) m.1
+Steps table earlier m marks (Err fault.DecodeFailed) = ⊥
+Steps table earlier m marks (Err fault.NotAMap) = ⊥
+Steps table earlier m marks (Err (fault.Missing n)) = ⊥
+Steps table earlier m marks (Err e) = bad_member table earlier m ≡ Some e
+
+-- whether each row's number is below 32
+abbrev pub are_small : List Entry → Bool
+are_small [] = true
+are_small (e ∷ es) = nat_lt e.number 32 && are_small es
+
+-- the number of the first required row that isn't marked
+abbrev pub first_unmarked : List Entry → List Bool → Option ℕ
+first_unmarked rows marks = option_map (λ (e : Entry). e.number)
+    (find (λ (e : Entry). e.is_required && not (get_or marks e.number false)) rows)

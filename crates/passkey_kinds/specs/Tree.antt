@@ -1,11 +1,40 @@
--- The data items that values are encoded as. A record's members are laid out one after the other.
-use Rattle.std.specs.Prelude.{ℕ, pos, Bool, true, length, if◌then◌else◌, List, [], ◌∷◌, ◌++◌, map as each, Option, Some, None, option_map}
-use Rattle.std.specs.FinMap as fin
+-- The data items that values are encoded as, and the sinks that they are put into.
+use Rattle.passkey_kinds.specs.Base.{text_string, AuthenticatorTransport, written}
+use Rattle.std.specs.Prelude.{◌≡◌, ◌⊎◌, ◌<◌, ℕ, nat_le, if◌then◌else◌, List, [], ◌∷◌, length, pos, Bool, true, ◌++◌, map as each, Option, Some, None, option_map}
 use Rattle.passkey_bytes.specs.Map.{ByteMap}
 use Rattle.passkey_cbor.specs.Canonical.{Ascend}
 use Rattle.passkey_cbor.specs.Item.{Item, number, byte_string, array, map, boolean, null, items_of, pairs_of}
-use Rattle.passkey_kinds.specs.ShortFirst.{short_first}
-use Rattle.passkey_kinds.specs.Table.{Members}
+use Rattle.passkey_kinds.specs.Record.{Members}
+use Rattle.passkey_kinds.specs.declared.sink.Counted.{Counted}
+use Rattle.passkey_webauthn.specs.CredentialType.{credential_type_name}
+use Rattle.passkey_webauthn.specs.Transport.{transport_name}
+use Rattle.passkey_webauthn.specs.declared.credential_type.PublicKeyCredentialType.{PublicKeyCredentialType}
+use Rattle.std.specs.Cmp.Lexicographic.{slice_cmp}
+use Rattle.std.specs.Ordering.{nat_cmp}
+use Rattle.std.specs.declared.cmp.Ordering.TheVariants.{Less}
+use Rattle.std.specs.FinMap as fin
+
+-- ---- entries whose keys are byte strings, in CTAP2's order of map keys (CTAP 2.1, section 8): shorter
+-- keys first. The sort is stable, so entries in the bytewise order of their keys keep it where the lengths are equal
+
+-- the shorter one first; of two with the same length, the one with the lower bytes
+abbrev pub IsShortFirst : List ℕ → List ℕ → Type 0
+IsShortFirst a b = (length a < length b) ⊎ ((length a ≡ length b) × (slice_cmp nat_cmp a b ≡ Less))
+
+-- the list with x before the first element whose number isn't below that of x
+abbrev pub put_by : {X : Type 0} → (X → ℕ) → X → List X → List X
+put_by size x [] = x ∷ []
+put_by size x (y ∷ ys) = if nat_le (size x) (size y) then x ∷ y ∷ ys else y ∷ put_by size x ys
+
+-- sorted by their sizes; elements with the same size keep their order
+abbrev pub sorted_by : {X : Type 0} → (X → ℕ) → List X → List X
+sorted_by size [] = []
+sorted_by size (x ∷ xs) = put_by size x (sorted_by size xs)
+
+abbrev pub short_first : {A : Type 0} → List (List ℕ × A) → List (List ℕ × A)
+short_first es = sorted_by (λ e. length e.0) es
+
+-- ---- the data items that values are encoded as. A record's members are laid out one after the other
 
 abbrev pub number_tree : ℕ → Item
 number_tree n = number (pos n)
@@ -66,3 +95,44 @@ record_tree ps = map_tree (laid [] ps)
 -- the keys of the members that are encoded ascend in CTAP2's order
 abbrev pub KeysAscend : {A : Type 0} → (A → List Place) → Type 0
 KeysAscend {A} places = (x : A) → Ascend (pairs_of (laid [] (places x)))
+
+-- ---- the data items that names are encoded as (WebAuthn Level 3, section 5)
+
+abbrev pub credential_type_tree : PublicKeyCredentialType → Item
+credential_type_tree t = text_string (credential_type_name t)
+
+abbrev pub transport_tree : AuthenticatorTransport → Item
+transport_tree t = text_string (transport_name t)
+
+-- ---- members that are put into a sink, one after the other
+
+-- The state after a member, if it is present. It is unfolded only where it is proved of a sink, so
+-- that the prover can follow a chain of members.
+unfoldable pub put_one : {S : Type 0} → (Item → Item → S → S) → S → Item → Option Item → S
+put_one step s key None = s
+put_one step s key (Some x) = step key x s
+
+-- the state after the members that are present
+abbrev pub put_all : {S : Type 0} → (Item → Item → S → S) → S → List Place → S
+put_all step s [] = s
+put_all step s (p ∷ ps) = put_all step (put_one step s p.0 p.1) ps
+
+-- the sink accepted the member, if it is present
+abbrev pub MemberAccepted : (Item → Type 0) → Item → Option Item → Type 0
+MemberAccepted Accepts key None = Unit {0}
+MemberAccepted Accepts key (Some x) = Accepts key × Accepts x
+
+abbrev pub AllAccepted : (Item → Type 0) → List Place → Type 0
+AllAccepted Accepts [] = Unit {0}
+AllAccepted Accepts (p ∷ ps) = MemberAccepted Accepts p.0 p.1 × AllAccepted Accepts ps
+
+abbrev pub count_of : Counted → ℕ
+count_of counted = counted.members
+
+-- the members with one more
+abbrev pub append_member : Item → Item → Members → Members
+append_member key x ms = ms ++ (let m : Item × Item = (key, x) in m) ∷ []
+
+-- the encoding with that of one more member
+abbrev pub encode_member : Item → Item → List ℕ → List ℕ
+encode_member key x bytes = (bytes ++ written key) ++ written x

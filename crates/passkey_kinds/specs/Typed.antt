@@ -2,13 +2,8 @@
 use Rattle.std.specs.Prelude.{ℕ, suc, max, Bool, true, false, List, Option}
 use Rattle.passkey_kinds.specs.Base.{ByteMap, Item, DataParts, Algorithm}
 use Rattle.passkey_cbor.specs.Nodes.{nodes}
-use Rattle.passkey_kinds.specs.Keeping.{Keeping, nothing, counted, in_elements, in_members}
-use Rattle.passkey_kinds.specs.Kind.{Kind, Typed}
-use Rattle.passkey_kinds.specs.Algorithm as numbered
-use Rattle.passkey_kinds.specs.Data as core
+use Rattle.passkey_kinds.specs.Kind.{Keeping, nothing, counted, in_elements, in_members, Kind, Typed}
 use Rattle.passkey_kinds.specs.Kind as kind
-use Rattle.passkey_kinds.specs.MapKind as mapped
-use Rattle.passkey_kinds.specs.Size as sized
 
 -- a kind whose values take no memory, at the cost of this many heads for each byte
 abbrev pub fixed : {M : Type 0} → ℕ → Kind M → Typed M
@@ -25,16 +20,16 @@ abbrev pub below : ℕ → Typed ℕ
 below limit = fixed 1 (kind.below limit)
 
 abbrev pub size : Typed ℕ
-size = fixed 1 sized.size
+size = fixed 1 kind.size
 
 abbrev pub one_named : {T : Type 0} → (List ℕ → Option T) → Typed T
 one_named named = fixed 2 (kind.one_named named)
 
 abbrev pub algorithm : Typed Algorithm
-algorithm = fixed 2 numbered.algorithm
+algorithm = fixed 2 kind.algorithm
 
 abbrev pub aaguid : Typed (List ℕ)
-aaguid = fixed 2 core.aaguid
+aaguid = fixed 2 kind.aaguid
 
 abbrev pub sized_bytes : ℕ → Typed (List ℕ)
 sized_bytes n = fixed 3 (kind.sized_bytes n)
@@ -49,7 +44,7 @@ abbrev pub kept : Typed Item
 kept = growing 2 (counted nodes) kind.kept
 
 abbrev pub authenticator_data : Typed DataParts
-authenticator_data = growing 6 (counted core.authenticator_data_nodes) core.authenticator_data
+authenticator_data = growing 6 (counted kind.authenticator_data_nodes) kind.authenticator_data
 
 -- the value, or `None` for null: it costs one more head to look for null
 abbrev pub optional : {M : Type 0} → Typed M → Typed (Option M)
@@ -70,4 +65,4 @@ abbrev pub accepted : {M : Type 0} → Typed M → Typed (List M)
 accepted k = growing (suc (suc k.cost)) (in_elements k.keeps) (kind.accepted k.of)
 
 abbrev pub map_from_bytes : {M : Type 0} → Typed M → Typed (ByteMap M)
-map_from_bytes k = growing (suc (max 3 k.cost)) (in_members k.keeps) (mapped.map_from_bytes k.of)
+map_from_bytes k = growing (suc (max 3 k.cost)) (in_members k.keeps) (kind.map_from_bytes k.of)

@@ -1,7 +1,7 @@
 -- The members appended so far.
 use Rattle.std.specs.Prelude.{map}
 use Rattle.passkey_kinds.specs.Base.{pair_of}
-use Rattle.passkey_kinds.specs.Table.{Members}
+use Rattle.passkey_kinds.specs.Record.{Members}
 use Rattle.passkey_kinds.specs.declared.written.Written.{Written}
 
 abbrev pub members_of : Written → Members

@@ -23,7 +23,7 @@ fn named(number: Option<i64>) -> Result<Algorithm, Refusal>
 
 /// Returns the whole part of the number in a text string. Returns `None` if the text isn't a
 /// number, or if its whole part doesn't fit in `i64`. Joins no chunks in memory.
-#[tactic(auto, using(crate::proofs::NumberPieces::adds_none))]
+#[tactic(auto, using(crate::proofs::Lent::adds_none))]
 fn whole_of(token: &TextToken<'_>, cursor: &mut Cursor<'_>) -> Option<i64>
     requires { IsRegion true token.now }
     ensures whole { (s : List ℕ) → Tells true token.now s → result ≡ whole_64 s }

@@ -1,7 +1,7 @@
 //! Arrays of 32 bytes, decoded from data items and encoded as arrays of integers.
 ghost use Rattle.std.specs.Prelude.{◌==◌, ℕ, List, length, map, take, if◌then◌else◌, false, Some, None};
 ghost use Rattle.passkey_kinds.specs.Words.{Item, Tells, ItemsAreEncodedAt, Onward, Decodes, LooksAtMost, item_of, AnswersAs, each, AreBytes, numbers_tree, sized_bytes};
-ghost use Rattle.passkey_kinds.specs.Collecting.{filling};
+ghost use Rattle.passkey_kinds.specs.Reader.{filling};
 ghost use Rattle.passkey_kinds.specs.Kind.{below};
 
 use crate::collect::{Collect, read_all};
@@ -13,7 +13,7 @@ use std::alloc::Global;
 
 /// Decodes the bytes from an array of integers. Returns `Refused` exactly if it doesn't have 32
 /// elements or one of them isn't an integer from 0 to 255.
-#[tactic(auto, using(crate::proofs::Arrays::one_more_set, crate::proofs::Arrays::all_set))]
+#[tactic(auto, using(crate::proofs::Lists::one_more_set, crate::proofs::Lists::all_set))]
 fn read_numbers(alloc: Global, elements: &[Value]) -> Result<[u8; 32], Refusal>
     ensures { AnswersAs (λ b. b)
         (if length elements.now == 32 then each (below 256) (map item_of elements.now) else None) ⊥ result }
@@ -78,7 +78,7 @@ fn read_numbers_ahead(
 }
 
 /// Copies a byte string of exactly `N` bytes. Returns `Refused` if its length differs.
-#[tactic(auto, using(crate::proofs::ArraysAhead::tells_one))]
+#[tactic(auto, using(crate::proofs::Lists::tells_one))]
 pub(crate) fn filled<const N: usize>(
     token: &BytesToken<'_>,
     cursor: &mut Cursor<'_>,
@@ -110,7 +110,7 @@ impl FromCbor for [u8; 32] {
         }
     }
 
-    #[tactic(auto, using(crate::proofs::Going::string_further, crate::proofs::Leaves::on_ok))]
+    #[tactic(auto, using(crate::proofs::Going::string_further, crate::proofs::Going::on_ok))]
     fn read(alloc: Global, cursor: &mut Cursor<'_>) -> Result<[u8; 32], Refusal> {
         match cursor.bytes() {
             Some(token) => filled(&token, cursor),

@@ -3,7 +3,7 @@ ghost use Rattle.std.specs.Prelude.{◌<◌, ℕ, suc, IsTrue, List, length, OnO
 ghost use Rattle.passkey_kinds.specs.Words.{kept_sum, Decodes, Further, Onward};
 ghost use Rattle.passkey_cbor.specs.EncodedAt.{Lies};
 ghost use Rattle.passkey_cbor.specs.Inside.{Left};
-ghost use Rattle.passkey_kinds.specs.Collecting.{Way, AddsOne, collected};
+ghost use Rattle.passkey_kinds.specs.Reader.{Way, AddsOne, collected};
 
 use crate::refusal::Refusal;
 use passkey_cbor::Cursor;

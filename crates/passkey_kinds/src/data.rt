@@ -1,7 +1,7 @@
 //! Authenticator data and AAGUIDs, decoded from byte strings and encoded as byte strings.
 ghost use Rattle.std.specs.Prelude.{◌≡◌, ℕ, ◌+◌, ◌*◌, ◌≤◌, true, false, length, List};
 ghost use Rattle.passkey_kinds.specs.Words.{byte_string, data_nodes, IsData, DataParts, data_parts, Answers, authenticator_data, aaguid};
-ghost use Rattle.passkey_kinds.specs.Data.{CountsData, data_tree, aaguid_tree};
+ghost use Rattle.passkey_kinds.specs.Kind.{CountsData, data_tree, aaguid_tree};
 
 use crate::array::filled;
 use crate::{FromCbor, OutOfMemory, Refusal, ToCbor};
@@ -11,7 +11,7 @@ use passkey_cose::CoseError;
 use std::alloc::Global;
 
 /// Decodes the content of a byte string as authenticator data, and adds the cost to `count`.
-#[tactic(auto, using(crate::proofs::DataReads::parts_grow))]
+#[tactic(auto, using(crate::proofs::Lent::parts_grow))]
 fn read_data(alloc: Global, bytes: &[u8], count: &mut Count) -> Result<AuthenticatorData, Refusal>
     ensures answers { Answers data_parts authenticator_data (byte_string bytes.now) result }
     ensures heads { count.new.heads ≤ count.old.heads + (4 * length bytes.now + 4) }
@@ -55,7 +55,7 @@ impl FromCbor for AuthenticatorData {
         }
     }
 
-    #[tactic(auto, using(crate::proofs::DataReads::data_further, crate::proofs::Leaves::on_ok, crate::proofs::Lent::looks_all))]
+    #[tactic(auto, using(crate::proofs::Lent::data_further, crate::proofs::Going::on_ok, crate::proofs::Lent::looks_all))]
     fn read(alloc: Global, cursor: &mut Cursor<'_>) -> Result<AuthenticatorData, Refusal> {
         match cursor.bytes() {
             Some(token) => match token.lent() {

@@ -50,6 +50,6 @@ impl PlainRecord for PublicKeyCredentialDescriptor {
         Ok(())
     }
 
-    #[tactic(auto, using(crate::proofs::Webauthn::descriptor_law))]
+    #[tactic(auto, using(crate::proofs::Lawful::descriptor_law))]
     fn lawful() {}
 }

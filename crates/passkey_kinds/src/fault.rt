@@ -1,6 +1,6 @@
 //! Why a message was not decoded.
 ghost use Rattle.std.specs.Prelude.{◌≡◌, Some};
-ghost use Rattle.passkey_kinds.specs.Names.{fault_name};
+ghost use Rattle.passkey_kinds.specs.Message.{fault_name};
 ghost use Rattle.passkey_kinds.specs.declared.fault.Fault.TheVariants.{OutOfMemory as NoMemory};
 
 use passkey_memory::OutOfMemory;

@@ -1,8 +1,7 @@
 //! Map keys at a cursor, and the rows that they name.
 ghost use Rattle.std.specs.Prelude.{◌≡◌, ◌≤◌, ℕ, nat_lt, if◌then◌else◌, List, Option, length, map, take, true, false, IfSome};
 ghost use Rattle.passkey_kinds.specs.Words.{Item, IsRegion, Tells, IsEncodedAt, Onward, Further, LooksAtMost, named_as, entry_of, names, row_named};
-ghost use Rattle.passkey_kinds.specs.RecordReading.{ReadsKey};
-ghost use Rattle.passkey_kinds.specs.Rows.{row_at};
+ghost use Rattle.passkey_kinds.specs.RecordReading.{ReadsKey, row_at};
 
 use crate::head::{begins, read_unsigned};
 use crate::rows::{Named, Row, of_number, with_name};

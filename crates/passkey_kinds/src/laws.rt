@@ -1,13 +1,12 @@
 //! Laws about decoding records and lists. Each is the contract of a function that does nothing.
 ghost use Rattle.passkey_kinds.specs.Words.{read_item, KeysAscend, places_of, descriptor, parameters, webauthn_user, KnowsMaps, PassesOverUnknown};
-ghost use Rattle.passkey_kinds.specs.MessageLaws.{AlikeDifferInLength};
-ghost use Rattle.passkey_kinds.specs.RecordLaws.{KnowsItems, RefusedElementIsPassedOver, SameAnswersReadAlike, UnknownMemberIsPassedOver};
+ghost use Rattle.passkey_kinds.specs.Message.{AlikeDifferInLength, KnowsItems, RefusedElementIsPassedOver, SameAnswersReadAlike, UnknownMemberIsPassedOver};
 
 use crate::record::Record;
 
 /// Records whose members have names alone are encoded with their keys in CTAP2's order (CTAP 2.1,
 /// section 8).
-#[tactic(auto, using(crate::proofs::Webauthn::descriptor_law, crate::proofs::Webauthn::parameters_law, crate::proofs::Webauthn::user_law))]
+#[tactic(auto, using(crate::proofs::Lawful::descriptor_law, crate::proofs::Lawful::parameters_law, crate::proofs::Lawful::user_law))]
 pub fn written_keys_ascend()
     ensures descriptor { KeysAscend (places_of descriptor.members) }
     ensures parameters { KeysAscend (places_of parameters.members) }
@@ -42,7 +41,7 @@ pub fn alike_items_differ_in_length<R: Record>()
 
 /// An element that can't be decoded changes nothing in a tolerant list, wherever it is: the value
 /// is the same without it.
-#[tactic(auto, using(crate::proofs::Accepted::refused_is_passed_over))]
+#[tactic(auto, using(crate::proofs::Lists::refused_is_passed_over))]
 pub fn refused_element_is_passed_over<M>()
     ensures { RefusedElementIsPassedOver M }
 {}

@@ -2,7 +2,7 @@
 ghost use Rattle.std.specs.Prelude.{◌<◌, ℕ, suc, length, map, Some, true, List as Items};
 ghost use Rattle.std.specs.List.{filter_map};
 ghost use Rattle.passkey_kinds.specs.Words.{item_of, Item, ItemsAreEncodedAt, kept_of, kept_sum, AnswersAs, each, Onward, Decodes, list, accepted};
-ghost use Rattle.passkey_kinds.specs.Collecting.{pushing, pushing_if};
+ghost use Rattle.passkey_kinds.specs.Reader.{pushing, pushing_if};
 
 use crate::collect::{Collect, read_all};
 use crate::head::read_array;

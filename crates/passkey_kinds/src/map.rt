@@ -2,10 +2,9 @@
 ghost use Rattle.std.specs.Prelude.{◌≡◌, ◌<◌, ℕ, suc, max, List, length, map, true, IfOk, OnOk};
 ghost use Rattle.std.specs.List.{All};
 ghost use Rattle.passkey_kinds.specs.Words.{ByteMap, item_of, pair_of, AnswersAs, Item, kept_of, byte_map_tree};
-ghost use Rattle.passkey_kinds.specs.Collecting.{entering};
-ghost use Rattle.passkey_kinds.specs.MapKind.{map_values, with_members};
-ghost use Rattle.passkey_kinds.specs.ShortFirst.{sorted_by};
-ghost use Rattle.passkey_kinds.specs.Tree.{entry_tree, key_size};
+ghost use Rattle.passkey_kinds.specs.Reader.{entering};
+ghost use Rattle.passkey_kinds.specs.Kind.{map_values, with_members};
+ghost use Rattle.passkey_kinds.specs.Tree.{sorted_by, entry_tree, key_size};
 ghost use Rattle.passkey_kinds.specs.Typed.{map_from_bytes};
 ghost use Rattle.std.specs.FinMap as fin;
 

@@ -39,6 +39,6 @@ impl PlainRecord for PublicKeyCredentialParameters {
         Ok(())
     }
 
-    #[tactic(auto, using(crate::proofs::Webauthn::parameters_law))]
+    #[tactic(auto, using(crate::proofs::Lawful::parameters_law))]
     fn lawful() {}
 }

@@ -87,7 +87,7 @@ impl<T: ReadBack> ReadBack for List<T> {
 }
 
 impl<T: ReadBack> ReadBack for Map<Bytes, T> {
-    ghost use Rattle.passkey_kinds.specs.MapKind.{map_values};
+    ghost use Rattle.passkey_kinds.specs.Kind.{map_values};
 
     ghost normal = { λ m. map_values T.normal m };
 
@@ -97,6 +97,6 @@ impl<T: ReadBack> ReadBack for Map<Bytes, T> {
 }
 
 impl ReadBack for [u8; 32] {
-    #[tactic(auto, using(crate::proofs::SizedBack::numbers_back))]
+    #[tactic(auto, using(crate::proofs::LeafBack::numbers_back))]
     fn read_back() {}
 }

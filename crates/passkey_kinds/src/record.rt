@@ -1,10 +1,8 @@
 //! Records, decoded member by member.
 ghost use Rattle.std.specs.Prelude.{◌≡◌, ◌<◌, ◌≤◌, ℕ, true, false, length, map, replicate, get_or, is_ok, OnOk, set};
 ghost use Rattle.passkey_kinds.specs.Words.{Item, IsEncodedAt, PairsAreEncodedAt, item_of, pair_of, Onward, Further, MayGrowIn, MayGrowAt, Reads, are_small, named_as, Fields, table_of, read_members, read_item, nested, cost_at, keeps_at, Puts, entry_of, Members, entries, named};
-ghost use Rattle.passkey_kinds.specs.Reading.{first_unmarked};
-ghost use Rattle.passkey_kinds.specs.Record.{unless_missing};
-ghost use Rattle.passkey_kinds.specs.RecordCost.{cost_by, keeps_by};
-ghost use Rattle.passkey_kinds.specs.RecordReading.{HasRead, ReadsOne, DecodesMembers, DecodesRecord, held_as};
+ghost use Rattle.passkey_kinds.specs.Record.{first_unmarked, unless_missing};
+ghost use Rattle.passkey_kinds.specs.RecordReading.{cost_by, keeps_by, HasRead, ReadsOne, DecodesMembers, DecodesRecord, held_as};
 
 use crate::head::read_map;
 use crate::key::read_key;
@@ -50,7 +48,7 @@ pub trait Record: Drop {
 }
 
 /// Decodes the value of the next member, by what its map key names.
-#[tactic(auto, using(crate::proofs::Putting::reads_one))]
+#[tactic(auto, using(crate::proofs::Members::reads_one))]
 fn read_member<R: Record, S: Source>(
     alloc: Global,
     read: &mut R,
@@ -138,7 +136,7 @@ fn finish<R: Record>(read: R, seen: &[bool; 32]) -> Result<R, Fault>
     }
 }
 
-#[tactic(auto, using(crate::proofs::Putting::reads_pairs))]
+#[tactic(auto, using(crate::proofs::Members::reads_pairs))]
 fn read_pairs<R: Record>(alloc: Global, pairs: &[(Value, Value)]) -> Result<R, Fault>
     ensures { Reads R.parts (MayGrowIn (table_of R.fields) (map pair_of pairs.now))
         (read_members R.fields (map pair_of pairs.now)) result }
@@ -171,7 +169,7 @@ pub fn record_from_value<R: Record>(alloc: Global, value: &Value) -> Result<R, F
 }
 
 /// Decodes the members that follow a map's head.
-#[tactic(auto, using(crate::proofs::Loops::begun, crate::proofs::Putting::has_begun))]
+#[tactic(auto, using(crate::proofs::Loops::begun, crate::proofs::Members::has_begun))]
 fn read_pairs_ahead<R: Record>(
     alloc: Global,
     mut left: Option<u64>,
@@ -228,12 +226,12 @@ impl<R: Record> FromCbor for R {
 
     ghost typed = { nested R.fields };
 
-    #[tactic(auto, using(crate::proofs::Messages::may_grow, crate::proofs::Putting::held_answers))]
+    #[tactic(auto, using(crate::proofs::RecordLaws::may_grow, crate::proofs::Members::held_answers))]
     fn from_value(alloc: Global, value: &Value) -> Result<R, Refusal> {
         held(record_from_value::<R>(alloc, value))
     }
 
-    #[tactic(auto, using(crate::proofs::Putting::held_ok))]
+    #[tactic(auto, using(crate::proofs::Members::held_ok))]
     fn read(alloc: Global, cursor: &mut Cursor<'_>) -> Result<R, Refusal> {
         held(read_record::<R>(alloc, cursor))
     }

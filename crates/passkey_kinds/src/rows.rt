@@ -2,7 +2,7 @@
 ghost use Rattle.std.specs.Prelude.{◌≡◌, ◌==◌, map};
 ghost use Rattle.std.specs.List.{find};
 ghost use Rattle.passkey_kinds.specs.Words.{item_of, named_as, naming_of, entry_of, names, row_named, row_or_unknown};
-ghost use Rattle.passkey_kinds.specs.Table.{number_names};
+ghost use Rattle.passkey_kinds.specs.Record.{number_names};
 
 use passkey_cbor::Value;
 

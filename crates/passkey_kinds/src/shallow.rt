@@ -61,6 +61,6 @@ impl<T: Shallow> Shallow for List<T> {
 impl Shallow for [u8; 32] {
     ghost levels = { 1 };
 
-    #[tactic(auto, using(crate::proofs::Plain::numbers_levels))]
+    #[tactic(auto, using(crate::proofs::Ordered::numbers_levels))]
     fn shallow() {}
 }

@@ -1,7 +1,7 @@
 //! What the members of a map are put into: a counter, an encoder, or a list of members.
 ghost use Rattle.std.specs.Prelude.{◌≡◌, ℕ, suc, true, List, None, Some, if◌then◌else◌, option_map, OnOk};
 ghost use Rattle.passkey_kinds.specs.Words.{encoding, Item, boolean, IsWritable, IfPresent};
-ghost use Rattle.passkey_kinds.specs.Sink.{MemberAccepted, count_of, encode_member, put_one};
+ghost use Rattle.passkey_kinds.specs.Tree.{MemberAccepted, count_of, encode_member, put_one};
 
 use crate::{OutOfMemory, ToCbor};
 use passkey_cbor::Encoder;
@@ -38,7 +38,7 @@ pub trait Sink {
 
     /// Puts a member under this key if the value is present. Returns `OutOfMemory` if an allocation
     /// fails.
-    #[tactic(auto, unfolding(crate::specs::Sink::put_one))]
+    #[tactic(auto, unfolding(crate::specs::Tree::put_one))]
     fn put_some<K: ToCbor + Drop, T: ToCbor>(
         &mut self,
         alloc: Global,
@@ -58,7 +58,7 @@ pub trait Sink {
 
     /// Puts a member with the value true under this key if the flag is true. Returns `OutOfMemory`
     /// if an allocation fails.
-    #[tactic(auto, unfolding(crate::specs::Sink::put_one))]
+    #[tactic(auto, unfolding(crate::specs::Tree::put_one))]
     fn put_true<K: ToCbor + Drop>(
         &mut self,
         alloc: Global,
@@ -95,7 +95,7 @@ impl Sink for Counted {
 
     ghost Encodes = { ⊥ };
 
-    #[tactic(auto, unfolding(crate::specs::Sink::put_one))]
+    #[tactic(auto, unfolding(crate::specs::Tree::put_one))]
     fn put<K: ToCbor + Drop, T: ToCbor>(
         &mut self,
         _alloc: Global,
@@ -118,7 +118,7 @@ impl Sink for Encoder {
 
     ghost Encodes = { Unit {0} };
 
-    #[tactic(auto, unfolding(crate::specs::Sink::put_one))]
+    #[tactic(auto, unfolding(crate::specs::Tree::put_one))]
     fn put<K: ToCbor + Drop, T: ToCbor>(
         &mut self,
         alloc: Global,

@@ -3,7 +3,7 @@
 ghost use Rattle.std.specs.Prelude.{◌≡◌, ℕ, pos, false, option_map};
 ghost use Rattle.std.specs.Int.NonZero.{non_zero_u128_get};
 ghost use Rattle.passkey_kinds.specs.Words.{number, AnswersAs, size};
-ghost use Rattle.passkey_kinds.specs.Size.{size as size_of};
+ghost use Rattle.passkey_kinds.specs.Kind.{size as size_of};
 
 use crate::head::read_unsigned;
 use crate::{FromCbor, Refusal};

@@ -2,7 +2,7 @@
 ghost use Rattle.std.specs.Prelude.{◌≡◌, ℕ, suc, map, option_map, is_ok, Bool, true, false};
 ghost use Rattle.passkey_kinds.specs.Words.{Item, IsEncodedAt, item_of, Keeping, nothing, in_elements, Answers, Onward, Costs, accepted, or_else, tolerated};
 ghost use Rattle.passkey_kinds.specs.RecordReading.{Sets};
-ghost use Rattle.passkey_kinds.specs.SourceLaws.{costs_nothing, onward_same};
+ghost use Rattle.passkey_kinds.specs.Reader.{costs_nothing, onward_same};
 
 use crate::{FromCbor, Refusal, TolerantList, Tolerated};
 use passkey_bytes::List;

@@ -1,7 +1,7 @@
 //! Values that are encoded as data items.
 ghost use Rattle.std.specs.Prelude.{◌≡◌, ◌<◌, ◌^◌, ◌++◌, pos, IfOk, OnOk};
 ghost use Rattle.passkey_kinds.specs.Words.{encoding, Item, boolean, byte_string, text_string, item_of, IsWritable, written, IfPresent, Any, number_tree, option_tree, transport_tree};
-ghost use Rattle.passkey_kinds.specs.Trees.{credential_type_tree};
+ghost use Rattle.passkey_kinds.specs.Tree.{credential_type_tree};
 
 use passkey_bytes::{Bytes, Text};
 use passkey_cbor::{Encoder, Integer, Value};

@@ -41,6 +41,6 @@ impl PlainRecord for PublicKeyCredentialUserEntity {
         Ok(())
     }
 
-    #[tactic(auto, using(crate::proofs::Webauthn::user_law))]
+    #[tactic(auto, using(crate::proofs::Lawful::user_law))]
     fn lawful() {}
 }

@@ -2,7 +2,7 @@
 ghost use Rattle.std.specs.Prelude.{◌≡◌, ◌++◌, [], map, IfOk, OnOk};
 ghost use Rattle.std.specs.List.{All};
 ghost use Rattle.passkey_kinds.specs.Words.{encoding, item_of, IsWritable, written, Members, list_tree, map_tree, members_of};
-ghost use Rattle.passkey_kinds.specs.Sink.{append_member};
+ghost use Rattle.passkey_kinds.specs.Tree.{append_member};
 
 use crate::{OutOfMemory, Sink, ToCbor};
 use passkey_bytes::List;
@@ -20,7 +20,7 @@ pub(crate) fn write_each<T: ToCbor>(alloc: Global, list: &[T]) -> Result<Vec<Val
     Ok(values)
 }
 
-#[tactic(auto, using(crate::proofs::WrittenLists::fits_more))]
+#[tactic(auto, using(crate::proofs::Lists::fits_more))]
 pub(crate) fn append_each<T: ToCbor>(
     alloc: Global,
     list: &[T],
@@ -86,7 +86,7 @@ impl Sink for Written {
 
     ghost Encodes = { Unit {0} };
 
-    #[tactic(auto, unfolding(crate::specs::Sink::put_one))]
+    #[tactic(auto, unfolding(crate::specs::Tree::put_one))]
     fn put<K: ToCbor + Drop, T: ToCbor>(
         &mut self,
         alloc: Global,

@@ -3,7 +3,7 @@ use Rattle.passkey_kinds.proofs.Steps.{refl, ◌≡◌, ℕ, ◌<◌, ◌≤◌,
 use Rattle.passkey_core.specs.DataNormal.{IsData, normal_data}
 use Rattle.passkey_core.specs.DataParts.{DataParts}
 use Rattle.passkey_make_credential.specs.MakeResponse.{MakeResponseParts, make_response_fields, read_make_response, make_response_places, make_response_tree, MakeResponseFits, is_make_response_coherent, normal_make_response, attestation_places, attestation_tree, unattested}
-use Rattle.passkey_kinds.specs.MessageLaws.{WrittenIsReadBack}
+use Rattle.passkey_kinds.specs.Message.{WrittenIsReadBack}
 use Rattle.passkey_extensions.proofs.Prf.{made_unsigned_law}
 use Rattle.passkey_make_credential.proofs.MakePlaces.{make_response_each}
 use Rattle.passkey_kinds.proofs.Levels.{of_record}

@@ -6,7 +6,7 @@ use Rattle.passkey_cose.specs.declared.error.CoseError.TheVariants as error
 use Rattle.passkey_json.specs.Names.{json_fault_name}
 use Rattle.passkey_json.specs.declared.json_fault.JsonFault.{JsonFault}
 use Rattle.passkey_json.specs.declared.json_fault.JsonFault.TheVariants as json
-use Rattle.passkey_kinds.specs.Names.{fault_name}
+use Rattle.passkey_kinds.specs.Message.{fault_name}
 use Rattle.passkey_kinds.specs.declared.fault.Fault.{Fault}
 use Rattle.passkey_kinds.specs.declared.fault.Fault.TheVariants as message
 use Rattle.passkey_run.specs.declared.fault.RunFault.{RunFault}

@@ -2,7 +2,7 @@
 //! encoded.
 ghost use Rattle.passkey_core.specs.declared.get_assertion.SignedExtensionOutputs.{SignedExtensionOutputs as SignedOutputs};
 ghost use Rattle.passkey_kinds.specs.Placed.{fields_of};
-ghost use Rattle.passkey_kinds.specs.Signed.{used_signed};
+ghost use Rattle.passkey_kinds.specs.Coded.{used_signed};
 ghost use Rattle.passkey_core.specs.SignedOutputs.{assertion_item};
 
 use crate::{OutOfMemory, Record, RecordReadBack, Refusal, Row, Source, ToCbor, set};
@@ -48,6 +48,6 @@ impl ToCbor for SignedExtensionOutputs {
 impl RecordReadBack for SignedExtensionOutputs {
     ghost normal = { λ outputs. outputs };
 
-    #[tactic(auto, using(crate::proofs::SignedBack::assertion_back))]
+    #[tactic(auto, using(crate::proofs::LeafBack::assertion_back))]
     fn record_back() {}
 }

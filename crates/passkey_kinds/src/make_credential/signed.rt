@@ -2,7 +2,7 @@
 //! encoded.
 ghost use Rattle.passkey_core.specs.declared.make_credential.SignedExtensionOutputs.{SignedExtensionOutputs as SignedOutputs};
 ghost use Rattle.passkey_kinds.specs.Placed.{fields_of};
-ghost use Rattle.passkey_kinds.specs.Signed.{made_signed};
+ghost use Rattle.passkey_kinds.specs.Coded.{made_signed};
 ghost use Rattle.passkey_core.specs.SignedOutputs.{creation_item};
 
 use crate::{OutOfMemory, Record, RecordReadBack, Refusal, Row, Source, ToCbor, set};
@@ -55,6 +55,6 @@ impl ToCbor for SignedExtensionOutputs {
 impl RecordReadBack for SignedExtensionOutputs {
     ghost normal = { λ outputs. outputs };
 
-    #[tactic(auto, using(crate::proofs::SignedBack::creation_back))]
+    #[tactic(auto, using(crate::proofs::LeafBack::creation_back))]
     fn record_back() {}
 }

@@ -1,6 +1,4 @@
-use Rattle.passkey_kinds.proofs.Steps.{Err, subst, BytesFault, text_read, text_refused}
-use Rattle.passkey_bytes.specs.Bytes.{ReadsText}
-use Rattle.passkey_bytes.specs.Encoding.{text_bytes}
+use Rattle.passkey_kinds.proofs.Steps.{Err, subst, BytesFault, text_read, text_refused, ReadsText, text_bytes}
 use Rattle.passkey_kinds.proofs.bytes.read_text.Goals as goal
 
 pub returns-in-Ok : goal.returns-in-Ok

@@ -1,9 +1,5 @@
 use Rattle.std.specs.FinMap as fin
-use Rattle.passkey_kinds.proofs.Steps.{◌∙◌, ℕ, List, map, ap, map_push, byte_string, pair_of, Value, entry_tree, fits_next, written_next}
-use Rattle.std.specs.Map.Iter.{deref_pair}
-use Rattle.std.proofs.lemmas.Map.Iter.{rest_more}
-use Rattle.passkey_cbor.specs.declared.value.Value.TheVariants.{Bytes}
-use Rattle.passkey_cbor.proofs.Views.{item_of-Bytes}
+use Rattle.passkey_kinds.proofs.Steps.{◌∙◌, ℕ, List, map, ap, map_push, byte_string, pair_of, Value, entry_tree, fits_next, written_next, deref_pair, rest_more, Bytes, item_of-Bytes}
 use Rattle.passkey_kinds.proofs.map.write_entries.Goals as goal
 
 pub loop-key-preserved : goal.loop-key-preserved

@@ -1,5 +1,4 @@
-use Rattle.passkey_kinds.proofs.Steps.{ℕ, ◌+◌, ◌-◌, suc, length, max_depth, PairWithin, Onward, record_cost, kept_in, HasReadTo, Members, EachTo}
-use Rattle.passkey_cbor.specs.EncodedAt.{PairsAreEncodedAt}
+use Rattle.passkey_kinds.proofs.Steps.{ℕ, ◌+◌, ◌-◌, suc, length, max_depth, PairWithin, Onward, record_cost, kept_in, HasReadTo, Members, EachTo, PairsAreEncodedAt}
 use Rattle.passkey_kinds.proofs.record.read_pairs_ahead.Given as goal
 
 abbrev pub invariant-loop-alloc : goal.invariant-loop-alloc

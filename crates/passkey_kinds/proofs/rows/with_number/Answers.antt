@@ -1,5 +1,4 @@
-use Rattle.passkey_kinds.proofs.Steps.{◌∙◌, ◌==◌, List, ap, map, sym, find, Row, entry_of, Entry, Naming, row_or_unknown, found_behind}
-use Rattle.std.proofs.lemmas.List.{drop-map}
+use Rattle.passkey_kinds.proofs.Steps.{◌∙◌, ◌==◌, List, ap, map, sym, find, Row, entry_of, Entry, Naming, row_or_unknown, found_behind, drop-map}
 use Rattle.passkey_kinds.proofs.rows.with_number.Goals as goal
 
 pub returns-in-Row : goal.returns-in-Row

@@ -1,5 +1,4 @@
-use Rattle.passkey_kinds.proofs.Common.{arith}
-use Rattle.passkey_cbor.proofs.Writing.{writes_items-begin}
+use Rattle.passkey_kinds.proofs.Common.{arith, writes_items-begin}
 use Rattle.passkey_kinds.proofs.written.append_each.Goals as goal
 
 pub loop-value-init : goal.loop-value-init

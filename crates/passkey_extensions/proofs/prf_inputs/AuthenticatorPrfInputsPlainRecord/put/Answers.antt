@@ -3,7 +3,7 @@ use Rattle.passkey_extensions.specs.Prf.{prf_inputs, prf_values}
 use Rattle.passkey_extensions.specs.declared.prf_inputs.AuthenticatorPrfInputs.{AuthenticatorPrfInputs}
 use Rattle.passkey_extensions.specs.declared.prf_values.AuthenticatorPrfValues.{AuthenticatorPrfValues}
 use Rattle.passkey_kinds.specs.Typed.{optional, map_from_bytes}
-use Rattle.passkey_kinds.specs.RecordCost.{nested}
+use Rattle.passkey_kinds.specs.RecordReading.{nested}
 use Rattle.passkey_extensions.proofs.prf_inputs.AuthenticatorPrfInputsPlainRecord.put.Goals as goal
 
 abbrev seen : Option (ByteMap AuthenticatorPrfValues) → Option (ByteMap AuthenticatorPrfValues)

@@ -1,6 +1,4 @@
-use Rattle.passkey_kinds.proofs.Steps.{Err, subst, arith, stands_long}
-use Rattle.passkey_cbor.specs.EncodedAt.{Values, NotValued}
-use Rattle.passkey_cbor.specs.declared.error.CborError.{CborError}
+use Rattle.passkey_kinds.proofs.Steps.{Err, subst, arith, stands_long, Values, NotValued, CborError}
 use Rattle.passkey_kinds.proofs.from_cbor.ValueFromCbor.read.Goals as goal
 
 pub returns-in-Ok-clause-reads : goal.returns-in-Ok-clause-reads

@@ -1,5 +1,4 @@
-use Rattle.passkey_kinds.proofs.Steps.{◌≡◌, ◌∙◌, ℕ, true, false, Err, ap, subst, arith, Walk, kept_of, Spends, Refusal, eased, stands_long, stands_back, spends_again}
-use Rattle.passkey_kinds.specs.Reader.{ReadsAs}
+use Rattle.passkey_kinds.proofs.Steps.{◌≡◌, ◌∙◌, ℕ, true, false, Err, ap, subst, arith, Walk, kept_of, Spends, Refusal, eased, stands_long, stands_back, spends_again, ReadsAs}
 use Rattle.passkey_kinds.proofs.tolerated.ToleratedFromCbor.read.Goals as goal
 
 pub returns-in-Ok-clause-reads : goal.returns-in-Ok-clause-reads

@@ -1,5 +1,5 @@
 use Rattle.passkey_kinds.proofs.Steps.{◌∙◌, ℕ, List, [], ◌++◌, ap, refl, shortest_head, item_of-Map, data_parts, record_written}
-use Rattle.passkey_kinds.specs.Sink.{put_one}
+use Rattle.passkey_kinds.specs.Tree.{put_one}
 use Rattle.passkey_make_credential.specs.MakeResponse.{attestation_places}
 use Rattle.passkey_make_credential.proofs.response.Response.as_webauthn_bytes.Goals as goal
 
