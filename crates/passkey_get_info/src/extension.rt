@@ -60,8 +60,6 @@ impl FromText for Extension {
 }
 
 impl FromCbor for Extension {
-    ghost Meaning = { Told };
-
     ghost view = { λ e. e };
 
     ghost typed = { growing 2 nothing extension };

@@ -56,8 +56,6 @@ impl FromText for Version {
 }
 
 impl FromCbor for Version {
-    ghost Meaning = { Told };
-
     ghost view = { λ v. v };
 
     ghost typed = { growing 2 nothing version };

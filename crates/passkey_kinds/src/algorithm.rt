@@ -41,8 +41,6 @@ fn whole_of(token: &TextToken<'_>, cursor: &mut Cursor<'_>) -> Option<i64>
 }
 
 impl FromCbor for Algorithm {
-    ghost Meaning = { Named };
-
     ghost view = { λ a. a };
 
     ghost typed = { algorithm };

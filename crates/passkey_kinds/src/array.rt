@@ -96,8 +96,6 @@ pub(crate) fn filled<const N: usize>(
 }
 
 impl FromCbor for [u8; 32] {
-    ghost Meaning = { List ℕ };
-
     ghost view = { λ b. b };
 
     ghost typed = { sized_bytes 32 };

@@ -78,8 +78,6 @@ fn read_numbers_ahead(
 }
 
 impl FromCbor for Bytes {
-    ghost Meaning = { List ℕ };
-
     ghost view = { λ b. b };
 
     ghost typed = { bytes };

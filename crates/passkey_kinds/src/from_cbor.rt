@@ -11,7 +11,7 @@ use std::alloc::Global;
 /// A type whose values are decoded from data items, in memory or at a cursor.
 pub trait FromCbor: Drop {
     /// What contracts see of a value.
-    ghost Meaning: { Type 0 };
+    ghost Meaning: { Type 0 } = { Self };
 
     ghost view: { Self → Meaning };
 
@@ -53,8 +53,6 @@ fn word(n: u64) -> Result<u32, Refusal>
 }
 
 impl FromCbor for bool {
-    ghost Meaning = { Bool };
-
     ghost view = { λ b. b };
 
     ghost typed = { truth };
@@ -75,8 +73,6 @@ impl FromCbor for bool {
 }
 
 impl FromCbor for u8 {
-    ghost Meaning = { ℕ };
-
     ghost view = { λ n. n };
 
     ghost typed = { below (2 ^ 8) };
@@ -97,8 +93,6 @@ impl FromCbor for u8 {
 }
 
 impl FromCbor for u32 {
-    ghost Meaning = { ℕ };
-
     ghost view = { λ n. n };
 
     ghost typed = { below (2 ^ 32) };
@@ -119,8 +113,6 @@ impl FromCbor for u32 {
 }
 
 impl FromCbor for Text {
-    ghost Meaning = { List ℕ };
-
     ghost view = { λ t. t };
 
     ghost typed = { text };

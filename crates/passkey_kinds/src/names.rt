@@ -47,8 +47,6 @@ fn read_named<T: NameTable>(cursor: &mut Cursor<'_>) -> Result<T, Refusal>
 }
 
 impl FromCbor for PublicKeyCredentialType {
-    ghost Meaning = { CredentialType };
-
     ghost view = { λ t. t };
 
     ghost typed = { one_named credential_type_named };
@@ -63,8 +61,6 @@ impl FromCbor for PublicKeyCredentialType {
 }
 
 impl FromCbor for AuthenticatorTransport {
-    ghost Meaning = { Transport };
-
     ghost view = { λ t. t };
 
     ghost typed = { one_named transport_named };

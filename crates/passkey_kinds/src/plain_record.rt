@@ -52,8 +52,6 @@ pub trait PlainRecord: Drop {
 }
 
 impl<R: PlainRecord> Record for R {
-    ghost Parts = { R };
-
     ghost parts = { λ r. r };
 
     ghost fields = { fields_of R.table };

@@ -15,7 +15,7 @@ use std::alloc::Global;
 /// and each decoded value is put into it.
 pub trait Record: Drop {
     /// What contracts see of the record.
-    ghost Parts: { Type 0 };
+    ghost Parts: { Type 0 } = { Self };
 
     ghost parts: { Self → Parts };
 

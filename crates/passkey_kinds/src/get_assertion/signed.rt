@@ -11,8 +11,6 @@ use passkey_core::get_assertion::SignedExtensionOutputs;
 use std::alloc::Global;
 
 impl Record for SignedExtensionOutputs {
-    ghost Parts = { SignedOutputs };
-
     ghost parts = { λ outputs. outputs };
 
     ghost fields = { fields_of used_signed };

@@ -11,8 +11,6 @@ use passkey_core::make_credential::SignedExtensionOutputs;
 use std::alloc::Global;
 
 impl Record for SignedExtensionOutputs {
-    ghost Parts = { SignedOutputs };
-
     ghost parts = { λ outputs. outputs };
 
     ghost fields = { fields_of made_signed };
