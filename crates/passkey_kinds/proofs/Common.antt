@@ -52,7 +52,6 @@ pub use Rattle.passkey_core.specs.DataParts.{DataParts}
 pub use Rattle.passkey_core.specs.DataRead.{read_data}
 pub use Rattle.passkey_core.specs.DataReading.{DataGrow}
 pub use Rattle.passkey_core.specs.DataViews.{data_parts}
-pub use Rattle.passkey_core.specs.SignedOutputs.{creation_item, assertion_item}
 pub use Rattle.passkey_core.specs.declared.authenticator_data.AuthenticatorData.{AuthenticatorData}
 pub use Rattle.passkey_cose.proofs.KeyLists.{members-pairs_of, elements-items_of}
 pub use Rattle.passkey_cose.specs.declared.error.CoseError.{CoseError}

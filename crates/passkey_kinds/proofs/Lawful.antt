@@ -1,7 +1,7 @@
 -- Plain records: they can be decoded again, have few levels, and their keys ascend.
-use Rattle.passkey_kinds.proofs.Common.{◌≡◌, ℕ, zero, suc, ◌≤◌, arith, ◌&&◌, true, None, refl, ap, depth, IsReadBack, table_of, KeysAscend, shortest_head, PlainTable, EachFits, members_of, places_of, fields_of, plain_kind, plain_tree, descriptor, parameters, webauthn_user, Unknown}
+use Rattle.passkey_kinds.proofs.Common.{◌≡◌, ℕ, zero, suc, ◌≤◌, arith, ◌&&◌, true, None, refl, ap, depth, IsReadBack, table_of, KeysAscend, shortest_head, PlainTable, EachFits, members_of, places_of, fields_of, plain_kind, plain_tree, descriptor, parameters, webauthn_user, made_signed, used_signed, Unknown}
 use Rattle.passkey_kinds.proofs.Back.{have_rows, stands, are_distinct, missing_of, Backs, numbers, kind_back, puts_value, puts_default, ◌▸◌, no_more}
-use Rattle.passkey_kinds.proofs.LeafBack.{text_back, bytes_back, credential_type_back, transport_back, algorithm_back, or_else_back, accepted_place}
+use Rattle.passkey_kinds.proofs.LeafBack.{text_back, bytes_back, credential_type_back, transport_back, algorithm_back, or_else_back, accepted_place, truth_back, optional_place, anything}
 use Rattle.passkey_kinds.proofs.Levels.{EachPlace}
 use Rattle.passkey_kinds.proofs.Ordered.{ascend, keys_ascend, IsPlain, record_plain, plainly, list_plain}
 
@@ -49,7 +49,7 @@ module _ {P : Type 0} {normal : P → P} (n : ℕ) (t : PlainTable P) where
     keys = λ r. keys_ascend (places_of t.members r) (up r);
   }
 
--- ---- records of WebAuthn can be decoded again, have few levels, and their keys ascend
+-- ---- records of WebAuthn, and extension outputs in authenticator data, can be decoded again, have few levels, and their keys ascend
 
 pub descriptor_law : IsLawful 1 descriptor
 unfolding shortest_head
@@ -67,3 +67,12 @@ parameters_law = grind (arith, lawful, plainly, puts_value, algorithm_back, or_e
 pub user_law : IsLawful 0 webauthn_user
 unfolding shortest_head
 user_law = grind (arith, lawful, plainly, puts_value, bytes_back, text_back, no_more)
+
+pub made_signed_law : IsLawful 0 made_signed
+unfolding shortest_head
+made_signed_law =
+    grind (arith, lawful, plainly, puts_default, optional_place, truth_back, bytes_back, anything, no_more)
+
+pub used_signed_law : IsLawful 0 used_signed
+unfolding shortest_head
+used_signed_law = grind (arith, lawful, plainly, puts_default, optional_place, bytes_back, anything, no_more)

@@ -1,7 +1,7 @@
 -- Values can be decoded again from their encodings.
-use Rattle.passkey_kinds.proofs.Common.{All, filter_map, arith, ◌≡◌, ◌∙◌, ◌<◌, ◌^◌, List, [], ◌∷◌, map, Option, Some, None, option_map, unwrap_or, refl, ap, All-head, All-tail, Item, byte_string, text_string, boolean, null, item_of, IfPresent, Kind, truth, below, text, one_named, kept, optional, each, bytes, list, accepted, IsReadBack, Any, IsByte, number_tree, list_tree, credential_type_named, transport_named, ℕ, ◌==◌, eq-eqb, if◌then◌else◌, length, length-map, items_of, elements-items_of, aaguid, sized_bytes, size, numbers_tree, result_ok, true, Result, Ok, Err, append-nil, authenticator_data, Bool, put_each, entry, map_from_bytes, map_values, short_first, entry_tree, byte_map_tree, put_each-seen, elements, is_coherent, GivenIsCoherent, ReadIsGiven, WrittenDataAreReadBack, IsData, normal_data, DataParts, read_data, creation_item, assertion_item, CoseError, algorithm_tree, auth_data_tree, tolerated, or_else, plain_kind, plain_tree, AreBytes, made_signed, used_signed, IsSize, option_tree, credential_type_tree, transport_tree, credential_type_own, transport_own, All-from_recursion, recursion_from_All}
+use Rattle.passkey_kinds.proofs.Common.{All, filter_map, arith, ◌≡◌, ◌∙◌, ◌<◌, ◌^◌, List, [], ◌∷◌, map, Option, Some, None, option_map, unwrap_or, refl, ap, All-head, All-tail, Item, byte_string, text_string, boolean, null, item_of, IfPresent, Kind, truth, below, text, one_named, kept, optional, each, bytes, list, accepted, IsReadBack, Any, IsByte, number_tree, list_tree, credential_type_named, transport_named, ℕ, ◌==◌, eq-eqb, if◌then◌else◌, length, length-map, items_of, elements-items_of, aaguid, sized_bytes, size, numbers_tree, result_ok, true, Result, Ok, Err, append-nil, authenticator_data, Bool, put_each, entry, map_from_bytes, map_values, short_first, entry_tree, byte_map_tree, put_each-seen, elements, is_coherent, GivenIsCoherent, ReadIsGiven, WrittenDataAreReadBack, IsData, normal_data, DataParts, read_data, CoseError, algorithm_tree, auth_data_tree, tolerated, or_else, AreBytes, IsSize, option_tree, credential_type_tree, transport_tree, credential_type_own, transport_own, All-from_recursion, recursion_from_All}
 use Rattle.std.proofs.Common.{lt-ltb}
-use Rattle.passkey_kinds.proofs.Back.{Falls, option_place, falls_as, puts_default, no_more, kind_back}
+use Rattle.passkey_kinds.proofs.Back.{Falls, option_place, falls_as}
 use Rattle.passkey_kinds.proofs.ByteMaps.{entries_sorted, seen_sorted, short_first-placed, sorted_by-each, sorted_by-map}
 use Rattle.passkey_kinds.proofs.Lists.{list_array, accepted_array, option_same, map_same, map_from_bytes-map, map_values-map_values}
 use Rattle.passkey_kinds.specs.Kind.{algorithm as an_algorithm}
@@ -168,27 +168,6 @@ pub auth_data_coherent : GivenIsCoherent → (i : Item) (d : DataParts) → auth
     → is_coherent d ≡ true
 auth_data_coherent law (byte_string s) d e = law s d (data_of (read_data s) d e)
 auth_data_coherent law i d e = absurd cc
-
--- ---- the encodings of signed extension outputs can be decoded again
-
-creation_laid : (made : Option Bool) (secrets : Option (List ℕ))
-    → creation_item (record { hmac_secret = made; hmac_secret_mc = secrets })
-    ≡ plain_tree made_signed (record { hmac_secret = made; hmac_secret_mc = secrets })
-creation_laid None None = refl
-creation_laid None (Some b) = refl
-creation_laid (Some t) None = refl
-creation_laid (Some t) (Some b) = refl
-
-pub creation_back : IsReadBack (plain_kind made_signed) creation_item Any (λ o. o)
-creation_back = grind (arith, creation_laid, kind_back, puts_default, optional_place, truth_back, anything, bytes_back, no_more)
-
-assertion_laid : (secrets : Option (List ℕ)) → assertion_item (record { hmac_secret = secrets })
-    ≡ plain_tree used_signed (record { hmac_secret = secrets })
-assertion_laid None = refl
-assertion_laid (Some b) = refl
-
-pub assertion_back : IsReadBack (plain_kind used_signed) assertion_item Any (λ o. o)
-assertion_back = grind (arith, assertion_laid, kind_back, puts_default, optional_place, bytes_back, anything, no_more)
 
 -- ---- the encoding of a map from byte strings can be decoded again
 
