@@ -1,3 +1,1 @@
-pub mod Rp
-pub mod User
 pub mod Entities

@@ -1,7 +1,7 @@
 //! Relying parties in CTAP2's messages.
 ghost use Rattle.std.specs.Prelude.{◌≡◌, ◌<◌, ◌⊎◌, length, IfOk, OnErr};
 ghost use Rattle.std.specs.Option.{IsSomeAnd};
-ghost use Rattle.passkey_entities.specs.Rp.{rp};
+ghost use Rattle.passkey_entities.specs.Entities.{rp};
 ghost use Rattle.passkey_entities.specs.Entities.{rp_of_webauthn};
 
 use crate::MissingRpId;

@@ -2,4 +2,3 @@ pub mod HmacInput
 pub mod Prf
 pub mod MakeExtensions
 pub mod GetExtensions
-pub mod PrfWebauthn

@@ -1,12 +1,16 @@
 -- Inputs and outputs of the extension prf (WebAuthn Level 3, sections 9 and 10.1.4).
-use Rattle.std.specs.Prelude.{[], ◌∷◌, None, codes, false, replicate, option_map}
-use Rattle.passkey_kinds.specs.Words.{PlainTable, required_as, default_as, optional_as}
+use Rattle.std.specs.Prelude.{[], ◌∷◌, None, codes, false, replicate, option_map, Some}
 use Rattle.passkey_extensions.specs.declared.prf_get_outputs.AuthenticatorPrfGetOutputs.{AuthenticatorPrfGetOutputs}
 use Rattle.passkey_extensions.specs.declared.prf_inputs.AuthenticatorPrfInputs.{AuthenticatorPrfInputs}
 use Rattle.passkey_extensions.specs.declared.prf_make_outputs.AuthenticatorPrfMakeOutputs.{AuthenticatorPrfMakeOutputs}
 use Rattle.passkey_extensions.specs.declared.prf_values.AuthenticatorPrfValues.{AuthenticatorPrfValues}
 use Rattle.passkey_extensions.specs.declared.unsigned.UnsignedExtensionOutputs.{UnsignedExtensionOutputs}
 use Rattle.passkey_kinds.specs.Coded.{truth, sized_bytes, or_null, from_bytes, plain}
+use Rattle.passkey_kinds.specs.Words.{PlainTable, required_as, default_as, optional_as}
+use Rattle.passkey_webauthn.specs.declared.prf_outputs.AuthenticationExtensionsPrfOutputs.{AuthenticationExtensionsPrfOutputs}
+use Rattle.passkey_webauthn.specs.declared.prf_values.AuthenticationExtensionsPrfValues.{AuthenticationExtensionsPrfValues}
+
+-- ---- inputs and outputs of the extension prf (WebAuthn Level 3, sections 9 and 10.1.4)
 
 abbrev pub prf_values : PlainTable AuthenticatorPrfValues
 prf_values = record {
@@ -50,3 +54,15 @@ unsigned t = record {
 
 abbrev pub normal_unsigned : {P : Type 0} → (P → P) → UnsignedExtensionOutputs P → UnsignedExtensionOutputs P
 normal_unsigned normal o = record { prf = option_map normal o.prf }
+
+-- ---- values and outputs of the extension prf in WebAuthn's types (WebAuthn Level 3, section 10.1.4)
+
+abbrev pub webauthn_values : AuthenticatorPrfValues → AuthenticationExtensionsPrfValues
+webauthn_values v = record { first = v.first; second = v.second }
+
+-- at a registration, where `enabled` is present
+abbrev pub webauthn_made : AuthenticatorPrfMakeOutputs → AuthenticationExtensionsPrfOutputs
+webauthn_made o = record { enabled = Some o.enabled; results = option_map webauthn_values o.results }
+
+abbrev pub webauthn_used : AuthenticatorPrfGetOutputs → AuthenticationExtensionsPrfOutputs
+webauthn_used o = record { enabled = None; results = Some (webauthn_values o.results) }

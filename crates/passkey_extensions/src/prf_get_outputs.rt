@@ -1,7 +1,7 @@
 //! Outputs of the extension prf at an assertion.
 ghost use Rattle.std.specs.Prelude.{◌≡◌, IfOk};
 ghost use Rattle.passkey_extensions.specs.Prf.{prf_used};
-ghost use Rattle.passkey_extensions.specs.PrfWebauthn.{webauthn_used};
+ghost use Rattle.passkey_extensions.specs.Prf.{webauthn_used};
 
 use crate::prf_values::AuthenticatorPrfValues;
 use passkey_kinds::{PlainRecord, Refusal, Row, Sink, Source, set};

@@ -1,7 +1,7 @@
 //! Outputs of the extension prf at a registration.
 ghost use Rattle.std.specs.Prelude.{true, ◌≡◌, is_some, IfOk, OnErr};
 ghost use Rattle.passkey_extensions.specs.Prf.{prf_made};
-ghost use Rattle.passkey_extensions.specs.PrfWebauthn.{webauthn_made};
+ghost use Rattle.passkey_extensions.specs.Prf.{webauthn_made};
 
 use crate::prf_values::AuthenticatorPrfValues;
 use passkey_kinds::{PlainRecord, Refusal, Row, Sink, Source, set};

@@ -1,7 +1,7 @@
 //! Salts and outputs of the extension prf.
 ghost use Rattle.std.specs.Prelude.{◌≡◌, IfOk};
 ghost use Rattle.passkey_extensions.specs.Prf.{prf_values};
-ghost use Rattle.passkey_extensions.specs.PrfWebauthn.{webauthn_values};
+ghost use Rattle.passkey_extensions.specs.Prf.{webauthn_values};
 
 use passkey_bytes::Bytes;
 use passkey_kinds::{PlainRecord, Refusal, Row, Sink, Source, set};

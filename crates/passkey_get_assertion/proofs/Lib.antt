@@ -1,5 +1,1 @@
-pub mod GetBack
-pub mod GetPlaces
-pub mod GetRequests
-pub mod GetResponses
-pub mod GetOrdered
+pub mod GetMessages

@@ -1,12 +1,26 @@
--- authenticatorGetAssertion requests (CTAP 2.1, section 6.2).
-use Rattle.std.specs.Prelude.{ℕ, nat_le, Bool, true, List, [], ◌∷◌, Option, None, codes, Result, option_map}
-use Rattle.passkey_kinds.specs.Words.{depth, max_depth, Item, Placed, required_at, default_at, optional_at, tolerated_at, places_of, EachFits, descriptor, Fields, fields_with, table_of, read_item, Table, Place, record_tree, PublicKeyCredentialDescriptor}
-use Rattle.passkey_kinds.specs.Coded.{byte, text, bytes, accepted, plain}
-use Rattle.passkey_kinds.specs.declared.fault.Fault.{Fault}
-use Rattle.passkey_get_assertion.specs.GetOptions.{options, options_default}
-use Rattle.passkey_get_assertion.specs.declared.options.Options.{Options}
+-- authenticatorGetAssertion requests and their options (CTAP 2.1, section 6.2).
+use Rattle.std.specs.Prelude.{[], ◌∷◌, true, false, codes, ℕ, nat_le, Bool, List, Option, None, Result, option_map}
 use Rattle.passkey_extensions.specs.GetExtensions.{GetExtensionsParts, get_extensions_coded, get_extensions_parts, get_extensions_kept}
+use Rattle.passkey_get_assertion.specs.declared.options.Options.{Options}
 use Rattle.passkey_get_assertion.specs.declared.request.Request.{Request}
+use Rattle.passkey_kinds.specs.Coded.{truth, byte, text, bytes, accepted, plain}
+use Rattle.passkey_kinds.specs.Words.{PlainTable, default_as, depth, max_depth, Item, Placed, required_at, default_at, optional_at, tolerated_at, places_of, EachFits, descriptor, Fields, fields_with, table_of, read_item, Table, Place, record_tree, PublicKeyCredentialDescriptor}
+use Rattle.passkey_kinds.specs.declared.fault.Fault.{Fault}
+
+-- ---- options of authenticatorGetAssertion requests (CTAP 2.1, section 6.2)
+
+abbrev pub options_default : Options
+options_default = record { up = true; uv = false }
+
+abbrev pub options : PlainTable Options
+options = record {
+  blank = options_default;
+  members = default_as 1 (codes "up") truth (λ o. o.up) (λ x o. record o { up = x })
+      ∷ default_as 2 (codes "uv") truth (λ o. o.uv) (λ x o. record o { uv = x })
+      ∷ [];
+}
+
+-- ---- authenticatorGetAssertion requests (CTAP 2.1, section 6.2)
 
 -- what contracts see of a request
 pub record GetRequestParts : Type 0 where

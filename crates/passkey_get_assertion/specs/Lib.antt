@@ -1,3 +1,2 @@
-pub mod GetOptions
 pub mod GetRequest
 pub mod GetResponse

@@ -3,7 +3,7 @@
 ghost use Rattle.passkey_kinds.specs.Words.{KeysAscend, WrittenIsReadBack, ReadIsCoherent, WrittenIsCanonical, places_of, PassesOverUnknown, KnowsMaps};
 ghost use Rattle.passkey_get_assertion.specs.GetRequest.{get_request_fields, read_get_request, get_request_tree, GetRequestFits, is_get_request_coherent, get_request_kept, get_request_parts};
 ghost use Rattle.passkey_get_assertion.specs.GetResponse.{get_response_fields, read_get_response, get_response_tree, GetResponseFits, is_get_response_coherent, normal_get_response, get_response_kept, get_response_parts};
-ghost use Rattle.passkey_get_assertion.specs.GetOptions.{options};
+ghost use Rattle.passkey_get_assertion.specs.GetRequest.{options};
 
 use crate::{Request, Response};
 
@@ -71,7 +71,7 @@ pub fn read_get_response_passes_over_unknown()
 
 /// The encoding of a coherent request is in CTAP2's canonical form if the encoding of the key in
 /// its hmac-secret input is, or if there is no such input (CTAP 2.1, section 8).
-#[tactic(auto, using(crate::proofs::GetOrdered::get_request_canonical))]
+#[tactic(auto, using(crate::proofs::GetMessages::get_request_canonical))]
 pub fn written_get_request_is_canonical()
     ensures { WrittenIsCanonical get_request_tree is_get_request_coherent get_request_kept }
 {
@@ -80,13 +80,13 @@ pub fn written_get_request_is_canonical()
 }
 
 /// The encoding of a coherent response is in CTAP2's canonical form (CTAP 2.1, section 8).
-#[tactic(auto, using(crate::proofs::GetOrdered::get_response_canonical))]
+#[tactic(auto, using(crate::proofs::GetMessages::get_response_canonical))]
 pub fn written_get_response_is_canonical()
     ensures { WrittenIsCanonical get_response_tree is_get_response_coherent get_response_kept }
 {}
 
 /// Options are encoded with their keys in CTAP2's order (CTAP 2.1, section 8).
-#[tactic(auto, using(crate::proofs::GetBack::options_law))]
+#[tactic(auto, using(crate::proofs::GetMessages::options_law))]
 pub fn written_keys_ascend()
     ensures { KeysAscend (places_of options.members) }
 {}

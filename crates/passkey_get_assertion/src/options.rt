@@ -1,6 +1,6 @@
 //! Options of authenticatorGetAssertion requests.
 ghost use Rattle.std.specs.Prelude.{◌≡◌, true, false};
-ghost use Rattle.passkey_get_assertion.specs.GetOptions.{options, options_default};
+ghost use Rattle.passkey_get_assertion.specs.GetRequest.{options, options_default};
 
 use passkey_kinds::{PlainRecord, Refusal, Row, Sink, Source, set};
 use passkey_memory::OutOfMemory;
@@ -53,6 +53,6 @@ impl PlainRecord for Options {
         Ok(())
     }
 
-    #[tactic(auto, using(crate::proofs::GetBack::options_law))]
+    #[tactic(auto, using(crate::proofs::GetMessages::options_law))]
     fn lawful() {}
 }

@@ -1,8 +1,8 @@
 -- Values in an authenticatorGetInfo response can be decoded again from their encodings.
 use Rattle.passkey_kinds.proofs.Steps.{option_and_then, arith, ◌≡◌, Option, Some, None, refl, Item, shortest_head, kept, optional, EachFits, IsReadBack, Any, Falls, accepts_it, truth_back, anything, optional_place, IsLawful, lawful, plainly, puts_value, puts_default, ◌▸◌, no_more}
 use Rattle.passkey_cbor.specs.Item.{number}
-use Rattle.passkey_get_info.specs.GetInfoNames.{version, version_tree, normal_version, extension, extension_tree, normal_extension}
-use Rattle.passkey_get_info.specs.GetInfoOptions.{options}
+use Rattle.passkey_get_info.specs.GetInfo.{version, version_tree, normal_version, extension, extension_tree, normal_extension}
+use Rattle.passkey_get_info.specs.GetInfo.{options}
 use Rattle.passkey_get_info.specs.declared.options.Options.{Options}
 use Rattle.passkey_get_info.specs.GetInfo.{unless_null}
 

@@ -1,19 +1,136 @@
--- authenticatorGetInfo responses (CTAP 2.1, section 6.4).
-use Rattle.std.specs.Prelude.{ℕ, ◌<◌, ◌^◌, nat_lt, nat_le, Bool, true, ◌&&◌, if◌then◌else◌, List, [], ◌∷◌, ◌++◌, map, Option, Some, None, codes, replicate, Result, option_map}
-use Rattle.std.specs.Int.NonZero.{non_zero_u128_get}
-use Rattle.std.specs.Option.{option_and_then}
-use Rattle.passkey_kinds.specs.Words.{depth, Item, null, max_depth, item_of, IfPresent, parameters, Placed, placed, required_at, optional_at, tolerated_at, places_of, EachFits, fields_with, Fields, default, table_of, read_item, Table, Place, number_tree, record_tree, size, optional, kept, PublicKeyCredentialParameters, AuthenticatorTransport}
-use Rattle.passkey_kinds.specs.Coded.{truth, byte, word, text, bytes, aaguid, transport, list, accepted, plain}
-use Rattle.passkey_kinds.specs.declared.fault.Fault.{Fault}
-use Rattle.passkey_get_info.specs.GetInfoNames.{version_coded, normal_version, extension_coded, normal_extension}
-use Rattle.passkey_get_info.specs.GetInfoOptions.{options}
+-- authenticatorGetInfo responses, their options and the names in them (CTAP 2.1, section 6.4).
+use Rattle.std.specs.Prelude.{ℕ, List, [], ◌∷◌, Some, codes, unwrap_or, Bool, ◌++◌, Option, true, false, None, ◌<◌, ◌^◌, nat_lt, nat_le, ◌&&◌, if◌then◌else◌, map, replicate, Result, option_map}
 use Rattle.passkey_get_info.specs.declared.extension.Extension.{Extension}
 use Rattle.passkey_get_info.specs.declared.options.Options.{Options}
 use Rattle.passkey_get_info.specs.declared.response.Response.{Response}
 use Rattle.passkey_get_info.specs.declared.version.Version.{Version}
-use Rattle.passkey_kinds.specs.Placed.{placed_if}
+use Rattle.passkey_kinds.specs.Coded.{truth, byte, word, text, bytes, aaguid, transport, list, accepted, plain}
+use Rattle.passkey_kinds.specs.Kind.{one_named}
+use Rattle.passkey_kinds.specs.Placed.{Coded, placed_if}
+use Rattle.passkey_kinds.specs.Words.{Item, text_string, Any, Kind, nothing, growing, Placed, PlainTable, default_as, optional_as, depth, null, max_depth, item_of, IfPresent, parameters, placed, required_at, optional_at, tolerated_at, places_of, EachFits, fields_with, Fields, default, table_of, read_item, Table, Place, number_tree, record_tree, size, optional, kept, PublicKeyCredentialParameters, AuthenticatorTransport}
+use Rattle.passkey_kinds.specs.declared.fault.Fault.{Fault}
 use Rattle.passkey_kinds.specs.declared.write_fault.WriteFault.{WriteFault}
 use Rattle.passkey_kinds.specs.declared.write_fault.WriteFault.TheVariants.{OutOfMemory, NumberTooLarge}
+use Rattle.passkey_webauthn.specs.Names.{named_in}
+use Rattle.std.specs.Int.NonZero.{non_zero_u128_get}
+use Rattle.std.specs.Option.{option_and_then}
+use Rattle.passkey_get_info.specs.declared.extension.Extension.TheVariants as extensions
+use Rattle.passkey_get_info.specs.declared.version.Version.TheVariants as versions
+
+-- ---- the names of versions and extensions that an authenticator supports (CTAP 2.1, section 6.4)
+
+abbrev pub version_name : Version → List ℕ
+version_name versions.FIDO_2_0 = codes "FIDO_2_0"
+version_name versions.FIDO_2_1 = codes "FIDO_2_1"
+version_name (versions.Unknown name) = name
+
+-- every name is the name of a version
+abbrev pub version_named : List ℕ → Version
+version_named name =
+    unwrap_or (named_in version_name (versions.FIDO_2_0 ∷ versions.FIDO_2_1 ∷ []) name) (versions.Unknown name)
+
+abbrev pub version : Kind Version
+version = one_named (λ name. Some (version_named name))
+
+abbrev pub version_tree : Version → Item
+version_tree v = text_string (version_name v)
+
+abbrev pub version_coded : Coded Version
+version_coded = record { typed = growing 2 nothing version; tree = version_tree; Fits = Any }
+
+-- an unknown version with the name of a known one becomes the known one
+abbrev pub normal_version : Version → Version
+normal_version v = version_named (version_name v)
+
+abbrev pub extension_name : Extension → List ℕ
+extension_name extensions.HmacSecret = codes "hmac-secret"
+extension_name extensions.HmacSecretMakeCredential = codes "hmac-secret-mc"
+extension_name extensions.Prf = codes "prf"
+extension_name (extensions.Unknown name) = name
+
+-- every name is the name of an extension
+abbrev pub extension_named : List ℕ → Extension
+extension_named name = unwrap_or (named_in extension_name (extensions.HmacSecret
+    ∷ extensions.HmacSecretMakeCredential ∷ extensions.Prf ∷ []) name) (extensions.Unknown name)
+
+abbrev pub extension : Kind Extension
+extension = one_named (λ name. Some (extension_named name))
+
+abbrev pub extension_tree : Extension → Item
+extension_tree e = text_string (extension_name e)
+
+abbrev pub extension_coded : Coded Extension
+extension_coded = record { typed = growing 2 nothing extension; tree = extension_tree; Fits = Any }
+
+abbrev pub normal_extension : Extension → Extension
+normal_extension e = extension_named (extension_name e)
+
+-- ---- options of authenticatorGetInfo responses (CTAP 2.1, section 6.4)
+
+abbrev pub options_default : Options
+options_default = record {
+  plat = false;
+  rk = false;
+  client_pin = None;
+  up = true;
+  uv = None;
+  pin_uv_auth_token = None;
+  no_mc_ga_permissions_with_client_pin = None;
+  large_blobs = None;
+  ep = None;
+  bio_enroll = None;
+  user_verification_mgmt_preview = None;
+  uv_bio_enroll = None;
+  authnr_cfg = None;
+  uv_acfg = None;
+  cred_mgmt = None;
+  credential_mgmt_preview = None;
+  set_min_pin_length = None;
+  make_cred_uv_not_rqd = None;
+  always_uv = None;
+}
+
+abbrev flag : ℕ → List ℕ → (Options → Option Bool) → (Option Bool → Options → Options) → Placed Options
+flag n name get set = optional_as n name truth get set
+
+-- the options that are encoded first: the prover follows the chain of as many members
+abbrev pub first_options : List (Placed Options)
+first_options =
+    flag 9 (codes "ep") (λ o. o.ep) (λ b o. record o { ep = b })
+    ∷ default_as 2 (codes "rk") truth (λ o. o.rk) (λ b o. record o { rk = b })
+    ∷ default_as 4 (codes "up") truth (λ o. o.up) (λ b o. record o { up = b })
+    ∷ flag 5 (codes "uv") (λ o. o.uv) (λ b o. record o { uv = b })
+    ∷ default_as 1 (codes "plat") truth (λ o. o.plat) (λ b o. record o { plat = b })
+    ∷ flag 14 (codes "uvAcfg") (λ o. o.uv_acfg) (λ b o. record o { uv_acfg = b })
+    ∷ flag 19 (codes "alwaysUv") (λ o. o.always_uv) (λ b o. record o { always_uv = b })
+    ∷ flag 15 (codes "credMgmt") (λ o. o.cred_mgmt) (λ b o. record o { cred_mgmt = b })
+    ∷ flag 13 (codes "authnrCfg") (λ o. o.authnr_cfg) (λ b o. record o { authnr_cfg = b })
+    ∷ flag 10 (codes "bioEnroll") (λ o. o.bio_enroll) (λ b o. record o { bio_enroll = b })
+    ∷ []
+
+abbrev pub last_options : List (Placed Options)
+last_options =
+    flag 3 (codes "clientPin") (λ o. o.client_pin) (λ b o. record o { client_pin = b })
+    ∷ flag 8 (codes "largeBlobs") (λ o. o.large_blobs) (λ b o. record o { large_blobs = b })
+    ∷ flag 12 (codes "uvBioEnroll") (λ o. o.uv_bio_enroll) (λ b o. record o { uv_bio_enroll = b })
+    ∷ flag 6 (codes "pinUvAuthToken") (λ o. o.pin_uv_auth_token)
+    (λ b o. record o { pin_uv_auth_token = b })
+    ∷ flag 17 (codes "setMinPINLength") (λ o. o.set_min_pin_length)
+    (λ b o. record o { set_min_pin_length = b })
+    ∷ flag 18 (codes "makeCredUvNotRqd") (λ o. o.make_cred_uv_not_rqd)
+    (λ b o. record o { make_cred_uv_not_rqd = b })
+    ∷ flag 16 (codes "credentialMgmtPreview") (λ o. o.credential_mgmt_preview)
+    (λ b o. record o { credential_mgmt_preview = b })
+    ∷ flag 11 (codes "userVerificationMgmtPreview") (λ o. o.user_verification_mgmt_preview)
+    (λ b o. record o { user_verification_mgmt_preview = b })
+    ∷ flag 7 (codes "noMcGaPermissionsWithClientPin") (λ o. o.no_mc_ga_permissions_with_client_pin)
+    (λ b o. record o { no_mc_ga_permissions_with_client_pin = b })
+    ∷ []
+
+abbrev pub options : PlainTable Options
+options = record { blank = options_default; members = first_options ++ last_options }
+
+-- ---- authenticatorGetInfo responses (CTAP 2.1, section 6.4)
 
 -- what contracts see of a response
 pub record GetInfoParts : Type 0 where

@@ -1,4 +1,2 @@
-pub mod GetInfoNames
-pub mod GetInfoOptions
 pub mod GetInfo
 pub mod Encodable

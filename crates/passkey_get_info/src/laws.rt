@@ -1,7 +1,7 @@
 //! Laws about authenticatorGetInfo responses. Each is the contract of a function that does nothing.
 ghost use Rattle.passkey_kinds.specs.Words.{WrittenIsReadBack, ReadIsCoherent, WrittenIsCanonical, places_of, PassesOverUnknown, KnowsMaps, KeysAscend};
 ghost use Rattle.passkey_get_info.specs.GetInfo.{get_info_fields, read_get_info, get_info_parts, get_info_tree, GetInfoFits, is_get_info_coherent, normal_get_info, get_info_kept};
-ghost use Rattle.passkey_get_info.specs.GetInfoOptions.{options};
+ghost use Rattle.passkey_get_info.specs.GetInfo.{options};
 
 use crate::Response;
 

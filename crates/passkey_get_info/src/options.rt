@@ -1,7 +1,7 @@
 //! Options of authenticatorGetInfo responses.
 ghost use Rattle.std.specs.Prelude.{◌≡◌, true, OnOk};
 ghost use Rattle.passkey_kinds.specs.Words.{places_of, AllAccepted, put_all};
-ghost use Rattle.passkey_get_info.specs.GetInfoOptions.{first_options, last_options, options, options_default};
+ghost use Rattle.passkey_get_info.specs.GetInfo.{first_options, last_options, options, options_default};
 
 use passkey_kinds::{PlainRecord, Refusal, Row, Sink, Source, set};
 use passkey_memory::OutOfMemory;

@@ -329,19 +329,6 @@ pub fails_as : {A B M N : Type 0} {view : A → M} {seen : B → N} {wanted : Op
     → Decodes seen given may cost more to a b (Err e)
 fails_as {cost = cost} {to = to} {a = a} {b} e few none grows r = grind (arith, failed)
 
--- ---- the bytes that texts and arrays decode to
-
-pub text_read : (o : Option (List ℕ)) (b : List ℕ) → bytes_or_fault o ≡ Ok b → o ≡ Some b
-text_read (Some x) b e = cc
-text_read None b e = cc
-
-pub text_refused : (o : Option (List ℕ)) (why : BytesFault) → bytes_or_fault o ≡ Err why → o ≡ None
-text_refused (Some x) why e = cc
-text_refused None why e = refl
-
-pub bytes_array : (xs : List Item) → bytes (array (items_of xs)) ≡ each (below 256) xs
-bytes_array xs = ap (each (below 256)) (elements-items_of xs)
-
 -- ---- sizes, as unsigned integers
 
 -- this number as a size

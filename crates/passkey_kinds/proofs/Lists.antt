@@ -1,5 +1,5 @@
 -- Lists, arrays and maps, decoded and encoded element by element.
-use Rattle.passkey_kinds.proofs.Common.{filter_map, ◌≡◌, ◌<◌, arith, ◌∙◌, List, [], ◌∷◌, ◌++◌, length, map, Option, Some, None, option_map, Result, Err, refl, ap, true, Item, array, items_of, IfPresent, elements-items_of, Kind, AnswersAs, MayGrow, each, list, accepted, Refusal, OutOfMemory, ℕ, suc, ◌+◌, ◌≤◌, sym, mul-le-mul_left, Walk, Keeping, nothing, counted, kept_of, kept_sum, in_elements, Spends, Decodes, option_and_then, ◌==◌, take, drop, get_or, if◌then◌else◌, append-nil, drop_all, length-map, take_all, take_more_set, below, sized_bytes, Bool, false, Region, Tells, LendsNothing, some_is, All, add-one, append_assoc, drop-cons, slice_cmp, eq_by_cmp, nat_cmp, cond, nat_list_cmp_total, ByteMap, put_each, same_bytes, pairs_of, item_of, pair_of, Value, members-pairs_of, bytes, entry, map_from_bytes, map_values, with_members, cons_option, ◌⊎◌, inl, inr, cases_lt, lt-ltb, le-ltb, ne_eqb, length-append, collected, entered, slice_set, entries_empty, string_again, pushed, pushed_if, pushed_below, drop_more, filter_map-append}
+use Rattle.passkey_kinds.proofs.Common.{filter_map, ◌≡◌, ◌<◌, arith, ◌∙◌, List, [], ◌∷◌, ◌++◌, length, map, Option, Some, None, option_map, Result, Err, refl, ap, true, Item, array, items_of, IfPresent, elements-items_of, Kind, AnswersAs, MayGrow, each, list, accepted, Refusal, OutOfMemory, ℕ, suc, ◌+◌, ◌≤◌, sym, mul-le-mul_left, Walk, Keeping, nothing, counted, kept_of, kept_sum, in_elements, Spends, Decodes, option_and_then, ◌==◌, take, drop, get_or, if◌then◌else◌, append-nil, drop_all, length-map, take_all, take_more_set, below, sized_bytes, Bool, false, Region, Tells, LendsNothing, some_is, All, add-one, append_assoc, drop-cons, slice_cmp, eq_by_cmp, nat_cmp, cond, nat_list_cmp_total, ByteMap, put_each, same_bytes, pairs_of, item_of, pair_of, Value, members-pairs_of, bytes, entry, map_from_bytes, map_values, with_members, cons_option, ◌⊎◌, inl, inr, cases_lt, lt-ltb, le-ltb, ne_eqb, length-append, collected, entered, slice_set, entries_empty, string_again, pushed, pushed_if, pushed_below, drop_more, filter_map-append, bytes_or_fault, BytesFault, item_of-Array, Ok, item_of-Map}
 use Rattle.std.proofs.lemmas.List.{append_assoc}
 use Rattle.std.specs.FinMap as fin
 use Rattle.passkey_cbor.specs.Item as item
@@ -362,3 +362,31 @@ module _ {M : Type 0} (n : ℕ) (kind : Kind M) where
       → option_and_then (full n) (collected (pushed_below n kind) is []) ≡ (if length is == n then each kind is
       else None)
   full_each is = grind (arith, full_all, option_same)
+
+-- ---- the bytes that texts and arrays decode to
+
+pub text_read : (o : Option (List ℕ)) (b : List ℕ) → bytes_or_fault o ≡ Ok b → o ≡ Some b
+text_read (Some x) b e = cc
+text_read None b e = cc
+
+pub text_refused : (o : Option (List ℕ)) (why : BytesFault) → bytes_or_fault o ≡ Err why → o ≡ None
+text_refused (Some x) why e = cc
+text_refused None why e = refl
+
+pub bytes_array : (xs : List Item) → bytes (array (items_of xs)) ≡ each (below 256) xs
+bytes_array xs = ap (each (below 256)) (elements-items_of xs)
+
+-- ---- what functions over arrays and maps in memory need
+
+pub ruleset arrays = (
+  item_of-Array,
+  item_of-Map,
+  answers_from,
+  list_array,
+  accepted_array,
+  sized_array,
+  bytes_array,
+  grows_array,
+  map_from_bytes-map,
+  grows_map,
+)

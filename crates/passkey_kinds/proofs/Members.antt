@@ -1,5 +1,5 @@
 -- A record's members, decoded one after the other.
-use Rattle.passkey_kinds.proofs.Common.{option_or, arith, ◌≡◌, ℕ, [], ◌∷◌, ◌++◌, is_none, refl, append-nil, Item, Table, Naming, row, unknown, named, Members, found, bad_by, first_bad, first_missing, unsigned_Decides, find, bytes_eq, ◌∙◌, ◌<◌, ◌==◌, nat_lt, cond, Bool, true, false, if◌then◌else◌, List, length, set, get_or, Option, Some, None, is_some, sym, ap, and_parts, leb-true, true≢false, slice_get-get_or, get_or_from_slice_get, below, with_row, Marks, are_small, Entry, row_or_unknown, number_names, entries, names, is_row, accepts_at, bad_member, Repeated, ◌+◌, suc, add-one, not, ◌&&◌, map, replicate, drop, option_map, slice_get, inl, inr, length-map, drop-cons, MayGrowIn, first_unmarked, Fault, Result, Ok, Err, OnOk, subst, append_assoc, result_ok, AnswersAs, Reads, Fields, set_with, rows_of, table_of, put_at, put_named, unless_missing, judged, read_members, read_item, HasReadTo, wrong, Refusal, Typed, MayGrowBy, takes_at, Steps, Sets, Puts, HasRead, held_as, get_or-set_same, get_or-set_other, length-set, get_or-map, get_or-replicate, length-replicate}
+use Rattle.passkey_kinds.proofs.Common.{option_or, arith, ◌≡◌, ℕ, [], ◌∷◌, ◌++◌, is_none, refl, append-nil, Item, Table, Naming, row, unknown, named, Members, found, bad_by, first_bad, first_missing, unsigned_Decides, find, bytes_eq, ◌∙◌, ◌<◌, ◌==◌, nat_lt, cond, Bool, true, false, if◌then◌else◌, List, length, set, get_or, Option, Some, None, is_some, sym, ap, and_parts, leb-true, true≢false, slice_get-get_or, get_or_from_slice_get, below, with_row, Marks, are_small, Entry, row_or_unknown, number_names, entries, names, is_row, accepts_at, bad_member, Repeated, ◌+◌, suc, add-one, not, ◌&&◌, map, replicate, drop, option_map, slice_get, inl, inr, length-map, drop-cons, MayGrowIn, first_unmarked, Fault, Result, Ok, Err, OnOk, subst, append_assoc, result_ok, AnswersAs, Reads, Fields, set_with, rows_of, table_of, put_at, put_named, unless_missing, judged, read_members, read_item, HasReadTo, wrong, Refusal, Typed, MayGrowBy, takes_at, Steps, Sets, Puts, HasRead, held_as, get_or-set_same, get_or-set_other, length-set, get_or-map, get_or-replicate, length-replicate, item_of-Map, members-pairs_of}
 use Rattle.passkey_kinds.specs.Record.{with_members}
 use Rattle.passkey_kinds.specs.declared.fault.Fault.TheVariants.{Refused}
 use Rattle.passkey_kinds.specs.declared.fault.Fault.TheVariants as fault
@@ -329,3 +329,4 @@ pub ruleset reads_one = (
 )
 
 pub ruleset reads_pairs = (key_names, member_at, has_begun, key_fails)
+pub ruleset reads_map = (item_of-Map, members-pairs_of)

@@ -100,6 +100,7 @@ impl FromCbor for [u8; 32] {
 
     ghost typed = { sized_bytes 32 };
 
+    #[tactic(auto, using(crate::proofs::Lists::arrays))]
     fn from_value(alloc: Global, value: &Value) -> Result<[u8; 32], Refusal> {
         match value {
             Value::Bytes(bytes) => <[u8; 32]>::try_from(bytes.as_slice()).or(Err(Refusal::Refused)),

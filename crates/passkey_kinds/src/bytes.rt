@@ -82,6 +82,7 @@ impl FromCbor for Bytes {
 
     ghost typed = { bytes };
 
+    #[tactic(auto, using(crate::proofs::Lists::arrays))]
     fn from_value(alloc: Global, value: &Value) -> Result<Bytes, Refusal> {
         match value {
             Value::Bytes(bytes) => Ok(Bytes::from_slice(alloc, bytes)?),

@@ -112,6 +112,7 @@ impl<T: FromCbor> FromCbor for List<T> {
 
     ghost typed = { list T.typed };
 
+    #[tactic(auto, using(crate::proofs::Lists::arrays))]
     fn from_value(alloc: Global, value: &Value) -> Result<List<T>, Refusal> {
         match value {
             Value::Array(elements) => read_each(alloc, elements),
@@ -139,6 +140,7 @@ impl<T: FromCbor> FromCbor for TolerantList<T> {
 
     ghost typed = { accepted T.typed };
 
+    #[tactic(auto, using(crate::proofs::Lists::arrays))]
     fn from_value(alloc: Global, value: &Value) -> Result<TolerantList<T>, Refusal> {
         match value {
             Value::Array(elements) => read_accepted(alloc, elements),

@@ -52,6 +52,7 @@ impl<T: FromCbor> FromCbor for Map<Bytes, T> {
 
     ghost typed = { map_from_bytes T.typed };
 
+    #[tactic(auto, using(crate::proofs::Lists::arrays))]
     fn from_value(alloc: Global, value: &Value) -> Result<Map<Bytes, T>, Refusal> {
         match value {
             Value::Map(pairs) => read_entries(alloc, pairs),

@@ -158,6 +158,7 @@ fn read_pairs<R: Record>(alloc: Global, pairs: &[(Value, Value)]) -> Result<R, F
 /// `Repeated`, `Refused`); otherwise `Missing` for the first required member, in the table's order,
 /// that is absent. Returns `OutOfMemory` if an allocation fails, which can only happen for a member
 /// that takes memory.
+#[tactic(auto, using(crate::proofs::Members::reads_map))]
 pub fn record_from_value<R: Record>(alloc: Global, value: &Value) -> Result<R, Fault>
     ensures { Reads R.parts (MayGrowAt (table_of R.fields) (item_of value.now))
         (read_item R.fields (item_of value.now)) result }

@@ -1,5 +1,1 @@
-pub mod MakeBack
-pub mod MakePlaces
-pub mod MakeRequests
-pub mod MakeResponses
-pub mod MakeOrdered
+pub mod MakeMessages

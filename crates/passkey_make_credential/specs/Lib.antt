@@ -1,3 +1,2 @@
-pub mod MakeOptions
 pub mod MakeRequest
 pub mod MakeResponse

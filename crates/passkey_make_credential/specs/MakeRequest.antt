@@ -1,14 +1,36 @@
--- authenticatorMakeCredential requests (CTAP 2.1, section 6.1).
-use Rattle.std.specs.Prelude.{ℕ, nat_le, Bool, true, List, [], ◌∷◌, Option, None, codes, Result, option_map}
-use Rattle.passkey_kinds.specs.Words.{depth, max_depth, Item, Placed, required_at, default_at, optional_at, tolerated_at, places_of, EachFits, descriptor, parameters, webauthn_user, Fields, fields_with, table_of, read_item, Table, Place, record_tree, PublicKeyCredentialDescriptor, PublicKeyCredentialParameters, PublicKeyCredentialUserEntity}
-use Rattle.passkey_kinds.specs.Coded.{byte, bytes, accepted, plain}
-use Rattle.passkey_kinds.specs.declared.fault.Fault.{Fault}
-use Rattle.passkey_extensions.specs.MakeExtensions.{MakeExtensionsParts, make_extensions_coded, make_extensions_parts, make_extensions_kept}
-use Rattle.passkey_make_credential.specs.MakeOptions.{options, options_default, normal_options}
-use Rattle.passkey_entities.specs.Rp.{rp}
-use Rattle.passkey_make_credential.specs.declared.options.Options.{Options}
+-- authenticatorMakeCredential requests and their options (CTAP 2.1, section 6.1).
+use Rattle.std.specs.Prelude.{[], ◌∷◌, true, false, codes, ℕ, nat_le, Bool, List, Option, None, Result, option_map}
+use Rattle.passkey_entities.specs.Entities.{rp}
 use Rattle.passkey_entities.specs.declared.rp.PublicKeyCredentialRpEntity.{PublicKeyCredentialRpEntity}
+use Rattle.passkey_extensions.specs.MakeExtensions.{MakeExtensionsParts, make_extensions_coded, make_extensions_parts, make_extensions_kept}
+use Rattle.passkey_kinds.specs.Coded.{truth, byte, bytes, accepted, plain}
+use Rattle.passkey_kinds.specs.Tree.{where_true}
+use Rattle.passkey_kinds.specs.Words.{text_string, PlainTable, placed, default_as, default, depth, max_depth, Item, Placed, required_at, default_at, optional_at, tolerated_at, places_of, EachFits, descriptor, parameters, webauthn_user, Fields, fields_with, table_of, read_item, Table, Place, record_tree, PublicKeyCredentialDescriptor, PublicKeyCredentialParameters, PublicKeyCredentialUserEntity}
+use Rattle.passkey_kinds.specs.declared.fault.Fault.{Fault}
+use Rattle.passkey_make_credential.specs.declared.options.Options.{Options}
 use Rattle.passkey_make_credential.specs.declared.request.Request.{Request}
+
+-- ---- options of authenticatorMakeCredential requests (CTAP 2.1, section 6.1)
+
+abbrev pub options_default : Options
+options_default = record { rk = false; up = true; uv = false }
+
+-- `up` is true by default, and is encoded only if it is true
+abbrev pub options : PlainTable Options
+options = record {
+  blank = options_default;
+  members = default_as 1 (codes "rk") truth (λ o. o.rk) (λ x o. record o { rk = x })
+      ∷ placed (default 2 (codes "up") truth.typed (λ x o. record o { up = x }))
+      (λ o. where_true (text_string (codes "up")) o.up)
+      ∷ default_as 3 (codes "uv") truth (λ o. o.uv) (λ x o. record o { uv = x })
+      ∷ [];
+}
+
+-- `up` isn't encoded if it is false, and then decodes to true
+abbrev pub normal_options : Options → Options
+normal_options o = record o { up = true }
+
+-- ---- authenticatorMakeCredential requests (CTAP 2.1, section 6.1)
 
 -- what contracts see of a request
 pub record MakeRequestParts : Type 0 where

@@ -3,7 +3,7 @@
 ghost use Rattle.passkey_kinds.specs.Words.{is_coherent, IsData, normal_data, KeysAscend, WrittenIsReadBack, ReadIsCoherent, WrittenIsCanonical, places_of, PassesOverUnknown, KnowsMaps};
 ghost use Rattle.passkey_make_credential.specs.MakeRequest.{make_request_fields, read_make_request, make_request_tree, MakeRequestFits, is_make_request_coherent, normal_make_request, make_request_kept, make_request_parts};
 ghost use Rattle.passkey_make_credential.specs.MakeResponse.{make_response_fields, read_make_response, make_response_tree, MakeResponseFits, is_make_response_coherent, normal_make_response, attestation_tree, unattested, make_response_kept, make_response_parts};
-ghost use Rattle.passkey_make_credential.specs.MakeOptions.{options};
+ghost use Rattle.passkey_make_credential.specs.MakeRequest.{options};
 
 use crate::{Request, Response};
 pub use passkey_entities::laws::written_keys_ascend as written_entity_keys_ascend;
@@ -85,7 +85,7 @@ pub fn read_make_response_passes_over_unknown()
 
 /// The encoding of a coherent request is in CTAP2's canonical form if the encoding of the key in
 /// its hmac-secret-mc input is, or if there is no such input (CTAP 2.1, section 8).
-#[tactic(auto, using(crate::proofs::MakeOrdered::make_request_canonical))]
+#[tactic(auto, using(crate::proofs::MakeMessages::make_request_canonical))]
 pub fn written_make_request_is_canonical()
     ensures { WrittenIsCanonical make_request_tree is_make_request_coherent make_request_kept }
 {
@@ -95,7 +95,7 @@ pub fn written_make_request_is_canonical()
 
 /// The encoding of a coherent response is in CTAP2's canonical form if the encoding of its
 /// attestation statement is (CTAP 2.1, section 8).
-#[tactic(auto, using(crate::proofs::MakeOrdered::make_response_canonical))]
+#[tactic(auto, using(crate::proofs::MakeMessages::make_response_canonical))]
 pub fn written_make_response_is_canonical()
     ensures { WrittenIsCanonical make_response_tree is_make_response_coherent make_response_kept }
 {
@@ -104,7 +104,7 @@ pub fn written_make_response_is_canonical()
 }
 
 /// Options are encoded with their keys in CTAP2's order (CTAP 2.1, section 8).
-#[tactic(auto, using(crate::proofs::MakeBack::options_law))]
+#[tactic(auto, using(crate::proofs::MakeMessages::options_law))]
 pub fn written_keys_ascend()
     ensures { KeysAscend (places_of options.members) }
 {}

@@ -1,6 +1,6 @@
 //! Options of authenticatorMakeCredential requests.
 ghost use Rattle.std.specs.Prelude.{◌≡◌, true, false};
-ghost use Rattle.passkey_make_credential.specs.MakeOptions.{normal_options, options, options_default};
+ghost use Rattle.passkey_make_credential.specs.MakeRequest.{normal_options, options, options_default};
 
 use passkey_kinds::{PlainRecord, Refusal, Row, Sink, Source, set};
 use passkey_memory::OutOfMemory;
@@ -66,6 +66,6 @@ impl PlainRecord for Options {
         Ok(())
     }
 
-    #[tactic(auto, using(crate::proofs::MakeBack::options_law))]
+    #[tactic(auto, using(crate::proofs::MakeMessages::options_law))]
     fn lawful() {}
 }

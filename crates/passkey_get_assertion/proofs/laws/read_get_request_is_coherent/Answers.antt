@@ -1,4 +1,4 @@
-use Rattle.passkey_get_assertion.proofs.GetRequests.{get_request_coherent}
+use Rattle.passkey_get_assertion.proofs.GetMessages.{get_request_coherent}
 use Rattle.passkey_get_assertion.proofs.laws.read_get_request_is_coherent.Goals as goal
 
 pub returns : goal.returns

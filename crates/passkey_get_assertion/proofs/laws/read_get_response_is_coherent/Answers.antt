@@ -1,4 +1,4 @@
-use Rattle.passkey_get_assertion.proofs.GetResponses.{get_response_coherent}
+use Rattle.passkey_get_assertion.proofs.GetMessages.{get_response_coherent}
 use Rattle.passkey_get_assertion.proofs.laws.read_get_response_is_coherent.Goals as goal
 
 pub returns : goal.returns

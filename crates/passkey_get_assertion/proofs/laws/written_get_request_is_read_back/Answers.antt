@@ -1,6 +1,6 @@
 use Rattle.passkey_kinds.proofs.Steps.{back_if_few}
 use Rattle.passkey_get_assertion.specs.GetRequest.{read_get_request}
-use Rattle.passkey_get_assertion.proofs.GetRequests.{request_back}
+use Rattle.passkey_get_assertion.proofs.GetMessages.{request_back}
 use Rattle.passkey_get_assertion.proofs.laws.written_get_request_is_read_back.Goals as goal
 
 pub returns : goal.returns

@@ -1,6 +1,6 @@
 use Rattle.passkey_kinds.proofs.Steps.{back_if_good}
 use Rattle.passkey_get_assertion.specs.GetResponse.{read_get_response}
-use Rattle.passkey_get_assertion.proofs.GetResponses.{response_back}
+use Rattle.passkey_get_assertion.proofs.GetMessages.{response_back}
 use Rattle.passkey_get_assertion.proofs.laws.written_get_response_is_read_back.Goals as goal
 
 pub returns : goal.returns

@@ -1,4 +1,4 @@
-use Rattle.passkey_make_credential.proofs.MakeRequests.{make_request_coherent}
+use Rattle.passkey_make_credential.proofs.MakeMessages.{make_request_coherent}
 use Rattle.passkey_make_credential.proofs.laws.read_make_request_is_coherent.Goals as goal
 
 pub returns : goal.returns

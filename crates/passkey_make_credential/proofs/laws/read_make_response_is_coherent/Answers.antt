@@ -1,4 +1,4 @@
-use Rattle.passkey_make_credential.proofs.MakeResponses.{make_response_coherent}
+use Rattle.passkey_make_credential.proofs.MakeMessages.{make_response_coherent}
 use Rattle.passkey_make_credential.proofs.laws.read_make_response_is_coherent.Goals as goal
 
 pub returns : goal.returns

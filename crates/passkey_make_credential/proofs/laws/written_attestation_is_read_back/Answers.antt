@@ -1,4 +1,4 @@
-use Rattle.passkey_make_credential.proofs.MakeResponses.{attestation_returns}
+use Rattle.passkey_make_credential.proofs.MakeMessages.{attestation_returns}
 use Rattle.passkey_make_credential.proofs.laws.written_attestation_is_read_back.Goals as goal
 
 pub returns : goal.returns

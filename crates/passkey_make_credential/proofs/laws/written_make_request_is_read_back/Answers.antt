@@ -1,6 +1,6 @@
 use Rattle.passkey_kinds.proofs.Steps.{back_if_few}
 use Rattle.passkey_make_credential.specs.MakeRequest.{read_make_request}
-use Rattle.passkey_make_credential.proofs.MakeRequests.{request_back}
+use Rattle.passkey_make_credential.proofs.MakeMessages.{request_back}
 use Rattle.passkey_make_credential.proofs.laws.written_make_request_is_read_back.Goals as goal
 
 pub returns : goal.returns

@@ -1,6 +1,6 @@
 use Rattle.passkey_kinds.proofs.Steps.{back_if_good}
 use Rattle.passkey_make_credential.specs.MakeResponse.{read_make_response}
-use Rattle.passkey_make_credential.proofs.MakeResponses.{response_back}
+use Rattle.passkey_make_credential.proofs.MakeMessages.{response_back}
 use Rattle.passkey_make_credential.proofs.laws.written_make_response_is_read_back.Goals as goal
 
 pub returns : goal.returns

@@ -1,7 +1,7 @@
 use Rattle.passkey_kinds.proofs.Common.{◌∙◌, option_map, ap}
 use Rattle.passkey_extensions.specs.GetExtensions.{get_extensions_parts}
 use Rattle.passkey_get_assertion.specs.GetRequest.{get_request_parts}
-use Rattle.passkey_get_assertion.proofs.GetRequests.{request_levels}
+use Rattle.passkey_get_assertion.proofs.GetMessages.{request_levels}
 use Rattle.passkey_get_assertion.proofs.request.Request.is_coherent.Goals as goal
 
 pub returns-in-Some : goal.returns-in-Some

@@ -1,7 +1,7 @@
 use Rattle.passkey_kinds.proofs.Common.{◌∙◌, option_map, ap}
 use Rattle.passkey_extensions.specs.MakeExtensions.{make_extensions_parts}
 use Rattle.passkey_make_credential.specs.MakeRequest.{make_request_parts}
-use Rattle.passkey_make_credential.proofs.MakeRequests.{request_levels}
+use Rattle.passkey_make_credential.proofs.MakeMessages.{request_levels}
 use Rattle.passkey_make_credential.proofs.request.Request.is_coherent.Goals as goal
 
 pub returns-in-Some : goal.returns-in-Some

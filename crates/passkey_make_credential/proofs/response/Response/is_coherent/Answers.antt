@@ -1,6 +1,6 @@
 use Rattle.passkey_kinds.proofs.Common.{◌∙◌, nat_lt, nat_le, Bool, ◌&&◌, ap, sym, depth, max_depth}
 use Rattle.passkey_make_credential.specs.MakeResponse.{make_response_tree, make_response_parts}
-use Rattle.passkey_make_credential.proofs.MakeResponses.{statement_decides}
+use Rattle.passkey_make_credential.proofs.MakeMessages.{statement_decides}
 use Rattle.passkey_make_credential.proofs.response.Response.is_coherent.Goals as goal
 
 pub returns-then-is_coherent : goal.returns-then-is_coherent

@@ -1,0 +1,133 @@
+-- Messages of authenticatorGetAssertion: decoding their encodings again, their nesting levels, and their canonical form.
+use Rattle.passkey_kinds.proofs.Steps.{arith, shortest_head, IsLawful, lawful, truth_back, plainly, puts_value, no_more, option_map, Item, number_tree, PlaceHas, EachPlace, Rule, list_plain, descriptor_law, ◌≡◌, ℕ, ◌<◌, ◌≤◌, nat_le, le-leb, true, Option, Some, Ok, refl, depth, tolerated, ReadIsCoherent, OnlyDeep, only_deep, deep_coherent, record_keeps, byte_back, text_back, bytes_back, anything, optional_place, accepted_place, tolerated_place, few_levels, puts_default, rows_back, ◌▸◌, Bool, ◌&&◌, and_from, max_depth, is_coherent, GivenIsCoherent, ReadIsGiven, WrittenDataAreReadBack, auth_data_back, auth_data_coherent, record_within, and_parts, AtMostOneLeadingItem, WrittenIsLeadingItem, WrittenIsCanonical, record_canonical, in_order}
+use Rattle.std.proofs.Common.{leb-true}
+use Rattle.passkey_entities.proofs.Entities.{user_law}
+use Rattle.passkey_extensions.proofs.ExtensionBack.{get_parts_back}
+use Rattle.passkey_extensions.proofs.ExtensionLevels.{input_up, used_levels}
+use Rattle.passkey_extensions.proofs.ExtensionOrdered.{get_extensions_place}
+use Rattle.passkey_extensions.proofs.Keys.{used_key}
+use Rattle.passkey_extensions.proofs.Prf.{used_unsigned_law}
+use Rattle.passkey_extensions.specs.GetExtensions.{get_extensions_tree, GetExtensionsParts, get_extensions}
+use Rattle.passkey_extensions.specs.HmacInput.{hmac_input_tree}
+use Rattle.passkey_get_assertion.specs.GetRequest.{options}
+use Rattle.passkey_get_assertion.specs.GetRequest.{GetRequestParts, get_request_places, get_request_fields, read_get_request, get_request_tree, GetRequestFits, is_get_request_coherent, get_request_kept}
+use Rattle.passkey_get_assertion.specs.GetResponse.{GetResponseParts, get_response_places, get_response_fields, read_get_response, get_response_tree, GetResponseFits, is_get_response_coherent, normal_get_response, get_response_kept}
+
+-- ---- options of authenticatorGetAssertion can be decoded again, have one level, and their keys ascend
+
+pub options_law : IsLawful 0 options
+unfolding shortest_head
+options_law = grind (arith, lawful, plainly, puts_value, truth_back, no_more)
+
+-- ---- what holds of each key and value of the messages of authenticatorGetAssertion, if it holds of
+-- what is kept
+
+pub get_request_each : {Q : Item → Type 0} → Rule 4 Q → (r : GetRequestParts)
+    → PlaceHas Q (number_tree 4) (option_map get_extensions_tree r.extensions) → EachPlace Q (get_request_places r)
+get_request_each rule r extensions =
+    search (rule.holds, plainly, list_plain 3, descriptor_law.plain 1, options_law.plain 3) depth 13
+
+pub get_response_each : {Q : Item → Type 0} → Rule 4 Q → (r : GetResponseParts) → EachPlace Q (get_response_places r)
+get_response_each rule r = search (rule.holds, plainly, descriptor_law.plain 2, user_law.plain 3, used_unsigned_law.plain 0) depth 14
+
+-- ---- an encoding can be decoded again
+
+pub request_back : (r : GetRequestParts) → GetRequestFits r → read_get_request (get_request_tree r) ≡ Ok r
+request_back r fits =
+    rows_back get_request_fields (get_request_places r) r refl refl
+    (puts_value text_back r.rp_id tt ▸
+    puts_value bytes_back r.client_data_hash tt ▸
+    puts_default (accepted_place descriptor_law.back r.allow_list (search)) refl ▸
+    puts_default (tolerated_place get_parts_back r.extensions (search)) refl ▸
+    puts_value options_law.back r.options (search) ▸
+    puts_default (optional_place bytes_back refl r.pin_auth (anything r.pin_auth)) refl ▸
+    puts_default (optional_place byte_back refl r.pin_protocol (search)) refl ▸
+    no_more)
+
+-- ---- only the extensions may have many levels
+
+pub request_levels : OnlyDeep get_request_places get_extensions_tree (λ r. r.extensions) 255
+request_levels = only_deep (number_tree 4) (omega arith)
+    (λ r. get_request_each (few_levels 4 255 (omega arith)) r) (λ r within. within.1.1.1.0)
+
+-- ---- a decoded request is coherent
+
+extensions_coherent : (i : Item) (e : GetExtensionsParts) → depth i ≤ 255 → get_extensions i ≡ Some e
+    → nat_le (depth (get_extensions_tree e)) 255 ≡ true
+extensions_coherent i e small read = deep_coherent used_levels e (λ h is. le-leb (depth (hmac_input_tree h)) 254
+    (input_up h 254 (omega (arith, small, used_key i e h read is))))
+
+abbrev AreCoherent : Option GetExtensionsParts → Type 0
+AreCoherent o = (e : GetExtensionsParts) → o ≡ Some e → nat_le (depth (get_extensions_tree e)) 255 ≡ true
+
+decoded_coherent : (i : Item) (o : Option GetExtensionsParts) (n : ℕ) → tolerated get_extensions i ≡ Some o
+    → depth i < n → n ≤ 256 → AreCoherent o
+decoded_coherent i o n read less small = grind (arith, extensions_coherent)
+
+read_extensions : (i : Item) (r : GetRequestParts) → depth i ≤ 256 → read_get_request i ≡ Ok r
+    → AreCoherent r.extensions
+read_extensions i r small read =
+    record_keeps get_request_fields (λ r. AreCoherent r.extensions) i r read (λ d e is. absurd cc)
+    (search decoded_coherent depth 11 parts 11)
+
+pub get_request_coherent : ReadIsCoherent read_get_request is_get_request_coherent
+get_request_coherent bytes r begins = grind (arith, deep_coherent, request_levels, read_extensions)
+
+-- ---- a response has few levels
+
+response_levels : (r : GetResponseParts) → depth (get_response_tree r) ≤ 256
+response_levels r = record_within 255 (get_response_places r) (get_response_each (few_levels 4 255 (omega arith)) r)
+
+has_few_levels : (r : GetResponseParts) → nat_le (depth (get_response_tree r)) max_depth ≡ true
+has_few_levels r = le-leb (depth (get_response_tree r)) 256 (response_levels r)
+
+and_true : (a b : Bool) → b ≡ true → a ≡ a && b
+and_true a b h = grind arith
+
+-- whether the authenticator data is coherent decides whether the response is
+pub data_decide : (r : GetResponseParts) → is_coherent r.auth_data ≡ is_get_response_coherent r
+data_decide r = grind (arith, and_true, has_few_levels)
+
+-- ---- an encoding can be decoded again
+
+pub response_back : WrittenDataAreReadBack → ReadIsGiven → (r : GetResponseParts) → GetResponseFits r
+    → is_coherent r.auth_data ≡ true → read_get_response (get_response_tree r) ≡ Ok (normal_get_response r)
+response_back written given r fits coherent =
+    rows_back get_response_fields (get_response_places r) (normal_get_response r) refl refl
+    (puts_default (optional_place descriptor_law.back refl r.credential (search)) refl ▸
+    puts_value (auth_data_back written given) r.auth_data (search) ▸
+    puts_value bytes_back r.signature tt ▸
+    puts_default (optional_place user_law.back refl r.user (search)) refl ▸
+    puts_default (optional_place byte_back refl r.number_of_credentials (search)) refl ▸
+    puts_default (optional_place truth_back refl r.user_selected (anything r.user_selected)) refl ▸
+    puts_default (optional_place bytes_back refl r.large_blob_key (anything r.large_blob_key)) refl ▸
+    puts_default (optional_place used_unsigned_law.back refl r.unsigned_extension_outputs (search)) refl ▸
+    no_more)
+
+-- ---- a decoded response is coherent
+
+abbrev DataAreCoherent : GetResponseParts → Type 0
+DataAreCoherent r = is_coherent r.auth_data ≡ true
+
+pub get_response_coherent : GivenIsCoherent → ReadIsCoherent read_get_response is_get_response_coherent
+get_response_coherent law bytes r begins =
+    let coherent = record_keeps get_response_fields DataAreCoherent begins.item r begins.holds (λ d. refl)
+    (search (auth_data_coherent law) depth 12 parts 12) in
+    and_from (is_coherent r.auth_data) (nat_le (depth (get_response_tree r)) max_depth) coherent (has_few_levels r)
+
+-- ---- the encodings of the messages of authenticatorGetAssertion are canonical
+
+pub get_request_canonical : AtMostOneLeadingItem → WrittenIsLeadingItem
+    → WrittenIsCanonical get_request_tree is_get_request_coherent get_request_kept
+unfolding shortest_head
+get_request_canonical one front =
+    record_canonical get_request_places get_request_kept (λ r. refl) (λ r coherent. leb-true _ _ coherent)
+    (λ r w d kept. get_request_each (in_order 4) r (get_extensions_place one front (number_tree 4) tt r.extensions
+    w.1.1.1.0 d.1.1.1.0 kept))
+
+pub get_response_canonical : WrittenIsCanonical get_response_tree is_get_response_coherent get_response_kept
+unfolding shortest_head
+get_response_canonical =
+    record_canonical get_response_places get_response_kept (λ r. refl)
+    (λ r coherent. leb-true _ _ (and_parts (is_coherent r.auth_data) _ coherent).1)
+    (λ r w d kept. get_response_each (in_order 4) r)
