@@ -1,7 +1,1 @@
-pub mod Prf
-pub mod ExtensionBack
-pub mod ExtensionPlain
-pub mod ExtensionLevels
-pub mod Keys
-pub mod HmacInputLaws
-pub mod ExtensionOrdered
+pub mod Extensions

@@ -1,9 +1,9 @@
 -- Extension inputs of authenticatorGetAssertion requests (CTAP 2.1, section 6.2).
 use Rattle.std.specs.Prelude.{List, [], ◌∷◌, Bool, Option, Some, None, codes, false, ◌||◌, is_some, option_map}
-use Rattle.passkey_kinds.specs.Words.{Item, Kind, Placed, tolerated_as, places_of, EachFits, Fields, fields_with, nested, record_kind, Place, record_tree}
+use Rattle.passkey_kinds.specs.Words.{kept_if_some, Item, Kind, Placed, tolerated_as, places_of, EachFits, Fields, fields_with, nested, record_kind, Place, record_tree}
 use Rattle.passkey_kinds.specs.Coded.{plain}
 use Rattle.passkey_kinds.specs.Placed.{Coded}
-use Rattle.passkey_extensions.specs.HmacInput.{HmacInputParts, hmac_input_parts, hmac_coded, inputs_kept}
+use Rattle.passkey_extensions.specs.HmacInput.{HmacInputParts, hmac_input_parts, hmac_coded, hmac_input_kept}
 use Rattle.passkey_extensions.specs.Prf.{prf_inputs}
 use Rattle.passkey_extensions.specs.declared.prf_inputs.AuthenticatorPrfInputs.{AuthenticatorPrfInputs}
 use Rattle.passkey_extensions.specs.declared.get_assertion.extension_inputs.ExtensionInputs.{ExtensionInputs}
@@ -43,9 +43,8 @@ get_extensions_places = places_of get_extensions_members
 abbrev pub get_extensions_tree : GetExtensionsParts → Item
 get_extensions_tree e = record_tree (get_extensions_places e)
 
-abbrev pub get_extensions_kept : Option GetExtensionsParts → List Item
-get_extensions_kept None = []
-get_extensions_kept (Some e) = inputs_kept e.hmac_secret
+abbrev pub get_extensions_kept : GetExtensionsParts → List Item
+get_extensions_kept e = kept_if_some hmac_input_kept e.hmac_secret
 
 -- what holds of all inputs
 abbrev pub GetExtensionsFit : GetExtensionsParts → Type 0

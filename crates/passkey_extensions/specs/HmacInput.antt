@@ -64,10 +64,6 @@ is_hmac_input_coherent h = nat_le (depth (hmac_input_tree h)) max_depth
 abbrev pub hmac_input_kept : HmacInputParts → List Item
 hmac_input_kept h = h.key_agreement ∷ []
 
-abbrev pub inputs_kept : Option HmacInputParts → List Item
-inputs_kept None = []
-inputs_kept (Some h) = hmac_input_kept h
-
 -- an input as a member of a record
 abbrev pub hmac_coded : Coded HmacInputParts
 hmac_coded = record { typed = nested hmac_input_fields; tree = hmac_input_tree; Fits = HmacInputFits }

@@ -1,9 +1,9 @@
 -- Extension inputs of authenticatorMakeCredential requests (CTAP 2.1, section 6.1).
 use Rattle.std.specs.Prelude.{List, [], ◌∷◌, Bool, Option, Some, None, codes, false, ◌||◌, is_some, option_map}
-use Rattle.passkey_kinds.specs.Words.{Item, Kind, Placed, optional_as, places_of, EachFits, Fields, fields_with, nested, record_kind, Place, record_tree}
+use Rattle.passkey_kinds.specs.Words.{kept_if_some, Item, Kind, Placed, optional_as, places_of, EachFits, Fields, fields_with, nested, record_kind, Place, record_tree}
 use Rattle.passkey_kinds.specs.Coded.{truth, plain}
 use Rattle.passkey_kinds.specs.Placed.{Coded}
-use Rattle.passkey_extensions.specs.HmacInput.{HmacInputParts, hmac_input_parts, hmac_coded, inputs_kept}
+use Rattle.passkey_extensions.specs.HmacInput.{HmacInputParts, hmac_input_parts, hmac_coded, hmac_input_kept}
 use Rattle.passkey_extensions.specs.Prf.{prf_inputs}
 use Rattle.passkey_extensions.specs.declared.prf_inputs.AuthenticatorPrfInputs.{AuthenticatorPrfInputs}
 use Rattle.passkey_extensions.specs.declared.make_credential.extension_inputs.ExtensionInputs.{ExtensionInputs}
@@ -50,9 +50,8 @@ make_extensions_places = places_of make_extensions_members
 abbrev pub make_extensions_tree : MakeExtensionsParts → Item
 make_extensions_tree e = record_tree (make_extensions_places e)
 
-abbrev pub make_extensions_kept : Option MakeExtensionsParts → List Item
-make_extensions_kept None = []
-make_extensions_kept (Some e) = inputs_kept e.hmac_secret_mc
+abbrev pub make_extensions_kept : MakeExtensionsParts → List Item
+make_extensions_kept e = kept_if_some hmac_input_kept e.hmac_secret_mc
 
 -- what holds of all inputs
 abbrev pub MakeExtensionsFit : MakeExtensionsParts → Type 0

@@ -103,7 +103,7 @@ impl HmacGetSecretInput {
     }
 
     /// Returns whether the encoding has at most this many nesting levels.
-    #[tactic(auto, using(crate::proofs::ExtensionLevels::input_within))]
+    #[tactic(auto, using(crate::proofs::Extensions::input_within))]
     pub(crate) fn is_within(&self, levels: usize) -> bool
         ensures { result ≡ nat_le (depth (hmac_input_tree (hmac_input_parts self.now))) levels }
     {
@@ -166,7 +166,7 @@ impl ToCborMap for HmacGetSecretInput {
 }
 
 impl RecordReadBack for HmacGetSecretInput {
-    #[tactic(auto, using(crate::proofs::ExtensionBack::hmac_input_back))]
+    #[tactic(auto, using(crate::proofs::Extensions::hmac_input_back))]
     fn record_back() {}
 }
 

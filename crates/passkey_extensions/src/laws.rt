@@ -16,7 +16,7 @@ pub fn written_hmac_input_is_read_back()
 
 /// The encoding of a coherent hmac-secret input is in CTAP2's canonical form if the encoding of its
 /// key is (CTAP 2.1, section 8).
-#[tactic(auto, using(crate::proofs::ExtensionOrdered::hmac_input_canonical))]
+#[tactic(auto, using(crate::proofs::Extensions::hmac_input_canonical))]
 pub fn written_hmac_input_is_canonical()
     ensures { WrittenIsCanonical hmac_input_tree is_hmac_input_coherent hmac_input_kept }
 {
@@ -26,7 +26,7 @@ pub fn written_hmac_input_is_canonical()
 
 /// Records with two or more members are encoded with their keys in CTAP2's order (CTAP 2.1, section
 /// 8).
-#[tactic(auto, using(crate::proofs::ExtensionOrdered::keys))]
+#[tactic(auto, using(crate::proofs::Extensions::keys))]
 pub fn written_keys_ascend()
     ensures prf_values { KeysAscend (places_of prf_values.members) }
     ensures prf_outputs { KeysAscend (places_of prf_made.members) }

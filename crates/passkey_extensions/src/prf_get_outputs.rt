@@ -1,7 +1,6 @@
 //! Outputs of the extension prf at an assertion.
 ghost use Rattle.std.specs.Prelude.{◌≡◌, IfOk};
-ghost use Rattle.passkey_extensions.specs.Prf.{prf_used};
-ghost use Rattle.passkey_extensions.specs.Prf.{webauthn_used};
+ghost use Rattle.passkey_extensions.specs.Prf.{prf_used, webauthn_used};
 
 use crate::prf_values::AuthenticatorPrfValues;
 use passkey_kinds::{PlainRecord, Refusal, Row, Sink, Source, set};
@@ -62,6 +61,6 @@ impl PlainRecord for AuthenticatorPrfGetOutputs {
         Ok(())
     }
 
-    #[tactic(auto, using(crate::proofs::Prf::used_outputs_law))]
+    #[tactic(auto, using(crate::proofs::Extensions::used_outputs_law))]
     fn lawful() {}
 }

@@ -93,6 +93,6 @@ impl PlainRecord for AuthenticatorPrfInputs {
         Ok(())
     }
 
-    #[tactic(auto, using(crate::proofs::Prf::inputs_law))]
+    #[tactic(auto, using(crate::proofs::Extensions::inputs_law))]
     fn lawful() {}
 }

@@ -1,7 +1,6 @@
 //! Outputs of the extension prf at a registration.
 ghost use Rattle.std.specs.Prelude.{true, ◌≡◌, is_some, IfOk, OnErr};
-ghost use Rattle.passkey_extensions.specs.Prf.{prf_made};
-ghost use Rattle.passkey_extensions.specs.Prf.{webauthn_made};
+ghost use Rattle.passkey_extensions.specs.Prf.{prf_made, webauthn_made};
 
 use crate::prf_values::AuthenticatorPrfValues;
 use passkey_kinds::{PlainRecord, Refusal, Row, Sink, Source, set};
@@ -70,6 +69,6 @@ impl PlainRecord for AuthenticatorPrfMakeOutputs {
         Ok(())
     }
 
-    #[tactic(auto, using(crate::proofs::Prf::made_outputs_law))]
+    #[tactic(auto, using(crate::proofs::Extensions::made_outputs_law))]
     fn lawful() {}
 }

@@ -1,7 +1,6 @@
 //! Salts and outputs of the extension prf.
 ghost use Rattle.std.specs.Prelude.{◌≡◌, IfOk};
-ghost use Rattle.passkey_extensions.specs.Prf.{prf_values};
-ghost use Rattle.passkey_extensions.specs.Prf.{webauthn_values};
+ghost use Rattle.passkey_extensions.specs.Prf.{prf_values, webauthn_values};
 
 use passkey_bytes::Bytes;
 use passkey_kinds::{PlainRecord, Refusal, Row, Sink, Source, set};
@@ -70,6 +69,6 @@ impl PlainRecord for AuthenticatorPrfValues {
         Ok(())
     }
 
-    #[tactic(auto, using(crate::proofs::Prf::values_law))]
+    #[tactic(auto, using(crate::proofs::Extensions::values_law))]
     fn lawful() {}
 }

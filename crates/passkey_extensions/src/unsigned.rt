@@ -61,7 +61,7 @@ impl<P: PlainRecord> PlainRecord for UnsignedExtensionOutputs<P> {
         Ok(())
     }
 
-    #[tactic(auto, using(crate::proofs::Prf::unsigned_back, crate::proofs::Prf::unsigned_levels,))]
+    #[tactic(auto, using(crate::proofs::Extensions::unsigned_back, crate::proofs::Extensions::unsigned_levels,))]
     fn lawful() {
         P::lawful();
     }

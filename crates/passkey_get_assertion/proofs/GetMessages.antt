@@ -1,16 +1,11 @@
 -- Messages of authenticatorGetAssertion: decoding their encodings again, their nesting levels, and their canonical form.
-use Rattle.passkey_kinds.proofs.Steps.{arith, shortest_head, IsLawful, lawful, truth_back, plainly, puts_value, no_more, option_map, Item, number_tree, PlaceHas, EachPlace, Rule, list_plain, descriptor_law, ◌≡◌, ℕ, ◌<◌, ◌≤◌, nat_le, le-leb, true, Option, Some, Ok, refl, depth, tolerated, ReadIsCoherent, OnlyDeep, only_deep, deep_coherent, record_keeps, byte_back, text_back, bytes_back, anything, optional_place, accepted_place, tolerated_place, few_levels, puts_default, rows_back, ◌▸◌, Bool, ◌&&◌, and_from, max_depth, is_coherent, GivenIsCoherent, ReadIsGiven, WrittenDataAreReadBack, auth_data_back, auth_data_coherent, record_within, and_parts, AtMostOneLeadingItem, WrittenIsLeadingItem, WrittenIsCanonical, record_canonical, in_order}
+use Rattle.passkey_kinds.proofs.Steps.{place_if, arith, shortest_head, IsLawful, lawful, truth_back, plainly, puts_value, no_more, option_map, Item, number_tree, PlaceHas, EachPlace, Rule, list_plain, descriptor_law, ◌≡◌, ℕ, ◌<◌, ◌≤◌, nat_le, le-leb, true, Option, Some, Ok, refl, depth, tolerated, ReadIsCoherent, OnlyDeep, only_deep, deep_coherent, record_keeps, byte_back, text_back, bytes_back, anything, optional_place, accepted_place, tolerated_place, few_levels, puts_default, rows_back, ◌▸◌, Bool, ◌&&◌, and_from, max_depth, is_coherent, GivenIsCoherent, ReadIsGiven, WrittenDataAreReadBack, auth_data_back, auth_data_coherent, record_within, and_parts, AtMostOneLeadingItem, WrittenIsLeadingItem, WrittenIsCanonical, record_canonical, in_order}
 use Rattle.std.proofs.Common.{leb-true}
 use Rattle.passkey_entities.proofs.Entities.{user_law}
-use Rattle.passkey_extensions.proofs.ExtensionBack.{get_parts_back}
-use Rattle.passkey_extensions.proofs.ExtensionLevels.{input_up, used_levels}
-use Rattle.passkey_extensions.proofs.ExtensionOrdered.{get_extensions_place}
-use Rattle.passkey_extensions.proofs.Keys.{used_key}
-use Rattle.passkey_extensions.proofs.Prf.{used_unsigned_law}
+use Rattle.passkey_extensions.proofs.Extensions.{get_parts_back, input_up, used_levels, get_extensions_if, used_key, used_unsigned_law}
 use Rattle.passkey_extensions.specs.GetExtensions.{get_extensions_tree, GetExtensionsParts, get_extensions}
 use Rattle.passkey_extensions.specs.HmacInput.{hmac_input_tree}
-use Rattle.passkey_get_assertion.specs.GetRequest.{options}
-use Rattle.passkey_get_assertion.specs.GetRequest.{GetRequestParts, get_request_places, get_request_fields, read_get_request, get_request_tree, GetRequestFits, is_get_request_coherent, get_request_kept}
+use Rattle.passkey_get_assertion.specs.GetRequest.{options, GetRequestParts, get_request_places, get_request_fields, read_get_request, get_request_tree, GetRequestFits, is_get_request_coherent, get_request_kept}
 use Rattle.passkey_get_assertion.specs.GetResponse.{GetResponseParts, get_response_places, get_response_fields, read_get_response, get_response_tree, GetResponseFits, is_get_response_coherent, normal_get_response, get_response_kept}
 
 -- ---- options of authenticatorGetAssertion can be decoded again, have one level, and their keys ascend
@@ -122,7 +117,7 @@ pub get_request_canonical : AtMostOneLeadingItem → WrittenIsLeadingItem
 unfolding shortest_head
 get_request_canonical one front =
     record_canonical get_request_places get_request_kept (λ r. refl) (λ r coherent. leb-true _ _ coherent)
-    (λ r w d kept. get_request_each (in_order 4) r (get_extensions_place one front (number_tree 4) tt r.extensions
+    (λ r w d kept. get_request_each (in_order 4) r (place_if _ _ (get_extensions_if one front) (number_tree 4) tt r.extensions
     w.1.1.1.0 d.1.1.1.0 kept))
 
 pub get_response_canonical : WrittenIsCanonical get_response_tree is_get_response_coherent get_response_kept

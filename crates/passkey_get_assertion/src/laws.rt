@@ -1,9 +1,8 @@
 //! Laws about the messages of authenticatorGetAssertion. Each is the contract of a function that
 //! does nothing.
 ghost use Rattle.passkey_kinds.specs.Words.{KeysAscend, WrittenIsReadBack, ReadIsCoherent, WrittenIsCanonical, places_of, PassesOverUnknown, KnowsMaps};
-ghost use Rattle.passkey_get_assertion.specs.GetRequest.{get_request_fields, read_get_request, get_request_tree, GetRequestFits, is_get_request_coherent, get_request_kept, get_request_parts};
+ghost use Rattle.passkey_get_assertion.specs.GetRequest.{get_request_fields, read_get_request, get_request_tree, GetRequestFits, is_get_request_coherent, get_request_kept, get_request_parts, options};
 ghost use Rattle.passkey_get_assertion.specs.GetResponse.{get_response_fields, read_get_response, get_response_tree, GetResponseFits, is_get_response_coherent, normal_get_response, get_response_kept, get_response_parts};
-ghost use Rattle.passkey_get_assertion.specs.GetRequest.{options};
 
 use crate::{Request, Response};
 

@@ -1,14 +1,65 @@
--- authenticatorGetInfo responses: decoding their encodings again, and their nesting levels.
-use Rattle.passkey_kinds.proofs.Steps.{nat_tests, ◌≡◌, ℕ, pos, ◌^◌, ◌<◌, ◌≤◌, nat_lt, nat_le, arith, ltb-true, Bool, true, false, ◌&&◌, if◌then◌else◌, Option, Some, None, option_map, unwrap_or, Result, Ok, Err, OnOk, refl, sym, ap, and_from, depth, max_depth, Item, IfPresent, optional, ReadIsCoherent, size, number_tree, option_place, record_keeps, not_null, puts_value, puts_default, ◌▸◌, no_more, rows_back, size_back, aaguid_back, list_same, truth_back, byte_back, word_back, text_back, bytes_back, transport_back, list_back, optional_back, anything, all_of_anything, optional_place, accepted_place, PlaceWithin, Within, record_within, parameters_law, few_levels}
-use Rattle.std.proofs.Common.{lt-ltb, is_ok, IfErr}
-use Rattle.passkey_get_info.specs.GetInfo.{GetInfoParts, get_info_fields, read_get_info, get_info_places, get_info_tree, IsPositive, GetInfoFits, is_encodable, has_room, is_get_info_coherent, normal_get_info}
+-- authenticatorGetInfo responses: decoding their encodings again, their nesting levels, and their canonical form.
+use Rattle.passkey_kinds.proofs.Steps.{option_and_then, arith, ◌≡◌, Option, Some, None, refl, Item, shortest_head, kept, optional, EachFits, IsReadBack, Any, Falls, accepts_it, truth_back, anything, optional_place, IsLawful, lawful, plainly, puts_value, puts_default, ◌▸◌, no_more, number_tree, PlaceHas, EachPlace, Rule, list_plain, parameters_law, nat_tests, ℕ, pos, ◌^◌, ◌<◌, ◌≤◌, nat_lt, nat_le, ltb-true, Bool, true, false, ◌&&◌, if◌then◌else◌, option_map, unwrap_or, Result, Ok, Err, OnOk, sym, ap, and_from, depth, max_depth, IfPresent, ReadIsCoherent, size, option_place, record_keeps, not_null, rows_back, size_back, aaguid_back, list_same, byte_back, word_back, text_back, bytes_back, transport_back, list_back, optional_back, all_of_anything, accepted_place, PlaceWithin, Within, record_within, few_levels, place_if, and_parts, IsOrdered, AtMostOneLeadingItem, WrittenIsLeadingItem, AllCanonical, WrittenIsCanonical, PlaceOrdered, PlaceWritable, record_canonical, ordered_of, in_order}
+use Rattle.std.proofs.Common.{lt-ltb, is_ok, IfErr, leb-true}
+use Rattle.passkey_cbor.specs.Item.{number}
+use Rattle.passkey_get_info.specs.GetInfo.{version, version_tree, normal_version, extension, extension_tree, normal_extension, options, unless_null, GetInfoParts, get_info_places, get_info_fields, read_get_info, get_info_tree, IsPositive, GetInfoFits, is_encodable, has_room, is_get_info_coherent, normal_get_info, get_info_kept}
+use Rattle.passkey_get_info.specs.declared.options.Options.{Options}
+use Rattle.passkey_kinds.proofs.Levels.{of_record}
 use Rattle.passkey_kinds.specs.Kind.{kept as kept_item, IsSize}
 use Rattle.passkey_kinds.specs.declared.write_fault.WriteFault.{WriteFault}
 use Rattle.passkey_kinds.specs.declared.write_fault.WriteFault.TheVariants.{NumberTooLarge}
-use Rattle.passkey_get_info.proofs.GetInfoBack.{version_back, extension_back, kept_place, options_law}
-use Rattle.passkey_get_info.proofs.GetInfoPlaces.{get_info_each}
-use Rattle.passkey_kinds.proofs.Levels.{of_record}
 use Rattle.passkey_cbor.specs.Item as item
+
+-- ---- values in an authenticatorGetInfo response can be decoded again from their encodings
+
+pub version_back : IsReadBack version version_tree Any normal_version
+version_back = record { back = λ v h. refl }
+
+pub extension_back : IsReadBack extension extension_tree Any normal_extension
+extension_back = record { back = λ e h. refl }
+
+-- a kept data item that may be null
+kept_or_null : (i : Item) → optional kept i ≡ Some (unless_null i)
+kept_or_null (number z) = refl
+kept_or_null _ = refl
+
+pub kept_place : (o : Option Item) → Falls (optional kept) None o (option_and_then unless_null o)
+kept_place None = record { value = refl; accepted = λ i e. absurd cc }
+kept_place (Some i) = grind (arith, kept_or_null, accepts_it)
+
+pub options_law : IsLawful 0 options
+unfolding shortest_head
+options_law = lawful 0 options (λ o. refl) (λ o. refl) (λ o. refl) (λ k o. search plainly depth 24) (λ o fits.
+    puts_default (optional_place truth_back refl o.ep (anything o.ep)) refl ▸
+    puts_value truth_back o.rk tt ▸
+    puts_value truth_back o.up tt ▸
+    puts_default (optional_place truth_back refl o.uv (anything o.uv)) refl ▸
+    puts_value truth_back o.plat tt ▸
+    puts_default (optional_place truth_back refl o.uv_acfg (anything o.uv_acfg)) refl ▸
+    puts_default (optional_place truth_back refl o.always_uv (anything o.always_uv)) refl ▸
+    puts_default (optional_place truth_back refl o.cred_mgmt (anything o.cred_mgmt)) refl ▸
+    puts_default (optional_place truth_back refl o.authnr_cfg (anything o.authnr_cfg)) refl ▸
+    puts_default (optional_place truth_back refl o.bio_enroll (anything o.bio_enroll)) refl ▸
+    puts_default (optional_place truth_back refl o.client_pin (anything o.client_pin)) refl ▸
+    puts_default (optional_place truth_back refl o.large_blobs (anything o.large_blobs)) refl ▸
+    puts_default (optional_place truth_back refl o.uv_bio_enroll (anything o.uv_bio_enroll)) refl ▸
+    puts_default (optional_place truth_back refl o.pin_uv_auth_token (anything o.pin_uv_auth_token)) refl ▸
+    puts_default (optional_place truth_back refl o.set_min_pin_length (anything o.set_min_pin_length)) refl ▸
+    puts_default (optional_place truth_back refl o.make_cred_uv_not_rqd (anything o.make_cred_uv_not_rqd)) refl ▸
+    puts_default (optional_place truth_back refl o.credential_mgmt_preview (anything o.credential_mgmt_preview))
+    refl ▸
+    puts_default (optional_place truth_back refl o.user_verification_mgmt_preview
+    (anything o.user_verification_mgmt_preview)) refl ▸
+    puts_default (optional_place truth_back refl o.no_mc_ga_permissions_with_client_pin
+    (anything o.no_mc_ga_permissions_with_client_pin)) refl ▸
+    no_more)
+
+-- ---- what holds of each key and value that an authenticatorGetInfo response is encoded as:
+-- certifications alone may have many levels
+
+pub get_info_each : {Q : Item → Type 0} → Rule 2 Q → (r : GetInfoParts)
+    → PlaceHas Q (number_tree 19) r.certifications → EachPlace Q (get_info_places r)
+get_info_each rule r certifications = search (rule.holds, plainly, list_plain 1, options_law.plain 1, parameters_law.plain 0) depth 33
 
 -- ---- an encoding can be decoded again
 
@@ -124,3 +175,14 @@ read_good whole r read =
 
 pub get_info_coherent : ReadIsCoherent read_get_info is_get_info_coherent
 get_info_coherent bytes r begins = grind (arith, read_good, parts_decide, and_from, below_up)
+
+-- ---- the encodings of authenticatorGetInfo responses are canonical
+
+pub get_info_canonical : AtMostOneLeadingItem → WrittenIsLeadingItem
+    → WrittenIsCanonical get_info_tree is_get_info_coherent get_info_kept
+unfolding shortest_head
+get_info_canonical one front =
+    record_canonical get_info_places get_info_kept (λ r. refl)
+    (λ r coherent. leb-true _ _ (and_parts (is_encodable r.max_msg_size) _ coherent).1)
+    (λ r w d kept. get_info_each (in_order 2) r (place_if _ _ (λ i w d kept. ordered_of one front i w (omega (arith, d)) kept.0)
+    (number_tree 19) tt r.certifications (search) (search) kept))

@@ -1,4 +1,1 @@
-pub mod GetInfoBack
-pub mod GetInfoPlaces
 pub mod GetInfos
-pub mod GetInfoOrdered

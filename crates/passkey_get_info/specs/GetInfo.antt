@@ -7,7 +7,7 @@ use Rattle.passkey_get_info.specs.declared.version.Version.{Version}
 use Rattle.passkey_kinds.specs.Coded.{truth, byte, word, text, bytes, aaguid, transport, list, accepted, plain}
 use Rattle.passkey_kinds.specs.Kind.{one_named}
 use Rattle.passkey_kinds.specs.Placed.{Coded, placed_if}
-use Rattle.passkey_kinds.specs.Words.{Item, text_string, Any, Kind, nothing, growing, Placed, PlainTable, default_as, optional_as, depth, null, max_depth, item_of, IfPresent, parameters, placed, required_at, optional_at, tolerated_at, places_of, EachFits, fields_with, Fields, default, table_of, read_item, Table, Place, number_tree, record_tree, size, optional, kept, PublicKeyCredentialParameters, AuthenticatorTransport}
+use Rattle.passkey_kinds.specs.Words.{kept_if_some, Item, text_string, Any, Kind, nothing, growing, Placed, PlainTable, default_as, optional_as, depth, null, max_depth, item_of, IfPresent, parameters, placed, required_at, optional_at, tolerated_at, places_of, EachFits, fields_with, Fields, default, table_of, read_item, Table, Place, number_tree, record_tree, size, optional, kept, PublicKeyCredentialParameters, AuthenticatorTransport}
 use Rattle.passkey_kinds.specs.declared.fault.Fault.{Fault}
 use Rattle.passkey_kinds.specs.declared.write_fault.WriteFault.{WriteFault}
 use Rattle.passkey_kinds.specs.declared.write_fault.WriteFault.TheVariants.{OutOfMemory, NumberTooLarge}
@@ -312,12 +312,8 @@ abbrev pub get_info_tree : GetInfoParts → Item
 get_info_tree r = record_tree (get_info_places r)
 
 -- the data item that a response keeps undecoded, if there is one
-abbrev pub certifications_kept : Option Item → List Item
-certifications_kept None = []
-certifications_kept (Some i) = i ∷ []
-
 abbrev pub get_info_kept : GetInfoParts → List Item
-get_info_kept r = certifications_kept r.certifications
+get_info_kept r = kept_if_some (λ i. i ∷ []) r.certifications
 
 -- what holds of every response
 abbrev pub GetInfoFits : GetInfoParts → Type 0

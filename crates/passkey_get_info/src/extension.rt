@@ -91,7 +91,7 @@ impl ToCbor for Extension {
 impl ReadBack for Extension {
     ghost normal = { normal_extension };
 
-    #[tactic(auto, using(crate::proofs::GetInfoBack::extension_back))]
+    #[tactic(auto, using(crate::proofs::GetInfos::extension_back))]
     fn read_back() {}
 }
 

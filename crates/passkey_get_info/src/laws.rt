@@ -1,7 +1,6 @@
 //! Laws about authenticatorGetInfo responses. Each is the contract of a function that does nothing.
 ghost use Rattle.passkey_kinds.specs.Words.{WrittenIsReadBack, ReadIsCoherent, WrittenIsCanonical, places_of, PassesOverUnknown, KnowsMaps, KeysAscend};
-ghost use Rattle.passkey_get_info.specs.GetInfo.{get_info_fields, read_get_info, get_info_parts, get_info_tree, GetInfoFits, is_get_info_coherent, normal_get_info, get_info_kept};
-ghost use Rattle.passkey_get_info.specs.GetInfo.{options};
+ghost use Rattle.passkey_get_info.specs.GetInfo.{get_info_fields, read_get_info, get_info_parts, get_info_tree, GetInfoFits, is_get_info_coherent, normal_get_info, get_info_kept, options};
 
 use crate::Response;
 
@@ -37,7 +36,7 @@ pub fn read_get_info_passes_over_unknown()
 
 /// The encoding of a coherent response is in CTAP2's canonical form if the encoding of its
 /// certifications is, or if they are absent (CTAP 2.1, section 8).
-#[tactic(auto, using(crate::proofs::GetInfoOrdered::get_info_canonical))]
+#[tactic(auto, using(crate::proofs::GetInfos::get_info_canonical))]
 pub fn written_get_info_is_canonical()
     ensures { WrittenIsCanonical get_info_tree is_get_info_coherent get_info_kept }
 {
@@ -46,7 +45,7 @@ pub fn written_get_info_is_canonical()
 }
 
 /// Options are encoded with their keys in CTAP2's order (CTAP 2.1, section 8).
-#[tactic(auto, using(crate::proofs::GetInfoBack::options_law))]
+#[tactic(auto, using(crate::proofs::GetInfos::options_law))]
 pub fn written_keys_ascend()
     ensures { KeysAscend (places_of options.members) }
 {}

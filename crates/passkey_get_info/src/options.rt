@@ -204,6 +204,6 @@ impl PlainRecord for Options {
         Ok(())
     }
 
-    #[tactic(auto, using(crate::proofs::GetInfoBack::options_law))]
+    #[tactic(auto, using(crate::proofs::GetInfos::options_law))]
     fn lawful() {}
 }

@@ -87,7 +87,7 @@ impl ToCbor for Version {
 impl ReadBack for Version {
     ghost normal = { normal_version };
 
-    #[tactic(auto, using(crate::proofs::GetInfoBack::version_back))]
+    #[tactic(auto, using(crate::proofs::GetInfos::version_back))]
     fn read_back() {}
 }
 

@@ -59,7 +59,7 @@ pub use Rattle.passkey_iana.specs.Iana.{algorithm_named}
 pub use Rattle.passkey_iana.specs.declared.algorithm.Algorithm.{Algorithm}
 pub use Rattle.passkey_kinds.specs.Coded.{made_signed, used_signed, descriptor, parameters, webauthn_user}
 pub use Rattle.passkey_kinds.specs.Kind.{algorithm, algorithm_tree, aaguid, authenticator_data, authenticator_data_nodes, auth_data_tree, CountsData, Keeping, nothing, counted, kept_of, kept_sum, in_members, in_elements, AnswersAs, bytes, MayGrow, below, kept, truth, Kind, optional, each, sized_bytes, list, accepted, text, one_named, tolerated, FailsAs, or_else, Answers, Typed, with_members, map_from_bytes, entry, map_values, size, IsSize}
-pub use Rattle.passkey_kinds.specs.Message.{ReadsMessage, Begins, GrowsMessage, ReadsHere, with_length, AlikeDifferInLength, ReadIsCoherent, AllCanonical, WrittenIsCanonical, WrittenIsReadBack, SameButForLength, AnswersCarryOver, KnowsItems, known_member, known, HasNoWrongKey, SameAnswers, PassesOverUnknown, KnowsMaps}
+pub use Rattle.passkey_kinds.specs.Message.{ReadsMessage, Begins, GrowsMessage, ReadsHere, with_length, AlikeDifferInLength, ReadIsCoherent, AllCanonical, kept_if_some, WrittenIsCanonical, WrittenIsReadBack, SameButForLength, AnswersCarryOver, KnowsItems, known_member, known, HasNoWrongKey, SameAnswers, PassesOverUnknown, KnowsMaps}
 pub use Rattle.passkey_kinds.specs.Placed.{EachFits, fields_of, places_of, PlainTable, members_of, plain_kind, plain_tree, IsReadBack, Any, IsByte, AreBytes}
 pub use Rattle.passkey_kinds.specs.Reader.{collected, entered, pushed, pushed_if, pushed_below, unsigned_in, integer_in, null_in, ReadsFlat, head_unsigned, head_integer, head_truth, head_null, head_array, head_map, OpensArray, OpensMap, Further, Decodes, LooksAtMost, Spends, Onward, Costs, ReadsAs}
 pub use Rattle.passkey_kinds.specs.Record.{MayGrowIn, Marks, are_small, first_unmarked, Reads, with_row, MayGrowAt, named_as, MayGrowBy, takes_at, Steps, Fields, set_with, rows_of, table_of, put_at, put_named, unless_missing, judged, read_members, read_item, Member, record_kind, Entry, Table, entries, named, Members, found, bad_member, first_bad, first_missing, Naming, row, unknown, wrong, accepts_at, bad_by, row_or_unknown, number_names, names, is_row, ◌>>=◌, row_named}

@@ -1,5 +1,5 @@
 -- Records whose keys ascend, and what follows for their encodings.
-use Rattle.passkey_kinds.proofs.Common.{is_lt, Ordering, Less, arith, ◌≡◌, ℕ, ◌≤◌, Bool, true, ◌&&◌, List, [], ◌∷◌, ◌++◌, length, map, Option, Some, None, refl, sym, subst, and_parts, ByteMap, ComesAfter, AscendFrom, Ascend, IsOrdered, depth, max_depth, IsLeadingItem, Item, items_of, pairs_of, AtMostOneLeadingItem, WrittenIsLeadingItem, IsWritable, ArePairsWritable, written, short_first, Members, Place, list_tree, entry_tree, byte_map_tree, under, laid, record_tree, AllCanonical, WrittenIsCanonical, ℤ, pos, suc, boolean, byte_string, null, text_string, number_tree, numbers_tree, AreOrdered, ArePairsOrdered, IsCanonical, number, ctap2_order}
+use Rattle.passkey_kinds.proofs.Common.{is_lt, Ordering, Less, arith, ◌≡◌, ℕ, ◌≤◌, Bool, true, ◌&&◌, List, [], ◌∷◌, ◌++◌, length, map, Option, Some, None, refl, sym, subst, and_parts, ByteMap, ComesAfter, AscendFrom, Ascend, IsOrdered, depth, max_depth, IsLeadingItem, Item, items_of, pairs_of, AtMostOneLeadingItem, WrittenIsLeadingItem, IsWritable, ArePairsWritable, written, short_first, Members, Place, list_tree, entry_tree, byte_map_tree, under, laid, record_tree, AllCanonical, WrittenIsCanonical, ℤ, pos, suc, boolean, byte_string, null, text_string, number_tree, numbers_tree, AreOrdered, ArePairsOrdered, IsCanonical, number, ctap2_order, option_map, kept_if_some}
 use Rattle.passkey_kinds.proofs.Back.{spread, laid_spread}
 use Rattle.passkey_kinds.proofs.ByteMaps.{entries_ascend}
 use Rattle.passkey_kinds.proofs.Levels.{Within, of_record as levels_of, PlaceHas, EachPlace, PlaceWithin, record_within, list_within, map_within, option_has}
@@ -221,3 +221,15 @@ record_plain n ps up each = record {
   levels = record_within n ps (each_within n ps each);
   order = record_ordered ps up (each_ordered n ps each);
 }
+
+-- a value's encoding of at most n levels is ordered if the items that it keeps are canonical
+abbrev pub OrderedIf : {A : Type 0} → ℕ → (A → Item) → (A → List Item) → Type 0
+OrderedIf {A} n tree kept =
+    (x : A) → IsWritable (tree x) → depth (tree x) ≤ n → AllCanonical (kept x) → IsOrdered (tree x)
+
+pub place_if : {A : Type 0} {n : ℕ} (tree : A → Item) (kept : A → List Item) → OrderedIf n tree kept
+    → (key : Item) → IsOrdered key → (o : Option A) → PlaceWritable (option_map tree o)
+    → PlaceWithin n key (option_map tree o) → AllCanonical (kept_if_some kept o)
+    → PlaceOrdered key (option_map tree o)
+place_if tree kept each key keyed None w d k = tt
+place_if tree kept each key keyed (Some x) w d k = (keyed, each x w d.1 k)

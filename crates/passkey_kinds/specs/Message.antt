@@ -131,6 +131,11 @@ abbrev pub AllCanonical : List Item → Type 0
 AllCanonical [] = Unit {0}
 AllCanonical (i ∷ is) = IsCanonical (written i) × AllCanonical is
 
+-- what an optional value keeps undecoded
+abbrev pub kept_if_some : {A : Type 0} → (A → List Item) → Option A → List Item
+kept_if_some kept None = []
+kept_if_some kept (Some x) = kept x
+
 -- The encoding of a coherent message is canonical, if the encodings of the values that it keeps are.
 abbrev pub WrittenIsCanonical : {P : Type 0} → (P → Item) → (P → Bool) → (P → List Item) → Type 0
 WrittenIsCanonical {P} tree is_coherent kept =

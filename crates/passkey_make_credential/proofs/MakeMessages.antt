@@ -1,21 +1,16 @@
 -- Messages of authenticatorMakeCredential: decoding their encodings again, their nesting levels, and their canonical form.
-use Rattle.passkey_kinds.proofs.Steps.{arith, ℕ, Bool, true, false, codes, text_string, shortest_head, true_place, IsLawfulAs, lawful, truth_back, PlaceHas, IsPlain, plainly, truth_plain, text_plain, puts_value, puts_default, no_more, option_map, Item, number_tree, EachPlace, Rule, list_plain, descriptor_law, parameters_law, user_law, ◌≡◌, ◌<◌, ◌≤◌, nat_le, le-leb, Option, Some, Ok, depth, optional, ReadIsCoherent, OnlyDeep, only_deep, deep_coherent, not_null, record_keeps, byte_back, bytes_back, anything, optional_place, accepted_same, accepted_place, few_levels, rows_back, refl, ◌▸◌, ◌-◌, ◌^◌, min, nat_lt, and_from, max_depth, WrittenIsLeadingItem, is_coherent, GivenIsCoherent, ReadIsGiven, WrittenDataAreReadBack, authenticator_data, kept, auth_data_back, auth_data_coherent, kept_below, text_back, kept_back, record_within, picked, picked_back, and_parts, AtMostOneLeadingItem, WrittenIsCanonical, record_canonical, ordered_of, in_order}
+use Rattle.passkey_kinds.proofs.Steps.{place_if, arith, ℕ, Bool, true, false, codes, text_string, shortest_head, true_place, IsLawfulAs, lawful, truth_back, PlaceHas, IsPlain, plainly, truth_plain, text_plain, puts_value, puts_default, no_more, option_map, Item, number_tree, EachPlace, Rule, list_plain, descriptor_law, parameters_law, user_law, ◌≡◌, ◌<◌, ◌≤◌, nat_le, le-leb, Option, Some, Ok, depth, optional, ReadIsCoherent, OnlyDeep, only_deep, deep_coherent, not_null, record_keeps, byte_back, bytes_back, anything, optional_place, accepted_same, accepted_place, few_levels, rows_back, refl, ◌▸◌, ◌-◌, ◌^◌, min, nat_lt, and_from, max_depth, WrittenIsLeadingItem, is_coherent, GivenIsCoherent, ReadIsGiven, WrittenDataAreReadBack, authenticator_data, kept, auth_data_back, auth_data_coherent, kept_below, text_back, kept_back, record_within, picked, picked_back, and_parts, AtMostOneLeadingItem, WrittenIsCanonical, record_canonical, ordered_of, in_order}
 use Rattle.std.proofs.Common.{leb-true}
 use Rattle.passkey_core.specs.DataNormal.{IsData, normal_data}
 use Rattle.passkey_core.specs.DataParts.{DataParts}
 use Rattle.passkey_entities.proofs.Entities.{rp_law}
-use Rattle.passkey_extensions.proofs.ExtensionBack.{make_parts_back}
-use Rattle.passkey_extensions.proofs.ExtensionLevels.{input_up, made_levels}
-use Rattle.passkey_extensions.proofs.ExtensionOrdered.{make_extensions_place}
-use Rattle.passkey_extensions.proofs.Keys.{made_key}
-use Rattle.passkey_extensions.proofs.Prf.{made_unsigned_law}
+use Rattle.passkey_extensions.proofs.Extensions.{make_parts_back, input_up, made_levels, make_extensions_if, made_key, made_unsigned_law}
 use Rattle.passkey_extensions.specs.HmacInput.{hmac_input_tree}
 use Rattle.passkey_extensions.specs.MakeExtensions.{make_extensions_tree, MakeExtensionsParts, make_extensions}
 use Rattle.passkey_kinds.proofs.Levels.{of_record}
 use Rattle.passkey_kinds.specs.Message.{WrittenIsReadBack}
 use Rattle.passkey_kinds.specs.Tree.{where_true}
-use Rattle.passkey_make_credential.specs.MakeRequest.{options, normal_options}
-use Rattle.passkey_make_credential.specs.MakeRequest.{MakeRequestParts, make_request_places, make_request_fields, read_make_request, make_request_tree, MakeRequestFits, is_make_request_coherent, normal_make_request, make_request_kept}
+use Rattle.passkey_make_credential.specs.MakeRequest.{options, normal_options, MakeRequestParts, make_request_places, make_request_fields, read_make_request, make_request_tree, MakeRequestFits, is_make_request_coherent, normal_make_request, make_request_kept}
 use Rattle.passkey_make_credential.specs.MakeResponse.{MakeResponseParts, make_response_places, make_response_fields, read_make_response, make_response_tree, MakeResponseFits, is_make_response_coherent, normal_make_response, attestation_places, attestation_tree, unattested, make_response_kept}
 
 -- ---- options of authenticatorMakeCredential can be decoded again, have one level, and their keys ascend
@@ -167,7 +162,7 @@ pub make_request_canonical : AtMostOneLeadingItem → WrittenIsLeadingItem
 unfolding shortest_head
 make_request_canonical one front =
     record_canonical make_request_places make_request_kept (λ r. refl) (λ r coherent. leb-true _ _ coherent)
-    (λ r w d kept. make_request_each (in_order 4) r (make_extensions_place one front (number_tree 6) tt r.extensions
+    (λ r w d kept. make_request_each (in_order 4) r (place_if _ _ (make_extensions_if one front) (number_tree 6) tt r.extensions
     w.1.1.1.1.1.0 d.1.1.1.1.1.0 kept))
 
 pub make_response_canonical : AtMostOneLeadingItem → WrittenIsLeadingItem

@@ -5,7 +5,7 @@ use Rattle.passkey_entities.specs.declared.rp.PublicKeyCredentialRpEntity.{Publi
 use Rattle.passkey_extensions.specs.MakeExtensions.{MakeExtensionsParts, make_extensions_coded, make_extensions_parts, make_extensions_kept}
 use Rattle.passkey_kinds.specs.Coded.{truth, byte, bytes, accepted, plain}
 use Rattle.passkey_kinds.specs.Tree.{where_true}
-use Rattle.passkey_kinds.specs.Words.{text_string, PlainTable, placed, default_as, default, depth, max_depth, Item, Placed, required_at, default_at, optional_at, tolerated_at, places_of, EachFits, descriptor, parameters, webauthn_user, Fields, fields_with, table_of, read_item, Table, Place, record_tree, PublicKeyCredentialDescriptor, PublicKeyCredentialParameters, PublicKeyCredentialUserEntity}
+use Rattle.passkey_kinds.specs.Words.{kept_if_some, text_string, PlainTable, placed, default_as, default, depth, max_depth, Item, Placed, required_at, default_at, optional_at, tolerated_at, places_of, EachFits, descriptor, parameters, webauthn_user, Fields, fields_with, table_of, read_item, Table, Place, record_tree, PublicKeyCredentialDescriptor, PublicKeyCredentialParameters, PublicKeyCredentialUserEntity}
 use Rattle.passkey_kinds.specs.declared.fault.Fault.{Fault}
 use Rattle.passkey_make_credential.specs.declared.options.Options.{Options}
 use Rattle.passkey_make_credential.specs.declared.request.Request.{Request}
@@ -102,7 +102,7 @@ make_request_tree r = record_tree (make_request_places r)
 
 -- the data item that a request keeps undecoded, if there is one
 abbrev pub make_request_kept : MakeRequestParts → List Item
-make_request_kept r = make_extensions_kept r.extensions
+make_request_kept r = kept_if_some make_extensions_kept r.extensions
 
 -- what holds of every request
 abbrev pub MakeRequestFits : MakeRequestParts → Type 0

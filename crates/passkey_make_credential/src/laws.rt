@@ -1,9 +1,8 @@
 //! Laws about the messages of authenticatorMakeCredential. Each is the contract of a function that
 //! does nothing.
 ghost use Rattle.passkey_kinds.specs.Words.{is_coherent, IsData, normal_data, KeysAscend, WrittenIsReadBack, ReadIsCoherent, WrittenIsCanonical, places_of, PassesOverUnknown, KnowsMaps};
-ghost use Rattle.passkey_make_credential.specs.MakeRequest.{make_request_fields, read_make_request, make_request_tree, MakeRequestFits, is_make_request_coherent, normal_make_request, make_request_kept, make_request_parts};
+ghost use Rattle.passkey_make_credential.specs.MakeRequest.{make_request_fields, read_make_request, make_request_tree, MakeRequestFits, is_make_request_coherent, normal_make_request, make_request_kept, make_request_parts, options};
 ghost use Rattle.passkey_make_credential.specs.MakeResponse.{make_response_fields, read_make_response, make_response_tree, MakeResponseFits, is_make_response_coherent, normal_make_response, attestation_tree, unattested, make_response_kept, make_response_parts};
-ghost use Rattle.passkey_make_credential.specs.MakeRequest.{options};
 
 use crate::{Request, Response};
 pub use passkey_entities::laws::written_keys_ascend as written_entity_keys_ascend;

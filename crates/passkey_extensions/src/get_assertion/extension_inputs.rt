@@ -96,6 +96,6 @@ impl ToCborMap for ExtensionInputs {
 }
 
 impl RecordReadBack for ExtensionInputs {
-    #[tactic(auto, using(crate::proofs::ExtensionBack::get_extensions_back))]
+    #[tactic(auto, using(crate::proofs::Extensions::get_extensions_back))]
     fn record_back() {}
 }

@@ -104,6 +104,6 @@ impl ToCborMap for ExtensionInputs {
 }
 
 impl RecordReadBack for ExtensionInputs {
-    #[tactic(auto, using(crate::proofs::ExtensionBack::make_extensions_back))]
+    #[tactic(auto, using(crate::proofs::Extensions::make_extensions_back))]
     fn record_back() {}
 }

@@ -1,4 +1,4 @@
-use Rattle.passkey_extensions.proofs.HmacInputLaws.{hmac_input_coherent}
+use Rattle.passkey_extensions.proofs.Extensions.{hmac_input_coherent}
 use Rattle.passkey_extensions.proofs.laws.read_hmac_input_is_coherent.Goals as goal
 
 pub returns : goal.returns

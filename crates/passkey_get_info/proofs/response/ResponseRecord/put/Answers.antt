@@ -1,6 +1,5 @@
 use Rattle.passkey_kinds.proofs.Steps.{ℕ, List, Option, map, option_map, refl, ap, nothing, each_same, sets_put}
-use Rattle.passkey_get_info.specs.GetInfo.{GetInfoParts, get_info_fields, get_info_parts}
-use Rattle.passkey_get_info.specs.GetInfo.{extension}
+use Rattle.passkey_get_info.specs.GetInfo.{GetInfoParts, get_info_fields, get_info_parts, extension}
 use Rattle.passkey_get_info.specs.declared.extension.Extension.{Extension}
 use Rattle.passkey_kinds.specs.Typed.{below, growing, list, optional}
 use Rattle.passkey_get_info.proofs.response.ResponseRecord.put.Goals as goal

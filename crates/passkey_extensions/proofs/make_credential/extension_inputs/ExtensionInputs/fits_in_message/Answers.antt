@@ -1,7 +1,7 @@
 use Rattle.passkey_kinds.proofs.Common.{◌∙◌, option_map, ap}
 use Rattle.passkey_extensions.specs.HmacInput.{hmac_input_parts}
 use Rattle.passkey_extensions.specs.MakeExtensions.{make_extensions_parts}
-use Rattle.passkey_extensions.proofs.ExtensionLevels.{made_levels}
+use Rattle.passkey_extensions.proofs.Extensions.{made_levels}
 use Rattle.passkey_extensions.proofs.make_credential.extension_inputs.ExtensionInputs.fits_in_message.Goals as goal
 
 pub returns-in-Some : goal.returns-in-Some
