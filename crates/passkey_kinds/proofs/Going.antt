@@ -1,5 +1,5 @@
 -- How a cursor moves, what it spends, and values of one head or of one string.
-use Rattle.passkey_kinds.proofs.Common.{rules, ◌≡◌, ℕ, ◌+◌, ◌-◌, ◌≤◌, ◌<◌, arith, List, [], ◌++◌, length, take, Option, Some, None, subst, length-append, length-take, mul-le-mul_left, Item, max_depth, IsLeadingItem, FindsHead, Region, PassesString, PassesLeadingItem, IsEncodedAt, Opens, Walk, ahead, Went, Head, head_again, head_long, lies_size, Onward, Further, Spends, option_and_then, ◌∙◌, ℤ, pos, negsuc, Bool, true, false, if◌then◌else◌, refl, sym, ap, cases_eq, cases_lt, nat_tests, items_of, pairs_of, unsigned_in, integer_in, null_in, ReadsFlat, truth, signed_64, nat_lt, option_map, Result, Ok, Err, OnOk, aaguid, Kind, AnswersAs, below, text, one_named, optional, Decodes, Refusal, Refused, OutOfMemory, BytesFault, array, elements-items_of, each, bytes, size, IfSome, is_ok, bytes_or_fault, follows_item, low_simple, encoded_long, IsEncodingOfHead, Within, Inside, item_within, simple_item, MakesLeadingItem, head_unsigned, head_integer, head_truth, head_null, head_array, head_map, OpensArray, OpensMap, FailsAs}
+use Rattle.passkey_kinds.proofs.Common.{rules, ◌≡◌, ℕ, ◌+◌, ◌-◌, ◌≤◌, ◌<◌, arith, List, [], ◌++◌, length, take, Option, Some, None, subst, length-append, length-take, mul-le-mul_left, Item, max_depth, IsLeadingItem, FindsHead, Region, PassesString, PassesLeadingItem, IsEncodedAt, Opens, Walk, ahead, Went, Head, head_again, head_long, lies_size, Onward, Further, Spends, option_and_then, ◌∙◌, ℤ, pos, negsuc, Bool, true, false, if◌then◌else◌, refl, sym, ap, cases_eq, cases_lt, nat_tests, items_of, pairs_of, unsigned_in, integer_in, null_in, ReadsFlat, truth, signed_64, nat_lt, option_map, Result, Ok, Err, OnOk, aaguid, Kind, AnswersAs, below, text, one_named, optional, Decodes, Refusal, Refused, OutOfMemory, BytesFault, array, elements-items_of, each, bytes, size, IfSome, is_ok, bytes_or_fault, follows_item, low_simple, encoded_long, IsEncodingOfHead, Within, Inside, item_within, simple_item, MakesLeadingItem, head_unsigned, head_integer, head_truth, head_null, head_array, head_map, elements_in, members_in, OpensAt, FailsAs, PairWithin, members-pairs_of}
 use Rattle.passkey_cbor.specs.declared.head.Head.TheVariants as head
 use Rattle.passkey_cbor.specs.Item as item
 
@@ -241,14 +241,23 @@ no_map : (h : Head) (i : Item) (t : List ℕ) → Inside h i t → is_map_head h
     → i ≡ item.map ps → ⊥
 no_map h i t w other ps e = grind (arith, true_false, head_says, simple_any)
 
-pub array_opened : (h : Head) (i : Item) (to : ℕ) (b : Walk) → Opens i to b (Some h)
-    → OpensArray i to b (head_array h)
-array_opened (head.Array left) i to b o = grind arith
-array_opened x i to b o = no_array x i o.text o.encoded refl
+not_array : (i : Item) → ((xs : item.Items) → i ≡ item.array xs → ⊥) → elements_in i ≡ None
+not_array (item.array xs) h = absurd (h xs refl)
+not_array _ h = refl
 
-pub map_opened : (h : Head) (i : Item) (to : ℕ) (b : Walk) → Opens i to b (Some h) → OpensMap i to b (head_map h)
-map_opened (head.Map left) i to b o = grind arith
-map_opened x i to b o = no_map x i o.text o.encoded refl
+not_map : (i : Item) → ((ps : item.Pairs) → i ≡ item.map ps → ⊥) → members_in i ≡ None
+not_map (item.map ps) h = absurd (h ps refl)
+not_map _ h = refl
+
+pub array_opened : (h : Head) (i : Item) (to : ℕ) (b : Walk) → Opens i to b (Some h)
+    → OpensAt elements_in (Within max_depth) i to b (head_array h)
+array_opened (head.Array left) i to b o = grind (arith, elements-items_of)
+array_opened x i to b o = not_array i (no_array x i o.text o.encoded refl)
+
+pub map_opened : (h : Head) (i : Item) (to : ℕ) (b : Walk) → Opens i to b (Some h)
+    → OpensAt members_in (PairWithin max_depth) i to b (head_map h)
+map_opened (head.Map left) i to b o = grind (arith, members-pairs_of)
+map_opened x i to b o = not_map i (no_map x i o.text o.encoded refl)
 
 -- ---- null
 

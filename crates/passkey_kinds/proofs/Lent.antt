@@ -1,5 +1,5 @@
 -- Strings that are lent at a cursor.
-use Rattle.passkey_kinds.proofs.Common.{rules, ◌≡◌, ℕ, ◌+◌, ◌≤◌, ◌<◌, arith, Bool, true, false, cond, List, [], ◌∷◌, ◌++◌, length, Option, Some, None, Result, Err, refl, sym, ap, subst, length-append, length-take, Item, byte_string, text_string, Content, Region, PassesString, LendsFrom, IsRegion, heads_in, IsEncodedAt, Walk, ahead, raised-le, Spends, Decodes, LooksAtMost, AnswersAs, MayGrow, Refusal, Refused, suc, option_map, Tells, LendsNothing, bytes, Further, option_and_then, ◌∙◌, ℤ, zero, ◌-◌, ◌^◌, Ok, algorithm_named, Algorithm, signed_64, algorithm, integer_in, ReadsFlat, OutOfMemory, head_again, head_long, data_parts, authenticator_data, authenticator_data_nodes, each_long, lends_start, lends_on, lends_all, AChunk, follows_chunk, Definite, Each, LooksAtAll, LooksAtSome, LentWhole, string_head, LooksFor, heads_until, heads_sought, LendsPiece, LendsNoPiece, LooksAhead, LendsUpTo, chunk, raised, DataGrow, AuthenticatorData, CountsData, Answers, IsOf, whole_64, NumberState, concat, ok_or}
+use Rattle.passkey_kinds.proofs.Common.{rules, ◌≡◌, ℕ, ◌+◌, ◌≤◌, ◌<◌, arith, Bool, true, false, cond, List, [], ◌∷◌, ◌++◌, length, Option, Some, None, Result, Err, refl, sym, ap, subst, length-append, length-take, Item, byte_string, text_string, Content, Region, PassesString, LendsFrom, IsRegion, heads_in, IsEncodedAt, Walk, ahead, raised-le, Spends, Decodes, LooksAtMost, AnswersAs, MayGrow, Refusal, Refused, suc, option_map, Tells, LendsNothing, bytes, Further, option_and_then, ◌∙◌, ℤ, zero, ◌-◌, ◌^◌, Ok, algorithm_named, Algorithm, signed_64, algorithm, integer_in, ReadsFlat, OutOfMemory, head_again, head_long, data_parts, authenticator_data, authenticator_data_nodes, each_long, lends_start, lends_on, lends_all, AChunk, follows_chunk, Definite, Each, LooksAtAll, LooksAtSome, LentWhole, string_head, LooksFor, heads_until, heads_sought, LendsPiece, LendsNoPiece, LooksAhead, LendsUpTo, chunk, raised, DataGrow, AuthenticatorData, CountsData, Answers, IsOf, whole_64, NumberState, concat, ok_or, list, below}
 use Rattle.passkey_core.specs.DataReading.{fixed_at}
 use Rattle.passkey_kinds.proofs.Going.{stands_long, eased, on_ok, stands_back, string_further, flat_found, flat_missed}
 use Rattle.passkey_kinds.proofs.Lists.{answers_from}
@@ -183,18 +183,11 @@ missed_then view wanted takes cost kept to a b d result p less r = grind arith
 
 -- ---- byte strings
 
-pub no_bytes : (i : Item) → ((s : List ℕ) → i ≡ item.byte_string s → ⊥)
-    → ((s : List ℕ) → i ≡ item.text_string s → ⊥) → ((xs : item.Items) → i ≡ item.array xs → ⊥) → bytes i ≡ None
-no_bytes (item.number n) b t a = refl
-no_bytes (item.byte_string s) b t a = absurd (b s refl)
-no_bytes (item.text_string s) b t a = absurd (t s refl)
-no_bytes (item.array xs) b t a = absurd (a xs refl)
-no_bytes (item.map ps) b t a = refl
-no_bytes (item.tagged t x) b t2 a = refl
-no_bytes (item.boolean v) b t a = refl
-no_bytes item.null b t a = refl
-no_bytes (item.simple n) b t a = refl
-no_bytes (item.float f) b t a = refl
+pub bytes_are : (i : Item) → ((s : List ℕ) → i ≡ item.byte_string s → ⊥) → ((s : List ℕ) → i ≡ item.text_string s → ⊥)
+    → bytes i ≡ list (below 256) i
+bytes_are (item.byte_string s) b t = absurd (b s refl)
+bytes_are (item.text_string s) b t = absurd (t s refl)
+bytes_are _ b t = refl
 
 -- ---- texts of numbers whose pieces are lent one after the other, and other items that decode to an
 -- algorithm

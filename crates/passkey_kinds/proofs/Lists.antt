@@ -1,5 +1,6 @@
 -- Lists, arrays and maps, decoded and encoded element by element.
-use Rattle.passkey_kinds.proofs.Common.{filter_map, ◌≡◌, ◌<◌, arith, ◌∙◌, List, [], ◌∷◌, ◌++◌, length, map, Option, Some, None, option_map, Result, Err, refl, ap, true, Item, array, items_of, IfPresent, elements-items_of, Kind, AnswersAs, MayGrow, each, list, accepted, Refusal, OutOfMemory, ℕ, suc, ◌+◌, ◌≤◌, sym, mul-le-mul_left, Walk, Keeping, nothing, counted, kept_of, kept_sum, in_elements, Spends, Decodes, option_and_then, ◌==◌, take, drop, get_or, if◌then◌else◌, append-nil, drop_all, length-map, take_all, take_more_set, below, sized_bytes, Bool, false, Region, Tells, LendsNothing, some_is, All, add-one, append_assoc, drop-cons, slice_cmp, eq_by_cmp, nat_cmp, cond, nat_list_cmp_total, ByteMap, put_each, same_bytes, pairs_of, item_of, pair_of, Value, members-pairs_of, bytes, entry, map_from_bytes, map_values, with_members, cons_option, ◌⊎◌, inl, inr, cases_lt, lt-ltb, le-ltb, ne_eqb, length-append, collected, entered, slice_set, entries_empty, string_again, pushed, pushed_if, pushed_below, drop_more, filter_map-append, bytes_or_fault, BytesFault, item_of-Array, Ok, item_of-Map}
+use Rattle.passkey_cbor.specs.Item.{elements, members}
+use Rattle.passkey_kinds.proofs.Common.{filter_map, ◌≡◌, ◌<◌, arith, ◌∙◌, List, [], ◌∷◌, ◌++◌, length, map, Option, Some, None, option_map, Result, Err, refl, ap, true, Item, array, items_of, IfPresent, elements-items_of, Kind, AnswersAs, MayGrow, each, list, accepted, Refusal, OutOfMemory, ℕ, suc, ◌+◌, ◌≤◌, sym, mul-le-mul_left, Walk, Keeping, nothing, counted, kept_of, kept_sum, in_elements, Spends, Decodes, option_and_then, ◌==◌, take, drop, get_or, if◌then◌else◌, append-nil, drop_all, length-map, take_all, take_more_set, below, sized_bytes, Bool, false, Region, Tells, LendsNothing, some_is, All, add-one, append_assoc, drop-cons, slice_cmp, eq_by_cmp, nat_cmp, cond, nat_list_cmp_total, ByteMap, put_each, same_bytes, pairs_of, item_of, pair_of, Value, members-pairs_of, bytes, entry, map_from_bytes, map_values, with_members, cons_option, ◌⊎◌, inl, inr, cases_lt, lt-ltb, le-ltb, ne_eqb, length-append, collected, entered, slice_set, entries_empty, string_again, pushed, pushed_if, pushed_below, drop_more, filter_map-append, bytes_or_fault, BytesFault, item_of-Array, Ok, item_of-Map, kept_parts, numbers_in, elements_in, members_in, in_members, ◌*◌}
 use Rattle.std.proofs.lemmas.List.{append_assoc}
 use Rattle.std.specs.FinMap as fin
 use Rattle.passkey_cbor.specs.Item as item
@@ -72,23 +73,26 @@ pub kept_nothing : {X : Type 0} (xs : List X) → kept_sum (λ x. 0) xs ≡ 0
 kept_nothing [] = refl
 kept_nothing (x ∷ xs) = ap (λ (n : ℕ). 0 + n) (kept_nothing xs)
 
-pub kept_array : (keeps : Keeping) (is : List Item)
-    → kept_sum (kept_of keeps) is ≡ kept_of (in_elements keeps) (array (items_of is))
-kept_array nothing is = kept_nothing is
-kept_array (counted count) is = ap (kept_sum count) (sym (elements-items_of is))
+pub kept_none : {X : Type 0} (o : Option (List X)) → kept_parts (λ x. 0) o ≡ 0
+kept_none None = refl
+kept_none (Some xs) = kept_nothing xs
 
-pub grows_items : (is : List Item) → 0 < length is → MayGrow true (array (items_of is))
-grows_items [] h = absurd (omega (arith, h))
-grows_items (i ∷ is) h = (refl, tt)
+pub kept_elements_in : (keeps : Keeping) (i : Item)
+    → kept_parts (kept_of keeps) (elements_in i) ≡ kept_of (in_elements keeps) i
+kept_elements_in nothing i = kept_none (elements_in i)
+kept_elements_in (counted count) (item.array xs) = refl
+kept_elements_in (counted count) _ = refl
 
-pub no_list : {M : Type 0} (kind : Kind M) (i : Item) → ((xs : item.Items) → i ≡ array xs → ⊥) → list kind i ≡ None
-no_list kind (item.array xs) h = absurd (h xs refl)
-no_list kind _ h = refl
+pub kept_members_in : (keeps : Keeping) (i : Item)
+    → kept_parts (λ m. kept_of keeps m.1) (members_in i) ≡ kept_of (in_members keeps) i
+kept_members_in nothing i = kept_none (members_in i)
+kept_members_in (counted count) (item.map ps) = refl
+kept_members_in (counted count) _ = refl
 
-pub none_accepted : {M : Type 0} (kind : Kind M) (i : Item) → ((xs : item.Items) → i ≡ array xs → ⊥)
-    → accepted kind i ≡ None
-none_accepted kind (item.array xs) h = absurd (h xs refl)
-none_accepted kind _ h = refl
+-- the first byte costs one head alone
+pub after_head : (cost kept to : ℕ) (a b d : Walk) → a.place < b.place → b.heads ≤ a.heads + 1
+    → Spends (suc cost) kept to b d → d.heads + suc cost * suc a.place ≤ suc a.heads + suc cost * to
+after_head cost kept to a b d further one s = grind (arith, mul-le-mul_left)
 
 -- ---- bytes of an array's elements, set one after the other
 
@@ -135,15 +139,10 @@ pub none_either : {X : Type 0} (b : Bool) (o : Option X) → o ≡ None → (if 
 none_either true o h = h
 none_either false o h = refl
 
-pub no_sized : (n : ℕ) (i : Item) → ((s : List ℕ) → i ≡ item.byte_string s → ⊥)
-    → ((xs : item.Items) → i ≡ item.array xs → ⊥) → sized_bytes n i ≡ None
-no_sized n (item.byte_string s) b a = absurd (b s refl)
-no_sized n (item.array xs) b a = absurd (a xs refl)
-no_sized n _ b a = refl
-
--- one head that isn't a byte string's, and then the item
-pub after_missed : (to : ℕ) (a b d : Walk) → LendsNothing a b → a.place < to → Spends 2 0 to b d → Spends 3 0 to a d
-after_missed to a b d p less s = grind arith
+pub numbers_are : (n : ℕ) (i : Item) → ((s : List ℕ) → i ≡ item.byte_string s → ⊥) → sized_bytes n i ≡ numbers_in n i
+numbers_are n (item.byte_string s) b = absurd (b s refl)
+numbers_are n (item.array xs) b = refl
+numbers_are n _ b = refl
 
 pub never_grows : (i : Item) → MayGrow false i → ⊥
 never_grows i h = grind arith
@@ -362,6 +361,29 @@ module _ {M : Type 0} (n : ℕ) (kind : Kind M) where
       → option_and_then (full n) (collected (pushed_below n kind) is []) ≡ (if length is == n then each kind is
       else None)
   full_each is = grind (arith, full_all, option_same)
+
+-- ---- the elements of an item, put together
+
+pub list_in : {M : Type 0} (kind : Kind M) (i : Item) {none : List M} → none ≡ []
+    → option_and_then (λ xs. collected (pushed kind) xs none) (elements_in i) ≡ list kind i
+list_in kind (item.array xs) e = pushed_each kind (elements xs) e
+list_in kind _ e = refl
+
+pub accepted_in : {M : Type 0} (kind : Kind M) (i : Item) {none : List M} → none ≡ []
+    → option_and_then (λ xs. collected (pushed_if kind) xs none) (elements_in i) ≡ accepted kind i
+accepted_in kind (item.array xs) e = pushed_accepted kind (elements xs) e
+accepted_in kind _ e = refl
+
+pub map_in : {M : Type 0} (kind : Kind M) (i : Item) {none : ByteMap M} → none ≡ fin.empty
+    → option_and_then (λ ms. collected (entered kind) ms none) (members_in i) ≡ map_from_bytes kind i
+map_in kind (item.map ps) e = ap (collected (entered kind) (members ps)) e ∙ entered_all kind (members ps) fin.empty
+map_in kind _ e = refl
+
+pub filled_in : (n : ℕ) (i : Item)
+    → option_and_then (full n) (option_and_then (λ xs. collected (pushed_below n (below 256)) xs []) (elements_in i))
+    ≡ numbers_in n i
+filled_in n (item.array xs) = full_each n (below 256) (elements xs)
+filled_in n _ = refl
 
 -- ---- the bytes that texts and arrays decode to
 

@@ -151,20 +151,6 @@ module _ (k one middle to : ℕ) (b d : Walk) (first : b.place ≤ middle) (seco
 
 -- ---- maps
 
-pub kept_map : (keeps : Keeping) (ms : List (Item × Item))
-    → kept_sum (λ m. kept_of keeps m.1) ms ≡ kept_of (in_members keeps) (item.map (pairs_of ms))
-kept_map nothing ms = kept_nothing ms
-kept_map (counted count) ms = ap (kept_sum (λ m. count m.1)) (sym (members-pairs_of ms))
-
-pub grows_pairs : (ms : List (Item × Item)) → 0 < length ms → MayGrow true (item.map (pairs_of ms))
-grows_pairs [] h = absurd (omega (arith, h))
-grows_pairs (m ∷ ms) h = (refl, tt)
-
-pub no_map_there : {M : Type 0} (kind : Kind M) (i : Item) → ((ps : item.Pairs) → i ≡ item.map ps → ⊥)
-    → map_from_bytes kind i ≡ None
-no_map_there kind (item.map ps) h = absurd (h ps refl)
-no_map_there kind _ h = refl
-
 -- ---- the greatest cost
 
 either_le : (b : Bool) (x y n : ℕ) → x ≤ n → y ≤ n → (if b then x else y) ≤ n

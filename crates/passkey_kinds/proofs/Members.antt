@@ -1,5 +1,6 @@
 -- A record's members, decoded one after the other.
-use Rattle.passkey_kinds.proofs.Common.{option_or, arith, ◌≡◌, ℕ, [], ◌∷◌, ◌++◌, is_none, refl, append-nil, Item, Table, Naming, row, unknown, named, Members, found, bad_by, first_bad, first_missing, unsigned_Decides, find, bytes_eq, ◌∙◌, ◌<◌, ◌==◌, nat_lt, cond, Bool, true, false, if◌then◌else◌, List, length, set, get_or, Option, Some, None, is_some, sym, ap, and_parts, leb-true, true≢false, slice_get-get_or, get_or_from_slice_get, below, with_row, Marks, are_small, Entry, row_or_unknown, number_names, entries, names, is_row, accepts_at, bad_member, Repeated, ◌+◌, suc, add-one, not, ◌&&◌, map, replicate, drop, option_map, slice_get, inl, inr, length-map, drop-cons, MayGrowIn, first_unmarked, Fault, Result, Ok, Err, OnOk, subst, append_assoc, result_ok, AnswersAs, Reads, Fields, set_with, rows_of, table_of, put_at, put_named, unless_missing, judged, read_members, read_item, HasReadTo, wrong, Refusal, Typed, MayGrowBy, takes_at, Steps, Sets, Puts, HasRead, held_as, get_or-set_same, get_or-set_other, length-set, get_or-map, get_or-replicate, length-replicate, item_of-Map, members-pairs_of}
+use Rattle.passkey_cbor.specs.Item.{pairs_of}
+use Rattle.passkey_kinds.proofs.Common.{option_or, arith, ◌≡◌, ℕ, [], ◌∷◌, ◌++◌, is_none, refl, append-nil, Item, Table, Naming, row, unknown, named, Members, found, bad_by, first_bad, first_missing, unsigned_Decides, find, bytes_eq, ◌∙◌, ◌<◌, ◌==◌, nat_lt, cond, Bool, true, false, if◌then◌else◌, List, length, set, get_or, Option, Some, None, is_some, sym, ap, and_parts, leb-true, true≢false, slice_get-get_or, get_or_from_slice_get, below, with_row, Marks, are_small, Entry, row_or_unknown, number_names, entries, names, is_row, accepts_at, bad_member, Repeated, ◌+◌, suc, add-one, not, ◌&&◌, map, replicate, drop, option_map, slice_get, inl, inr, length-map, drop-cons, MayGrowIn, first_unmarked, Fault, Result, Ok, Err, OnOk, subst, append_assoc, result_ok, AnswersAs, Reads, Fields, set_with, rows_of, table_of, put_at, put_named, unless_missing, judged, read_members, read_item, HasReadTo, wrong, Refusal, Typed, MayGrowBy, takes_at, Steps, Sets, Puts, HasRead, held_as, get_or-set_same, get_or-set_other, length-set, get_or-map, get_or-replicate, length-replicate, item_of-Map, members-pairs_of, members_in, pairs_of-members}
 use Rattle.passkey_kinds.specs.Record.{with_members}
 use Rattle.passkey_kinds.specs.declared.fault.Fault.TheVariants.{Refused}
 use Rattle.passkey_kinds.specs.declared.fault.Fault.TheVariants as fault
@@ -283,10 +284,13 @@ module _ {P : Type 0} (t : Fields P) where
       (ap (judged t ms) good ∙ (λ j. unless_missing (missing j) (whole.made j))) (λ none. absurd none) told
 
 -- an item that isn't a map isn't a record
-pub no_record : {P : Type 0} (t : Fields P) (i : Item) → ((ps : item.Pairs) → i ≡ item.map ps → ⊥)
-    → read_item t i ≡ Err fault.NotAMap
-no_record t (item.map ps) h = absurd (h ps refl)
+pub no_record : {P : Type 0} (t : Fields P) (i : Item) → members_in i ≡ None → read_item t i ≡ Err fault.NotAMap
+no_record t (item.map ps) h = absurd cc
 no_record t _ h = refl
+
+pub members_are : (i : Item) (ms : Members) → members_in i ≡ Some ms → i ≡ item.map (pairs_of ms)
+members_are (item.map ps) ms e = grind (arith, pairs_of-members)
+members_are _ ms e = absurd cc
 
 -- ---- records inside others
 

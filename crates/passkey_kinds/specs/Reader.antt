@@ -1,13 +1,13 @@
 -- Decoding values over a cursor.
-use Rattle.passkey_kinds.specs.Base.{Item, Walk, number, items_of, pairs_of, ItemsAreEncodedAt, PairsAreEncodedAt, IsEncodedAt, ByteMap, max_depth}
+use Rattle.passkey_kinds.specs.Base.{Item, Walk, number, elements, members, Grows, IsEncodedAt, ByteMap, max_depth}
 use Rattle.std.proofs.Common.{ℕ, arith, false, refl}
 use Rattle.std.specs.Prelude.{◌≡◌, ℕ, ◌+◌, ◌*◌, ◌≤◌, ◌<◌, Bool, true, length, Option, Result, OnOk, pos, ◌==◌, ◌||◌, false, if◌then◌else◌, List, Some, None, ℤ, negsuc, ℕ, suc, max, nat_lt, IsTrue, false, [], ◌∷◌, ◌++◌, option_map}
-use Rattle.passkey_cbor.specs.EncodedAt.{Walks, WalksOn}
-use Rattle.passkey_cbor.specs.Inside.{Within, PairWithin}
+use Rattle.passkey_cbor.specs.EncodedAt.{Lies, Walks, WalksOn}
+use Rattle.passkey_cbor.specs.Inside.{Left, Within, PairWithin}
 use Rattle.passkey_cbor.specs.Languages.{Language}
 use Rattle.passkey_cbor.specs.Lent.{Region}
 use Rattle.passkey_cbor.specs.declared.head.Head.{Head}
-use Rattle.passkey_kinds.specs.Kind.{Keeping, kept_of, Typed, AnswersAs, MayGrow, Kind, below, entry}
+use Rattle.passkey_kinds.specs.Kind.{Keeping, kept_of, kept_sum, Typed, AnswersAs, MayGrow, Kind, below, each, entry}
 use Rattle.passkey_kinds.specs.declared.refusal.Refusal.{Refusal}
 use Rattle.std.proofs.Math.Nat.{mul-le-mul_left}
 use Rattle.std.specs.List.{cons_option}
@@ -112,17 +112,22 @@ pub record ReadsFlat {X : Type 0} (wanted : Option X) (to : ℕ) (old new : Walk
   pub spends : Spends 1 0 to old new
   pub ends : (x : X) → found ≡ Some x → new.place ≡ to
 
--- Decoding one head returns the length of the array (`Some None` for an indefinite length), and the
--- elements come next; or it returns `None`, and the item isn't an array.
-abbrev pub OpensArray : Item → ℕ → Walk → Option (Option ℕ) → Type 0
-OpensArray i to new (Some left) =
-    (is : List Item) × ((i ≡ item.array (items_of is)) × ItemsAreEncodedAt left is new.bytes new.place to)
-OpensArray i to new None = (xs : item.Items) → (i ≡ item.array xs) → ⊥
+-- the elements of an array, and the members of a map
+abbrev pub elements_in : Item → Option (List Item)
+elements_in (item.array xs) = Some (elements xs)
+elements_in _ = None
 
-abbrev pub OpensMap : Item → ℕ → Walk → Option (Option ℕ) → Type 0
-OpensMap i to new (Some left) =
-    (ms : List (Item × Item)) × ((i ≡ item.map (pairs_of ms)) × PairsAreEncodedAt left ms new.bytes new.place to)
-OpensMap i to new None = (ps : item.Pairs) → (i ≡ item.map ps) → ⊥
+abbrev pub members_in : Item → Option (List (Item × Item))
+members_in (item.map ps) = Some (members ps)
+members_in _ = None
+
+-- Decoding one head returns the length (`Some None` for an indefinite length), and the parts come
+-- next; or it returns `None`, and the item has no such parts.
+abbrev pub OpensAt : {X : Type 0} → (Item → Option (List X)) → (X → Language) → Item → ℕ → Walk
+    → Option (Option ℕ) → Type 0
+OpensAt {X} parts Encoded i to new (Some left) =
+    (xs : List X) × ((parts i ≡ Some xs) × Lies (Left Encoded left xs) new.bytes new.place to)
+OpensAt parts Encoded i to new None = parts i ≡ None
 
 -- ---- laws about a cursor that doesn't move: it has spent nothing, and `Onward` holds from it to itself
 
@@ -148,16 +153,18 @@ abbrev pub collected : {X V : Type 0} → (X → V → Option V) → List X → 
 collected next [] v = Some v
 collected next (x ∷ xs) v = option_and_then (λ w. collected next xs w) (next x v)
 
--- A way of putting elements together: their encodings; what one more makes of the value, if it isn't
--- refused; whether decoding an element may take memory; the most heads that it decodes for each byte
--- of the element; the data items that it makes as values at most; and that a list goes from one
--- element to the next.
+-- A way of putting elements together: the elements of an item, and their encodings; what one more
+-- makes of the value, if it isn't refused; whether decoding an element may take memory; the most heads
+-- that it decodes for each byte of the element; the data items that it makes as values at most; and
+-- that an item with an element takes memory, and that a list goes from one element to the next.
 pub record Way (X V : Type 0) : Type 1 where
+  pub parts : Item → Option (List X)
   pub Encoded : X → Language
   pub next : X → V → Option V
   pub takes : Bool
   pub cost : ℕ
   pub kept : X → ℕ
+  pub grows : (i : Item) (xs : List X) → parts i ≡ Some xs → 0 < length xs → Grows i
   pub walked : (before after : Option ℕ) (old new : Walk) (found : Bool) → WalksOn before after old new found
       → Walks Encoded before after old new found
 
@@ -167,13 +174,40 @@ pub record AddsOne {X V : Type 0} (w : Way X V) (x : X) (before after : V) (to :
   pub decodes : Decodes (λ _. after) (w.next x before) (IsTrue w.takes) w.cost (w.kept x) to old new result
   pub further : old.place < to
 
+-- the data items that are made as values at most for all of them
+abbrev pub kept_parts : {X : Type 0} → (X → ℕ) → Option (List X) → ℕ
+kept_parts kept None = 0
+kept_parts kept (Some xs) = kept_sum kept xs
+
+-- Decoding an item whose elements are put together from this value on. The first byte costs one head
+-- alone.
+pub record Collects {C X V : Type 0} (value : C → V) (w : Way X V) (v : V) (i : Item) (to : ℕ) (old new : Walk)
+    (result : Result C Refusal) : Type 0 where
+  pub decodes : Decodes value (option_and_then (λ xs. collected w.next xs v) (w.parts i)) (MayGrow w.takes i)
+    (suc w.cost) (kept_parts w.kept (w.parts i)) to old new result
+  pub heads : new.heads + suc w.cost * suc old.place ≤ suc old.heads + suc w.cost * to
+
+pub grows_elements : (i : Item) (xs : List Item) → elements_in i ≡ Some xs → 0 < length xs → Grows i
+grows_elements (item.array item.no_items) [] e some = absurd (omega (arith, some))
+grows_elements (item.array item.no_items) (x ∷ xs) e some = absurd cc
+grows_elements (item.array (item.item y ys)) xs e some = tt
+grows_elements _ xs e some = absurd cc
+
+pub grows_members : (i : Item) (ms : List (Item × Item)) → members_in i ≡ Some ms → 0 < length ms → Grows i
+grows_members (item.map item.no_pairs) [] e some = absurd (omega (arith, some))
+grows_members (item.map item.no_pairs) (m ∷ ms) e some = absurd cc
+grows_members (item.map (item.pair k v ps)) ms e some = tt
+grows_members _ ms e some = absurd cc
+
 abbrev pub by_items : {V : Type 0} → (Item → V → Option V) → Bool → ℕ → (Item → ℕ) → Way Item V
 by_items next takes cost kept = record {
+  parts = elements_in;
   Encoded = Within max_depth;
   next = next;
   takes = takes;
   cost = cost;
   kept = kept;
+  grows = grows_elements;
   walked = λ before after old new found walks. walks.items;
 }
 
@@ -199,16 +233,22 @@ pushed_below n kind i xs = if nat_lt (length xs) n then pushed kind i xs else No
 abbrev pub filling : ℕ → Way Item (List ℕ)
 filling n = by_items (pushed_below n (below 256)) false 1 (λ i. 0)
 
+-- the bytes of an array of n integers from 0 to 255
+abbrev pub numbers_in : ℕ → Item → Option (List ℕ)
+numbers_in n i = option_and_then (λ is. if length is == n then each (below 256) is else None) (elements_in i)
+
 -- under its key
 abbrev pub entered : {M : Type 0} → Kind M → Item × Item → ByteMap M → Option (ByteMap M)
 entered kind x m = option_map (λ e. fin.insert m e.0 e.1) (entry kind x)
 
 abbrev pub entering : {M : Type 0} → Typed M → Way (Item × Item) (ByteMap M)
 entering k = record {
+  parts = members_in;
   Encoded = PairWithin max_depth;
   next = entered k.of;
   takes = true;
   cost = max 3 k.cost;
   kept = λ m. kept_of k.keeps m.1;
+  grows = grows_members;
   walked = λ before after old new found walks. walks.pairs;
 }

@@ -1,10 +1,10 @@
 //! Arrays of 32 bytes, decoded from data items and encoded as arrays of integers.
-ghost use Rattle.std.specs.Prelude.{◌==◌, ℕ, List, length, map, take, if◌then◌else◌, false, Some, None};
-ghost use Rattle.passkey_kinds.specs.Words.{Item, Tells, ItemsAreEncodedAt, Onward, Decodes, LooksAtMost, item_of, AnswersAs, each, AreBytes, numbers_tree, sized_bytes};
-ghost use Rattle.passkey_kinds.specs.Reader.{filling};
+ghost use Rattle.std.specs.Prelude.{◌==◌, ℕ, OnOk, List, length, map, take, if◌then◌else◌, false, Some, None};
+ghost use Rattle.passkey_kinds.specs.Words.{Item, Tells, IsEncodedAt, Further, Onward, Decodes, LooksAtMost, item_of, AnswersAs, each, AreBytes, numbers_tree, sized_bytes};
+ghost use Rattle.passkey_kinds.specs.Reader.{filling, numbers_in};
 ghost use Rattle.passkey_kinds.specs.Kind.{below};
 
-use crate::collect::{Collect, read_all};
+use crate::collect::{Collect, read_whole};
 use crate::head::read_array;
 use crate::written::{append_each, write_each};
 use crate::{FromCbor, OutOfMemory, Refusal, ToCbor};
@@ -44,6 +44,10 @@ impl Collect for Front {
 
     ghost way = { filling 32 };
 
+    fn start(cursor: &mut Cursor<'_>) -> Option<Option<u64>> {
+        read_array(cursor)
+    }
+
     fn add(&mut self, alloc: Global, cursor: &mut Cursor<'_>) -> Result<(), Refusal> {
         if self.len >= 32 {
             return Err(Refusal::Refused);
@@ -54,22 +58,18 @@ impl Collect for Front {
     }
 }
 
-/// Decodes the bytes from the elements that follow an array's head.
-fn read_numbers_ahead(
-    alloc: Global,
-    left: Option<u64>,
-    cursor: &mut Cursor<'_>,
-) -> Result<[u8; 32], Refusal>
-    ensures reads { (is : List Item) (to : ℕ) → ItemsAreEncodedAt left is cursor.old.bytes cursor.old.place to
-        → Decodes (λ b. b) (if length is == 32 then each (below 256) is else None) ⊥ 2 0 to cursor.old cursor.new
-        result }
+/// Decodes the bytes from the array of integers at the cursor.
+fn read_numbers_here(alloc: Global, cursor: &mut Cursor<'_>) -> Result<[u8; 32], Refusal>
+    ensures reads { (i : Item) (to : ℕ) → IsEncodedAt i cursor.old.bytes cursor.old.place to
+        → Decodes (λ b. b) (numbers_in 32 i) ⊥ 2 0 to cursor.old cursor.new result }
     ensures onward { Onward cursor.old cursor.new }
+    ensures further { OnOk result (Further cursor.old cursor.new) }
 {
     let empty = Front {
         bytes: [0; 32],
         len: 0,
     };
-    let front = read_all(alloc, empty, left, cursor)?;
+    let front = read_whole(alloc, empty, cursor)?;
     if front.len >= 32 {
         Ok(front.bytes)
     } else {
@@ -113,10 +113,7 @@ impl FromCbor for [u8; 32] {
     fn read(alloc: Global, cursor: &mut Cursor<'_>) -> Result<[u8; 32], Refusal> {
         match cursor.bytes() {
             Some(token) => filled(&token, cursor),
-            None => match read_array(cursor) {
-                Some(left) => read_numbers_ahead(alloc, left, cursor),
-                None => Err(Refusal::Refused),
-            },
+            None => read_numbers_here(alloc, cursor),
         }
     }
 }

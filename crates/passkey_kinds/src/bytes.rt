@@ -1,14 +1,14 @@
 //! Bytes, decoded from byte strings, from arrays of integers, and from text strings in base64url or
 //! base64.
-ghost use Rattle.std.specs.Prelude.{◌≡◌, ◌<◌, ℕ, List, length, map, true, ⊤};
+ghost use Rattle.std.specs.Prelude.{◌<◌, ◌≤◌, ◌+◌, ◌*◌, ℕ, suc, List, length, map, true, ⊤, OnOk};
 ghost use Rattle.std.specs.Str.{trim};
-ghost use Rattle.passkey_kinds.specs.Words.{Item, IsRegion, Tells, ItemsAreEncodedAt, Onward, Decodes, LooksAtMost, item_of, text_bytes, AnswersAs, each, bytes};
-ghost use Rattle.passkey_kinds.specs.Kind.{below};
+ghost use Rattle.passkey_kinds.specs.Words.{Item, IsRegion, Tells, IsEncodedAt, Further, Onward, Decodes, LooksAtMost, item_of, text_bytes, AnswersAs, each, bytes};
+ghost use Rattle.passkey_kinds.specs.Kind.{below, list, MayGrow};
 
-use crate::head::read_array;
-use crate::list::{read_each, read_elements};
+use crate::collect::read_whole;
+use crate::list::read_each;
 use crate::{FromCbor, Refusal};
-use passkey_bytes::{Bytes, BytesFault, List as Numbers};
+use passkey_bytes::{Bytes, BytesFault};
 use passkey_cbor::{Cursor, TextToken, Value};
 use std::alloc::Global;
 
@@ -55,26 +55,17 @@ fn read_base64(
     }
 }
 
-fn bytes_of(numbers: Numbers<u8>) -> Bytes
-    ensures { result ≡ numbers }
-{
-    Bytes::from(Vec::from(numbers))
-}
-
-/// Decodes the bytes from the elements that follow an array's head.
-fn read_numbers_ahead(
-    alloc: Global,
-    left: Option<u64>,
-    cursor: &mut Cursor<'_>,
-) -> Result<Bytes, Refusal>
-    ensures reads { (is : List Item) (to : ℕ) → ItemsAreEncodedAt left is cursor.old.bytes cursor.old.place to
-        → Decodes (λ b. b) (each (below 256) is) (0 < length is) 2 0 to cursor.old cursor.new result }
+/// Decodes the bytes from the array of integers at the cursor.
+fn read_numbers_here(alloc: Global, cursor: &mut Cursor<'_>) -> Result<Bytes, Refusal>
+    ensures reads { (i : Item) (to : ℕ) → IsEncodedAt i cursor.old.bytes cursor.old.place to
+        → Decodes (λ b. b) (list (below 256) i) (MayGrow true i) 2 0 to cursor.old cursor.new result }
+    ensures heads { (i : Item) (to : ℕ) → IsEncodedAt i cursor.old.bytes cursor.old.place to
+        → cursor.new.heads + 2 * suc cursor.old.place ≤ suc cursor.old.heads + 2 * to }
     ensures onward { Onward cursor.old cursor.new }
+    ensures further { OnOk result (Further cursor.old cursor.new) }
 {
-    match read_elements::<u8>(alloc, left, cursor) {
-        Ok(numbers) => Ok(bytes_of(numbers)),
-        Err(refusal) => Err(refusal),
-    }
+    let numbers = read_whole(alloc, Vec::<u8>::new(alloc), cursor)?;
+    Ok(Bytes::from(numbers))
 }
 
 impl FromCbor for Bytes {
@@ -99,9 +90,6 @@ impl FromCbor for Bytes {
         if let Some(token) = cursor.text() {
             return read_base64(alloc, &token, cursor);
         }
-        match read_array(cursor) {
-            Some(left) => read_numbers_ahead(alloc, left, cursor),
-            None => Err(Refusal::Refused),
-        }
+        read_numbers_here(alloc, cursor)
     }
 }

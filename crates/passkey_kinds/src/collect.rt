@@ -1,9 +1,9 @@
 //! Elements of arrays and members of maps, decoded one after the other at a cursor.
-ghost use Rattle.std.specs.Prelude.{◌<◌, ℕ, suc, IsTrue, List, length, OnOk};
-ghost use Rattle.passkey_kinds.specs.Words.{kept_sum, Decodes, Further, Onward};
+ghost use Rattle.std.specs.Prelude.{◌<◌, ◌≤◌, ◌+◌, ℕ, suc, IsTrue, List, length, IfSome, OnOk};
+ghost use Rattle.passkey_kinds.specs.Words.{Item, IsEncodedAt, kept_sum, Decodes, Spends, Further, Onward};
 ghost use Rattle.passkey_cbor.specs.EncodedAt.{Lies};
 ghost use Rattle.passkey_cbor.specs.Inside.{Left};
-ghost use Rattle.passkey_kinds.specs.Reader.{Way, AddsOne, collected};
+ghost use Rattle.passkey_kinds.specs.Reader.{OpensAt, Way, AddsOne, Collects, collected};
 
 use crate::refusal::Refusal;
 use passkey_cbor::Cursor;
@@ -21,6 +21,17 @@ pub(crate) trait Collect: Drop {
 
     ghost way: { Way Element Value };
 
+    /// Decodes the head of the array or map at the cursor and returns its length, which is
+    /// `Some(None)` if it is indefinite. Returns `None` if none is there.
+    fn start(cursor: &mut Cursor<'_>) -> Option<Option<u64>>
+        ensures opens { (i : Item) (to : ℕ) → IsEncodedAt i cursor.old.bytes cursor.old.place to
+            → OpensAt way.parts way.Encoded i to cursor.new result }
+        ensures spends { (i : Item) (to : ℕ) → IsEncodedAt i cursor.old.bytes cursor.old.place to
+            → Spends 1 0 to cursor.old cursor.new }
+        ensures counted { cursor.new.heads ≤ cursor.old.heads + 1 }
+        ensures onward { Onward cursor.old cursor.new }
+        ensures further { IfSome result (λ _. Further cursor.old cursor.new) };
+
     /// Decodes the element at the cursor and adds it. Returns `Refused` exactly if it isn't accepted.
     fn add(&mut self, alloc: Global, cursor: &mut Cursor<'_>) -> Result<(), Refusal>
         ensures adds { (x : Element) (to : ℕ) → Lies (way.Encoded x) cursor.old.bytes cursor.old.place to
@@ -30,7 +41,7 @@ pub(crate) trait Collect: Drop {
 }
 
 /// Decodes the elements that follow the head of an array or a map, and adds them.
-pub(crate) fn read_all<C: Collect>(
+fn read_all<C: Collect>(
     alloc: Global,
     empty: C,
     mut left: Option<u64>,
@@ -47,4 +58,22 @@ pub(crate) fn read_all<C: Collect>(
         into.add(alloc, cursor)?;
     }
     Ok(into)
+}
+
+/// Decodes the array or the map at the cursor, and adds its elements or members. Returns `Refused` if
+/// none is there, or if one of them isn't accepted.
+pub(crate) fn read_whole<C: Collect>(
+    alloc: Global,
+    empty: C,
+    cursor: &mut Cursor<'_>,
+) -> Result<C, Refusal>
+    ensures reads { (i : Item) (to : ℕ) → IsEncodedAt i cursor.old.bytes cursor.old.place to
+        → Collects C.value C.way (C.value empty) i to cursor.old cursor.new result }
+    ensures onward { Onward cursor.old cursor.new }
+    ensures further { OnOk result (Further cursor.old cursor.new) }
+{
+    match C::start(cursor) {
+        Some(left) => read_all(alloc, empty, left, cursor),
+        None => Err(Refusal::Refused),
+    }
 }

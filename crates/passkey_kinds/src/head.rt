@@ -1,9 +1,10 @@
 //! Decodes one head at a cursor, by the type of data item that is wanted.
 ghost use Rattle.std.specs.Prelude.{◌≡◌, ℕ, ◌+◌, ◌≤◌, ◌==◌, true, false, Option, if◌then◌else◌, IfSome, Some as There, None as Nothing};
 ghost use Rattle.std.specs.Option.{option_and_then};
-ghost use Rattle.passkey_kinds.specs.Words.{Item, null, signed_64, IsEncodedAt, Onward, Further, Spends};
+ghost use Rattle.passkey_kinds.specs.Words.{Item, null, signed_64, IsEncodedAt, Onward, Further, Spends, max_depth};
 ghost use Rattle.passkey_cbor.specs.Initial.{major_of};
-ghost use Rattle.passkey_kinds.specs.Reader.{unsigned_in, integer_in, null_in, head_unsigned, head_integer, head_truth, head_null, head_array, head_map, ReadsFlat, OpensArray, OpensMap};
+ghost use Rattle.passkey_cbor.specs.Inside.{Within, PairWithin};
+ghost use Rattle.passkey_kinds.specs.Reader.{unsigned_in, integer_in, null_in, head_unsigned, head_integer, head_truth, head_null, head_array, head_map, ReadsFlat, elements_in, members_in, OpensAt};
 ghost use Rattle.passkey_kinds.specs.Kind.{truth};
 
 use passkey_cbor::{Cursor, Head};
@@ -157,7 +158,7 @@ pub(crate) fn read_null(cursor: &mut Cursor<'_>) -> bool
 #[tactic(auto, using(crate::proofs::Going::heads))]
 pub(crate) fn read_array(cursor: &mut Cursor<'_>) -> Option<Option<u64>>
     ensures opens { (i : Item) (to : ℕ) → IsEncodedAt i cursor.old.bytes cursor.old.place to
-        → OpensArray i to cursor.new result }
+        → OpensAt elements_in (Within max_depth) i to cursor.new result }
     ensures spends { (i : Item) (to : ℕ) → IsEncodedAt i cursor.old.bytes cursor.old.place to
         → Spends 1 0 to cursor.old cursor.new }
     ensures counted { cursor.new.heads ≤ cursor.old.heads + 1 }
@@ -175,7 +176,7 @@ pub(crate) fn read_array(cursor: &mut Cursor<'_>) -> Option<Option<u64>>
 #[tactic(auto, using(crate::proofs::Going::heads))]
 pub(crate) fn read_map(cursor: &mut Cursor<'_>) -> Option<Option<u64>>
     ensures opens { (i : Item) (to : ℕ) → IsEncodedAt i cursor.old.bytes cursor.old.place to
-        → OpensMap i to cursor.new result }
+        → OpensAt members_in (PairWithin max_depth) i to cursor.new result }
     ensures spends { (i : Item) (to : ℕ) → IsEncodedAt i cursor.old.bytes cursor.old.place to
         → Spends 1 0 to cursor.old cursor.new }
     ensures counted { cursor.new.heads ≤ cursor.old.heads + 1 }

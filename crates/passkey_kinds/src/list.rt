@@ -1,10 +1,10 @@
 //! Lists, decoded from arrays.
-ghost use Rattle.std.specs.Prelude.{◌<◌, ℕ, suc, length, map, Some, true, List as Items};
+ghost use Rattle.std.specs.Prelude.{◌<◌, length, map, Some, true, List as Items};
 ghost use Rattle.std.specs.List.{filter_map};
-ghost use Rattle.passkey_kinds.specs.Words.{item_of, Item, ItemsAreEncodedAt, kept_of, kept_sum, AnswersAs, each, Onward, Decodes, list, accepted};
+ghost use Rattle.passkey_kinds.specs.Words.{item_of, Item, AnswersAs, each, list, accepted};
 ghost use Rattle.passkey_kinds.specs.Reader.{pushing, pushing_if};
 
-use crate::collect::{Collect, read_all};
+use crate::collect::{Collect, read_whole};
 use crate::head::read_array;
 use crate::{FromCbor, Refusal, Tolerated};
 use passkey_bytes::List;
@@ -47,24 +47,14 @@ impl<T: FromCbor> Collect for Vec<T> {
 
     ghost way = { pushing T.typed };
 
+    fn start(cursor: &mut Cursor<'_>) -> Option<Option<u64>> {
+        read_array(cursor)
+    }
+
     fn add(&mut self, alloc: Global, cursor: &mut Cursor<'_>) -> Result<(), Refusal> {
         self.push(T::read(alloc, cursor)?)?;
         Ok(())
     }
-}
-
-/// Decodes the elements that follow an array's head.
-pub(crate) fn read_elements<T: FromCbor>(
-    alloc: Global,
-    left: Option<u64>,
-    cursor: &mut Cursor<'_>,
-) -> Result<List<T>, Refusal>
-    ensures reads { (is : Items Item) (to : ℕ) → ItemsAreEncodedAt left is cursor.old.bytes cursor.old.place to
-        → Decodes (λ xs. map T.view xs) (each T.typed.of is) (0 < length is) (suc T.typed.cost)
-        (kept_sum (kept_of T.typed.keeps) is) to cursor.old cursor.new result }
-    ensures onward { Onward cursor.old cursor.new }
-{
-    Ok(List::from(read_all(alloc, Vec::new(alloc), left, cursor)?))
 }
 
 /// Elements behind one another, without those that aren't accepted.
@@ -80,6 +70,10 @@ impl<T: FromCbor> Collect for Accepted<T> {
 
     ghost way = { pushing_if T.typed };
 
+    fn start(cursor: &mut Cursor<'_>) -> Option<Option<u64>> {
+        read_array(cursor)
+    }
+
     fn add(&mut self, alloc: Global, cursor: &mut Cursor<'_>) -> Result<(), Refusal> {
         let element: Tolerated<T> = Tolerated::read(alloc, cursor)?;
         match element.0 {
@@ -88,21 +82,6 @@ impl<T: FromCbor> Collect for Accepted<T> {
         }
         Ok(())
     }
-}
-
-/// Decodes the elements that follow an array's head, and skips those that aren't accepted.
-fn read_accepted_elements<T: FromCbor>(
-    alloc: Global,
-    left: Option<u64>,
-    cursor: &mut Cursor<'_>,
-) -> Result<TolerantList<T>, Refusal>
-    ensures reads { (is : Items Item) (to : ℕ) → ItemsAreEncodedAt left is cursor.old.bytes cursor.old.place to
-        → Decodes (λ l. map T.view l.0) (Some (filter_map T.typed.of is)) (0 < length is) (suc (suc T.typed.cost))
-        (kept_sum (kept_of T.typed.keeps) is) to cursor.old cursor.new result }
-    ensures onward { Onward cursor.old cursor.new }
-{
-    let accepted = read_all(alloc, Accepted(Vec::new(alloc)), left, cursor)?;
-    Ok(TolerantList(List::from(accepted.0)))
 }
 
 impl<T: FromCbor> FromCbor for List<T> {
@@ -121,10 +100,8 @@ impl<T: FromCbor> FromCbor for List<T> {
     }
 
     fn read(alloc: Global, cursor: &mut Cursor<'_>) -> Result<List<T>, Refusal> {
-        match read_array(cursor) {
-            Some(left) => read_elements(alloc, left, cursor),
-            None => Err(Refusal::Refused),
-        }
+        let elements = read_whole(alloc, Vec::new(alloc), cursor)?;
+        Ok(List::from(elements))
     }
 }
 
@@ -149,9 +126,7 @@ impl<T: FromCbor> FromCbor for TolerantList<T> {
     }
 
     fn read(alloc: Global, cursor: &mut Cursor<'_>) -> Result<TolerantList<T>, Refusal> {
-        match read_array(cursor) {
-            Some(left) => read_accepted_elements(alloc, left, cursor),
-            None => Err(Refusal::Refused),
-        }
+        let accepted = read_whole(alloc, Accepted(Vec::new(alloc)), cursor)?;
+        Ok(TolerantList(List::from(accepted.0)))
     }
 }

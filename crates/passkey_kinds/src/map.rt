@@ -8,7 +8,7 @@ ghost use Rattle.passkey_kinds.specs.Tree.{sorted_by, entry_tree, key_size};
 ghost use Rattle.passkey_kinds.specs.Typed.{map_from_bytes};
 ghost use Rattle.std.specs.FinMap as fin;
 
-use crate::collect::{Collect, read_all};
+use crate::collect::{Collect, read_whole};
 use crate::head::read_map;
 use crate::{FromCbor, OutOfMemory, Refusal, ToCbor};
 use passkey_bytes::{Bytes, Map};
@@ -38,6 +38,10 @@ impl<T: FromCbor> Collect for Map<Bytes, T> {
 
     ghost way = { entering T.typed };
 
+    fn start(cursor: &mut Cursor<'_>) -> Option<Option<u64>> {
+        read_map(cursor)
+    }
+
     fn add(&mut self, alloc: Global, cursor: &mut Cursor<'_>) -> Result<(), Refusal> {
         let key = Bytes::read(alloc, cursor)?;
         self.insert(key, T::read(alloc, cursor)?)?;
@@ -61,10 +65,7 @@ impl<T: FromCbor> FromCbor for Map<Bytes, T> {
     }
 
     fn read(alloc: Global, cursor: &mut Cursor<'_>) -> Result<Map<Bytes, T>, Refusal> {
-        match read_map(cursor) {
-            Some(left) => read_all(alloc, Map::empty(alloc), left, cursor),
-            None => Err(Refusal::Refused),
-        }
+        read_whole(alloc, Map::empty(alloc), cursor)
     }
 }
 

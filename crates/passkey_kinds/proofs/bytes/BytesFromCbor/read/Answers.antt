@@ -1,4 +1,4 @@
-use Rattle.passkey_kinds.proofs.Steps.{rules, ◌≡◌, ◌∙◌, ◌^◌, true, false, Some, Ok, Err, sym, ap, subst, arith, err_from_is_err_and, elements-items_of, bytes, each, below, MayGrow, OutOfMemory, grows_items, stands_long, on_ok, looks_all, looks_some, lent_decodes, text_grows, bytes_grow, answers_from, decodes_dearer, missed_then, stands_missed, looked_further, no_bytes}
+use Rattle.passkey_kinds.proofs.Steps.{rules, ◌≡◌, ◌∙◌, ◌^◌, true, false, Some, Ok, Err, sym, ap, subst, arith, err_from_is_err_and, elements-items_of, bytes, each, below, MayGrow, OutOfMemory, stands_long, on_ok, looks_all, looks_some, lent_decodes, text_grows, bytes_grow, answers_from, decodes_dearer, missed_then, stands_missed, looked_further, bytes_are}
 use Rattle.passkey_kinds.proofs.bytes.BytesFromCbor.read.Goals as goal
 
 pub returns-in_err-copy-clause-reads : goal.returns-in_err-copy-clause-reads
@@ -50,44 +50,21 @@ returns-in-Some-text-clause-further c = grind (
   c.in_default.ensures.went.forward,
 )
 
-pub returns-in-Some-read_array-clause-reads : goal.returns-in-Some-read_array-clause-reads
-returns-in-Some-read_array-clause-reads c = λ i to l.
+pub returns-clause-reads : goal.returns-clause-reads
+returns-clause-reads c = λ i to l.
     let a = c.args.cursor.now in
     let e = c.in_default.ensures.lends i to l in
     let there = stands_missed i a c.bytes.new.self to e.1 l in
     let t = c.in_default-text.ensures.lends i to there in
     let here = stands_missed i c.bytes.new.self c.text.new.self to t.1 there in
-    let opened = c.in-Some-read_array.ensures.opens i to here in
-    let r = c.read_numbers_ahead.ensures.reads opened.0 to opened.1.1 in
-    let same : bytes i ≡ each (below (2 ^ 8)) opened.0 =
-    ap bytes opened.1.0 ∙ ap (each (below (2 ^ 8))) (elements-items_of opened.0) in
+    let r = c.read_numbers_here.ensures.reads i to here in
+    let h = c.read_numbers_here.ensures.heads i to here in
     record {
-      answers = answers_from _ c.read_numbers_ahead.result same
-          (λ h. subst (MayGrow true) (sym opened.1.0) (grows_items opened.0 h)) r.answers;
+      answers = answers_from _ c.read_numbers_here.result (bytes_are i e.0 t.0) (λ h. h) r.answers;
       spends = record {
         within = r.spends.within;
-        heads = omega (
-          arith,
-          r.spends.heads,
-          c.in-Some-read_array.ensures.counted,
-          c.in-Some-read_array.ensures.further,
-          e.1.heads,
-          e.1.place,
-          t.1.heads,
-          t.1.place,
-        );
-        nodes = omega
-            (arith, r.spends.nodes, (c.in-Some-read_array.ensures.spends i to here).nodes, e.1.nodes, t.1.nodes);
+        heads = omega (arith, h, e.1.heads, e.1.place, t.1.heads, t.1.place, stands_long i a.bytes a.place to l);
+        nodes = omega (arith, r.spends.nodes, e.1.nodes, t.1.nodes);
       };
       ends = r.ends;
     }
-
-pub returns-in-None-clause-reads : goal.returns-in-None-clause-reads
-returns-in-None-clause-reads c = λ i to l.
-    let a = c.args.cursor.now in
-    let e = c.in_default.ensures.lends i to l in
-    let there = stands_missed i a c.bytes.new.self to e.1 l in
-    let t = c.in_default-text.ensures.lends i to there in
-    let here = stands_missed i c.bytes.new.self c.text.new.self to t.1 there in
-    let s = c.in-None.ensures.spends i to here in
-    search (rules, no_bytes, stands_long, a, e, t, here, s, c.in-None.ensures.opens, c.in-None.ensures.counted)

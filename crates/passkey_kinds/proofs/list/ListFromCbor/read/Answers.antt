@@ -1,26 +1,16 @@
-use Rattle.passkey_kinds.proofs.Steps.{◌∙◌, ◌<◌, length, true, sym, ap, subst, arith, kept_of, kept_sum, in_elements, list, MayGrow, decodes_in, kept_array, grows_items, no_list, eased, stands_long, list_array}
+use Rattle.passkey_kinds.proofs.Steps.{arith, ◌∙◌, map, sym, ap, subst, err_from_is_err_and, kept_elements_in, list_in, fails_as}
 use Rattle.passkey_kinds.proofs.list.ListFromCbor.read.Goals as goal
 
-pub returns-in-Some-clause-reads : goal.returns-in-Some-clause-reads
-returns-in-Some-clause-reads g c = λ i to l.
-    let opened = c.in-Some.ensures.opens i to l in
-    let is = opened.0 in
-    let same = ap (list g.T.FromCbor.typed.of) opened.1.0 ∙ list_array g.T.FromCbor.typed.of is in
-    let kept = kept_array g.T.FromCbor.typed.keeps is ∙ ap (kept_of (in_elements g.T.FromCbor.typed.keeps)) (sym
-    opened.1.0) in
-    decodes_in _ g.T.FromCbor.typed.cost (kept_sum (kept_of g.T.FromCbor.typed.keeps) is) (kept_of (in_elements
-    g.T.FromCbor.typed.keeps) i) to
-    c.args.cursor.now c.read_array.new.cursor c.read_elements.new.cursor c.read_elements.result same
-    (λ (h : 0 < length is). subst (MayGrow true) (sym opened.1.0) (grows_items is h)) (omega (arith, kept))
-    c.in-Some.ensures.further c.in-Some.ensures.counted (c.in-Some.ensures.spends i to l).nodes
-    (c.read_elements.ensures.reads is to opened.1.1)
+pub returns-in_err-elements-clause-reads : goal.returns-in_err-elements-clause-reads
+returns-in_err-elements-clause-reads g c = λ i to l.
+    let p = err_from_is_err_and c.from_residual.result c.from_residual.ensures.1 in
+    let begun = list_in g.T.FromCbor.typed.of i (ap (map g.T.FromCbor.view) c.new.ensures.items) in
+    rw (p.1, p.2) (fails_as c.in_err-elements.field-0.0 (kept_elements_in g.T.FromCbor.typed.keeps i)
+    (λ none. sym begun ∙ none) (λ h. h) (c.in_err-elements.ensures.reads i to l).decodes)
 
-pub returns-in-None-clause-reads : goal.returns-in-None-clause-reads
-returns-in-None-clause-reads g c = λ i to l.
-    let a = c.args.cursor.now in
-    record {
-      answers = no_list g.T.FromCbor.typed.of i (c.in-None.ensures.opens i to l);
-      spends = eased 1 _ 0 _ to a c.read_array.new.cursor (omega arith) (omega arith)
-          (omega (arith, stands_long i a.bytes a.place to l)) (c.in-None.ensures.spends i to l);
-      ends = tt;
-    }
+pub returns-clause-reads : goal.returns-clause-reads
+returns-clause-reads g c = λ i to l.
+    let r = (c.in_ok-elements.ensures.reads i to l).decodes in
+    let begun = list_in g.T.FromCbor.typed.of i (ap (map g.T.FromCbor.view) c.new.ensures.items) in
+    let kept = kept_elements_in g.T.FromCbor.typed.keeps i in
+    grind (arith, r, begun, kept, c.from.ensures)
