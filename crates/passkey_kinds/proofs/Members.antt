@@ -333,4 +333,5 @@ pub ruleset reads_one = (
 )
 
 pub ruleset reads_pairs = (key_names, member_at, has_begun, key_fails)
+
 pub ruleset reads_map = (item_of-Map, members-pairs_of)

@@ -184,7 +184,7 @@ kept_parts kept (Some xs) = kept_sum kept xs
 pub record Collects {C X V : Type 0} (value : C → V) (w : Way X V) (v : V) (i : Item) (to : ℕ) (old new : Walk)
     (result : Result C Refusal) : Type 0 where
   pub decodes : Decodes value (option_and_then (λ xs. collected w.next xs v) (w.parts i)) (MayGrow w.takes i)
-    (suc w.cost) (kept_parts w.kept (w.parts i)) to old new result
+      (suc w.cost) (kept_parts w.kept (w.parts i)) to old new result
   pub heads : new.heads + suc w.cost * suc old.place ≤ suc old.heads + suc w.cost * to
 
 pub grows_elements : (i : Item) (xs : List Item) → elements_in i ≡ Some xs → 0 < length xs → Grows i
