@@ -1,7 +1,7 @@
 -- Strings that are lent at a cursor.
 use Rattle.passkey_kinds.proofs.Common.{rules, ◌≡◌, ℕ, ◌+◌, ◌≤◌, ◌<◌, arith, Bool, true, false, cond, List, [], ◌∷◌, ◌++◌, length, Option, Some, None, Result, Err, refl, sym, ap, subst, length-append, length-take, Item, byte_string, text_string, Content, Region, PassesString, LendsFrom, IsRegion, heads_in, IsEncodedAt, Walk, ahead, raised-le, Spends, Decodes, LooksAtMost, AnswersAs, MayGrow, Refusal, Refused, suc, option_map, Tells, LendsNothing, bytes, Further, option_and_then, ◌∙◌, ℤ, zero, ◌-◌, ◌^◌, Ok, algorithm_named, Algorithm, signed_64, algorithm, integer_in, ReadsFlat, OutOfMemory, head_again, head_long, data_parts, authenticator_data, authenticator_data_nodes, each_long, lends_start, lends_on, lends_all, AChunk, follows_chunk, Definite, Each, LooksAtAll, LooksAtSome, LentWhole, string_head, LooksFor, heads_until, heads_sought, LendsPiece, LendsNoPiece, LooksAhead, LendsUpTo, chunk, raised, DataGrow, AuthenticatorData, CountsData, Answers, IsOf, whole_64, NumberState, concat, ok_or, list, below}
 use Rattle.passkey_core.specs.DataReading.{fixed_at}
-use Rattle.passkey_kinds.proofs.Going.{stands_long, eased, on_ok, stands_back, string_further, flat_found, flat_missed}
+use Rattle.passkey_kinds.proofs.Cursor.{stands_long, eased, on_ok, stands_back, string_further, flat_found, flat_missed}
 use Rattle.passkey_kinds.proofs.Lists.{answers_from}
 use Rattle.passkey_cbor.specs.Item as item
 use Rattle.passkey_kinds.specs.Typed as typed

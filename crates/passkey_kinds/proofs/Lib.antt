@@ -1,5 +1,5 @@
 pub mod Common
-pub mod Going
+pub mod Cursor
 pub mod Lent
 pub mod Lists
 pub mod Members

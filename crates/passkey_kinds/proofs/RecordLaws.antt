@@ -1,6 +1,6 @@
 -- Laws of records and messages.
 use Rattle.passkey_kinds.proofs.Common.{option_or, arith, ◌≡◌, ℕ, Bool, true, false, if◌then◌else◌, [], ◌∷◌, ◌++◌, Option, Some, None, subst, Item, Table, Naming, row, unknown, wrong, named, Members, bad_by, first_bad, Fault, ◌≢◌, ◌∙◌, List, Result, Ok, Err, refl, sym, ap, IsLeadingItem, AtMostOneLeadingItem, ReadsMessage, AlikeDifferInLength, KnowsItems, cons_option, ◌==◌, ◌||◌, is_some, is_none, All-head, All-tail, with_row, is_row, found, accepts_at, Fields, table_of, known_member, known, HasNoWrongKey, SameAnswers, Repeated, rules, members, members-pairs_of, put_at, put_named, unless_missing, judged, read_members, read_item, first_missing, suc, ◌+◌, ◌*◌, ◌≤◌, length, take, drop, Grows, Pairs, no_pairs, pair, PassesLeadingItem, IsEncodedAt, Walk, ahead, Went, Onward, MayGrowAt, Reads, record_cost, kept_in_map, OnErr, only_one, Begins, GrowsMessage, ReadsHere, with_length, SameButForLength, AnswersCarryOver, PassesOverUnknown, KnowsMaps, DecodesRecord, take-append-drop, drop-drop, length-drop}
-use Rattle.passkey_kinds.proofs.Going.{front_long}
+use Rattle.passkey_kinds.proofs.Cursor.{front_long}
 use Rattle.passkey_kinds.proofs.Members.{found_append, found_pushed, found_without, first_bad_without, missing_alike}
 use Rattle.passkey_kinds.specs.Record.{with_members}
 use Rattle.passkey_kinds.specs.declared.fault.Fault.TheVariants.{Refused}

@@ -109,7 +109,7 @@ impl FromCbor for [u8; 32] {
         }
     }
 
-    #[tactic(auto, using(crate::proofs::Going::string_further, crate::proofs::Going::on_ok))]
+    #[tactic(auto, using(crate::proofs::Cursor::string_further, crate::proofs::Cursor::on_ok))]
     fn read(alloc: Global, cursor: &mut Cursor<'_>) -> Result<[u8; 32], Refusal> {
         match cursor.bytes() {
             Some(token) => filled(&token, cursor),

@@ -55,7 +55,7 @@ impl FromCbor for AuthenticatorData {
         }
     }
 
-    #[tactic(auto, using(crate::proofs::Lent::data_further, crate::proofs::Going::on_ok, crate::proofs::Lent::looks_all))]
+    #[tactic(auto, using(crate::proofs::Lent::data_further, crate::proofs::Cursor::on_ok, crate::proofs::Lent::looks_all))]
     fn read(alloc: Global, cursor: &mut Cursor<'_>) -> Result<AuthenticatorData, Refusal> {
         match cursor.bytes() {
             Some(token) => match token.lent() {

@@ -143,7 +143,7 @@ impl FromCbor for Value {
         Ok(value.try_clone(alloc)?)
     }
 
-    #[tactic(auto, using(crate::proofs::Going::value_further))]
+    #[tactic(auto, using(crate::proofs::Cursor::value_further))]
     fn read(alloc: Global, cursor: &mut Cursor<'_>) -> Result<Value, Refusal> {
         match cursor.value(alloc) {
             Ok(value) => Ok(value),

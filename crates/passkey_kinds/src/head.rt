@@ -93,7 +93,7 @@ fn begins_null(cursor: &Cursor<'_>) -> bool
 }
 
 /// Decodes the unsigned integer at the cursor. Returns `None` if none is there.
-#[tactic(auto, using(crate::proofs::Going::heads))]
+#[tactic(auto, using(crate::proofs::Cursor::heads))]
 pub(crate) fn read_unsigned(cursor: &mut Cursor<'_>) -> Option<u64>
     ensures reads { (i : Item) (to : ℕ) → IsEncodedAt i cursor.old.bytes cursor.old.place to
         → ReadsFlat (unsigned_in i) to cursor.old cursor.new result }
@@ -108,7 +108,7 @@ pub(crate) fn read_unsigned(cursor: &mut Cursor<'_>) -> Option<u64>
 
 /// Decodes the integer at the cursor. Returns `None` if none is there, or if it doesn't fit in
 /// `i64`.
-#[tactic(auto, using(crate::proofs::Going::heads))]
+#[tactic(auto, using(crate::proofs::Cursor::heads))]
 pub(crate) fn read_integer(cursor: &mut Cursor<'_>) -> Option<i64>
     ensures reads { (i : Item) (to : ℕ) → IsEncodedAt i cursor.old.bytes cursor.old.place to
         → ReadsFlat (option_and_then signed_64 (integer_in i)) to cursor.old cursor.new result }
@@ -122,7 +122,7 @@ pub(crate) fn read_integer(cursor: &mut Cursor<'_>) -> Option<i64>
 }
 
 /// Decodes the boolean at the cursor. Returns `None` if none is there.
-#[tactic(auto, using(crate::proofs::Going::heads))]
+#[tactic(auto, using(crate::proofs::Cursor::heads))]
 pub(crate) fn read_truth(cursor: &mut Cursor<'_>) -> Option<bool>
     ensures reads { (i : Item) (to : ℕ) → IsEncodedAt i cursor.old.bytes cursor.old.place to
         → ReadsFlat (truth i) to cursor.old cursor.new result }
@@ -137,7 +137,7 @@ pub(crate) fn read_truth(cursor: &mut Cursor<'_>) -> Option<bool>
 
 /// Decodes null or undefined at the cursor. Returns whether one of them is there. Decodes no head if
 /// the next byte is that of another data item.
-#[tactic(auto, using(crate::proofs::Going::heads))]
+#[tactic(auto, using(crate::proofs::Cursor::heads))]
 pub(crate) fn read_null(cursor: &mut Cursor<'_>) -> bool
     ensures reads { (i : Item) (to : ℕ) → IsEncodedAt i cursor.old.bytes cursor.old.place to → ReadsFlat (if null_in
         i then There true else Nothing) to cursor.old cursor.new (if result then There true else Nothing) }
@@ -155,7 +155,7 @@ pub(crate) fn read_null(cursor: &mut Cursor<'_>) -> bool
 
 /// Decodes the head of the array at the cursor and returns its length, which is `Some(None)` if it
 /// is indefinite. Returns `None` if no array is there.
-#[tactic(auto, using(crate::proofs::Going::heads))]
+#[tactic(auto, using(crate::proofs::Cursor::heads))]
 pub(crate) fn read_array(cursor: &mut Cursor<'_>) -> Option<Option<u64>>
     ensures opens { (i : Item) (to : ℕ) → IsEncodedAt i cursor.old.bytes cursor.old.place to
         → OpensAt elements_in (Within max_depth) i to cursor.new result }
@@ -173,7 +173,7 @@ pub(crate) fn read_array(cursor: &mut Cursor<'_>) -> Option<Option<u64>>
 
 /// Decodes the head of the map at the cursor and returns its length, which is `Some(None)` if it is
 /// indefinite. Returns `None` if no map is there.
-#[tactic(auto, using(crate::proofs::Going::heads))]
+#[tactic(auto, using(crate::proofs::Cursor::heads))]
 pub(crate) fn read_map(cursor: &mut Cursor<'_>) -> Option<Option<u64>>
     ensures opens { (i : Item) (to : ℕ) → IsEncodedAt i cursor.old.bytes cursor.old.place to
         → OpensAt members_in (PairWithin max_depth) i to cursor.new result }

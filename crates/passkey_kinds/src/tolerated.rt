@@ -26,7 +26,7 @@ impl<T: FromCbor> FromCbor for Tolerated<T> {
         }
     }
 
-    #[tactic(auto, using(crate::proofs::Going::skip_further))]
+    #[tactic(auto, using(crate::proofs::Cursor::skip_further))]
     fn read(alloc: Global, cursor: &mut Cursor<'_>) -> Result<Tolerated<T>, Refusal> {
         let start = cursor.place();
         match T::read(alloc, cursor) {

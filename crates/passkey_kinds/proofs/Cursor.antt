@@ -214,14 +214,6 @@ null_read a b h i to found e =
 
 -- ---- heads of arrays and maps
 
-abbrev array_in : Item → Bool
-array_in (item.array xs) = true
-array_in _ = false
-
-abbrev map_in : Item → Bool
-map_in (item.map ps) = true
-map_in _ = false
-
 abbrev is_array_head : Head → Bool
 is_array_head (head.Array left) = true
 is_array_head _ = false
