@@ -11,9 +11,8 @@ returns-in-None-clause-reads c = λ i to l. absurd (c.in-None.ensures.opens i to
 
 pub returns-then-not-begins_null-clause-reads : goal.returns-then-not-begins_null-clause-reads
 returns-then-not-begins_null-clause-reads c = λ i to l.
-    let a = c.args.cursor.now in
-    null_missed a i to l (λ e.
+    null_missed _ i to l (λ e.
     let found : c.begins_null.result ≡ true =
-    c.begins_null.ensures to (subst (λ (x : Item). IsEncodedAt x a.bytes a.place to) e l) in
+    c.begins_null.ensures to (subst (λ (x : Item). IsEncodedAt x c.args.cursor.now.bytes c.args.cursor.now.place to) e l) in
     let missed : c.begins_null.result ≡ false = c.if-not-begins_null.true in
     cc)

@@ -5,18 +5,16 @@ use Rattle.passkey_kinds.proofs.map.write_entries.Goals as goal
 pub loop-key-preserved : goal.loop-key-preserved
 loop-key-preserved g c =
     let xs = fin.entries c.args.entries.now in
-    let left = c.loop-key.key-iterator in
-    let rest = c.next.new.self in
     let entry : List ℕ × g.row.T.Denot = (c.in-Some.key.now, c.in-Some.value.now) in
     let member : Value × Value = (Bytes c.in_ok-from_slice.field-0, c.in_ok-to_value.field-0) in
-    let next = rest_more deref_pair left rest c.next.result (c.in-Some.key, c.in-Some.value) c.in-Some.is
+    let next = rest_more deref_pair _ _ c.next.result (c.in-Some.key, c.in-Some.value) c.in-Some.is
     c.next.ensures.steps in
     let key = item_of-Bytes c.in_ok-from_slice.field-0
     ∙ ap byte_string (c.in_ok-from_slice.ensures.items ∙ c.as_slice.ensures) in
     record {
       items = rw (c.in_ok-push.ensures.items, map_push pair_of c.loop-key.pairs.items member) (written_next
-          (entry_tree g.T.ToCbor.tree) xs left rest entry (pair_of member) (map pair_of c.loop-key.pairs.items) next
+          (entry_tree g.T.ToCbor.tree) xs _ _ entry (pair_of member) (map pair_of c.loop-key.pairs.items) next
           (λ i. (key i, c.in_ok-to_value.ensures.tree i)) c.loop-key.invariant.items);
-      fits = fits_next (λ e. g.T.ToCbor.fits e.1) xs left rest entry next c.in_ok-to_value.ensures.fits
+      fits = fits_next (λ e. g.T.ToCbor.fits e.1) xs _ _ entry next c.in_ok-to_value.ensures.fits
           c.loop-key.invariant.fits;
     }

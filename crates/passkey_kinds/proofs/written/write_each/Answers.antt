@@ -3,13 +3,11 @@ use Rattle.passkey_kinds.proofs.written.write_each.Goals as goal
 
 pub loop-value-preserved : goal.loop-value-preserved
 loop-value-preserved g c =
-    let at = c.loop-value.value-index in
-    let list = c.args.list.now in
     record {
       items = rw (c.in_ok-push.ensures.items, map_push item_of c.loop-value.values.items c.in_ok-to_value.field-0)
-          (written_more g.T.ToCbor.tree list at c.value-item.result (item_of c.in_ok-to_value.field-0)
+          (written_more g.T.ToCbor.tree _ _ c.value-item.result (item_of c.in_ok-to_value.field-0)
           (map item_of c.loop-value.values.items) c.value-item.is c.loop-value-test.true
           c.in_ok-to_value.ensures.tree c.loop-value.invariant.items);
-      fits = fits_more g.T.ToCbor.fits list at c.value-item.result c.value-item.is c.loop-value-test.true
+      fits = fits_more g.T.ToCbor.fits _ _ c.value-item.result c.value-item.is c.loop-value-test.true
           c.in_ok-to_value.ensures.fits c.loop-value.invariant.fits;
     }

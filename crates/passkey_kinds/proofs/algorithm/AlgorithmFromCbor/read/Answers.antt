@@ -3,31 +3,21 @@ use Rattle.passkey_kinds.proofs.algorithm.AlgorithmFromCbor.read.Goals as goal
 
 pub returns-in-Some-clause-reads : goal.returns-in-Some-clause-reads
 returns-in-Some-clause-reads c = λ i to l.
-    let a = c.args.cursor.now in
-    let b = c.text.new.self in
-    let d = c.whole_of.new.cursor in
-    let r = c.in-Some.token in
-    let result = c.named.result in
     let f = c.in-Some.ensures.lends i to l in
     let whole = c.whole_of.ensures.whole f.0 f.1.1.tells in
-    lent_decodes (λ x. x) (algorithm i) (MayGrow false i) true a b d r i to result l c.in-Some.ensures.front f
+    lent_decodes (λ x. x) (algorithm i) (MayGrow false i) true _ _ _ _ i to _ l c.in-Some.ensures.front f
     c.whole_of.ensures.looks
-    (answers_from (λ x. x) result (ap algorithm f.1.0 ∙ ap (option_and_then algorithm_named) (sym whole))
+    (answers_from (λ x. x) _ (ap algorithm f.1.0 ∙ ap (option_and_then algorithm_named) (sym whole))
     (λ h. absurd h) c.named.ensures)
 
 pub returns-in-None-clause-reads : goal.returns-in-None-clause-reads
 returns-in-None-clause-reads c = λ i to l.
-    let a = c.args.cursor.now in
-    let b = c.text.new.self in
-    let d = c.read_integer.new.cursor in
-    let result = c.named-in-None.result in
     let f = c.in-None.ensures.lends i to l in
-    let read = c.read_integer.ensures.reads i to (stands_missed i a b to f.1 l) in
-    missed_then (λ x. x) (algorithm i) (MayGrow false i) 1 0 to a b d result f.1
-    (stands_long i a.bytes a.place to l)
-    (number_decodes i to b d f.0 c.read_integer.result result read c.named-in-None.ensures)
+    let read = c.read_integer.ensures.reads i to (stands_missed i _ _ to f.1 l) in
+    missed_then (λ x. x) (algorithm i) (MayGrow false i) 1 0 to _ _ _ _ f.1
+    (stands_long i c.args.cursor.now.bytes c.args.cursor.now.place to l)
+    (number_decodes i to _ _ f.0 c.read_integer.result _ read c.named-in-None.ensures)
 
 pub returns-in-Some-clause-further : goal.returns-in-Some-clause-further
 returns-in-Some-clause-further c =
-    let looks = c.whole_of.ensures.looks in
-    search (rules, on_ok, looked_further, looks, c.in-Some.ensures.front)
+    search (rules, on_ok, looked_further, c.whole_of.ensures.looks, c.in-Some.ensures.front)

@@ -3,8 +3,7 @@ use Rattle.passkey_kinds.proofs.array.FrontCollect.add.Goals as goal
 
 pub returns-then-self-ge32-clause-adds : goal.returns-then-self-ge32-clause-adds
 returns-then-self-ge32-clause-adds c = λ i to l.
-    let b = c.args.cursor.now in
-    let long = stands_long i b.bytes b.place to l in
+    let long = stands_long i c.args.cursor.now.bytes c.args.cursor.now.place to l in
     record {
       decodes = record {
         answers = rw (le-ltb (length (take c.args.self.now.len c.args.self.now.bytes)) 32 (omega (
@@ -30,7 +29,5 @@ returns-in_err-self-clause-adds c = λ i to l.
 
 pub returns-clause-adds : goal.returns-clause-adds
 returns-clause-adds c = λ i to l.
-    let bytes = c.args.self.now.bytes in
-    let len = c.args.self.now.len in
     let read = c.in_ok-self.ensures.reads i to l in
-    search (rules, take_more_set, stands_long, bytes, len, read, c.if-self-ge32.false)
+    search (rules, take_more_set, stands_long, c.args.self.now.bytes, c.args.self.now.len, read, c.if-self-ge32.false)

@@ -3,15 +3,14 @@ use Rattle.passkey_kinds.proofs.bytes.BytesFromCbor.read.Goals as goal
 
 pub returns-in_err-copy-clause-reads : goal.returns-in_err-copy-clause-reads
 returns-in_err-copy-clause-reads c = λ i to l.
-    let a = c.args.cursor.now in
     let p = err_from_is_err_and c.from_residual.result c.from_residual.ensures.1 in
     let f = c.in-Some.ensures.lends i to l in
     let looks = looks_some c.in-Some.token c.bytes.new.self c.copy.new.cursor c.in_err-copy.ensures.rises false
     (f.0, f.1.1.tells) c.in_err-copy.ensures.looks in
     let grows = bytes_grow i f.0 f.1.0 (c.in_err-copy.ensures.copies f.0 f.1.1.tells) in
-    rw (p.1, p.2) (decodes_dearer _ (bytes i) (MayGrow true i) 2 3 0 0 to a c.copy.new.cursor (Err OutOfMemory)
-    (omega arith) (omega arith) (omega (arith, stands_long i a.bytes a.place to l))
-    (lent_decodes _ (bytes i) (MayGrow true i) false a c.bytes.new.self c.copy.new.cursor c.in-Some.token i to
+    rw (p.1, p.2) (decodes_dearer _ (bytes i) (MayGrow true i) 2 3 0 0 to _ c.copy.new.cursor (Err OutOfMemory)
+    (omega arith) (omega arith) (omega (arith, stands_long i c.args.cursor.now.bytes c.args.cursor.now.place to l))
+    (lent_decodes _ (bytes i) (MayGrow true i) false _ c.bytes.new.self c.copy.new.cursor c.in-Some.token i to
     (Err OutOfMemory) l c.in-Some.ensures.front f looks grows))
 
 pub returns-in-Some-clause-reads : goal.returns-in-Some-clause-reads
@@ -28,12 +27,11 @@ returns-in-Some-clause-reads c = λ i to l.
 
 pub returns-in-Some-text-clause-reads : goal.returns-in-Some-text-clause-reads
 returns-in-Some-text-clause-reads c = λ i to l.
-    let a = c.args.cursor.now in
     let e = c.in_default.ensures.lends i to l in
-    let there = stands_missed i a c.bytes.new.self to e.1 l in
+    let there = stands_missed i _ c.bytes.new.self to e.1 l in
     let f = c.in-Some-text.ensures.lends i to there in
-    missed_then _ (bytes i) (MayGrow true i) 2 0 to a c.bytes.new.self c.read_base64.new.cursor c.read_base64.result
-    e.1 (stands_long i a.bytes a.place to l)
+    missed_then _ (bytes i) (MayGrow true i) 2 0 to _ c.bytes.new.self c.read_base64.new.cursor c.read_base64.result
+    e.1 (stands_long i c.args.cursor.now.bytes c.args.cursor.now.place to l)
     (lent_decodes _ (bytes i) (MayGrow true i) true c.bytes.new.self c.text.new.self c.read_base64.new.cursor
     c.in-Some-text.token i to c.read_base64.result there c.in-Some-text.ensures.front f
     c.read_base64.ensures.looks

@@ -20,19 +20,16 @@ returns-in_err-push-in-Some-clause-adds g c = λ i to l.
 pub returns-in_ok-push-in-Some-clause-adds : goal.returns-in_ok-push-in-Some-clause-adds
 returns-in_ok-push-in-Some-clause-adds g c = λ i to l.
     let view = g.T.FromCbor.view in
-    let xs = c.args.self.now.0.items in
     let read = c.in_ok-element.ensures.reads i to l in
     let given = some_is (g.T.FromCbor.typed.of i) (option_map view c.in_ok-element.element.0) read.answers ∙ ap
     (option_map view) c.in-Some.is in
-    let items = ap (map view) c.in_ok-push-in-Some.ensures.items ∙ map_push view xs _ ∙ ap (λ (x :
-    g.row.T.Denot). map view xs ++ view x ∷ []) c.in-Some.accepted-is in
+    let items = ap (map view) c.in_ok-push-in-Some.ensures.items ∙ map_push view c.args.self.now.0.items _ ∙ ap (λ (x :
+    g.row.T.Denot). map view c.args.self.now.0.items ++ view x ∷ []) c.in-Some.accepted-is in
     grind (arith, stands_long, read, given, items)
 
 pub returns-in-None-clause-adds : goal.returns-in-None-clause-adds
 returns-in-None-clause-adds g c = λ i to l.
-    let view = g.T.FromCbor.view in
-    let xs = c.args.self.now.0.items in
     let read = c.in_ok-element.ensures.reads i to l in
-    let given = some_is (g.T.FromCbor.typed.of i) (option_map view c.in_ok-element.element.0) read.answers ∙ ap
-    (option_map view) c.in-None.is in
-    search (rules, stands_long, view, xs, read, given)
+    let given = some_is (g.T.FromCbor.typed.of i) (option_map _ c.in_ok-element.element.0) read.answers ∙ ap
+    (option_map _) c.in-None.is in
+    search (rules, stands_long, g.T.FromCbor.view, c.args.self.now.0.items, read, given)

@@ -30,16 +30,14 @@ returns-then-skip-clause-reads g c = λ i to l.
 
 pub returns-else-skip-clause-reads : goal.returns-else-skip-clause-reads
 returns-else-skip-clause-reads g c = λ i to l.
-    let a = c.args.cursor.now in
     let back = c.go_back.ensures ∙ ap (λ (n : ℕ). record c.read.new.cursor { place = n }) c.place-start.ensures in
-    let there = stands_back i a c.go_back.new.self to (ap (λ (w : Walk). w.bytes) back
+    let there = stands_back i c.args.cursor.now c.go_back.new.self to (ap (λ (w : Walk). w.bytes) back
     ∙ c.in-Err-Refused.ensures.onward.same) (ap (λ (w : Walk). w.place) back) l in
     let found : false ≡ true = (c.if-skip.ensures.passes i to there).is_found in
     absurd cc
 
 pub returns-in-Err-OutOfMemory-clause-reads : goal.returns-in-Err-OutOfMemory-clause-reads
 returns-in-Err-OutOfMemory-clause-reads g c = λ i to l.
-    let a = c.args.cursor.now in
-    let read = subst (λ (e : Refusal). ReadsAs g.T.FromCbor.view g.T.FromCbor.typed i to a c.read.new.cursor
+    let read = subst (λ (e : Refusal). ReadsAs g.T.FromCbor.view g.T.FromCbor.typed i to c.args.cursor.now c.read.new.cursor
     (Err e)) c.in-Err-OutOfMemory.field-0-is (c.in-Err-OutOfMemory.ensures.reads i to l) in
     grind (arith, eased, stands_long, read)
