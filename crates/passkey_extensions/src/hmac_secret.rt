@@ -3,7 +3,7 @@ ghost use Rattle.std.specs.Prelude.{◌≡◌, ◌<◌, ◌⊎◌, length, true,
 ghost use Rattle.passkey_kinds.specs.Words.{depth, Grows, item_of, IsWritable, written, ReadsMessage, ReadsHere, GrowsMessage, MayGrowAt, Reads};
 ghost use Rattle.passkey_extensions.specs.HmacInput.{HmacInputParts, hmac_input_fields, hmac_input_table, read_hmac_input, hmac_input_parts, HmacInputFits, hmac_input_places, hmac_input_tree, is_hmac_input_coherent};
 ghost use Rattle.passkey_kinds.specs.declared.fault.Fault.TheVariants.{OutOfMemory as NoRoom};
-ghost use Rattle.passkey_kinds.specs.declared.write_fault.WriteFault.TheVariants.{OutOfMemory as NoMemory};
+ghost use Rattle.passkey_kinds.specs.declared.fault.WriteFault.TheVariants.{OutOfMemory as NoMemory};
 
 use crate::laws::read_hmac_input_is_coherent;
 use passkey_bytes::Bytes;

@@ -6,8 +6,8 @@ use Rattle.passkey_get_info.specs.GetInfo.{version, version_tree, normal_version
 use Rattle.passkey_get_info.specs.declared.options.Options.{Options}
 use Rattle.passkey_kinds.proofs.Levels.{of_record}
 use Rattle.passkey_kinds.specs.Kind.{kept as kept_item, IsSize}
-use Rattle.passkey_kinds.specs.declared.write_fault.WriteFault.{WriteFault}
-use Rattle.passkey_kinds.specs.declared.write_fault.WriteFault.TheVariants.{NumberTooLarge}
+use Rattle.passkey_kinds.specs.declared.fault.WriteFault.{WriteFault}
+use Rattle.passkey_kinds.specs.declared.fault.WriteFault.TheVariants.{NumberTooLarge}
 use Rattle.passkey_cbor.specs.Item as item
 
 -- ---- values in an authenticatorGetInfo response can be decoded again from their encodings

@@ -9,8 +9,8 @@ use Rattle.passkey_kinds.specs.Kind.{one_named}
 use Rattle.passkey_kinds.specs.Placed.{Coded, placed_if}
 use Rattle.passkey_kinds.specs.Words.{kept_if_some, Item, text_string, Any, Kind, nothing, growing, Placed, PlainTable, default_as, optional_as, depth, null, max_depth, item_of, IfPresent, parameters, placed, required_at, optional_at, tolerated_at, places_of, EachFits, fields_with, Fields, default, table_of, read_item, Table, Place, number_tree, record_tree, size, optional, kept, PublicKeyCredentialParameters, AuthenticatorTransport}
 use Rattle.passkey_kinds.specs.declared.fault.Fault.{Fault}
-use Rattle.passkey_kinds.specs.declared.write_fault.WriteFault.{WriteFault}
-use Rattle.passkey_kinds.specs.declared.write_fault.WriteFault.TheVariants.{OutOfMemory, NumberTooLarge}
+use Rattle.passkey_kinds.specs.declared.fault.WriteFault.{WriteFault}
+use Rattle.passkey_kinds.specs.declared.fault.WriteFault.TheVariants.{OutOfMemory, NumberTooLarge}
 use Rattle.passkey_webauthn.specs.Names.{named_in}
 use Rattle.std.specs.Int.NonZero.{non_zero_u128_get}
 use Rattle.std.specs.Option.{option_and_then}

@@ -6,7 +6,7 @@ ghost use Rattle.passkey_get_info.specs.Encodable.{EncodableFits, encodable_capa
 ghost use Rattle.passkey_get_info.specs.GetInfo.{GetInfoParts, capabilities, limits, states, get_info_fields, get_info_table, read_get_info, get_info_empty, get_info_parts, get_info_tree, IsPositive, GetInfoFits, is_encodable, fault_of_size, has_room, is_get_info_coherent};
 ghost use Rattle.passkey_kinds.specs.Placed.{members_of};
 ghost use Rattle.passkey_kinds.specs.declared.fault.Fault.TheVariants.{OutOfMemory as NoRoom};
-ghost use Rattle.passkey_kinds.specs.declared.write_fault.WriteFault.TheVariants.{NumberTooLarge as TooLarge};
+ghost use Rattle.passkey_kinds.specs.declared.fault.WriteFault.TheVariants.{NumberTooLarge as TooLarge};
 
 use crate::laws::read_get_info_is_coherent;
 use crate::{Extension, Options, Version};

@@ -68,8 +68,8 @@ pub use Rattle.passkey_kinds.specs.RecordReading.{record_cost, cost_by, kept_in,
 pub use Rattle.passkey_kinds.specs.Tree.{put_by, sorted_by, IsShortFirst, short_first, AllAccepted, MemberAccepted, append_member, encode_member, put_all, Place, record_tree, KeysAscend, number_tree, numbers_tree, entry_tree, under, laid, list_tree, byte_map_tree, key_size, where_true, option_tree, credential_type_tree, transport_tree}
 pub use Rattle.passkey_kinds.specs.declared.fault.Fault.TheVariants.{Repeated}
 pub use Rattle.passkey_kinds.specs.declared.fault.Fault.{Fault}
-pub use Rattle.passkey_kinds.specs.declared.refusal.Refusal.TheVariants.{Refused, OutOfMemory}
-pub use Rattle.passkey_kinds.specs.declared.refusal.Refusal.{Refusal}
+pub use Rattle.passkey_kinds.specs.declared.fault.Refusal.TheVariants.{Refused, OutOfMemory}
+pub use Rattle.passkey_kinds.specs.declared.fault.Refusal.{Refusal}
 pub use Rattle.passkey_kinds.specs.declared.rows.Row.{Row}
 pub use Rattle.passkey_webauthn.specs.CredentialType.{credential_type_named}
 pub use Rattle.passkey_webauthn.specs.NameLaws.{credential_type_own, transport_own}

@@ -5,7 +5,7 @@ use Rattle.passkey_kinds.specs.Record.{with_members}
 use Rattle.passkey_kinds.specs.declared.fault.Fault.TheVariants.{Refused}
 use Rattle.passkey_kinds.specs.declared.fault.Fault.TheVariants as fault
 use Rattle.passkey_cbor.specs.Item as item
-use Rattle.passkey_kinds.specs.declared.refusal.Refusal.TheVariants as refusal
+use Rattle.passkey_kinds.specs.declared.fault.Refusal.TheVariants as refusal
 
 -- ---- a member under an unknown key changes nothing
 

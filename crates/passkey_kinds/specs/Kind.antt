@@ -6,8 +6,8 @@ use Rattle.passkey_core.specs.DataRead.{read_data}
 use Rattle.passkey_core.specs.DataWritten.{data_written}
 use Rattle.passkey_core.specs.declared.aaguid.Aaguid.{Aaguid}
 use Rattle.passkey_core.specs.declared.authenticator_data.AuthenticatorData.{AuthenticatorData}
-use Rattle.passkey_kinds.specs.declared.refusal.Refusal.{Refusal}
-use Rattle.passkey_kinds.specs.declared.refusal.Refusal.TheVariants.{Refused, OutOfMemory}
+use Rattle.passkey_kinds.specs.declared.fault.Refusal.{Refusal}
+use Rattle.passkey_kinds.specs.declared.fault.Refusal.TheVariants.{Refused, OutOfMemory}
 use Rattle.std.specs.List.{filter_map}
 use Rattle.std.specs.Option.{option_and_then, option_zip}
 use Rattle.std.specs.Result.{result_ok}

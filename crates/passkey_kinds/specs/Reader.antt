@@ -8,7 +8,7 @@ use Rattle.passkey_cbor.specs.Languages.{Language}
 use Rattle.passkey_cbor.specs.Lent.{Region}
 use Rattle.passkey_cbor.specs.declared.head.Head.{Head}
 use Rattle.passkey_kinds.specs.Kind.{Keeping, kept_of, kept_sum, Typed, AnswersAs, MayGrow, Kind, below, each, entry}
-use Rattle.passkey_kinds.specs.declared.refusal.Refusal.{Refusal}
+use Rattle.passkey_kinds.specs.declared.fault.Refusal.{Refusal}
 use Rattle.std.proofs.Math.Nat.{mul-le-mul_left}
 use Rattle.std.specs.List.{cons_option}
 use Rattle.std.specs.Option.{option_and_then}

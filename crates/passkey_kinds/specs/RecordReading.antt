@@ -6,8 +6,8 @@ use Rattle.passkey_kinds.specs.Reader.{Spends}
 use Rattle.passkey_kinds.specs.Record.{takes_at, MayGrowIn, MayGrowAt, Reads, Marks, Steps, naming_of, Fields, Member, table_of, record_kind, rows_of, put_at, with_members, read_members, read_item, Naming, row, unknown, wrong, named, Members, accepts_at, first_bad, Entry, row_or_unknown}
 use Rattle.passkey_kinds.specs.Typed.{growing}
 use Rattle.passkey_kinds.specs.declared.fault.Fault.{Fault}
-use Rattle.passkey_kinds.specs.declared.refusal.Refusal.{Refusal}
-use Rattle.passkey_kinds.specs.declared.refusal.Refusal.TheVariants.{Refused, OutOfMemory}
+use Rattle.passkey_kinds.specs.declared.fault.Refusal.{Refusal}
+use Rattle.passkey_kinds.specs.declared.fault.Refusal.TheVariants.{Refused, OutOfMemory}
 use Rattle.passkey_kinds.specs.declared.rows.Named.{Named}
 use Rattle.passkey_kinds.specs.declared.rows.Row.{Row}
 use Rattle.passkey_kinds.specs.declared.fault.Fault.TheVariants as fault

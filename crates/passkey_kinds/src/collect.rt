@@ -5,7 +5,7 @@ ghost use Rattle.passkey_cbor.specs.EncodedAt.{Lies};
 ghost use Rattle.passkey_cbor.specs.Inside.{Left};
 ghost use Rattle.passkey_kinds.specs.Reader.{OpensAt, Way, AddsOne, Collects, collected};
 
-use crate::refusal::Refusal;
+use crate::Refusal;
 use passkey_cbor::Cursor;
 use std::alloc::Global;
 

@@ -1,12 +1,49 @@
-//! Why a message was not decoded.
+//! Why a value or a message was not decoded, or a message not encoded.
 ghost use Rattle.std.specs.Prelude.{◌≡◌, Some};
 ghost use Rattle.passkey_kinds.specs.Message.{fault_name};
-ghost use Rattle.passkey_kinds.specs.declared.fault.Fault.TheVariants.{OutOfMemory as NoMemory};
+ghost use Rattle.passkey_kinds.specs.declared.fault.Fault.TheVariants.{OutOfMemory as NoRoom};
+ghost use Rattle.passkey_kinds.specs.declared.fault.Refusal.TheVariants.{OutOfMemory as NoMemory};
+ghost use Rattle.passkey_kinds.specs.declared.fault.WriteFault.TheVariants.{OutOfMemory as Full};
 
 use passkey_memory::OutOfMemory;
 use std::alloc::{AllocError, AllocFailed};
-use std::error::Error;
-use std::fmt;
+use std::{error, fmt};
+use thiserror::Error;
+
+/// Why a value was not decoded from a data item.
+#[derive(Clone, Copy, Debug, Error, PartialEq, Eq)]
+pub enum Refusal {
+    /// The type doesn't accept the data item.
+    #[error("Refused")]
+    Refused,
+    /// An allocation failed.
+    #[error("OutOfMemory")]
+    OutOfMemory,
+}
+
+impl From<AllocError> for Refusal {
+    ghost from_gives = { λ _ e. e ≡ NoMemory };
+
+    fn from(_error: AllocError) -> Refusal {
+        Refusal::OutOfMemory
+    }
+}
+
+impl<T: Drop> From<AllocFailed<T>> for Refusal {
+    ghost from_gives = { λ _ e. e ≡ NoMemory };
+
+    fn from(_error: AllocFailed<T>) -> Refusal {
+        Refusal::OutOfMemory
+    }
+}
+
+impl From<OutOfMemory> for Refusal {
+    ghost from_gives = { λ _ e. e ≡ NoMemory };
+
+    fn from(_error: OutOfMemory) -> Refusal {
+        Refusal::OutOfMemory
+    }
+}
 
 /// Why a message was not decoded. A member is given by its number in the message.
 #[derive(Clone, Copy, Debug, PartialEq, Eq)]
@@ -44,10 +81,10 @@ impl fmt::Display for Fault {
     }
 }
 
-impl Error for Fault {}
+impl error::Error for Fault {}
 
 impl From<AllocError> for Fault {
-    ghost from_gives = { λ _ e. e ≡ NoMemory };
+    ghost from_gives = { λ _ e. e ≡ NoRoom };
 
     fn from(_error: AllocError) -> Fault {
         Fault::OutOfMemory
@@ -55,7 +92,7 @@ impl From<AllocError> for Fault {
 }
 
 impl<T: Drop> From<AllocFailed<T>> for Fault {
-    ghost from_gives = { λ _ e. e ≡ NoMemory };
+    ghost from_gives = { λ _ e. e ≡ NoRoom };
 
     fn from(_error: AllocFailed<T>) -> Fault {
         Fault::OutOfMemory
@@ -63,9 +100,44 @@ impl<T: Drop> From<AllocFailed<T>> for Fault {
 }
 
 impl From<OutOfMemory> for Fault {
-    ghost from_gives = { λ _ e. e ≡ NoMemory };
+    ghost from_gives = { λ _ e. e ≡ NoRoom };
 
     fn from(_error: OutOfMemory) -> Fault {
         Fault::OutOfMemory
+    }
+}
+
+/// Why a message was not encoded.
+#[derive(Clone, Copy, Debug, Error, PartialEq, Eq)]
+pub enum WriteFault {
+    /// An allocation failed.
+    #[error("OutOfMemory")]
+    OutOfMemory,
+    /// A number is 2^64 or more, so no CBOR integer holds it (RFC 8949, section 3.1).
+    #[error("NumberTooLarge")]
+    NumberTooLarge,
+}
+
+impl From<AllocError> for WriteFault {
+    ghost from_gives = { λ _ e. e ≡ Full };
+
+    fn from(_error: AllocError) -> WriteFault {
+        WriteFault::OutOfMemory
+    }
+}
+
+impl<T: Drop> From<AllocFailed<T>> for WriteFault {
+    ghost from_gives = { λ _ e. e ≡ Full };
+
+    fn from(_error: AllocFailed<T>) -> WriteFault {
+        WriteFault::OutOfMemory
+    }
+}
+
+impl From<OutOfMemory> for WriteFault {
+    ghost from_gives = { λ _ e. e ≡ Full };
+
+    fn from(_error: OutOfMemory) -> WriteFault {
+        WriteFault::OutOfMemory
     }
 }

@@ -1,9 +1,9 @@
 //! Values that are decoded from data items.
 ghost use Rattle.std.specs.Prelude.{◌^◌, ℕ, nat_lt, Bool, true, false, if◌then◌else◌, List, Option, option_map, OnOk};
-ghost use Rattle.passkey_kinds.specs.Words.{Item, IsEncodedAt, item_of, Answers, AnswersAs, Typed, Onward, Further, ReadsAs, truth, below, text, kept, optional};
+ghost use Rattle.passkey_kinds.specs.Words.{tolerated, Item, IsEncodedAt, item_of, Answers, AnswersAs, Typed, Onward, Further, ReadsAs, truth, below, text, kept, optional};
 
+use crate::Refusal;
 use crate::head::{read_null, read_truth, read_unsigned};
-use crate::refusal::Refusal;
 use passkey_bytes::Text;
 use passkey_cbor::{CborError, Cursor, Value};
 use std::alloc::Global;
@@ -175,5 +175,43 @@ impl<T: FromCbor> FromCbor for Option<T> {
         }
         cursor.go_back(start);
         Ok(Some(T::read(alloc, cursor)?))
+    }
+}
+
+/// A value, or `None` if the type doesn't accept the data item. Running out of memory is still an
+/// error.
+#[derive(Debug, Drop)]
+pub struct Tolerated<T>(pub Option<T>);
+
+impl<T: FromCbor> FromCbor for Tolerated<T> {
+    ghost Meaning = { Option T.Meaning };
+
+    ghost view = { λ t. option_map T.view t.0 };
+
+    ghost typed = { tolerated T.typed };
+
+    fn from_value(alloc: Global, value: &Value) -> Result<Tolerated<T>, Refusal> {
+        match T::from_value(alloc, value) {
+            Ok(read) => Ok(Tolerated(Some(read))),
+            Err(Refusal::Refused) => Ok(Tolerated(None)),
+            Err(Refusal::OutOfMemory) => Err(Refusal::OutOfMemory),
+        }
+    }
+
+    #[tactic(auto, using(crate::proofs::Cursor::skip_further))]
+    fn read(alloc: Global, cursor: &mut Cursor<'_>) -> Result<Tolerated<T>, Refusal> {
+        let start = cursor.place();
+        match T::read(alloc, cursor) {
+            Ok(read) => Ok(Tolerated(Some(read))),
+            Err(Refusal::Refused) => {
+                cursor.go_back(start);
+                if cursor.skip() {
+                    Ok(Tolerated(None))
+                } else {
+                    Err(Refusal::Refused)
+                }
+            }
+            Err(Refusal::OutOfMemory) => Err(Refusal::OutOfMemory),
+        }
     }
 }

@@ -3,7 +3,7 @@ ghost use Rattle.std.specs.Prelude.{◌≡◌, IfOk, IfErr, OnOk};
 ghost use Rattle.passkey_kinds.specs.Words.{item_of, IsWritable, written, ReadsMessage, ReadsHere, GrowsMessage, MayGrowAt, Reads};
 ghost use Rattle.passkey_make_credential.specs.MakeRequest.{MakeRequestParts, make_request_fields, make_request_table, read_make_request, make_request_places, make_request_tree, MakeRequestFits, is_make_request_coherent, make_request_parts};
 ghost use Rattle.passkey_kinds.specs.declared.fault.Fault.TheVariants.{OutOfMemory as NoRoom};
-ghost use Rattle.passkey_kinds.specs.declared.write_fault.WriteFault.TheVariants.{OutOfMemory as NoMemory};
+ghost use Rattle.passkey_kinds.specs.declared.fault.WriteFault.TheVariants.{OutOfMemory as NoMemory};
 
 use crate::laws::read_make_request_is_coherent;
 use crate::{Options, PublicKeyCredentialRpEntity};

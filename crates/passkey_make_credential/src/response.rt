@@ -3,7 +3,7 @@ ghost use Rattle.std.specs.Prelude.{◌≡◌, IfOk, IfErr, OnOk};
 ghost use Rattle.passkey_kinds.specs.Words.{item_of, IsWritable, written, IsData, data_parts, ReadsMessage, ReadsHere, GrowsMessage, MayGrowAt, Reads};
 ghost use Rattle.passkey_make_credential.specs.MakeResponse.{MakeResponseParts, make_response_fields, make_response_table, read_make_response, make_response_places, make_response_tree, MakeResponseFits, is_make_response_coherent, attestation_tree, make_response_parts};
 ghost use Rattle.passkey_kinds.specs.declared.fault.Fault.TheVariants.{OutOfMemory as NoRoom};
-ghost use Rattle.passkey_kinds.specs.declared.write_fault.WriteFault.TheVariants.{OutOfMemory as NoMemory};
+ghost use Rattle.passkey_kinds.specs.declared.fault.WriteFault.TheVariants.{OutOfMemory as NoMemory};
 
 use crate::laws::read_make_response_is_coherent;
 use passkey_bytes::{Bytes, Text};

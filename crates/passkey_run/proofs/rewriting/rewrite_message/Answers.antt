@@ -1,5 +1,5 @@
 use Rattle.std.proofs.Common.{◌≡◌, ◌∙◌, sym}
-use Rattle.passkey_kinds.specs.declared.write_fault.WriteFault.TheVariants.{OutOfMemory, NumberTooLarge}
+use Rattle.passkey_kinds.specs.declared.fault.WriteFault.TheVariants.{OutOfMemory, NumberTooLarge}
 use Rattle.passkey_run.proofs.rewriting.rewrite_message.Goals as goal
 
 -- a decoded message is coherent, so encoding it can only run out of memory

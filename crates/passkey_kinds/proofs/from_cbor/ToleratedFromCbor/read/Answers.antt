@@ -1,5 +1,5 @@
 use Rattle.passkey_kinds.proofs.Steps.{◌≡◌, ◌∙◌, ℕ, true, false, Err, ap, subst, arith, Walk, kept_of, Spends, Refusal, eased, stands_long, stands_back, spends_again, ReadsAs}
-use Rattle.passkey_kinds.proofs.tolerated.ToleratedFromCbor.read.Goals as goal
+use Rattle.passkey_kinds.proofs.from_cbor.ToleratedFromCbor.read.Goals as goal
 
 pub returns-in-Ok-clause-reads : goal.returns-in-Ok-clause-reads
 returns-in-Ok-clause-reads g c = λ i to l.

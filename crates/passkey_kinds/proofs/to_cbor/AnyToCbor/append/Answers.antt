@@ -1,5 +1,5 @@
 use Rattle.passkey_kinds.proofs.Steps.{record_writable}
-use Rattle.passkey_kinds.proofs.to_cbor_map.AnyToCbor.append.Goals as goal
+use Rattle.passkey_kinds.proofs.to_cbor.AnyToCbor.append.Goals as goal
 
 pub returns-clause-writable : goal.returns-clause-writable
 returns-clause-writable g c =
