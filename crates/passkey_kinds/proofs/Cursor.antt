@@ -1,5 +1,5 @@
 -- How a cursor moves, what it spends, and values of one head or of one string.
-use Rattle.passkey_kinds.proofs.Common.{rules, ◌≡◌, ℕ, ◌+◌, ◌-◌, ◌≤◌, ◌<◌, arith, List, [], ◌++◌, length, take, Option, Some, None, subst, length-append, length-take, mul-le-mul_left, Item, max_depth, IsLeadingItem, FindsHead, Region, PassesString, PassesLeadingItem, IsEncodedAt, Opens, Walk, ahead, Went, Head, head_again, head_long, lies_size, Onward, Further, Spends, option_and_then, ◌∙◌, ℤ, pos, negsuc, Bool, true, false, if◌then◌else◌, refl, sym, ap, cases_eq, cases_lt, nat_tests, items_of, pairs_of, unsigned_in, integer_in, null_in, ReadsFlat, truth, signed_64, nat_lt, option_map, Result, Ok, Err, OnOk, aaguid, Kind, AnswersAs, below, text, one_named, optional, Decodes, Refusal, Refused, OutOfMemory, BytesFault, array, elements-items_of, each, bytes, size, IfSome, is_ok, bytes_or_fault, follows_item, low_simple, encoded_long, IsEncodingOfHead, Within, Inside, item_within, simple_item, MakesLeadingItem, head_unsigned, head_integer, head_truth, head_null, head_array, head_map, elements_in, members_in, OpensAt, FailsAs, PairWithin, members-pairs_of}
+use Rattle.passkey_kinds.proofs.Common.{rules, ◌≡◌, ℕ, ◌+◌, ◌-◌, ◌≤◌, ◌<◌, arith, List, [], ◌++◌, length, take, Option, Some, None, subst, length-append, length-take, mul-le-mul_left, Item, max_depth, IsLeadingItem, FindsHead, Region, PassesString, PassesLeadingItem, IsEncodedAt, Opens, Walk, ahead, Went, Head, head_again, head_long, lies_size, Onward, Further, Spends, option_and_then, ◌∙◌, ℤ, pos, negsuc, Bool, true, false, if◌then◌else◌, refl, sym, ap, cases_eq, cases_lt, nat_tests, items_of, pairs_of, unsigned_in, integer_in, null_in, ReadsFlat, truth, signed_64, nat_lt, option_map, Result, Ok, Err, OnOk, aaguid, Kind, AnswersAs, below, text, one_named, optional, Decodes, Refusal, Refused, OutOfMemory, array, elements-items_of, bytes, size, IfSome, is_ok, follows_item, low_simple, encoded_long, IsEncodingOfHead, Within, Inside, item_within, simple_item, MakesLeadingItem, head_unsigned, head_integer, head_truth, head_null, head_array, head_map, elements_in, members_in, OpensAt, FailsAs, PairWithin, members-pairs_of}
 use Rattle.passkey_cbor.specs.declared.head.Head.TheVariants as head
 use Rattle.passkey_cbor.specs.Item as item
 

@@ -1,6 +1,6 @@
 -- Lists, arrays and maps, decoded and encoded element by element.
 use Rattle.passkey_cbor.specs.Item.{elements, members}
-use Rattle.passkey_kinds.proofs.Common.{filter_map, ◌≡◌, ◌<◌, arith, ◌∙◌, List, [], ◌∷◌, ◌++◌, length, map, Option, Some, None, option_map, Result, Err, refl, ap, true, Item, array, items_of, IfPresent, elements-items_of, Kind, AnswersAs, MayGrow, each, list, accepted, Refusal, OutOfMemory, ℕ, suc, ◌+◌, ◌≤◌, sym, mul-le-mul_left, Walk, Keeping, nothing, counted, kept_of, kept_sum, in_elements, Spends, Decodes, option_and_then, ◌==◌, take, drop, get_or, if◌then◌else◌, append-nil, drop_all, length-map, take_all, take_more_set, below, sized_bytes, Bool, false, Region, Tells, LendsNothing, some_is, All, add-one, append_assoc, drop-cons, slice_cmp, eq_by_cmp, nat_cmp, cond, nat_list_cmp_total, ByteMap, put_each, same_bytes, pairs_of, item_of, pair_of, Value, members-pairs_of, bytes, entry, map_from_bytes, map_values, with_members, cons_option, ◌⊎◌, inl, inr, cases_lt, lt-ltb, le-ltb, ne_eqb, length-append, collected, entered, slice_set, entries_empty, string_again, pushed, pushed_if, pushed_below, drop_more, filter_map-append, bytes_or_fault, BytesFault, item_of-Array, Ok, item_of-Map, kept_parts, numbers_in, elements_in, members_in, in_members, ◌*◌}
+use Rattle.passkey_kinds.proofs.Common.{filter_map, ◌≡◌, ◌<◌, arith, ◌∙◌, List, [], ◌∷◌, ◌++◌, length, map, Option, Some, None, option_map, Result, Err, refl, ap, true, Item, array, items_of, IfPresent, elements-items_of, Kind, AnswersAs, MayGrow, each, list, accepted, Refusal, OutOfMemory, ℕ, suc, ◌+◌, ◌≤◌, sym, mul-le-mul_left, Walk, Keeping, nothing, counted, kept_of, kept_sum, in_elements, Spends, Decodes, option_and_then, ◌==◌, take, drop, get_or, if◌then◌else◌, append-nil, drop_all, length-map, take_all, take_more_set, below, sized_bytes, Bool, false, Region, Tells, some_is, All, add-one, append_assoc, drop-cons, slice_cmp, eq_by_cmp, nat_cmp, cond, nat_list_cmp_total, ByteMap, put_each, same_bytes, pairs_of, item_of, pair_of, Value, members-pairs_of, bytes, entry, map_from_bytes, map_values, with_members, cons_option, ◌⊎◌, inl, inr, cases_lt, lt-ltb, le-ltb, ne_eqb, length-append, collected, entered, slice_set, entries_empty, string_again, pushed, pushed_if, pushed_below, drop_more, filter_map-append, bytes_or_fault, BytesFault, item_of-Array, Ok, item_of-Map, kept_parts, numbers_in, elements_in, members_in, in_members, ◌*◌}
 use Rattle.std.proofs.lemmas.List.{append_assoc}
 use Rattle.std.specs.FinMap as fin
 use Rattle.passkey_cbor.specs.Item as item

@@ -1,7 +1,6 @@
 -- Loops over the rest of a list or a map at a cursor.
-use Rattle.passkey_kinds.proofs.Common.{◌≡◌, ◌∙◌, ℕ, suc, ◌+◌, ◌*◌, ◌≤◌, ◌<◌, arith, Bool, true, false, List, [], ◌∷◌, length, Option, Some, None, sym, ap, subst, mul-le-mul_left, Left, Lies, Next, Looks, Walk, raised-le, Spends, max, refl, Item, pairs_of, members-pairs_of, Keeping, nothing, counted, kept_of, kept_sum, in_members, Kind, MayGrow, map_from_bytes, ◌-◌, ◌==◌, if◌then◌else◌, and_parts, true≢false, max_depth, PairWithin, members, Fields, Member, table_of, record_cost, cost_by, kept_in, kept_in_map, Naming, row, unknown, wrong, named, Members, NextIf, Walks, Language, break_heads, Costs, greatest_cost, cost_at, keeps_at, keeps_by, keeps_nothing, none_keeps, record_keeps}
+use Rattle.passkey_kinds.proofs.Common.{◌≡◌, ◌∙◌, ℕ, suc, ◌+◌, ◌*◌, ◌≤◌, ◌<◌, arith, Bool, true, false, List, [], ◌∷◌, length, Option, Some, None, sym, ap, subst, mul-le-mul_left, Left, Lies, Next, Looks, Walk, raised-le, Spends, max, refl, Item, pairs_of, members-pairs_of, Keeping, nothing, counted, kept_of, ◌-◌, ◌==◌, if◌then◌else◌, and_parts, true≢false, max_depth, PairWithin, members, Fields, Member, table_of, record_cost, cost_by, kept_in, kept_in_map, Naming, row, unknown, wrong, named, Members, NextIf, Walks, Language, break_heads, Costs, greatest_cost, cost_at, keeps_at, keeps_by, keeps_nothing, none_keeps, record_keeps}
 use Rattle.passkey_kinds.proofs.Cursor.{eased, spends_then}
-use Rattle.passkey_kinds.proofs.Lists.{kept_nothing}
 use Rattle.passkey_cbor.specs.Item as item
 
 -- ---- a loop over the rest of a list at a cursor: of an array's elements, or of a map's members

@@ -2,7 +2,6 @@
 ghost use Rattle.std.specs.Prelude.{◌≡◌, ℕ, List, true};
 ghost use Rattle.std.specs.Option.{option_and_then};
 ghost use Rattle.passkey_kinds.specs.Words.{IsRegion, Tells, algorithm_named, algorithm_number, algorithm_tree, AnswersAs, LooksAtMost, algorithm, whole_64};
-ghost use Rattle.passkey_iana.specs.declared.algorithm.Algorithm.{Algorithm as Named};
 
 use crate::head::read_integer;
 use crate::{FromCbor, OutOfMemory, Refusal, ToCbor};

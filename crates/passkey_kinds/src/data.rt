@@ -1,5 +1,5 @@
 //! Authenticator data and AAGUIDs, decoded from byte strings and encoded as byte strings.
-ghost use Rattle.std.specs.Prelude.{◌≡◌, ℕ, ◌+◌, ◌*◌, ◌≤◌, true, false, length, List};
+ghost use Rattle.std.specs.Prelude.{◌≡◌, ℕ, ◌+◌, ◌*◌, ◌≤◌, length, List};
 ghost use Rattle.passkey_kinds.specs.Words.{byte_string, data_nodes, IsData, DataParts, data_parts, Answers, authenticator_data, aaguid};
 ghost use Rattle.passkey_kinds.specs.Kind.{CountsData, data_tree, aaguid_tree};
 

@@ -1,5 +1,5 @@
 //! Values that are decoded from data items.
-ghost use Rattle.std.specs.Prelude.{◌^◌, ℕ, nat_lt, Bool, true, false, if◌then◌else◌, List, Option, option_map, OnOk};
+ghost use Rattle.std.specs.Prelude.{◌^◌, ℕ, nat_lt, Bool, if◌then◌else◌, Option, option_map, OnOk};
 ghost use Rattle.passkey_kinds.specs.Words.{tolerated, Item, IsEncodedAt, item_of, Answers, AnswersAs, Typed, Onward, Further, ReadsAs, truth, below, text, kept, optional};
 
 use crate::Refusal;

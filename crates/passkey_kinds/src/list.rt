@@ -1,5 +1,5 @@
 //! Lists, decoded from arrays.
-ghost use Rattle.std.specs.Prelude.{◌<◌, length, map, Some, true, List as Items};
+ghost use Rattle.std.specs.Prelude.{◌<◌, length, map, Some, List as Items};
 ghost use Rattle.std.specs.List.{filter_map};
 ghost use Rattle.passkey_kinds.specs.Words.{item_of, Item, AnswersAs, each, list, accepted};
 ghost use Rattle.passkey_kinds.specs.Reader.{pushing, pushing_if};

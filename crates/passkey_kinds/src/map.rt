@@ -1,7 +1,7 @@
 //! Maps from byte strings, decoded from CBOR maps and encoded as CBOR maps.
-ghost use Rattle.std.specs.Prelude.{◌≡◌, ◌<◌, ℕ, suc, max, List, length, map, true, IfOk, OnOk};
+ghost use Rattle.std.specs.Prelude.{◌≡◌, ◌<◌, length, map, IfOk, OnOk};
 ghost use Rattle.std.specs.List.{All};
-ghost use Rattle.passkey_kinds.specs.Words.{ByteMap, item_of, pair_of, AnswersAs, Item, kept_of, byte_map_tree};
+ghost use Rattle.passkey_kinds.specs.Words.{ByteMap, item_of, pair_of, AnswersAs, Item, byte_map_tree};
 ghost use Rattle.passkey_kinds.specs.Reader.{entering};
 ghost use Rattle.passkey_kinds.specs.Kind.{map_values, with_members};
 ghost use Rattle.passkey_kinds.specs.Tree.{sorted_by, entry_tree, key_size};

@@ -1,8 +1,6 @@
 //! Names of enumerations, decoded from data items.
-ghost use Rattle.std.specs.Prelude.{◌≡◌, ℕ, List, true, false, OnOk};
+ghost use Rattle.std.specs.Prelude.{◌≡◌, ℕ, List, true, OnOk};
 ghost use Rattle.passkey_kinds.specs.Words.{Item, IsRegion, Tells, IsEncodedAt, Onward, Further, Decodes, LooksAtMost, item_of, AnswersAs, one_named, credential_type_named, transport_named};
-ghost use Rattle.passkey_webauthn.specs.declared.credential_type.PublicKeyCredentialType.{PublicKeyCredentialType as CredentialType};
-ghost use Rattle.passkey_webauthn.specs.declared.transport.AuthenticatorTransport.{AuthenticatorTransport as Transport};
 ghost use Rattle.passkey_kinds.specs.Kind as kind;
 
 use crate::{FromCbor, Refusal};

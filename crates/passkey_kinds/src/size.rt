@@ -1,6 +1,6 @@
 //! Sizes, decoded from data items. They aren't encoded here, since CBOR has no integer above 2^64 -
 //! 1.
-ghost use Rattle.std.specs.Prelude.{◌≡◌, ℕ, pos, false, option_map};
+ghost use Rattle.std.specs.Prelude.{◌≡◌, ℕ, pos, option_map};
 ghost use Rattle.std.specs.Int.NonZero.{non_zero_u128_get};
 ghost use Rattle.passkey_kinds.specs.Words.{number, AnswersAs, size};
 ghost use Rattle.passkey_kinds.specs.Kind.{size as size_of};

@@ -1,4 +1,4 @@
-use Rattle.passkey_kinds.proofs.Steps.{◌∙◌, ◌==◌, ℕ, false, List, length, if◌then◌else◌, None, ap, refl, arith, Item, elements-items_of, below, each, sized_bytes, MayGrow, decodes_in, eased, stands_back, stands_long, lent_decodes, answers_from, stands_missed, missed_then, numbers_are}
+use Rattle.passkey_kinds.proofs.Steps.{ℕ, false, List, ap, arith, sized_bytes, MayGrow, eased, stands_long, lent_decodes, answers_from, stands_missed, missed_then, numbers_are}
 use Rattle.passkey_kinds.proofs.array.ArrayU832FromCbor.read.Goals as goal
 
 pub returns-in-Some-clause-reads : goal.returns-in-Some-clause-reads

@@ -1,4 +1,4 @@
-use Rattle.passkey_kinds.proofs.Steps.{rules, ◌≡◌, ◌∙◌, ◌^◌, true, false, Some, Ok, Err, sym, ap, subst, arith, err_from_is_err_and, elements-items_of, bytes, each, below, MayGrow, OutOfMemory, stands_long, on_ok, looks_all, looks_some, lent_decodes, text_grows, bytes_grow, answers_from, decodes_dearer, missed_then, stands_missed, looked_further, bytes_are}
+use Rattle.passkey_kinds.proofs.Steps.{◌∙◌, true, false, Some, Ok, Err, sym, ap, arith, err_from_is_err_and, bytes, MayGrow, OutOfMemory, stands_long, on_ok, looks_all, looks_some, lent_decodes, text_grows, bytes_grow, answers_from, decodes_dearer, missed_then, stands_missed, looked_further, bytes_are}
 use Rattle.passkey_kinds.proofs.bytes.BytesFromCbor.read.Goals as goal
 
 pub returns-in_err-copy-clause-reads : goal.returns-in_err-copy-clause-reads

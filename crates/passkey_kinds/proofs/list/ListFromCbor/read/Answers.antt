@@ -1,4 +1,4 @@
-use Rattle.passkey_kinds.proofs.Steps.{arith, ◌∙◌, map, sym, ap, subst, err_from_is_err_and, kept_elements_in, list_in, fails_as}
+use Rattle.passkey_kinds.proofs.Steps.{arith, ◌∙◌, map, sym, ap, err_from_is_err_and, kept_elements_in, list_in, fails_as}
 use Rattle.passkey_kinds.proofs.list.ListFromCbor.read.Goals as goal
 
 pub returns-in_err-elements-clause-reads : goal.returns-in_err-elements-clause-reads

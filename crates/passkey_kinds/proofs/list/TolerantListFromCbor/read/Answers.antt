@@ -1,4 +1,4 @@
-use Rattle.passkey_kinds.proofs.Steps.{arith, ◌∙◌, map, sym, ap, subst, err_from_is_err_and, kept_elements_in, accepted_in, fails_as}
+use Rattle.passkey_kinds.proofs.Steps.{arith, ◌∙◌, map, sym, ap, err_from_is_err_and, kept_elements_in, accepted_in, fails_as}
 use Rattle.passkey_kinds.proofs.list.TolerantListFromCbor.read.Goals as goal
 
 pub returns-in_err-accepted-clause-reads : goal.returns-in_err-accepted-clause-reads
