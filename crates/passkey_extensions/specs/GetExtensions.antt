@@ -1,5 +1,5 @@
 -- Extension inputs of authenticatorGetAssertion requests (CTAP 2.1, section 6.2).
-use Rattle.std.specs.Prelude.{List, [], ◌∷◌, Bool, Option, None, codes, false, ◌||◌, is_some, option_map}
+use Rattle.std.specs.Prelude.{List, [], ◌∷◌, Bool, Option, Some, None, codes, false, ◌||◌, is_some, option_map}
 use Rattle.passkey_kinds.specs.Words.{kept_if_some, Item, Kind, Placed, tolerated_as, places_of, EachFits, Fields, fields_with, nested, record_kind, Place, record_tree}
 use Rattle.passkey_kinds.specs.Coded.{plain}
 use Rattle.passkey_kinds.specs.Placed.{Coded}

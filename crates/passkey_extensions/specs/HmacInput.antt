@@ -1,5 +1,5 @@
 -- Inputs of the extension hmac-secret (CTAP 2.1, section 12.5).
-use Rattle.std.specs.Prelude.{ℕ, nat_le, Bool, List, [], ◌∷◌, Option, None, codes, true, Result}
+use Rattle.std.specs.Prelude.{ℕ, nat_le, Bool, List, [], ◌∷◌, Option, Some, None, codes, true, Result}
 use Rattle.passkey_kinds.specs.Words.{depth, max_depth, Item, null, Kind, Placed, required_at, optional_at, places_of, EachFits, Fields, fields_with, table_of, read_item, nested, record_kind, Table, Place, record_tree, item_of}
 use Rattle.passkey_kinds.specs.Coded.{byte, bytes, item}
 use Rattle.passkey_kinds.specs.Placed.{Coded}

@@ -1,5 +1,5 @@
 //! Unsigned extension outputs.
-ghost use Rattle.std.specs.Prelude.{◌≡◌, suc, is_some, None};
+ghost use Rattle.std.specs.Prelude.{◌≡◌, suc, is_some, None, option_map};
 ghost use Rattle.passkey_core.specs.SignedOutputs.{where_some};
 ghost use Rattle.passkey_extensions.specs.Prf.{unsigned, normal_unsigned};
 

@@ -1,7 +1,8 @@
 //! Extensions that an authenticator supports.
-ghost use Rattle.std.specs.Prelude.{◌≡◌, Some};
+ghost use Rattle.std.specs.Prelude.{◌≡◌, true, Some};
 ghost use Rattle.passkey_kinds.specs.Words.{nothing, growing};
 ghost use Rattle.passkey_get_info.specs.GetInfo.{extension_name, extension_named, extension, extension_tree, normal_extension};
+ghost use Rattle.passkey_get_info.specs.declared.extension.Extension.{Extension as Told};
 
 use passkey_bytes::Text;
 use passkey_cbor::{Cursor, Encoder, Value};

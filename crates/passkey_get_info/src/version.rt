@@ -1,7 +1,8 @@
 //! Versions of CTAP that an authenticator supports.
-ghost use Rattle.std.specs.Prelude.{◌≡◌, Some};
+ghost use Rattle.std.specs.Prelude.{◌≡◌, true, Some};
 ghost use Rattle.passkey_kinds.specs.Words.{nothing, growing};
 ghost use Rattle.passkey_get_info.specs.GetInfo.{version_name, version_named, version, version_tree, normal_version};
+ghost use Rattle.passkey_get_info.specs.declared.version.Version.{Version as Told};
 
 use passkey_bytes::Text;
 use passkey_cbor::{Cursor, Encoder, Value};
