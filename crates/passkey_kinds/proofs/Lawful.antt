@@ -49,7 +49,7 @@ module _ {P : Type 0} {normal : P → P} (n : ℕ) (t : PlainTable P) where
     keys = λ r. keys_ascend (places_of t.members r) (up r);
   }
 
--- ---- records of WebAuthn, and extension outputs in authenticator data, can be decoded again, have few levels, and their keys ascend
+-- ---- the laws of WebAuthn's records, and of extension outputs in authenticator data
 
 pub descriptor_law : IsLawful 1 descriptor
 unfolding shortest_head

@@ -398,7 +398,7 @@ text_refused None why e = refl
 pub bytes_array : (xs : List Item) → bytes (array (items_of xs)) ≡ each (below 256) xs
 bytes_array xs = ap (each (below 256)) (elements-items_of xs)
 
--- ---- what functions over arrays and maps in memory need
+-- ---- what the prover needs for arrays and maps in memory
 
 pub ruleset arrays = (
   item_of-Array,

@@ -126,7 +126,7 @@ module _ {A : Type 0} (P : A → Language) (Done : List A → Type 0) (kept : Li
         place = at;
       }
 
--- ---- what a member costs
+-- ---- what a key costs, and what a key and its value cost
 
 module _ (k one middle to : ℕ) (b d : Walk) (first : b.place ≤ middle) (second : middle ≤ to) where
   -- a key by itself
@@ -147,8 +147,6 @@ module _ (k one middle to : ℕ) (b d : Walk) (first : b.place ≤ middle) (seco
       (spends_then (max 3 k) 0 one middle to b d f second at
       (eased 3 (max 3 k) 0 0 middle b d (omega arith) (omega arith) first key)
       (eased k (max 3 k) one one to d f (omega arith) (omega arith) (omega (arith, at, second)) value))
-
--- ---- maps
 
 -- ---- the greatest cost
 

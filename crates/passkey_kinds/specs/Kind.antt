@@ -144,7 +144,7 @@ tolerated kind i = Some (kind i)
 abbrev pub or_else : {M : Type 0} → M → Kind M → Kind M
 or_else default kind i = Some (unwrap_or (kind i) default)
 
--- ---- cOSE algorithm identifiers (RFC 9053, section 2; IANA's COSE Algorithms registry)
+-- ---- identifiers of COSE algorithms (RFC 9053, section 2; IANA's COSE Algorithms registry)
 
 -- an integer, or the whole part of a number in a text string, if it fits in 64 bits and is the
 -- identifier of an algorithm
