@@ -1,7 +1,5 @@
 -- Records can be decoded again from the encodings of their members.
-use Rattle.passkey_kinds.proofs.Common.{find, list_any, arith, ◌≡◌, ◌∙◌, ℕ, ◌==◌, Bool, true, false, cond, not, ◌&&◌, ◌||◌, List, [], ◌∷◌, ◌++◌, append_assoc, Option, Some, None, is_some, is_none, option_map, unwrap_or, refl, sym, ap, subst, and_parts, eqb-true, ne_eqb, not-true, append-nil, Item, boolean, IfPresent, Kind, truth, IsReadBack, Entry, Table, Naming, row, entries, named, is_row, Members, found, accepts_at, first_bad, Place, under, laid, unsigned_Decides, result_ok, Ok, members-pairs_of, Member, Fields, set_with, rows_of, table_of, put_at, read_members, read_item, record_kind, record_tree, ◌>>=◌, where_true, eqb-false}
-use Rattle.passkey_kinds.proofs.Members.{was_good, found_push}
-use Rattle.passkey_kinds.specs.Record.{with_members, Row}
+use Rattle.passkey_kinds.proofs.Common.{Item, boolean, number, IfPresent, members-pairs_of, truth, Kind, entry, IsReadBack, Fields, set_with, rows_of, table_of, put_at, unless_missing, one_more, Progress, result_and_then, read_from, read_members, read_item, Member, record_kind, Table, entries, named, Members, first_missing, Naming, row, accepts_at, ◌>>=◌, Place, record_tree, under, laid, where_true, ◌≡◌, ◌∙◌, ℕ, arith, Bool, true, false, not, ◌&&◌, List, [], ◌∷◌, ◌++◌, Option, Some, None, is_some, option_map, refl, sym, ap, Ok, append_assoc, ◌==◌, cond, set, ◌||◌, unwrap_or, and_parts, ne_eqb, eqb-true, not-true, eqb-false, append-nil, unsigned_Decides, list_any, result_ok}
 
 -- ---- the values that the places of a record have for its rows
 
@@ -14,11 +12,9 @@ pub laid_spread : (ms : Members) (ps : List Place) → laid ms ps ≡ ms ++ spre
 laid_spread ms [] = sym (append-nil ms)
 laid_spread ms (p ∷ ps) = laid_spread (ms ++ under p.0 p.1) ps ∙ append_assoc ms (under p.0 p.1) (spread ps)
 
--- the value for each row, if the places have these rows
-abbrev pub stands : List ℕ → List Place → ℕ → Option Item
-stands [] ps m = None
-stands (n ∷ ns) [] m = None
-stands (n ∷ ns) (p ∷ ps) m = cond (m == n) p.1 (stands ns ps m)
+abbrev is_row : ℕ → Naming → Bool
+is_row n (row m) = n == m
+is_row n _ = false
 
 -- the keys name these rows
 abbrev pub have_rows : Table → List ℕ → List Place → Bool
@@ -31,17 +27,6 @@ abbrev pub are_distinct : List ℕ → Bool
 are_distinct [] = true
 are_distinct (n ∷ ns) = not (list_any (λ m. n == m) ns) && are_distinct ns
 
--- each row accepts its place's value
-abbrev pub Fit : List Row → List ℕ → List Place → Type 0
-Fit rows [] ps = Unit {0}
-Fit rows (n ∷ ns) [] = Unit {0}
-Fit rows (n ∷ ns) (p ∷ ps) = ((i : Item) → p.1 ≡ Some i → accepts_at rows n i ≡ true) × Fit rows ns ps
-
--- none of these rows has a value
-abbrev pub Free : Table → Members → List ℕ → Type 0
-Free table earlier [] = Unit {0}
-Free table earlier (n ∷ ns) = (found table earlier n ≡ None) × Free table earlier ns
-
 pub names_it : (naming : Naming) (n : ℕ) → is_row n naming ≡ true → naming ≡ row n
 names_it (row m) n h = ap row (sym (eqb-true n m h))
 names_it _ n h = absurd cc
@@ -53,77 +38,30 @@ neither false b e = (refl, e)
 pub apart_too : (n k : ℕ) → (n == k) ≡ false → (k == n) ≡ false
 apart_too n k h = ne_eqb k n (λ e. eqb-false n k h (sym e))
 
-pub all_free : (table : Table) (ns : List ℕ) → Free table [] ns
-all_free table [] = tt
-all_free table (n ∷ ns) = (refl, all_free table ns)
+-- the rows that are named after the places' values too
+abbrev pub named_after : List ℕ → List Place → (ℕ → Bool) → ℕ → Bool
+named_after [] ps seen = seen
+named_after (n ∷ ns) [] seen = seen
+named_after (n ∷ ns) (p ∷ ps) seen = named_after ns ps (λ k. cond (k == n) (is_some p.1 || seen k) (seen k))
 
-still_free : (table : Table) (earlier : Members) (key value : Item) (n : ℕ) (ns : List ℕ) → named table key ≡ row n
-    → found table earlier n ≡ None → list_any (λ k. n == k) ns ≡ false → Free table earlier ns
-    → Free table (earlier ++ (key, value) ∷ []) ns
-still_free table earlier key value n [] e free apart h = tt
-still_free table earlier key value n (k ∷ ns) e free apart h =
-    let p = neither (n == k) (list_any (λ j. n == j) ns) apart in (
-      found_push table key value n e earlier free k ∙ ap (λ (b : Bool). cond b (Some value) (found table earlier k))
-          (apart_too n k p.0) ∙ h.0,
-      still_free table earlier key value n ns e free p.1 h.1,
-    )
+-- the first required row for which the places have no value
+abbrev pub missing_of : Table → List ℕ → List Place → Option ℕ
+missing_of table ns ps = first_missing (entries table) (named_after ns ps (λ k. false))
 
-place_good : (table : Table) (earlier : Members) (key : Item) (n : ℕ) (ms : Members) (o : Option Item) → named table
-    key ≡ row n → found table earlier n ≡ None → ((i : Item) → o ≡ Some i → accepts_at table.rows n i ≡ true)
-    → first_bad table earlier ms ≡ None → ((i : Item) → first_bad table (earlier ++ (key, i) ∷ []) ms ≡ None)
-    → first_bad table earlier (under key o ++ ms) ≡ None
-place_good table earlier key n ms None e free fit without with = without
-place_good table earlier key n ms (Some i) e free fit without with = grind (arith, was_good)
+abbrev AllUnseen : (ℕ → Bool) → List ℕ → Type 0
+AllUnseen seen [] = Unit {0}
+AllUnseen seen (n ∷ ns) = (seen n ≡ false) × AllUnseen seen ns
 
-pub none_bad : (table : Table) (earlier : Members) (ns : List ℕ) (ps : List Place) → have_rows table ns ps ≡ true
-    → are_distinct ns ≡ true → Fit table.rows ns ps → Free table earlier ns
-    → first_bad table earlier (spread ps) ≡ None
-none_bad table earlier [] [] keys apart fit free = refl
-none_bad table earlier [] (p ∷ ps) keys apart fit free = absurd cc
-none_bad table earlier (n ∷ ns) [] keys apart fit free = refl
-none_bad table earlier (n ∷ ns) (p ∷ ps) keys apart fit free =
-    let k = and_parts (is_row n (named table p.0)) (have_rows table ns ps) keys in
-    let d = and_parts (not (list_any (λ m. n == m) ns)) (are_distinct ns) apart in
-    let e = names_it (named table p.0) n k.0 in
-    place_good table earlier p.0 n (spread ps) p.1 e free.0 fit.0
-    (none_bad table earlier ns ps k.1 d.1 fit.1 free.1)
-    (λ i. none_bad table (earlier ++ (p.0, i) ∷ []) ns ps k.1 d.1 fit.1
-    (still_free table earlier p.0 i n ns e free.0 (not-true (list_any (λ m. n == m) ns) d.0) free.1))
+all_unseen : (ns : List ℕ) → AllUnseen (λ k. false) ns
+all_unseen [] = tt
+all_unseen (n ∷ ns) = (refl, all_unseen ns)
 
-absent : (ns : List ℕ) (ps : List Place) (n : ℕ) → list_any (λ k. n == k) ns ≡ false → stands ns ps n ≡ None
-absent [] ps n h = refl
-absent (k ∷ ns) [] n h = refl
-absent (k ∷ ns) (p ∷ ps) n h =
-    let q = neither (n == k) (list_any (λ j. n == j) ns) h in
-    rw q.0 (absent ns ps n q.1)
-
-none_where : (b : Bool) (o : Option Item) → (b ≡ true → o ≡ None) → o ≡ cond b None o
-none_where true o h = h refl
-none_where false o h = refl
-
-place_found : (table : Table) (key : Item) (n m : ℕ) (ms : Members) (o s : Option Item) → named table key ≡ row n
-    → ((m == n) ≡ true → s ≡ None) → found table ms m ≡ s → found table (under key o ++ ms) m ≡ cond (m == n) o s
-place_found table key n m ms None s e none h = h ∙ none_where (m == n) s none
-place_found table key n m ms (Some i) s e none h = rw (e, h) refl
-
-pub found_spread : (table : Table) (ns : List ℕ) (ps : List Place) (m : ℕ) → have_rows table ns ps ≡ true
-    → are_distinct ns ≡ true → found table (spread ps) m ≡ stands ns ps m
-found_spread table [] [] m keys apart = refl
-found_spread table [] (p ∷ ps) m keys apart = absurd cc
-found_spread table (n ∷ ns) [] m keys apart = absurd cc
-found_spread table (n ∷ ns) (p ∷ ps) m keys apart =
-    let k = and_parts (is_row n (named table p.0)) (have_rows table ns ps) keys in
-    let d = and_parts (not (list_any (λ j. n == j) ns)) (are_distinct ns) apart in
-    let e = names_it (named table p.0) n k.0 in
-    place_found table p.0 n m (spread ps) p.1 (stands ns ps m) e
-    (λ same. subst (λ (j : ℕ). stands ns ps j ≡ None) (sym (eqb-true m n same))
-    (absent ns ps n (not-true (list_any (λ j. n == j) ns) d.0)))
-    (found_spread table ns ps m k.1 d.1)
-
--- the first required row that is missing
-abbrev pub missing_of : Table → (ℕ → Option Item) → Option ℕ
-missing_of table f = option_map (λ (e : Entry). e.number)
-    (find (λ (e : Entry). e.is_required && is_none (f e.number)) (entries table))
+still_unseen : (seen : ℕ → Bool) (n : ℕ) (b : Bool) (ns : List ℕ) → list_any (λ k. n == k) ns ≡ false
+    → AllUnseen seen ns → AllUnseen (λ k. cond (k == n) (b || seen k) (seen k)) ns
+still_unseen seen n b [] apart h = tt
+still_unseen seen n b (k ∷ ns) apart h =
+    let p = neither (n == k) (list_any (λ j. n == j) ns) apart in
+    (ap (λ c. cond c (b || seen k) (seen k)) (apart_too n k p.0) ∙ h.0, still_unseen seen n b ns p.1 h.1)
 
 -- ---- the value of one row
 
@@ -197,23 +135,55 @@ finds_all (m ∷ ms) apart =
       finds_more m ms ms (not-true (list_any (λ n. m.entry.number == n) (numbers ms)) d.0) (finds_all ms d.1),
     )
 
-module _ {P : Type 0} (t : Fields P) where
-  with_place : (m : Member P) (key : Item) (o : Option Item) (ms : Members) (r : P) → named (table_of t) key ≡ row
-      m.entry.number → ((i : Item) (r : P) → put_at t.rows m.entry.number i r ≡ set_with m.set (m.kind.of i) r)
-      → with_members t (under key o ++ ms) r ≡ with_members t ms (put_if m o r)
-  with_place m key None ms r e put = refl
-  with_place m key (Some i) ms r e put = grind (arith, put)
+abbrev FitAll : {P : Type 0} → List (Member P) → List Place → Type 0
+FitAll [] ps = Unit {0}
+FitAll (m ∷ ms) [] = Unit {0}
+FitAll (m ∷ ms) (p ∷ ps) = ((i : Item) → p.1 ≡ Some i → is_some (m.kind.of i) ≡ true) × FitAll ms ps
 
-  with_spread : (fs : List (Member P)) (ps : List Place) (r : P) → Finds t.rows fs
-      → have_rows (table_of t) (numbers fs) ps ≡ true → with_members t (spread ps) r ≡ put_places fs ps r
-  with_spread [] [] r finds keys = refl
-  with_spread [] (p ∷ ps) r finds keys = absurd cc
-  with_spread (m ∷ fs) [] r finds keys = absurd cc
-  with_spread (m ∷ fs) (p ∷ ps) r finds keys =
-      let k = and_parts (is_row m.entry.number (named (table_of t) p.0)) (have_rows (table_of t) (numbers fs) ps)
-      keys in
-      with_place m p.0 p.1 (spread ps) r (names_it (named (table_of t) p.0) m.entry.number k.0) finds.1
-      ∙ with_spread fs ps (put_if m p.1 r) finds.2 k.1
+module _ {P : Type 0} (t : Fields P) where
+  absent_same : (b seen : Bool) → seen ≡ cond b seen seen
+  absent_same true seen = refl
+  absent_same false seen = refl
+
+  given_same : (b seen : Bool) → b || seen ≡ cond b true seen
+  given_same true seen = refl
+  given_same false seen = refl
+
+  with_place : (m : Member P) (key : Item) (o : Option Item) (ms : Members) (s : Progress P)
+      → named (table_of t) key ≡ row m.entry.number → s.seen m.entry.number ≡ false
+      → ((i : Item) → accepts_at (rows_of t.rows) m.entry.number i ≡ is_some (m.kind.of i))
+      → ((i : Item) (r : P) → put_at t.rows m.entry.number i r ≡ set_with m.set (m.kind.of i) r)
+      → ((i : Item) → o ≡ Some i → is_some (m.kind.of i) ≡ true) → read_from t (under key o ++ ms) s
+      ≡ read_from t ms (record {
+        seen = λ k. cond (k == m.entry.number) (is_some o || s.seen k) (s.seen k);
+        made = put_if m o s.made;
+      })
+  with_place m key None ms s e unseen accepts puts fit = λ j. read_from t ms
+      (record { seen = λ k. absent_same (k == m.entry.number) (s.seen k) j; made = s.made })
+  with_place m key (Some i) ms s e unseen accepts puts fit =
+      ap (λ (n : Naming). result_and_then (λ r. read_from t ms r) (one_more t n i s)) e
+      ∙ ap (result_and_then (λ r. read_from t ms r)) good where
+        good : one_more t (row m.entry.number) i s ≡ Ok (record {
+          seen = λ k. cond (k == m.entry.number) true (s.seen k);
+          made = set_with m.set (m.kind.of i) s.made;
+        })
+        good = rw (unseen, accepts i ∙ fit i refl)
+            (λ j. Ok (record { seen = λ k. given_same (k == m.entry.number) (s.seen k) j; made = puts i s.made j }))
+
+  with_spread : (fs : List (Member P)) (ps : List Place) (s : Progress P) → Finds t.rows fs
+      → have_rows (table_of t) (numbers fs) ps ≡ true → are_distinct (numbers fs) ≡ true → FitAll fs ps
+      → AllUnseen s.seen (numbers fs) → read_from t (spread ps) s ≡ read_from t []
+      (record { seen = named_after (numbers fs) ps s.seen; made = put_places fs ps s.made })
+  with_spread [] [] s finds keys apart fit unseen = refl
+  with_spread [] (p ∷ ps) s finds keys apart fit unseen = absurd cc
+  with_spread (m ∷ fs) [] s finds keys apart fit unseen = absurd cc
+  with_spread (m ∷ fs) (p ∷ ps) s finds keys apart fit unseen =
+      let n = m.entry.number in
+      let k = and_parts (is_row n (named (table_of t) p.0)) (have_rows (table_of t) (numbers fs) ps) keys in
+      let d = and_parts (not (list_any (λ j. n == j) (numbers fs))) (are_distinct (numbers fs)) apart in
+      with_place m p.0 p.1 (spread ps) s (names_it (named (table_of t) p.0) n k.0) unseen.0 finds.0 finds.1 fit.0
+      ∙ with_spread fs ps _ finds.2 k.1 d.1 fit.1 (still_unseen s.seen n (is_some p.1) (numbers fs)
+      (not-true (list_any (λ j. n == j) (numbers fs)) d.0) unseen.1)
 
 -- ---- what one place puts
 
@@ -250,11 +220,6 @@ puts_default {P} {m} {default} {y} {o} {old} f same = record {
 
 -- ---- what all places put
 
-abbrev FitAll : {P : Type 0} → List (Member P) → List Place → Type 0
-FitAll [] ps = Unit {0}
-FitAll (m ∷ ms) [] = Unit {0}
-FitAll (m ∷ ms) (p ∷ ps) = ((i : Item) → p.1 ≡ Some i → is_some (m.kind.of i) ≡ true) × FitAll ms ps
-
 -- The places' values are accepted, and make the record `new` out of `old`.
 pub record Backs {P : Type 0} (ms : List (Member P)) (ps : List Place) (old new : P) : Type 0 where
   pub fit : FitAll ms ps
@@ -268,17 +233,6 @@ pub ◌▸◌ : {P : Type 0} {m : Member P} {p : Place} {ms : List (Member P)} {
     → Puts m p.1 old next → Backs ms ps next new → Backs (m ∷ ms) (p ∷ ps) old new
 ◌▸◌ {ms = ms} {ps = ps} here rest =
     record { fit = (here.accepted, rest.fit); made = ap (put_places ms ps) here.put ∙ rest.made }
-
-fit_rows : {P : Type 0} (all ms : List (Member P)) (ps : List Place) → Finds all ms → FitAll ms ps
-    → Fit (rows_of all) (numbers ms) ps
-fit_rows all [] ps finds fit = tt
-fit_rows all (m ∷ ms) [] finds fit = tt
-fit_rows all (m ∷ ms) (p ∷ ps) finds fit = (λ i e. finds.0 i ∙ fit.0 i e, fit_rows all ms ps finds.2 fit.1)
-
-judged_good : {P : Type 0} (t : Fields P) (ms : Members) (f : ℕ → Option Item) (x : P)
-    → first_bad (table_of t) [] ms ≡ None → found (table_of t) ms ≡ f → missing_of (table_of t) f ≡ None
-    → with_members t ms t.blank ≡ x → read_members t ms ≡ Ok x
-judged_good t ms f x good is complete made = grind (arith, missing_of)
 
 -- the rows with these numbers, in this order
 abbrev either : {A : Type 1} → Bool → A → A → A
@@ -295,32 +249,23 @@ picked all (n ∷ ns) = member_at all n (picked all ns)
 
 -- members laid out in this order can be decoded again
 pub picked_back : {P : Type 0} (t : Fields P) (fs : List (Member P)) (ps : List Place) (x : P) → Finds t.rows fs
-    → (have_rows (table_of t) (numbers fs) ps && are_distinct (numbers fs)) ≡ true → missing_of (table_of t)
-    (stands (numbers fs) ps) ≡ None → Backs fs ps t.blank x → read_item t (record_tree ps) ≡ Ok x
-picked_back t fs ps x finds keys complete backs = grind (
-  arith,
-  have_rows,
-  are_distinct,
-  members-pairs_of,
-  laid_spread,
-  judged_good,
-  spread,
-  none_bad,
-  fit_rows,
-  all_free,
-  found_spread,
-  with_spread,
-)
+    → (have_rows (table_of t) (numbers fs) ps && are_distinct (numbers fs)) ≡ true
+    → missing_of (table_of t) (numbers fs) ps ≡ None → Backs fs ps t.blank x → read_item t (record_tree ps) ≡ Ok x
+picked_back t fs ps x finds keys complete backs =
+    let k = and_parts (have_rows (table_of t) (numbers fs) ps) (are_distinct (numbers fs)) keys in
+    ap (read_members t) (members-pairs_of (laid [] ps) ∙ laid_spread [] ps)
+    ∙ with_spread t fs ps _ finds k.0 k.1 backs.fit (all_unseen (numbers fs))
+    ∙ (λ j. unless_missing (complete j) (backs.made j))
 
 -- members laid out in the order of the rows can be decoded again
 pub rows_back : {P : Type 0} (t : Fields P) (ps : List Place) (x : P)
-    → (have_rows (table_of t) (numbers t.rows) ps && are_distinct (numbers t.rows)) ≡ true → missing_of (table_of t)
-    (stands (numbers t.rows) ps) ≡ None → Backs t.rows ps t.blank x → read_item t (record_tree ps) ≡ Ok x
+    → (have_rows (table_of t) (numbers t.rows) ps && are_distinct (numbers t.rows)) ≡ true
+    → missing_of (table_of t) (numbers t.rows) ps ≡ None → Backs t.rows ps t.blank x → read_item t (record_tree ps) ≡ Ok x
 rows_back t ps x keys complete backs =
     picked_back t t.rows ps x (finds_all t.rows (and_parts (have_rows (table_of t) (numbers t.rows) ps)
     (are_distinct (numbers t.rows)) keys).1) keys complete backs
 
 pub kind_back : {P : Type 0} (t : Fields P) (ps : List Place) (x : P)
-    → (have_rows (table_of t) (numbers t.rows) ps && are_distinct (numbers t.rows)) ≡ true → missing_of (table_of t)
-    (stands (numbers t.rows) ps) ≡ None → Backs t.rows ps t.blank x → record_kind t (record_tree ps) ≡ Some x
+    → (have_rows (table_of t) (numbers t.rows) ps && are_distinct (numbers t.rows)) ≡ true
+    → missing_of (table_of t) (numbers t.rows) ps ≡ None → Backs t.rows ps t.blank x → record_kind t (record_tree ps) ≡ Some x
 kind_back t ps x keys complete backs = ap result_ok (rows_back t ps x keys complete backs)

@@ -1,5 +1,5 @@
 -- How a cursor moves, what it spends, and values of one head or of one string.
-use Rattle.passkey_kinds.proofs.Common.{rules, ◌≡◌, ℕ, ◌+◌, ◌-◌, ◌≤◌, ◌<◌, arith, List, [], ◌++◌, length, take, Option, Some, None, subst, length-append, length-take, mul-le-mul_left, Item, max_depth, IsLeadingItem, FindsHead, Region, PassesString, PassesLeadingItem, IsEncodedAt, Opens, Walk, ahead, Went, Head, head_again, head_long, lies_size, Onward, Further, Spends, option_and_then, ◌∙◌, ℤ, pos, negsuc, Bool, true, false, if◌then◌else◌, refl, sym, ap, cases_eq, cases_lt, nat_tests, items_of, pairs_of, unsigned_in, integer_in, null_in, ReadsFlat, truth, signed_64, nat_lt, option_map, Result, Ok, Err, OnOk, aaguid, Kind, AnswersAs, below, text, one_named, optional, Decodes, Refusal, Refused, OutOfMemory, array, elements-items_of, bytes, size, IfSome, is_ok, follows_item, low_simple, encoded_long, IsEncodingOfHead, Within, Inside, item_within, simple_item, MakesLeadingItem, head_unsigned, head_integer, head_truth, head_null, head_array, head_map, elements_in, members_in, OpensAt, FailsAs, PairWithin, members-pairs_of}
+use Rattle.passkey_kinds.proofs.Common.{lies_size, head_again, follows_item, low_simple, head_long, encoded_long, IsEncodedAt, Opens, FindsHead, IsEncodingOfHead, PairWithin, Within, Inside, Item, Pairs, items_of, pairs_of, byte_string, array, boolean, null, text_string, number, max_depth, IsLeadingItem, Region, PassesString, item_within, simple_item, PassesLeadingItem, MakesLeadingItem, Walk, ahead, Went, Head, Bytes, members-pairs_of, elements-items_of, aaguid, AnswersAs, bytes, below, kept, truth, Kind, optional, text, one_named, FailsAs, size, unsigned_in, integer_in, null_in, ReadsFlat, head_unsigned, head_integer, head_truth, head_null, head_array, head_map, elements_in, members_in, OpensAt, Further, Decodes, Spends, Onward, named, Refused, OutOfMemory, Refusal, signed_64, ◌≡◌, ◌∙◌, ◌<◌, ◌+◌, nat_lt, ℕ, arith, Bool, true, false, if◌then◌else◌, List, [], ◌++◌, length, map, Option, Some, None, option_map, refl, sym, ap, rules, ◌≤◌, Result, subst, ◌-◌, take, Ok, Err, OnOk, pos, ℤ, negsuc, T, IfSome, is_ok, mul-le-mul_left, nat_tests, cases_lt, cases_eq, length-append, length-take, option_and_then}
 use Rattle.passkey_cbor.specs.declared.head.Head.TheVariants as head
 use Rattle.passkey_cbor.specs.Item as item
 
@@ -276,6 +276,10 @@ failed OutOfMemory none grows h = grows h
 pub ok_ends : {A E P : Type 0} (r : Result A E) → OnOk r P → is_ok r ≡ true → P
 ok_ends (Ok x) h e = h
 ok_ends (Err x) h e = absurd cc
+
+pub ends_ok : {A E P : Type 0} (r : Result A E) → (is_ok r ≡ true → P) → OnOk r P
+ends_ok (Ok x) h = h refl
+ends_ok (Err e) h = tt
 
 pub on_ok : {T E P : Type 0} (r : Result T E) → P → OnOk r P
 on_ok (Ok x) h = h

@@ -1,6 +1,6 @@
 -- What decoded records keep: values that aren't null, and what holds of each value that is put.
-use Rattle.passkey_kinds.proofs.Common.{◌≡◌, Option, Some, None, option_map, Result, Ok, Err, result_ok, Item, Kind, optional, Fault, ℕ, ◌<◌, arith, List, [], ◌∷◌, refl, ap, subst, depth, pairs_depth, Pairs, no_pairs, pair, members, kept, Member, Fields, set_with, table_of, put_at, put_named, unless_missing, judged, read_item, record_kind, Naming, row, named, Members, first_bad, first_missing}
-use Rattle.passkey_kinds.specs.Record.{with_members}
+use Rattle.passkey_kinds.proofs.Common.{depth, pairs_depth, Item, Pairs, no_pairs, pair, members, null, kept, Kind, optional, accepted, Fields, set_with, rows_of, table_of, put_at, unless_missing, one_more, Progress, result_and_then, read_from, read_item, Member, record_kind, entries, named, first_missing, Naming, row, unknown, wrong, accepts_at, Repeated, Fault, Refused, ◌≡◌, ◌<◌, ℕ, arith, Bool, true, false, if◌then◌else◌, List, [], ◌∷◌, map, Option, Some, None, option_map, refl, Result, subst, Ok, Err, set, IfOk, result_ok}
+use Rattle.passkey_kinds.specs.declared.fault.Fault.TheVariants as fault
 use Rattle.passkey_cbor.specs.Item as item
 
 -- ---- a value that isn't null, and a record that is a value
@@ -42,56 +42,42 @@ module _ {P : Type 0} (n : ℕ) (Inv : P → Type 0) where
   put_keeps [] k i r all less h = h
   put_keeps (f ∷ fs) k i r all less h = grind (arith, if_some, put_keeps fs k i r all.1 less h)
 
-  named_keeps : (fs : List (Member P)) (naming : Naming) (i : Item) (r : P) → Keeps n Inv fs → depth i < n → Inv r
-      → Inv (put_named fs naming i r)
-  named_keeps fs (row k) i r all less h = put_keeps fs k i r all less h
-  named_keeps fs _ i r all less h = h
+  one_keeps : (seen accepted : Bool) (k : ℕ) (s : Progress P) → Inv s.made → IfOk (if seen
+      then Err (fault.Repeated k) else (if accepted then Ok s else Err (fault.Refused k))) (λ r. Inv r.made)
+  one_keeps true accepted k s h = tt
+  one_keeps false true k s h = h
+  one_keeps false false k s h = tt
 
-  members_keep : (t : Fields P) (ps : Pairs) (r : P) → Keeps n Inv t.rows → pairs_depth ps < n → Inv r
-      → Inv (with_members t (members ps) r)
-  members_keep t no_pairs r all less h = h
-  members_keep t (pair k v ps) r all less h = grind (
-    arith,
-    named_keeps,
-    members_keep t ps (put_named t.rows (named
-        (table_of t) k) v r) all (omega (arith, less)) (named_keeps t.rows (named (table_of t) k) v r all (omega (
-          arith,
-          less,
-        )) h),
-  )
+  more_keeps : (t : Fields P) (naming : Naming) (i : Item) (s : Progress P) → Keeps n Inv t.rows → depth i < n
+      → Inv s.made → IfOk (one_more t naming i s) (λ r. Inv r.made)
+  more_keeps t (row k) i s all less h =
+      one_keeps (s.seen k) (accepts_at (rows_of t.rows) k i) k _ (put_keeps t.rows k i s.made all less h)
+  more_keeps t unknown i s all less h = h
+  more_keeps t wrong i s all less h = tt
 
--- ---- a decoded record was put together from its members
+  then_keeps : (f : Progress P → Result P Fault) (r : Result (Progress P) Fault) → IfOk r (λ s. Inv s.made)
+      → ((s : Progress P) → Inv s.made → IfOk (f s) Inv) → IfOk (result_and_then f r) Inv
+  then_keeps f (Ok s) h rest = rest s h
+  then_keeps f (Err e) h rest = tt
 
-pub record IsMade {P : Type 0} (t : Fields P) (i : Item) (p : P) : Type 0 where
-  pub pairs : Pairs
-  pub is_map : i ≡ item.map pairs
-  pub made : with_members t (members pairs) t.blank ≡ p
+  none_keeps : (missing : Option ℕ) (r : P) → Inv r → IfOk (unless_missing missing r) Inv
+  none_keeps (Some n) r h = tt
+  none_keeps None r h = h
 
-made_unless : {P : Type 0} (missing : Option ℕ) (r p : P) → unless_missing missing r ≡ Ok p → r ≡ p
-made_unless (Some n) r p e = absurd cc
-made_unless None r p e = cc
-
-judged_made : {P : Type 0} (t : Fields P) (ms : Members) (bad : Option Fault) (p : P) → judged t ms bad ≡ Ok p
-    → with_members t ms t.blank ≡ p
-judged_made t ms (Some f) p e = absurd cc
-judged_made t ms None p e = made_unless (first_missing (table_of t) ms) (with_members t ms t.blank) p e
-
-pub made_from : {P : Type 0} (t : Fields P) (i : Item) (p : P) → read_item t i ≡ Ok p → IsMade t i p
-made_from t (item.map ps) p e = record {
-  pairs = ps;
-  is_map = refl;
-  made = judged_made t (members ps) (first_bad (table_of t) _ (members ps)) p e;
-}
-made_from t _ p e = absurd cc
+  members_keep : (t : Fields P) (ps : Pairs) (s : Progress P) → Keeps n Inv t.rows → pairs_depth ps < n
+      → Inv s.made → IfOk (read_from t (members ps) s) Inv
+  members_keep t no_pairs s all less h = none_keeps (first_missing (entries (table_of t)) s.seen) s.made h
+  members_keep t (pair k v ps) s all less h =
+      then_keeps (λ r. read_from t (members ps) r) (one_more t (named (table_of t) k) v s)
+      (more_keeps t (named (table_of t) k) v s all (omega (arith, less)) h)
+      (λ r kept. members_keep t ps r all (omega (arith, less)) kept)
 
 -- what each row preserves holds of a decoded record
 pub record_keeps : {P : Type 0} (t : Fields P) (Inv : P → Type 0) (i : Item) (p : P) → read_item t i ≡ Ok p
     → (0 < depth i → Inv t.blank) → Keeps (depth i) Inv t.rows → Inv p
-record_keeps t Inv i p e begun all =
-    let made = made_from t i p e in
-    let less : pairs_depth made.pairs < depth i =
-    (let whole : depth i ≡ depth (item.map made.pairs) = ap depth made.is_map in omega (arith, whole)) in
-    subst Inv made.made (members_keep (depth i) Inv t made.pairs t.blank all less (begun (omega (arith, less))))
+record_keeps t Inv (item.map ps) p e begun all = subst (λ (r : Result _ Fault). IfOk r Inv) e
+    (members_keep (depth (item.map ps)) Inv t ps _ all (omega arith) (begun (omega arith)))
+record_keeps t Inv _ p e begun all = absurd cc
 
 -- the same for a record inside another one
 pub nested_keeps : {P : Type 0} (t : Fields P) (Inv : P → Type 0) (i : Item) (p : P) → record_kind t i ≡ Some p

@@ -1,6 +1,6 @@
 -- Plain records: they can be decoded again, have few levels, and their keys ascend.
 use Rattle.passkey_kinds.proofs.Common.{◌≡◌, ℕ, zero, suc, ◌≤◌, arith, ◌&&◌, true, None, refl, ap, depth, IsReadBack, table_of, KeysAscend, shortest_head, PlainTable, EachFits, members_of, places_of, fields_of, plain_kind, plain_tree, descriptor, parameters, webauthn_user, made_signed, used_signed, Unknown}
-use Rattle.passkey_kinds.proofs.Back.{have_rows, stands, are_distinct, missing_of, Backs, numbers, kind_back, puts_value, puts_default, ◌▸◌, no_more}
+use Rattle.passkey_kinds.proofs.Back.{have_rows, are_distinct, missing_of, Backs, numbers, kind_back, puts_value, puts_default, ◌▸◌, no_more}
 use Rattle.passkey_kinds.proofs.LeafBack.{text_back, bytes_back, credential_type_back, transport_back, algorithm_back, or_else_back, accepted_place, truth_back, optional_place, anything}
 use Rattle.passkey_kinds.proofs.Levels.{EachPlace}
 use Rattle.passkey_kinds.proofs.Ordered.{ascend, keys_ascend, IsPlain, record_plain, plainly, list_plain}
@@ -33,7 +33,7 @@ module _ {P : Type 0} {normal : P → P} (n : ℕ) (t : PlainTable P) where
   pub lawful : ((r : P) → ascend (places_of t.members r) ≡ true)
       → ((r : P) → (have_rows (table_of (fields_of t)) (numbers (members_of t.members)) (places_of t.members r)
       && are_distinct (numbers (members_of t.members))) ≡ true)
-      → ((r : P) → missing_of (table_of (fields_of t)) (stands (numbers (members_of t.members)) (places_of t.members r))
+      → ((r : P) → missing_of (table_of (fields_of t)) (numbers (members_of t.members)) (places_of t.members r)
       ≡ None) → ((k : ℕ) (r : P) → EachPlace (IsPlain (raised n k)) (places_of t.members r))
       → ((r : P) → EachFits t.members r → Backs (members_of t.members) (places_of t.members r) t.blank (normal r))
       → IsLawfulAs normal n t

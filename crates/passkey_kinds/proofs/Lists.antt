@@ -1,6 +1,6 @@
 -- Lists, arrays and maps, decoded and encoded element by element.
 use Rattle.passkey_cbor.specs.Item.{elements, members}
-use Rattle.passkey_kinds.proofs.Common.{filter_map, ◌≡◌, ◌<◌, arith, ◌∙◌, List, [], ◌∷◌, ◌++◌, length, map, Option, Some, None, option_map, Result, Err, refl, ap, true, Item, array, items_of, IfPresent, elements-items_of, Kind, AnswersAs, MayGrow, each, list, accepted, Refusal, OutOfMemory, ℕ, suc, ◌+◌, ◌≤◌, sym, mul-le-mul_left, Walk, Keeping, nothing, counted, kept_of, kept_sum, in_elements, Spends, Decodes, option_and_then, ◌==◌, take, drop, get_or, if◌then◌else◌, append-nil, drop_all, length-map, take_all, take_more_set, below, sized_bytes, Bool, false, Region, Tells, some_is, All, add-one, append_assoc, drop-cons, slice_cmp, eq_by_cmp, nat_cmp, cond, nat_list_cmp_total, ByteMap, put_each, same_bytes, pairs_of, item_of, pair_of, Value, members-pairs_of, bytes, entry, map_from_bytes, map_values, with_members, cons_option, ◌⊎◌, inl, inr, cases_lt, lt-ltb, le-ltb, ne_eqb, length-append, collected, entered, slice_set, entries_empty, string_again, pushed, pushed_if, pushed_below, drop_more, filter_map-append, bytes_or_fault, BytesFault, item_of-Array, Ok, item_of-Map, kept_parts, numbers_in, elements_in, members_in, in_members, ◌*◌}
+use Rattle.passkey_kinds.proofs.Common.{same_bytes, entries_empty, bytes_or_fault, ByteMap, put_each, BytesFault, some_is, string_again, item_of-Array, item_of-Map, Item, items_of, pairs_of, byte_string, array, Region, Tells, item_of, pair_of, Walk, Value, IfPresent, members-pairs_of, elements-items_of, Keeping, nothing, counted, kept_of, kept_sum, in_members, in_elements, AnswersAs, bytes, MayGrow, below, kept, Kind, each, sized_bytes, list, accepted, with_members, map_from_bytes, entry, map_values, collected, entered, pushed, pushed_if, pushed_below, elements_in, members_in, numbers_in, kept_parts, Decodes, Spends, entries, OutOfMemory, Refusal, ◌≡◌, ◌∙◌, ◌<◌, ◌+◌, ℕ, suc, add-one, arith, Bool, true, false, if◌then◌else◌, List, [], ◌∷◌, ◌++◌, length, map, drop, get_or, Option, Some, None, option_map, inl, inr, refl, sym, ap, ◌≤◌, Result, ◌*◌, take, Ok, Err, ◌==◌, cond, set, ◌⊎◌, zero, slice_set, mul-le-mul_left, drop-cons, cases_lt, le-ltb, ne_eqb, lt-ltb, nat_list_cmp_total, filter_map-append, length-map, length-append, append-nil, drop_all, take_all, take_more_set, drop_more, slice_cmp, find, filter_map, cons_option, All, option_and_then, nat_cmp, eq_by_cmp}
 use Rattle.std.proofs.lemmas.List.{append_assoc}
 use Rattle.std.specs.FinMap as fin
 use Rattle.passkey_cbor.specs.Item as item
@@ -57,9 +57,10 @@ where_twice P g (Some x) h = h
 
 -- ---- the head before the elements
 
-pub head_before : (cost kept many to : ℕ) (a b d : Walk) → kept ≤ many → a.place < b.place → b.heads ≤ a.heads + 1
-    → b.nodes ≤ a.nodes + 0 → Spends (suc cost) kept to b d → Spends (suc cost) many to a d
-head_before cost kept many to a b d few further one none s = grind (arith, mul-le-mul_left)
+pub head_before : (cost kept many to : ℕ) (a b d : Walk) → 0 < cost → kept ≤ many → a.place < b.place
+    → b.heads ≤ a.heads + 1 → b.nodes ≤ a.nodes + 0 → Spends cost kept to b d → Spends cost many to a d
+head_before zero kept many to a b d some few further one none s = absurd (omega (arith, some))
+head_before (suc k) kept many to a b d some few further one none s = grind (arith, mul-le-mul_left)
 
 pub decodes_in : {A M : Type 0} {wanted given : Option M} {takes may : Type 0} (view : A → M)
     (cost kept many to : ℕ) (a b d : Walk) (result : Result A Refusal) → given ≡ wanted → (takes → may)

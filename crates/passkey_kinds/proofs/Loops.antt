@@ -1,5 +1,5 @@
 -- Loops over the rest of a list or a map at a cursor.
-use Rattle.passkey_kinds.proofs.Common.{◌≡◌, ◌∙◌, ℕ, suc, ◌+◌, ◌*◌, ◌≤◌, ◌<◌, arith, Bool, true, false, List, [], ◌∷◌, length, Option, Some, None, sym, ap, subst, mul-le-mul_left, Left, Lies, Next, Looks, Walk, raised-le, Spends, max, refl, Item, pairs_of, members-pairs_of, Keeping, nothing, counted, kept_of, ◌-◌, ◌==◌, if◌then◌else◌, and_parts, true≢false, max_depth, PairWithin, members, Fields, Member, table_of, record_cost, cost_by, kept_in, kept_in_map, Naming, row, unknown, wrong, named, Members, NextIf, Walks, Language, break_heads, Costs, greatest_cost, cost_at, keeps_at, keeps_by, keeps_nothing, none_keeps, record_keeps}
+use Rattle.passkey_kinds.proofs.Common.{raised-le, Lies, Next, Looks, NextIf, Walks, Left, Item, members, pairs_of, number, Language, Walk, break_heads, members-pairs_of, Keeping, nothing, counted, kept_of, bytes, kept, entry, Spends, SpendsLess, Fields, table_of, Member, named, Members, Naming, row, unknown, wrong, cost_by, kept_in, kept_in_map, greatest_cost, cost_at, keeps_at, keeps_by, keeps_nothing, none_keeps, record_keeps, ◌≡◌, ◌∙◌, ◌<◌, ◌+◌, ℕ, suc, arith, Bool, true, false, if◌then◌else◌, List, [], ◌∷◌, length, map, Option, Some, None, refl, sym, ap, ◌≤◌, ◌*◌, subst, ◌==◌, max, zero, mul-le-mul_left, and_parts, true≢false}
 use Rattle.passkey_kinds.proofs.Cursor.{eased, spends_then}
 use Rattle.passkey_cbor.specs.Item as item
 
@@ -36,29 +36,30 @@ pub one_looked : (before after : Option ℕ) (a b : Walk) (found : Bool) → Loo
     → b.heads ≤ a.heads + 1
 one_looked before after a b found l = grind (arith, raised-le, break_one)
 
--- one head to look for the next element, and the element's heads
-heads_more : (k from start place a b d middle : ℕ) → a + suc k * from ≤ start + suc k * place → b ≤ a + 1
-    → d + k * place ≤ b + k * middle → place < middle → d + suc k * from ≤ start + suc k * middle
-heads_more k from start place a b d middle before look element less = omega (arith, before, look, element, less)
+heads_end : (c from start place a b more to : ℕ) → 0 < c → a + c * from ≤ start + c * place → b ≤ a + more
+    → to ≡ place + more → b + c * from ≤ start + c * to
+heads_end zero from start place a b more to some before look at = absurd (omega (arith, some))
+heads_end (suc k) from start place a b more to some before look at = rw at (omega (arith, before, look))
 
-heads_end : (k from start place a b more to : ℕ) → a + suc k * from ≤ start + suc k * place → b ≤ a + more
-    → to ≡ place + more → b + suc k * from ≤ start + suc k * to
-heads_end k from start place a b more to before look at = rw at (omega (arith, before, look))
+-- an element of at least one byte leaves a head to spare
+pub one_spare : (k kept to : ℕ) (b d : Walk) → b.place < to → Spends k kept to b d → SpendsLess (suc k) kept to b d
+one_spare k kept to b d less s =
+    record { within = s.within; heads = omega (arith, less, s.heads); nodes = s.nodes }
 
 -- an element's end is no further than the list's
 pub spent_within : {A : Type 0} {P : A → Language} (cost few all to : ℕ) (start : Walk) (after : Option ℕ)
     (xs : List A) (b d : Walk) (n : Next P after xs b.bytes b.place to)
-    → SpentTo (suc cost) few all n.middle start d → Spends (suc cost) all to start d
+    → SpentTo cost few all n.middle start d → Spends cost all to start d
 spent_within cost few all to start after xs b d n s = record {
   within = omega (arith, s.within, n.after.forward);
-  heads = omega (arith, s.heads, mul-le-mul_left {m = n.middle} {n = to} (suc cost) n.after.forward);
+  heads = omega (arith, s.heads, mul-le-mul_left {m = n.middle} {n = to} cost n.after.forward);
   nodes = omega (arith, s.nodes);
 }
 
 module _ {A : Type 0} (P : A → Language) (Done : List A → Type 0) (kept : List A → ℕ) (cost : ℕ) (is : List A)
     (to : ℕ) (start : Walk) where
   pub begun : (left : Option ℕ) → Done is → Lies (Left P left is) start.bytes start.place to
-      → EachTo P Done kept (suc cost) left is to start start
+      → EachTo P Done kept cost left is to start start
   begun left done ahead = record {
     rest = is;
     ahead = ahead;
@@ -70,40 +71,37 @@ module _ {A : Type 0} (P : A → Language) (Done : List A → Type 0) (kept : Li
 
   -- the next element
   pub next_is : (before after : Option ℕ) (a b : Walk) (found : Bool) → found ≡ true → Walks P before after a b
-      found → (e : EachTo P Done kept (suc cost) before is to start a) → Next P after e.rest b.bytes b.place to
+      found → (e : EachTo P Done kept cost before is to start a) → Next P after e.rest b.bytes b.place to
   next_is before after a b found goes walks e =
       subst (λ (t : Bool). NextIf P after e.rest b to t) goes (walks e.rest to e.ahead)
 
   -- what was spent on it, and on those before it
   pub element_spends : (before after : Option ℕ) (a b d : Walk) (found : Bool) → found ≡ true
-      → Looks before after a b found → (e : EachTo P Done kept (suc cost) before is to start a) → (n : Next P after
-      e.rest b.bytes b.place to) → (one : ℕ) → kept (n.first ∷ n.others) ≡ one + kept n.others → b.place < n.middle
-      → Spends cost one n.middle b d → SpentTo (suc cost) (kept n.others) (kept is) n.middle start d
-  element_spends before after a b d found goes looks e n one whole less spends =
-      let stays : b.place ≡ a.place = looks.stays goes in
-      record {
-        within = spends.within;
-        heads = heads_more cost start.place start.heads a.place a.heads b.heads d.heads n.middle e.heads
-            (one_looked before after a b found looks) (subst (λ (p : ℕ). d.heads + cost * p
-            ≤ b.heads + cost * n.middle) stays spends.heads) (omega (arith, stays, less));
-        nodes = omega (arith, e.nodes, looks.nodes, spends.nodes, ap kept n.whole, whole);
-      }
+      → Looks before after a b found → (e : EachTo P Done kept cost before is to start a) → (n : Next P after
+      e.rest b.bytes b.place to) → (one : ℕ) → kept (n.first ∷ n.others) ≡ one + kept n.others
+      → SpendsLess cost one n.middle b d → SpentTo cost (kept n.others) (kept is) n.middle start d
+  element_spends before after a b d found goes looks e n one whole spends = record {
+    within = spends.within;
+    heads = omega (arith, e.heads, one_looked before after a b found looks, subst (λ (p : ℕ).
+        suc d.heads + cost * p ≤ b.heads + cost * n.middle) (looks.stays goes) spends.heads);
+    nodes = omega (arith, e.nodes, looks.nodes, spends.nodes, ap kept n.whole, whole);
+  }
 
   -- there was a next element
-  pub some_are : (before after : Option ℕ) (a b : Walk) (e : EachTo P Done kept (suc cost) before is to start a)
+  pub some_are : (before after : Option ℕ) (a b : Walk) (e : EachTo P Done kept cost before is to start a)
       → Next P after e.rest b.bytes b.place to → 0 < length is
   some_are before after a b e n = omega (arith, e.fewer, ap length n.whole)
 
   -- one more element
-  pub one_more : (Next_done : List A → Type 0) (before after : Option ℕ) (a b d : Walk)
-      (e : EachTo P Done kept (suc cost) before is to start a) → (n : Next P after e.rest b.bytes b.place to)
-      → SpentTo (suc cost) (kept n.others) (kept is) n.middle start d → d.place ≡ n.middle → d.bytes ≡ b.bytes
-      → Next_done n.others → EachTo P Next_done kept (suc cost) after is to start d
-  one_more Next_done before after a b d e n s at same done = record {
+  pub one_more_done : (Next_done : List A → Type 0) (before after : Option ℕ) (a b d : Walk)
+      (e : EachTo P Done kept cost before is to start a) → (n : Next P after e.rest b.bytes b.place to)
+      → SpentTo cost (kept n.others) (kept is) n.middle start d → d.place ≡ n.middle → d.bytes ≡ b.bytes
+      → Next_done n.others → EachTo P Next_done kept cost after is to start d
+  one_more_done Next_done before after a b d e n s at same done = record {
     rest = n.others;
     ahead = rw (at, same) n.after;
     done = done;
-    heads = omega (arith, s.heads, ap (λ (p : ℕ). suc cost * p) at);
+    heads = omega (arith, s.heads, ap (λ (p : ℕ). cost * p) at);
     nodes = s.nodes;
     fewer = omega (arith, e.fewer, ap length n.whole);
   }
@@ -111,15 +109,15 @@ module _ {A : Type 0} (P : A → Language) (Done : List A → Type 0) (kept : Li
   -- no more elements
   pub each_done : (before after : Option ℕ) (a b : Walk) (found : Bool) → found ≡ false
       → Walks P before after a b found → Looks before after a b found
-      → EachTo P Done kept (suc cost) before is to start a → EachDone Done (suc cost) (kept is) to start b
-  each_done before after a b found ends walks looks e =
+      → EachTo P Done kept cost before is to start a → 0 < cost → EachDone Done cost (kept is) to start b
+  each_done before after a b found ends walks looks e some =
       let none = subst (λ (t : Bool). NextIf P after e.rest b to t) ends (walks e.rest to e.ahead) in
       let at : b.place ≡ to = none.1 in
       record {
         done = subst Done none.0 e.done;
         spends = record {
           within = omega (arith, at);
-          heads = heads_end cost start.place start.heads a.place a.heads b.heads (break_heads before) to e.heads
+          heads = heads_end cost start.place start.heads a.place a.heads b.heads (break_heads before) to some e.heads
               (omega (arith, looks.heads, raised-le a.heads (break_heads before))) (sym at ∙ looks.passes ends);
           nodes = omega (arith, e.nodes, looks.nodes);
         };
@@ -210,56 +208,27 @@ kept_pairs t ms i e = omega (arith, ap (kept_in_map t) e, ap (kept_in t) (member
 
 -- ---- what a member costs
 
-key_heads : (e from start place a b d middle : ℕ) → a + suc (3 + e) * from ≤ start + suc (3 + e) * place → b ≤ a + 1
-    → d + 3 * place ≤ b + 3 * middle → place < middle → d + suc (3 + e) * from ≤ start + suc (3 + e) * middle
-key_heads e from start place a b d middle before look key less = grind (arith, mul-le-mul_left)
+-- a member's map key by itself, and with its value
+module _ (c one middle to : ℕ) (b d : Walk) (first : b.place < middle) (second : middle ≤ to) (four : 4 ≤ c)
+    (key : Spends 3 0 middle b d) where
+  key_heads : (c : ℕ) → 4 ≤ c → suc d.heads + c * b.place ≤ b.heads + c * middle
+  key_heads zero four = absurd (omega (arith, four))
+  key_heads (suc k) four = (one_spare k 0 middle b d first
+      (eased 3 k 0 0 middle b d (omega (arith, four)) (omega arith) (omega (arith, first)) key)).heads
 
-then_heads : (c from start middle d f to : ℕ) → d + c * from ≤ start + c * middle → f + c * middle ≤ d + c * to
-    → f + c * from ≤ start + c * to
-then_heads c from start middle d f to key value = omega (arith, key, value)
+  pub key_spent : SpendsLess c one to b d
+  key_spent = record {
+    within = omega (arith, key.within, second);
+    heads = omega (arith, key_heads c four, mul-le-mul_left {m = middle} {n = to} c second);
+    nodes = omega (arith, key.nodes);
+  }
 
--- what is spent at the greatest cost, where a loop counts with an equal number
-pub all_spent : {P : Type 0} (t : Fields P) (kept to : ℕ) (start now : Walk)
-    → Spends (suc (3 + (record_cost t - 4))) kept to start now → Spends (record_cost t) kept to start now
-all_spent t kept to start now s = subst (λ (n : ℕ). Spends n kept to start now) (omega (arith, at_least t.rows)) s
-
--- the head before the members
-pub head_then : {P : Type 0} (t : Fields P) (kept many to : ℕ) (a b d : Walk) → kept ≤ many → a.place < b.place
-    → b.heads ≤ a.heads + 1 → b.nodes ≤ a.nodes + 0 → Spends (record_cost t) kept to b d
-    → Spends (record_cost t) many to a d
-head_then t kept many to a b d few further one none s = grind (arith, at_least, mul-le-mul_left)
-
-module _ {P : Type 0} {Done : Members → Type 0} (t : Fields P) (e : ℕ) (ms : Members) (to : ℕ) (start : Walk)
-    (before after : Option ℕ) (a b : Walk)
-    (each : EachTo (PairWithin max_depth) Done (kept_in t) (suc (3 + e)) before ms to start a) (looks :
-    Looks before after a b true) (n : Next (PairWithin max_depth) after each.rest b.bytes b.place to) (d : Walk)
-    (middle : ℕ) (less : b.place < middle) (within : middle ≤ n.middle) (key : Spends 3 0 middle b d) where
-  keyed : d.heads + suc (3 + e) * start.place ≤ start.heads + suc (3 + e) * middle
-  keyed = grind (arith, key_heads, one_looked)
-
-  -- a map key by itself
-  pub key_spent : SpentTo (suc (3 + e)) (kept_in t n.others) (kept_in t ms) n.middle start d
-  key_spent = grind (arith, keyed, mul-le-mul_left)
-
-  -- a member: its map key, and then its value
-  pub member_spent : (f : Walk) (naming : Naming) (ok : Bool) → naming ≡ named (table_of t) n.first.0 → d.place
-      ≡ middle → cost_by t.rows naming ≤ suc (3 + e) → Costs (cost_by t.rows naming) (keeps_by t.rows naming)
-      n.first.1 n.middle d f ok → SpentTo (suc (3 + e)) (kept_in t n.others) (kept_in t ms) n.middle start f
-  member_spent f naming ok named_so at cheap value =
-      let spends = eased (cost_by t.rows naming) (suc (3 + e)) (kept_of (keeps_by t.rows naming) n.first.1)
-      (kept_of (keeps_by t.rows naming) n.first.1) n.middle d f cheap (omega arith) (omega (arith, at, within))
-      value.spends in
+  pub member_spent : (k : ℕ) (f : Walk) → d.place ≡ middle → k ≤ c → Spends k one to d f → SpendsLess c one to b f
+  member_spent k f at cheap value =
+      let eased_value = eased k c one one to d f cheap (omega arith) (omega (arith, at, second)) value in
       record {
-        within = value.spends.within;
-        heads = then_heads (suc (3 + e)) start.place start.heads middle d.heads f.heads n.middle keyed
-            (subst (λ (p : ℕ). f.heads + suc (3 + e) * p ≤ d.heads + suc (3 + e) * n.middle) at spends.heads);
-        nodes = omega (
-          arith,
-          each.nodes,
-          looks.nodes,
-          key.nodes,
-          value.spends.nodes,
-          ap (kept_in t) n.whole,
-          ap (λ (m : Naming). kept_of (keeps_by t.rows m) n.first.1) named_so,
-        );
+        within = value.within;
+        heads = omega (arith, key_heads c four, subst (λ (p : ℕ). f.heads + c * p ≤ d.heads + c * to) at
+            eased_value.heads);
+        nodes = omega (arith, key.nodes, value.nodes);
       }

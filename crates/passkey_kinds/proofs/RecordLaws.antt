@@ -1,43 +1,9 @@
 -- Laws of records and messages.
-use Rattle.passkey_kinds.proofs.Common.{option_or, arith, ◌≡◌, ℕ, Bool, true, false, if◌then◌else◌, [], ◌∷◌, ◌++◌, Option, Some, None, subst, Item, Table, Naming, row, unknown, wrong, named, Members, bad_by, first_bad, Fault, ◌≢◌, ◌∙◌, List, Result, Ok, Err, refl, sym, ap, IsLeadingItem, AtMostOneLeadingItem, ReadsMessage, AlikeDifferInLength, KnowsItems, cons_option, ◌==◌, ◌||◌, is_some, is_none, All-head, All-tail, with_row, is_row, found, accepts_at, Fields, table_of, known_member, known, HasNoWrongKey, SameAnswers, Repeated, rules, members, members-pairs_of, put_at, put_named, unless_missing, judged, read_members, read_item, first_missing, suc, ◌+◌, ◌*◌, ◌≤◌, length, take, drop, Grows, Pairs, no_pairs, pair, PassesLeadingItem, IsEncodedAt, Walk, ahead, Went, Onward, MayGrowAt, Reads, record_cost, kept_in_map, OnErr, only_one, Begins, GrowsMessage, ReadsHere, with_length, SameButForLength, AnswersCarryOver, PassesOverUnknown, KnowsMaps, DecodesRecord, take-append-drop, drop-drop, length-drop}
+use Rattle.passkey_kinds.proofs.Common.{only_one, IsEncodedAt, Grows, Item, Pairs, no_pairs, pair, members, AtMostOneLeadingItem, IsLeadingItem, PassesLeadingItem, Walk, ahead, Went, members-pairs_of, accepted, text, ReadsMessage, Begins, GrowsMessage, ReadsHere, with_length, AlikeDifferInLength, SameButForLength, AnswersCarryOver, KnowsItems, known_member, known, HasNoWrongKey, AnswersAlike, SameAnswers, PassesOverUnknown, KnowsMaps, Onward, Reads, MayGrowAt, Fields, rows_of, table_of, unless_missing, one_more, Progress, result_and_then, read_from, read_members, read_item, Table, entries, named, Members, first_missing, Naming, row, unknown, wrong, accepts_at, record_cost, kept_in_map, DecodesRecord, Repeated, Fault, OutOfMemory, ◌≡◌, ◌∙◌, ◌+◌, ℕ, suc, arith, Bool, true, false, if◌then◌else◌, List, [], ◌∷◌, ◌++◌, length, map, drop, Option, Some, None, refl, sym, ap, rules, ◌≤◌, Result, ◌*◌, subst, take, Ok, Err, ◌==◌, ◌≢◌, ◌||◌, OnErr, IfErr, All-head, All-tail, take-append-drop, drop-drop, length-drop, cons_option}
 use Rattle.passkey_kinds.proofs.Cursor.{front_long}
-use Rattle.passkey_kinds.proofs.Members.{found_append, found_pushed, found_without, first_bad_without, missing_alike}
-use Rattle.passkey_kinds.specs.Record.{with_members}
 use Rattle.passkey_kinds.specs.declared.fault.Fault.TheVariants.{Refused}
 use Rattle.passkey_kinds.specs.declared.fault.Fault.TheVariants as fault
 use Rattle.passkey_cbor.specs.Item as item
-
--- ---- the faults that members have
-
-abbrev pub IsOfMember : Fault → Type 0
-IsOfMember fault.BadKey = Unit {0}
-IsOfMember (fault.Repeated n) = Unit {0}
-IsOfMember (fault.Refused n) = Unit {0}
-IsOfMember _ = ⊥
-
-row_fault : (seen accepted : Bool) (n : ℕ) (f : Fault) → (if seen then Some (fault.Repeated n)
-    else (if accepted then None else Some (fault.Refused n))) ≡ Some f → IsOfMember f
-row_fault true accepted n f e = (let same : fault.Repeated n ≡ f = cc in subst IsOfMember same tt)
-row_fault false true n f e = absurd cc
-row_fault false false n f e = (let same : fault.Refused n ≡ f = cc in subst IsOfMember same tt)
-
-member_fault : (table : Table) (earlier : Members) (naming : Naming) (value : Item) (f : Fault)
-    → bad_by table earlier naming value ≡ Some f → IsOfMember f
-member_fault table earlier (row n) value f e = grind (arith, row_fault)
-member_fault table earlier unknown value f e = absurd cc
-member_fault table earlier wrong value f e = (let same : fault.BadKey ≡ f = cc in subst IsOfMember same tt)
-
-either_fault : (a b : Option Fault) (f : Fault) → (a ≡ Some f → IsOfMember f) → (b ≡ Some f → IsOfMember f)
-    → option_or a b ≡ Some f → IsOfMember f
-either_fault None b f p q e = q e
-either_fault (Some g) b f p q e = p e
-
-pub first_bad_fault : (table : Table) (earlier ms : Members) (f : Fault) → first_bad table earlier ms ≡ Some f
-    → IsOfMember f
-first_bad_fault table earlier [] f e = absurd cc
-first_bad_fault table earlier (m ∷ ms) f e =
-    either_fault (bad_by table earlier (named table m.0) m.1) (first_bad table (earlier ++ m ∷ []) ms) f
-    (member_fault table earlier (named table m.0) m.1 f) (first_bad_fault table (earlier ++ m ∷ []) ms f) e
 
 -- ---- bytes whose leading data items decode alike: the results differ only in the length
 
@@ -93,168 +59,108 @@ pub alike : {A M : Type 0} → AtMostOneLeadingItem → (view : A → M) (read :
     → AlikeDifferInLength view read
 alike law view read knows x y same bytes others n m front other = grind (arith, carries_over)
 
--- ---- the value of each row, by the known members alone
-
-abbrev pub found_in : List (ℕ × Item) → ℕ → Option Item
-found_in [] = λ k. None
-found_in (x ∷ xs) = with_row x.0 x.1 (found_in xs)
-
-found_by : (naming : Naming) (value : Item) (o : Option Item) (xs : List (ℕ × Item)) (k : ℕ) → o ≡ found_in xs k
-    → (if is_row k naming then Some value else o) ≡ found_in (cons_option (known_member naming value) xs) k
-found_by (row n) value o xs k rest = ap (λ (p : Option Item). if k == n then Some value else p) rest
-found_by _ value o xs k rest = rest
-
-pub found_known : (table : Table) (ms : Members) (k : ℕ) → found table ms k ≡ found_in (known table ms) k
-found_known table [] k = refl
-found_known table (m ∷ ms) k = grind (arith, found_by, found_known table ms k)
-
--- ---- the faults, by the known members alone
-
-abbrev pub bad_at : Table → Bool → ℕ → Item → Option Fault
-bad_at table seen n i =
-    if seen then Some (Repeated n) else (if accepts_at table.rows n i then None else Some (Refused n))
-
-abbrev pub bad_in : Table → (ℕ → Bool) → List (ℕ × Item) → Option Fault
-bad_in table seen [] = None
-bad_in table seen (x ∷ xs) =
-    option_or (bad_at table (seen x.0) x.0 x.1) (bad_in table (λ k. seen k || (k == x.0)) xs)
-
-is_some_or : {X : Type 0} (o : Option X) (x : X) (b : Bool)
-    → is_some (option_or o (if b then Some x else None)) ≡ is_some o || b
-is_some_or None x true = refl
-is_some_or None x false = refl
-is_some_or (Some y) x b = refl
-
-marked_also : (table : Table) (earlier : Members) (key value : Item) (n : ℕ) (seen : ℕ → Bool)
-    → named table key ≡ row n → ((k : ℕ) → is_some (found table earlier k) ≡ seen k) → (k : ℕ)
-    → is_some (found table (earlier ++ (key, value) ∷ []) k) ≡ seen k || (k == n)
-marked_also table earlier key value n seen naming same k = grind (arith, found_append, is_some_or)
-
--- the rest is the same, with any marks that are right after one more member
-first_bad_by : (table : Table) (earlier : Members) (key value : Item) (later : Option Fault) (xs : List (ℕ × Item))
-    (seen : ℕ → Bool) → ((k : ℕ) → is_some (found table earlier k) ≡ seen k) → ((next : ℕ → Bool)
-    → ((k : ℕ) → is_some (found table (earlier ++ (key, value) ∷ []) k) ≡ next k) → later ≡ bad_in table next xs)
-    → (naming : Naming) → named table key ≡ naming → naming ≢ wrong → option_or (bad_by table earlier naming value)
-    later ≡ bad_in table seen (cons_option (known_member naming value) xs)
-first_bad_by table earlier key value later xs seen same rest (row n) e right = grind (arith, marked_also)
-first_bad_by table earlier key value later xs seen same rest unknown e right = grind (arith, found_pushed)
-first_bad_by table earlier key value later xs seen same rest wrong e right = absurd (right refl)
-
-pub first_bad_known : (table : Table) (earlier ms : Members) (seen : ℕ → Bool)
-    → ((k : ℕ) → is_some (found table earlier k) ≡ seen k) → HasNoWrongKey table ms
-    → first_bad table earlier ms ≡ bad_in table seen (known table ms)
-first_bad_known table earlier [] seen same right = refl
-first_bad_known table earlier (m ∷ ms) seen same right =
-    first_bad_by table earlier m.0 m.1 (first_bad table (earlier ++ m ∷ []) ms) (known table ms) seen same
-    (λ next marked. first_bad_known table (earlier ++ m ∷ []) ms next marked
-    (All-tail (λ (m : Item × Item). named table m.0 ≢ wrong) m ms right))
-    (named table m.0)
-    refl
-    (All-head (λ (m : Item × Item). named table m.0 ≢ wrong) m ms right)
-
--- ---- values that are decoded alike have the same faults and fill the same rows
-
-module _ {P : Type 0} (t : Fields P) where
-  pub same_bad : (xs ys : List (ℕ × Item)) → SameAnswers t xs ys → (seen : ℕ → Bool)
-      → bad_in (table_of t) seen xs ≡ bad_in (table_of t) seen ys
-  same_bad [] [] h seen = refl
-  same_bad [] (y ∷ ys) h seen = absurd h
-  same_bad (x ∷ xs) [] h seen = absurd h
-  same_bad (x ∷ xs) (y ∷ ys) h seen = grind (arith, same_bad xs ys h.2 (λ k. seen k || (k == x.0)))
-
-  pub same_filled : (xs ys : List (ℕ × Item)) → SameAnswers t xs ys → (k : ℕ)
-      → is_none (found_in xs k) ≡ is_none (found_in ys k)
-  same_filled [] [] h k = refl
-  same_filled [] (y ∷ ys) h k = absurd h
-  same_filled (x ∷ xs) [] h k = absurd h
-  same_filled (x ∷ xs) (y ∷ ys) h k = grind (arith, same_filled xs ys h.2 k)
-
 -- ---- laws of records, by what their rows decode and put
 
-module _ {P : Type 0} (t : Fields P) where
-  judged_alike : (one other : Members) → first_bad (table_of t) [] one ≡ first_bad (table_of t) [] other
-      → first_missing (table_of t) one ≡ first_missing (table_of t) other
-      → with_members t one t.blank ≡ with_members t other t.blank → read_members t one ≡ read_members t other
-  judged_alike one other bad missing made = grind arith
+-- the faults that maps have
+abbrev pub IsOfMap : Fault → Type 0
+IsOfMap fault.DecodeFailed = ⊥
+IsOfMap fault.OutOfMemory = ⊥
+IsOfMap fault.NotAMap = ⊥
+IsOfMap _ = Unit {0}
 
+module _ {P : Type 0} (t : Fields P) where
   -- ---- unknown members
 
-  made_without : (before behind : Members) (key value : Item) (r : P) → named (table_of t) key ≡ unknown
-      → with_members t (before ++ (key, value) ∷ behind) r ≡ with_members t (before ++ behind) r
-  made_without [] behind key value r naming = grind arith
-  made_without (m ∷ before) behind key value r naming = grind (arith, made_without before behind key value (put_named t.rows (named (table_of t) m.0) m.1 r) naming)
+  skipped : (before behind : Members) (key value : Item) → named (table_of t) key ≡ unknown → (s : Progress P)
+      → read_from t (before ++ (key, value) ∷ behind) s ≡ read_from t (before ++ behind) s
+  skipped [] behind key value naming s =
+      ap (λ (n : Naming). result_and_then (λ r. read_from t behind r) (one_more t n value s)) naming
+  skipped (m ∷ before) behind key value naming s = λ j. result_and_then
+      (λ r. skipped before behind key value naming r j) (one_more t (named (table_of t) m.0) m.1 s)
 
   pub unknown_is_skipped : (before behind : Members) (key value : Item) → named (table_of t) key ≡ unknown
       → read_members t (before ++ (key, value) ∷ behind) ≡ read_members t (before ++ behind)
-  unknown_is_skipped before behind key value naming = search (
-    rules,
-    judged_alike,
-    first_bad_without,
-    missing_alike,
-    found_without,
-    made_without,
-  )
+  unknown_is_skipped before behind key value naming = skipped before behind key value naming _
 
   -- ---- members that are decoded alike
 
-  abbrev put_known : List (ℕ × Item) → P → P
-  put_known [] r = r
-  put_known (x ∷ xs) r = put_known xs (put_at t.rows x.0 x.1 r)
+  -- what the named rows make of the record
+  abbrev read_known : List (ℕ × Item) → Progress P → Result P Fault
+  read_known [] s = read_from t [] s
+  read_known (x ∷ xs) s = result_and_then (λ r. read_known xs r) (one_more t (row x.0) x.1 s)
 
-  made_by : (naming : Naming) (value : Item) (xs : List (ℕ × Item)) (r : P)
-      → put_known xs (put_named t.rows naming value r) ≡ put_known (cons_option (known_member naming value) xs) r
-  made_by (row n) value xs r = refl
-  made_by _ value xs r = refl
+  one_known : (naming : Naming) (i : Item) (ms : Members) (xs : List (ℕ × Item)) (s : Progress P) → naming ≢ wrong
+      → ((r : Progress P) → read_from t ms r ≡ read_known xs r)
+      → result_and_then (λ r. read_from t ms r) (one_more t naming i s)
+      ≡ read_known (cons_option (known_member naming i) xs) s
+  one_known (row n) i ms xs s right rest = λ j. result_and_then (λ r. rest r j) (one_more t (row n) i s)
+  one_known unknown i ms xs s right rest = rest s
+  one_known wrong i ms xs s right rest = absurd (right refl)
 
-  made_known : (ms : Members) (r : P) → with_members t ms r ≡ put_known (known (table_of t) ms) r
-  made_known [] r = refl
-  made_known (m ∷ ms) r = grind (arith, made_by, made_known ms (put_named t.rows (named (table_of t) m.0) m.1 r))
+  by_known : (ms : Members) (s : Progress P) → HasNoWrongKey (table_of t) ms
+      → read_from t ms s ≡ read_known (known (table_of t) ms) s
+  by_known [] s right = refl
+  by_known (m ∷ ms) s right =
+      one_known (named (table_of t) m.0) m.1 ms (known (table_of t) ms) s
+      (All-head (λ (m : Item × Item). named (table_of t) m.0 ≢ wrong) m ms right)
+      (λ r. by_known ms r (All-tail (λ (m : Item × Item). named (table_of t) m.0 ≢ wrong) m ms right))
 
-  same_made : (xs ys : List (ℕ × Item)) → SameAnswers t xs ys → (r : P) → put_known xs r ≡ put_known ys r
-  same_made [] [] h r = refl
-  same_made [] (y ∷ ys) h r = absurd h
-  same_made (x ∷ xs) [] h r = absurd h
-  same_made (x ∷ xs) (y ∷ ys) h r = grind (arith, same_made xs ys h.2 (put_at t.rows y.0 y.1 r))
+  one_alike : (n k : ℕ) (x y : Item) → n ≡ k → AnswersAlike t n x y → (s : Progress P)
+      → one_more t (row n) x s ≡ one_more t (row k) y s
+  one_alike n k x y same h s = (λ j. if s.seen n then Err (fault.Repeated n) else (if h.accepts j
+      then Ok (record { seen = λ k. (k == n) || s.seen k; made = h.puts s.made j }) else Err (Refused n)))
+      ∙ ap (λ (k : ℕ). one_more t (row k) y s) same
+
+  known_alike : (xs ys : List (ℕ × Item)) → SameAnswers t xs ys → (s : Progress P)
+      → read_known xs s ≡ read_known ys s
+  known_alike [] [] h s = refl
+  known_alike [] (y ∷ ys) h s = absurd h
+  known_alike (x ∷ xs) [] h s = absurd h
+  known_alike (x ∷ xs) (y ∷ ys) h s =
+      (λ j. result_and_then (λ r. known_alike xs ys h.2 r j) (one_more t (row x.0) x.1 s))
+      ∙ ap (result_and_then (λ r. read_known ys r)) (one_alike x.0 y.0 x.1 y.1 h.0 h.1 s)
 
   pub same_answers_read_alike : (ms ns : Members) → HasNoWrongKey (table_of t) ms → HasNoWrongKey (table_of t) ns
       → SameAnswers t (known (table_of t) ms) (known (table_of t) ns) → read_members t ms ≡ read_members t ns
   same_answers_read_alike ms ns right also h =
-      let xs = known (table_of t) ms in
-      let ys = known (table_of t) ns in
-      let none : ℕ → Bool = λ _. false in
-      judged_alike ms ns
-      (first_bad_known (table_of t) [] ms none (λ _. refl) right ∙ same_bad t xs ys h none
-      ∙ sym (first_bad_known (table_of t) [] ns none (λ _. refl) also))
-      (missing_alike (table_of t) ms ns (λ k. ap is_none (found_known (table_of t) ms k) ∙ same_filled t xs ys h k
-      ∙ sym (ap is_none (found_known (table_of t) ns k))))
-      (made_known ms t.blank ∙ same_made xs ys h t.blank ∙ sym (made_known ns t.blank))
+      by_known ms _ right ∙ known_alike (known (table_of t) ms) (known (table_of t) ns) h _ ∙ sym (by_known ns _ also)
 
   -- ---- faults
 
-  missing_or : (missing : Option ℕ) (r : P) (e : Fault) → ((n : ℕ) → fault.Missing n ≢ e)
-      → unless_missing missing r ≢ Err e
-  missing_or (Some n) r e missing h = missing n cc
-  missing_or None r e missing h = absurd cc
+  one_fault : {X : Type 0} (seen accepted : Bool) (n : ℕ) (x : X) → IfErr (if seen then Err (fault.Repeated n)
+      else (if accepted then Ok x else Err (Refused n))) IsOfMap
+  one_fault true accepted n x = tt
+  one_fault false true n x = tt
+  one_fault false false n x = tt
 
-  told_of_map : (ms : Members) (e : Fault) → (IsOfMember e → ⊥) → ((n : ℕ) → fault.Missing n ≢ e)
-      → (bad : Option Fault) → first_bad (table_of t) [] ms ≡ bad → judged t ms bad ≢ Err e
-  told_of_map ms e member missing (Some f) first h = grind (arith, first_bad_fault)
-  told_of_map ms e member missing None first h = grind (arith, missing_or)
+  more_fault : (naming : Naming) (i : Item) (s : Progress P) → IfErr (one_more t naming i s) IsOfMap
+  more_fault (row n) i s = one_fault (s.seen n) (accepts_at (rows_of t.rows) n i) n _
+  more_fault _ i s = tt
 
-  told : (e : Fault) → (IsOfMember e → ⊥) → ((n : ℕ) → fault.Missing n ≢ e) → fault.NotAMap ≢ e → (i : Item)
-      → read_item t i ≢ Err e
-  told e member missing map (item.map ps) h = grind (arith, told_of_map)
-  told e member missing map _ h = map cc
+  then_fault : {A B : Type 0} (f : A → Result B Fault) (r : Result A Fault) → IfErr r IsOfMap
+      → ((x : A) → IfErr (f x) IsOfMap) → IfErr (result_and_then f r) IsOfMap
+  then_fault f (Ok x) h rest = rest x
+  then_fault f (Err e) h rest = h
+
+  missing_fault : (missing : Option ℕ) (r : P) → IfErr (unless_missing missing r) IsOfMap
+  missing_fault (Some n) r = tt
+  missing_fault None r = tt
+
+  map_fault : (ms : Members) (s : Progress P) → IfErr (read_from t ms s) IsOfMap
+  map_fault [] s = missing_fault (first_missing (entries (table_of t)) s.seen) s.made
+  map_fault (m ∷ ms) s = then_fault (λ r. read_from t ms r) (one_more t (named (table_of t) m.0) m.1 s)
+      (more_fault (named (table_of t) m.0) m.1 s) (map_fault ms)
+
+  no_fault : (ms : Members) (e : Fault) → (IsOfMap e → ⊥) → read_members t ms ≢ Err e
+  no_fault ms e none h = none (subst (λ (r : Result P Fault). IfErr r IsOfMap) h (map_fault ms _))
 
   pub knows_items : KnowsItems (read_item t)
-  knows_items i = (
-    told fault.DecodeFailed (λ h. h) (λ n. λ e. cc) (λ e. cc) i,
-    told fault.OutOfMemory (λ h. h) (λ n. λ e. cc) (λ e. cc) i,
-  )
+  knows_items (item.map ps) =
+      (no_fault (members ps) fault.DecodeFailed (λ h. h), no_fault (members ps) fault.OutOfMemory (λ h. h))
+  knows_items _ = (λ e. cc, λ e. cc)
 
   pub knows_maps : KnowsMaps (read_item t)
-  knows_maps ps =
-      told_of_map (members ps) fault.NotAMap (λ h. h) (λ n. λ e. cc) (first_bad (table_of t) [] (members ps)) refl
+  knows_maps ps = no_fault (members ps) fault.NotAMap (λ h. h)
 
 pub alike_differ_in_length : {A P : Type 0} → AtMostOneLeadingItem → (view : A → P) (t : Fields P)
     → AlikeDifferInLength view (read_item t)

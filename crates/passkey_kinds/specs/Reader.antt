@@ -37,6 +37,12 @@ pub record Spends (cost kept to : ℕ) (old new : Walk) : Type 0 where
   pub heads : new.heads + cost * old.place ≤ old.heads + cost * to
   pub nodes : new.nodes ≤ old.nodes + kept
 
+-- The same with one head to spare, to look for the element.
+pub record SpendsLess (cost kept to : ℕ) (old new : Walk) : Type 0 where
+  pub within : new.place ≤ to
+  pub heads : suc new.heads + cost * old.place ≤ old.heads + cost * to
+  pub nodes : new.nodes ≤ old.nodes + kept
+
 -- Decoding a data item that ends at `to`: the result is as `AnswersAs` says for the wanted value,
 -- decoding has at most this cost, and after a success the cursor is after the item.
 pub record Decodes {A M : Type 0} (view : A → M) (wanted : Option M) (takes : Type 0) (cost kept to : ℕ)

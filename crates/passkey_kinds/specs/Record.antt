@@ -1,12 +1,11 @@
 -- Records as tables of members, and what a data item decodes to by such a table.
 use Rattle.passkey_kinds.specs.Base.{Item, number, text_string, byte_string, members}
-use Rattle.std.specs.Prelude.{ℕ, ◌==◌, Bool, true, false, ◌&&◌, if◌then◌else◌, List, [], ◌∷◌, ◌++◌, map, Option, Some, None, is_some, option_map, is_none, Result, Ok, Err, ◌≡◌, ◌<◌, nat_lt, ◌⊎◌, slice_get, get_or, not}
+use Rattle.std.specs.Prelude.{ℕ, ◌==◌, Bool, true, false, ◌&&◌, ◌||◌, if◌then◌else◌, List, [], ◌∷◌, map, Option, Some, None, is_some, option_map, Result, Ok, Err, ◌≡◌, nat_lt, ◌⊎◌, get_or, not}
 use Rattle.passkey_kinds.specs.Kind.{below, Kind, Typed, MayGrow}
 use Rattle.passkey_kinds.specs.declared.fault.Fault.{Fault}
 use Rattle.passkey_kinds.specs.declared.fault.Fault.TheVariants.{BadKey, Repeated, Refused, NotAMap, Missing}
 use Rattle.passkey_kinds.specs.declared.rows.Named.{Named}
 use Rattle.std.specs.List.{find}
-use Rattle.std.specs.Option.{option_or}
 use Rattle.std.specs.Result.{result_ok}
 use Rattle.std.specs.Str.{bytes_eq}
 use Rattle.passkey_kinds.specs.declared.rows.Named.TheVariants as code
@@ -66,40 +65,10 @@ Members = List (Item × Item)
 abbrev pub named : Table → Item → Naming
 named table key = names table.is_numbered (entries table) key
 
-abbrev pub is_row : ℕ → Naming → Bool
-is_row n (row m) = n == m
-is_row n _ = false
-
--- the value of the first member that names row n
-abbrev pub found : Table → Members → ℕ → Option Item
-found table [] n = None
-found table (m ∷ ms) n = if is_row n (named table m.0) then Some m.1 else found table ms n
-
 -- whether the kind of row n accepts the item
 abbrev pub accepts_at : List Row → ℕ → Item → Bool
 accepts_at [] n i = false
 accepts_at (r ∷ rs) n i = if r.entry.number == n then r.accepts i else accepts_at rs n i
-
--- the fault of a member after the earlier ones, by what its key names
-abbrev pub bad_by : Table → Members → Naming → Item → Option Fault
-bad_by table earlier wrong value = Some BadKey
-bad_by table earlier unknown value = None
-bad_by table earlier (row n) value =
-    if is_some (found table earlier n) then Some (Repeated n)
-    else (if accepts_at table.rows n value then None else Some (Refused n))
-
-abbrev pub bad_member : Table → Members → Item × Item → Option Fault
-bad_member table earlier m = bad_by table earlier (named table m.0) m.1
-
--- the fault of the first bad member, after the earlier ones
-abbrev pub first_bad : Table → Members → Members → Option Fault
-first_bad table earlier [] = None
-first_bad table earlier (m ∷ ms) = option_or (bad_member table earlier m) (first_bad table (earlier ++ m ∷ []) ms)
-
--- the number of the first required row in the table's order that no key names
-abbrev pub first_missing : Table → Members → Option ℕ
-first_missing table ms = option_map (λ (e : Entry). e.number)
-    (find (λ (e : Entry). e.is_required && is_none (found table ms e.number)) (entries table))
 
 infixl 10 ◌>>=◌
 abbrev pub ◌>>=◌ : {X Y : Type 0} → Option X → (X → Option Y) → Option Y
@@ -151,27 +120,42 @@ abbrev pub put_at : {P : Type 0} → List (Member P) → ℕ → Item → P → 
 put_at [] n i r = r
 put_at (m ∷ ms) n i r = if m.entry.number == n then set_with m.set (m.kind.of i) r else put_at ms n i r
 
-abbrev pub put_named : {P : Type 0} → List (Member P) → Naming → Item → P → P
-put_named rows (row n) i r = put_at rows n i r
-put_named rows _ i r = r
+-- How far decoding has come: which rows were named so far, and the record with their values.
+pub record Progress (P : Type 0) : Type 0 where
+  pub seen : ℕ → Bool
+  pub made : P
 
--- the record with the values of the members put into it one after the other
-abbrev pub with_members : {P : Type 0} → Fields P → Members → P → P
-with_members t [] r = r
-with_members t (m ∷ ms) r = with_members t ms (put_named t.rows (named (table_of t) m.0) m.1 r)
+-- one more member, by what its key names: its fault, or the record with its value
+abbrev pub one_more : {P : Type 0} → Fields P → Naming → Item → Progress P → Result (Progress P) Fault
+one_more t wrong i s = Err BadKey
+one_more t unknown i s = Ok s
+one_more t (row n) i s =
+    if s.seen n then Err (Repeated n)
+    else (if accepts_at (rows_of t.rows) n i
+    then Ok (record { seen = λ k. (k == n) || s.seen k; made = put_at t.rows n i s.made }) else Err (Refused n))
+
+-- the number of the first required row that wasn't named
+abbrev pub first_missing : List Entry → (ℕ → Bool) → Option ℕ
+first_missing rows seen = option_map (λ (e : Entry). e.number)
+    (find (λ (e : Entry). e.is_required && not (seen e.number)) rows)
 
 abbrev pub unless_missing : {P : Type 0} → Option ℕ → P → Result P Fault
 unless_missing (Some n) r = Err (Missing n)
 unless_missing None r = Ok r
 
-abbrev pub judged : {P : Type 0} → Fields P → Members → Option Fault → Result P Fault
-judged t ms (Some f) = Err f
-judged t ms None = unless_missing (first_missing (table_of t) ms) (with_members t ms t.blank)
+abbrev pub result_and_then : {A B E : Type 0} → (A → Result B E) → Result A E → Result B E
+result_and_then f (Ok x) = f x
+result_and_then f (Err e) = Err e
+
+-- the record that the rest of the members makes of this one, or the first fault
+abbrev pub read_from : {P : Type 0} → Fields P → Members → Progress P → Result P Fault
+read_from t [] s = unless_missing (first_missing (entries (table_of t)) s.seen) s.made
+read_from t (m ∷ ms) s = result_and_then (λ n. read_from t ms n) (one_more t (named (table_of t) m.0) m.1 s)
 
 -- The fault of the first bad member; otherwise that of the first required row that is missing;
 -- otherwise the record.
 abbrev pub read_members : {P : Type 0} → Fields P → Members → Result P Fault
-read_members t ms = judged t ms (first_bad (table_of t) [] ms)
+read_members t ms = read_from t ms (record { seen = λ n. false; made = t.blank })
 
 -- the record that an item decodes to, or its first fault
 abbrev pub read_item : {P : Type 0} → Fields P → Item → Result P Fault
@@ -220,29 +204,11 @@ abbrev pub naming_of : Option Named → Naming
 naming_of (Some key) = named_as key
 naming_of None = wrong
 
--- the same function, but with item i for row n
-abbrev pub with_row : ℕ → Item → (ℕ → Option Item) → ℕ → Option Item
-with_row n i f m = if m == n then Some i else f m
-
--- Exactly the rows that the earlier members name are marked.
-abbrev pub Marks : Table → Members → List Bool → Type 0
-Marks table earlier marks = (n : ℕ) → n < 32 → slice_get marks n ≡ Some (is_some (found table earlier n))
-
--- The result of decoding one more member, and the marks after it.
-abbrev pub Steps : Table → Members → Item × Item → List Bool → Result (Unit {0}) Fault → Type 0
-Steps table earlier m marks (Ok x) = (bad_member table earlier m ≡ None) × Marks table (earlier ++ m ∷ []) marks
-Steps table earlier m marks (Err fault.OutOfMemory) = MayGrowBy table (named table m.0) m.1
-Steps table earlier m marks (Err fault.DecodeFailed) = ⊥
-Steps table earlier m marks (Err fault.NotAMap) = ⊥
-Steps table earlier m marks (Err (fault.Missing n)) = ⊥
-Steps table earlier m marks (Err e) = bad_member table earlier m ≡ Some e
-
 -- whether each row's number is below 32
 abbrev pub are_small : List Entry → Bool
 are_small [] = true
 are_small (e ∷ es) = nat_lt e.number 32 && are_small es
 
--- the number of the first required row that isn't marked
-abbrev pub first_unmarked : List Entry → List Bool → Option ℕ
-first_unmarked rows marks = option_map (λ (e : Entry). e.number)
-    (find (λ (e : Entry). e.is_required && not (get_or marks e.number false)) rows)
+-- the record so far, and the rows that are marked
+abbrev pub reached : {P : Type 0} → P → List Bool → Progress P
+reached held marks = record { seen = λ n. get_or marks n false; made = held }

@@ -1,9 +1,9 @@
 -- Decoding a record over a cursor: its cost and its steps.
 use Rattle.passkey_kinds.specs.Base.{Item, members, Walk}
-use Rattle.std.specs.Prelude.{ℕ, max, ◌==◌, Bool, true, false, ◌&&◌, if◌then◌else◌, List, [], ◌∷◌, ◌≡◌, ◌++◌, Option, Some, None, Result, Ok, Err, IfSome, OnOk, slice_get}
+use Rattle.std.specs.Prelude.{ℕ, max, ◌==◌, Bool, true, false, ◌&&◌, if◌then◌else◌, List, [], ◌∷◌, ◌≡◌, Option, Some, None, Result, Ok, Err, IfSome, OnOk, slice_get}
 use Rattle.passkey_kinds.specs.Kind.{Keeping, nothing, counted, kept_of, kept_sum, Typed, MayGrow}
-use Rattle.passkey_kinds.specs.Reader.{Spends}
-use Rattle.passkey_kinds.specs.Record.{takes_at, MayGrowIn, MayGrowAt, Reads, Marks, Steps, naming_of, Fields, Member, table_of, record_kind, rows_of, put_at, with_members, read_members, read_item, Naming, row, unknown, wrong, named, Members, accepts_at, first_bad, Entry, row_or_unknown}
+use Rattle.passkey_kinds.specs.Reader.{Spends, SpendsLess}
+use Rattle.passkey_kinds.specs.Record.{takes_at, MayGrowIn, MayGrowAt, Reads, naming_of, Fields, Member, table_of, record_kind, rows_of, put_at, read_members, read_from, reached, Progress, one_more, MayGrowBy, read_item, Naming, row, unknown, wrong, named, Members, accepts_at, Entry, row_or_unknown}
 use Rattle.passkey_kinds.specs.Typed.{growing}
 use Rattle.passkey_kinds.specs.declared.fault.Fault.{Fault}
 use Rattle.passkey_kinds.specs.declared.fault.Refusal.{Refusal}
@@ -82,24 +82,10 @@ Puts t n i old new (Ok x) = (accepts_at (rows_of t.rows) n i ≡ true) × (put_a
 Puts t n i old new (Err Refused) = accepts_at (rows_of t.rows) n i ≡ false
 Puts t n i old new (Err OutOfMemory) = MayGrow (takes_at (rows_of t.rows) n) i
 
--- The record holds the values of the earlier members, and the rows that they name are marked.
-pub record HasRead {P : Type 0} (t : Fields P) (earlier : Members) (held : P) (marks : List Bool) : Type 0 where
-  pub marked : Marks (table_of t) earlier marks
-  pub made : with_members t earlier t.blank ≡ held
-
--- The result of decoding one more member, and the record and the marks after it.
-abbrev pub ReadsOne : {P : Type 0} → Fields P → Members → Item × Item → P → List Bool → Result (Unit {0}) Fault
-    → Type 0
-ReadsOne t earlier m held marks result =
-    Steps (table_of t) earlier m marks result × OnOk result (with_members t (earlier ++ m ∷ []) t.blank ≡ held)
-
--- The members before the rest have no fault; the record holds their values, and their rows are
--- marked.
+-- The members before the rest have no fault, and the record holds their values.
 pub record HasReadTo {P : Type 0} (t : Fields P) (ms rest : Members) (held : P) (marks : List Bool) : Type 0 where
-  pub earlier : Members
-  pub whole : ms ≡ earlier ++ rest
-  pub good : first_bad (table_of t) [] ms ≡ first_bad (table_of t) earlier rest
-  pub holds : HasRead t earlier held marks
+  pub same : read_members t ms ≡ read_from t rest (reached held marks)
+  pub grows : MayGrowIn (table_of t) rest → MayGrowIn (table_of t) ms
 
 -- ---- over a cursor
 
@@ -114,6 +100,13 @@ pub record DecodesRecord {A P : Type 0} (view : A → P) (t : Fields P) (i : Ite
     (result : Result A Fault) : Type 0 where
   pub answers : Reads view (MayGrowAt (table_of t) i) (read_item t i) result
   pub spends : Spends (record_cost t) (kept_in_map t i) to old new
+  pub ends : OnOk result (new.place ≡ to)
+
+-- The same for one member, by what its map key names.
+pub record DecodesMember {P : Type 0} (t : Fields P) (naming : Naming) (m : Item × Item) (before after : Progress P)
+    (to : ℕ) (old new : Walk) (result : Result (Unit {0}) Fault) : Type 0 where
+  pub answers : Reads (λ _. after) (MayGrowBy (table_of t) naming m.1) (one_more t naming m.1 before) result
+  pub spends : SpendsLess (record_cost t) (kept_of (keeps_by t.rows naming) m.1) to old new
   pub ends : OnOk result (new.place ≡ to)
 
 -- The same for the members that follow a map's head.

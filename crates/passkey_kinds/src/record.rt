@@ -1,8 +1,10 @@
 //! Records, decoded member by member.
-ghost use Rattle.std.specs.Prelude.{◌≡◌, ◌<◌, ◌≤◌, ℕ, true, false, length, map, replicate, get_or, is_ok, OnOk, set};
-ghost use Rattle.passkey_kinds.specs.Words.{Item, IsEncodedAt, PairsAreEncodedAt, item_of, pair_of, Onward, Further, MayGrowIn, MayGrowAt, Reads, are_small, named_as, Fields, table_of, read_members, read_item, nested, cost_at, keeps_at, Puts, entry_of, Members, entries, named};
-ghost use Rattle.passkey_kinds.specs.Record.{first_unmarked, unless_missing};
-ghost use Rattle.passkey_kinds.specs.RecordReading.{cost_by, keeps_by, HasRead, ReadsOne, DecodesMembers, DecodesRecord, held_as};
+ghost use Rattle.std.specs.Prelude.{◌≡◌, ◌<◌, ◌≤◌, ℕ, true, false, length, map, replicate, get_or, is_ok, OnOk, set, []};
+ghost use Rattle.passkey_kinds.specs.Words.{Item, max_depth, IsEncodedAt, PairsAreEncodedAt, item_of, pair_of, Onward, Further, MayGrowIn, MayGrowAt, Reads, are_small, named_as, Fields, table_of, read_members, read_item, nested, cost_at, keeps_at, Puts, entry_of, Members, entries, named};
+ghost use Rattle.passkey_kinds.specs.Record.{MayGrowBy, first_missing as missing_of, one_more, reached, read_from};
+ghost use Rattle.passkey_kinds.specs.RecordReading.{cost_by, keeps_by, DecodesMember, DecodesMembers, DecodesRecord, held_as};
+ghost use Rattle.passkey_cbor.specs.EncodedAt.{Lies};
+ghost use Rattle.passkey_cbor.specs.Inside.{PairWithin};
 
 use crate::head::read_map;
 use crate::key::read_key;
@@ -57,9 +59,10 @@ fn read_member<R: Record, S: Source>(
     source: &mut S,
 ) -> Result<(), Fault>
     requires { are_small (entries (table_of R.fields)) ≡ true }
-    ensures reads { (earlier : Members) (label value : Item) (to : ℕ) → named (table_of R.fields) label
-        ≡ named_as key → S.At source.old value to → HasRead R.fields earlier (R.parts read.old) seen.old
-        → ReadsOne R.fields earlier (label, value) (R.parts read.new) seen.new result }
+    ensures reads { (label value : Item) (to : ℕ) → named (table_of R.fields) label ≡ named_as key
+        → S.At source.old value to → Reads (λ _. reached (R.parts read.new) seen.new)
+        (MayGrowBy (table_of R.fields) (named_as key) value)
+        (one_more R.fields (named_as key) value (reached (R.parts read.old) seen.old)) result }
     ensures spends { (value : Item) (to : ℕ) → S.At source.old value to → S.Spent (cost_by R.fields.rows
         (named_as key)) (keeps_by R.fields.rows (named_as key)) value to source.old source.new (is_ok result) }
     ensures onward { S.Goes source.old source.new }
@@ -107,7 +110,7 @@ fn mark(seen: &mut [bool; 32], number: u8)
 
 /// Returns the number of the first required row that isn't marked.
 fn first_missing(rows: &[Row], seen: &[bool; 32]) -> Option<u8>
-    ensures { result ≡ first_unmarked (map entry_of rows.now) seen.now }
+    ensures { result ≡ missing_of (map entry_of rows.now) (λ n. get_or seen.now n false) }
 {
     for row in rows {
         if row.is_required() && !is_marked(seen, row.number()) {
@@ -126,9 +129,7 @@ fn no_marks() -> [bool; 32]
 
 /// Returns the record, or `Missing` for the first required row that isn't marked.
 fn finish<R: Record>(read: R, seen: &[bool; 32]) -> Result<R, Fault>
-    ensures reads { Reads R.parts ⊥
-        (unless_missing (first_unmarked (entries (table_of R.fields)) seen.now) (R.parts read)) result }
-    ensures small { are_small (entries (table_of R.fields)) ≡ true }
+    ensures { Reads R.parts ⊥ (read_from R.fields [] (reached (R.parts read) seen.now)) result }
 {
     match first_missing(R::rows(), seen) {
         Some(number) => Err(Fault::Missing(number)),
@@ -169,6 +170,27 @@ pub fn record_from_value<R: Record>(alloc: Global, value: &Value) -> Result<R, F
     }
 }
 
+/// Decodes the next member at the cursor: its map key, and then its value.
+#[tactic(auto, using(crate::proofs::Cursor::on_ok))]
+fn read_next<R: Record>(
+    alloc: Global,
+    read: &mut R,
+    seen: &mut [bool; 32],
+    cursor: &mut Cursor<'_>,
+) -> Result<(), Fault>
+    ensures reads { (m : Item × Item) (to : ℕ)
+        → Lies (PairWithin max_depth m) cursor.old.bytes cursor.old.place to
+        → DecodesMember R.fields (named (table_of R.fields) m.0) m (reached (R.parts read.old) seen.old)
+        (reached (R.parts read.new) seen.new) to cursor.old cursor.new result }
+    ensures onward { Onward cursor.old cursor.new }
+    ensures further { OnOk result (Further cursor.old cursor.new) }
+{
+    match read_key(R::is_numbered(), R::rows(), cursor) {
+        Some(key) => read_member(alloc, read, seen, key, cursor),
+        None => Err(Fault::BadKey),
+    }
+}
+
 /// Decodes the members that follow a map's head.
 #[tactic(auto, using(crate::proofs::Loops::begun, crate::proofs::Members::has_begun))]
 fn read_pairs_ahead<R: Record>(
@@ -183,11 +205,7 @@ fn read_pairs_ahead<R: Record>(
     let mut read = R::blank(alloc);
     let mut seen = no_marks();
     while cursor.more(&mut left) {
-        let key = match read_key(R::is_numbered(), R::rows(), cursor) {
-            Some(key) => key,
-            None => return Err(Fault::BadKey),
-        };
-        read_member(alloc, &mut read, &mut seen, key, cursor)?;
+        read_next(alloc, &mut read, &mut seen, cursor)?;
     }
     finish(read, &seen)
 }

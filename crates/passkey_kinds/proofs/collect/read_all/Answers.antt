@@ -1,4 +1,4 @@
-use Rattle.passkey_kinds.proofs.Steps.{arith, ◌∙◌, true, false, refl, sym, err_from_is_err_and, stopped, gone_on, onward_of, onward_then, failed, next_is, element_spends, spent_within, some_are, one_more, each_done}
+use Rattle.passkey_kinds.proofs.Steps.{arith, ◌∙◌, true, false, refl, sym, err_from_is_err_and, stopped, gone_on, onward_of, onward_then, failed, next_is, element_spends, spent_within, one_spare, some_are, one_more_done, each_done}
 use Rattle.passkey_kinds.proofs.collect.read_all.Goals as goal
 
 pub returns-in_err-add-clause-reads : goal.returns-in_err-add-clause-reads
@@ -14,7 +14,8 @@ returns-in_err-add-clause-reads g c = λ xs to l.
     _ _ _ _ _ walks) e in
     let added = c.in_err-add.ensures.adds n.first n.middle n.here in
     let spent = element_spends _ _ _ _ xs to start c.loop-alloc.left c.more.new.left a b d true refl walks.looks
-    e n (g.C.Collect.way.kept n.first) refl added.further added.decodes.spends in
+    e n (g.C.Collect.way.kept n.first) refl
+    (one_spare _ _ _ _ _ added.further added.decodes.spends) in
     grind (arith, failed, stopped, some_are, spent_within, p, e, n, added, spent)
 
 pub loop-alloc-preserved : goal.loop-alloc-preserved
@@ -33,8 +34,9 @@ loop-alloc-preserved g c =
           (g.C.Collect.way.walked _ _ _ _ _ walks) e in
           let added = c.in_ok-add.ensures.adds n.first n.middle n.here in
           let spent = element_spends _ _ _ _ xs to start c.loop-alloc.left c.more.new.left a b d true refl
-          walks.looks e n (g.C.Collect.way.kept n.first) refl added.further added.decodes.spends in
-          one_more _ _ _ _ xs to start _ c.loop-alloc.left c.more.new.left a b d e n spent added.decodes.ends
+          walks.looks e n (g.C.Collect.way.kept n.first) refl
+    (one_spare _ _ _ _ _ added.further added.decodes.spends) in
+          one_more_done _ _ _ _ xs to start _ c.loop-alloc.left c.more.new.left a b d e n spent added.decodes.ends
           c.in_ok-add.ensures.onward.same
           (sym (gone_on g.C.Collect.way.next _ n.first e.rest n.others _ n.whole added.decodes.answers) ∙ e.done);
     }
@@ -47,5 +49,5 @@ returns-clause-reads g c = λ xs to l.
     let walks = c.loop-alloc-test.ensures.walks in
     let e = c.loop-alloc.invariant.each xs to l in
     let ended = each_done _ _ _ _ xs to start c.loop-alloc.left c.more.new.left a b false refl
-    (g.C.Collect.way.walked _ _ _ _ _ walks) walks.looks e in
+    (g.C.Collect.way.walked _ _ _ _ _ walks) walks.looks e (omega arith) in
     grind (arith, ended)

@@ -11,8 +11,8 @@ loop-key-preserved g c =
     let h = c.loop-key.invariant in
     let naming = key_names (table_of t) c.is_numbered.result (map entry_of c.rows.result.now) m.0 (named_as
     c.in-Some.key) c.is_numbered.ensures c.rows.ensures.rows c.in-Some.ensures in
-    let told = c.in_ok-read_member.ensures.reads h.earlier m.0 m.1 0 naming refl h.holds in
-    search (rules, goes_on, t, ms, m, i, at, h, told)
+    let told = c.in_ok-read_member.ensures.reads m.0 m.1 0 naming refl in
+    search (rules, goes_on, t, ms, m, i, at, naming, h, told)
 
 pub returns-in_err-read_member : goal.returns-in_err-read_member
 returns-in_err-read_member g c =
@@ -24,9 +24,9 @@ returns-in_err-read_member g c =
     let h = c.loop-key.invariant in
     let naming = key_names (table_of t) c.is_numbered.result (map entry_of c.rows.result.now) m.0 (named_as
     c.in-Some.key) c.is_numbered.ensures c.rows.ensures.rows c.in-Some.ensures in
-    let told = c.in_err-read_member.ensures.reads h.earlier m.0 m.1 0 naming refl h.holds in
+    let told = c.in_err-read_member.ensures.reads m.0 m.1 0 naming refl in
     let result : c.from_residual.result ≡ Err c.in_err-read_member.field-0.0 = search rules in
-    search (rules, fails, t, ms, m, i, at, h, told, result)
+    search (rules, fails, t, ms, m, i, at, naming, h, told, result)
 
 pub returns : goal.returns
 returns g c =
@@ -34,4 +34,4 @@ returns g c =
     let ms = map pair_of c.args.pairs.now in
     let i = c.loop-key.key-index in
     let past = drop_all i ms (rw (length-map c.args.pairs.now pair_of) c.loop-key-test.false) in
-    search (rules, all_read, t, ms, i, past, c.loop-key.invariant, c.finish.ensures.small, c.finish.ensures.reads)
+    search (rules, all_read, t, ms, i, past, c.loop-key.invariant, c.finish.ensures)

@@ -1,4 +1,4 @@
-use Rattle.passkey_kinds.proofs.Steps.{ℕ, ◌+◌, ◌-◌, suc, length, max_depth, PairWithin, Onward, record_cost, kept_in, HasReadTo, Members, EachTo, PairsAreEncodedAt}
+use Rattle.passkey_kinds.proofs.Steps.{PairWithin, max_depth, bytes, each, Onward, record_cost, kept_in, HasReadTo, Members, ℕ, length, ◌-◌, PairsAreEncodedAt, EachTo}
 use Rattle.passkey_kinds.proofs.record.read_pairs_ahead.Given as goal
 
 abbrev pub invariant-loop-alloc : goal.invariant-loop-alloc
@@ -6,7 +6,7 @@ invariant-loop-alloc g l = record {
   onward : Onward l.fn.cursor l.cursor;
   each : (ms : Members) (to : ℕ) → PairsAreEncodedAt l.fn.left ms l.fn.cursor.bytes l.fn.cursor.place to
       → EachTo (PairWithin max_depth) (λ rest. HasReadTo g.R.Record.fields ms rest (g.R.Record.parts l.read) l.seen)
-      (kept_in g.R.Record.fields) (suc (3 + (record_cost g.R.Record.fields - 4))) l.left ms to l.fn.cursor l.cursor;
+      (kept_in g.R.Record.fields) (record_cost g.R.Record.fields) l.left ms to l.fn.cursor l.cursor;
 }
 
 abbrev pub decreases-loop-alloc : goal.decreases-loop-alloc

@@ -1,4 +1,4 @@
-use Rattle.passkey_kinds.proofs.Steps.{◌≡◌, ◌∙◌, sym, ap, subst, arith, members-pairs_of, MayGrowIn, MayGrowAt, table_of, read_item, read_members, record_cost, kept_in_map, eased, stands_long, at_least, kept_pairs, head_then, reads_from, members_are, no_record}
+use Rattle.passkey_kinds.proofs.Steps.{members-pairs_of, bytes, MayGrowIn, MayGrowAt, table_of, read_members, read_item, record_cost, kept_in_map, ◌≡◌, ◌∙◌, arith, sym, ap, subst, head_before, eased, stands_long, at_least, kept_pairs, members_are, reads_from, no_record}
 use Rattle.passkey_kinds.proofs.record.read_record.Goals as goal
 
 pub returns-in-Some-clause-reads : goal.returns-in-Some-clause-reads
@@ -11,11 +11,11 @@ returns-in-Some-clause-reads g c = λ i to l.
     let same : read_item t i ≡ read_members t ms =
     ap (read_item t) is ∙ ap (read_members t) (members-pairs_of ms) in
     record {
-      answers = reads_from t g.R.Record.parts (read_item t i) (read_members t ms) c.read_pairs_ahead.result same
+      answers = reads_from g.R.Record.parts (read_item t i) (read_members t ms) c.read_pairs_ahead.result same
           (λ h. subst (MayGrowAt (table_of t)) (sym is)
           (subst (MayGrowIn (table_of t)) (sym (members-pairs_of ms)) h)) r.answers;
-      spends = head_then t _ (kept_in_map t i) to c.args.cursor.now c.read_map.new.cursor
-          c.read_pairs_ahead.new.cursor (kept_pairs t ms i is) c.in-Some.ensures.further
+      spends = head_before (record_cost t) _ (kept_in_map t i) to c.args.cursor.now c.read_map.new.cursor
+          c.read_pairs_ahead.new.cursor (omega (arith, at_least t.rows)) (kept_pairs t ms i is) c.in-Some.ensures.further
           c.in-Some.ensures.counted (c.in-Some.ensures.spends i to l).nodes r.spends;
       ends = r.ends;
     }
