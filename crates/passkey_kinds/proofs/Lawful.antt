@@ -1,5 +1,8 @@
 -- Plain records: they can be decoded again, have few levels, and their keys ascend.
-use Rattle.passkey_kinds.proofs.Common.{◌≡◌, ℕ, zero, suc, ◌≤◌, arith, ◌&&◌, true, None, refl, ap, depth, IsReadBack, table_of, KeysAscend, shortest_head, PlainTable, EachFits, members_of, places_of, fields_of, plain_kind, plain_tree, descriptor, parameters, webauthn_user, made_signed, used_signed, Unknown}
+use Rattle.passkey_kinds.proofs.Common.{depth, members, shortest_head, made_signed, used_signed, descriptor, parameters, webauthn_user, each, EachFits, fields_of, places_of, PlainTable, members_of, plain_kind, plain_tree, IsReadBack, table_of, KeysAscend, Unknown, ◌≡◌, ℕ, suc, arith, Bool, true, ◌&&◌, List, Option, Some, None, refl, ap, ◌≤◌, zero}
+use Rattle.passkey_core.specs.SignedOutputs.{creation_item, assertion_item}
+use Rattle.passkey_core.specs.declared.make_credential.SignedExtensionOutputs as creation
+use Rattle.passkey_core.specs.declared.get_assertion.SignedExtensionOutputs as assertion
 use Rattle.passkey_kinds.proofs.Back.{have_rows, are_distinct, missing_of, Backs, numbers, kind_back, puts_value, puts_default, ◌▸◌, no_more}
 use Rattle.passkey_kinds.proofs.LeafBack.{text_back, bytes_back, credential_type_back, transport_back, algorithm_back, or_else_back, accepted_place, truth_back, optional_place, anything}
 use Rattle.passkey_kinds.proofs.Levels.{EachPlace}
@@ -76,3 +79,22 @@ made_signed_law =
 pub used_signed_law : IsLawful 0 used_signed
 unfolding shortest_head
 used_signed_law = grind (arith, lawful, plainly, puts_default, optional_place, bytes_back, anything, no_more)
+
+made_laid : (made : Option Bool) (secrets : Option (List ℕ))
+    → plain_tree made_signed (record { hmac_secret = made; hmac_secret_mc = secrets })
+    ≡ creation_item (record { hmac_secret = made; hmac_secret_mc = secrets })
+made_laid None None = refl
+made_laid None (Some b) = refl
+made_laid (Some t) None = refl
+made_laid (Some t) (Some b) = refl
+
+pub made_item : (o : creation.SignedExtensionOutputs) → plain_tree made_signed o ≡ creation_item o
+made_item o = made_laid o.hmac_secret o.hmac_secret_mc
+
+used_laid : (secrets : Option (List ℕ)) → plain_tree used_signed (record { hmac_secret = secrets })
+    ≡ assertion_item (record { hmac_secret = secrets })
+used_laid None = refl
+used_laid (Some b) = refl
+
+pub used_item : (o : assertion.SignedExtensionOutputs) → plain_tree used_signed o ≡ assertion_item o
+used_item o = used_laid o.hmac_secret

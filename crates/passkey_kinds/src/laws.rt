@@ -1,6 +1,12 @@
 //! Laws about decoding records and lists. Each is the contract of a function that does nothing.
 ghost use Rattle.passkey_kinds.specs.Words.{read_item, KeysAscend, places_of, descriptor, parameters, webauthn_user, KnowsMaps, PassesOverUnknown};
 ghost use Rattle.passkey_kinds.specs.Message.{AlikeDifferInLength, KnowsItems, RefusedElementIsPassedOver, SameAnswersReadAlike, UnknownMemberIsPassedOver};
+ghost use Rattle.std.specs.Prelude.{◌≡◌};
+ghost use Rattle.passkey_core.specs.SignedOutputs.{creation_item, assertion_item};
+ghost use Rattle.passkey_kinds.specs.Coded.{made_signed, used_signed};
+ghost use Rattle.passkey_kinds.specs.Placed.{plain_tree};
+ghost use Rattle.passkey_core.specs.declared.make_credential.SignedExtensionOutputs as creation;
+ghost use Rattle.passkey_core.specs.declared.get_assertion.SignedExtensionOutputs as assertion;
 
 use crate::record::Record;
 
@@ -11,6 +17,13 @@ pub fn written_keys_ascend()
     ensures descriptor { KeysAscend (places_of descriptor.members) }
     ensures parameters { KeysAscend (places_of parameters.members) }
     ensures user { KeysAscend (places_of webauthn_user.members) }
+{}
+
+/// Signed extension outputs are encoded as the data items that `to_value` of `passkey_core` returns.
+#[tactic(auto, using(crate::proofs::Lawful::made_item, crate::proofs::Lawful::used_item))]
+pub fn signed_outputs_are_their_items()
+    ensures made { (o : creation.SignedExtensionOutputs) → plain_tree made_signed o ≡ creation_item o }
+    ensures used { (o : assertion.SignedExtensionOutputs) → plain_tree used_signed o ≡ assertion_item o }
 {}
 
 /// A member under a key that the record's table doesn't know changes nothing, wherever it is: the
