@@ -1,6 +1,6 @@
 -- Lists, arrays and maps, decoded and encoded element by element.
 use Rattle.passkey_cbor.specs.Item.{elements, members}
-use Rattle.passkey_kinds.proofs.Common.{same_bytes, entries_empty, bytes_or_fault, ByteMap, put_each, BytesFault, some_is, string_again, item_of-Array, item_of-Map, Item, items_of, pairs_of, byte_string, array, Region, Tells, item_of, pair_of, Walk, Value, IfPresent, members-pairs_of, elements-items_of, Keeping, nothing, counted, kept_of, kept_sum, in_members, in_elements, AnswersAs, bytes, MayGrow, below, kept, Kind, each, sized_bytes, list, accepted, with_members, map_from_bytes, entry, map_values, collected, entered, pushed, pushed_if, pushed_below, elements_in, members_in, numbers_in, kept_parts, Decodes, Spends, entries, OutOfMemory, Refusal, ◌≡◌, ◌∙◌, ◌<◌, ◌+◌, ℕ, suc, add-one, arith, Bool, true, false, if◌then◌else◌, List, [], ◌∷◌, ◌++◌, length, map, drop, get_or, Option, Some, None, option_map, inl, inr, refl, sym, ap, ◌≤◌, Result, ◌*◌, take, Ok, Err, ◌==◌, cond, set, ◌⊎◌, zero, slice_set, mul-le-mul_left, drop-cons, cases_lt, le-ltb, ne_eqb, lt-ltb, nat_list_cmp_total, filter_map-append, length-map, length-append, append-nil, drop_all, take_all, take_more_set, drop_more, slice_cmp, find, filter_map, cons_option, All, option_and_then, nat_cmp, eq_by_cmp}
+use Rattle.passkey_kinds.proofs.Common.{same_bytes, entries_empty, bytes_or_fault, ByteMap, put_each, BytesFault, some_is, string_again, item_of-Array, item_of-Map, Item, items_of, pairs_of, byte_string, array, Region, Tells, item_of, pair_of, Walk, Value, IfPresent, members-pairs_of, elements-items_of, Keeping, nothing, counted, kept_of, kept_sum, in_members, in_elements, AnswersAs, bytes, MayGrow, below, kept, Kind, each, sized_bytes, list, accepted, with_members, map_from_bytes, entry, map_values, collected, entered, pushed, pushed_if, pushed_below, full, elements_in, members_in, numbers_in, kept_parts, Decodes, Spends, entries, OutOfMemory, Refusal, ◌≡◌, ◌∙◌, ◌<◌, ◌+◌, ℕ, suc, add-one, arith, Bool, true, false, if◌then◌else◌, List, [], ◌∷◌, ◌++◌, length, map, drop, get_or, Option, Some, None, option_map, inl, inr, refl, sym, ap, ◌≤◌, Result, ◌*◌, Ok, Err, ◌==◌, cond, ◌⊎◌, zero, mul-le-mul_left, drop-cons, cases_lt, le-ltb, ne_eqb, lt-ltb, nat_list_cmp_total, filter_map-append, length-map, length-append, append-nil, get_or-map, slice_cmp, find, filter_map, cons_option, All, option_and_then, nat_cmp, eq_by_cmp}
 use Rattle.std.proofs.lemmas.List.{append_assoc}
 use Rattle.std.specs.FinMap as fin
 use Rattle.passkey_cbor.specs.Item as item
@@ -94,34 +94,6 @@ kept_members_in (counted count) _ = refl
 pub after_head : (cost kept to : ℕ) (a b d : Walk) → a.place < b.place → b.heads ≤ a.heads + 1
     → Spends (suc cost) kept to b d → d.heads + suc cost * suc a.place ≤ suc a.heads + suc cost * to
 after_head cost kept to a b d further one s = grind (arith, mul-le-mul_left)
-
--- ---- bytes of an array's elements, set one after the other
-
--- the bytes set so far, before those of the remaining elements
-abbrev pub set_before : {X : Type 0} (kind : Kind ℕ) (seen : X → Item) (xs : List X) (bytes : List ℕ) (i : ℕ)
-    → Option (List ℕ)
-set_before kind seen xs bytes i = option_map (λ bs. take i bytes ++ bs) (each kind (map seen (drop i xs)))
-
-first_given : (kind : Kind ℕ) (i : Item) (is : List Item) (n : ℕ) → kind i ≡ Some n
-    → each kind (i ∷ is) ≡ option_map (λ bs. n ∷ bs) (each kind is)
-first_given kind i is n e = ap (option_and_then (λ m. option_map (λ bs. m ∷ bs) (each kind is))) e
-
-pub one_more_set : {X : Type 0} (kind : Kind ℕ) (seen : X → Item) (xs : List X) (bytes : List ℕ) (i n : ℕ) (x : X)
-    → i < length xs → x ≡ get_or xs i x → kind (seen x) ≡ Some n → i < length bytes
-    → set_before kind seen xs bytes i ≡ set_before kind seen xs (slice_set bytes i n) (i + 1)
-one_more_set kind seen xs bytes i n x within is given fits =
-    ap (λ ys. option_map (λ bs. take i bytes ++ bs) (each kind (map seen ys)))
-    (drop_more xs i x within ∙ ap (λ y. y ∷ drop (i + 1) xs) (sym is))
-    ∙ ap (option_map (λ bs. take i bytes ++ bs)) (first_given kind (seen x) (map seen (drop (i + 1) xs)) n given)
-    ∙ each_more (take i bytes) n (each kind (map seen (drop (i + 1) xs)))
-    ∙ ap (λ front. option_map (λ bs. front ++ bs) (each kind (map seen (drop (i + 1) xs))))
-    (sym (take_more_set bytes i n fits))
-
--- once all are set, they are the elements' bytes
-pub all_set : {X : Type 0} (kind : Kind ℕ) (seen : X → Item) (xs : List X) (bytes : List ℕ) (i : ℕ)
-    → length bytes ≡ length xs → length xs ≤ i → each kind (map seen xs) ≡ set_before kind seen xs bytes i
-    → each kind (map seen xs) ≡ Some bytes
-all_set kind seen xs bytes i long past set = grind (arith, drop_all, append-nil, take_all)
 
 -- an array of exactly n bytes
 pub sized_array : {X : Type 0} (n : ℕ) (seen : X → Item) (xs : List X) → sized_bytes n
@@ -269,6 +241,16 @@ pub grows_map : {X : Type 0} (seen : X → Item × Item) (xs : List X) → 0 < l
 grows_map seen [] h = absurd (omega arith)
 grows_map seen (x ∷ xs) h = (refl, tt)
 
+-- the element at an index, and those after it
+pub mapped_at : {X Y : Type 0} (seen : X → Y) (xs : List X) (i : ℕ) (x : X) → x ≡ get_or xs i x
+    → i < length xs → drop i (map seen xs) ≡ seen x ∷ drop (i + 1) (map seen xs)
+mapped_at {Y = Y} seen xs i x e within =
+    let long : i < length (map seen xs) = omega (arith, within, length-map xs seen) in
+    let here : get_or (map seen xs) i (seen x) ≡ seen x =
+    get_or-map seen xs i x (seen x) within ∙ ap seen (sym e) in
+    rw add-one
+    (drop-cons (map seen xs) i (seen x) long ∙ ap (λ (y : Y). y ∷ drop (suc i) (map seen xs)) here)
+
 -- ---- elements that are decoded one after the other and put together
 
 module _ {X V : Type 0} (next : X → V → Option V) where
@@ -321,10 +303,6 @@ module _ {M : Type 0} (kind : Kind M) where
 
 -- ---- exactly n elements
 
--- the list, if it has n elements
-abbrev pub full : {M : Type 0} → ℕ → List M → Option (List M)
-full n xs = if length xs == n then Some xs else None
-
 module _ {M : Type 0} (n : ℕ) (kind : Kind M) where
   full_all : (is : List Item) (front : List M) → length front ≤ n
       → option_and_then (full n) (collected (pushed_below n kind) is front)
@@ -358,10 +336,10 @@ module _ {M : Type 0} (n : ℕ) (kind : Kind M) where
         by_room (inl room) rest = rw (lt-ltb (length front) n room) (one (λ x. rest x room) (kind i))
         by_room (inr past) rest = grind (arith, le-ltb, ne_eqb)
 
-  pub full_each : (is : List Item)
-      → option_and_then (full n) (collected (pushed_below n kind) is []) ≡ (if length is == n then each kind is
+  pub full_each : (is : List Item) {none : List M} → none ≡ []
+      → option_and_then (full n) (collected (pushed_below n kind) is none) ≡ (if length is == n then each kind is
       else None)
-  full_each is = grind (arith, full_all, option_same)
+  full_each is e = grind (arith, full_all, option_same)
 
 -- ---- the elements of an item, put together
 
@@ -380,13 +358,32 @@ pub map_in : {M : Type 0} (kind : Kind M) (i : Item) {none : ByteMap M} → none
 map_in kind (item.map ps) e = ap (collected (entered kind) (members ps)) e ∙ entered_all kind (members ps) fin.empty
 map_in kind _ e = refl
 
-pub filled_in : (n : ℕ) (i : Item)
-    → option_and_then (full n) (option_and_then (λ xs. collected (pushed_below n (below 256)) xs []) (elements_in i))
+pub filled_in : (n : ℕ) (i : Item) {none : List ℕ} → none ≡ []
+    → option_and_then (full n) (option_and_then (λ xs. collected (pushed_below n (below 256)) xs none) (elements_in i))
     ≡ numbers_in n i
-filled_in n (item.array xs) = full_each n (below 256) (elements xs)
-filled_in n _ = refl
+filled_in n (item.array xs) e = full_each n (below 256) (elements xs) e
+filled_in n _ e = refl
 
--- ---- the bytes that texts and arrays decode to
+-- ---- the elements of an array in memory, put together
+
+module _ {M : Type 0} (kind : Kind M) (is : List Item) {none : List M} (empty : none ≡ []) where
+  pub list_gathered : list kind (array (items_of is)) ≡ collected (pushed kind) is none
+  list_gathered = list_array kind is ∙ sym (pushed_each kind is empty)
+
+  pub accepted_gathered : accepted kind (array (items_of is)) ≡ collected (pushed_if kind) is none
+  accepted_gathered = accepted_array kind is ∙ sym (pushed_accepted kind is empty)
+
+pub bytes_gathered : (is : List Item) {none : List ℕ} → none ≡ []
+    → bytes (array (items_of is)) ≡ collected (pushed (below 256)) is none
+bytes_gathered is empty = ap (each (below 256)) (elements-items_of is) ∙ sym (pushed_each (below 256) is empty)
+
+pub sized_gathered : {X : Type 0} (n : ℕ) (seen : X → Item) (xs : List X) {none : List ℕ} → none ≡ []
+    → (if length xs == n then each (below 256) (map seen xs) else None)
+    ≡ option_and_then (full n) (collected (pushed_below n (below 256)) (map seen xs) none)
+sized_gathered n seen xs empty = ap (λ (k : ℕ). if k == n then each (below 256) (map seen xs) else None)
+    (sym (length-map xs seen)) ∙ sym (full_each n (below 256) (map seen xs) empty)
+
+-- ---- the bytes that texts decode to
 
 pub text_read : (o : Option (List ℕ)) (b : List ℕ) → bytes_or_fault o ≡ Ok b → o ≡ Some b
 text_read (Some x) b e = cc
@@ -396,19 +393,16 @@ pub text_refused : (o : Option (List ℕ)) (why : BytesFault) → bytes_or_fault
 text_refused (Some x) why e = cc
 text_refused None why e = refl
 
-pub bytes_array : (xs : List Item) → bytes (array (items_of xs)) ≡ each (below 256) xs
-bytes_array xs = ap (each (below 256)) (elements-items_of xs)
-
 -- ---- what the prover needs for arrays and maps in memory
 
 pub ruleset arrays = (
   item_of-Array,
   item_of-Map,
   answers_from,
-  list_array,
-  accepted_array,
+  list_gathered,
+  accepted_gathered,
+  bytes_gathered,
   sized_array,
-  bytes_array,
   grows_array,
   map_from_bytes-map,
   grows_map,

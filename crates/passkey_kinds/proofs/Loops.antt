@@ -82,8 +82,13 @@ module _ {A : Type 0} (P : A → Language) (Done : List A → Type 0) (kept : Li
       → SpendsLess cost one n.middle b d → SpentTo cost (kept n.others) (kept is) n.middle start d
   element_spends before after a b d found goes looks e n one whole spends = record {
     within = spends.within;
-    heads = omega (arith, e.heads, one_looked before after a b found looks, subst (λ (p : ℕ).
-        suc d.heads + cost * p ≤ b.heads + cost * n.middle) (looks.stays goes) spends.heads);
+    heads = omega (
+      arith,
+      e.heads,
+      one_looked before after a b found looks,
+      subst (λ (p : ℕ).
+          suc d.heads + cost * p ≤ b.heads + cost * n.middle) (looks.stays goes) spends.heads,
+    );
     nodes = omega (arith, e.nodes, looks.nodes, spends.nodes, ap kept n.whole, whole);
   }
 
@@ -228,7 +233,11 @@ module _ (c one middle to : ℕ) (b d : Walk) (first : b.place < middle) (second
       let eased_value = eased k c one one to d f cheap (omega arith) (omega (arith, at, second)) value in
       record {
         within = value.within;
-        heads = omega (arith, key_heads c four, subst (λ (p : ℕ). f.heads + c * p ≤ d.heads + c * to) at
-            eased_value.heads);
+        heads = omega (
+          arith,
+          key_heads c four,
+          subst (λ (p : ℕ). f.heads + c * p ≤ d.heads + c * to) at
+              eased_value.heads,
+        );
         nodes = omega (arith, key.nodes, value.nodes);
       }

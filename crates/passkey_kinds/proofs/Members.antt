@@ -1,6 +1,7 @@
 -- A record's members, decoded one after the other.
 use Rattle.passkey_cbor.specs.Item.{pairs_of}
-use Rattle.passkey_kinds.proofs.Common.{item_of-Map, pairs_of-members, Item, byte_string, text_string, number, members-pairs_of, AnswersAs, below, accepted, Typed, members_in, MayGrowIn, are_small, Reads, MayGrowBy, takes_at, Fields, set_with, rows_of, table_of, put_at, one_more, Progress, reached, result_and_then, read_from, read_members, read_item, Entry, Table, entries, named, Members, Naming, row, accepts_at, row_or_unknown, number_names, names, HasReadTo, Sets, Puts, held_as, Repeated, Fault, OutOfMemory, Refusal, ◌≡◌, ◌∙◌, ◌<◌, ◌+◌, nat_lt, ℕ, suc, add-one, arith, Bool, true, false, List, [], ◌∷◌, length, map, replicate, drop, get_or, Option, Some, None, is_some, inl, inr, refl, sym, ap, Result, subst, Ok, Err, OnOk, ◌==◌, cond, set, ◌||◌, drop-cons, and_parts, leb-true, cases_lt, length-map, get_or-set_same, get_or-set_other, get_or-map, get_or-replicate, get_or_past, length-replicate, find, result_ok, bytes_eq}
+use Rattle.passkey_kinds.proofs.Lists.{mapped_at}
+use Rattle.passkey_kinds.proofs.Common.{item_of-Map, pairs_of-members, Item, byte_string, text_string, number, members-pairs_of, AnswersAs, below, accepted, Typed, members_in, MayGrowIn, are_small, Reads, MayGrowBy, takes_at, Fields, set_with, rows_of, table_of, put_at, one_more, Progress, reached, result_and_then, read_from, read_members, read_item, Entry, Table, entries, named, Members, Naming, row, accepts_at, row_or_unknown, number_names, names, HasReadTo, Sets, Puts, held_as, Repeated, Fault, OutOfMemory, Refusal, ◌≡◌, ◌∙◌, ◌<◌, nat_lt, ℕ, arith, Bool, true, false, List, [], ◌∷◌, length, map, replicate, get_or, Option, Some, None, is_some, inl, inr, refl, sym, ap, Result, subst, Ok, Err, OnOk, ◌==◌, cond, set, ◌||◌, and_parts, leb-true, cases_lt, get_or-set_same, get_or-set_other, get_or-replicate, get_or_past, length-replicate, find, result_ok, bytes_eq}
 use Rattle.passkey_kinds.specs.declared.fault.Fault.TheVariants.{Refused}
 use Rattle.passkey_kinds.specs.declared.fault.Fault.TheVariants as fault
 use Rattle.passkey_cbor.specs.Item as item
@@ -62,16 +63,6 @@ row_small b (item.text_string s) n es small e = found_small (λ x. bytes_eq x.na
 row_small b _ n es small e = cc
 
 -- ---- members that are decoded one after the other
-
--- the member at an index, and those after it
-pub member_at : {X : Type 0} (seen : X → Item × Item) (xs : List X) (i : ℕ) (x : X) → x ≡ get_or xs i x
-    → i < length xs → drop i (map seen xs) ≡ seen x ∷ drop (i + 1) (map seen xs)
-member_at seen xs i x e within =
-    let long : i < length (map seen xs) = omega (arith, within, length-map xs seen) in
-    let here : get_or (map seen xs) i (seen x) ≡ seen x =
-    get_or-map seen xs i x (seen x) within ∙ ap seen (sym e) in
-    rw add-one
-    (drop-cons (map seen xs) i (seen x) long ∙ ap (λ (m : Item × Item). m ∷ drop (suc i) (map seen xs)) here)
 
 pub reads_from : {A P : Type 0} {takes may : Type 0} (view : A → P) (wanted other : Result P Fault)
     (r : Result A Fault) → wanted ≡ other → (takes → may) → Reads view takes other r → Reads view may wanted r
@@ -159,6 +150,6 @@ sets_put {M = M} t view kind set n k i field old new result same accepts puts ma
 
 pub ruleset reads_one = (was_repeated, was_refused, was_put, row_small, puts_refused)
 
-pub ruleset reads_pairs = (key_names, member_at, has_begun, fails)
+pub ruleset reads_pairs = (key_names, mapped_at, has_begun, fails)
 
 pub ruleset reads_map = (item_of-Map, members-pairs_of)

@@ -7,7 +7,7 @@ use Rattle.passkey_cbor.specs.Inside.{Left, Within, PairWithin}
 use Rattle.passkey_cbor.specs.Languages.{Language}
 use Rattle.passkey_cbor.specs.Lent.{Region}
 use Rattle.passkey_cbor.specs.declared.head.Head.{Head}
-use Rattle.passkey_kinds.specs.Kind.{Keeping, kept_of, kept_sum, Typed, AnswersAs, MayGrow, Kind, below, each, entry}
+use Rattle.passkey_kinds.specs.Kind.{Keeping, nothing, kept_of, kept_sum, Typed, AnswersAs, MayGrow, Kind, below, each, entry}
 use Rattle.passkey_kinds.specs.declared.fault.Refusal.{Refusal}
 use Rattle.std.proofs.Math.Nat.{mul-le-mul_left}
 use Rattle.std.specs.List.{cons_option}
@@ -148,6 +148,10 @@ costs_nothing cost keeps i to s l = record {
   ends = λ e. absurd cc;
 }
 
+pub costs_at_most : (cost : ℕ) (keeps : Keeping) (i : Item) (to : ℕ) (s e : Walk) → Costs cost keeps i to s e true
+    → Costs cost keeps i to s e false
+costs_at_most cost keeps i to s e spent = record { spends = spent.spends; ends = λ h. absurd cc }
+
 pub onward_same : (a : Walk) → Onward a a
 onward_same a =
     record { same = refl; within = λ h. h; forward = omega arith; heads = omega arith; nodes = omega arith }
@@ -205,14 +209,22 @@ grows_members (item.map item.no_pairs) (m ∷ ms) e some = absurd cc
 grows_members (item.map (item.pair k v ps)) ms e some = tt
 grows_members _ ms e some = absurd cc
 
-abbrev pub by_items : {V : Type 0} → (Item → V → Option V) → Bool → ℕ → (Item → ℕ) → Way Item V
-by_items next takes cost kept = record {
+-- A way of putting the elements of an array together: the same, by what decoding an element has as cost
+-- and makes as values.
+pub record Gathering (V : Type 0) : Type 0 where
+  pub next : Item → V → Option V
+  pub takes : Bool
+  pub cost : ℕ
+  pub keeps : Keeping
+
+abbrev pub in_array : {V : Type 0} → Gathering V → Way Item V
+in_array g = record {
   parts = elements_in;
   Encoded = Within max_depth;
-  next = next;
-  takes = takes;
-  cost = cost;
-  kept = kept;
+  next = g.next;
+  takes = g.takes;
+  cost = g.cost;
+  kept = kept_of g.keeps;
   grows = grows_elements;
   walked = λ before after old new found walks. walks.items;
 }
@@ -221,23 +233,27 @@ by_items next takes cost kept = record {
 abbrev pub pushed : {M : Type 0} → Kind M → Item → List M → Option (List M)
 pushed kind i xs = option_map (λ x. xs ++ x ∷ []) (kind i)
 
-abbrev pub pushing : {M : Type 0} → Typed M → Way Item (List M)
-pushing k = by_items (pushed k.of) true k.cost (kept_of k.keeps)
+abbrev pub pushing : {M : Type 0} → Typed M → Gathering (List M)
+pushing k = record { next = pushed k.of; takes = true; cost = k.cost; keeps = k.keeps }
 
 -- behind the others, unless the kind refuses it
 abbrev pub pushed_if : {M : Type 0} → Kind M → Item → List M → Option (List M)
 pushed_if kind i xs = Some (xs ++ cons_option (kind i) [])
 
-abbrev pub pushing_if : {M : Type 0} → Typed M → Way Item (List M)
-pushing_if k = by_items (pushed_if k.of) true (suc k.cost) (kept_of k.keeps)
+abbrev pub pushing_if : {M : Type 0} → Typed M → Gathering (List M)
+pushing_if k = record { next = pushed_if k.of; takes = true; cost = suc k.cost; keeps = k.keeps }
 
 -- behind the others, of which there are fewer than n
 abbrev pub pushed_below : {M : Type 0} → ℕ → Kind M → Item → List M → Option (List M)
 pushed_below n kind i xs = if nat_lt (length xs) n then pushed kind i xs else None
 
 -- bytes, at most n of them
-abbrev pub filling : ℕ → Way Item (List ℕ)
-filling n = by_items (pushed_below n (below 256)) false 1 (λ i. 0)
+abbrev pub filling : ℕ → Gathering (List ℕ)
+filling n = record { next = pushed_below n (below 256); takes = false; cost = 1; keeps = nothing }
+
+-- the list, if it has n elements
+abbrev pub full : {M : Type 0} → ℕ → List M → Option (List M)
+full n xs = if length xs == n then Some xs else None
 
 -- the bytes of an array of n integers from 0 to 255
 abbrev pub numbers_in : ℕ → Item → Option (List ℕ)

@@ -1,32 +1,14 @@
 //! Arrays of 32 bytes, decoded from data items and encoded as arrays of integers.
-ghost use Rattle.std.specs.Prelude.{◌==◌, ℕ, OnOk, List, length, map, take, if◌then◌else◌, false, Some, None};
+ghost use Rattle.std.specs.Prelude.{◌≡◌, ◌==◌, ℕ, [], OnOk, List, length, map, take, if◌then◌else◌, false, Some, None};
 ghost use Rattle.passkey_kinds.specs.Words.{Item, Tells, IsEncodedAt, Further, Onward, Decodes, LooksAtMost, item_of, AnswersAs, each, AreBytes, numbers_tree, sized_bytes};
-ghost use Rattle.passkey_kinds.specs.Reader.{filling, numbers_in};
+ghost use Rattle.passkey_kinds.specs.Reader.{filling, full, numbers_in};
 ghost use Rattle.passkey_kinds.specs.Kind.{below};
 
-use crate::collect::{Collect, read_whole};
-use crate::head::read_array;
+use crate::collect::{Gather, read_elements, read_whole};
 use crate::written::{append_each, write_each};
-use crate::{FromCbor, OutOfMemory, Refusal, ToCbor};
+use crate::{FromCbor, OutOfMemory, Refusal, Source, ToCbor};
 use passkey_cbor::{BytesToken, Cursor, Encoder, Value};
 use std::alloc::Global;
-
-/// Decodes the bytes from an array of integers. Returns `Refused` exactly if it doesn't have 32
-/// elements or one of them isn't an integer from 0 to 255.
-#[tactic(auto, using(crate::proofs::Lists::one_more_set, crate::proofs::Lists::all_set))]
-fn read_numbers(alloc: Global, elements: &[Value]) -> Result<[u8; 32], Refusal>
-    ensures { AnswersAs (λ b. b)
-        (if length elements.now == 32 then each (below 256) (map item_of elements.now) else None) ⊥ result }
-{
-    if elements.len() != 32 {
-        return Err(Refusal::Refused);
-    }
-    let mut bytes = [0; 32];
-    for (i, element) in elements.iter().enumerate() {
-        bytes[i] = u8::from_value(alloc, element)?;
-    }
-    Ok(bytes)
-}
 
 /// The first bytes of an array.
 #[derive(Drop)]
@@ -35,26 +17,52 @@ struct Front {
     len: usize,
 }
 
-impl Collect for Front {
-    ghost Element = { Item };
-
+impl Gather for Front {
     ghost Value = { List ℕ };
 
     ghost value = { λ front. take front.len front.bytes };
 
-    ghost way = { filling 32 };
+    ghost gathering = { filling 32 };
 
-    fn start(cursor: &mut Cursor<'_>) -> Option<Option<u64>> {
-        read_array(cursor)
-    }
-
-    fn add(&mut self, alloc: Global, cursor: &mut Cursor<'_>) -> Result<(), Refusal> {
+    fn add<S: Source>(&mut self, alloc: Global, source: &mut S) -> Result<(), Refusal> {
         if self.len >= 32 {
             return Err(Refusal::Refused);
         }
-        self.bytes[self.len] = u8::read(alloc, cursor)?;
+        self.bytes[self.len] = source.read(alloc)?;
         self.len += 1;
         Ok(())
+    }
+}
+
+fn no_bytes() -> Front
+    ensures { take result.len result.bytes ≡ [] }
+{
+    Front {
+        bytes: [0; 32],
+        len: 0,
+    }
+}
+
+/// Returns all 32 bytes, or `Refused` if there are fewer.
+fn whole(front: Front) -> Result<[u8; 32], Refusal>
+    ensures { AnswersAs (λ b. b) (full 32 (take front.len front.bytes)) ⊥ result }
+{
+    if front.len >= 32 {
+        Ok(front.bytes)
+    } else {
+        Err(Refusal::Refused)
+    }
+}
+
+/// Decodes the bytes from an array of integers. Returns `Refused` exactly if it doesn't have 32
+/// elements or one of them isn't an integer from 0 to 255.
+fn read_numbers(alloc: Global, elements: &[Value]) -> Result<[u8; 32], Refusal>
+    ensures { AnswersAs (λ b. b)
+        (if length elements.now == 32 then each (below 256) (map item_of elements.now) else None) ⊥ result }
+{
+    match read_elements(alloc, no_bytes(), elements) {
+        Ok(front) => whole(front),
+        Err(refusal) => Err(refusal),
     }
 }
 
@@ -65,16 +73,8 @@ fn read_numbers_here(alloc: Global, cursor: &mut Cursor<'_>) -> Result<[u8; 32],
     ensures onward { Onward cursor.old cursor.new }
     ensures further { OnOk result (Further cursor.old cursor.new) }
 {
-    let empty = Front {
-        bytes: [0; 32],
-        len: 0,
-    };
-    let front = read_whole(alloc, empty, cursor)?;
-    if front.len >= 32 {
-        Ok(front.bytes)
-    } else {
-        Err(Refusal::Refused)
-    }
+    let front = read_whole(alloc, no_bytes(), cursor)?;
+    whole(front)
 }
 
 /// Copies a byte string of exactly `N` bytes. Returns `Refused` if its length differs.

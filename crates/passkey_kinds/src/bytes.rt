@@ -1,13 +1,13 @@
 //! Bytes, decoded from byte strings, from arrays of integers, and from text strings in base64url or
 //! base64.
-ghost use Rattle.std.specs.Prelude.{◌<◌, ◌≤◌, ◌+◌, ◌*◌, ℕ, suc, List, length, map, true, ⊤, OnOk};
+ghost use Rattle.std.specs.Prelude.{ℕ, List, true, ⊤};
 ghost use Rattle.std.specs.Str.{trim};
-ghost use Rattle.passkey_kinds.specs.Words.{Item, IsRegion, Tells, IsEncodedAt, Further, Onward, Decodes, LooksAtMost, item_of, text_bytes, AnswersAs, each, bytes};
-ghost use Rattle.passkey_kinds.specs.Kind.{below, list, MayGrow};
+ghost use Rattle.passkey_kinds.specs.Words.{IsRegion, Tells, LooksAtMost, text_bytes, AnswersAs, bytes};
+ghost use Rattle.passkey_kinds.specs.Reader.{pushing};
+ghost use Rattle.passkey_kinds.specs.Typed.{below};
 
-use crate::collect::read_whole;
-use crate::list::read_each;
-use crate::{FromCbor, Refusal};
+use crate::collect::{Gather, read_elements, read_whole};
+use crate::{FromCbor, Refusal, Source};
 use passkey_bytes::{Bytes, BytesFault};
 use passkey_cbor::{Cursor, TextToken, Value};
 use std::alloc::Global;
@@ -23,16 +23,18 @@ fn read_text(alloc: Global, text: &str) -> Result<Bytes, Refusal>
     }
 }
 
-/// Decodes the bytes from an array of integers. Returns `Refused` if an element isn't an integer
-/// from 0 to 255.
-#[tactic(auto, using(crate::proofs::Lists::map_same))]
-fn read_numbers(alloc: Global, elements: &[Value]) -> Result<Bytes, Refusal>
-    ensures { AnswersAs (λ b. b) (each (below 256) (map item_of elements.now)) (0 < length elements.now) result }
-{
-    match read_each::<u8>(alloc, elements) {
-        Ok(numbers) => Ok(Bytes::from(Vec::from(numbers))),
-        Err(Refusal::Refused) => Err(Refusal::Refused),
-        Err(Refusal::OutOfMemory) => Err(Refusal::OutOfMemory),
+/// Bytes behind one another.
+impl Gather for Bytes {
+    ghost Value = { List ℕ };
+
+    ghost value = { λ b. b };
+
+    ghost gathering = { pushing (below 256) };
+
+    fn add<S: Source>(&mut self, alloc: Global, source: &mut S) -> Result<(), Refusal> {
+        let byte: u8 = source.read(alloc)?;
+        self.as_mut_vec().push(byte)?;
+        Ok(())
     }
 }
 
@@ -55,19 +57,6 @@ fn read_base64(
     }
 }
 
-/// Decodes the bytes from the array of integers at the cursor.
-fn read_numbers_here(alloc: Global, cursor: &mut Cursor<'_>) -> Result<Bytes, Refusal>
-    ensures reads { (i : Item) (to : ℕ) → IsEncodedAt i cursor.old.bytes cursor.old.place to
-        → Decodes (λ b. b) (list (below 256) i) (MayGrow true i) 2 0 to cursor.old cursor.new result }
-    ensures heads { (i : Item) (to : ℕ) → IsEncodedAt i cursor.old.bytes cursor.old.place to
-        → cursor.new.heads + 2 * suc cursor.old.place ≤ suc cursor.old.heads + 2 * to }
-    ensures onward { Onward cursor.old cursor.new }
-    ensures further { OnOk result (Further cursor.old cursor.new) }
-{
-    let numbers = read_whole(alloc, Vec::<u8>::new(alloc), cursor)?;
-    Ok(Bytes::from(numbers))
-}
-
 impl FromCbor for Bytes {
     ghost view = { λ b. b };
 
@@ -77,7 +66,7 @@ impl FromCbor for Bytes {
     fn from_value(alloc: Global, value: &Value) -> Result<Bytes, Refusal> {
         match value {
             Value::Bytes(bytes) => Ok(Bytes::from_slice(alloc, bytes)?),
-            Value::Array(elements) => read_numbers(alloc, elements),
+            Value::Array(elements) => read_elements(alloc, Bytes::empty(alloc), elements),
             Value::Text(text) => read_text(alloc, text.as_str().trim()),
             _ => Err(Refusal::Refused),
         }
@@ -90,6 +79,6 @@ impl FromCbor for Bytes {
         if let Some(token) = cursor.text() {
             return read_base64(alloc, &token, cursor);
         }
-        read_numbers_here(alloc, cursor)
+        read_whole(alloc, Bytes::empty(alloc), cursor)
     }
 }

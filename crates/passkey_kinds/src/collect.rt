@@ -1,12 +1,13 @@
 //! Elements of arrays and members of maps, decoded one after the other at a cursor.
-ghost use Rattle.std.specs.Prelude.{◌<◌, ◌≤◌, ◌+◌, ℕ, suc, IsTrue, List, length, IfSome, OnOk};
-ghost use Rattle.passkey_kinds.specs.Words.{Item, IsEncodedAt, kept_sum, Decodes, Spends, Further, Onward};
+ghost use Rattle.std.specs.Prelude.{◌<◌, ◌≤◌, ◌+◌, ℕ, suc, IsTrue, List, length, map, is_ok, IfSome, OnOk};
+ghost use Rattle.passkey_kinds.specs.Words.{Item, item_of, AnswersAs, IsEncodedAt, kept_sum, Decodes, Spends, Further, Onward};
 ghost use Rattle.passkey_cbor.specs.EncodedAt.{Lies};
 ghost use Rattle.passkey_cbor.specs.Inside.{Left};
-ghost use Rattle.passkey_kinds.specs.Reader.{OpensAt, Way, AddsOne, Collects, collected};
+ghost use Rattle.passkey_kinds.specs.Reader.{OpensAt, Gathering, in_array, Way, AddsOne, Collects, collected};
 
-use crate::Refusal;
-use passkey_cbor::Cursor;
+use crate::head::read_array;
+use crate::{Refusal, Source, Tree};
+use passkey_cbor::{Cursor, Value};
 use std::alloc::Global;
 
 /// What the elements of an array, or the members of a map, are put into as they are decoded.
@@ -40,6 +41,60 @@ pub(crate) trait Collect: Drop {
         ensures further { OnOk result (Further cursor.old cursor.new) };
 }
 
+/// What the elements of an array are put into as they are decoded, in memory or at a cursor.
+pub(crate) trait Gather: Drop {
+    /// What contracts see of the elements so far.
+    ghost Value: { Type 0 };
+
+    ghost value: { Self → Value };
+
+    ghost gathering: { Gathering Value };
+
+    /// Decodes the element and adds it. Returns `Refused` exactly if it isn't accepted.
+    fn add<S: Source>(&mut self, alloc: Global, source: &mut S) -> Result<(), Refusal>
+        ensures adds { (x : Item) (to : ℕ) → S.At source.old x to → AnswersAs (λ _. value self.new)
+            (gathering.next x (value self.old)) (IsTrue gathering.takes) result }
+        ensures spends { (x : Item) (to : ℕ) → S.At source.old x to
+            → S.Spent gathering.cost gathering.keeps x to source.old source.new (is_ok result) }
+        ensures onward { S.Goes source.old source.new }
+        ensures further { OnOk result (S.Past source.old source.new) };
+}
+
+/// Decodes the elements in memory, and adds them. Returns `Refused` if one of them isn't accepted.
+pub(crate) fn read_elements<G: Gather>(
+    alloc: Global,
+    empty: G,
+    elements: &[Value],
+) -> Result<G, Refusal>
+    ensures { AnswersAs G.value (collected G.gathering.next (map item_of elements.now) (G.value empty))
+        (IsTrue G.gathering.takes × (0 < length elements.now)) result }
+{
+    let mut into = empty;
+    for element in elements {
+        Gather::add(&mut into, alloc, &mut Tree(element))?;
+    }
+    Ok(into)
+}
+
+/// The elements of the array at a cursor.
+impl<G: Gather> Collect for G {
+    ghost Element = { Item };
+
+    ghost Value = { G.Value };
+
+    ghost value = { G.value };
+
+    ghost way = { in_array G.gathering };
+
+    fn start(cursor: &mut Cursor<'_>) -> Option<Option<u64>> {
+        read_array(cursor)
+    }
+
+    fn add(&mut self, alloc: Global, cursor: &mut Cursor<'_>) -> Result<(), Refusal> {
+        Gather::add(self, alloc, cursor)
+    }
+}
+
 /// Decodes the elements that follow the head of an array or a map, and adds them.
 fn read_all<C: Collect>(
     alloc: Global,
@@ -55,7 +110,7 @@ fn read_all<C: Collect>(
 {
     let mut into = empty;
     while cursor.more(&mut left) {
-        into.add(alloc, cursor)?;
+        Collect::add(&mut into, alloc, cursor)?;
     }
     Ok(into)
 }

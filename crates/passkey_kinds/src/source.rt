@@ -1,8 +1,8 @@
 //! Where a record's values are decoded from.
-ghost use Rattle.std.specs.Prelude.{◌≡◌, ℕ, suc, map, option_map, is_ok, Bool, true, false};
-ghost use Rattle.passkey_kinds.specs.Words.{Item, IsEncodedAt, item_of, Keeping, nothing, in_elements, Answers, Onward, Costs, accepted, or_else, tolerated};
+ghost use Rattle.std.specs.Prelude.{◌≡◌, ℕ, suc, map, option_map, is_ok, Bool, true, false, OnOk};
+ghost use Rattle.passkey_kinds.specs.Words.{Item, IsEncodedAt, item_of, Keeping, nothing, in_elements, Answers, Onward, Further, Costs, accepted, or_else, tolerated};
 ghost use Rattle.passkey_kinds.specs.RecordReading.{Sets};
-ghost use Rattle.passkey_kinds.specs.Reader.{costs_nothing, onward_same};
+ghost use Rattle.passkey_kinds.specs.Reader.{costs_nothing, onward_same, costs_at_most};
 
 use crate::{FromCbor, Refusal, TolerantList, Tolerated};
 use passkey_bytes::List;
@@ -21,13 +21,17 @@ pub trait Source {
     /// The source didn't move back, and its counts didn't fall.
     ghost Goes: { Self → Self → Type 0 };
 
+    /// The source moved on.
+    ghost Past: { Self → Self → Type 0 };
+
     /// Decodes the item. Returns `Refused` exactly if the type doesn't accept it, and `OutOfMemory`
     /// if an allocation fails, which can only happen for an item that takes memory.
     fn read<T: FromCbor>(&mut self, alloc: Global) -> Result<T, Refusal>
         ensures answers { (i : Item) (to : ℕ) → At self.old i to → Answers T.view T.typed i result }
         ensures spends { (i : Item) (to : ℕ) → At self.old i to
             → Spent T.typed.cost T.typed.keeps i to self.old self.new (is_ok result) }
-        ensures onward { Goes self.old self.new };
+        ensures onward { Goes self.old self.new }
+        ensures further { OnOk result (Past self.old self.new) };
 
     /// Skips the item, which is the value of an unknown member, and returns whether there is one.
     /// Allocates nothing.
@@ -40,6 +44,9 @@ pub trait Source {
         → Spent cost keeps i to s s false };
 
     ghost still: { (s : Self) → Goes s s };
+
+    ghost at_most: { (cost : ℕ) (keeps : Keeping) (i : Item) (to : ℕ) (s e : Self) → Spent cost keeps i to s e true
+        → Spent cost keeps i to s e false };
 }
 
 /// A data item in memory.
@@ -53,9 +60,13 @@ impl<'a> Source for Tree<'a> {
 
     ghost Goes = { λ old new. Unit {0} };
 
+    ghost Past = { λ old new. Unit {0} };
+
     ghost stays = { λ cost keeps i to s at. tt };
 
     ghost still = { λ s. tt };
+
+    ghost at_most = { λ cost keeps i to s e spent. tt };
 
     fn read<T: FromCbor>(&mut self, alloc: Global) -> Result<T, Refusal> {
         T::from_value(alloc, self.0)
@@ -74,9 +85,13 @@ impl<'a> Source for Cursor<'a> {
 
     ghost Goes = { Onward };
 
+    ghost Past = { Further };
+
     ghost stays = { costs_nothing };
 
     ghost still = { onward_same };
+
+    ghost at_most = { costs_at_most };
 
     fn read<T: FromCbor>(&mut self, alloc: Global) -> Result<T, Refusal> {
         T::read(alloc, self)

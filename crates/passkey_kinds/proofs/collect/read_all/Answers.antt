@@ -35,7 +35,7 @@ loop-alloc-preserved g c =
           let added = c.in_ok-add.ensures.adds n.first n.middle n.here in
           let spent = element_spends _ _ _ _ xs to start c.loop-alloc.left c.more.new.left a b d true refl
           walks.looks e n (g.C.Collect.way.kept n.first) refl
-    (one_spare _ _ _ _ _ added.further added.decodes.spends) in
+          (one_spare _ _ _ _ _ added.further added.decodes.spends) in
           one_more_done _ _ _ _ xs to start _ c.loop-alloc.left c.more.new.left a b d e n spent added.decodes.ends
           c.in_ok-add.ensures.onward.same
           (sym (gone_on g.C.Collect.way.next _ n.first e.rest n.others _ n.whole added.decodes.answers) ∙ e.done);

@@ -1,4 +1,4 @@
-use Rattle.passkey_kinds.proofs.Steps.{length-map, drop_all, rules, ◌≡◌, map, Err, refl, pair_of, named_as, table_of, entry_of, key_names, member_at, goes_on, fails, all_read}
+use Rattle.passkey_kinds.proofs.Steps.{length-map, drop_all, rules, ◌≡◌, map, Err, refl, pair_of, named_as, table_of, entry_of, key_names, mapped_at, goes_on, fails, all_read}
 use Rattle.passkey_kinds.proofs.record.read_pairs.Goals as goal
 
 pub loop-key-preserved : goal.loop-key-preserved
@@ -7,7 +7,7 @@ loop-key-preserved g c =
     let ms = map pair_of c.args.pairs.now in
     let m = pair_of c.loop-key-item.result in
     let i = c.loop-key.key-index in
-    let at = member_at pair_of c.args.pairs.now i c.loop-key-item.result c.loop-key-item.is c.loop-key-test.true in
+    let at = mapped_at pair_of c.args.pairs.now i c.loop-key-item.result c.loop-key-item.is c.loop-key-test.true in
     let h = c.loop-key.invariant in
     let naming = key_names (table_of t) c.is_numbered.result (map entry_of c.rows.result.now) m.0 (named_as
     c.in-Some.key) c.is_numbered.ensures c.rows.ensures.rows c.in-Some.ensures in
@@ -20,7 +20,7 @@ returns-in_err-read_member g c =
     let ms = map pair_of c.args.pairs.now in
     let m = pair_of c.loop-key-item.result in
     let i = c.loop-key.key-index in
-    let at = member_at pair_of c.args.pairs.now i c.loop-key-item.result c.loop-key-item.is c.loop-key-test.true in
+    let at = mapped_at pair_of c.args.pairs.now i c.loop-key-item.result c.loop-key-item.is c.loop-key-test.true in
     let h = c.loop-key.invariant in
     let naming = key_names (table_of t) c.is_numbered.result (map entry_of c.rows.result.now) m.0 (named_as
     c.in-Some.key) c.is_numbered.ensures c.rows.ensures.rows c.in-Some.ensures in

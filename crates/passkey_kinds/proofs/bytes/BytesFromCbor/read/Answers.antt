@@ -1,4 +1,4 @@
-use Rattle.passkey_kinds.proofs.Steps.{◌∙◌, true, false, Some, Ok, Err, sym, ap, arith, err_from_is_err_and, bytes, MayGrow, OutOfMemory, stands_long, on_ok, looks_all, looks_some, lent_decodes, text_grows, bytes_grow, answers_from, decodes_dearer, missed_then, stands_missed, looked_further, bytes_are}
+use Rattle.passkey_kinds.proofs.Steps.{◌∙◌, true, false, Some, Ok, Err, sym, ap, arith, err_from_is_err_and, bytes, MayGrow, OutOfMemory, stands_long, on_ok, looks_all, looks_some, lent_decodes, text_grows, bytes_grow, answers_from, decodes_dearer, missed_then, stands_missed, looked_further, bytes_are, elements_in, below, kept_none, list_in}
 use Rattle.passkey_kinds.proofs.bytes.BytesFromCbor.read.Goals as goal
 
 pub returns-in_err-copy-clause-reads : goal.returns-in_err-copy-clause-reads
@@ -55,14 +55,14 @@ returns-clause-reads c = λ i to l.
     let there = stands_missed i a c.bytes.new.self to e.1 l in
     let t = c.in_default-text.ensures.lends i to there in
     let here = stands_missed i c.bytes.new.self c.text.new.self to t.1 there in
-    let r = c.read_numbers_here.ensures.reads i to here in
-    let h = c.read_numbers_here.ensures.heads i to here in
+    let r = c.read_whole.ensures.reads i to here in
+    let all = list_in (below 256) i c.empty.ensures in
     record {
-      answers = answers_from _ c.read_numbers_here.result (bytes_are i e.0 t.0) (λ h. h) r.answers;
+      answers = answers_from _ c.read_whole.result (bytes_are i e.0 t.0 ∙ sym all) (λ h. h) r.decodes.answers;
       spends = record {
-        within = r.spends.within;
-        heads = omega (arith, h, e.1.heads, e.1.place, t.1.heads, t.1.place, stands_long i a.bytes a.place to l);
-        nodes = omega (arith, r.spends.nodes, e.1.nodes, t.1.nodes);
+        within = r.decodes.spends.within;
+        heads = omega (arith, r.heads, e.1.heads, e.1.place, t.1.heads, t.1.place, stands_long i a.bytes a.place to l);
+        nodes = omega (arith, r.decodes.spends.nodes, kept_none (elements_in i), e.1.nodes, t.1.nodes);
       };
-      ends = r.ends;
+      ends = r.decodes.ends;
     }
