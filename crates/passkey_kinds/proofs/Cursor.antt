@@ -1,5 +1,5 @@
 -- How a cursor moves, what it spends, and values of one head or of one string.
-use Rattle.passkey_kinds.proofs.Common.{lies_size, head_again, follows_item, low_simple, head_long, encoded_long, IsEncodedAt, Opens, FindsHead, IsEncodingOfHead, PairWithin, Within, Inside, Item, Pairs, items_of, pairs_of, byte_string, array, boolean, null, text_string, number, max_depth, IsLeadingItem, Region, PassesString, item_within, simple_item, PassesLeadingItem, MakesLeadingItem, Walk, ahead, Went, Head, Bytes, members-pairs_of, elements-items_of, aaguid, AnswersAs, bytes, below, kept, truth, Kind, optional, text, one_named, FailsAs, size, unsigned_in, integer_in, null_in, ReadsFlat, head_unsigned, head_integer, head_truth, head_null, head_array, head_map, elements_in, members_in, OpensAt, Further, Decodes, Spends, Onward, named, Refused, OutOfMemory, Refusal, signed_64, ◌≡◌, ◌∙◌, ◌<◌, ◌+◌, nat_lt, ℕ, arith, Bool, true, false, if◌then◌else◌, List, [], ◌++◌, length, map, Option, Some, None, option_map, refl, sym, ap, rules, ◌≤◌, Result, subst, ◌-◌, take, Ok, Err, OnOk, pos, ℤ, negsuc, T, IfSome, is_ok, mul-le-mul_left, nat_tests, cases_lt, cases_eq, length-append, length-take, option_and_then}
+use Rattle.passkey_kinds.proofs.Common.{lies_size, head_again, follows_item, low_simple, head_long, encoded_long, IsEncodedAt, Opens, FindsHead, IsEncodingOfHead, PairWithin, Within, Inside, Item, Pairs, items_of, pairs_of, byte_string, array, boolean, null, text_string, number, max_depth, IsLeadingItem, Region, PassesString, item_within, simple_item, PassesLeadingItem, MakesLeadingItem, Walk, ahead, Went, Head, Bytes, members-pairs_of, elements-items_of, aaguid, bytes, below, kept, truth, Kind, optional, text, one_named, FailsAs, size, unsigned_in, integer_in, null_in, ReadsFlat, head_unsigned, head_integer, head_truth, head_null, head_array, head_map, elements_in, members_in, OpensAt, Further, Decodes, Spends, Onward, named, Refused, OutOfMemory, Refusal, signed_64, ◌≡◌, ◌∙◌, ◌<◌, ◌+◌, nat_lt, ℕ, arith, Bool, true, false, if◌then◌else◌, List, [], ◌++◌, length, map, Option, Some, None, option_map, refl, sym, ap, rules, ◌≤◌, Result, subst, ◌-◌, take, Ok, Err, OnOk, pos, ℤ, negsuc, T, IfSome, is_ok, mul-le-mul_left, nat_tests, cases_lt, cases_eq, length-append, length-take, option_and_then}
 use Rattle.passkey_cbor.specs.declared.head.Head.TheVariants as head
 use Rattle.passkey_cbor.specs.Item as item
 
@@ -284,17 +284,6 @@ ends_ok (Err e) h = tt
 pub on_ok : {T E P : Type 0} (r : Result T E) → P → OnOk r P
 on_ok (Ok x) h = h
 on_ok (Err e) h = tt
-
--- the item was one head, which says this
-pub flat_found : {A M X : Type 0} (view : A → M) (wanted : Option M) (takes : Type 0) (said : Option X) (x : X)
-    (to : ℕ) (a b : Walk) (result : Result A Refusal) → ReadsFlat said to a b (Some x)
-    → AnswersAs view wanted takes result → Decodes view wanted takes 1 0 to a b result
-flat_found view wanted takes said x to a b result r h = grind (arith, on_ok)
-
--- the item's head doesn't say this
-pub flat_missed : {A M X : Type 0} (view : A → M) (wanted : Option M) (takes : Type 0) (said : Option X) (to : ℕ)
-    (a b : Walk) → ReadsFlat said to a b None → wanted ≡ None → Decodes view wanted takes 1 0 to a b (Err Refused)
-flat_missed view wanted takes said to a b r none = record { answers = none; spends = r.spends; ends = tt }
 
 pub unsigned_below : (limit : ℕ) (i : Item)
     → below limit i ≡ option_and_then (λ (n : ℕ). if nat_lt n limit then Some n else None) (unsigned_in i)

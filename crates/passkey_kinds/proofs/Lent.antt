@@ -1,7 +1,7 @@
 -- Strings that are lent at a cursor.
-use Rattle.passkey_kinds.proofs.Common.{rules, ◌≡◌, ℕ, ◌+◌, ◌≤◌, ◌<◌, arith, Bool, true, false, cond, List, [], ◌∷◌, ◌++◌, length, Option, Some, None, Result, Err, refl, sym, ap, subst, length-append, length-take, Item, byte_string, text_string, Content, Region, PassesString, LendsFrom, IsRegion, heads_in, IsEncodedAt, Walk, ahead, raised-le, Spends, Decodes, LooksAtMost, AnswersAs, MayGrow, Refusal, Refused, suc, option_map, Tells, LendsNothing, bytes, Further, option_and_then, ◌∙◌, ℤ, zero, ◌-◌, ◌^◌, Ok, algorithm_named, Algorithm, signed_64, algorithm, integer_in, ReadsFlat, OutOfMemory, head_again, head_long, data_parts, authenticator_data, authenticator_data_nodes, each_long, lends_start, lends_on, lends_all, AChunk, follows_chunk, Definite, Each, LooksAtAll, LooksAtSome, LentWhole, string_head, LooksFor, heads_until, heads_sought, LendsPiece, LendsNoPiece, LooksAhead, LendsUpTo, chunk, raised, DataGrow, AuthenticatorData, CountsData, Answers, IsOf, whole_64, NumberState, concat, ok_or, list, below}
+use Rattle.passkey_kinds.proofs.Common.{bytes, raised-le, head_again, head_long, each_long, lends_start, lends_on, lends_all, AChunk, follows_chunk, IsEncodedAt, Definite, Content, Item, byte_string, text_string, number, Each, Region, Tells, PassesString, LendsNothing, IsRegion, heads_in, LendsFrom, LooksAtAll, LooksAtSome, LentWhole, string_head, LooksFor, heads_until, heads_sought, LendsPiece, LendsNoPiece, LooksAhead, LendsUpTo, chunk, Walk, ahead, raised, DataGrow, data_parts, AuthenticatorData, algorithm_named, algorithm, authenticator_data, authenticator_data_nodes, CountsData, AnswersAs, MayGrow, below, kept, list, text, Answers, integer_in, ReadsFlat, Further, Decodes, LooksAtMost, Spends, names, Refused, Refusal, IsOf, signed_64, whole_64, NumberState, ◌≡◌, ◌∙◌, ◌<◌, ◌+◌, ℕ, suc, arith, Bool, true, false, List, [], ◌∷◌, ◌++◌, length, Option, Some, None, option_map, refl, sym, ap, rules, ◌≤◌, Result, subst, ◌-◌, Ok, Err, OnOk, cond, ℤ, ◌^◌, zero, IfSome, length-append, length-take, concat, option_and_then, ok_or}
 use Rattle.passkey_core.specs.DataReading.{fixed_at}
-use Rattle.passkey_kinds.proofs.Cursor.{stands_long, eased, on_ok, stands_back, string_further, flat_found, flat_missed}
+use Rattle.passkey_kinds.proofs.Cursor.{stands_long, eased, on_ok, stands_back, string_further}
 use Rattle.passkey_kinds.proofs.Lists.{answers_from}
 use Rattle.passkey_cbor.specs.Item as item
 use Rattle.passkey_kinds.specs.Typed as typed
@@ -234,27 +234,36 @@ module _ {whole left next : Region} {a b d : Walk} {n : NumberState} (u : AddsUp
       let rises = raised_rises a.heads (heads_in true whole.len t.0 whole.bytes t.1) fits in
       looks_all whole a d (omega (arith, all.heads t.0 t.1, rises)) true t all
 
+-- ---- values of one head
+
+-- there is a value only if the head says something
+pub flat_ends : {A M X : Type 0} (Q : Type 0) (view : A → M) (of : X → Option M) (found : Option X) (result : Result A Refusal)
+    → IfSome found (λ x. Q) → AnswersAs view (option_and_then of found) ⊥ result → OnOk result Q
+flat_ends Q view of (Some x) result ends h = on_ok result ends
+flat_ends Q view of None (Ok x) ends h = absurd (cc h)
+flat_ends Q view of None (Err e) ends h = tt
+
+some_ends : {X Q : Type 0} (found : Option X) → ((x : X) → found ≡ Some x → Q) → IfSome found (λ x. Q)
+some_ends None ends = tt
+some_ends (Some x) ends = ends x refl
+
+-- The value of an item of one head, by what the head says.
+pub flat_decodes : {A M X : Type 0} (view : A → M) {wanted : Option M} {may : Type 0} (of : X → Option M)
+    (said found : Option X) (to : ℕ) (a b : Walk) (result : Result A Refusal) → wanted ≡ option_and_then of said
+    → ReadsFlat said to a b found → AnswersAs view (option_and_then of found) ⊥ result
+    → Decodes view wanted may 1 0 to a b result
+flat_decodes view of said found to a b result e r h = record {
+  answers = answers_from view result (e ∙ ap (option_and_then of) (sym r.is)) (λ none. absurd none) h;
+  spends = r.spends;
+  ends = flat_ends _ view of found result (some_ends found r.ends) h;
+}
+
 -- ---- numbers
 
-other_number : (i : Item) → ((s : List ℕ) → i ≡ item.text_string s → ⊥)
+pub other_number : (i : Item) → ((s : List ℕ) → i ≡ item.text_string s → ⊥)
     → algorithm i ≡ option_and_then algorithm_named (option_and_then signed_64 (integer_in i))
 other_number (item.text_string s) h = absurd (h s refl)
 other_number _ h = refl
-
--- if the item isn't a text string, the integer decides
-module _ (i : Item) (to : ℕ) (a b : Walk) (other : (s : List ℕ) → i ≡ item.text_string s → ⊥) where
-  number_is : (found : Option ℤ) → found ≡ option_and_then signed_64 (integer_in i)
-      → algorithm i ≡ option_and_then algorithm_named found
-  number_is found e = other_number i other ∙ ap (option_and_then algorithm_named) (sym e)
-
-  pub number_decodes : (found : Option ℤ) (result : Result Algorithm Refusal) →
-      ReadsFlat (option_and_then signed_64 (integer_in i)) to a b found →
-      AnswersAs (λ x. x) (option_and_then algorithm_named found) ⊥ result →
-      Decodes (λ x. x) (algorithm i) (MayGrow false i) 1 0 to a b result
-  number_decodes (Some z) result r h = grind (arith, flat_found, answers_from, number_is)
-  number_decodes None (Ok x) r h = absurd cc
-  number_decodes None (Err Refused) r h = grind (arith, flat_missed, number_is)
-  number_decodes None (Err OutOfMemory) r h = absurd h
 
 -- ---- authenticator data, decoded from a byte string at a cursor
 

@@ -1,4 +1,5 @@
 //! Values that are decoded from data items.
+ghost use Rattle.std.specs.Option.{option_and_then};
 ghost use Rattle.std.specs.Prelude.{◌^◌, ℕ, nat_lt, Bool, if◌then◌else◌, Option, option_map, OnOk};
 ghost use Rattle.passkey_kinds.specs.Words.{tolerated, Item, IsEncodedAt, item_of, Answers, AnswersAs, Typed, Onward, Further, ReadsAs, truth, below, text, kept, optional};
 
@@ -40,16 +41,24 @@ pub trait FromCbor: Drop {
         ensures further { OnOk result (Further cursor.old cursor.new) };
 }
 
-fn byte(n: u64) -> Result<u8, Refusal>
-    ensures { AnswersAs (λ b. b) (if nat_lt n (2 ^ 8) then Some n else None) ⊥ result }
+fn byte(found: Option<u64>) -> Result<u8, Refusal>
+    ensures { AnswersAs (λ b. b) (option_and_then (λ (n : ℕ). if nat_lt n (2 ^ 8) then Some n else None) found) ⊥
+        result }
 {
-    u8::try_from(n).or(Err(Refusal::Refused))
+    match found {
+        Some(n) => u8::try_from(n).or(Err(Refusal::Refused)),
+        None => Err(Refusal::Refused),
+    }
 }
 
-fn word(n: u64) -> Result<u32, Refusal>
-    ensures { AnswersAs (λ w. w) (if nat_lt n (2 ^ 32) then Some n else None) ⊥ result }
+fn word(found: Option<u64>) -> Result<u32, Refusal>
+    ensures { AnswersAs (λ w. w) (option_and_then (λ (n : ℕ). if nat_lt n (2 ^ 32) then Some n else None) found) ⊥
+        result }
 {
-    u32::try_from(n).or(Err(Refusal::Refused))
+    match found {
+        Some(n) => u32::try_from(n).or(Err(Refusal::Refused)),
+        None => Err(Refusal::Refused),
+    }
 }
 
 impl FromCbor for bool {
@@ -65,10 +74,7 @@ impl FromCbor for bool {
     }
 
     fn read(_alloc: Global, cursor: &mut Cursor<'_>) -> Result<bool, Refusal> {
-        match read_truth(cursor) {
-            Some(b) => Ok(b),
-            None => Err(Refusal::Refused),
-        }
+        read_truth(cursor).ok_or(Refusal::Refused)
     }
 }
 
@@ -84,11 +90,9 @@ impl FromCbor for u8 {
         }
     }
 
+    #[tactic(auto, using(crate::proofs::Lent::flat_ends))]
     fn read(_alloc: Global, cursor: &mut Cursor<'_>) -> Result<u8, Refusal> {
-        match read_unsigned(cursor) {
-            Some(n) => byte(n),
-            None => Err(Refusal::Refused),
-        }
+        byte(read_unsigned(cursor))
     }
 }
 
@@ -104,11 +108,9 @@ impl FromCbor for u32 {
         }
     }
 
+    #[tactic(auto, using(crate::proofs::Lent::flat_ends))]
     fn read(_alloc: Global, cursor: &mut Cursor<'_>) -> Result<u32, Refusal> {
-        match read_unsigned(cursor) {
-            Some(n) => word(n),
-            None => Err(Refusal::Refused),
-        }
+        word(read_unsigned(cursor))
     }
 }
 

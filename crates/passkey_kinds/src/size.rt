@@ -1,6 +1,7 @@
 //! Sizes, decoded from data items. They aren't encoded here, since CBOR has no integer above 2^64 -
 //! 1.
 ghost use Rattle.std.specs.Prelude.{◌≡◌, ℕ, pos, option_map};
+ghost use Rattle.std.specs.Option.{option_and_then};
 ghost use Rattle.std.specs.Int.NonZero.{non_zero_u128_get};
 ghost use Rattle.passkey_kinds.specs.Words.{number, AnswersAs, size};
 ghost use Rattle.passkey_kinds.specs.Kind.{size as size_of};
@@ -17,10 +18,13 @@ fn positive(n: Integer) -> Option<NonZeroU128>
     NonZeroU128::new(u128::try_from(n.get()).ok()?)
 }
 
-fn not_zero(n: u64) -> Result<NonZeroU128, Refusal>
-    ensures { AnswersAs non_zero_u128_get (size_of (number (pos n))) ⊥ result }
+fn not_zero(found: Option<u64>) -> Result<NonZeroU128, Refusal>
+    ensures { AnswersAs non_zero_u128_get (option_and_then (λ (n : ℕ). size_of (number (pos n))) found) ⊥ result }
 {
-    NonZeroU128::new(u128::from(n)).ok_or(Refusal::Refused)
+    match found {
+        Some(n) => NonZeroU128::new(u128::from(n)).ok_or(Refusal::Refused),
+        None => Err(Refusal::Refused),
+    }
 }
 
 impl FromCbor for NonZeroU128 {
@@ -37,10 +41,8 @@ impl FromCbor for NonZeroU128 {
         }
     }
 
+    #[tactic(auto, using(crate::proofs::Lent::flat_ends))]
     fn read(_alloc: Global, cursor: &mut Cursor<'_>) -> Result<NonZeroU128, Refusal> {
-        match read_unsigned(cursor) {
-            Some(n) => not_zero(n),
-            None => Err(Refusal::Refused),
-        }
+        not_zero(read_unsigned(cursor))
     }
 }

@@ -1,4 +1,4 @@
-use Rattle.passkey_kinds.proofs.Steps.{rules, ◌∙◌, true, false, sym, ap, option_and_then, algorithm_named, algorithm, MayGrow, stands_long, on_ok, lent_decodes, answers_from, number_decodes, missed_then, stands_missed, looked_further}
+use Rattle.passkey_kinds.proofs.Steps.{rules, ◌∙◌, true, false, sym, ap, option_and_then, algorithm_named, algorithm, MayGrow, stands_long, on_ok, lent_decodes, answers_from, flat_decodes, other_number, missed_then, stands_missed, looked_further}
 use Rattle.passkey_kinds.proofs.algorithm.AlgorithmFromCbor.read.Goals as goal
 
 pub returns-in-Some-clause-reads : goal.returns-in-Some-clause-reads
@@ -16,7 +16,8 @@ returns-in-None-clause-reads c = λ i to l.
     let read = c.read_integer.ensures.reads i to (stands_missed i _ _ to f.1 l) in
     missed_then (λ x. x) (algorithm i) (MayGrow false i) 1 0 to _ _ _ _ f.1
     (stands_long i c.args.cursor.now.bytes c.args.cursor.now.place to l)
-    (number_decodes i to _ _ f.0 c.read_integer.result _ read c.named-in-None.ensures)
+    (flat_decodes _ algorithm_named _ c.read_integer.result to _ _ c.named-in-None.result (other_number i f.0) read
+    c.named-in-None.ensures)
 
 pub returns-in-Some-clause-further : goal.returns-in-Some-clause-further
 returns-in-Some-clause-further c =

@@ -1,15 +1,6 @@
-use Rattle.passkey_kinds.proofs.Steps.{option_and_then, arith, ◌^◌, ℕ, nat_lt, if◌then◌else◌, Option, Some, None, flat_found, flat_missed, unsigned_below, answers_from}
+use Rattle.passkey_kinds.proofs.Steps.{◌^◌, unsigned_below, flat_decodes}
 use Rattle.passkey_kinds.proofs.from_cbor.U32FromCbor.read.Goals as goal
 
-abbrev fitting : Option ℕ → Option ℕ
-fitting o = option_and_then (λ (n : ℕ). if nat_lt n (2 ^ 32) then Some n else None) o
-
-pub returns-in-Some-clause-reads : goal.returns-in-Some-clause-reads
-returns-in-Some-clause-reads c = λ i to l.
-    let r = c.in-Some.ensures.reads i to l in
-    grind (arith, flat_found, answers_from, unsigned_below, r, c.word.ensures)
-
-pub returns-in-None-clause-reads : goal.returns-in-None-clause-reads
-returns-in-None-clause-reads c = λ i to l.
-    let r = c.in-None.ensures.reads i to l in
-    grind (arith, flat_missed, unsigned_below, r)
+pub returns-clause-reads : goal.returns-clause-reads
+returns-clause-reads c = λ i to l. flat_decodes _ _ _ c.read_unsigned.result to _ _ c.word.result
+    (unsigned_below (2 ^ 32) i) (c.read_unsigned.ensures.reads i to l) c.word.ensures
