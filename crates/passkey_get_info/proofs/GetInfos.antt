@@ -1,7 +1,7 @@
 -- authenticatorGetInfo responses: decoding their encodings again, their nesting levels, and their canonical form.
 use Rattle.passkey_kinds.proofs.Steps.{option_and_then, arith, ◌≡◌, Option, Some, None, refl, Item, shortest_head, kept, optional, EachFits, IsReadBack, Any, Falls, accepts_it, truth_back, anything, optional_place, IsLawful, lawful, plainly, puts_value, puts_default, ◌▸◌, no_more, number_tree, PlaceHas, EachPlace, Rule, list_plain, parameters_law, nat_tests, ℕ, pos, ◌^◌, ◌<◌, ◌≤◌, nat_lt, nat_le, ltb-true, Bool, true, false, ◌&&◌, if◌then◌else◌, option_map, unwrap_or, Result, Ok, Err, OnOk, sym, ap, and_from, depth, max_depth, IfPresent, ReadIsCoherent, size, option_place, record_keeps, not_null, rows_back, size_back, aaguid_back, list_same, byte_back, word_back, text_back, bytes_back, transport_back, list_back, optional_back, all_of_anything, accepted_place, PlaceWithin, Within, record_within, few_levels, and_parts, IsOrdered, AtMostOneLeadingItem, WrittenIsLeadingItem, AllCanonical, WrittenIsCanonical, PlaceOrdered, PlaceWritable, record_canonical, ordered_of, in_order, kept_if_some, [], ◌∷◌}
-use Rattle.std.proofs.Common.{lt-ltb, is_ok, IfErr, leb-true}
-use Rattle.passkey_cbor.specs.Item.{number}
+use Rattle.std.proofs.Common.{ℕ, List, Bool, ◌<◌, ◌^◌, lt-ltb, is_ok, IfErr, leb-true}
+use Rattle.passkey_cbor.specs.Item.{number, boolean, byte_string}
 use Rattle.passkey_get_info.specs.GetInfo.{version, version_tree, normal_version, extension, extension_tree, normal_extension, options, unless_null, GetInfoParts, get_info_places, get_info_fields, read_get_info, get_info_tree, IsPositive, GetInfoFits, is_encodable, has_room, is_get_info_coherent, normal_get_info, get_info_kept}
 use Rattle.passkey_get_info.specs.declared.options.Options.{Options}
 use Rattle.passkey_kinds.proofs.Levels.{of_record}
@@ -9,6 +9,9 @@ use Rattle.passkey_kinds.specs.Kind.{kept as kept_item, IsSize}
 use Rattle.passkey_kinds.specs.declared.fault.WriteFault.{WriteFault}
 use Rattle.passkey_kinds.specs.declared.fault.WriteFault.TheVariants.{NumberTooLarge}
 use Rattle.passkey_cbor.specs.Item as item
+use Rattle.passkey_kinds.specs.Typed as typed
+use Rattle.passkey_kinds.specs.Record.{default}
+use Rattle.passkey_kinds.proofs.Back.{Puts}
 
 -- ---- values in an authenticatorGetInfo response can be decoded again from their encodings
 
@@ -27,32 +30,29 @@ pub kept_place : (o : Option Item) → Falls (optional kept) None o (option_and_
 kept_place None = record { value = refl; accepted = λ i e. absurd cc }
 kept_place (Some i) = grind (arith, kept_or_null, accepts_it)
 
+-- what the rows of these kinds put
+module _ {P : Type 0} {n : ℕ} {name : List ℕ} {old : P} where
+  truth_row : {set : Bool → P → P} (b : Bool) → Puts (default n name typed.truth set) (Some (boolean b)) old (set b old)
+  truth_row b = puts_value truth_back b tt
+
+  flag_row : {set : Option Bool → P → P} (o : Option Bool) → set None old ≡ old
+      → Puts (default n name (typed.optional typed.truth) set) (option_map boolean o) old (set o old)
+  flag_row o same = puts_default (optional_place truth_back refl o (anything o)) same
+
+  bytes_row : {set : Option (List ℕ) → P → P} (o : Option (List ℕ)) → set None old ≡ old
+      → Puts (default n name (typed.optional typed.bytes) set) (option_map byte_string o) old (set o old)
+  bytes_row o same = puts_default (optional_place bytes_back refl o (anything o)) same
+
+  word_row : {set : Option ℕ → P → P} (o : Option ℕ) → IfPresent (λ k. k < 2 ^ 32) o → set None old ≡ old
+      → Puts (default n name (typed.optional (typed.below (2 ^ 32))) set) (option_map number_tree o) old (set o old)
+  word_row o fits same = puts_default (optional_place word_back refl o fits) same
+
 pub options_law : IsLawful 0 options
 unfolding shortest_head
 options_law = lawful 0 options (λ o. refl) (λ o. refl) (λ o. refl) (λ k o. search plainly depth 24) (λ o fits.
-    puts_default (optional_place truth_back refl o.ep (anything o.ep)) refl ▸
-    puts_value truth_back o.rk tt ▸
-    puts_value truth_back o.up tt ▸
-    puts_default (optional_place truth_back refl o.uv (anything o.uv)) refl ▸
-    puts_value truth_back o.plat tt ▸
-    puts_default (optional_place truth_back refl o.uv_acfg (anything o.uv_acfg)) refl ▸
-    puts_default (optional_place truth_back refl o.always_uv (anything o.always_uv)) refl ▸
-    puts_default (optional_place truth_back refl o.cred_mgmt (anything o.cred_mgmt)) refl ▸
-    puts_default (optional_place truth_back refl o.authnr_cfg (anything o.authnr_cfg)) refl ▸
-    puts_default (optional_place truth_back refl o.bio_enroll (anything o.bio_enroll)) refl ▸
-    puts_default (optional_place truth_back refl o.client_pin (anything o.client_pin)) refl ▸
-    puts_default (optional_place truth_back refl o.large_blobs (anything o.large_blobs)) refl ▸
-    puts_default (optional_place truth_back refl o.uv_bio_enroll (anything o.uv_bio_enroll)) refl ▸
-    puts_default (optional_place truth_back refl o.pin_uv_auth_token (anything o.pin_uv_auth_token)) refl ▸
-    puts_default (optional_place truth_back refl o.set_min_pin_length (anything o.set_min_pin_length)) refl ▸
-    puts_default (optional_place truth_back refl o.make_cred_uv_not_rqd (anything o.make_cred_uv_not_rqd)) refl ▸
-    puts_default (optional_place truth_back refl o.credential_mgmt_preview (anything o.credential_mgmt_preview))
-    refl ▸
-    puts_default (optional_place truth_back refl o.user_verification_mgmt_preview
-    (anything o.user_verification_mgmt_preview)) refl ▸
-    puts_default (optional_place truth_back refl o.no_mc_ga_permissions_with_client_pin
-    (anything o.no_mc_ga_permissions_with_client_pin)) refl ▸
-    no_more)
+    flag_row _ refl ▸ truth_row _ ▸ truth_row _ ▸ flag_row _ refl ▸ truth_row _ ▸ flag_row _ refl ▸ flag_row _ refl ▸ flag_row _ refl ▸ flag_row _ refl
+    ▸ flag_row _ refl ▸ flag_row _ refl ▸ flag_row _ refl ▸ flag_row _ refl ▸ flag_row _ refl ▸ flag_row _ refl ▸ flag_row _ refl ▸ flag_row _ refl ▸ flag_row _ refl
+    ▸ flag_row _ refl ▸ no_more)
 
 -- ---- what holds of each key and value that an authenticatorGetInfo response is encoded as:
 -- certifications alone may have many levels
@@ -81,27 +81,16 @@ response_back r fits encoded =
     puts_default (optional_place (list_same byte_back) refl r.pin_protocols (search)) refl ▸
     puts_default (accepted_place transport_back r.transports (all_of_anything r.transports)) refl ▸
     puts_default (accepted_place parameters_law.back r.algorithms (search)) refl ▸
-    puts_default (optional_place word_back refl r.mac_serialized_large_blob_array (search)) refl ▸
-    puts_default (optional_place truth_back refl r.force_pin_change (anything r.force_pin_change)) refl ▸
-    puts_default (optional_place word_back refl r.min_pin_length (search)) refl ▸
-    puts_default (optional_place word_back refl r.firmware_version (search)) refl ▸
-    puts_default (optional_place word_back refl r.max_cred_blob_length (search)) refl ▸
-    puts_default (optional_place word_back refl r.max_rpids_for_set_min_pin_length (search)) refl ▸
-    puts_default (optional_place word_back refl r.preferred_platform_uv_attempts (search)) refl ▸
-    puts_default (optional_place word_back refl r.uv_modality (search)) refl ▸
+    word_row _ (search) refl ▸ flag_row _ refl ▸ word_row _ (search) refl ▸ word_row _ (search) refl ▸
+    word_row _ (search) refl ▸ word_row _ (search) refl ▸ word_row _ (search) refl ▸ word_row _ (search) refl ▸
     puts_default (kept_place r.certifications) refl ▸
-    puts_default (optional_place word_back refl r.remaining_discoverable_credentials (search)) refl ▸
+    word_row _ (search) refl ▸
     puts_default (accepted_place word_back r.vendor_prototype_config_commands (search)) refl ▸
     puts_default (accepted_place text_back r.attestation_formats (all_of_anything r.attestation_formats)) refl ▸
-    puts_default (optional_place word_back refl r.uv_count_since_last_pin_entry (search)) refl ▸
-    puts_default (optional_place truth_back refl r.long_touch_for_reset (anything r.long_touch_for_reset)) refl ▸
-    puts_default (optional_place bytes_back refl r.enc_identifier (anything r.enc_identifier)) refl ▸
+    word_row _ (search) refl ▸ flag_row _ refl ▸ bytes_row _ refl ▸
     puts_default (accepted_place transport_back r.transports_for_reset (all_of_anything r.transports_for_reset))
     refl ▸
-    puts_default (optional_place truth_back refl r.pin_complexity_policy (anything r.pin_complexity_policy)) refl ▸
-    puts_default (optional_place bytes_back refl r.pin_complexity_policy_url (anything r.pin_complexity_policy_url))
-    refl ▸
-    puts_default (optional_place word_back refl r.max_pin_length (search)) refl ▸
+    flag_row _ refl ▸ bytes_row _ refl ▸ word_row _ (search) refl ▸
     no_more)
 
 -- ---- only the certifications may have many levels
