@@ -13,8 +13,8 @@ onward_then a b c p q = grind arith
 
 -- ---- further on
 
-pub stands_long : (x : Item) (bytes : List ℕ) (from to : ℕ) → IsEncodedAt x bytes from to → from < to
-stands_long x bytes from to l =
+pub stands_long : (x : Item) {bytes : List ℕ} {from to : ℕ} → IsEncodedAt x bytes from to → from < to
+stands_long x {bytes} {from} {to} l =
     omega (
       arith,
       lies_size (Within max_depth x) bytes from to l,

@@ -1,5 +1,5 @@
 -- Strings that are lent at a cursor.
-use Rattle.passkey_kinds.proofs.Common.{bytes, raised-le, head_again, head_long, each_long, lends_start, lends_on, lends_all, AChunk, follows_chunk, IsEncodedAt, Definite, Content, Item, byte_string, text_string, number, Each, Region, Tells, PassesString, LendsNothing, IsRegion, heads_in, LendsFrom, LooksAtAll, LooksAtSome, LentWhole, string_head, LooksFor, heads_until, heads_sought, LendsPiece, LendsNoPiece, LooksAhead, LendsUpTo, chunk, Walk, ahead, raised, DataGrow, data_parts, AuthenticatorData, algorithm_named, algorithm, authenticator_data, authenticator_data_nodes, CountsData, AnswersAs, MayGrow, below, kept, list, text, Answers, integer_in, ReadsFlat, Further, Decodes, LooksAtMost, Spends, names, Refused, Refusal, IsOf, signed_64, whole_64, NumberState, ◌≡◌, ◌∙◌, ◌<◌, ◌+◌, ℕ, suc, arith, Bool, true, false, List, [], ◌∷◌, ◌++◌, length, Option, Some, None, option_map, refl, sym, ap, rules, ◌≤◌, Result, subst, ◌-◌, Ok, Err, OnOk, cond, ℤ, ◌^◌, zero, IfSome, length-append, length-take, concat, option_and_then, ok_or}
+use Rattle.passkey_kinds.proofs.Common.{raised-le, head_again, head_long, each_long, lends_start, lends_on, lends_all, AChunk, follows_chunk, IsEncodedAt, Definite, Content, Item, byte_string, text_string, number, Each, Region, Tells, PassesString, LendsNothing, IsRegion, heads_in, LendsFrom, LooksAtAll, LooksAtSome, LentWhole, string_head, LooksFor, heads_until, heads_sought, LendsPiece, LendsNoPiece, LooksAhead, LendsUpTo, chunk, Walk, ahead, raised, DataGrow, data_parts, AuthenticatorData, algorithm_named, algorithm, authenticator_data, authenticator_data_nodes, CountsData, AnswersAs, bytes, MayGrow, below, kept, list, text, Answers, integer_in, ReadsFlat, Further, Decodes, LooksAtMost, Spends, names, Refused, Refusal, IsOf, signed_64, whole_64, NumberState, ◌≡◌, ◌∙◌, ◌<◌, ◌+◌, ℕ, suc, arith, Bool, true, false, List, [], ◌∷◌, ◌++◌, length, Option, Some, None, option_map, refl, sym, ap, rules, ◌≤◌, Result, subst, ◌-◌, Ok, Err, OnOk, cond, ℤ, ◌^◌, zero, IfSome, length-append, length-take, concat, option_and_then, ok_or}
 use Rattle.passkey_core.specs.DataReading.{fixed_at}
 use Rattle.passkey_kinds.proofs.Cursor.{stands_long, eased, on_ok, stands_back, string_further}
 use Rattle.passkey_kinds.proofs.Lists.{answers_from}
@@ -40,7 +40,7 @@ sought_few is_text names None s bytes c = omega (arith, until_few names [] c.fir
 
 -- ---- looking again
 
-module _ (r : Region) (a b : Walk) (rises : a.heads ≤ b.heads) where
+module _ {r : Region} {a b : Walk} (rises : a.heads ≤ b.heads) where
   pub looks_all : (is_text : Bool) → IsRegion is_text r → LooksAtAll is_text r a b → LooksAtMost r a b
   looks_all is_text t l = record {
     heads = omega (
@@ -98,10 +98,10 @@ region_less is_text a b r p =
     )
 
 -- The string that is encoded there is lent, and then looked at again at most once.
-pub lent_spends : (is_text : Bool) (a b d : Walk) (r : Region) (i : Item) (to : ℕ)
+pub lent_spends : {is_text : Bool} {a b d : Walk} {r : Region} (i : Item) {to : ℕ}
     → IsEncodedAt i a.bytes a.place to → PassesString is_text a b r → LendsFrom is_text i to a b (Some r)
     → LooksAtMost r b d → Spends 2 0 to a d × (d.place ≡ to)
-lent_spends is_text a b d r i to l p f looks = search (rules, region_less)
+lent_spends i l p f looks = search (rules, region_less)
 
 -- no string of this type is encoded there, and one head was decoded
 pub not_lent_spends : (is_text : Bool) (a b : Walk) (i : Item) (to : ℕ) → IsEncodedAt i a.bytes a.place to
@@ -109,12 +109,12 @@ pub not_lent_spends : (is_text : Bool) (a b : Walk) (i : Item) (to : ℕ) → Is
 not_lent_spends is_text a b i to l f = search (rules, stands_long)
 
 -- The result for a string that is lent, and then looked at again at most once.
-pub lent_decodes : {A M : Type 0} (view : A → M) (wanted : Option M) (takes : Type 0) (is_text : Bool)
-    (a b d : Walk) (r : Region) (i : Item) (to : ℕ) (result : Result A Refusal) → IsEncodedAt i a.bytes a.place to
+pub lent_decodes : {A M : Type 0} {view : A → M} {wanted : Option M} {takes : Type 0} {is_text : Bool}
+    {a b d : Walk} {r : Region} (i : Item) {to : ℕ} {result : Result A Refusal} → IsEncodedAt i a.bytes a.place to
     → PassesString is_text a b r → LendsFrom is_text i to a b (Some r) → LooksAtMost r b d
     → AnswersAs view wanted takes result → Decodes view wanted takes 2 0 to a d result
-lent_decodes view wanted takes is_text a b d r i to result l p f looks h =
-    let spent = lent_spends is_text a b d r i to l p f looks in
+lent_decodes {view = v} {d = e} {r = g} i {result = result} l p f looks h =
+    let spent = lent_spends i l p f looks in
     record { answers = h; spends = spent.0; ends = on_ok result spent.1 }
 
 -- a text string takes memory
@@ -130,7 +130,7 @@ pub not_lent_decodes : {A M : Type 0} (view : A → M) (wanted : Option M) (take
     → LendsFrom is_text i to a b None → wanted ≡ None → Decodes view wanted takes cost 0 to a b (Err Refused)
 not_lent_decodes view wanted takes is_text cost a b i to one l f none = record {
   answers = none;
-  spends = eased 1 cost 0 0 to a b one (omega arith) (omega (arith, stands_long i a.bytes a.place to l))
+  spends = eased 1 cost 0 0 to a b one (omega arith) (omega (arith, stands_long i l))
       (not_lent_spends is_text a b i to l f);
   ends = tt;
 }
@@ -159,27 +159,27 @@ or_refused wanted (Some x) result takes e r = grind arith
 or_refused wanted None result takes e r = grind arith
 
 -- the same, if memory may run out too
-pub decodes_from : {A M : Type 0} {takes may : Type 0} (view : A → M) (wanted : Option M) (cost kept to : ℕ)
-    (a b : Walk) (result : Result A Refusal) → (takes → may) → Decodes view wanted takes cost kept to a b result
+pub decodes_from : {A M : Type 0} {takes may : Type 0} {view : A → M} {wanted : Option M} {cost kept to : ℕ}
+    {a b : Walk} {result : Result A Refusal} → (takes → may) → Decodes view wanted takes cost kept to a b result
     → Decodes view wanted may cost kept to a b result
-decodes_from view wanted cost kept to a b result may d = grind (arith, answers_from)
+decodes_from may d = grind (arith, answers_from)
 
 -- a lower cost is within a higher one
-pub decodes_dearer : {A M : Type 0} (view : A → M) (wanted : Option M) (takes : Type 0) (c d kept more to : ℕ)
-    (a b : Walk) (result : Result A Refusal) → c ≤ d → kept ≤ more → a.place ≤ to
+pub decodes_dearer : {A M : Type 0} {view : A → M} {wanted : Option M} {takes : Type 0} {c d kept more to : ℕ}
+    {a b : Walk} {result : Result A Refusal} → c ≤ d → kept ≤ more → a.place ≤ to
     → Decodes view wanted takes c kept to a b result → Decodes view wanted takes d more to a b result
-decodes_dearer view wanted takes c d kept more to a b result le few within r = search (rules, eased)
+decodes_dearer le few within r = search (rules, eased)
 
 -- the item is still encoded there after one head that isn't its string's
-pub stands_missed : (i : Item) (a b : Walk) (to : ℕ) → LendsNothing a b → IsEncodedAt i a.bytes a.place to
+pub stands_missed : (i : Item) {a b : Walk} {to : ℕ} → LendsNothing a b → IsEncodedAt i a.bytes a.place to
     → IsEncodedAt i b.bytes b.place to
-stands_missed i a b to p l = stands_back i a b to p.bytes p.place l
+stands_missed i {a} {b} {to} p l = stands_back i a b to p.bytes p.place l
 
 -- decoded after one head that isn't its string's
-pub missed_then : {A M : Type 0} (view : A → M) (wanted : Option M) (takes : Type 0) (cost kept to : ℕ)
-    (a b d : Walk) (result : Result A Refusal) → LendsNothing a b → a.place < to
+pub missed_then : {A M : Type 0} {view : A → M} {wanted : Option M} {takes : Type 0} {cost kept to : ℕ}
+    {a b d : Walk} {result : Result A Refusal} → LendsNothing a b → a.place < to
     → Decodes view wanted takes cost kept to b d result → Decodes view wanted takes (suc cost) kept to a d result
-missed_then view wanted takes cost kept to a b d result p less r = grind arith
+missed_then p less r = grind arith
 
 -- ---- byte strings
 
@@ -232,7 +232,7 @@ module _ {whole left next : Region} {a b d : Walk} {n : NumberState} (u : AddsUp
   adds_looks p t fits =
       let all = (lends_all true whole left next a b d u.bytes u.lent p looks).1 in
       let rises = raised_rises a.heads (heads_in true whole.len t.0 whole.bytes t.1) fits in
-      looks_all whole a d (omega (arith, all.heads t.0 t.1, rises)) true t all
+      looks_all (omega (arith, all.heads t.0 t.1, rises)) true t all
 
 -- ---- values of one head
 
@@ -301,11 +301,11 @@ region_shorter a b r p =
 
 -- ---- all of the data
 
-pub data_decodes : (a b e d : Walk) (r : Region) (i : Item) (to : ℕ) (t : List ℕ)
-    (result : Result AuthenticatorData Refusal) → PassesString false a b r → (f : LendsFrom false i to a b (Some r))
+pub data_decodes : {a b e d : Walk} {r : Region} (i : Item) {to : ℕ} {t : List ℕ}
+    {result : Result AuthenticatorData Refusal} → PassesString false a b r → (f : LendsFrom false i to a b (Some r))
     → LooksAtMost r b e → t ≡ f.0 → CountsData t e d → Answers data_parts typed.authenticator_data (byte_string t)
     result → Decodes data_parts (authenticator_data i) (MayGrow true i) 6 (authenticator_data_nodes i) to a d result
-data_decodes a b e d r i to t result p f looks same counts h =
+data_decodes {a = a} {b} {r = r} i {t = t} {result} p f looks same counts h =
     let is : i ≡ byte_string t = f.1.0 ∙ ap byte_string (sym same) in
     record {
       answers =

@@ -1,5 +1,5 @@
 -- Loops over the rest of a list or a map at a cursor.
-use Rattle.passkey_kinds.proofs.Common.{raised-le, Lies, Next, Looks, NextIf, Walks, Left, Item, members, pairs_of, number, Language, Walk, break_heads, members-pairs_of, Keeping, nothing, counted, kept_of, bytes, kept, entry, Spends, SpendsLess, Fields, table_of, Member, named, Members, Naming, row, unknown, wrong, cost_by, kept_in, kept_in_map, greatest_cost, cost_at, keeps_at, keeps_by, keeps_nothing, none_keeps, record_keeps, ◌≡◌, ◌∙◌, ◌<◌, ◌+◌, ℕ, suc, arith, Bool, true, false, if◌then◌else◌, List, [], ◌∷◌, length, map, Option, Some, None, refl, sym, ap, ◌≤◌, ◌*◌, subst, ◌==◌, max, zero, mul-le-mul_left, and_parts, true≢false}
+use Rattle.passkey_kinds.proofs.Common.{raised-le, Lies, Next, Looks, Walks, Left, Item, members, pairs_of, number, Language, Walk, break_heads, members-pairs_of, Keeping, nothing, counted, kept_of, bytes, kept, entry, Spends, SpendsLess, Fields, table_of, Member, named, Members, Naming, row, unknown, wrong, cost_by, kept_in, kept_in_map, greatest_cost, cost_at, keeps_at, keeps_by, keeps_nothing, none_keeps, record_keeps, ◌≡◌, ◌∙◌, ◌<◌, ◌+◌, ℕ, suc, arith, Bool, true, false, if◌then◌else◌, List, [], ◌∷◌, length, map, Option, Some, None, refl, sym, ap, ◌≤◌, ◌*◌, subst, ◌==◌, max, zero, mul-le-mul_left, and_parts, true≢false}
 use Rattle.passkey_kinds.proofs.Cursor.{eased, spends_then}
 use Rattle.passkey_cbor.specs.Item as item
 
@@ -47,62 +47,54 @@ one_spare k kept to b d less s =
     record { within = s.within; heads = omega (arith, less, s.heads); nodes = s.nodes }
 
 -- an element's end is no further than the list's
-pub spent_within : {A : Type 0} {P : A → Language} (cost few all to : ℕ) (start : Walk) (after : Option ℕ)
-    (xs : List A) (b d : Walk) (n : Next P after xs b.bytes b.place to)
+pub spent_within : {A : Type 0} {P : A → Language} {cost few all to : ℕ} {start : Walk} {after : Option ℕ}
+    {xs : List A} (b : Walk) {d : Walk} (n : Next P after xs b.bytes b.place to)
     → SpentTo cost few all n.middle start d → Spends cost all to start d
-spent_within cost few all to start after xs b d n s = record {
+spent_within {cost = cost} {to = to} b n s = record {
   within = omega (arith, s.within, n.after.forward);
   heads = omega (arith, s.heads, mul-le-mul_left {m = n.middle} {n = to} cost n.after.forward);
   nodes = omega (arith, s.nodes);
 }
 
-module _ {A : Type 0} (P : A → Language) (Done : List A → Type 0) (kept : List A → ℕ) (cost : ℕ) (is : List A)
-    (to : ℕ) (start : Walk) where
-  pub begun : (left : Option ℕ) → Done is → Lies (Left P left is) start.bytes start.place to
-      → EachTo P Done kept cost left is to start start
-  begun left done ahead = record {
-    rest = is;
-    ahead = ahead;
-    done = done;
-    heads = omega arith;
-    nodes = omega arith;
-    fewer = omega arith;
-  }
+pub begun : {A : Type 0} (P : A → Language) (Done : List A → Type 0) (kept : List A → ℕ) (cost : ℕ) (is : List A)
+    (to : ℕ) (start : Walk) (left : Option ℕ) → Done is → Lies (Left P left is) start.bytes start.place to
+    → EachTo P Done kept cost left is to start start
+begun P Done kept cost is to start left done ahead = record {
+  rest = is;
+  ahead = ahead;
+  done = done;
+  heads = omega arith;
+  nodes = omega arith;
+  fewer = omega arith;
+}
 
+module _ {A : Type 0} {P : A → Language} {Done : List A → Type 0} {kept : List A → ℕ} {cost : ℕ} {is : List A}
+    {to : ℕ} {start a : Walk} {before : Option ℕ} (e : EachTo P Done kept cost before is to start a)
+    {after : Option ℕ} (b : Walk) where
   -- the next element
-  pub next_is : (before after : Option ℕ) (a b : Walk) (found : Bool) → found ≡ true → Walks P before after a b
-      found → (e : EachTo P Done kept cost before is to start a) → Next P after e.rest b.bytes b.place to
-  next_is before after a b found goes walks e =
-      subst (λ (t : Bool). NextIf P after e.rest b to t) goes (walks e.rest to e.ahead)
+  pub next_is : Walks P before after a b true → Next P after e.rest b.bytes b.place to
+  next_is walks = walks e.rest to e.ahead
 
   -- what was spent on it, and on those before it
-  pub element_spends : (before after : Option ℕ) (a b d : Walk) (found : Bool) → found ≡ true
-      → Looks before after a b found → (e : EachTo P Done kept cost before is to start a) → (n : Next P after
-      e.rest b.bytes b.place to) → (one : ℕ) → kept (n.first ∷ n.others) ≡ one + kept n.others
-      → SpendsLess cost one n.middle b d → SpentTo cost (kept n.others) (kept is) n.middle start d
-  element_spends before after a b d found goes looks e n one whole spends = record {
+  pub element_spends : (d : Walk) → Looks before after a b true → (n : Next P after e.rest b.bytes b.place to)
+      → (one : ℕ) → kept (n.first ∷ n.others) ≡ one + kept n.others → SpendsLess cost one n.middle b d
+      → SpentTo cost (kept n.others) (kept is) n.middle start d
+  element_spends d looks n one whole spends = record {
     within = spends.within;
-    heads = omega (
-      arith,
-      e.heads,
-      one_looked before after a b found looks,
-      subst (λ (p : ℕ).
-          suc d.heads + cost * p ≤ b.heads + cost * n.middle) (looks.stays goes) spends.heads,
-    );
+    heads = omega (arith, e.heads, one_looked before after a b true looks, subst (λ (p : ℕ).
+        suc d.heads + cost * p ≤ b.heads + cost * n.middle) (looks.stays refl) spends.heads);
     nodes = omega (arith, e.nodes, looks.nodes, spends.nodes, ap kept n.whole, whole);
   }
 
   -- there was a next element
-  pub some_are : (before after : Option ℕ) (a b : Walk) (e : EachTo P Done kept cost before is to start a)
-      → Next P after e.rest b.bytes b.place to → 0 < length is
-  some_are before after a b e n = omega (arith, e.fewer, ap length n.whole)
+  pub some_are : Next P after e.rest b.bytes b.place to → 0 < length is
+  some_are n = omega (arith, e.fewer, ap length n.whole)
 
   -- one more element
-  pub one_more_done : (Next_done : List A → Type 0) (before after : Option ℕ) (a b d : Walk)
-      (e : EachTo P Done kept cost before is to start a) → (n : Next P after e.rest b.bytes b.place to)
+  pub one_more_done : (Next_done : List A → Type 0) (d : Walk) (n : Next P after e.rest b.bytes b.place to)
       → SpentTo cost (kept n.others) (kept is) n.middle start d → d.place ≡ n.middle → d.bytes ≡ b.bytes
       → Next_done n.others → EachTo P Next_done kept cost after is to start d
-  one_more_done Next_done before after a b d e n s at same done = record {
+  one_more_done Next_done d n s at same done = record {
     rest = n.others;
     ahead = rw (at, same) n.after;
     done = done;
@@ -112,18 +104,17 @@ module _ {A : Type 0} (P : A → Language) (Done : List A → Type 0) (kept : Li
   }
 
   -- no more elements
-  pub each_done : (before after : Option ℕ) (a b : Walk) (found : Bool) → found ≡ false
-      → Walks P before after a b found → Looks before after a b found
-      → EachTo P Done kept cost before is to start a → 0 < cost → EachDone Done cost (kept is) to start b
-  each_done before after a b found ends walks looks e some =
-      let none = subst (λ (t : Bool). NextIf P after e.rest b to t) ends (walks e.rest to e.ahead) in
+  pub each_done : Walks P before after a b false → Looks before after a b false → 0 < cost
+      → EachDone Done cost (kept is) to start b
+  each_done walks looks some =
+      let none = walks e.rest to e.ahead in
       let at : b.place ≡ to = none.1 in
       record {
         done = subst Done none.0 e.done;
         spends = record {
           within = omega (arith, at);
           heads = heads_end cost start.place start.heads a.place a.heads b.heads (break_heads before) to some e.heads
-              (omega (arith, looks.heads, raised-le a.heads (break_heads before))) (sym at ∙ looks.passes ends);
+              (omega (arith, looks.heads, raised-le a.heads (break_heads before))) (sym at ∙ looks.passes refl);
           nodes = omega (arith, e.nodes, looks.nodes);
         };
         place = at;

@@ -24,7 +24,7 @@ returns-in-None-clause-reads g c = λ i to l.
     let w = g.C.Collect.way in
     let a = c.args.cursor.now in
     let s = c.in-None.ensures.spends i to l in
-    let long = stands_long i a.bytes a.place to l in
+    let long = stands_long i l in
     record {
       decodes = record {
         answers = ap (option_and_then (λ xs. collected w.next xs (g.C.Collect.value c.args.empty)))

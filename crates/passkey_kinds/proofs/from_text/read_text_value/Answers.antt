@@ -5,16 +5,13 @@ pub returns-in_err-text_value-in-Some-clause-reads : goal.returns-in_err-text_va
 returns-in_err-text_value-in-Some-clause-reads g c = λ i to l.
     let p = err_from_is_err_and c.from_residual.result c.from_residual.ensures.1 in
     let f = c.in-Some.ensures.lends i to l in
-    rw (p.1, p.2) (lent_decodes (λ v. v) (one_named (λ s. Some (g.T.FromText.of_text s)) i) (MayGrow true i) true
-    c.args.cursor.now c.text.new.self c.text_value.new.cursor c.in-Some.token i to (Err OutOfMemory) l
-    c.in-Some.ensures.front f c.in_err-text_value-in-Some.ensures.looks (text_grows i f.0 f.1.0))
+    rw (p.1, p.2) (lent_decodes i l c.in-Some.ensures.front f c.in_err-text_value-in-Some.ensures.looks
+    (text_grows i f.0 f.1.0))
 
 pub returns-in_ok-text_value-in-Some-clause-reads : goal.returns-in_ok-text_value-in-Some-clause-reads
 returns-in_ok-text_value-in-Some-clause-reads g c = λ i to l.
     let f = c.in-Some.ensures.lends i to l in
-    lent_decodes (λ v. v) (one_named (λ s. Some (g.T.FromText.of_text s)) i) (MayGrow true i) true c.args.cursor.now
-    c.text.new.self c.text_value.new.cursor c.in-Some.token i to (Ok c.in_ok-text_value-in-Some.field-0) l
-    c.in-Some.ensures.front f c.in_ok-text_value-in-Some.ensures.looks
+    lent_decodes i l c.in-Some.ensures.front f c.in_ok-text_value-in-Some.ensures.looks
     (ap (one_named (λ s. Some (g.T.FromText.of_text s))) f.1.0
     ∙ ap Some (sym (c.in_ok-text_value-in-Some.ensures.value f.0 f.1.1.tells)))
 

@@ -5,7 +5,7 @@ use Rattle.passkey_kinds.proofs.key.read_key.Goals as goal
 one_head : (key : Item) (to : ℕ) (a b : Walk) → IsEncodedAt key a.bytes a.place to → Spends 1 0 to a b
     → Spends 3 0 to a b
 one_head key to a b l spent =
-    eased 1 3 0 0 to a b (omega arith) (omega arith) (omega (arith, stands_long key a.bytes a.place to l)) spent
+    eased 1 3 0 0 to a b (omega arith) (omega arith) (omega (arith, stands_long key l)) spent
 
 pub returns-then-begins-clause-names : goal.returns-then-begins-clause-names
 returns-then-begins-clause-names c = λ key to l.
@@ -33,29 +33,22 @@ returns-in_default-clause-names c = λ key to l.
 
 pub returns-in-Some-text-clause-names : goal.returns-in-Some-text-clause-names
 returns-in-Some-text-clause-names c = λ key to l.
-    let a = c.args.cursor.now in
     let f = c.in-Some-text.ensures.lends key to l in
-    let spent = lent_spends true a c.text.new.self c.with_text.new.cursor c.in-Some-text.token key to l
-    c.in-Some-text.ensures.front f c.with_text.ensures.looks in
+    let spent = lent_spends key l c.in-Some-text.ensures.front f c.with_text.ensures.looks in
     grind (arith, eased, stands_long, f, spent, c.with_text.ensures.names)
 
 pub returns-in-Some-bytes-clause-names : goal.returns-in-Some-bytes-clause-names
 returns-in-Some-bytes-clause-names c = λ key to l.
-    let a = c.args.cursor.now in
-    let b = c.text.new.self in
     let e = c.in-None.ensures.lends key to l in
-    let there = stands_missed key a b to e.1 l in
+    let there = stands_missed key e.1 l in
     let f = c.in-Some-bytes.ensures.lends key to there in
-    let spent = lent_spends false b c.bytes.new.self c.with_bytes.new.cursor c.in-Some-bytes.token key to there
-    c.in-Some-bytes.ensures.front f c.with_bytes.ensures.looks in
+    let spent = lent_spends key there c.in-Some-bytes.ensures.front f c.with_bytes.ensures.looks in
     grind (arith, stands_long, e, f, spent, c.with_bytes.ensures.names)
 
 pub returns-in-None-bytes-clause-names : goal.returns-in-None-bytes-clause-names
 returns-in-None-bytes-clause-names c = λ key to l.
-    let a = c.args.cursor.now in
-    let b = c.text.new.self in
     let e = c.in-None.ensures.lends key to l in
-    let there = stands_missed key a b to e.1 l in
+    let there = stands_missed key e.1 l in
     let f = c.in-None-bytes.ensures.lends key to there in
     let es = map entry_of c.args.rows.now in
     let says = c.begins.ensures key to l in
@@ -65,7 +58,7 @@ returns-in-None-bytes-clause-names c = λ key to l.
           ∙ sym (names_number c.args.is_numbered es key e.0 f.0);
       spends = record {
         within = omega (arith, e.1.place, f.1.place, l.forward);
-        heads = omega (arith, e.1.heads, e.1.place, f.1.heads, f.1.place, stands_long key a.bytes a.place to l);
+        heads = omega (arith, e.1.heads, e.1.place, f.1.heads, f.1.place, stands_long key l);
         nodes = omega (arith, e.1.nodes, f.1.nodes);
       };
       ends = tt;

@@ -4,8 +4,7 @@ use Rattle.passkey_kinds.proofs.names.read_named.Goals as goal
 pub returns-in-Some-clause-reads : goal.returns-in-Some-clause-reads
 returns-in-Some-clause-reads g c = λ i to l.
     let f = c.in-Some.ensures.lends i to l in
-    lent_decodes (λ x. x) (one_named g.T.EnumNames.named i) ⊥ true c.args.cursor.now c.text.new.self
-    c.named.new.cursor c.in-Some.token i to c.ok_or.result l c.in-Some.ensures.front f c.named.ensures.looks
+    lent_decodes i l c.in-Some.ensures.front f c.named.ensures.looks
     (or_refused (one_named g.T.EnumNames.named i) c.named.result c.ok_or.result ⊥ (ap
     (one_named g.T.EnumNames.named) f.1.0 ∙ sym (c.named.ensures.named f.0 f.1.1.tells)) c.ok_or.ensures.value)
 

@@ -13,7 +13,7 @@ returns-in-None-clause-reads g c = λ m to l.
     record {
       answers = ap (λ (n : Naming). one_more t n m.1 (reached (g.R.Record.parts c.args.read.now) c.args.seen.now)) naming;
       spends = key_spent (record_cost t) _ s.middle to b c.read_key.new.cursor
-          (stands_long m.0 b.bytes b.place s.middle s.front) s.back.forward (at_least t.rows) key.spends;
+          (stands_long m.0 s.front) s.back.forward (at_least t.rows) key.spends;
       ends = tt;
     }
 
@@ -34,7 +34,7 @@ returns-in-Some-clause-reads g c = λ m to l.
     (record {
       answers = c.read_member.ensures.reads m.0 m.1 to naming there;
       spends = member_spent (record_cost t) _ s.middle to b d
-          (stands_long m.0 b.bytes b.place s.middle s.front) s.back.forward (at_least t.rows) key.spends
+          (stands_long m.0 s.front) s.back.forward (at_least t.rows) key.spends
           (cost_by t.rows (named_as c.in-Some.key)) c.read_member.new.source key.ends
           (cost_by_le t.rows (named_as c.in-Some.key)) value.spends;
       ends = ends_ok c.read_member.result value.ends;

@@ -1,4 +1,4 @@
-use Rattle.passkey_kinds.proofs.Steps.{rules, ◌∙◌, true, false, refl, arith, err_from_is_err_and, record_cost, onward_of, onward_then, on_ok, next_is, element_spends, spent_within, one_more_done, each_done, at_least, reached, goes_on, fails, all_read}
+use Rattle.passkey_kinds.proofs.Steps.{rules, refl, arith, err_from_is_err_and, onward_of, onward_then, on_ok, next_is, element_spends, spent_within, one_more_done, each_done, at_least, reached, goes_on, fails, all_read}
 use Rattle.passkey_kinds.proofs.record.read_pairs_ahead.Goals as goal
 
 pub loop-alloc-preserved : goal.loop-alloc-preserved
@@ -6,17 +6,12 @@ loop-alloc-preserved g c = record {
   onward = onward_then _ _ _ (onward_then _ _ _ c.loop-alloc.invariant.onward
       (onward_of c.loop-alloc.cursor c.more.new.self c.loop-alloc-test.ensures.went)) c.in_ok-read_next.ensures.onward;
   each = λ ms to l.
-      let start = c.args.cursor.now in
-      let a = c.loop-alloc.cursor in
       let b = c.more.new.self in
       let d = c.read_next.new.cursor in
-      let walks = c.loop-alloc-test.ensures.walks in
       let e = c.loop-alloc.invariant.each ms to l in
-      let n = next_is _ _ _ _ ms to start c.loop-alloc.left c.more.new.left a b true refl walks.pairs e in
+      let n = next_is e b c.loop-alloc-test.ensures.walks.pairs in
       let one = c.in_ok-read_next.ensures.reads n.first n.middle n.here in
-      let spent = element_spends _ _ _ _ ms to start c.loop-alloc.left c.more.new.left a b d true refl walks.looks e n
-      _ refl one.spends in
-      one_more_done _ _ _ _ ms to start _ c.loop-alloc.left c.more.new.left a b d e n spent one.ends
+      one_more_done e b _ d n (element_spends e b d c.loop-alloc-test.ensures.walks.looks n _ refl one.spends) one.ends
       c.in_ok-read_next.ensures.onward.same
       (goes_on _ ms e.rest n.others n.first _ _ _ n.whole refl e.done _ _ one.answers);
 }
@@ -24,32 +19,23 @@ loop-alloc-preserved g c = record {
 pub returns-in_err-read_next-clause-reads : goal.returns-in_err-read_next-clause-reads
 returns-in_err-read_next-clause-reads g c = λ ms to l.
     let p = err_from_is_err_and c.from_residual.result c.from_residual.ensures.1 in
-    let start = c.args.cursor.now in
-    let a = c.loop-alloc.cursor in
     let b = c.more.new.self in
     let d = c.read_next.new.cursor in
-    let walks = c.loop-alloc-test.ensures.walks in
     let e = c.loop-alloc.invariant.each ms to l in
-    let n = next_is _ _ _ _ ms to start c.loop-alloc.left c.more.new.left a b true refl walks.pairs e in
+    let n = next_is e b c.loop-alloc-test.ensures.walks.pairs in
     let one = c.in_err-read_next.ensures.reads n.first n.middle n.here in
-    let spent = element_spends _ _ _ _ ms to start c.loop-alloc.left c.more.new.left a b d true refl walks.looks e n
-    _ refl one.spends in
     rw (p.1, p.2) (record {
       answers = fails _ ms e.rest n.others n.first _ _ _ n.whole refl e.done g.R.Record.parts
           (reached (g.R.Record.parts c.read_next.new.read) c.read_next.new.seen)
           c.in_err-read_next.field-0.0 one.answers;
-      spends = spent_within _ _ _ to start c.more.new.left e.rest b d n spent;
+      spends =
+          spent_within b n (element_spends e b d c.loop-alloc-test.ensures.walks.looks n _ refl one.spends);
       ends = tt;
     })
 
 pub returns-clause-reads : goal.returns-clause-reads
 returns-clause-reads g c = λ ms to l.
-    let t = g.R.Record.fields in
-    let start = c.args.cursor.now in
-    let a = c.loop-alloc.cursor in
-    let b = c.more.new.self in
     let walks = c.loop-alloc-test.ensures.walks in
     let e = c.loop-alloc.invariant.each ms to l in
-    let ended = each_done _ _ _ _ ms to start c.loop-alloc.left c.more.new.left a b false refl walks.pairs walks.looks e
-    (omega (arith, at_least t.rows)) in
-    search (rules, all_read, on_ok, t, start, b, ended, c.finish.ensures)
+    let ended = each_done e c.more.new.self walks.pairs walks.looks (omega (arith, at_least g.R.Record.fields.rows)) in
+    search (rules, all_read, on_ok, g.R.Record.fields, ended, c.finish.ensures)

@@ -28,6 +28,6 @@ returns-in-None-clause-reads g c = λ i to l.
       answers = no_record t i (c.in-None.ensures.opens i to l);
       spends =
           eased 1 (record_cost t) 0 (kept_in_map t i) to a c.read_map.new.cursor (omega (arith, at_least t.rows))
-          (omega arith) (omega (arith, stands_long i a.bytes a.place to l)) (c.in-None.ensures.spends i to l);
+          (omega arith) (omega (arith, stands_long i l)) (c.in-None.ensures.spends i to l);
       ends = tt;
     }

@@ -5,17 +5,15 @@ pub returns-in-Some-clause-reads : goal.returns-in-Some-clause-reads
 returns-in-Some-clause-reads c = λ i to l.
     let f = c.in-Some.ensures.lends i to l in
     let whole = c.whole_of.ensures.whole f.0 f.1.1.tells in
-    lent_decodes (λ x. x) (algorithm i) (MayGrow false i) true _ _ _ _ i to _ l c.in-Some.ensures.front f
-    c.whole_of.ensures.looks
+    lent_decodes i l c.in-Some.ensures.front f c.whole_of.ensures.looks
     (answers_from (λ x. x) _ (ap algorithm f.1.0 ∙ ap (option_and_then algorithm_named) (sym whole))
     (λ h. absurd h) c.named.ensures)
 
 pub returns-in-None-clause-reads : goal.returns-in-None-clause-reads
 returns-in-None-clause-reads c = λ i to l.
     let f = c.in-None.ensures.lends i to l in
-    let read = c.read_integer.ensures.reads i to (stands_missed i _ _ to f.1 l) in
-    missed_then (λ x. x) (algorithm i) (MayGrow false i) 1 0 to _ _ _ _ f.1
-    (stands_long i c.args.cursor.now.bytes c.args.cursor.now.place to l)
+    let read = c.read_integer.ensures.reads i to (stands_missed i f.1 l) in
+    missed_then f.1 (stands_long i l)
     (flat_decodes _ algorithm_named _ c.read_integer.result to _ _ c.named-in-None.result (other_number i f.0) read
     c.named-in-None.ensures)
 

@@ -10,5 +10,5 @@ returns-clause-adds g c = λ x to l.
         spends = spent.spends;
         ends = ends_ok c.add.result spent.ends;
       };
-      further = stands_long x _ _ to l;
+      further = stands_long x l;
     }

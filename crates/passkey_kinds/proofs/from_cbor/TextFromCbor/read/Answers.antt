@@ -1,23 +1,20 @@
-use Rattle.passkey_kinds.proofs.Steps.{rules, ◌∙◌, true, Some, Ok, Err, sym, ap, err_from_is_err_and, text, MayGrow, OutOfMemory, no_text, looks_all, looks_some, lent_decodes, not_lent_decodes, text_grows}
+use Rattle.passkey_kinds.proofs.Steps.{rules, ◌∙◌, true, Some, sym, ap, err_from_is_err_and, text, no_text, looks_all, looks_some, lent_decodes, not_lent_decodes, text_grows}
 use Rattle.passkey_kinds.proofs.from_cbor.TextFromCbor.read.Goals as goal
 
 pub returns-in_err-copy-in-Some-clause-reads : goal.returns-in_err-copy-in-Some-clause-reads
 returns-in_err-copy-in-Some-clause-reads c = λ i to l.
     let p = err_from_is_err_and c.from_residual.result c.from_residual.ensures.1 in
     let f = c.in-Some.ensures.lends i to l in
-    let looks = looks_some c.in-Some.token c.text.new.self c.copy.new.cursor c.in_err-copy-in-Some.ensures.rises
-    true (f.0, f.1.1.tells) c.in_err-copy-in-Some.ensures.looks in
-    rw (p.1, p.2) (lent_decodes _ (text i) (MayGrow true i) true c.args.cursor.now c.text.new.self c.copy.new.cursor
-    c.in-Some.token i to (Err OutOfMemory) l c.in-Some.ensures.front f looks (text_grows i f.0 f.1.0))
+    let copied = c.in_err-copy-in-Some.ensures in
+    rw (p.1, p.2) (lent_decodes i l c.in-Some.ensures.front f
+    (looks_some copied.rises true (f.0, f.1.1.tells) copied.looks) (text_grows i f.0 f.1.0))
 
 pub returns-in_ok-copy-in-Some-clause-reads : goal.returns-in_ok-copy-in-Some-clause-reads
 returns-in_ok-copy-in-Some-clause-reads c = λ i to l.
     let f = c.in-Some.ensures.lends i to l in
-    let looks = looks_all c.in-Some.token c.text.new.self c.copy.new.cursor c.in_ok-copy-in-Some.ensures.rises true
-    (f.0, f.1.1.tells) c.in_ok-copy-in-Some.ensures.looks in
-    lent_decodes _ (text i) (MayGrow true i) true c.args.cursor.now c.text.new.self c.copy.new.cursor
-    c.in-Some.token i to (Ok c.from.result) l c.in-Some.ensures.front f looks
-    (ap text f.1.0 ∙ ap Some (sym (c.from.ensures ∙ c.in_ok-copy-in-Some.ensures.copies f.0 f.1.1.tells)))
+    let copied = c.in_ok-copy-in-Some.ensures in
+    lent_decodes i l c.in-Some.ensures.front f (looks_all copied.rises true (f.0, f.1.1.tells) copied.looks)
+    (ap text f.1.0 ∙ ap Some (sym (c.from.ensures ∙ copied.copies f.0 f.1.1.tells)))
 
 pub returns-in-None-clause-reads : goal.returns-in-None-clause-reads
 returns-in-None-clause-reads c = λ i to l.

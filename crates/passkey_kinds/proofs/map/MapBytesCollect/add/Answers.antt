@@ -7,7 +7,7 @@ returns-in_err-key-clause-adds g c = λ x to l.
     let p = err_from_is_err_and c.from_residual.result c.from_residual.ensures.1 in
     let b = c.args.cursor.now in
     let s = split (Within max_depth x.0) (Within max_depth x.1) b.bytes b.place to l in
-    let long = stands_long x.0 b.bytes b.place s.middle s.front in
+    let long = stands_long x.0 s.front in
     let key = c.in_err-key.ensures.reads x.0 s.middle s.front in
     rw (p.1, p.2) (record {
       decodes = record {
@@ -24,7 +24,7 @@ returns-in_err-read-clause-adds g c = λ x to l.
     let p = err_from_is_err_and c.from_residual-in_err-read.result c.from_residual-in_err-read.ensures.1 in
     let b = c.args.cursor.now in
     let s = split (Within max_depth x.0) (Within max_depth x.1) b.bytes b.place to l in
-    let long = stands_long x.0 b.bytes b.place s.middle s.front in
+    let long = stands_long x.0 s.front in
     let key = c.in_ok-key.ensures.reads x.0 s.middle s.front in
     let there = stands_back x.1 (record b { place = s.middle }) c.read.new.cursor to c.in_ok-key.ensures.onward.same
     key.ends s.back in
@@ -46,7 +46,7 @@ returns-in_err-insert-clause-adds g c = λ x to l.
     let p = err_from_is_err_and c.from_residual-in_err-insert.result c.from_residual-in_err-insert.ensures.1 in
     let b = c.args.cursor.now in
     let s = split (Within max_depth x.0) (Within max_depth x.1) b.bytes b.place to l in
-    let long = stands_long x.0 b.bytes b.place s.middle s.front in
+    let long = stands_long x.0 s.front in
     let key = c.in_ok-key.ensures.reads x.0 s.middle s.front in
     let there = stands_back x.1 (record b { place = s.middle }) c.read.new.cursor to c.in_ok-key.ensures.onward.same
     key.ends s.back in
@@ -66,7 +66,7 @@ pub returns-clause-adds : goal.returns-clause-adds
 returns-clause-adds g c = λ x to l.
     let b = c.args.cursor.now in
     let s = split (Within max_depth x.0) (Within max_depth x.1) b.bytes b.place to l in
-    let long = stands_long x.0 b.bytes b.place s.middle s.front in
+    let long = stands_long x.0 s.front in
     let key = c.in_ok-key.ensures.reads x.0 s.middle s.front in
     let there = stands_back x.1 (record b { place = s.middle }) c.read.new.cursor to c.in_ok-key.ensures.onward.same
     key.ends s.back in
