@@ -63,27 +63,32 @@ dearer : (c e kept more to : ℕ) (a b : Walk) → a.place ≤ to → Spends c k
 dearer c e kept more to a b le p = grind (arith, mul-le-mul_left)
 
 -- a lower cost is within a higher one
-pub eased : (c d kept more to : ℕ) (a b : Walk) → c ≤ d → kept ≤ more → a.place ≤ to → Spends c kept to a b
+pub eased : {c d kept more to : ℕ} {a b : Walk} → c ≤ d → kept ≤ more → a.place ≤ to → Spends c kept to a b
     → Spends d more to a b
-eased c d kept more to a b le few within p =
+eased {c} {d} {kept} {more} {to} {a} {b} le few within p =
     subst (λ (n : ℕ). Spends n more to a b) (omega (arith, le))
     (subst (λ (k : ℕ). Spends (c + (d - c)) k to a b) (omega (arith, few))
     (dearer c (d - c) kept (more - kept) to a b within p))
 
 -- one item after the other
-pub spends_then : (c kept more middle to : ℕ) (a b d : Walk) → middle ≤ to → b.place ≡ middle
+pub spends_then : {c kept more middle to : ℕ} {a b d : Walk} → middle ≤ to → b.place ≡ middle
     → Spends c kept middle a b → Spends c more to b d → Spends c (kept + more) to a d
-spends_then c kept more middle to a b d le ends p q = grind arith
+spends_then le ends p q = grind arith
 
 -- the item is still encoded at the place that the cursor went back to
-pub stands_back : (i : Item) (a b : Walk) (to : ℕ) → b.bytes ≡ a.bytes → b.place ≡ a.place
-    → IsEncodedAt i a.bytes a.place to → IsEncodedAt i b.bytes b.place to
-stands_back i a b to bytes place l = rw (bytes, place) l
+pub stands_back : (i : Item) (b : Walk) {bytes : List ℕ} {place to : ℕ} → b.bytes ≡ bytes → b.place ≡ place
+    → IsEncodedAt i bytes place to → IsEncodedAt i b.bytes b.place to
+stands_back i b same at l = rw (same, at) l
 
--- decoded twice from the same place
-pub spends_again : (c e kept more to : ℕ) (a b d f : Walk) → Onward a b → d ≡ record b { place = a.place }
-    → Spends c kept to a b → Spends e more to d f → Spends (c + e) (kept + more) to a f
-spends_again c e kept more to a b d f p back q r = grind arith
+-- the cursor went back to the place where it was, and the item was decoded again
+module _ {a b d : Walk} {n : ℕ} (on : Onward a b) (back : d ≡ record b { place = n }) (at : n ≡ a.place) where
+  pub stands_again : (i : Item) {to : ℕ} → IsEncodedAt i a.bytes a.place to → IsEncodedAt i d.bytes d.place to
+  stands_again i l =
+      stands_back i d (ap (λ (w : Walk). w.bytes) back ∙ on.same) (ap (λ (w : Walk). w.place) back ∙ at) l
+
+  pub spends_again : {c e kept more to : ℕ} {f : Walk} → Spends c kept to a b → Spends e more to d f
+      → Spends (c + e) (kept + more) to a f
+  spends_again q r = grind arith
 
 -- ---- the item of a simple value
 

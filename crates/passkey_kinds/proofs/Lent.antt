@@ -130,7 +130,7 @@ pub not_lent_decodes : {A M : Type 0} (view : A → M) (wanted : Option M) (take
     → LendsFrom is_text i to a b None → wanted ≡ None → Decodes view wanted takes cost 0 to a b (Err Refused)
 not_lent_decodes view wanted takes is_text cost a b i to one l f none = record {
   answers = none;
-  spends = eased 1 cost 0 0 to a b one (omega arith) (omega (arith, stands_long i l))
+  spends = eased one (omega arith) (omega (arith, stands_long i l))
       (not_lent_spends is_text a b i to l f);
   ends = tt;
 }
@@ -173,7 +173,7 @@ decodes_dearer le few within r = search (rules, eased)
 -- the item is still encoded there after one head that isn't its string's
 pub stands_missed : (i : Item) {a b : Walk} {to : ℕ} → LendsNothing a b → IsEncodedAt i a.bytes a.place to
     → IsEncodedAt i b.bytes b.place to
-stands_missed i {a} {b} {to} p l = stands_back i a b to p.bytes p.place l
+stands_missed i {b = b} p l = stands_back i b p.bytes p.place l
 
 -- decoded after one head that isn't its string's
 pub missed_then : {A M : Type 0} {view : A → M} {wanted : Option M} {takes : Type 0} {cost kept to : ℕ}

@@ -122,11 +122,12 @@ module _ {A : Type 0} {P : A → Language} {Done : List A → Type 0} {kept : Li
 
 -- ---- what a key costs, and what a key and its value cost
 
-module _ (k one middle to : ℕ) (b d : Walk) (first : b.place ≤ middle) (second : middle ≤ to) where
+module _ (k : ℕ) {one middle to : ℕ} {b d : Walk} (first : b.place < middle) (second : middle ≤ to)
+    (key : Spends 3 0 middle b d) where
   -- a key by itself
-  pub key_spends : Spends 3 0 middle b d → Spends (max 3 k) one to b d
-  key_spends s =
-      let t = eased 3 (max 3 k) 0 one middle b d (omega arith) (omega arith) first s in
+  pub key_spends : Spends (max 3 k) one to b d
+  key_spends =
+      let t = eased {d = max 3 k} {more = one} (omega arith) (omega arith) (omega (arith, first)) key in
       record {
         within = omega (arith, t.within, second);
         heads = omega (arith, t.heads, mul-le-mul_left {m = middle} {n = to} (max 3 k) second);
@@ -134,13 +135,11 @@ module _ (k one middle to : ℕ) (b d : Walk) (first : b.place ≤ middle) (seco
       }
 
   -- a key and its value
-  pub pair_spends : (f : Walk) → d.place ≡ middle → Spends 3 0 middle b d → Spends k one to d f
-      → Spends (max 3 k) one to b f
-  pair_spends f at key value =
-      eased (max 3 k) (max 3 k) (0 + one) one to b f (omega arith) (omega arith) (omega (arith, first, second))
-      (spends_then (max 3 k) 0 one middle to b d f second at
-      (eased 3 (max 3 k) 0 0 middle b d (omega arith) (omega arith) first key)
-      (eased k (max 3 k) one one to d f (omega arith) (omega arith) (omega (arith, at, second)) value))
+  pub pair_spends : {f : Walk} → d.place ≡ middle → Spends k one to d f → Spends (max 3 k) one to b f
+  pair_spends at value =
+      eased (omega arith) (omega arith) (omega (arith, first, second)) (spends_then {kept = 0} {more = one} second at
+      (eased {d = max 3 k} (omega arith) (omega arith) (omega (arith, first)) key)
+      (eased (omega arith) (omega arith) (omega (arith, at, second)) value))
 
 -- ---- the greatest cost
 
@@ -210,7 +209,7 @@ module _ (c one middle to : ℕ) (b d : Walk) (first : b.place < middle) (second
   key_heads : (c : ℕ) → 4 ≤ c → suc d.heads + c * b.place ≤ b.heads + c * middle
   key_heads zero four = absurd (omega (arith, four))
   key_heads (suc k) four = (one_spare k 0 middle b d first
-      (eased 3 k 0 0 middle b d (omega (arith, four)) (omega arith) (omega (arith, first)) key)).heads
+      (eased (omega (arith, four)) (omega arith) (omega (arith, first)) key)).heads
 
   pub key_spent : SpendsLess c one to b d
   key_spent = record {
@@ -221,7 +220,7 @@ module _ (c one middle to : ℕ) (b d : Walk) (first : b.place < middle) (second
 
   pub member_spent : (k : ℕ) (f : Walk) → d.place ≡ middle → k ≤ c → Spends k one to d f → SpendsLess c one to b f
   member_spent k f at cheap value =
-      let eased_value = eased k c one one to d f cheap (omega arith) (omega (arith, at, second)) value in
+      let eased_value = eased {d = c} {more = one} cheap (omega arith) (omega (arith, at, second)) value in
       record {
         within = value.within;
         heads = omega (

@@ -29,7 +29,7 @@ returns-in-None-clause-reads g c = λ i to l.
       decodes = record {
         answers = ap (option_and_then (λ xs. collected w.next xs (g.C.Collect.value c.args.empty)))
             (c.in-None.ensures.opens i to l);
-        spends = eased 1 (suc w.cost) 0 _ to a c.start.new.cursor (omega arith) (omega arith) (omega (arith, long)) s;
+        spends = eased (omega arith) (omega arith) (omega (arith, long)) s;
         ends = tt;
       };
       heads = grind (arith, mul-le-mul_left, long, c.in-None.ensures.counted);

@@ -5,7 +5,7 @@ use Rattle.passkey_kinds.proofs.key.read_key.Goals as goal
 one_head : (key : Item) (to : ℕ) (a b : Walk) → IsEncodedAt key a.bytes a.place to → Spends 1 0 to a b
     → Spends 3 0 to a b
 one_head key to a b l spent =
-    eased 1 3 0 0 to a b (omega arith) (omega arith) (omega (arith, stands_long key l)) spent
+    eased (omega arith) (omega arith) (omega (arith, stands_long key l)) spent
 
 pub returns-then-begins-clause-names : goal.returns-then-begins-clause-names
 returns-then-begins-clause-names c = λ key to l.

@@ -24,7 +24,7 @@ returns-in-Some-clause-reads g c = λ m to l.
     let s = split (Within max_depth m.0) (Within max_depth m.1) b.bytes b.place to l in
     let d = c.read_key.new.cursor in
     let key = c.in-Some.ensures.names m.0 s.middle s.front in
-    let there = stands_back m.1 (record b { place = s.middle }) d to c.in-Some.ensures.onward.same key.ends s.back in
+    let there = stands_back m.1 d c.in-Some.ensures.onward.same key.ends s.back in
     let naming = key_names (table_of t) c.is_numbered.result (map entry_of c.rows.result.now) m.0
     (named_as c.in-Some.key) c.is_numbered.ensures c.rows.ensures.rows key.is in
     let value = c.read_member.ensures.spends m.1 to there in

@@ -27,7 +27,6 @@ returns-in-None-clause-reads g c = λ i to l.
     record {
       answers = no_record t i (c.in-None.ensures.opens i to l);
       spends =
-          eased 1 (record_cost t) 0 (kept_in_map t i) to a c.read_map.new.cursor (omega (arith, at_least t.rows))
-          (omega arith) (omega (arith, stands_long i l)) (c.in-None.ensures.spends i to l);
+          eased (omega (arith, at_least t.rows)) (omega arith) (omega (arith, stands_long i l)) (c.in-None.ensures.spends i to l);
       ends = tt;
     }

@@ -1,4 +1,4 @@
-use Rattle.passkey_kinds.proofs.Steps.{◌≡◌, ◌∙◌, ℕ, true, false, Err, ap, subst, arith, Walk, kept_of, Spends, Refusal, eased, stands_long, stands_back, spends_again, ReadsAs}
+use Rattle.passkey_kinds.proofs.Steps.{◌≡◌, true, false, Err, subst, arith, Spends, Refusal, eased, stands_long, stands_again, spends_again, ReadsAs}
 use Rattle.passkey_kinds.proofs.from_cbor.ToleratedFromCbor.read.Goals as goal
 
 pub returns-in-Ok-clause-reads : goal.returns-in-Ok-clause-reads
@@ -8,32 +8,22 @@ returns-in-Ok-clause-reads g c = λ i to l.
 
 pub returns-then-skip-clause-reads : goal.returns-then-skip-clause-reads
 returns-then-skip-clause-reads g c = λ i to l.
-    let a = c.args.cursor.now in
-    let kept = kept_of g.T.FromCbor.typed.keeps i in
-    let read = subst (λ (e : Refusal). ReadsAs g.T.FromCbor.view g.T.FromCbor.typed i to a c.read.new.cursor
-    (Err e)) c.in-Err-Refused.field-0-is (c.in-Err-Refused.ensures.reads i to l) in
-    let back = c.go_back.ensures ∙ ap (λ (n : ℕ). record c.read.new.cursor { place = n }) c.place-start.ensures in
-    let there = stands_back i a c.go_back.new.self to (ap (λ (w : Walk). w.bytes) back ∙
-    c.in-Err-Refused.ensures.onward.same) (ap (λ (w : Walk). w.place) back) l in
-    let passed = c.if-skip.ensures.passes i to there in
+    let on = c.in-Err-Refused.ensures.onward in
+    let read = subst (λ (e : Refusal). ReadsAs g.T.FromCbor.view g.T.FromCbor.typed i to c.args.cursor.now
+    c.read.new.cursor (Err e)) c.in-Err-Refused.field-0-is (c.in-Err-Refused.ensures.reads i to l) in
+    let passed = c.if-skip.ensures.passes i to (stands_again on c.go_back.ensures c.place-start.ensures i l) in
     let skipped : Spends 1 0 to c.go_back.new.self c.skip.new.self = record {
-      within = omega (
-        arith,
-        passed.place,
-      );
+      within = omega (arith, passed.place);
       heads = omega (arith, passed.heads);
       nodes = omega (arith, passed.nodes);
     } in
-    let spent = spends_again g.T.FromCbor.typed.cost 1 kept 0 to a c.read.new.cursor c.go_back.new.self
-    c.skip.new.self c.in-Err-Refused.ensures.onward back read.spends skipped in
+    let spent = spends_again on c.go_back.ensures c.place-start.ensures read.spends skipped in
     grind (arith, read, passed, spent)
 
 pub returns-else-skip-clause-reads : goal.returns-else-skip-clause-reads
 returns-else-skip-clause-reads g c = λ i to l.
-    let back = c.go_back.ensures ∙ ap (λ (n : ℕ). record c.read.new.cursor { place = n }) c.place-start.ensures in
-    let there = stands_back i c.args.cursor.now c.go_back.new.self to (ap (λ (w : Walk). w.bytes) back
-    ∙ c.in-Err-Refused.ensures.onward.same) (ap (λ (w : Walk). w.place) back) l in
-    let found : false ≡ true = (c.if-skip.ensures.passes i to there).is_found in
+    let found : false ≡ true = (c.if-skip.ensures.passes i to
+    (stands_again c.in-Err-Refused.ensures.onward c.go_back.ensures c.place-start.ensures i l)).is_found in
     absurd cc
 
 pub returns-in-Err-OutOfMemory-clause-reads : goal.returns-in-Err-OutOfMemory-clause-reads
