@@ -1,5 +1,5 @@
 -- How a cursor moves, what it spends, and values of one head or of one string.
-use Rattle.passkey_kinds.proofs.Common.{lies_size, head_again, follows_item, low_simple, head_long, encoded_long, IsEncodedAt, Opens, FindsHead, IsEncodingOfHead, PairWithin, Within, Inside, Item, Pairs, items_of, pairs_of, byte_string, array, boolean, null, text_string, number, max_depth, IsLeadingItem, Region, PassesString, item_within, simple_item, PassesLeadingItem, MakesLeadingItem, Walk, ahead, Went, Head, Bytes, members-pairs_of, elements-items_of, aaguid, bytes, below, kept, truth, Kind, optional, text, one_named, FailsAs, size, unsigned_in, integer_in, null_in, ReadsFlat, head_unsigned, head_integer, head_truth, head_null, head_array, head_map, elements_in, members_in, OpensAt, Further, Decodes, Spends, Onward, named, Refused, OutOfMemory, Refusal, signed_64, ◌≡◌, ◌∙◌, ◌<◌, ◌+◌, nat_lt, ℕ, arith, Bool, true, false, if◌then◌else◌, List, [], ◌++◌, length, map, Option, Some, None, option_map, refl, sym, ap, rules, ◌≤◌, Result, subst, ◌-◌, take, Ok, Err, OnOk, pos, ℤ, negsuc, T, IfSome, is_ok, mul-le-mul_left, nat_tests, cases_lt, cases_eq, length-append, length-take, option_and_then}
+use Rattle.passkey_kinds.proofs.Common.{lies_size, head_again, follows_item, low_simple, head_long, encoded_long, IsEncodedAt, Opens, FindsHead, IsEncodingOfHead, PairWithin, Within, Inside, Item, Pairs, items_of, pairs_of, byte_string, array, boolean, null, text_string, number, max_depth, IsLeadingItem, Region, PassesString, item_within, simple_item, PassesLeadingItem, MakesLeadingItem, Walk, ahead, Went, Head, Bytes, members-pairs_of, elements-items_of, aaguid, bytes, below, kept, truth, Kind, optional, text, one_named, FailsAs, size, unsigned_in, integer_in, null_in, ReadsFlat, head_unsigned, head_integer, head_truth, head_null, head_array, head_map, elements_in, members_in, OpensAt, Further, Decodes, Spends, Onward, named, Refused, OutOfMemory, Refusal, signed_64, ◌≡◌, ◌∙◌, ◌<◌, ◌+◌, nat_lt, ℕ, arith, Bool, true, false, if◌then◌else◌, List, [], ◌++◌, length, map, Option, Some, None, option_map, refl, sym, ap, rules, ◌≤◌, Result, subst, ◌-◌, take, Ok, Err, OnOk, pos, ℤ, negsuc, unwrap_or, T, IfSome, is_ok, mul-le-mul_left, nat_tests, cases_lt, cases_eq, length-append, length-take, option_and_then}
 use Rattle.passkey_cbor.specs.declared.head.Head.TheVariants as head
 use Rattle.passkey_cbor.specs.Item as item
 
@@ -49,6 +49,12 @@ value_further a b x p = omega (arith, p.place, front_long x (ahead a) p.len p.fr
 pub if_some : {X : Type 0} {P : Type 0} (o : Option X) → P → IfSome o (λ x. P)
 if_some None h = tt
 if_some (Some x) h = h
+
+-- a head that says something was decoded
+pub head_moves : {X : Type 0} (a b : Walk) (g : Head → Option X) (head : Option Head) (result : Option X)
+    → FindsHead a b head → result ≡ option_and_then g head → IfSome result (λ x. Further a b)
+head_moves a b g None result p e = rw e tt
+head_moves a b g (Some h) result p e = if_some result (head_further a b h p)
 
 -- ---- spending
 
@@ -156,12 +162,16 @@ nothing_left g flat (head.Tag n) i t x e w = absurd (none_some _ x (flat.tag n) 
 nothing_left g flat head.Break i t x e w = absurd w
 nothing_left g flat _ i t x e w = w.1
 
--- One head was decoded, and this is what it says about the item.
+-- Decoding one head returns what this function says of it, which is what the other says of the item.
+abbrev ReadsBy : {X : Type 0} → (Item → Option X) → (Head → Option X) → Type 0
+ReadsBy {X} f g =
+    (a b : Walk) (head : Option Head) (i : Item) (to : ℕ) (result : Option X) → result ≡ option_and_then g head
+    → FindsHead a b head → Opens i to b head → IsEncodedAt i a.bytes a.place to → ReadsFlat (f i) to a b result
+
 reads_flat : {X : Type 0} (f : Item → Option X) (g : Head → Option X) → IsFlat g
-    → ((h : Head) (i : Item) (t : List ℕ) → Inside h i t → g h ≡ f i)
-    → (a b : Walk) (h : Head) (i : Item) (to : ℕ) (found : Option X) → found ≡ g h → FindsHead a b (Some h)
-    → Opens i to b (Some h) → IsEncodedAt i a.bytes a.place to → ReadsFlat (f i) to a b found
-reads_flat f g flat says a b h i to found e p o l = record {
+    → ((h : Head) (i : Item) (t : List ℕ) → Inside h i t → g h ≡ f i) → ReadsBy f g
+reads_flat f g flat says a b None i to result e p o l = absurd o
+reads_flat f g flat says a b (Some h) i to result e p o l = record {
   is = e ∙ says h i o.text o.encoded;
   spends = head_spends a b (Some h) i to p o l;
   ends = λ x some. omega (
@@ -171,18 +181,14 @@ reads_flat f g flat says a b h i to found e p o l = record {
   );
 }
 
-pub unsigned_read : (a b : Walk) (h : Head) (i : Item) (to : ℕ) (found : Option ℕ) → found ≡ head_unsigned h
-    → FindsHead a b (Some h) → Opens i to b (Some h) → IsEncodedAt i a.bytes a.place to
-    → ReadsFlat (unsigned_in i) to a b found
+pub unsigned_read : ReadsBy unsigned_in head_unsigned
 unsigned_read =
     reads_flat unsigned_in head_unsigned
     (record { bytes = λ n. refl; text = λ n. refl; array = λ n. refl; map = λ n. refl; tag = λ n. refl })
     (head_says unsigned_in head_unsigned (λ n. refl) (λ n. refl) (λ n s. refl) (λ n s. refl) (λ n s. refl) (λ n s.
     refl) (λ n s. refl) (λ n. sym (simple_any unsigned_in None (λ b. refl) refl (λ m. refl) n)) (λ x. refl))
 
-pub truth_read : (a b : Walk) (h : Head) (i : Item) (to : ℕ) (found : Option Bool) → found ≡ head_truth h
-    → FindsHead a b (Some h) → Opens i to b (Some h) → IsEncodedAt i a.bytes a.place to
-    → ReadsFlat (truth i) to a b found
+pub truth_read : ReadsBy truth head_truth
 truth_read =
     reads_flat truth head_truth
     (record { bytes = λ n. refl; text = λ n. refl; array = λ n. refl; map = λ n. refl; tag = λ n. refl })
@@ -195,9 +201,7 @@ signed_in i = option_and_then signed_64 (integer_in i)
 abbrev head_signed : Head → Option ℤ
 head_signed h = option_and_then signed_64 (head_integer h)
 
-pub integer_read : (a b : Walk) (h : Head) (i : Item) (to : ℕ) (found : Option ℤ) → found ≡ head_signed h
-    → FindsHead a b (Some h) → Opens i to b (Some h) → IsEncodedAt i a.bytes a.place to
-    → ReadsFlat (signed_in i) to a b found
+pub integer_read : ReadsBy signed_in head_signed
 integer_read =
     reads_flat signed_in head_signed
     (record { bytes = λ n. refl; text = λ n. refl; array = λ n. refl; map = λ n. refl; tag = λ n. refl })
@@ -207,15 +211,20 @@ integer_read =
 abbrev some_null : Bool → Option Bool
 some_null b = if b then Some true else None
 
-pub null_read : (a b : Walk) (h : Head) (i : Item) (to : ℕ) (found : Bool) → found ≡ head_null h
-    → FindsHead a b (Some h) → Opens i to b (Some h) → IsEncodedAt i a.bytes a.place to
-    → ReadsFlat (some_null (null_in i)) to a b (some_null found)
-null_read a b h i to found e =
+null_of : (head : Option Head) → some_null (unwrap_or (option_map head_null head) false)
+    ≡ option_and_then (λ h. some_null (head_null h)) head
+null_of None = refl
+null_of (Some h) = refl
+
+pub null_read : (a b : Walk) (head : Option Head) (i : Item) (to : ℕ) (found : Bool)
+    → found ≡ unwrap_or (option_map head_null head) false → FindsHead a b head → Opens i to b head
+    → IsEncodedAt i a.bytes a.place to → ReadsFlat (some_null (null_in i)) to a b (some_null found)
+null_read a b head i to found e =
     reads_flat (λ i. some_null (null_in i)) (λ h. some_null (head_null h))
     (record { bytes = λ n. refl; text = λ n. refl; array = λ n. refl; map = λ n. refl; tag = λ n. refl })
     (λ h i t w. ap some_null (head_says null_in head_null (λ n. refl) (λ n. refl) (λ n s. refl) (λ n s. refl)
     (λ n s. refl) (λ n s. refl) (λ n s. refl) simple_null (λ x. refl) h i t w))
-    a b h i to (some_null found) (ap some_null e)
+    a b head i to (some_null found) (ap some_null e ∙ null_of head)
 
 -- ---- heads of arrays and maps
 
@@ -246,15 +255,32 @@ not_map : (i : Item) → ((ps : item.Pairs) → i ≡ item.map ps → ⊥) → m
 not_map (item.map ps) h = absurd (h ps refl)
 not_map _ h = refl
 
-pub array_opened : (h : Head) (i : Item) (to : ℕ) (b : Walk) → Opens i to b (Some h)
+array_opened : (h : Head) (i : Item) (to : ℕ) (b : Walk) → Opens i to b (Some h)
     → OpensAt elements_in (Within max_depth) i to b (head_array h)
 array_opened (head.Array left) i to b o = grind (arith, elements-items_of)
 array_opened x i to b o = not_array i (no_array x i o.text o.encoded refl)
 
-pub map_opened : (h : Head) (i : Item) (to : ℕ) (b : Walk) → Opens i to b (Some h)
+map_opened : (h : Head) (i : Item) (to : ℕ) (b : Walk) → Opens i to b (Some h)
     → OpensAt members_in (PairWithin max_depth) i to b (head_map h)
 map_opened (head.Map left) i to b o = grind (arith, members-pairs_of)
 map_opened x i to b o = not_map i (no_map x i o.text o.encoded refl)
+
+module _ (head : Option Head) (i : Item) (to : ℕ) (b : Walk) (result : Option (Option ℕ)) where
+  pub array_opens : result ≡ option_and_then head_array head → Opens i to b head
+      → OpensAt elements_in (Within max_depth) i to b result
+  array_opens e o = subst (OpensAt elements_in (Within max_depth) i to b) (sym e) (opened head o) where
+    opened : (h : Option Head) → Opens i to b h
+        → OpensAt elements_in (Within max_depth) i to b (option_and_then head_array h)
+    opened None o = absurd o
+    opened (Some h) o = array_opened h i to b o
+
+  pub map_opens : result ≡ option_and_then head_map head → Opens i to b head
+      → OpensAt members_in (PairWithin max_depth) i to b result
+  map_opens e o = subst (OpensAt members_in (PairWithin max_depth) i to b) (sym e) (opened head o) where
+    opened : (h : Option Head) → Opens i to b h
+        → OpensAt members_in (PairWithin max_depth) i to b (option_and_then head_map h)
+    opened None o = absurd o
+    opened (Some h) o = map_opened h i to b o
 
 -- ---- null
 
@@ -267,7 +293,7 @@ pub null_missed : (a : Walk) (i : Item) (to : ℕ) → IsEncodedAt i a.bytes a.p
     → ReadsFlat (some_null (null_in i)) to a a None
 null_missed a i to l other = grind (arith, not_null_in, none_some)
 
-pub ruleset heads = (onward_of, head_further, if_some, array_opened, map_opened)
+pub ruleset heads = (onward_of, head_moves)
 
 -- ---- values of one head or of one string, decoded at a cursor
 

@@ -81,8 +81,13 @@ module _ {A : Type 0} {P : A → Language} {Done : List A → Type 0} {kept : Li
       → SpentTo cost (kept n.others) (kept is) n.middle start d
   element_spends d looks n one whole spends = record {
     within = spends.within;
-    heads = omega (arith, e.heads, one_looked before after a b true looks, subst (λ (p : ℕ).
-        suc d.heads + cost * p ≤ b.heads + cost * n.middle) (looks.stays refl) spends.heads);
+    heads = omega (
+      arith,
+      e.heads,
+      one_looked before after a b true looks,
+      subst (λ (p : ℕ).
+          suc d.heads + cost * p ≤ b.heads + cost * n.middle) (looks.stays refl) spends.heads,
+    );
     nodes = omega (arith, e.nodes, looks.nodes, spends.nodes, ap kept n.whole, whole);
   }
 

@@ -6,7 +6,7 @@ pub use Rattle.passkey_kinds.proofs.Back.{true_place, Falls, accepts_it, option_
 pub use Rattle.passkey_kinds.proofs.LeafBack.{auth_data_back, auth_data_coherent, seen_list_back, truth_back, or_null_back, or_null_same, optional_place, byte_back, bytes_back, kept_back, anything, tolerated_place, text_back, all_of_anything, accepted_same, accepted_place, list_same, word_back, transport_back, list_back, optional_back, seen_map_back, map_back, numbers_back, size_back, aaguid_back}
 pub use Rattle.passkey_kinds.proofs.Lent.{bytes_are, data_decodes, no_data, looks_all, looks_names, lent_spends, lent_decodes, not_lent_decodes, text_grows, looks_some, looks_none, bytes_grow, flat_decodes, other_number, AddsUpTo, adds_one, adds_all, adds_looks, stands_missed, decodes_from, or_refused, missed_then, looked_further, lent_is, decodes_dearer}
 pub use Rattle.passkey_kinds.proofs.Levels.{OnlyDeep, only_deep, deep_coherent, list_within, record_within, PlaceWithin, Within, back_if_few, back_if_good, PlaceHas, EachPlace}
-pub use Rattle.passkey_kinds.proofs.Cursor.{array_opened, map_opened, eased, stands_back, onward_of, head_spends, if_some, stands_long, stands_again, spends_again, onward_then, truth_read, unsigned_read, integer_read, null_read, null_missed, on_ok, fails_as, ok_ends, ends_ok, named_text, no_text, failed, null_item, other_item, unsigned_below, no_aaguid, unsigned_size}
+pub use Rattle.passkey_kinds.proofs.Cursor.{head_moves, array_opens, map_opens, eased, stands_back, onward_of, head_spends, if_some, stands_long, stands_again, spends_again, onward_then, truth_read, unsigned_read, integer_read, null_read, null_missed, on_ok, fails_as, ok_ends, ends_ok, named_text, no_text, failed, null_item, other_item, unsigned_below, no_aaguid, unsigned_size}
 pub use Rattle.passkey_kinds.proofs.Keeping.{kept_below, record_keeps, nested_keeps, not_null, ok_of}
 pub use Rattle.passkey_kinds.proofs.Keys.{none_wrong, names_number, fits_byte, other_major, not_unsigned, found_behind}
 pub use Rattle.passkey_kinds.proofs.Lawful.{IsLawful, lawful, raised, IsLawfulAs, descriptor_law, parameters_law, user_law}

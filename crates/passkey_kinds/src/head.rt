@@ -1,29 +1,30 @@
 //! Decodes one head at a cursor, by the type of data item that is wanted.
-ghost use Rattle.std.specs.Prelude.{◌≡◌, ℕ, ◌+◌, ◌≤◌, ◌==◌, true, false, Option, if◌then◌else◌, IfSome, Some as There, None as Nothing};
+ghost use Rattle.std.specs.Prelude.{◌≡◌, ℕ, ◌+◌, ◌≤◌, ◌==◌, true, false, Option, option_map, unwrap_or, if◌then◌else◌, IfSome, Some as There, None as Nothing};
 ghost use Rattle.std.specs.Option.{option_and_then};
 ghost use Rattle.passkey_kinds.specs.Words.{Item, null, signed_64, IsEncodedAt, Onward, Further, Spends, max_depth};
 ghost use Rattle.passkey_cbor.specs.Initial.{major_of};
+ghost use Rattle.passkey_cbor.specs.declared.head.Head.{Head};
 ghost use Rattle.passkey_cbor.specs.Inside.{Within, PairWithin};
 ghost use Rattle.passkey_kinds.specs.Reader.{unsigned_in, integer_in, null_in, head_unsigned, head_integer, head_truth, head_null, head_array, head_map, ReadsFlat, elements_in, members_in, OpensAt};
 ghost use Rattle.passkey_kinds.specs.Kind.{truth};
 
 use passkey_cbor::{Cursor, Head};
 
-fn unsigned(head: Head) -> Option<u64>
-    ensures { result ≡ head_unsigned head }
+fn unsigned(head: Option<Head>) -> Option<u64>
+    ensures { result ≡ option_and_then head_unsigned head }
 {
     match head {
-        Head::Unsigned(n) => Some(n),
+        Some(Head::Unsigned(n)) => Some(n),
         _ => None,
     }
 }
 
-fn integer(head: Head) -> Option<i64>
-    ensures { result ≡ option_and_then signed_64 (head_integer head) }
+fn integer(head: Option<Head>) -> Option<i64>
+    ensures { result ≡ option_and_then (λ (h : Head). option_and_then signed_64 (head_integer h)) head }
 {
     match head {
-        Head::Unsigned(n) => i64::try_from(n).ok(),
-        Head::Negative(n) => match i64::try_from(n) {
+        Some(Head::Unsigned(n)) => i64::try_from(n).ok(),
+        Some(Head::Negative(n)) => match i64::try_from(n) {
             Ok(n) => Some(-1 - n),
             Err(_) => None,
         },
@@ -31,42 +32,39 @@ fn integer(head: Head) -> Option<i64>
     }
 }
 
-fn truth(head: Head) -> Option<bool>
-    ensures { result ≡ head_truth head }
+fn truth(head: Option<Head>) -> Option<bool>
+    ensures { result ≡ option_and_then head_truth head }
 {
     match head {
-        Head::Simple(n) => match n {
-            20 => Some(false),
-            21 => Some(true),
-            _ => None,
-        },
+        Some(Head::Simple(20)) => Some(false),
+        Some(Head::Simple(21)) => Some(true),
         _ => None,
     }
 }
 
-fn is_null(head: Head) -> bool
-    ensures { result ≡ head_null head }
+fn is_null(head: Option<Head>) -> bool
+    ensures { result ≡ unwrap_or (option_map head_null head) false }
 {
     match head {
-        Head::Simple(n) => n == 22 || n == 23,
+        Some(Head::Simple(n)) => n == 22 || n == 23,
         _ => false,
     }
 }
 
-fn array_len(head: Head) -> Option<Option<u64>>
-    ensures { result ≡ head_array head }
+fn array_len(head: Option<Head>) -> Option<Option<u64>>
+    ensures { result ≡ option_and_then head_array head }
 {
     match head {
-        Head::Array(left) => Some(left),
+        Some(Head::Array(left)) => Some(left),
         _ => None,
     }
 }
 
-fn map_len(head: Head) -> Option<Option<u64>>
-    ensures { result ≡ head_map head }
+fn map_len(head: Option<Head>) -> Option<Option<u64>>
+    ensures { result ≡ option_and_then head_map head }
 {
     match head {
-        Head::Map(left) => Some(left),
+        Some(Head::Map(left)) => Some(left),
         _ => None,
     }
 }
@@ -100,10 +98,7 @@ pub(crate) fn read_unsigned(cursor: &mut Cursor<'_>) -> Option<u64>
     ensures onward { Onward cursor.old cursor.new }
     ensures further { IfSome result (λ _. Further cursor.old cursor.new) }
 {
-    match cursor.head() {
-        Some(head) => unsigned(head),
-        None => None,
-    }
+    unsigned(cursor.head())
 }
 
 /// Decodes the integer at the cursor. Returns `None` if none is there, or if it doesn't fit in
@@ -115,10 +110,7 @@ pub(crate) fn read_integer(cursor: &mut Cursor<'_>) -> Option<i64>
     ensures onward { Onward cursor.old cursor.new }
     ensures further { IfSome result (λ _. Further cursor.old cursor.new) }
 {
-    match cursor.head() {
-        Some(head) => integer(head),
-        None => None,
-    }
+    integer(cursor.head())
 }
 
 /// Decodes the boolean at the cursor. Returns `None` if none is there.
@@ -129,10 +121,7 @@ pub(crate) fn read_truth(cursor: &mut Cursor<'_>) -> Option<bool>
     ensures onward { Onward cursor.old cursor.new }
     ensures further { IfSome result (λ _. Further cursor.old cursor.new) }
 {
-    match cursor.head() {
-        Some(head) => truth(head),
-        None => None,
-    }
+    truth(cursor.head())
 }
 
 /// Decodes null or undefined at the cursor. Returns whether one of them is there. Decodes no head if
@@ -147,10 +136,7 @@ pub(crate) fn read_null(cursor: &mut Cursor<'_>) -> bool
     if !begins_null(cursor) {
         return false;
     }
-    match cursor.head() {
-        Some(head) => is_null(head),
-        None => false,
-    }
+    is_null(cursor.head())
 }
 
 /// Decodes the head of the array at the cursor and returns its length, which is `Some(None)` if it
@@ -165,10 +151,7 @@ pub(crate) fn read_array(cursor: &mut Cursor<'_>) -> Option<Option<u64>>
     ensures onward { Onward cursor.old cursor.new }
     ensures further { IfSome result (λ _. Further cursor.old cursor.new) }
 {
-    match cursor.head() {
-        Some(head) => array_len(head),
-        None => None,
-    }
+    array_len(cursor.head())
 }
 
 /// Decodes the head of the map at the cursor and returns its length, which is `Some(None)` if it is
@@ -183,8 +166,5 @@ pub(crate) fn read_map(cursor: &mut Cursor<'_>) -> Option<Option<u64>>
     ensures onward { Onward cursor.old cursor.new }
     ensures further { IfSome result (λ _. Further cursor.old cursor.new) }
 {
-    match cursor.head() {
-        Some(head) => map_len(head),
-        None => None,
-    }
+    map_len(cursor.head())
 }

@@ -1,10 +1,9 @@
-use Rattle.passkey_kinds.proofs.Steps.{integer_read}
+use Rattle.passkey_kinds.proofs.Steps.{head_moves, integer_read}
 use Rattle.passkey_kinds.proofs.head.read_integer.Goals as goal
 
-pub returns-in-Some-clause-reads : goal.returns-in-Some-clause-reads
-returns-in-Some-clause-reads c = λ i to l.
-    integer_read c.args.cursor.now c.head.new.self c.in-Some.head i to c.integer.result c.integer.ensures
-    c.in-Some.ensures.found (c.in-Some.ensures.opens i to l) l
+pub returns-clause-reads : goal.returns-clause-reads
+returns-clause-reads c = λ i to l.
+    integer_read _ _ _ i to c.integer.result c.integer.ensures c.head.ensures.found (c.head.ensures.opens i to l) l
 
-pub returns-in-None-clause-reads : goal.returns-in-None-clause-reads
-returns-in-None-clause-reads c = λ i to l. absurd (c.in-None.ensures.opens i to l)
+pub returns-clause-further : goal.returns-clause-further
+returns-clause-further c = head_moves _ _ _ _ c.integer.result c.head.ensures.found c.integer.ensures

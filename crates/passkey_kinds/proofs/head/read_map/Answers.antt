@@ -1,17 +1,12 @@
-use Rattle.passkey_kinds.proofs.Steps.{Some, sym, subst, max_depth, members_in, OpensAt, head_spends, map_opened}
-use Rattle.passkey_cbor.specs.Inside.{PairWithin}
+use Rattle.passkey_kinds.proofs.Steps.{head_moves, head_spends, map_opens}
 use Rattle.passkey_kinds.proofs.head.read_map.Goals as goal
 
-pub returns-in-Some-clause-opens : goal.returns-in-Some-clause-opens
-returns-in-Some-clause-opens c = λ i to l. subst (OpensAt members_in (PairWithin max_depth) i to c.head.new.self)
-    (sym c.map_len.ensures) (map_opened c.in-Some.head i to c.head.new.self (c.in-Some.ensures.opens i to l))
+pub returns-clause-opens : goal.returns-clause-opens
+returns-clause-opens c = λ i to l.
+    map_opens _ i to c.head.new.self c.map_len.result c.map_len.ensures (c.head.ensures.opens i to l)
 
-pub returns-in-Some-clause-spends : goal.returns-in-Some-clause-spends
-returns-in-Some-clause-spends c = λ i to l. head_spends c.args.cursor.now c.head.new.self (Some c.in-Some.head) i to
-    c.in-Some.ensures.found (c.in-Some.ensures.opens i to l) l
+pub returns-clause-spends : goal.returns-clause-spends
+returns-clause-spends c = λ i to l. head_spends _ _ _ i to c.head.ensures.found (c.head.ensures.opens i to l) l
 
-pub returns-in-None-clause-opens : goal.returns-in-None-clause-opens
-returns-in-None-clause-opens c = λ i to l. absurd (c.in-None.ensures.opens i to l)
-
-pub returns-in-None-clause-spends : goal.returns-in-None-clause-spends
-returns-in-None-clause-spends c = λ i to l. absurd (c.in-None.ensures.opens i to l)
+pub returns-clause-further : goal.returns-clause-further
+returns-clause-further c = head_moves _ _ _ _ c.map_len.result c.head.ensures.found c.map_len.ensures

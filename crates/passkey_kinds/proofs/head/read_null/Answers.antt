@@ -1,13 +1,9 @@
 use Rattle.passkey_kinds.proofs.Steps.{◌≡◌, true, false, subst, Item, IsEncodedAt, null_read, null_missed}
 use Rattle.passkey_kinds.proofs.head.read_null.Goals as goal
 
-pub returns-in-Some-clause-reads : goal.returns-in-Some-clause-reads
-returns-in-Some-clause-reads c = λ i to l.
-    null_read c.args.cursor.now c.head.new.self c.in-Some.head i to c.is_null.result c.is_null.ensures
-    c.in-Some.ensures.found (c.in-Some.ensures.opens i to l) l
-
-pub returns-in-None-clause-reads : goal.returns-in-None-clause-reads
-returns-in-None-clause-reads c = λ i to l. absurd (c.in-None.ensures.opens i to l)
+pub returns-clause-reads : goal.returns-clause-reads
+returns-clause-reads c = λ i to l.
+    null_read _ _ _ i to c.is_null.result c.is_null.ensures c.head.ensures.found (c.head.ensures.opens i to l) l
 
 pub returns-then-not-begins_null-clause-reads : goal.returns-then-not-begins_null-clause-reads
 returns-then-not-begins_null-clause-reads c = λ i to l.

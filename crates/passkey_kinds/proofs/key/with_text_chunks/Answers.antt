@@ -2,5 +2,5 @@ use Rattle.passkey_kinds.proofs.Steps.{true, looks_names}
 use Rattle.passkey_kinds.proofs.key.with_text_chunks.Goals as goal
 
 pub returns-clause-looks : goal.returns-clause-looks
-returns-clause-looks c = 
+returns-clause-looks c =
     looks_names c.name_of.ensures.rises true _ c.requires.region c.name_of.ensures.looks
