@@ -212,13 +212,13 @@ pub hmac_input_canonical : AtMostOneLeadingItem → WrittenIsLeadingItem
     → WrittenIsCanonical hmac_input_tree is_hmac_input_coherent hmac_input_kept
 hmac_input_canonical one front =
     record_canonical hmac_input_places hmac_input_kept hmac_input_ascends (λ h coherent. leb-true _ _ coherent)
-    (λ h w d kept. hmac_input_each (in_order 0) h (ordered_of one front h.key_agreement w.0 (omega (arith, d.0.1)) kept.0))
+    (λ h w d kept. hmac_input_each (in_order 0) h (ordered_of one front h.key_agreement w.0.1 (omega (arith, d.0.1)) kept.0))
 
 -- ---- extension inputs
 
 hmac_input_if : AtMostOneLeadingItem → WrittenIsLeadingItem → OrderedIf 254 hmac_input_tree hmac_input_kept
 hmac_input_if one front h w d kept =
-    hmac_input_ordered h (ordered_of one front h.key_agreement (of_record (hmac_input_places h) w).0
+    hmac_input_ordered h (ordered_of one front h.key_agreement (of_record (hmac_input_places h) w).0.1
     (omega (arith, input_down h 254 d)) kept.0)
 
 make_extensions_ascends : (e : MakeExtensionsParts) → ascend (make_extensions_places e) ≡ true

@@ -1,5 +1,5 @@
 -- authenticatorGetInfo responses: decoding their encodings again, their nesting levels, and their canonical form.
-use Rattle.passkey_kinds.proofs.Steps.{option_and_then, arith, ◌≡◌, Option, Some, None, refl, Item, shortest_head, kept, optional, EachFits, IsReadBack, Any, Falls, accepts_it, truth_back, anything, optional_place, IsLawful, lawful, plainly, puts_value, puts_default, ◌▸◌, no_more, number_tree, PlaceHas, EachPlace, Rule, list_plain, parameters_law, nat_tests, ℕ, pos, ◌^◌, ◌<◌, ◌≤◌, nat_lt, nat_le, ltb-true, Bool, true, false, ◌&&◌, if◌then◌else◌, option_map, unwrap_or, Result, Ok, Err, OnOk, sym, ap, and_from, depth, max_depth, IfPresent, ReadIsCoherent, size, option_place, record_keeps, not_null, rows_back, size_back, aaguid_back, list_same, byte_back, word_back, text_back, bytes_back, transport_back, list_back, optional_back, all_of_anything, accepted_place, PlaceWithin, Within, record_within, few_levels, and_parts, IsOrdered, AtMostOneLeadingItem, WrittenIsLeadingItem, AllCanonical, WrittenIsCanonical, PlaceOrdered, PlaceWritable, record_canonical, ordered_of, in_order, kept_if_some, [], ◌∷◌}
+use Rattle.passkey_kinds.proofs.Steps.{option_and_then, arith, ◌≡◌, Option, Some, None, refl, Item, shortest_head, kept, optional, EachFits, IsReadBack, Any, Falls, accepts_it, truth_back, anything, optional_place, IsLawful, lawful, plainly, puts_value, puts_default, ◌▸◌, no_more, number_tree, PlaceHas, EachPlace, Rule, list_plain, parameters_law, nat_tests, ℕ, pos, ◌^◌, ◌<◌, ◌≤◌, nat_lt, nat_le, ltb-true, Bool, true, false, ◌&&◌, if◌then◌else◌, option_map, unwrap_or, Result, Ok, Err, OnOk, sym, ap, and_from, depth, max_depth, IfPresent, ReadIsCoherent, size, option_place, record_keeps, not_null, rows_back, size_back, aaguid_back, list_same, byte_back, word_back, text_back, bytes_back, transport_back, list_back, optional_back, all_of_anything, accepted_place, PlaceWithin, Within, record_within, few_levels, and_parts, IsOrdered, AtMostOneLeadingItem, WrittenIsLeadingItem, AllCanonical, WrittenIsCanonical, PlaceOrdered, record_canonical, ordered_of, in_order, kept_if_some, [], ◌∷◌}
 use Rattle.std.proofs.Common.{ℕ, List, Bool, ◌<◌, ◌^◌, lt-ltb, is_ok, IfErr, leb-true}
 use Rattle.passkey_cbor.specs.Item.{number, boolean, byte_string}
 use Rattle.passkey_get_info.specs.GetInfo.{version, version_tree, normal_version, extension, extension_tree, normal_extension, options, unless_null, GetInfoParts, get_info_places, get_info_fields, read_get_info, get_info_tree, IsPositive, GetInfoFits, is_encodable, has_room, is_get_info_coherent, normal_get_info, get_info_kept}
@@ -9,6 +9,7 @@ use Rattle.passkey_kinds.specs.Kind.{kept as kept_item, IsSize}
 use Rattle.passkey_kinds.specs.declared.fault.WriteFault.{WriteFault}
 use Rattle.passkey_kinds.specs.declared.fault.WriteFault.TheVariants.{NumberTooLarge}
 use Rattle.passkey_cbor.specs.Item as item
+use Rattle.passkey_cbor.specs.Writable.{IsWritable}
 use Rattle.passkey_kinds.specs.Typed as typed
 use Rattle.passkey_kinds.specs.Record.{default}
 use Rattle.passkey_kinds.proofs.Back.{Puts}
@@ -168,9 +169,9 @@ get_info_coherent bytes r begins = grind (arith, read_good, parts_decide, and_fr
 -- ---- the encodings of authenticatorGetInfo responses are canonical
 
 item_place : AtMostOneLeadingItem → WrittenIsLeadingItem → (key : Item) → IsOrdered key → (o : Option Item)
-    → PlaceWritable o → PlaceWithin 255 key o → AllCanonical (kept_if_some (λ i. i ∷ []) o) → PlaceOrdered key o
+    → PlaceHas IsWritable key o → PlaceWithin 255 key o → AllCanonical (kept_if_some (λ i. i ∷ []) o) → PlaceOrdered key o
 item_place one front key keyed None w d kept = tt
-item_place one front key keyed (Some i) w d kept = (keyed, ordered_of one front i w (omega (arith, d.1)) kept.0)
+item_place one front key keyed (Some i) w d kept = (keyed, ordered_of one front i w.1 (omega (arith, d.1)) kept.0)
 
 pub get_info_canonical : AtMostOneLeadingItem → WrittenIsLeadingItem
     → WrittenIsCanonical get_info_tree is_get_info_coherent get_info_kept

@@ -1,5 +1,5 @@
 -- The nesting levels of records, by those of the values under their keys.
-use Rattle.passkey_kinds.proofs.Common.{List, [], ◌∷◌, Option, Some, None, option_map, Item, Place, ◌≡◌, ℕ, suc, ◌≤◌, max, arith, ◌++◌, map, ap, ByteMap, depth, pairs_depth, items_of, pairs_of, short_first, Members, list_tree, entry_tree, byte_map_tree, under, record_tree, ◌∙◌, nat_le, true, refl, sym, subst, Bool, ◌&&◌, Result, Ok, WrittenIsLeadingItem, max_depth, Fault, le-leb, same_tests, items_depth, WrittenIsReadBack}
+use Rattle.passkey_kinds.proofs.Common.{ByteMap, same_tests, depth, pairs_depth, items_depth, Item, items_of, pairs_of, WrittenIsLeadingItem, max_depth, each, WrittenIsReadBack, entries, Members, short_first, AllAccepted, MemberAccepted, Place, record_tree, entry_tree, under, list_tree, byte_map_tree, Fault, ◌≡◌, ◌∙◌, ℕ, suc, arith, Bool, true, ◌&&◌, List, [], ◌∷◌, ◌++◌, map, Option, Some, None, option_map, refl, sym, ap, ◌≤◌, Result, subst, nat_le, Ok, max, le-leb, leb-true, All}
 use Rattle.std.proofs.Common.{leb-true}
 use Rattle.passkey_kinds.proofs.Back.{spread, laid_spread}
 use Rattle.std.specs.FinMap as fin
@@ -8,12 +8,44 @@ use Rattle.std.specs.FinMap as fin
 
 -- the place has no value, or its key and its value have the property
 abbrev pub PlaceHas : (Item → Type 0) → Item → Option Item → Type 0
-PlaceHas Q key None = Unit {0}
-PlaceHas Q key (Some x) = Q key × Q x
+PlaceHas = MemberAccepted
 
 abbrev pub EachPlace : (Item → Type 0) → List Place → Type 0
-EachPlace Q [] = Unit {0}
-EachPlace Q (p ∷ ps) = PlaceHas Q p.0 p.1 × EachPlace Q ps
+EachPlace = AllAccepted
+
+-- the same for the members that the places are laid out as
+module _ (Q : Item → Type 0) (All : Members → Type 0) where
+  under_has : (key : Item) (o : Option Item) (ms : Members) → ((x : Item) → Q key → Q x → All ms → All ((key, x) ∷ ms))
+      → PlaceHas Q key o → All ms → All (under key o ++ ms)
+  under_has key None ms more here rest = rest
+  under_has key (Some x) ms more here rest = more x here.0 here.1 rest
+
+  pub spread_has : ((key x : Item) (ms : Members) → Q key → Q x → All ms → All ((key, x) ∷ ms)) → All []
+      → (ps : List Place) → EachPlace Q ps → All (spread ps)
+  spread_has more none [] h = none
+  spread_has more none (p ∷ ps) h =
+      under_has p.0 p.1 (spread ps) (λ x. more p.0 x (spread ps)) h.0 (spread_has more none ps h.1)
+
+  has_under : (key : Item) (o : Option Item) (ms : Members)
+      → ((x : Item) → All ((key, x) ∷ ms) → (Q key × Q x) × All ms) → All (under key o ++ ms) → PlaceHas Q key o × All ms
+  has_under key None ms parts h = (tt, h)
+  has_under key (Some x) ms parts h = parts x h
+
+  pub has_spread : ((key x : Item) (ms : Members) → All ((key, x) ∷ ms) → (Q key × Q x) × All ms)
+      → (ps : List Place) → All (spread ps) → EachPlace Q ps
+  has_spread parts [] h = tt
+  has_spread parts (p ∷ ps) h =
+      let both = has_under p.0 p.1 (spread ps) (λ x. parts p.0 x (spread ps)) h in
+      (both.0, has_spread parts ps both.1)
+
+place_as : {Q R : Item → Type 0} → ((i : Item) → Q i → R i) → (key : Item) (o : Option Item) → PlaceHas Q key o
+    → PlaceHas R key o
+place_as so key None h = tt
+place_as so key (Some x) h = (so key h.0, so x h.1)
+
+pub each_as : {Q R : Item → Type 0} → ((i : Item) → Q i → R i) → (ps : List Place) → EachPlace Q ps → EachPlace R ps
+each_as so [] h = tt
+each_as so (p ∷ ps) h = (place_as so p.0 p.1 h.0, each_as so ps h.1)
 
 pub option_has : {A : Type 0} (Q : Item → Type 0) (tree : A → Item) (key : Item) → Q key → ((x : A) → Q (tree x))
     → (o : Option A) → PlaceHas Q key (option_map tree o)
@@ -35,14 +67,9 @@ both_within a b n p q = omega (arith, p, q)
 each_within : (a b n : ℕ) → max a b ≤ n → (a ≤ n) × (b ≤ n)
 each_within a b n p = (omega (arith, p), omega (arith, p))
 
-member_within : (n : ℕ) (key : Item) (o : Option Item) (ms : Members) → PlaceWithin n key o
-    → pairs_depth (pairs_of ms) ≤ n → pairs_depth (pairs_of (under key o ++ ms)) ≤ n
-member_within n key None ms here rest = rest
-member_within n key (Some x) ms here rest = grind (arith, both_within)
-
 spread_within : (n : ℕ) (ps : List Place) → Within n ps → pairs_depth (pairs_of (spread ps)) ≤ n
-spread_within n [] h = omega arith
-spread_within n (p ∷ ps) h = member_within n p.0 p.1 (spread ps) h.0 (spread_within n ps h.1)
+spread_within n = spread_has (λ i. depth i ≤ n) (λ ms. pairs_depth (pairs_of ms) ≤ n)
+    (λ key x ms k v rest. grind (arith, both_within)) (omega arith)
 
 record_levels : (ps : List Place) → depth (record_tree ps) ≡ suc (pairs_depth (pairs_of (spread ps)))
 record_levels ps = ap (λ (ms : Members). suc (pairs_depth (pairs_of ms))) (laid_spread [] ps)
@@ -51,21 +78,9 @@ record_levels ps = ap (λ (ms : Members). suc (pairs_depth (pairs_of ms))) (laid
 pub record_within : (n : ℕ) (ps : List Place) → Within n ps → depth (record_tree ps) ≤ suc n
 record_within n ps h = omega (arith, record_levels ps, spread_within n ps h)
 
--- ---- and back
-
-place_of_member : (n : ℕ) (key : Item) (o : Option Item) (ms : Members)
-    → pairs_depth (pairs_of (under key o ++ ms)) ≤ n → PlaceWithin n key o × (pairs_depth (pairs_of ms) ≤ n)
-place_of_member n key None ms h = (tt, h)
-place_of_member n key (Some x) ms h = grind (arith, each_within)
-
-of_spread : (n : ℕ) (ps : List Place) → pairs_depth (pairs_of (spread ps)) ≤ n → Within n ps
-of_spread n [] h = tt
-of_spread n (p ∷ ps) h =
-    let parts = place_of_member n p.0 p.1 (spread ps) h in
-    (parts.0, of_spread n ps parts.1)
-
 pub of_record : (n : ℕ) (ps : List Place) → depth (record_tree ps) ≤ suc n → Within n ps
-of_record n ps h = of_spread n ps (omega (arith, record_levels ps, h))
+of_record n ps h = has_spread (λ i. depth i ≤ n) (λ ms. pairs_depth (pairs_of ms) ≤ n)
+    (λ key x ms h. grind (arith, each_within)) ps (omega (arith, record_levels ps, h))
 
 -- ---- lists and maps
 

@@ -1,8 +1,8 @@
 -- Records whose keys ascend, and what follows for their encodings.
-use Rattle.passkey_kinds.proofs.Common.{is_lt, Ordering, Less, arith, ◌≡◌, ℕ, ◌≤◌, Bool, true, ◌&&◌, List, [], ◌∷◌, ◌++◌, length, map, Option, Some, None, refl, sym, subst, and_parts, ByteMap, ComesAfter, AscendFrom, Ascend, IsOrdered, depth, max_depth, IsLeadingItem, Item, items_of, pairs_of, AtMostOneLeadingItem, WrittenIsLeadingItem, IsWritable, ArePairsWritable, written, short_first, Members, Place, list_tree, entry_tree, byte_map_tree, under, laid, record_tree, AllCanonical, WrittenIsCanonical, ℤ, pos, suc, boolean, byte_string, null, text_string, number_tree, numbers_tree, AreOrdered, ArePairsOrdered, IsCanonical, number, ctap2_order, option_map, kept_if_some}
+use Rattle.passkey_kinds.proofs.Common.{ByteMap, ComesAfter, AscendFrom, Ascend, IsOrdered, AreOrdered, ArePairsOrdered, IsCanonical, depth, Item, items_of, pairs_of, byte_string, boolean, null, text_string, number, AtMostOneLeadingItem, WrittenIsLeadingItem, max_depth, IsLeadingItem, ctap2_order, IsWritable, ArePairsWritable, written, kept, each, AllCanonical, kept_if_some, WrittenIsCanonical, entries, Members, short_first, Place, record_tree, number_tree, numbers_tree, entry_tree, under, laid, list_tree, byte_map_tree, ◌≡◌, ℕ, suc, arith, Bool, true, ◌&&◌, List, [], ◌∷◌, ◌++◌, length, map, Option, Some, None, option_map, refl, sym, ◌≤◌, subst, pos, ℤ, and_parts, is_lt, Less, Ordering}
 use Rattle.passkey_kinds.proofs.Back.{spread, laid_spread}
 use Rattle.passkey_kinds.proofs.ByteMaps.{entries_ascend}
-use Rattle.passkey_kinds.proofs.Levels.{Within, of_record as levels_of, PlaceHas, EachPlace, PlaceWithin, record_within, list_within, map_within, option_has}
+use Rattle.passkey_kinds.proofs.Levels.{Within, of_record as levels_of, PlaceHas, EachPlace, PlaceWithin, each_as, spread_has, has_spread, record_within, list_within, map_within, option_has}
 use Rattle.std.specs.FinMap as fin
 
 -- ---- keys that ascend
@@ -62,14 +62,8 @@ PlaceOrdered = PlaceHas IsOrdered
 abbrev pub AllOrdered : List Place → Type 0
 AllOrdered = EachPlace IsOrdered
 
-under_ordered : (key : Item) (o : Option Item) (ms : Members) → PlaceOrdered key o → ArePairsOrdered (pairs_of ms)
-    → ArePairsOrdered (pairs_of (under key o ++ ms))
-under_ordered key None ms here rest = rest
-under_ordered key (Some x) ms here rest = (here, rest)
-
 spread_ordered : (ps : List Place) → AllOrdered ps → ArePairsOrdered (pairs_of (spread ps))
-spread_ordered [] h = tt
-spread_ordered (p ∷ ps) h = under_ordered p.0 p.1 (spread ps) h.0 (spread_ordered ps h.1)
+spread_ordered = spread_has IsOrdered (λ ms. ArePairsOrdered (pairs_of ms)) (λ key x ms k v rest. ((k, v), rest)) tt
 
 pub record_ordered : (ps : List Place) → ascend ps ≡ true → AllOrdered ps → IsOrdered (record_tree ps)
 record_ordered ps h all = grind (arith, keys_ascend, laid_spread, spread_ordered)
@@ -94,27 +88,9 @@ map_ordered tree each m = (entries_ascend tree m, entries_ordered tree each (sho
 
 -- ---- the values in a record that can be encoded
 
-abbrev pub PlaceWritable : Option Item → Type 0
-PlaceWritable None = Unit {0}
-PlaceWritable (Some x) = IsWritable x
-
-abbrev pub AllWritable : List Place → Type 0
-AllWritable [] = Unit {0}
-AllWritable (p ∷ ps) = PlaceWritable p.1 × AllWritable ps
-
-of_under : (key : Item) (o : Option Item) (ms : Members) → ArePairsWritable (pairs_of (under key o ++ ms))
-    → PlaceWritable o × ArePairsWritable (pairs_of ms)
-of_under key None ms h = (tt, h)
-of_under key (Some x) ms h = (h.0.1, h.1)
-
-of_spread : (ps : List Place) → ArePairsWritable (pairs_of (spread ps)) → AllWritable ps
-of_spread [] h = tt
-of_spread (p ∷ ps) h =
-    let parts = of_under p.0 p.1 (spread ps) h in
-    (parts.0, of_spread ps parts.1)
-
-pub of_record : (ps : List Place) → IsWritable (record_tree ps) → AllWritable ps
-of_record ps h = of_spread ps (subst (λ (ms : Members). ArePairsWritable (pairs_of ms)) (laid_spread [] ps) h.1)
+pub of_record : (ps : List Place) → IsWritable (record_tree ps) → EachPlace IsWritable ps
+of_record ps h = has_spread IsWritable (λ ms. ArePairsWritable (pairs_of ms)) (λ key x ms h. h) ps
+    (subst (λ (ms : Members). ArePairsWritable (pairs_of ms)) (laid_spread [] ps) h.1)
 
 -- ---- canonical encodings
 
@@ -135,7 +111,7 @@ ordered_of one front x w d c =
 pub record_canonical : {P : Type 0} (places : P → List Place) {coherent : P → Bool} (kept : P → List Item)
     → ((r : P) → ascend (places r) ≡ true)
     → ((r : P) → coherent r ≡ true → depth (record_tree (places r)) ≤ max_depth)
-    → ((r : P) → AllWritable (places r) → Within 255 (places r) → AllCanonical (kept r) → AllOrdered (places r))
+    → ((r : P) → EachPlace IsWritable (places r) → Within 255 (places r) → AllCanonical (kept r) → AllOrdered (places r))
     → WrittenIsCanonical (λ r. record_tree (places r)) coherent kept
 record_canonical places kept_items up few each r w coherent kept =
     canonical_of (record_tree (places r)) w (few r coherent) (record_ordered (places r) (up r)
@@ -199,27 +175,11 @@ map_plain n tree each m = record {
   order = map_ordered tree (λ x. (each x).order) m;
 }
 
-place_within : (n : ℕ) (key : Item) (o : Option Item) → PlaceHas (IsPlain n) key o → PlaceWithin n key o
-place_within n key None h = tt
-place_within n key (Some x) h = (h.0.levels, h.1.levels)
-
-place_ordered : (n : ℕ) (key : Item) (o : Option Item) → PlaceHas (IsPlain n) key o → PlaceOrdered key o
-place_ordered n key None h = tt
-place_ordered n key (Some x) h = (h.0.order, h.1.order)
-
-each_within : (n : ℕ) (ps : List Place) → EachPlace (IsPlain n) ps → Within n ps
-each_within n [] h = tt
-each_within n (p ∷ ps) h = (place_within n p.0 p.1 h.0, each_within n ps h.1)
-
-each_ordered : (n : ℕ) (ps : List Place) → EachPlace (IsPlain n) ps → AllOrdered ps
-each_ordered n [] h = tt
-each_ordered n (p ∷ ps) h = (place_ordered n p.0 p.1 h.0, each_ordered n ps h.1)
-
 pub record_plain : (n : ℕ) (ps : List Place) → ascend ps ≡ true → EachPlace (IsPlain n) ps
     → IsPlain (suc n) (record_tree ps)
 record_plain n ps up each = record {
-  levels = record_within n ps (each_within n ps each);
-  order = record_ordered ps up (each_ordered n ps each);
+  levels = record_within n ps (each_as (λ i plain. plain.levels) ps each);
+  order = record_ordered ps up (each_as (λ i plain. plain.order) ps each);
 }
 
 -- a value's encoding of at most n levels is ordered if the items that it keeps are canonical
@@ -228,8 +188,8 @@ OrderedIf {A} n tree kept =
     (x : A) → IsWritable (tree x) → depth (tree x) ≤ n → AllCanonical (kept x) → IsOrdered (tree x)
 
 pub place_if : {A : Type 0} {n : ℕ} (tree : A → Item) (kept : A → List Item) → OrderedIf n tree kept
-    → (key : Item) → IsOrdered key → (o : Option A) → PlaceWritable (option_map tree o)
+    → (key : Item) → IsOrdered key → (o : Option A) → PlaceHas IsWritable key (option_map tree o)
     → PlaceWithin n key (option_map tree o) → AllCanonical (kept_if_some kept o)
     → PlaceOrdered key (option_map tree o)
 place_if tree kept each key keyed None w d k = tt
-place_if tree kept each key keyed (Some x) w d k = (keyed, each x w d.1 k)
+place_if tree kept each key keyed (Some x) w d k = (keyed, each x w.1 d.1 k)

@@ -1,7 +1,8 @@
 -- What sinks hold after the members of a record: a counter, an encoder, and a list of members.
-use Rattle.passkey_kinds.proofs.Common.{◌≡◌, ℕ, suc, ◌+◌, ◌<◌, ◌^◌, List, [], ◌∷◌, ◌++◌, length, append_assoc, Option, Some, None, refl, sym, arith, append-nil, Item, pairs_of, IsWritable, ArePairsWritable, shortest_head, written, Members, Place, laid, record_tree, under, pairs_len, pairs_written, pairs_len-pairs_of, AllAccepted, MemberAccepted, append_member, encode_member, put_all}
+use Rattle.passkey_kinds.proofs.Common.{pairs_len-pairs_of, pairs_len, Item, pairs_of, IsWritable, ArePairsWritable, shortest_head, written, pairs_written, bytes, accepted, Members, AllAccepted, append_member, encode_member, put_all, Place, record_tree, under, laid, ◌≡◌, ◌<◌, ◌+◌, ℕ, suc, arith, List, [], ◌∷◌, ◌++◌, length, Option, Some, None, refl, sym, append_assoc, ◌^◌, append-nil}
 use Rattle.passkey_kinds.specs.Tree.{put_one}
 use Rattle.passkey_kinds.proofs.Back.{laid_spread, spread}
+use Rattle.passkey_kinds.proofs.Levels.{spread_has}
 
 -- ---- two lists of places, one after the other, in any sink
 
@@ -50,14 +51,8 @@ encoded_all : (bytes : List ℕ) (ps : List Place)
 encoded_all bytes [] = sym (append-nil bytes)
 encoded_all bytes (p ∷ ps) = grind (arith, encoded_one, spread, encoded_all (put_one encode_member bytes p.0 p.1) ps)
 
-accepted_one : (key : Item) (o : Option Item) (ms : Members) → MemberAccepted IsWritable key o
-    → ArePairsWritable (pairs_of ms) → ArePairsWritable (pairs_of (under key o ++ ms))
-accepted_one key None ms h rest = rest
-accepted_one key (Some x) ms h rest = (h, rest)
-
 accepted_all : (ps : List Place) → AllAccepted IsWritable ps → ArePairsWritable (pairs_of (spread ps))
-accepted_all [] h = tt
-accepted_all (p ∷ ps) h = accepted_one p.0 p.1 (spread ps) h.0 (accepted_all ps h.1)
+accepted_all = spread_has IsWritable (λ ms. ArePairsWritable (pairs_of ms)) (λ key x ms k v rest. ((k, v), rest)) tt
 
 -- ---- a record, encoded as a head with the number of its members, and the members
 

@@ -171,5 +171,5 @@ unfolding shortest_head
 make_response_canonical one front =
     record_canonical make_response_places make_response_kept (λ r. refl)
     (λ r coherent. leb-true _ _ (and_parts (is_coherent r.auth_data) _ coherent).1)
-    (λ r w d kept. make_response_each (in_order 4) r (ordered_of one front r.att_stmt w.1.1.0
+    (λ r w d kept. make_response_each (in_order 4) r (ordered_of one front r.att_stmt w.1.1.0.1
     (omega (arith, d.1.1.0.1)) kept.0))
