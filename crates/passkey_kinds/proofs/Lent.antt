@@ -41,43 +41,23 @@ sought_few is_text names None s bytes c = omega (arith, until_few names [] c.fir
 -- ---- looking again
 
 module _ {r : Region} {a b : Walk} (rises : a.heads ≤ b.heads) where
+  looked : b.heads ≤ a.heads + length r.bytes → b.place ≡ a.place → b.nodes ≡ a.nodes → b.bytes ≡ a.bytes
+      → LooksAtMost r a b
+  looked heads place nodes bytes =
+      record { heads = heads; rises = rises; place = place; nodes = nodes; bytes = bytes }
+
   pub looks_all : (is_text : Bool) → IsRegion is_text r → LooksAtAll is_text r a b → LooksAtMost r a b
-  looks_all is_text t l = record {
-    heads = omega (
-      arith,
-      l.heads t.0 t.1,
-      heads_few is_text r.len t.0 r.bytes t.1,
-      raised-le a.heads (heads_in is_text r.len t.0 r.bytes t.1),
-    );
-    rises = rises;
-    place = l.place;
-    nodes = l.nodes;
-    bytes = l.bytes;
-  }
+  looks_all is_text t l = looked (omega (arith, l.heads t.0 t.1, heads_few is_text r.len t.0 r.bytes t.1,
+      raised-le a.heads (heads_in is_text r.len t.0 r.bytes t.1))) l.place l.nodes l.bytes
 
   pub looks_some : (is_text : Bool) → IsRegion is_text r → LooksAtSome is_text r a b → LooksAtMost r a b
-  looks_some is_text t l = record {
-    heads = omega (arith, l.heads t.0 t.1, heads_few is_text r.len t.0 r.bytes t.1);
-    rises = rises;
-    place = l.place;
-    nodes = l.nodes;
-    bytes = l.bytes;
-  }
+  looks_some is_text t l =
+      looked (omega (arith, l.heads t.0 t.1, heads_few is_text r.len t.0 r.bytes t.1)) l.place l.nodes l.bytes
 
   pub looks_names : (is_text : Bool) (names : List (List ℕ)) → IsRegion is_text r → LooksFor is_text names r a b
       → LooksAtMost r a b
-  looks_names is_text names t l = record {
-    heads = omega (
-      arith,
-      l.heads t.0 t.1,
-      sought_few is_text names r.len t.0 r.bytes t.1,
-      raised-le a.heads (heads_sought is_text names r.len t.0 r.bytes t.1),
-    );
-    rises = rises;
-    place = l.place;
-    nodes = l.nodes;
-    bytes = l.bytes;
-  }
+  looks_names is_text names t l = looked (omega (arith, l.heads t.0 t.1, sought_few is_text names r.len t.0 r.bytes t.1,
+      raised-le a.heads (heads_sought is_text names r.len t.0 r.bytes t.1))) l.place l.nodes l.bytes
 
 pub looks_none : (r : Region) (a : Walk) → LooksAtMost r a a
 looks_none r a = record { heads = omega arith; rises = omega arith; place = refl; nodes = refl; bytes = refl }
@@ -85,9 +65,10 @@ looks_none r a = record { heads = omega arith; rises = omega arith; place = refl
 -- ---- what a string costs
 
 -- what follows a string's head is shorter than the string
-region_less : (is_text : Bool) (a b : Walk) (r : Region) → PassesString is_text a b r
-    → a.place + length r.bytes ≤ b.place
-region_less is_text a b r p =
+region_shorter : (is_text : Bool) (a b : Walk) (r : Region) → PassesString is_text a b r
+    → a.place + length r.bytes < b.place
+region_shorter is_text a b r p =
+    let h = string_head is_text r.len in
     omega (
       arith,
       p.place,
@@ -95,13 +76,16 @@ region_less is_text a b r p =
       ap length p.headed.whole,
       length-append p.headed.front p.headed.back,
       ap length p.headed.second,
+      head_long (p.headed.front ++ []) h []
+          (head_again h p.headed.front [] p.headed.first),
+      length-append p.headed.front [],
     )
 
 -- The string that is encoded there is lent, and then looked at again at most once.
 pub lent_spends : {is_text : Bool} {a b d : Walk} {r : Region} (i : Item) {to : ℕ}
     → IsEncodedAt i a.bytes a.place to → PassesString is_text a b r → LendsFrom is_text i to a b (Some r)
     → LooksAtMost r b d → Spends 2 0 to a d × (d.place ≡ to)
-lent_spends i l p f looks = search (rules, region_less)
+lent_spends i l p f looks = search (rules, region_shorter)
 
 -- no string of this type is encoded there, and one head was decoded
 pub not_lent_spends : (is_text : Bool) (a b : Walk) (i : Item) (to : ℕ) → IsEncodedAt i a.bytes a.place to
@@ -284,21 +268,6 @@ content_short : (len : Option ℕ) (s bytes : List ℕ) → Content false len s 
 content_short (Some n) s bytes c = omega (arith, ap length c.1)
 content_short None s bytes c = grind (arith, chunks_whole, length-append)
 
-region_shorter : (a b : Walk) (r : Region) → PassesString false a b r → a.place + length r.bytes < b.place
-region_shorter a b r p =
-    let h = string_head false r.len in
-    omega (
-      arith,
-      p.place,
-      length-take p.len (ahead a),
-      ap length p.headed.whole,
-      length-append p.headed.front p.headed.back,
-      ap length p.headed.second,
-      head_long (p.headed.front ++ []) h []
-          (head_again h p.headed.front [] p.headed.first),
-      length-append p.headed.front [],
-    )
-
 -- ---- all of the data
 
 pub data_decodes : {a b e d : Walk} {r : Region} (i : Item) {to : ℕ} {t : List ℕ}
@@ -318,7 +287,7 @@ data_decodes {a = a} {b} {r = r} i {t = t} {result} p f looks same counts h =
           looks.heads,
           f.1.1.heads,
           f.1.1.place,
-          region_shorter a b r p,
+          region_shorter false a b r p,
           content_short r.len f.0 r.bytes f.1.1.tells,
           ap length same,
         );
