@@ -1,6 +1,6 @@
 -- Records of extensions: they can be decoded again, have few levels, and their keys ascend.
 use Rattle.passkey_kinds.proofs.Common.{ReadIsCoherent}
-use Rattle.passkey_kinds.proofs.Steps.{ℕ, suc, ◌≤◌, arith, Option, Some, None, refl, depth, shortest_head, EachFits, IsReadBack, IsLawful, lawful, raised, truth_back, or_null_back, or_null_same, optional_place, record_within, map_back, map_values_same, IsPlain, plainly, null_plain, map_plain, numbers_plain, puts_value, puts_default, kind_back, ◌▸◌, no_more, numbers_back, result_ok, ◌≡◌, Ok, ap, Item, Kind, byte_back, bytes_back, kept_back, anything, tolerated_place, rows_back, ◌+◌, ◌<◌, optional, tolerated, not_null, ok_of, kept_below, record_keeps, nested_keeps, codes, option_map, text_string, PlaceHas, EachPlace, Rule, zero, nat_lt, nat_le, min, ◌^◌, ◌-◌, OnlyDeep, only_deep, few_levels, OrderedIf, place_if, true, IsOrdered, AtMostOneLeadingItem, WrittenIsLeadingItem, AllCanonical, WrittenIsCanonical, KeysAscend, PlaceWithin, ascend, keys_ascend, PlaceOrdered, PlaceWritable, record_ordered, record_canonical, ordered_of, in_order}
+use Rattle.passkey_kinds.proofs.Steps.{ℕ, suc, ◌≤◌, arith, Option, Some, None, refl, depth, shortest_head, EachFits, IsReadBack, IsLawful, lawful, raised, truth_back, or_null_back, or_null_same, optional_place, record_within, map_back, map_values_same, IsPlain, plainly, null_plain, map_plain, numbers_plain, puts_value, puts_default, kind_back, ◌▸◌, no_more, numbers_back, result_ok, ◌≡◌, Ok, ap, Item, Kind, byte_back, bytes_back, kept_back, anything, tolerated_place, rows_back, ◌+◌, ◌<◌, optional, tolerated, not_null, ok_of, kept_below, record_keeps, nested_keeps, codes, option_map, text_string, PlaceHas, EachPlace, Rule, zero, nat_lt, nat_le, min, ◌^◌, ◌-◌, OnlyDeep, only_deep, few_levels, OrderedIf, place_if, true, IsOrdered, AtMostOneLeadingItem, WrittenIsLeadingItem, AllCanonical, WrittenIsCanonical, KeysAscend, PlaceWithin, ascend, keys_ascend, PlaceOrdered, record_ordered, record_canonical, ordered_of, in_order}
 use Rattle.std.proofs.Common.{leb-true}
 use Rattle.passkey_extensions.specs.GetExtensions.{get_extensions, get_extensions_parts, get_extensions_tree, GetExtensionsFit, GetExtensionsParts, get_extensions_fields, get_extensions_places, get_extensions_kept}
 use Rattle.passkey_extensions.specs.HmacInput.{HmacInputParts, hmac_input, read_hmac_input, hmac_input_parts, hmac_input_tree, HmacInputFits, hmac_input_fields, hmac_input_places, is_hmac_input_coherent, hmac_input_kept}
