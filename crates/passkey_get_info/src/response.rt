@@ -411,32 +411,17 @@ impl Encodable<'_> {
         ensures accepts { OnOk result (AllAccepted S.Accepts (places_of limits (encodable_parts self.now))) }
         ensures fits { OnOk result (S.Encodes → EachFits limits (encodable_parts self.now)) }
     {
-        sink.put_some(
-            alloc,
-            0x0b_u8,
-            &self.response.mac_serialized_large_blob_array,
-        )?;
-        sink.put_some(alloc, 0x0c_u8, &self.response.force_pin_change)?;
-        sink.put_some(alloc, 0x0d_u8, &self.response.min_pin_length)?;
-        sink.put_some(alloc, 0x0e_u8, &self.response.firmware_version)?;
-        sink.put_some(alloc, 0x0f_u8, &self.response.max_cred_blob_length)?;
-        sink.put_some(
-            alloc,
-            0x10_u8,
-            &self.response.max_rpids_for_set_min_pin_length,
-        )?;
-        sink.put_some(
-            alloc,
-            0x11_u8,
-            &self.response.preferred_platform_uv_attempts,
-        )?;
-        sink.put_some(alloc, 0x12_u8, &self.response.uv_modality)?;
-        sink.put_some(alloc, 0x13_u8, &self.response.certifications)?;
-        sink.put_some(
-            alloc,
-            0x14_u8,
-            &self.response.remaining_discoverable_credentials,
-        )?;
+        let response = self.response;
+        sink.put_some(alloc, 0x0b_u8, &response.mac_serialized_large_blob_array)?;
+        sink.put_some(alloc, 0x0c_u8, &response.force_pin_change)?;
+        sink.put_some(alloc, 0x0d_u8, &response.min_pin_length)?;
+        sink.put_some(alloc, 0x0e_u8, &response.firmware_version)?;
+        sink.put_some(alloc, 0x0f_u8, &response.max_cred_blob_length)?;
+        sink.put_some(alloc, 0x10_u8, &response.max_rpids_for_set_min_pin_length)?;
+        sink.put_some(alloc, 0x11_u8, &response.preferred_platform_uv_attempts)?;
+        sink.put_some(alloc, 0x12_u8, &response.uv_modality)?;
+        sink.put_some(alloc, 0x13_u8, &response.certifications)?;
+        sink.put_some(alloc, 0x14_u8, &response.remaining_discoverable_credentials)?;
         Ok(())
     }
 
@@ -446,19 +431,16 @@ impl Encodable<'_> {
         ensures accepts { OnOk result (AllAccepted S.Accepts (places_of states (encodable_parts self.now))) }
         ensures fits { OnOk result (S.Encodes → EachFits states (encodable_parts self.now)) }
     {
-        sink.put_some(
-            alloc,
-            0x15_u8,
-            &self.response.vendor_prototype_config_commands,
-        )?;
-        sink.put_some(alloc, 0x16_u8, &self.response.attestation_formats)?;
-        sink.put_some(alloc, 0x17_u8, &self.response.uv_count_since_last_pin_entry)?;
-        sink.put_some(alloc, 0x18_u8, &self.response.long_touch_for_reset)?;
-        sink.put_some(alloc, 0x19_u8, &self.response.enc_identifier)?;
-        sink.put_some(alloc, 0x1a_u8, &self.response.transports_for_reset)?;
-        sink.put_some(alloc, 0x1b_u8, &self.response.pin_complexity_policy)?;
-        sink.put_some(alloc, 0x1c_u8, &self.response.pin_complexity_policy_url)?;
-        sink.put_some(alloc, 0x1d_u8, &self.response.max_pin_length)?;
+        let response = self.response;
+        sink.put_some(alloc, 0x15_u8, &response.vendor_prototype_config_commands)?;
+        sink.put_some(alloc, 0x16_u8, &response.attestation_formats)?;
+        sink.put_some(alloc, 0x17_u8, &response.uv_count_since_last_pin_entry)?;
+        sink.put_some(alloc, 0x18_u8, &response.long_touch_for_reset)?;
+        sink.put_some(alloc, 0x19_u8, &response.enc_identifier)?;
+        sink.put_some(alloc, 0x1a_u8, &response.transports_for_reset)?;
+        sink.put_some(alloc, 0x1b_u8, &response.pin_complexity_policy)?;
+        sink.put_some(alloc, 0x1c_u8, &response.pin_complexity_policy_url)?;
+        sink.put_some(alloc, 0x1d_u8, &response.max_pin_length)?;
         Ok(())
     }
 }
