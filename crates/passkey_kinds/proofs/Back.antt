@@ -200,10 +200,7 @@ set_some set (Some z) default y old e h = ap (λ v. set v old) h
 -- a value that is always encoded
 pub puts_value : {P A : Type 0} {m : Member P} {tree : A → Item} {Fits : A → Type 0} {normal : A → m.Of} {old : P}
     → IsReadBack m.kind.of tree Fits normal → (x : A) → Fits x → Puts m (Some (tree x)) old (m.set (normal x) old)
-puts_value {P} {A} {m} {tree} {Fits} {normal} {old} r x h = record {
-  accepted = accepts_it m.kind.of (tree x) (normal x) (r.back x h);
-  put = ap (λ (o : Option m.Of). set_with m.set o old) (r.back x h);
-}
+puts_value {P} {A} {m} {tree} {Fits} {normal} {old} r x h = grind (arith, accepts_it, set_with)
 
 falls_put : {P : Type 0} (m : Member P) (default y : m.Of) (o : Option Item) (old : P) → Falls m.kind.of default o y
     → m.set default old ≡ old → put_if m o old ≡ m.set y old
@@ -213,10 +210,7 @@ falls_put m default y (Some i) old f same = set_some m.set (m.kind.of i) default
 -- a value that may be absent, and is then the default
 pub puts_default : {P : Type 0} {m : Member P} {default y : m.Of} {o : Option Item} {old : P}
     → Falls m.kind.of default o y → m.set default old ≡ old → Puts m o old (m.set y old)
-puts_default {P} {m} {default} {y} {o} {old} f same = record {
-  accepted = f.accepted;
-  put = falls_put m default y o old f same;
-}
+puts_default {P} {m} {default} {y} {o} {old} f same = grind (arith, falls_put)
 
 -- ---- what all places put
 

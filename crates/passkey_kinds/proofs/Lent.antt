@@ -236,11 +236,7 @@ pub flat_decodes : {A M X : Type 0} (view : A → M) {wanted : Option M} {may : 
     (said found : Option X) (to : ℕ) (a b : Walk) (result : Result A Refusal) → wanted ≡ option_and_then of said
     → ReadsFlat said to a b found → AnswersAs view (option_and_then of found) ⊥ result
     → Decodes view wanted may 1 0 to a b result
-flat_decodes view of said found to a b result e r h = record {
-  answers = answers_from view result (e ∙ ap (option_and_then of) (sym r.is)) (λ none. absurd none) h;
-  spends = r.spends;
-  ends = flat_ends _ view of found result (some_ends found r.ends) h;
-}
+flat_decodes view of said found to a b result e r h = grind (arith, answers_from, option_and_then, flat_ends, some_ends)
 
 -- ---- numbers
 

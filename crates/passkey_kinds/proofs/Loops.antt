@@ -50,23 +50,12 @@ one_spare k kept to b d less s =
 pub spent_within : {A : Type 0} {P : A → Language} {cost few all to : ℕ} {start : Walk} {after : Option ℕ}
     {xs : List A} (b : Walk) {d : Walk} (n : Next P after xs b.bytes b.place to)
     → SpentTo cost few all n.middle start d → Spends cost all to start d
-spent_within {cost = cost} {to = to} b n s = record {
-  within = omega (arith, s.within, n.after.forward);
-  heads = omega (arith, s.heads, mul-le-mul_left {m = n.middle} {n = to} cost n.after.forward);
-  nodes = omega (arith, s.nodes);
-}
+spent_within {cost = cost} {to = to} b n s = grind (arith, mul-le-mul_left)
 
 pub begun : {A : Type 0} (P : A → Language) (Done : List A → Type 0) (kept : List A → ℕ) (cost : ℕ) (is : List A)
     (to : ℕ) (start : Walk) (left : Option ℕ) → Done is → Lies (Left P left is) start.bytes start.place to
     → EachTo P Done kept cost left is to start start
-begun P Done kept cost is to start left done ahead = record {
-  rest = is;
-  ahead = ahead;
-  done = done;
-  heads = omega arith;
-  nodes = omega arith;
-  fewer = omega arith;
-}
+begun P Done kept cost is to start left done ahead = grind (arith)
 
 module _ {A : Type 0} {P : A → Language} {Done : List A → Type 0} {kept : List A → ℕ} {cost : ℕ} {is : List A}
     {to : ℕ} {start a : Walk} {before : Option ℕ} (e : EachTo P Done kept cost before is to start a)
@@ -79,17 +68,7 @@ module _ {A : Type 0} {P : A → Language} {Done : List A → Type 0} {kept : Li
   pub element_spends : (d : Walk) → Looks before after a b true → (n : Next P after e.rest b.bytes b.place to)
       → (one : ℕ) → kept (n.first ∷ n.others) ≡ one + kept n.others → SpendsLess cost one n.middle b d
       → SpentTo cost (kept n.others) (kept is) n.middle start d
-  element_spends d looks n one whole spends = record {
-    within = spends.within;
-    heads = omega (
-      arith,
-      e.heads,
-      one_looked before after a b true looks,
-      subst (λ (p : ℕ).
-          suc d.heads + cost * p ≤ b.heads + cost * n.middle) (looks.stays refl) spends.heads,
-    );
-    nodes = omega (arith, e.nodes, looks.nodes, spends.nodes, ap kept n.whole, whole);
-  }
+  element_spends d looks n one whole spends = grind (arith, one_looked)
 
   -- there was a next element
   pub some_are : Next P after e.rest b.bytes b.place to → 0 < length is
@@ -99,14 +78,7 @@ module _ {A : Type 0} {P : A → Language} {Done : List A → Type 0} {kept : Li
   pub one_more_done : (Next_done : List A → Type 0) (d : Walk) (n : Next P after e.rest b.bytes b.place to)
       → SpentTo cost (kept n.others) (kept is) n.middle start d → d.place ≡ n.middle → d.bytes ≡ b.bytes
       → Next_done n.others → EachTo P Next_done kept cost after is to start d
-  one_more_done Next_done d n s at same done = record {
-    rest = n.others;
-    ahead = rw (at, same) n.after;
-    done = done;
-    heads = omega (arith, s.heads, ap (λ (p : ℕ). cost * p) at);
-    nodes = s.nodes;
-    fewer = omega (arith, e.fewer, ap length n.whole);
-  }
+  one_more_done Next_done d n s at same done = grind (arith)
 
   -- no more elements
   pub each_done : Walks P before after a b false → Looks before after a b false → 0 < cost
@@ -217,11 +189,7 @@ module _ (c one middle to : ℕ) (b d : Walk) (first : b.place < middle) (second
       (eased (omega (arith, four)) (omega arith) (omega (arith, first)) key)).heads
 
   pub key_spent : SpendsLess c one to b d
-  key_spent = record {
-    within = omega (arith, key.within, second);
-    heads = omega (arith, key_heads c four, mul-le-mul_left {m = middle} {n = to} c second);
-    nodes = omega (arith, key.nodes);
-  }
+  key_spent = grind (arith, key_heads, mul-le-mul_left)
 
   pub member_spent : (k : ℕ) (f : Walk) → d.place ≡ middle → k ≤ c → Spends k one to d f → SpendsLess c one to b f
   member_spent k f at cheap value =

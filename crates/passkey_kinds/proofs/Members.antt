@@ -91,10 +91,7 @@ module _ {P : Type 0} (t : Fields P) where
 
     pub goes_on : (new : P) (next : List Bool) → one_more t naming m.1 (reached old marks) ≡ Ok (reached new next)
         → HasReadTo t ms others new next
-    goes_on new next good = record {
-      same = steps ∙ ap (result_and_then (λ n. read_from t others n)) good;
-      grows = λ g. h.grows (subst (MayGrowIn (table_of t)) (sym at) (inr g));
-    }
+    goes_on new next good = grind (arith, steps, result_and_then, read_from, table_of, inr)
 
     pub fails : {A : Type 0} (view : A → P) (after : Progress P) (f : Fault) → Reads (λ (u : Unit {0}). after)
         (MayGrowBy (table_of t) naming m.1) (one_more t naming m.1 (reached old marks)) (Err f)
@@ -108,9 +105,7 @@ module _ {P : Type 0} (t : Fields P) where
   pub all_read : {A : Type 0} (view : A → P) (ms rest : Members) (held : P) (marks : List Bool) (r : Result A Fault)
       → rest ≡ [] → HasReadTo t ms rest held marks → Reads view ⊥ (read_from t [] (reached held marks)) r
       → Reads view (MayGrowIn (table_of t) ms) (read_members t ms) r
-  all_read view ms rest held marks r ended h told =
-      reads_from view (read_members t ms) (read_from t [] (reached held marks)) r
-      (h.same ∙ ap (λ left. read_from t left (reached held marks)) ended) (λ none. absurd none) told
+  all_read view ms rest held marks r ended h told = grind (arith, reads_from, read_members, read_from, reached)
 
 -- an item that isn't a map isn't a record
 pub no_record : {P : Type 0} (t : Fields P) (i : Item) → members_in i ≡ None → read_item t i ≡ Err fault.NotAMap

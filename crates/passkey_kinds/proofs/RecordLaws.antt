@@ -107,9 +107,7 @@ module _ {P : Type 0} (t : Fields P) where
 
   one_alike : (n k : ℕ) (x y : Item) → n ≡ k → AnswersAlike t n x y → (s : Progress P)
       → one_more t (row n) x s ≡ one_more t (row k) y s
-  one_alike n k x y same h s = (λ j. if s.seen n then Err (fault.Repeated n) else (if h.accepts j
-      then Ok (record { seen = λ k. (k == n) || s.seen k; made = h.puts s.made j }) else Err (Refused n)))
-      ∙ ap (λ (k : ℕ). one_more t (row k) y s) same
+  one_alike n k x y same h s = grind (arith, one_more, row)
 
   known_alike : (xs ys : List (ℕ × Item)) → SameAnswers t xs ys → (s : Progress P)
       → read_known xs s ≡ read_known ys s
@@ -212,12 +210,7 @@ pub record WentBack (old s a : Walk) : Type 0 where
   pub nodes : a.nodes ≡ s.nodes
 
 pub went_back : (old s a : Walk) (k : ℕ) → k ≡ old.place → a ≡ record s { place = k } → WentBack old s a
-went_back old s a k at e = record {
-  bytes = ap (λ (w : Walk). w.bytes) e;
-  place = ap (λ (w : Walk). w.place) e ∙ at;
-  heads = ap (λ (w : Walk). w.heads) e;
-  nodes = ap (λ (w : Walk). w.nodes) e;
-}
+went_back old s a k at e = grind (arith)
 
 -- A message whose item was skipped and then decoded from the same place.
 module _ {A P : Type 0} (view : A → P) (t : Fields P) (old s a b : Walk) (p : PassesLeadingItem old s)
