@@ -1,5 +1,5 @@
 -- Records can be decoded again from the encodings of their members.
-use Rattle.passkey_kinds.proofs.Common.{Item, boolean, number, IfPresent, members-pairs_of, truth, Kind, entry, IsReadBack, Fields, set_with, rows_of, table_of, put_at, unless_missing, one_more, Progress, result_and_then, read_from, read_members, read_item, Member, record_kind, Table, entries, named, Members, first_missing, Naming, row, accepts_at, ◌>>=◌, Place, record_tree, under, laid, where_true, ◌≡◌, ◌∙◌, ℕ, arith, Bool, true, false, not, ◌&&◌, List, [], ◌∷◌, ◌++◌, Option, Some, None, is_some, option_map, refl, sym, ap, Ok, append_assoc, ◌==◌, cond, set, ◌||◌, unwrap_or, and_parts, ne_eqb, eqb-true, not-true, eqb-false, append-nil, unsigned_Decides, list_any, result_ok}
+use Rattle.passkey_kinds.proofs.Common.{Item, boolean, IfPresent, members-pairs_of, truth, Kind, IsReadBack, Fields, set_with, rows_of, table_of, put_at, unless_missing, one_more, Progress, result_and_then, read_from, read_members, read_item, Member, record_kind, Table, entries, named, Members, first_missing, Naming, row, accepts_at, ◌>>=◌, Place, record_tree, under, laid, where_true, ◌≡◌, ◌∙◌, ℕ, arith, Bool, true, false, not, ◌&&◌, List, [], ◌∷◌, ◌++◌, Option, Some, None, is_some, option_map, refl, sym, ap, Ok, append_assoc, ◌==◌, cond, set, ◌||◌, unwrap_or, and_parts, ne_eqb, eqb-true, not-true, eqb-false, append-nil, unsigned_Decides, list_any, result_ok}
 
 -- ---- the values that the places of a record have for its rows
 
@@ -167,8 +167,7 @@ module _ {P : Type 0} (t : Fields P) where
           seen = λ k. cond (k == m.entry.number) true (s.seen k);
           made = set_with m.set (m.kind.of i) s.made;
         })
-        good = rw (unseen, accepts i ∙ fit i refl)
-            (λ j. Ok (record { seen = λ k. given_same (k == m.entry.number) (s.seen k) j; made = puts i s.made j }))
+        good = grind (arith, given_same)
 
   with_spread : (fs : List (Member P)) (ps : List Place) (s : Progress P) → Finds t.rows fs
       → have_rows (table_of t) (numbers fs) ps ≡ true → are_distinct (numbers fs) ≡ true → FitAll fs ps

@@ -1,5 +1,5 @@
 -- How a cursor moves, what it spends, and values of one head or of one string.
-use Rattle.passkey_kinds.proofs.Common.{lies_size, head_again, follows_item, low_simple, head_long, encoded_long, IsEncodedAt, Opens, FindsHead, IsEncodingOfHead, PairWithin, Within, Inside, Item, Pairs, items_of, pairs_of, byte_string, array, boolean, null, text_string, number, max_depth, IsLeadingItem, Region, PassesString, item_within, simple_item, PassesLeadingItem, MakesLeadingItem, Walk, ahead, Went, Head, Bytes, members-pairs_of, elements-items_of, aaguid, bytes, below, kept, truth, Kind, optional, text, one_named, FailsAs, size, unsigned_in, integer_in, null_in, ReadsFlat, head_unsigned, head_integer, head_truth, head_null, head_array, head_map, elements_in, members_in, OpensAt, Further, Decodes, Spends, Onward, named, Refused, OutOfMemory, Refusal, signed_64, ◌≡◌, ◌∙◌, ◌<◌, ◌+◌, nat_lt, ℕ, arith, Bool, true, false, if◌then◌else◌, List, [], ◌++◌, length, map, Option, Some, None, option_map, refl, sym, ap, rules, ◌≤◌, Result, subst, ◌-◌, take, Ok, Err, OnOk, pos, ℤ, negsuc, unwrap_or, T, IfSome, is_ok, mul-le-mul_left, nat_tests, cases_lt, cases_eq, length-append, length-take, option_and_then}
+use Rattle.passkey_kinds.proofs.Common.{lies_size, head_again, follows_item, low_simple, head_long, encoded_long, IsEncodedAt, Opens, FindsHead, IsEncodingOfHead, PairWithin, Within, Inside, Item, Pairs, items_of, pairs_of, byte_string, array, boolean, null, text_string, number, max_depth, IsLeadingItem, Region, PassesString, item_within, simple_item, PassesLeadingItem, MakesLeadingItem, Walk, ahead, Went, Head, members-pairs_of, elements-items_of, aaguid, bytes, below, kept, truth, Kind, optional, text, one_named, FailsAs, size, unsigned_in, integer_in, null_in, ReadsFlat, head_unsigned, head_integer, head_truth, head_null, head_array, head_map, elements_in, members_in, OpensAt, Further, Decodes, Spends, Onward, named, Refused, OutOfMemory, Refusal, signed_64, ◌≡◌, ◌∙◌, ◌<◌, ◌+◌, nat_lt, ℕ, arith, Bool, true, false, if◌then◌else◌, List, [], ◌++◌, length, Option, Some, None, option_map, refl, sym, ap, rules, ◌≤◌, Result, subst, ◌-◌, take, Ok, Err, OnOk, pos, ℤ, negsuc, unwrap_or, IfSome, is_ok, mul-le-mul_left, nat_tests, cases_lt, cases_eq, length-append, length-take, option_and_then}
 use Rattle.passkey_cbor.specs.declared.head.Head.TheVariants as head
 use Rattle.passkey_cbor.specs.Item as item
 
@@ -89,8 +89,7 @@ stands_back i b same at l = rw (same, at) l
 -- the cursor went back to the place where it was, and the item was decoded again
 module _ {a b d : Walk} {n : ℕ} (on : Onward a b) (back : d ≡ record b { place = n }) (at : n ≡ a.place) where
   pub stands_again : (i : Item) {to : ℕ} → IsEncodedAt i a.bytes a.place to → IsEncodedAt i d.bytes d.place to
-  stands_again i l =
-      stands_back i d (ap (λ (w : Walk). w.bytes) back ∙ on.same) (ap (λ (w : Walk). w.place) back ∙ at) l
+  stands_again i l = grind (arith, stands_back)
 
   pub spends_again : {c e kept more to : ℕ} {f : Walk} → Spends c kept to a b → Spends e more to d f
       → Spends (c + e) (kept + more) to a f

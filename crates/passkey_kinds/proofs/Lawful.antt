@@ -1,5 +1,5 @@
 -- Plain records: they can be decoded again, have few levels, and their keys ascend.
-use Rattle.passkey_kinds.proofs.Common.{depth, members, shortest_head, made_signed, used_signed, descriptor, parameters, webauthn_user, each, EachFits, fields_of, places_of, PlainTable, members_of, plain_kind, plain_tree, IsReadBack, table_of, KeysAscend, Unknown, ◌≡◌, ℕ, suc, arith, Bool, true, ◌&&◌, List, Option, Some, None, refl, ap, ◌≤◌, zero}
+use Rattle.passkey_kinds.proofs.Common.{depth, shortest_head, made_signed, used_signed, descriptor, parameters, webauthn_user, each, EachFits, fields_of, places_of, PlainTable, members_of, plain_kind, plain_tree, IsReadBack, table_of, KeysAscend, Unknown, ◌≡◌, ℕ, suc, arith, Bool, true, ◌&&◌, List, Option, Some, None, refl, ap, ◌≤◌, zero}
 use Rattle.passkey_core.specs.SignedOutputs.{creation_item, assertion_item}
 use Rattle.passkey_core.specs.declared.make_credential.SignedExtensionOutputs as creation
 use Rattle.passkey_core.specs.declared.get_assertion.SignedExtensionOutputs as assertion

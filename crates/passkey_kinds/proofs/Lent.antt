@@ -1,5 +1,5 @@
 -- Strings that are lent at a cursor.
-use Rattle.passkey_kinds.proofs.Common.{raised-le, head_again, head_long, each_long, lends_start, lends_on, lends_all, AChunk, follows_chunk, IsEncodedAt, Definite, Content, Item, byte_string, text_string, number, Each, Region, Tells, PassesString, LendsNothing, IsRegion, heads_in, LendsFrom, LooksAtAll, LooksAtSome, LentWhole, string_head, LooksFor, heads_until, heads_sought, LendsPiece, LendsNoPiece, LooksAhead, LendsUpTo, chunk, Walk, ahead, raised, DataGrow, data_parts, AuthenticatorData, algorithm_named, algorithm, authenticator_data, authenticator_data_nodes, CountsData, AnswersAs, bytes, MayGrow, below, kept, list, text, Answers, integer_in, ReadsFlat, Further, Decodes, LooksAtMost, Spends, names, Refused, Refusal, IsOf, signed_64, whole_64, NumberState, ◌≡◌, ◌∙◌, ◌<◌, ◌+◌, ℕ, suc, arith, Bool, true, false, List, [], ◌∷◌, ◌++◌, length, Option, Some, None, option_map, refl, sym, ap, rules, ◌≤◌, Result, subst, ◌-◌, Ok, Err, OnOk, cond, ℤ, ◌^◌, zero, IfSome, length-append, length-take, concat, option_and_then, ok_or}
+use Rattle.passkey_kinds.proofs.Common.{raised-le, head_again, head_long, each_long, lends_start, lends_on, lends_all, AChunk, follows_chunk, IsEncodedAt, Definite, Content, Item, byte_string, text_string, Each, Region, Tells, PassesString, LendsNothing, IsRegion, heads_in, LendsFrom, LooksAtAll, LooksAtSome, LentWhole, string_head, LooksFor, heads_until, heads_sought, LendsPiece, LendsNoPiece, LooksAhead, LendsUpTo, chunk, Walk, ahead, raised, DataGrow, data_parts, AuthenticatorData, algorithm_named, algorithm, authenticator_data, authenticator_data_nodes, CountsData, AnswersAs, bytes, MayGrow, below, list, Answers, integer_in, ReadsFlat, Further, Decodes, LooksAtMost, Spends, names, Refused, Refusal, IsOf, signed_64, whole_64, NumberState, ◌≡◌, ◌∙◌, ◌<◌, ◌+◌, ℕ, suc, arith, Bool, true, false, List, [], ◌∷◌, ◌++◌, length, Option, Some, None, option_map, refl, sym, ap, rules, ◌≤◌, Result, subst, ◌-◌, Ok, Err, OnOk, cond, ℤ, ◌^◌, zero, IfSome, length-append, length-take, concat, option_and_then, ok_or}
 use Rattle.passkey_core.specs.DataReading.{fixed_at}
 use Rattle.passkey_kinds.proofs.Cursor.{stands_long, eased, on_ok, stands_back, string_further}
 use Rattle.passkey_kinds.proofs.Lists.{answers_from}
@@ -43,12 +43,15 @@ sought_few is_text names None s bytes c = omega (arith, until_few names [] c.fir
 module _ {r : Region} {a b : Walk} (rises : a.heads ≤ b.heads) where
   looked : b.heads ≤ a.heads + length r.bytes → b.place ≡ a.place → b.nodes ≡ a.nodes → b.bytes ≡ a.bytes
       → LooksAtMost r a b
-  looked heads place nodes bytes =
-      record { heads = heads; rises = rises; place = place; nodes = nodes; bytes = bytes }
+  looked heads place nodes bytes = grind (arith)
 
   pub looks_all : (is_text : Bool) → IsRegion is_text r → LooksAtAll is_text r a b → LooksAtMost r a b
-  looks_all is_text t l = looked (omega (arith, l.heads t.0 t.1, heads_few is_text r.len t.0 r.bytes t.1,
-      raised-le a.heads (heads_in is_text r.len t.0 r.bytes t.1))) l.place l.nodes l.bytes
+  looks_all is_text t l = looked (omega (
+    arith,
+    l.heads t.0 t.1,
+    heads_few is_text r.len t.0 r.bytes t.1,
+    raised-le a.heads (heads_in is_text r.len t.0 r.bytes t.1),
+  )) l.place l.nodes l.bytes
 
   pub looks_some : (is_text : Bool) → IsRegion is_text r → LooksAtSome is_text r a b → LooksAtMost r a b
   looks_some is_text t l =
@@ -56,8 +59,12 @@ module _ {r : Region} {a b : Walk} (rises : a.heads ≤ b.heads) where
 
   pub looks_names : (is_text : Bool) (names : List (List ℕ)) → IsRegion is_text r → LooksFor is_text names r a b
       → LooksAtMost r a b
-  looks_names is_text names t l = looked (omega (arith, l.heads t.0 t.1, sought_few is_text names r.len t.0 r.bytes t.1,
-      raised-le a.heads (heads_sought is_text names r.len t.0 r.bytes t.1))) l.place l.nodes l.bytes
+  looks_names is_text names t l = looked (omega (
+    arith,
+    l.heads t.0 t.1,
+    sought_few is_text names r.len t.0 r.bytes t.1,
+    raised-le a.heads (heads_sought is_text names r.len t.0 r.bytes t.1),
+  )) l.place l.nodes l.bytes
 
 pub looks_none : (r : Region) (a : Walk) → LooksAtMost r a a
 looks_none r a = record { heads = omega arith; rises = omega arith; place = refl; nodes = refl; bytes = refl }

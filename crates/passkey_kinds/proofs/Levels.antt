@@ -1,5 +1,5 @@
 -- The nesting levels of records, by those of the values under their keys.
-use Rattle.passkey_kinds.proofs.Common.{ByteMap, same_tests, depth, pairs_depth, items_depth, Item, items_of, pairs_of, WrittenIsLeadingItem, max_depth, each, WrittenIsReadBack, entries, Members, short_first, AllAccepted, MemberAccepted, Place, record_tree, entry_tree, under, list_tree, byte_map_tree, Fault, ◌≡◌, ◌∙◌, ℕ, suc, arith, Bool, true, ◌&&◌, List, [], ◌∷◌, ◌++◌, map, Option, Some, None, option_map, refl, sym, ap, ◌≤◌, Result, subst, nat_le, Ok, max, le-leb, leb-true, All}
+use Rattle.passkey_kinds.proofs.Common.{ByteMap, same_tests, depth, pairs_depth, items_depth, Item, items_of, pairs_of, WrittenIsLeadingItem, max_depth, each, WrittenIsReadBack, Members, short_first, AllAccepted, MemberAccepted, Place, record_tree, entry_tree, under, list_tree, byte_map_tree, Fault, ◌≡◌, ◌∙◌, ℕ, suc, arith, Bool, true, ◌&&◌, List, [], ◌∷◌, ◌++◌, map, Option, Some, None, option_map, refl, sym, ap, ◌≤◌, Result, subst, nat_le, Ok, max, le-leb, leb-true}
 use Rattle.std.proofs.Common.{leb-true}
 use Rattle.passkey_kinds.proofs.Back.{spread, laid_spread}
 use Rattle.std.specs.FinMap as fin

@@ -1,5 +1,5 @@
 -- Loops over the rest of a list or a map at a cursor.
-use Rattle.passkey_kinds.proofs.Common.{raised-le, Lies, Next, Looks, Walks, Left, Item, members, pairs_of, number, Language, Walk, break_heads, members-pairs_of, Keeping, nothing, counted, kept_of, bytes, kept, entry, Spends, SpendsLess, Fields, table_of, Member, named, Members, Naming, row, unknown, wrong, cost_by, kept_in, kept_in_map, greatest_cost, cost_at, keeps_at, keeps_by, keeps_nothing, none_keeps, record_keeps, ◌≡◌, ◌∙◌, ◌<◌, ◌+◌, ℕ, suc, arith, Bool, true, false, if◌then◌else◌, List, [], ◌∷◌, length, map, Option, Some, None, refl, sym, ap, ◌≤◌, ◌*◌, subst, ◌==◌, max, zero, mul-le-mul_left, and_parts, true≢false}
+use Rattle.passkey_kinds.proofs.Common.{raised-le, Lies, Next, Looks, Walks, Left, Item, members, pairs_of, Language, Walk, ahead, break_heads, members-pairs_of, Keeping, nothing, counted, kept_of, kept, Spends, SpendsLess, Fields, table_of, Member, named, Members, Naming, row, unknown, wrong, cost_by, kept_in, kept_in_map, greatest_cost, cost_at, keeps_at, keeps_by, keeps_nothing, none_keeps, record_keeps, ◌≡◌, ◌∙◌, ◌<◌, ◌+◌, ℕ, suc, arith, Bool, true, false, if◌then◌else◌, List, [], ◌∷◌, length, Option, Some, None, refl, sym, ap, ◌≤◌, ◌*◌, subst, ◌==◌, max, zero, mul-le-mul_left, and_parts, true≢false}
 use Rattle.passkey_kinds.proofs.Cursor.{eased, spends_then}
 use Rattle.passkey_cbor.specs.Item as item
 
@@ -43,8 +43,7 @@ heads_end (suc k) from start place a b more to some before look at = rw at (omeg
 
 -- an element of at least one byte leaves a head to spare
 pub one_spare : (k kept to : ℕ) (b d : Walk) → b.place < to → Spends k kept to b d → SpendsLess (suc k) kept to b d
-one_spare k kept to b d less s =
-    record { within = s.within; heads = omega (arith, less, s.heads); nodes = s.nodes }
+one_spare k kept to b d less s = grind (arith)
 
 -- an element's end is no further than the list's
 pub spent_within : {A : Type 0} {P : A → Language} {cost few all to : ℕ} {start : Walk} {after : Option ℕ}

@@ -86,8 +86,7 @@ module _ {P : Type 0} (t : Fields P) where
     -- all members decode to what this one and the others make of the record
     steps : read_members t ms
         ≡ result_and_then (λ n. read_from t others n) (one_more t naming m.1 (reached old marks))
-    steps = h.same ∙ ap (λ r. read_from t r (reached old marks)) at ∙ ap (λ (n : Naming).
-        result_and_then (λ s. read_from t others s) (one_more t n m.1 (reached old marks))) names_it
+    steps = grind (arith, read_from, reached, result_and_then, one_more)
 
     pub goes_on : (new : P) (next : List Bool) → one_more t naming m.1 (reached old marks) ≡ Ok (reached new next)
         → HasReadTo t ms others new next

@@ -1,5 +1,5 @@
 -- Records whose keys ascend, and what follows for their encodings.
-use Rattle.passkey_kinds.proofs.Common.{ByteMap, ComesAfter, AscendFrom, Ascend, IsOrdered, AreOrdered, ArePairsOrdered, IsCanonical, depth, Item, items_of, pairs_of, byte_string, boolean, null, text_string, number, AtMostOneLeadingItem, WrittenIsLeadingItem, max_depth, IsLeadingItem, ctap2_order, IsWritable, ArePairsWritable, written, kept, each, AllCanonical, kept_if_some, WrittenIsCanonical, entries, Members, short_first, Place, record_tree, number_tree, numbers_tree, entry_tree, under, laid, list_tree, byte_map_tree, ◌≡◌, ℕ, suc, arith, Bool, true, ◌&&◌, List, [], ◌∷◌, ◌++◌, length, map, Option, Some, None, option_map, refl, sym, ◌≤◌, subst, pos, ℤ, and_parts, is_lt, Less, Ordering}
+use Rattle.passkey_kinds.proofs.Common.{ByteMap, ComesAfter, AscendFrom, Ascend, IsOrdered, AreOrdered, ArePairsOrdered, IsCanonical, depth, Item, items_of, pairs_of, byte_string, boolean, null, text_string, number, AtMostOneLeadingItem, WrittenIsLeadingItem, max_depth, IsLeadingItem, ctap2_order, IsWritable, ArePairsWritable, written, kept, each, AllCanonical, kept_if_some, WrittenIsCanonical, Members, short_first, Place, record_tree, number_tree, numbers_tree, entry_tree, under, laid, list_tree, byte_map_tree, ◌≡◌, ℕ, suc, arith, Bool, true, ◌&&◌, List, [], ◌∷◌, ◌++◌, length, map, Option, Some, None, option_map, refl, sym, ◌≤◌, subst, pos, ℤ, and_parts, is_lt, Less, Ordering}
 use Rattle.passkey_kinds.proofs.Back.{spread, laid_spread}
 use Rattle.passkey_kinds.proofs.ByteMaps.{entries_ascend}
 use Rattle.passkey_kinds.proofs.Levels.{Within, of_record as levels_of, PlaceHas, EachPlace, PlaceWithin, each_as, spread_has, has_spread, record_within, list_within, map_within, option_has}

@@ -1,5 +1,5 @@
 -- Laws of records and messages.
-use Rattle.passkey_kinds.proofs.Common.{only_one, IsEncodedAt, Grows, Item, Pairs, no_pairs, pair, members, AtMostOneLeadingItem, IsLeadingItem, PassesLeadingItem, Walk, ahead, Went, members-pairs_of, accepted, text, ReadsMessage, Begins, GrowsMessage, ReadsHere, with_length, AlikeDifferInLength, SameButForLength, AnswersCarryOver, KnowsItems, known_member, known, HasNoWrongKey, AnswersAlike, SameAnswers, PassesOverUnknown, KnowsMaps, Onward, Reads, MayGrowAt, Fields, rows_of, table_of, unless_missing, one_more, Progress, result_and_then, read_from, read_members, read_item, Table, entries, named, Members, first_missing, Naming, row, unknown, wrong, accepts_at, record_cost, kept_in_map, DecodesRecord, Repeated, Fault, OutOfMemory, ◌≡◌, ◌∙◌, ◌+◌, ℕ, suc, arith, Bool, true, false, if◌then◌else◌, List, [], ◌∷◌, ◌++◌, length, map, drop, Option, Some, None, refl, sym, ap, rules, ◌≤◌, Result, ◌*◌, subst, take, Ok, Err, ◌==◌, ◌≢◌, ◌||◌, OnErr, IfErr, All-head, All-tail, take-append-drop, drop-drop, length-drop, cons_option}
+use Rattle.passkey_kinds.proofs.Common.{only_one, IsEncodedAt, Grows, Item, Pairs, no_pairs, pair, members, AtMostOneLeadingItem, IsLeadingItem, PassesLeadingItem, Walk, ahead, Went, members-pairs_of, bytes, accepted, ReadsMessage, Begins, GrowsMessage, ReadsHere, with_length, AlikeDifferInLength, SameButForLength, AnswersCarryOver, KnowsItems, known_member, known, HasNoWrongKey, AnswersAlike, SameAnswers, PassesOverUnknown, KnowsMaps, Onward, Reads, MayGrowAt, Fields, rows_of, table_of, unless_missing, one_more, Progress, result_and_then, read_from, read_members, read_item, Table, entries, named, Members, first_missing, Naming, row, unknown, wrong, accepts_at, record_cost, kept_in_map, DecodesRecord, Repeated, Fault, ◌≡◌, ◌∙◌, ◌+◌, ℕ, suc, arith, Bool, true, false, if◌then◌else◌, List, [], ◌∷◌, ◌++◌, length, drop, Option, Some, None, refl, sym, ap, rules, ◌≤◌, Result, ◌*◌, subst, take, Ok, Err, ◌≢◌, OnErr, IfErr, All-head, All-tail, take-append-drop, drop-drop, length-drop, cons_option}
 use Rattle.passkey_kinds.proofs.Cursor.{front_long}
 use Rattle.passkey_kinds.specs.declared.fault.Fault.TheVariants.{Refused}
 use Rattle.passkey_kinds.specs.declared.fault.Fault.TheVariants as fault
@@ -120,8 +120,7 @@ module _ {P : Type 0} (t : Fields P) where
 
   pub same_answers_read_alike : (ms ns : Members) → HasNoWrongKey (table_of t) ms → HasNoWrongKey (table_of t) ns
       → SameAnswers t (known (table_of t) ms) (known (table_of t) ns) → read_members t ms ≡ read_members t ns
-  same_answers_read_alike ms ns right also h =
-      by_known ms _ right ∙ known_alike (known (table_of t) ms) (known (table_of t) ns) h _ ∙ sym (by_known ns _ also)
+  same_answers_read_alike ms ns right also h = grind (arith, by_known, known_alike, known, table_of)
 
   -- ---- faults
 

@@ -1,4 +1,4 @@
-use Rattle.passkey_kinds.proofs.Steps.{ap, arith, collected, kept_sum, kept_parts, decodes_in, after_head, eased, stands_long, option_and_then, suc}
+use Rattle.passkey_kinds.proofs.Steps.{ap, arith, collected, kept_sum, kept_parts, decodes_in, after_head, eased, stands_long, option_and_then}
 use Rattle.std.proofs.Math.Nat.{mul-le-mul_left}
 use Rattle.passkey_kinds.proofs.collect.read_whole.Goals as goal
 

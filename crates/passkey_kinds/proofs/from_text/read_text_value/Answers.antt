@@ -1,4 +1,4 @@
-use Rattle.passkey_kinds.proofs.Steps.{rules, ◌∙◌, true, Some, Ok, Err, sym, ap, err_from_is_err_and, one_named, MayGrow, OutOfMemory, named_text, no_text, lent_decodes, not_lent_decodes, text_grows}
+use Rattle.passkey_kinds.proofs.Steps.{rules, ◌∙◌, Some, sym, ap, err_from_is_err_and, one_named, named_text, no_text, lent_decodes, not_lent_decodes, text_grows}
 use Rattle.passkey_kinds.proofs.from_text.read_text_value.Goals as goal
 
 pub returns-in_err-text_value-in-Some-clause-reads : goal.returns-in_err-text_value-in-Some-clause-reads

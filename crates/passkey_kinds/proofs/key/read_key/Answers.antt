@@ -1,4 +1,4 @@
-use Rattle.passkey_kinds.proofs.Steps.{◌∙◌, ℕ, false, true, map, sym, ap, arith, Item, IsEncodedAt, Walk, Spends, entry_of, number_names, eased, if_some, stands_long, none_wrong, names_number, fits_byte, other_major, not_unsigned, lent_spends, stands_missed}
+use Rattle.passkey_kinds.proofs.Steps.{◌∙◌, ℕ, map, sym, ap, arith, Item, IsEncodedAt, Walk, Spends, entry_of, number_names, eased, if_some, stands_long, none_wrong, names_number, fits_byte, other_major, not_unsigned, lent_spends, stands_missed}
 use Rattle.passkey_kinds.proofs.key.read_key.Goals as goal
 
 -- one head is within the cost of a key

@@ -1,4 +1,4 @@
-use Rattle.passkey_kinds.proofs.Steps.{rules, ◌∙◌, true, sym, ap, one_named, named_text, no_text, lent_decodes, not_lent_decodes, or_refused}
+use Rattle.passkey_kinds.proofs.Steps.{rules, ◌∙◌, sym, ap, one_named, named_text, no_text, lent_decodes, not_lent_decodes, or_refused}
 use Rattle.passkey_kinds.proofs.names.read_named.Goals as goal
 
 pub returns-in-Some-clause-reads : goal.returns-in-Some-clause-reads

@@ -1,4 +1,4 @@
-use Rattle.passkey_kinds.proofs.Steps.{ap, sym, subst, arith, map, ℕ, suc, max_depth, split, named_as, table_of, record_cost, cost_by, kept_of, keeps_by, entry_of, wrong, Naming, one_more, DecodesMember, reached, ends_ok, stands_long, stands_back, key_names, at_least, cost_by_le, key_spent, member_spent}
+use Rattle.passkey_kinds.proofs.Steps.{ap, sym, subst, map, max_depth, split, named_as, table_of, record_cost, cost_by, entry_of, wrong, Naming, one_more, DecodesMember, reached, ends_ok, stands_long, stands_back, key_names, at_least, cost_by_le, key_spent, member_spent}
 use Rattle.passkey_cbor.specs.Inside.{Within}
 use Rattle.passkey_kinds.proofs.record.read_next.Goals as goal
 

@@ -1,4 +1,4 @@
-use Rattle.passkey_kinds.proofs.Steps.{PairWithin, max_depth, bytes, each, Onward, record_cost, kept_in, HasReadTo, Members, ℕ, length, ◌-◌, PairsAreEncodedAt, EachTo}
+use Rattle.passkey_kinds.proofs.Steps.{PairWithin, max_depth, Onward, record_cost, kept_in, HasReadTo, Members, ℕ, length, ◌-◌, PairsAreEncodedAt, EachTo}
 use Rattle.passkey_kinds.proofs.record.read_pairs_ahead.Given as goal
 
 abbrev pub invariant-loop-alloc : goal.invariant-loop-alloc

@@ -1,4 +1,4 @@
-use Rattle.passkey_kinds.proofs.Steps.{members-pairs_of, bytes, MayGrowIn, MayGrowAt, table_of, read_members, read_item, record_cost, kept_in_map, ◌≡◌, ◌∙◌, arith, sym, ap, subst, head_before, eased, stands_long, at_least, kept_pairs, members_are, reads_from, no_record}
+use Rattle.passkey_kinds.proofs.Steps.{members-pairs_of, MayGrowIn, MayGrowAt, table_of, read_members, read_item, record_cost, kept_in_map, ◌≡◌, ◌∙◌, arith, sym, ap, subst, head_before, eased, stands_long, at_least, kept_pairs, members_are, reads_from, no_record}
 use Rattle.passkey_kinds.proofs.record.read_record.Goals as goal
 
 pub returns-in-Some-clause-reads : goal.returns-in-Some-clause-reads

@@ -1,4 +1,4 @@
-use Rattle.passkey_kinds.proofs.Steps.{rules, ◌∙◌, true, false, sym, ap, option_and_then, algorithm_named, algorithm, MayGrow, stands_long, on_ok, lent_decodes, answers_from, flat_decodes, other_number, missed_then, stands_missed, looked_further}
+use Rattle.passkey_kinds.proofs.Steps.{rules, ◌∙◌, sym, ap, option_and_then, algorithm_named, algorithm, stands_long, on_ok, lent_decodes, answers_from, flat_decodes, other_number, missed_then, stands_missed, looked_further}
 use Rattle.passkey_kinds.proofs.algorithm.AlgorithmFromCbor.read.Goals as goal
 
 pub returns-in-Some-clause-reads : goal.returns-in-Some-clause-reads

@@ -1,4 +1,4 @@
-use Rattle.passkey_kinds.proofs.Steps.{◌∙◌, true, false, Some, sym, ap, arith, err_from_is_err_and, bytes, stands_long, on_ok, looks_all, looks_some, lent_decodes, text_grows, bytes_grow, answers_from, decodes_dearer, missed_then, stands_missed, looked_further, bytes_are, elements_in, below, kept_none, list_in}
+use Rattle.passkey_kinds.proofs.Steps.{◌∙◌, false, Some, sym, ap, arith, err_from_is_err_and, bytes, stands_long, on_ok, looks_all, looks_some, lent_decodes, text_grows, bytes_grow, answers_from, decodes_dearer, missed_then, stands_missed, looked_further, bytes_are, elements_in, below, kept_none, list_in}
 use Rattle.passkey_kinds.proofs.bytes.BytesFromCbor.read.Goals as goal
 
 pub returns-in_err-copy-clause-reads : goal.returns-in_err-copy-clause-reads

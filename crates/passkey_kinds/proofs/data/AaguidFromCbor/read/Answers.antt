@@ -1,4 +1,4 @@
-use Rattle.passkey_kinds.proofs.Steps.{rules, ◌∙◌, Err, false, ap, err_from_is_err_and, aaguid, MayGrow, failed, no_aaguid, lent_decodes, not_lent_decodes}
+use Rattle.passkey_kinds.proofs.Steps.{rules, ◌∙◌, ap, err_from_is_err_and, aaguid, failed, no_aaguid, lent_decodes, not_lent_decodes}
 use Rattle.passkey_kinds.proofs.data.AaguidFromCbor.read.Goals as goal
 
 pub returns-in_err-filled-in-Some-clause-reads : goal.returns-in_err-filled-in-Some-clause-reads

@@ -1,4 +1,4 @@
-use Rattle.passkey_kinds.proofs.Steps.{◌∙◌, arith, truth, flat_decodes}
+use Rattle.passkey_kinds.proofs.Steps.{arith, flat_decodes}
 use Rattle.passkey_kinds.proofs.from_cbor.BoolFromCbor.read.Goals as goal
 
 pub returns-clause-reads : goal.returns-clause-reads

@@ -1,4 +1,4 @@
-use Rattle.passkey_kinds.proofs.Steps.{arith, ◌∙◌, map, ap, kept_elements_in, accepted_in}
+use Rattle.passkey_kinds.proofs.Steps.{arith, map, ap, kept_elements_in, accepted_in}
 use Rattle.passkey_kinds.proofs.list.TolerantListFromCbor.read.Goals as goal
 
 pub returns-clause-reads : goal.returns-clause-reads
