@@ -1,9 +1,8 @@
 -- authenticatorGetInfo responses: decoding their encodings again, their nesting levels, and their canonical form.
-use Rattle.passkey_kinds.proofs.Steps.{option_and_then, arith, ◌≡◌, Option, Some, None, refl, Item, shortest_head, kept, optional, EachFits, IsReadBack, Any, Falls, accepts_it, truth_back, anything, optional_place, IsLawful, lawful, plainly, puts_value, puts_default, ◌▸◌, no_more, number_tree, PlaceHas, EachPlace, Rule, list_plain, parameters_law, nat_tests, ℕ, pos, ◌^◌, ◌<◌, ◌≤◌, nat_lt, nat_le, ltb-true, Bool, true, false, ◌&&◌, if◌then◌else◌, option_map, unwrap_or, Result, Ok, Err, OnOk, sym, ap, and_from, depth, max_depth, IfPresent, ReadIsCoherent, size, option_place, record_keeps, not_null, rows_back, size_back, aaguid_back, list_same, byte_back, word_back, text_back, bytes_back, transport_back, list_back, optional_back, all_of_anything, accepted_place, PlaceWithin, Within, record_within, few_levels, and_parts, IsOrdered, AtMostOneLeadingItem, WrittenIsLeadingItem, AllCanonical, WrittenIsCanonical, PlaceOrdered, record_canonical, ordered_of, in_order, kept_if_some, [], ◌∷◌}
+use Rattle.passkey_kinds.proofs.Steps.{option_and_then, arith, ◌≡◌, Option, Some, None, refl, Item, shortest_head, kept, optional, IsReadBack, Any, Falls, accepts_it, truth_back, anything, optional_place, IsLawful, lawful, plainly, puts_value, puts_default, ◌▸◌, no_more, number_tree, PlaceHas, EachPlace, Rule, list_plain, parameters_law, nat_tests, ℕ, pos, ◌^◌, ◌<◌, ◌≤◌, nat_lt, nat_le, ltb-true, Bool, true, false, ◌&&◌, if◌then◌else◌, option_map, unwrap_or, Result, Ok, Err, OnOk, sym, ap, and_from, depth, max_depth, IfPresent, ReadIsCoherent, size, option_place, record_keeps, not_null, rows_back, size_back, aaguid_back, list_same, byte_back, word_back, text_back, bytes_back, transport_back, list_back, optional_back, all_of_anything, accepted_place, PlaceWithin, Within, record_within, few_levels, and_parts, IsOrdered, AtMostOneLeadingItem, WrittenIsLeadingItem, AllCanonical, WrittenIsCanonical, PlaceOrdered, record_canonical, ordered_of, in_order, kept_if_some, [], ◌∷◌}
 use Rattle.std.proofs.Common.{ℕ, List, Bool, ◌<◌, ◌^◌, lt-ltb, is_ok, IfErr, leb-true}
 use Rattle.passkey_cbor.specs.Item.{number, boolean, byte_string}
 use Rattle.passkey_get_info.specs.GetInfo.{version, version_tree, normal_version, extension, extension_tree, normal_extension, options, unless_null, GetInfoParts, get_info_places, get_info_fields, read_get_info, get_info_tree, IsPositive, GetInfoFits, is_encodable, has_room, is_get_info_coherent, normal_get_info, get_info_kept}
-use Rattle.passkey_get_info.specs.declared.options.Options.{Options}
 use Rattle.passkey_kinds.proofs.Levels.{of_record}
 use Rattle.passkey_kinds.specs.Kind.{kept as kept_item, IsSize}
 use Rattle.passkey_kinds.specs.declared.fault.WriteFault.{WriteFault}
