@@ -1,19 +1,14 @@
 //! Laws about messages. Each is the contract of a function that does nothing.
 pub use passkey_extensions::laws::{
-    read_hmac_input_is_coherent, read_hmac_input_knows_maps, read_hmac_input_passes_over_unknown,
     written_hmac_input_is_canonical, written_hmac_input_is_read_back,
     written_keys_ascend as written_extension_keys_ascend,
 };
 pub use passkey_get_assertion::laws::{
-    read_get_request_is_coherent, read_get_request_knows_maps,
-    read_get_request_passes_over_unknown, read_get_response_is_coherent,
-    read_get_response_knows_maps, read_get_response_passes_over_unknown,
     written_get_request_is_canonical, written_get_request_is_read_back,
     written_get_response_is_canonical, written_get_response_is_read_back,
     written_keys_ascend as written_get_option_keys_ascend,
 };
 pub use passkey_get_info::laws::{
-    read_get_info_is_coherent, read_get_info_knows_maps, read_get_info_passes_over_unknown,
     written_get_info_is_canonical, written_get_info_is_read_back,
     written_keys_ascend as written_get_info_option_keys_ascend,
 };
@@ -23,9 +18,6 @@ pub use passkey_kinds::laws::{
     unknown_member_changes_the_length_alone, unknown_member_is_passed_over, written_keys_ascend,
 };
 pub use passkey_make_credential::laws::{
-    read_make_request_is_coherent, read_make_request_knows_maps,
-    read_make_request_passes_over_unknown, read_make_response_is_coherent,
-    read_make_response_knows_maps, read_make_response_passes_over_unknown,
     written_attestation_is_read_back, written_entity_keys_ascend,
     written_keys_ascend as written_make_option_keys_ascend, written_make_request_is_canonical,
     written_make_request_is_read_back, written_make_response_is_canonical,

@@ -6,8 +6,11 @@ use passkey_bytes::{Bytes, List, Map, Text};
 use passkey_cbor::Value;
 use passkey_core::{Aaguid, AuthenticatorData};
 use passkey_entities::MissingRpId;
+use passkey_get_assertion::Request;
 use passkey_iana::Algorithm;
-use passkey_kinds::{ReadBack, Refusal, Shallow, TolerantList, Tolerated, WriteFault, laws};
+use passkey_kinds::{
+    Message, ReadBack, Refusal, Shallow, TolerantList, Tolerated, WriteFault, laws,
+};
 use passkey_webauthn::{
     AuthenticatorTransport, PublicKeyCredentialDescriptor, PublicKeyCredentialType,
 };
@@ -238,4 +241,7 @@ fn laws_at_concrete_types() {
     laws::unknown_member_is_passed_over::<PublicKeyCredentialDescriptor>();
     laws::refused_element_is_passed_over::<u8>();
     laws::same_answers_read_alike::<PublicKeyCredentialDescriptor>();
+    laws::reading_knows_maps::<Request>();
+    laws::unknown_member_changes_the_length_alone::<Request>();
+    Request::decoded_is_coherent();
 }

@@ -5,7 +5,6 @@ ghost use Rattle.passkey_extensions.specs.HmacInput.{HmacInputParts, hmac_input_
 ghost use Rattle.passkey_kinds.specs.declared.fault.Fault.TheVariants.{OutOfMemory as NoRoom};
 ghost use Rattle.passkey_kinds.specs.declared.fault.WriteFault.TheVariants.{OutOfMemory as NoMemory};
 
-use crate::laws::read_hmac_input_is_coherent;
 use passkey_bytes::Bytes;
 use passkey_cbor::{Cursor, MAX_DEPTH, Value};
 use passkey_kinds::{
@@ -118,6 +117,10 @@ impl Record for HmacGetSecretInput {
 
     ghost fields = { hmac_input_fields };
 
+    ghost tree = { hmac_input_tree };
+
+    ghost coherent = { is_hmac_input_coherent };
+
     fn is_numbered() -> bool {
         true
     }
@@ -171,26 +174,8 @@ impl RecordReadBack for HmacGetSecretInput {
 }
 
 impl Message for HmacGetSecretInput {
-    ghost Parts = { HmacInputParts };
-
-    ghost parts = { hmac_input_parts };
-
-    ghost fields = { hmac_input_fields };
-
-    ghost tree = { hmac_input_tree };
-
-    ghost coherent = { is_hmac_input_coherent };
-
-    fn from_slice(alloc: Global, bytes: &[u8]) -> Result<(HmacGetSecretInput, usize), Fault> {
-        HmacGetSecretInput::from_slice(alloc, bytes)
-    }
-
     fn read(alloc: Global, cursor: &mut Cursor<'_>) -> Result<HmacGetSecretInput, Fault> {
         HmacGetSecretInput::read(alloc, cursor)
-    }
-
-    fn from_value(alloc: Global, value: &Value) -> Result<HmacGetSecretInput, Fault> {
-        HmacGetSecretInput::from_value(alloc, value)
     }
 
     fn to_vec(&self, alloc: Global) -> Result<Vec<u8>, WriteFault> {
@@ -201,7 +186,5 @@ impl Message for HmacGetSecretInput {
         HmacGetSecretInput::is_coherent(self)
     }
 
-    fn decoded_is_coherent() {
-        read_hmac_input_is_coherent();
-    }
+    fn decoded_is_coherent() {}
 }

@@ -1,11 +1,9 @@
 //! Laws about the extensions' records. Each is the contract of a function that does nothing.
-ghost use Rattle.passkey_kinds.specs.Words.{WrittenIsReadBack, ReadIsCoherent, WrittenIsCanonical, places_of, PassesOverUnknown, KnowsMaps, KeysAscend};
+ghost use Rattle.passkey_kinds.specs.Words.{WrittenIsReadBack, WrittenIsCanonical, places_of, KeysAscend};
 ghost use Rattle.passkey_extensions.specs.MakeExtensions.{make_extensions_places};
 ghost use Rattle.passkey_extensions.specs.GetExtensions.{get_extensions_places};
-ghost use Rattle.passkey_extensions.specs.HmacInput.{hmac_input_fields, read_hmac_input, hmac_input_parts, hmac_input_tree, HmacInputFits, is_hmac_input_coherent, hmac_input_kept};
+ghost use Rattle.passkey_extensions.specs.HmacInput.{read_hmac_input, hmac_input_tree, HmacInputFits, is_hmac_input_coherent, hmac_input_kept};
 ghost use Rattle.passkey_extensions.specs.Prf.{prf_values, prf_inputs, prf_made};
-
-use crate::HmacGetSecretInput;
 
 /// The encoding of a coherent hmac-secret input, whatever bytes follow, decodes to the input.
 pub fn written_hmac_input_is_read_back()
@@ -34,24 +32,3 @@ pub fn written_keys_ascend()
     ensures creation { KeysAscend make_extensions_places }
     ensures assertion { KeysAscend get_extensions_places }
 {}
-
-/// Decoded hmac-secret inputs are coherent.
-pub fn read_hmac_input_is_coherent()
-    ensures { ReadIsCoherent read_hmac_input is_hmac_input_coherent }
-{}
-
-/// No map decodes to `NotAMap` as an hmac-secret input.
-pub fn read_hmac_input_knows_maps()
-    ensures { KnowsMaps read_hmac_input }
-{
-    passkey_kinds::laws::reading_knows_maps::<HmacGetSecretInput>();
-}
-
-/// A member under an unknown key may be anywhere in an hmac-secret input: for any encodings of the
-/// map with and without the member, of at most 256 nesting levels, the results differ only in their
-/// length in bytes.
-pub fn read_hmac_input_passes_over_unknown()
-    ensures { PassesOverUnknown hmac_input_parts hmac_input_fields }
-{
-    passkey_kinds::laws::unknown_member_changes_the_length_alone::<HmacGetSecretInput>();
-}

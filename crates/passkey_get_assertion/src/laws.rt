@@ -1,10 +1,8 @@
 //! Laws about the messages of authenticatorGetAssertion. Each is the contract of a function that
 //! does nothing.
-ghost use Rattle.passkey_kinds.specs.Words.{KeysAscend, WrittenIsReadBack, ReadIsCoherent, WrittenIsCanonical, places_of, PassesOverUnknown, KnowsMaps};
-ghost use Rattle.passkey_get_assertion.specs.GetRequest.{get_request_fields, read_get_request, get_request_tree, GetRequestFits, is_get_request_coherent, get_request_kept, get_request_parts, options};
-ghost use Rattle.passkey_get_assertion.specs.GetResponse.{get_response_fields, read_get_response, get_response_tree, GetResponseFits, is_get_response_coherent, normal_get_response, get_response_kept, get_response_parts};
-
-use crate::{Request, Response};
+ghost use Rattle.passkey_kinds.specs.Words.{KeysAscend, WrittenIsReadBack, WrittenIsCanonical, places_of};
+ghost use Rattle.passkey_get_assertion.specs.GetRequest.{read_get_request, get_request_tree, GetRequestFits, is_get_request_coherent, get_request_kept, options};
+ghost use Rattle.passkey_get_assertion.specs.GetResponse.{read_get_response, get_response_tree, GetResponseFits, is_get_response_coherent, normal_get_response, get_response_kept};
 
 /// The encoding of a coherent request, whatever bytes follow, decodes to the request.
 pub fn written_get_request_is_read_back()
@@ -12,11 +10,6 @@ pub fn written_get_request_is_read_back()
 {
     passkey_cbor::laws::written_is_leading_item();
 }
-
-/// Decoded requests are coherent.
-pub fn read_get_request_is_coherent()
-    ensures { ReadIsCoherent read_get_request is_get_request_coherent }
-{}
 
 /// The encoding of a coherent response, whatever bytes follow, decodes to the response with the
 /// normal form of its authenticator data.
@@ -27,45 +20,6 @@ pub fn written_get_response_is_read_back()
     passkey_cbor::laws::written_is_leading_item();
     passkey_core::laws::written_data_are_read_back();
     passkey_core::laws::read_is_given();
-}
-
-/// Decoded responses are coherent.
-pub fn read_get_response_is_coherent()
-    ensures { ReadIsCoherent read_get_response is_get_response_coherent }
-{
-    passkey_core::laws::given_data_are_coherent();
-}
-
-/// No map decodes to `NotAMap` as a request.
-pub fn read_get_request_knows_maps()
-    ensures { KnowsMaps read_get_request }
-{
-    passkey_kinds::laws::reading_knows_maps::<Request>();
-}
-
-/// No map decodes to `NotAMap` as a response.
-pub fn read_get_response_knows_maps()
-    ensures { KnowsMaps read_get_response }
-{
-    passkey_kinds::laws::reading_knows_maps::<Response>();
-}
-
-/// A member under an unknown key may be anywhere in a request: for any encodings of the map with
-/// and without the member, of at most 256 nesting levels, the results differ only in their length
-/// in bytes.
-pub fn read_get_request_passes_over_unknown()
-    ensures { PassesOverUnknown get_request_parts get_request_fields }
-{
-    passkey_kinds::laws::unknown_member_changes_the_length_alone::<Request>();
-}
-
-/// A member under an unknown key may be anywhere in a response: for any encodings of the map with
-/// and without the member, of at most 256 nesting levels, the results differ only in their length
-/// in bytes.
-pub fn read_get_response_passes_over_unknown()
-    ensures { PassesOverUnknown get_response_parts get_response_fields }
-{
-    passkey_kinds::laws::unknown_member_changes_the_length_alone::<Response>();
 }
 
 /// The encoding of a coherent request is in CTAP2's canonical form if the encoding of the key in

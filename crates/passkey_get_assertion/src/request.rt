@@ -6,7 +6,6 @@ ghost use Rattle.passkey_kinds.specs.declared.fault.Fault.TheVariants.{OutOfMemo
 ghost use Rattle.passkey_kinds.specs.declared.fault.WriteFault.TheVariants.{OutOfMemory as NoMemory};
 
 use crate::Options;
-use crate::laws::read_get_request_is_coherent;
 use passkey_bytes::{Bytes, List, Text};
 use passkey_cbor::{Cursor, Value};
 use passkey_extensions::get_assertion::ExtensionInputs;
@@ -46,6 +45,10 @@ impl Record for Request {
     ghost parts = { get_request_parts };
 
     ghost fields = { get_request_fields };
+
+    ghost tree = { get_request_tree };
+
+    ghost coherent = { is_get_request_coherent };
 
     fn is_numbered() -> bool {
         true
@@ -166,26 +169,8 @@ impl Request {
 }
 
 impl Message for Request {
-    ghost Parts = { GetRequestParts };
-
-    ghost parts = { get_request_parts };
-
-    ghost fields = { get_request_fields };
-
-    ghost tree = { get_request_tree };
-
-    ghost coherent = { is_get_request_coherent };
-
-    fn from_slice(alloc: Global, bytes: &[u8]) -> Result<(Request, usize), Fault> {
-        Request::from_slice(alloc, bytes)
-    }
-
     fn read(alloc: Global, cursor: &mut Cursor<'_>) -> Result<Request, Fault> {
         Request::read(alloc, cursor)
-    }
-
-    fn from_value(alloc: Global, value: &Value) -> Result<Request, Fault> {
-        Request::from_value(alloc, value)
     }
 
     fn to_vec(&self, alloc: Global) -> Result<Vec<u8>, WriteFault> {
@@ -196,7 +181,5 @@ impl Message for Request {
         Request::is_coherent(self)
     }
 
-    fn decoded_is_coherent() {
-        read_get_request_is_coherent();
-    }
+    fn decoded_is_coherent() {}
 }

@@ -5,7 +5,6 @@ ghost use Rattle.passkey_get_assertion.specs.GetResponse.{GetResponseParts, get_
 ghost use Rattle.passkey_kinds.specs.declared.fault.Fault.TheVariants.{OutOfMemory as NoRoom};
 ghost use Rattle.passkey_kinds.specs.declared.fault.WriteFault.TheVariants.{OutOfMemory as NoMemory};
 
-use crate::laws::read_get_response_is_coherent;
 use passkey_bytes::Bytes;
 use passkey_cbor::{Cursor, Value};
 use passkey_core::AuthenticatorData;
@@ -50,6 +49,10 @@ impl Record for Response {
     ghost parts = { get_response_parts };
 
     ghost fields = { get_response_fields };
+
+    ghost tree = { get_response_tree };
+
+    ghost coherent = { is_get_response_coherent };
 
     fn is_numbered() -> bool {
         true
@@ -169,26 +172,8 @@ impl Response {
 }
 
 impl Message for Response {
-    ghost Parts = { GetResponseParts };
-
-    ghost parts = { get_response_parts };
-
-    ghost fields = { get_response_fields };
-
-    ghost tree = { get_response_tree };
-
-    ghost coherent = { is_get_response_coherent };
-
-    fn from_slice(alloc: Global, bytes: &[u8]) -> Result<(Response, usize), Fault> {
-        Response::from_slice(alloc, bytes)
-    }
-
     fn read(alloc: Global, cursor: &mut Cursor<'_>) -> Result<Response, Fault> {
         Response::read(alloc, cursor)
-    }
-
-    fn from_value(alloc: Global, value: &Value) -> Result<Response, Fault> {
-        Response::from_value(alloc, value)
     }
 
     fn to_vec(&self, alloc: Global) -> Result<Vec<u8>, WriteFault> {
@@ -200,6 +185,6 @@ impl Message for Response {
     }
 
     fn decoded_is_coherent() {
-        read_get_response_is_coherent();
+        passkey_core::laws::given_data_are_coherent();
     }
 }

@@ -8,7 +8,6 @@ ghost use Rattle.passkey_kinds.specs.Placed.{members_of};
 ghost use Rattle.passkey_kinds.specs.declared.fault.Fault.TheVariants.{OutOfMemory as NoRoom};
 ghost use Rattle.passkey_kinds.specs.declared.fault.WriteFault.TheVariants.{NumberTooLarge as TooLarge};
 
-use crate::laws::read_get_info_is_coherent;
 use crate::{Extension, Options, Version};
 use passkey_bytes::{Bytes, List, Text};
 use passkey_cbor::{Cursor, Integer, MAX_DEPTH, Value};
@@ -95,6 +94,10 @@ impl Record for Response {
     ghost parts = { get_info_parts };
 
     ghost fields = { get_info_fields };
+
+    ghost tree = { get_info_tree };
+
+    ghost coherent = { is_get_info_coherent };
 
     fn is_numbered() -> bool {
         true
@@ -307,26 +310,8 @@ impl Response {
 }
 
 impl Message for Response {
-    ghost Parts = { GetInfoParts };
-
-    ghost parts = { get_info_parts };
-
-    ghost fields = { get_info_fields };
-
-    ghost tree = { get_info_tree };
-
-    ghost coherent = { is_get_info_coherent };
-
-    fn from_slice(alloc: Global, bytes: &[u8]) -> Result<(Response, usize), Fault> {
-        Response::from_slice(alloc, bytes)
-    }
-
     fn read(alloc: Global, cursor: &mut Cursor<'_>) -> Result<Response, Fault> {
         Response::read(alloc, cursor)
-    }
-
-    fn from_value(alloc: Global, value: &Value) -> Result<Response, Fault> {
-        Response::from_value(alloc, value)
     }
 
     fn to_vec(&self, alloc: Global) -> Result<Vec<u8>, WriteFault> {
@@ -337,9 +322,7 @@ impl Message for Response {
         Response::is_coherent(self)
     }
 
-    fn decoded_is_coherent() {
-        read_get_info_is_coherent();
-    }
+    fn decoded_is_coherent() {}
 }
 
 /// Returns the size as an integer, or `None` if it is 2^64 or more.

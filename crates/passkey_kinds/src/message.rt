@@ -1,63 +1,55 @@
 //! Messages, decoded from bytes and encoded.
-ghost use Rattle.std.specs.Prelude.{◌≡◌, suc, Bool, true, IfOk, IfErr, OnOk};
-ghost use Rattle.passkey_kinds.specs.Words.{Item, item_of, IsWritable, written, ReadsMessage, ReadsHere, GrowsMessage, ReadIsCoherent, MayGrowAt, Reads, Fields, read_item, table_of, record_cost};
+ghost use Rattle.std.specs.Prelude.{◌≡◌, suc, true, IfOk, IfErr, OnOk};
+ghost use Rattle.passkey_kinds.specs.Words.{item_of, IsWritable, written, ReadsMessage, ReadsHere, GrowsMessage, ReadIsCoherent, MayGrowAt, Reads, read_item, table_of, record_cost};
 ghost use Rattle.passkey_kinds.specs.declared.fault.Fault.TheVariants.{OutOfMemory as NoRoom};
 ghost use Rattle.passkey_kinds.specs.declared.fault.WriteFault.TheVariants.{OutOfMemory as NoMemory};
 
 use crate::record::read_record;
-use crate::{Fault, Record, ToCbor, WriteFault};
+use crate::{Fault, Record, ToCbor, WriteFault, record_from_value};
 use passkey_cbor::{Cursor, Encoder, Value};
 use std::alloc::Global;
 
 /// A CTAP2 message: a map that is decoded from bytes and encoded (CTAP 2.1, sections 6 and 8).
-pub trait Message: Drop {
-    /// What contracts see of a message.
-    ghost Parts: { Type 0 };
-
-    ghost parts: { Self → Parts };
-
-    /// Its members, as those of a record.
-    ghost fields: { Fields Parts };
-
-    /// The data item that a message is encoded as.
-    ghost tree: { Parts → Item };
-
-    /// Whether the message's encoding can be decoded again.
-    ghost coherent: { Parts → Bool };
-
+pub trait Message: Record {
     /// Decodes the message at the beginning of the bytes, and returns it with its length in bytes.
     /// Ignores the bytes after it. The errors are those of `read`.
     fn from_slice(alloc: Global, bytes: &[u8]) -> Result<(Self, usize), Fault>
-        ensures reads { ReadsMessage parts (read_item fields) bytes.now result }
-        ensures grows { result ≡ Err NoRoom → GrowsMessage fields bytes.now };
+        ensures reads { ReadsMessage Self.parts (read_item Self.fields) bytes.now result }
+        ensures grows { result ≡ Err NoRoom → GrowsMessage Self.fields bytes.now }
+    {
+        message_from_slice(alloc, bytes)
+    }
 
     /// Decodes the message at the cursor and moves past it. Returns `DecodeFailed` exactly if no
     /// well-formed data item of at most 256 nesting levels is there; otherwise the errors are those
     /// of `from_value`. On an error the cursor stays, and its counts include what was spent.
     fn read(alloc: Global, cursor: &mut Cursor<'_>) -> Result<Self, Fault>
-        ensures { ReadsHere parts fields 16 cursor.old cursor.new result };
+        ensures { ReadsHere Self.parts Self.fields 16 cursor.old cursor.new result };
 
     /// Decodes the message from a data item. Returns `NotAMap` if the item isn't a map; otherwise
     /// the fault of its first bad member (`BadKey`, `Repeated`, `Refused`), or else `Missing` for
     /// the first required member that is absent. Returns `OutOfMemory` if an allocation fails,
     /// which can only happen for a member that takes memory.
     fn from_value(alloc: Global, value: &Value) -> Result<Self, Fault>
-        ensures { Reads parts (MayGrowAt (table_of fields) (item_of value.now))
-            (read_item fields (item_of value.now)) result };
+        ensures { Reads Self.parts (MayGrowAt (table_of Self.fields) (item_of value.now))
+            (read_item Self.fields (item_of value.now)) result }
+    {
+        record_from_value(alloc, value)
+    }
 
     /// Encodes the message. Returns `OutOfMemory` if an allocation fails, which is the only error
     /// for a coherent message.
     fn to_vec(&self, alloc: Global) -> Result<Vec<u8>, WriteFault>
-        ensures written { IfOk result (λ bytes. bytes.items ≡ written (tree (parts self.now))) }
-        ensures memory { coherent (parts self.now) ≡ true → IfErr result (λ e. e ≡ NoMemory) };
+        ensures written { IfOk result (λ bytes. bytes.items ≡ written (Self.tree (Self.parts self.now))) }
+        ensures memory { Self.coherent (Self.parts self.now) ≡ true → IfErr result (λ e. e ≡ NoMemory) };
 
     /// Returns whether the message's encoding can be decoded again. Allocates nothing.
     fn is_coherent(&self) -> bool
-        ensures { result ≡ coherent (parts self.now) };
+        ensures { result ≡ Self.coherent (Self.parts self.now) };
 
     /// A decoded message is coherent. Does nothing.
     fn decoded_is_coherent()
-        ensures { ReadIsCoherent (read_item fields) coherent };
+        ensures { ReadIsCoherent (read_item Self.fields) Self.coherent };
 }
 
 /// Decodes the message, a map, at the cursor, head by head and without building a data item, and

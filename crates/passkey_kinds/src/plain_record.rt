@@ -56,6 +56,10 @@ impl<R: PlainRecord> Record for R {
 
     ghost fields = { fields_of R.table };
 
+    ghost tree = { plain_tree R.table };
+
+    ghost coherent = { λ r. true };
+
     fn is_numbered() -> bool {
         false
     }

@@ -25,7 +25,7 @@ pub trait RecordReadBack: Record + ToCbor {
 
     /// The encoding of a record decodes to its normal form. Does nothing.
     fn record_back()
-        ensures { IsReadBack (record_kind Self.fields) Self.tree Self.fits (λ x. Self.parts (normal x)) };
+        ensures { IsReadBack (record_kind Self.fields) Self.ToCbor.tree Self.fits (λ x. Self.parts (normal x)) };
 }
 
 impl<R: RecordReadBack> ReadBack for R {

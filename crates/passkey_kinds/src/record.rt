@@ -1,5 +1,5 @@
 //! Records, decoded member by member.
-ghost use Rattle.std.specs.Prelude.{◌≡◌, ◌<◌, ◌≤◌, ℕ, true, false, length, map, replicate, get_or, is_ok, OnOk, set, []};
+ghost use Rattle.std.specs.Prelude.{◌≡◌, ◌<◌, ◌≤◌, ℕ, Bool, true, false, length, map, replicate, get_or, is_ok, OnOk, set, []};
 ghost use Rattle.passkey_kinds.specs.Words.{Item, max_depth, IsEncodedAt, PairsAreEncodedAt, item_of, pair_of, Onward, Further, MayGrowIn, MayGrowAt, Reads, are_small, named_as, Fields, table_of, read_members, read_item, nested, cost_at, keeps_at, Puts, entry_of, Members, entries, named};
 ghost use Rattle.passkey_kinds.specs.Record.{MayGrowBy, first_missing as missing_of, one_more, reached, read_from};
 ghost use Rattle.passkey_kinds.specs.RecordReading.{cost_by, keeps_by, DecodesMember, DecodesMembers, DecodesRecord, held_as};
@@ -23,6 +23,12 @@ pub trait Record: Drop {
 
     /// Its rows, and what it holds before a member is decoded.
     ghost fields: { Fields Parts };
+
+    /// The data item that a record is encoded as.
+    ghost tree: { Parts → Item };
+
+    /// Whether a message's encoding can be decoded again. Only `Message` speaks of it.
+    ghost coherent: { Parts → Bool };
 
     /// Returns whether members have numbers in addition to their names.
     fn is_numbered() -> bool

@@ -1,10 +1,9 @@
 //! Laws about the messages of authenticatorMakeCredential. Each is the contract of a function that
 //! does nothing.
-ghost use Rattle.passkey_kinds.specs.Words.{is_coherent, IsData, normal_data, KeysAscend, WrittenIsReadBack, ReadIsCoherent, WrittenIsCanonical, places_of, PassesOverUnknown, KnowsMaps};
-ghost use Rattle.passkey_make_credential.specs.MakeRequest.{make_request_fields, read_make_request, make_request_tree, MakeRequestFits, is_make_request_coherent, normal_make_request, make_request_kept, make_request_parts, options};
-ghost use Rattle.passkey_make_credential.specs.MakeResponse.{make_response_fields, read_make_response, make_response_tree, MakeResponseFits, is_make_response_coherent, normal_make_response, attestation_tree, unattested, make_response_kept, make_response_parts};
+ghost use Rattle.passkey_kinds.specs.Words.{is_coherent, IsData, normal_data, KeysAscend, WrittenIsReadBack, WrittenIsCanonical, places_of};
+ghost use Rattle.passkey_make_credential.specs.MakeRequest.{read_make_request, make_request_tree, MakeRequestFits, is_make_request_coherent, normal_make_request, make_request_kept, options};
+ghost use Rattle.passkey_make_credential.specs.MakeResponse.{read_make_response, make_response_tree, MakeResponseFits, is_make_response_coherent, normal_make_response, attestation_tree, unattested, make_response_kept};
 
-use crate::{Request, Response};
 pub use passkey_entities::laws::written_keys_ascend as written_entity_keys_ascend;
 
 /// The encoding of a coherent request, whatever bytes follow, decodes to the request with the
@@ -15,11 +14,6 @@ pub fn written_make_request_is_read_back()
 {
     passkey_cbor::laws::written_is_leading_item();
 }
-
-/// Decoded requests are coherent.
-pub fn read_make_request_is_coherent()
-    ensures { ReadIsCoherent read_make_request is_make_request_coherent }
-{}
 
 /// The encoding of a coherent response, whatever bytes follow, decodes to the response with the
 /// normal form of its authenticator data.
@@ -32,13 +26,6 @@ pub fn written_make_response_is_read_back()
     passkey_core::laws::read_is_given();
 }
 
-/// Decoded responses are coherent.
-pub fn read_make_response_is_coherent()
-    ensures { ReadIsCoherent read_make_response is_make_response_coherent }
-{
-    passkey_core::laws::given_data_are_coherent();
-}
-
 /// The attestation object of coherent authenticator data, whatever bytes follow, decodes to a
 /// response with the data's normal form, the format "none" and an empty statement.
 pub fn written_attestation_is_read_back()
@@ -48,38 +35,6 @@ pub fn written_attestation_is_read_back()
     passkey_cbor::laws::written_is_leading_item();
     passkey_core::laws::written_data_are_read_back();
     passkey_core::laws::read_is_given();
-}
-
-/// No map decodes to `NotAMap` as a request.
-pub fn read_make_request_knows_maps()
-    ensures { KnowsMaps read_make_request }
-{
-    passkey_kinds::laws::reading_knows_maps::<Request>();
-}
-
-/// No map decodes to `NotAMap` as a response.
-pub fn read_make_response_knows_maps()
-    ensures { KnowsMaps read_make_response }
-{
-    passkey_kinds::laws::reading_knows_maps::<Response>();
-}
-
-/// A member under an unknown key may be anywhere in a request: for any encodings of the map with
-/// and without the member, of at most 256 nesting levels, the results differ only in their length
-/// in bytes.
-pub fn read_make_request_passes_over_unknown()
-    ensures { PassesOverUnknown make_request_parts make_request_fields }
-{
-    passkey_kinds::laws::unknown_member_changes_the_length_alone::<Request>();
-}
-
-/// A member under an unknown key may be anywhere in a response: for any encodings of the map with
-/// and without the member, of at most 256 nesting levels, the results differ only in their length
-/// in bytes.
-pub fn read_make_response_passes_over_unknown()
-    ensures { PassesOverUnknown make_response_parts make_response_fields }
-{
-    passkey_kinds::laws::unknown_member_changes_the_length_alone::<Response>();
 }
 
 /// The encoding of a coherent request is in CTAP2's canonical form if the encoding of the key in

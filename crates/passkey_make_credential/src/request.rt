@@ -5,7 +5,6 @@ ghost use Rattle.passkey_make_credential.specs.MakeRequest.{MakeRequestParts, ma
 ghost use Rattle.passkey_kinds.specs.declared.fault.Fault.TheVariants.{OutOfMemory as NoRoom};
 ghost use Rattle.passkey_kinds.specs.declared.fault.WriteFault.TheVariants.{OutOfMemory as NoMemory};
 
-use crate::laws::read_make_request_is_coherent;
 use crate::{Options, PublicKeyCredentialRpEntity};
 use passkey_bytes::{Bytes, List, Text};
 use passkey_cbor::{Cursor, Value};
@@ -53,6 +52,10 @@ impl Record for Request {
     ghost parts = { make_request_parts };
 
     ghost fields = { make_request_fields };
+
+    ghost tree = { make_request_tree };
+
+    ghost coherent = { is_make_request_coherent };
 
     fn is_numbered() -> bool {
         true
@@ -188,26 +191,8 @@ impl Request {
 }
 
 impl Message for Request {
-    ghost Parts = { MakeRequestParts };
-
-    ghost parts = { make_request_parts };
-
-    ghost fields = { make_request_fields };
-
-    ghost tree = { make_request_tree };
-
-    ghost coherent = { is_make_request_coherent };
-
-    fn from_slice(alloc: Global, bytes: &[u8]) -> Result<(Request, usize), Fault> {
-        Request::from_slice(alloc, bytes)
-    }
-
     fn read(alloc: Global, cursor: &mut Cursor<'_>) -> Result<Request, Fault> {
         Request::read(alloc, cursor)
-    }
-
-    fn from_value(alloc: Global, value: &Value) -> Result<Request, Fault> {
-        Request::from_value(alloc, value)
     }
 
     fn to_vec(&self, alloc: Global) -> Result<Vec<u8>, WriteFault> {
@@ -218,7 +203,5 @@ impl Message for Request {
         Request::is_coherent(self)
     }
 
-    fn decoded_is_coherent() {
-        read_make_request_is_coherent();
-    }
+    fn decoded_is_coherent() {}
 }

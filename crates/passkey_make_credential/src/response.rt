@@ -5,7 +5,6 @@ ghost use Rattle.passkey_make_credential.specs.MakeResponse.{MakeResponseParts, 
 ghost use Rattle.passkey_kinds.specs.declared.fault.Fault.TheVariants.{OutOfMemory as NoRoom};
 ghost use Rattle.passkey_kinds.specs.declared.fault.WriteFault.TheVariants.{OutOfMemory as NoMemory};
 
-use crate::laws::read_make_response_is_coherent;
 use passkey_bytes::{Bytes, Text};
 use passkey_cbor::{Cursor, Encoder, MAX_DEPTH, Value};
 use passkey_core::AuthenticatorData;
@@ -41,6 +40,10 @@ impl Record for Response {
     ghost parts = { make_response_parts };
 
     ghost fields = { make_response_fields };
+
+    ghost tree = { make_response_tree };
+
+    ghost coherent = { is_make_response_coherent };
 
     fn is_numbered() -> bool {
         true
@@ -172,26 +175,8 @@ impl Response {
 }
 
 impl Message for Response {
-    ghost Parts = { MakeResponseParts };
-
-    ghost parts = { make_response_parts };
-
-    ghost fields = { make_response_fields };
-
-    ghost tree = { make_response_tree };
-
-    ghost coherent = { is_make_response_coherent };
-
-    fn from_slice(alloc: Global, bytes: &[u8]) -> Result<(Response, usize), Fault> {
-        Response::from_slice(alloc, bytes)
-    }
-
     fn read(alloc: Global, cursor: &mut Cursor<'_>) -> Result<Response, Fault> {
         Response::read(alloc, cursor)
-    }
-
-    fn from_value(alloc: Global, value: &Value) -> Result<Response, Fault> {
-        Response::from_value(alloc, value)
     }
 
     fn to_vec(&self, alloc: Global) -> Result<Vec<u8>, WriteFault> {
@@ -203,6 +188,6 @@ impl Message for Response {
     }
 
     fn decoded_is_coherent() {
-        read_make_response_is_coherent();
+        passkey_core::laws::given_data_are_coherent();
     }
 }

@@ -61,6 +61,10 @@ impl Record for ExtensionInputs {
 
     ghost fields = { get_extensions_fields };
 
+    ghost tree = { get_extensions_tree };
+
+    ghost coherent = { λ e. true };
+
     fn is_numbered() -> bool {
         false
     }

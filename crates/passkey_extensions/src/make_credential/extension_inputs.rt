@@ -63,6 +63,10 @@ impl Record for ExtensionInputs {
 
     ghost fields = { make_extensions_fields };
 
+    ghost tree = { make_extensions_tree };
+
+    ghost coherent = { λ e. true };
+
     fn is_numbered() -> bool {
         false
     }

@@ -6,7 +6,7 @@ use Rattle.passkey_run.proofs.rewriting.rewrite_message.Goals as goal
 pub unreachable-requires : goal.unreachable-requires
 unreachable-requires g c =
     let b = c.in_ok-message.ensures.reads in
-    let coherent = c.decoded_is_coherent.ensures c.args.bytes.now (g.M.Message.parts c.in_ok-message.message)
+    let coherent = c.decoded_is_coherent.ensures c.args.bytes.now (g.M.Record.parts c.in_ok-message.message)
     (record { item = b.item; len = b.len; front = b.front; holds = b.holds.1 }) in
     let no : NumberTooLarge ≡ OutOfMemory =
     sym c.in-Err-NumberTooLarge.field-0-is ∙ c.in-Err-NumberTooLarge.ensures.memory coherent in

@@ -1,5 +1,5 @@
 use Rattle.passkey_get_info.proofs.GetInfos.{get_info_coherent}
-use Rattle.passkey_get_info.proofs.laws.read_get_info_is_coherent.Goals as goal
+use Rattle.passkey_get_info.proofs.response.ResponseMessage.decoded_is_coherent.Goals as goal
 
 pub returns : goal.returns
 returns c = get_info_coherent
