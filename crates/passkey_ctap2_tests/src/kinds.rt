@@ -8,9 +8,7 @@ use passkey_core::{Aaguid, AuthenticatorData};
 use passkey_entities::MissingRpId;
 use passkey_get_assertion::Request;
 use passkey_iana::Algorithm;
-use passkey_kinds::{
-    Message, ReadBack, Refusal, Shallow, TolerantList, Tolerated, WriteFault, laws,
-};
+use passkey_kinds::{Message, ReadBack, Refusal, TolerantList, Tolerated, WriteFault, laws};
 use passkey_webauthn::{
     AuthenticatorTransport, PublicKeyCredentialDescriptor, PublicKeyCredentialType,
 };
@@ -237,7 +235,6 @@ fn aaguids(rt: HostRuntime) {
 fn laws_at_concrete_types() {
     List::<u8>::read_back();
     Map::<Bytes, u8>::read_back();
-    List::<u8>::shallow();
     laws::unknown_member_is_passed_over::<PublicKeyCredentialDescriptor>();
     laws::refused_element_is_passed_over::<u8>();
     laws::same_answers_read_alike::<PublicKeyCredentialDescriptor>();

@@ -60,15 +60,6 @@ module _ {P : Type 0} (t : PlainTable P) where
       (normal_unsigned normal)
   unsigned_back {normal} law = grind (arith, kind_back, puts_value, or_null_back, no_more)
 
-  or_null_within : (n : ℕ) → ((r : P) → depth (plain_tree t r) ≤ n) → (o : Option P)
-      → depth (option_tree (plain_tree t) o) ≤ n
-  or_null_within n each None = omega arith
-  or_null_within n each (Some r) = each r
-
-  pub unsigned_levels : (n : ℕ) → ((r : P) → depth (plain_tree t r) ≤ suc n) → (o : UnsignedExtensionOutputs P)
-      → depth (plain_tree (unsigned t) o) ≤ suc (suc n)
-  unsigned_levels n each o = grind (arith, record_within, or_null_within)
-
   or_null_plain : (n : ℕ) → ((r : P) → IsPlain n (plain_tree t r)) → (o : Option P)
       → IsPlain n (option_tree (plain_tree t) o)
   or_null_plain n each None = null_plain n

@@ -34,8 +34,6 @@ impl AuthenticatorPrfGetOutputs {
 impl PlainRecord for AuthenticatorPrfGetOutputs {
     ghost table = { prf_used };
 
-    ghost levels = { 2 };
-
     fn rows() -> &'static [Row] {
         &[Row::Required(1, "results")]
     }

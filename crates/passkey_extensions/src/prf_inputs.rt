@@ -63,8 +63,6 @@ impl AuthenticatorPrfInputs {
 impl PlainRecord for AuthenticatorPrfInputs {
     ghost table = { prf_inputs };
 
-    ghost levels = { 3 };
-
     fn rows() -> &'static [Row] {
         &[
             Row::Optional(1, "eval"),

@@ -42,8 +42,6 @@ impl AuthenticatorPrfMakeOutputs {
 impl PlainRecord for AuthenticatorPrfMakeOutputs {
     ghost table = { prf_made };
 
-    ghost levels = { 2 };
-
     fn rows() -> &'static [Row] {
         &[Row::Required(1, "enabled"), Row::Optional(2, "results")]
     }

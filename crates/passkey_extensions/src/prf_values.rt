@@ -42,8 +42,6 @@ impl AuthenticatorPrfValues {
 impl PlainRecord for AuthenticatorPrfValues {
     ghost table = { prf_values };
 
-    ghost levels = { 1 };
-
     fn rows() -> &'static [Row] {
         &[Row::Required(1, "first"), Row::Optional(2, "second")]
     }

@@ -1,5 +1,5 @@
 //! Unsigned extension outputs.
-ghost use Rattle.std.specs.Prelude.{◌≡◌, suc, is_some, None, option_map};
+ghost use Rattle.std.specs.Prelude.{◌≡◌, is_some, None, option_map};
 ghost use Rattle.passkey_core.specs.SignedOutputs.{where_some};
 ghost use Rattle.passkey_extensions.specs.Prf.{unsigned, normal_unsigned};
 
@@ -37,8 +37,6 @@ impl<P: Drop> UnsignedExtensionOutputs<P> {
 impl<P: PlainRecord> PlainRecord for UnsignedExtensionOutputs<P> {
     ghost table = { unsigned P.table };
 
-    ghost levels = { suc P.levels };
-
     ghost normal = { normal_unsigned P.normal };
 
     fn rows() -> &'static [Row] {
@@ -61,7 +59,7 @@ impl<P: PlainRecord> PlainRecord for UnsignedExtensionOutputs<P> {
         Ok(())
     }
 
-    #[tactic(auto, using(crate::proofs::Extensions::unsigned_back, crate::proofs::Extensions::unsigned_levels,))]
+    #[tactic(auto, using(crate::proofs::Extensions::unsigned_back))]
     fn lawful() {
         P::lawful();
     }

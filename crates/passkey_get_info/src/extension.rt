@@ -6,7 +6,7 @@ ghost use Rattle.passkey_get_info.specs.declared.extension.Extension.{Extension 
 
 use passkey_bytes::Text;
 use passkey_cbor::{Cursor, Encoder, Value};
-use passkey_kinds::{FromCbor, FromText, ReadBack, Refusal, Shallow, ToCbor, read_text_value};
+use passkey_kinds::{FromCbor, FromText, ReadBack, Refusal, ToCbor, read_text_value};
 use passkey_memory::OutOfMemory;
 use std::alloc::Global;
 use std::fmt;
@@ -93,8 +93,4 @@ impl ReadBack for Extension {
 
     #[tactic(auto, using(crate::proofs::GetInfos::extension_back))]
     fn read_back() {}
-}
-
-impl Shallow for Extension {
-    fn shallow() {}
 }

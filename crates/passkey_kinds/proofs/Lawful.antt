@@ -1,5 +1,5 @@
 -- Plain records: they can be decoded again, have few levels, and their keys ascend.
-use Rattle.passkey_kinds.proofs.Common.{depth, shortest_head, made_signed, used_signed, descriptor, parameters, webauthn_user, each, EachFits, fields_of, places_of, PlainTable, members_of, plain_kind, plain_tree, IsReadBack, table_of, KeysAscend, Unknown, ◌≡◌, ℕ, suc, arith, Bool, true, ◌&&◌, List, Option, Some, None, refl, ap, ◌≤◌, zero}
+use Rattle.passkey_kinds.proofs.Common.{shortest_head, made_signed, used_signed, descriptor, parameters, webauthn_user, each, EachFits, fields_of, places_of, PlainTable, members_of, plain_kind, plain_tree, IsReadBack, table_of, KeysAscend, Unknown, ◌≡◌, ℕ, suc, arith, Bool, true, ◌&&◌, List, Option, Some, None, refl, zero}
 use Rattle.passkey_core.specs.SignedOutputs.{creation_item, assertion_item}
 use Rattle.passkey_core.specs.declared.make_credential.SignedExtensionOutputs as creation
 use Rattle.passkey_core.specs.declared.get_assertion.SignedExtensionOutputs as assertion
@@ -21,16 +21,11 @@ raised (suc n) k = suc (raised n k)
 pub record IsLawfulAs {P : Type 0} (normal : P → P) (n : ℕ) (t : PlainTable P) : Type 0 where
   pub back : IsReadBack (plain_kind t) (plain_tree t) (EachFits t.members) normal
   pub plain : (k : ℕ) (r : P) → IsPlain (suc (raised n k)) (plain_tree t r)
-  pub levels : (r : P) → depth (plain_tree t r) ≤ suc n
   pub keys : KeysAscend (places_of t.members)
 
 -- a record that is its own normal form
 abbrev pub IsLawful : {P : Type 0} → ℕ → PlainTable P → Type 0
 IsLawful n t = IsLawfulAs (λ r. r) n t
-
-raised_zero : (n : ℕ) → raised n 0 ≡ n
-raised_zero zero = refl
-raised_zero (suc n) = ap suc (raised_zero n)
 
 module _ {P : Type 0} {normal : P → P} (n : ℕ) (t : PlainTable P) where
   pub lawful : ((r : P) → ascend (places_of t.members r) ≡ true)
@@ -47,8 +42,6 @@ module _ {P : Type 0} {normal : P → P} (n : ℕ) (t : PlainTable P) where
               r) (backs r fits);
         };
     plain = λ k r. record_plain (raised n k) (places_of t.members r) (up r) (each k r);
-    levels = λ r.
-        omega (arith, raised_zero n, (record_plain (raised n 0) (places_of t.members r) (up r) (each 0 r)).levels);
     keys = λ r. keys_ascend (places_of t.members r) (up r);
   }
 

@@ -37,7 +37,7 @@ pub use list::TolerantList;
 pub use message::{Message, message_from_slice, read_message, write_message};
 pub use passkey_memory::OutOfMemory;
 pub use plain_record::PlainRecord;
-pub use read_back::{ReadBack, RecordReadBack, Shallow};
+pub use read_back::{ReadBack, RecordReadBack};
 pub use record::{Record, record_from_value};
 pub use rows::Row;
 pub use sink::Sink;

@@ -1,9 +1,9 @@
 //! Records whose members have names alone, and which keep no data item.
-ghost use Rattle.std.specs.Prelude.{◌≡◌, ◌≤◌, ℕ, suc, true, false, length, map, is_ok, OnOk};
-ghost use Rattle.passkey_kinds.specs.Words.{depth, Item, PlainTable, EachFits, fields_of, places_of, plain_tree, IsReadBack, are_small, table_of, cost_at, keeps_at, Puts, entry_of, AllAccepted, put_all, entries};
+ghost use Rattle.std.specs.Prelude.{◌≡◌, ◌≤◌, ℕ, true, false, length, map, is_ok, OnOk};
+ghost use Rattle.passkey_kinds.specs.Words.{Item, PlainTable, EachFits, fields_of, places_of, plain_tree, IsReadBack, are_small, table_of, cost_at, keeps_at, Puts, entry_of, AllAccepted, put_all, entries};
 ghost use Rattle.passkey_kinds.specs.Placed.{plain_kind};
 
-use crate::{OutOfMemory, Record, RecordReadBack, Refusal, Row, Shallow, Sink, Source, ToCborMap};
+use crate::{OutOfMemory, Record, RecordReadBack, Refusal, Row, Sink, Source, ToCborMap};
 use std::alloc::Global;
 
 /// A record whose members have names alone, and which keeps no data item. One table says how it is
@@ -12,9 +12,6 @@ pub trait PlainRecord: Drop {
     /// What the record holds before a member is decoded, and its members in the order in which they
     /// are encoded.
     ghost table: { PlainTable Self };
-
-    /// The most nesting levels that a member's encoding has.
-    ghost levels: { ℕ } = { 0 };
 
     /// The record that the encoding of a record decodes to.
     ghost normal: { Self → Self } = { λ r. r };
@@ -44,11 +41,9 @@ pub trait PlainRecord: Drop {
         ensures accepts { OnOk result (AllAccepted S.Accepts (places_of table.members self.now)) }
         ensures fits { OnOk result (S.Encodes → EachFits table.members self.now) };
 
-    /// The encoding of a record decodes to its normal form, and no member has more nesting levels.
-    /// Does nothing.
+    /// The encoding of a record decodes to its normal form. Does nothing.
     fn lawful()
-        ensures back { IsReadBack (plain_kind table) (plain_tree table) (EachFits table.members) normal }
-        ensures shallow { (r : Self) → depth (plain_tree table r) ≤ suc levels };
+        ensures { IsReadBack (plain_kind table) (plain_tree table) (EachFits table.members) normal };
 }
 
 impl<R: PlainRecord> Record for R {
@@ -91,14 +86,6 @@ impl<R: PlainRecord> RecordReadBack for R {
     ghost normal = { R.normal };
 
     fn record_back() {
-        R::lawful();
-    }
-}
-
-impl<R: PlainRecord> Shallow for R {
-    ghost levels = { suc R.levels };
-
-    fn shallow() {
         R::lawful();
     }
 }

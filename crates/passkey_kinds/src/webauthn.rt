@@ -16,8 +16,6 @@ use std::alloc::Global;
 impl PlainRecord for PublicKeyCredentialDescriptor {
     ghost table = { descriptor };
 
-    ghost levels = { 1 };
-
     fn rows() -> &'static [Row] {
         &[
             Row::Required(2, "id"),
