@@ -1,16 +1,7 @@
 -- Records can be decoded again from the encodings of their members.
-use Rattle.passkey_kinds.proofs.Common.{Item, boolean, IfPresent, members-pairs_of, truth, Kind, IsReadBack, Fields, set_with, rows_of, table_of, put_at, unless_missing, one_more, Progress, result_and_then, read_from, read_members, read_item, Member, record_kind, Table, entries, named, Members, first_missing, Naming, row, accepts_at, ◌>>=◌, Place, record_tree, under, laid, where_true, ◌≡◌, ◌∙◌, ℕ, arith, Bool, true, false, not, ◌&&◌, List, [], ◌∷◌, ◌++◌, Option, Some, None, is_some, option_map, refl, sym, ap, Ok, append_assoc, ◌==◌, cond, set, ◌||◌, unwrap_or, and_parts, ne_eqb, eqb-true, not-true, eqb-false, append-nil, unsigned_Decides, list_any, result_ok}
+use Rattle.passkey_kinds.proofs.Common.{Item, boolean, IfPresent, members-pairs_of, truth, Kind, IsReadBack, Fields, set_with, rows_of, table_of, put_at, unless_missing, one_more, Progress, result_and_then, read_from, read_members, read_item, Member, record_kind, Table, entries, named, Members, first_missing, Naming, row, accepts_at, ◌>>=◌, Place, record_tree, under, laid, where_true, ◌≡◌, ◌∙◌, ℕ, arith, Bool, true, false, not, ◌&&◌, List, [], ◌∷◌, ◌++◌, Option, Some, None, is_some, option_map, refl, sym, ap, Ok, ◌==◌, cond, set, ◌||◌, unwrap_or, and_parts, ne_eqb, eqb-true, not-true, eqb-false, unsigned_Decides, list_any, result_ok}
 
 -- ---- the values that the places of a record have for its rows
-
--- the members of the places that have a value
-abbrev pub spread : List Place → Members
-spread [] = []
-spread (p ∷ ps) = under p.0 p.1 ++ spread ps
-
-pub laid_spread : (ms : Members) (ps : List Place) → laid ms ps ≡ ms ++ spread ps
-laid_spread ms [] = sym (append-nil ms)
-laid_spread ms (p ∷ ps) = laid_spread (ms ++ under p.0 p.1) ps ∙ append_assoc ms (under p.0 p.1) (spread ps)
 
 abbrev is_row : ℕ → Naming → Bool
 is_row n (row m) = n == m
@@ -169,19 +160,19 @@ module _ {P : Type 0} (t : Fields P) where
         })
         good = grind (arith, given_same)
 
-  with_spread : (fs : List (Member P)) (ps : List Place) (s : Progress P) → Finds t.rows fs
+  with_laid : (fs : List (Member P)) (ps : List Place) (s : Progress P) → Finds t.rows fs
       → have_rows (table_of t) (numbers fs) ps ≡ true → are_distinct (numbers fs) ≡ true → FitAll fs ps
-      → AllUnseen s.seen (numbers fs) → read_from t (spread ps) s ≡ read_from t []
+      → AllUnseen s.seen (numbers fs) → read_from t (laid ps) s ≡ read_from t []
       (record { seen = named_after (numbers fs) ps s.seen; made = put_places fs ps s.made })
-  with_spread [] [] s finds keys apart fit unseen = refl
-  with_spread [] (p ∷ ps) s finds keys apart fit unseen = absurd cc
-  with_spread (m ∷ fs) [] s finds keys apart fit unseen = absurd cc
-  with_spread (m ∷ fs) (p ∷ ps) s finds keys apart fit unseen =
+  with_laid [] [] s finds keys apart fit unseen = refl
+  with_laid [] (p ∷ ps) s finds keys apart fit unseen = absurd cc
+  with_laid (m ∷ fs) [] s finds keys apart fit unseen = absurd cc
+  with_laid (m ∷ fs) (p ∷ ps) s finds keys apart fit unseen =
       let n = m.entry.number in
       let k = and_parts (is_row n (named (table_of t) p.0)) (have_rows (table_of t) (numbers fs) ps) keys in
       let d = and_parts (not (list_any (λ j. n == j) (numbers fs))) (are_distinct (numbers fs)) apart in
-      with_place m p.0 p.1 (spread ps) s (names_it (named (table_of t) p.0) n k.0) unseen.0 finds.0 finds.1 fit.0
-      ∙ with_spread fs ps _ finds.2 k.1 d.1 fit.1 (still_unseen s.seen n (is_some p.1) (numbers fs)
+      with_place m p.0 p.1 (laid ps) s (names_it (named (table_of t) p.0) n k.0) unseen.0 finds.0 finds.1 fit.0
+      ∙ with_laid fs ps _ finds.2 k.1 d.1 fit.1 (still_unseen s.seen n (is_some p.1) (numbers fs)
       (not-true (list_any (λ j. n == j) (numbers fs)) d.0) unseen.1)
 
 -- ---- what one place puts
@@ -246,8 +237,8 @@ pub picked_back : {P : Type 0} (t : Fields P) (fs : List (Member P)) (ps : List 
     → missing_of (table_of t) (numbers fs) ps ≡ None → Backs fs ps t.blank x → read_item t (record_tree ps) ≡ Ok x
 picked_back t fs ps x finds keys complete backs =
     let k = and_parts (have_rows (table_of t) (numbers fs) ps) (are_distinct (numbers fs)) keys in
-    ap (read_members t) (members-pairs_of (laid [] ps) ∙ laid_spread [] ps)
-    ∙ with_spread t fs ps _ finds k.0 k.1 backs.fit (all_unseen (numbers fs))
+    ap (read_members t) (members-pairs_of (laid ps))
+    ∙ with_laid t fs ps _ finds k.0 k.1 backs.fit (all_unseen (numbers fs))
     ∙ (λ j. unless_missing (complete j) (backs.made j))
 
 -- members laid out in the order of the rows can be decoded again

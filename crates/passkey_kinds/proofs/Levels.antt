@@ -1,7 +1,6 @@
 -- The nesting levels of records, by those of the values under their keys.
-use Rattle.passkey_kinds.proofs.Common.{ByteMap, same_tests, depth, pairs_depth, items_depth, Item, items_of, pairs_of, WrittenIsLeadingItem, max_depth, each, WrittenIsReadBack, Members, short_first, AllAccepted, MemberAccepted, Place, record_tree, entry_tree, under, list_tree, byte_map_tree, Fault, ◌≡◌, ◌∙◌, ℕ, suc, arith, Bool, true, ◌&&◌, List, [], ◌∷◌, ◌++◌, map, Option, Some, None, option_map, refl, sym, ap, ◌≤◌, Result, subst, nat_le, Ok, max, le-leb, leb-true}
+use Rattle.passkey_kinds.proofs.Common.{ByteMap, same_tests, depth, pairs_depth, items_depth, Item, items_of, pairs_of, WrittenIsLeadingItem, max_depth, each, WrittenIsReadBack, Members, short_first, AllAccepted, MemberAccepted, Place, record_tree, entry_tree, under, laid, list_tree, byte_map_tree, Fault, ◌≡◌, ◌∙◌, ℕ, suc, arith, Bool, true, ◌&&◌, List, [], ◌∷◌, ◌++◌, map, Option, Some, None, option_map, refl, sym, ap, ◌≤◌, Result, subst, nat_le, Ok, max, le-leb, leb-true}
 use Rattle.std.proofs.Common.{leb-true}
-use Rattle.passkey_kinds.proofs.Back.{spread, laid_spread}
 use Rattle.std.specs.FinMap as fin
 
 -- ---- what holds of each key and value of a record's places
@@ -20,23 +19,23 @@ module _ (Q : Item → Type 0) (All : Members → Type 0) where
   under_has key None ms more here rest = rest
   under_has key (Some x) ms more here rest = more x here.0 here.1 rest
 
-  pub spread_has : ((key x : Item) (ms : Members) → Q key → Q x → All ms → All ((key, x) ∷ ms)) → All []
-      → (ps : List Place) → EachPlace Q ps → All (spread ps)
-  spread_has more none [] h = none
-  spread_has more none (p ∷ ps) h =
-      under_has p.0 p.1 (spread ps) (λ x. more p.0 x (spread ps)) h.0 (spread_has more none ps h.1)
+  pub laid_has : ((key x : Item) (ms : Members) → Q key → Q x → All ms → All ((key, x) ∷ ms)) → All []
+      → (ps : List Place) → EachPlace Q ps → All (laid ps)
+  laid_has more none [] h = none
+  laid_has more none (p ∷ ps) h =
+      under_has p.0 p.1 (laid ps) (λ x. more p.0 x (laid ps)) h.0 (laid_has more none ps h.1)
 
   has_under : (key : Item) (o : Option Item) (ms : Members)
       → ((x : Item) → All ((key, x) ∷ ms) → (Q key × Q x) × All ms) → All (under key o ++ ms) → PlaceHas Q key o × All ms
   has_under key None ms parts h = (tt, h)
   has_under key (Some x) ms parts h = parts x h
 
-  pub has_spread : ((key x : Item) (ms : Members) → All ((key, x) ∷ ms) → (Q key × Q x) × All ms)
-      → (ps : List Place) → All (spread ps) → EachPlace Q ps
-  has_spread parts [] h = tt
-  has_spread parts (p ∷ ps) h =
-      let both = has_under p.0 p.1 (spread ps) (λ x. parts p.0 x (spread ps)) h in
-      (both.0, has_spread parts ps both.1)
+  pub has_laid : ((key x : Item) (ms : Members) → All ((key, x) ∷ ms) → (Q key × Q x) × All ms)
+      → (ps : List Place) → All (laid ps) → EachPlace Q ps
+  has_laid parts [] h = tt
+  has_laid parts (p ∷ ps) h =
+      let both = has_under p.0 p.1 (laid ps) (λ x. parts p.0 x (laid ps)) h in
+      (both.0, has_laid parts ps both.1)
 
 place_as : {Q R : Item → Type 0} → ((i : Item) → Q i → R i) → (key : Item) (o : Option Item) → PlaceHas Q key o
     → PlaceHas R key o
@@ -67,20 +66,17 @@ both_within a b n p q = omega (arith, p, q)
 each_within : (a b n : ℕ) → max a b ≤ n → (a ≤ n) × (b ≤ n)
 each_within a b n p = (omega (arith, p), omega (arith, p))
 
-spread_within : (n : ℕ) (ps : List Place) → Within n ps → pairs_depth (pairs_of (spread ps)) ≤ n
-spread_within n = spread_has (λ i. depth i ≤ n) (λ ms. pairs_depth (pairs_of ms) ≤ n)
+laid_within : (n : ℕ) (ps : List Place) → Within n ps → pairs_depth (pairs_of (laid ps)) ≤ n
+laid_within n = laid_has (λ i. depth i ≤ n) (λ ms. pairs_depth (pairs_of ms) ≤ n)
     (λ key x ms k v rest. grind (arith, both_within)) (omega arith)
-
-record_levels : (ps : List Place) → depth (record_tree ps) ≡ suc (pairs_depth (pairs_of (spread ps)))
-record_levels ps = ap (λ (ms : Members). suc (pairs_depth (pairs_of ms))) (laid_spread [] ps)
 
 -- a record has one level more than its keys and values
 pub record_within : (n : ℕ) (ps : List Place) → Within n ps → depth (record_tree ps) ≤ suc n
-record_within n ps h = omega (arith, record_levels ps, spread_within n ps h)
+record_within n ps h = omega (arith, laid_within n ps h)
 
 pub of_record : (n : ℕ) (ps : List Place) → depth (record_tree ps) ≤ suc n → Within n ps
-of_record n ps h = has_spread (λ i. depth i ≤ n) (λ ms. pairs_depth (pairs_of ms) ≤ n)
-    (λ key x ms h. grind (arith, each_within)) ps (omega (arith, record_levels ps, h))
+of_record n ps h = has_laid (λ i. depth i ≤ n) (λ ms. pairs_depth (pairs_of ms) ≤ n)
+    (λ key x ms h. grind (arith, each_within)) ps (omega (arith, h))
 
 -- ---- lists and maps
 

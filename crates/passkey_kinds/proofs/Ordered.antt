@@ -1,8 +1,7 @@
 -- Records whose keys ascend, and what follows for their encodings.
 use Rattle.passkey_kinds.proofs.Common.{ByteMap, ComesAfter, AscendFrom, Ascend, IsOrdered, AreOrdered, ArePairsOrdered, IsCanonical, depth, Item, items_of, pairs_of, byte_string, boolean, null, text_string, number, AtMostOneLeadingItem, WrittenIsLeadingItem, max_depth, IsLeadingItem, ctap2_order, IsWritable, ArePairsWritable, written, kept, each, AllCanonical, kept_if_some, WrittenIsCanonical, Members, short_first, Place, record_tree, number_tree, numbers_tree, entry_tree, under, laid, list_tree, byte_map_tree, ◌≡◌, ℕ, suc, arith, Bool, true, ◌&&◌, List, [], ◌∷◌, ◌++◌, length, map, Option, Some, None, option_map, refl, sym, ◌≤◌, subst, pos, ℤ, and_parts, is_lt, Less, Ordering}
-use Rattle.passkey_kinds.proofs.Back.{spread, laid_spread}
 use Rattle.passkey_kinds.proofs.ByteMaps.{entries_ascend}
-use Rattle.passkey_kinds.proofs.Levels.{Within, of_record as levels_of, PlaceHas, EachPlace, PlaceWithin, each_as, spread_has, has_spread, record_within, list_within, map_within, option_has}
+use Rattle.passkey_kinds.proofs.Levels.{Within, of_record as levels_of, PlaceHas, EachPlace, PlaceWithin, each_as, laid_has, has_laid, record_within, list_within, map_within, option_has}
 use Rattle.std.specs.FinMap as fin
 
 -- ---- keys that ascend
@@ -38,21 +37,21 @@ under_ascends : (before : Option (List ℕ)) (key : Item) (o : Option Item) (ms 
 under_ascends before key None ms here without rest = without
 under_ascends before key (Some x) ms here without rest = (here, rest)
 
-spread_ascends : (before : Option (List ℕ)) (ps : List Place) → ascend ps ≡ true → AllAfter before ps
-    → AscendFrom before (pairs_of (spread ps))
-spread_ascends before [] h after = tt
-spread_ascends before (p ∷ ps) h after =
+laid_ascends : (before : Option (List ℕ)) (ps : List Place) → ascend ps ≡ true → AllAfter before ps
+    → AscendFrom before (pairs_of (laid ps))
+laid_ascends before [] h after = tt
+laid_ascends before (p ∷ ps) h after =
     let parts = and_parts (leads p.0 ps) (ascend ps) h in
-    under_ascends before p.0 p.1 (spread ps) after.0
-    (spread_ascends before ps parts.1 after.1)
-    (spread_ascends (Some (written p.0)) ps parts.1 (led p.0 ps parts.0))
+    under_ascends before p.0 p.1 (laid ps) after.0
+    (laid_ascends before ps parts.1 after.1)
+    (laid_ascends (Some (written p.0)) ps parts.1 (led p.0 ps parts.0))
 
 none_before : (ps : List Place) → AllAfter None ps
 none_before [] = tt
 none_before (p ∷ ps) = (tt, none_before ps)
 
-pub keys_ascend : (ps : List Place) → ascend ps ≡ true → Ascend (pairs_of (laid [] ps))
-keys_ascend ps h = grind (arith, laid_spread, spread_ascends, none_before)
+pub keys_ascend : (ps : List Place) → ascend ps ≡ true → Ascend (pairs_of (laid ps))
+keys_ascend ps h = laid_ascends None ps h (none_before ps)
 
 -- ---- the values under them
 
@@ -62,11 +61,11 @@ PlaceOrdered = PlaceHas IsOrdered
 abbrev pub AllOrdered : List Place → Type 0
 AllOrdered = EachPlace IsOrdered
 
-spread_ordered : (ps : List Place) → AllOrdered ps → ArePairsOrdered (pairs_of (spread ps))
-spread_ordered = spread_has IsOrdered (λ ms. ArePairsOrdered (pairs_of ms)) (λ key x ms k v rest. ((k, v), rest)) tt
+laid_ordered : (ps : List Place) → AllOrdered ps → ArePairsOrdered (pairs_of (laid ps))
+laid_ordered = laid_has IsOrdered (λ ms. ArePairsOrdered (pairs_of ms)) (λ key x ms k v rest. ((k, v), rest)) tt
 
 pub record_ordered : (ps : List Place) → ascend ps ≡ true → AllOrdered ps → IsOrdered (record_tree ps)
-record_ordered ps h all = grind (arith, keys_ascend, laid_spread, spread_ordered)
+record_ordered ps h all = (keys_ascend ps h, laid_ordered ps all)
 
 items_ordered : {A : Type 0} (tree : A → Item) → ((x : A) → IsOrdered (tree x)) → (xs : List A)
     → AreOrdered (items_of (map tree xs))
@@ -89,8 +88,7 @@ map_ordered tree each m = (entries_ascend tree m, entries_ordered tree each (sho
 -- ---- the values in a record that can be encoded
 
 pub of_record : (ps : List Place) → IsWritable (record_tree ps) → EachPlace IsWritable ps
-of_record ps h = has_spread IsWritable (λ ms. ArePairsWritable (pairs_of ms)) (λ key x ms h. h) ps
-    (subst (λ (ms : Members). ArePairsWritable (pairs_of ms)) (laid_spread [] ps) h.1)
+of_record ps h = has_laid IsWritable (λ ms. ArePairsWritable (pairs_of ms)) (λ key x ms h. h) ps h.1
 
 -- ---- canonical encodings
 
@@ -164,9 +162,6 @@ list_plain n tree each xs = record {
 
 pub numbers_plain : (n : ℕ) (b : List ℕ) → IsPlain (suc n) (numbers_tree b)
 numbers_plain n b = list_plain n number_tree (λ k. number_plain n (pos k)) b
-
-pub numbers_levels : (b : List ℕ) → depth (numbers_tree b) ≤ 1
-numbers_levels b = (numbers_plain 0 b).levels
 
 pub map_plain : (n : ℕ) {A : Type 0} (tree : A → Item) → ((x : A) → IsPlain n (tree x)) → (m : ByteMap A)
     → IsPlain (suc n) (byte_map_tree tree m)

@@ -1,8 +1,7 @@
 -- What sinks hold after the members of a record: a counter, an encoder, and a list of members.
 use Rattle.passkey_kinds.proofs.Common.{pairs_len-pairs_of, pairs_len, Item, pairs_of, IsWritable, ArePairsWritable, shortest_head, written, pairs_written, bytes, accepted, Members, AllAccepted, append_member, encode_member, put_all, Place, record_tree, under, laid, ◌≡◌, ◌<◌, ◌+◌, ℕ, suc, arith, List, [], ◌∷◌, ◌++◌, length, Option, Some, None, refl, sym, append_assoc, ◌^◌, append-nil}
 use Rattle.passkey_kinds.specs.Tree.{put_one}
-use Rattle.passkey_kinds.proofs.Back.{laid_spread, spread}
-use Rattle.passkey_kinds.proofs.Levels.{spread_has}
+use Rattle.passkey_kinds.proofs.Levels.{laid_has}
 
 -- ---- two lists of places, one after the other, in any sink
 
@@ -13,13 +12,14 @@ accepted_both Accepts (p ∷ ps) qs h k = (h.0, accepted_both Accepts ps qs h.1 
 
 -- ---- a list of members
 
-appended_one : (ms : Members) (key : Item) (o : Option Item) → put_one append_member ms key o ≡ ms ++ under key o
+appended_one : (ms : Members) (key : Item) (o : Option Item) (rest : Members)
+    → put_one append_member ms key o ++ rest ≡ ms ++ (under key o ++ rest)
 unfolding put_one
-appended_one ms key None = sym (append-nil ms)
-appended_one ms key (Some x) = refl
+appended_one ms key None rest = refl
+appended_one ms key (Some x) rest = grind (arith, append_assoc)
 
-pub appended_all : (ms : Members) (ps : List Place) → put_all append_member ms ps ≡ laid ms ps
-appended_all ms [] = refl
+pub appended_all : (ms : Members) (ps : List Place) → put_all append_member ms ps ≡ ms ++ laid ps
+appended_all ms [] = sym (append-nil ms)
 appended_all ms (p ∷ ps) = grind (arith, appended_one, appended_all (put_one append_member ms p.0 p.1) ps)
 
 -- ---- a counter
@@ -33,9 +33,9 @@ unfolding put_one
 counted_one n key None ms = refl
 counted_one n key (Some x) ms = omega arith
 
-counted_all : (n : ℕ) (ps : List Place) → put_all count_one n ps ≡ n + length (spread ps)
+counted_all : (n : ℕ) (ps : List Place) → put_all count_one n ps ≡ n + length (laid ps)
 counted_all n [] = omega arith
-counted_all n (p ∷ ps) = grind (arith, counted_one, spread, counted_all (put_one count_one n p.0 p.1) ps)
+counted_all n (p ∷ ps) = grind (arith, counted_one, counted_all (put_one count_one n p.0 p.1) ps)
 
 -- ---- an encoder
 
@@ -47,23 +47,23 @@ encoded_one bytes key None ms = refl
 encoded_one bytes key (Some x) ms = grind (arith, append_assoc)
 
 encoded_all : (bytes : List ℕ) (ps : List Place)
-    → put_all encode_member bytes ps ≡ bytes ++ pairs_written (pairs_of (spread ps))
+    → put_all encode_member bytes ps ≡ bytes ++ pairs_written (pairs_of (laid ps))
 encoded_all bytes [] = sym (append-nil bytes)
-encoded_all bytes (p ∷ ps) = grind (arith, encoded_one, spread, encoded_all (put_one encode_member bytes p.0 p.1) ps)
+encoded_all bytes (p ∷ ps) = grind (arith, encoded_one, encoded_all (put_one encode_member bytes p.0 p.1) ps)
 
-accepted_all : (ps : List Place) → AllAccepted IsWritable ps → ArePairsWritable (pairs_of (spread ps))
-accepted_all = spread_has IsWritable (λ ms. ArePairsWritable (pairs_of ms)) (λ key x ms k v rest. ((k, v), rest)) tt
+accepted_all : (ps : List Place) → AllAccepted IsWritable ps → ArePairsWritable (pairs_of (laid ps))
+accepted_all = laid_has IsWritable (λ ms. ArePairsWritable (pairs_of ms)) (λ key x ms k v rest. ((k, v), rest)) tt
 
 -- ---- a record, encoded as a head with the number of its members, and the members
 
-members_len : (ps : List Place) → put_all count_one 0 ps ≡ pairs_len (pairs_of (spread ps))
-members_len ps = omega (arith, counted_all 0 ps, pairs_len-pairs_of (spread ps))
+members_len : (ps : List Place) → put_all count_one 0 ps ≡ pairs_len (pairs_of (laid ps))
+members_len ps = omega (arith, counted_all 0 ps, pairs_len-pairs_of (laid ps))
 
 pub record_written : (ps : List Place) (n : ℕ) (old behind new : List ℕ) → n ≡ put_all count_one 0 ps
     → behind ≡ old ++ shortest_head 5 n → new ≡ put_all encode_member behind ps
     → new ≡ old ++ written (record_tree ps)
-record_written ps n old behind new count head put = grind (arith, spread, encoded_all, append_assoc, members_len, laid_spread)
+record_written ps n old behind new count head put = grind (arith, encoded_all, append_assoc, members_len)
 
 pub record_writable : (ps : List Place) (n : ℕ) → n ≡ put_all count_one 0 ps → n < 2 ^ 64
     → AllAccepted IsWritable ps → IsWritable (record_tree ps)
-record_writable ps n count fits accepted = grind (arith, spread, members_len, laid_spread, accepted_all)
+record_writable ps n count fits accepted = grind (arith, members_len, accepted_all)

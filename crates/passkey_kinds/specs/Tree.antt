@@ -84,17 +84,17 @@ abbrev pub under : Item → Option Item → Members
 under key None = []
 under key (Some x) = (let m : Item × Item = (key, x) in m) ∷ []
 
--- the members of the places that have a value, after these members
-abbrev pub laid : Members → List Place → Members
-laid ms [] = ms
-laid ms (p ∷ ps) = laid (ms ++ under p.0 p.1) ps
+-- the members of the places that have a value
+abbrev pub laid : List Place → Members
+laid [] = []
+laid (p ∷ ps) = under p.0 p.1 ++ laid ps
 
 abbrev pub record_tree : List Place → Item
-record_tree ps = map_tree (laid [] ps)
+record_tree ps = map_tree (laid ps)
 
 -- the keys of the members that are encoded ascend in CTAP2's order
 abbrev pub KeysAscend : {A : Type 0} → (A → List Place) → Type 0
-KeysAscend {A} places = (x : A) → Ascend (pairs_of (laid [] (places x)))
+KeysAscend {A} places = (x : A) → Ascend (pairs_of (laid (places x)))
 
 -- ---- the data items that names are encoded as (WebAuthn Level 3, section 5)
 
