@@ -1,189 +1,165 @@
 -- Maps from byte strings, with their entries in CTAP2's order.
-use Rattle.passkey_kinds.proofs.Common.{AllByRecursion, nat_cmp, is_lt, ◌≡◌, ◌⊎◌, ℕ, suc, ◌<◌, ◌≤◌, ◌==◌, nat_le, Bool, true, false, cond, List, [], ◌∷◌, length, map, refl, sym, ap, ◌∙◌, arith, inl, inr, Bor, cases_lt, nat_tests, put_by, sorted_by, rules, ◌+◌, ◌^◌, nat_lt, if◌then◌else◌, ◌++◌, slice_cmp, length-append, byte_string, IsShortFirst, shortest_head, written, eq_by_cmp, Ordering, Less, ◌≢◌, ◌&&◌, Option, Some, None, option_map, nat_list_cmp_total, ByteMap, put_each, same_bytes, ComesAfter, AscendFrom, Ascend, Item, pairs_of, short_first, entry_tree, T, slice_index_or, key_type, IsBefore, always_returns_same, IsNonDecreasingBy-from_sort_by_key, nat_cmp_is, bytes_decides, texts_ties, below_all, is_sorted, ComputesKey, Called, Mut, filter, IsNonDecreasingBy, IsSortedByKey, IsStableByKey, ties, is_eq, Equal}
+use Rattle.passkey_kinds.proofs.Common.{All, AllByRecursion, nat_cmp, is_lt, ◌≡◌, ◌⊎◌, ℕ, ◌<◌, ◌≤◌, Bool, true, false, cond, List, [], ◌∷◌, length, map, refl, sym, ap, ◌∙◌, arith, inl, inr, nat_tests, rules, ◌+◌, ◌++◌, slice_cmp, length-append, byte_string, short_first, shortest_head, written, eq_by_cmp, Ordering, Less, ◌&&◌, Option, Some, None, option_map, nat_list_cmp_total, ByteMap, put_each, same_bytes, same_tests, AscendFrom, Ascend, Item, pairs_of, entry_tree, T, key_type, IsBefore, nat_cmp_is, bytes_decides, texts_ties, below_all, is_sorted, is_eq, Equal, map_values, by_length, length-map, None, option_or, get_or, get_or-map, slice_get-get_or}
+use Rattle.std.proofs.lemmas.Cmp.{nat_cmp_total, on_total, then_total, tied_itself, eq_by_cmp_equiv}
+use Rattle.std.proofs.lemmas.List.Elements.{recursion_from_All}
+use Rattle.std.proofs.lemmas.List.Sorted.{All-permutation, IsPermutation-sym, IsPermutation-map}
+use Rattle.std.proofs.lemmas.Map.Entries.{lookup_from_place}
+use Rattle.std.proofs.lemmas.Map.Keys.{IsDistinct-IsPermutation, apart_from_distinct, sorted_from_all_adjacent}
+use Rattle.std.specs.Cmp.{IsTotalOrder}
+use Rattle.std.specs.List.{IsDistinct}
+use Rattle.std.specs.List.Sorted.{IsPermutation, IsSortedBy, IsStrictlySortedBy}
+use Rattle.std.specs.Map.{keys_of}
+use Rattle.std.specs.Ordering.{ordering_reverse, ordering_then}
+use Rattle.passkey_kinds.proofs.Lists.{get-map_values}
 use Rattle.std.specs.FinMap as fin
 
--- ---- numbers
+-- ---- the order of the keys
 
-same_number : (n m : ℕ) → n ≡ m → (n == m) ≡ true
-same_number n m e = grind (arith, nat_tests)
+by_length_total : IsTotalOrder by_length
+by_length_total = then_total (on_total length nat_cmp_total) nat_list_cmp_total
 
-other_number : (n m : ℕ) → (n < m) ⊎ (m < n) → (n == m) ≡ false
-other_number n m (inl lt) = grind (arith, nat_tests)
-other_number n m (inr lt) = grind (arith, nat_tests)
+-- the keys that this order and that of the bytes tell apart are the same
+alike : (a b : List ℕ) → eq_by_cmp by_length a b ≡ eq_by_cmp (slice_cmp nat_cmp) a b
+alike a b = same_tests _ _ (second (nat_cmp (length a) (length b)) (slice_cmp nat_cmp a b))
+    (λ tied. ap (λ c. eq_by_cmp by_length a c) (sym ((bytes_decides a b).0 (texts_ties a b ∙ tied)))
+    ∙ ap is_eq (tied_itself by_length_total a)) where
+      second : (r s : Ordering) → is_eq (ordering_then r s) ≡ true → is_eq s ≡ true
+      second Less s h = absurd cc
+      second Equal s h = h
+      second _ s h = absurd cc
 
-pub at_most : (n m : ℕ) → n ≤ m → nat_le n m ≡ true
-at_most n m le = grind (arith, nat_tests)
+same_key : (a b : List ℕ) → eq_by_cmp by_length a b ≡ true → a ≡ b
+same_key a b h = (bytes_decides a b).0 (texts_ties a b ∙ sym (alike a b) ∙ h)
 
-pub above : (n m : ℕ) → m < n → nat_le n m ≡ false
-above n m lt = grind (arith, nat_tests)
+equal_is : (o : Ordering) → o ≡ Equal → is_eq o ≡ true
+equal_is o e = ap is_eq e
 
-tie_of : (n m : ℕ) → ties (λ a b. is_lt (nat_cmp a b)) n m ≡ (m == n)
-tie_of n m = grind (arith, cases_lt, other_number, same_number)
+both : (a b : Bool) → T (a && b) → T a × T b
+both true b h = (tt, h)
+both false b h = absurd h
 
-module _ {X : Type 0} (number : X → ℕ) where
-  -- the elements with this number
-  abbrev pub of : ℕ → List X → List X
-  of n xs = filter (λ y. number y == n) xs
+less_is : (o : Ordering) → T (is_lt o) → o ≡ Less
+less_is Less h = refl
+less_is _ h = absurd h
 
-  abbrev kept : Bool → X → List X → List X
-  kept true x xs = x ∷ xs
-  kept false x xs = xs
+joined : (a b : Bool) → T a → T b → T (a && b)
+joined true b g h = h
+joined false b g h = absurd g
 
-  of-cons : (n : ℕ) (x : X) (xs : List X) → of n (x ∷ xs) ≡ kept (number x == n) x (of n xs)
-  of-cons n x xs = grind arith
+rises : (o p : Ordering) → o ≡ ordering_reverse p → is_lt p ≡ false → is_eq o ≡ false → o ≡ Less
+rises o p e up apart = grind arith
 
-  -- two elements with different numbers change places
-  swapped : (n : ℕ) (x y : X) (xs : List X) → number y < number x
-      → kept (number y == n) y (kept (number x == n) x xs) ≡ kept (number x == n) x (kept (number y == n) y xs)
-  swapped n x y xs lt = grind (arith, nat_tests, other_number)
+pub sorted-map : {X Y : Type 0} (f : X → Y) (lt : Y → Y → Bool) (xs : List X) → IsSortedBy (λ x y. lt (f x) (f y)) xs
+    → IsSortedBy lt (map f xs)
+sorted-map f lt [] up k d low less = absurd (omega (arith, less))
+sorted-map f lt (x ∷ xs) up k d low less =
+    let within : k + 1 < length (x ∷ xs) = omega (arith, less, length-map (x ∷ xs) f) in
+    rw (get_or-map f (x ∷ xs) (k + 1) x d within, get_or-map f (x ∷ xs) k x d (omega (arith, within)))
+    (up k x low within)
 
-  of-put_by : (n : ℕ) (x : X) (ys : List X) → of n (put_by number x ys) ≡ kept (number x == n) x (of n ys)
-  of-put_by n x [] = of-cons n x []
-  of-put_by n x (y ∷ ys) = grind (arith, cases_lt, at_most, of-cons, above, swapped, of-put_by n x ys)
+module _ {A : Type 0} where
+  find-alike : (q : List ℕ) (es : List (List ℕ × A)) → fin.find by_length q es ≡ fin.find (slice_cmp nat_cmp) q es
+  find-alike q [] = refl
+  find-alike q (e ∷ es) = λ i. cond (alike q e.0 i) (Some e.1) (find-alike q es i)
 
-  of-sorted_by : (n : ℕ) (xs : List X) → of n (sorted_by number xs) ≡ of n xs
-  of-sorted_by n [] = refl
-  of-sorted_by n (x ∷ xs) = grind (arith, of-put_by, of-cons, of-sorted_by n xs)
+  -- ---- sorted entries have distinct keys, and entries with distinct keys have one order
 
-  -- ---- ascending numbers
+  apart_from : (k : List ℕ) (es : List (List ℕ × A)) → T (below_all (slice_cmp nat_cmp) k es)
+      → AllByRecursion (λ q. eq_by_cmp by_length k q ≡ false) (keys_of es)
+  apart_from k [] h = tt
+  apart_from k (e ∷ es) h =
+      let p = both _ _ h in
+      (alike k e.0 ∙ ap is_eq (less_is (slice_cmp nat_cmp k e.0) p.0), apart_from k es p.1)
 
-  abbrev pub Rising : ℕ → List X → Type 0
-  Rising low [] = Unit {0}
-  Rising low (x ∷ xs) = (low ≤ number x) × Rising (number x) xs
+  distinct : (es : List (List ℕ × A)) → T (is_sorted (slice_cmp nat_cmp) es)
+      → IsDistinct (eq_by_cmp by_length) (keys_of es)
+  unfolding IsDistinct
+  distinct [] h = tt
+  distinct (e ∷ es) h = let p = both _ _ h in (apart_from e.0 es p.0, distinct es p.1)
 
-  put_by-rising : (low : ℕ) (x : X) (ys : List X) → low ≤ number x → Rising low ys → Rising low (put_by number x ys)
-  put_by-rising low x [] le r = (le, tt)
-  put_by-rising low x (y ∷ ys) le r = grind (arith, cases_lt, at_most, above, put_by-rising (number y) x ys)
+  below : (k : List ℕ) (es : List (List ℕ × A)) → AllByRecursion (λ q. by_length k q ≡ Less) (keys_of es)
+      → T (below_all by_length k es)
+  below k [] h = tt
+  below k (e ∷ es) h = rw h.0 (below k es h.1)
 
-  sorted_by-rising : (xs : List X) → Rising 0 (sorted_by number xs)
-  sorted_by-rising [] = tt
-  sorted_by-rising (x ∷ xs) = put_by-rising 0 x (sorted_by number xs) (omega arith) (sorted_by-rising xs)
+  sorted : (es : List (List ℕ × A)) → IsStrictlySortedBy by_length (keys_of es) → T (is_sorted by_length es)
+  unfolding IsStrictlySortedBy
+  sorted [] h = tt
+  sorted (e ∷ es) h = joined _ _ (below e.0 es h.0) (sorted es h.1)
 
-  none_below : (n low : ℕ) (xs : List X) → n < low → Rising low xs → of n xs ≡ []
-  none_below n low [] lt r = refl
-  none_below n low (x ∷ xs) lt r = grind (arith, of-cons, other_number, none_below n (number x) xs (omega (arith, lt, r.0)) r.1, nat_tests)
+  -- each entry's value is found under its key
+  found : (es : List (List ℕ × A)) → IsDistinct (eq_by_cmp by_length) (keys_of es)
+      → All (λ e. fin.find by_length e.0 es ≡ Some e.1) es
+  found es apart = λ k d less.
+      lookup_from_place (eq_by_cmp_equiv by_length_total) es k _ _ apart (slice_get-get_or es k d less)
 
-  first_is : (x y : X) (xs ys : List X) → x ∷ xs ≡ y ∷ ys → (x ≡ y) × (xs ≡ ys)
-  first_is x y xs ys e = (cc, cc)
+  still_found : (es fs : List (List ℕ × A)) → AllByRecursion (λ e. fin.find by_length e.0 fs ≡ Some e.1) es
+      → (q : List ℕ) (v : A) → fin.find by_length q es ≡ Some v → fin.find by_length q fs ≡ Some v
+  still_found [] fs all q v h = absurd cc
+  still_found (e ∷ es) fs all q v h = elim (eq_by_cmp by_length q e.0) as (λ b. eq_by_cmp by_length q e.0 ≡ b
+      → cond b (Some e.1) (fin.find by_length q es) ≡ Some v → fin.find by_length q fs ≡ Some v) [
+        | true ↦ λ same h. rw (same_key q e.0 same) (all.0 ∙ h)
+        | false ↦ λ other h. still_found es fs all.1 q v h
+      ] refl h
 
-  not_none : (x : X) (xs : List X) → x ∷ xs ≡ [] → ⊥
-  not_none x xs e = absurd cc
+  agree : (o p : Option A) → ((v : A) → o ≡ Some v → p ≡ Some v) → ((v : A) → p ≡ Some v → o ≡ Some v) → o ≡ p
+  agree o p there back = grind arith
 
-  of-first : (x : X) (xs : List X) → of (number x) (x ∷ xs) ≡ x ∷ of (number x) xs
-  of-first x xs = of-cons (number x) x xs ∙ rw (same_number (number x) (number x) refl) refl
+  -- the entries of a map, sorted by their keys in this order
+  pub short_first_is : (es fs : List (List ℕ × A)) → T (is_sorted (slice_cmp nat_cmp) es) → IsPermutation es fs
+      → IsSortedBy (λ e f. is_lt (by_length e.0 f.0)) fs → fs ≡ short_first es
+  short_first_is es fs given moved up =
+      let ks = keys_of fs in
+      let In : List (List ℕ × A) → List ℕ × A → Type 0 = λ gs e. fin.find by_length e.0 gs ≡ Some e.1 in
+      let apart = IsDistinct-IsPermutation _ (eq_by_cmp_equiv by_length_total).symm _ ks
+      (IsPermutation-map (λ e. e.0) es fs moved) (distinct es given) in
+      let up_keys = sorted-map (λ (e : List ℕ × A). e.0) (λ j k. is_lt (by_length j k)) fs up in
+      let up_strictly = sorted fs (sorted_from_all_adjacent by_length_total ks [] (λ k less.
+      rises (by_length (get_or ks k []) (get_or ks (k + 1) [])) (by_length (get_or ks (k + 1) []) (get_or ks k []))
+      (by_length_total.antisymm (get_or ks k []) (get_or ks (k + 1) [])) (up_keys k [] (omega arith) less)
+      (apart_from_distinct _ ks k (k + 1) [] apart (omega arith) less))) in
+      let here = recursion_from_All (In es) fs (All-permutation (In es) es fs moved (found es (distinct es given))) in
+      let there = recursion_from_All (In fs) es
+      (All-permutation (In fs) fs es (IsPermutation-sym es fs moved) (found fs apart)) in
+      sym (fin.entries-from_sorted by_length fs up_strictly)
+      ∙ ap fin.entries (fin.same_map by_length_total (λ j k e. same_key j k (ap is_eq e)) _ _
+      (λ q. fin.get-from_sorted by_length fs q up_strictly
+      ∙ agree _ _ (still_found fs es here q) (still_found es fs there q)
+      ∙ sym (fin.get-from_entries by_length_total es q)))
 
-  same_kept : (b : Bool) (x : X) (xs ys : List X) → kept b x xs ≡ kept b x ys → xs ≡ ys
-  same_kept true x xs ys e = (first_is x x xs ys e).1
-  same_kept false x xs ys e = e
+  -- what holds of each value
+  put-each : (P : A → Type 0) (k : List ℕ) (v : A) (es : List (List ℕ × A)) → P v → AllByRecursion (λ e. P e.1) es
+      → AllByRecursion (λ e. P e.1) (fin.put by_length k v es)
+  put-each P k v [] h all = (h, tt)
+  put-each P k v (e ∷ es) h all = grind (arith, put-each P k v es h all.1)
 
-  tied : (x y : X) (xs ys : List X) → Rising (number x) xs → Rising (number y) ys
-      → ((z : X) → of (number z) (x ∷ xs) ≡ of (number z) (y ∷ ys)) → number x ≡ number y → (Rising (number x) xs
-      → Rising (number x) ys → ((z : X) → of (number z) xs ≡ of (number z) ys) → xs ≡ ys) → x ∷ xs ≡ y ∷ ys
-  tied x y xs ys r s same e others_same = grind (arith, first_is, of-first, same_kept, of-cons)
+  none_each : (P : A → Type 0) (es : List (List ℕ × A)) → length es ≡ 0 → AllByRecursion (λ e. P e.1) es
+  none_each P [] none = tt
+  none_each P (e ∷ es) none = absurd (omega arith)
 
-  -- ascending lists with the same elements of each number, in the same order, are equal
-  rising_same : (low : ℕ) (xs ys : List X) → Rising low xs → Rising low ys
-      → ((z : X) → of (number z) xs ≡ of (number z) ys) → xs ≡ ys
-  rising_same low [] [] r s same = refl
-  rising_same low [] (y ∷ ys) r s same = absurd (not_none y (of (number y) ys) (sym (of-first y ys) ∙ sym (same y)))
-  rising_same low (x ∷ xs) [] r s same = absurd (not_none x (of (number x) xs) (sym (of-first x xs) ∙ same x))
-  rising_same low (x ∷ xs) (y ∷ ys) r s same = elim (cases_lt (number x) (number y)) [
-    | inl lt ↦ absurd (not_none x (of (number x) xs)
-        (sym (of-first x xs) ∙ same x ∙ none_below (number x) (number y) (y ∷ ys) lt (omega arith, s.1)))
-    | inr ge ↦ elim (cases_lt (number y) (number x)) [
-      | inl lt ↦ absurd (not_none y (of (number y) ys)
-          (sym (of-first y ys) ∙ sym (same y) ∙ none_below (number y) (number x) (x ∷ xs) lt (omega arith, r.1)))
-      | inr le ↦ tied x y xs ys r.1 s.1 same (omega (arith, ge, le)) (rising_same (number x) xs ys)
-    ]
-  ]
-
-  -- ---- what a stable sort returns
-
-  rising_from : (low : ℕ) (xs : List X) → ((d : X) → 0 < length xs → low ≤ number (slice_index_or xs 0 d))
-      → IsNonDecreasingBy number xs → Rising low xs
-  rising_from low [] first rises = tt
-  rising_from low (x ∷ xs) first rises = (
-    first x (omega arith),
-    rising_from (number x) xs (λ d some. rises 0 1 d (omega arith) (omega (arith, some)))
-        (λ i j d le lt. rises (suc i) (suc j) d (omega (arith, le)) (omega (arith, lt))),
-  )
-
-  filter_same : (p q : X → Bool) (xs : List X) → ((x : X) → p x ≡ q x) → filter p xs ≡ filter q xs
-  filter_same p q [] same = refl
-  filter_same p q (x ∷ xs) same = rw (same x) (ap (λ zs. cond (q x) (x ∷ zs) zs) (filter_same p q xs same))
-
-  stable_of : (xs ys : List X) → IsStableByKey number nat_cmp xs ys → (x : X) → of (number x) ys ≡ of (number x) xs
-  stable_of xs ys stable x =
-      filter_same (λ y. number y == number x) (ties (λ a b. is_lt (nat_cmp (number a) (number b))) x) ys
-      (λ y. sym (tie_of (number x) (number y)))
-      ∙ stable x
-      ∙ filter_same (ties (λ a b. is_lt (nat_cmp (number a) (number b))) x) (λ y. number y == number x) xs
-      (λ y. tie_of (number x) (number y))
-
-  -- what `sort_by_key` ensures, where each call returns the number
-  pub sorted_is : {F : Type 0} {g : Mut F (Bor X × Unit {0}) ℕ} {f : F} (xs ys : List X)
-      → ((key : X → ℕ) → ComputesKey g key f → IsSortedByKey key nat_cmp ys)
-      → ((key : X → ℕ) → ComputesKey g key f → IsStableByKey key nat_cmp xs ys)
-      → ((a : Bor X × Unit {0}) (r : ℕ) (f' : F) → Called g f a r f' → (r ≡ number a.0.now) × (f' ≡ f))
-      → ys ≡ sorted_by number xs
-  sorted_is {g = g} {f = f} xs ys up stable calls =
-      let rises = IsNonDecreasingBy-from_sort_by_key number ys up calls in
-      rising_same 0 ys (sorted_by number xs)
-      (rising_from 0 ys (λ d some. omega arith) rises)
-      (sorted_by-rising xs)
-      (λ z. stable_of xs ys (stable number (always_returns_same g (λ a r. r ≡ number a.0.now) f calls)) z
-      ∙ sym (of-sorted_by (number z) xs))
-
--- sorting images by their numbers
-put_by-map : {X Y : Type 0} (f : X → Y) (number : Y → ℕ) (x : X) (ys : List X)
-    → map f (put_by (λ z. number (f z)) x ys) ≡ put_by number (f x) (map f ys)
-put_by-map f number x [] = refl
-put_by-map f number x (y ∷ ys) = grind (arith, cases_lt, at_most, above, put_by-map f number x ys)
-
-pub sorted_by-map : {X Y : Type 0} (f : X → Y) (number : Y → ℕ) (xs : List X)
-    → map f (sorted_by (λ z. number (f z)) xs) ≡ sorted_by number (map f xs)
-sorted_by-map f number [] = refl
-sorted_by-map f number (x ∷ xs) = grind (arith, put_by-map, sorted_by-map f number xs)
-
--- what holds of each element
-module _ {X : Type 0} (number : X → ℕ) (P : X → Type 0) where
-  put_by-each : (x : X) (ys : List X) → P x → AllByRecursion P ys → AllByRecursion P (put_by number x ys)
-  put_by-each x [] h hs = (h, tt)
-  put_by-each x (y ∷ ys) h hs = grind (arith, cases_lt, at_most, above, put_by-each x ys h hs.1)
-
-  pub sorted_by-each : (xs : List X) → AllByRecursion P xs → AllByRecursion P (sorted_by number xs)
-  sorted_by-each [] hs = tt
-  sorted_by-each (x ∷ xs) hs = put_by-each x (sorted_by number xs) hs.0 (sorted_by-each xs hs.1)
+  pub short_first-each : (P : A → Type 0) (es : List (List ℕ × A)) → AllByRecursion (λ e. P e.1) es
+      → AllByRecursion (λ e. P e.1) (short_first es)
+  short_first-each P [] all = none_each P _ (sym (fin.len-entries _) ∙ fin.len-empty by_length A)
+  short_first-each P (e ∷ es) all = rw (fin.entries-insert by_length_total (fin.from_entries es) e.0 e.1)
+      (put-each P e.0 e.1 (short_first es) all.0 (short_first-each P es all.1))
 
 -- ---- byte strings as map keys: their encodings are in CTAP2's order if the shorter key comes first,
 -- and of two keys with the same length the lower one
-
--- the number of bytes after the initial byte of the shortest head
-abbrev behind : ℕ → ℕ
-behind n =
-    if nat_lt n 24 then 0
-    else if nat_lt n (2 ^ 8) then 1
-    else if nat_lt n (2 ^ 16) then 2
-    else if nat_lt n (2 ^ 32) then 4
-    else 8
 
 -- the shortest head has an initial byte with its major type, and this many bytes after it
 head_type : (n : ℕ) (s : List ℕ) → key_type (shortest_head 2 n ++ s) ≡ 2
 unfolding shortest_head
 head_type n s = grind (arith, nat_tests)
 
-head_length : (n : ℕ) → length (shortest_head 2 n) ≡ 1 + behind n
+head_rises : (n m : ℕ) → n ≤ m → length (shortest_head 2 n) ≤ length (shortest_head 2 m)
 unfolding shortest_head
-head_length n = grind (arith, nat_tests)
-
-behind_rises : (n m : ℕ) → n ≤ m → behind n ≤ behind m
-behind_rises n m le = grind (arith, nat_tests)
+head_rises n m le = grind (arith, nat_tests)
 
 key_type_is : (s : List ℕ) → key_type (written (byte_string s)) ≡ 2
 key_type_is s = head_type (length s) s
 
-encoded_long : (s : List ℕ) → length (written (byte_string s)) ≡ 1 + behind (length s) + length s
-encoded_long s = omega (arith, length-append (shortest_head 2 (length s)) s, head_length (length s))
+encoded_long : (s : List ℕ) → length (written (byte_string s)) ≡ length (shortest_head 2 (length s)) + length s
+encoded_long s = length-append (shortest_head 2 (length s)) s
 
 -- a common prefix doesn't matter
 behind_common : (t a b : List ℕ) → slice_cmp nat_cmp (t ++ a) (t ++ b) ≡ slice_cmp nat_cmp a b
@@ -194,139 +170,71 @@ types_tie : (a b : List ℕ)
     → nat_cmp (key_type (written (byte_string a))) (key_type (written (byte_string b))) ≡ Equal
 types_tie a b = sym (nat_cmp_is _ _ Equal (key_type_is a ∙ sym (key_type_is b)))
 
-pub byte_keys : (a b : List ℕ) → IsShortFirst a b → IsBefore (written (byte_string a)) (written (byte_string b))
-byte_keys a b (inl less) = search (rules, encoded_long, behind_rises, types_tie)
+order_is : (n m : ℕ) (o : Ordering) → ordering_then (nat_cmp n m) o ≡ Less → (n < m) ⊎ ((n ≡ m) × (o ≡ Less))
+order_is n m o h = grind (arith, nat_tests, inl, inr)
+
+byte_keys : (a b : List ℕ) → (length a < length b) ⊎ ((length a ≡ length b) × (slice_cmp nat_cmp a b ≡ Less))
+    → IsBefore (written (byte_string a)) (written (byte_string b))
+byte_keys a b (inl less) = search (rules, encoded_long, head_rises, types_tie)
 byte_keys a b (inr tie) = search (rules, encoded_long, types_tie, behind_common)
 
--- ---- entries in their order have distinct keys
+module _ {A : Type 0} (tree : A → Item) where
+  ascend_behind : (k : List ℕ) (es : List (List ℕ × A)) → T (below_all by_length k es) → T (is_sorted by_length es)
+      → AscendFrom (Some (written (byte_string k))) (pairs_of (map (entry_tree tree) es))
+  ascend_behind k [] below up = tt
+  ascend_behind k (e ∷ es) below up =
+      let p = both _ _ below in
+      let q = both _ _ up in
+      (byte_keys k e.0 (order_is _ _ _ (less_is _ p.0)), ascend_behind e.0 es q.0 q.1)
 
-both : (a b : Bool) → T (a && b) → T a × T b
-both true b h = (tt, h)
-both false b h = absurd h
+  ascend : (es : List (List ℕ × A)) → T (is_sorted by_length es) → Ascend (pairs_of (map (entry_tree tree) es))
+  ascend [] up = tt
+  ascend (e ∷ es) up = let q = both _ _ up in (tt, ascend_behind e.0 es q.0 q.1)
 
-less_is : (o : Ordering) → T (is_lt o) → o ≡ Less
-less_is Less h = refl
-less_is _ h = absurd h
-
-not_tied : (o : Ordering) → o ≡ Less → is_eq o ≡ true → ⊥
-not_tied o less tied = let e : false ≡ true = ap is_eq (sym less) ∙ tied in absurd cc
-
-less_differs : (k q : List ℕ) → slice_cmp nat_cmp k q ≡ Less → k ≢ q
-less_differs k q less e = not_tied (slice_cmp nat_cmp k q) less (sym (texts_ties k q) ∙ (bytes_decides k q).1 e)
-
-module _ {A : Type 0} where
-  -- the key is below those of the entries
-  abbrev Below : List ℕ → List (List ℕ × A) → Type 0
-  Below k es = AllByRecursion (λ (e : List ℕ × A). slice_cmp nat_cmp k e.0 ≡ Less) es
-
-  -- each key is below those after it
-  abbrev pub Sorted : List (List ℕ × A) → Type 0
-  Sorted [] = Unit {0}
-  Sorted (e ∷ es) = Below e.0 es × Sorted es
-
-  below_is : (k : List ℕ) (es : List (List ℕ × A)) → T (below_all (slice_cmp nat_cmp) k es) → Below k es
-  below_is k [] h = tt
-  below_is k (e ∷ es) h = let p = both _ _ h in (less_is (slice_cmp nat_cmp k e.0) p.0, below_is k es p.1)
-
-  each_below : (es : List (List ℕ × A)) → T (is_sorted (slice_cmp nat_cmp) es) → Sorted es
-  each_below [] h = tt
-  each_below (e ∷ es) h = let p = both _ _ h in (below_is e.0 es p.0, each_below es p.1)
-
-  pub entries_sorted : (m : ByteMap A) → Sorted (fin.entries m)
-  entries_sorted m = each_below (fin.entries m) (fin.entries_sorted m)
+  -- the keys of an encoded map ascend
+  pub entries_ascend : (m : ByteMap A) → Ascend (pairs_of (map (entry_tree tree) (short_first (fin.entries m))))
+  entries_ascend m = ascend _ (fin.entries_sorted (fin.from_entries (fin.entries m)))
 
 -- ---- the order in which entries are put into a map doesn't matter
 
--- of two different keys at most one is this key
-one_key : {V : Type 0} (q j k : List ℕ) (v w : V) (o : Option V) → j ≢ k → (a b : Bool)
-    → eq_by_cmp (slice_cmp nat_cmp) q k ≡ a → eq_by_cmp (slice_cmp nat_cmp) q j ≡ b
-    → cond a (Some w) (cond b (Some v) o) ≡ cond b (Some v) (cond a (Some w) o)
-one_key q j k v w o apart true true e f =
-    absurd (apart (sym ((bytes_decides q j).0 (texts_ties q j ∙ f)) ∙ (bytes_decides q k).0 (texts_ties q k ∙ e)))
-one_key q j k v w o apart true false e f = refl
-one_key q j k v w o apart false b e f = refl
-
-inserts_swap : {V : Type 0} (m : ByteMap V) (j k : List ℕ) (v w : V) → j ≢ k
-    → fin.insert (fin.insert m j v) k w ≡ fin.insert (fin.insert m k w) j v
-inserts_swap m j k v w apart = fin.same_map nat_list_cmp_total same_bytes _ _ (λ q.
-    fin.get-insert nat_list_cmp_total (fin.insert m j v) k w q
-    ∙ ap (cond (eq_by_cmp (slice_cmp nat_cmp) q k) (Some w)) (fin.get-insert nat_list_cmp_total m j v q)
-    ∙ one_key q j k v w (fin.get m q) apart _ _ refl refl
-    ∙ sym (fin.get-insert nat_list_cmp_total (fin.insert m k w) j v q
-    ∙ ap (cond (eq_by_cmp (slice_cmp nat_cmp) q j) (Some v)) (fin.get-insert nat_list_cmp_total m k w q)))
-
-module _ {V : Type 0} where
-  abbrev size : List ℕ × V → ℕ
-  size e = length e.0
-
-  put_by-placed : (m : ByteMap V) (e : List ℕ × V) (fs : List (List ℕ × V)) → AllByRecursion
-      (λ (f : List ℕ × V). e.0 ≢ f.0) fs → put_each m (put_by size e fs) ≡ put_each (fin.insert m e.0 e.1) fs
-  put_by-placed m e [] apart = refl
-  put_by-placed m e (f ∷ fs) apart = grind (arith, cases_lt, at_most, above, inserts_swap, put_by-placed (fin.insert m f.0 f.1) e fs apart.1, nat_tests)
-
-  differ : (k : List ℕ) (es : List (List ℕ × V)) → Below k es → AllByRecursion (λ (f : List ℕ × V). k ≢ f.0) es
-  differ k [] h = tt
-  differ k (e ∷ es) h = (less_differs k e.0 h.0, differ k es h.1)
-
-  pub short_first-placed : (m : ByteMap V) (es : List (List ℕ × V)) → Sorted es
-      → put_each m (short_first es) ≡ put_each m es
-  short_first-placed m [] sorted = refl
-  short_first-placed m (e ∷ es) sorted =
-      put_by-placed m e (short_first es)
-      (sorted_by-each size (λ (f : List ℕ × V). e.0 ≢ f.0) es (differ e.0 es sorted.0))
-      ∙ short_first-placed (fin.insert m e.0 e.1) es sorted.1
-
--- the keys stay sorted, whatever the view of their values
 module _ {A M : Type 0} (seen : A → M) where
-  seen_below : (k : List ℕ) (es : List (List ℕ × A)) → Below k es → Below k (map (λ e. (e.0, seen e.1)) es)
-  seen_below k [] h = tt
-  seen_below k (e ∷ es) h = (h.0, seen_below k es h.1)
+  absent : (k : List ℕ) (es : List (List ℕ × A)) → T (below_all by_length k es) → fin.find by_length k es ≡ None
+  absent k [] below = refl
+  absent k (e ∷ es) lower = let p = both _ _ lower in rw (less_is (by_length k e.0) p.0) (absent k es p.1)
 
-  pub seen_sorted : (es : List (List ℕ × A)) → Sorted es → Sorted (map (λ e. (e.0, seen e.1)) es)
-  seen_sorted [] h = tt
-  seen_sorted (e ∷ es) h = (seen_below e.0 es h.0, seen_sorted es h.1)
+  absent_at : (q k : List ℕ) (es : List (List ℕ × A)) → T (below_all by_length k es) → eq_by_cmp by_length q k ≡ true
+      → fin.find by_length q es ≡ None
+  absent_at q k es lower same = rw (same_key q k same) (absent k es lower)
 
--- ---- the keys ascend
+  put_one : (q k : List ℕ) (v : A) (o : Option M) (es : List (List ℕ × A)) → T (below_all by_length k es)
+      → option_or (option_map seen (fin.find by_length q es))
+      (cond (eq_by_cmp (slice_cmp nat_cmp) q k) (Some (seen v)) o)
+      ≡ option_or (option_map seen (cond (eq_by_cmp by_length q k) (Some v) (fin.find by_length q es))) o
+  put_one q k v o es lower = let none = absent_at q k es lower in grind (arith, alike, none)
 
-abbrev Follows : Option (List ℕ) → List ℕ → Type 0
-Follows None k = Unit {0}
-Follows (Some j) k = IsShortFirst j k
+  get-put_each : (m : ByteMap M) (es : List (List ℕ × A)) → T (is_sorted by_length es) → (q : List ℕ)
+      → fin.get (put_each m (map (λ e. (e.0, seen e.1)) es)) q
+      ≡ option_or (option_map seen (fin.find by_length q es)) (fin.get m q)
+  get-put_each m [] up q = refl
+  get-put_each m (e ∷ es) up q =
+      let p = both _ _ up in
+      get-put_each (fin.insert m e.0 (seen e.1)) es p.1 q
+      ∙ ap (option_or (option_map seen (fin.find by_length q es)))
+      (fin.get-insert nat_list_cmp_total m e.0 (seen e.1) q)
+      ∙ put_one q e.0 e.1 (fin.get m q) es p.0
 
-follows_key : (before : Option (List ℕ)) (k : List ℕ) → Follows before k
-    → ComesAfter (option_map (λ j. written (byte_string j)) before) (written (byte_string k))
-follows_key None k h = tt
-follows_key (Some j) k h = byte_keys j k h
+  or_none : (o : Option M) → option_or o None ≡ o
+  or_none None = refl
+  or_none (Some v) = refl
 
-module _ {A : Type 0} where
-  abbrev InOrder : Option (List ℕ) → List (List ℕ × A) → Type 0
-  InOrder before [] = Unit {0}
-  InOrder before (e ∷ es) = Follows before e.0 × InOrder (Some e.0) es
-
-  put_by-in_order : (before : Option (List ℕ)) (e : List ℕ × A) (fs : List (List ℕ × A)) → Follows before e.0
-      → Below e.0 fs → InOrder before fs → InOrder before (put_by (λ f. length f.0) e fs)
-  put_by-in_order before e [] h below order = (h, tt)
-  put_by-in_order before e (f ∷ fs) h below order = elim (cases_lt (length f.0) (length e.0)) [
-    | inr le ↦ rw (at_most (length e.0) (length f.0) le)
-        (h, (ahead (cases_lt (length e.0) (length f.0)) le, order.1))
-    | inl lt ↦ rw (above (length e.0) (length f.0) lt)
-        (order.0, put_by-in_order (Some f.0) e fs (inl lt) below.1 order.1)
-  ] where
-    ahead : (length e.0 < length f.0) ⊎ (length f.0 ≤ length e.0) → length e.0 ≤ length f.0 → IsShortFirst e.0 f.0
-    ahead (inl lt) le = inl lt
-    ahead (inr ge) le = inr (omega (arith, le, ge), below.0)
-
-  in_order : (es : List (List ℕ × A)) → Sorted es → InOrder None (short_first es)
-  in_order [] sorted = tt
-  in_order (e ∷ es) sorted = put_by-in_order None e (short_first es) tt (sorted_by-each (λ f. length f.0)
-      (λ (f : List ℕ × A). slice_cmp nat_cmp e.0 f.0 ≡ Less) es sorted.0) (in_order es sorted.1)
-
-  ascend_from : (tree : A → Item) (before : Option (List ℕ)) (es : List (List ℕ × A)) → InOrder before es
-      → AscendFrom (option_map (λ j. written (byte_string j)) before) (pairs_of (map (entry_tree tree) es))
-  ascend_from tree before [] h = tt
-  ascend_from tree before (e ∷ es) h = (follows_key before e.0 h.0, ascend_from tree (Some e.0) es h.1)
-
-  -- the keys of an encoded map ascend
-  pub entries_ascend : (tree : A → Item) (m : ByteMap A)
-      → Ascend (pairs_of (map (entry_tree tree) (short_first (fin.entries m))))
-  entries_ascend tree m =
-      ascend_from tree None (short_first (fin.entries m)) (in_order (fin.entries m) (entries_sorted m))
+  pub short_first-placed : (m : ByteMap A)
+      → put_each fin.empty (map (λ e. (e.0, seen e.1)) (short_first (fin.entries m))) ≡ map_values seen m
+  short_first-placed m =
+      let n : fin.FinMap by_length A = fin.from_entries (fin.entries m) in
+      fin.same_map nat_list_cmp_total same_bytes _ _
+      (λ q. get-put_each fin.empty (fin.entries n) (fin.entries_sorted n) q
+      ∙ ap (option_or (option_map seen (fin.find by_length q (fin.entries n)))) (fin.get-empty (slice_cmp nat_cmp) q)
+      ∙ or_none _
+      ∙ ap (option_map seen) (sym (fin.get-entries n q) ∙ fin.get-from_entries by_length_total (fin.entries m) q
+      ∙ find-alike q (fin.entries m) ∙ sym (fin.get-entries m q))
+      ∙ sym (get-map_values seen m q))

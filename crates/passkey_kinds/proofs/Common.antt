@@ -1,5 +1,5 @@
 -- The names that most proofs cite, passed on from one place. Declares nothing.
-pub use Rattle.passkey_bytes.proofs.Placed.{same_bytes, put_each-seen, entries_empty}
+pub use Rattle.passkey_bytes.proofs.Placed.{same_bytes, entries_empty}
 pub use Rattle.passkey_bytes.specs.Bytes.{bytes_or_fault, ReadsText}
 pub use Rattle.passkey_bytes.specs.Encoding.{text_bytes}
 pub use Rattle.passkey_bytes.specs.Map.{ByteMap, put_each}
@@ -65,7 +65,7 @@ pub use Rattle.passkey_kinds.specs.Placed.{EachFits, fields_of, places_of, Plain
 pub use Rattle.passkey_kinds.specs.Reader.{collected, entered, pushed, pushed_if, pushed_below, full, unsigned_in, integer_in, null_in, ReadsFlat, head_unsigned, head_integer, head_truth, head_null, head_array, head_map, elements_in, members_in, numbers_in, OpensAt, kept_parts, pushed, pushed_if, pushed_below, Further, Decodes, LooksAtMost, Spends, SpendsLess, Onward, Costs, ReadsAs}
 pub use Rattle.passkey_kinds.specs.Record.{MayGrowIn, are_small, Reads, MayGrowAt, named_as, MayGrowBy, takes_at, Fields, set_with, rows_of, table_of, put_at, unless_missing, one_more, Progress, reached, result_and_then, read_from, read_members, read_item, Member, record_kind, Entry, Table, entries, named, Members, first_missing, Naming, row, unknown, wrong, accepts_at, row_or_unknown, number_names, names, ◌>>=◌, row_named}
 pub use Rattle.passkey_kinds.specs.RecordReading.{record_cost, cost_by, kept_in, kept_in_map, greatest_cost, cost_at, keeps_at, keeps_by, keeps_nothing, none_keeps, record_keeps, HasReadTo, Sets, Puts, held_as, DecodesRecord, DecodesMember, entry_of, row_at}
-pub use Rattle.passkey_kinds.specs.Tree.{put_by, sorted_by, IsShortFirst, short_first, AllAccepted, MemberAccepted, append_member, encode_member, put_all, Place, record_tree, KeysAscend, number_tree, numbers_tree, entry_tree, under, laid, list_tree, byte_map_tree, key_size, where_true, option_tree, credential_type_tree, transport_tree}
+pub use Rattle.passkey_kinds.specs.Tree.{by_length, short_first, AllAccepted, MemberAccepted, append_member, encode_member, put_all, Place, record_tree, KeysAscend, number_tree, numbers_tree, entry_tree, under, laid, list_tree, byte_map_tree, where_true, option_tree, credential_type_tree, transport_tree}
 pub use Rattle.passkey_kinds.specs.declared.fault.Fault.TheVariants.{Repeated}
 pub use Rattle.passkey_kinds.specs.declared.fault.Fault.{Fault}
 pub use Rattle.passkey_kinds.specs.declared.fault.Refusal.TheVariants.{Refused, OutOfMemory}
@@ -86,21 +86,17 @@ pub use Rattle.std.proofs.lemmas.Bool.{and_parts, leb-true, true≢false, cases_
 pub use Rattle.std.proofs.lemmas.Cmp.{nat_list_cmp_total}
 pub use Rattle.std.proofs.lemmas.Fn.{always_returns_same}
 pub use Rattle.std.proofs.lemmas.List.Elements.{All-head, All-tail, All-from_recursion, recursion_from_All, filter_map-append}
-pub use Rattle.std.proofs.lemmas.List.Sorted.{IsNonDecreasingBy-from_sort_by_key}
 pub use Rattle.std.proofs.lemmas.List.{length-map, length-append, length-take, append-nil, drop_all, take_all, take_more_set, map_push, drop_more, get_or-set_same, get_or-set_other, length-set, get_or-map, get_or-replicate, get_or_past, length-replicate, take-append-drop, drop-drop, length-drop, drop-map}
-pub use Rattle.std.proofs.lemmas.Map.Iter.{rest_more}
 pub use Rattle.std.proofs.lemmas.Option.{get_or_from_slice_get, slice_get-get_or, slice_get_past}
 pub use Rattle.std.proofs.lemmas.Result.{err_from_is_err_and}
 pub use Rattle.std.specs.Cmp.Lexicographic.{slice_cmp, bytes_decides, texts_ties}
 pub use Rattle.std.specs.Cmp.{unsigned_Decides, nat_cmp_is}
 pub use Rattle.std.specs.FinMap.Entries.{below_all, is_sorted}
-pub use Rattle.std.specs.Fn.{ComputesKey, Called, Mut}
-pub use Rattle.std.specs.List.Sorted.{IsNonDecreasingBy, IsSortedByKey, IsStableByKey, ties}
-pub use Rattle.std.specs.List.{find, AllByRecursion, list_any, filter_map, cons_option, All, filter, position, position_or_len, concat}
+pub use Rattle.std.specs.List.{find, AllByRecursion, list_any, filter_map, cons_option, All, position, position_or_len, concat}
 pub use Rattle.std.specs.Map.Iter.{deref_pair}
 pub use Rattle.std.specs.Option.{option_or, option_and_then, ok_or}
 pub use Rattle.std.specs.Ordering.{nat_cmp, is_lt, eq_by_cmp, is_eq}
-pub use Rattle.std.specs.Prelude.{codes, slice_index_or}
+pub use Rattle.std.specs.Prelude.{codes}
 pub use Rattle.std.specs.Result.{result_ok}
 pub use Rattle.std.specs.Str.{bytes_eq}
 pub use Rattle.std.specs.declared.cmp.Ordering.TheVariants.{Less, Equal}

@@ -1,8 +1,8 @@
 -- Values can be decoded again from their encodings.
-use Rattle.passkey_kinds.proofs.Common.{All, filter_map, arith, ◌≡◌, ◌∙◌, ◌<◌, ◌^◌, List, [], ◌∷◌, map, Option, Some, None, option_map, unwrap_or, refl, ap, All-head, All-tail, Item, byte_string, text_string, boolean, null, item_of, IfPresent, Kind, truth, below, text, one_named, kept, optional, each, bytes, list, accepted, IsReadBack, Any, IsByte, number_tree, list_tree, credential_type_named, transport_named, ℕ, ◌==◌, eq-eqb, if◌then◌else◌, length, length-map, items_of, elements-items_of, aaguid, sized_bytes, size, numbers_tree, result_ok, true, Result, Ok, Err, append-nil, authenticator_data, put_each, entry, map_from_bytes, map_values, short_first, entry_tree, byte_map_tree, put_each-seen, elements, is_coherent, GivenIsCoherent, ReadIsGiven, WrittenDataAreReadBack, IsData, normal_data, DataParts, read_data, CoseError, algorithm_tree, auth_data_tree, tolerated, or_else, AreBytes, IsSize, option_tree, credential_type_tree, transport_tree, credential_type_own, transport_own, All-from_recursion, recursion_from_All}
+use Rattle.passkey_kinds.proofs.Common.{All, filter_map, arith, ◌≡◌, ◌∙◌, ◌<◌, ◌^◌, List, [], ◌∷◌, map, Option, Some, None, option_map, unwrap_or, refl, ap, All-head, All-tail, Item, byte_string, text_string, boolean, null, item_of, IfPresent, Kind, truth, below, text, one_named, kept, optional, each, bytes, list, accepted, IsReadBack, Any, IsByte, number_tree, list_tree, credential_type_named, transport_named, ℕ, ◌==◌, eq-eqb, if◌then◌else◌, length, length-map, items_of, elements-items_of, aaguid, sized_bytes, size, numbers_tree, result_ok, true, Result, Ok, Err, append-nil, authenticator_data, put_each, entry, map_from_bytes, map_values, short_first, entry_tree, byte_map_tree, elements, is_coherent, GivenIsCoherent, ReadIsGiven, WrittenDataAreReadBack, IsData, normal_data, DataParts, read_data, CoseError, algorithm_tree, auth_data_tree, tolerated, or_else, AreBytes, IsSize, option_tree, credential_type_tree, transport_tree, credential_type_own, transport_own, All-from_recursion, recursion_from_All}
 use Rattle.std.proofs.Common.{lt-ltb}
 use Rattle.passkey_kinds.proofs.Back.{Falls, option_place, falls_as}
-use Rattle.passkey_kinds.proofs.ByteMaps.{entries_sorted, seen_sorted, short_first-placed, sorted_by-each, sorted_by-map}
+use Rattle.passkey_kinds.proofs.ByteMaps.{short_first-each, short_first-placed}
 use Rattle.passkey_kinds.proofs.Lists.{list_array, accepted_array, option_same, map_same, map_from_bytes-map, map_values-map_values}
 use Rattle.passkey_kinds.specs.Kind.{algorithm as an_algorithm}
 use Rattle.std.specs.FinMap as fin
@@ -179,20 +179,15 @@ module _ {A M : Type 0} {kind : Kind M} {tree : A → Item} {Fits : A → Type 0
   entry_back : (e : List ℕ × A) → Fits e.1 → entry kind (entry_tree tree e) ≡ Some (normal_entry e)
   entry_back e h = rw (r.back e.1 h) refl
 
-  all_short_first : (es : List (List ℕ × A)) → All (λ e. Fits e.1) es → All (λ e. Fits e.1) (short_first es)
-  all_short_first es h = All-from_recursion _ _
-      (sorted_by-each (λ e. length e.0) (λ (e : List ℕ × A). Fits e.1) es (recursion_from_All _ _ h))
-
   pub map_back : IsReadBack (map_from_bytes kind) (byte_map_tree tree) (λ m. All (λ e. Fits e.1) (fin.entries m))
       (map_values normal)
   map_back = record {
     back = λ m h.
         map_from_bytes-map kind (map (entry_tree tree) (short_first (fin.entries m)))
         ∙ ap (option_map (put_each fin.empty)) (each_back (entry kind) (entry_tree tree) (λ e. Fits e.1)
-        normal_entry entry_back (short_first (fin.entries m)) (all_short_first (fin.entries m) h))
-        ∙ ap (λ es. Some (put_each fin.empty es)) (sorted_by-map normal_entry (λ e. length e.0) (fin.entries m))
-        ∙ ap Some (short_first-placed fin.empty (map normal_entry (fin.entries m))
-        (seen_sorted normal (fin.entries m) (entries_sorted m)) ∙ put_each-seen normal m);
+        normal_entry entry_back (short_first (fin.entries m))
+        (All-from_recursion _ _ (short_first-each Fits (fin.entries m) (recursion_from_All _ _ h))))
+        ∙ ap Some (short_first-placed normal m);
   }
 
 -- the same for a view of the normal form

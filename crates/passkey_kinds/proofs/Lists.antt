@@ -172,7 +172,7 @@ module _ {A M : Type 0} (view : A → M) where
   find-seen q [] = refl
   find-seen q (e ∷ es) = grind (arith, seen_at, find-seen q es)
 
-  get-map_values : (m : ByteMap A) (q : List ℕ) → fin.get (map_values view m) q ≡ option_map view (fin.get m q)
+  pub get-map_values : (m : ByteMap A) (q : List ℕ) → fin.get (map_values view m) q ≡ option_map view (fin.get m q)
   get-map_values m q =
       fin.get-from_entries nat_list_cmp_total _ q
       ∙ find-seen q (fin.entries m)

@@ -1,5 +1,5 @@
 -- The same, and the lemmas that proofs of the code cite. Declares nothing.
-pub use Rattle.passkey_kinds.proofs.Common.{drop, elements_in, members_in, OpensAt, kept_parts, full, sized_bytes, ByteMap, BytesFault, some_is, split, item_of-Array, item_of-Map, IsOrdered, depth, IsEncodedAt, Lies, Left, PairWithin, Item, pairs_of, byte_string, text_string, AtMostOneLeadingItem, WrittenIsLeadingItem, max_depth, item_of, pair_of, Walk, Value, is_coherent, GivenIsCoherent, ReadIsGiven, WrittenDataAreReadBack, IfPresent, data_parts, members-pairs_of, elements-items_of, algorithm_named, algorithm, collected, entered, aaguid, authenticator_data, authenticator_data_nodes, nothing, kept_of, kept_sum, in_members, in_elements, AnswersAs, bytes, MayGrow, below, kept, truth, Kind, optional, each, sized_bytes, list, accepted, text, one_named, tolerated, with_members, map_from_bytes, map_values, ReadIsCoherent, AllCanonical, kept_if_some, WrittenIsCanonical, EachFits, fields_of, IsReadBack, Any, Spends, Onward, MayGrowIn, MayGrowAt, named_as, table_of, read_members, read_item, record_cost, cost_by, kept_in, kept_in_map, keeps_by, one_more, reached, DecodesMember, HasReadTo, entry_of, sorted_by, size, Entry, entries, Members, Naming, wrong, row_or_unknown, number_names, KeysAscend, number_tree, entry_tree, key_size, Refusal, OutOfMemory, Row, credential_type_named, transport_named, ◌≡◌, ◌∙◌, ◌<◌, ◌+◌, nat_lt, ℕ, suc, arith, Bool, true, false, ◌&&◌, if◌then◌else◌, List, [], ◌∷◌, ◌++◌, length, map, Option, Some, None, option_map, refl, sym, ap, rules, ◌≤◌, Result, subst, ◌-◌, take, nat_le, Ok, Err, OnOk, ◌==◌, pos, ◌^◌, max, unwrap_or, zero, eq-eqb, min, ltb-true, le-leb, and_parts, le-ltb, ne_eqb, and_from, nat_tests, length-map, length-take, drop_all, take_all, take_more_set, map_push, err_from_is_err_and, find, filter_map, option_and_then, codes, result_ok, Bytes, CborError, NotValued, PairsAreEncodedAt, ReadsAs, ReadsText, Values, deref_pair, drop-map, item_of-Bytes, rest_more, text_bytes}
+pub use Rattle.passkey_kinds.proofs.Common.{drop, elements_in, members_in, OpensAt, kept_parts, full, sized_bytes, ByteMap, BytesFault, some_is, split, item_of-Array, item_of-Map, IsOrdered, depth, IsEncodedAt, Lies, Left, PairWithin, Item, pairs_of, byte_string, text_string, AtMostOneLeadingItem, WrittenIsLeadingItem, max_depth, item_of, pair_of, Walk, Value, is_coherent, GivenIsCoherent, ReadIsGiven, WrittenDataAreReadBack, IfPresent, data_parts, members-pairs_of, elements-items_of, algorithm_named, algorithm, collected, entered, aaguid, authenticator_data, authenticator_data_nodes, nothing, kept_of, kept_sum, in_members, in_elements, AnswersAs, bytes, MayGrow, below, kept, truth, Kind, optional, each, sized_bytes, list, accepted, text, one_named, tolerated, with_members, map_from_bytes, map_values, ReadIsCoherent, AllCanonical, kept_if_some, WrittenIsCanonical, EachFits, fields_of, IsReadBack, Any, Spends, Onward, MayGrowIn, MayGrowAt, named_as, table_of, read_members, read_item, record_cost, cost_by, kept_in, kept_in_map, keeps_by, one_more, reached, DecodesMember, HasReadTo, entry_of, size, Entry, entries, Members, Naming, wrong, row_or_unknown, number_names, KeysAscend, number_tree, entry_tree, Refusal, OutOfMemory, Row, credential_type_named, transport_named, ◌≡◌, ◌∙◌, ◌<◌, ◌+◌, nat_lt, ℕ, suc, arith, Bool, true, false, ◌&&◌, if◌then◌else◌, List, [], ◌∷◌, ◌++◌, length, map, Option, Some, None, option_map, refl, sym, ap, rules, ◌≤◌, Result, subst, ◌-◌, take, nat_le, Ok, Err, OnOk, ◌==◌, pos, ◌^◌, max, unwrap_or, zero, eq-eqb, min, ltb-true, le-leb, and_parts, le-ltb, ne_eqb, and_from, nat_tests, length-map, length-take, drop_all, take_all, take_more_set, map_push, err_from_is_err_and, find, filter_map, option_and_then, codes, result_ok, Bytes, CborError, NotValued, PairsAreEncodedAt, ReadsAs, ReadsText, Values, deref_pair, drop-map, item_of-Bytes, by_length, is_lt, always_returns_same, text_bytes}
 unfoldable pub use Rattle.passkey_kinds.proofs.Common.{shortest_head}
 pub use Rattle.passkey_kinds.proofs.Lists.{sized_gathered, mapped_at, head_before, kept_none, kept_elements_in, kept_members_in, after_head, numbers_are, list_in, accepted_in, map_in, filled_in, text_read, text_refused, kept_nothing, decodes_in, sized_array, none_either, never_grows, stopped, gone_on, pushed_accepted, pushed_each, entered_all, answers_from, list_array, accepted_array, map_same, grows_array, each_same, map_from_bytes-map, map_values-empty, read_more, map_values-insert, grows_map, map_values_same, fits_more, written_more, fits_next, written_next}
 pub use Rattle.passkey_kinds.proofs.Back.{true_place, Falls, accepts_it, option_place, puts_value, puts_default, kind_back, ◌▸◌, no_more, rows_back, picked, picked_back}
@@ -14,5 +14,5 @@ pub use Rattle.passkey_kinds.proofs.Loops.{EachTo, next_is, element_spends, one_
 pub use Rattle.passkey_kinds.proofs.Members.{members_are, key_names, goes_on, fails, all_read, reads_from, no_record, held_answers, held_ok, sets_put}
 pub use Rattle.passkey_kinds.proofs.RecordLaws.{may_grow, went_back, item_stands, message_is, fault_is, skips_unknown}
 pub use Rattle.passkey_kinds.proofs.Ordered.{OrderedIf, place_if, ascend, keys_ascend, PlaceOrdered, record_ordered, record_canonical, ordered_of, few_levels, Rule, plainly, IsPlain, null_plain, map_plain, in_order, list_plain, numbers_plain, truth_plain, text_plain}
-pub use Rattle.passkey_kinds.proofs.ByteMaps.{sorted_by-map, sorted_is}
+pub use Rattle.passkey_kinds.proofs.ByteMaps.{short_first_is, sorted-map}
 pub use Rattle.passkey_kinds.proofs.Sinks.{record_writable, record_written}

@@ -1,6 +1,6 @@
 -- The data items that values are encoded as, and the sinks that they are put into.
 use Rattle.passkey_kinds.specs.Base.{text_string, AuthenticatorTransport, written}
-use Rattle.std.specs.Prelude.{◌≡◌, ◌⊎◌, ◌<◌, ℕ, nat_le, if◌then◌else◌, List, [], ◌∷◌, length, pos, Bool, true, ◌++◌, map as each, Option, Some, None, option_map}
+use Rattle.std.specs.Prelude.{ℕ, if◌then◌else◌, List, [], ◌∷◌, length, pos, Bool, true, ◌++◌, map as each, Option, Some, None, option_map}
 use Rattle.passkey_bytes.specs.Map.{ByteMap}
 use Rattle.passkey_cbor.specs.Canonical.{Ascend}
 use Rattle.passkey_cbor.specs.Item.{Item, number, byte_string, array, map, boolean, null, items_of, pairs_of}
@@ -10,29 +10,19 @@ use Rattle.passkey_webauthn.specs.CredentialType.{credential_type_name}
 use Rattle.passkey_webauthn.specs.Transport.{transport_name}
 use Rattle.passkey_webauthn.specs.declared.credential_type.PublicKeyCredentialType.{PublicKeyCredentialType}
 use Rattle.std.specs.Cmp.Lexicographic.{slice_cmp}
-use Rattle.std.specs.Ordering.{nat_cmp}
-use Rattle.std.specs.declared.cmp.Ordering.TheVariants.{Less}
+use Rattle.std.specs.Ordering.{nat_cmp, ordering_then}
+use Rattle.std.specs.declared.cmp.Ordering.{Ordering}
 use Rattle.std.specs.FinMap as fin
 
--- ---- entries whose keys are byte strings, in CTAP2's order of map keys (CTAP 2.1, section 8): shorter
--- keys first. The sort is stable, so entries in the bytewise order of their keys keep it where the lengths are equal
+-- ---- entries whose keys are byte strings, in CTAP2's order of map keys (CTAP 2.1, section 8)
 
 -- the shorter one first; of two with the same length, the one with the lower bytes
-abbrev pub IsShortFirst : List ℕ → List ℕ → Type 0
-IsShortFirst a b = (length a < length b) ⊎ ((length a ≡ length b) × (slice_cmp nat_cmp a b ≡ Less))
+abbrev pub by_length : List ℕ → List ℕ → Ordering
+by_length a b = ordering_then (nat_cmp (length a) (length b)) (slice_cmp nat_cmp a b)
 
--- the list with x before the first element whose number isn't below that of x
-abbrev pub put_by : {X : Type 0} → (X → ℕ) → X → List X → List X
-put_by size x [] = x ∷ []
-put_by size x (y ∷ ys) = if nat_le (size x) (size y) then x ∷ y ∷ ys else y ∷ put_by size x ys
-
--- sorted by their sizes; elements with the same size keep their order
-abbrev pub sorted_by : {X : Type 0} → (X → ℕ) → List X → List X
-sorted_by size [] = []
-sorted_by size (x ∷ xs) = put_by size x (sorted_by size xs)
-
+-- the entries in that order of their keys
 abbrev pub short_first : {A : Type 0} → List (List ℕ × A) → List (List ℕ × A)
-short_first es = sorted_by (λ e. length e.0) es
+short_first es = fin.entries (fin.from_entries {R = by_length} es)
 
 -- ---- the data items that values are encoded as. A record's members are laid out one after the other
 
@@ -61,11 +51,6 @@ entry_tree tree e = (byte_string e.0, tree e.1)
 -- a map from byte strings, encoded with its keys in CTAP2's order
 abbrev pub byte_map_tree : {A : Type 0} → (A → Item) → ByteMap A → Item
 byte_map_tree tree m = map_tree (each (entry_tree tree) (short_first (fin.entries m)))
-
--- the length of a byte string, and 0 for any other item
-abbrev pub key_size : Item → ℕ
-key_size (byte_string s) = length s
-key_size _ = 0
 
 -- A map key with its value, or with `None` if the member is absent.
 abbrev pub Place : Type 0

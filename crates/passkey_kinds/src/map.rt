@@ -1,10 +1,12 @@
 //! Maps from byte strings, decoded from CBOR maps and encoded as CBOR maps.
 ghost use Rattle.std.specs.Prelude.{◌≡◌, ◌<◌, length, map, IfOk, OnOk};
 ghost use Rattle.std.specs.List.{All};
+ghost use Rattle.std.specs.List.Sorted.{IsPermutation};
+ghost use Rattle.std.specs.Map.Iter.{deref_pair};
 ghost use Rattle.passkey_kinds.specs.Words.{ByteMap, item_of, pair_of, AnswersAs, Item, byte_map_tree};
 ghost use Rattle.passkey_kinds.specs.Reader.{entering};
 ghost use Rattle.passkey_kinds.specs.Kind.{map_values, with_members};
-ghost use Rattle.passkey_kinds.specs.Tree.{sorted_by, entry_tree, key_size};
+ghost use Rattle.passkey_kinds.specs.Tree.{short_first, entry_tree};
 ghost use Rattle.passkey_kinds.specs.Typed.{map_from_bytes};
 ghost use Rattle.std.specs.FinMap as fin;
 
@@ -13,7 +15,7 @@ use crate::head::read_map;
 use crate::{FromCbor, OutOfMemory, Refusal, ToCbor};
 use passkey_bytes::{Bytes, Map};
 use passkey_cbor::{Cursor, Value};
-use std::alloc::{AllocError, Global};
+use std::alloc::Global;
 
 fn read_entries<T: FromCbor>(
     alloc: Global,
@@ -69,14 +71,26 @@ impl<T: FromCbor> FromCbor for Map<Bytes, T> {
     }
 }
 
-#[tactic(auto, using(passkey_bytes::proofs::Placed::entries_by_bytes))]
+// Returns the entries in CTAP2's order of their keys.
+fn in_order<'a, T>(
+    alloc: Global,
+    entries: &'a Map<Bytes, T>,
+) -> Result<Vec<(&'a Bytes, &'a T)>, OutOfMemory>
+    ensures sorted { IfOk result (λ sorted. map deref_pair sorted.items ≡ short_first (fin.entries entries.now)) }
+    ensures moved { IfOk result (λ sorted. IsPermutation (fin.entries entries.now) (map deref_pair sorted.items)) }
+{
+    let mut sorted: Vec<(&'a Bytes, &'a T)> = entries.iter().collect(alloc)?;
+    sorted.sort_unstable_by_key(|(key, _)| (key.len(), *key));
+    Ok(sorted)
+}
+
 fn write_entries<T: ToCbor>(
     alloc: Global,
-    entries: &Map<Bytes, T>,
+    entries: &[(&Bytes, &T)],
 ) -> Result<Vec<(Value, Value)>, OutOfMemory>
     ensures trees { IfOk result
-        (λ pairs. map pair_of pairs.items ≡ map (entry_tree T.tree) (fin.entries entries.now)) }
-    ensures fits { OnOk result (All (λ e. T.fits e.1) (fin.entries entries.now)) }
+        (λ pairs. map pair_of pairs.items ≡ map (entry_tree T.tree) (map deref_pair entries.now)) }
+    ensures fits { OnOk result (All (λ e. T.fits e.1) (map deref_pair entries.now)) }
 {
     let mut pairs = Vec::with_capacity(alloc, entries.len())?;
     for (key, value) in entries {
@@ -86,33 +100,13 @@ fn write_entries<T: ToCbor>(
     Ok(pairs)
 }
 
-// Returns the length of a key that is a byte string, and 0 for any other key.
-fn key_len(key: &Value) -> usize
-    ensures { result ≡ key_size (item_of key.now) }
-{
-    match key {
-        Value::Bytes(bytes) => bytes.len(),
-        _ => 0,
-    }
-}
-
-// Sorts pairs by the length of their keys, as CTAP2 asks; pairs with keys of the same length keep
-// their order.
-fn sort_pairs(pairs: &mut Vec<(Value, Value)>) -> Result<(), AllocError>
-    ensures { OnOk result (pairs.new.items ≡ sorted_by (λ p. key_size (item_of p.0)) pairs.old.items) }
-{
-    pairs.sort_by_key(|pair| key_len(&pair.0))?;
-    Ok(())
-}
-
 impl<T: ToCbor> ToCbor for Map<Bytes, T> {
     ghost tree = { λ m. byte_map_tree T.tree m };
 
     ghost fits = { λ m. All (λ e. T.fits e.1) (fin.entries m) };
 
     fn to_value(&self, alloc: Global) -> Result<Value, OutOfMemory> {
-        let mut pairs = write_entries(alloc, self)?;
-        sort_pairs(&mut pairs)?;
-        Ok(Value::Map(pairs))
+        let entries = in_order(alloc, self)?;
+        Ok(Value::Map(write_entries(alloc, &entries)?))
     }
 }

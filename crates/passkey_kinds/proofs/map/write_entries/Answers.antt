@@ -1,20 +1,16 @@
-use Rattle.std.specs.FinMap as fin
-use Rattle.passkey_kinds.proofs.Steps.{◌∙◌, ℕ, List, map, ap, map_push, byte_string, pair_of, Value, entry_tree, fits_next, written_next, deref_pair, rest_more, Bytes, item_of-Bytes}
+use Rattle.passkey_kinds.proofs.Steps.{◌∙◌, map, ap, map_push, byte_string, pair_of, Value, entry_tree, fits_next, written_next, deref_pair, mapped_at, Bytes, item_of-Bytes}
 use Rattle.passkey_kinds.proofs.map.write_entries.Goals as goal
 
 pub loop-key-preserved : goal.loop-key-preserved
 loop-key-preserved g c =
-    let xs = fin.entries c.args.entries.now in
-    let entry : List ℕ × g.row.T.Denot = (c.in-Some.key.now, c.in-Some.value.now) in
+    let xs = map deref_pair c.args.entries.now in
     let member : Value × Value = (Bytes c.in_ok-from_slice.field-0, c.in_ok-to_value.field-0) in
-    let next = rest_more deref_pair _ _ c.next.result (c.in-Some.key, c.in-Some.value) c.in-Some.is
-    c.next.ensures.steps in
+    let next = mapped_at deref_pair _ _ c.loop-key-item.result c.loop-key-item.is c.loop-key-test.true in
     let key = item_of-Bytes c.in_ok-from_slice.field-0
     ∙ ap byte_string (c.in_ok-from_slice.ensures.items ∙ c.as_slice.ensures) in
     record {
       items = rw (c.in_ok-push.ensures.items, map_push pair_of c.loop-key.pairs.items member) (written_next
-          (entry_tree g.T.ToCbor.tree) xs _ _ entry (pair_of member) (map pair_of c.loop-key.pairs.items) next
+          (entry_tree g.T.ToCbor.tree) xs _ _ _ (pair_of member) (map pair_of c.loop-key.pairs.items) next
           (λ i. (key i, c.in_ok-to_value.ensures.tree i)) c.loop-key.invariant.items);
-      fits = fits_next (λ e. g.T.ToCbor.fits e.1) xs _ _ entry next c.in_ok-to_value.ensures.fits
-          c.loop-key.invariant.fits;
+      fits = fits_next (λ e. g.T.ToCbor.fits e.1) xs _ _ _ next c.in_ok-to_value.ensures.fits c.loop-key.invariant.fits;
     }
