@@ -1,5 +1,6 @@
 -- How a cursor moves, what it spends, and values of one head or of one string.
-use Rattle.passkey_kinds.proofs.Common.{lies_size, head_again, follows_item, low_simple, head_long, encoded_long, IsEncodedAt, Opens, FindsHead, IsEncodingOfHead, PairWithin, Within, Inside, Item, Pairs, items_of, pairs_of, byte_string, array, boolean, null, text_string, number, max_depth, IsLeadingItem, Region, PassesString, item_within, simple_item, PassesLeadingItem, MakesLeadingItem, Walk, ahead, Went, Head, members-pairs_of, elements-items_of, aaguid, bytes, below, kept, truth, Kind, optional, text, one_named, FailsAs, size, unsigned_in, integer_in, null_in, ReadsFlat, head_unsigned, head_integer, head_truth, head_null, head_array, head_map, elements_in, members_in, OpensAt, Further, Decodes, Spends, Onward, named, Refused, OutOfMemory, Refusal, signed_64, ◌≡◌, ◌∙◌, ◌<◌, ◌+◌, nat_lt, ℕ, arith, Bool, true, false, if◌then◌else◌, List, [], ◌++◌, length, Option, Some, None, option_map, refl, sym, ap, rules, ◌≤◌, Result, subst, ◌-◌, take, Ok, Err, OnOk, pos, ℤ, negsuc, unwrap_or, IfSome, is_ok, mul-le-mul_left, nat_tests, cases_lt, cases_eq, length-append, length-take, option_and_then}
+use Rattle.passkey_kinds.proofs.Common.{lies_size, head_again, follows_item, low_simple, head_long, encoded_long, IsEncodedAt, Opens, FindsHead, IsEncodingOfHead, PairWithin, Within, Inside, Item, Pairs, items_of, pairs_of, byte_string, array, boolean, null, text_string, number, max_depth, IsLeadingItem, Region, PassesString, item_within, simple_item, PassesLeadingItem, MakesLeadingItem, Walk, ahead, Went, Head, members-pairs_of, elements-items_of, aaguid, bytes, below, kept, truth, Kind, optional, text, one_named, FailsAs, size, AnswersAs, MayGrow, unassigned, scalar_in, null_in, ReadsScalar, head_scalar, head_array, head_map, elements_in, members_in, OpensAt, Further, Decodes, Spends, Onward, named, Refused, OutOfMemory, Refusal, ◌≡◌, ◌∙◌, ◌<◌, ◌+◌, ℕ, arith, Bool, true, false, if◌then◌else◌, List, [], ◌++◌, length, Option, Some, None, option_map, refl, sym, ap, rules, ◌≤◌, Result, subst, ◌-◌, take, Ok, Err, OnOk, pos, negsuc, unwrap_or, IfSome, is_ok, mul-le-mul_left, nat_tests, cases_lt, cases_eq, length-append, length-take, option_and_then}
+use Rattle.passkey_kinds.proofs.Lists.{answers_from, never_grows}
 use Rattle.passkey_cbor.specs.declared.head.Head.TheVariants as head
 use Rattle.passkey_cbor.specs.Item as item
 
@@ -49,6 +50,10 @@ value_further a b x p = omega (arith, p.place, front_long x (ahead a) p.len p.fr
 pub if_some : {X : Type 0} {P : Type 0} (o : Option X) → P → IfSome o (λ x. P)
 if_some None h = tt
 if_some (Some x) h = h
+
+pub on_ok : {T E P : Type 0} (r : Result T E) → P → OnOk r P
+on_ok (Ok x) h = h
+on_ok (Err e) h = tt
 
 -- a head that says something was decoded
 pub head_moves : {X : Type 0} (a b : Walk) (g : Head → Option X) (head : Option Head) (result : Option X)
@@ -107,11 +112,8 @@ simple_any : {X : Type 0} (f : Item → X) (r : X) → ((b : Bool) → f (item.b
     → ((n : ℕ) → f (item.simple n) ≡ r) → (n : ℕ) → f (simple_item n) ≡ r
 simple_any f r truths nulls others n = grind (arith, either_way)
 
-simple_truth : (n : ℕ) → head_truth (head.Simple n) ≡ truth (simple_item n)
-simple_truth n = grind (arith, nat_tests, cases_lt, cases_eq, low_simple)
-
-simple_null : (n : ℕ) → head_null (head.Simple n) ≡ null_in (simple_item n)
-simple_null n = grind (arith, nat_tests, cases_lt, cases_eq, low_simple)
+simple_scalar : (n : ℕ) → head_scalar (head.Simple n) ≡ scalar_in (simple_item n)
+simple_scalar n = grind (arith, nat_tests, cases_lt, cases_eq, low_simple)
 
 -- ---- what a head says holds of its item
 
@@ -138,92 +140,77 @@ module _ {X : Type 0} (f : Item → X) (g : Head → X) where
   head_says u v b s a m l k x (head.Float y) i t w = x y ∙ sym (ap f w.0)
   head_says u v b s a m l k x head.Break i t w = absurd w
 
--- A function of heads that is `None` for the heads of strings, arrays, maps and tags.
-pub record IsFlat {X : Type 0} (g : Head → Option X) : Type 0 where
-  pub bytes : (len : Option ℕ) → g (head.Bytes len) ≡ None
-  pub text : (len : Option ℕ) → g (head.Text len) ≡ None
-  pub array : (len : Option ℕ) → g (head.Array len) ≡ None
-  pub map : (len : Option ℕ) → g (head.Map len) ≡ None
-  pub tag : (n : ℕ) → g (head.Tag n) ≡ None
+-- ---- integers, booleans and null
 
 none_some : {X : Type 0} (o : Option X) (x : X) → o ≡ None → o ≡ Some x → ⊥
-none_some None x a b = absurd cc
-none_some (Some y) x a b = absurd cc
+none_some o x p q = absurd cc
 
--- if it isn't `None`, the head is the whole item
-nothing_left : {X : Type 0} (g : Head → Option X) → IsFlat g → (h : Head) (i : Item) (t : List ℕ) (x : X)
-    → g h ≡ Some x → Inside h i t → t ≡ []
-nothing_left g flat (head.Bytes len) i t x e w = absurd (none_some _ x (flat.bytes len) e)
-nothing_left g flat (head.Text len) i t x e w = absurd (none_some _ x (flat.text len) e)
-nothing_left g flat (head.Array len) i t x e w = absurd (none_some _ x (flat.array len) e)
-nothing_left g flat (head.Map len) i t x e w = absurd (none_some _ x (flat.map len) e)
-nothing_left g flat (head.Tag n) i t x e w = absurd (none_some _ x (flat.tag n) e)
-nothing_left g flat head.Break i t x e w = absurd w
-nothing_left g flat _ i t x e w = w.1
+scalar_says : (h : Head) (i : Item) (t : List ℕ) → Inside h i t → head_scalar h ≡ scalar_in i
+scalar_says =
+    head_says scalar_in head_scalar (λ n. refl) (λ n. refl) (λ n s. refl) (λ n s. refl) (λ n s. refl) (λ n s. refl)
+    (λ n s. refl) simple_scalar (λ x. refl)
 
--- Decoding one head returns what this function says of it, which is what the other says of the item.
-abbrev ReadsBy : {X : Type 0} → (Item → Option X) → (Head → Option X) → Type 0
-ReadsBy {X} f g =
-    (a b : Walk) (head : Option Head) (i : Item) (to : ℕ) (result : Option X) → result ≡ option_and_then g head
-    → FindsHead a b head → Opens i to b head → IsEncodedAt i a.bytes a.place to → ReadsFlat (f i) to a b result
+-- their heads are all of them
+nothing_left : (h : Head) (i : Item) (t : List ℕ) → (head_scalar h ≡ unassigned → ⊥) → Inside h i t → t ≡ []
+nothing_left (head.Unsigned n) i t is w = w.1
+nothing_left (head.Negative n) i t is w = w.1
+nothing_left (head.Simple n) i t is w = w.1
+nothing_left _ i t is w = absurd (is refl)
 
-reads_flat : {X : Type 0} (f : Item → Option X) (g : Head → Option X) → IsFlat g
-    → ((h : Head) (i : Item) (t : List ℕ) → Inside h i t → g h ≡ f i) → ReadsBy f g
-reads_flat f g flat says a b None i to result e p o l = absurd o
-reads_flat f g flat says a b (Some h) i to result e p o l = record {
-  is = e ∙ says h i o.text o.encoded;
-  spends = head_spends a b (Some h) i to p o l;
-  ends = λ x some. omega (
-    arith,
-    lies_size (Inside h i) b.bytes b.place to o,
-    ap length (nothing_left g flat h i o.text x (sym e ∙ some) o.encoded),
-  );
+module _ (a b : Walk) where
+  pub scalar_read : (head : Option Head) (i : Item) (to : ℕ) (found : Item)
+      → found ≡ unwrap_or (option_map head_scalar head) unassigned → FindsHead a b head → Opens i to b head
+      → IsEncodedAt i a.bytes a.place to → ReadsScalar i to a b found
+  scalar_read None i to found e p o l = absurd o
+  scalar_read (Some h) i to found e p o l = record {
+    is = e ∙ scalar_says h i o.text o.encoded;
+    spends = head_spends a b (Some h) i to p o l;
+    ends = λ is. omega (
+      arith,
+      lies_size (Inside h i) b.bytes b.place to o,
+      ap length (nothing_left h i o.text (λ other. is (e ∙ other)) o.encoded),
+    );
+  }
+
+  pub scalar_moves : (head : Option Head) (found : Item) → FindsHead a b head
+      → found ≡ unwrap_or (option_map head_scalar head) unassigned → (found ≡ unassigned → ⊥) → Further a b
+  scalar_moves None found p e is = absurd (is e)
+  scalar_moves (Some h) found p e is = head_further a b h p
+
+-- a value is decoded only from an item that isn't refused
+pub scalar_ends : {A M : Type 0} (view : A → M) (kind : Kind M) (x : Item) (result : Result A Refusal) {Q : Type 0}
+    → kind unassigned ≡ None → AnswersAs view (kind x) (MayGrow false x) result → ((x ≡ unassigned → ⊥) → Q)
+    → OnOk result Q
+scalar_ends view kind x (Err e) refused h ends = tt
+scalar_ends view kind x (Ok y) refused h ends =
+    ends (λ is. absurd (none_some _ _ (ap kind is ∙ refused) h))
+
+-- The value that the item has in memory.
+pub scalar_decodes : {A M : Type 0} {view : A → M} (kind : Kind M) {may : Type 0} (i : Item) {x : Item} {to : ℕ}
+    {a b : Walk} {result : Result A Refusal} → kind unassigned ≡ None → kind i ≡ kind (scalar_in i)
+    → ReadsScalar i to a b x → AnswersAs view (kind x) (MayGrow false x) result
+    → Decodes view (kind i) may 1 0 to a b result
+scalar_decodes {view = view} kind i {x} {result = result} refused same r h = record {
+  answers = answers_from view result (same ∙ ap kind (sym r.is)) (λ grows. absurd (never_grows x grows)) h;
+  spends = r.spends;
+  ends = scalar_ends view kind x result refused h r.ends;
 }
 
-pub unsigned_read : ReadsBy unsigned_in head_unsigned
-unsigned_read =
-    reads_flat unsigned_in head_unsigned
-    (record { bytes = λ n. refl; text = λ n. refl; array = λ n. refl; map = λ n. refl; tag = λ n. refl })
-    (head_says unsigned_in head_unsigned (λ n. refl) (λ n. refl) (λ n s. refl) (λ n s. refl) (λ n s. refl) (λ n s.
-    refl) (λ n s. refl) (λ n. sym (simple_any unsigned_in None (λ b. refl) refl (λ m. refl) n)) (λ x. refl))
+pub below_scalar : (limit : ℕ) (i : Item) → below limit i ≡ below limit (scalar_in i)
+below_scalar limit (item.number z) = refl
+below_scalar limit _ = refl
 
-pub truth_read : ReadsBy truth head_truth
-truth_read =
-    reads_flat truth head_truth
-    (record { bytes = λ n. refl; text = λ n. refl; array = λ n. refl; map = λ n. refl; tag = λ n. refl })
-    (head_says truth head_truth (λ n. refl) (λ n. refl) (λ n s. refl) (λ n s. refl) (λ n s. refl) (λ n s. refl)
-    (λ n s. refl) simple_truth (λ x. refl))
+pub truth_scalar : (i : Item) → truth i ≡ truth (scalar_in i)
+truth_scalar (item.boolean b) = refl
+truth_scalar _ = refl
 
-abbrev signed_in : Item → Option ℤ
-signed_in i = option_and_then signed_64 (integer_in i)
+pub size_scalar : (i : Item) → size i ≡ size (scalar_in i)
+size_scalar (item.number z) = refl
+size_scalar _ = refl
 
-abbrev head_signed : Head → Option ℤ
-head_signed h = option_and_then signed_64 (head_integer h)
-
-pub integer_read : ReadsBy signed_in head_signed
-integer_read =
-    reads_flat signed_in head_signed
-    (record { bytes = λ n. refl; text = λ n. refl; array = λ n. refl; map = λ n. refl; tag = λ n. refl })
-    (head_says signed_in head_signed (λ n. refl) (λ n. refl) (λ n s. refl) (λ n s. refl) (λ n s. refl) (λ n s. refl)
-    (λ n s. refl) (λ n. sym (simple_any signed_in None (λ b. refl) refl (λ m. refl) n)) (λ x. refl))
-
-abbrev some_null : Bool → Option Bool
-some_null b = if b then Some true else None
-
-null_of : (head : Option Head) → some_null (unwrap_or (option_map head_null head) false)
-    ≡ option_and_then (λ h. some_null (head_null h)) head
-null_of None = refl
-null_of (Some h) = refl
-
-pub null_read : (a b : Walk) (head : Option Head) (i : Item) (to : ℕ) (found : Bool)
-    → found ≡ unwrap_or (option_map head_null head) false → FindsHead a b head → Opens i to b head
-    → IsEncodedAt i a.bytes a.place to → ReadsFlat (some_null (null_in i)) to a b (some_null found)
-null_read a b head i to found e =
-    reads_flat (λ i. some_null (null_in i)) (λ h. some_null (head_null h))
-    (record { bytes = λ n. refl; text = λ n. refl; array = λ n. refl; map = λ n. refl; tag = λ n. refl })
-    (λ h i t w. ap some_null (head_says null_in head_null (λ n. refl) (λ n. refl) (λ n s. refl) (λ n s. refl)
-    (λ n s. refl) (λ n s. refl) (λ n s. refl) simple_null (λ x. refl) h i t w))
-    a b head i to (some_null found) (ap some_null e ∙ null_of head)
+pub null_scalar : (i : Item) → null_in (scalar_in i) ≡ null_in i
+null_scalar item.null = refl
+null_scalar _ = refl
 
 -- ---- heads of arrays and maps
 
@@ -281,17 +268,6 @@ module _ (head : Option Head) (i : Item) (to : ℕ) (b : Walk) (result : Option 
     opened None o = absurd o
     opened (Some h) o = map_opened h i to b o
 
--- ---- null
-
-pub not_null_in : (i : Item) → (i ≡ item.null → ⊥) → null_in i ≡ false
-not_null_in item.null other = absurd (other refl)
-not_null_in _ other = refl
-
--- nothing was decoded, since the item isn't null
-pub null_missed : (a : Walk) (i : Item) (to : ℕ) → IsEncodedAt i a.bytes a.place to → (i ≡ item.null → ⊥)
-    → ReadsFlat (some_null (null_in i)) to a a None
-null_missed a i to l other = grind (arith, not_null_in, none_some)
-
 pub ruleset heads = (onward_of, head_moves)
 
 -- ---- values of one head or of one string, decoded at a cursor
@@ -311,15 +287,6 @@ pub ends_ok : {A E P : Type 0} (r : Result A E) → (is_ok r ≡ true → P) →
 ends_ok (Ok x) h = h refl
 ends_ok (Err e) h = tt
 
-pub on_ok : {T E P : Type 0} (r : Result T E) → P → OnOk r P
-on_ok (Ok x) h = h
-on_ok (Err e) h = tt
-
-pub unsigned_below : (limit : ℕ) (i : Item)
-    → below limit i ≡ option_and_then (λ (n : ℕ). if nat_lt n limit then Some n else None) (unsigned_in i)
-unsigned_below limit (item.number (pos n)) = refl
-unsigned_below limit _ = refl
-
 -- ---- texts and null
 
 pub no_text : (i : Item) → ((s : List ℕ) → i ≡ item.text_string s → ⊥) → text i ≡ None
@@ -331,11 +298,11 @@ pub named_text : {T : Type 0} (named : List ℕ → Option T) (i : Item)
 named_text named (item.number n) = refl
 named_text named _ = refl
 
-pub null_item : (i : Item) → Some true ≡ (if null_in i then Some true else None) → i ≡ item.null
-null_item item.null e = refl
-null_item _ e = absurd cc
+pub null_item : {M : Type 0} (kind : Kind M) (i : Item) → true ≡ null_in i → optional kind i ≡ Some None
+null_item kind item.null e = refl
+null_item kind _ e = absurd cc
 
-pub other_item : {M : Type 0} (kind : Kind M) (i : Item) → None ≡ (if null_in i then Some true else None)
+pub other_item : {M : Type 0} (kind : Kind M) (i : Item) → false ≡ null_in i
     → optional kind i ≡ option_map Some (kind i)
 other_item kind item.null e = absurd cc
 other_item kind _ e = refl
@@ -352,13 +319,3 @@ pub fails_as : {A B M N : Type 0} {view : A → M} {seen : B → N} {wanted : Op
     → (wanted ≡ None → given ≡ None) → (takes → may) → Decodes view wanted takes cost kept to a b (Err e)
     → Decodes seen given may cost more to a b (Err e)
 fails_as {cost = cost} {to = to} {a = a} {b} e few none grows r = grind (arith, failed)
-
--- ---- sizes, as unsigned integers
-
--- this number as a size
-abbrev pub size_of : ℕ → Option ℕ
-size_of n = size (item.number (pos n))
-
-pub unsigned_size : (i : Item) → size i ≡ option_and_then size_of (unsigned_in i)
-unsigned_size (item.number (pos n)) = refl
-unsigned_size _ = refl

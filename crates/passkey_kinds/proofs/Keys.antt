@@ -1,5 +1,7 @@
 -- The rows that names and map keys name.
-use Rattle.passkey_kinds.proofs.Common.{nat_tests, find, bytes_eq, ◌≡◌, ◌∙◌, ◌<◌, ◌==◌, ℕ, pos, negsuc, arith, zero, suc, if◌then◌else◌, Bool, true, false, ◌+◌, List, [], ◌∷◌, ◌++◌, length, map, take, drop, set, get_or, Bor, add-one, Option, Some, None, cond, nat_lt, slice_get, refl, sym, ap, cases_lt, eqb-true, length-map, map_push, take_more_set, Item, unsigned_in, entry_of, Row, Entry, row, wrong, row_or_unknown, number_names, names, position, position_or_len, take-suc, slice_get_past, major_of, row_at, row_named}
+use Rattle.passkey_kinds.proofs.Common.{nat_tests, find, bytes_eq, ◌≡◌, ◌∙◌, ◌<◌, ◌==◌, ℕ, pos, negsuc, arith, zero, suc, Bool, true, false, ◌+◌, List, [], ◌∷◌, ◌++◌, length, map, take, drop, set, get_or, Bor, add-one, Option, Some, None, cond, nat_lt, slice_get, refl, sym, ap, cases_lt, eqb-true, length-map, map_push, take_more_set, Item, unassigned, scalar_in, naming_of, IfSome, entry_of, Row, Entry, row, wrong, row_or_unknown, names, position, position_or_len, take-suc, slice_get_past, major_of, row_at, row_named}
+use Rattle.passkey_kinds.specs.declared.rows.Named.{Named}
+use Rattle.passkey_kinds.specs.declared.rows.Named.TheVariants as named
 use Rattle.passkey_cbor.specs.Item as item
 
 -- ---- the row at the index of its name
@@ -57,31 +59,29 @@ one_more_name rows names i name d less within is before =
 
 -- ---- what a map key names that isn't a string
 
--- a number, if it is below 256
-abbrev pub fits_byte : Option ℕ → Option ℕ
-fits_byte (Some n) = if nat_lt n 256 then Some n else None
-fits_byte None = None
+-- an integer below 0, and what is neither an integer nor a string, names nothing
+pub names_nothing : (is_numbered : Bool) (es : List Entry) (i : Item) (is : Bool) → is ≡ (major_of i == 0)
+    → is ≡ false → ((s : List ℕ) → i ≡ item.text_string s → ⊥) → ((s : List ℕ) → i ≡ item.byte_string s → ⊥)
+    → wrong ≡ names is_numbered es i
+names_nothing b es (item.number (pos n)) is says other t h = absurd cc
+names_nothing true es (item.number (negsuc n)) is says other t h = refl
+names_nothing false es (item.number (negsuc n)) is says other t h = refl
+names_nothing b es (item.byte_string s) is says other t h = absurd (h s refl)
+names_nothing b es (item.text_string s) is says other t h = absurd (t s refl)
+names_nothing b es _ is says other t h = refl
 
-pub none_wrong : (is_numbered : Bool) (es : List Entry) → wrong ≡ number_names is_numbered None es
-none_wrong true es = refl
-none_wrong false es = refl
+-- an integer names what it names in memory
+pub names_scalar : (is_numbered : Bool) (es : List Entry) (i : Item) → (major_of i == 0) ≡ true
+    → names is_numbered es (scalar_in i) ≡ names is_numbered es i
+names_scalar b es (item.number z) is = refl
+names_scalar b es _ is = absurd cc
 
-pub names_number : (is_numbered : Bool) (es : List Entry) (i : Item) → ((s : List ℕ) → i ≡ item.text_string s → ⊥)
-    → ((s : List ℕ) → i ≡ item.byte_string s → ⊥)
-    → names is_numbered es i ≡ number_names is_numbered (fits_byte (unsigned_in i)) es
-names_number b es (item.number (pos n)) t h = refl
-names_number b es (item.number (negsuc n)) t h = refl
-names_number b es (item.byte_string s) t h = absurd (h s refl)
-names_number b es (item.text_string s) t h = absurd (t s refl)
-names_number b es _ t h = none_wrong b es
+not_wrong : (n : Named) → naming_of (Some n) ≡ wrong → ⊥
+not_wrong (named.Row n) e = cc
+not_wrong named.Unknown e = cc
 
--- ---- data items by their major types
-
--- an item of another major type isn't x
-pub other_major : (i x : Item) (major : ℕ) (is : Bool) → is ≡ (major_of i == major) → is ≡ true
-    → (major_of x == major) ≡ false → i ≡ x → ⊥
-other_major i x major is says same other e = grind arith
-
-pub not_unsigned : (i : Item) (is : Bool) → is ≡ (major_of i == 0) → is ≡ false → unsigned_in i ≡ None
-not_unsigned (item.number (pos n)) is says other = cc
-not_unsigned _ is says other = refl
+-- a key names something only if it isn't refused
+pub key_ends : (b : Bool) (es : List Entry) (x : Item) (found : Option Named) {Q : Type 0}
+    → naming_of found ≡ names b es x → ((x ≡ unassigned → ⊥) → Q) → IfSome found (λ n. Q)
+key_ends b es x None e ends = tt
+key_ends b es x (Some n) e ends = ends (λ is. not_wrong n (e ∙ ap (names b es) is))

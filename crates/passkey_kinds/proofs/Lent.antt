@@ -1,5 +1,5 @@
 -- Strings that are lent at a cursor.
-use Rattle.passkey_kinds.proofs.Common.{raised-le, head_again, head_long, each_long, lends_start, lends_on, lends_all, AChunk, follows_chunk, IsEncodedAt, Definite, Content, Item, byte_string, text_string, Each, Region, Tells, PassesString, LendsNothing, IsRegion, heads_in, LendsFrom, LooksAtAll, LooksAtSome, LentWhole, string_head, LooksFor, heads_until, heads_sought, LendsPiece, LendsNoPiece, LooksAhead, LendsUpTo, chunk, Walk, ahead, raised, DataGrow, data_parts, AuthenticatorData, algorithm_named, algorithm, authenticator_data, authenticator_data_nodes, CountsData, AnswersAs, bytes, MayGrow, below, list, Answers, integer_in, ReadsFlat, Further, Decodes, LooksAtMost, Spends, names, Refused, Refusal, IsOf, signed_64, whole_64, NumberState, ◌≡◌, ◌∙◌, ◌<◌, ◌+◌, ℕ, suc, arith, Bool, true, false, List, [], ◌∷◌, ◌++◌, length, Option, Some, None, option_map, refl, sym, ap, rules, ◌≤◌, Result, subst, ◌-◌, Ok, Err, OnOk, cond, ℤ, ◌^◌, zero, IfSome, length-append, length-take, concat, option_and_then, ok_or}
+use Rattle.passkey_kinds.proofs.Common.{raised-le, head_again, head_long, each_long, lends_start, lends_on, lends_all, AChunk, follows_chunk, IsEncodedAt, Definite, Content, Item, byte_string, text_string, Each, Region, Tells, PassesString, LendsNothing, IsRegion, heads_in, LendsFrom, LooksAtAll, LooksAtSome, LentWhole, string_head, LooksFor, heads_until, heads_sought, LendsPiece, LendsNoPiece, LooksAhead, LendsUpTo, chunk, Walk, ahead, raised, DataGrow, data_parts, AuthenticatorData, algorithm, authenticator_data, authenticator_data_nodes, CountsData, AnswersAs, bytes, MayGrow, below, list, Answers, scalar_in, Further, Decodes, LooksAtMost, Spends, names, Refused, Refusal, IsOf, whole_64, NumberState, ◌≡◌, ◌∙◌, ◌<◌, ◌+◌, ℕ, suc, arith, Bool, true, false, List, [], ◌∷◌, ◌++◌, length, Option, Some, None, option_map, refl, sym, ap, rules, ◌≤◌, Result, subst, ◌-◌, Err, cond, ℤ, ◌^◌, zero, length-append, length-take, concat, ok_or}
 use Rattle.passkey_core.specs.DataReading.{fixed_at}
 use Rattle.passkey_kinds.proofs.Cursor.{stands_long, eased, on_ok, stands_back, string_further}
 use Rattle.passkey_kinds.proofs.Lists.{answers_from}
@@ -225,32 +225,12 @@ module _ {whole left next : Region} {a b d : Walk} {n : NumberState} (u : AddsUp
       let rises = raised_rises a.heads (heads_in true whole.len t.0 whole.bytes t.1) fits in
       looks_all (omega (arith, all.heads t.0 t.1, rises)) true t all
 
--- ---- values of one head
-
--- there is a value only if the head says something
-pub flat_ends : {A M X : Type 0} (Q : Type 0) (view : A → M) (of : X → Option M) (found : Option X) (result : Result A Refusal)
-    → IfSome found (λ x. Q) → AnswersAs view (option_and_then of found) ⊥ result → OnOk result Q
-flat_ends Q view of (Some x) result ends h = on_ok result ends
-flat_ends Q view of None (Ok x) ends h = absurd (cc h)
-flat_ends Q view of None (Err e) ends h = tt
-
-some_ends : {X Q : Type 0} (found : Option X) → ((x : X) → found ≡ Some x → Q) → IfSome found (λ x. Q)
-some_ends None ends = tt
-some_ends (Some x) ends = ends x refl
-
--- The value of an item of one head, by what the head says.
-pub flat_decodes : {A M X : Type 0} (view : A → M) {wanted : Option M} {may : Type 0} (of : X → Option M)
-    (said found : Option X) (to : ℕ) (a b : Walk) (result : Result A Refusal) → wanted ≡ option_and_then of said
-    → ReadsFlat said to a b found → AnswersAs view (option_and_then of found) ⊥ result
-    → Decodes view wanted may 1 0 to a b result
-flat_decodes view of said found to a b result e r h = grind (arith, answers_from, option_and_then, flat_ends, some_ends)
-
 -- ---- numbers
 
-pub other_number : (i : Item) → ((s : List ℕ) → i ≡ item.text_string s → ⊥)
-    → algorithm i ≡ option_and_then algorithm_named (option_and_then signed_64 (integer_in i))
-other_number (item.text_string s) h = absurd (h s refl)
-other_number _ h = refl
+pub other_number : (i : Item) → ((s : List ℕ) → i ≡ item.text_string s → ⊥) → algorithm i ≡ algorithm (scalar_in i)
+other_number (item.number z) t = refl
+other_number (item.text_string s) t = absurd (t s refl)
+other_number _ t = refl
 
 -- ---- authenticator data, decoded from a byte string at a cursor
 

@@ -3,7 +3,7 @@ ghost use Rattle.std.specs.Prelude.{◌≡◌, ℕ, List, true};
 ghost use Rattle.std.specs.Option.{option_and_then};
 ghost use Rattle.passkey_kinds.specs.Words.{IsRegion, Tells, algorithm_named, algorithm_number, algorithm_tree, AnswersAs, LooksAtMost, algorithm, whole_64};
 
-use crate::head::read_integer;
+use crate::head::read_scalar;
 use crate::{FromCbor, OutOfMemory, Refusal, ToCbor};
 use passkey_cbor::{Cursor, Encoder, Integer, TextToken, Value};
 use passkey_cose::signed_64;
@@ -52,10 +52,10 @@ impl FromCbor for Algorithm {
         }
     }
 
-    fn read(_alloc: Global, cursor: &mut Cursor<'_>) -> Result<Algorithm, Refusal> {
+    fn read(alloc: Global, cursor: &mut Cursor<'_>) -> Result<Algorithm, Refusal> {
         match cursor.text() {
             Some(token) => named(whole_of(&token, cursor)),
-            None => named(read_integer(cursor)),
+            None => Algorithm::from_value(alloc, &read_scalar(cursor)),
         }
     }
 }

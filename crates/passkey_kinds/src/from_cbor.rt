@@ -1,10 +1,9 @@
 //! Values that are decoded from data items.
-ghost use Rattle.std.specs.Option.{option_and_then};
-ghost use Rattle.std.specs.Prelude.{◌^◌, ℕ, nat_lt, Bool, if◌then◌else◌, Option, option_map, OnOk};
-ghost use Rattle.passkey_kinds.specs.Words.{tolerated, Item, IsEncodedAt, item_of, Answers, AnswersAs, Typed, Onward, Further, ReadsAs, truth, below, text, kept, optional};
+ghost use Rattle.std.specs.Prelude.{◌^◌, ℕ, Option, option_map, OnOk};
+ghost use Rattle.passkey_kinds.specs.Words.{tolerated, Item, IsEncodedAt, item_of, Answers, Typed, Onward, Further, ReadsAs, truth, below, text, kept, optional};
 
 use crate::Refusal;
-use crate::head::{read_null, read_truth, read_unsigned};
+use crate::head::{read_null, read_scalar};
 use passkey_bytes::Text;
 use passkey_cbor::{CborError, Cursor, Value};
 use std::alloc::Global;
@@ -41,26 +40,6 @@ pub trait FromCbor: Drop {
         ensures further { OnOk result (Further cursor.old cursor.new) };
 }
 
-fn byte(found: Option<u64>) -> Result<u8, Refusal>
-    ensures { AnswersAs (λ b. b) (option_and_then (λ (n : ℕ). if nat_lt n (2 ^ 8) then Some n else None) found) ⊥
-        result }
-{
-    match found {
-        Some(n) => u8::try_from(n).or(Err(Refusal::Refused)),
-        None => Err(Refusal::Refused),
-    }
-}
-
-fn word(found: Option<u64>) -> Result<u32, Refusal>
-    ensures { AnswersAs (λ w. w) (option_and_then (λ (n : ℕ). if nat_lt n (2 ^ 32) then Some n else None) found) ⊥
-        result }
-{
-    match found {
-        Some(n) => u32::try_from(n).or(Err(Refusal::Refused)),
-        None => Err(Refusal::Refused),
-    }
-}
-
 impl FromCbor for bool {
     ghost view = { λ b. b };
 
@@ -73,8 +52,8 @@ impl FromCbor for bool {
         }
     }
 
-    fn read(_alloc: Global, cursor: &mut Cursor<'_>) -> Result<bool, Refusal> {
-        read_truth(cursor).ok_or(Refusal::Refused)
+    fn read(alloc: Global, cursor: &mut Cursor<'_>) -> Result<bool, Refusal> {
+        bool::from_value(alloc, &read_scalar(cursor))
     }
 }
 
@@ -90,9 +69,8 @@ impl FromCbor for u8 {
         }
     }
 
-    #[tactic(auto, using(crate::proofs::Lent::flat_ends))]
-    fn read(_alloc: Global, cursor: &mut Cursor<'_>) -> Result<u8, Refusal> {
-        byte(read_unsigned(cursor))
+    fn read(alloc: Global, cursor: &mut Cursor<'_>) -> Result<u8, Refusal> {
+        u8::from_value(alloc, &read_scalar(cursor))
     }
 }
 
@@ -108,9 +86,8 @@ impl FromCbor for u32 {
         }
     }
 
-    #[tactic(auto, using(crate::proofs::Lent::flat_ends))]
-    fn read(_alloc: Global, cursor: &mut Cursor<'_>) -> Result<u32, Refusal> {
-        word(read_unsigned(cursor))
+    fn read(alloc: Global, cursor: &mut Cursor<'_>) -> Result<u32, Refusal> {
+        u32::from_value(alloc, &read_scalar(cursor))
     }
 }
 

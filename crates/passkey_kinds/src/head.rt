@@ -1,52 +1,33 @@
 //! Decodes one head at a cursor, by the type of data item that is wanted.
-ghost use Rattle.std.specs.Prelude.{◌≡◌, ℕ, ◌+◌, ◌≤◌, ◌==◌, true, false, Option, option_map, unwrap_or, if◌then◌else◌, IfSome, Some as There, None as Nothing};
+ghost use Rattle.std.specs.Prelude.{◌≡◌, ℕ, ◌+◌, ◌≤◌, ◌==◌, true, false, option_map, unwrap_or, IfSome};
 ghost use Rattle.std.specs.Option.{option_and_then};
-ghost use Rattle.passkey_kinds.specs.Words.{Item, null, signed_64, IsEncodedAt, Onward, Further, Spends, max_depth};
+ghost use Rattle.passkey_kinds.specs.Words.{Item, item_of, IsEncodedAt, Onward, Further, Spends, Costs, nothing, max_depth};
 ghost use Rattle.passkey_cbor.specs.Initial.{major_of};
-ghost use Rattle.passkey_cbor.specs.declared.head.Head.{Head};
 ghost use Rattle.passkey_cbor.specs.Inside.{Within, PairWithin};
-ghost use Rattle.passkey_kinds.specs.Reader.{unsigned_in, integer_in, null_in, head_unsigned, head_integer, head_truth, head_null, head_array, head_map, ReadsFlat, elements_in, members_in, OpensAt};
-ghost use Rattle.passkey_kinds.specs.Kind.{truth};
+ghost use Rattle.passkey_kinds.specs.Reader.{unassigned, null_in, head_scalar, head_array, head_map, ReadsScalar, elements_in, members_in, OpensAt};
 
-use passkey_cbor::{Cursor, Head};
+use passkey_cbor::{Cursor, Head, Integer, Simple, Value};
 
-fn unsigned(head: Option<Head>) -> Option<u64>
-    ensures { result ≡ option_and_then head_unsigned head }
+/// Returns the integer, the boolean or null of which this is the head. In place of any other data
+/// item, returns the simple value 0, which is unassigned (RFC 8949, section 3.3).
+fn scalar(head: Option<Head>) -> Value
+    ensures { item_of result ≡ unwrap_or (option_map head_scalar head) unassigned }
 {
     match head {
-        Some(Head::Unsigned(n)) => Some(n),
-        _ => None,
+        Some(Head::Unsigned(n)) => Value::from(n),
+        Some(Head::Negative(n)) => Value::Integer(Integer::new(-1 - i128::from(n)).unwrap()),
+        Some(Head::Simple(20)) => Value::Bool(false),
+        Some(Head::Simple(21)) => Value::Bool(true),
+        Some(Head::Simple(n)) if n == 22 || n == 23 => Value::Null,
+        _ => Value::Simple(Simple::new(0).unwrap()),
     }
 }
 
-fn integer(head: Option<Head>) -> Option<i64>
-    ensures { result ≡ option_and_then (λ (h : Head). option_and_then signed_64 (head_integer h)) head }
+fn is_null(value: &Value) -> bool
+    ensures { result ≡ null_in (item_of value.now) }
 {
-    match head {
-        Some(Head::Unsigned(n)) => i64::try_from(n).ok(),
-        Some(Head::Negative(n)) => match i64::try_from(n) {
-            Ok(n) => Some(-1 - n),
-            Err(_) => None,
-        },
-        _ => None,
-    }
-}
-
-fn truth(head: Option<Head>) -> Option<bool>
-    ensures { result ≡ option_and_then head_truth head }
-{
-    match head {
-        Some(Head::Simple(20)) => Some(false),
-        Some(Head::Simple(21)) => Some(true),
-        _ => None,
-    }
-}
-
-fn is_null(head: Option<Head>) -> bool
-    ensures { result ≡ unwrap_or (option_map head_null head) false }
-{
-    match head {
-        Some(Head::Simple(n)) => n == 22 || n == 23,
+    match value {
+        Value::Null => true,
         _ => false,
     }
 }
@@ -82,7 +63,8 @@ pub(crate) fn begins(cursor: &Cursor<'_>, major: u8) -> bool
 
 /// Returns whether the next byte is null or undefined. Decodes nothing.
 fn begins_null(cursor: &Cursor<'_>) -> bool
-    ensures { (to : ℕ) → IsEncodedAt null cursor.now.bytes cursor.now.place to → result ≡ true }
+    ensures { (i : Item) (to : ℕ) → IsEncodedAt i cursor.now.bytes cursor.now.place to → result ≡ false
+        → null_in i ≡ false }
 {
     match cursor.initial_byte() {
         Some(initial) => initial == 0xf6 || initial == 0xf7,
@@ -90,53 +72,31 @@ fn begins_null(cursor: &Cursor<'_>) -> bool
     }
 }
 
-/// Decodes the unsigned integer at the cursor. Returns `None` if none is there.
+/// Decodes the integer, the boolean or null at the cursor. Returns the simple value 0, which no type
+/// accepts, if another data item is there. Allocates nothing.
 #[tactic(auto, using(crate::proofs::Cursor::heads))]
-pub(crate) fn read_unsigned(cursor: &mut Cursor<'_>) -> Option<u64>
+pub(crate) fn read_scalar(cursor: &mut Cursor<'_>) -> Value
     ensures reads { (i : Item) (to : ℕ) → IsEncodedAt i cursor.old.bytes cursor.old.place to
-        → ReadsFlat (unsigned_in i) to cursor.old cursor.new result }
+        → ReadsScalar i to cursor.old cursor.new (item_of result) }
     ensures onward { Onward cursor.old cursor.new }
-    ensures further { IfSome result (λ _. Further cursor.old cursor.new) }
+    ensures further { (item_of result ≡ unassigned → ⊥) → Further cursor.old cursor.new }
 {
-    unsigned(cursor.head())
-}
-
-/// Decodes the integer at the cursor. Returns `None` if none is there, or if it doesn't fit in
-/// `i64`.
-#[tactic(auto, using(crate::proofs::Cursor::heads))]
-pub(crate) fn read_integer(cursor: &mut Cursor<'_>) -> Option<i64>
-    ensures reads { (i : Item) (to : ℕ) → IsEncodedAt i cursor.old.bytes cursor.old.place to
-        → ReadsFlat (option_and_then signed_64 (integer_in i)) to cursor.old cursor.new result }
-    ensures onward { Onward cursor.old cursor.new }
-    ensures further { IfSome result (λ _. Further cursor.old cursor.new) }
-{
-    integer(cursor.head())
-}
-
-/// Decodes the boolean at the cursor. Returns `None` if none is there.
-#[tactic(auto, using(crate::proofs::Cursor::heads))]
-pub(crate) fn read_truth(cursor: &mut Cursor<'_>) -> Option<bool>
-    ensures reads { (i : Item) (to : ℕ) → IsEncodedAt i cursor.old.bytes cursor.old.place to
-        → ReadsFlat (truth i) to cursor.old cursor.new result }
-    ensures onward { Onward cursor.old cursor.new }
-    ensures further { IfSome result (λ _. Further cursor.old cursor.new) }
-{
-    truth(cursor.head())
+    scalar(cursor.head())
 }
 
 /// Decodes null or undefined at the cursor. Returns whether one of them is there. Decodes no head if
 /// the next byte is that of another data item.
-#[tactic(auto, using(crate::proofs::Cursor::heads))]
 pub(crate) fn read_null(cursor: &mut Cursor<'_>) -> bool
-    ensures reads { (i : Item) (to : ℕ) → IsEncodedAt i cursor.old.bytes cursor.old.place to → ReadsFlat (if null_in
-        i then There true else Nothing) to cursor.old cursor.new (if result then There true else Nothing) }
+    ensures finds { (i : Item) (to : ℕ) → IsEncodedAt i cursor.old.bytes cursor.old.place to → result ≡ null_in i }
+    ensures costs { (i : Item) (to : ℕ) → IsEncodedAt i cursor.old.bytes cursor.old.place to
+        → Costs 1 nothing i to cursor.old cursor.new result }
     ensures onward { Onward cursor.old cursor.new }
     ensures further { result ≡ true → Further cursor.old cursor.new }
 {
     if !begins_null(cursor) {
         return false;
     }
-    is_null(cursor.head())
+    is_null(&read_scalar(cursor))
 }
 
 /// Decodes the head of the array at the cursor and returns its length, which is `Some(None)` if it

@@ -1,10 +1,10 @@
 //! Map keys at a cursor, and the rows that they name.
-ghost use Rattle.std.specs.Prelude.{◌≡◌, ◌≤◌, ℕ, nat_lt, if◌then◌else◌, List, Option, length, map, take, true, false, IfSome};
+ghost use Rattle.std.specs.Prelude.{◌≡◌, ◌≤◌, ℕ, List, Option, length, map, take, true, false, IfSome};
 ghost use Rattle.passkey_kinds.specs.Words.{Item, IsRegion, Tells, IsEncodedAt, Onward, Further, LooksAtMost, named_as, entry_of, names, row_named};
 ghost use Rattle.passkey_kinds.specs.RecordReading.{ReadsKey, row_at};
 
-use crate::head::{begins, read_unsigned};
-use crate::rows::{Named, Row, of_number, with_name};
+use crate::head::{begins, read_scalar};
+use crate::rows::{Named, Row, row_of, with_name};
 use passkey_cbor::{BytesToken, Cursor, TextToken};
 
 /// Returns the names of at most 32 rows, followed by empty names.
@@ -86,12 +86,6 @@ fn with_byte_chunks(rows: &[Row], token: &BytesToken<'_>, cursor: &mut Cursor<'_
     at_index(rows, token.name_of(&names[..rows.len()], cursor))
 }
 
-fn byte(number: u64) -> Option<u8>
-    ensures { result ≡ (if nat_lt number 256 then Some number else None) }
-{
-    u8::try_from(number).ok()
-}
-
 /// Decodes the map key at the cursor, moves past it and returns what it names. Returns `None` if a
 /// record can't have this key.
 pub(crate) fn read_key(is_numbered: bool, rows: &[Row], cursor: &mut Cursor<'_>) -> Option<Named>
@@ -102,10 +96,7 @@ pub(crate) fn read_key(is_numbered: bool, rows: &[Row], cursor: &mut Cursor<'_>)
     ensures further { IfSome result (λ _. Further cursor.old cursor.new) }
 {
     if begins(cursor, 0) {
-        let Some(number) = read_unsigned(cursor) else {
-            return None;
-        };
-        return of_number(is_numbered, rows, byte(number));
+        return row_of(is_numbered, rows, &read_scalar(cursor));
     }
     match cursor.text() {
         Some(token) => Some(with_text(rows, &token, cursor)),

@@ -1,12 +1,11 @@
 //! Sizes, decoded from data items. They aren't encoded here, since CBOR has no integer above 2^64 -
 //! 1.
-ghost use Rattle.std.specs.Prelude.{◌≡◌, ℕ, pos, option_map};
-ghost use Rattle.std.specs.Option.{option_and_then};
+ghost use Rattle.std.specs.Prelude.{◌≡◌, ℕ, option_map};
 ghost use Rattle.std.specs.Int.NonZero.{non_zero_u128_get};
-ghost use Rattle.passkey_kinds.specs.Words.{number, AnswersAs, size};
+ghost use Rattle.passkey_kinds.specs.Words.{number, size};
 ghost use Rattle.passkey_kinds.specs.Kind.{size as size_of};
 
-use crate::head::read_unsigned;
+use crate::head::read_scalar;
 use crate::{FromCbor, Refusal};
 use passkey_cbor::{Cursor, Integer, Value};
 use std::alloc::Global;
@@ -16,15 +15,6 @@ fn positive(n: Integer) -> Option<NonZeroU128>
     ensures { option_map non_zero_u128_get result ≡ size_of (number n) }
 {
     NonZeroU128::new(u128::try_from(n.get()).ok()?)
-}
-
-fn not_zero(found: Option<u64>) -> Result<NonZeroU128, Refusal>
-    ensures { AnswersAs non_zero_u128_get (option_and_then (λ (n : ℕ). size_of (number (pos n))) found) ⊥ result }
-{
-    match found {
-        Some(n) => NonZeroU128::new(u128::from(n)).ok_or(Refusal::Refused),
-        None => Err(Refusal::Refused),
-    }
 }
 
 impl FromCbor for NonZeroU128 {
@@ -41,8 +31,7 @@ impl FromCbor for NonZeroU128 {
         }
     }
 
-    #[tactic(auto, using(crate::proofs::Lent::flat_ends))]
-    fn read(_alloc: Global, cursor: &mut Cursor<'_>) -> Result<NonZeroU128, Refusal> {
-        not_zero(read_unsigned(cursor))
+    fn read(alloc: Global, cursor: &mut Cursor<'_>) -> Result<NonZeroU128, Refusal> {
+        NonZeroU128::from_value(alloc, &read_scalar(cursor))
     }
 }

@@ -1,14 +1,21 @@
-use Rattle.passkey_kinds.proofs.Steps.{◌≡◌, true, false, subst, Item, IsEncodedAt, null_read, null_missed}
+use Rattle.passkey_kinds.proofs.Steps.{◌∙◌, sym, ap, null_in, nothing, costs_nothing, null_scalar}
 use Rattle.passkey_kinds.proofs.head.read_null.Goals as goal
 
-pub returns-clause-reads : goal.returns-clause-reads
-returns-clause-reads c = λ i to l.
-    null_read _ _ _ i to c.is_null.result c.is_null.ensures c.head.ensures.found (c.head.ensures.opens i to l) l
+pub returns-clause-finds : goal.returns-clause-finds
+returns-clause-finds c = λ i to l.
+    c.is_null.ensures ∙ ap null_in (c.read_scalar.ensures.reads i to l).is ∙ null_scalar i
 
-pub returns-then-not-begins_null-clause-reads : goal.returns-then-not-begins_null-clause-reads
-returns-then-not-begins_null-clause-reads c = λ i to l.
-    null_missed _ i to l (λ e.
-    let found : c.begins_null.result ≡ true =
-    c.begins_null.ensures to (subst (λ (x : Item). IsEncodedAt x c.args.cursor.now.bytes c.args.cursor.now.place to) e l) in
-    let missed : c.begins_null.result ≡ false = c.if-not-begins_null.true in
-    cc)
+pub returns-clause-costs : goal.returns-clause-costs
+returns-clause-costs c = λ i to l.
+    let r = c.read_scalar.ensures.reads i to l in
+    record { spends = r.spends; ends = λ ok. r.ends (λ e. absurd (cc (ap null_in e, c.is_null.ensures, ok))) }
+
+pub returns-clause-further : goal.returns-clause-further
+returns-clause-further c = λ ok. c.read_scalar.ensures.further (λ e. absurd (cc (ap null_in e, c.is_null.ensures, ok)))
+
+pub returns-then-not-begins_null-clause-costs : goal.returns-then-not-begins_null-clause-costs
+returns-then-not-begins_null-clause-costs c = λ i to l. costs_nothing 1 nothing i to _ l
+
+pub returns-then-not-begins_null-clause-finds : goal.returns-then-not-begins_null-clause-finds
+returns-then-not-begins_null-clause-finds c = λ i to l.
+    sym (c.begins_null.ensures i to l c.if-not-begins_null.true)

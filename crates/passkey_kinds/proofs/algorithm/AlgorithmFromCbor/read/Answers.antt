@@ -1,4 +1,4 @@
-use Rattle.passkey_kinds.proofs.Steps.{rules, ◌∙◌, sym, ap, option_and_then, algorithm_named, algorithm, stands_long, on_ok, lent_decodes, answers_from, flat_decodes, other_number, missed_then, stands_missed, looked_further}
+use Rattle.passkey_kinds.proofs.Steps.{rules, refl, arith, ◌∙◌, sym, ap, option_and_then, algorithm_named, algorithm, stands_long, on_ok, lent_decodes, answers_from, scalar_decodes, scalar_ends, other_number, missed_then, stands_missed, looked_further}
 use Rattle.passkey_kinds.proofs.algorithm.AlgorithmFromCbor.read.Goals as goal
 
 pub returns-in-Some-clause-reads : goal.returns-in-Some-clause-reads
@@ -12,10 +12,15 @@ returns-in-Some-clause-reads c = λ i to l.
 pub returns-in-None-clause-reads : goal.returns-in-None-clause-reads
 returns-in-None-clause-reads c = λ i to l.
     let f = c.in-None.ensures.lends i to l in
-    let read = c.read_integer.ensures.reads i to (stands_missed i f.1 l) in
     missed_then f.1 (stands_long i l)
-    (flat_decodes _ algorithm_named _ c.read_integer.result to _ _ c.named-in-None.result (other_number i f.0) read
-    c.named-in-None.ensures)
+    (scalar_decodes algorithm i refl (other_number i f.0)
+    (c.read_scalar.ensures.reads i to (stands_missed i f.1 l)) c.from_value.ensures)
+
+pub returns-in-None-clause-further : goal.returns-in-None-clause-further
+returns-in-None-clause-further c =
+    let on = c.in-None.ensures.went in
+    scalar_ends _ algorithm _ c.from_value.result refl c.from_value.ensures (λ is.
+    omega (arith, c.read_scalar.ensures.further is))
 
 pub returns-in-Some-clause-further : goal.returns-in-Some-clause-further
 returns-in-Some-clause-further c =

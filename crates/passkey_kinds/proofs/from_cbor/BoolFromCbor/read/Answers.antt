@@ -1,7 +1,10 @@
-use Rattle.passkey_kinds.proofs.Steps.{arith, flat_decodes}
+use Rattle.passkey_kinds.proofs.Steps.{refl, truth, truth_scalar, scalar_decodes, scalar_ends}
 use Rattle.passkey_kinds.proofs.from_cbor.BoolFromCbor.read.Goals as goal
 
 pub returns-clause-reads : goal.returns-clause-reads
 returns-clause-reads c = λ i to l.
-    let r = c.read_truth.ensures.reads i to l in
-    grind (arith, flat_decodes, r)
+    scalar_decodes truth i refl (truth_scalar i) (c.read_scalar.ensures.reads i to l) c.from_value.ensures
+
+pub returns-clause-further : goal.returns-clause-further
+returns-clause-further c =
+    scalar_ends _ truth _ c.from_value.result refl c.from_value.ensures c.read_scalar.ensures.further

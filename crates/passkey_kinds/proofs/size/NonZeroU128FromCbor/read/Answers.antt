@@ -1,6 +1,10 @@
-use Rattle.passkey_kinds.proofs.Steps.{unsigned_size, flat_decodes}
+use Rattle.passkey_kinds.proofs.Steps.{refl, size, size_scalar, scalar_decodes, scalar_ends}
 use Rattle.passkey_kinds.proofs.size.NonZeroU128FromCbor.read.Goals as goal
 
 pub returns-clause-reads : goal.returns-clause-reads
-returns-clause-reads c = λ i to l. flat_decodes _ _ _ c.read_unsigned.result to _ _ c.not_zero.result
-    (unsigned_size i) (c.read_unsigned.ensures.reads i to l) c.not_zero.ensures
+returns-clause-reads c = λ i to l.
+    scalar_decodes size i refl (size_scalar i) (c.read_scalar.ensures.reads i to l) c.from_value.ensures
+
+pub returns-clause-further : goal.returns-clause-further
+returns-clause-further c =
+    scalar_ends _ size _ c.from_value.result refl c.from_value.ensures c.read_scalar.ensures.further
