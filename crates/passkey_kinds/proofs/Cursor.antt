@@ -1,5 +1,5 @@
 -- How a cursor moves, what it spends, and values of one head or of one string.
-use Rattle.passkey_kinds.proofs.Common.{lies_size, head_again, follows_item, low_simple, head_long, encoded_long, IsEncodedAt, Opens, FindsHead, IsEncodingOfHead, PairWithin, Within, Inside, Item, Pairs, items_of, pairs_of, byte_string, array, boolean, null, text_string, number, max_depth, IsLeadingItem, Region, PassesString, item_within, simple_item, PassesLeadingItem, MakesLeadingItem, Walk, ahead, Went, Head, members-pairs_of, elements-items_of, aaguid, bytes, below, kept, truth, Kind, optional, text, one_named, FailsAs, size, AnswersAs, MayGrow, unassigned, scalar_in, null_in, ReadsScalar, head_scalar, head_array, head_map, elements_in, members_in, OpensAt, Further, Decodes, Spends, Onward, named, Refused, OutOfMemory, Refusal, ◌≡◌, ◌∙◌, ◌<◌, ◌+◌, ℕ, arith, Bool, true, false, if◌then◌else◌, List, [], ◌++◌, length, Option, Some, None, option_map, refl, sym, ap, rules, ◌≤◌, Result, subst, ◌-◌, take, Ok, Err, OnOk, pos, negsuc, unwrap_or, IfSome, is_ok, mul-le-mul_left, nat_tests, cases_lt, cases_eq, length-append, length-take, option_and_then}
+use Rattle.passkey_kinds.proofs.Common.{lies_size, head_again, follows_item, low_simple, head_long, encoded_long, IsEncodedAt, Opens, FindsHead, IsEncodingOfHead, PairWithin, Within, Inside, Item, Pairs, items_of, pairs_of, byte_string, array, boolean, null, text_string, number, max_depth, IsLeadingItem, Region, PassesString, item_within, simple_item, PassesLeadingItem, MakesLeadingItem, Walk, ahead, Went, Head, members-pairs_of, elements-items_of, aaguid, bytes, below, kept, truth, Kind, optional, text, one_named, FailsAs, size, AnswersAs, MayGrow, unassigned, scalar_in, null_in, ReadsScalar, head_scalar, head_array, head_map, elements_in, members_in, OpensAt, Further, Decodes, Spends, Onward, named, Refused, OutOfMemory, Refusal, ◌≡◌, ◌∙◌, ◌<◌, ◌+◌, ℕ, arith, Bool, true, false, if◌then◌else◌, List, [], ◌++◌, length, Option, Some, None, option_map, refl, sym, ap, rules, ◌≤◌, Result, subst, ◌-◌, take, Ok, Err, OnOk, pos, negsuc, unwrap_or, is_some, Language, IfSome, is_ok, mul-le-mul_left, nat_tests, cases_lt, cases_eq, length-append, length-take, option_and_then}
 use Rattle.passkey_kinds.proofs.Lists.{answers_from, never_grows}
 use Rattle.passkey_cbor.specs.declared.head.Head.TheVariants as head
 use Rattle.passkey_cbor.specs.Item as item
@@ -214,59 +214,39 @@ null_scalar _ = refl
 
 -- ---- heads of arrays and maps
 
-abbrev is_array_head : Head → Bool
-is_array_head (head.Array left) = true
-is_array_head _ = false
+array_says : (h : Head) (i : Item) (t : List ℕ) → Inside h i t → is_some (head_array h) ≡ is_some (elements_in i)
+array_says =
+    head_says (λ i. is_some (elements_in i)) (λ h. is_some (head_array h)) (λ n. refl) (λ n. refl) (λ n s. refl)
+    (λ n s. refl) (λ n s. refl) (λ n s. refl) (λ n s. refl)
+    (λ n. sym (simple_any (λ i. is_some (elements_in i)) false (λ b. refl) refl (λ m. refl) n)) (λ x. refl)
 
-abbrev is_map_head : Head → Bool
-is_map_head (head.Map left) = true
-is_map_head _ = false
+map_says : (h : Head) (i : Item) (t : List ℕ) → Inside h i t → is_some (head_map h) ≡ is_some (members_in i)
+map_says =
+    head_says (λ i. is_some (members_in i)) (λ h. is_some (head_map h)) (λ n. refl) (λ n. refl) (λ n s. refl)
+    (λ n s. refl) (λ n s. refl) (λ n s. refl) (λ n s. refl)
+    (λ n. sym (simple_any (λ i. is_some (members_in i)) false (λ b. refl) refl (λ m. refl) n)) (λ x. refl)
 
-true_false : (b : Bool) → b ≡ true → b ≡ false → ⊥
-true_false b p q = absurd cc
+no_parts : {X : Type 0} (parts : Option X) → false ≡ is_some parts → parts ≡ None
+no_parts None e = refl
+no_parts (Some xs) e = absurd cc
 
-no_array : (h : Head) (i : Item) (t : List ℕ) → Inside h i t → is_array_head h ≡ false → (xs : item.Items)
-    → i ≡ item.array xs → ⊥
-no_array h i t w other xs e = grind (arith, true_false, head_says, simple_any)
-
-no_map : (h : Head) (i : Item) (t : List ℕ) → Inside h i t → is_map_head h ≡ false → (ps : item.Pairs)
-    → i ≡ item.map ps → ⊥
-no_map h i t w other ps e = grind (arith, true_false, head_says, simple_any)
-
-not_array : (i : Item) → ((xs : item.Items) → i ≡ item.array xs → ⊥) → elements_in i ≡ None
-not_array (item.array xs) h = absurd (h xs refl)
-not_array _ h = refl
-
-not_map : (i : Item) → ((ps : item.Pairs) → i ≡ item.map ps → ⊥) → members_in i ≡ None
-not_map (item.map ps) h = absurd (h ps refl)
-not_map _ h = refl
-
-array_opened : (h : Head) (i : Item) (to : ℕ) (b : Walk) → Opens i to b (Some h)
+pub array_opened : (h : Head) (i : Item) (to : ℕ) (b : Walk) → Opens i to b (Some h)
     → OpensAt elements_in (Within max_depth) i to b (head_array h)
 array_opened (head.Array left) i to b o = grind (arith, elements-items_of)
-array_opened x i to b o = not_array i (no_array x i o.text o.encoded refl)
+array_opened x i to b o = no_parts (elements_in i) (array_says x i o.text o.encoded)
 
-map_opened : (h : Head) (i : Item) (to : ℕ) (b : Walk) → Opens i to b (Some h)
+pub map_opened : (h : Head) (i : Item) (to : ℕ) (b : Walk) → Opens i to b (Some h)
     → OpensAt members_in (PairWithin max_depth) i to b (head_map h)
 map_opened (head.Map left) i to b o = grind (arith, members-pairs_of)
-map_opened x i to b o = not_map i (no_map x i o.text o.encoded refl)
+map_opened x i to b o = no_parts (members_in i) (map_says x i o.text o.encoded)
 
-module _ (head : Option Head) (i : Item) (to : ℕ) (b : Walk) (result : Option (Option ℕ)) where
-  pub array_opens : result ≡ option_and_then head_array head → Opens i to b head
-      → OpensAt elements_in (Within max_depth) i to b result
-  array_opens e o = subst (OpensAt elements_in (Within max_depth) i to b) (sym e) (opened head o) where
-    opened : (h : Option Head) → Opens i to b h
-        → OpensAt elements_in (Within max_depth) i to b (option_and_then head_array h)
-    opened None o = absurd o
-    opened (Some h) o = array_opened h i to b o
-
-  pub map_opens : result ≡ option_and_then head_map head → Opens i to b head
-      → OpensAt members_in (PairWithin max_depth) i to b result
-  map_opens e o = subst (OpensAt members_in (PairWithin max_depth) i to b) (sym e) (opened head o) where
-    opened : (h : Option Head) → Opens i to b h
-        → OpensAt members_in (PairWithin max_depth) i to b (option_and_then head_map h)
-    opened None o = absurd o
-    opened (Some h) o = map_opened h i to b o
+pub parts_open : {X : Type 0} (parts : Item → Option (List X)) (Encoded : X → Language)
+    (len : Head → Option (Option ℕ)) → ((h : Head) (i : Item) (to : ℕ) (b : Walk) → Opens i to b (Some h) → OpensAt parts Encoded i to b (len h))
+    → (head : Option Head) (i : Item) (to : ℕ) (b : Walk) (result : Option (Option ℕ))
+    → result ≡ option_and_then len head → Opens i to b head → OpensAt parts Encoded i to b result
+parts_open parts Encoded len opened None i to b result e o = absurd o
+parts_open parts Encoded len opened (Some h) i to b result e o =
+    subst (OpensAt parts Encoded i to b) (sym e) (opened h i to b o)
 
 pub ruleset heads = (onward_of, head_moves)
 

@@ -1,6 +1,6 @@
 //! Values that are decoded from text strings, whatever the text.
-ghost use Rattle.std.specs.Prelude.{◌≡◌, ℕ, List, true, IfOk, OnOk};
-ghost use Rattle.passkey_kinds.specs.Words.{Item, IsRegion, Tells, IsEncodedAt, nothing, Onward, Further, ReadsAs, LooksAtMost, growing};
+ghost use Rattle.std.specs.Prelude.{◌≡◌, ℕ, List, Some as There, true, IfOk, OnOk, ⊤};
+ghost use Rattle.passkey_kinds.specs.Words.{Item, IsRegion, Tells, IsEncodedAt, nothing, Onward, Further, ReadsAs, LooksAtMost, AnswersAs, growing};
 ghost use Rattle.passkey_kinds.specs.Kind.{one_named};
 
 use crate::{OutOfMemory, Refusal};
@@ -22,22 +22,23 @@ fn text_value<T: FromText>(
     alloc: Global,
     token: &TextToken<'_>,
     cursor: &mut Cursor<'_>,
-) -> Result<T, OutOfMemory>
+) -> Result<T, Refusal>
     requires { IsRegion true token.now }
-    ensures value { (s : List ℕ) → Tells true token.now s → IfOk result (λ v. v ≡ T.of_text s) }
+    ensures answers { (s : List ℕ) → Tells true token.now s → AnswersAs (λ v. v) (There (T.of_text s)) ⊤ result }
     ensures looks { LooksAtMost token.now cursor.old cursor.new }
 {
     match token.lent() {
-        Some(text) => T::from_text(alloc, text),
+        Some(text) => Ok(T::from_text(alloc, text)?),
         None => {
             let text = token.copy(alloc, cursor)?;
-            T::from_text(alloc, text.as_str())
+            Ok(T::from_text(alloc, text.as_str())?)
         }
     }
 }
 
 /// Decodes the value of the text string at the cursor, and moves past it. Returns `Refused` if no
 /// text string is there, and `OutOfMemory` if an allocation fails.
+#[tactic(auto, using(crate::proofs::Cursor::string_further, crate::proofs::Cursor::on_ok))]
 pub fn read_text_value<T: FromText>(alloc: Global, cursor: &mut Cursor<'_>) -> Result<T, Refusal>
     ensures reads { (i : Item) (to : ℕ) → IsEncodedAt i cursor.old.bytes cursor.old.place to
         → ReadsAs (λ v. v) (growing 2 nothing (one_named (λ s. Some (T.of_text s)))) i to cursor.old cursor.new result }
@@ -45,7 +46,7 @@ pub fn read_text_value<T: FromText>(alloc: Global, cursor: &mut Cursor<'_>) -> R
     ensures further { OnOk result (Further cursor.old cursor.new) }
 {
     match cursor.text() {
-        Some(token) => Ok(text_value(alloc, &token, cursor)?),
+        Some(token) => text_value(alloc, &token, cursor),
         None => Err(Refusal::Refused),
     }
 }

@@ -1,6 +1,6 @@
 //! Names of enumerations, decoded from data items.
 ghost use Rattle.std.specs.Prelude.{◌≡◌, ℕ, List, true, OnOk};
-ghost use Rattle.passkey_kinds.specs.Words.{Item, IsRegion, Tells, IsEncodedAt, Onward, Further, Decodes, LooksAtMost, item_of, AnswersAs, one_named, credential_type_named, transport_named};
+ghost use Rattle.passkey_kinds.specs.Words.{Item, IsRegion, Tells, IsEncodedAt, Onward, Further, ReadsAs, LooksAtMost, item_of, AnswersAs, one_named, credential_type_named, transport_named};
 ghost use Rattle.passkey_kinds.specs.Kind as kind;
 
 use crate::{FromCbor, Refusal};
@@ -34,7 +34,7 @@ fn named<T: NameTable>(token: &TextToken<'_>, cursor: &mut Cursor<'_>) -> Option
 
 fn read_named<T: NameTable>(cursor: &mut Cursor<'_>) -> Result<T, Refusal>
     ensures reads { (i : Item) (to : ℕ) → IsEncodedAt i cursor.old.bytes cursor.old.place to
-        → Decodes (λ x. x) (kind.one_named T.named i) ⊥ 2 0 to cursor.old cursor.new result }
+        → ReadsAs (λ x. x) (one_named T.named) i to cursor.old cursor.new result }
     ensures onward { Onward cursor.old cursor.new }
     ensures further { OnOk result (Further cursor.old cursor.new) }
 {
