@@ -96,27 +96,6 @@ module _ {A : Type 0} {P : A → Language} {Done : List A → Type 0} {kept : Li
         place = at;
       }
 
--- ---- what a key costs, and what a key and its value cost
-
-module _ (k : ℕ) {one middle to : ℕ} {b d : Walk} (first : b.place < middle) (second : middle ≤ to)
-    (key : Spends 3 0 middle b d) where
-  -- a key by itself
-  pub key_spends : Spends (max 3 k) one to b d
-  key_spends =
-      let t = eased {d = max 3 k} {more = one} (omega arith) (omega arith) (omega (arith, first)) key in
-      record {
-        within = omega (arith, t.within, second);
-        heads = omega (arith, t.heads, mul-le-mul_left {m = middle} {n = to} (max 3 k) second);
-        nodes = t.nodes;
-      }
-
-  -- a key and its value
-  pub pair_spends : {f : Walk} → d.place ≡ middle → Spends k one to d f → Spends (max 3 k) one to b f
-  pair_spends at value =
-      eased (omega arith) (omega arith) (omega (arith, first, second)) (spends_then {kept = 0} {more = one} second at
-      (eased {d = max 3 k} (omega arith) (omega arith) (omega (arith, first)) key)
-      (eased (omega arith) (omega arith) (omega (arith, at, second)) value))
-
 -- ---- the greatest cost
 
 either_le : (b : Bool) (x y n : ℕ) → x ≤ n → y ≤ n → (if b then x else y) ≤ n
@@ -180,18 +159,19 @@ kept_pairs t ms i e = omega (arith, ap (kept_in_map t) e, ap (kept_in t) (member
 -- ---- what a member costs
 
 -- a member's map key by itself, and with its value
-module _ (c one middle to : ℕ) (b d : Walk) (first : b.place < middle) (second : middle ≤ to) (four : 4 ≤ c)
+module _ (c : ℕ) {middle to : ℕ} {b d : Walk} (first : b.place < middle) (second : middle ≤ to) (four : 4 ≤ c)
     (key : Spends 3 0 middle b d) where
   key_heads : (c : ℕ) → 4 ≤ c → suc d.heads + c * b.place ≤ b.heads + c * middle
   key_heads zero four = absurd (omega (arith, four))
   key_heads (suc k) four = (one_spare k 0 middle b d first
       (eased (omega (arith, four)) (omega arith) (omega (arith, first)) key)).heads
 
-  pub key_spent : SpendsLess c one to b d
+  pub key_spent : {one : ℕ} → SpendsLess c one to b d
   key_spent = grind (arith, key_heads, mul-le-mul_left)
 
-  pub member_spent : (k : ℕ) (f : Walk) → d.place ≡ middle → k ≤ c → Spends k one to d f → SpendsLess c one to b f
-  member_spent k f at cheap value =
+  pub member_spent : {one k : ℕ} {f : Walk} → d.place ≡ middle → k ≤ c → Spends k one to d f
+      → SpendsLess c one to b f
+  member_spent {one = one} {f = f} at cheap value =
       let eased_value = eased {d = c} {more = one} cheap (omega arith) (omega (arith, at, second)) value in
       record {
         within = value.within;

@@ -172,8 +172,9 @@ pub record Way (X V : Type 0) : Type 1 where
 -- Decoding and adding an element that ends at `to`, and what was put together before and after it.
 pub record AddsOne {X V : Type 0} (w : Way X V) (x : X) (before after : V) (to : ℕ) (old new : Walk)
     (result : Result (Unit {0}) Refusal) : Type 0 where
-  pub decodes : Decodes (λ _. after) (w.next x before) (IsTrue w.takes) w.cost (w.kept x) to old new result
-  pub further : old.place < to
+  pub answers : AnswersAs (λ _. after) (w.next x before) (IsTrue w.takes) result
+  pub spends : SpendsLess (suc w.cost) (w.kept x) to old new
+  pub ends : OnOk result (new.place ≡ to)
 
 -- the data items that are made as values at most for all of them
 abbrev pub kept_parts : {X : Type 0} → (X → ℕ) → Option (List X) → ℕ

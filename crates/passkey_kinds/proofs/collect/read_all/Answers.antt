@@ -1,4 +1,4 @@
-use Rattle.passkey_kinds.proofs.Steps.{arith, ◌∙◌, refl, sym, err_from_is_err_and, stopped, gone_on, onward_of, onward_then, failed, next_is, element_spends, spent_within, one_spare, some_are, one_more_done, each_done}
+use Rattle.passkey_kinds.proofs.Steps.{arith, ◌∙◌, refl, sym, err_from_is_err_and, stopped, gone_on, onward_of, onward_then, failed, next_is, element_spends, spent_within, some_are, one_more_done, each_done}
 use Rattle.passkey_kinds.proofs.collect.read_all.Goals as goal
 
 pub returns-in_err-add-clause-reads : goal.returns-in_err-add-clause-reads
@@ -11,7 +11,7 @@ returns-in_err-add-clause-reads g c = λ xs to l.
     let added = c.in_err-add.ensures.adds n.first n.middle n.here in
     let some = some_are e b n in
     let spent = spent_within b n (element_spends e b c.add.new.cursor walks.looks n (g.C.Collect.way.kept n.first) refl
-    (one_spare _ _ _ _ _ added.further added.decodes.spends)) in
+    added.spends) in
     grind (arith, failed, stopped, p, e, n, added, some, spent)
 
 pub loop-alloc-preserved : goal.loop-alloc-preserved
@@ -26,9 +26,9 @@ loop-alloc-preserved g c = record {
       let n = next_is e b (g.C.Collect.way.walked _ _ _ _ _ walks) in
       let added = c.in_ok-add.ensures.adds n.first n.middle n.here in
       let spent = element_spends e b d walks.looks n (g.C.Collect.way.kept n.first) refl
-      (one_spare _ _ _ _ _ added.further added.decodes.spends) in
-      one_more_done e b _ d n spent added.decodes.ends c.in_ok-add.ensures.onward.same
-      (sym (gone_on g.C.Collect.way.next _ n.first e.rest n.others _ n.whole added.decodes.answers) ∙ e.done);
+      added.spends in
+      one_more_done e b _ d n spent added.ends c.in_ok-add.ensures.onward.same
+      (sym (gone_on g.C.Collect.way.next _ n.first e.rest n.others _ n.whole added.answers) ∙ e.done);
 }
 
 pub returns-clause-reads : goal.returns-clause-reads

@@ -12,7 +12,7 @@ returns-in-None-clause-reads g c = λ m to l.
     c.is_numbered.ensures c.rows.ensures.rows key.is in
     record {
       answers = ap (λ (n : Naming). one_more t n m.1 (reached (g.R.Record.parts c.args.read.now) c.args.seen.now)) naming;
-      spends = key_spent (record_cost t) _ s.middle to b c.read_key.new.cursor
+      spends = key_spent (record_cost t)
           (stands_long m.0 s.front) s.back.forward (at_least t.rows) key.spends;
       ends = tt;
     }
@@ -33,9 +33,8 @@ returns-in-Some-clause-reads g c = λ m to l.
     subst (λ (n : Naming). DecodesMember t n m before after to b c.read_member.new.source c.read_member.result) (sym naming)
     (record {
       answers = c.read_member.ensures.reads m.0 m.1 to naming there;
-      spends = member_spent (record_cost t) _ s.middle to b d
-          (stands_long m.0 s.front) s.back.forward (at_least t.rows) key.spends
-          (cost_by t.rows (named_as c.in-Some.key)) c.read_member.new.source key.ends
+      spends = member_spent (record_cost t) (stands_long m.0 s.front) s.back.forward
+          (at_least t.rows) key.spends key.ends
           (cost_by_le t.rows (named_as c.in-Some.key)) value.spends;
       ends = ends_ok c.read_member.result value.ends;
     })

@@ -1,4 +1,4 @@
-use Rattle.passkey_kinds.proofs.Steps.{◌∙◌, Some, refl, sym, ap, arith, err_from_is_err_and, max_depth, split, map_values, stands_long, stands_back, failed, map_values-insert, key_spends, pair_spends}
+use Rattle.passkey_kinds.proofs.Steps.{arith, suc, max, err_from_is_err_and, max_depth, split, kept_of, stands_long, stands_back, failed, map_values-insert, key_spent, member_spent}
 use Rattle.passkey_cbor.specs.Inside.{Within}
 use Rattle.passkey_kinds.proofs.map.MapBytesCollect.add.Goals as goal
 
@@ -8,14 +8,9 @@ returns-in_err-key-clause-adds g c = λ x to l.
     let s = split (Within max_depth x.0) (Within max_depth x.1) _ _ to l in
     let long = stands_long x.0 s.front in
     let key = c.in_err-key.ensures.reads x.0 s.middle s.front in
-    rw (p.1, p.2) (record {
-      decodes = record {
-        answers = failed c.in_err-key.field-0.0 (λ none. rw none refl) (λ h. refl) key.answers;
-        spends = key_spends g.T.FromCbor.typed.cost long s.back.forward key.spends;
-        ends = tt;
-      };
-      further = omega (arith, long, s.back.forward);
-    })
+    let spent = key_spent (suc (max 3 g.T.FromCbor.typed.cost)) long s.back.forward (omega arith) key.spends
+    {one = kept_of g.T.FromCbor.typed.keeps x.1} in
+    grind (arith, failed, p, spent, key.answers)
 
 pub returns-in_err-read-clause-adds : goal.returns-in_err-read-clause-adds
 returns-in_err-read-clause-adds g c = λ x to l.
@@ -25,14 +20,9 @@ returns-in_err-read-clause-adds g c = λ x to l.
     let key = c.in_ok-key.ensures.reads x.0 s.middle s.front in
     let value = c.in_err-read.ensures.reads x.1 to
     (stands_back x.1 c.read.new.cursor c.in_ok-key.ensures.onward.same key.ends s.back) in
-    rw (p.1, p.2) (record {
-      decodes = record {
-        answers = failed c.in_err-read.field-0.0 (λ none. rw (key.answers, none) refl) (λ h. refl) value.answers;
-        spends = pair_spends g.T.FromCbor.typed.cost long s.back.forward key.spends key.ends value.spends;
-        ends = tt;
-      };
-      further = omega (arith, long, s.back.forward);
-    })
+    let spent = member_spent (suc (max 3 g.T.FromCbor.typed.cost)) long s.back.forward (omega arith) key.spends key.ends
+    (omega arith) value.spends in
+    grind (arith, failed, p, spent, key.answers, value.answers)
 
 pub returns-in_err-insert-clause-adds : goal.returns-in_err-insert-clause-adds
 returns-in_err-insert-clause-adds g c = λ x to l.
@@ -42,14 +32,9 @@ returns-in_err-insert-clause-adds g c = λ x to l.
     let key = c.in_ok-key.ensures.reads x.0 s.middle s.front in
     let value = c.in_ok-read.ensures.reads x.1 to
     (stands_back x.1 c.read.new.cursor c.in_ok-key.ensures.onward.same key.ends s.back) in
-    rw (p.1, p.2) (record {
-      decodes = record {
-        answers = refl;
-        spends = pair_spends g.T.FromCbor.typed.cost long s.back.forward key.spends key.ends value.spends;
-        ends = tt;
-      };
-      further = omega (arith, long, s.back.forward);
-    })
+    let spent = member_spent (suc (max 3 g.T.FromCbor.typed.cost)) long s.back.forward (omega arith) key.spends key.ends
+    (omega arith) value.spends in
+    grind (arith, p, spent)
 
 pub returns-clause-adds : goal.returns-clause-adds
 returns-clause-adds g c = λ x to l.
@@ -58,12 +43,6 @@ returns-clause-adds g c = λ x to l.
     let key = c.in_ok-key.ensures.reads x.0 s.middle s.front in
     let value = c.in_ok-read.ensures.reads x.1 to
     (stands_back x.1 c.read.new.cursor c.in_ok-key.ensures.onward.same key.ends s.back) in
-    record {
-      decodes = record {
-        answers = rw (key.answers, value.answers) (ap Some (sym (ap (map_values g.T.FromCbor.view)
-            c.in_ok-insert.ensures.ok ∙ map_values-insert g.T.FromCbor.view c.args.self.now _ _)));
-        spends = pair_spends g.T.FromCbor.typed.cost long s.back.forward key.spends key.ends value.spends;
-        ends = value.ends;
-      };
-      further = omega (arith, long, s.back.forward);
-    }
+    let spent = member_spent (suc (max 3 g.T.FromCbor.typed.cost)) long s.back.forward (omega arith) key.spends key.ends
+    (omega arith) value.spends in
+    grind (arith, map_values-insert, spent, key.answers, value.answers, value.ends, c.in_ok-insert.ensures)
