@@ -1,6 +1,6 @@
 -- Loops over the rest of a list or a map at a cursor.
-use Rattle.passkey_kinds.proofs.Common.{raised-le, Lies, Next, Looks, Walks, Left, Item, members, pairs_of, Language, Walk, ahead, break_heads, members-pairs_of, Keeping, nothing, counted, kept_of, kept, Spends, SpendsLess, Fields, table_of, Member, named, Members, Naming, row, unknown, wrong, cost_by, kept_in, kept_in_map, greatest_cost, cost_at, keeps_at, keeps_by, keeps_nothing, none_keeps, record_keeps, ◌≡◌, ◌∙◌, ◌<◌, ◌+◌, ℕ, suc, arith, Bool, true, false, if◌then◌else◌, List, [], ◌∷◌, length, Option, Some, None, refl, sym, ap, ◌≤◌, ◌*◌, subst, ◌==◌, max, zero, mul-le-mul_left, and_parts, true≢false}
-use Rattle.passkey_kinds.proofs.Cursor.{eased, spends_then}
+use Rattle.passkey_kinds.proofs.Common.{raised-le, Lies, Next, Looks, Walks, Left, Item, members, pairs_of, Language, Walk, ahead, break_heads, members-pairs_of, Keeping, nothing, counted, kept_of, kept, Spends, SpendsLess, Fields, table_of, Member, named, Members, Naming, row, unknown, wrong, cost_by, kept_in, kept_in_map, greatest_cost, cost_at, keeps_at, keeps_by, keeps_nothing, none_keeps, record_keeps, ◌≡◌, ◌∙◌, ◌<◌, ◌+◌, ℕ, suc, arith, Bool, true, false, if◌then◌else◌, List, [], ◌∷◌, length, Option, Some, None, refl, sym, ap, ◌≤◌, ◌*◌, subst, ◌==◌, zero, mul-le-mul_left, and_parts, true≢false}
+use Rattle.passkey_kinds.proofs.Cursor.{eased}
 use Rattle.passkey_cbor.specs.Item as item
 
 -- ---- a loop over the rest of a list at a cursor: of an array's elements, or of a map's members
@@ -166,7 +166,7 @@ module _ (c : ℕ) {middle to : ℕ} {b d : Walk} (first : b.place < middle) (se
   key_heads (suc k) four = (one_spare k 0 middle b d first
       (eased (omega (arith, four)) (omega arith) (omega (arith, first)) key)).heads
 
-  pub key_spent : {one : ℕ} → SpendsLess c one to b d
+  pub key_spent : SpendsLess c 0 to b d
   key_spent = grind (arith, key_heads, mul-le-mul_left)
 
   pub member_spent : {one k : ℕ} {f : Walk} → d.place ≡ middle → k ≤ c → Spends k one to d f

@@ -20,15 +20,12 @@ loop-alloc-preserved g c = record {
       (onward_of c.loop-alloc.cursor c.more.new.self c.loop-alloc-test.ensures.went)) c.in_ok-add.ensures.onward;
   each = λ xs to l.
       let b = c.more.new.self in
-      let d = c.add.new.cursor in
       let walks = c.loop-alloc-test.ensures.walks in
       let e = c.loop-alloc.invariant.each xs to l in
       let n = next_is e b (g.C.Collect.way.walked _ _ _ _ _ walks) in
       let added = c.in_ok-add.ensures.adds n.first n.middle n.here in
-      let spent = element_spends e b d walks.looks n (g.C.Collect.way.kept n.first) refl
-      added.spends in
-      one_more_done e b _ d n spent added.ends c.in_ok-add.ensures.onward.same
-      (sym (gone_on g.C.Collect.way.next _ n.first e.rest n.others _ n.whole added.answers) ∙ e.done);
+      let spent = element_spends e b c.add.new.cursor walks.looks n (g.C.Collect.way.kept n.first) refl added.spends in
+      grind (arith, one_more_done, gone_on, e, n, added, spent, c.in_ok-add.ensures.onward);
 }
 
 pub returns-clause-reads : goal.returns-clause-reads

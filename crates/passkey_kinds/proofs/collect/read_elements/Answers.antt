@@ -13,7 +13,5 @@ returns-in_err-add g c =
     let p = err_from_is_err_and c.from_residual.result c.from_residual.ensures.1 in
     let at = mapped_at item_of c.args.elements.now c.loop-element.element-index c.element-item.result
     c.element-item.is c.loop-element-test.true in
-    rw (p.1, p.2) (failed c.in_err-add.field-0.0
-    (stopped g.G.Gather.gathering.next _ _ _ _ at c.loop-element.invariant)
-    (λ h. (h, omega (arith, c.loop-element-test.true)))
-    (c.in_err-add.ensures.adds (item_of c.element-item.result) 0 refl))
+    let told = c.in_err-add.ensures.adds (item_of c.element-item.result) 0 refl in
+    grind (arith, failed, stopped, p, at, told, c.loop-element.invariant, c.loop-element-test.true)

@@ -34,15 +34,7 @@ returns-in-Some-bytes-clause-names c = λ key to l.
 pub returns-in-None-bytes-clause-names : goal.returns-in-None-bytes-clause-names
 returns-in-None-bytes-clause-names c = λ key to l.
     let e = c.in-None.ensures.lends key to l in
-    let there = stands_missed key e.1 l in
-    let f = c.in-None-bytes.ensures.lends key to there in
+    let f = c.in-None-bytes.ensures.lends key to (stands_missed key e.1 l) in
     let says = c.begins.ensures key to l in
-    record {
-      is = names_nothing c.args.is_numbered (map entry_of c.args.rows.now) key c.begins.result says c.if-begins.false e.0 f.0;
-      spends = record {
-        within = omega (arith, e.1.place, f.1.place, l.forward);
-        heads = omega (arith, e.1.heads, e.1.place, f.1.heads, f.1.place, stands_long key l);
-        nodes = omega (arith, e.1.nodes, f.1.nodes);
-      };
-      ends = tt;
-    }
+    let long = stands_long key l in
+    grind (arith, names_nothing, e, f, says, long, l.forward, c.if-begins.false)

@@ -1,4 +1,4 @@
-use Rattle.passkey_kinds.proofs.Steps.{rules, refl, arith, err_from_is_err_and, onward_of, onward_then, on_ok, next_is, element_spends, spent_within, one_more_done, each_done, at_least, reached, goes_on, fails, all_read}
+use Rattle.passkey_kinds.proofs.Steps.{rules, refl, arith, err_from_is_err_and, onward_of, onward_then, on_ok, next_is, element_spends, spent_within, one_more_done, each_done, at_least, goes_on, fails, all_read}
 use Rattle.passkey_kinds.proofs.record.read_pairs_ahead.Goals as goal
 
 pub loop-alloc-preserved : goal.loop-alloc-preserved
@@ -24,14 +24,8 @@ returns-in_err-read_next-clause-reads g c = λ ms to l.
     let e = c.loop-alloc.invariant.each ms to l in
     let n = next_is e b c.loop-alloc-test.ensures.walks.pairs in
     let one = c.in_err-read_next.ensures.reads n.first n.middle n.here in
-    rw (p.1, p.2) (record {
-      answers = fails _ ms e.rest n.others n.first _ _ _ n.whole refl e.done g.R.Record.parts
-          (reached (g.R.Record.parts c.read_next.new.read) c.read_next.new.seen)
-          c.in_err-read_next.field-0.0 one.answers;
-      spends =
-          spent_within b n (element_spends e b d c.loop-alloc-test.ensures.walks.looks n _ refl one.spends);
-      ends = tt;
-    })
+    let spent = spent_within b n (element_spends e b d c.loop-alloc-test.ensures.walks.looks n _ refl one.spends) in
+    grind (arith, fails, p, e, n, one, spent)
 
 pub returns-clause-reads : goal.returns-clause-reads
 returns-clause-reads g c = λ ms to l.

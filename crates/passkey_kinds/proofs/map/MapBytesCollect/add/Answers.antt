@@ -1,4 +1,4 @@
-use Rattle.passkey_kinds.proofs.Steps.{arith, suc, max, err_from_is_err_and, max_depth, split, kept_of, stands_long, stands_back, failed, map_values-insert, key_spent, member_spent}
+use Rattle.passkey_kinds.proofs.Steps.{arith, suc, max, err_from_is_err_and, max_depth, split, stands_long, stands_back, failed, map_values-insert, key_spent, member_spent}
 use Rattle.passkey_cbor.specs.Inside.{Within}
 use Rattle.passkey_kinds.proofs.map.MapBytesCollect.add.Goals as goal
 
@@ -8,8 +8,7 @@ returns-in_err-key-clause-adds g c = λ x to l.
     let s = split (Within max_depth x.0) (Within max_depth x.1) _ _ to l in
     let long = stands_long x.0 s.front in
     let key = c.in_err-key.ensures.reads x.0 s.middle s.front in
-    let spent = key_spent (suc (max 3 g.T.FromCbor.typed.cost)) long s.back.forward (omega arith) key.spends
-    {one = kept_of g.T.FromCbor.typed.keeps x.1} in
+    let spent = key_spent (suc (max 3 g.T.FromCbor.typed.cost)) long s.back.forward (omega arith) key.spends in
     grind (arith, failed, p, spent, key.answers)
 
 pub returns-in_err-read-clause-adds : goal.returns-in_err-read-clause-adds
