@@ -5,7 +5,7 @@ use Rattle.passkey_kinds.specs.Coded.{truth, plain}
 use Rattle.passkey_kinds.specs.Placed.{Coded}
 use Rattle.passkey_extensions.specs.HmacInput.{HmacInputParts, hmac_input_parts, hmac_coded, hmac_input_kept}
 use Rattle.passkey_extensions.specs.Prf.{prf_inputs}
-use Rattle.passkey_extensions.specs.declared.prf_inputs.AuthenticatorPrfInputs.{AuthenticatorPrfInputs}
+use Rattle.passkey_extensions.specs.declared.prf.AuthenticatorPrfInputs.{AuthenticatorPrfInputs}
 use Rattle.passkey_extensions.specs.declared.make_credential.extension_inputs.ExtensionInputs.{ExtensionInputs}
 
 -- what contracts see of the inputs

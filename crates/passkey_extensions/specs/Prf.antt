@@ -1,9 +1,9 @@
 -- Inputs and outputs of the extension prf (WebAuthn Level 3, sections 9 and 10.1.4).
 use Rattle.std.specs.Prelude.{[], ◌∷◌, None, codes, false, replicate, option_map, Some}
-use Rattle.passkey_extensions.specs.declared.prf_get_outputs.AuthenticatorPrfGetOutputs.{AuthenticatorPrfGetOutputs}
-use Rattle.passkey_extensions.specs.declared.prf_inputs.AuthenticatorPrfInputs.{AuthenticatorPrfInputs}
-use Rattle.passkey_extensions.specs.declared.prf_make_outputs.AuthenticatorPrfMakeOutputs.{AuthenticatorPrfMakeOutputs}
-use Rattle.passkey_extensions.specs.declared.prf_values.AuthenticatorPrfValues.{AuthenticatorPrfValues}
+use Rattle.passkey_extensions.specs.declared.prf.AuthenticatorPrfGetOutputs.{AuthenticatorPrfGetOutputs}
+use Rattle.passkey_extensions.specs.declared.prf.AuthenticatorPrfInputs.{AuthenticatorPrfInputs}
+use Rattle.passkey_extensions.specs.declared.prf.AuthenticatorPrfMakeOutputs.{AuthenticatorPrfMakeOutputs}
+use Rattle.passkey_extensions.specs.declared.prf.AuthenticatorPrfValues.{AuthenticatorPrfValues}
 use Rattle.passkey_extensions.specs.declared.unsigned.UnsignedExtensionOutputs.{UnsignedExtensionOutputs}
 use Rattle.passkey_kinds.specs.Coded.{truth, sized_bytes, or_null, from_bytes, plain}
 use Rattle.passkey_kinds.specs.Words.{PlainTable, required_as, default_as, optional_as}

@@ -1,12 +1,12 @@
 -- authenticatorGetAssertion responses (CTAP 2.1, section 6.2).
 use Rattle.std.specs.Prelude.{ℕ, nat_le, Bool, true, ◌&&◌, List, [], ◌∷◌, Option, None, codes, Result, replicate}
-use Rattle.passkey_kinds.specs.Words.{depth, max_depth, Item, is_coherent, normal_data, DataParts, bare_data, Placed, required_at, optional_at, places_of, EachFits, descriptor, Fields, fields_with, table_of, read_item, Table, Place, record_tree, PublicKeyCredentialDescriptor, data_parts}
+use Rattle.passkey_kinds.specs.Words.{depth, max_depth, Item, is_coherent, normal_data, DataParts, bare_data, Placed, required_at, optional_at, places_of, EachFits, descriptor, Fields, fields_with, read_item, Place, record_tree, PublicKeyCredentialDescriptor, data_parts}
 use Rattle.passkey_kinds.specs.Coded.{truth, byte, bytes, authenticator_data, plain}
 use Rattle.passkey_kinds.specs.declared.fault.Fault.{Fault}
 use Rattle.passkey_entities.specs.Entities.{user}
 use Rattle.passkey_entities.specs.declared.user.PublicKeyCredentialUserEntity.{PublicKeyCredentialUserEntity}
 use Rattle.passkey_extensions.specs.Prf.{prf_used, unsigned}
-use Rattle.passkey_extensions.specs.declared.prf_get_outputs.AuthenticatorPrfGetOutputs.{AuthenticatorPrfGetOutputs}
+use Rattle.passkey_extensions.specs.declared.prf.AuthenticatorPrfGetOutputs.{AuthenticatorPrfGetOutputs}
 use Rattle.passkey_extensions.specs.declared.unsigned.UnsignedExtensionOutputs.{UnsignedExtensionOutputs}
 use Rattle.passkey_get_assertion.specs.declared.response.Response.{Response}
 
@@ -58,9 +58,6 @@ get_response_fields = fields_with true (record {
   large_blob_key = None;
   unsigned_extension_outputs = None;
 }) get_response_members
-
-abbrev pub get_response_table : Table
-get_response_table = table_of get_response_fields
 
 -- the response that a data item decodes to, or its first fault
 abbrev pub read_get_response : Item → Result GetResponseParts Fault

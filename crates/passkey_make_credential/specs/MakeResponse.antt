@@ -1,11 +1,11 @@
 -- authenticatorMakeCredential responses (CTAP 2.1, section 6.1).
 use Rattle.std.specs.Prelude.{ℕ, nat_le, Bool, true, ◌&&◌, List, [], ◌∷◌, Option, None, codes, Result, replicate}
-use Rattle.passkey_kinds.specs.Words.{depth, max_depth, Item, text_string, null, is_coherent, normal_data, DataParts, bare_data, auth_data_tree, Placed, required_at, optional_at, places_of, EachFits, Fields, fields_with, table_of, read_item, Table, Place, always, record_tree, item_of, data_parts}
+use Rattle.passkey_kinds.specs.Words.{depth, max_depth, Item, text_string, null, is_coherent, normal_data, DataParts, bare_data, auth_data_tree, Placed, required_at, optional_at, places_of, EachFits, Fields, fields_with, read_item, Place, always, record_tree, item_of, data_parts}
 use Rattle.passkey_kinds.specs.Coded.{truth, text, bytes, authenticator_data, item, plain}
 use Rattle.passkey_kinds.specs.declared.fault.Fault.{Fault}
 use Rattle.passkey_cbor.specs.Item.{map, no_pairs}
 use Rattle.passkey_extensions.specs.Prf.{prf_made, unsigned}
-use Rattle.passkey_extensions.specs.declared.prf_make_outputs.AuthenticatorPrfMakeOutputs.{AuthenticatorPrfMakeOutputs}
+use Rattle.passkey_extensions.specs.declared.prf.AuthenticatorPrfMakeOutputs.{AuthenticatorPrfMakeOutputs}
 use Rattle.passkey_extensions.specs.declared.unsigned.UnsignedExtensionOutputs.{UnsignedExtensionOutputs}
 use Rattle.passkey_make_credential.specs.declared.response.Response.{Response}
 
@@ -48,9 +48,6 @@ make_response_fields = fields_with true (record {
   large_blob_key = None;
   unsigned_extension_outputs = None;
 }) make_response_members
-
-abbrev pub make_response_table : Table
-make_response_table = table_of make_response_fields
 
 -- the response that a data item decodes to, or its first fault
 abbrev pub read_make_response : Item → Result MakeResponseParts Fault

@@ -1,10 +1,10 @@
 use Rattle.passkey_kinds.proofs.Steps.{◌≡◌, Option, Some, None, option_map, refl, ap, ByteMap, map_values, fields_of, map_values_same, sets_put}
 use Rattle.passkey_extensions.specs.Prf.{prf_inputs, prf_values}
-use Rattle.passkey_extensions.specs.declared.prf_inputs.AuthenticatorPrfInputs.{AuthenticatorPrfInputs}
-use Rattle.passkey_extensions.specs.declared.prf_values.AuthenticatorPrfValues.{AuthenticatorPrfValues}
+use Rattle.passkey_extensions.specs.declared.prf.AuthenticatorPrfInputs.{AuthenticatorPrfInputs}
+use Rattle.passkey_extensions.specs.declared.prf.AuthenticatorPrfValues.{AuthenticatorPrfValues}
 use Rattle.passkey_kinds.specs.Typed.{optional, map_from_bytes}
 use Rattle.passkey_kinds.specs.RecordReading.{nested}
-use Rattle.passkey_extensions.proofs.prf_inputs.AuthenticatorPrfInputsPlainRecord.put.Goals as goal
+use Rattle.passkey_extensions.proofs.prf.AuthenticatorPrfInputsPlainRecord.put.Goals as goal
 
 abbrev seen : Option (ByteMap AuthenticatorPrfValues) → Option (ByteMap AuthenticatorPrfValues)
 seen o = option_map (λ (m : ByteMap AuthenticatorPrfValues). map_values (λ (v : AuthenticatorPrfValues). v) m) o
