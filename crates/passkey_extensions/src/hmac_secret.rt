@@ -1,7 +1,7 @@
 //! Inputs of the extension hmac-secret.
 ghost use Rattle.std.specs.Prelude.{◌≡◌, ◌<◌, ◌⊎◌, length, true, nat_le, IfOk, IfErr, OnErr, OnOk};
-ghost use Rattle.passkey_kinds.specs.Words.{depth, Grows, item_of, IsWritable, written, ReadsMessage, ReadsHere, GrowsMessage, MayGrowAt, Reads};
-ghost use Rattle.passkey_extensions.specs.HmacInput.{HmacInputParts, hmac_input_fields, hmac_input_table, read_hmac_input, hmac_input_parts, HmacInputFits, hmac_input_places, hmac_input_tree, is_hmac_input_coherent};
+ghost use Rattle.passkey_kinds.specs.Words.{depth, Grows, item_of, IsWritable, written, ReadsMessage, ReadsHere, GrowsMessage, MayGrowAt, Reads, table_of};
+ghost use Rattle.passkey_extensions.specs.HmacInput.{HmacInputParts, hmac_input_fields, read_hmac_input, hmac_input_parts, HmacInputFits, hmac_input_places, hmac_input_tree, is_hmac_input_coherent};
 ghost use Rattle.passkey_kinds.specs.declared.fault.Fault.TheVariants.{OutOfMemory as NoRoom};
 ghost use Rattle.passkey_kinds.specs.declared.fault.WriteFault.TheVariants.{OutOfMemory as NoMemory};
 
@@ -74,7 +74,7 @@ impl HmacGetSecretInput {
     /// allocation fails, which can only happen for a member that takes memory. Skips unknown
     /// members.
     pub fn from_value(alloc: Global, value: &Value) -> Result<HmacGetSecretInput, Fault>
-        ensures { Reads hmac_input_parts (MayGrowAt hmac_input_table (item_of value.now))
+        ensures { Reads hmac_input_parts (MayGrowAt (table_of hmac_input_fields) (item_of value.now))
             (read_hmac_input (item_of value.now)) result }
     {
         record_from_value(alloc, value)

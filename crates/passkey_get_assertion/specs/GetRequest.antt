@@ -4,7 +4,7 @@ use Rattle.passkey_extensions.specs.GetExtensions.{GetExtensionsParts, get_exten
 use Rattle.passkey_get_assertion.specs.declared.options.Options.{Options}
 use Rattle.passkey_get_assertion.specs.declared.request.Request.{Request}
 use Rattle.passkey_kinds.specs.Coded.{truth, byte, text, bytes, accepted, plain}
-use Rattle.passkey_kinds.specs.Words.{kept_if_some, PlainTable, default_as, depth, max_depth, Item, Placed, required_at, default_at, optional_at, tolerated_at, places_of, EachFits, descriptor, Fields, fields_with, table_of, read_item, Table, Place, record_tree, PublicKeyCredentialDescriptor}
+use Rattle.passkey_kinds.specs.Words.{kept_if_some, PlainTable, default_as, depth, max_depth, Item, Placed, required_at, default_at, optional_at, tolerated_at, places_of, EachFits, descriptor, Fields, fields_with, read_item, Place, record_tree, PublicKeyCredentialDescriptor}
 use Rattle.passkey_kinds.specs.declared.fault.Fault.{Fault}
 
 -- ---- options of authenticatorGetAssertion requests (CTAP 2.1, section 6.2)
@@ -65,9 +65,6 @@ get_request_fields = fields_with true (record {
   pin_auth = None;
   pin_protocol = None;
 }) get_request_members
-
-abbrev pub get_request_table : Table
-get_request_table = table_of get_request_fields
 
 -- the request that a data item decodes to, or its first fault
 abbrev pub read_get_request : Item → Result GetRequestParts Fault

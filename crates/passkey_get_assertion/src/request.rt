@@ -1,7 +1,7 @@
 //! authenticatorGetAssertion requests.
 ghost use Rattle.std.specs.Prelude.{◌≡◌, IfOk, IfErr, OnOk};
-ghost use Rattle.passkey_kinds.specs.Words.{item_of, IsWritable, written, ReadsMessage, ReadsHere, GrowsMessage, MayGrowAt, Reads};
-ghost use Rattle.passkey_get_assertion.specs.GetRequest.{GetRequestParts, get_request_fields, get_request_table, read_get_request, get_request_places, get_request_tree, GetRequestFits, is_get_request_coherent, get_request_parts};
+ghost use Rattle.passkey_kinds.specs.Words.{item_of, IsWritable, written, ReadsMessage, ReadsHere, GrowsMessage, MayGrowAt, Reads, table_of};
+ghost use Rattle.passkey_get_assertion.specs.GetRequest.{GetRequestParts, get_request_fields, read_get_request, get_request_places, get_request_tree, GetRequestFits, is_get_request_coherent, get_request_parts};
 ghost use Rattle.passkey_kinds.specs.declared.fault.Fault.TheVariants.{OutOfMemory as NoRoom};
 ghost use Rattle.passkey_kinds.specs.declared.fault.WriteFault.TheVariants.{OutOfMemory as NoMemory};
 
@@ -137,7 +137,7 @@ impl Request {
     /// members, descriptors and extension inputs that can't be decoded, and an allow list that
     /// isn't an array.
     pub fn from_value(alloc: Global, value: &Value) -> Result<Request, Fault>
-        ensures { Reads get_request_parts (MayGrowAt get_request_table (item_of value.now))
+        ensures { Reads get_request_parts (MayGrowAt (table_of get_request_fields) (item_of value.now))
             (read_get_request (item_of value.now)) result }
     {
         record_from_value(alloc, value)

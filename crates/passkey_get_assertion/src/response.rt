@@ -1,7 +1,7 @@
 //! authenticatorGetAssertion responses.
 ghost use Rattle.std.specs.Prelude.{◌≡◌, IfOk, IfErr, OnOk};
-ghost use Rattle.passkey_kinds.specs.Words.{item_of, IsWritable, written, ReadsMessage, ReadsHere, GrowsMessage, MayGrowAt, Reads};
-ghost use Rattle.passkey_get_assertion.specs.GetResponse.{GetResponseParts, get_response_fields, get_response_table, read_get_response, get_response_places, get_response_tree, GetResponseFits, is_get_response_coherent, get_response_parts};
+ghost use Rattle.passkey_kinds.specs.Words.{item_of, IsWritable, written, ReadsMessage, ReadsHere, GrowsMessage, MayGrowAt, Reads, table_of};
+ghost use Rattle.passkey_get_assertion.specs.GetResponse.{GetResponseParts, get_response_fields, read_get_response, get_response_places, get_response_tree, GetResponseFits, is_get_response_coherent, get_response_parts};
 ghost use Rattle.passkey_kinds.specs.declared.fault.Fault.TheVariants.{OutOfMemory as NoRoom};
 ghost use Rattle.passkey_kinds.specs.declared.fault.WriteFault.TheVariants.{OutOfMemory as NoMemory};
 
@@ -144,7 +144,7 @@ impl Response {
     /// allocation fails, which can only happen for a member that takes memory. Skips unknown
     /// members.
     pub fn from_value(alloc: Global, value: &Value) -> Result<Response, Fault>
-        ensures { Reads get_response_parts (MayGrowAt get_response_table (item_of value.now))
+        ensures { Reads get_response_parts (MayGrowAt (table_of get_response_fields) (item_of value.now))
             (read_get_response (item_of value.now)) result }
     {
         record_from_value(alloc, value)

@@ -7,7 +7,7 @@ use Rattle.passkey_get_info.specs.declared.version.Version.{Version}
 use Rattle.passkey_kinds.specs.Coded.{truth, byte, word, text, bytes, aaguid, transport, list, accepted, plain}
 use Rattle.passkey_kinds.specs.Kind.{one_named}
 use Rattle.passkey_kinds.specs.Placed.{Coded, placed_if}
-use Rattle.passkey_kinds.specs.Words.{kept_if_some, Item, text_string, Any, Kind, nothing, growing, Placed, PlainTable, default_as, optional_as, depth, null, max_depth, item_of, IfPresent, parameters, placed, required_at, optional_at, tolerated_at, places_of, EachFits, fields_with, Fields, default, table_of, read_item, Table, Place, number_tree, record_tree, size, optional, kept, PublicKeyCredentialParameters, AuthenticatorTransport}
+use Rattle.passkey_kinds.specs.Words.{kept_if_some, Item, text_string, Any, Kind, nothing, growing, Placed, PlainTable, default_as, optional_as, depth, null, max_depth, item_of, IfPresent, parameters, placed, required_at, optional_at, tolerated_at, places_of, EachFits, fields_with, Fields, default, read_item, Place, number_tree, record_tree, size, optional, kept, PublicKeyCredentialParameters, AuthenticatorTransport}
 use Rattle.passkey_kinds.specs.declared.fault.Fault.{Fault}
 use Rattle.passkey_kinds.specs.declared.fault.WriteFault.{WriteFault}
 use Rattle.passkey_kinds.specs.declared.fault.WriteFault.TheVariants.{OutOfMemory, NumberTooLarge}
@@ -295,9 +295,6 @@ states =
 
 abbrev pub get_info_fields : Fields GetInfoParts
 get_info_fields = fields_with true get_info_empty (capabilities ++ limits ++ states)
-
-abbrev pub get_info_table : Table
-get_info_table = table_of get_info_fields
 
 -- the response that a data item decodes to, or its first fault
 abbrev pub read_get_info : Item → Result GetInfoParts Fault

@@ -1,16 +1,16 @@
 //! authenticatorGetInfo responses.
-ghost use Rattle.std.specs.Prelude.{◌≡◌, ◌^◌, ◌++◌, ℕ, is_ok, nat_lt, pos, true, false, if◌then◌else◌, option_map, IfOk, IfErr, OnOk, Some as There, None as Nothing};
+ghost use Rattle.std.specs.Prelude.{◌≡◌, ◌^◌, ◌++◌, ℕ, is_ok, true, false, option_map, IfOk, IfErr, OnOk};
 ghost use Rattle.std.specs.Int.NonZero.{non_zero_u128_get};
-ghost use Rattle.passkey_kinds.specs.Words.{Item, item_of, IsWritable, written, IfPresent, ReadsMessage, ReadsHere, GrowsMessage, EachFits, fields_with, places_of, MayGrowAt, Reads, cost_at, keeps_at, Puts, AllAccepted, put_all, number_tree};
+ghost use Rattle.passkey_kinds.specs.Words.{Item, item_of, IsWritable, written, IfPresent, ReadsMessage, ReadsHere, GrowsMessage, EachFits, fields_with, places_of, MayGrowAt, Reads, cost_at, keeps_at, Puts, AllAccepted, put_all, number_tree, table_of};
 ghost use Rattle.passkey_get_info.specs.Encodable.{EncodableFits, encodable_capabilities, encodable_parts, encodable_places};
-ghost use Rattle.passkey_get_info.specs.GetInfo.{GetInfoParts, capabilities, limits, states, get_info_fields, get_info_table, read_get_info, get_info_empty, get_info_parts, get_info_tree, IsPositive, GetInfoFits, is_encodable, fault_of_size, has_room, is_get_info_coherent};
+ghost use Rattle.passkey_get_info.specs.GetInfo.{GetInfoParts, capabilities, limits, states, get_info_fields, read_get_info, get_info_empty, get_info_parts, get_info_tree, IsPositive, GetInfoFits, is_encodable, fault_of_size, has_room, is_get_info_coherent};
 ghost use Rattle.passkey_kinds.specs.Placed.{members_of};
 ghost use Rattle.passkey_kinds.specs.declared.fault.Fault.TheVariants.{OutOfMemory as NoRoom};
 ghost use Rattle.passkey_kinds.specs.declared.fault.WriteFault.TheVariants.{NumberTooLarge as TooLarge};
 
 use crate::{Extension, Options, Version};
 use passkey_bytes::{Bytes, List, Text};
-use passkey_cbor::{Cursor, Integer, MAX_DEPTH, Value};
+use passkey_cbor::{Cursor, MAX_DEPTH, Value};
 use passkey_core::Aaguid;
 use passkey_kinds::{
     Fault, Message, Record, Refusal, Row, Sink, Source, ToCborMap, WriteFault, message_from_slice,
@@ -276,7 +276,7 @@ impl Response {
     /// members. In the lists 0x09, 0x0A, 0x15, 0x16 and 0x1A, elements that can't be decoded are
     /// dropped, and a value that isn't an array decodes to `None`.
     pub fn from_value(alloc: Global, value: &Value) -> Result<Response, Fault>
-        ensures { Reads get_info_parts (MayGrowAt get_info_table (item_of value.now))
+        ensures { Reads get_info_parts (MayGrowAt (table_of get_info_fields) (item_of value.now))
             (read_get_info (item_of value.now)) result }
     {
         record_from_value(alloc, value)
@@ -325,14 +325,6 @@ impl Message for Response {
     fn decoded_is_coherent() {}
 }
 
-/// Returns the size as an integer, or `None` if it is 2^64 or more.
-fn encoded(size: NonZeroU128) -> Option<Integer>
-    ensures { result
-        ≡ (if nat_lt (non_zero_u128_get size) (2 ^ 64) then There (pos (non_zero_u128_get size)) else Nothing) }
-{
-    Integer::new(i128::try_from(size.get()).ok()?).ok()
-}
-
 /// Returns the size as a data item. Returns `NumberTooLarge` exactly if it is 2^64 or more.
 fn size_item(size: Option<NonZeroU128>) -> Result<Option<Value>, WriteFault>
     ensures item { IfOk result
@@ -343,9 +335,9 @@ fn size_item(size: Option<NonZeroU128>) -> Result<Option<Value>, WriteFault>
         (λ e. (e ≡ TooLarge) × (is_encodable (option_map non_zero_u128_get size) ≡ false)) }
 {
     match size {
-        Some(size) => match encoded(size) {
-            Some(number) => Ok(Some(Value::Integer(number))),
-            None => Err(WriteFault::NumberTooLarge),
+        Some(size) => match u64::try_from(size.get()) {
+            Ok(size) => Ok(Some(Value::from(size))),
+            Err(_) => Err(WriteFault::NumberTooLarge),
         },
         None => Ok(None),
     }

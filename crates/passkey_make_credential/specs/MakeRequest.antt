@@ -5,7 +5,7 @@ use Rattle.passkey_entities.specs.declared.rp.PublicKeyCredentialRpEntity.{Publi
 use Rattle.passkey_extensions.specs.MakeExtensions.{MakeExtensionsParts, make_extensions_coded, make_extensions_parts, make_extensions_kept}
 use Rattle.passkey_kinds.specs.Coded.{truth, byte, bytes, accepted, plain}
 use Rattle.passkey_kinds.specs.Tree.{where_true}
-use Rattle.passkey_kinds.specs.Words.{kept_if_some, text_string, PlainTable, placed, default_as, default, depth, max_depth, Item, Placed, required_at, default_at, optional_at, tolerated_at, places_of, EachFits, descriptor, parameters, webauthn_user, Fields, fields_with, table_of, read_item, Table, Place, record_tree, PublicKeyCredentialDescriptor, PublicKeyCredentialParameters, PublicKeyCredentialUserEntity}
+use Rattle.passkey_kinds.specs.Words.{kept_if_some, text_string, PlainTable, placed, default_as, default, depth, max_depth, Item, Placed, required_at, default_at, optional_at, tolerated_at, places_of, EachFits, descriptor, parameters, webauthn_user, Fields, fields_with, read_item, Place, record_tree, PublicKeyCredentialDescriptor, PublicKeyCredentialParameters, PublicKeyCredentialUserEntity}
 use Rattle.passkey_kinds.specs.declared.fault.Fault.{Fault}
 use Rattle.passkey_make_credential.specs.declared.options.Options.{Options}
 use Rattle.passkey_make_credential.specs.declared.request.Request.{Request}
@@ -75,8 +75,8 @@ make_request_members =
 abbrev pub make_request_fields : Fields MakeRequestParts
 make_request_fields = fields_with true (record {
   client_data_hash = [];
-  rp = record { id = []; name = None };
-  user = record { id = []; display_name = []; name = [] };
+  rp = rp.blank;
+  user = webauthn_user.blank;
   pub_key_cred_params = [];
   exclude_list = None;
   extensions = None;
@@ -84,9 +84,6 @@ make_request_fields = fields_with true (record {
   pin_auth = None;
   pin_protocol = None;
 }) make_request_members
-
-abbrev pub make_request_table : Table
-make_request_table = table_of make_request_fields
 
 -- the request that a data item decodes to, or its first fault
 abbrev pub read_make_request : Item → Result MakeRequestParts Fault

@@ -1,12 +1,12 @@
 //! authenticatorMakeCredential requests.
 ghost use Rattle.std.specs.Prelude.{◌≡◌, IfOk, IfErr, OnOk};
-ghost use Rattle.passkey_kinds.specs.Words.{item_of, IsWritable, written, ReadsMessage, ReadsHere, GrowsMessage, MayGrowAt, Reads};
-ghost use Rattle.passkey_make_credential.specs.MakeRequest.{MakeRequestParts, make_request_fields, make_request_table, read_make_request, make_request_places, make_request_tree, MakeRequestFits, is_make_request_coherent, make_request_parts};
+ghost use Rattle.passkey_kinds.specs.Words.{item_of, IsWritable, written, ReadsMessage, ReadsHere, GrowsMessage, MayGrowAt, Reads, table_of};
+ghost use Rattle.passkey_make_credential.specs.MakeRequest.{MakeRequestParts, make_request_fields, read_make_request, make_request_places, make_request_tree, MakeRequestFits, is_make_request_coherent, make_request_parts};
 ghost use Rattle.passkey_kinds.specs.declared.fault.Fault.TheVariants.{OutOfMemory as NoRoom};
 ghost use Rattle.passkey_kinds.specs.declared.fault.WriteFault.TheVariants.{OutOfMemory as NoMemory};
 
 use crate::{Options, PublicKeyCredentialRpEntity};
-use passkey_bytes::{Bytes, List, Text};
+use passkey_bytes::{Bytes, List};
 use passkey_cbor::{Cursor, Value};
 use passkey_extensions::make_credential::ExtensionInputs;
 use passkey_kinds::{
@@ -78,15 +78,8 @@ impl Record for Request {
     fn blank(alloc: Global) -> Request {
         Request {
             client_data_hash: Bytes::empty(alloc),
-            rp: PublicKeyCredentialRpEntity {
-                id: Text::empty(alloc),
-                name: None,
-            },
-            user: PublicKeyCredentialUserEntity {
-                id: Bytes::empty(alloc),
-                display_name: Text::empty(alloc),
-                name: Text::empty(alloc),
-            },
+            rp: PublicKeyCredentialRpEntity::blank(alloc),
+            user: PublicKeyCredentialUserEntity::blank(alloc),
             pub_key_cred_params: List::empty(alloc),
             exclude_list: None,
             extensions: None,
@@ -159,7 +152,7 @@ impl Request {
     /// members, parameters and descriptors that can't be decoded, and an exclude list that isn't an
     /// array.
     pub fn from_value(alloc: Global, value: &Value) -> Result<Request, Fault>
-        ensures { Reads make_request_parts (MayGrowAt make_request_table (item_of value.now))
+        ensures { Reads make_request_parts (MayGrowAt (table_of make_request_fields) (item_of value.now))
             (read_make_request (item_of value.now)) result }
     {
         record_from_value(alloc, value)

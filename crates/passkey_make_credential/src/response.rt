@@ -1,7 +1,7 @@
 //! authenticatorMakeCredential responses.
 ghost use Rattle.std.specs.Prelude.{◌≡◌, IfOk, IfErr, OnOk};
-ghost use Rattle.passkey_kinds.specs.Words.{item_of, IsWritable, written, IsData, data_parts, ReadsMessage, ReadsHere, GrowsMessage, MayGrowAt, Reads};
-ghost use Rattle.passkey_make_credential.specs.MakeResponse.{MakeResponseParts, make_response_fields, make_response_table, read_make_response, make_response_places, make_response_tree, MakeResponseFits, is_make_response_coherent, attestation_tree, make_response_parts};
+ghost use Rattle.passkey_kinds.specs.Words.{item_of, IsWritable, written, IsData, data_parts, ReadsMessage, ReadsHere, GrowsMessage, MayGrowAt, Reads, table_of};
+ghost use Rattle.passkey_make_credential.specs.MakeResponse.{MakeResponseParts, make_response_fields, read_make_response, make_response_places, make_response_tree, MakeResponseFits, is_make_response_coherent, attestation_tree, make_response_parts};
 ghost use Rattle.passkey_kinds.specs.declared.fault.Fault.TheVariants.{OutOfMemory as NoRoom};
 ghost use Rattle.passkey_kinds.specs.declared.fault.WriteFault.TheVariants.{OutOfMemory as NoMemory};
 
@@ -127,7 +127,7 @@ impl Response {
     /// allocation fails, which can only happen for a member that takes memory. Skips unknown
     /// members.
     pub fn from_value(alloc: Global, value: &Value) -> Result<Response, Fault>
-        ensures { Reads make_response_parts (MayGrowAt make_response_table (item_of value.now))
+        ensures { Reads make_response_parts (MayGrowAt (table_of make_response_fields) (item_of value.now))
             (read_make_response (item_of value.now)) result }
     {
         record_from_value(alloc, value)
