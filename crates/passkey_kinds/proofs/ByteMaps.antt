@@ -31,9 +31,6 @@ alike a b = same_tests _ _ (second (nat_cmp (length a) (length b)) (slice_cmp na
 same_key : (a b : List ℕ) → eq_by_cmp by_length a b ≡ true → a ≡ b
 same_key a b h = (bytes_decides a b).0 (texts_ties a b ∙ sym (alike a b) ∙ h)
 
-equal_is : (o : Ordering) → o ≡ Equal → is_eq o ≡ true
-equal_is o e = ap is_eq e
-
 both : (a b : Bool) → T (a && b) → T a × T b
 both true b h = (tt, h)
 both false b h = absurd h

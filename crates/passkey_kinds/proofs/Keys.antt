@@ -26,13 +26,7 @@ row_of_name s es = grind (arith, row_within, length-map, at_first)
 
 found_number : (n m : ℕ) (es : List Entry) → row_or_unknown (find (λ (e : Entry). e.number == n) es) ≡ row m → n ≡ m
 found_number n m [] h = absurd cc
-found_number n m (e ∷ es) h = elim (e.number == n) as (λ (b : Bool). (e.number == n) ≡ b
-    → row_or_unknown (cond b (Some e) (find (λ (e : Entry). e.number == n) es)) ≡ row m → n ≡ m) [
-      | true ↦ λ same found. sym (eqb-true e.number n same) ∙ row_is found
-      | false ↦ λ other found. found_number n m es found
-    ] refl h where
-      row_is : {a b : ℕ} → row a ≡ row b → a ≡ b
-      row_is is = cc
+found_number n m (e ∷ es) h = grind (arith, eqb-true, found_number n m es)
 
 pub found_behind : (n m k : ℕ) (es : List Entry)
     → row_or_unknown (find (λ (e : Entry). e.number == n) (drop k es)) ≡ row m
@@ -49,13 +43,9 @@ pub one_more_name : (rows : List Row) (names : List (Bor (List ℕ))) (i : ℕ) 
     → map (λ (n : Bor (List ℕ)). n.now) (take (i + 1) (set names i name))
     ≡ map (λ (e : Entry). e.name) (map entry_of (take (i + 1) rows))
 one_more_name rows names i name d less within is before =
-    ap (map (λ (n : Bor (List ℕ)). n.now)) (take_more_set names i name within)
-    ∙ map_push (λ (n : Bor (List ℕ)). n.now) (take i names) name
-    ∙ (λ j. before j ++ is j ∷ [])
-    ∙ sym (map_push (λ (e : Entry). e.name) (map entry_of (take i rows)) (entry_of (get_or rows i d)))
-    ∙ ap (map (λ (e : Entry). e.name)) (sym (map_push entry_of (take i rows) (get_or rows i d)))
-    ∙ ap (λ (rs : List Row). map (λ (e : Entry). e.name) (map entry_of rs))
-    (rw add-one (sym (take-suc rows i d less)))
+    let row_more = take-suc rows i d less in
+    let name_more = take_more_set names i name within in
+    rw name_more (rw (add-one, row_more) (simp map_push (λ j. before j ++ is j ∷ [])))
 
 -- ---- what a map key names that isn't a string
 

@@ -1,6 +1,5 @@
 -- Lists, arrays and maps, decoded and encoded element by element.
-use Rattle.passkey_cbor.specs.Item.{elements, members}
-use Rattle.passkey_kinds.proofs.Common.{same_bytes, entries_empty, bytes_or_fault, ByteMap, put_each, BytesFault, some_is, string_again, item_of-Array, item_of-Map, Item, items_of, pairs_of, byte_string, array, Region, Tells, item_of, pair_of, Walk, Value, IfPresent, members-pairs_of, elements-items_of, Keeping, nothing, counted, kept_of, kept_sum, in_members, in_elements, AnswersAs, bytes, MayGrow, below, kept, Kind, each, sized_bytes, list, accepted, with_members, map_from_bytes, entry, map_values, collected, entered, pushed, pushed_if, pushed_below, full, elements_in, members_in, numbers_in, kept_parts, Decodes, Spends, entries, OutOfMemory, Refusal, ◌≡◌, ◌∙◌, ◌<◌, ◌+◌, ℕ, suc, add-one, arith, Bool, true, false, if◌then◌else◌, List, [], ◌∷◌, ◌++◌, length, map, drop, get_or, Option, Some, None, option_map, inl, inr, refl, sym, ap, ◌≤◌, Result, ◌*◌, Ok, Err, ◌==◌, cond, ◌⊎◌, zero, mul-le-mul_left, drop-cons, cases_lt, le-ltb, ne_eqb, lt-ltb, nat_list_cmp_total, filter_map-append, length-map, length-append, append-nil, get_or-map, slice_cmp, find, filter_map, cons_option, All, option_and_then, nat_cmp, eq_by_cmp}
+use Rattle.passkey_kinds.proofs.Common.{same_bytes, entries_empty, bytes_or_fault, ByteMap, put_each, BytesFault, some_is, string_again, item_of-Array, item_of-Map, Item, items_of, pairs_of, byte_string, array, Region, Tells, item_of, pair_of, Walk, Value, IfPresent, members-pairs_of, elements-items_of, Keeping, nothing, counted, kept_of, kept_sum, in_members, in_elements, AnswersAs, bytes, MayGrow, below, kept, Kind, each, sized_bytes, list, accepted, with_members, map_from_bytes, entry, map_values, collected, entered, pushed, pushed_if, pushed_below, full, elements_in, members_in, numbers_in, kept_parts, Decodes, Spends, entries, Refusal, ◌≡◌, ◌∙◌, ◌<◌, ◌+◌, ℕ, suc, add-one, arith, Bool, true, false, if◌then◌else◌, List, [], ◌∷◌, ◌++◌, length, map, drop, get_or, Option, Some, None, option_map, refl, sym, ap, ◌≤◌, Result, ◌*◌, Ok, Err, ◌==◌, cond, zero, mul-le-mul_left, drop-cons, cases_lt, le-ltb, ne_eqb, lt-ltb, nat_list_cmp_total, filter_map-append, length-map, length-append, append-nil, get_or-map, slice_cmp, find, filter_map, cons_option, All, option_and_then, nat_cmp}
 use Rattle.std.proofs.lemmas.List.{append_assoc}
 use Rattle.std.specs.FinMap as fin
 use Rattle.passkey_cbor.specs.Item as item
@@ -10,8 +9,7 @@ use Rattle.passkey_cbor.specs.Item as item
 -- the same result, if the same value is wanted and memory may run out too
 pub answers_from : {A M : Type 0} {wanted given : Option M} {takes may : Type 0} (view : A → M) (result : Result A
     Refusal) → given ≡ wanted → (takes → may) → AnswersAs view wanted takes result → AnswersAs view given may result
-answers_from view (Err OutOfMemory) e f h = f h
-answers_from view _ e f h = e ∙ h
+answers_from view result e f h = grind arith
 
 pub list_array : {M : Type 0} (kind : Kind M) (xs : List Item) → list kind (array (items_of xs)) ≡ each kind xs
 list_array kind xs = ap (each kind) (elements-items_of xs)
@@ -33,27 +31,23 @@ each_more read x (Some xs) = ap Some (simp append_assoc)
 
 -- options and lists under the identity view
 pub option_same : {X : Type 0} (o : Option X) → option_map (λ x. x) o ≡ o
-option_same None = refl
-option_same (Some x) = refl
+option_same o = grind arith
 
 pub map_same : {X : Type 0} (xs : List X) → map (λ x. x) xs ≡ xs
 map_same [] = refl
 map_same (x ∷ xs) = ap (λ ys. x ∷ ys) (map_same xs)
 
 pub each_same : {X : Type 0} (o : Option (List X)) → option_map (λ xs. map (λ x. x) xs) o ≡ o
-each_same None = refl
-each_same (Some xs) = ap Some (map_same xs)
+each_same o = grind (arith, map_same)
 
 -- an option under two views, one after the other
 pub option_twice : {X Y Z : Type 0} (f : Y → Z) (g : X → Y) (o : Option X)
     → option_map f (option_map g o) ≡ option_map (λ x. f (g x)) o
-option_twice f g None = refl
-option_twice f g (Some x) = refl
+option_twice f g o = grind arith
 
 pub where_twice : {X Y : Type 0} (P : Y → Type 0) (g : X → Y) (o : Option X) → IfPresent (λ x. P (g x)) o
     → IfPresent P (option_map g o)
-where_twice P g None h = h
-where_twice P g (Some x) h = h
+where_twice P g o h = grind arith
 
 -- ---- the head before the elements
 
@@ -81,14 +75,12 @@ kept_none (Some xs) = kept_nothing xs
 pub kept_elements_in : (keeps : Keeping) (i : Item)
     → kept_parts (kept_of keeps) (elements_in i) ≡ kept_of (in_elements keeps) i
 kept_elements_in nothing i = kept_none (elements_in i)
-kept_elements_in (counted count) (item.array xs) = refl
-kept_elements_in (counted count) _ = refl
+kept_elements_in (counted count) i = grind arith
 
 pub kept_members_in : (keeps : Keeping) (i : Item)
     → kept_parts (λ m. kept_of keeps m.1) (members_in i) ≡ kept_of (in_members keeps) i
 kept_members_in nothing i = kept_none (members_in i)
-kept_members_in (counted count) (item.map ps) = refl
-kept_members_in (counted count) _ = refl
+kept_members_in (counted count) i = grind arith
 
 -- the first byte costs one head alone
 pub after_head : (cost kept to : ℕ) (a b d : Walk) → a.place < b.place → b.heads ≤ a.heads + 1
@@ -109,8 +101,7 @@ tells_one is_text r s t p q =
     (sym (string_again is_text r.len s r.bytes [] p) ∙ string_again is_text r.len t r.bytes [] q))
 
 pub none_either : {X : Type 0} (b : Bool) (o : Option X) → o ≡ None → (if b then o else None) ≡ None
-none_either true o h = h
-none_either false o h = refl
+none_either b o h = grind arith
 
 pub numbers_are : (n : ℕ) (i : Item) → ((s : List ℕ) → i ≡ item.byte_string s → ⊥) → sized_bytes n i ≡ numbers_in n i
 numbers_are n (item.byte_string s) b = absurd (b s refl)
@@ -164,8 +155,7 @@ written_more tree xs i x y before e within = grind (arith, written_next, rest_is
 module _ {A M : Type 0} (view : A → M) where
   seen_at : (b : Bool) (x : A) (o : Option A)
       → cond b (Some (view x)) (option_map view o) ≡ option_map view (cond b (Some x) o)
-  seen_at true x o = refl
-  seen_at false x o = refl
+  seen_at b x o = grind arith
 
   find-seen : (q : List ℕ) (es : List (List ℕ × A)) → fin.find (slice_cmp nat_cmp) q (map (λ e. (e.0, view e.1)) es)
       ≡ option_map view (fin.find (slice_cmp nat_cmp) q es)
@@ -184,25 +174,19 @@ module _ {A M : Type 0} (view : A → M) where
   pub map_values-insert : (m : ByteMap A) (k : List ℕ) (v : A)
       → map_values view (fin.insert m k v) ≡ fin.insert (map_values view m) k (view v)
   map_values-insert m k v = fin.same_map nat_list_cmp_total same_bytes _ _
-      (λ q. get-map_values (fin.insert m k v) q
-      ∙ ap (option_map view) (fin.get-insert nat_list_cmp_total m k v q)
-      ∙ sym (seen_at (eq_by_cmp (slice_cmp nat_cmp) q k) v (fin.get m q))
-      ∙ ap (cond (eq_by_cmp (slice_cmp nat_cmp) q k) (Some (view v))) (sym (get-map_values m q))
-      ∙ sym (fin.get-insert nat_list_cmp_total (map_values view m) k (view v) q))
+      (λ q. let here = fin.get-insert nat_list_cmp_total m k v q in
+      let there = fin.get-insert nat_list_cmp_total (map_values view m) k (view v) q in
+      grind (arith, get-map_values, seen_at, here, there))
 
 mapped : {A B C : Type 0} (f : B → C) (g : A → B) (o : Option A)
     → option_map f (option_map g o) ≡ option_map (λ x. f (g x)) o
-mapped f g None = refl
-mapped f g (Some x) = refl
+mapped f g o = grind arith
 
 -- the values under two views, one after the other
 pub map_values-map_values : {A B C : Type 0} (f : B → C) (g : A → B) (m : ByteMap A)
     → map_values f (map_values g m) ≡ map_values (λ x. f (g x)) m
 map_values-map_values f g m = fin.same_map nat_list_cmp_total same_bytes _ _
-    (λ q. get-map_values f (map_values g m) q
-    ∙ ap (option_map f) (get-map_values g m q)
-    ∙ mapped f g (fin.get m q)
-    ∙ sym (get-map_values (λ x. f (g x)) m q))
+    (λ q. grind (arith, get-map_values, mapped))
 
 -- a map under the identity view
 pub map_values_same : {X : Type 0} (m : ByteMap X) → map_values (λ x. x) m ≡ m
@@ -212,8 +196,7 @@ map_values_same m = fin.same_map nat_list_cmp_total same_bytes _ _
 module _ {M : Type 0} (kind : Kind M) where
   pub put_first : (m : ByteMap M) (k : List ℕ) (v : M) (rest : Option (List (List ℕ × M))) → option_map (put_each m)
       (option_map (λ es. (k, v) ∷ es) rest) ≡ option_map (put_each (fin.insert m k v)) rest
-  put_first m k v None = refl
-  put_first m k v (Some es) = refl
+  put_first m k v rest = grind arith
 
   pub with_member : (m : ByteMap M) (x : Item × Item) (ms : List (Item × Item)) (k : List ℕ) (v : M) → bytes x.0
       ≡ Some k → kind x.1 ≡ Some v → with_members kind m (x ∷ ms) ≡ with_members kind (fin.insert m k v) ms
@@ -225,12 +208,8 @@ module _ {M : Type 0} (kind : Kind M) where
       → kind (item_of x.1) ≡ Some (view v) → with_members kind (map_values view m) (map pair_of (drop i pairs))
       ≡ with_members kind (map_values view (fin.insert m k v)) (map pair_of (drop (i + 1) pairs))
   read_more view pairs i x m k v e within key value =
-      let opened : drop i pairs ≡ x ∷ drop (i + 1) pairs =
-      rw add-one (drop-cons pairs i x within ∙ ap (λ (y : Value × Value). y ∷ drop (suc i) pairs) (sym e)) in
-      ap (λ (ps : List (Value × Value)). with_members kind (map_values view m) (map pair_of ps)) opened
-      ∙ with_member (map_values view m) (pair_of x) (map pair_of (drop (i + 1) pairs)) k (view v) key value
-      ∙ ap (λ (n : ByteMap M). with_members kind n (map pair_of (drop (i + 1) pairs)))
-      (sym (map_values-insert view m k v))
+      rw (rest_is pairs i x e within, map_values-insert view m k v)
+      (with_member (map_values view m) (pair_of x) (map pair_of (drop (i + 1) pairs)) k (view v) key value)
 
   pub map_from_bytes-map : (ms : List (Item × Item))
       → map_from_bytes kind (item.map (pairs_of ms)) ≡ with_members kind fin.empty ms
@@ -270,13 +249,7 @@ module _ {M : Type 0} (kind : Kind M) where
   pushed_all : (is : List Item) (front : List M)
       → collected (pushed kind) is front ≡ option_map (λ xs. front ++ xs) (each kind is)
   pushed_all [] front = ap Some (sym (append-nil front))
-  pushed_all (i ∷ is) front = one (λ x. pushed_all is (front ++ x ∷ [])) (kind i) where
-    one : ((x : M) → collected (pushed kind) is (front ++ x ∷ []) ≡ option_map (λ xs. (front ++ x ∷ []) ++ xs)
-        (each kind is)) → (o : Option M) → option_and_then (λ w. collected (pushed kind) is w) (option_map (λ x.
-        front ++ x ∷ []) o)
-        ≡ option_map (λ xs. front ++ xs) (option_and_then (λ x. option_map (λ xs. x ∷ xs) (each kind is)) o)
-    one rest None = refl
-    one rest (Some x) = rest x ∙ sym (each_more front x (each kind is))
+  pushed_all (i ∷ is) front = let rest = pushed_all is in grind (arith, each_more, rest)
 
   pub pushed_each : (is : List Item) {none : List M} → none ≡ [] → collected (pushed kind) is none ≡ each kind is
   pushed_each is e = ap (collected (pushed kind) is) e ∙ pushed_all is [] ∙ option_same (each kind is)
@@ -293,13 +266,7 @@ module _ {M : Type 0} (kind : Kind M) where
   pub entered_all : (ms : List (Item × Item)) (m : ByteMap M)
       → collected (entered kind) ms m ≡ with_members kind m ms
   entered_all [] m = refl
-  entered_all (x ∷ ms) m = one (λ n. entered_all ms n) (entry kind x) where
-    one : ((n : ByteMap M) → collected (entered kind) ms n ≡ with_members kind n ms) → (o : Option (List ℕ × M))
-        → option_and_then (λ w. collected (entered kind) ms w) (option_map (λ e. fin.insert
-        m e.0 e.1) o) ≡ option_map (put_each m) (option_and_then (λ e. option_map (λ es. e ∷ es) (each (entry kind)
-        ms)) o)
-    one rest None = refl
-    one rest (Some e) = rest (fin.insert m e.0 e.1) ∙ sym (put_first kind m e.0 e.1 (each (entry kind) ms))
+  entered_all (x ∷ ms) m = let rest = entered_all ms in grind (arith, put_first, rest)
 
 -- ---- exactly n elements
 
@@ -309,32 +276,8 @@ module _ {M : Type 0} (n : ℕ) (kind : Kind M) where
       ≡ (if length front + length is == n then option_map (λ xs. front ++ xs) (each kind is) else None)
   full_all [] front few = grind (arith, append-nil)
   full_all (i ∷ is) front few =
-      by_room (cases_lt (length front) n)
-      (λ x room. full_all is (front ++ x ∷ []) (omega (arith, room, length-append front (x ∷ [])))) where
-        one : ((x : M) → option_and_then (full n) (collected (pushed_below n kind) is (front ++ x ∷ []))
-            ≡ (if length (front ++ x ∷ []) + length is == n then option_map (λ xs. (front ++ x ∷ []) ++ xs)
-            (each kind is)
-            else None)) → (o : Option M) → option_and_then (full n) (option_and_then (λ w. collected
-            (pushed_below n kind)
-            is w) (option_map (λ x. front ++ x ∷ []) o)) ≡ (if length front + suc (length is) == n then option_map
-            (λ xs. front ++ xs) (option_and_then (λ x. option_map (λ xs. x ∷ xs) (each kind is)) o) else None)
-        one rest None = sym (none_either (length front + suc (length is) == n) None refl)
-        one rest (Some x) =
-            rest x
-            ∙ ap (λ (k : ℕ). if k == n then option_map (λ xs. (front ++ x ∷ []) ++ xs) (each kind is) else None)
-            (omega (arith, length-append front (x ∷ [])))
-            ∙ ap (λ (o : Option (List M)). if length front + suc (length is) == n then o else None)
-            (sym (each_more front x (each kind is)))
-
-        by_room : (length front < n) ⊎ (n ≤ length front) → ((x : M) → length front < n
-            → option_and_then (full n) (collected (pushed_below n kind) is (front ++ x ∷ []))
-            ≡ (if length (front ++ x ∷ []) + length is == n then option_map (λ xs. (front ++ x ∷ []) ++ xs)
-            (each kind is)
-            else None)) → option_and_then (full n) (collected (pushed_below n kind) (i ∷ is) front)
-            ≡ (if length front + suc (length is) == n then option_map (λ xs. front ++ xs) (each kind (i ∷ is))
-            else None)
-        by_room (inl room) rest = rw (lt-ltb (length front) n room) (one (λ x. rest x room) (kind i))
-        by_room (inr past) rest = grind (arith, le-ltb, ne_eqb)
+      let rest = full_all is in
+      grind (arith, cases_lt, lt-ltb, le-ltb, ne_eqb, length-append, each_more, rest)
 
   pub full_each : (is : List Item) {none : List M} → none ≡ []
       → option_and_then (full n) (collected (pushed_below n kind) is none) ≡ (if length is == n then each kind is
@@ -345,24 +288,20 @@ module _ {M : Type 0} (n : ℕ) (kind : Kind M) where
 
 pub list_in : {M : Type 0} (kind : Kind M) (i : Item) {none : List M} → none ≡ []
     → option_and_then (λ xs. collected (pushed kind) xs none) (elements_in i) ≡ list kind i
-list_in kind (item.array xs) e = pushed_each kind (elements xs) e
-list_in kind _ e = refl
+list_in kind i e = grind (arith, pushed_each)
 
 pub accepted_in : {M : Type 0} (kind : Kind M) (i : Item) {none : List M} → none ≡ []
     → option_and_then (λ xs. collected (pushed_if kind) xs none) (elements_in i) ≡ accepted kind i
-accepted_in kind (item.array xs) e = pushed_accepted kind (elements xs) e
-accepted_in kind _ e = refl
+accepted_in kind i e = grind (arith, pushed_accepted)
 
 pub map_in : {M : Type 0} (kind : Kind M) (i : Item) {none : ByteMap M} → none ≡ fin.empty
     → option_and_then (λ ms. collected (entered kind) ms none) (members_in i) ≡ map_from_bytes kind i
-map_in kind (item.map ps) e = ap (collected (entered kind) (members ps)) e ∙ entered_all kind (members ps) fin.empty
-map_in kind _ e = refl
+map_in kind i e = grind (arith, entered_all)
 
 pub filled_in : (n : ℕ) (i : Item) {none : List ℕ} → none ≡ []
     → option_and_then (full n) (option_and_then (λ xs. collected (pushed_below n (below 256)) xs none) (elements_in i))
     ≡ numbers_in n i
-filled_in n (item.array xs) e = full_each n (below 256) (elements xs) e
-filled_in n _ e = refl
+filled_in n i e = grind (arith, full_each)
 
 -- ---- the elements of an array in memory, put together
 
@@ -386,12 +325,10 @@ sized_gathered n seen xs empty = ap (λ (k : ℕ). if k == n then each (below 25
 -- ---- the bytes that texts decode to
 
 pub text_read : (o : Option (List ℕ)) (b : List ℕ) → bytes_or_fault o ≡ Ok b → o ≡ Some b
-text_read (Some x) b e = cc
-text_read None b e = cc
+text_read o b e = grind arith
 
 pub text_refused : (o : Option (List ℕ)) (why : BytesFault) → bytes_or_fault o ≡ Err why → o ≡ None
-text_refused (Some x) why e = cc
-text_refused None why e = refl
+text_refused o why e = grind arith
 
 -- ---- what the prover needs for arrays and maps in memory
 

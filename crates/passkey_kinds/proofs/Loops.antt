@@ -1,5 +1,5 @@
 -- Loops over the rest of a list or a map at a cursor.
-use Rattle.passkey_kinds.proofs.Common.{raised-le, Lies, Next, Looks, Walks, Left, Item, members, pairs_of, Language, Walk, ahead, break_heads, members-pairs_of, Keeping, nothing, counted, kept_of, kept, Spends, SpendsLess, Fields, table_of, Member, named, Members, Naming, row, unknown, wrong, cost_by, kept_in, kept_in_map, greatest_cost, cost_at, keeps_at, keeps_by, keeps_nothing, none_keeps, record_keeps, ◌≡◌, ◌∙◌, ◌<◌, ◌+◌, ℕ, suc, arith, Bool, true, false, if◌then◌else◌, List, [], ◌∷◌, length, Option, Some, None, refl, sym, ap, ◌≤◌, ◌*◌, subst, ◌==◌, zero, mul-le-mul_left, and_parts, true≢false}
+use Rattle.passkey_kinds.proofs.Common.{raised-le, Lies, Next, Looks, Walks, Left, Item, members, pairs_of, Language, Walk, ahead, break_heads, members-pairs_of, Keeping, nothing, counted, kept_of, kept, Spends, SpendsLess, Fields, table_of, Member, named, Members, Naming, row, unknown, wrong, cost_by, kept_in, kept_in_map, greatest_cost, cost_at, keeps_at, keeps_by, keeps_nothing, none_keeps, record_keeps, ◌≡◌, ◌∙◌, ◌<◌, ◌+◌, ℕ, suc, arith, Bool, true, false, if◌then◌else◌, List, [], ◌∷◌, length, Option, refl, sym, ap, ◌≤◌, ◌*◌, subst, zero, mul-le-mul_left, and_parts, true≢false}
 use Rattle.passkey_kinds.proofs.Cursor.{eased}
 use Rattle.passkey_cbor.specs.Item as item
 
@@ -29,8 +29,7 @@ pub record EachDone {A : Type 0} (Done : List A → Type 0) (cost all to : ℕ) 
   pub place : now.place ≡ to
 
 break_one : (left : Option ℕ) → break_heads left ≤ 1
-break_one (Some n) = omega arith
-break_one None = omega arith
+break_one left = grind arith
 
 pub one_looked : (before after : Option ℕ) (a b : Walk) (found : Bool) → Looks before after a b found
     → b.heads ≤ a.heads + 1
@@ -124,12 +123,7 @@ none_kept (counted count) i e = absurd (true≢false (sym e))
 none_at : {P : Type 0} (rows : List (Member P)) (n : ℕ) (i : Item) → none_keeps rows ≡ true
     → kept_of (keeps_at rows n) i ≡ 0
 none_at [] n i e = refl
-none_at (m ∷ ms) n i e =
-    let parts = and_parts (keeps_nothing m.kind.keeps) (none_keeps ms) e in
-    elim (m.entry.number == n) as (λ (b : Bool). kept_of (if b then m.kind.keeps else keeps_at ms n) i ≡ 0) [
-      | true ↦ none_kept m.kind.keeps i parts.0
-      | false ↦ none_at ms n i parts.1
-    ]
+none_at (m ∷ ms) n i e = grind (arith, and_parts, none_kept, none_at ms n i)
 
 none_by : {P : Type 0} (rows : List (Member P)) (naming : Naming) (i : Item) → none_keeps rows ≡ true
     → kept_of (keeps_by rows naming) i ≡ 0
@@ -146,8 +140,7 @@ none_in_map t _ e = refl
 
 keeps_if : {P : Type 0} (t : Fields P) (i : Item) (b : Bool) → none_keeps t.rows ≡ b
     → kept_in_map t i ≤ kept_of (if b then nothing else counted (kept_in_map t)) i
-keeps_if t i true e = omega (arith, none_in_map t i e)
-keeps_if t i false e = omega arith
+keeps_if t i b e = grind (arith, none_in_map)
 
 pub kept_record : {P : Type 0} (t : Fields P) (i : Item) → kept_in_map t i ≤ kept_of (record_keeps t) i
 kept_record t i = keeps_if t i (none_keeps t.rows) refl

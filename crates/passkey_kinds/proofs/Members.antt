@@ -1,7 +1,7 @@
 -- A record's members, decoded one after the other.
 use Rattle.passkey_cbor.specs.Item.{pairs_of}
 use Rattle.passkey_kinds.proofs.Lists.{mapped_at}
-use Rattle.passkey_kinds.proofs.Common.{item_of-Map, pairs_of-members, Item, byte_string, text_string, number, members-pairs_of, AnswersAs, below, accepted, Typed, members_in, MayGrowIn, are_small, Reads, MayGrowBy, takes_at, Fields, set_with, rows_of, table_of, put_at, one_more, Progress, reached, result_and_then, read_from, read_members, read_item, Entry, Table, entries, named, Members, Naming, row, accepts_at, row_or_unknown, number_names, names, HasReadTo, Sets, Puts, held_as, Repeated, Fault, OutOfMemory, Refusal, ◌≡◌, ◌∙◌, ◌<◌, nat_lt, ℕ, arith, Bool, true, false, List, [], ◌∷◌, length, map, replicate, get_or, Option, Some, None, is_some, inl, inr, refl, sym, ap, Result, subst, Ok, Err, OnOk, ◌==◌, cond, set, ◌||◌, and_parts, leb-true, cases_lt, get_or-set_same, get_or-set_other, get_or-replicate, get_or_past, length-replicate, find, result_ok, bytes_eq}
+use Rattle.passkey_kinds.proofs.Common.{item_of-Map, pairs_of-members, Item, members-pairs_of, AnswersAs, accepted, Typed, members_in, MayGrowIn, are_small, Reads, MayGrowBy, takes_at, Fields, set_with, rows_of, table_of, put_at, one_more, Progress, reached, result_and_then, read_from, read_members, read_item, Entry, Table, entries, named, Members, Naming, row, accepts_at, row_or_unknown, number_names, names, HasReadTo, Sets, Puts, held_as, Repeated, Fault, Refusal, ◌≡◌, ◌∙◌, ◌<◌, ℕ, arith, Bool, true, false, List, [], ◌∷◌, length, map, replicate, get_or, Option, Some, None, is_some, inl, inr, refl, sym, ap, Result, subst, Ok, Err, OnOk, ◌==◌, set, ◌||◌, and_parts, leb-true, cases_lt, get_or-set_same, get_or-set_other, get_or-replicate, get_or_past, length-replicate, find, result_ok}
 use Rattle.passkey_kinds.specs.declared.fault.Fault.TheVariants.{Refused}
 use Rattle.passkey_kinds.specs.declared.fault.Fault.TheVariants as fault
 use Rattle.passkey_cbor.specs.Item as item
@@ -42,33 +42,21 @@ module _ {P : Type 0} (t : Fields P) (held : P) (marks : List Bool) (n : ℕ) (i
 found_small : (p : Entry → Bool) (n : ℕ) (es : List Entry) → are_small es ≡ true
     → row_or_unknown (find p es) ≡ row n → n < 32
 found_small p n [] small e = cc
-found_small p n (x ∷ es) small e =
-    let parts = and_parts (nat_lt x.number 32) (are_small es) small in
-    (elim (p x) as (λ (b : Bool). row_or_unknown (cond b (Some x) (find p es)) ≡ row n → n < 32) [
-      | true ↦ λ h. (let same : x.number ≡ n = cc in omega (arith, leb-true _ _ parts.0, same))
-      | false ↦ λ h. found_small p n es parts.1 h
-    ]) e
+found_small p n (x ∷ es) small e = grind (arith, and_parts, leb-true, found_small p n es)
 
 number_small : (is_numbered : Bool) (o : Option ℕ) (n : ℕ) (es : List Entry) → are_small es ≡ true
     → number_names is_numbered o es ≡ row n → n < 32
-number_small true (Some k) n es small e = found_small (λ x. x.number == k) n es small e
-number_small true None n es small e = cc
-number_small false o n es small e = cc
+number_small is_numbered o n es small e = grind (arith, found_small)
 
 pub row_small : (is_numbered : Bool) (key : Item) (n : ℕ) (es : List Entry) → are_small es ≡ true
     → names is_numbered es key ≡ row n → n < 32
-row_small b (item.number z) n es small e = number_small b (below 256 (item.number z)) n es small e
-row_small b (item.byte_string s) n es small e = found_small (λ x. bytes_eq x.name s) n es small e
-row_small b (item.text_string s) n es small e = found_small (λ x. bytes_eq x.name s) n es small e
-row_small b _ n es small e = cc
+row_small b key n es small e = grind (arith, number_small, found_small)
 
 -- ---- members that are decoded one after the other
 
 pub reads_from : {A P : Type 0} {takes may : Type 0} (view : A → P) (wanted other : Result P Fault)
     (r : Result A Fault) → wanted ≡ other → (takes → may) → Reads view takes other r → Reads view may wanted r
-reads_from view wanted other (Err fault.DecodeFailed) same grows h = absurd h
-reads_from view wanted other (Err fault.OutOfMemory) same grows h = grows h
-reads_from view wanted other _ same grows h = same ∙ h
+reads_from view wanted other r same grows h = grind arith
 
 module _ {P : Type 0} (t : Fields P) where
   pub has_begun : (ms : Members) (held : P) (marks : List Bool) → held ≡ t.blank → marks ≡ replicate 32 false
@@ -95,10 +83,7 @@ module _ {P : Type 0} (t : Fields P) where
     pub fails : {A : Type 0} (view : A → P) (after : Progress P) (f : Fault) → Reads (λ (u : Unit {0}). after)
         (MayGrowBy (table_of t) naming m.1) (one_more t naming m.1 (reached old marks)) (Err f)
         → Reads view (MayGrowIn (table_of t) ms) (read_members t ms) (Err f)
-    fails view after fault.OutOfMemory s = h.grows (subst (MayGrowIn (table_of t)) (sym at)
-        (inl (subst (λ (n : Naming). MayGrowBy (table_of t) n m.1) (sym names_it) s)))
-    fails view after fault.DecodeFailed s = absurd s
-    fails view after _ s = steps ∙ ap (result_and_then (λ n. read_from t others n)) s
+    fails view after f s = grind (arith, steps, h)
 
   -- all members were decoded
   pub all_read : {A : Type 0} (view : A → P) (ms rest : Members) (held : P) (marks : List Bool) (r : Result A Fault)
@@ -119,14 +104,10 @@ members_are _ ms e = absurd cc
 
 pub held_answers : {A P : Type 0} {takes may : Type 0} (t : Fields P) (view : A → P) (wanted : Result P Fault) (r :
     Result A Fault) → (takes → may) → Reads view takes wanted r → AnswersAs view (result_ok wanted) may (held_as r)
-held_answers t view wanted (Err fault.DecodeFailed) grows h = absurd h
-held_answers t view wanted (Err fault.OutOfMemory) grows h = grows h
-held_answers t view wanted _ grows h = ap result_ok h
+held_answers t view wanted r grows h = grind arith
 
 pub held_ok : {A : Type 0} (Q : Type 0) (r : Result A Fault) → OnOk r Q → OnOk (held_as r) Q
-held_ok Q (Ok x) h = h
-held_ok Q (Err fault.OutOfMemory) h = tt
-held_ok Q (Err _) h = tt
+held_ok Q r h = grind arith
 
 pub puts_refused : {P : Type 0} (t : Fields P) (n : ℕ) (i : Item) (old new : P) (why : Refusal)
     → why ≡ refusal.Refused → Puts t n i old new (Err why) → accepts_at (rows_of t.rows) n i ≡ false

@@ -1,5 +1,5 @@
 -- Laws of records and messages.
-use Rattle.passkey_kinds.proofs.Common.{only_one, IsEncodedAt, Grows, Item, Pairs, no_pairs, pair, members, AtMostOneLeadingItem, IsLeadingItem, PassesLeadingItem, Walk, ahead, Went, members-pairs_of, bytes, accepted, ReadsMessage, Begins, GrowsMessage, ReadsHere, with_length, AlikeDifferInLength, SameButForLength, AnswersCarryOver, KnowsItems, known_member, known, HasNoWrongKey, AnswersAlike, SameAnswers, PassesOverUnknown, KnowsMaps, Onward, Reads, MayGrowAt, Fields, rows_of, table_of, unless_missing, one_more, Progress, result_and_then, read_from, read_members, read_item, Table, entries, named, Members, first_missing, Naming, row, unknown, wrong, accepts_at, record_cost, kept_in_map, DecodesRecord, Repeated, Fault, ◌≡◌, ◌∙◌, ◌+◌, ℕ, suc, arith, Bool, true, false, if◌then◌else◌, List, [], ◌∷◌, ◌++◌, length, drop, Option, Some, None, refl, sym, ap, rules, ◌≤◌, Result, ◌*◌, subst, take, Ok, Err, ◌≢◌, OnErr, IfErr, All-head, All-tail, take-append-drop, drop-drop, length-drop, cons_option}
+use Rattle.passkey_kinds.proofs.Common.{only_one, IsEncodedAt, Grows, Item, Pairs, no_pairs, pair, members, AtMostOneLeadingItem, IsLeadingItem, PassesLeadingItem, Walk, ahead, Went, members-pairs_of, bytes, accepted, ReadsMessage, Begins, GrowsMessage, ReadsHere, with_length, AlikeDifferInLength, SameButForLength, AnswersCarryOver, KnowsItems, known_member, known, HasNoWrongKey, AnswersAlike, SameAnswers, PassesOverUnknown, KnowsMaps, Onward, Reads, MayGrowAt, Fields, rows_of, table_of, unless_missing, one_more, Progress, result_and_then, read_from, read_members, read_item, Table, entries, named, Members, first_missing, Naming, row, unknown, wrong, accepts_at, record_cost, kept_in_map, DecodesRecord, Repeated, Fault, ◌≡◌, ◌∙◌, ◌+◌, ℕ, suc, arith, Bool, if◌then◌else◌, List, [], ◌∷◌, ◌++◌, length, drop, Option, refl, sym, ap, rules, ◌≤◌, Result, ◌*◌, subst, take, Ok, Err, ◌≢◌, OnErr, IfErr, All-head, All-tail, take-append-drop, drop-drop, length-drop, cons_option}
 use Rattle.passkey_kinds.proofs.Cursor.{front_long}
 use Rattle.passkey_kinds.specs.declared.fault.Fault.TheVariants.{Refused}
 use Rattle.passkey_kinds.specs.declared.fault.Fault.TheVariants as fault
@@ -21,34 +21,22 @@ holds_at law bytes x len Holds front begun = grind arith
 tells : {A M : Type 0} → AtMostOneLeadingItem → (view : A → M) (read : Item → Result M Fault) (bytes : List ℕ)
     (x : Item) (len : ℕ) → IsLeadingItem bytes x len → (r : Result (A × ℕ) Fault) → r ≢ Err fault.OutOfMemory
     → ReadsMessage view read bytes r → Tells view (read x) len r
-tells law view read bytes x len front (Ok r) some h = grind (arith, holds_at)
-tells law view read bytes x len front (Err fault.DecodeFailed) some h = absurd (h x len front)
-tells law view read bytes x len front (Err fault.OutOfMemory) some h = absurd (some refl)
-tells law view read bytes x len front (Err e) some h = holds_at law bytes x len (λ i n. read i ≡ Err e) front h
+tells law view read bytes x len front r some h = grind (arith, holds_at)
 
 may_tell : {A M : Type 0} (view : A → M) (read : Item → Result M Fault) → KnowsItems read
     → (bytes : List ℕ) (x : Item) (len : ℕ) → IsLeadingItem bytes x len → (r : Result (A × ℕ) Fault)
     → r ≢ Err fault.OutOfMemory → Tells view (read x) len r → ReadsMessage view read bytes r
-may_tell view read knows bytes x len front (Ok r) some told = grind arith
-may_tell view read knows bytes x len front (Err fault.DecodeFailed) some told = absurd ((knows x).0 told)
-may_tell view read knows bytes x len front (Err fault.OutOfMemory) some told = absurd (some refl)
-may_tell view read knows bytes x len front (Err _) some told = grind arith
+may_tell view read knows bytes x len front r some told = let known = knows x in grind (arith, known)
 
 -- ---- two results of decoding that are the same but for the length
 
 same_told : {A M : Type 0} (view : A → M) (one other : Result M Fault) → one ≡ other → (n m : ℕ)
     (r s : Result (A × ℕ) Fault) → Tells view one n r → Tells view other m s → SameButForLength view m r s
-same_told view one other same n m (Ok r) (Ok s) t u = grind arith
-same_told view one other same n m (Ok r) (Err f) t u = absurd (cc t.1)
-same_told view one other same n m (Err e) (Ok s) t u = absurd (cc u.1)
-same_told view one other same n m (Err e) (Err f) t u = cc
+same_told view one other same n m r s t u = grind arith
 
 told_same : {A M : Type 0} (view : A → M) (one other : Result M Fault) → one ≡ other → (n m : ℕ)
     (r s : Result (A × ℕ) Fault) → Tells view one n r → SameButForLength view m r s → Tells view other m s
-told_same view one other same n m (Ok r) (Ok s) t u = (u.1, sym same ∙ t.1 ∙ ap Ok u.0)
-told_same view one other same n m (Ok r) (Err f) t u = absurd u
-told_same view one other same n m (Err e) (Ok s) t u = absurd u
-told_same view one other same n m (Err e) (Err f) t u = sym same ∙ t ∙ ap Err u
+told_same view one other same n m r s t u = grind arith
 
 carries_over : {A M : Type 0} → AtMostOneLeadingItem → (view : A → M) (read : Item → Result M Fault)
     → KnowsItems read → (x y : Item) → read x ≡ read y → (bytes others : List ℕ) (n m : ℕ) → IsLeadingItem bytes x n
@@ -75,8 +63,9 @@ module _ {P : Type 0} (t : Fields P) where
       → read_from t (before ++ (key, value) ∷ behind) s ≡ read_from t (before ++ behind) s
   skipped [] behind key value naming s =
       ap (λ (n : Naming). result_and_then (λ r. read_from t behind r) (one_more t n value s)) naming
-  skipped (m ∷ before) behind key value naming s = λ j. result_and_then
-      (λ r. skipped before behind key value naming r j) (one_more t (named (table_of t) m.0) m.1 s)
+  skipped (m ∷ before) behind key value naming s =
+      let rest = skipped before behind key value naming in
+      grind (arith, rest)
 
   pub unknown_is_skipped : (before behind : Members) (key value : Item) → named (table_of t) key ≡ unknown
       → read_members t (before ++ (key, value) ∷ behind) ≡ read_members t (before ++ behind)
@@ -93,9 +82,7 @@ module _ {P : Type 0} (t : Fields P) where
       → ((r : Progress P) → read_from t ms r ≡ read_known xs r)
       → result_and_then (λ r. read_from t ms r) (one_more t naming i s)
       ≡ read_known (cons_option (known_member naming i) xs) s
-  one_known (row n) i ms xs s right rest = λ j. result_and_then (λ r. rest r j) (one_more t (row n) i s)
-  one_known unknown i ms xs s right rest = rest s
-  one_known wrong i ms xs s right rest = absurd (right refl)
+  one_known naming i ms xs s right rest = grind arith
 
   by_known : (ms : Members) (s : Progress P) → HasNoWrongKey (table_of t) ms
       → read_from t ms s ≡ read_known (known (table_of t) ms) s
@@ -112,11 +99,8 @@ module _ {P : Type 0} (t : Fields P) where
   known_alike : (xs ys : List (ℕ × Item)) → SameAnswers t xs ys → (s : Progress P)
       → read_known xs s ≡ read_known ys s
   known_alike [] [] h s = refl
-  known_alike [] (y ∷ ys) h s = absurd h
-  known_alike (x ∷ xs) [] h s = absurd h
-  known_alike (x ∷ xs) (y ∷ ys) h s =
-      (λ j. result_and_then (λ r. known_alike xs ys h.2 r j) (one_more t (row x.0) x.1 s))
-      ∙ ap (result_and_then (λ r. read_known ys r)) (one_alike x.0 y.0 x.1 y.1 h.0 h.1 s)
+  known_alike (x ∷ xs) (y ∷ ys) h s = let rest = known_alike xs ys h.2 in grind (arith, one_alike, rest)
+  known_alike _ _ h s = absurd h
 
   pub same_answers_read_alike : (ms ns : Members) → HasNoWrongKey (table_of t) ms → HasNoWrongKey (table_of t) ns
       → SameAnswers t (known (table_of t) ms) (known (table_of t) ns) → read_members t ms ≡ read_members t ns
@@ -126,9 +110,7 @@ module _ {P : Type 0} (t : Fields P) where
 
   one_fault : {X : Type 0} (seen accepted : Bool) (n : ℕ) (x : X) → IfErr (if seen then Err (fault.Repeated n)
       else (if accepted then Ok x else Err (Refused n))) IsOfMap
-  one_fault true accepted n x = tt
-  one_fault false true n x = tt
-  one_fault false false n x = tt
+  one_fault seen accepted n x = grind arith
 
   more_fault : (naming : Naming) (i : Item) (s : Progress P) → IfErr (one_more t naming i s) IsOfMap
   more_fault (row n) i s = one_fault (s.seen n) (accepts_at (rows_of t.rows) n i) n _
@@ -136,12 +118,10 @@ module _ {P : Type 0} (t : Fields P) where
 
   then_fault : {A B : Type 0} (f : A → Result B Fault) (r : Result A Fault) → IfErr r IsOfMap
       → ((x : A) → IfErr (f x) IsOfMap) → IfErr (result_and_then f r) IsOfMap
-  then_fault f (Ok x) h rest = rest x
-  then_fault f (Err e) h rest = h
+  then_fault f r h rest = grind arith
 
   missing_fault : (missing : Option ℕ) (r : P) → IfErr (unless_missing missing r) IsOfMap
-  missing_fault (Some n) r = tt
-  missing_fault None r = tt
+  missing_fault missing r = grind arith
 
   map_fault : (ms : Members) (s : Progress P) → IfErr (read_from t ms s) IsOfMap
   map_fault [] s = missing_fault (first_missing (entries (table_of t)) s.seen) s.made
@@ -184,9 +164,7 @@ may_grow table _ h = absurd h
 pub message_fails : {A M : Type 0} (view : A → M) (table : Table) (read : Item → Result M Fault) (bytes : List ℕ)
     (i : Item) (len : ℕ) (e : Fault) → IsLeadingItem bytes i len → Reads view (MayGrowAt table i) (read i) (Err e)
     → ReadsMessage view read bytes (Err e)
-message_fails view table read bytes i len fault.DecodeFailed f h = absurd h
-message_fails view table read bytes i len fault.OutOfMemory f h = grind (arith, may_grow)
-message_fails view table read bytes i len _ f h = record { item = i; len = len; front = f; holds = h }
+message_fails view table read bytes i len e f h = grind (arith, may_grow)
 
 -- ---- at a cursor
 
@@ -264,9 +242,7 @@ module _ {A P : Type 0} (view : A → P) (t : Fields P) (old s a b : Walk) (p : 
 
   grows_there : (e : Fault) → Reads view (MayGrowAt (table_of t) p.item) (read_item t p.item) (Err e)
       → ◌≡◌ {A = Result A Fault} (Err e) (Err fault.OutOfMemory) → GrowsMessage t (ahead old)
-  grows_there fault.DecodeFailed h same = absurd h
-  grows_there fault.OutOfMemory h same = record { item = p.item; len = p.len; front = p.front; holds = h }
-  grows_there _ h same = absurd cc
+  grows_there e h same = let front = p.front in grind (arith, front)
 
   pub fault_is : (e : Fault) (c : Walk) (k : ℕ) → k ≡ old.place → c ≡ record b { place = k } → DecodesRecord view t
       p.item (old.place + p.len) a b (Err e) → ReadsHere view t (suc (record_cost t)) old c (Err e)

@@ -1,4 +1,4 @@
-use Rattle.passkey_kinds.proofs.Steps.{arith, ◌∙◌, refl, sym, err_from_is_err_and, stopped, gone_on, onward_of, onward_then, failed, next_is, element_spends, spent_within, some_are, one_more_done, each_done}
+use Rattle.passkey_kinds.proofs.Steps.{arith, refl, err_from_is_err_and, stopped, gone_on, onward_of, onward_then, failed, next_is, element_spends, spent_within, some_are, one_more_done, each_done}
 use Rattle.passkey_kinds.proofs.collect.read_all.Goals as goal
 
 pub returns-in_err-add-clause-reads : goal.returns-in_err-add-clause-reads
