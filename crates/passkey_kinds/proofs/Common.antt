@@ -30,7 +30,7 @@ pub use Rattle.passkey_cbor.specs.Item.{Item, Pairs, no_pairs, pair, members, it
 pub use Rattle.passkey_cbor.specs.Languages.{Each, Language}
 pub use Rattle.passkey_cbor.specs.Laws.{AtMostOneLeadingItem, WrittenIsLeadingItem}
 pub use Rattle.passkey_cbor.specs.LeadingItem.{max_depth, IsLeadingItem}
-pub use Rattle.passkey_cbor.specs.Lent.{Region, Tells, PassesString, LendsNothing, IsRegion, heads_in, LendsFrom, LooksAtAll, LooksAtSome, LentWhole, string_head}
+pub use Rattle.passkey_cbor.specs.Lent.{Region, Tells, PassesString, LendsNothing, IsRegion, heads_in, LendsFrom, LooksAtAll, LooksAtSome, LentWhole, string_head, string_item}
 pub use Rattle.passkey_cbor.specs.Names.{LooksFor, heads_until, heads_sought}
 pub use Rattle.passkey_cbor.specs.Order.{key_type, IsBefore, ctap2_order}
 pub use Rattle.passkey_cbor.specs.Pieces.{LendsPiece, LendsNoPiece, LooksAhead, LendsUpTo}

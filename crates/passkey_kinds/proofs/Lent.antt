@@ -1,8 +1,7 @@
 -- Strings that are lent at a cursor.
-use Rattle.passkey_kinds.proofs.Common.{raised-le, head_again, head_long, each_long, lends_start, lends_on, lends_all, AChunk, follows_chunk, IsEncodedAt, Definite, Content, Item, byte_string, text_string, Each, Region, Tells, PassesString, LendsNothing, IsRegion, heads_in, LendsFrom, LooksAtAll, LooksAtSome, LentWhole, string_head, LooksFor, heads_until, heads_sought, LendsPiece, LendsNoPiece, LooksAhead, LendsUpTo, chunk, Walk, ahead, raised, DataGrow, data_parts, AuthenticatorData, algorithm, authenticator_data, authenticator_data_nodes, CountsData, AnswersAs, bytes, MayGrow, below, list, Answers, scalar_in, Further, Decodes, LooksAtMost, Spends, names, Refused, Refusal, IsOf, whole_64, NumberState, ◌≡◌, ◌∙◌, ◌<◌, ◌+◌, ℕ, suc, arith, Bool, true, false, List, [], ◌∷◌, ◌++◌, length, Option, Some, None, option_map, refl, sym, ap, rules, ◌≤◌, Result, subst, ◌-◌, Err, cond, ℤ, ◌^◌, zero, length-append, length-take, concat, ok_or}
+use Rattle.passkey_kinds.proofs.Common.{raised-le, head_again, head_long, each_long, lends_start, lends_on, lends_all, AChunk, follows_chunk, IsEncodedAt, Definite, Content, Item, byte_string, text_string, Each, Region, Tells, PassesString, LendsNothing, IsRegion, heads_in, LendsFrom, LooksAtAll, LooksAtSome, LentWhole, string_head, string_item, Kind, LooksFor, heads_until, heads_sought, LendsPiece, LendsNoPiece, LooksAhead, LendsUpTo, chunk, Walk, ahead, raised, DataGrow, data_parts, AuthenticatorData, algorithm, authenticator_data, authenticator_data_nodes, CountsData, AnswersAs, bytes, MayGrow, below, list, Answers, scalar_in, Further, Decodes, LooksAtMost, Spends, names, Refused, Refusal, IsOf, whole_64, NumberState, ◌≡◌, ◌∙◌, ◌<◌, ◌+◌, ℕ, suc, arith, Bool, true, false, List, [], ◌∷◌, ◌++◌, length, Option, Some, None, option_map, refl, sym, ap, rules, ◌≤◌, Result, subst, ◌-◌, Err, cond, ℤ, ◌^◌, zero, length-append, length-take, concat, ok_or}
 use Rattle.passkey_core.specs.DataReading.{fixed_at}
 use Rattle.passkey_kinds.proofs.Cursor.{stands_long, eased, on_ok, stands_back, string_further}
-use Rattle.passkey_kinds.proofs.Lists.{answers_from}
 use Rattle.passkey_cbor.specs.Item as item
 use Rattle.passkey_kinds.specs.Typed as typed
 
@@ -99,27 +98,31 @@ pub not_lent_spends : (is_text : Bool) (a b : Walk) (i : Item) (to : ℕ) → Is
     → LendsFrom is_text i to a b None → Spends 1 0 to a b
 not_lent_spends is_text a b i to l f = search (rules, stands_long)
 
--- The result for a string that is lent, and then looked at again at most once.
-pub lent_decodes : {A M : Type 0} {view : A → M} {wanted : Option M} {takes : Type 0} {is_text : Bool}
-    {a b d : Walk} {r : Region} (i : Item) {to : ℕ} {result : Result A Refusal} → IsEncodedAt i a.bytes a.place to
-    → PassesString is_text a b r → LendsFrom is_text i to a b (Some r) → LooksAtMost r b d
-    → AnswersAs view wanted takes result → Decodes view wanted takes 2 0 to a d result
-lent_decodes {view = v} {d = e} {r = g} i {result = result} l p f looks h =
+-- The result for a string that is lent, and then looked at again at most once: that of the string in memory.
+pub lent_decodes : {A M : Type 0} {view : A → M} (kind : Kind M) (takes : Bool) {cost kept : ℕ} {is_text : Bool}
+    {a b d : Walk} {r : Region} (i : Item) {to : ℕ} {result : Result A Refusal} → 2 ≤ cost
+    → IsEncodedAt i a.bytes a.place to → PassesString is_text a b r → (f : LendsFrom is_text i to a b (Some r))
+    → LooksAtMost r b d
+    → AnswersAs view (kind (string_item is_text f.0)) (MayGrow takes (string_item is_text f.0)) result
+    → Decodes view (kind i) (MayGrow takes i) cost kept to a d result
+lent_decodes {view = view} kind takes i {result = result} dear l p f looks h =
     let spent = lent_spends i l p f looks in
-    record { answers = h; spends = spent.0; ends = on_ok result spent.1 }
+    record {
+      answers = subst (λ (x : Item). AnswersAs view (kind x) (MayGrow takes x) result) (sym f.1.0) h;
+      spends = eased dear (omega arith) (omega (arith, l.forward)) spent.0;
+      ends = on_ok result spent.1;
+    }
 
--- a text string takes memory
-pub text_grows : (i : Item) (s : List ℕ) → i ≡ text_string s → MayGrow true i
-text_grows i s e = subst (MayGrow true) (sym e) (refl, tt)
-
-pub bytes_grow : (i : Item) (s : List ℕ) → i ≡ byte_string s → 0 < length s → MayGrow true i
-bytes_grow i s e some = grind arith
+-- a byte string takes memory, unless it is empty
+pub bytes_grow : (s : List ℕ) → 0 < length s → MayGrow true (byte_string s)
+bytes_grow [] some = absurd (omega (arith, some))
+bytes_grow (x ∷ s) some = (refl, tt)
 
 -- The result if no string of this type is encoded there.
 pub not_lent_decodes : {A M : Type 0} (view : A → M) (wanted : Option M) (takes : Type 0) (is_text : Bool)
-    (cost : ℕ) (a b : Walk) (i : Item) (to : ℕ) → 1 ≤ cost → IsEncodedAt i a.bytes a.place to
-    → LendsFrom is_text i to a b None → wanted ≡ None → Decodes view wanted takes cost 0 to a b (Err Refused)
-not_lent_decodes view wanted takes is_text cost a b i to one l f none = record {
+    (cost kept : ℕ) (a b : Walk) (i : Item) (to : ℕ) → 1 ≤ cost → IsEncodedAt i a.bytes a.place to
+    → LendsFrom is_text i to a b None → wanted ≡ None → Decodes view wanted takes cost kept to a b (Err Refused)
+not_lent_decodes view wanted takes is_text cost kept a b i to one l f none = record {
   answers = none;
   spends = eased one (omega arith) (omega (arith, stands_long i l))
       (not_lent_spends is_text a b i to l f);
@@ -148,18 +151,6 @@ pub or_refused : {X : Type 0} (wanted found : Option X) (result : Result X Refus
     → wanted ≡ found → result ≡ ok_or found Refused → AnswersAs (λ x. x) wanted takes result
 or_refused wanted (Some x) result takes e r = grind arith
 or_refused wanted None result takes e r = grind arith
-
--- the same, if memory may run out too
-pub decodes_from : {A M : Type 0} {takes may : Type 0} {view : A → M} {wanted : Option M} {cost kept to : ℕ}
-    {a b : Walk} {result : Result A Refusal} → (takes → may) → Decodes view wanted takes cost kept to a b result
-    → Decodes view wanted may cost kept to a b result
-decodes_from may d = grind (arith, answers_from)
-
--- a lower cost is within a higher one
-pub decodes_dearer : {A M : Type 0} {view : A → M} {wanted : Option M} {takes : Type 0} {c d kept more to : ℕ}
-    {a b : Walk} {result : Result A Refusal} → c ≤ d → kept ≤ more → a.place ≤ to
-    → Decodes view wanted takes c kept to a b result → Decodes view wanted takes d more to a b result
-decodes_dearer le few within r = search (rules, eased)
 
 -- the item is still encoded there after one head that isn't its string's
 pub stands_missed : (i : Item) {a b : Walk} {to : ℕ} → LendsNothing a b → IsEncodedAt i a.bytes a.place to

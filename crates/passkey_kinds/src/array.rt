@@ -1,6 +1,6 @@
 //! Arrays of 32 bytes, decoded from data items and encoded as arrays of integers.
 ghost use Rattle.std.specs.Prelude.{◌≡◌, ◌==◌, ℕ, [], OnOk, List, length, map, take, if◌then◌else◌, false, Some, None};
-ghost use Rattle.passkey_kinds.specs.Words.{Item, Tells, IsEncodedAt, Further, Onward, Decodes, LooksAtMost, item_of, AnswersAs, each, AreBytes, numbers_tree, sized_bytes};
+ghost use Rattle.passkey_kinds.specs.Words.{Item, Tells, IsEncodedAt, Further, Onward, Decodes, LooksAtMost, item_of, byte_string, Answers, AnswersAs, each, AreBytes, numbers_tree, sized_bytes};
 ghost use Rattle.passkey_kinds.specs.Reader.{filling, full, numbers_in};
 ghost use Rattle.passkey_kinds.specs.Kind.{below};
 
@@ -84,7 +84,7 @@ pub(crate) fn filled<const N: usize>(
     cursor: &mut Cursor<'_>,
 ) -> Result<[u8; N], Refusal>
     ensures answers { (s : List ℕ) → Tells false token.now s
-        → AnswersAs (λ b. b) (if length s == N then Some s else None) ⊥ result }
+        → Answers (λ b. b) (sized_bytes N) (byte_string s) result }
     ensures looks { LooksAtMost token.now cursor.old cursor.new }
 {
     let mut bytes = [0; N];

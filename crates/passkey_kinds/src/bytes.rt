@@ -1,9 +1,9 @@
 //! Bytes, decoded from byte strings, from arrays of integers, and from text strings in base64url or
 //! base64.
-ghost use Rattle.std.specs.Prelude.{ℕ, List, true, ⊤};
-ghost use Rattle.std.specs.Str.{trim};
-ghost use Rattle.passkey_kinds.specs.Words.{IsRegion, Tells, LooksAtMost, text_bytes, AnswersAs, bytes};
+ghost use Rattle.std.specs.Prelude.{ℕ, List, true};
+ghost use Rattle.passkey_kinds.specs.Words.{IsRegion, Tells, LooksAtMost, text_bytes, text_string, Answers, AnswersAs, bytes};
 ghost use Rattle.passkey_kinds.specs.Reader.{pushing};
+ghost use Rattle.passkey_kinds.specs.Kind.{MayGrow};
 ghost use Rattle.passkey_kinds.specs.Typed.{below};
 
 use crate::collect::{Gather, read_elements, read_whole};
@@ -14,7 +14,7 @@ use std::alloc::Global;
 
 /// Decodes a text in base64url or base64. Returns `Refused` if it is neither.
 fn read_text(alloc: Global, text: &str) -> Result<Bytes, Refusal>
-    ensures { AnswersAs (λ b. b) (text_bytes text.now) ⊤ result }
+    ensures { AnswersAs (λ b. b) (text_bytes text.now) (MayGrow true (text_string text.now)) result }
 {
     match Bytes::try_from(alloc, text) {
         Ok(bytes) => Ok(bytes),
@@ -45,7 +45,7 @@ fn read_base64(
     cursor: &mut Cursor<'_>,
 ) -> Result<Bytes, Refusal>
     requires { IsRegion true token.now }
-    ensures answers { (s : List ℕ) → Tells true token.now s → AnswersAs (λ b. b) (text_bytes (trim s)) ⊤ result }
+    ensures answers { (s : List ℕ) → Tells true token.now s → Answers (λ b. b) bytes (text_string s) result }
     ensures looks { LooksAtMost token.now cursor.old cursor.new }
 {
     match token.lent() {

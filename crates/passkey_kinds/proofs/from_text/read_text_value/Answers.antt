@@ -1,12 +1,11 @@
-use Rattle.passkey_kinds.proofs.Steps.{rules, Some, ap, one_named, named_text, no_text, lent_decodes, not_lent_decodes, answers_from, text_grows}
+use Rattle.passkey_kinds.proofs.Steps.{rules, true, Some, arith, one_named, named_text, no_text, lent_decodes, not_lent_decodes}
 use Rattle.passkey_kinds.proofs.from_text.read_text_value.Goals as goal
 
 pub returns-in-Some-clause-reads : goal.returns-in-Some-clause-reads
 returns-in-Some-clause-reads g c = λ i to l.
     let f = c.in-Some.ensures.lends i to l in
-    lent_decodes i l c.in-Some.ensures.front f c.text_value.ensures.looks
-    (answers_from _ c.text_value.result (ap (one_named (λ s. Some (g.T.FromText.of_text s))) f.1.0)
-    (λ h. text_grows i f.0 f.1.0) (c.text_value.ensures.answers f.0 f.1.1.tells))
+    lent_decodes (one_named (λ s. Some (g.T.FromText.of_text s))) true i (omega arith) l c.in-Some.ensures.front f
+    c.text_value.ensures.looks (c.text_value.ensures.answers f.0 f.1.1.tells)
 
 pub returns-in-None-clause-reads : goal.returns-in-None-clause-reads
 returns-in-None-clause-reads g c = λ i to l.

@@ -1,12 +1,11 @@
-use Rattle.passkey_kinds.proofs.Steps.{rules, refl, arith, ◌∙◌, sym, ap, option_and_then, algorithm_named, algorithm, stands_long, on_ok, lent_decodes, answers_from, scalar_decodes, scalar_ends, other_number, missed_then, stands_missed, looked_further}
+use Rattle.passkey_kinds.proofs.Steps.{rules, false, refl, arith, sym, ap, option_and_then, algorithm_named, algorithm, stands_long, on_ok, lent_decodes, answers_from, scalar_decodes, scalar_ends, other_number, missed_then, stands_missed, looked_further}
 use Rattle.passkey_kinds.proofs.algorithm.AlgorithmFromCbor.read.Goals as goal
 
 pub returns-in-Some-clause-reads : goal.returns-in-Some-clause-reads
 returns-in-Some-clause-reads c = λ i to l.
     let f = c.in-Some.ensures.lends i to l in
-    let whole = c.whole_of.ensures.whole f.0 f.1.1.tells in
-    lent_decodes i l c.in-Some.ensures.front f c.whole_of.ensures.looks
-    (answers_from (λ x. x) _ (ap algorithm f.1.0 ∙ ap (option_and_then algorithm_named) (sym whole))
+    lent_decodes algorithm false i (omega arith) l c.in-Some.ensures.front f c.whole_of.ensures.looks
+    (answers_from (λ x. x) _ (ap (option_and_then algorithm_named) (sym (c.whole_of.ensures.whole f.0 f.1.1.tells)))
     (λ h. absurd h) c.named.ensures)
 
 pub returns-in-None-clause-reads : goal.returns-in-None-clause-reads

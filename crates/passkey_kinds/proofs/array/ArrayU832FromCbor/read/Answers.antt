@@ -1,13 +1,11 @@
-use Rattle.passkey_kinds.proofs.Steps.{ap, arith, sized_bytes, decodes_dearer, stands_long, lent_decodes, answers_from, stands_missed, missed_then, numbers_are}
+use Rattle.passkey_kinds.proofs.Steps.{arith, false, sized_bytes, stands_long, lent_decodes, answers_from, stands_missed, missed_then, numbers_are}
 use Rattle.passkey_kinds.proofs.array.ArrayU832FromCbor.read.Goals as goal
 
 pub returns-in-Some-clause-reads : goal.returns-in-Some-clause-reads
 returns-in-Some-clause-reads c = λ i to l.
     let f = c.in-Some.ensures.lends i to l in
-    decodes_dearer (omega arith) (omega arith) (omega (arith, stands_long i l))
-    (lent_decodes i l c.in-Some.ensures.front f c.filled.ensures.looks
-    (answers_from _ c.filled.result (ap (sized_bytes 32) f.1.0) (λ (h : ⊥). absurd h)
-    (c.filled.ensures.answers f.0 f.1.1.tells)))
+    lent_decodes (sized_bytes 32) false i (omega arith) l c.in-Some.ensures.front f c.filled.ensures.looks
+    (c.filled.ensures.answers f.0 f.1.1.tells)
 
 pub returns-in-None-clause-reads : goal.returns-in-None-clause-reads
 returns-in-None-clause-reads c = λ i to l.

@@ -1,4 +1,4 @@
-use Rattle.passkey_kinds.proofs.Steps.{◌∙◌, false, Some, sym, ap, arith, err_from_is_err_and, bytes, stands_long, on_ok, looks_all, looks_some, lent_decodes, text_grows, bytes_grow, answers_from, decodes_dearer, missed_then, stands_missed, looked_further, bytes_are, elements_in, below, kept_none, list_in}
+use Rattle.passkey_kinds.proofs.Steps.{◌∙◌, true, false, Some, sym, ap, arith, err_from_is_err_and, bytes, stands_long, on_ok, looks_all, looks_some, lent_decodes, bytes_grow, answers_from, missed_then, stands_missed, looked_further, bytes_are, elements_in, below, kept_none, list_in}
 use Rattle.passkey_kinds.proofs.bytes.BytesFromCbor.read.Goals as goal
 
 pub returns-in_err-copy-clause-reads : goal.returns-in_err-copy-clause-reads
@@ -6,17 +6,16 @@ returns-in_err-copy-clause-reads c = λ i to l.
     let p = err_from_is_err_and c.from_residual.result c.from_residual.ensures.1 in
     let f = c.in-Some.ensures.lends i to l in
     let copied = c.in_err-copy.ensures in
-    rw (p.1, p.2) (decodes_dearer (omega arith) (omega arith) (omega (arith, stands_long i l))
-    (lent_decodes i l c.in-Some.ensures.front f (looks_some copied.rises false (f.0, f.1.1.tells) copied.looks)
-    (bytes_grow i f.0 f.1.0 (copied.copies f.0 f.1.1.tells))))
+    rw (p.1, p.2) (lent_decodes bytes true i (omega arith) l c.in-Some.ensures.front f
+    (looks_some copied.rises false (f.0, f.1.1.tells) copied.looks) (bytes_grow f.0 (copied.copies f.0 f.1.1.tells)))
 
 pub returns-in-Some-clause-reads : goal.returns-in-Some-clause-reads
 returns-in-Some-clause-reads c = λ i to l.
     let f = c.in-Some.ensures.lends i to l in
     let copied = c.in_ok-copy.ensures in
-    decodes_dearer (omega arith) (omega arith) (omega (arith, stands_long i l))
-    (lent_decodes i l c.in-Some.ensures.front f (looks_all copied.rises false (f.0, f.1.1.tells) copied.looks)
-    (ap bytes f.1.0 ∙ ap Some (sym (c.from.ensures ∙ copied.copies f.0 f.1.1.tells))))
+    lent_decodes bytes true i (omega arith) l c.in-Some.ensures.front f
+    (looks_all copied.rises false (f.0, f.1.1.tells) copied.looks)
+    (ap Some (sym (c.from.ensures ∙ copied.copies f.0 f.1.1.tells)))
 
 pub returns-in-Some-text-clause-reads : goal.returns-in-Some-text-clause-reads
 returns-in-Some-text-clause-reads c = λ i to l.
@@ -24,9 +23,8 @@ returns-in-Some-text-clause-reads c = λ i to l.
     let there = stands_missed i e.1 l in
     let f = c.in-Some-text.ensures.lends i to there in
     missed_then e.1 (stands_long i l)
-    (lent_decodes i there c.in-Some-text.ensures.front f c.read_base64.ensures.looks
-    (answers_from _ c.read_base64.result (ap bytes f.1.0) (λ h. text_grows i f.0 f.1.0)
-    (c.read_base64.ensures.answers f.0 f.1.1.tells)))
+    (lent_decodes bytes true i (omega arith) there c.in-Some-text.ensures.front f c.read_base64.ensures.looks
+    (c.read_base64.ensures.answers f.0 f.1.1.tells))
 
 pub returns-in-Some-text-clause-further : goal.returns-in-Some-text-clause-further
 returns-in-Some-text-clause-further c = grind (

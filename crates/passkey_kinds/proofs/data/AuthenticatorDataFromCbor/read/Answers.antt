@@ -1,10 +1,10 @@
-use Rattle.passkey_kinds.proofs.Steps.{rules, ◌∙◌, false, arith, err_from_is_err_and, data_decodes, no_data, stands_long, looks_all, looks_some, looks_none, lent_decodes, not_lent_decodes, bytes_grow, lent_is, decodes_dearer}
+use Rattle.passkey_kinds.proofs.Steps.{rules, true, authenticator_data, ◌∙◌, false, arith, err_from_is_err_and, data_decodes, no_data, looks_all, looks_some, looks_none, lent_decodes, not_lent_decodes, bytes_grow, lent_is}
 use Rattle.passkey_kinds.proofs.data.AuthenticatorDataFromCbor.read.Goals as goal
 
 pub returns-in-None-clause-reads : goal.returns-in-None-clause-reads
 returns-in-None-clause-reads c = λ i to l.
     let f = c.in-None.ensures.lends i to l in
-    search (rules, decodes_dearer, stands_long, not_lent_decodes, no_data, c.args.cursor.now, c.bytes.new.self, f)
+    search (rules, not_lent_decodes, no_data, f)
 
 pub returns-in_err-bytes-in-None-lent-clause-reads : goal.returns-in_err-bytes-in-None-lent-clause-reads
 returns-in_err-bytes-in-None-lent-clause-reads c = λ i to l.
@@ -12,9 +12,8 @@ returns-in_err-bytes-in-None-lent-clause-reads c = λ i to l.
     let f = c.in-Some.ensures.lends i to l in
     let looks = looks_some c.in_err-bytes-in-None-lent.ensures.rises false (f.0, f.1.1.tells)
     c.in_err-bytes-in-None-lent.ensures.looks in
-    rw (p.1, p.2) (decodes_dearer (omega arith) (omega arith) (omega (arith, stands_long i l))
-    (lent_decodes i l c.in-Some.ensures.front f looks
-    (bytes_grow i f.0 f.1.0 (c.in_err-bytes-in-None-lent.ensures.copies f.0 f.1.1.tells))))
+    rw (p.1, p.2) (lent_decodes authenticator_data true i (omega arith) l c.in-Some.ensures.front f looks
+    (bytes_grow f.0 (c.in_err-bytes-in-None-lent.ensures.copies f.0 f.1.1.tells)))
 
 pub returns-in-Some-lent-clause-reads : goal.returns-in-Some-lent-clause-reads
 returns-in-Some-lent-clause-reads c = λ i to l.
