@@ -1,14 +1,11 @@
 -- Records of extensions: they can be decoded again, have few levels, and their keys ascend.
 use Rattle.passkey_kinds.proofs.Common.{ReadIsCoherent}
-use Rattle.passkey_kinds.proofs.Steps.{ℕ, suc, ◌≤◌, arith, Option, Some, None, refl, depth, shortest_head, EachFits, IsReadBack, IsLawful, lawful, raised, truth_back, or_null_back, or_null_same, optional_place, record_within, map_back, map_values_same, IsPlain, plainly, null_plain, map_plain, numbers_plain, puts_value, puts_default, kind_back, ◌▸◌, no_more, numbers_back, result_ok, ◌≡◌, Ok, ap, Item, Kind, byte_back, bytes_back, kept_back, anything, tolerated_place, rows_back, ◌+◌, ◌<◌, optional, tolerated, not_null, ok_of, kept_below, record_keeps, nested_keeps, codes, option_map, text_string, PlaceHas, EachPlace, Rule, zero, nat_lt, nat_le, min, ◌^◌, ◌-◌, OnlyDeep, only_deep, few_levels, OrderedIf, place_if, true, IsOrdered, AtMostOneLeadingItem, WrittenIsLeadingItem, AllCanonical, WrittenIsCanonical, KeysAscend, PlaceWithin, ascend, keys_ascend, PlaceOrdered, record_ordered, record_canonical, ordered_of, in_order}
+use Rattle.passkey_kinds.proofs.Steps.{Around, OnlyAt, item_around, around, required_keeps, optional_keeps, tolerated_keeps, decoded_few, canonical_around, number_tree, ℕ, suc, ◌≤◌, arith, Option, Some, None, refl, depth, shortest_head, EachFits, IsReadBack, IsLawful, lawful, raised, truth_back, or_null_back, or_null_same, optional_place, map_back, map_values_same, IsPlain, plainly, null_plain, map_plain, numbers_plain, puts_value, puts_default, kind_back, ◌▸◌, no_more, numbers_back, result_ok, ◌≡◌, Ok, ap, Item, Kind, byte_back, bytes_back, kept_back, anything, tolerated_place, rows_back, ◌<◌, codes, option_map, text_string, zero, nat_lt, nat_le, min, ◌^◌, ◌-◌, OnlyDeep, only_deep, AtMostOneLeadingItem, WrittenIsLeadingItem, WrittenIsCanonical, KeysAscend, ascend, keys_ascend}
 use Rattle.std.proofs.Common.{leb-true}
-use Rattle.passkey_extensions.specs.GetExtensions.{get_extensions, get_extensions_parts, get_extensions_tree, GetExtensionsFit, GetExtensionsParts, get_extensions_fields, get_extensions_places, get_extensions_kept}
+use Rattle.passkey_extensions.specs.GetExtensions.{get_extensions, get_extensions_parts, get_extensions_tree, GetExtensionsFit, get_extensions_fields, get_extensions_places, get_extensions_kept}
 use Rattle.passkey_extensions.specs.HmacInput.{HmacInputParts, hmac_input, read_hmac_input, hmac_input_parts, hmac_input_tree, HmacInputFits, hmac_input_fields, hmac_input_places, is_hmac_input_coherent, hmac_input_kept}
-use Rattle.passkey_extensions.specs.MakeExtensions.{make_extensions, make_extensions_parts, make_extensions_tree, MakeExtensionsFit, MakeExtensionsParts, make_extensions_fields, make_extensions_places, make_extensions_kept}
+use Rattle.passkey_extensions.specs.MakeExtensions.{make_extensions, make_extensions_parts, make_extensions_tree, MakeExtensionsFit, make_extensions_fields, make_extensions_places, make_extensions_kept}
 use Rattle.passkey_extensions.specs.Prf.{prf_values, prf_inputs, prf_made, prf_used, unsigned, normal_unsigned}
-use Rattle.passkey_extensions.specs.declared.unsigned.UnsignedExtensionOutputs.{UnsignedExtensionOutputs}
-use Rattle.passkey_kinds.proofs.Levels.{of_record as levels_of}
-use Rattle.passkey_kinds.proofs.Ordered.{of_record}
 use Rattle.passkey_kinds.specs.Coded.{from_bytes, plain}
 use Rattle.passkey_kinds.specs.Placed.{PlainTable, plain_kind, plain_tree}
 use Rattle.passkey_kinds.specs.Tree.{option_tree}
@@ -110,66 +107,66 @@ pub get_extensions_back : IsReadBack get_extensions (λ e. get_extensions_tree (
     (λ e. GetExtensionsFit (get_extensions_parts e)) get_extensions_parts
 get_extensions_back = seen_back get_extensions_parts get_parts_back
 
--- ---- the key in an extension input has fewer nesting levels than the item that was decoded
+-- ---- the key that an input of hmac-secret keeps: what is encoded around it
 
-pub read_key : (i : Item) (h : HmacInputParts) → read_hmac_input i ≡ Ok h → depth h.key_agreement < depth i
-read_key i h read =
-    record_keeps hmac_input_fields (λ p. depth p.key_agreement < depth i) i h read (λ d. d)
-    (search kept_below depth 9)
+hmac_input_only : OnlyAt 0 hmac_input_places (number_tree 1) (λ h. Some h.key_agreement)
+unfolding shortest_head
+hmac_input_only = record {
+  keyed = search plainly;
+  ascends = λ h. refl;
+  each = λ Q rule h key. search (rule.holds, plainly) depth 9;
+  this = λ Q h each. each.0;
+}
 
-input_key : (i : Item) (h : HmacInputParts) → hmac_input i ≡ Some h → depth h.key_agreement < depth i
-input_key i h e = read_key i h (ok_of (read_hmac_input i) h e)
+pub hmac_input_around : Around hmac_input hmac_input_tree hmac_input_kept 1 1
+hmac_input_around = around item_around hmac_input_fields (λ h. Some h.key_agreement) hmac_input_only
+    (λ n. (omega arith, tt)) (λ n i few. search (required_keeps item_around) depth 9)
 
--- the key is two levels deeper than the extension inputs
-abbrev KeyWithin : Item → Option HmacInputParts → Type 0
-KeyWithin i o = (h : HmacInputParts) → o ≡ Some h → depth h.key_agreement + 1 < depth i
+pub make_extensions_only : OnlyAt 4 make_extensions_places (text_string (codes "hmac-secret-mc"))
+    (λ e. option_map hmac_input_tree e.hmac_secret_mc)
+unfolding shortest_head
+make_extensions_only = record {
+  keyed = search plainly;
+  ascends = λ e. refl;
+  each = λ Q rule e salts. search (rule.holds, plainly, inputs_law.plain 0) depth 9;
+  this = λ Q e each. each.1.1.0;
+}
 
-made_within : (i x : Item) (o : Option HmacInputParts) → optional hmac_input x ≡ Some o → depth x < depth i
-    → KeyWithin i o
-made_within i x o read less = grind (arith, input_key, not_null)
+pub make_extensions_around : Around make_extensions make_extensions_tree make_extensions_kept 2 5
+make_extensions_around = around hmac_input_around make_extensions_fields (λ e. e.hmac_secret_mc)
+    make_extensions_only (λ n. tt) (λ n i few. search (optional_keeps hmac_input_around) depth 9)
 
-pub made_key : (i : Item) (e : MakeExtensionsParts) (h : HmacInputParts) → make_extensions i ≡ Some e
-    → e.hmac_secret_mc ≡ Some h → depth h.key_agreement + 1 < depth i
-made_key i e =
-    (λ h read. nested_keeps make_extensions_fields (λ p. KeyWithin i p.hmac_secret_mc) i e read
-    (λ d k is. absurd cc) (search made_within) h)
+pub get_extensions_only : OnlyAt 4 get_extensions_places (text_string (codes "hmac-secret"))
+    (λ e. option_map hmac_input_tree e.hmac_secret)
+unfolding shortest_head
+get_extensions_only = record {
+  keyed = search plainly;
+  ascends = λ e. refl;
+  each = λ Q rule e salts. search (rule.holds, plainly, inputs_law.plain 0) depth 9;
+  this = λ Q e each. each.1.0;
+}
 
-used_within : (i x : Item) (o : Option HmacInputParts) → tolerated hmac_input x ≡ Some o → depth x < depth i
-    → KeyWithin i o
-used_within i x o read less = grind (arith, input_key)
+pub get_extensions_around : Around get_extensions get_extensions_tree get_extensions_kept 2 5
+get_extensions_around = around hmac_input_around get_extensions_fields (λ e. e.hmac_secret) get_extensions_only
+    (λ n. tt) (λ n i few. search (tolerated_keeps hmac_input_around) depth 9)
 
-pub used_key : (i : Item) (e : GetExtensionsParts) (h : HmacInputParts) → get_extensions i ≡ Some e
-    → e.hmac_secret ≡ Some h → depth h.key_agreement + 1 < depth i
-used_key i e =
-    (λ h read. nested_keeps get_extensions_fields (λ p. KeyWithin i p.hmac_secret) i e read (λ d k is. absurd cc)
-    (search used_within) h)
+pub make_extensions_keys : KeysAscend make_extensions_places
+make_extensions_keys e = keys_ascend (make_extensions_places e) (make_extensions_only.ascends e)
 
--- ---- what holds of each key and value that extension inputs are encoded as, if it holds of the key
--- that an input of hmac-secret keeps
+pub get_extensions_keys : KeysAscend get_extensions_places
+get_extensions_keys e = keys_ascend (get_extensions_places e) (get_extensions_only.ascends e)
 
-pub hmac_input_each : {n : ℕ} {Q : Item → Type 0} → Rule n Q → (h : HmacInputParts) → Q h.key_agreement
-    → EachPlace Q (hmac_input_places h)
-hmac_input_each rule h key = search (rule.holds, plainly) depth 9
+pub ruleset keys = (values_law, inputs_law, made_outputs_law, make_extensions_keys, get_extensions_keys)
 
-pub make_extensions_each : {Q : Item → Type 0} → Rule 4 Q → (e : MakeExtensionsParts)
-    → PlaceHas Q (text_string (codes "hmac-secret-mc")) (option_map hmac_input_tree e.hmac_secret_mc)
-    → EachPlace Q (make_extensions_places e)
-make_extensions_each rule e salts = search (rule.holds, plainly, inputs_law.plain 0) depth 9
+-- ---- nesting levels: those of the key, and a few around it
 
-pub get_extensions_each : {Q : Item → Type 0} → Rule 4 Q → (e : GetExtensionsParts)
-    → PlaceHas Q (text_string (codes "hmac-secret")) (option_map hmac_input_tree e.hmac_secret)
-    → EachPlace Q (get_extensions_places e)
-get_extensions_each rule e salts = search (rule.holds, plainly, inputs_law.plain 0) depth 9
-
--- ---- the nesting levels of the encodings of extension inputs: those of the key, and a few around it
-
-pub input_up : (h : HmacInputParts) (n : ℕ) → depth h.key_agreement < n → depth (hmac_input_tree h) ≤ n
+input_up : (h : HmacInputParts) (n : ℕ) → depth h.key_agreement < n → depth (hmac_input_tree h) ≤ n
 input_up h zero less = absurd (omega arith)
-input_up h (suc n) less = grind (arith, record_within, hmac_input_each, few_levels)
+input_up h (suc n) less = omega (arith, hmac_input_around.levels n h (omega arith) (omega arith, tt))
 
-pub input_down : (h : HmacInputParts) (n : ℕ) → depth (hmac_input_tree h) ≤ n → depth h.key_agreement < n
+input_down : (h : HmacInputParts) (n : ℕ) → depth (hmac_input_tree h) ≤ n → depth h.key_agreement < n
 input_down h zero within = absurd (omega (arith, within))
-input_down h (suc n) within = omega (arith, (levels_of n (hmac_input_places h) within).0.1)
+input_down h (suc n) within = omega (arith, (hmac_input_around.within n h (omega (arith, within))).0)
 
 -- a key has one level less than the input that contains it
 pub input_within : (h : HmacInputParts) (n : ℕ) → n < 2 ^ 64
@@ -177,67 +174,16 @@ pub input_within : (h : HmacInputParts) (n : ℕ) → n < 2 ^ 64
 input_within h n small = grind (arith, input_up, input_down)
 
 pub made_levels : OnlyDeep make_extensions_places hmac_input_tree (λ e. e.hmac_secret_mc) 254
-made_levels = only_deep (text_string (codes "hmac-secret-mc")) (omega arith)
-    (λ e. make_extensions_each (few_levels 4 254 (omega arith)) e) (λ e within. within.1.1.0)
+made_levels = only_deep 254 (omega arith) make_extensions_only
 
 pub used_levels : OnlyDeep get_extensions_places hmac_input_tree (λ e. e.hmac_secret) 254
-used_levels = only_deep (text_string (codes "hmac-secret")) (omega arith)
-    (λ e. get_extensions_each (few_levels 4 254 (omega arith)) e) (λ e within. within.1.0)
+used_levels = only_deep 254 (omega arith) get_extensions_only
 
 -- ---- laws of inputs of the extension hmac-secret
 
 pub hmac_input_coherent : ReadIsCoherent read_hmac_input is_hmac_input_coherent
-hmac_input_coherent bytes h begins = grind (arith, input_up, read_key)
-
--- ---- hmac-secret, whose key is kept
-
-hmac_input_ascends : (h : HmacInputParts) → ascend (hmac_input_places h) ≡ true
-unfolding shortest_head
-hmac_input_ascends h = refl
-
-hmac_input_ordered : (h : HmacInputParts) → IsOrdered h.key_agreement → IsOrdered (hmac_input_tree h)
-hmac_input_ordered h key =
-    record_ordered (hmac_input_places h) (hmac_input_ascends h) (hmac_input_each (in_order 0) h key)
+hmac_input_coherent = decoded_few hmac_input_fields hmac_input_around (omega arith) (omega arith)
 
 pub hmac_input_canonical : AtMostOneLeadingItem → WrittenIsLeadingItem
     → WrittenIsCanonical hmac_input_tree is_hmac_input_coherent hmac_input_kept
-hmac_input_canonical one front =
-    record_canonical hmac_input_places hmac_input_kept hmac_input_ascends (λ h coherent. leb-true _ _ coherent)
-    (λ h w d kept. hmac_input_each (in_order 0) h (ordered_of one front h.key_agreement w.0.1 (omega (arith, d.0.1)) kept.0))
-
--- ---- extension inputs
-
-hmac_input_if : AtMostOneLeadingItem → WrittenIsLeadingItem → OrderedIf 254 hmac_input_tree hmac_input_kept
-hmac_input_if one front h w d kept =
-    hmac_input_ordered h (ordered_of one front h.key_agreement (of_record (hmac_input_places h) w).0.1
-    (omega (arith, input_down h 254 d)) kept.0)
-
-make_extensions_ascends : (e : MakeExtensionsParts) → ascend (make_extensions_places e) ≡ true
-unfolding shortest_head
-make_extensions_ascends e = refl
-
-pub make_extensions_keys : KeysAscend make_extensions_places
-make_extensions_keys e = keys_ascend (make_extensions_places e) (make_extensions_ascends e)
-
-pub make_extensions_if : AtMostOneLeadingItem → WrittenIsLeadingItem
-    → OrderedIf 255 make_extensions_tree make_extensions_kept
-make_extensions_if one front e w d kept =
-    record_ordered (make_extensions_places e) (make_extensions_ascends e) (make_extensions_each (in_order 4) e
-    (place_if _ _ (hmac_input_if one front) (text_string (codes "hmac-secret-mc")) tt e.hmac_secret_mc
-    (of_record (make_extensions_places e) w).1.1.0 (levels_of 254 (make_extensions_places e) d).1.1.0 kept))
-
-get_extensions_ascends : (e : GetExtensionsParts) → ascend (get_extensions_places e) ≡ true
-unfolding shortest_head
-get_extensions_ascends e = refl
-
-pub get_extensions_keys : KeysAscend get_extensions_places
-get_extensions_keys e = keys_ascend (get_extensions_places e) (get_extensions_ascends e)
-
-pub get_extensions_if : AtMostOneLeadingItem → WrittenIsLeadingItem
-    → OrderedIf 255 get_extensions_tree get_extensions_kept
-get_extensions_if one front e w d kept =
-    record_ordered (get_extensions_places e) (get_extensions_ascends e) (get_extensions_each (in_order 4) e
-    (place_if _ _ (hmac_input_if one front) (text_string (codes "hmac-secret")) tt e.hmac_secret
-    (of_record (get_extensions_places e) w).1.0 (levels_of 254 (get_extensions_places e) d).1.0 kept))
-
-pub ruleset keys = (values_law, inputs_law, made_outputs_law, make_extensions_keys, get_extensions_keys)
+hmac_input_canonical one front = canonical_around one front hmac_input_around (λ h coherent. leb-true _ _ coherent)

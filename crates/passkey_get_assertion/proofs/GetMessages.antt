@@ -1,10 +1,11 @@
 -- Messages of authenticatorGetAssertion: decoding their encodings again, their nesting levels, and their canonical form.
-use Rattle.passkey_kinds.proofs.Steps.{place_if, arith, shortest_head, IsLawful, lawful, truth_back, plainly, puts_value, no_more, option_map, Item, number_tree, PlaceHas, EachPlace, Rule, list_plain, descriptor_law, ◌≡◌, ℕ, ◌<◌, ◌≤◌, nat_le, le-leb, true, Option, Some, Ok, refl, depth, tolerated, ReadIsCoherent, OnlyDeep, only_deep, deep_coherent, record_keeps, byte_back, text_back, bytes_back, anything, optional_place, accepted_place, tolerated_place, few_levels, puts_default, rows_back, ◌▸◌, Bool, ◌&&◌, and_from, max_depth, is_coherent, GivenIsCoherent, ReadIsGiven, WrittenDataAreReadBack, auth_data_back, auth_data_coherent, record_within, and_parts, AtMostOneLeadingItem, WrittenIsLeadingItem, WrittenIsCanonical, record_canonical, in_order}
+use Rattle.passkey_kinds.proofs.Common.{record_kind}
+use Rattle.passkey_kinds.proofs.Ordered.{canonical_of}
+use Rattle.passkey_kinds.proofs.Steps.{Around, OnlyAt, around, tolerated_keeps, decoded_few, canonical_around, record_ordered, arith, shortest_head, IsLawful, lawful, truth_back, plainly, puts_value, no_more, option_map, Item, number_tree, EachPlace, Rule, list_plain, descriptor_law, ◌≡◌, ◌≤◌, nat_le, le-leb, true, Ok, refl, depth, ReadIsCoherent, OnlyDeep, only_deep, record_keeps, byte_back, text_back, bytes_back, anything, optional_place, accepted_place, tolerated_place, few_levels, puts_default, rows_back, ◌▸◌, Bool, ◌&&◌, and_from, max_depth, is_coherent, GivenIsCoherent, ReadIsGiven, WrittenDataAreReadBack, auth_data_back, auth_data_coherent, record_within, AtMostOneLeadingItem, WrittenIsLeadingItem, WrittenIsCanonical, in_order}
 use Rattle.std.proofs.Common.{leb-true}
 use Rattle.passkey_entities.proofs.Entities.{user_law}
-use Rattle.passkey_extensions.proofs.Extensions.{get_parts_back, input_up, used_levels, get_extensions_if, used_key, used_unsigned_law}
-use Rattle.passkey_extensions.specs.GetExtensions.{get_extensions_tree, GetExtensionsParts, get_extensions}
-use Rattle.passkey_extensions.specs.HmacInput.{hmac_input_tree}
+use Rattle.passkey_extensions.proofs.Extensions.{get_parts_back, get_extensions_around, used_unsigned_law}
+use Rattle.passkey_extensions.specs.GetExtensions.{get_extensions_tree}
 use Rattle.passkey_get_assertion.specs.GetRequest.{options, GetRequestParts, get_request_places, get_request_fields, read_get_request, get_request_tree, GetRequestFits, is_get_request_coherent, get_request_kept}
 use Rattle.passkey_get_assertion.specs.GetResponse.{GetResponseParts, get_response_places, get_response_fields, read_get_response, get_response_tree, GetResponseFits, is_get_response_coherent, normal_get_response, get_response_kept}
 
@@ -14,16 +15,25 @@ pub options_law : IsLawful 0 options
 unfolding shortest_head
 options_law = grind (arith, lawful, plainly, puts_value, truth_back, no_more)
 
--- ---- what holds of each key and value of the messages of authenticatorGetAssertion, if it holds of
--- what is kept
+-- ---- what a request keeps, and what is encoded around it; a response keeps nothing
 
-pub get_request_each : {Q : Item → Type 0} → Rule 4 Q → (r : GetRequestParts)
-    → PlaceHas Q (number_tree 4) (option_map get_extensions_tree r.extensions) → EachPlace Q (get_request_places r)
-get_request_each rule r extensions =
-    search (rule.holds, plainly, list_plain 3, descriptor_law.plain 1, options_law.plain 3) depth 13
+request_only : OnlyAt 4 get_request_places (number_tree 4) (λ r. option_map get_extensions_tree r.extensions)
+unfolding shortest_head
+request_only = record {
+  keyed = search plainly;
+  ascends = λ r. refl;
+  each = λ Q rule r extensions.
+      search (rule.holds, plainly, list_plain 3, descriptor_law.plain 1, options_law.plain 3) depth 13;
+  this = λ Q r each. each.1.1.1.0;
+}
 
-pub get_response_each : {Q : Item → Type 0} → Rule 4 Q → (r : GetResponseParts) → EachPlace Q (get_response_places r)
-get_response_each rule r = search (rule.holds, plainly, descriptor_law.plain 2, user_law.plain 3, used_unsigned_law.plain 0) depth 14
+request_around : Around (record_kind get_request_fields) get_request_tree get_request_kept 3 6
+request_around = around get_extensions_around get_request_fields (λ r. r.extensions) request_only
+    (λ n. tt) (λ n i few. search (tolerated_keeps get_extensions_around) depth 11 parts 11)
+
+response_each : {Q : Item → Type 0} → Rule 4 Q → (r : GetResponseParts) → EachPlace Q (get_response_places r)
+response_each rule r =
+    search (rule.holds, plainly, descriptor_law.plain 2, user_law.plain 3, used_unsigned_law.plain 0) depth 14
 
 -- ---- an encoding can be decoded again
 
@@ -42,36 +52,15 @@ request_back r fits =
 -- ---- only the extensions may have many levels
 
 pub request_levels : OnlyDeep get_request_places get_extensions_tree (λ r. r.extensions) 255
-request_levels = only_deep (number_tree 4) (omega arith)
-    (λ r. get_request_each (few_levels 4 255 (omega arith)) r) (λ r within. within.1.1.1.0)
-
--- ---- a decoded request is coherent
-
-extensions_coherent : (i : Item) (e : GetExtensionsParts) → depth i ≤ 255 → get_extensions i ≡ Some e
-    → nat_le (depth (get_extensions_tree e)) 255 ≡ true
-extensions_coherent i e small read = deep_coherent used_levels e (λ h is. le-leb (depth (hmac_input_tree h)) 254
-    (input_up h 254 (omega (arith, small, used_key i e h read is))))
-
-abbrev AreCoherent : Option GetExtensionsParts → Type 0
-AreCoherent o = (e : GetExtensionsParts) → o ≡ Some e → nat_le (depth (get_extensions_tree e)) 255 ≡ true
-
-decoded_coherent : (i : Item) (o : Option GetExtensionsParts) (n : ℕ) → tolerated get_extensions i ≡ Some o
-    → depth i < n → n ≤ 256 → AreCoherent o
-decoded_coherent i o n read less small = grind (arith, extensions_coherent)
-
-read_extensions : (i : Item) (r : GetRequestParts) → depth i ≤ 256 → read_get_request i ≡ Ok r
-    → AreCoherent r.extensions
-read_extensions i r small read =
-    record_keeps get_request_fields (λ r. AreCoherent r.extensions) i r read (λ d e is. absurd cc)
-    (search decoded_coherent depth 11 parts 11)
+request_levels = only_deep 255 (omega arith) request_only
 
 pub get_request_coherent : ReadIsCoherent read_get_request is_get_request_coherent
-get_request_coherent bytes r begins = grind (arith, deep_coherent, request_levels, read_extensions)
+get_request_coherent = decoded_few get_request_fields request_around (omega arith) (omega arith)
 
 -- ---- a response has few levels
 
 response_levels : (r : GetResponseParts) → depth (get_response_tree r) ≤ 256
-response_levels r = record_within 255 (get_response_places r) (get_response_each (few_levels 4 255 (omega arith)) r)
+response_levels r = record_within 255 (get_response_places r) (response_each (few_levels 4 255 (omega arith)) r)
 
 has_few_levels : (r : GetResponseParts) → nat_le (depth (get_response_tree r)) max_depth ≡ true
 has_few_levels r = le-leb (depth (get_response_tree r)) 256 (response_levels r)
@@ -114,15 +103,9 @@ get_response_coherent law bytes r begins =
 
 pub get_request_canonical : AtMostOneLeadingItem → WrittenIsLeadingItem
     → WrittenIsCanonical get_request_tree is_get_request_coherent get_request_kept
-unfolding shortest_head
-get_request_canonical one front =
-    record_canonical get_request_places get_request_kept (λ r. refl) (λ r coherent. leb-true _ _ coherent)
-    (λ r w d kept. get_request_each (in_order 4) r (place_if _ _ (get_extensions_if one front) (number_tree 4) tt r.extensions
-    w.1.1.1.0 d.1.1.1.0 kept))
+get_request_canonical one front = canonical_around one front request_around (λ r coherent. leb-true _ _ coherent)
 
 pub get_response_canonical : WrittenIsCanonical get_response_tree is_get_response_coherent get_response_kept
 unfolding shortest_head
-get_response_canonical =
-    record_canonical get_response_places get_response_kept (λ r. refl)
-    (λ r coherent. leb-true _ _ (and_parts (is_coherent r.auth_data) _ coherent).1)
-    (λ r w d kept. get_response_each (in_order 4) r)
+get_response_canonical r w coherent kept = canonical_of (get_response_tree r) w (response_levels r)
+    (record_ordered (get_response_places r) refl (response_each (in_order 4) r))

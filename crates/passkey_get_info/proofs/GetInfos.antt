@@ -1,14 +1,14 @@
 -- authenticatorGetInfo responses: decoding their encodings again, their nesting levels, and their canonical form.
-use Rattle.passkey_kinds.proofs.Steps.{option_and_then, arith, ◌≡◌, Option, Some, None, refl, Item, shortest_head, kept, optional, IsReadBack, Any, Falls, accepts_it, truth_back, anything, optional_place, IsLawful, lawful, plainly, puts_value, puts_default, ◌▸◌, no_more, number_tree, PlaceHas, EachPlace, Rule, list_plain, parameters_law, nat_tests, ℕ, pos, ◌^◌, ◌<◌, ◌≤◌, nat_lt, nat_le, ltb-true, Bool, true, false, ◌&&◌, if◌then◌else◌, option_map, unwrap_or, Result, Ok, Err, OnOk, sym, ap, and_from, depth, max_depth, IfPresent, ReadIsCoherent, size, option_place, record_keeps, not_null, rows_back, size_back, aaguid_back, list_same, byte_back, word_back, text_back, bytes_back, transport_back, list_back, optional_back, all_of_anything, accepted_place, PlaceWithin, Within, record_within, few_levels, and_parts, IsOrdered, AtMostOneLeadingItem, WrittenIsLeadingItem, AllCanonical, WrittenIsCanonical, PlaceOrdered, record_canonical, ordered_of, in_order, kept_if_some, [], ◌∷◌}
-use Rattle.std.proofs.Common.{ℕ, List, Bool, ◌<◌, ◌^◌, lt-ltb, is_ok, IfErr, leb-true}
+use Rattle.passkey_kinds.proofs.Common.{record_kind}
+use Rattle.passkey_kinds.proofs.Lists.{option_same}
+use Rattle.passkey_kinds.proofs.Steps.{Around, OnlyAt, OnlyDeep, only_deep, item_around, around, optional_keeps, decoded_few, canonical_around, ◌∙◌, option_and_then, arith, ◌≡◌, Option, Some, None, refl, Item, shortest_head, kept, optional, IsReadBack, Any, Falls, accepts_it, truth_back, anything, optional_place, IsLawful, lawful, plainly, puts_value, puts_default, ◌▸◌, no_more, number_tree, PlaceHas, EachPlace, list_plain, parameters_law, nat_tests, ℕ, pos, ◌^◌, ◌<◌, nat_lt, nat_le, ltb-true, Bool, true, false, ◌&&◌, if◌then◌else◌, option_map, unwrap_or, Result, Ok, Err, OnOk, sym, ap, and_from, depth, max_depth, IfPresent, ReadIsCoherent, size, option_place, record_keeps, rows_back, size_back, aaguid_back, list_same, byte_back, word_back, text_back, bytes_back, transport_back, list_back, optional_back, all_of_anything, accepted_place, and_parts, AtMostOneLeadingItem, WrittenIsLeadingItem, WrittenIsCanonical}
+use Rattle.std.proofs.Common.{ℕ, List, Bool, ◌<◌, ◌^◌, is_ok, IfErr, leb-true}
 use Rattle.passkey_cbor.specs.Item.{number, boolean, byte_string}
 use Rattle.passkey_get_info.specs.GetInfo.{version, version_tree, normal_version, extension, extension_tree, normal_extension, options, unless_null, GetInfoParts, get_info_places, get_info_fields, read_get_info, get_info_tree, IsPositive, GetInfoFits, is_encodable, has_room, is_get_info_coherent, normal_get_info, get_info_kept}
-use Rattle.passkey_kinds.proofs.Levels.{of_record}
-use Rattle.passkey_kinds.specs.Kind.{kept as kept_item, IsSize}
+use Rattle.passkey_kinds.specs.Kind.{IsSize}
 use Rattle.passkey_kinds.specs.declared.fault.WriteFault.{WriteFault}
 use Rattle.passkey_kinds.specs.declared.fault.WriteFault.TheVariants.{NumberTooLarge}
 use Rattle.passkey_cbor.specs.Item as item
-use Rattle.passkey_cbor.specs.Writable.{IsWritable}
 use Rattle.passkey_kinds.specs.Typed as typed
 use Rattle.passkey_kinds.specs.Record.{default}
 use Rattle.passkey_kinds.proofs.Back.{Puts}
@@ -54,12 +54,22 @@ options_law = lawful 0 options (λ o. refl) (λ o. refl) (λ o. refl) (λ k o. s
     ▸ flag_row _ refl ▸ flag_row _ refl ▸ flag_row _ refl ▸ flag_row _ refl ▸ flag_row _ refl ▸ flag_row _ refl ▸ flag_row _ refl ▸ flag_row _ refl ▸ flag_row _ refl
     ▸ flag_row _ refl ▸ no_more)
 
--- ---- what holds of each key and value that an authenticatorGetInfo response is encoded as:
--- certifications alone may have many levels
+-- ---- the certifications that a response keeps, and what is encoded around them
 
-pub get_info_each : {Q : Item → Type 0} → Rule 2 Q → (r : GetInfoParts)
-    → PlaceHas Q (number_tree 19) r.certifications → EachPlace Q (get_info_places r)
-get_info_each rule r certifications = search (rule.holds, plainly, list_plain 1, options_law.plain 1, parameters_law.plain 0) depth 33
+certifications_only : OnlyAt 2 get_info_places (number_tree 19) (λ r. option_map (λ i. i) r.certifications)
+unfolding shortest_head
+certifications_only = record {
+  keyed = search plainly;
+  ascends = λ r. refl;
+  each = λ Q rule r here.
+      let certifications : PlaceHas Q (number_tree 19) r.certifications = rw option_same at here in
+      search (rule.holds, plainly, list_plain 1, options_law.plain 1, parameters_law.plain 0) depth 33;
+  this = λ Q r each. let places : EachPlace Q (get_info_places r) = each in rw option_same (search);
+}
+
+response_around : Around (record_kind get_info_fields) get_info_tree get_info_kept 1 3
+response_around = around item_around get_info_fields (λ r. r.certifications) certifications_only
+    (λ n. tt) (λ n i few. search (optional_keeps item_around) depth 40 parts 40)
 
 -- ---- an encoding can be decoded again
 
@@ -95,24 +105,16 @@ response_back r fits encoded =
 
 -- ---- only the certifications may have many levels
 
-get_info_up : (r : GetInfoParts) → PlaceWithin 255 (number_tree 19) r.certifications → depth (get_info_tree r) ≤ 256
-get_info_up r certifications = record_within 255 (get_info_places r)
-    (get_info_each (few_levels 2 255 (omega arith)) r certifications)
-
-get_info_down : (r : GetInfoParts) → depth (get_info_tree r) ≤ 256
-    → PlaceWithin 255 (number_tree 19) r.certifications
-get_info_down r within = let levels : Within 255 (get_info_places r) = of_record 255 (get_info_places r) within in search
-
-room_up : (n : ℕ) (o : Option Item) → has_room o ≡ true → PlaceWithin 255 (number_tree n) o
-room_up n None h = tt
-room_up n (Some i) h = (omega arith, omega (arith, ltb-true (depth i) 256 h))
-
-room_down : (n : ℕ) (o : Option Item) → PlaceWithin 255 (number_tree n) o → has_room o ≡ true
-room_down n None h = refl
-room_down n (Some i) h = lt-ltb (depth i) 256 (omega (arith, h.1))
+certifications_levels : OnlyDeep get_info_places (λ i. i) (λ r. r.certifications) 255
+certifications_levels = only_deep 255 (omega arith) certifications_only
 
 room_decides : (r : GetInfoParts) → has_room r.certifications ≡ nat_le (depth (get_info_tree r)) max_depth
-room_decides r = grind (arith, get_info_up, room_up, room_down, get_info_down, nat_tests)
+room_decides r = by_cases r.certifications refl where
+  by_cases : (o : Option Item) → r.certifications ≡ o → has_room o ≡ nat_le (depth (get_info_tree r)) max_depth
+  by_cases None is = certifications_levels.absent r is
+  by_cases (Some i) is = same_as i ∙ certifications_levels.present r i is where
+    same_as : (i : Item) → nat_lt (depth i) 256 ≡ nat_le (depth i) 255
+    same_as i = grind (arith, nat_tests)
 
 pub parts_decide : (r : GetInfoParts)
     → (is_encodable r.max_msg_size && has_room r.certifications) ≡ is_get_info_coherent r
@@ -137,46 +139,22 @@ encoded_item : (i : Item) → is_encodable (unwrap_or (optional size i) None) �
 encoded_item (item.number (pos n)) = in_range n (nat_lt 0 n) (nat_lt n (2 ^ 64)) refl
 encoded_item _ = refl
 
--- a kept data item has fewer levels
-abbrev IsBelow : ℕ → Option Item → Type 0
-IsBelow n o = (i : Item) → o ≡ Some i → depth i < n
+size_good : (i : Item) (o : Option ℕ) → optional size i ≡ Some o → is_encodable o ≡ true
+size_good i o e = grind (arith, encoded_item)
 
-below_up : (n : ℕ) (o : Option Item) → n ≤ 256 → IsBelow n o → has_room o ≡ true
-below_up n None small h = refl
-below_up n (Some i) small h = lt-ltb (depth i) 256 (omega (arith, h i refl, small))
-
--- the size can be encoded, and the certifications have fewer levels than the response
-abbrev PartsAreGood : ℕ → GetInfoParts → Type 0
-PartsAreGood n r = (is_encodable r.max_msg_size ≡ true) × IsBelow n r.certifications
-
-size_good : (n : ℕ) (i : Item) (o : Option ℕ) (r : GetInfoParts) → depth i < n → optional size i ≡ Some o
-    → PartsAreGood n r → PartsAreGood n (record r { max_msg_size = o })
-size_good n i o r less e h = grind (arith, encoded_item)
-
-certifications_good : (n : ℕ) (i : Item) (o : Option Item) (r : GetInfoParts) → depth i < n
-    → optional kept_item i ≡ Some o → PartsAreGood n r → PartsAreGood n (record r { certifications = o })
-certifications_good n i o r less e h = grind (arith, not_null)
-
-read_good : (i : Item) (r : GetInfoParts) → read_get_info i ≡ Ok r → PartsAreGood (depth i) r
-read_good whole r read =
-    record_keeps get_info_fields (PartsAreGood (depth whole)) whole r read (λ d. (refl, λ i is. absurd cc))
-    (search (size_good (depth whole), certifications_good (depth whole)) depth 40 parts 40)
+abbrev SizeIsGood : GetInfoParts → Type 0
+SizeIsGood r = is_encodable r.max_msg_size ≡ true
 
 pub get_info_coherent : ReadIsCoherent read_get_info is_get_info_coherent
-get_info_coherent bytes r begins = grind (arith, read_good, parts_decide, and_from, below_up)
+get_info_coherent bytes r begins =
+    let good = record_keeps get_info_fields SizeIsGood begins.item r begins.holds (λ d. refl)
+    (search size_good depth 40 parts 40) in
+    and_from (is_encodable r.max_msg_size) (nat_le (depth (get_info_tree r)) max_depth) good
+    (decoded_few get_info_fields response_around (omega arith) (omega arith) bytes r begins)
 
 -- ---- the encodings of authenticatorGetInfo responses are canonical
 
-item_place : AtMostOneLeadingItem → WrittenIsLeadingItem → (key : Item) → IsOrdered key → (o : Option Item)
-    → PlaceHas IsWritable key o → PlaceWithin 255 key o → AllCanonical (kept_if_some (λ i. i ∷ []) o) → PlaceOrdered key o
-item_place one front key keyed None w d kept = tt
-item_place one front key keyed (Some i) w d kept = (keyed, ordered_of one front i w.1 (omega (arith, d.1)) kept.0)
-
 pub get_info_canonical : AtMostOneLeadingItem → WrittenIsLeadingItem
     → WrittenIsCanonical get_info_tree is_get_info_coherent get_info_kept
-unfolding shortest_head
-get_info_canonical one front =
-    record_canonical get_info_places get_info_kept (λ r. refl)
+get_info_canonical one front = canonical_around one front response_around
     (λ r coherent. leb-true _ _ (and_parts (is_encodable r.max_msg_size) _ coherent).1)
-    (λ r w d kept. get_info_each (in_order 2) r (item_place one front (number_tree 19) tt r.certifications (search)
-    (search) kept))

@@ -1,6 +1,5 @@
 -- The nesting levels of records, by those of the values under their keys.
-use Rattle.passkey_kinds.proofs.Common.{ByteMap, same_tests, depth, pairs_depth, items_depth, Item, items_of, pairs_of, WrittenIsLeadingItem, max_depth, each, WrittenIsReadBack, Members, short_first, AllAccepted, MemberAccepted, Place, record_tree, entry_tree, under, laid, list_tree, byte_map_tree, Fault, ◌≡◌, ◌∙◌, ℕ, suc, arith, Bool, true, ◌&&◌, List, [], ◌∷◌, ◌++◌, map, Option, Some, None, option_map, refl, sym, ap, ◌≤◌, Result, subst, nat_le, Ok, max, le-leb, leb-true}
-use Rattle.std.proofs.Common.{leb-true}
+use Rattle.passkey_kinds.proofs.Common.{ByteMap, depth, pairs_depth, items_depth, Item, items_of, pairs_of, WrittenIsLeadingItem, max_depth, each, WrittenIsReadBack, Members, short_first, AllAccepted, MemberAccepted, Place, record_tree, entry_tree, under, laid, list_tree, byte_map_tree, Fault, ◌≡◌, ℕ, suc, arith, Bool, true, ◌&&◌, List, [], ◌∷◌, ◌++◌, map, Option, Some, None, option_map, ◌≤◌, Result, nat_le, Ok, max}
 use Rattle.std.specs.FinMap as fin
 
 -- ---- what holds of each key and value of a record's places
@@ -53,10 +52,6 @@ option_has Q tree key keyed each (Some x) = (keyed, each x)
 
 -- ---- the nesting levels of records, by those of the values under their keys
 
--- the place has no value, or its key and its value have at most n levels
-abbrev pub PlaceWithin : ℕ → Item → Option Item → Type 0
-PlaceWithin n = PlaceHas (λ i. depth i ≤ n)
-
 abbrev pub Within : ℕ → List Place → Type 0
 Within n = EachPlace (λ i. depth i ≤ n)
 
@@ -99,38 +94,6 @@ entries_within tree n each (e ∷ es) = grind (arith, both_within, entries_withi
 pub map_within : {A : Type 0} (tree : A → Item) (n : ℕ) → ((x : A) → depth (tree x) ≤ n) → (m : ByteMap A)
     → depth (byte_map_tree tree m) ≤ suc n
 map_within tree n each m = omega (arith, entries_within tree n each (short_first (fin.entries m)))
-
--- ---- records of which one optional member alone may have many levels
-
--- The record has at most n + 1 levels exactly if its member is absent or has at most n.
-pub record OnlyDeep {P A : Type 0} (places : P → List Place) (tree : A → Item) (get : P → Option A) (n : ℕ) : Type 0
-  where
-    pub absent : (r : P) → get r ≡ None → true ≡ nat_le (depth (record_tree (places r))) (suc n)
-    pub present : (r : P) (x : A) → get r ≡ Some x
-        → nat_le (depth (tree x)) n ≡ nat_le (depth (record_tree (places r))) (suc n)
-
-module _ {P A : Type 0} {places : P → List Place} {tree : A → Item} {get : P → Option A} {n : ℕ} where
-  pub only_deep : (key : Item) → depth key ≤ n
-      → ((r : P) → PlaceWithin n key (option_map tree (get r)) → Within n (places r))
-      → ((r : P) → Within n (places r) → PlaceWithin n key (option_map tree (get r))) → OnlyDeep places tree get n
-  only_deep key keyed up down = record {
-    absent = λ r is. sym (le-leb (depth (record_tree (places r))) (suc n) (record_within n (places r)
-        (up r (subst (λ (o : Option A). PlaceWithin n key (option_map tree o)) (sym is) tt))));
-    present = λ r x is. same_tests (nat_le (depth (tree x)) n) (nat_le (depth (record_tree (places r))) (suc n))
-        (λ t. le-leb (depth (record_tree (places r))) (suc n) (record_within n (places r)
-        (up r (subst (λ (o : Option A). PlaceWithin n key (option_map tree o)) (sym is)
-        (keyed, leb-true (depth (tree x)) n t)))))
-        (λ t. le-leb (depth (tree x)) n (subst (λ (o : Option A). PlaceWithin n key (option_map tree o)) is
-        (down r (of_record n (places r) (leb-true (depth (record_tree (places r))) (suc n) t)))).1);
-  }
-
-  pub deep_coherent : OnlyDeep places tree get n → (r : P)
-      → ((x : A) → get r ≡ Some x → nat_le (depth (tree x)) n ≡ true)
-      → nat_le (depth (record_tree (places r))) (suc n) ≡ true
-  deep_coherent deep r few = by_cases (get r) refl where
-    by_cases : (o : Option A) → get r ≡ o → nat_le (depth (record_tree (places r))) (suc n) ≡ true
-    by_cases None is = sym (deep.absent r is)
-    by_cases (Some x) is = sym (deep.present r x is) ∙ few x is
 
 -- ---- messages whose encodings have few levels can be decoded again
 

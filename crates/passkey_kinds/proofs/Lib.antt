@@ -14,4 +14,5 @@ pub mod Keys
 pub mod ByteMaps
 pub mod Ordered
 pub mod Lawful
+pub mod Around
 pub mod Steps

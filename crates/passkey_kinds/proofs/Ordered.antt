@@ -1,7 +1,7 @@
 -- Records whose keys ascend, and what follows for their encodings.
-use Rattle.passkey_kinds.proofs.Common.{ByteMap, ComesAfter, AscendFrom, Ascend, IsOrdered, AreOrdered, ArePairsOrdered, IsCanonical, depth, Item, items_of, pairs_of, byte_string, boolean, null, text_string, number, AtMostOneLeadingItem, WrittenIsLeadingItem, max_depth, IsLeadingItem, ctap2_order, IsWritable, ArePairsWritable, written, kept, each, AllCanonical, kept_if_some, WrittenIsCanonical, Members, short_first, Place, record_tree, number_tree, numbers_tree, entry_tree, under, laid, list_tree, byte_map_tree, ◌≡◌, ℕ, suc, arith, Bool, true, ◌&&◌, List, [], ◌∷◌, ◌++◌, length, map, Option, Some, None, option_map, refl, sym, ◌≤◌, subst, pos, ℤ, and_parts, is_lt, Less, Ordering}
+use Rattle.passkey_kinds.proofs.Common.{ByteMap, ComesAfter, AscendFrom, Ascend, IsOrdered, AreOrdered, ArePairsOrdered, IsCanonical, depth, Item, items_of, pairs_of, byte_string, boolean, null, text_string, number, AtMostOneLeadingItem, WrittenIsLeadingItem, max_depth, IsLeadingItem, ctap2_order, IsWritable, ArePairsWritable, written, each, Members, short_first, Place, record_tree, number_tree, numbers_tree, entry_tree, under, laid, list_tree, byte_map_tree, ◌≡◌, ℕ, suc, arith, Bool, true, ◌&&◌, List, [], ◌∷◌, ◌++◌, length, map, Option, Some, None, refl, sym, ◌≤◌, subst, pos, ℤ, and_parts, is_lt, Less, Ordering}
 use Rattle.passkey_kinds.proofs.ByteMaps.{entries_ascend}
-use Rattle.passkey_kinds.proofs.Levels.{Within, of_record as levels_of, PlaceHas, EachPlace, PlaceWithin, each_as, laid_has, has_laid, record_within, list_within, map_within, option_has}
+use Rattle.passkey_kinds.proofs.Levels.{EachPlace, each_as, laid_has, has_laid, record_within, list_within, map_within, option_has}
 use Rattle.std.specs.FinMap as fin
 
 -- ---- keys that ascend
@@ -55,9 +55,6 @@ keys_ascend ps h = laid_ascends None ps h (none_before ps)
 
 -- ---- the values under them
 
-abbrev pub PlaceOrdered : Item → Option Item → Type 0
-PlaceOrdered = PlaceHas IsOrdered
-
 abbrev pub AllOrdered : List Place → Type 0
 AllOrdered = EachPlace IsOrdered
 
@@ -104,16 +101,6 @@ ordered_of one front x w d c =
     let same = one (written x ++ []) x c.item (length (written x)) (length (written c.item)) mine
     (subst (λ (s : List ℕ). IsLeadingItem (s ++ []) c.item (length (written c.item))) (sym c.whole) its) in
     subst IsOrdered (sym same.0) c.ordered
-
--- a record is ordered if its keys ascend and its values are, and so its encoding is canonical
-pub record_canonical : {P : Type 0} (places : P → List Place) {coherent : P → Bool} (kept : P → List Item)
-    → ((r : P) → ascend (places r) ≡ true)
-    → ((r : P) → coherent r ≡ true → depth (record_tree (places r)) ≤ max_depth)
-    → ((r : P) → EachPlace IsWritable (places r) → Within 255 (places r) → AllCanonical (kept r) → AllOrdered (places r))
-    → WrittenIsCanonical (λ r. record_tree (places r)) coherent kept
-record_canonical places kept_items up few each r w coherent kept =
-    canonical_of (record_tree (places r)) w (few r coherent) (record_ordered (places r) (up r)
-    (each r (of_record (places r) w) (levels_of 255 (places r) (few r coherent)) kept))
 
 -- ---- items that keep no other item: how many levels they have, and that they are ordered
 
@@ -176,15 +163,3 @@ record_plain n ps up each = record {
   levels = record_within n ps (each_as (λ i plain. plain.levels) ps each);
   order = record_ordered ps up (each_as (λ i plain. plain.order) ps each);
 }
-
--- a value's encoding of at most n levels is ordered if the items that it keeps are canonical
-abbrev pub OrderedIf : {A : Type 0} → ℕ → (A → Item) → (A → List Item) → Type 0
-OrderedIf {A} n tree kept =
-    (x : A) → IsWritable (tree x) → depth (tree x) ≤ n → AllCanonical (kept x) → IsOrdered (tree x)
-
-pub place_if : {A : Type 0} {n : ℕ} (tree : A → Item) (kept : A → List Item) → OrderedIf n tree kept
-    → (key : Item) → IsOrdered key → (o : Option A) → PlaceHas IsWritable key (option_map tree o)
-    → PlaceWithin n key (option_map tree o) → AllCanonical (kept_if_some kept o)
-    → PlaceOrdered key (option_map tree o)
-place_if tree kept each key keyed None w d k = tt
-place_if tree kept each key keyed (Some x) w d k = (keyed, each x w.1 d.1 k)

@@ -5,7 +5,7 @@ pub use Rattle.passkey_kinds.proofs.Lists.{sized_gathered, mapped_at, head_befor
 pub use Rattle.passkey_kinds.proofs.Back.{true_place, Falls, accepts_it, option_place, puts_value, puts_default, kind_back, ◌▸◌, no_more, rows_back, picked, picked_back}
 pub use Rattle.passkey_kinds.proofs.LeafBack.{auth_data_back, auth_data_coherent, seen_list_back, truth_back, or_null_back, or_null_same, optional_place, byte_back, bytes_back, kept_back, anything, tolerated_place, text_back, all_of_anything, accepted_same, accepted_place, list_same, word_back, transport_back, list_back, optional_back, seen_map_back, map_back, numbers_back, size_back, aaguid_back}
 pub use Rattle.passkey_kinds.proofs.Lent.{bytes_are, data_decodes, no_data, looks_all, looks_names, lent_spends, lent_decodes, not_lent_decodes, looks_some, looks_none, bytes_grow, other_number, AddsUpTo, adds_one, adds_all, adds_looks, stands_missed, or_refused, missed_then, looked_further, lent_is}
-pub use Rattle.passkey_kinds.proofs.Levels.{OnlyDeep, only_deep, deep_coherent, list_within, record_within, PlaceWithin, Within, back_if_few, back_if_good, PlaceHas, EachPlace}
+pub use Rattle.passkey_kinds.proofs.Levels.{list_within, record_within, Within, back_if_few, back_if_good, PlaceHas, EachPlace}
 pub use Rattle.passkey_kinds.proofs.Cursor.{head_moves, eased, stands_back, onward_of, head_spends, if_some, stands_long, stands_again, spends_again, onward_then, on_ok, fails_as, ok_ends, ends_ok, named_text, no_text, failed, null_item, other_item, no_aaguid, scalar_read, scalar_moves, scalar_ends, scalar_decodes, below_scalar, truth_scalar, size_scalar, null_scalar, array_opened, map_opened, parts_open}
 pub use Rattle.passkey_kinds.proofs.Keeping.{kept_below, record_keeps, nested_keeps, not_null, ok_of}
 pub use Rattle.passkey_kinds.proofs.Keys.{found_behind, names_nothing, names_scalar, key_ends}
@@ -13,6 +13,7 @@ pub use Rattle.passkey_kinds.proofs.Lawful.{IsLawful, lawful, raised, IsLawfulAs
 pub use Rattle.passkey_kinds.proofs.Loops.{EachTo, next_is, element_spends, one_spare, spent_within, some_are, one_more_done, each_done, at_least, kept_pairs, kept_record, cost_by_le, key_spent, member_spent}
 pub use Rattle.passkey_kinds.proofs.Members.{members_are, key_names, goes_on, fails, all_read, reads_from, no_record, held_answers, held_ok, sets_put}
 pub use Rattle.passkey_kinds.proofs.RecordLaws.{may_grow, went_back, item_stands, message_is, fault_is, skips_unknown}
-pub use Rattle.passkey_kinds.proofs.Ordered.{OrderedIf, place_if, ascend, keys_ascend, PlaceOrdered, record_ordered, record_canonical, ordered_of, few_levels, Rule, plainly, IsPlain, null_plain, map_plain, in_order, list_plain, numbers_plain, truth_plain, text_plain}
+pub use Rattle.passkey_kinds.proofs.Ordered.{ascend, keys_ascend, record_ordered, ordered_of, few_levels, Rule, plainly, IsPlain, null_plain, map_plain, in_order, list_plain, numbers_plain, truth_plain, text_plain}
 pub use Rattle.passkey_kinds.proofs.ByteMaps.{short_first_is, sorted-map}
 pub use Rattle.passkey_kinds.proofs.Sinks.{record_writable, record_written}
+pub use Rattle.passkey_kinds.proofs.Around.{AtMost, Around, OnlyAt, item_around, around, required_keeps, optional_keeps, tolerated_keeps, decoded_few, canonical_around, OnlyDeep, only_deep}

@@ -1,13 +1,12 @@
 -- Messages of authenticatorMakeCredential: decoding their encodings again, their nesting levels, and their canonical form.
-use Rattle.passkey_kinds.proofs.Steps.{place_if, arith, ℕ, Bool, true, false, codes, text_string, shortest_head, true_place, IsLawfulAs, lawful, truth_back, PlaceHas, IsPlain, plainly, truth_plain, text_plain, puts_value, puts_default, no_more, option_map, Item, number_tree, EachPlace, Rule, list_plain, descriptor_law, parameters_law, user_law, ◌≡◌, ◌<◌, ◌≤◌, nat_le, le-leb, Option, Some, Ok, depth, optional, ReadIsCoherent, OnlyDeep, only_deep, deep_coherent, not_null, record_keeps, byte_back, bytes_back, anything, optional_place, accepted_same, accepted_place, few_levels, rows_back, refl, ◌▸◌, ◌-◌, ◌^◌, min, nat_lt, and_from, max_depth, WrittenIsLeadingItem, is_coherent, GivenIsCoherent, ReadIsGiven, WrittenDataAreReadBack, authenticator_data, kept, auth_data_back, auth_data_coherent, kept_below, text_back, kept_back, record_within, picked, picked_back, and_parts, AtMostOneLeadingItem, WrittenIsCanonical, record_canonical, ordered_of, in_order}
+use Rattle.passkey_kinds.proofs.Common.{record_kind}
+use Rattle.passkey_kinds.proofs.Steps.{Around, OnlyAt, item_around, around, required_keeps, optional_keeps, decoded_few, canonical_around, arith, ℕ, Bool, true, false, codes, text_string, shortest_head, true_place, IsLawfulAs, lawful, truth_back, PlaceHas, IsPlain, plainly, truth_plain, text_plain, puts_value, puts_default, no_more, option_map, number_tree, list_plain, descriptor_law, parameters_law, user_law, ◌≡◌, ◌≤◌, nat_le, Some, Ok, depth, ReadIsCoherent, OnlyDeep, only_deep, record_keeps, byte_back, bytes_back, anything, optional_place, accepted_same, accepted_place, rows_back, refl, ◌▸◌, ◌-◌, ◌^◌, min, nat_lt, and_from, max_depth, WrittenIsLeadingItem, is_coherent, GivenIsCoherent, ReadIsGiven, WrittenDataAreReadBack, auth_data_back, auth_data_coherent, text_back, kept_back, record_within, picked, picked_back, and_parts, AtMostOneLeadingItem, WrittenIsCanonical}
 use Rattle.std.proofs.Common.{leb-true}
 use Rattle.passkey_core.specs.DataNormal.{IsData, normal_data}
 use Rattle.passkey_core.specs.DataParts.{DataParts}
 use Rattle.passkey_entities.proofs.Entities.{rp_law}
-use Rattle.passkey_extensions.proofs.Extensions.{make_parts_back, input_up, made_levels, make_extensions_if, made_key, made_unsigned_law}
-use Rattle.passkey_extensions.specs.HmacInput.{hmac_input_tree}
-use Rattle.passkey_extensions.specs.MakeExtensions.{make_extensions_tree, MakeExtensionsParts, make_extensions}
-use Rattle.passkey_kinds.proofs.Levels.{of_record}
+use Rattle.passkey_extensions.proofs.Extensions.{make_parts_back, make_extensions_around, made_unsigned_law}
+use Rattle.passkey_extensions.specs.MakeExtensions.{make_extensions_tree}
 use Rattle.passkey_kinds.specs.Message.{WrittenIsReadBack}
 use Rattle.passkey_kinds.specs.Tree.{where_true}
 use Rattle.passkey_make_credential.specs.MakeRequest.{options, normal_options, MakeRequestParts, make_request_places, make_request_fields, read_make_request, make_request_tree, MakeRequestFits, is_make_request_coherent, normal_make_request, make_request_kept}
@@ -23,25 +22,42 @@ pub options_law : IsLawfulAs normal_options 0 options
 unfolding shortest_head
 options_law = grind (arith, lawful, plainly, up_plain, puts_value, truth_back, puts_default, true_place, codes, no_more)
 
--- ---- what holds of each key and value of the messages of authenticatorMakeCredential, if it holds of
--- what is kept
+-- ---- what the messages of authenticatorMakeCredential keep, and what is encoded around it
 
-pub make_request_each : {Q : Item → Type 0} → Rule 4 Q → (r : MakeRequestParts)
-    → PlaceHas Q (number_tree 6) (option_map make_extensions_tree r.extensions) → EachPlace Q (make_request_places r)
-make_request_each rule r extensions = search (
-  rule.holds,
-  plainly,
-  rp_law.plain 3,
-  user_law.plain 3,
-  list_plain 3,
-  parameters_law.plain 2,
-  descriptor_law.plain 1,
-  options_law.plain 3,
-) depth 15
+request_only : OnlyAt 4 make_request_places (number_tree 6) (λ r. option_map make_extensions_tree r.extensions)
+unfolding shortest_head
+request_only = record {
+  keyed = search plainly;
+  ascends = λ r. refl;
+  each = λ Q rule r extensions. search (
+    rule.holds,
+    plainly,
+    rp_law.plain 3,
+    user_law.plain 3,
+    list_plain 3,
+    parameters_law.plain 2,
+    descriptor_law.plain 1,
+    options_law.plain 3,
+  ) depth 15;
+  this = λ Q r each. each.1.1.1.1.1.0;
+}
 
-pub make_response_each : {Q : Item → Type 0} → Rule 4 Q → (r : MakeResponseParts) → Q r.att_stmt
-    → EachPlace Q (make_response_places r)
-make_response_each rule r statement = search (rule.holds, plainly, made_unsigned_law.plain 0) depth 12
+request_around : Around (record_kind make_request_fields) make_request_tree make_request_kept 3 6
+request_around = around make_extensions_around make_request_fields (λ r. r.extensions) request_only
+    (λ n. tt) (λ n i few. search (optional_keeps make_extensions_around) depth 13 parts 13)
+
+response_only : OnlyAt 4 make_response_places (number_tree 3) (λ r. Some r.att_stmt)
+unfolding shortest_head
+response_only = record {
+  keyed = search plainly;
+  ascends = λ r. refl;
+  each = λ Q rule r statement. search (rule.holds, plainly, made_unsigned_law.plain 0) depth 12;
+  this = λ Q r each. each.1.1.0;
+}
+
+response_around : Around (record_kind make_response_fields) make_response_tree make_response_kept 1 5
+response_around = around item_around make_response_fields (λ r. Some r.att_stmt) response_only
+    (λ n. (omega arith, tt)) (λ n i few. search (required_keeps item_around) depth 10 parts 10)
 
 -- ---- an encoding can be decoded again
 
@@ -60,43 +76,16 @@ request_back r fits =
     puts_default (optional_place byte_back refl r.pin_protocol (search)) refl ▸
     no_more)
 
--- ---- only the extensions may have many levels
+-- ---- only the extensions, or the statement, may have many levels
 
 pub request_levels : OnlyDeep make_request_places make_extensions_tree (λ r. r.extensions) 255
-request_levels = only_deep (number_tree 6) (omega arith)
-    (λ r. make_request_each (few_levels 4 255 (omega arith)) r) (λ r within. within.1.1.1.1.1.0)
-
--- ---- a decoded request is coherent
-
-extensions_coherent : (i : Item) (e : MakeExtensionsParts) → depth i ≤ 255 → make_extensions i ≡ Some e
-    → nat_le (depth (make_extensions_tree e)) 255 ≡ true
-extensions_coherent i e small read = deep_coherent made_levels e (λ h is. le-leb (depth (hmac_input_tree h)) 254
-    (input_up h 254 (omega (arith, small, made_key i e h read is))))
-
-abbrev AreCoherent : Option MakeExtensionsParts → Type 0
-AreCoherent o = (e : MakeExtensionsParts) → o ≡ Some e → nat_le (depth (make_extensions_tree e)) 255 ≡ true
-
-decoded_coherent : (i : Item) (o : Option MakeExtensionsParts) (n : ℕ) → optional make_extensions i ≡ Some o
-    → depth i < n → n ≤ 256 → AreCoherent o
-decoded_coherent i o n read less small = grind (arith, extensions_coherent, not_null)
-
-read_extensions : (i : Item) (r : MakeRequestParts) → depth i ≤ 256 → read_make_request i ≡ Ok r
-    → AreCoherent r.extensions
-read_extensions i r small read =
-    record_keeps make_request_fields (λ r. AreCoherent r.extensions) i r read (λ d e is. absurd cc)
-    (search decoded_coherent depth 13 parts 13)
-
-pub make_request_coherent : ReadIsCoherent read_make_request is_make_request_coherent
-make_request_coherent bytes r begins = grind (arith, deep_coherent, request_levels, read_extensions)
-
--- ---- only the statement may have many levels
+request_levels = only_deep 255 (omega arith) request_only
 
 response_up : (r : MakeResponseParts) → depth r.att_stmt ≤ 255 → depth (make_response_tree r) ≤ 256
-response_up r small =
-    record_within 255 (make_response_places r) (make_response_each (few_levels 4 255 (omega arith)) r small)
+response_up r small = response_around.levels 255 r (omega arith) (small, tt)
 
 response_down : (r : MakeResponseParts) → depth (make_response_tree r) ≤ 256 → depth r.att_stmt ≤ 255
-response_down r within = (of_record 255 (make_response_places r) within).1.1.0.1
+response_down r small = (response_around.within 255 r small).0
 
 -- the statement's levels decide, even if they don't fit in a `usize`
 pub statement_decides : (r : MakeResponseParts)
@@ -133,43 +122,28 @@ attestation_returns law written given r rest fits writable coherent = (
   attestation_back written given r.auth_data fits coherent,
 )
 
--- ---- a decoded response is coherent
+-- ---- decoded messages are coherent
 
--- the authenticator data is coherent, and the statement has fewer levels than the response
-abbrev PartsAreGood : ℕ → MakeResponseParts → Type 0
-PartsAreGood n r = (is_coherent r.auth_data ≡ true) × (depth r.att_stmt < n)
+pub make_request_coherent : ReadIsCoherent read_make_request is_make_request_coherent
+make_request_coherent = decoded_few make_request_fields request_around (omega arith) (omega arith)
 
-data_good : GivenIsCoherent → (n : ℕ) (i : Item) (d : DataParts) (r : MakeResponseParts) → depth i < n
-    → authenticator_data i ≡ Some d → PartsAreGood n r → PartsAreGood n (record r { auth_data = d })
-data_good law n i d r less e h = (auth_data_coherent law i d e, h.1)
-
-statement_good : (n : ℕ) (i statement : Item) (r : MakeResponseParts) → depth i < n → kept i ≡ Some statement
-    → PartsAreGood n r → PartsAreGood n (record r { att_stmt = statement })
-statement_good n i statement r less e h = (h.0, kept_below i statement n e less)
+abbrev DataAreCoherent : MakeResponseParts → Type 0
+DataAreCoherent r = is_coherent r.auth_data ≡ true
 
 pub make_response_coherent : GivenIsCoherent → ReadIsCoherent read_make_response is_make_response_coherent
 make_response_coherent law bytes r begins =
-    let good = record_keeps make_response_fields (PartsAreGood (depth begins.item)) begins.item r begins.holds
-    (λ d. (refl, d))
-    (search (data_good law (depth begins.item), statement_good (depth begins.item)) depth 10 parts 10) in
-    and_from (is_coherent r.auth_data) (nat_le (depth (make_response_tree r)) max_depth) good.0 (le-leb
-    (depth (make_response_tree r)) max_depth (response_up r (omega (arith, good.1, begins.front.shallow))))
+    let coherent = record_keeps make_response_fields DataAreCoherent begins.item r begins.holds (λ d. refl)
+    (search (auth_data_coherent law) depth 10 parts 10) in
+    and_from (is_coherent r.auth_data) (nat_le (depth (make_response_tree r)) max_depth) coherent
+    (decoded_few make_response_fields response_around (omega arith) (omega arith) bytes r begins)
 
 -- ---- the encodings of the messages of authenticatorMakeCredential are canonical
 
 pub make_request_canonical : AtMostOneLeadingItem → WrittenIsLeadingItem
     → WrittenIsCanonical make_request_tree is_make_request_coherent make_request_kept
-unfolding shortest_head
-make_request_canonical one front =
-    record_canonical make_request_places make_request_kept (λ r. refl) (λ r coherent. leb-true _ _ coherent)
-    (λ r w d kept. make_request_each (in_order 4) r (place_if _ _ (make_extensions_if one front) (number_tree 6) tt r.extensions
-    w.1.1.1.1.1.0 d.1.1.1.1.1.0 kept))
+make_request_canonical one front = canonical_around one front request_around (λ r coherent. leb-true _ _ coherent)
 
 pub make_response_canonical : AtMostOneLeadingItem → WrittenIsLeadingItem
     → WrittenIsCanonical make_response_tree is_make_response_coherent make_response_kept
-unfolding shortest_head
-make_response_canonical one front =
-    record_canonical make_response_places make_response_kept (λ r. refl)
+make_response_canonical one front = canonical_around one front response_around
     (λ r coherent. leb-true _ _ (and_parts (is_coherent r.auth_data) _ coherent).1)
-    (λ r w d kept. make_response_each (in_order 4) r (ordered_of one front r.att_stmt w.1.1.0.1
-    (omega (arith, d.1.1.0.1)) kept.0))
