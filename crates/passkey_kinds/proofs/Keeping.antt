@@ -1,5 +1,5 @@
 -- What decoded records keep: values that aren't null, and what holds of each value that is put.
-use Rattle.passkey_kinds.proofs.Common.{depth, pairs_depth, Item, Pairs, no_pairs, pair, members, null, kept, Kind, optional, accepted, Fields, set_with, rows_of, table_of, put_at, unless_missing, one_more, Progress, result_and_then, read_from, read_item, Member, record_kind, entries, named, first_missing, Naming, row, unknown, wrong, accepts_at, Repeated, Fault, ◌≡◌, ◌<◌, ℕ, arith, Bool, true, false, if◌then◌else◌, List, [], ◌∷◌, Option, Some, None, option_map, refl, Result, subst, Ok, Err, set, IfOk, result_ok}
+use Rattle.passkey_kinds.proofs.Common.{depth, pairs_depth, Item, Pairs, no_pairs, pair, members, null, kept, Kind, optional, accepted, Fields, set_with, rows_of, table_of, put_at, unless_missing, one_more, Progress, result_and_then, read_from, read_item, Member, entries, named, first_missing, Naming, row, unknown, wrong, accepts_at, Repeated, Fault, ◌≡◌, ◌<◌, ℕ, arith, Bool, true, false, if◌then◌else◌, List, [], ◌∷◌, Option, Some, None, option_map, refl, Result, subst, Ok, Err, set, IfOk, result_ok}
 use Rattle.passkey_kinds.specs.declared.fault.Fault.TheVariants as fault
 use Rattle.passkey_cbor.specs.Item as item
 
@@ -26,10 +26,6 @@ abbrev pub Keeps : {P : Type 0} → ℕ → (P → Type 0) → List (Member P) �
 Keeps n Inv [] = Unit {0}
 Keeps {P} n Inv (m ∷ ms) =
     ((i : Item) (v : m.Of) (r : P) → depth i < n → m.kind.of i ≡ Some v → Inv r → Inv (m.set v r)) × Keeps n Inv ms
-
--- a kept item is the one that was decoded
-pub kept_below : (i kept_item : Item) (n : ℕ) → kept i ≡ Some kept_item → depth i < n → depth kept_item < n
-kept_below i kept_item n e less = let same : i ≡ kept_item = cc in subst (λ k. depth k < n) same less
 
 if_some : {M P : Type 0} (Inv : P → Type 0) (set : M → P → P) (o : Option M) (r : P)
     → ((v : M) → o ≡ Some v → Inv (set v r)) → Inv r → Inv (set_with set o r)
@@ -78,8 +74,3 @@ pub record_keeps : {P : Type 0} (t : Fields P) (Inv : P → Type 0) (i : Item) (
 record_keeps t Inv (item.map ps) p e begun all = subst (λ (r : Result _ Fault). IfOk r Inv) e
     (members_keep (depth (item.map ps)) Inv t ps _ all (omega arith) (begun (omega arith)))
 record_keeps t Inv _ p e begun all = absurd cc
-
--- the same for a record inside another one
-pub nested_keeps : {P : Type 0} (t : Fields P) (Inv : P → Type 0) (i : Item) (p : P) → record_kind t i ≡ Some p
-    → (0 < depth i → Inv t.blank) → Keeps (depth i) Inv t.rows → Inv p
-nested_keeps t Inv i p e begun all = record_keeps t Inv i p (ok_of (read_item t i) p e) begun all

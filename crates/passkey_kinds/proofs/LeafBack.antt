@@ -1,5 +1,5 @@
 -- Values can be decoded again from their encodings.
-use Rattle.passkey_kinds.proofs.Common.{All, filter_map, arith, ◌≡◌, ◌∙◌, ◌<◌, ◌^◌, List, [], ◌∷◌, map, Option, Some, None, option_map, unwrap_or, refl, ap, All-head, All-tail, Item, byte_string, text_string, boolean, null, item_of, IfPresent, Kind, truth, below, text, one_named, kept, optional, each, bytes, list, accepted, IsReadBack, Any, IsByte, number_tree, list_tree, credential_type_named, transport_named, ℕ, ◌==◌, eq-eqb, if◌then◌else◌, length, length-map, items_of, elements-items_of, aaguid, sized_bytes, size, numbers_tree, result_ok, true, Result, Ok, Err, append-nil, authenticator_data, put_each, entry, map_from_bytes, map_values, short_first, entry_tree, byte_map_tree, elements, is_coherent, GivenIsCoherent, ReadIsGiven, WrittenDataAreReadBack, IsData, normal_data, DataParts, read_data, CoseError, algorithm_tree, auth_data_tree, tolerated, or_else, AreBytes, IsSize, option_tree, credential_type_tree, transport_tree, credential_type_own, transport_own, All-from_recursion, recursion_from_All}
+use Rattle.passkey_kinds.proofs.Common.{All, filter_map, arith, ◌≡◌, ◌∙◌, ◌<◌, ◌^◌, List, [], ◌∷◌, map, Option, Some, None, option_map, unwrap_or, refl, ap, All-head, All-tail, Item, byte_string, text_string, boolean, null, IfPresent, Kind, truth, below, text, one_named, kept, optional, each, bytes, list, accepted, IsReadBack, Any, IsByte, number_tree, list_tree, credential_type_named, transport_named, ℕ, ◌==◌, eq-eqb, if◌then◌else◌, length, length-map, items_of, elements-items_of, aaguid, sized_bytes, size, numbers_tree, result_ok, true, Result, Ok, Err, append-nil, authenticator_data, put_each, entry, map_from_bytes, map_values, short_first, entry_tree, byte_map_tree, elements, is_coherent, GivenIsCoherent, ReadIsGiven, WrittenDataAreReadBack, IsData, normal_data, DataParts, read_data, CoseError, algorithm_tree, auth_data_tree, tolerated, or_else, AreBytes, IsSize, option_tree, credential_type_tree, transport_tree, credential_type_own, transport_own, All-from_recursion, recursion_from_All}
 use Rattle.std.proofs.Common.{lt-ltb}
 use Rattle.passkey_kinds.proofs.Back.{Falls, option_place, falls_as}
 use Rattle.passkey_kinds.proofs.ByteMaps.{short_first-each, short_first-placed}
@@ -23,9 +23,6 @@ text_back = record { back = λ t h. refl }
 
 pub bytes_back : IsReadBack bytes byte_string Any (λ b. b)
 bytes_back = record { back = λ b h. refl }
-
-pub item_back : IsReadBack kept item_of Any item_of
-item_back = record { back = λ v h. refl }
 
 pub kept_back : IsReadBack kept (λ i. i) Any (λ i. i)
 kept_back = record { back = λ i h. refl }

@@ -1,5 +1,5 @@
 -- The nesting levels of records, by those of the values under their keys.
-use Rattle.passkey_kinds.proofs.Common.{ByteMap, depth, pairs_depth, items_depth, Item, items_of, pairs_of, WrittenIsLeadingItem, max_depth, each, WrittenIsReadBack, Members, short_first, AllAccepted, MemberAccepted, Place, record_tree, entry_tree, under, laid, list_tree, byte_map_tree, Fault, ◌≡◌, ℕ, suc, arith, Bool, true, ◌&&◌, List, [], ◌∷◌, ◌++◌, map, Option, Some, None, option_map, ◌≤◌, Result, nat_le, Ok, max}
+use Rattle.passkey_kinds.proofs.Common.{depth, pairs_depth, Item, pairs_of, WrittenIsLeadingItem, max_depth, each, WrittenIsReadBack, Members, AllAccepted, MemberAccepted, Place, record_tree, under, laid, Fault, ◌≡◌, ℕ, suc, arith, Bool, true, ◌&&◌, List, [], ◌∷◌, ◌++◌, Option, Some, None, option_map, ◌≤◌, Result, nat_le, Ok, max}
 use Rattle.std.specs.FinMap as fin
 
 -- ---- what holds of each key and value of a record's places
@@ -36,15 +36,6 @@ module _ (Q : Item → Type 0) (All : Members → Type 0) where
       let both = has_under p.0 p.1 (laid ps) (λ x. parts p.0 x (laid ps)) h in
       (both.0, has_laid parts ps both.1)
 
-place_as : {Q R : Item → Type 0} → ((i : Item) → Q i → R i) → (key : Item) (o : Option Item) → PlaceHas Q key o
-    → PlaceHas R key o
-place_as so key None h = tt
-place_as so key (Some x) h = (so key h.0, so x h.1)
-
-pub each_as : {Q R : Item → Type 0} → ((i : Item) → Q i → R i) → (ps : List Place) → EachPlace Q ps → EachPlace R ps
-each_as so [] h = tt
-each_as so (p ∷ ps) h = (place_as so p.0 p.1 h.0, each_as so ps h.1)
-
 pub option_has : {A : Type 0} (Q : Item → Type 0) (tree : A → Item) (key : Item) → Q key → ((x : A) → Q (tree x))
     → (o : Option A) → PlaceHas Q key (option_map tree o)
 option_has Q tree key keyed each None = tt
@@ -72,28 +63,6 @@ record_within n ps h = omega (arith, laid_within n ps h)
 pub of_record : (n : ℕ) (ps : List Place) → depth (record_tree ps) ≤ suc n → Within n ps
 of_record n ps h = has_laid (λ i. depth i ≤ n) (λ ms. pairs_depth (pairs_of ms) ≤ n)
     (λ key x ms h. grind (arith, each_within)) ps (omega (arith, h))
-
--- ---- lists and maps
-
-items_within : {A : Type 0} (tree : A → Item) (n : ℕ) → ((x : A) → depth (tree x) ≤ n) → (xs : List A)
-    → items_depth (items_of (map tree xs)) ≤ n
-items_within tree n each [] = omega arith
-items_within tree n each (x ∷ xs) = grind (arith, both_within, items_within tree n each xs)
-
--- a list has one level more than its elements
-pub list_within : {A : Type 0} (tree : A → Item) (n : ℕ) → ((x : A) → depth (tree x) ≤ n) → (xs : List A)
-    → depth (list_tree tree xs) ≤ suc n
-list_within tree n each xs = omega (arith, items_within tree n each xs)
-
-entries_within : {A : Type 0} (tree : A → Item) (n : ℕ) → ((x : A) → depth (tree x) ≤ n) → (es : List (List ℕ × A))
-    → pairs_depth (pairs_of (map (entry_tree tree) es)) ≤ n
-entries_within tree n each [] = omega arith
-entries_within tree n each (e ∷ es) = grind (arith, both_within, entries_within tree n each es)
-
--- a map has one level more than its values
-pub map_within : {A : Type 0} (tree : A → Item) (n : ℕ) → ((x : A) → depth (tree x) ≤ n) → (m : ByteMap A)
-    → depth (byte_map_tree tree m) ≤ suc n
-map_within tree n each m = omega (arith, entries_within tree n each (short_first (fin.entries m)))
 
 -- ---- messages whose encodings have few levels can be decoded again
 

@@ -1,7 +1,7 @@
 -- Records whose keys ascend, and what follows for their encodings.
-use Rattle.passkey_kinds.proofs.Common.{ByteMap, ComesAfter, AscendFrom, Ascend, IsOrdered, AreOrdered, ArePairsOrdered, IsCanonical, depth, Item, items_of, pairs_of, byte_string, boolean, null, text_string, number, AtMostOneLeadingItem, WrittenIsLeadingItem, max_depth, IsLeadingItem, ctap2_order, IsWritable, ArePairsWritable, written, each, Members, short_first, Place, record_tree, number_tree, numbers_tree, entry_tree, under, laid, list_tree, byte_map_tree, ◌≡◌, ℕ, suc, arith, Bool, true, ◌&&◌, List, [], ◌∷◌, ◌++◌, length, map, Option, Some, None, refl, sym, ◌≤◌, subst, pos, ℤ, and_parts, is_lt, Less, Ordering}
+use Rattle.passkey_kinds.proofs.Common.{items_depth, pairs_depth, ByteMap, ComesAfter, AscendFrom, Ascend, IsOrdered, AreOrdered, ArePairsOrdered, IsCanonical, depth, Item, items_of, pairs_of, byte_string, boolean, null, text_string, number, AtMostOneLeadingItem, WrittenIsLeadingItem, max_depth, IsLeadingItem, ctap2_order, IsWritable, ArePairsWritable, written, each, Members, short_first, Place, record_tree, number_tree, numbers_tree, entry_tree, under, laid, list_tree, byte_map_tree, ◌≡◌, ℕ, suc, arith, Bool, true, ◌&&◌, List, [], ◌∷◌, ◌++◌, length, map, Option, Some, None, refl, sym, ◌≤◌, subst, pos, ℤ, and_parts, is_lt, Less, Ordering}
 use Rattle.passkey_kinds.proofs.ByteMaps.{entries_ascend}
-use Rattle.passkey_kinds.proofs.Levels.{EachPlace, each_as, laid_has, has_laid, record_within, list_within, map_within, option_has}
+use Rattle.passkey_kinds.proofs.Levels.{EachPlace, laid_has, has_laid, option_has}
 use Rattle.std.specs.FinMap as fin
 
 -- ---- keys that ascend
@@ -64,24 +64,6 @@ laid_ordered = laid_has IsOrdered (λ ms. ArePairsOrdered (pairs_of ms)) (λ key
 pub record_ordered : (ps : List Place) → ascend ps ≡ true → AllOrdered ps → IsOrdered (record_tree ps)
 record_ordered ps h all = (keys_ascend ps h, laid_ordered ps all)
 
-items_ordered : {A : Type 0} (tree : A → Item) → ((x : A) → IsOrdered (tree x)) → (xs : List A)
-    → AreOrdered (items_of (map tree xs))
-items_ordered tree each [] = tt
-items_ordered tree each (x ∷ xs) = (each x, items_ordered tree each xs)
-
-pub list_ordered : {A : Type 0} (tree : A → Item) → ((x : A) → IsOrdered (tree x)) → (xs : List A)
-    → IsOrdered (list_tree tree xs)
-list_ordered tree each xs = items_ordered tree each xs
-
-entries_ordered : {A : Type 0} (tree : A → Item) → ((x : A) → IsOrdered (tree x)) → (es : List (List ℕ × A))
-    → ArePairsOrdered (pairs_of (map (entry_tree tree) es))
-entries_ordered tree each [] = tt
-entries_ordered tree each (e ∷ es) = ((tt, each e.1), entries_ordered tree each es)
-
-pub map_ordered : {A : Type 0} (tree : A → Item) → ((x : A) → IsOrdered (tree x)) → (m : ByteMap A)
-    → IsOrdered (byte_map_tree tree m)
-map_ordered tree each m = (entries_ascend tree m, entries_ordered tree each (short_first (fin.entries m)))
-
 -- ---- the values in a record that can be encoded
 
 pub of_record : (ps : List Place) → IsWritable (record_tree ps) → EachPlace IsWritable ps
@@ -140,26 +122,40 @@ pub ruleset plainly = (number_plain, truth_plain, bytes_plain, text_plain, optio
 
 -- ---- values that have levels
 
+items_plain : (n : ℕ) {A : Type 0} (tree : A → Item) → ((x : A) → IsPlain n (tree x)) → (xs : List A)
+    → (items_depth (items_of (map tree xs)) ≤ n) × AreOrdered (items_of (map tree xs))
+items_plain n tree each [] = (omega arith, tt)
+items_plain n tree each (x ∷ xs) =
+    let rest = items_plain n tree each xs in
+    (omega (arith, (each x).levels, rest.0), ((each x).order, rest.1))
+
+-- a list has one level more than its elements
 pub list_plain : (n : ℕ) {A : Type 0} (tree : A → Item) → ((x : A) → IsPlain n (tree x)) → (xs : List A)
     → IsPlain (suc n) (list_tree tree xs)
-list_plain n tree each xs = record {
-  levels = list_within tree n (λ x. (each x).levels) xs;
-  order = list_ordered tree (λ x. (each x).order) xs;
-}
+list_plain n tree each xs =
+    let items = items_plain n tree each xs in record { levels = omega (arith, items.0); order = items.1 }
 
 pub numbers_plain : (n : ℕ) (b : List ℕ) → IsPlain (suc n) (numbers_tree b)
 numbers_plain n b = list_plain n number_tree (λ k. number_plain n (pos k)) b
 
+entries_plain : (n : ℕ) {A : Type 0} (tree : A → Item) → ((x : A) → IsPlain n (tree x)) → (es : List (List ℕ × A))
+    → (pairs_depth (pairs_of (map (entry_tree tree) es)) ≤ n) × ArePairsOrdered (pairs_of (map (entry_tree tree) es))
+entries_plain n tree each [] = (omega arith, tt)
+entries_plain n tree each (e ∷ es) =
+    let rest = entries_plain n tree each es in
+    (omega (arith, (each e.1).levels, rest.0), ((tt, (each e.1).order), rest.1))
+
+-- a map has one level more than its values
 pub map_plain : (n : ℕ) {A : Type 0} (tree : A → Item) → ((x : A) → IsPlain n (tree x)) → (m : ByteMap A)
     → IsPlain (suc n) (byte_map_tree tree m)
-map_plain n tree each m = record {
-  levels = map_within tree n (λ x. (each x).levels) m;
-  order = map_ordered tree (λ x. (each x).order) m;
-}
+map_plain n tree each m =
+    let entries = entries_plain n tree each (short_first (fin.entries m)) in
+    record { levels = omega (arith, entries.0); order = (entries_ascend tree m, entries.1) }
 
 pub record_plain : (n : ℕ) (ps : List Place) → ascend ps ≡ true → EachPlace (IsPlain n) ps
     → IsPlain (suc n) (record_tree ps)
-record_plain n ps up each = record {
-  levels = record_within n ps (each_as (λ i plain. plain.levels) ps each);
-  order = record_ordered ps up (each_as (λ i plain. plain.order) ps each);
-}
+record_plain n ps up each =
+    let members = laid_has (IsPlain n) (λ ms. (pairs_depth (pairs_of ms) ≤ n) × ArePairsOrdered (pairs_of ms))
+    (λ key x ms k v rest. (omega (arith, k.levels, v.levels, rest.0), ((k.order, v.order), rest.1)))
+    (omega arith, tt) ps each in
+    record { levels = omega (arith, members.0); order = (keys_ascend ps up, members.1) }

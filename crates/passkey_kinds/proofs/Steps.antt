@@ -5,9 +5,9 @@ pub use Rattle.passkey_kinds.proofs.Lists.{sized_gathered, mapped_at, head_befor
 pub use Rattle.passkey_kinds.proofs.Back.{true_place, Falls, accepts_it, option_place, puts_value, puts_default, kind_back, ◌▸◌, no_more, rows_back, picked, picked_back}
 pub use Rattle.passkey_kinds.proofs.LeafBack.{auth_data_back, auth_data_coherent, seen_list_back, truth_back, or_null_back, or_null_same, optional_place, byte_back, bytes_back, kept_back, anything, tolerated_place, text_back, all_of_anything, accepted_same, accepted_place, list_same, word_back, transport_back, list_back, optional_back, seen_map_back, map_back, numbers_back, size_back, aaguid_back}
 pub use Rattle.passkey_kinds.proofs.Lent.{bytes_are, data_decodes, no_data, looks_all, looks_names, lent_spends, lent_decodes, not_lent_decodes, looks_some, looks_none, bytes_grow, other_number, AddsUpTo, adds_one, adds_all, adds_looks, stands_missed, or_refused, missed_then, looked_further, lent_is}
-pub use Rattle.passkey_kinds.proofs.Levels.{list_within, record_within, Within, back_if_few, back_if_good, PlaceHas, EachPlace}
+pub use Rattle.passkey_kinds.proofs.Levels.{record_within, Within, back_if_few, back_if_good, PlaceHas, EachPlace}
 pub use Rattle.passkey_kinds.proofs.Cursor.{head_moves, eased, stands_back, onward_of, head_spends, if_some, stands_long, stands_again, spends_again, onward_then, on_ok, fails_as, ok_ends, ends_ok, named_text, no_text, failed, null_item, other_item, no_aaguid, scalar_read, scalar_moves, scalar_ends, scalar_decodes, below_scalar, truth_scalar, size_scalar, null_scalar, array_opened, map_opened, parts_open}
-pub use Rattle.passkey_kinds.proofs.Keeping.{kept_below, record_keeps, nested_keeps, not_null, ok_of}
+pub use Rattle.passkey_kinds.proofs.Keeping.{record_keeps, not_null, ok_of}
 pub use Rattle.passkey_kinds.proofs.Keys.{found_behind, names_nothing, names_scalar, key_ends}
 pub use Rattle.passkey_kinds.proofs.Lawful.{IsLawful, lawful, raised, IsLawfulAs, descriptor_law, parameters_law, user_law}
 pub use Rattle.passkey_kinds.proofs.Loops.{EachTo, next_is, element_spends, one_spare, spent_within, some_are, one_more_done, each_done, at_least, kept_pairs, kept_record, cost_by_le, key_spent, member_spent}
