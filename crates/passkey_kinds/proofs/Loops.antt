@@ -1,5 +1,5 @@
 -- Loops over the rest of a list or a map at a cursor.
-use Rattle.passkey_kinds.proofs.Common.{raised-le, Lies, Next, Looks, Walks, Left, Item, members, pairs_of, Language, Walk, ahead, break_heads, members-pairs_of, Keeping, nothing, counted, kept_of, kept, Spends, SpendsLess, Fields, table_of, Member, named, Members, Naming, row, unknown, wrong, cost_by, kept_in, kept_in_map, greatest_cost, cost_at, keeps_at, keeps_by, keeps_nothing, none_keeps, record_keeps, ◌≡◌, ◌∙◌, ◌<◌, ◌+◌, ℕ, suc, arith, Bool, true, false, if◌then◌else◌, List, [], ◌∷◌, length, Option, refl, sym, ap, ◌≤◌, ◌*◌, subst, zero, mul-le-mul_left, and_parts, true≢false}
+use Rattle.passkey_kinds.proofs.Common.{raised-le, Lies, Next, Looks, Walks, Left, Item, pairs_of, Language, Walk, ahead, break_heads, members-pairs_of, Keeping, nothing, counted, kept_of, kept, Spends, SpendsLess, Fields, table_of, Member, named, Members, Naming, cost_by, kept_in, kept_in_map, greatest_cost, cost_at, keeps_at, keeps_by, keeps_nothing, none_keeps, record_keeps, ◌≡◌, ◌∙◌, ◌<◌, ◌+◌, ℕ, suc, arith, Bool, true, false, if◌then◌else◌, List, [], ◌∷◌, length, Option, refl, sym, ap, ◌≤◌, ◌*◌, zero, mul-le-mul_left, and_parts}
 use Rattle.passkey_kinds.proofs.Cursor.{eased}
 use Rattle.passkey_cbor.specs.Item as item
 
@@ -83,42 +83,27 @@ module _ {A : Type 0} {P : A → Language} {Done : List A → Type 0} {kept : Li
       → EachDone Done cost (kept is) to start b
   each_done walks looks some =
       let none = walks e.rest to e.ahead in
-      let at : b.place ≡ to = none.1 in
-      record {
-        done = subst Done none.0 e.done;
-        spends = record {
-          within = omega (arith, at);
-          heads = heads_end cost start.place start.heads a.place a.heads b.heads (break_heads before) to some e.heads
-              (omega (arith, looks.heads, raised-le a.heads (break_heads before))) (sym at ∙ looks.passes refl);
-          nodes = omega (arith, e.nodes, looks.nodes);
-        };
-        place = at;
-      }
+      let spent = heads_end cost start.place start.heads a.place a.heads b.heads (break_heads before) to some e.heads
+      (omega (arith, looks.heads, raised-le a.heads (break_heads before))) (sym none.1 ∙ looks.passes refl) in
+      grind (arith, none, e, looks, spent)
 
 -- ---- the greatest cost
 
-either_le : (b : Bool) (x y n : ℕ) → x ≤ n → y ≤ n → (if b then x else y) ≤ n
-either_le true x y n p q = p
-either_le false x y n p q = q
-
 cost_at_le : {P : Type 0} (rows : List (Member P)) (n : ℕ) → cost_at rows n ≤ greatest_cost rows
 cost_at_le [] n = omega arith
-cost_at_le (m ∷ ms) n = grind (arith, either_le, cost_at_le ms n)
+cost_at_le (m ∷ ms) n = grind (arith, cost_at_le ms n)
 
 pub at_least : {P : Type 0} (rows : List (Member P)) → 4 ≤ greatest_cost rows
 at_least [] = omega arith
 at_least (m ∷ ms) = omega (arith, at_least ms)
 
 pub cost_by_le : {P : Type 0} (rows : List (Member P)) (naming : Naming) → cost_by rows naming ≤ greatest_cost rows
-cost_by_le rows (row n) = cost_at_le rows n
-cost_by_le rows unknown = omega (arith, at_least rows)
-cost_by_le rows wrong = omega arith
+cost_by_le rows naming = grind (arith, cost_at_le, at_least)
 
 -- ---- what is kept
 
 none_kept : (keeps : Keeping) (i : Item) → keeps_nothing keeps ≡ true → kept_of keeps i ≡ 0
-none_kept nothing i e = refl
-none_kept (counted count) i e = absurd (true≢false (sym e))
+none_kept keeps i e = grind arith
 
 none_at : {P : Type 0} (rows : List (Member P)) (n : ℕ) (i : Item) → none_keeps rows ≡ true
     → kept_of (keeps_at rows n) i ≡ 0
@@ -127,16 +112,14 @@ none_at (m ∷ ms) n i e = grind (arith, and_parts, none_kept, none_at ms n i)
 
 none_by : {P : Type 0} (rows : List (Member P)) (naming : Naming) (i : Item) → none_keeps rows ≡ true
     → kept_of (keeps_by rows naming) i ≡ 0
-none_by rows (row n) i e = none_at rows n i e
-none_by rows _ i e = refl
+none_by rows naming i e = grind (arith, none_at)
 
 none_in : {P : Type 0} (t : Fields P) (ms : Members) → none_keeps t.rows ≡ true → kept_in t ms ≡ 0
 none_in t [] e = refl
 none_in t (m ∷ ms) e = omega (arith, none_by t.rows (named (table_of t) m.0) m.1 e, none_in t ms e)
 
 none_in_map : {P : Type 0} (t : Fields P) (i : Item) → none_keeps t.rows ≡ true → kept_in_map t i ≡ 0
-none_in_map t (item.map ps) e = none_in t (members ps) e
-none_in_map t _ e = refl
+none_in_map t i e = grind (arith, none_in)
 
 keeps_if : {P : Type 0} (t : Fields P) (i : Item) (b : Bool) → none_keeps t.rows ≡ b
     → kept_in_map t i ≤ kept_of (if b then nothing else counted (kept_in_map t)) i
@@ -166,13 +149,4 @@ module _ (c : ℕ) {middle to : ℕ} {b d : Walk} (first : b.place < middle) (se
       → SpendsLess c one to b f
   member_spent {one = one} {f = f} at cheap value =
       let eased_value = eased {d = c} {more = one} cheap (omega arith) (omega (arith, at, second)) value in
-      record {
-        within = value.within;
-        heads = omega (
-          arith,
-          key_heads c four,
-          subst (λ (p : ℕ). f.heads + c * p ≤ d.heads + c * to) at
-              eased_value.heads,
-        );
-        nodes = omega (arith, key.nodes, value.nodes);
-      }
+      grind (arith, key_heads, eased_value, key, value)

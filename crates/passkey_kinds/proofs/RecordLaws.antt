@@ -1,7 +1,6 @@
 -- Laws of records and messages.
-use Rattle.passkey_kinds.proofs.Common.{only_one, IsEncodedAt, Grows, Item, Pairs, no_pairs, pair, members, AtMostOneLeadingItem, IsLeadingItem, PassesLeadingItem, Walk, ahead, Went, members-pairs_of, bytes, accepted, ReadsMessage, Begins, GrowsMessage, ReadsHere, with_length, AlikeDifferInLength, SameButForLength, AnswersCarryOver, KnowsItems, known_member, known, HasNoWrongKey, AnswersAlike, SameAnswers, PassesOverUnknown, KnowsMaps, Onward, Reads, MayGrowAt, Fields, rows_of, table_of, unless_missing, one_more, Progress, result_and_then, read_from, read_members, read_item, Table, entries, named, Members, first_missing, Naming, row, unknown, wrong, accepts_at, record_cost, kept_in_map, DecodesRecord, Repeated, Fault, ◌≡◌, ◌∙◌, ◌+◌, ℕ, suc, arith, Bool, if◌then◌else◌, List, [], ◌∷◌, ◌++◌, length, drop, Option, refl, sym, ap, rules, ◌≤◌, Result, ◌*◌, subst, take, Ok, Err, ◌≢◌, OnErr, IfErr, All-head, All-tail, take-append-drop, drop-drop, length-drop, cons_option}
+use Rattle.passkey_kinds.proofs.Common.{only_one, IsEncodedAt, Grows, Item, no_pairs, pair, members, AtMostOneLeadingItem, IsLeadingItem, PassesLeadingItem, Walk, ahead, Went, members-pairs_of, bytes, ReadsMessage, Begins, GrowsMessage, ReadsHere, with_length, AlikeDifferInLength, SameButForLength, AnswersCarryOver, KnowsItems, known, HasNoWrongKey, AnswersAlike, SameAnswers, PassesOverUnknown, KnowsMaps, Onward, Reads, MayGrowAt, Fields, table_of, one_more, Progress, result_and_then, read_from, read_members, read_item, Table, named, Members, Naming, row, unknown, wrong, record_cost, kept_in_map, DecodesRecord, Fault, ◌≡◌, ◌∙◌, ◌+◌, ℕ, suc, arith, List, [], ◌∷◌, ◌++◌, length, drop, refl, sym, ap, rules, ◌≤◌, Result, ◌*◌, subst, take, Ok, Err, ◌≢◌, OnErr, IfErr, All-head, All-tail, take-append-drop, drop-drop, length-drop}
 use Rattle.passkey_kinds.proofs.Cursor.{front_long}
-use Rattle.passkey_kinds.specs.declared.fault.Fault.TheVariants.{Refused}
 use Rattle.passkey_kinds.specs.declared.fault.Fault.TheVariants as fault
 use Rattle.passkey_cbor.specs.Item as item
 
@@ -78,19 +77,14 @@ module _ {P : Type 0} (t : Fields P) where
   read_known [] s = read_from t [] s
   read_known (x ∷ xs) s = result_and_then (λ r. read_known xs r) (one_more t (row x.0) x.1 s)
 
-  one_known : (naming : Naming) (i : Item) (ms : Members) (xs : List (ℕ × Item)) (s : Progress P) → naming ≢ wrong
-      → ((r : Progress P) → read_from t ms r ≡ read_known xs r)
-      → result_and_then (λ r. read_from t ms r) (one_more t naming i s)
-      ≡ read_known (cons_option (known_member naming i) xs) s
-  one_known naming i ms xs s right rest = grind arith
-
   by_known : (ms : Members) (s : Progress P) → HasNoWrongKey (table_of t) ms
       → read_from t ms s ≡ read_known (known (table_of t) ms) s
   by_known [] s right = refl
   by_known (m ∷ ms) s right =
-      one_known (named (table_of t) m.0) m.1 ms (known (table_of t) ms) s
-      (All-head (λ (m : Item × Item). named (table_of t) m.0 ≢ wrong) m ms right)
-      (λ r. by_known ms r (All-tail (λ (m : Item × Item). named (table_of t) m.0 ≢ wrong) m ms right))
+      let IsRight : Item × Item → Type 0 = λ m. named (table_of t) m.0 ≢ wrong in
+      let first = All-head IsRight m ms right in
+      let rest = λ (r : Progress P). by_known ms r (All-tail IsRight m ms right) in
+      grind (arith, first, rest)
 
   one_alike : (n k : ℕ) (x y : Item) → n ≡ k → AnswersAlike t n x y → (s : Progress P)
       → one_more t (row n) x s ≡ one_more t (row k) y s
@@ -108,25 +102,9 @@ module _ {P : Type 0} (t : Fields P) where
 
   -- ---- faults
 
-  one_fault : {X : Type 0} (seen accepted : Bool) (n : ℕ) (x : X) → IfErr (if seen then Err (fault.Repeated n)
-      else (if accepted then Ok x else Err (Refused n))) IsOfMap
-  one_fault seen accepted n x = grind arith
-
-  more_fault : (naming : Naming) (i : Item) (s : Progress P) → IfErr (one_more t naming i s) IsOfMap
-  more_fault (row n) i s = one_fault (s.seen n) (accepts_at (rows_of t.rows) n i) n _
-  more_fault _ i s = tt
-
-  then_fault : {A B : Type 0} (f : A → Result B Fault) (r : Result A Fault) → IfErr r IsOfMap
-      → ((x : A) → IfErr (f x) IsOfMap) → IfErr (result_and_then f r) IsOfMap
-  then_fault f r h rest = grind arith
-
-  missing_fault : (missing : Option ℕ) (r : P) → IfErr (unless_missing missing r) IsOfMap
-  missing_fault missing r = grind arith
-
   map_fault : (ms : Members) (s : Progress P) → IfErr (read_from t ms s) IsOfMap
-  map_fault [] s = missing_fault (first_missing (entries (table_of t)) s.seen) s.made
-  map_fault (m ∷ ms) s = then_fault (λ r. read_from t ms r) (one_more t (named (table_of t) m.0) m.1 s)
-      (more_fault (named (table_of t) m.0) m.1 s) (map_fault ms)
+  map_fault [] s = grind arith
+  map_fault (m ∷ ms) s = let rest = map_fault ms in grind (arith, rest)
 
   no_fault : (ms : Members) (e : Fault) → (IsOfMap e → ⊥) → read_members t ms ≢ Err e
   no_fault ms e none h = none (subst (λ (r : Result P Fault). IfErr r IsOfMap) h (map_fault ms _))
@@ -144,21 +122,14 @@ pub alike_differ_in_length : {A P : Type 0} → AtMostOneLeadingItem → (view :
 alike_differ_in_length law view t = alike law view (read_item t) (knows_items t)
 
 pub skips_unknown : {A P : Type 0} → AtMostOneLeadingItem → (view : A → P) (t : Fields P) → PassesOverUnknown view t
-skips_unknown law view t before behind key value naming = search (
-  rules,
-  alike_differ_in_length,
-  members-pairs_of,
-  unknown_is_skipped,
-)
+skips_unknown law view t before behind key value naming =
+    search (rules, alike_differ_in_length, members-pairs_of, unknown_is_skipped)
 
 -- ---- memory runs out only for an item that takes memory
 
-map_grows : (table : Table) (ps : Pairs) → MayGrowAt table (item.map ps) → Grows (item.map ps)
-map_grows table no_pairs h = absurd h
-map_grows table (pair k v ps) h = tt
-
 pub may_grow : (table : Table) (i : Item) → MayGrowAt table i → Grows i
-may_grow table (item.map ps) h = map_grows table ps h
+may_grow table (item.map no_pairs) h = absurd h
+may_grow table (item.map (pair k v ps)) h = tt
 may_grow table _ h = absurd h
 
 pub message_fails : {A M : Type 0} (view : A → M) (table : Table) (read : Item → Result M Fault) (bytes : List ℕ)

@@ -7,13 +7,8 @@ loop-key-init g c =
     (sym (map_values-empty g.T.FromCbor.view) ∙ sym (ap (map_values g.T.FromCbor.view) c.empty-read.ensures))
 
 pub loop-key-preserved : goal.loop-key-preserved
-loop-key-preserved g c = search (
-  rules,
-  read_more,
-  c.loop-key.invariant,
-  c.loop-key-item.is,
-  c.loop-key-test.true,
-  c.in_ok-from_value.ensures,
-  c.in_ok-from_value-2.ensures,
-  c.in_ok-insert.ensures.ok,
-)
+loop-key-preserved g c =
+    let key = c.in_ok-from_value.ensures in
+    let value = c.in_ok-from_value-2.ensures in
+    let more = c.in_ok-insert.ensures.ok in
+    search (rules, read_more, key, value, more, c.loop-key.invariant, c.loop-key-item.is, c.loop-key-test.true)
