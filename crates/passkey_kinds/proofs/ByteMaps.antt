@@ -93,11 +93,11 @@ module _ {A : Type 0} where
   still_found : (es fs : List (List ℕ × A)) → AllByRecursion (λ e. fin.find by_length e.0 fs ≡ Some e.1) es
       → (q : List ℕ) (v : A) → fin.find by_length q es ≡ Some v → fin.find by_length q fs ≡ Some v
   still_found [] fs all q v h = absurd cc
-  still_found (e ∷ es) fs all q v h = elim (eq_by_cmp by_length q e.0) as (λ b. eq_by_cmp by_length q e.0 ≡ b
-      → cond b (Some e.1) (fin.find by_length q es) ≡ Some v → fin.find by_length q fs ≡ Some v) [
-        | true ↦ λ same h. rw (same_key q e.0 same) (all.0 ∙ h)
-        | false ↦ λ other h. still_found es fs all.1 q v h
-      ] refl h
+  still_found (e ∷ es) fs all q v h =
+      let first : fin.find by_length e.0 fs ≡ Some e.1 = all.0 in
+      let others = still_found es fs all.1 q v in
+      let same = same_key q e.0 in
+      grind (arith, first, others, same)
 
   agree : (o p : Option A) → ((v : A) → o ≡ Some v → p ≡ Some v) → ((v : A) → p ≡ Some v → o ≡ Some v) → o ≡ p
   agree o p there back = grind arith
@@ -220,18 +220,13 @@ module _ {A M : Type 0} (seen : A → M) where
       (fin.get-insert nat_list_cmp_total m e.0 (seen e.1) q)
       ∙ put_one q e.0 e.1 (fin.get m q) es p.0
 
-  or_none : (o : Option M) → option_or o None ≡ o
-  or_none None = refl
-  or_none (Some v) = refl
-
   pub short_first-placed : (m : ByteMap A)
       → put_each fin.empty (map (λ e. (e.0, seen e.1)) (short_first (fin.entries m))) ≡ map_values seen m
   short_first-placed m =
       let n : fin.FinMap by_length A = fin.from_entries (fin.entries m) in
       fin.same_map nat_list_cmp_total same_bytes _ _
-      (λ q. get-put_each fin.empty (fin.entries n) (fin.entries_sorted n) q
-      ∙ ap (option_or (option_map seen (fin.find by_length q (fin.entries n)))) (fin.get-empty (slice_cmp nat_cmp) q)
-      ∙ or_none _
-      ∙ ap (option_map seen) (sym (fin.get-entries n q) ∙ fin.get-from_entries by_length_total (fin.entries m) q
-      ∙ find-alike q (fin.entries m) ∙ sym (fin.get-entries m q))
-      ∙ sym (get-map_values seen m q))
+      (λ q. let put = get-put_each fin.empty (fin.entries n) (fin.entries_sorted n) q in
+      let none = fin.get-empty {X = M} (slice_cmp nat_cmp) q in
+      let same = sym (fin.get-entries n q) ∙ fin.get-from_entries by_length_total (fin.entries m) q
+      ∙ find-alike q (fin.entries m) ∙ sym (fin.get-entries m q) in
+      grind (arith, get-map_values, put, none, same))

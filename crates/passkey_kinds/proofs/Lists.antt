@@ -178,15 +178,11 @@ module _ {A M : Type 0} (view : A → M) where
       let there = fin.get-insert nat_list_cmp_total (map_values view m) k (view v) q in
       grind (arith, get-map_values, seen_at, here, there))
 
-mapped : {A B C : Type 0} (f : B → C) (g : A → B) (o : Option A)
-    → option_map f (option_map g o) ≡ option_map (λ x. f (g x)) o
-mapped f g o = grind arith
-
 -- the values under two views, one after the other
 pub map_values-map_values : {A B C : Type 0} (f : B → C) (g : A → B) (m : ByteMap A)
     → map_values f (map_values g m) ≡ map_values (λ x. f (g x)) m
 map_values-map_values f g m = fin.same_map nat_list_cmp_total same_bytes _ _
-    (λ q. grind (arith, get-map_values, mapped))
+    (λ q. grind (arith, get-map_values, option_twice))
 
 -- a map under the identity view
 pub map_values_same : {X : Type 0} (m : ByteMap X) → map_values (λ x. x) m ≡ m

@@ -1,7 +1,7 @@
 -- A record's members, decoded one after the other.
 use Rattle.passkey_cbor.specs.Item.{pairs_of}
 use Rattle.passkey_kinds.proofs.Lists.{mapped_at}
-use Rattle.passkey_kinds.proofs.Common.{item_of-Map, pairs_of-members, Item, members-pairs_of, AnswersAs, accepted, Typed, members_in, MayGrowIn, are_small, Reads, MayGrowBy, takes_at, Fields, set_with, rows_of, table_of, put_at, one_more, Progress, reached, result_and_then, read_from, read_members, read_item, Entry, Table, entries, named, Members, Naming, row, accepts_at, row_or_unknown, number_names, names, HasReadTo, Sets, Puts, held_as, Repeated, Fault, Refusal, ◌≡◌, ◌∙◌, ◌<◌, ℕ, arith, Bool, true, false, List, [], ◌∷◌, length, map, replicate, get_or, Option, Some, None, is_some, inl, inr, refl, sym, ap, Result, subst, Ok, Err, OnOk, ◌==◌, set, ◌||◌, and_parts, leb-true, cases_lt, get_or-set_same, get_or-set_other, get_or-replicate, get_or_past, length-replicate, find, result_ok}
+use Rattle.passkey_kinds.proofs.Common.{item_of-Map, pairs_of-members, Item, members-pairs_of, AnswersAs, accepted, Typed, members_in, MayGrowIn, are_small, Reads, MayGrowBy, takes_at, Fields, set_with, rows_of, table_of, put_at, one_more, Progress, reached, result_and_then, read_from, read_members, read_item, Entry, Table, entries, named, Members, Naming, row, accepts_at, row_or_unknown, names, HasReadTo, Sets, Puts, held_as, Fault, Refusal, ◌≡◌, ◌∙◌, ◌<◌, ℕ, arith, Bool, true, false, List, [], ◌∷◌, length, map, replicate, get_or, Some, None, is_some, inl, inr, refl, sym, ap, Result, subst, Ok, Err, OnOk, ◌==◌, set, ◌||◌, and_parts, leb-true, cases_lt, get_or-set_same, get_or-set_other, get_or-replicate, get_or_past, length-replicate, find, result_ok}
 use Rattle.passkey_kinds.specs.declared.fault.Fault.TheVariants.{Refused}
 use Rattle.passkey_kinds.specs.declared.fault.Fault.TheVariants as fault
 use Rattle.passkey_cbor.specs.Item as item
@@ -22,13 +22,6 @@ none_marked n = elim (cases_lt n 32) [
 ]
 
 module _ {P : Type 0} (t : Fields P) (held : P) (marks : List Bool) (n : ℕ) (i : Item) where
-  pub was_repeated : get_or marks n false ≡ true → one_more t (row n) i (reached held marks) ≡ Err (fault.Repeated n)
-  was_repeated some = rw some refl
-
-  pub was_refused : get_or marks n false ≡ false → accepts_at (rows_of t.rows) n i ≡ false
-      → one_more t (row n) i (reached held marks) ≡ Err (Refused n)
-  was_refused none refused = rw (none, refused) refl
-
   pub was_put : (next : P) (more : List Bool) → get_or marks n false ≡ false
       → accepts_at (rows_of t.rows) n i ≡ true → put_at t.rows n i held ≡ next → more ≡ set marks n true
       → n < length marks → one_more t (row n) i (reached held marks) ≡ Ok (reached next more)
@@ -44,13 +37,9 @@ found_small : (p : Entry → Bool) (n : ℕ) (es : List Entry) → are_small es 
 found_small p n [] small e = cc
 found_small p n (x ∷ es) small e = grind (arith, and_parts, leb-true, found_small p n es)
 
-number_small : (is_numbered : Bool) (o : Option ℕ) (n : ℕ) (es : List Entry) → are_small es ≡ true
-    → number_names is_numbered o es ≡ row n → n < 32
-number_small is_numbered o n es small e = grind (arith, found_small)
-
 pub row_small : (is_numbered : Bool) (key : Item) (n : ℕ) (es : List Entry) → are_small es ≡ true
     → names is_numbered es key ≡ row n → n < 32
-row_small b key n es small e = grind (arith, number_small, found_small)
+row_small b key n es small e = grind (arith, found_small)
 
 -- ---- members that are decoded one after the other
 
@@ -123,7 +112,7 @@ sets_put {M = M} t view kind set n k i field old new result same accepts puts ma
 
 -- ---- what the prover needs for one more member, and for the members of a map
 
-pub ruleset reads_one = (was_repeated, was_refused, was_put, row_small, puts_refused)
+pub ruleset reads_one = (was_put, row_small, puts_refused)
 
 pub ruleset reads_pairs = (key_names, mapped_at, has_begun, fails)
 

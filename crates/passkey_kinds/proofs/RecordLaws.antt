@@ -1,5 +1,5 @@
 -- Laws of records and messages.
-use Rattle.passkey_kinds.proofs.Common.{only_one, IsEncodedAt, Grows, Item, no_pairs, pair, members, AtMostOneLeadingItem, IsLeadingItem, PassesLeadingItem, Walk, ahead, Went, members-pairs_of, bytes, ReadsMessage, Begins, GrowsMessage, ReadsHere, with_length, AlikeDifferInLength, SameButForLength, AnswersCarryOver, KnowsItems, known, HasNoWrongKey, AnswersAlike, SameAnswers, PassesOverUnknown, KnowsMaps, Onward, Reads, MayGrowAt, Fields, table_of, one_more, Progress, result_and_then, read_from, read_members, read_item, Table, named, Members, Naming, row, unknown, wrong, record_cost, kept_in_map, DecodesRecord, Fault, ◌≡◌, ◌∙◌, ◌+◌, ℕ, suc, arith, List, [], ◌∷◌, ◌++◌, length, drop, refl, sym, ap, rules, ◌≤◌, Result, ◌*◌, subst, take, Ok, Err, ◌≢◌, OnErr, IfErr, All-head, All-tail, take-append-drop, drop-drop, length-drop}
+use Rattle.passkey_kinds.proofs.Common.{only_one, IsEncodedAt, Grows, Item, no_pairs, pair, members, AtMostOneLeadingItem, IsLeadingItem, PassesLeadingItem, Walk, ahead, Went, members-pairs_of, bytes, ReadsMessage, Begins, GrowsMessage, ReadsHere, AlikeDifferInLength, SameButForLength, AnswersCarryOver, KnowsItems, known, HasNoWrongKey, AnswersAlike, SameAnswers, PassesOverUnknown, KnowsMaps, Onward, Reads, MayGrowAt, Fields, table_of, one_more, Progress, result_and_then, read_from, read_members, read_item, Table, named, Members, Naming, row, unknown, wrong, record_cost, kept_in_map, DecodesRecord, Fault, ◌≡◌, ◌∙◌, ◌+◌, ℕ, suc, arith, List, [], ◌∷◌, ◌++◌, length, drop, refl, sym, ap, rules, ◌≤◌, Result, ◌*◌, subst, take, Ok, Err, ◌≢◌, IfErr, All-head, All-tail, take-append-drop, drop-drop, length-drop}
 use Rattle.passkey_kinds.proofs.Cursor.{front_long}
 use Rattle.passkey_kinds.specs.declared.fault.Fault.TheVariants as fault
 use Rattle.passkey_cbor.specs.Item as item
@@ -185,31 +185,13 @@ module _ {A P : Type 0} (view : A → P) (t : Fields P) (old s a b : Walk) (p : 
     nodes_here : (i : Item) (len : ℕ) → IsLeadingItem (ahead old) i len → c.nodes ≤ old.nodes + kept_in_map t i
     nodes_here i len f = rw (only i len f).0 (omega (arith, decoded.spends.nodes, p.nodes, back.nodes, nodes))
 
-  here : (result : Result A Fault) (c : Walk) → DecodesRecord view t p.item (old.place + p.len) a b result
-      → c.bytes ≡ b.bytes → c.heads ≡ b.heads → c.nodes ≡ b.nodes → old.place ≤ c.place → c.place ≤ length c.bytes
-      → ReadsMessage view (read_item t) (ahead old) (with_length old c result)
-      → (result ≡ Err fault.OutOfMemory → GrowsMessage t (ahead old)) → OnErr result (c.place ≡ old.place)
-      → ReadsHere view t (suc (record_cost t)) old c result
-  here result c decoded bytes heads nodes forward within reads grows stays = record {
-    reads = reads;
-    grows = grows;
-    stays = stays;
-    went = went_here result decoded c bytes heads nodes forward within;
-    least = omega (arith, p.least, back.heads, on.heads, heads);
-    heads = heads_here result decoded c bytes heads nodes;
-    nodes = nodes_here result decoded c bytes heads nodes;
-    few_heads = λ none. absurd (none p.item p.len p.front);
-    no_nodes = λ none. absurd (none p.item p.len p.front);
-  }
-
   pub message_is : (message : A) → DecodesRecord view t p.item (old.place + p.len) a b (Ok message)
       → ReadsHere view t (suc (record_cost t)) old b (Ok message)
   message_is message d =
-      let inside : a.place ≤ length a.bytes =
-      omega (arith, back.place, skipped.forward, skipped.within, ap length back.bytes) in
-      here (Ok message) b d refl refl refl (omega (arith, d.ends)) (on.within inside)
-      (record { item = p.item; len = p.len; front = p.front; holds = (omega (arith, d.ends), d.answers) })
-      (λ e. absurd cc) tt
+      let went = went_here (Ok message) d b refl refl refl in
+      let heads = heads_here (Ok message) d b refl refl refl in
+      let nodes = nodes_here (Ok message) d b refl refl refl in
+      grind (arith, went, heads, nodes, skipped, back, on, p, d)
 
   grows_there : (e : Fault) → Reads view (MayGrowAt (table_of t) p.item) (read_item t p.item) (Err e)
       → ◌≡◌ {A = Result A Fault} (Err e) (Err fault.OutOfMemory) → GrowsMessage t (ahead old)
@@ -220,8 +202,13 @@ module _ {A P : Type 0} (view : A → P) (t : Fields P) (old s a b : Walk) (p : 
   fault_is e c k at same d =
       let place : c.place ≡ old.place = ap (λ (w : Walk). w.place) same ∙ at in
       let bytes : c.bytes ≡ b.bytes = ap (λ (w : Walk). w.bytes) same in
-      here (Err e) c d bytes (ap (λ (w : Walk). w.heads) same) (ap (λ (w : Walk). w.nodes) same)
-      (omega (arith, place))
-      (omega (arith, place, skipped.forward, skipped.within, ap length (bytes ∙ on.same ∙ back.bytes)))
-      (message_fails view (table_of t) (read_item t) (ahead old) p.item p.len e p.front d.answers)
-      (grows_there e d.answers) place
+      let few : c.heads ≡ b.heads = ap (λ (w : Walk). w.heads) same in
+      let none : c.nodes ≡ b.nodes = ap (λ (w : Walk). w.nodes) same in
+      let went = went_here (Err e) d c bytes few none in
+      let heads = heads_here (Err e) d c bytes few none in
+      let nodes = nodes_here (Err e) d c bytes few none in
+      let inside : c.place ≤ length c.bytes =
+      omega (arith, place, skipped.forward, skipped.within, ap length (bytes ∙ on.same ∙ back.bytes)) in
+      let told = message_fails view (table_of t) (read_item t) (ahead old) p.item p.len e p.front d.answers in
+      let grows = grows_there e d.answers in
+      grind (arith, went, heads, nodes, inside, told, grows, place, few, p, back, on)
