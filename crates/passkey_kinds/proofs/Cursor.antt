@@ -1,5 +1,5 @@
 -- How a cursor moves, what it spends, and values of one head or of one string.
-use Rattle.passkey_kinds.proofs.Common.{lies_size, head_again, follows_item, low_simple, head_long, encoded_long, IsEncodedAt, Opens, FindsHead, IsEncodingOfHead, PairWithin, Within, Inside, Item, Pairs, items_of, pairs_of, byte_string, array, boolean, null, text_string, number, max_depth, IsLeadingItem, Region, PassesString, item_within, simple_item, PassesLeadingItem, MakesLeadingItem, Walk, ahead, Went, Head, members-pairs_of, elements-items_of, aaguid, bytes, below, kept, truth, Kind, optional, text, one_named, FailsAs, size, AnswersAs, MayGrow, unassigned, scalar_in, null_in, ReadsScalar, head_scalar, head_array, head_map, elements_in, members_in, OpensAt, Further, Decodes, Spends, Onward, named, Refused, OutOfMemory, Refusal, ◌≡◌, ◌∙◌, ◌<◌, ◌+◌, ℕ, arith, Bool, true, false, if◌then◌else◌, List, [], ◌++◌, length, Option, Some, None, option_map, refl, sym, ap, rules, ◌≤◌, Result, subst, ◌-◌, take, Ok, Err, OnOk, pos, negsuc, unwrap_or, is_some, Language, IfSome, is_ok, mul-le-mul_left, nat_tests, cases_lt, cases_eq, length-append, length-take, option_and_then}
+use Rattle.passkey_kinds.proofs.Common.{only_one, slice_get, drop-cons, get_or_from_slice_get, length-drop, drop, suc, ◌∷◌, ◌⊎◌, inl, inr, lies_size, head_again, follows_item, low_simple, head_long, encoded_long, IsEncodedAt, Opens, FindsHead, IsEncodingOfHead, PairWithin, Within, Inside, Item, Pairs, items_of, pairs_of, byte_string, array, boolean, null, text_string, number, max_depth, IsLeadingItem, Region, PassesString, item_within, simple_item, PassesLeadingItem, MakesLeadingItem, Walk, ahead, Went, Head, members-pairs_of, elements-items_of, aaguid, bytes, below, kept, truth, Kind, optional, text, one_named, FailsAs, size, AnswersAs, MayGrow, scalar_in, null_in, ReadsScalar, head_scalar, head_array, head_map, elements_in, members_in, OpensAt, Further, Decodes, Spends, Onward, named, Refused, OutOfMemory, Refusal, ◌≡◌, ◌∙◌, ◌<◌, ◌+◌, ℕ, arith, Bool, true, false, if◌then◌else◌, List, [], ◌++◌, length, Option, Some, None, option_map, refl, sym, ap, rules, ◌≤◌, Result, subst, ◌-◌, take, Ok, Err, OnOk, pos, negsuc, unwrap_or, is_some, Language, IfSome, is_ok, mul-le-mul_left, nat_tests, cases_lt, cases_eq, length-append, length-take, option_and_then}
 use Rattle.passkey_kinds.proofs.Lists.{answers_from, never_grows}
 use Rattle.passkey_cbor.specs.declared.head.Head.TheVariants as head
 use Rattle.passkey_cbor.specs.Item as item
@@ -140,7 +140,7 @@ module _ {X : Type 0} (f : Item → X) (g : Head → X) where
   head_says u v b s a m l k x (head.Float y) i t w = x y ∙ sym (ap f w.0)
   head_says u v b s a m l k x head.Break i t w = absurd w
 
--- ---- integers, booleans and null
+-- ---- integers and booleans
 
 none_some : {X : Type 0} (o : Option X) (x : X) → o ≡ None → o ≡ Some x → ⊥
 none_some o x p q = absurd cc
@@ -151,7 +151,7 @@ scalar_says =
     (λ n s. refl) simple_scalar (λ x. refl)
 
 -- their heads are all of them
-nothing_left : (h : Head) (i : Item) (t : List ℕ) → (head_scalar h ≡ unassigned → ⊥) → Inside h i t → t ≡ []
+nothing_left : (h : Head) (i : Item) (t : List ℕ) → (head_scalar h ≡ item.null → ⊥) → Inside h i t → t ≡ []
 nothing_left (head.Unsigned n) i t is w = w.1
 nothing_left (head.Negative n) i t is w = w.1
 nothing_left (head.Simple n) i t is w = w.1
@@ -159,7 +159,7 @@ nothing_left _ i t is w = absurd (is refl)
 
 module _ (a b : Walk) where
   pub scalar_read : (head : Option Head) (i : Item) (to : ℕ) (found : Item)
-      → found ≡ unwrap_or (option_map head_scalar head) unassigned → FindsHead a b head → Opens i to b head
+      → found ≡ unwrap_or (option_map head_scalar head) item.null → FindsHead a b head → Opens i to b head
       → IsEncodedAt i a.bytes a.place to → ReadsScalar i to a b found
   scalar_read None i to found e p o l = absurd o
   scalar_read (Some h) i to found e p o l = record {
@@ -173,13 +173,13 @@ module _ (a b : Walk) where
   }
 
   pub scalar_moves : (head : Option Head) (found : Item) → FindsHead a b head
-      → found ≡ unwrap_or (option_map head_scalar head) unassigned → (found ≡ unassigned → ⊥) → Further a b
+      → found ≡ unwrap_or (option_map head_scalar head) item.null → (found ≡ item.null → ⊥) → Further a b
   scalar_moves None found p e is = absurd (is e)
   scalar_moves (Some h) found p e is = head_further a b h p
 
 -- a value is decoded only from an item that isn't refused
 pub scalar_ends : {A M : Type 0} (view : A → M) (kind : Kind M) (x : Item) (result : Result A Refusal) {Q : Type 0}
-    → kind unassigned ≡ None → AnswersAs view (kind x) (MayGrow false x) result → ((x ≡ unassigned → ⊥) → Q)
+    → kind item.null ≡ None → AnswersAs view (kind x) (MayGrow false x) result → ((x ≡ item.null → ⊥) → Q)
     → OnOk result Q
 scalar_ends view kind x (Err e) refused h ends = tt
 scalar_ends view kind x (Ok y) refused h ends =
@@ -187,7 +187,7 @@ scalar_ends view kind x (Ok y) refused h ends =
 
 -- The value that the item has in memory.
 pub scalar_decodes : {A M : Type 0} {view : A → M} (kind : Kind M) {may : Type 0} (i : Item) {x : Item} {to : ℕ}
-    {a b : Walk} {result : Result A Refusal} → kind unassigned ≡ None → kind i ≡ kind (scalar_in i)
+    {a b : Walk} {result : Result A Refusal} → kind item.null ≡ None → kind i ≡ kind (scalar_in i)
     → ReadsScalar i to a b x → AnswersAs view (kind x) (MayGrow false x) result
     → Decodes view (kind i) may 1 0 to a b result
 scalar_decodes {view = view} kind i {x} {result = result} refused same r h = record {
@@ -207,10 +207,6 @@ truth_scalar _ = refl
 pub size_scalar : (i : Item) → size i ≡ size (scalar_in i)
 size_scalar (item.number z) = refl
 size_scalar _ = refl
-
-pub null_scalar : (i : Item) → null_in (scalar_in i) ≡ null_in i
-null_scalar item.null = refl
-null_scalar _ = refl
 
 -- ---- heads of arrays and maps
 
@@ -277,6 +273,27 @@ pub named_text : {T : Type 0} (named : List ℕ → Option T) (i : Item)
     → one_named named i ≡ option_and_then named (text i)
 named_text named (item.number n) = refl
 named_text named _ = refl
+
+pub not_null_in : (i : Item) → (i ≡ item.null → ⊥) → null_in i ≡ false
+not_null_in item.null other = absurd (other refl)
+not_null_in _ other = refl
+
+-- null, or undefined, is the item that begins with either of these bytes
+pub null_begins : (i : Item) {bytes : List ℕ} {from to : ℕ} (b : ℕ) → IsEncodedAt i bytes from to
+    → Some b ≡ slice_get bytes from → (b ≡ 246) ⊎ (b ≡ 247) → i ≡ item.null
+null_begins i {bytes} {from} {to} b l e is =
+    let within : from < length bytes = omega (arith, stands_long i l, l.within) in
+    let here : drop from bytes ≡ b ∷ drop (suc from) bytes = drop-cons bytes from 0 within
+    ∙ ap (λ (x : ℕ). x ∷ drop (suc from) bytes) (get_or_from_slice_get bytes from b 0 (sym e)) in
+    let first : take 1 (drop from bytes) ≡ b ∷ [] = ap (take 1) here in
+    sym (only_one i item.null bytes from to 1 l (record {
+      within = omega (arith, length-drop from bytes);
+      encoded = elim is [
+        | inl q ↦ inl (first ∙ ap (λ (x : ℕ). x ∷ []) q)
+        | inr q ↦ inr (first ∙ ap (λ (x : ℕ). x ∷ []) q)
+      ];
+      shallow = omega arith;
+    })).0
 
 pub null_item : {M : Type 0} (kind : Kind M) (i : Item) → true ≡ null_in i → optional kind i ≡ Some None
 null_item kind item.null e = refl

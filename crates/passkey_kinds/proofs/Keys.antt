@@ -1,5 +1,5 @@
 -- The rows that names and map keys name.
-use Rattle.passkey_kinds.proofs.Common.{nat_tests, find, bytes_eq, ◌≡◌, ◌∙◌, ◌<◌, ◌==◌, ℕ, pos, negsuc, arith, zero, suc, Bool, true, false, ◌+◌, List, [], ◌∷◌, ◌++◌, length, map, take, drop, set, get_or, Bor, add-one, Option, Some, None, cond, nat_lt, slice_get, refl, sym, ap, cases_lt, eqb-true, length-map, map_push, take_more_set, Item, unassigned, scalar_in, naming_of, IfSome, entry_of, Row, Entry, row, wrong, row_or_unknown, names, position, position_or_len, take-suc, slice_get_past, major_of, row_at, row_named}
+use Rattle.passkey_kinds.proofs.Common.{nat_tests, find, bytes_eq, ◌≡◌, ◌∙◌, ◌<◌, ◌==◌, ℕ, pos, negsuc, arith, zero, suc, Bool, true, false, ◌+◌, List, [], ◌∷◌, ◌++◌, length, map, take, drop, set, get_or, Bor, add-one, Option, Some, None, cond, nat_lt, slice_get, refl, sym, ap, cases_lt, eqb-true, length-map, map_push, take_more_set, Item, scalar_in, naming_of, IfSome, entry_of, Row, Entry, row, wrong, row_or_unknown, names, position, position_or_len, take-suc, slice_get_past, major_of, row_at, row_named}
 use Rattle.passkey_kinds.specs.declared.rows.Named.{Named}
 use Rattle.passkey_kinds.specs.declared.rows.Named.TheVariants as named
 use Rattle.passkey_cbor.specs.Item as item
@@ -72,6 +72,6 @@ not_wrong named.Unknown e = cc
 
 -- a key names something only if it isn't refused
 pub key_ends : (b : Bool) (es : List Entry) (x : Item) (found : Option Named) {Q : Type 0}
-    → naming_of found ≡ names b es x → ((x ≡ unassigned → ⊥) → Q) → IfSome found (λ n. Q)
+    → naming_of found ≡ names b es x → ((x ≡ item.null → ⊥) → Q) → IfSome found (λ n. Q)
 key_ends b es x None e ends = tt
 key_ends b es x (Some n) e ends = ends (λ is. not_wrong n (e ∙ ap (names b es) is))

@@ -1,7 +1,7 @@
 -- Decoding values over a cursor.
 use Rattle.passkey_kinds.specs.Base.{Item, Walk, number, elements, members, Grows, IsEncodedAt, ByteMap, max_depth}
 use Rattle.std.proofs.Common.{ℕ, arith, false, refl}
-use Rattle.std.specs.Prelude.{◌≡◌, ℕ, ◌+◌, ◌*◌, ◌≤◌, ◌<◌, Bool, true, length, Option, Result, OnOk, pos, ◌==◌, ◌||◌, false, if◌then◌else◌, List, Some, None, negsuc, ℕ, suc, max, nat_lt, IsTrue, false, [], ◌∷◌, ◌++◌, option_map}
+use Rattle.std.specs.Prelude.{◌≡◌, ℕ, ◌+◌, ◌*◌, ◌≤◌, ◌<◌, Bool, true, length, Option, Result, OnOk, pos, ◌==◌, false, if◌then◌else◌, List, Some, None, negsuc, ℕ, suc, max, nat_lt, IsTrue, false, [], ◌∷◌, ◌++◌, option_map}
 use Rattle.passkey_cbor.specs.EncodedAt.{Lies, Walks, WalksOn}
 use Rattle.passkey_cbor.specs.Inside.{Left, Within, PairWithin}
 use Rattle.passkey_cbor.specs.Languages.{Language}
@@ -74,15 +74,11 @@ pub record LooksAtMost (r : Region) (old new : Walk) : Type 0 where
 
 -- ---- what a head says about its data item (RFC 8949, section 3)
 
--- a simple value that isn't assigned, in place of an item that is neither an integer nor a boolean nor null
-abbrev pub unassigned : Item
-unassigned = item.simple 0
-
+-- the item, if it is an integer or a boolean; null stands for any other item
 abbrev pub scalar_in : Item → Item
 scalar_in (number z) = number z
 scalar_in (item.boolean b) = item.boolean b
-scalar_in item.null = item.null
-scalar_in _ = unassigned
+scalar_in _ = item.null
 
 abbrev pub null_in : Item → Bool
 null_in item.null = true
@@ -91,9 +87,9 @@ null_in _ = false
 abbrev pub head_scalar : Head → Item
 head_scalar (head.Unsigned n) = number (pos n)
 head_scalar (head.Negative n) = number (negsuc n)
-head_scalar (head.Simple n) = if n == 20 then item.boolean false
-    else (if n == 21 then item.boolean true else (if (n == 22) || (n == 23) then item.null else unassigned))
-head_scalar _ = unassigned
+head_scalar (head.Simple n) =
+    if n == 20 then item.boolean false else (if n == 21 then item.boolean true else item.null)
+head_scalar _ = item.null
 
 abbrev pub head_array : Head → Option (Option ℕ)
 head_array (head.Array left) = Some left
@@ -103,11 +99,11 @@ abbrev pub head_map : Head → Option (Option ℕ)
 head_map (head.Map left) = Some left
 head_map _ = None
 
--- Decoding one head returns the item, if it is an integer, a boolean or null, and then the cursor is after it.
+-- Decoding one head returns the item, if it is an integer or a boolean, and then the cursor is after it.
 pub record ReadsScalar (i : Item) (to : ℕ) (old new : Walk) (found : Item) : Type 0 where
   pub is : found ≡ scalar_in i
   pub spends : Spends 1 0 to old new
-  pub ends : (found ≡ unassigned → ⊥) → new.place ≡ to
+  pub ends : (found ≡ item.null → ⊥) → new.place ≡ to
 
 -- the elements of an array, and the members of a map
 abbrev pub elements_in : Item → Option (List Item)

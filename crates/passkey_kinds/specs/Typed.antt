@@ -46,7 +46,7 @@ kept = growing 2 (counted nodes) kind.kept
 abbrev pub authenticator_data : Typed DataParts
 authenticator_data = growing 6 (counted kind.authenticator_data_nodes) kind.authenticator_data
 
--- the value, or `None` for null: it costs one more head to look for null
+-- the value, or `None` for null, which costs one head
 abbrev pub optional : {M : Type 0} → Typed M → Typed (Option M)
 optional k = record { of = kind.optional k.of; takes = k.takes; cost = suc k.cost; keeps = k.keeps }
 

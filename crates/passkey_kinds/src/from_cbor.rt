@@ -3,7 +3,7 @@ ghost use Rattle.std.specs.Prelude.{◌^◌, ℕ, Option, option_map, OnOk};
 ghost use Rattle.passkey_kinds.specs.Words.{tolerated, Item, IsEncodedAt, item_of, Answers, Typed, Onward, Further, ReadsAs, truth, below, text, kept, optional};
 
 use crate::Refusal;
-use crate::head::{read_null, read_scalar};
+use crate::head::{begins_null, read_scalar};
 use passkey_bytes::Text;
 use passkey_cbor::{CborError, Cursor, Value};
 use std::alloc::Global;
@@ -147,12 +147,15 @@ impl<T: FromCbor> FromCbor for Option<T> {
         }
     }
 
+    #[tactic(auto, using(crate::proofs::Cursor::skip_further))]
     fn read(alloc: Global, cursor: &mut Cursor<'_>) -> Result<Option<T>, Refusal> {
-        let start = cursor.place();
-        if read_null(cursor) {
-            return Ok(None);
+        if begins_null(cursor) {
+            return if cursor.skip() {
+                Ok(None)
+            } else {
+                Err(Refusal::Refused)
+            };
         }
-        cursor.go_back(start);
         Ok(Some(T::read(alloc, cursor)?))
     }
 }

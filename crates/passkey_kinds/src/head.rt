@@ -1,34 +1,24 @@
 //! Decodes one head at a cursor, by the type of data item that is wanted.
 ghost use Rattle.std.specs.Prelude.{◌≡◌, ℕ, ◌+◌, ◌≤◌, ◌==◌, true, false, option_map, unwrap_or, IfSome};
 ghost use Rattle.std.specs.Option.{option_and_then};
-ghost use Rattle.passkey_kinds.specs.Words.{Item, item_of, IsEncodedAt, Onward, Further, Spends, Costs, nothing, max_depth};
+ghost use Rattle.passkey_kinds.specs.Words.{Item, null, item_of, IsEncodedAt, Onward, Further, Spends, max_depth};
 ghost use Rattle.passkey_cbor.specs.Initial.{major_of};
 ghost use Rattle.passkey_cbor.specs.Inside.{Within, PairWithin};
-ghost use Rattle.passkey_kinds.specs.Reader.{unassigned, null_in, head_scalar, head_array, head_map, ReadsScalar, elements_in, members_in, OpensAt};
+ghost use Rattle.passkey_kinds.specs.Reader.{null_in, head_scalar, head_array, head_map, ReadsScalar, elements_in, members_in, OpensAt};
 
-use passkey_cbor::{Cursor, Head, Integer, Simple, Value};
+use passkey_cbor::{Cursor, Head, Integer, Value};
 
-/// Returns the integer, the boolean or null of which this is the head. In place of any other data
-/// item, returns the simple value 0, which is unassigned (RFC 8949, section 3.3).
+/// Returns the integer or the boolean of which this is the head, and null in place of any other
+/// data item.
 fn scalar(head: Option<Head>) -> Value
-    ensures { item_of result ≡ unwrap_or (option_map head_scalar head) unassigned }
+    ensures { item_of result ≡ unwrap_or (option_map head_scalar head) null }
 {
     match head {
         Some(Head::Unsigned(n)) => Value::from(n),
         Some(Head::Negative(n)) => Value::Integer(Integer::new(-1 - i128::from(n)).unwrap()),
         Some(Head::Simple(20)) => Value::Bool(false),
         Some(Head::Simple(21)) => Value::Bool(true),
-        Some(Head::Simple(n)) if n == 22 || n == 23 => Value::Null,
-        _ => Value::Simple(Simple::new(0).unwrap()),
-    }
-}
-
-fn is_null(value: &Value) -> bool
-    ensures { result ≡ null_in (item_of value.now) }
-{
-    match value {
-        Value::Null => true,
-        _ => false,
+        _ => Value::Null,
     }
 }
 
@@ -62,9 +52,8 @@ pub(crate) fn begins(cursor: &Cursor<'_>, major: u8) -> bool
 }
 
 /// Returns whether the next byte is null or undefined. Decodes nothing.
-fn begins_null(cursor: &Cursor<'_>) -> bool
-    ensures { (i : Item) (to : ℕ) → IsEncodedAt i cursor.now.bytes cursor.now.place to → result ≡ false
-        → null_in i ≡ false }
+pub(crate) fn begins_null(cursor: &Cursor<'_>) -> bool
+    ensures { (i : Item) (to : ℕ) → IsEncodedAt i cursor.now.bytes cursor.now.place to → result ≡ null_in i }
 {
     match cursor.initial_byte() {
         Some(initial) => initial == 0xf6 || initial == 0xf7,
@@ -72,31 +61,16 @@ fn begins_null(cursor: &Cursor<'_>) -> bool
     }
 }
 
-/// Decodes the integer, the boolean or null at the cursor. Returns the simple value 0, which no type
-/// accepts, if another data item is there. Allocates nothing.
+/// Decodes the integer or the boolean at the cursor. Returns null if another data item is there.
+/// Allocates nothing.
 #[tactic(auto, using(crate::proofs::Cursor::heads))]
 pub(crate) fn read_scalar(cursor: &mut Cursor<'_>) -> Value
     ensures reads { (i : Item) (to : ℕ) → IsEncodedAt i cursor.old.bytes cursor.old.place to
         → ReadsScalar i to cursor.old cursor.new (item_of result) }
     ensures onward { Onward cursor.old cursor.new }
-    ensures further { (item_of result ≡ unassigned → ⊥) → Further cursor.old cursor.new }
+    ensures further { (item_of result ≡ null → ⊥) → Further cursor.old cursor.new }
 {
     scalar(cursor.head())
-}
-
-/// Decodes null or undefined at the cursor. Returns whether one of them is there. Decodes no head if
-/// the next byte is that of another data item.
-pub(crate) fn read_null(cursor: &mut Cursor<'_>) -> bool
-    ensures finds { (i : Item) (to : ℕ) → IsEncodedAt i cursor.old.bytes cursor.old.place to → result ≡ null_in i }
-    ensures costs { (i : Item) (to : ℕ) → IsEncodedAt i cursor.old.bytes cursor.old.place to
-        → Costs 1 nothing i to cursor.old cursor.new result }
-    ensures onward { Onward cursor.old cursor.new }
-    ensures further { result ≡ true → Further cursor.old cursor.new }
-{
-    if !begins_null(cursor) {
-        return false;
-    }
-    is_null(&read_scalar(cursor))
 }
 
 /// Decodes the head of the array at the cursor and returns its length, which is `Some(None)` if it

@@ -1,16 +1,19 @@
-use Rattle.passkey_kinds.proofs.Common.{◌≡◌, ◌⊎◌, ℕ, inl, inr, ◌==◌, false, refl, ap, Item, null_in}
+use Rattle.passkey_kinds.proofs.Steps.{◌∙◌, ◌==◌, inl, inr, ap, sym, ℕ, null_in, cases_eq, ne_eqb, null_begins, not_null_in}
 use Rattle.passkey_kinds.proofs.head.begins_null.Goals as goal
-use Rattle.passkey_cbor.specs.Item as item
 
-other_null : (i : Item) (b : ℕ) → (i ≡ item.null → (b ≡ 246) ⊎ (b ≡ 247)) → (b ≡ 246 → ⊥) → (b == 247) ≡ false
-    → null_in i ≡ false
-other_null item.null b nulls other missed = elim (nulls refl)
-    [ inl e ↦ absurd (other e) | inr e ↦ absurd (cc (ap (λ (n : ℕ). n == 247) e, missed)) ]
-other_null _ b nulls other missed = refl
+pub returns-then-initial : goal.returns-then-initial
+returns-then-initial c = λ i to l.
+    ap (λ (n : ℕ). n == 246) c.if-initial.true
+    ∙ sym (ap null_in (null_begins i c.in-Some.initial l c.in-Some.ensures.next (inl c.if-initial.true)))
 
 pub returns-else-initial : goal.returns-else-initial
-returns-else-initial c = λ i to l missed.
-    other_null i c.in-Some.initial (c.in-Some.ensures.begins i to l).nulls c.if-initial.false missed
+returns-else-initial c = λ i to l.
+    let b = c.in-Some.initial in
+    elim (cases_eq b 247) [
+      | inl is ↦ ap (λ (n : ℕ). n == 247) is ∙ sym (ap null_in (null_begins i b l c.in-Some.ensures.next (inr is)))
+      | inr other ↦ ne_eqb b 247 other ∙ sym (not_null_in i (λ null. elim ((c.in-Some.ensures.begins i to l).nulls null)
+          [ inl is ↦ c.if-initial.false is | inr is ↦ other is ]))
+    ]
 
 pub returns-in-None : goal.returns-in-None
 returns-in-None c = λ i to l. absurd (c.in-None.ensures.begins i to l)
