@@ -1,10 +1,10 @@
 -- Records of extensions: they can be decoded again, have few levels, and their keys ascend.
-use Rattle.passkey_kinds.proofs.Common.{ReadIsCoherent}
-use Rattle.passkey_kinds.proofs.Steps.{Around, OnlyAt, item_around, around, required_keeps, optional_keeps, tolerated_keeps, decoded_few, canonical_around, number_tree, ℕ, suc, ◌≤◌, arith, Option, Some, None, refl, depth, shortest_head, EachFits, IsReadBack, IsLawful, lawful, raised, truth_back, or_null_back, or_null_same, optional_place, map_back, map_values_same, IsPlain, plainly, null_plain, map_plain, numbers_plain, puts_value, puts_default, kind_back, ◌▸◌, no_more, numbers_back, result_ok, ◌≡◌, Ok, ap, Item, Kind, byte_back, bytes_back, kept_back, anything, tolerated_place, rows_back, ◌<◌, codes, option_map, text_string, zero, nat_lt, nat_le, min, ◌^◌, ◌-◌, OnlyDeep, only_deep, AtMostOneLeadingItem, WrittenIsLeadingItem, WrittenIsCanonical, KeysAscend, ascend, keys_ascend}
+use Rattle.passkey_kinds.proofs.Common.{Item, ReadIsCoherent, record_kind}
+use Rattle.passkey_kinds.proofs.Steps.{Kind, Around, OnlyAt, item_around, around, required_keeps, optional_keeps, tolerated_keeps, decoded_few, canonical_around, number_tree, ℕ, suc, ◌≤◌, arith, Option, Some, None, refl, depth, shortest_head, EachFits, IsReadBack, IsLawful, lawful, raised, truth_back, or_null_back, or_null_same, optional_place, map_back, map_values_same, IsPlain, plainly, null_plain, map_plain, numbers_plain, puts_value, puts_default, kind_back, ◌▸◌, no_more, numbers_back, result_ok, ◌≡◌, Ok, ap, byte_back, bytes_back, kept_back, anything, tolerated_place, rows_back, ◌<◌, codes, option_map, text_string, zero, nat_lt, nat_le, min, ◌^◌, ◌-◌, OnlyDeep, only_deep, AtMostOneLeadingItem, WrittenIsLeadingItem, WrittenIsCanonical, KeysAscend, ascend, keys_ascend}
 use Rattle.std.proofs.Common.{leb-true}
-use Rattle.passkey_extensions.specs.GetExtensions.{get_extensions, get_extensions_parts, get_extensions_tree, GetExtensionsFit, get_extensions_fields, get_extensions_places, get_extensions_kept}
-use Rattle.passkey_extensions.specs.HmacInput.{HmacInputParts, hmac_input, read_hmac_input, hmac_input_parts, hmac_input_tree, HmacInputFits, hmac_input_fields, hmac_input_places, is_hmac_input_coherent, hmac_input_kept}
-use Rattle.passkey_extensions.specs.MakeExtensions.{make_extensions, make_extensions_parts, make_extensions_tree, MakeExtensionsFit, make_extensions_fields, make_extensions_places, make_extensions_kept}
+use Rattle.passkey_extensions.specs.GetExtensions.{get_extensions_parts, get_extensions_tree, GetExtensionsFit, get_extensions_fields, get_extensions_places, get_extensions_kept}
+use Rattle.passkey_extensions.specs.HmacInput.{HmacInputParts, read_hmac_input, hmac_input_tree, HmacInputFits, hmac_input_fields, hmac_input_places, is_hmac_input_coherent, hmac_input_kept}
+use Rattle.passkey_extensions.specs.MakeExtensions.{make_extensions_parts, make_extensions_tree, MakeExtensionsFit, make_extensions_fields, make_extensions_places, make_extensions_kept}
 use Rattle.passkey_extensions.specs.Prf.{prf_values, prf_inputs, prf_made, prf_used, unsigned, normal_unsigned}
 use Rattle.passkey_kinds.specs.Coded.{from_bytes, plain}
 use Rattle.passkey_kinds.specs.Placed.{PlainTable, plain_kind, plain_tree}
@@ -86,24 +86,20 @@ seen_back seen r = record { back = λ x h. r.back (seen x) h }
 pub hmac_message_back : (h : HmacInputParts) → HmacInputFits h → read_hmac_input (hmac_input_tree h) ≡ Ok h
 hmac_message_back h fits = grind (arith, rows_back, puts_value, kept_back, bytes_back, puts_default, optional_place, byte_back, no_more)
 
-pub hmac_parts_back : IsReadBack hmac_input hmac_input_tree HmacInputFits (λ h. h)
+pub hmac_parts_back : IsReadBack (record_kind hmac_input_fields) hmac_input_tree HmacInputFits (λ h. h)
 hmac_parts_back = record { back = λ h fits. ap result_ok (hmac_message_back h fits) }
 
-pub hmac_input_back : IsReadBack hmac_input (λ h. hmac_input_tree (hmac_input_parts h))
-    (λ h. HmacInputFits (hmac_input_parts h)) hmac_input_parts
-hmac_input_back = seen_back hmac_input_parts hmac_parts_back
-
-pub make_parts_back : IsReadBack make_extensions make_extensions_tree MakeExtensionsFit (λ e. e)
+pub make_parts_back : IsReadBack (record_kind make_extensions_fields) make_extensions_tree MakeExtensionsFit (λ e. e)
 make_parts_back = grind (arith, kind_back, puts_default, optional_place, inputs_law, truth_back, anything, hmac_parts_back, no_more)
 
-pub make_extensions_back : IsReadBack make_extensions (λ e. make_extensions_tree (make_extensions_parts e))
+pub make_extensions_back : IsReadBack (record_kind make_extensions_fields) (λ e. make_extensions_tree (make_extensions_parts e))
     (λ e. MakeExtensionsFit (make_extensions_parts e)) make_extensions_parts
 make_extensions_back = seen_back make_extensions_parts make_parts_back
 
-pub get_parts_back : IsReadBack get_extensions get_extensions_tree GetExtensionsFit (λ e. e)
+pub get_parts_back : IsReadBack (record_kind get_extensions_fields) get_extensions_tree GetExtensionsFit (λ e. e)
 get_parts_back = grind (arith, kind_back, puts_default, tolerated_place, inputs_law, hmac_parts_back, no_more)
 
-pub get_extensions_back : IsReadBack get_extensions (λ e. get_extensions_tree (get_extensions_parts e))
+pub get_extensions_back : IsReadBack (record_kind get_extensions_fields) (λ e. get_extensions_tree (get_extensions_parts e))
     (λ e. GetExtensionsFit (get_extensions_parts e)) get_extensions_parts
 get_extensions_back = seen_back get_extensions_parts get_parts_back
 
@@ -118,7 +114,7 @@ hmac_input_only = record {
   this = λ Q h each. each.0;
 }
 
-pub hmac_input_around : Around hmac_input hmac_input_tree hmac_input_kept 1 1
+pub hmac_input_around : Around (record_kind hmac_input_fields) hmac_input_tree hmac_input_kept 1 1
 hmac_input_around = around item_around hmac_input_fields (λ h. Some h.key_agreement) hmac_input_only
     (λ n. (omega arith, tt)) (λ n i few. search (required_keeps item_around) depth 9)
 
@@ -132,7 +128,7 @@ make_extensions_only = record {
   this = λ Q e each. each.1.1.0;
 }
 
-pub make_extensions_around : Around make_extensions make_extensions_tree make_extensions_kept 2 5
+pub make_extensions_around : Around (record_kind make_extensions_fields) make_extensions_tree make_extensions_kept 2 5
 make_extensions_around = around hmac_input_around make_extensions_fields (λ e. e.hmac_secret_mc)
     make_extensions_only (λ n. tt) (λ n i few. search (optional_keeps hmac_input_around) depth 9)
 
@@ -146,7 +142,7 @@ get_extensions_only = record {
   this = λ Q e each. each.1.0;
 }
 
-pub get_extensions_around : Around get_extensions get_extensions_tree get_extensions_kept 2 5
+pub get_extensions_around : Around (record_kind get_extensions_fields) get_extensions_tree get_extensions_kept 2 5
 get_extensions_around = around hmac_input_around get_extensions_fields (λ e. e.hmac_secret) get_extensions_only
     (λ n. tt) (λ n i few. search (tolerated_keeps hmac_input_around) depth 9)
 

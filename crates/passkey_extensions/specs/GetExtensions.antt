@@ -1,6 +1,6 @@
 -- Extension inputs of authenticatorGetAssertion requests (CTAP 2.1, section 6.2).
 use Rattle.std.specs.Prelude.{List, [], ◌∷◌, Bool, Option, Some, None, codes, false, ◌||◌, is_some, option_map}
-use Rattle.passkey_kinds.specs.Words.{kept_if_some, Item, Kind, Placed, tolerated_as, places_of, EachFits, Fields, fields_with, nested, record_kind, Place, record_tree}
+use Rattle.passkey_kinds.specs.Words.{kept_if_some, Item, Placed, tolerated_as, places_of, EachFits, Fields, fields_with, nested, Place, record_tree}
 use Rattle.passkey_kinds.specs.Coded.{plain}
 use Rattle.passkey_kinds.specs.Placed.{Coded}
 use Rattle.passkey_extensions.specs.HmacInput.{HmacInputParts, hmac_input_parts, hmac_coded, hmac_input_kept}
@@ -31,9 +31,6 @@ get_extensions_members =
 
 abbrev pub get_extensions_fields : Fields GetExtensionsParts
 get_extensions_fields = fields_with false (record { hmac_secret = None; prf = None }) get_extensions_members
-
-abbrev pub get_extensions : Kind GetExtensionsParts
-get_extensions = record_kind get_extensions_fields
 
 -- ---- the encoding of the inputs
 

@@ -1,6 +1,6 @@
 -- Inputs of the extension hmac-secret (CTAP 2.1, section 12.5).
 use Rattle.std.specs.Prelude.{ℕ, nat_le, Bool, List, [], ◌∷◌, Option, Some, None, codes, true, Result}
-use Rattle.passkey_kinds.specs.Words.{depth, max_depth, Item, null, Kind, Placed, required_at, optional_at, places_of, EachFits, Fields, fields_with, read_item, nested, record_kind, Place, record_tree, item_of}
+use Rattle.passkey_kinds.specs.Words.{depth, max_depth, Item, null, Placed, required_at, optional_at, places_of, EachFits, Fields, fields_with, read_item, nested, Place, record_tree, item_of}
 use Rattle.passkey_kinds.specs.Coded.{byte, bytes, item}
 use Rattle.passkey_kinds.specs.Placed.{Coded}
 use Rattle.passkey_kinds.specs.declared.fault.Fault.{Fault}
@@ -33,9 +33,6 @@ hmac_input_members =
 abbrev pub hmac_input_fields : Fields HmacInputParts
 hmac_input_fields = fields_with true
     (record { key_agreement = null; salt_enc = []; salt_auth = []; pin_uv_auth_protocol = None }) hmac_input_members
-
-abbrev pub hmac_input : Kind HmacInputParts
-hmac_input = record_kind hmac_input_fields
 
 -- the input that a data item decodes to, or its first fault
 abbrev pub read_hmac_input : Item → Result HmacInputParts Fault

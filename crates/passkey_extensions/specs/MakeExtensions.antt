@@ -1,6 +1,6 @@
 -- Extension inputs of authenticatorMakeCredential requests (CTAP 2.1, section 6.1).
 use Rattle.std.specs.Prelude.{List, [], ◌∷◌, Bool, Option, Some, None, codes, false, ◌||◌, is_some, option_map}
-use Rattle.passkey_kinds.specs.Words.{kept_if_some, Item, Kind, Placed, optional_as, places_of, EachFits, Fields, fields_with, nested, record_kind, Place, record_tree}
+use Rattle.passkey_kinds.specs.Words.{kept_if_some, Item, Placed, optional_as, places_of, EachFits, Fields, fields_with, nested, Place, record_tree}
 use Rattle.passkey_kinds.specs.Coded.{truth, plain}
 use Rattle.passkey_kinds.specs.Placed.{Coded}
 use Rattle.passkey_extensions.specs.HmacInput.{HmacInputParts, hmac_input_parts, hmac_coded, hmac_input_kept}
@@ -38,9 +38,6 @@ make_extensions_members =
 abbrev pub make_extensions_fields : Fields MakeExtensionsParts
 make_extensions_fields = fields_with false
     (record { hmac_secret = None; hmac_secret_mc = None; prf = None }) make_extensions_members
-
-abbrev pub make_extensions : Kind MakeExtensionsParts
-make_extensions = record_kind make_extensions_fields
 
 -- ---- the encoding of the inputs
 

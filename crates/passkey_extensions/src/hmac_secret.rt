@@ -169,7 +169,7 @@ impl ToCborMap for HmacGetSecretInput {
 }
 
 impl RecordReadBack for HmacGetSecretInput {
-    #[tactic(auto, using(crate::proofs::Extensions::hmac_input_back))]
+    #[tactic(auto, using(crate::proofs::Extensions::hmac_parts_back))]
     fn record_back() {}
 }
 
