@@ -1,5 +1,5 @@
 -- Maps from byte strings, with their entries in CTAP2's order.
-use Rattle.passkey_kinds.proofs.Common.{All, AllByRecursion, nat_cmp, is_lt, ◌≡◌, ◌⊎◌, ℕ, ◌<◌, ◌≤◌, Bool, true, false, cond, List, [], ◌∷◌, length, map, refl, sym, ap, ◌∙◌, arith, inl, inr, nat_tests, rules, ◌+◌, ◌++◌, slice_cmp, length-append, byte_string, short_first, shortest_head, written, eq_by_cmp, Ordering, Less, ◌&&◌, Option, Some, None, option_map, nat_list_cmp_total, ByteMap, put_each, same_bytes, same_tests, AscendFrom, Ascend, Item, pairs_of, entry_tree, T, key_type, IsBefore, nat_cmp_is, bytes_decides, texts_ties, below_all, is_sorted, is_eq, Equal, map_values, by_length, length-map, None, option_or, get_or, get_or-map, slice_get-get_or}
+use Rattle.passkey_kinds.proofs.Common.{All, AllByRecursion, nat_cmp, is_lt, ◌≡◌, ◌⊎◌, ℕ, ◌<◌, ◌≤◌, Bool, true, false, cond, List, [], ◌∷◌, length, map, refl, sym, ap, ◌∙◌, arith, inl, inr, nat_tests, rules, ◌+◌, ◌++◌, slice_cmp, length-append, byte_string, short_first, shortest_head, written, eq_by_cmp, Ordering, Less, ◌&&◌, Option, Some, None, option_map, nat_list_cmp_total, ByteMap, put_each, same_bytes, AscendFrom, Ascend, Item, pairs_of, entry_tree, T, key_type, IsBefore, nat_cmp_is, bytes_decides, texts_ties, below_all, is_sorted, is_eq, Equal, map_values, by_length, length-map, None, option_or, get_or, get_or-map, slice_get-get_or}
 use Rattle.std.proofs.lemmas.Cmp.{nat_cmp_total, on_total, then_total, tied_itself, eq_by_cmp_equiv}
 use Rattle.std.proofs.lemmas.List.Elements.{recursion_from_All}
 use Rattle.std.proofs.lemmas.List.Sorted.{All-permutation, IsPermutation-sym, IsPermutation-map}
@@ -20,13 +20,11 @@ by_length_total = then_total (on_total length nat_cmp_total) nat_list_cmp_total
 
 -- the keys that this order and that of the bytes tell apart are the same
 alike : (a b : List ℕ) → eq_by_cmp by_length a b ≡ eq_by_cmp (slice_cmp nat_cmp) a b
-alike a b = same_tests _ _ (second (nat_cmp (length a) (length b)) (slice_cmp nat_cmp a b))
-    (λ tied. ap (λ c. eq_by_cmp by_length a c) (sym ((bytes_decides a b).0 (texts_ties a b ∙ tied)))
-    ∙ ap is_eq (tied_itself by_length_total a)) where
-      second : (r s : Ordering) → is_eq (ordering_then r s) ≡ true → is_eq s ≡ true
-      second Less s h = absurd cc
-      second Equal s h = h
-      second _ s h = absurd cc
+alike a b =
+    let same = bytes_decides a b in
+    let tied = texts_ties a b in
+    let own = tied_itself by_length_total a in
+    grind (arith, same, tied, own)
 
 same_key : (a b : List ℕ) → eq_by_cmp by_length a b ≡ true → a ≡ b
 same_key a b h = (bytes_decides a b).0 (texts_ties a b ∙ sym (alike a b) ∙ h)
@@ -152,9 +150,6 @@ head_rises : (n m : ℕ) → n ≤ m → length (shortest_head 2 n) ≤ length (
 unfolding shortest_head
 head_rises n m le = grind (arith, nat_tests)
 
-key_type_is : (s : List ℕ) → key_type (written (byte_string s)) ≡ 2
-key_type_is s = head_type (length s) s
-
 encoded_long : (s : List ℕ) → length (written (byte_string s)) ≡ length (shortest_head 2 (length s)) + length s
 encoded_long s = length-append (shortest_head 2 (length s)) s
 
@@ -165,7 +160,7 @@ behind_common (c ∷ t) a b = rw (sym (nat_cmp_is c c Equal refl)) (behind_commo
 
 types_tie : (a b : List ℕ)
     → nat_cmp (key_type (written (byte_string a))) (key_type (written (byte_string b))) ≡ Equal
-types_tie a b = sym (nat_cmp_is _ _ Equal (key_type_is a ∙ sym (key_type_is b)))
+types_tie a b = sym (nat_cmp_is _ _ Equal (head_type (length a) a ∙ sym (head_type (length b) b)))
 
 order_is : (n m : ℕ) (o : Ordering) → ordering_then (nat_cmp n m) o ≡ Less → (n < m) ⊎ ((n ≡ m) × (o ≡ Less))
 order_is n m o h = grind (arith, nat_tests, inl, inr)
@@ -203,22 +198,16 @@ module _ {A M : Type 0} (seen : A → M) where
       → fin.find by_length q es ≡ None
   absent_at q k es lower same = rw (same_key q k same) (absent k es lower)
 
-  put_one : (q k : List ℕ) (v : A) (o : Option M) (es : List (List ℕ × A)) → T (below_all by_length k es)
-      → option_or (option_map seen (fin.find by_length q es))
-      (cond (eq_by_cmp (slice_cmp nat_cmp) q k) (Some (seen v)) o)
-      ≡ option_or (option_map seen (cond (eq_by_cmp by_length q k) (Some v) (fin.find by_length q es))) o
-  put_one q k v o es lower = let none = absent_at q k es lower in grind (arith, alike, none)
-
   get-put_each : (m : ByteMap M) (es : List (List ℕ × A)) → T (is_sorted by_length es) → (q : List ℕ)
       → fin.get (put_each m (map (λ e. (e.0, seen e.1)) es)) q
       ≡ option_or (option_map seen (fin.find by_length q es)) (fin.get m q)
   get-put_each m [] up q = refl
   get-put_each m (e ∷ es) up q =
       let p = both _ _ up in
-      get-put_each (fin.insert m e.0 (seen e.1)) es p.1 q
-      ∙ ap (option_or (option_map seen (fin.find by_length q es)))
-      (fin.get-insert nat_list_cmp_total m e.0 (seen e.1) q)
-      ∙ put_one q e.0 e.1 (fin.get m q) es p.0
+      let rest = get-put_each (fin.insert m e.0 (seen e.1)) es p.1 q in
+      let first = fin.get-insert nat_list_cmp_total m e.0 (seen e.1) q in
+      let none = absent_at q e.0 es p.0 in
+      grind (arith, alike, rest, first, none)
 
   pub short_first-placed : (m : ByteMap A)
       → put_each fin.empty (map (λ e. (e.0, seen e.1)) (short_first (fin.entries m))) ≡ map_values seen m

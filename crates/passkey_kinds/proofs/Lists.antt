@@ -96,17 +96,13 @@ sized_array n seen xs = grind (arith, elements-items_of, length-map)
 
 -- a region is that of one string
 pub tells_one : (is_text : Bool) (r : Region) (s t : List ℕ) → Tells is_text r s → Tells is_text r t → s ≡ t
-tells_one is_text r s t p q =
-    ap (λ (x : List ℕ × List ℕ). x.0) (some_is (s, []) (t, [])
-    (sym (string_again is_text r.len s r.bytes [] p) ∙ string_again is_text r.len t r.bytes [] q))
+tells_one is_text r s t p q = grind (arith, some_is, string_again is_text r.len s r.bytes [] p, string_again is_text r.len t r.bytes [] q)
 
 pub none_either : {X : Type 0} (b : Bool) (o : Option X) → o ≡ None → (if b then o else None) ≡ None
 none_either b o h = grind arith
 
 pub numbers_are : (n : ℕ) (i : Item) → ((s : List ℕ) → i ≡ item.byte_string s → ⊥) → sized_bytes n i ≡ numbers_in n i
-numbers_are n (item.byte_string s) b = absurd (b s refl)
-numbers_are n (item.array xs) b = refl
-numbers_are n _ b = refl
+numbers_are n i b = grind (arith, b)
 
 pub never_grows : (i : Item) → MayGrow false i → ⊥
 never_grows i h = grind arith

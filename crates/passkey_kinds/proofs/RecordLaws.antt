@@ -1,5 +1,5 @@
 -- Laws of records and messages.
-use Rattle.passkey_kinds.proofs.Common.{only_one, IsEncodedAt, Grows, Item, no_pairs, pair, members, AtMostOneLeadingItem, IsLeadingItem, PassesLeadingItem, Walk, ahead, Went, members-pairs_of, bytes, ReadsMessage, Begins, GrowsMessage, ReadsHere, AlikeDifferInLength, SameButForLength, AnswersCarryOver, KnowsItems, known, HasNoWrongKey, AnswersAlike, SameAnswers, PassesOverUnknown, KnowsMaps, Onward, Reads, MayGrowAt, Fields, table_of, one_more, Progress, result_and_then, read_from, read_members, read_item, Table, named, Members, Naming, row, unknown, wrong, record_cost, kept_in_map, DecodesRecord, Fault, ◌≡◌, ◌∙◌, ◌+◌, ℕ, suc, arith, List, [], ◌∷◌, ◌++◌, length, drop, refl, sym, ap, rules, ◌≤◌, Result, ◌*◌, subst, take, Ok, Err, ◌≢◌, IfErr, All-head, All-tail, take-append-drop, drop-drop, length-drop}
+use Rattle.passkey_kinds.proofs.Common.{only_one, IsEncodedAt, Grows, Item, no_pairs, pair, members, AtMostOneLeadingItem, IsLeadingItem, PassesLeadingItem, Walk, ahead, Went, members-pairs_of, bytes, ReadsMessage, Begins, GrowsMessage, ReadsHere, AlikeDifferInLength, SameButForLength, AnswersCarryOver, KnowsItems, known, HasNoWrongKey, AnswersAlike, SameAnswers, PassesOverUnknown, KnowsMaps, Onward, Reads, MayGrowAt, Fields, table_of, one_more, Progress, result_and_then, read_from, read_members, read_item, Table, named, Members, Naming, row, unknown, wrong, record_cost, DecodesRecord, Fault, ◌≡◌, ◌∙◌, ◌+◌, ℕ, suc, arith, List, [], ◌∷◌, ◌++◌, length, drop, refl, sym, ap, rules, ◌≤◌, Result, ◌*◌, subst, take, Ok, Err, ◌≢◌, IfErr, All-head, All-tail, take-append-drop, drop-drop, length-drop}
 use Rattle.passkey_kinds.proofs.Cursor.{front_long}
 use Rattle.passkey_kinds.specs.declared.fault.Fault.TheVariants as fault
 use Rattle.passkey_cbor.specs.Item as item
@@ -172,26 +172,15 @@ module _ {A P : Type 0} (view : A → P) (t : Fields P) (old s a b : Walk) (p : 
       (front_stands p.item old.bytes old.place p.len p.front) f in
       (one.0, omega (arith, one.1))
 
-  -- the same counts, at this place
-  module _ (result : Result A Fault) (decoded : DecodesRecord view t p.item (old.place + p.len) a b result)
-      (c : Walk) (bytes : c.bytes ≡ b.bytes) (heads : c.heads ≡ b.heads) (nodes : c.nodes ≡ b.nodes) where
-    went_here : old.place ≤ c.place → c.place ≤ length c.bytes → Went old c
-    went_here forward within = grind (arith, bytes, heads, nodes)
-
-    heads_here : (i : Item) (len : ℕ) → IsLeadingItem (ahead old) i len
-        → c.heads ≤ old.heads + suc (record_cost t) * len
-    heads_here i len f = grind (arith, only, heads)
-
-    nodes_here : (i : Item) (len : ℕ) → IsLeadingItem (ahead old) i len → c.nodes ≤ old.nodes + kept_in_map t i
-    nodes_here i len f = rw (only i len f).0 (omega (arith, decoded.spends.nodes, p.nodes, back.nodes, nodes))
+  heads_here : (result : Result A Fault) → DecodesRecord view t p.item (old.place + p.len) a b result → (i : Item)
+      (len : ℕ) → IsLeadingItem (ahead old) i len → b.heads ≤ old.heads + suc (record_cost t) * len
+  heads_here result d i len f = grind (arith, only)
 
   pub message_is : (message : A) → DecodesRecord view t p.item (old.place + p.len) a b (Ok message)
       → ReadsHere view t (suc (record_cost t)) old b (Ok message)
   message_is message d =
-      let went = went_here (Ok message) d b refl refl refl in
-      let heads = heads_here (Ok message) d b refl refl refl in
-      let nodes = nodes_here (Ok message) d b refl refl refl in
-      grind (arith, went, heads, nodes, skipped, back, on, p, d)
+      let heads = heads_here (Ok message) d in
+      grind (arith, only, heads, skipped, back, on, p, d)
 
   grows_there : (e : Fault) → Reads view (MayGrowAt (table_of t) p.item) (read_item t p.item) (Err e)
       → ◌≡◌ {A = Result A Fault} (Err e) (Err fault.OutOfMemory) → GrowsMessage t (ahead old)
@@ -202,13 +191,8 @@ module _ {A P : Type 0} (view : A → P) (t : Fields P) (old s a b : Walk) (p : 
   fault_is e c k at same d =
       let place : c.place ≡ old.place = ap (λ (w : Walk). w.place) same ∙ at in
       let bytes : c.bytes ≡ b.bytes = ap (λ (w : Walk). w.bytes) same in
-      let few : c.heads ≡ b.heads = ap (λ (w : Walk). w.heads) same in
-      let none : c.nodes ≡ b.nodes = ap (λ (w : Walk). w.nodes) same in
-      let went = went_here (Err e) d c bytes few none in
-      let heads = heads_here (Err e) d c bytes few none in
-      let nodes = nodes_here (Err e) d c bytes few none in
       let inside : c.place ≤ length c.bytes =
       omega (arith, place, skipped.forward, skipped.within, ap length (bytes ∙ on.same ∙ back.bytes)) in
       let told = message_fails view (table_of t) (read_item t) (ahead old) p.item p.len e p.front d.answers in
       let grows = grows_there e d.answers in
-      grind (arith, went, heads, nodes, inside, told, grows, place, few, p, back, on)
+      grind (arith, only, inside, told, grows, same, at, skipped, p, back, on, d)
