@@ -14,25 +14,19 @@ onward_then a b c p q = grind arith
 
 -- ---- further on
 
+item_long : (x : Item) (t : List ℕ) → Within max_depth x t → 0 < length t
+item_long x t e = encoded_long (Within max_depth) (item_within max_depth) (follows_item max_depth) x t e
+
 pub stands_long : (x : Item) {bytes : List ℕ} {from to : ℕ} → IsEncodedAt x bytes from to → from < to
 stands_long x {bytes} {from} {to} l =
-    omega (
-      arith,
-      lies_size (Within max_depth x) bytes from to l,
-      encoded_long (Within max_depth) (item_within max_depth) (follows_item max_depth) x l.text l.encoded,
-    )
+    omega (arith, item_long x l.text l.encoded, lies_size (Within max_depth x) bytes from to l)
 
 head_encoded_long : (h : Head) (t : List ℕ) → IsEncodingOfHead h t → 0 < length t
 head_encoded_long h t s = omega (arith, head_long (t ++ []) h [] (head_again h t [] s), length-append t [])
 
 pub front_long : (x : Item) (bytes : List ℕ) (len : ℕ) → IsLeadingItem bytes x len → 0 < len
 front_long x bytes len f =
-    omega (
-      arith,
-      encoded_long (Within max_depth) (item_within max_depth) (follows_item max_depth) x
-          (take len bytes) (f.shallow, f.encoded),
-      length-take len bytes,
-    )
+    omega (arith, item_long x (take len bytes) (f.shallow, f.encoded), length-take len bytes)
 
 pub head_further : (a b : Walk) (h : Head) → FindsHead a b (Some h) → Further a b
 head_further a b h p = omega (arith, p.place, head_encoded_long h p.text p.encoded)
@@ -237,7 +231,8 @@ map_opened (head.Map left) i to b o = grind (arith, members-pairs_of)
 map_opened x i to b o = no_parts (members_in i) (map_says x i o.text o.encoded)
 
 pub parts_open : {X : Type 0} (parts : Item → Option (List X)) (Encoded : X → Language)
-    (len : Head → Option (Option ℕ)) → ((h : Head) (i : Item) (to : ℕ) (b : Walk) → Opens i to b (Some h) → OpensAt parts Encoded i to b (len h))
+    (len : Head → Option (Option ℕ))
+    → ((h : Head) (i : Item) (to : ℕ) (b : Walk) → Opens i to b (Some h) → OpensAt parts Encoded i to b (len h))
     → (head : Option Head) (i : Item) (to : ℕ) (b : Walk) (result : Option (Option ℕ))
     → result ≡ option_and_then len head → Opens i to b head → OpensAt parts Encoded i to b result
 parts_open parts Encoded len opened None i to b result e o = absurd o

@@ -10,13 +10,8 @@ use Rattle.passkey_kinds.specs.Typed as typed
 chunks_long : (is_text : Bool) (s bytes : List ℕ) (c : Content is_text None s bytes)
     → length c.first.0 + 1 ≤ length bytes
 chunks_long is_text s bytes c =
-    omega (
-      arith,
-      each_long (AChunk is_text) (chunk is_text) (follows_chunk is_text) c.first.0 c.front c.first.1.1,
-      ap length c.whole,
-      length-append c.front c.back,
-      ap length c.second,
-    )
+    let long = each_long (AChunk is_text) (chunk is_text) (follows_chunk is_text) c.first.0 c.front c.first.1.1 in
+    grind (arith, length-append, long)
 
 heads_few : (is_text : Bool) (len : Option ℕ) (s bytes : List ℕ) (c : Content is_text len s bytes)
     → heads_in is_text len s bytes c ≤ length bytes
@@ -45,12 +40,9 @@ module _ {r : Region} {a b : Walk} (rises : a.heads ≤ b.heads) where
   looked heads place nodes bytes = grind (arith)
 
   pub looks_all : (is_text : Bool) → IsRegion is_text r → LooksAtAll is_text r a b → LooksAtMost r a b
-  looks_all is_text t l = looked (omega (
-    arith,
-    l.heads t.0 t.1,
-    heads_few is_text r.len t.0 r.bytes t.1,
-    raised-le a.heads (heads_in is_text r.len t.0 r.bytes t.1),
-  )) l.place l.nodes l.bytes
+  looks_all is_text t l =
+      let few = heads_few is_text r.len t.0 r.bytes t.1 in
+      looked (omega (arith, l.heads t.0 t.1, raised-le, few)) l.place l.nodes l.bytes
 
   pub looks_some : (is_text : Bool) → IsRegion is_text r → LooksAtSome is_text r a b → LooksAtMost r a b
   looks_some is_text t l =
@@ -58,12 +50,9 @@ module _ {r : Region} {a b : Walk} (rises : a.heads ≤ b.heads) where
 
   pub looks_names : (is_text : Bool) (names : List (List ℕ)) → IsRegion is_text r → LooksFor is_text names r a b
       → LooksAtMost r a b
-  looks_names is_text names t l = looked (omega (
-    arith,
-    l.heads t.0 t.1,
-    sought_few is_text names r.len t.0 r.bytes t.1,
-    raised-le a.heads (heads_sought is_text names r.len t.0 r.bytes t.1),
-  )) l.place l.nodes l.bytes
+  looks_names is_text names t l =
+      let few = sought_few is_text names r.len t.0 r.bytes t.1 in
+      looked (omega (arith, l.heads t.0 t.1, raised-le, few)) l.place l.nodes l.bytes
 
 pub looks_none : (r : Region) (a : Walk) → LooksAtMost r a a
 looks_none r a = record { heads = omega arith; rises = omega arith; place = refl; nodes = refl; bytes = refl }
@@ -74,18 +63,9 @@ looks_none r a = record { heads = omega arith; rises = omega arith; place = refl
 region_shorter : (is_text : Bool) (a b : Walk) (r : Region) → PassesString is_text a b r
     → a.place + length r.bytes < b.place
 region_shorter is_text a b r p =
-    let h = string_head is_text r.len in
-    omega (
-      arith,
-      p.place,
-      length-take p.len (ahead a),
-      ap length p.headed.whole,
-      length-append p.headed.front p.headed.back,
-      ap length p.headed.second,
-      head_long (p.headed.front ++ []) h []
-          (head_again h p.headed.front [] p.headed.first),
-      length-append p.headed.front [],
-    )
+    let h = p.headed in
+    let long = head_long (h.front ++ []) _ [] (head_again (string_head is_text r.len) h.front [] h.first) in
+    omega (arith, long, length-take p.len (ahead a), length-append {A = ℕ}, ap length h.whole, ap length h.second)
 
 -- The string that is encoded there is lent, and then looked at again at most once.
 pub lent_spends : {is_text : Bool} {a b d : Walk} {r : Region} (i : Item) {to : ℕ}
@@ -250,24 +230,17 @@ pub data_decodes : {a b e d : Walk} {r : Region} (i : Item) {to : ℕ} {t : List
     result → Decodes data_parts (authenticator_data i) (MayGrow true i) 6 (authenticator_data_nodes i) to a d result
 data_decodes {a = a} {b} {r = r} i {t = t} {result} p f looks same counts h =
     let is : i ≡ byte_string t = f.1.0 ∙ ap byte_string (sym same) in
+    let lent = f.1.1 in
+    let short = content_short r.len f.0 r.bytes lent.tells in
     record {
       answers =
           subst (λ (x : Item). AnswersAs data_parts (authenticator_data x) (MayGrow true x) result) (sym is) h;
       spends = record {
-        within = omega (arith, counts.place, looks.place, f.1.1.place);
-        heads = omega (
-          arith,
-          counts.heads,
-          looks.heads,
-          f.1.1.heads,
-          f.1.1.place,
-          region_shorter false a b r p,
-          content_short r.len f.0 r.bytes f.1.1.tells,
-          ap length same,
-        );
-        nodes = omega (arith, counts.nodes, looks.nodes, f.1.1.nodes, ap authenticator_data_nodes is);
+        within = omega (arith, lent);
+        heads = omega (arith, lent, region_shorter false a b r p, short, ap length same);
+        nodes = omega (arith, lent, ap authenticator_data_nodes is);
       };
-      ends = on_ok result (counts.place ∙ looks.place ∙ f.1.1.place);
+      ends = on_ok result (counts.place ∙ looks.place ∙ lent.place);
     }
 
 -- the data is decoded after the string

@@ -2,7 +2,7 @@
 ghost use Rattle.std.specs.Prelude.{◌≡◌, ◌==◌, ℕ, [], OnOk, List, length, map, take, if◌then◌else◌, false, Some, None};
 ghost use Rattle.passkey_kinds.specs.Words.{Item, Tells, IsEncodedAt, Further, Onward, Decodes, LooksAtMost, item_of, byte_string, Answers, AnswersAs, each, AreBytes, numbers_tree, sized_bytes};
 ghost use Rattle.passkey_kinds.specs.Reader.{filling, full, numbers_in};
-ghost use Rattle.passkey_kinds.specs.Kind.{below};
+ghost use Rattle.passkey_kinds.specs.Kind.{below, MayGrow};
 
 use crate::collect::{Gather, read_elements, read_whole};
 use crate::written::{append_each, write_each};
@@ -69,7 +69,7 @@ fn read_numbers(alloc: Global, elements: &[Value]) -> Result<[u8; 32], Refusal>
 /// Decodes the bytes from the array of integers at the cursor.
 fn read_numbers_here(alloc: Global, cursor: &mut Cursor<'_>) -> Result<[u8; 32], Refusal>
     ensures reads { (i : Item) (to : ℕ) → IsEncodedAt i cursor.old.bytes cursor.old.place to
-        → Decodes (λ b. b) (numbers_in 32 i) ⊥ 2 0 to cursor.old cursor.new result }
+        → Decodes (λ b. b) (numbers_in 32 i) (MayGrow false i) 2 0 to cursor.old cursor.new result }
     ensures onward { Onward cursor.old cursor.new }
     ensures further { OnOk result (Further cursor.old cursor.new) }
 {

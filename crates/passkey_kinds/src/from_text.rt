@@ -1,5 +1,5 @@
 //! Values that are decoded from text strings, whatever the text.
-ghost use Rattle.std.specs.Prelude.{◌≡◌, ℕ, List, Some as There, true, IfOk, OnOk};
+ghost use Rattle.std.specs.Prelude.{◌≡◌, ℕ, List, true, IfOk, OnOk};
 ghost use Rattle.passkey_kinds.specs.Words.{Item, IsRegion, Tells, IsEncodedAt, nothing, Onward, Further, ReadsAs, LooksAtMost, Answers, text_string, growing};
 ghost use Rattle.passkey_kinds.specs.Kind.{one_named};
 
@@ -25,7 +25,7 @@ fn text_value<T: FromText>(
 ) -> Result<T, Refusal>
     requires { IsRegion true token.now }
     ensures answers { (s : List ℕ) → Tells true token.now s → Answers (λ v. v)
-        (growing 2 nothing (one_named (λ s. There (T.of_text s)))) (text_string s) result }
+        (growing 2 nothing (one_named (λ s. Some (T.of_text s)))) (text_string s) result }
     ensures looks { LooksAtMost token.now cursor.old cursor.new }
 {
     match token.lent() {
@@ -42,7 +42,7 @@ fn text_value<T: FromText>(
 #[tactic(auto, using(crate::proofs::Cursor::string_further, crate::proofs::Cursor::on_ok))]
 pub fn read_text_value<T: FromText>(alloc: Global, cursor: &mut Cursor<'_>) -> Result<T, Refusal>
     ensures reads { (i : Item) (to : ℕ) → IsEncodedAt i cursor.old.bytes cursor.old.place to
-        → ReadsAs (λ v. v) (growing 2 nothing (one_named (λ s. There (T.of_text s)))) i to cursor.old cursor.new result }
+        → ReadsAs (λ v. v) (growing 2 nothing (one_named (λ s. Some (T.of_text s)))) i to cursor.old cursor.new result }
     ensures onward { Onward cursor.old cursor.new }
     ensures further { OnOk result (Further cursor.old cursor.new) }
 {

@@ -1,4 +1,4 @@
-use Rattle.passkey_kinds.proofs.Steps.{arith, false, sized_bytes, stands_long, lent_decodes, answers_from, stands_missed, missed_then, numbers_are}
+use Rattle.passkey_kinds.proofs.Steps.{arith, false, sized_bytes, stands_long, lent_decodes, stands_missed, missed_then, numbers_are}
 use Rattle.passkey_kinds.proofs.array.ArrayU832FromCbor.read.Goals as goal
 
 pub returns-in-Some-clause-reads : goal.returns-in-Some-clause-reads
@@ -11,8 +11,4 @@ pub returns-in-None-clause-reads : goal.returns-in-None-clause-reads
 returns-in-None-clause-reads c = λ i to l.
     let missed = c.in-None.ensures.lends i to l in
     let r = c.read_numbers_here.ensures.reads i to (stands_missed i missed.1 l) in
-    missed_then missed.1 (stands_long i l) (record {
-      answers = answers_from _ c.read_numbers_here.result (numbers_are 32 i missed.0) (λ (h : ⊥). absurd h) r.answers;
-      spends = r.spends;
-      ends = r.ends;
-    })
+    rw (numbers_are 32 i missed.0) (missed_then missed.1 (stands_long i l) r)

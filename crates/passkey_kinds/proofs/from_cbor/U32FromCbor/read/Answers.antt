@@ -3,7 +3,8 @@ use Rattle.passkey_kinds.proofs.from_cbor.U32FromCbor.read.Goals as goal
 
 pub returns-clause-reads : goal.returns-clause-reads
 returns-clause-reads c = λ i to l.
-    scalar_decodes (below (2 ^ 32)) i refl (below_scalar (2 ^ 32) i) (c.read_scalar.ensures.reads i to l) c.from_value.ensures
+    scalar_decodes (below (2 ^ 32)) i refl (below_scalar (2 ^ 32) i) (c.read_scalar.ensures.reads i to l)
+    c.from_value.ensures
 
 pub returns-clause-further : goal.returns-clause-further
 returns-clause-further c =
