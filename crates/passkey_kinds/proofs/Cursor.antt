@@ -179,11 +179,11 @@ scalar_ends view kind x (Err e) refused h ends = tt
 scalar_ends view kind x (Ok y) refused h ends =
     ends (λ is. absurd (none_some _ _ (ap kind is ∙ refused) h))
 
--- The value that the item has in memory.
-pub scalar_decodes : {A M : Type 0} {view : A → M} (kind : Kind M) {may : Type 0} (i : Item) {x : Item} {to : ℕ}
-    {a b : Walk} {result : Result A Refusal} → kind item.null ≡ None → kind i ≡ kind (scalar_in i)
+-- The value that the item's head has.
+pub scalar_decodes : {A M : Type 0} {view : A → M} (kind : Kind M) {wanted : Option M} {may : Type 0} (i : Item)
+    {x : Item} {to : ℕ} {a b : Walk} {result : Result A Refusal} → kind item.null ≡ None → wanted ≡ kind (scalar_in i)
     → ReadsScalar i to a b x → AnswersAs view (kind x) (MayGrow false x) result
-    → Decodes view (kind i) may 1 0 to a b result
+    → Decodes view wanted may 1 0 to a b result
 scalar_decodes {view = view} kind i {x} {result = result} refused same r h = record {
   answers = answers_from view result (same ∙ ap kind (sym r.is)) (λ grows. absurd (never_grows x grows)) h;
   spends = r.spends;

@@ -1,5 +1,5 @@
 -- Strings that are lent at a cursor.
-use Rattle.passkey_kinds.proofs.Common.{raised-le, head_again, head_long, each_long, lends_start, lends_on, lends_all, AChunk, follows_chunk, IsEncodedAt, Definite, Content, Item, byte_string, text_string, Each, Region, Tells, PassesString, LendsNothing, IsRegion, heads_in, LendsFrom, LooksAtAll, LooksAtSome, LentWhole, string_head, string_item, Kind, LooksFor, heads_until, heads_sought, LendsPiece, LendsNoPiece, LooksAhead, LendsUpTo, chunk, Walk, ahead, raised, DataGrow, data_parts, AuthenticatorData, algorithm, authenticator_data, authenticator_data_nodes, CountsData, AnswersAs, bytes, MayGrow, below, list, Answers, scalar_in, Further, Decodes, LooksAtMost, Spends, names, Refused, Refusal, IsOf, whole_64, NumberState, ◌≡◌, ◌∙◌, ◌<◌, ◌+◌, ℕ, suc, arith, Bool, true, false, List, [], ◌∷◌, ◌++◌, length, Option, Some, None, option_map, refl, sym, ap, rules, ◌≤◌, Result, subst, ◌-◌, Err, cond, ℤ, ◌^◌, zero, length-append, length-take, concat, ok_or}
+use Rattle.passkey_kinds.proofs.Common.{raised-le, head_again, head_long, each_long, lends_start, lends_on, lends_all, AChunk, follows_chunk, IsEncodedAt, Definite, Content, Item, byte_string, text_string, Each, Region, Tells, PassesString, LendsNothing, IsRegion, heads_in, LendsFrom, LooksAtAll, LooksAtSome, LentWhole, string_head, string_item, Kind, LooksFor, heads_until, heads_sought, LendsPiece, LendsNoPiece, LooksAhead, LendsUpTo, chunk, Walk, ahead, raised, DataGrow, data_parts, AuthenticatorData, algorithm, authenticator_data, authenticator_data_nodes, CountsData, AnswersAs, bytes, MayGrow, below, list, Answers, scalar_in, Further, Decodes, LooksAtMost, Spends, names, Refused, Refusal, IsOf, whole_64, NumberState, ◌≡◌, ◌∙◌, ◌<◌, ◌+◌, ℕ, suc, arith, Bool, true, false, List, [], ◌∷◌, ◌++◌, length, Option, Some, None, option_map, refl, sym, ap, rules, ◌≤◌, Result, subst, ◌-◌, Err, cond, ℤ, ◌^◌, zero, length-append, length-take, concat, ok_or, algorithm_named, option_and_then, signed_in, Algorithm}
 use Rattle.passkey_core.specs.DataReading.{fixed_at}
 use Rattle.passkey_kinds.proofs.Cursor.{stands_long, eased, on_ok, stands_back, string_further}
 use Rattle.passkey_cbor.specs.Item as item
@@ -198,7 +198,11 @@ module _ {whole left next : Region} {a b d : Walk} {n : NumberState} (u : AddsUp
 
 -- ---- numbers
 
-pub other_number : (i : Item) → ((s : List ℕ) → i ≡ item.text_string s → ⊥) → algorithm i ≡ algorithm (scalar_in i)
+-- the algorithm with this number
+abbrev pub numbered : Item → Option Algorithm
+numbered i = option_and_then algorithm_named (signed_in i)
+
+pub other_number : (i : Item) → ((s : List ℕ) → i ≡ item.text_string s → ⊥) → algorithm i ≡ numbered (scalar_in i)
 other_number (item.number z) t = refl
 other_number (item.text_string s) t = absurd (t s refl)
 other_number _ t = refl

@@ -1,7 +1,7 @@
 -- Decoding values over a cursor.
-use Rattle.passkey_kinds.specs.Base.{Item, Walk, number, elements, members, Grows, IsEncodedAt, ByteMap, max_depth}
+use Rattle.passkey_kinds.specs.Base.{Item, Walk, signed_64, number, elements, members, Grows, IsEncodedAt, ByteMap, max_depth}
 use Rattle.std.proofs.Common.{ℕ, arith, false, refl}
-use Rattle.std.specs.Prelude.{◌≡◌, ℕ, ◌+◌, ◌*◌, ◌≤◌, ◌<◌, Bool, true, length, Option, Result, OnOk, pos, ◌==◌, false, if◌then◌else◌, List, Some, None, negsuc, ℕ, suc, max, nat_lt, IsTrue, false, [], ◌∷◌, ◌++◌, option_map}
+use Rattle.std.specs.Prelude.{◌≡◌, ℕ, ◌+◌, ◌*◌, ◌≤◌, ◌<◌, Bool, true, length, Option, Result, OnOk, pos, ◌==◌, false, if◌then◌else◌, List, Some, None, negsuc, ℕ, suc, max, nat_lt, IsTrue, false, [], ◌∷◌, ◌++◌, option_map, unwrap_or, ℤ}
 use Rattle.passkey_cbor.specs.EncodedAt.{Lies, Walks, WalksOn}
 use Rattle.passkey_cbor.specs.Inside.{Left, Within, PairWithin}
 use Rattle.passkey_cbor.specs.Languages.{Language}
@@ -80,6 +80,11 @@ scalar_in (number z) = number z
 scalar_in (item.boolean b) = item.boolean b
 scalar_in _ = item.null
 
+-- an integer that fits in 64 bits
+abbrev pub signed_in : Item → Option ℤ
+signed_in (number z) = signed_64 z
+signed_in _ = None
+
 abbrev pub null_in : Item → Bool
 null_in item.null = true
 null_in _ = false
@@ -90,6 +95,9 @@ head_scalar (head.Negative n) = number (negsuc n)
 head_scalar (head.Simple n) =
     if n == 20 then item.boolean false else (if n == 21 then item.boolean true else item.null)
 head_scalar _ = item.null
+
+abbrev pub scalar_of : Option Head → Item
+scalar_of head = unwrap_or (option_map head_scalar head) item.null
 
 abbrev pub head_array : Head → Option (Option ℕ)
 head_array (head.Array left) = Some left

@@ -2,10 +2,11 @@
 ghost use Rattle.std.specs.Prelude.{◌≡◌, ℕ, List, true};
 ghost use Rattle.std.specs.Option.{option_and_then};
 ghost use Rattle.passkey_kinds.specs.Words.{IsRegion, Tells, algorithm_named, algorithm_number, algorithm_tree, AnswersAs, LooksAtMost, algorithm, whole_64};
+ghost use Rattle.passkey_kinds.specs.Reader.{scalar_of, signed_in};
 
 use crate::head::read_scalar;
 use crate::{FromCbor, OutOfMemory, Refusal, ToCbor};
-use passkey_cbor::{Cursor, Encoder, Integer, TextToken, Value};
+use passkey_cbor::{Cursor, Encoder, Head, Integer, TextToken, Value};
 use passkey_cose::signed_64;
 use passkey_iana::{Algorithm, EnumI64};
 use passkey_webauthn::{NumberText, whole_part};
@@ -17,6 +18,19 @@ fn named(number: Option<i64>) -> Result<Algorithm, Refusal>
     match number {
         Some(number) => Algorithm::from_i64(number).ok_or(Refusal::Refused),
         None => Err(Refusal::Refused),
+    }
+}
+
+fn integer(head: Option<Head>) -> Option<i64>
+    ensures { result ≡ signed_in (scalar_of head) }
+{
+    match head {
+        Some(Head::Unsigned(n)) => i64::try_from(n).ok(),
+        Some(Head::Negative(n)) => match i64::try_from(n) {
+            Ok(n) => Some(-1 - n),
+            Err(_) => None,
+        },
+        _ => None,
     }
 }
 
@@ -52,10 +66,10 @@ impl FromCbor for Algorithm {
         }
     }
 
-    fn read(alloc: Global, cursor: &mut Cursor<'_>) -> Result<Algorithm, Refusal> {
+    fn read(_alloc: Global, cursor: &mut Cursor<'_>) -> Result<Algorithm, Refusal> {
         match cursor.text() {
             Some(token) => named(whole_of(&token, cursor)),
-            None => Algorithm::from_value(alloc, &read_scalar(cursor)),
+            None => named(integer(read_scalar(cursor))),
         }
     }
 }

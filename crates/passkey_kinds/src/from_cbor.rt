@@ -1,11 +1,12 @@
 //! Values that are decoded from data items.
 ghost use Rattle.std.specs.Prelude.{◌^◌, ℕ, Option, option_map, OnOk};
 ghost use Rattle.passkey_kinds.specs.Words.{tolerated, Item, IsEncodedAt, item_of, Answers, Typed, Onward, Further, ReadsAs, truth, below, text, kept, optional};
+ghost use Rattle.passkey_kinds.specs.Reader.{scalar_of};
 
 use crate::Refusal;
 use crate::head::{begins_null, read_scalar};
 use passkey_bytes::Text;
-use passkey_cbor::{CborError, Cursor, Value};
+use passkey_cbor::{CborError, Cursor, Head, Value};
 use std::alloc::Global;
 
 /// A type whose values are decoded from data items, in memory or at a cursor.
@@ -40,6 +41,34 @@ pub trait FromCbor: Drop {
         ensures further { OnOk result (Further cursor.old cursor.new) };
 }
 
+fn truth_of(head: Option<Head>) -> Result<bool, Refusal>
+    ensures { Answers (λ b. b) truth (scalar_of head) result }
+{
+    match head {
+        Some(Head::Simple(20)) => Ok(false),
+        Some(Head::Simple(21)) => Ok(true),
+        _ => Err(Refusal::Refused),
+    }
+}
+
+fn byte(head: Option<Head>) -> Result<u8, Refusal>
+    ensures { Answers (λ n. n) (below (2 ^ 8)) (scalar_of head) result }
+{
+    match head {
+        Some(Head::Unsigned(n)) => u8::try_from(n).or(Err(Refusal::Refused)),
+        _ => Err(Refusal::Refused),
+    }
+}
+
+fn word(head: Option<Head>) -> Result<u32, Refusal>
+    ensures { Answers (λ n. n) (below (2 ^ 32)) (scalar_of head) result }
+{
+    match head {
+        Some(Head::Unsigned(n)) => u32::try_from(n).or(Err(Refusal::Refused)),
+        _ => Err(Refusal::Refused),
+    }
+}
+
 impl FromCbor for bool {
     ghost view = { λ b. b };
 
@@ -52,8 +81,8 @@ impl FromCbor for bool {
         }
     }
 
-    fn read(alloc: Global, cursor: &mut Cursor<'_>) -> Result<bool, Refusal> {
-        bool::from_value(alloc, &read_scalar(cursor))
+    fn read(_alloc: Global, cursor: &mut Cursor<'_>) -> Result<bool, Refusal> {
+        truth_of(read_scalar(cursor))
     }
 }
 
@@ -69,8 +98,8 @@ impl FromCbor for u8 {
         }
     }
 
-    fn read(alloc: Global, cursor: &mut Cursor<'_>) -> Result<u8, Refusal> {
-        u8::from_value(alloc, &read_scalar(cursor))
+    fn read(_alloc: Global, cursor: &mut Cursor<'_>) -> Result<u8, Refusal> {
+        byte(read_scalar(cursor))
     }
 }
 
@@ -86,8 +115,8 @@ impl FromCbor for u32 {
         }
     }
 
-    fn read(alloc: Global, cursor: &mut Cursor<'_>) -> Result<u32, Refusal> {
-        u32::from_value(alloc, &read_scalar(cursor))
+    fn read(_alloc: Global, cursor: &mut Cursor<'_>) -> Result<u32, Refusal> {
+        word(read_scalar(cursor))
     }
 }
 

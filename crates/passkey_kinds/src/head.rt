@@ -1,26 +1,12 @@
 //! Decodes one head at a cursor, by the type of data item that is wanted.
-ghost use Rattle.std.specs.Prelude.{◌≡◌, ℕ, ◌+◌, ◌≤◌, ◌==◌, true, false, option_map, unwrap_or, IfSome};
+ghost use Rattle.std.specs.Prelude.{◌≡◌, ℕ, ◌+◌, ◌≤◌, ◌==◌, true, false, IfSome};
 ghost use Rattle.std.specs.Option.{option_and_then};
-ghost use Rattle.passkey_kinds.specs.Words.{Item, null, item_of, IsEncodedAt, Onward, Further, Spends, max_depth};
+ghost use Rattle.passkey_kinds.specs.Words.{Item, null, IsEncodedAt, Onward, Further, Spends, max_depth};
 ghost use Rattle.passkey_cbor.specs.Initial.{major_of};
 ghost use Rattle.passkey_cbor.specs.Inside.{Within, PairWithin};
-ghost use Rattle.passkey_kinds.specs.Reader.{null_in, head_scalar, head_array, head_map, ReadsScalar, elements_in, members_in, OpensAt};
+ghost use Rattle.passkey_kinds.specs.Reader.{null_in, scalar_of, head_array, head_map, ReadsScalar, elements_in, members_in, OpensAt};
 
-use passkey_cbor::{Cursor, Head, Integer, Value};
-
-/// Returns the integer or the boolean of which this is the head, and null in place of any other
-/// data item.
-fn scalar(head: Option<Head>) -> Value
-    ensures { item_of result ≡ unwrap_or (option_map head_scalar head) null }
-{
-    match head {
-        Some(Head::Unsigned(n)) => Value::from(n),
-        Some(Head::Negative(n)) => Value::Integer(Integer::new(-1 - i128::from(n)).unwrap()),
-        Some(Head::Simple(20)) => Value::Bool(false),
-        Some(Head::Simple(21)) => Value::Bool(true),
-        _ => Value::Null,
-    }
-}
+use passkey_cbor::{Cursor, Head};
 
 fn array_len(head: Option<Head>) -> Option<Option<u64>>
     ensures { result ≡ option_and_then head_array head }
@@ -61,16 +47,15 @@ pub(crate) fn begins_null(cursor: &Cursor<'_>) -> bool
     }
 }
 
-/// Decodes the integer or the boolean at the cursor. Returns null if another data item is there.
-/// Allocates nothing.
+/// Decodes the head at the cursor, which is the whole data item if that is an integer or a boolean.
 #[tactic(auto, using(crate::proofs::Cursor::heads))]
-pub(crate) fn read_scalar(cursor: &mut Cursor<'_>) -> Value
+pub(crate) fn read_scalar(cursor: &mut Cursor<'_>) -> Option<Head>
     ensures reads { (i : Item) (to : ℕ) → IsEncodedAt i cursor.old.bytes cursor.old.place to
-        → ReadsScalar i to cursor.old cursor.new (item_of result) }
+        → ReadsScalar i to cursor.old cursor.new (scalar_of result) }
     ensures onward { Onward cursor.old cursor.new }
-    ensures further { (item_of result ≡ null → ⊥) → Further cursor.old cursor.new }
+    ensures further { (scalar_of result ≡ null → ⊥) → Further cursor.old cursor.new }
 {
-    scalar(cursor.head())
+    cursor.head()
 }
 
 /// Decodes the head of the array at the cursor and returns its length, which is `Some(None)` if it

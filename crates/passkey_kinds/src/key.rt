@@ -1,11 +1,12 @@
 //! Map keys at a cursor, and the rows that they name.
 ghost use Rattle.std.specs.Prelude.{◌≡◌, ◌≤◌, ℕ, List, Option, length, map, take, true, false, IfSome};
-ghost use Rattle.passkey_kinds.specs.Words.{Item, IsRegion, Tells, IsEncodedAt, Onward, Further, LooksAtMost, named_as, entry_of, names, row_named};
+ghost use Rattle.passkey_kinds.specs.Words.{Item, IsRegion, Tells, IsEncodedAt, Onward, Further, LooksAtMost, naming_of, named_as, entry_of, names, row_named};
 ghost use Rattle.passkey_kinds.specs.RecordReading.{ReadsKey, row_at};
+ghost use Rattle.passkey_kinds.specs.Reader.{scalar_of};
 
 use crate::head::{begins, read_scalar};
-use crate::rows::{Named, Row, row_of, with_name};
-use passkey_cbor::{BytesToken, Cursor, TextToken};
+use crate::rows::{Named, Row, of_number, with_name};
+use passkey_cbor::{BytesToken, Cursor, Head, TextToken};
 
 /// Returns the names of at most 32 rows, followed by empty names.
 #[tactic(auto, using(crate::proofs::Keys::one_more_name))]
@@ -86,6 +87,16 @@ fn with_byte_chunks(rows: &[Row], token: &BytesToken<'_>, cursor: &mut Cursor<'_
     at_index(rows, token.name_of(&names[..rows.len()], cursor))
 }
 
+/// Returns what a map key with this head names. Returns `None` if it isn't an unsigned integer.
+fn of_head(is_numbered: bool, rows: &[Row], head: Option<Head>) -> Option<Named>
+    ensures { naming_of result ≡ names is_numbered (map entry_of rows.now) (scalar_of head) }
+{
+    match head {
+        Some(Head::Unsigned(number)) => of_number(is_numbered, rows, u8::try_from(number).ok()),
+        _ => None,
+    }
+}
+
 /// Decodes the map key at the cursor, moves past it and returns what it names. Returns `None` if a
 /// record can't have this key.
 pub(crate) fn read_key(is_numbered: bool, rows: &[Row], cursor: &mut Cursor<'_>) -> Option<Named>
@@ -96,7 +107,7 @@ pub(crate) fn read_key(is_numbered: bool, rows: &[Row], cursor: &mut Cursor<'_>)
     ensures further { IfSome result (λ _. Further cursor.old cursor.new) }
 {
     if begins(cursor, 0) {
-        return row_of(is_numbered, rows, &read_scalar(cursor));
+        return of_head(is_numbered, rows, read_scalar(cursor));
     }
     match cursor.text() {
         Some(token) => Some(with_text(rows, &token, cursor)),

@@ -2,12 +2,13 @@
 //! 1.
 ghost use Rattle.std.specs.Prelude.{◌≡◌, ℕ, option_map};
 ghost use Rattle.std.specs.Int.NonZero.{non_zero_u128_get};
-ghost use Rattle.passkey_kinds.specs.Words.{number, size};
+ghost use Rattle.passkey_kinds.specs.Words.{number, Answers, size};
+ghost use Rattle.passkey_kinds.specs.Reader.{scalar_of};
 ghost use Rattle.passkey_kinds.specs.Kind.{size as size_of};
 
 use crate::head::read_scalar;
 use crate::{FromCbor, Refusal};
-use passkey_cbor::{Cursor, Integer, Value};
+use passkey_cbor::{Cursor, Head, Integer, Value};
 use std::alloc::Global;
 use std::num::NonZeroU128;
 
@@ -15,6 +16,15 @@ fn positive(n: Integer) -> Option<NonZeroU128>
     ensures { option_map non_zero_u128_get result ≡ size_of (number n) }
 {
     NonZeroU128::new(u128::try_from(n.get()).ok()?)
+}
+
+fn not_zero(head: Option<Head>) -> Result<NonZeroU128, Refusal>
+    ensures { Answers non_zero_u128_get size (scalar_of head) result }
+{
+    match head {
+        Some(Head::Unsigned(n)) => NonZeroU128::new(u128::from(n)).ok_or(Refusal::Refused),
+        _ => Err(Refusal::Refused),
+    }
 }
 
 impl FromCbor for NonZeroU128 {
@@ -31,7 +41,7 @@ impl FromCbor for NonZeroU128 {
         }
     }
 
-    fn read(alloc: Global, cursor: &mut Cursor<'_>) -> Result<NonZeroU128, Refusal> {
-        NonZeroU128::from_value(alloc, &read_scalar(cursor))
+    fn read(_alloc: Global, cursor: &mut Cursor<'_>) -> Result<NonZeroU128, Refusal> {
+        not_zero(read_scalar(cursor))
     }
 }

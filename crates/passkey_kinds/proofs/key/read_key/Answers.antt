@@ -6,15 +6,15 @@ returns-then-begins-clause-names c = λ key to l.
     let es = map entry_of c.args.rows.now in
     let r = c.read_scalar.ensures.reads key to l in
     record {
-      is = c.row_of.ensures ∙ ap (names c.args.is_numbered es) r.is
+      is = c.of_head.ensures ∙ ap (names c.args.is_numbered es) r.is
           ∙ names_scalar c.args.is_numbered es key (sym (c.begins.ensures key to l) ∙ c.if-begins.true);
       spends = eased (omega arith) (omega arith) (omega (arith, stands_long key l)) r.spends;
-      ends = key_ends c.args.is_numbered es _ c.row_of.result c.row_of.ensures r.ends;
+      ends = key_ends c.args.is_numbered es _ c.of_head.result c.of_head.ensures r.ends;
     }
 
 pub returns-then-begins-clause-further : goal.returns-then-begins-clause-further
 returns-then-begins-clause-further c =
-    key_ends c.args.is_numbered (map entry_of c.args.rows.now) _ c.row_of.result c.row_of.ensures
+    key_ends c.args.is_numbered (map entry_of c.args.rows.now) _ c.of_head.result c.of_head.ensures
     c.read_scalar.ensures.further
 
 pub returns-in-Some-clause-names : goal.returns-in-Some-clause-names

@@ -3,8 +3,8 @@ use Rattle.passkey_kinds.proofs.from_cbor.BoolFromCbor.read.Goals as goal
 
 pub returns-clause-reads : goal.returns-clause-reads
 returns-clause-reads c = λ i to l.
-    scalar_decodes truth i refl (truth_scalar i) (c.read_scalar.ensures.reads i to l) c.from_value.ensures
+    scalar_decodes truth i refl (truth_scalar i) (c.read_scalar.ensures.reads i to l) c.truth_of.ensures
 
 pub returns-clause-further : goal.returns-clause-further
 returns-clause-further c =
-    scalar_ends _ truth _ c.from_value.result refl c.from_value.ensures c.read_scalar.ensures.further
+    scalar_ends _ truth _ c.truth_of.result refl c.truth_of.ensures c.read_scalar.ensures.further

@@ -3,8 +3,8 @@ use Rattle.passkey_kinds.proofs.from_cbor.U8FromCbor.read.Goals as goal
 
 pub returns-clause-reads : goal.returns-clause-reads
 returns-clause-reads c = λ i to l.
-    scalar_decodes (below 256) i refl (below_scalar 256 i) (c.read_scalar.ensures.reads i to l) c.from_value.ensures
+    scalar_decodes (below 256) i refl (below_scalar 256 i) (c.read_scalar.ensures.reads i to l) c.byte.ensures
 
 pub returns-clause-further : goal.returns-clause-further
 returns-clause-further c =
-    scalar_ends _ (below 256) _ c.from_value.result refl c.from_value.ensures c.read_scalar.ensures.further
+    scalar_ends _ (below 256) _ c.byte.result refl c.byte.ensures c.read_scalar.ensures.further
