@@ -92,15 +92,17 @@ hmac_parts_back = record { back = λ h fits. ap result_ok (hmac_message_back h f
 pub make_parts_back : IsReadBack (record_kind make_extensions_fields) make_extensions_tree MakeExtensionsFit (λ e. e)
 make_parts_back = grind (arith, kind_back, puts_default, optional_place, inputs_law, truth_back, anything, hmac_parts_back, no_more)
 
-pub make_extensions_back : IsReadBack (record_kind make_extensions_fields) (λ e. make_extensions_tree (make_extensions_parts e))
-    (λ e. MakeExtensionsFit (make_extensions_parts e)) make_extensions_parts
+pub make_extensions_back : IsReadBack (record_kind make_extensions_fields)
+    (λ e. make_extensions_tree (make_extensions_parts e)) (λ e. MakeExtensionsFit (make_extensions_parts e))
+    make_extensions_parts
 make_extensions_back = seen_back make_extensions_parts make_parts_back
 
 pub get_parts_back : IsReadBack (record_kind get_extensions_fields) get_extensions_tree GetExtensionsFit (λ e. e)
 get_parts_back = grind (arith, kind_back, puts_default, tolerated_place, inputs_law, hmac_parts_back, no_more)
 
-pub get_extensions_back : IsReadBack (record_kind get_extensions_fields) (λ e. get_extensions_tree (get_extensions_parts e))
-    (λ e. GetExtensionsFit (get_extensions_parts e)) get_extensions_parts
+pub get_extensions_back : IsReadBack (record_kind get_extensions_fields)
+    (λ e. get_extensions_tree (get_extensions_parts e)) (λ e. GetExtensionsFit (get_extensions_parts e))
+    get_extensions_parts
 get_extensions_back = seen_back get_extensions_parts get_parts_back
 
 -- ---- the key that an input of hmac-secret keeps: what is encoded around it

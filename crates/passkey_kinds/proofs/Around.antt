@@ -45,8 +45,8 @@ pub record OnlyAt {P : Type 0} (n : ℕ) (places : P → List Place) (key : Item
 
 module _ {X : Type 0} {kind : Kind X} {tree : X → Item} {kept_items : X → List Item} {d least : ℕ}
     (inner : Around kind tree kept_items d least) where
-  place_has : (Q R : Item → Type 0) (key : Item) → Q key → ((x : X) → Each R (kept_items x) → Q (tree x)) → (o : Option X)
-      → Each R (kept_if_some kept_items o) → PlaceHas Q key (option_map tree o)
+  place_has : (Q R : Item → Type 0) (key : Item) → Q key → ((x : X) → Each R (kept_items x) → Q (tree x))
+      → (o : Option X) → Each R (kept_if_some kept_items o) → PlaceHas Q key (option_map tree o)
   place_has Q R key keyed each None h = tt
   place_has Q R key keyed each (Some x) h = (keyed, each x h)
 
@@ -95,8 +95,8 @@ module _ {X : Type 0} {kind : Kind X} {tree : X → Item} {kept_items : X → Li
     writable = λ r w.
         has_kept IsWritable IsWritable key inner.writable (get r) (only.this IsWritable r (of_record (places r) w));
     decoded = λ n i r e less.
-        record_keeps t (λ p. AtMost n (kept_if_some kept_items (get p))) i r (ok_of (read_item t i) r e) (λ some. blank n)
-        (keep n i less);
+        record_keeps t (λ p. AtMost n (kept_if_some kept_items (get p))) i r (ok_of (read_item t i) r e)
+        (λ some. blank n) (keep n i less);
   }
 
 -- ---- messages: a decoded one has few levels again, and its encoding is canonical if what it keeps is
@@ -135,7 +135,8 @@ pub only_deep : {P A : Type 0} {places : P → List Place} {tree : A → Item} {
 only_deep {P} {A} {places} {tree} {get} {key} {m} n less only = record {
   absent = λ r is. sym (le-leb _ (suc n) (up r (subst Here (sym is) tt)));
   present = λ r x is. same_tests (nat_le (depth (tree x)) n) (nat_le (depth (record_tree (places r))) (suc n))
-      (λ t. le-leb _ (suc n) (up r (subst Here (sym is) (omega (arith, less, only.keyed.levels), leb-true (depth (tree x)) n t))))
+      (λ t. le-leb _ (suc n) (up r (subst Here (sym is)
+      (omega (arith, less, only.keyed.levels), leb-true (depth (tree x)) n t))))
       (λ t. le-leb (depth (tree x)) n (subst Here is (only.this (λ i. depth i ≤ n) r
       (levels_of n (places r) (leb-true _ (suc n) t)))).1);
 } where

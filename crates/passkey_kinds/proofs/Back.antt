@@ -1,5 +1,6 @@
 -- Records can be decoded again from the encodings of their members.
 use Rattle.passkey_kinds.proofs.Common.{Item, boolean, IfPresent, members-pairs_of, truth, Kind, IsReadBack, Fields, set_with, rows_of, table_of, put_at, unless_missing, one_more, Progress, result_and_then, read_from, read_members, read_item, Member, record_kind, Table, entries, named, Members, first_missing, Naming, row, accepts_at, ◌>>=◌, Place, record_tree, under, laid, where_true, ◌≡◌, ◌∙◌, ℕ, arith, Bool, true, false, not, ◌&&◌, List, [], ◌∷◌, ◌++◌, Option, Some, None, is_some, option_map, refl, sym, ap, Ok, ◌==◌, cond, set, ◌||◌, unwrap_or, and_parts, ne_eqb, eqb-true, not-true, eqb-false, unsigned_Decides, list_any, result_ok}
+use Rattle.std.proofs.lemmas.Bool.{or_parts}
 
 -- ---- the values that the places of a record have for its rows
 
@@ -21,10 +22,6 @@ are_distinct (n ∷ ns) = not (list_any (λ m. n == m) ns) && are_distinct ns
 pub names_it : (naming : Naming) (n : ℕ) → is_row n naming ≡ true → naming ≡ row n
 names_it (row m) n h = ap row (sym (eqb-true n m h))
 names_it _ n h = absurd cc
-
-pub neither : (a b : Bool) → (a || b) ≡ false → (a ≡ false) × (b ≡ false)
-neither true b e = absurd cc
-neither false b e = (refl, e)
 
 pub apart_too : (n k : ℕ) → (n == k) ≡ false → (k == n) ≡ false
 apart_too n k h = ne_eqb k n (λ e. eqb-false n k h (sym e))
@@ -51,7 +48,7 @@ still_unseen : (seen : ℕ → Bool) (n : ℕ) (b : Bool) (ns : List ℕ) → li
     → AllUnseen seen ns → AllUnseen (λ k. cond (k == n) (b || seen k) (seen k)) ns
 still_unseen seen n b [] apart h = tt
 still_unseen seen n b (k ∷ ns) apart h =
-    let p = neither (n == k) (list_any (λ j. n == j) ns) apart in
+    let p = or_parts (n == k) (list_any (λ j. n == j) ns) apart in
     (ap (λ c. cond c (b || seen k) (seen k)) (apart_too n k p.0) ∙ h.0, still_unseen seen n b ns p.1 h.1)
 
 -- ---- the value of one row
@@ -114,7 +111,7 @@ finds_more : {P : Type 0} (f : Member P) (all ms : List (Member P))
     → list_any (λ n. f.entry.number == n) (numbers ms) ≡ false → Finds all ms → Finds (f ∷ all) ms
 finds_more f all [] apart h = tt
 finds_more f all (m ∷ ms) apart h =
-    let p = neither (f.entry.number == m.entry.number) (list_any (λ n. f.entry.number == n) (numbers ms)) apart in
+    let p = or_parts (f.entry.number == m.entry.number) (list_any (λ n. f.entry.number == n) (numbers ms)) apart in
     (λ i. rw p.0 (h.0 i), λ i r. rw p.0 (h.1 i r), finds_more f all ms p.1 h.2)
 
 finds_all : {P : Type 0} (ms : List (Member P)) → are_distinct (numbers ms) ≡ true → Finds ms ms

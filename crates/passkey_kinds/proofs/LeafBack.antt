@@ -103,8 +103,7 @@ pub anything : {A : Type 0} (o : Option A) → IfPresent Any o
 anything o = if_fits (λ x. tt) o
 
 pub all_of_anything : {A : Type 0} (o : Option (List A)) → IfPresent (All Any) o
-all_of_anything None = tt
-all_of_anything (Some xs) = λ k d less. tt
+all_of_anything o = if_fits (λ xs k d less. tt) o
 
 module _ {M : Type 0} {kind : Kind M} {tree : M → Item} {Fits : M → Type 0} (r : IsReadBack kind tree Fits (λ x. x))
   where
