@@ -26,8 +26,7 @@ grows_array seen (x ∷ xs) h = (refl, tt)
 -- the values decoded so far, before those of the rest
 pub each_more : {M : Type 0} (read : List M) (x : M) (rest : Option (List M)) → option_map (λ xs. read ++ xs)
     (option_map (λ xs. x ∷ xs) rest) ≡ option_map (λ xs. (read ++ x ∷ []) ++ xs) rest
-each_more read x None = refl
-each_more read x (Some xs) = ap Some (simp append_assoc)
+each_more read x rest = grind (arith, append_assoc)
 
 -- options and lists under the identity view
 pub option_same : {X : Type 0} (o : Option X) → option_map (λ x. x) o ≡ o
@@ -69,8 +68,7 @@ kept_nothing [] = refl
 kept_nothing (x ∷ xs) = ap (λ (n : ℕ). 0 + n) (kept_nothing xs)
 
 pub kept_none : {X : Type 0} (o : Option (List X)) → kept_parts (λ x. 0) o ≡ 0
-kept_none None = refl
-kept_none (Some xs) = kept_nothing xs
+kept_none o = grind (arith, kept_nothing)
 
 pub kept_elements_in : (keeps : Keeping) (i : Item)
     → kept_parts (kept_of keeps) (elements_in i) ≡ kept_of (in_elements keeps) i
@@ -96,7 +94,10 @@ sized_array n seen xs = grind (arith, elements-items_of, length-map)
 
 -- a region is that of one string
 pub tells_one : (is_text : Bool) (r : Region) (s t : List ℕ) → Tells is_text r s → Tells is_text r t → s ≡ t
-tells_one is_text r s t p q = grind (arith, some_is, string_again is_text r.len s r.bytes [] p, string_again is_text r.len t r.bytes [] q)
+tells_one is_text r s t p q =
+    let one = string_again is_text r.len s r.bytes [] p in
+    let other = string_again is_text r.len t r.bytes [] q in
+    grind (arith, some_is, one, other)
 
 pub none_either : {X : Type 0} (b : Bool) (o : Option X) → o ≡ None → (if b then o else None) ≡ None
 none_either b o h = grind arith

@@ -163,7 +163,7 @@ went_back old s a k at e = grind (arith)
 -- A message whose item was skipped and then decoded from the same place.
 module _ {A P : Type 0} (view : A → P) (t : Fields P) (old s a b : Walk) (p : PassesLeadingItem old s)
     (skipped : Went old s) (back : WentBack old s a) (on : Onward a b) where
-  pub item_stands : IsEncodedAt p.item a.bytes a.place (old.place + p.len)
+  item_stands : IsEncodedAt p.item a.bytes a.place (old.place + p.len)
   item_stands = rw (back.bytes, p.bytes, back.place) (front_stands p.item old.bytes old.place p.len p.front)
 
   only : (i : Item) (len : ℕ) → IsLeadingItem (ahead old) i len → (i ≡ p.item) × (len ≡ p.len)
@@ -176,9 +176,13 @@ module _ {A P : Type 0} (view : A → P) (t : Fields P) (old s a b : Walk) (p : 
       (len : ℕ) → IsLeadingItem (ahead old) i len → b.heads ≤ old.heads + suc (record_cost t) * len
   heads_here result d i len f = grind (arith, only)
 
-  pub message_is : (message : A) → DecodesRecord view t p.item (old.place + p.len) a b (Ok message)
-      → ReadsHere view t (suc (record_cost t)) old b (Ok message)
-  message_is message d =
+  -- what the code ensures of the item here
+  abbrev Reading : Result A Fault → Type 0
+  Reading result = (i : Item) (to : ℕ) → IsEncodedAt i a.bytes a.place to → DecodesRecord view t i to a b result
+
+  pub message_is : (message : A) → Reading (Ok message) → ReadsHere view t (suc (record_cost t)) old b (Ok message)
+  message_is message reads =
+      let d = reads p.item (old.place + p.len) item_stands in
       let heads = heads_here (Ok message) d in
       grind (arith, only, heads, skipped, back, on, p, d)
 
@@ -186,9 +190,10 @@ module _ {A P : Type 0} (view : A → P) (t : Fields P) (old s a b : Walk) (p : 
       → ◌≡◌ {A = Result A Fault} (Err e) (Err fault.OutOfMemory) → GrowsMessage t (ahead old)
   grows_there e h same = let front = p.front in grind (arith, front)
 
-  pub fault_is : (e : Fault) (c : Walk) (k : ℕ) → k ≡ old.place → c ≡ record b { place = k } → DecodesRecord view t
-      p.item (old.place + p.len) a b (Err e) → ReadsHere view t (suc (record_cost t)) old c (Err e)
-  fault_is e c k at same d =
+  pub fault_is : (e : Fault) (c : Walk) (k : ℕ) → k ≡ old.place → c ≡ record b { place = k } → Reading (Err e)
+      → ReadsHere view t (suc (record_cost t)) old c (Err e)
+  fault_is e c k at same reads =
+      let d = reads p.item (old.place + p.len) item_stands in
       let place : c.place ≡ old.place = ap (λ (w : Walk). w.place) same ∙ at in
       let bytes : c.bytes ≡ b.bytes = ap (λ (w : Walk). w.bytes) same in
       let inside : c.place ≤ length c.bytes =

@@ -194,16 +194,10 @@ pub record Collects {C X V : Type 0} (value : C → V) (w : Way X V) (v : V) (i 
   pub heads : new.heads + suc w.cost * suc old.place ≤ suc old.heads + suc w.cost * to
 
 pub grows_elements : (i : Item) (xs : List Item) → elements_in i ≡ Some xs → 0 < length xs → Grows i
-grows_elements (item.array item.no_items) [] e some = absurd (omega (arith, some))
-grows_elements (item.array item.no_items) (x ∷ xs) e some = absurd cc
-grows_elements (item.array (item.item y ys)) xs e some = tt
-grows_elements _ xs e some = absurd cc
+grows_elements i xs e some = grind arith
 
 pub grows_members : (i : Item) (ms : List (Item × Item)) → members_in i ≡ Some ms → 0 < length ms → Grows i
-grows_members (item.map item.no_pairs) [] e some = absurd (omega (arith, some))
-grows_members (item.map item.no_pairs) (m ∷ ms) e some = absurd cc
-grows_members (item.map (item.pair k v ps)) ms e some = tt
-grows_members _ ms e some = absurd cc
+grows_members i ms e some = grind arith
 
 -- A way of putting the elements of an array together: the same, by what decoding an element has as cost
 -- and makes as values.

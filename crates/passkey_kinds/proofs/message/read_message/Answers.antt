@@ -1,21 +1,14 @@
-use Rattle.passkey_kinds.proofs.Steps.{◌+◌, went_back, item_stands, message_is, fault_is}
+use Rattle.passkey_kinds.proofs.Steps.{went_back, message_is, fault_is}
 use Rattle.passkey_kinds.proofs.message.read_message.Goals as goal
 
 pub returns-in-Ok : goal.returns-in-Ok
 returns-in-Ok g c =
-    let p = c.if-not-skip.ensures.front in
     let back = went_back _ _ _ _ c.place-start.ensures c.go_back.ensures in
-    let stands = item_stands g.R.Record.parts g.R.Record.fields _ _ _ _ p c.if-not-skip.ensures.went back
-    c.in-Ok.ensures.onward in
-    message_is g.R.Record.parts g.R.Record.fields _ _ _ _ p c.if-not-skip.ensures.went back c.in-Ok.ensures.onward
-    c.in-Ok.message (c.in-Ok.ensures.reads p.item (c.args.cursor.now.place + p.len) stands)
+    message_is g.R.Record.parts g.R.Record.fields _ _ _ _ c.if-not-skip.ensures.front c.if-not-skip.ensures.went back
+    c.in-Ok.ensures.onward c.in-Ok.message c.in-Ok.ensures.reads
 
 pub returns-in-Err : goal.returns-in-Err
 returns-in-Err g c =
-    let p = c.if-not-skip.ensures.front in
     let back = went_back _ _ _ _ c.place-start.ensures c.go_back.ensures in
-    let stands = item_stands g.R.Record.parts g.R.Record.fields _ _ _ _ p c.if-not-skip.ensures.went back
-    c.in-Err.ensures.onward in
-    fault_is g.R.Record.parts g.R.Record.fields _ _ _ _ p c.if-not-skip.ensures.went back c.in-Err.ensures.onward
-    c.in-Err.fault _ _ c.place-start.ensures c.go_back-in-Err.ensures
-    (c.in-Err.ensures.reads p.item (c.args.cursor.now.place + p.len) stands)
+    fault_is g.R.Record.parts g.R.Record.fields _ _ _ _ c.if-not-skip.ensures.front c.if-not-skip.ensures.went back
+    c.in-Err.ensures.onward c.in-Err.fault _ _ c.place-start.ensures c.go_back-in-Err.ensures c.in-Err.ensures.reads

@@ -11,9 +11,8 @@ loop-alloc-preserved g c = record {
       let e = c.loop-alloc.invariant.each ms to l in
       let n = next_is e b c.loop-alloc-test.ensures.walks.pairs in
       let one = c.in_ok-read_next.ensures.reads n.first n.middle n.here in
-      one_more_done e b _ d n (element_spends e b d c.loop-alloc-test.ensures.walks.looks n _ refl one.spends) one.ends
-      c.in_ok-read_next.ensures.onward.same
-      (goes_on _ ms e.rest n.others n.first _ _ _ n.whole refl e.done _ _ one.answers);
+      let spent = element_spends e b d c.loop-alloc-test.ensures.walks.looks n _ refl one.spends in
+      grind (arith, one_more_done, goes_on, e, n, one, spent, c.in_ok-read_next.ensures.onward);
 }
 
 pub returns-in_err-read_next-clause-reads : goal.returns-in_err-read_next-clause-reads
