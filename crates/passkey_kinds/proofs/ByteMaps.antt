@@ -1,5 +1,5 @@
 -- Maps from byte strings, with their entries in CTAP2's order.
-use Rattle.passkey_kinds.proofs.Common.{All, AllByRecursion, nat_cmp, is_lt, ◌≡◌, ◌⊎◌, ℕ, ◌<◌, ◌≤◌, Bool, true, false, cond, List, [], ◌∷◌, length, map, refl, sym, ap, ◌∙◌, arith, inl, inr, nat_tests, rules, ◌+◌, ◌++◌, slice_cmp, length-append, byte_string, short_first, shortest_head, written, eq_by_cmp, Ordering, Less, ◌&&◌, Option, Some, None, option_map, nat_list_cmp_total, ByteMap, put_each, same_bytes, AscendFrom, Ascend, Item, pairs_of, entry_tree, T, key_type, IsBefore, nat_cmp_is, bytes_decides, texts_ties, below_all, is_sorted, is_eq, Equal, map_values, by_length, length-map, None, option_or, get_or, get_or-map, slice_get-get_or}
+use Rattle.passkey_kinds.proofs.Common.{All, AllByRecursion, nat_cmp, is_lt, ◌≡◌, ◌⊎◌, ℕ, ◌<◌, ◌≤◌, Bool, true, false, cond, List, [], ◌∷◌, length, map, refl, sym, ap, ◌∙◌, arith, inl, inr, nat_tests, rules, ◌+◌, ◌++◌, slice_cmp, length-append, byte_string, short_first, shortest_head, written, eq_by_cmp, Ordering, Less, ◌&&◌, Option, Some, None, option_map, nat_list_cmp_total, ByteMap, put_each, same_bytes, AscendFrom, Ascend, Item, pairs_of, entry_tree, T, key_type, IsBefore, nat_cmp_is, bytes_decides, texts_ties, below_all, is_sorted, is_eq, Equal, map_values, by_length, length-map, option_or, get_or, get_or-map, slice_get-get_or}
 use Rattle.std.proofs.lemmas.Cmp.{nat_cmp_total, on_total, then_total, tied_itself, eq_by_cmp_equiv}
 use Rattle.std.proofs.lemmas.List.Elements.{recursion_from_All}
 use Rattle.std.proofs.lemmas.List.Sorted.{All-permutation, IsPermutation-sym, IsPermutation-map}
@@ -18,7 +18,7 @@ use Rattle.std.specs.FinMap as fin
 by_length_total : IsTotalOrder by_length
 by_length_total = then_total (on_total length nat_cmp_total) nat_list_cmp_total
 
--- the keys that this order and that of the bytes tell apart are the same
+-- two keys are tied in this order exactly if they are in that of their bytes
 alike : (a b : List ℕ) → eq_by_cmp by_length a b ≡ eq_by_cmp (slice_cmp nat_cmp) a b
 alike a b =
     let same = bytes_decides a b in
