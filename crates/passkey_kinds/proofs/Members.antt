@@ -8,10 +8,10 @@ use Rattle.passkey_cbor.specs.Item as item
 use Rattle.passkey_kinds.specs.declared.fault.Refusal.TheVariants as refusal
 
 -- the code and the table agree on what a key names
-pub key_names : (table : Table) (is_numbered : Bool) (rows : List Entry) (key : Item) (naming : Naming)
+pub key_names : (table : Table) (key : Item) {is_numbered : Bool} {rows : List Entry} {naming : Naming}
     → is_numbered ≡ table.is_numbered → rows ≡ entries table → naming ≡ names is_numbered rows key
     → named table key ≡ naming
-key_names table is_numbered rows key naming p q e = sym (e ∙ λ i. names (p i) (q i) key)
+key_names table key p q e = sym (e ∙ λ i. names (p i) (q i) key)
 
 -- ---- one more member
 

@@ -1,4 +1,4 @@
-use Rattle.passkey_kinds.proofs.Steps.{arith, map, max_depth, split, named_as, table_of, record_cost, entry_of, wrong, ends_ok, stands_long, stands_back, key_names, at_least, cost_by_le, key_spent, member_spent}
+use Rattle.passkey_kinds.proofs.Steps.{arith, max_depth, split, named_as, table_of, record_cost, ends_ok, stands_long, stands_back, key_names, at_least, cost_by_le, key_spent, member_spent}
 use Rattle.passkey_cbor.specs.Inside.{Within}
 use Rattle.passkey_kinds.proofs.record.read_next.Goals as goal
 
@@ -8,8 +8,7 @@ returns-in-None-clause-reads g c = λ m to l.
     let b = c.args.cursor.now in
     let s = split (Within max_depth m.0) (Within max_depth m.1) b.bytes b.place to l in
     let key = c.in-None.ensures.names m.0 s.middle s.front in
-    let naming = key_names (table_of t) c.is_numbered.result (map entry_of c.rows.result.now) m.0 wrong
-    c.is_numbered.ensures c.rows.ensures.rows key.is in
+    let naming = key_names (table_of t) m.0 c.is_numbered.ensures c.rows.ensures.rows key.is in
     let spent = key_spent (record_cost t) (stands_long m.0 s.front) s.back.forward (at_least t.rows) key.spends in
     grind (arith, naming, spent)
 
@@ -18,11 +17,9 @@ returns-in-Some-clause-reads g c = λ m to l.
     let t = g.R.Record.fields in
     let b = c.args.cursor.now in
     let s = split (Within max_depth m.0) (Within max_depth m.1) b.bytes b.place to l in
-    let d = c.read_key.new.cursor in
     let key = c.in-Some.ensures.names m.0 s.middle s.front in
-    let there = stands_back m.1 d c.in-Some.ensures.onward.same key.ends s.back in
-    let naming = key_names (table_of t) c.is_numbered.result (map entry_of c.rows.result.now) m.0
-    (named_as c.in-Some.key) c.is_numbered.ensures c.rows.ensures.rows key.is in
+    let there = stands_back m.1 c.read_key.new.cursor c.in-Some.ensures.onward.same key.ends s.back in
+    let naming = key_names (table_of t) m.0 c.is_numbered.ensures c.rows.ensures.rows key.is in
     let value = c.read_member.ensures.spends m.1 to there in
     let told = c.read_member.ensures.reads m.0 m.1 to naming there in
     let spent = member_spent (record_cost t) (stands_long m.0 s.front) s.back.forward (at_least t.rows) key.spends
