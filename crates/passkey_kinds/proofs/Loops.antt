@@ -16,12 +16,6 @@ pub record EachTo {A : Type 0} (P : A → Language) (Done : List A → Type 0) (
   pub nodes : now.nodes + kept rest ≤ start.nodes + kept is
   pub fewer : length rest ≤ length is
 
--- What was spent once an element was decoded up to this place, in full or in part.
-pub record SpentTo (cost behind all middle : ℕ) (start now : Walk) : Type 0 where
-  pub within : now.place ≤ middle
-  pub heads : now.heads + cost * start.place ≤ start.heads + cost * middle
-  pub nodes : now.nodes + behind ≤ start.nodes + all
-
 -- The loop is over.
 pub record EachDone {A : Type 0} (Done : List A → Type 0) (cost all to : ℕ) (start now : Walk) : Type 0 where
   pub done : Done []
@@ -44,12 +38,6 @@ heads_end (suc k) from start place a b more to some before look at = rw at (omeg
 pub one_spare : (k kept to : ℕ) (b d : Walk) → b.place < to → Spends k kept to b d → SpendsLess (suc k) kept to b d
 one_spare k kept to b d less s = grind (arith)
 
--- an element's end is no further than the list's
-pub spent_within : {A : Type 0} {P : A → Language} {cost few all to : ℕ} {start : Walk} {after : Option ℕ}
-    {xs : List A} (b : Walk) {d : Walk} (n : Next P after xs b.bytes b.place to)
-    → SpentTo cost few all n.middle start d → Spends cost all to start d
-spent_within {cost = cost} {to = to} b n s = grind (arith, mul-le-mul_left)
-
 pub begun : {A : Type 0} (P : A → Language) (Done : List A → Type 0) (kept : List A → ℕ) (cost : ℕ) (is : List A)
     (to : ℕ) (start : Walk) (left : Option ℕ) → Done is → Lies (Left P left is) start.bytes start.place to
     → EachTo P Done kept cost left is to start start
@@ -62,21 +50,22 @@ module _ {A : Type 0} {P : A → Language} {Done : List A → Type 0} {kept : Li
   pub next_is : Walks P before after a b true → Next P after e.rest b.bytes b.place to
   next_is walks = walks e.rest to e.ahead
 
-  -- what was spent on it, and on those before it
-  pub element_spends : (d : Walk) → Looks before after a b true → (n : Next P after e.rest b.bytes b.place to)
+  -- what was spent on it in full or in part, and on those before it: its end is no further than the list's
+  pub spent_within : (d : Walk) → Looks before after a b true → (n : Next P after e.rest b.bytes b.place to)
       → (one : ℕ) → kept (n.first ∷ n.others) ≡ one + kept n.others → SpendsLess cost one n.middle b d
-      → SpentTo cost (kept n.others) (kept is) n.middle start d
-  element_spends d looks n one whole spends = grind (arith, one_looked)
+      → Spends cost (kept is) to start d
+  spent_within d looks n one whole spends = grind (arith, one_looked, mul-le-mul_left)
 
   -- there was a next element
   pub some_are : Next P after e.rest b.bytes b.place to → 0 < length is
   some_are n = omega (arith, e.fewer, ap length n.whole)
 
   -- one more element
-  pub one_more_done : (Next_done : List A → Type 0) (d : Walk) (n : Next P after e.rest b.bytes b.place to)
-      → SpentTo cost (kept n.others) (kept is) n.middle start d → d.place ≡ n.middle → d.bytes ≡ b.bytes
-      → Next_done n.others → EachTo P Next_done kept cost after is to start d
-  one_more_done Next_done d n s at same done = grind (arith)
+  pub one_more_done : (Next_done : List A → Type 0) (d : Walk) → Looks before after a b true
+      → (n : Next P after e.rest b.bytes b.place to) → (one : ℕ) → kept (n.first ∷ n.others) ≡ one + kept n.others
+      → SpendsLess cost one n.middle b d → d.place ≡ n.middle → d.bytes ≡ b.bytes → Next_done n.others
+      → EachTo P Next_done kept cost after is to start d
+  one_more_done Next_done d looks n one whole spends at same done = grind (arith, one_looked)
 
   -- no more elements
   pub each_done : Walks P before after a b false → Looks before after a b false → 0 < cost

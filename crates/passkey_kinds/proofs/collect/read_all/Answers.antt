@@ -1,4 +1,4 @@
-use Rattle.passkey_kinds.proofs.Steps.{arith, refl, err_from_is_err_and, stopped, gone_on, onward_of, onward_then, failed, next_is, element_spends, spent_within, some_are, one_more_done, each_done}
+use Rattle.passkey_kinds.proofs.Steps.{arith, ◌∙◌, sym, refl, err_from_is_err_and, stopped, gone_on, onward_of, onward_then, failed, next_is, spent_within, some_are, one_more_done, each_done}
 use Rattle.passkey_kinds.proofs.collect.read_all.Goals as goal
 
 pub returns-in_err-add-clause-reads : goal.returns-in_err-add-clause-reads
@@ -10,8 +10,7 @@ returns-in_err-add-clause-reads g c = λ xs to l.
     let n = next_is e b (g.C.Collect.way.walked _ _ _ _ _ walks) in
     let added = c.in_err-add.ensures.adds n.first n.middle n.here in
     let some = some_are e b n in
-    let spent = spent_within b n (element_spends e b c.add.new.cursor walks.looks n (g.C.Collect.way.kept n.first) refl
-    added.spends) in
+    let spent = spent_within e b c.add.new.cursor walks.looks n (g.C.Collect.way.kept n.first) refl added.spends in
     grind (arith, failed, stopped, p, e, n, added, some, spent)
 
 pub loop-alloc-preserved : goal.loop-alloc-preserved
@@ -24,8 +23,9 @@ loop-alloc-preserved g c = record {
       let e = c.loop-alloc.invariant.each xs to l in
       let n = next_is e b (g.C.Collect.way.walked _ _ _ _ _ walks) in
       let added = c.in_ok-add.ensures.adds n.first n.middle n.here in
-      let spent = element_spends e b c.add.new.cursor walks.looks n (g.C.Collect.way.kept n.first) refl added.spends in
-      grind (arith, one_more_done, gone_on, e, n, added, spent, c.in_ok-add.ensures.onward);
+      let gone = gone_on g.C.Collect.way.next _ n.first e.rest n.others _ n.whole added.answers in
+      one_more_done e b _ c.add.new.cursor walks.looks n (g.C.Collect.way.kept n.first) refl added.spends added.ends
+      c.in_ok-add.ensures.onward.same (sym gone ∙ e.done);
 }
 
 pub returns-clause-reads : goal.returns-clause-reads

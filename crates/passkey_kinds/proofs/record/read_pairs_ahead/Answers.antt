@@ -1,4 +1,4 @@
-use Rattle.passkey_kinds.proofs.Steps.{rules, refl, arith, err_from_is_err_and, onward_of, onward_then, on_ok, next_is, element_spends, spent_within, one_more_done, each_done, at_least, goes_on, fails, all_read}
+use Rattle.passkey_kinds.proofs.Steps.{rules, refl, arith, err_from_is_err_and, onward_of, onward_then, on_ok, next_is, spent_within, one_more_done, each_done, at_least, goes_on, fails, all_read}
 use Rattle.passkey_kinds.proofs.record.read_pairs_ahead.Goals as goal
 
 pub loop-alloc-preserved : goal.loop-alloc-preserved
@@ -11,8 +11,9 @@ loop-alloc-preserved g c = record {
       let e = c.loop-alloc.invariant.each ms to l in
       let n = next_is e b c.loop-alloc-test.ensures.walks.pairs in
       let one = c.in_ok-read_next.ensures.reads n.first n.middle n.here in
-      let spent = element_spends e b d c.loop-alloc-test.ensures.walks.looks n _ refl one.spends in
-      grind (arith, one_more_done, goes_on, e, n, one, spent, c.in_ok-read_next.ensures.onward);
+      one_more_done e b _ d c.loop-alloc-test.ensures.walks.looks n _ refl one.spends one.ends
+      c.in_ok-read_next.ensures.onward.same
+      (goes_on _ ms e.rest n.others n.first _ _ _ n.whole refl e.done _ _ one.answers);
 }
 
 pub returns-in_err-read_next-clause-reads : goal.returns-in_err-read_next-clause-reads
@@ -23,7 +24,7 @@ returns-in_err-read_next-clause-reads g c = λ ms to l.
     let e = c.loop-alloc.invariant.each ms to l in
     let n = next_is e b c.loop-alloc-test.ensures.walks.pairs in
     let one = c.in_err-read_next.ensures.reads n.first n.middle n.here in
-    let spent = spent_within b n (element_spends e b d c.loop-alloc-test.ensures.walks.looks n _ refl one.spends) in
+    let spent = spent_within e b d c.loop-alloc-test.ensures.walks.looks n _ refl one.spends in
     grind (arith, fails, p, e, n, one, spent)
 
 pub returns-clause-reads : goal.returns-clause-reads
