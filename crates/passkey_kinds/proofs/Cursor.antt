@@ -1,5 +1,5 @@
 -- How a cursor moves, what it spends, and values of one head or of one string.
-use Rattle.passkey_kinds.proofs.Common.{only_one, slice_get, drop-cons, get_or_from_slice_get, length-drop, drop, suc, ◌∷◌, ◌⊎◌, inl, inr, lies_size, head_again, follows_item, low_simple, head_long, encoded_long, IsEncodedAt, Opens, FindsHead, IsEncodingOfHead, PairWithin, Within, Inside, Item, Pairs, items_of, pairs_of, byte_string, array, boolean, null, text_string, number, max_depth, IsLeadingItem, Region, PassesString, item_within, simple_item, PassesLeadingItem, MakesLeadingItem, Walk, ahead, Went, Head, members-pairs_of, elements-items_of, aaguid, bytes, below, kept, truth, Kind, optional, text, one_named, FailsAs, size, AnswersAs, MayGrow, scalar_in, null_in, ReadsScalar, head_scalar, head_array, head_map, elements_in, members_in, OpensAt, Further, Decodes, Spends, Onward, named, Refused, OutOfMemory, Refusal, ◌≡◌, ◌∙◌, ◌<◌, ◌+◌, ℕ, arith, Bool, true, false, if◌then◌else◌, List, [], ◌++◌, length, Option, Some, None, option_map, refl, sym, ap, rules, ◌≤◌, Result, subst, ◌-◌, take, Ok, Err, OnOk, pos, negsuc, unwrap_or, is_some, Language, IfSome, is_ok, mul-le-mul_left, nat_tests, cases_lt, cases_eq, length-append, length-take, option_and_then}
+use Rattle.passkey_kinds.proofs.Common.{only_one, slice_get, drop-cons, get_or_from_slice_get, length-drop, drop, suc, ◌∷◌, ◌⊎◌, inl, inr, lies_size, head_again, follows_item, low_simple, head_long, encoded_long, IsEncodedAt, Opens, FindsHead, IsEncodingOfHead, PairWithin, Within, Inside, Item, byte_string, boolean, null, text_string, number, max_depth, IsLeadingItem, Region, PassesString, item_within, simple_item, PassesLeadingItem, MakesLeadingItem, Walk, ahead, Went, Head, members-pairs_of, elements-items_of, aaguid, bytes, below, kept, truth, Kind, optional, text, one_named, FailsAs, size, AnswersAs, MayGrow, scalar_in, null_in, ReadsScalar, head_scalar, head_array, head_map, elements_in, members_in, OpensAt, Further, Decodes, Spends, Onward, named, Refused, OutOfMemory, Refusal, ◌≡◌, ◌∙◌, ◌<◌, ◌+◌, ℕ, arith, Bool, true, false, if◌then◌else◌, List, [], ◌++◌, length, Option, Some, None, option_map, refl, sym, ap, rules, ◌≤◌, Result, subst, ◌-◌, take, Ok, Err, OnOk, unwrap_or, Language, IfSome, is_ok, mul-le-mul_left, nat_tests, cases_lt, cases_eq, length-append, length-take, option_and_then}
 use Rattle.passkey_kinds.proofs.Lists.{answers_from, never_grows}
 use Rattle.passkey_cbor.specs.declared.head.Head.TheVariants as head
 use Rattle.passkey_cbor.specs.Item as item
@@ -109,47 +109,16 @@ simple_any f r truths nulls others n = grind (arith, either_way)
 simple_scalar : (n : ℕ) → head_scalar (head.Simple n) ≡ scalar_in (simple_item n)
 simple_scalar n = grind (arith, nat_tests, cases_lt, cases_eq, low_simple)
 
--- ---- what a head says holds of its item
-
-module _ {X : Type 0} (f : Item → X) (g : Head → X) where
-  head_says :
-      ((n : ℕ) → g (head.Unsigned n) ≡ f (item.number (pos n))) →
-      ((n : ℕ) → g (head.Negative n) ≡ f (item.number (negsuc n))) →
-      ((len : Option ℕ) (s : List ℕ) → g (head.Bytes len) ≡ f (item.byte_string s)) →
-      ((len : Option ℕ) (s : List ℕ) → g (head.Text len) ≡ f (item.text_string s)) →
-      ((len : Option ℕ) (xs : item.Items) → g (head.Array len) ≡ f (item.array xs)) →
-      ((len : Option ℕ) (ps : item.Pairs) → g (head.Map len) ≡ f (item.map ps)) →
-      ((n : ℕ) (x : Item) → g (head.Tag n) ≡ f (item.tagged n x)) →
-      ((n : ℕ) → g (head.Simple n) ≡ f (simple_item n)) →
-      ((x : _) → g (head.Float x) ≡ f (item.float x)) →
-      (h : Head) (i : Item) (t : List ℕ) → Inside h i t → g h ≡ f i
-  head_says u v b s a m l k x (head.Unsigned n) i t w = u n ∙ sym (ap f w.0)
-  head_says u v b s a m l k x (head.Negative n) i t w = v n ∙ sym (ap f w.0)
-  head_says u v b s a m l k x (head.Bytes len) i t w = b len w.0 ∙ sym (ap f w.1.0)
-  head_says u v b s a m l k x (head.Text len) i t w = s len w.0 ∙ sym (ap f w.1.0)
-  head_says u v b s a m l k x (head.Array len) i t w = a len (items_of w.0) ∙ sym (ap f w.1.0)
-  head_says u v b s a m l k x (head.Map len) i t w = m len (pairs_of w.0) ∙ sym (ap f w.1.0)
-  head_says u v b s a m l k x (head.Tag n) i t w = l n w.0 ∙ sym (ap f w.1.0)
-  head_says u v b s a m l k x (head.Simple n) i t w = k n ∙ sym (ap f w.0)
-  head_says u v b s a m l k x (head.Float y) i t w = x y ∙ sym (ap f w.0)
-  head_says u v b s a m l k x head.Break i t w = absurd w
-
 -- ---- integers and booleans
 
-none_some : {X : Type 0} (o : Option X) (x : X) → o ≡ None → o ≡ Some x → ⊥
-none_some o x p q = absurd cc
-
 scalar_says : (h : Head) (i : Item) (t : List ℕ) → Inside h i t → head_scalar h ≡ scalar_in i
-scalar_says =
-    head_says scalar_in head_scalar (λ n. refl) (λ n. refl) (λ n s. refl) (λ n s. refl) (λ n s. refl) (λ n s. refl)
-    (λ n s. refl) simple_scalar (λ x. refl)
+scalar_says (head.Simple n) i t w = grind (arith, simple_scalar)
+scalar_says _ i t w = grind arith
 
 -- their heads are all of them
 nothing_left : (h : Head) (i : Item) (t : List ℕ) → (head_scalar h ≡ item.null → ⊥) → Inside h i t → t ≡ []
-nothing_left (head.Unsigned n) i t is w = w.1
-nothing_left (head.Negative n) i t is w = w.1
 nothing_left (head.Simple n) i t is w = w.1
-nothing_left _ i t is w = absurd (is refl)
+nothing_left _ i t is w = grind arith
 
 module _ (a b : Walk) where
   pub scalar_read : (head : Option Head) (i : Item) (to : ℕ) (found : Item)
@@ -177,7 +146,7 @@ pub scalar_ends : {A M : Type 0} (view : A → M) (kind : Kind M) (x : Item) (re
     → OnOk result Q
 scalar_ends view kind x (Err e) refused h ends = tt
 scalar_ends view kind x (Ok y) refused h ends =
-    ends (λ is. absurd (none_some _ _ (ap kind is ∙ refused) h))
+    ends (λ is. absurd (cc (ap kind is ∙ refused, h)))
 
 -- The value that the item's head has.
 pub scalar_decodes : {A M : Type 0} {view : A → M} (kind : Kind M) {wanted : Option M} {may : Type 0} (i : Item)
@@ -204,31 +173,15 @@ size_scalar _ = refl
 
 -- ---- heads of arrays and maps
 
-array_says : (h : Head) (i : Item) (t : List ℕ) → Inside h i t → is_some (head_array h) ≡ is_some (elements_in i)
-array_says =
-    head_says (λ i. is_some (elements_in i)) (λ h. is_some (head_array h)) (λ n. refl) (λ n. refl) (λ n s. refl)
-    (λ n s. refl) (λ n s. refl) (λ n s. refl) (λ n s. refl)
-    (λ n. sym (simple_any (λ i. is_some (elements_in i)) false (λ b. refl) refl (λ m. refl) n)) (λ x. refl)
-
-map_says : (h : Head) (i : Item) (t : List ℕ) → Inside h i t → is_some (head_map h) ≡ is_some (members_in i)
-map_says =
-    head_says (λ i. is_some (members_in i)) (λ h. is_some (head_map h)) (λ n. refl) (λ n. refl) (λ n s. refl)
-    (λ n s. refl) (λ n s. refl) (λ n s. refl) (λ n s. refl)
-    (λ n. sym (simple_any (λ i. is_some (members_in i)) false (λ b. refl) refl (λ m. refl) n)) (λ x. refl)
-
-no_parts : {X : Type 0} (parts : Option X) → false ≡ is_some parts → parts ≡ None
-no_parts None e = refl
-no_parts (Some xs) e = absurd cc
-
 pub array_opened : (h : Head) (i : Item) (to : ℕ) (b : Walk) → Opens i to b (Some h)
     → OpensAt elements_in (Within max_depth) i to b (head_array h)
 array_opened (head.Array left) i to b o = grind (arith, elements-items_of)
-array_opened x i to b o = no_parts (elements_in i) (array_says x i o.text o.encoded)
+array_opened _ i to b o = grind (arith, simple_any, o.encoded)
 
 pub map_opened : (h : Head) (i : Item) (to : ℕ) (b : Walk) → Opens i to b (Some h)
     → OpensAt members_in (PairWithin max_depth) i to b (head_map h)
 map_opened (head.Map left) i to b o = grind (arith, members-pairs_of)
-map_opened x i to b o = no_parts (members_in i) (map_says x i o.text o.encoded)
+map_opened _ i to b o = grind (arith, simple_any, o.encoded)
 
 pub parts_open : {X : Type 0} (parts : Item → Option (List X)) (Encoded : X → Language)
     (len : Head → Option (Option ℕ))

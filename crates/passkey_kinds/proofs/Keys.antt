@@ -1,5 +1,5 @@
 -- The rows that names and map keys name.
-use Rattle.passkey_kinds.proofs.Common.{nat_tests, find, bytes_eq, ◌≡◌, ◌∙◌, ◌<◌, ◌==◌, ℕ, pos, negsuc, arith, zero, suc, Bool, true, false, ◌+◌, List, [], ◌∷◌, ◌++◌, length, map, take, drop, set, get_or, Bor, add-one, Option, Some, None, cond, nat_lt, slice_get, refl, sym, ap, cases_lt, eqb-true, length-map, map_push, take_more_set, Item, scalar_in, naming_of, IfSome, entry_of, Row, Entry, row, wrong, row_or_unknown, names, position, position_or_len, take-suc, slice_get_past, major_of, row_at, row_named}
+use Rattle.passkey_kinds.proofs.Common.{nat_tests, find, bytes_eq, ◌≡◌, ◌∙◌, ◌<◌, ◌==◌, ℕ, pos, arith, zero, suc, Bool, true, false, ◌+◌, List, [], ◌∷◌, ◌++◌, length, map, take, drop, set, get_or, Bor, add-one, Option, Some, None, cond, nat_lt, slice_get, refl, ap, cases_lt, eqb-true, length-map, map_push, take_more_set, Item, scalar_in, naming_of, IfSome, entry_of, Row, Entry, row, wrong, row_or_unknown, names, position, position_or_len, take-suc, slice_get_past, major_of, row_at, row_named}
 use Rattle.passkey_kinds.specs.declared.rows.Named.{Named}
 use Rattle.passkey_kinds.specs.declared.rows.Named.TheVariants as named
 use Rattle.passkey_cbor.specs.Item as item
@@ -43,9 +43,8 @@ pub one_more_name : (rows : List Row) (names : List (Bor (List ℕ))) (i : ℕ) 
     → map (λ (n : Bor (List ℕ)). n.now) (take (i + 1) (set names i name))
     ≡ map (λ (e : Entry). e.name) (map entry_of (take (i + 1) rows))
 one_more_name rows names i name d less within is before =
-    let row_more = take-suc rows i d less in
-    let name_more = take_more_set names i name within in
-    rw name_more (rw (add-one, row_more) (simp map_push (λ j. before j ++ is j ∷ [])))
+    rw (take_more_set names i name within, add-one, take-suc rows i d less)
+    (simp map_push (λ j. before j ++ is j ∷ []))
 
 -- ---- what a map key names that isn't a string
 
@@ -53,12 +52,10 @@ one_more_name rows names i name d less within is before =
 pub names_nothing : (is_numbered : Bool) (es : List Entry) (i : Item) (is : Bool) → is ≡ (major_of i == 0)
     → is ≡ false → ((s : List ℕ) → i ≡ item.text_string s → ⊥) → ((s : List ℕ) → i ≡ item.byte_string s → ⊥)
     → wrong ≡ names is_numbered es i
-names_nothing b es (item.number (pos n)) is says other t h = absurd cc
-names_nothing true es (item.number (negsuc n)) is says other t h = refl
-names_nothing false es (item.number (negsuc n)) is says other t h = refl
 names_nothing b es (item.byte_string s) is says other t h = absurd (h s refl)
 names_nothing b es (item.text_string s) is says other t h = absurd (t s refl)
-names_nothing b es _ is says other t h = refl
+names_nothing true es (item.number (pos n)) is says other t h = absurd cc
+names_nothing _ es _ is says other t h = grind arith
 
 -- an integer names what it names in memory
 pub names_scalar : (is_numbered : Bool) (es : List Entry) (i : Item) → (major_of i == 0) ≡ true

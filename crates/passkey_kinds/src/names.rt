@@ -1,7 +1,6 @@
 //! Names of enumerations, decoded from data items.
 ghost use Rattle.std.specs.Prelude.{◌≡◌, ℕ, List, true, OnOk};
-ghost use Rattle.passkey_kinds.specs.Words.{Item, IsRegion, Tells, IsEncodedAt, Onward, Further, ReadsAs, LooksAtMost, item_of, AnswersAs, one_named, credential_type_named, transport_named};
-ghost use Rattle.passkey_kinds.specs.Kind as kind;
+ghost use Rattle.passkey_kinds.specs.Words.{Item, IsRegion, Tells, IsEncodedAt, Onward, Further, ReadsAs, LooksAtMost, item_of, Answers, one_named, credential_type_named, transport_named};
 
 use crate::{FromCbor, Refusal};
 use passkey_cbor::{Cursor, TextToken, Value};
@@ -9,7 +8,7 @@ use passkey_webauthn::{AuthenticatorTransport, EnumNames, NameTable, PublicKeyCr
 use std::alloc::Global;
 
 fn read_name<T: EnumNames>(value: &Value) -> Result<T, Refusal>
-    ensures { AnswersAs (λ x. x) (kind.one_named T.named (item_of value.now)) ⊥ result }
+    ensures { Answers (λ x. x) (one_named T.named) (item_of value.now) result }
 {
     match value {
         Value::Text(name) => T::from_name(name.as_str()).ok_or(Refusal::Refused),

@@ -27,14 +27,10 @@ returns-in-Some-text-clause-reads c = λ i to l.
     (c.read_base64.ensures.answers f.0 f.1.1.tells))
 
 pub returns-in-Some-text-clause-further : goal.returns-in-Some-text-clause-further
-returns-in-Some-text-clause-further c = grind (
-  arith,
-  on_ok,
-  looked_further,
-  c.in-Some-text.ensures.front,
-  c.read_base64.ensures.looks,
-  c.in_default.ensures.went.forward,
-)
+returns-in-Some-text-clause-further c =
+    let went = c.in_default.ensures.went in
+    let text = c.in-Some-text.ensures in
+    grind (arith, on_ok, looked_further, text.front, c.read_base64.ensures.looks, went.forward)
 
 pub returns-clause-reads : goal.returns-clause-reads
 returns-clause-reads c = λ i to l.
