@@ -1,5 +1,5 @@
 -- How a cursor moves, what it spends, and values of one head or of one string.
-use Rattle.passkey_kinds.proofs.Common.{only_one, slice_get, drop-cons, get_or_from_slice_get, length-drop, drop, suc, ◌∷◌, ◌⊎◌, inl, inr, lies_size, head_again, follows_item, low_simple, head_long, encoded_long, IsEncodedAt, Opens, FindsHead, IsEncodingOfHead, PairWithin, Within, Inside, Item, byte_string, boolean, null, text_string, number, max_depth, IsLeadingItem, Region, PassesString, item_within, simple_item, PassesLeadingItem, MakesLeadingItem, Walk, ahead, Went, Head, members-pairs_of, elements-items_of, aaguid, bytes, below, kept, truth, Kind, optional, text, one_named, FailsAs, size, AnswersAs, MayGrow, scalar_in, null_in, ReadsScalar, head_scalar, head_array, head_map, elements_in, members_in, OpensAt, Further, Decodes, Spends, Onward, named, Refused, OutOfMemory, Refusal, ◌≡◌, ◌∙◌, ◌<◌, ◌+◌, ℕ, arith, Bool, true, false, if◌then◌else◌, List, [], ◌++◌, length, Option, Some, None, option_map, refl, sym, ap, rules, ◌≤◌, Result, subst, ◌-◌, take, Ok, Err, OnOk, unwrap_or, Language, IfSome, is_ok, mul-le-mul_left, nat_tests, cases_lt, cases_eq, length-append, length-take, option_and_then}
+use Rattle.passkey_kinds.proofs.Common.{only_one, slice_get, drop-cons, get_or_from_slice_get, length-drop, drop, suc, ◌∷◌, ◌⊎◌, inl, inr, lies_size, head_again, follows_item, low_simple, head_long, encoded_long, IsEncodedAt, Opens, FindsHead, IsEncodingOfHead, PairWithin, Within, Inside, Item, byte_string, boolean, null, text_string, number, max_depth, IsLeadingItem, Region, PassesString, item_within, PassesLeadingItem, MakesLeadingItem, Walk, ahead, Went, Head, members-pairs_of, elements-items_of, aaguid, bytes, below, kept, truth, Kind, optional, text, one_named, FailsAs, size, AnswersAs, MayGrow, scalar_in, null_in, ReadsScalar, head_scalar, head_array, head_map, elements_in, members_in, OpensAt, Further, Decodes, Spends, Onward, named, Refused, OutOfMemory, Refusal, ◌≡◌, ◌∙◌, ◌<◌, ◌+◌, ℕ, arith, true, false, List, [], ◌++◌, length, Option, Some, None, option_map, refl, sym, ap, rules, ◌≤◌, Result, subst, ◌-◌, take, Ok, Err, OnOk, unwrap_or, Language, IfSome, is_ok, mul-le-mul_left, nat_tests, cases_lt, cases_eq, length-append, length-take, option_and_then}
 use Rattle.passkey_kinds.proofs.Lists.{answers_from, never_grows}
 use Rattle.passkey_cbor.specs.declared.head.Head.TheVariants as head
 use Rattle.passkey_cbor.specs.Item as item
@@ -94,25 +94,10 @@ module _ {a b d : Walk} {n : ℕ} (on : Onward a b) (back : d ≡ record b { pla
       → Spends (c + e) (kept + more) to a f
   spends_again q r = grind arith
 
--- ---- the item of a simple value
-
-either_way : {X : Type 0} (f : Item → X) (r : X) (b : Bool) (x y : Item) → f x ≡ r → f y ≡ r
-    → f (if b then x else y) ≡ r
-either_way f r true x y p q = p
-either_way f r false x y p q = q
-
--- what holds of all simple values holds of this one
-simple_any : {X : Type 0} (f : Item → X) (r : X) → ((b : Bool) → f (item.boolean b) ≡ r) → f item.null ≡ r
-    → ((n : ℕ) → f (item.simple n) ≡ r) → (n : ℕ) → f (simple_item n) ≡ r
-simple_any f r truths nulls others n = grind (arith, either_way)
-
-simple_scalar : (n : ℕ) → head_scalar (head.Simple n) ≡ scalar_in (simple_item n)
-simple_scalar n = grind (arith, nat_tests, cases_lt, cases_eq, low_simple)
-
 -- ---- integers and booleans
 
 scalar_says : (h : Head) (i : Item) (t : List ℕ) → Inside h i t → head_scalar h ≡ scalar_in i
-scalar_says (head.Simple n) i t w = grind (arith, simple_scalar)
+scalar_says (head.Simple n) i t w = grind (arith, nat_tests, cases_lt, cases_eq, low_simple)
 scalar_says _ i t w = grind arith
 
 -- their heads are all of them
@@ -176,12 +161,12 @@ size_scalar _ = refl
 pub array_opened : (h : Head) (i : Item) (to : ℕ) (b : Walk) → Opens i to b (Some h)
     → OpensAt elements_in (Within max_depth) i to b (head_array h)
 array_opened (head.Array left) i to b o = grind (arith, elements-items_of)
-array_opened _ i to b o = grind (arith, simple_any, o.encoded)
+array_opened _ i to b o = grind (arith, nat_tests, cases_lt, cases_eq, o.encoded)
 
 pub map_opened : (h : Head) (i : Item) (to : ℕ) (b : Walk) → Opens i to b (Some h)
     → OpensAt members_in (PairWithin max_depth) i to b (head_map h)
 map_opened (head.Map left) i to b o = grind (arith, members-pairs_of)
-map_opened _ i to b o = grind (arith, simple_any, o.encoded)
+map_opened _ i to b o = grind (arith, nat_tests, cases_lt, cases_eq, o.encoded)
 
 pub parts_open : {X : Type 0} (parts : Item → Option (List X)) (Encoded : X → Language)
     (len : Head → Option (Option ℕ))
