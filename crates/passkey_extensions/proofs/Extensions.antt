@@ -1,10 +1,10 @@
 -- Records of extensions: they can be decoded again, have few levels, and their keys ascend.
-use Rattle.passkey_kinds.proofs.Common.{Item, ReadIsCoherent, record_kind}
+use Rattle.passkey_kinds.proofs.Common.{Item, ReadIsCoherent, record_kind, places_of}
 use Rattle.passkey_kinds.proofs.Steps.{Kind, Around, OnlyAt, item_around, around, required_keeps, optional_keeps, tolerated_keeps, decoded_few, canonical_around, number_tree, ℕ, suc, ◌≤◌, arith, Option, Some, None, refl, depth, shortest_head, EachFits, IsReadBack, IsLawful, lawful, raised, truth_back, or_null_back, or_null_same, optional_place, map_back, map_values_same, IsPlain, plainly, null_plain, map_plain, numbers_plain, puts_value, puts_default, kind_back, ◌▸◌, no_more, numbers_back, result_ok, ◌≡◌, Ok, ap, byte_back, bytes_back, kept_back, anything, tolerated_place, rows_back, ◌<◌, codes, option_map, text_string, zero, nat_lt, nat_le, min, ◌^◌, ◌-◌, OnlyDeep, only_deep, AtMostOneLeadingItem, WrittenIsLeadingItem, WrittenIsCanonical, KeysAscend, ascend, keys_ascend}
 use Rattle.std.proofs.Common.{leb-true}
-use Rattle.passkey_extensions.specs.GetExtensions.{get_extensions_parts, get_extensions_tree, GetExtensionsFit, get_extensions_fields, get_extensions_places, get_extensions_kept}
-use Rattle.passkey_extensions.specs.HmacInput.{HmacInputParts, read_hmac_input, hmac_input_tree, HmacInputFits, hmac_input_fields, hmac_input_places, is_hmac_input_coherent, hmac_input_kept}
-use Rattle.passkey_extensions.specs.MakeExtensions.{make_extensions_parts, make_extensions_tree, MakeExtensionsFit, make_extensions_fields, make_extensions_places, make_extensions_kept}
+use Rattle.passkey_extensions.specs.GetExtensions.{get_extensions_parts, get_extensions_tree, GetExtensionsFit, get_extensions_fields, get_extensions_members, get_extensions_kept}
+use Rattle.passkey_extensions.specs.HmacInput.{HmacInputParts, read_hmac_input, hmac_input_tree, HmacInputFits, hmac_input_fields, hmac_input_members, is_hmac_input_coherent, hmac_input_kept}
+use Rattle.passkey_extensions.specs.MakeExtensions.{make_extensions_parts, make_extensions_tree, MakeExtensionsFit, make_extensions_fields, make_extensions_members, make_extensions_kept}
 use Rattle.passkey_extensions.specs.Prf.{prf_values, prf_inputs, prf_made, prf_used, unsigned, normal_unsigned}
 use Rattle.passkey_kinds.specs.Coded.{from_bytes, plain}
 use Rattle.passkey_kinds.specs.Placed.{PlainTable, plain_kind, plain_tree}
@@ -107,7 +107,7 @@ get_extensions_back = seen_back get_extensions_parts get_parts_back
 
 -- ---- the key that an input of hmac-secret keeps: what is encoded around it
 
-hmac_input_only : OnlyAt 0 hmac_input_places (number_tree 1) (λ h. Some h.key_agreement)
+hmac_input_only : OnlyAt 0 (places_of hmac_input_members) (number_tree 1) (λ h. Some h.key_agreement)
 unfolding shortest_head
 hmac_input_only = record {
   keyed = search plainly;
@@ -120,7 +120,7 @@ pub hmac_input_around : Around (record_kind hmac_input_fields) hmac_input_tree h
 hmac_input_around = around item_around hmac_input_fields (λ h. Some h.key_agreement) hmac_input_only
     (λ n. (omega arith, tt)) (λ n i few. search (required_keeps item_around) depth 9)
 
-pub make_extensions_only : OnlyAt 4 make_extensions_places (text_string (codes "hmac-secret-mc"))
+pub make_extensions_only : OnlyAt 4 (places_of make_extensions_members) (text_string (codes "hmac-secret-mc"))
     (λ e. option_map hmac_input_tree e.hmac_secret_mc)
 unfolding shortest_head
 make_extensions_only = record {
@@ -134,7 +134,7 @@ pub make_extensions_around : Around (record_kind make_extensions_fields) make_ex
 make_extensions_around = around hmac_input_around make_extensions_fields (λ e. e.hmac_secret_mc)
     make_extensions_only (λ n. tt) (λ n i few. search (optional_keeps hmac_input_around) depth 9)
 
-pub get_extensions_only : OnlyAt 4 get_extensions_places (text_string (codes "hmac-secret"))
+pub get_extensions_only : OnlyAt 4 (places_of get_extensions_members) (text_string (codes "hmac-secret"))
     (λ e. option_map hmac_input_tree e.hmac_secret)
 unfolding shortest_head
 get_extensions_only = record {
@@ -148,11 +148,11 @@ pub get_extensions_around : Around (record_kind get_extensions_fields) get_exten
 get_extensions_around = around hmac_input_around get_extensions_fields (λ e. e.hmac_secret) get_extensions_only
     (λ n. tt) (λ n i few. search (tolerated_keeps hmac_input_around) depth 9)
 
-pub make_extensions_keys : KeysAscend make_extensions_places
-make_extensions_keys e = keys_ascend (make_extensions_places e) (make_extensions_only.ascends e)
+pub make_extensions_keys : KeysAscend (places_of make_extensions_members)
+make_extensions_keys e = keys_ascend (places_of make_extensions_members e) (make_extensions_only.ascends e)
 
-pub get_extensions_keys : KeysAscend get_extensions_places
-get_extensions_keys e = keys_ascend (get_extensions_places e) (get_extensions_only.ascends e)
+pub get_extensions_keys : KeysAscend (places_of get_extensions_members)
+get_extensions_keys e = keys_ascend (places_of get_extensions_members e) (get_extensions_only.ascends e)
 
 pub ruleset keys = (values_law, inputs_law, made_outputs_law, make_extensions_keys, get_extensions_keys)
 
@@ -171,10 +171,10 @@ pub input_within : (h : HmacInputParts) (n : ℕ) → n < 2 ^ 64
     → nat_lt (min (depth h.key_agreement) (2 ^ 64 - 1)) n ≡ nat_le (depth (hmac_input_tree h)) n
 input_within h n small = grind (arith, input_up, input_down)
 
-pub made_levels : OnlyDeep make_extensions_places hmac_input_tree (λ e. e.hmac_secret_mc) 254
+pub made_levels : OnlyDeep (places_of make_extensions_members) hmac_input_tree (λ e. e.hmac_secret_mc) 254
 made_levels = only_deep 254 (omega arith) make_extensions_only
 
-pub used_levels : OnlyDeep get_extensions_places hmac_input_tree (λ e. e.hmac_secret) 254
+pub used_levels : OnlyDeep (places_of get_extensions_members) hmac_input_tree (λ e. e.hmac_secret) 254
 used_levels = only_deep 254 (omega arith) get_extensions_only
 
 -- ---- laws of inputs of the extension hmac-secret

@@ -34,11 +34,8 @@ get_extensions_fields = fields_with false (record { hmac_secret = None; prf = No
 
 -- ---- the encoding of the inputs
 
-abbrev pub get_extensions_places : GetExtensionsParts → List Place
-get_extensions_places = places_of get_extensions_members
-
 abbrev pub get_extensions_tree : GetExtensionsParts → Item
-get_extensions_tree e = record_tree (get_extensions_places e)
+get_extensions_tree e = record_tree (places_of get_extensions_members e)
 
 abbrev pub get_extensions_kept : GetExtensionsParts → List Item
 get_extensions_kept e = kept_if_some hmac_input_kept e.hmac_secret

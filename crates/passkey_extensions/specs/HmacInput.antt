@@ -40,11 +40,8 @@ read_hmac_input = read_item hmac_input_fields
 
 -- ---- the encoding of an input
 
-abbrev pub hmac_input_places : HmacInputParts → List Place
-hmac_input_places = places_of hmac_input_members
-
 abbrev pub hmac_input_tree : HmacInputParts → Item
-hmac_input_tree h = record_tree (hmac_input_places h)
+hmac_input_tree h = record_tree (places_of hmac_input_members h)
 
 -- what holds of every input
 abbrev pub HmacInputFits : HmacInputParts → Type 0

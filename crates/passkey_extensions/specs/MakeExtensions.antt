@@ -41,11 +41,8 @@ make_extensions_fields = fields_with false
 
 -- ---- the encoding of the inputs
 
-abbrev pub make_extensions_places : MakeExtensionsParts → List Place
-make_extensions_places = places_of make_extensions_members
-
 abbrev pub make_extensions_tree : MakeExtensionsParts → Item
-make_extensions_tree e = record_tree (make_extensions_places e)
+make_extensions_tree e = record_tree (places_of make_extensions_members e)
 
 abbrev pub make_extensions_kept : MakeExtensionsParts → List Item
 make_extensions_kept e = kept_if_some hmac_input_kept e.hmac_secret_mc

@@ -1,7 +1,7 @@
 //! Laws about the extensions' records. Each is the contract of a function that does nothing.
 ghost use Rattle.passkey_kinds.specs.Words.{WrittenIsReadBack, WrittenIsCanonical, places_of, KeysAscend};
-ghost use Rattle.passkey_extensions.specs.MakeExtensions.{make_extensions_places};
-ghost use Rattle.passkey_extensions.specs.GetExtensions.{get_extensions_places};
+ghost use Rattle.passkey_extensions.specs.MakeExtensions.{make_extensions_members};
+ghost use Rattle.passkey_extensions.specs.GetExtensions.{get_extensions_members};
 ghost use Rattle.passkey_extensions.specs.HmacInput.{read_hmac_input, hmac_input_tree, HmacInputFits, is_hmac_input_coherent, hmac_input_kept};
 ghost use Rattle.passkey_extensions.specs.Prf.{prf_values, prf_inputs, prf_made};
 
@@ -29,6 +29,6 @@ pub fn written_keys_ascend()
     ensures prf_values { KeysAscend (places_of prf_values.members) }
     ensures prf_outputs { KeysAscend (places_of prf_made.members) }
     ensures prf_inputs { KeysAscend (places_of prf_inputs.members) }
-    ensures creation { KeysAscend make_extensions_places }
-    ensures assertion { KeysAscend get_extensions_places }
+    ensures creation { KeysAscend (places_of make_extensions_members) }
+    ensures assertion { KeysAscend (places_of get_extensions_members) }
 {}

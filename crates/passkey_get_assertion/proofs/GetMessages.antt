@@ -1,13 +1,13 @@
 -- Messages of authenticatorGetAssertion: decoding their encodings again, their nesting levels, and their canonical form.
-use Rattle.passkey_kinds.proofs.Common.{record_kind}
+use Rattle.passkey_kinds.proofs.Common.{record_kind, places_of}
 use Rattle.passkey_kinds.proofs.Ordered.{canonical_of}
 use Rattle.passkey_kinds.proofs.Steps.{Around, OnlyAt, around, tolerated_keeps, decoded_few, canonical_around, record_ordered, arith, shortest_head, IsLawful, lawful, truth_back, plainly, puts_value, no_more, option_map, Item, number_tree, EachPlace, Rule, list_plain, descriptor_law, ◌≡◌, ◌≤◌, nat_le, le-leb, true, Ok, refl, depth, ReadIsCoherent, OnlyDeep, only_deep, record_keeps, byte_back, text_back, bytes_back, anything, optional_place, accepted_place, tolerated_place, few_levels, puts_default, rows_back, ◌▸◌, Bool, ◌&&◌, and_from, max_depth, is_coherent, GivenIsCoherent, ReadIsGiven, WrittenDataAreReadBack, auth_data_back, auth_data_coherent, record_within, AtMostOneLeadingItem, WrittenIsLeadingItem, WrittenIsCanonical, in_order}
 use Rattle.std.proofs.Common.{leb-true}
 use Rattle.passkey_entities.proofs.Entities.{user_law}
 use Rattle.passkey_extensions.proofs.Extensions.{get_parts_back, get_extensions_around, used_unsigned_law}
 use Rattle.passkey_extensions.specs.GetExtensions.{get_extensions_tree}
-use Rattle.passkey_get_assertion.specs.GetRequest.{options, GetRequestParts, get_request_places, get_request_fields, read_get_request, get_request_tree, GetRequestFits, is_get_request_coherent, get_request_kept}
-use Rattle.passkey_get_assertion.specs.GetResponse.{GetResponseParts, get_response_places, get_response_fields, read_get_response, get_response_tree, GetResponseFits, is_get_response_coherent, normal_get_response, get_response_kept}
+use Rattle.passkey_get_assertion.specs.GetRequest.{options, GetRequestParts, get_request_members, get_request_fields, read_get_request, get_request_tree, GetRequestFits, is_get_request_coherent, get_request_kept}
+use Rattle.passkey_get_assertion.specs.GetResponse.{GetResponseParts, get_response_members, get_response_fields, read_get_response, get_response_tree, GetResponseFits, is_get_response_coherent, normal_get_response, get_response_kept}
 
 -- ---- options of authenticatorGetAssertion can be decoded again, have one level, and their keys ascend
 
@@ -17,7 +17,7 @@ options_law = grind (arith, lawful, plainly, puts_value, truth_back, no_more)
 
 -- ---- what a request keeps, and what is encoded around it; a response keeps nothing
 
-request_only : OnlyAt 4 get_request_places (number_tree 4) (λ r. option_map get_extensions_tree r.extensions)
+request_only : OnlyAt 4 (places_of get_request_members) (number_tree 4) (λ r. option_map get_extensions_tree r.extensions)
 unfolding shortest_head
 request_only = record {
   keyed = search plainly;
@@ -31,7 +31,7 @@ request_around : Around (record_kind get_request_fields) get_request_tree get_re
 request_around = around get_extensions_around get_request_fields (λ r. r.extensions) request_only
     (λ n. tt) (λ n i few. search (tolerated_keeps get_extensions_around) depth 11 parts 11)
 
-response_each : {Q : Item → Type 0} → Rule 4 Q → (r : GetResponseParts) → EachPlace Q (get_response_places r)
+response_each : {Q : Item → Type 0} → Rule 4 Q → (r : GetResponseParts) → EachPlace Q (places_of get_response_members r)
 response_each rule r =
     search (rule.holds, plainly, descriptor_law.plain 2, user_law.plain 3, used_unsigned_law.plain 0) depth 14
 
@@ -39,7 +39,7 @@ response_each rule r =
 
 pub request_back : (r : GetRequestParts) → GetRequestFits r → read_get_request (get_request_tree r) ≡ Ok r
 request_back r fits =
-    rows_back get_request_fields (get_request_places r) r refl refl
+    rows_back get_request_fields (places_of get_request_members r) r refl refl
     (puts_value text_back r.rp_id tt ▸
     puts_value bytes_back r.client_data_hash tt ▸
     puts_default (accepted_place descriptor_law.back r.allow_list (search)) refl ▸
@@ -51,7 +51,7 @@ request_back r fits =
 
 -- ---- only the extensions may have many levels
 
-pub request_levels : OnlyDeep get_request_places get_extensions_tree (λ r. r.extensions) 255
+pub request_levels : OnlyDeep (places_of get_request_members) get_extensions_tree (λ r. r.extensions) 255
 request_levels = only_deep 255 (omega arith) request_only
 
 pub get_request_coherent : ReadIsCoherent read_get_request is_get_request_coherent
@@ -60,7 +60,7 @@ get_request_coherent = decoded_few get_request_fields request_around (omega arit
 -- ---- a response has few levels
 
 response_levels : (r : GetResponseParts) → depth (get_response_tree r) ≤ 256
-response_levels r = record_within 255 (get_response_places r) (response_each (few_levels 4 255 (omega arith)) r)
+response_levels r = record_within 255 (places_of get_response_members r) (response_each (few_levels 4 255 (omega arith)) r)
 
 has_few_levels : (r : GetResponseParts) → nat_le (depth (get_response_tree r)) max_depth ≡ true
 has_few_levels r = le-leb (depth (get_response_tree r)) 256 (response_levels r)
@@ -77,7 +77,7 @@ data_decide r = grind (arith, and_true, has_few_levels)
 pub response_back : WrittenDataAreReadBack → ReadIsGiven → (r : GetResponseParts) → GetResponseFits r
     → is_coherent r.auth_data ≡ true → read_get_response (get_response_tree r) ≡ Ok (normal_get_response r)
 response_back written given r fits coherent =
-    rows_back get_response_fields (get_response_places r) (normal_get_response r) refl refl
+    rows_back get_response_fields (places_of get_response_members r) (normal_get_response r) refl refl
     (puts_default (optional_place descriptor_law.back refl r.credential (search)) refl ▸
     puts_value (auth_data_back written given) r.auth_data (search) ▸
     puts_value bytes_back r.signature tt ▸
@@ -108,4 +108,4 @@ get_request_canonical one front = canonical_around one front request_around (λ 
 pub get_response_canonical : WrittenIsCanonical get_response_tree is_get_response_coherent get_response_kept
 unfolding shortest_head
 get_response_canonical r w coherent kept = canonical_of (get_response_tree r) w (response_levels r)
-    (record_ordered (get_response_places r) refl (response_each (in_order 4) r))
+    (record_ordered (places_of get_response_members r) refl (response_each (in_order 4) r))

@@ -72,11 +72,8 @@ read_get_request = read_item get_request_fields
 
 -- ---- the encoding of a request
 
-abbrev pub get_request_places : GetRequestParts → List Place
-get_request_places = places_of get_request_members
-
 abbrev pub get_request_tree : GetRequestParts → Item
-get_request_tree r = record_tree (get_request_places r)
+get_request_tree r = record_tree (places_of get_request_members r)
 
 -- the data item that a request keeps undecoded, if there is one
 abbrev pub get_request_kept : GetRequestParts → List Item

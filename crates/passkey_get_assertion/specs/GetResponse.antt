@@ -65,11 +65,8 @@ read_get_response = read_item get_response_fields
 
 -- ---- the encoding of a response
 
-abbrev pub get_response_places : GetResponseParts → List Place
-get_response_places = places_of get_response_members
-
 abbrev pub get_response_tree : GetResponseParts → Item
-get_response_tree r = record_tree (get_response_places r)
+get_response_tree r = record_tree (places_of get_response_members r)
 
 -- a response keeps no data item undecoded
 abbrev pub get_response_kept : GetResponseParts → List Item

@@ -1,7 +1,7 @@
 //! authenticatorGetAssertion requests.
 ghost use Rattle.std.specs.Prelude.{◌≡◌, IfOk, IfErr, OnOk};
-ghost use Rattle.passkey_kinds.specs.Words.{item_of, IsWritable, written, ReadsMessage, ReadsHere, GrowsMessage, MayGrowAt, Reads, table_of};
-ghost use Rattle.passkey_get_assertion.specs.GetRequest.{GetRequestParts, get_request_fields, read_get_request, get_request_places, get_request_tree, GetRequestFits, is_get_request_coherent, get_request_parts};
+ghost use Rattle.passkey_kinds.specs.Words.{places_of, item_of, IsWritable, written, ReadsMessage, ReadsHere, GrowsMessage, MayGrowAt, Reads, table_of};
+ghost use Rattle.passkey_get_assertion.specs.GetRequest.{GetRequestParts, get_request_fields, read_get_request, get_request_members, get_request_tree, GetRequestFits, is_get_request_coherent, get_request_parts};
 ghost use Rattle.passkey_kinds.specs.declared.fault.Fault.TheVariants.{OutOfMemory as NoRoom};
 ghost use Rattle.passkey_kinds.specs.declared.fault.WriteFault.TheVariants.{OutOfMemory as NoMemory};
 
@@ -93,7 +93,7 @@ impl Record for Request {
 }
 
 impl ToCborMap for Request {
-    ghost places = { λ r. get_request_places (get_request_parts r) };
+    ghost places = { λ r. places_of get_request_members (get_request_parts r) };
 
     ghost holds = { λ r. GetRequestFits (get_request_parts r) };
 

@@ -1,7 +1,7 @@
 //! authenticatorGetAssertion responses.
 ghost use Rattle.std.specs.Prelude.{◌≡◌, IfOk, IfErr, OnOk};
-ghost use Rattle.passkey_kinds.specs.Words.{item_of, IsWritable, written, ReadsMessage, ReadsHere, GrowsMessage, MayGrowAt, Reads, table_of};
-ghost use Rattle.passkey_get_assertion.specs.GetResponse.{GetResponseParts, get_response_fields, read_get_response, get_response_places, get_response_tree, GetResponseFits, is_get_response_coherent, get_response_parts};
+ghost use Rattle.passkey_kinds.specs.Words.{places_of, item_of, IsWritable, written, ReadsMessage, ReadsHere, GrowsMessage, MayGrowAt, Reads, table_of};
+ghost use Rattle.passkey_get_assertion.specs.GetResponse.{GetResponseParts, get_response_fields, read_get_response, get_response_members, get_response_tree, GetResponseFits, is_get_response_coherent, get_response_parts};
 ghost use Rattle.passkey_kinds.specs.declared.fault.Fault.TheVariants.{OutOfMemory as NoRoom};
 ghost use Rattle.passkey_kinds.specs.declared.fault.WriteFault.TheVariants.{OutOfMemory as NoMemory};
 
@@ -100,7 +100,7 @@ impl Record for Response {
 }
 
 impl ToCborMap for Response {
-    ghost places = { λ r. get_response_places (get_response_parts r) };
+    ghost places = { λ r. places_of get_response_members (get_response_parts r) };
 
     ghost holds = { λ r. GetResponseFits (get_response_parts r) };
 

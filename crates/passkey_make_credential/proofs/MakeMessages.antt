@@ -1,5 +1,5 @@
 -- Messages of authenticatorMakeCredential: decoding their encodings again, their nesting levels, and their canonical form.
-use Rattle.passkey_kinds.proofs.Common.{record_kind}
+use Rattle.passkey_kinds.proofs.Common.{record_kind, places_of}
 use Rattle.passkey_kinds.proofs.Steps.{Around, OnlyAt, item_around, around, required_keeps, optional_keeps, decoded_few, canonical_around, arith, ℕ, Bool, true, false, codes, text_string, shortest_head, true_place, IsLawfulAs, lawful, truth_back, PlaceHas, IsPlain, plainly, truth_plain, text_plain, puts_value, puts_default, no_more, option_map, number_tree, list_plain, descriptor_law, parameters_law, user_law, ◌≡◌, ◌≤◌, nat_le, Some, Ok, depth, ReadIsCoherent, OnlyDeep, only_deep, record_keeps, byte_back, bytes_back, anything, optional_place, accepted_same, accepted_place, rows_back, refl, ◌▸◌, ◌-◌, ◌^◌, min, nat_lt, and_from, max_depth, WrittenIsLeadingItem, is_coherent, GivenIsCoherent, ReadIsGiven, WrittenDataAreReadBack, auth_data_back, auth_data_coherent, text_back, kept_back, record_within, picked, picked_back, and_parts, AtMostOneLeadingItem, WrittenIsCanonical}
 use Rattle.std.proofs.Common.{leb-true}
 use Rattle.passkey_core.specs.DataNormal.{IsData, normal_data}
@@ -9,8 +9,8 @@ use Rattle.passkey_extensions.proofs.Extensions.{make_parts_back, make_extension
 use Rattle.passkey_extensions.specs.MakeExtensions.{make_extensions_tree}
 use Rattle.passkey_kinds.specs.Message.{WrittenIsReadBack}
 use Rattle.passkey_kinds.specs.Tree.{where_true}
-use Rattle.passkey_make_credential.specs.MakeRequest.{options, normal_options, MakeRequestParts, make_request_places, make_request_fields, read_make_request, make_request_tree, MakeRequestFits, is_make_request_coherent, normal_make_request, make_request_kept}
-use Rattle.passkey_make_credential.specs.MakeResponse.{MakeResponseParts, make_response_places, make_response_fields, read_make_response, make_response_tree, MakeResponseFits, is_make_response_coherent, normal_make_response, attestation_places, attestation_tree, unattested, make_response_kept}
+use Rattle.passkey_make_credential.specs.MakeRequest.{options, normal_options, MakeRequestParts, make_request_members, make_request_fields, read_make_request, make_request_tree, MakeRequestFits, is_make_request_coherent, normal_make_request, make_request_kept}
+use Rattle.passkey_make_credential.specs.MakeResponse.{MakeResponseParts, make_response_members, make_response_fields, read_make_response, make_response_tree, MakeResponseFits, is_make_response_coherent, normal_make_response, attestation_places, attestation_tree, unattested, make_response_kept}
 
 -- ---- options of authenticatorMakeCredential can be decoded again, have one level, and their keys ascend
 
@@ -24,7 +24,7 @@ options_law = grind (arith, lawful, plainly, up_plain, puts_value, truth_back, p
 
 -- ---- what the messages of authenticatorMakeCredential keep, and what is encoded around it
 
-request_only : OnlyAt 4 make_request_places (number_tree 6) (λ r. option_map make_extensions_tree r.extensions)
+request_only : OnlyAt 4 (places_of make_request_members) (number_tree 6) (λ r. option_map make_extensions_tree r.extensions)
 unfolding shortest_head
 request_only = record {
   keyed = search plainly;
@@ -46,7 +46,7 @@ request_around : Around (record_kind make_request_fields) make_request_tree make
 request_around = around make_extensions_around make_request_fields (λ r. r.extensions) request_only
     (λ n. tt) (λ n i few. search (optional_keeps make_extensions_around) depth 13 parts 13)
 
-response_only : OnlyAt 4 make_response_places (number_tree 3) (λ r. Some r.att_stmt)
+response_only : OnlyAt 4 (places_of make_response_members) (number_tree 3) (λ r. Some r.att_stmt)
 unfolding shortest_head
 response_only = record {
   keyed = search plainly;
@@ -64,7 +64,7 @@ response_around = around item_around make_response_fields (λ r. Some r.att_stmt
 pub request_back : (r : MakeRequestParts) → MakeRequestFits r
     → read_make_request (make_request_tree r) ≡ Ok (normal_make_request r)
 request_back r fits =
-    rows_back make_request_fields (make_request_places r) (normal_make_request r) refl refl
+    rows_back make_request_fields (places_of make_request_members r) (normal_make_request r) refl refl
     (puts_value bytes_back r.client_data_hash tt ▸
     puts_value rp_law.back r.rp (search) ▸
     puts_value user_law.back r.user (search) ▸
@@ -78,7 +78,7 @@ request_back r fits =
 
 -- ---- only the extensions, or the statement, may have many levels
 
-pub request_levels : OnlyDeep make_request_places make_extensions_tree (λ r. r.extensions) 255
+pub request_levels : OnlyDeep (places_of make_request_members) make_extensions_tree (λ r. r.extensions) 255
 request_levels = only_deep 255 (omega arith) request_only
 
 response_up : (r : MakeResponseParts) → depth r.att_stmt ≤ 255 → depth (make_response_tree r) ≤ 256
@@ -97,7 +97,7 @@ statement_decides r = grind (arith, response_up, response_down)
 pub response_back : WrittenDataAreReadBack → ReadIsGiven → (r : MakeResponseParts) → MakeResponseFits r
     → is_coherent r.auth_data ≡ true → read_make_response (make_response_tree r) ≡ Ok (normal_make_response r)
 response_back written given r fits coherent =
-    rows_back make_response_fields (make_response_places r) (normal_make_response r) refl refl
+    rows_back make_response_fields (places_of make_response_members r) (normal_make_response r) refl refl
     (puts_value text_back r.fmt tt ▸
     puts_value (auth_data_back written given) r.auth_data (search) ▸
     puts_value kept_back r.att_stmt tt ▸

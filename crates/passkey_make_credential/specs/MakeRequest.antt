@@ -91,11 +91,8 @@ read_make_request = read_item make_request_fields
 
 -- ---- the encoding of a request
 
-abbrev pub make_request_places : MakeRequestParts → List Place
-make_request_places = places_of make_request_members
-
 abbrev pub make_request_tree : MakeRequestParts → Item
-make_request_tree r = record_tree (make_request_places r)
+make_request_tree r = record_tree (places_of make_request_members r)
 
 -- the data item that a request keeps undecoded, if there is one
 abbrev pub make_request_kept : MakeRequestParts → List Item

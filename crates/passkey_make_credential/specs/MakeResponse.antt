@@ -55,11 +55,8 @@ read_make_response = read_item make_response_fields
 
 -- ---- the encoding of a response
 
-abbrev pub make_response_places : MakeResponseParts → List Place
-make_response_places = places_of make_response_members
-
 abbrev pub make_response_tree : MakeResponseParts → Item
-make_response_tree r = record_tree (make_response_places r)
+make_response_tree r = record_tree (places_of make_response_members r)
 
 -- the data item that a response keeps undecoded: the attestation statement
 abbrev pub make_response_kept : MakeResponseParts → List Item

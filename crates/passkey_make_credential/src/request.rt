@@ -1,7 +1,7 @@
 //! authenticatorMakeCredential requests.
 ghost use Rattle.std.specs.Prelude.{◌≡◌, IfOk, IfErr, OnOk};
-ghost use Rattle.passkey_kinds.specs.Words.{item_of, IsWritable, written, ReadsMessage, ReadsHere, GrowsMessage, MayGrowAt, Reads, table_of};
-ghost use Rattle.passkey_make_credential.specs.MakeRequest.{MakeRequestParts, make_request_fields, read_make_request, make_request_places, make_request_tree, MakeRequestFits, is_make_request_coherent, make_request_parts};
+ghost use Rattle.passkey_kinds.specs.Words.{places_of, item_of, IsWritable, written, ReadsMessage, ReadsHere, GrowsMessage, MayGrowAt, Reads, table_of};
+ghost use Rattle.passkey_make_credential.specs.MakeRequest.{MakeRequestParts, make_request_fields, read_make_request, make_request_members, make_request_tree, MakeRequestFits, is_make_request_coherent, make_request_parts};
 ghost use Rattle.passkey_kinds.specs.declared.fault.Fault.TheVariants.{OutOfMemory as NoRoom};
 ghost use Rattle.passkey_kinds.specs.declared.fault.WriteFault.TheVariants.{OutOfMemory as NoMemory};
 
@@ -106,7 +106,7 @@ impl Record for Request {
 }
 
 impl ToCborMap for Request {
-    ghost places = { λ r. make_request_places (make_request_parts r) };
+    ghost places = { λ r. places_of make_request_members (make_request_parts r) };
 
     ghost holds = { λ r. MakeRequestFits (make_request_parts r) };
 

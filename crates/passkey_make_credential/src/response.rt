@@ -1,7 +1,7 @@
 //! authenticatorMakeCredential responses.
 ghost use Rattle.std.specs.Prelude.{◌≡◌, IfOk, IfErr, OnOk};
-ghost use Rattle.passkey_kinds.specs.Words.{item_of, IsWritable, written, IsData, data_parts, ReadsMessage, ReadsHere, GrowsMessage, MayGrowAt, Reads, table_of};
-ghost use Rattle.passkey_make_credential.specs.MakeResponse.{MakeResponseParts, make_response_fields, read_make_response, make_response_places, make_response_tree, MakeResponseFits, is_make_response_coherent, attestation_tree, make_response_parts};
+ghost use Rattle.passkey_kinds.specs.Words.{places_of, item_of, IsWritable, written, IsData, data_parts, ReadsMessage, ReadsHere, GrowsMessage, MayGrowAt, Reads, table_of};
+ghost use Rattle.passkey_make_credential.specs.MakeResponse.{MakeResponseParts, make_response_fields, read_make_response, make_response_members, make_response_tree, MakeResponseFits, is_make_response_coherent, attestation_tree, make_response_parts};
 ghost use Rattle.passkey_kinds.specs.declared.fault.Fault.TheVariants.{OutOfMemory as NoRoom};
 ghost use Rattle.passkey_kinds.specs.declared.fault.WriteFault.TheVariants.{OutOfMemory as NoMemory};
 
@@ -85,7 +85,7 @@ impl Record for Response {
 }
 
 impl ToCborMap for Response {
-    ghost places = { λ r. make_response_places (make_response_parts r) };
+    ghost places = { λ r. places_of make_response_members (make_response_parts r) };
 
     ghost holds = { λ r. MakeResponseFits (make_response_parts r) };
 

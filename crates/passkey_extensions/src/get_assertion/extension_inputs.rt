@@ -1,8 +1,8 @@
 //! Extension inputs of authenticatorGetAssertion requests.
 ghost use Rattle.std.specs.Prelude.{nat_le, ◌≡◌, true};
-ghost use Rattle.passkey_kinds.specs.Words.{depth};
+ghost use Rattle.passkey_kinds.specs.Words.{places_of, depth};
 ghost use Rattle.passkey_core.specs.SignedOutputs.{where_some};
-ghost use Rattle.passkey_extensions.specs.GetExtensions.{GetExtensionsParts, get_extensions_fields, get_extensions_parts, no_get_extensions, has_get_extension, GetExtensionsFit, get_extensions_places, get_extensions_tree};
+ghost use Rattle.passkey_extensions.specs.GetExtensions.{GetExtensionsParts, get_extensions_fields, get_extensions_parts, no_get_extensions, has_get_extension, GetExtensionsFit, get_extensions_members, get_extensions_tree};
 
 use crate::{AuthenticatorPrfInputs, HmacGetSecretInput};
 use passkey_kinds::{Record, RecordReadBack, Refusal, Row, Sink, Source, ToCborMap, set_tolerated};
@@ -87,7 +87,7 @@ impl Record for ExtensionInputs {
 }
 
 impl ToCborMap for ExtensionInputs {
-    ghost places = { λ e. get_extensions_places (get_extensions_parts e) };
+    ghost places = { λ e. places_of get_extensions_members (get_extensions_parts e) };
 
     ghost holds = { λ e. GetExtensionsFit (get_extensions_parts e) };
 

@@ -1,8 +1,8 @@
 //! Extension inputs of authenticatorMakeCredential requests.
 ghost use Rattle.std.specs.Prelude.{nat_le, ◌≡◌, true};
-ghost use Rattle.passkey_kinds.specs.Words.{depth};
+ghost use Rattle.passkey_kinds.specs.Words.{places_of, depth};
 ghost use Rattle.passkey_core.specs.SignedOutputs.{where_some};
-ghost use Rattle.passkey_extensions.specs.MakeExtensions.{MakeExtensionsParts, make_extensions_fields, make_extensions_parts, no_make_extensions, has_make_extension, MakeExtensionsFit, make_extensions_places, make_extensions_tree};
+ghost use Rattle.passkey_extensions.specs.MakeExtensions.{MakeExtensionsParts, make_extensions_fields, make_extensions_parts, no_make_extensions, has_make_extension, MakeExtensionsFit, make_extensions_members, make_extensions_tree};
 
 use crate::{AuthenticatorPrfInputs, HmacGetSecretInput};
 use passkey_kinds::{Record, RecordReadBack, Refusal, Row, Sink, Source, ToCborMap, set};
@@ -94,7 +94,7 @@ impl Record for ExtensionInputs {
 }
 
 impl ToCborMap for ExtensionInputs {
-    ghost places = { λ e. make_extensions_places (make_extensions_parts e) };
+    ghost places = { λ e. places_of make_extensions_members (make_extensions_parts e) };
 
     ghost holds = { λ e. MakeExtensionsFit (make_extensions_parts e) };
 
