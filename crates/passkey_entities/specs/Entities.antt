@@ -4,8 +4,7 @@ use Rattle.passkey_entities.specs.declared.missing_rp_id.MissingRpId.{MissingRpI
 use Rattle.passkey_entities.specs.declared.rp.PublicKeyCredentialRpEntity.{PublicKeyCredentialRpEntity}
 use Rattle.passkey_entities.specs.declared.user.PublicKeyCredentialUserEntity.{PublicKeyCredentialUserEntity}
 use Rattle.passkey_kinds.specs.Coded.{text, bytes}
-use Rattle.passkey_kinds.specs.Record.{◌>>=◌}
-use Rattle.passkey_kinds.specs.Words.{PlainTable, required_as, optional_as}
+use Rattle.passkey_kinds.specs.Words.{◌>>=◌, PlainTable, required_as, optional_as}
 use Rattle.passkey_webauthn.specs.declared.rp.PublicKeyCredentialRpEntity as webauthn_rp
 use Rattle.passkey_webauthn.specs.declared.user.PublicKeyCredentialUserEntity as webauthn_user
 

@@ -4,10 +4,9 @@ use Rattle.passkey_get_info.specs.declared.extension.Extension.{Extension}
 use Rattle.passkey_get_info.specs.declared.options.Options.{Options}
 use Rattle.passkey_get_info.specs.declared.response.Response.{Response}
 use Rattle.passkey_get_info.specs.declared.version.Version.{Version}
-use Rattle.passkey_kinds.specs.Coded.{truth, byte, word, text, bytes, aaguid, transport, list, accepted, plain}
+use Rattle.passkey_kinds.specs.Coded.{truth, text, bytes, aaguid, list, accepted}
 use Rattle.passkey_kinds.specs.Kind.{one_named}
-use Rattle.passkey_kinds.specs.Placed.{Coded, placed_if}
-use Rattle.passkey_kinds.specs.Words.{kept_if_some, Item, text_string, Any, Kind, nothing, growing, Placed, PlainTable, default_as, optional_as, depth, null, max_depth, item_of, IfPresent, parameters, placed, required_at, optional_at, tolerated_at, places_of, EachFits, fields_with, Fields, default, read_item, Place, number_tree, record_tree, size, optional, kept, PublicKeyCredentialParameters, AuthenticatorTransport}
+use Rattle.passkey_kinds.specs.Words.{byte, word, transport, plain, Coded, placed_if, kept_if_some, Item, text_string, Any, Kind, nothing, growing, Placed, PlainTable, default_as, optional_as, depth, null, max_depth, item_of, IfPresent, parameters, placed, required_at, optional_at, tolerated_at, places_of, EachFits, fields_with, Fields, default, read_item, Place, number_tree, record_tree, size, optional, kept, PublicKeyCredentialParameters, AuthenticatorTransport}
 use Rattle.passkey_kinds.specs.declared.fault.Fault.{Fault}
 use Rattle.passkey_kinds.specs.declared.fault.WriteFault.{WriteFault}
 use Rattle.passkey_kinds.specs.declared.fault.WriteFault.TheVariants.{OutOfMemory, NumberTooLarge}

@@ -1,8 +1,7 @@
 //! COSE algorithm identifiers, decoded from data items and encoded.
 ghost use Rattle.std.specs.Prelude.{◌≡◌, ℕ, List, true};
 ghost use Rattle.std.specs.Option.{option_and_then};
-ghost use Rattle.passkey_kinds.specs.Words.{IsRegion, Tells, algorithm_named, algorithm_number, algorithm_tree, AnswersAs, LooksAtMost, algorithm, whole_64};
-ghost use Rattle.passkey_kinds.specs.Reader.{scalar_of, signed_in};
+ghost use Rattle.passkey_kinds.specs.Words.{IsRegion, Tells, algorithm_named, algorithm_number, algorithm_tree, AnswersAs, LooksAtMost, algorithm, whole_64, scalar_of, signed_in};
 
 use crate::head::read_scalar;
 use crate::{FromCbor, OutOfMemory, Refusal, ToCbor};

@@ -1,8 +1,7 @@
 //! Arrays of 32 bytes, decoded from data items and encoded as arrays of integers.
 ghost use Rattle.std.specs.Prelude.{◌≡◌, ◌==◌, ℕ, [], OnOk, List, length, map, take, if◌then◌else◌, false, Some, None};
-ghost use Rattle.passkey_kinds.specs.Words.{Item, Tells, IsEncodedAt, Further, Onward, Decodes, LooksAtMost, item_of, byte_string, Answers, AnswersAs, each, AreBytes, numbers_tree, sized_bytes};
-ghost use Rattle.passkey_kinds.specs.Reader.{filling, full, numbers_in};
-ghost use Rattle.passkey_kinds.specs.Kind.{below, MayGrow};
+ghost use Rattle.passkey_kinds.specs.Words.{Item, Tells, IsEncodedAt, Further, Onward, Decodes, LooksAtMost, item_of, byte_string, Answers, AnswersAs, each, AreBytes, numbers_tree, sized_bytes, filling, full, numbers_in, MayGrow};
+ghost use Rattle.passkey_kinds.specs.Kind.{below};
 
 use crate::collect::{Gather, read_elements, read_whole};
 use crate::written::{append_each, write_each};

@@ -1,10 +1,7 @@
 //! Bytes, decoded from byte strings, from arrays of integers, and from text strings in base64url or
 //! base64.
 ghost use Rattle.std.specs.Prelude.{ℕ, List, true};
-ghost use Rattle.passkey_kinds.specs.Words.{IsRegion, Tells, LooksAtMost, text_bytes, text_string, Answers, AnswersAs, bytes};
-ghost use Rattle.passkey_kinds.specs.Reader.{pushing};
-ghost use Rattle.passkey_kinds.specs.Kind.{MayGrow};
-ghost use Rattle.passkey_kinds.specs.Typed.{below};
+ghost use Rattle.passkey_kinds.specs.Words.{IsRegion, Tells, LooksAtMost, text_bytes, text_string, Answers, AnswersAs, bytes, pushing, MayGrow, below};
 
 use crate::collect::{Gather, read_elements, read_whole};
 use crate::{FromCbor, Refusal, Source};

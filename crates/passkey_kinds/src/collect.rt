@@ -1,9 +1,8 @@
 //! Elements of arrays and members of maps, decoded one after the other at a cursor.
 ghost use Rattle.std.specs.Prelude.{◌<◌, ◌≤◌, ◌+◌, ℕ, suc, IsTrue, List, length, map, is_ok, IfSome, OnOk};
-ghost use Rattle.passkey_kinds.specs.Words.{Item, item_of, AnswersAs, IsEncodedAt, kept_sum, Decodes, Spends, Further, Onward};
+ghost use Rattle.passkey_kinds.specs.Words.{Item, item_of, AnswersAs, IsEncodedAt, kept_sum, Decodes, Spends, Further, Onward, OpensAt, Gathering, in_array, Way, AddsOne, Collects, collected};
 ghost use Rattle.passkey_cbor.specs.EncodedAt.{Lies};
 ghost use Rattle.passkey_cbor.specs.Inside.{Left};
-ghost use Rattle.passkey_kinds.specs.Reader.{OpensAt, Gathering, in_array, Way, AddsOne, Collects, collected};
 
 use crate::head::read_array;
 use crate::{Refusal, Source, Tree};

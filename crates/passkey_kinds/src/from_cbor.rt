@@ -1,7 +1,6 @@
 //! Values that are decoded from data items.
 ghost use Rattle.std.specs.Prelude.{◌^◌, ℕ, Option, option_map, OnOk};
-ghost use Rattle.passkey_kinds.specs.Words.{tolerated, Item, IsEncodedAt, item_of, Answers, Typed, Onward, Further, ReadsAs, truth, below, text, kept, optional};
-ghost use Rattle.passkey_kinds.specs.Reader.{scalar_of};
+ghost use Rattle.passkey_kinds.specs.Words.{tolerated, Item, IsEncodedAt, item_of, Answers, Typed, Onward, Further, ReadsAs, truth, below, text, kept, optional, scalar_of};
 
 use crate::Refusal;
 use crate::head::{begins_null, read_scalar};

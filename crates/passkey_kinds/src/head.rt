@@ -1,10 +1,9 @@
 //! Decodes one head at a cursor, by the type of data item that is wanted.
 ghost use Rattle.std.specs.Prelude.{◌≡◌, ℕ, ◌+◌, ◌≤◌, ◌==◌, true, false, IfSome};
 ghost use Rattle.std.specs.Option.{option_and_then};
-ghost use Rattle.passkey_kinds.specs.Words.{Item, null, IsEncodedAt, Onward, Further, Spends, max_depth};
+ghost use Rattle.passkey_kinds.specs.Words.{Item, null, IsEncodedAt, Onward, Further, Spends, max_depth, null_in, scalar_of, head_array, head_map, ReadsScalar, elements_in, members_in, OpensAt};
 ghost use Rattle.passkey_cbor.specs.Initial.{major_of};
 ghost use Rattle.passkey_cbor.specs.Inside.{Within, PairWithin};
-ghost use Rattle.passkey_kinds.specs.Reader.{null_in, scalar_of, head_array, head_map, ReadsScalar, elements_in, members_in, OpensAt};
 
 use passkey_cbor::{Cursor, Head};
 

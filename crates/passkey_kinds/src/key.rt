@@ -1,8 +1,6 @@
 //! Map keys at a cursor, and the rows that they name.
 ghost use Rattle.std.specs.Prelude.{◌≡◌, ◌≤◌, ℕ, List, Option, length, map, take, true, false, IfSome};
-ghost use Rattle.passkey_kinds.specs.Words.{Item, IsRegion, Tells, IsEncodedAt, Onward, Further, LooksAtMost, naming_of, named_as, entry_of, names, row_named};
-ghost use Rattle.passkey_kinds.specs.RecordReading.{ReadsKey, row_at};
-ghost use Rattle.passkey_kinds.specs.Reader.{scalar_of};
+ghost use Rattle.passkey_kinds.specs.Words.{Item, IsRegion, Tells, IsEncodedAt, Onward, Further, LooksAtMost, naming_of, named_as, entry_of, names, row_named, ReadsKey, row_at, scalar_of};
 
 use crate::head::{begins, read_scalar};
 use crate::rows::{Named, Row, of_number, with_name};

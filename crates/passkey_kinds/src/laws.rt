@@ -1,10 +1,7 @@
 //! Laws about decoding records and lists. Each is the contract of a function that does nothing.
-ghost use Rattle.passkey_kinds.specs.Words.{read_item, KeysAscend, places_of, descriptor, parameters, webauthn_user, KnowsMaps, PassesOverUnknown};
-ghost use Rattle.passkey_kinds.specs.Message.{AlikeDifferInLength, KnowsItems, RefusedElementIsPassedOver, SameAnswersReadAlike, UnknownMemberIsPassedOver};
+ghost use Rattle.passkey_kinds.specs.Words.{read_item, KeysAscend, places_of, descriptor, parameters, webauthn_user, KnowsMaps, PassesOverUnknown, AlikeDifferInLength, KnowsItems, RefusedElementIsPassedOver, SameAnswersReadAlike, UnknownMemberIsPassedOver, made_signed, used_signed, plain_tree};
 ghost use Rattle.std.specs.Prelude.{◌≡◌};
 ghost use Rattle.passkey_core.specs.SignedOutputs.{creation_item, assertion_item};
-ghost use Rattle.passkey_kinds.specs.Coded.{made_signed, used_signed};
-ghost use Rattle.passkey_kinds.specs.Placed.{plain_tree};
 ghost use Rattle.passkey_core.specs.declared.make_credential.SignedExtensionOutputs as creation;
 ghost use Rattle.passkey_core.specs.declared.get_assertion.SignedExtensionOutputs as assertion;
 

@@ -1,7 +1,6 @@
 //! Lists, decoded from arrays.
 ghost use Rattle.std.specs.Prelude.{map, List as Items};
-ghost use Rattle.passkey_kinds.specs.Words.{list, accepted};
-ghost use Rattle.passkey_kinds.specs.Reader.{pushing, pushing_if};
+ghost use Rattle.passkey_kinds.specs.Words.{list, accepted, pushing, pushing_if};
 
 use crate::collect::{Gather, read_elements, read_whole};
 use crate::{FromCbor, Refusal, Source, Tolerated};

@@ -1,8 +1,7 @@
 //! Records, decoded member by member.
 ghost use Rattle.std.specs.Prelude.{◌≡◌, ◌<◌, ◌≤◌, ℕ, Bool, true, false, length, map, replicate, get_or, is_ok, OnOk, set, []};
-ghost use Rattle.passkey_kinds.specs.Words.{Item, max_depth, IsEncodedAt, PairsAreEncodedAt, item_of, pair_of, Onward, Further, MayGrowIn, MayGrowAt, Reads, are_small, named_as, Fields, table_of, read_members, read_item, nested, cost_at, keeps_at, Puts, entry_of, Members, entries, named};
-ghost use Rattle.passkey_kinds.specs.Record.{MayGrowBy, first_missing as missing_of, one_more, reached, read_from};
-ghost use Rattle.passkey_kinds.specs.RecordReading.{cost_by, keeps_by, DecodesMember, DecodesMembers, DecodesRecord, held_as};
+ghost use Rattle.passkey_kinds.specs.Words.{Item, max_depth, IsEncodedAt, PairsAreEncodedAt, item_of, pair_of, Onward, Further, MayGrowIn, MayGrowAt, Reads, are_small, named_as, Fields, table_of, read_members, read_item, nested, cost_at, keeps_at, Puts, entry_of, Members, entries, named, MayGrowBy, one_more, reached, read_from, cost_by, keeps_by, DecodesMember, DecodesMembers, DecodesRecord, held_as};
+ghost use Rattle.passkey_kinds.specs.Record.{first_missing as missing_of};
 ghost use Rattle.passkey_cbor.specs.EncodedAt.{Lies};
 ghost use Rattle.passkey_cbor.specs.Inside.{PairWithin};
 

@@ -1,8 +1,7 @@
 //! The rows of a table, by number and name.
 ghost use Rattle.std.specs.Prelude.{◌≡◌, ◌==◌, map};
 ghost use Rattle.std.specs.List.{find};
-ghost use Rattle.passkey_kinds.specs.Words.{item_of, named_as, naming_of, entry_of, names, row_named, row_or_unknown};
-ghost use Rattle.passkey_kinds.specs.Record.{number_names};
+ghost use Rattle.passkey_kinds.specs.Words.{item_of, named_as, naming_of, entry_of, names, row_named, row_or_unknown, number_names};
 
 use passkey_cbor::Value;
 

@@ -1,7 +1,6 @@
 //! What the members of a map are put into: a counter, an encoder, or a list of members.
 ghost use Rattle.std.specs.Prelude.{◌≡◌, ℕ, suc, true, List, None, Some, if◌then◌else◌, option_map, OnOk};
-ghost use Rattle.passkey_kinds.specs.Words.{encoding, Item, boolean, IsWritable, IfPresent};
-ghost use Rattle.passkey_kinds.specs.Tree.{MemberAccepted, count_of, encode_member, put_one};
+ghost use Rattle.passkey_kinds.specs.Words.{encoding, Item, boolean, IsWritable, IfPresent, MemberAccepted, count_of, encode_member, put_one};
 
 use crate::{OutOfMemory, ToCbor};
 use passkey_cbor::Encoder;

@@ -2,8 +2,7 @@
 //! 1.
 ghost use Rattle.std.specs.Prelude.{◌≡◌, ℕ, option_map};
 ghost use Rattle.std.specs.Int.NonZero.{non_zero_u128_get};
-ghost use Rattle.passkey_kinds.specs.Words.{number, Answers, size};
-ghost use Rattle.passkey_kinds.specs.Reader.{scalar_of};
+ghost use Rattle.passkey_kinds.specs.Words.{number, Answers, size, scalar_of};
 ghost use Rattle.passkey_kinds.specs.Kind.{size as size_of};
 
 use crate::head::read_scalar;

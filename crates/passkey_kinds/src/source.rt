@@ -1,8 +1,6 @@
 //! Where a record's values are decoded from.
 ghost use Rattle.std.specs.Prelude.{◌≡◌, ℕ, suc, map, option_map, is_ok, Bool, true, false, OnOk};
-ghost use Rattle.passkey_kinds.specs.Words.{Item, IsEncodedAt, item_of, Keeping, nothing, in_elements, Answers, Onward, Further, Costs, accepted, or_else, tolerated};
-ghost use Rattle.passkey_kinds.specs.RecordReading.{Sets};
-ghost use Rattle.passkey_kinds.specs.Reader.{costs_nothing, onward_same, costs_at_most};
+ghost use Rattle.passkey_kinds.specs.Words.{Item, IsEncodedAt, item_of, Keeping, nothing, in_elements, Answers, Onward, Further, Costs, accepted, or_else, tolerated, Sets, costs_nothing, onward_same, costs_at_most};
 
 use crate::{FromCbor, Refusal, TolerantList, Tolerated};
 use passkey_bytes::List;

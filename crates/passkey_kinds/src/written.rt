@@ -1,8 +1,7 @@
 //! Lists and maps to encode.
 ghost use Rattle.std.specs.Prelude.{◌≡◌, ◌++◌, [], map, IfOk, OnOk};
 ghost use Rattle.std.specs.List.{All};
-ghost use Rattle.passkey_kinds.specs.Words.{encoding, item_of, IsWritable, written, Members, list_tree, map_tree, members_of};
-ghost use Rattle.passkey_kinds.specs.Tree.{append_member};
+ghost use Rattle.passkey_kinds.specs.Words.{encoding, item_of, IsWritable, written, Members, list_tree, map_tree, members_of, append_member};
 
 use crate::{OutOfMemory, Sink, ToCbor};
 use passkey_bytes::List;
