@@ -213,7 +213,7 @@ other_number _ t = refl
 pub parts_grow : (bytes : List ℕ) → DataGrow bytes → MayGrow true (byte_string bytes)
 unfolding fixed_at
 parts_grow [] e = absurd e
-parts_grow (b ∷ bytes) e = (refl, tt)
+parts_grow (b ∷ rest) e = (refl, tt)
 
 -- ---- no string is longer than its region, which is shorter than the string's encoding
 
