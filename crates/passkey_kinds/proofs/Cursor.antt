@@ -75,11 +75,6 @@ eased {c} {d} {kept} {more} {to} {a} {b} le few within p =
     (subst (λ (k : ℕ). Spends (c + (d - c)) k to a b) (omega (arith, few))
     (dearer c (d - c) kept (more - kept) to a b within p))
 
--- one item after the other
-pub spends_then : {c kept more middle to : ℕ} {a b d : Walk} → middle ≤ to → b.place ≡ middle
-    → Spends c kept middle a b → Spends c more to b d → Spends c (kept + more) to a d
-spends_then le ends p q = grind arith
-
 -- the item is still encoded at the place that the cursor went back to
 pub stands_back : (i : Item) (b : Walk) {bytes : List ℕ} {place to : ℕ} → b.bytes ≡ bytes → b.place ≡ place
     → IsEncodedAt i bytes place to → IsEncodedAt i b.bytes b.place to
