@@ -1,6 +1,6 @@
 -- Inputs of the extension hmac-secret (CTAP 2.1, section 12.5).
-use Rattle.std.specs.Prelude.{ℕ, nat_le, Bool, List, [], ◌∷◌, Option, Some, None, codes, true, Result}
-use Rattle.passkey_kinds.specs.Words.{depth, max_depth, Item, null, Placed, required_at, optional_at, places_of, EachFits, Fields, fields_with, read_item, nested, Place, record_tree, item_of, byte, item, Coded}
+use Rattle.std.specs.Prelude.{ℕ, nat_le, Bool, List, [], ◌∷◌, Option, None, codes, true, Result}
+use Rattle.passkey_kinds.specs.Words.{depth, max_depth, Item, null, Placed, required_at, optional_at, places_of, EachFits, Fields, fields_with, read_item, nested, record_tree, item_of, byte, item, Coded}
 use Rattle.passkey_kinds.specs.Coded.{bytes}
 use Rattle.passkey_kinds.specs.declared.fault.Fault.{Fault}
 use Rattle.passkey_extensions.specs.declared.hmac_secret.HmacGetSecretInput.{HmacGetSecretInput}

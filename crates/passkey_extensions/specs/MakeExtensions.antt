@@ -1,6 +1,6 @@
 -- Extension inputs of authenticatorMakeCredential requests (CTAP 2.1, section 6.1).
-use Rattle.std.specs.Prelude.{List, [], ◌∷◌, Bool, Option, Some, None, codes, false, ◌||◌, is_some, option_map}
-use Rattle.passkey_kinds.specs.Words.{kept_if_some, Item, Placed, optional_as, places_of, EachFits, Fields, fields_with, nested, Place, record_tree, plain, Coded}
+use Rattle.std.specs.Prelude.{List, [], ◌∷◌, Bool, Option, None, codes, false, ◌||◌, is_some, option_map}
+use Rattle.passkey_kinds.specs.Words.{kept_if_some, Item, Placed, optional_as, places_of, EachFits, Fields, fields_with, nested, record_tree, plain, Coded}
 use Rattle.passkey_kinds.specs.Coded.{truth}
 use Rattle.passkey_extensions.specs.HmacInput.{HmacInputParts, hmac_input_parts, hmac_coded, hmac_input_kept}
 use Rattle.passkey_extensions.specs.Prf.{prf_inputs}

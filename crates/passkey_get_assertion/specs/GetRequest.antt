@@ -4,7 +4,7 @@ use Rattle.passkey_extensions.specs.GetExtensions.{GetExtensionsParts, get_exten
 use Rattle.passkey_get_assertion.specs.declared.options.Options.{Options}
 use Rattle.passkey_get_assertion.specs.declared.request.Request.{Request}
 use Rattle.passkey_kinds.specs.Coded.{truth, byte, text, bytes, accepted, plain}
-use Rattle.passkey_kinds.specs.Words.{kept_if_some, PlainTable, default_as, depth, max_depth, Item, Placed, required_at, default_at, optional_at, tolerated_at, places_of, EachFits, descriptor, Fields, fields_with, read_item, Place, record_tree, PublicKeyCredentialDescriptor}
+use Rattle.passkey_kinds.specs.Words.{kept_if_some, PlainTable, default_as, depth, max_depth, Item, Placed, required_at, default_at, optional_at, tolerated_at, places_of, EachFits, descriptor, Fields, fields_with, read_item, record_tree, PublicKeyCredentialDescriptor}
 use Rattle.passkey_kinds.specs.declared.fault.Fault.{Fault}
 
 -- ---- options of authenticatorGetAssertion requests (CTAP 2.1, section 6.2)

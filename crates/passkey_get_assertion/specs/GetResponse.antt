@@ -1,6 +1,6 @@
 -- authenticatorGetAssertion responses (CTAP 2.1, section 6.2).
 use Rattle.std.specs.Prelude.{ℕ, nat_le, Bool, true, ◌&&◌, List, [], ◌∷◌, Option, None, codes, Result, replicate}
-use Rattle.passkey_kinds.specs.Words.{depth, max_depth, Item, is_coherent, normal_data, DataParts, bare_data, Placed, required_at, optional_at, places_of, EachFits, descriptor, Fields, fields_with, read_item, Place, record_tree, PublicKeyCredentialDescriptor, data_parts}
+use Rattle.passkey_kinds.specs.Words.{depth, max_depth, Item, is_coherent, normal_data, DataParts, bare_data, Placed, required_at, optional_at, places_of, EachFits, descriptor, Fields, fields_with, read_item, record_tree, PublicKeyCredentialDescriptor, data_parts}
 use Rattle.passkey_kinds.specs.Coded.{truth, byte, bytes, authenticator_data, plain}
 use Rattle.passkey_kinds.specs.declared.fault.Fault.{Fault}
 use Rattle.passkey_entities.specs.Entities.{user}

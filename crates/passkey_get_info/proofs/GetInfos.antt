@@ -50,8 +50,9 @@ module _ {P : Type 0} {n : ℕ} {name : List ℕ} {old : P} where
 pub options_law : IsLawful 0 options
 unfolding shortest_head
 options_law = lawful 0 options (λ o. refl) (λ o. refl) (λ o. refl) (λ k o. search plainly depth 24) (λ o fits.
-    flag_row _ refl ▸ truth_row _ ▸ truth_row _ ▸ flag_row _ refl ▸ truth_row _ ▸ flag_row _ refl ▸ flag_row _ refl ▸ flag_row _ refl ▸ flag_row _ refl
-    ▸ flag_row _ refl ▸ flag_row _ refl ▸ flag_row _ refl ▸ flag_row _ refl ▸ flag_row _ refl ▸ flag_row _ refl ▸ flag_row _ refl ▸ flag_row _ refl ▸ flag_row _ refl
+    flag_row _ refl ▸ truth_row _ ▸ truth_row _ ▸ flag_row _ refl ▸ truth_row _ ▸ flag_row _ refl ▸
+    flag_row _ refl ▸ flag_row _ refl ▸ flag_row _ refl ▸ flag_row _ refl ▸ flag_row _ refl ▸ flag_row _ refl ▸
+    flag_row _ refl ▸ flag_row _ refl ▸ flag_row _ refl ▸ flag_row _ refl ▸ flag_row _ refl ▸ flag_row _ refl
     ▸ flag_row _ refl ▸ no_more)
 
 -- ---- the certifications that a response keeps, and what is encoded around them
