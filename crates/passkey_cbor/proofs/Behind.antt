@@ -1,18 +1,19 @@
 -- Skipping what follows the head of a data item.
 use Rattle.std.proofs.Common.{◌≡◌, ℕ, zero, suc, ◌-◌, ◌<◌, Bool, true, false, List, Option, Some, None, refl, sym, ap, subst, ◌∙◌, arith}
-use Rattle.std.specs.Prelude.{is_some, option_map}
 use Rattle.std.specs.List.{concat}
 use Rattle.passkey_cbor.specs.Item.{Item, array, map, tagged, items_of, pairs_of}
 use Rattle.passkey_cbor.specs.HeadReading.{◌>>=◌, Read, head_at}
 use Rattle.passkey_cbor.specs.Reading.{Reader, start, string_at, list_at, pair_by, item_by, item_within, chunk, piece_at}
 use Rattle.passkey_cbor.specs.Lent.{string_item, string_head}
 use Rattle.passkey_cbor.specs.Walk.{Walk, ahead, IsInside}
-use Rattle.passkey_cbor.specs.Steps.{NoHead, PassesOver, Skips, ReadsPiece, entry_by}
+use Rattle.passkey_cbor.specs.HeadCount.{content_len}
+use Rattle.passkey_cbor.specs.Steps.{NoHead, PassesOver, Skips, entry_by}
 use Rattle.passkey_cbor.specs.declared.skip.Entry.{Entry}
 use Rattle.passkey_cbor.specs.declared.head.Head.{Head}
 use Rattle.passkey_cbor.specs.declared.head.Head.TheVariants as head
 use Rattle.passkey_cbor.proofs.Binds.{bind_at}
-use Rattle.passkey_cbor.proofs.Skipping.{passed_none, stopped_none, skips_after, skips_made, skips_stuck}
+use Rattle.passkey_cbor.proofs.HeadCounts.{spans_flat}
+use Rattle.passkey_cbor.proofs.Skipping.{passed_none, stopped_none, skips_after, skips_as, skips_made, skips_stuck}
 
 -- the reader for this many levels, from the reader for one level deeper
 within_by : (levels : ℕ) → (inner : Option (Reader Item)) × (item_within levels ≡ item_by inner)
@@ -88,37 +89,42 @@ by_break levels h bytes is = ap (λ (k : Head). item_within levels k bytes) is
 
 -- ---- skipping it
 
-pub flat_skipped : {A : Type 0} (read : Read A) (x : A) (a : Walk) → IsInside a → read ≡ Some (x, ahead a)
-    → PassesOver read a a
-flat_skipped read x a inside e = record { value = x; reads = e; passed = passed_none a inside }
+pub flat_skipped : {A : Type 0} (content : ℕ) (read : Read A) (x : A) (a : Walk) → IsInside a → content ≡ 0
+    → read ≡ Some (x, ahead a) → PassesOver content read a a
+flat_skipped content read x a inside none e =
+    record { value = x; reads = e; passed = passed_none a inside; spans = spans_flat content a none }
 
 pub none_skipped : {A : Type 0} (read : Read A) (a : Walk) → IsInside a → read ≡ None → NoHead read a a
 none_skipped read a inside e = record { reads = e; stopped = stopped_none a inside }
 
-pub made_skipped : {A B : Type 0} (read : Read A) (whole : Read B) (make : A → B) (a b : Walk) (found : Bool)
-    → IsInside a → whole ≡ (read >>= λ x. Some (make x.0, x.1)) → Skips read a b found → Skips whole a b found
-made_skipped read whole make a b found inside e s =
-    skips_after (read >>= λ x. Some (make x.0, x.1)) whole a a b found (passed_none a inside) e
-    (skips_made read make a b found s)
+pub made_skipped : {A B : Type 0} (content : ℕ) (read : Read A) (whole : Read B) (make : A → B) (a b : Walk)
+    (found : Bool) → whole ≡ (read >>= λ x. Some (make x.0, x.1)) → Skips content read a b found
+    → Skips content whole a b found
+made_skipped content read whole make a b found e s = skips_as content (read >>= λ x. Some (make x.0, x.1)) whole a b
+    found e (skips_made content read make a b found s)
+
+-- the same for a head that says how many bytes of content follow
+pub headed_skipped : {A B : Type 0} (h g : Head) (read : Read A) (whole : Read B) (make : A → B) (a b : Walk)
+    (found : Bool) → h ≡ g → whole ≡ (read >>= λ x. Some (make x.0, x.1)) → Skips (content_len g) read a b found
+    → Skips (content_len h) whole a b found
+headed_skipped h g read whole make a b found is e s =
+    subst (λ (k : Head). Skips (content_len k) whole a b found) (sym is)
+    (made_skipped (content_len g) read whole make a b found e s)
 
 -- two data items: the first one's head is decoded already
-pub pair_skipped : (read : Reader Item) (h : Head) (a b c : Walk) (found : Bool) → PassesOver (read h (ahead a)) a b
-    → Skips (start read (ahead b)) b c found → Skips (pair_by read h (ahead a)) a c found
+pub pair_skipped : (read : Reader Item) (h : Head) (a b c : Walk) (found : Bool)
+    → PassesOver (content_len h) (read h (ahead a)) a b → Skips 0 (start read (ahead b)) b c found
+    → Skips (content_len h) (pair_by read h (ahead a)) a c found
 pair_skipped read h a b c found p s =
     let key : pair_by read h (ahead a) ≡ (start read (ahead b) >>= λ v. Some ((p.value, v.0), v.1)) = bind_at
     (read h (ahead a)) (p.value, ahead b) (λ k. start read k.1 >>= λ v. Some ((k.0, v.0), v.1)) p.reads in
-    skips_after _ (pair_by read h (ahead a)) a b c found p.passed key (skips_made (start read (ahead b))
+    skips_after (content_len h) _ (pair_by read h (ahead a)) a b c found p.passed p.spans key (skips_made 0
+    (start read (ahead b))
     (λ (v : Item). let both : Item × Item = (p.value, v) in both) b c found s)
 
 pub no_pair : (read : Reader Item) (h : Head) (a b : Walk) → NoHead (read h (ahead a)) a b
     → NoHead (pair_by read h (ahead a)) a b
 no_pair read h a b s = skips_stuck (read h (ahead a)) (λ k. start read k.1 >>= λ v. Some ((k.0, v.0), v.1)) a b s
-
--- the bytes of a string or of a chunk
-pub piece_skipped : {B : Type 0} (now : B → List ℕ) (is_text : Bool) (read : Read (List ℕ)) (a b : Walk)
-    (piece : Option B) → ReadsPiece is_text read a b (option_map now piece) → Skips read a b (is_some piece)
-piece_skipped now is_text read a b (Some s) p = record { value = now s; reads = p.reads; passed = p.passed }
-piece_skipped now is_text read a b None p = p
 
 -- a string whose head is decoded already
 pub string_piece : (is_text : Bool) (len : Option ℕ) (n : ℕ) (bytes : List ℕ) → len ≡ Some n
@@ -133,9 +139,10 @@ string_chunks is_text len bytes is = ap (λ (l : Option ℕ). string_at is_text 
 
 -- an element of a list
 pub entry_skipped : (levels : ℕ) (e g : Entry) (h : Head) (a b : Walk) (found : Bool) → e ≡ g
-    → Skips (entry_by levels g h (ahead a)) a b found → Skips (entry_by levels e h (ahead a)) a b found
+    → Skips (content_len h) (entry_by levels g h (ahead a)) a b found
+    → Skips (content_len h) (entry_by levels e h (ahead a)) a b found
 entry_skipped levels e g h a b found is s =
-    subst (λ (k : Entry). Skips (entry_by levels k h (ahead a)) a b found) (sym is) s
+    subst (λ (k : Entry). Skips (content_len h) (entry_by levels k h (ahead a)) a b found) (sym is) s
 
 -- ---- an element of a list, from its first head on
 
@@ -144,13 +151,14 @@ pair_begun : (read : Reader Item) (o : Read Head) → (o >>= λ h. pair_by read 
 pair_begun read None = refl
 pair_begun read (Some h) = refl
 
-pub whole_pair : (read : Reader Item) (a b c : Walk) (found : Bool) → PassesOver (start read (ahead a)) a b
-    → Skips (start read (ahead b)) b c found → Skips (start (pair_by read) (ahead a)) a c found
+pub whole_pair : (read : Reader Item) (a b c : Walk) (found : Bool) → PassesOver 0 (start read (ahead a)) a b
+    → Skips 0 (start read (ahead b)) b c found → Skips 0 (start (pair_by read) (ahead a)) a c found
 whole_pair read a b c found p s =
     let key : start (pair_by read) (ahead a) ≡ (start read (ahead b) >>= λ v. Some ((p.value, v.0), v.1)) =
     pair_begun read (head_at (ahead a)) ∙ bind_at (start read (ahead a)) (p.value, ahead b)
     (λ k. start read k.1 >>= λ v. Some ((k.0, v.0), v.1)) p.reads in
-    skips_after _ (start (pair_by read) (ahead a)) a b c found p.passed key (skips_made (start read (ahead b))
+    skips_after 0 _ (start (pair_by read) (ahead a)) a b c found p.passed p.spans key (skips_made 0
+    (start read (ahead b))
     (λ (v : Item). let both : Item × Item = (p.value, v) in both) b c found s)
 
 pub no_key : (read : Reader Item) (a b : Walk) → NoHead (start read (ahead a)) a b
@@ -160,6 +168,7 @@ no_key read a b s =
     record { reads = pair_begun read (head_at (ahead a)) ∙ stuck.reads; stopped = stuck.stopped }
 
 pub whole_entry : (levels : ℕ) (e g : Entry) (a b : Walk) (found : Bool) → e ≡ g
-    → Skips (start (entry_by levels g) (ahead a)) a b found → Skips (start (entry_by levels e) (ahead a)) a b found
+    → Skips 0 (start (entry_by levels g) (ahead a)) a b found
+    → Skips 0 (start (entry_by levels e) (ahead a)) a b found
 whole_entry levels e g a b found is s =
-    subst (λ (k : Entry). Skips (start (entry_by levels k) (ahead a)) a b found) (sym is) s
+    subst (λ (k : Entry). Skips 0 (start (entry_by levels k) (ahead a)) a b found) (sym is) s

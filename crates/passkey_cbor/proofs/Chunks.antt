@@ -15,7 +15,9 @@ use Rattle.passkey_cbor.proofs.Binds.{some_is, none_is_some, bind_some}
 use Rattle.passkey_cbor.proofs.Behind.{string_chunks, made_skipped}
 use Rattle.passkey_cbor.proofs.Shrinking.{list_left, chunk_left, chunk_size}
 use Rattle.passkey_cbor.proofs.Skipping.{Goes, goes_start, goes_on}
-use Rattle.passkey_cbor.proofs.Gathering.{went_then, went_passed, went_stopped, passed_heads, raised-le, raised-raised, Gathers, gathers_start, gathers_nothing, gathers_end, Here, gathers_here, gathers_on}
+use Rattle.passkey_cbor.proofs.Raised.{raised-le, raised-raised}
+use Rattle.passkey_cbor.proofs.HeadCounts.{spans_chunk}
+use Rattle.passkey_cbor.proofs.Gathering.{went_then, went_passed, went_stopped, passed_heads, Gathers, gathers_start, gathers_nothing, gathers_end, Here, gathers_here, gathers_on}
 
 -- the number of data items in a chunk: none
 abbrev pub no_nodes : List ℕ → ℕ
@@ -380,13 +382,14 @@ pub record Measures (is_text : Bool) (left : Option ℕ) (old now : Walk) (size 
 
 -- if the chunks were skipped, so was the string
 pub chunks_passed : (is_text : Bool) (a b : Walk) → IsInside a
-    → PassesOver (list_at (chunk is_text) None (ahead a)) a b → PassesOver (string_at is_text None (ahead a)) a b
-chunks_passed is_text a b inside p = made_skipped (list_at (chunk is_text) None (ahead a)) _ concat a b true inside
+    → PassesOver 0 (list_at (chunk is_text) None (ahead a)) a b
+    → PassesOver 0 (string_at is_text None (ahead a)) a b
+chunks_passed is_text a b inside p = made_skipped 0 (list_at (chunk is_text) None (ahead a)) _ concat a b true
     (string_chunks is_text None (ahead a) refl) p
 
 pub chunks_missed : (is_text : Bool) (a b : Walk) → IsInside a → NoHead (list_at (chunk is_text) None (ahead a)) a b
     → NoHead (string_at is_text None (ahead a)) a b
-chunks_missed is_text a b inside n = made_skipped (list_at (chunk is_text) None (ahead a)) _ concat a b false inside
+chunks_missed is_text a b inside n = made_skipped 0 (list_at (chunk is_text) None (ahead a)) _ concat a b false
     (string_chunks is_text None (ahead a) refl) n
 
 pub measures_start : (is_text : Bool) (a : Walk) → IsInside a → Measures is_text None a a 0
@@ -403,7 +406,7 @@ pub measures_on : (is_text : Bool) (left after : Option ℕ) (a b c d : Walk) (h
     → PieceRead is_text (chunk is_text h (ahead c)) c d s → Measures is_text after a d (size + length s)
 measures_on is_text left after a b c d h size s m n p = record {
   goes = goes_on (chunk is_text) None left after a b c d h m.goes n
-      (record { value = s; reads = p.reads; passed = p.passed });
+      (record { value = s; reads = p.reads; passed = p.passed; spans = spans_chunk is_text h c d s p });
   bytes = m.bytes ++ s;
   size_is = omega (arith, length-append m.bytes s, m.size_is);
   collects = collects_on is_text left after a b c d h m.bytes (m.bytes ++ s) s m.collects n p refl;

@@ -9,7 +9,8 @@ use Rattle.passkey_cbor.specs.Walk.{Walk, ahead, raised}
 use Rattle.passkey_cbor.specs.Building.{total, an_item, a_counted_item, a_pair, Made, Makes}
 use Rattle.passkey_cbor.specs.declared.value.Value.{Value}
 use Rattle.passkey_cbor.specs.declared.error.CborError.{CborError}
-use Rattle.passkey_cbor.proofs.Gathering.{fails_within, raised-raised}
+use Rattle.passkey_cbor.proofs.Gathering.{fails_within}
+use Rattle.passkey_cbor.proofs.Raised.{raised-raised}
 
 nodes-pos : (x : Item) → 1 ≤ nodes x
 nodes-pos (number z) = omega arith

@@ -1,5 +1,5 @@
 -- Data items encoded at an offset: as leading data items, by their heads, and for the calls of a cursor.
-use Rattle.std.proofs.Common.{◌≡◌, ℕ, ◌+◌, ◌-◌, pos, negsuc, Bool, true, false, List, [], ◌∷◌, ◌++◌, length, take, drop, Option, Some, None, Result, Ok, Err, refl, sym, ap, subst, ◌∙◌, append_assoc, arith, inl, inr}
+use Rattle.std.proofs.Common.{◌≡◌, ℕ, ◌+◌, ◌-◌, ◌≤◌, pos, negsuc, Bool, true, false, List, [], ◌∷◌, ◌++◌, length, take, drop, Option, Some, None, Result, Ok, Err, refl, sym, ap, subst, ◌∙◌, append_assoc, arith, inl, inr}
 use Rattle.std.proofs.lemmas.List.{length-append, length-drop, append-nil, take_at}
 use Rattle.passkey_cbor.specs.Item.{Item, number, byte_string, text_string, array, map, tagged, boolean, null, simple, float, elements, members}
 use Rattle.passkey_cbor.specs.Nodes.{nodes}
@@ -13,6 +13,7 @@ use Rattle.passkey_cbor.specs.HeadReading.{head_at}
 use Rattle.passkey_cbor.specs.Reading.{simple_item}
 use Rattle.passkey_cbor.specs.Inside.{Within, PairWithin, Inside}
 use Rattle.passkey_cbor.specs.Walk.{Walk, ahead, raised}
+use Rattle.passkey_cbor.specs.HeadCount.{heads_of}
 use Rattle.passkey_cbor.specs.Found.{FindsHead}
 use Rattle.passkey_cbor.specs.Skipped.{SkipsLeadingItem}
 use Rattle.passkey_cbor.specs.Valued.{ReadsValue}
@@ -200,6 +201,7 @@ passes a b true x to p l =
     record {
       is_found = refl;
       place = omega (arith, p.place, same.1, l.forward);
+      counted = p.counted ∙ ap (λ (n : ℕ). raised a.heads (heads_of (take n (ahead a)))) same.1;
       least = p.least;
       heads = omega (arith, p.heads, same.1, l.forward);
       nodes = p.nodes;
@@ -214,6 +216,7 @@ values a b (Ok v) x to p l =
     record {
       value = same.0;
       place = omega (arith, p.place, same.1, l.forward);
+      all = subst (λ (n : ℕ). raised a.heads (heads_of (take n (ahead a))) ≤ b.heads) same.1 p.all;
       least = p.least;
       heads = omega (arith, p.heads, same.1, l.forward);
       nodes = p.nodes ∙ ap (λ (y : Item). raised a.nodes (nodes y)) same.0;
@@ -225,6 +228,7 @@ values a b (Err error.OutOfMemory) x to p l =
     record {
       grows = subst Grows same.0 p.grows;
       place = p.place;
+      all = subst (λ (n : ℕ). raised a.heads (heads_of (take n (ahead a))) ≤ b.heads) same.1 p.all;
       least = p.least;
       heads = omega (arith, p.heads, same.1, l.forward);
       least_nodes = p.least_nodes;

@@ -11,6 +11,7 @@ use Rattle.passkey_cbor.specs.declared.head.Head.{Head}
 use Rattle.passkey_cbor.specs.declared.error.CborError.{CborError}
 use Rattle.passkey_cbor.specs.declared.error.CborError.TheVariants as error
 use Rattle.passkey_cbor.proofs.Binds.{some_is, none_is_some, bind_some}
+use Rattle.passkey_cbor.proofs.Raised.{raised-le, raised-raised}
 use Rattle.passkey_cbor.proofs.Shrinking.{Shrinks, list_left}
 use Rattle.passkey_cbor.proofs.Skipping.{after_one, list_begun}
 use Rattle.std.specs.Option.{IsSomeAnd}
@@ -68,20 +69,6 @@ pub passed_heads : (a b : Walk) → Passed a b → b.heads + length (ahead b) �
 passed_heads a b p =
     let long : length b.bytes ≡ length a.bytes = ap length p.same in
     omega (arith, long, p.within, p.forward, p.heads, length-drop a.place a.bytes, length-drop b.place b.bytes)
-
--- ---- the counts
-
-pub raised-le : (n k : ℕ) → raised n k ≤ n + k
-raised-le n zero = omega arith
-raised-le n (suc k) = omega arith
-
-pub raised-raised : (n j k : ℕ) → raised (raised n j) k ≡ raised n (j + k)
-raised-raised n zero k = let none : k ≡ 0 + k = omega arith in ap (raised n) none
-raised-raised n (suc j) zero = let none : suc j ≡ suc j + 0 = omega arith in ap (raised n) none
-raised-raised n (suc j) (suc k) =
-    let sum : suc j + suc k ≡ suc (j + suc k) = omega arith in
-    let both : raised (raised n (suc j)) (suc k) ≡ raised n (suc (j + suc k)) = omega arith in
-    both ∙ ap (raised n) (sym sum)
 
 -- ---- one reading after another
 

@@ -15,6 +15,7 @@ use Rattle.passkey_cbor.proofs.Binds.{some_is, none_is_some}
 use Rattle.passkey_cbor.proofs.Numbers.{IsBytes-drop}
 use Rattle.passkey_cbor.proofs.Lists.{Follows}
 use Rattle.passkey_cbor.proofs.Items.{follows_item}
+use Rattle.passkey_cbor.proofs.HeadCounts.{heads_passed}
 
 -- a leading data item is decoded
 pub front_again : (bytes : List ℕ) (x : Item) (k : ℕ) → IsLeadingItem bytes x k
@@ -92,7 +93,7 @@ no_shorter bytes x k j f lt y l g =
 -- ---- skipping the leading data item
 
 pub front_passed : (a b : Walk) → IsPlaced a.bytes a.place → raised a.heads 1 ≤ b.heads
-    → PassesOver (start (item_within max_depth) (ahead a)) a b → PassesLeadingItem a b
+    → PassesOver 0 (start (item_within max_depth) (ahead a)) a b → PassesLeadingItem a b
 front_passed a b placed least p =
     let long : length b.bytes ≡ length a.bytes = ap length p.passed.same in
     let size : (b.place - a.place) + length (ahead b) ≡ length (ahead a) =
@@ -104,12 +105,15 @@ front_passed a b placed least p =
       length-drop a.place a.bytes,
       length-drop b.place b.bytes,
     ) in
+    let fits = IsBytes-drop a.place a.bytes placed.fits in
+    let heads = heads_passed (b.place - a.place) a b fits size p.spans in
     record {
       item = p.value;
       len = b.place - a.place;
-      front = front_taken (ahead a) p.value (ahead b) (b.place - a.place) (IsBytes-drop a.place a.bytes placed.fits)
-          size p.reads;
+      front = front_taken (ahead a) p.value (ahead b) (b.place - a.place) fits size p.reads;
       place = omega (arith, p.passed.forward);
+      whole = heads.whole;
+      counted = heads.counted;
       least = least;
       heads = omega (arith, p.passed.forward, p.passed.heads);
       nodes = p.passed.nodes;

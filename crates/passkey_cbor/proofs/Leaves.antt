@@ -1,9 +1,10 @@
 -- Data items without others in them, which are skipped at once.
-use Rattle.std.proofs.Common.{◌≡◌, ℕ, ◌+◌, ◌<◌, ◌≤◌, Bool, true, List, ◌∷◌, length, take, drop, Option, Some, refl, sym, ap, ◌∙◌, arith, ◌⊎◌, inl, inr}
+use Rattle.std.proofs.Common.{◌≡◌, ℕ, ◌+◌, ◌<◌, ◌≤◌, Bool, true, false, List, ◌∷◌, length, take, drop, Option, Some, refl, sym, ap, ◌∙◌, arith, ◌⊎◌, inl, inr}
 use Rattle.std.proofs.lemmas.Bool.{cases_lt, lt-ltb, le-ltb}
 use Rattle.std.proofs.lemmas.List.{length-drop, drop-drop}
 use Rattle.passkey_cbor.specs.HeadReading.{◌>>=◌, Read, head_at}
 use Rattle.passkey_cbor.specs.Item.{Item}
+use Rattle.passkey_cbor.specs.HeadCount.{content_len, after_content, after_heads}
 use Rattle.passkey_cbor.specs.Leaf.{Headed, IsLeafLen}
 use Rattle.passkey_cbor.specs.Lent.{string_item, string_head}
 use Rattle.passkey_cbor.specs.Reading.{Reader, start, is_allowed, piece_at, item_by, item_within}
@@ -12,12 +13,21 @@ use Rattle.passkey_cbor.specs.Walk.{Walk, ahead, raised, IsInside}
 use Rattle.passkey_cbor.specs.declared.head.Head.{Head}
 use Rattle.passkey_cbor.proofs.Behind.{by_flat, by_string, string_piece}
 use Rattle.passkey_cbor.proofs.Binds.{none_is_some, bind_at}
+use Rattle.passkey_cbor.proofs.HeadCounts.{content_there, one_head, one_spans}
+
+-- the only head of a data item, and the content behind it
+leaf_head : (bytes rest behind : List ℕ) (n : ℕ) (h : Head) → head_at bytes ≡ Some (h, rest) → content_len h ≡ n
+    → n ≤ length rest → drop n rest ≡ behind → after_heads 1 bytes ≡ Some behind
+leaf_head bytes rest behind n h e content within is = one_head bytes rest behind h e
+    (ap (λ (k : ℕ). after_content k rest) content ∙ content_there n rest within ∙ ap (λ (r : List ℕ). Some r) is)
 
 -- a head that is the whole data item
 pub flat_leaf : (bytes rest : List ℕ) (k : ℕ) (g h : Head) (x : Item) → Headed bytes k g rest → g ≡ h
-    → ((inner : Option (Reader Item)) → item_by inner h rest ≡ Some (x, rest)) → IsLeafLen bytes k
-flat_leaf bytes rest k g h x e same flat = record {
+    → content_len h ≡ 0 → ((inner : Option (Reader Item)) → item_by inner h rest ≡ Some (x, rest)) → IsLeafLen bytes k
+flat_leaf bytes rest k g h x e same none flat = record {
   leaf = x;
+  one = leaf_head bytes rest rest 0 g e.reads (ap content_len same ∙ none) (omega arith) refl
+      ∙ ap (λ (r : List ℕ). Some r) (sym e.parts);
   reads = λ levels. bind_at (head_at bytes) (g, rest) (λ q. item_within levels q.0 q.1) e.reads
       ∙ by_flat levels g h x rest same flat ∙ ap (λ (r : List ℕ). Some (x, r)) (sym e.parts);
   within = e.within;
@@ -37,6 +47,10 @@ piece_within is_text n bytes y e = by_test (cases_lt (length bytes) n) where
   by_test (inl lt) = absurd (none_is_some y (rw (lt-ltb (length bytes) n lt) at e))
   by_test (inr le) = le
 
+string_content : (is_text : Bool) (len : ℕ) → content_len (string_head is_text (Some len)) ≡ len
+string_content false len = refl
+string_content true len = refl
+
 -- a string of definite length
 pub string_leaf : (bytes rest : List ℕ) (k : ℕ) (is_text : Bool) (len n : ℕ) (g : Head) → Headed bytes k g rest
     → g ≡ string_head is_text (Some len) → piece_at is_text len rest ≡ Some (take len rest, drop len rest)
@@ -47,6 +61,8 @@ string_leaf bytes rest k is_text len n g e same piece size =
     let within : len ≤ length rest = piece_within is_text len rest (take len rest, drop len rest) piece in
     record {
       leaf = string_item is_text (take len rest);
+      one = leaf_head bytes rest (drop n bytes) len g e.reads (ap content_len same ∙ string_content is_text len) within
+          after;
       reads = λ levels. bind_at (head_at bytes) (g, rest) (λ q. item_within levels q.0 q.1) e.reads
           ∙ by_string levels is_text (Some len) g rest same
           ∙ ap (λ (o : Read (List ℕ)). o >>= λ t. Some (string_item is_text t.0, t.1))
@@ -68,15 +84,17 @@ headed_two b a behind rest h next e = rw next (record { reads = e; parts = refl;
 -- a cursor that passes such an item
 pub leaf_passed : (a b : Walk) (levels n : ℕ) → IsInside a → 0 < n → IsLeafLen (ahead a) n
     → b ≡ record a { place = a.place + n; heads = raised a.heads 1 } → a.heads ≤ b.heads
-    → PassesOver (start (item_within levels) (ahead a)) a b
+    → PassesOver 0 (start (item_within levels) (ahead a)) a b
 leaf_passed a b levels n inside some l is rises =
     let place : b.place ≡ a.place + n = ap (λ (w : Walk). w.place) is in
     let heads : b.heads ≡ raised a.heads 1 = ap (λ (w : Walk). w.heads) is in
     let same : b.bytes ≡ a.bytes = ap (λ (w : Walk). w.bytes) is in
+    let after : drop n (ahead a) ≡ ahead b = drop-drop n a.place a.bytes ∙ ap (λ (k : ℕ). drop k a.bytes) (sym place)
+    ∙ ap (drop b.place) (sym same) in
     record {
       value = l.leaf;
-      reads = l.reads levels ∙ ap (λ (r : List ℕ). Some (l.leaf, r)) (drop-drop n a.place a.bytes
-          ∙ ap (λ (k : ℕ). drop k a.bytes) (sym place) ∙ ap (drop b.place) (sym same));
+      reads = l.reads levels ∙ ap (λ (r : List ℕ). Some (l.leaf, r)) after;
+      spans = one_spans a b (l.one ∙ ap (λ (r : List ℕ). Some r) after) heads;
       passed = record {
         same = same;
         within = omega (arith, place, l.within, inside, length-drop a.place a.bytes, ap length same);

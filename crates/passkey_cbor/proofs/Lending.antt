@@ -12,6 +12,8 @@ use Rattle.passkey_cbor.specs.Inside.{IsAllowed, major_type, Content}
 use Rattle.passkey_cbor.specs.HeadReading.{head_at}
 use Rattle.passkey_cbor.specs.Reading.{start, string_len, string_at, string_by, item_within}
 use Rattle.passkey_cbor.specs.Walk.{Walk, ahead, raised, IsInside}
+use Rattle.passkey_cbor.specs.HeadCount.{content_len, heads_of, Spans}
+use Rattle.std.specs.Prelude.{unwrap_or}
 use Rattle.passkey_cbor.specs.Steps.{NoHead, HeadRead, PassesOver, RegionRead, NoStringRead, ReadsString, IsLengthOf}
 use Rattle.passkey_cbor.specs.Found.{PassesHead}
 use Rattle.passkey_cbor.specs.Lent.{Region, string_item, string_head, PassesString, LendsString, LendsEncoded, IsSized}
@@ -22,6 +24,8 @@ use Rattle.passkey_cbor.proofs.Strings.{starts, encodes_string_head, string_head
 use Rattle.passkey_cbor.proofs.EncodedFrom.{stands_front, only_one}
 use Rattle.passkey_cbor.proofs.LeadingItems.{front_again}
 use Rattle.passkey_cbor.proofs.Behind.{by_string}
+use Rattle.passkey_cbor.proofs.HeadAgain.{head_again}
+use Rattle.passkey_cbor.proofs.HeadCounts.{spans_as, spans_headed, heads_passed}
 use Rattle.passkey_cbor.proofs.Skipping.{stopped_then}
 
 -- ---- strings as data items
@@ -60,11 +64,15 @@ string_by_head : (is_text : Bool) (len : Option ℕ) (bytes : List ℕ)
 string_by_head false len bytes = refl
 string_by_head true len bytes = refl
 
+string_content : (is_text : Bool) (len : Option ℕ) → content_len (string_head is_text len) ≡ unwrap_or len 0
+string_content false len = refl
+string_content true len = refl
+
 -- ---- a string was passed
 
 -- the bytes after a string's head
 pub region_read : (is_text : Bool) (len : Option ℕ) (a b : Walk) (region : List ℕ) → IsInside a → IsBytes (ahead a)
-    → PassesOver (string_at is_text len (ahead a)) a b → region ≡ take (b.place - a.place) (ahead a)
+    → PassesOver (unwrap_or len 0) (string_at is_text len (ahead a)) a b → region ≡ take (b.place - a.place) (ahead a)
     → RegionRead is_text len a b region
 region_read is_text len a b region inside fits p is =
     let t = string_takes is_text len (ahead a) p.value (ahead b) fits p.reads in
@@ -88,6 +96,7 @@ region_read is_text len a b region inside fits p is =
       tells = subst (Content is_text len p.value) (sym whole) t.encoded;
       parts = t.parts ∙ ap (λ (r : List ℕ). r ++ ahead b) (sym whole);
       passed = p.passed;
+      spans = p.spans;
     }
 
 -- the length of a region's string
@@ -99,9 +108,9 @@ region_sized is_text len a b region size r sized s c =
 
 -- a string with its head
 pub string_read : (is_text : Bool) (len : Option ℕ) (a b c : Walk) (h : Head) (region : List ℕ) → IsInside a
-    → PassesHead a b h → a.place < b.place → string_len is_text h ≡ Some len → RegionRead is_text len b c region
+    → IsBytes (ahead a) → PassesHead a b h → a.place < b.place → string_len is_text h ≡ Some len → RegionRead is_text len b c region
     → PassesString is_text a c (record { len = len; bytes = region })
-string_read is_text len a b c h region inside p further is r =
+string_read is_text len a b c h region inside fits p further is r =
     let encoded : IsEncodingOfHead (string_head is_text len) p.text =
     subst (λ (g : Head). IsEncodingOfHead g p.text) (string_len-is is_text h len is) p.encoded in
     let whole : ahead a ≡ (p.text ++ region) ++ ahead c =
@@ -122,6 +131,10 @@ string_read is_text len a b c h region inside p further is r =
     let same : length c.bytes ≡ length a.bytes = ap length (r.passed.same ∙ p.bytes) in
     let place : c.place ≡ a.place + (length p.text + length region) =
     omega (arith, size, same, inside, r.passed.within, length-drop a.place a.bytes, length-drop c.place c.bytes) in
+    let content : content_len h ≡ unwrap_or len 0 = ap content_len (string_len-is is_text h len is) ∙ string_content is_text len in
+    let spans : Spans 0 a c = spans_headed a b c h (ap head_at p.parts ∙ head_again h p.text (ahead b) p.encoded) p.heads
+    (spans_as (content_len h) (unwrap_or len 0) b c content r.spans) in
+    let heads = heads_passed (length p.text + length region) a c fits (omega (arith, size)) spans in
     record {
       content = r.content;
       len = length p.text + length region;
@@ -134,6 +147,8 @@ string_read is_text len a b c h region inside p further is r =
       headed = record { front = p.text; back = region; first = encoded; second = refl; whole = taken };
       tells = r.tells;
       place = place;
+      all_heads = heads.whole;
+      counted = heads.counted;
       least = omega (arith, p.heads, r.passed.rises);
       heads = omega (arith, place, further, p.place, p.heads, r.passed.heads, r.passed.forward);
       nodes = r.passed.nodes ∙ p.nodes;
@@ -209,6 +224,7 @@ lends is_text a b (Some r) p x to l =
         record {
           tells = p.tells;
           place = omega (arith, p.place, same.1, l.forward);
+          counted = p.counted ∙ ap (λ (n : ℕ). raised a.heads (heads_of (take n (ahead a)))) same.1;
           least = p.least;
           heads = omega (arith, p.heads, same.1, l.forward);
           nodes = p.nodes;

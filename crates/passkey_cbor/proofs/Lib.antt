@@ -7,6 +7,8 @@ pub mod Strings
 pub mod Items
 pub mod Filling
 pub mod LeadingItems
+pub mod Raised
+mod HeadCounts
 pub mod Walks
 pub mod Skipping
 pub mod Behind

@@ -13,7 +13,7 @@ use Rattle.passkey_cbor.specs.Pieces.{LendsPiece, IsAtEnd, LendsNoPiece, LooksAh
 use Rattle.passkey_cbor.specs.declared.head.Head.{Head}
 use Rattle.passkey_cbor.specs.declared.head.Head.TheVariants as head
 use Rattle.passkey_cbor.proofs.Binds.{some_is, none_is_some, bind_some}
-use Rattle.passkey_cbor.proofs.Gathering.{raised-le, raised-raised}
+use Rattle.passkey_cbor.proofs.Raised.{raised-le, raised-raised}
 use Rattle.passkey_cbor.proofs.HeadAgain.{head_again}
 use Rattle.passkey_cbor.proofs.Lists.{step_unknown}
 use Rattle.passkey_cbor.proofs.Strings.{AChunk, follows_chunk}

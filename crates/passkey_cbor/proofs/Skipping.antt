@@ -4,9 +4,11 @@ use Rattle.std.proofs.lemmas.List.{length-drop}
 use Rattle.passkey_cbor.specs.HeadReading.{◌>>=◌, Read, head_at}
 use Rattle.passkey_cbor.specs.Reading.{Reader, start, Step, end, element, step_at, after_step, list_by, list_at}
 use Rattle.passkey_cbor.specs.Walk.{Walk, ahead, IsInside, Passed, Stopped}
-use Rattle.passkey_cbor.specs.Steps.{NoHead, ElementRead, EndRead, PassesOver, Skips}
+use Rattle.passkey_cbor.specs.HeadCount.{content_len, Spans}
+use Rattle.passkey_cbor.specs.Steps.{NoHead, HeadRead, ElementRead, EndRead, PassesOver, Skips}
 use Rattle.passkey_cbor.specs.declared.head.Head.{Head}
 use Rattle.passkey_cbor.proofs.Binds.{bind_at, bind_none}
+use Rattle.passkey_cbor.proofs.HeadCounts.{spans_none, spans_then, spans_head, spans_end, spans_element}
 
 -- ---- where the cursor goes
 
@@ -64,21 +66,48 @@ stopped_then a b c p q =
 
 -- ---- one reading after another
 
-pub skips_after : {A : Type 0} (read whole : Read A) (a b c : Walk) (found : Bool) → Passed a b → whole ≡ read
-    → Skips read b c found → Skips whole a c found
-skips_after read whole a b c true p e s =
-    record { value = s.value; reads = e ∙ s.reads; passed = passed_then a b c p s.passed }
-skips_after read whole a b c false p e s = record { reads = e ∙ s.reads; stopped = stopped_then a b c p s.stopped }
+pub skips_after : {A : Type 0} (content : ℕ) (read whole : Read A) (a b c : Walk) (found : Bool) → Passed a b
+    → Spans content a b → whole ≡ read → Skips 0 read b c found → Skips content whole a c found
+skips_after content read whole a b c true p spans e s = record {
+  value = s.value;
+  reads = e ∙ s.reads;
+  passed = passed_then a b c p s.passed;
+  spans = spans_then content a b c spans s.spans;
+}
+skips_after content read whole a b c false p spans e s =
+    record { reads = e ∙ s.reads; stopped = stopped_then a b c p s.stopped }
+
+-- the same by another name
+pub skips_as : {A : Type 0} (content : ℕ) (read whole : Read A) (a b : Walk) (found : Bool) → whole ≡ read
+    → Skips content read a b found → Skips content whole a b found
+skips_as content read whole a b true e s =
+    record { value = s.value; reads = e ∙ s.reads; passed = s.passed; spans = s.spans }
+skips_as content read whole a b false e s = record { reads = e ∙ s.reads; stopped = s.stopped }
+
+-- a head, and what follows it
+pub skips_started : {A : Type 0} (read : Reader A) (h : Head) (a b c : Walk) (found : Bool) → HeadRead a b h
+    → Skips (content_len h) (read h (ahead b)) b c found → Skips 0 (start read (ahead a)) a c found
+skips_started read h a b c true r s = record {
+  value = s.value;
+  reads = bind_at (head_at (ahead a)) (h, ahead b) (λ h. read h.0 h.1) r.reads ∙ s.reads;
+  passed = passed_then a b c r.passed s.passed;
+  spans = spans_head a b c h r s.spans;
+}
+skips_started read h a b c false r s = record {
+  reads = bind_at (head_at (ahead a)) (h, ahead b) (λ h. read h.0 h.1) r.reads ∙ s.reads;
+  stopped = stopped_then a b c r.passed s.stopped;
+}
 
 -- what was decoded becomes part of something else
-pub skips_made : {A B : Type 0} (read : Read A) (make : A → B) (a b : Walk) (found : Bool) → Skips read a b found
-    → Skips (read >>= λ x. Some (make x.0, x.1)) a b found
-skips_made read make a b true s = record {
+pub skips_made : {A B : Type 0} (content : ℕ) (read : Read A) (make : A → B) (a b : Walk) (found : Bool)
+    → Skips content read a b found → Skips content (read >>= λ x. Some (make x.0, x.1)) a b found
+skips_made content read make a b true s = record {
   value = make s.value;
   reads = bind_at read (s.value, ahead b) (λ x. Some (make x.0, x.1)) s.reads;
   passed = s.passed;
+  spans = s.spans;
 }
-skips_made read make a b false s =
+skips_made content read make a b false s =
     record { reads = bind_none read (λ x. Some (make x.0, x.1)) s.reads; stopped = s.stopped }
 
 -- the first of two failed
@@ -91,6 +120,7 @@ skips_stuck read next a b s = record { reads = bind_none read next s.reads; stop
 -- The invariant of a loop over them: those that were skipped, followed by those that are left, are all of them.
 pub record Goes {A : Type 0} (read : Reader A) (all left : Option ℕ) (old now : Walk) : Type 0 where
   pub passed : Passed old now
+  pub spans : Spans 0 old now
   pub done : List A
   pub fuel : ℕ
   pub enough : length (ahead now) < fuel
@@ -103,6 +133,7 @@ behind_none (Some xs) = refl
 pub goes_start : {A : Type 0} (read : Reader A) (left : Option ℕ) (a : Walk) → IsInside a → Goes read left left a a
 goes_start read left a inside = record {
   passed = passed_none a inside;
+  spans = spans_none a;
   done = [];
   fuel = suc (length (ahead a));
   enough = omega arith;
@@ -127,16 +158,17 @@ list_stuck read (suc fuel) left bytes some e =
     list_step read fuel left bytes ∙ bind_none (step_at left bytes) (after_step read (list_by read fuel)) e
 
 pub goes_end : {A : Type 0} (read : Reader A) (all left : Option ℕ) (a b c : Walk) → Goes read all left a b
-    → EndRead left b c → PassesOver (list_at read all (ahead a)) a c
+    → EndRead left b c → PassesOver 0 (list_at read all (ahead a)) a c
 goes_end read all left a b c g r = ended g.fuel g.enough g.same where
   ended : (fuel : ℕ) → length (ahead b) < fuel → list_at read all (ahead a) ≡ (list_by read fuel left (ahead b)
-      >>= λ xs. Some (g.done ++ xs.0, xs.1)) → PassesOver (list_at read all (ahead a)) a c
+      >>= λ xs. Some (g.done ++ xs.0, xs.1)) → PassesOver 0 (list_at read all (ahead a)) a c
   ended zero enough same = absurd (omega arith)
   ended (suc fuel) enough same = record {
     value = g.done ++ [];
     reads = same ∙ bind_at (list_by read (suc fuel) left (ahead b)) ([], ahead c)
         (λ xs. Some (g.done ++ xs.0, xs.1)) (list_stepped read fuel left (ahead b) (end (ahead c)) r.reads);
     passed = passed_then a b c g.passed r.passed;
+    spans = spans_then 0 a b c g.spans (spans_end left b c r);
   }
 
 pub goes_malformed : {A : Type 0} (read : Reader A) (all left : Option ℕ) (a b c : Walk) → Goes read all left a b
@@ -171,7 +203,8 @@ regrouped {A = A} done x (Some xs) = ap (λ (ys : List A). let read : List A × 
     (sym (append_assoc done (x ∷ []) xs.0))
 
 pub goes_on : {A : Type 0} (read : Reader A) (all left after : Option ℕ) (a b c d : Walk) (h : Head) → Goes read all
-    left a b → ElementRead left after b c h → PassesOver (read h (ahead c)) c d → Goes read all after a d
+    left a b → ElementRead left after b c h → PassesOver (content_len h) (read h (ahead c)) c d
+    → Goes read all after a d
 goes_on read all left after a b c d h g r s = more g.fuel g.enough g.same where
   more : (fuel : ℕ) → length (ahead b) < fuel → list_at read all (ahead a)
       ≡ (list_by read fuel left (ahead b) >>= λ xs. Some (g.done ++ xs.0, xs.1)) → Goes read all after a d
@@ -185,6 +218,7 @@ goes_on read all left after a b c d h g r s = more g.fuel g.enough g.same where
       let to_d : length d.bytes ≡ length c.bytes = ap length s.passed.same in
       record {
         passed = passed_then a b d g.passed (passed_then b c d r.passed s.passed);
+        spans = spans_then 0 a b d g.spans (spans_element left after b c d h r s.spans);
         done = g.done ++ s.value ∷ [];
         fuel = fuel;
         enough = omega (
@@ -221,7 +255,7 @@ list_begun read fuel n bytes = list_step read fuel (Some (suc n)) bytes ∙ begu
 
 -- the element was passed
 pub goes_over : {A : Type 0} (read : Reader A) (all : Option ℕ) (left n : ℕ) (a b d : Walk) → left ≡ suc n
-    → Goes read all (Some left) a b → PassesOver (start read (ahead b)) b d → length (ahead d) < length (ahead b)
+    → Goes read all (Some left) a b → PassesOver 0 (start read (ahead b)) b d → length (ahead d) < length (ahead b)
     → Goes read all (Some n) a d
 goes_over read all left n a b d one g s shorter = more g.fuel g.enough (rw (← one) g.same) where
   more : (fuel : ℕ) → length (ahead b) < fuel → list_at read all (ahead a)
@@ -235,6 +269,7 @@ goes_over read all left n a b d one g s shorter = more g.fuel g.enough (rw (← 
       ∙ bind_at (start read (ahead b)) (s.value, ahead d) (after_one read fuel n) s.reads in
       record {
         passed = passed_then a b d g.passed s.passed;
+        spans = spans_then 0 a b d g.spans s.spans;
         done = g.done ++ s.value ∷ [];
         fuel = fuel;
         enough = omega (arith, enough, shorter);

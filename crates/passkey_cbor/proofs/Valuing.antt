@@ -82,6 +82,8 @@ value_made a b c d v p e m =
       len = p.len;
       front = p.front;
       place = place;
+      whole = p.whole;
+      all = omega (arith, p.counted, ap (λ (w : Walk). w.heads) e, m.went.heads);
       least = omega (arith, p.least, ap (λ (w : Walk). w.heads) e, m.went.heads);
       heads = two_heads a b c d p (Ok v) e m;
       nodes = nodes_are;
@@ -102,6 +104,8 @@ value_fails a b c d f x p e m back =
         front = p.front;
         grows = k.0;
         place = ap (λ (w : Walk). w.place) back;
+        all = omega
+            (arith, p.counted, ap (λ (w : Walk). w.heads) e, m.went.heads, ap (λ (w : Walk). w.heads) back);
         least = omega (arith, p.least, ap (λ (w : Walk). w.heads) e, m.went.heads, ap (λ (w : Walk). w.heads) back);
         heads = omega (arith, heads, ap (λ (w : Walk). w.heads) back);
         least_nodes =

@@ -9,6 +9,7 @@ use Rattle.passkey_cbor.specs.Inside.{Within, PairWithin, Left, Inside}
 use Rattle.passkey_cbor.specs.View.{item_of}
 use Rattle.passkey_cbor.specs.Heads.{break}
 use Rattle.passkey_cbor.specs.Walk.{Walk, ahead, raised, break_heads}
+use Rattle.passkey_cbor.specs.HeadCount.{heads_between}
 use Rattle.passkey_cbor.specs.declared.head.Head.{Head}
 use Rattle.passkey_cbor.specs.declared.value.Value.{Value}
 use Rattle.passkey_cbor.specs.declared.error.CborError.{CborError}
@@ -41,20 +42,23 @@ abbrev pub Opens : Item → ℕ → Walk → Option Head → Type 0
 Opens x to new (Some h) = Lies (Inside h x) new.bytes new.place to
 Opens x to new None = ⊥
 
--- `skip` passes the data item, and counts at least one head, and at most one for each of the item's bytes.
+-- `skip` passes the data item, and counts each of its heads: at least one, and at most one for each of the item's
+-- bytes.
 pub record Passes (to : ℕ) (old new : Walk) (found : Bool) : Type 0 where
   pub is_found : found ≡ true
   pub place : new.place ≡ to
+  pub counted : new.heads ≡ raised old.heads (heads_between old.bytes old.place to)
   pub least : raised old.heads 1 ≤ new.heads
   pub heads : new.heads + old.place ≤ old.heads + to
   pub nodes : new.nodes ≡ old.nodes
   pub bytes : new.bytes ≡ old.bytes
 
 -- `value` decodes the data item and passes it; or it runs out of memory, and the cursor doesn't move. It counts
--- at least one head, and at most two for each of the item's bytes.
+-- each of its heads at least once: at least one, and at most two for each of the item's bytes.
 pub record Valued (x : Item) (to : ℕ) (old new : Walk) (v : Value) : Type 0 where
   pub value : item_of v ≡ x
   pub place : new.place ≡ to
+  pub all : raised old.heads (heads_between old.bytes old.place to) ≤ new.heads
   pub least : raised old.heads 1 ≤ new.heads
   pub heads : new.heads + 2 * old.place ≤ old.heads + 2 * to
   pub nodes : new.nodes ≡ raised old.nodes (nodes x)
@@ -63,6 +67,7 @@ pub record Valued (x : Item) (to : ℕ) (old new : Walk) (v : Value) : Type 0 wh
 pub record NotValued (x : Item) (to : ℕ) (old new : Walk) : Type 0 where
   pub grows : Grows x
   pub place : new.place ≡ old.place
+  pub all : raised old.heads (heads_between old.bytes old.place to) ≤ new.heads
   pub least : raised old.heads 1 ≤ new.heads
   pub heads : new.heads + 2 * old.place ≤ old.heads + 2 * to
   pub least_nodes : old.nodes ≤ new.nodes

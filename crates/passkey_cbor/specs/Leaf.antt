@@ -2,12 +2,14 @@
 use Rattle.std.specs.Prelude.{◌≡◌, ℕ, ◌≤◌, List, length, drop, Some}
 use Rattle.passkey_cbor.specs.Item.{Item}
 use Rattle.passkey_cbor.specs.HeadReading.{head_at}
+use Rattle.passkey_cbor.specs.HeadCount.{after_heads}
 use Rattle.passkey_cbor.specs.Reading.{start, item_within}
 use Rattle.passkey_cbor.specs.declared.head.Head.{Head}
 
--- The first n bytes encode a data item without others in it, so that its levels don't matter.
+-- The first n bytes encode a data item of one head and without others in it, so that its levels don't matter.
 pub record IsLeafLen (bytes : List ℕ) (n : ℕ) : Type 0 where
   pub leaf : Item
+  pub one : after_heads 1 bytes ≡ Some (drop n bytes)
   pub reads : (levels : ℕ) → start (item_within levels) bytes ≡ Some (leaf, drop n bytes)
   pub within : n ≤ length bytes
 

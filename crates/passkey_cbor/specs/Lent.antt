@@ -7,6 +7,7 @@ use Rattle.passkey_cbor.specs.HeadEncoding.{IsEncodingOfHead}
 use Rattle.passkey_cbor.specs.Inside.{Content}
 use Rattle.passkey_cbor.specs.EncodedAt.{IsEncodedAt}
 use Rattle.passkey_cbor.specs.Walk.{Walk, ahead, raised, break_heads}
+use Rattle.passkey_cbor.specs.HeadCount.{AreHeads, heads_of, heads_between}
 use Rattle.passkey_cbor.specs.declared.head.Head.{Head}
 use Rattle.passkey_cbor.specs.declared.head.Head.TheVariants as head
 
@@ -35,7 +36,7 @@ IsRegion is_text r = (s : List ℕ) × Tells is_text r s
 -- ---- by the bytes ahead
 
 -- The leading data item is a string of this kind; the cursor passed it, and returns the bytes after its head.
--- It counted at least one head, and at most one for each of the string's bytes.
+-- It counted each of the string's heads: at least one, and at most one for each of the string's bytes.
 pub record PassesString (is_text : Bool) (old new : Walk) (r : Region) : Type 0 where
   pub content : List ℕ
   pub len : ℕ
@@ -43,6 +44,8 @@ pub record PassesString (is_text : Bool) (old new : Walk) (r : Region) : Type 0 
   pub headed : Then (IsEncodingOfHead (string_head is_text r.len)) (Is r.bytes) (take len (ahead old))
   pub tells : Tells is_text r content
   pub place : new.place ≡ old.place + len
+  pub all_heads : AreHeads (heads_of (take len (ahead old))) (take len (ahead old))
+  pub counted : new.heads ≡ raised old.heads (heads_of (take len (ahead old)))
   pub least : raised old.heads 1 ≤ new.heads
   pub heads : new.heads ≤ old.heads + len
   pub nodes : new.nodes ≡ old.nodes
@@ -68,6 +71,7 @@ LendsString is_text old new None = FindsNoString is_text old new
 pub record Lends (is_text : Bool) (s : List ℕ) (to : ℕ) (old new : Walk) (r : Region) : Type 0 where
   pub tells : Tells is_text r s
   pub place : new.place ≡ to
+  pub counted : new.heads ≡ raised old.heads (heads_between old.bytes old.place to)
   pub least : raised old.heads 1 ≤ new.heads
   pub heads : new.heads + old.place ≤ old.heads + to
   pub nodes : new.nodes ≡ old.nodes

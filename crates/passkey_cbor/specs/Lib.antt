@@ -26,6 +26,7 @@ pub mod Reading
 pub mod LeadingItemAt
 pub mod Inside
 pub mod Walk
+pub mod HeadCount
 pub mod Steps
 pub mod Found
 pub mod Skipped

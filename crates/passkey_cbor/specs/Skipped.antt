@@ -1,16 +1,19 @@
 -- The result of skipping the leading data item.
-use Rattle.std.specs.Prelude.{◌≡◌, ℕ, ◌+◌, ◌≤◌, length, Bool, true, false}
+use Rattle.std.specs.Prelude.{◌≡◌, ℕ, ◌+◌, ◌≤◌, length, take, Bool, true, false}
 use Rattle.passkey_cbor.specs.Item.{Item}
 use Rattle.passkey_cbor.specs.LeadingItem.{IsLeadingItem, HasNoLeadingItem}
 use Rattle.passkey_cbor.specs.Walk.{Walk, ahead, raised}
+use Rattle.passkey_cbor.specs.HeadCount.{AreHeads, heads_of}
 
--- The cursor passed the leading data item. It counted at least one head, and at most one for each of the item's
--- bytes.
+-- The cursor passed the leading data item, and counted each of its heads: at least one, and at most one for each
+-- of the item's bytes.
 pub record PassesLeadingItem (old new : Walk) : Type 0 where
   pub item : Item
   pub len : ℕ
   pub front : IsLeadingItem (ahead old) item len
   pub place : new.place ≡ old.place + len
+  pub whole : AreHeads (heads_of (take len (ahead old))) (take len (ahead old))
+  pub counted : new.heads ≡ raised old.heads (heads_of (take len (ahead old)))
   pub least : raised old.heads 1 ≤ new.heads
   pub heads : new.heads ≤ old.heads + len
   pub nodes : new.nodes ≡ old.nodes

@@ -1,10 +1,11 @@
 -- The results of a cursor's calls, in terms of decoding the bytes ahead.
-use Rattle.std.specs.Prelude.{◌≡◌, ◌⊎◌, ℕ, ◌+◌, ◌<◌, ◌≤◌, List, [], ◌++◌, length, Bool, true, false, Option, Some, None, Result, Ok, Err}
+use Rattle.std.specs.Prelude.{◌≡◌, ◌⊎◌, ℕ, ◌+◌, ◌<◌, ◌≤◌, List, [], ◌++◌, length, Bool, true, false, Option, Some, None, unwrap_or, Result, Ok, Err}
 use Rattle.passkey_cbor.specs.Item.{Item}
 use Rattle.passkey_cbor.specs.HeadReading.{Read, head_at}
 use Rattle.passkey_cbor.specs.Reading.{Reader, start, end, element, step_at, is_allowed, chunk, list_at, string_at, string_by, pair_by, item_within}
 use Rattle.passkey_cbor.specs.LeadingItem.{max_depth}
 use Rattle.passkey_cbor.specs.Walk.{Walk, ahead, raised, break_heads, Passed, Stopped}
+use Rattle.passkey_cbor.specs.HeadCount.{Spans}
 use Rattle.passkey_cbor.specs.Inside.{Content}
 use Rattle.passkey_cbor.specs.Lent.{Region, PassesString}
 use Rattle.passkey_cbor.specs.Names.{place_of, heads_until}
@@ -79,15 +80,17 @@ ReadsPiece is_text read old new None = NoHead read old new
 
 -- ---- skipping what is decoded
 
-pub record PassesOver {A : Type 0} (read : Read A) (old new : Walk) : Type 0 where
+-- `content`: how many bytes of a string's content the cursor passes before the next head
+pub record PassesOver {A : Type 0} (content : ℕ) (read : Read A) (old new : Walk) : Type 0 where
   pub value : A
   pub reads : read ≡ Some (value, ahead new)
   pub passed : Passed old new
+  pub spans : Spans content old new
 
--- The cursor passed what was decoded; or decoding failed, and it stopped.
-abbrev pub Skips : {A : Type 0} → Read A → Walk → Walk → Bool → Type 0
-Skips read old new true = PassesOver read old new
-Skips read old new false = NoHead read old new
+-- The cursor passed what was decoded, and counted its heads; or decoding failed, and it stopped.
+abbrev pub Skips : {A : Type 0} → ℕ → Read A → Walk → Walk → Bool → Type 0
+Skips content read old new true = PassesOver content read old new
+Skips content read old new false = NoHead read old new
 
 -- the elements of a list: items in an array, pairs in a map
 abbrev pub Entered : Entry → Type 0
@@ -106,6 +109,7 @@ pub record RegionRead (is_text : Bool) (len : Option ℕ) (old new : Walk) (regi
   pub tells : Content is_text len content region
   pub parts : ahead old ≡ region ++ ahead new
   pub passed : Passed old new
+  pub spans : Spans (unwrap_or len 0) old new
 
 abbrev pub ReadsRegion : Bool → Option ℕ → Walk → Walk → Option (List ℕ) → Type 0
 ReadsRegion is_text len old new (Some region) = RegionRead is_text len old new region

@@ -1,22 +1,25 @@
 -- The result of decoding the leading data item to a `Value`.
-use Rattle.std.specs.Prelude.{◌≡◌, ℕ, ◌+◌, ◌*◌, ◌≤◌, Result, Ok, Err}
+use Rattle.std.specs.Prelude.{◌≡◌, ℕ, ◌+◌, ◌*◌, ◌≤◌, take, Result, Ok, Err}
 use Rattle.passkey_cbor.specs.Item.{Item}
 use Rattle.passkey_cbor.specs.Nodes.{nodes}
 use Rattle.passkey_cbor.specs.LeadingItem.{IsLeadingItem}
 use Rattle.passkey_cbor.specs.Grows.{Grows}
 use Rattle.passkey_cbor.specs.View.{item_of}
 use Rattle.passkey_cbor.specs.Walk.{Walk, ahead, raised}
+use Rattle.passkey_cbor.specs.HeadCount.{AreHeads, heads_of}
 use Rattle.passkey_cbor.specs.Skipped.{FindsNoLeadingItem}
 use Rattle.passkey_cbor.specs.declared.value.Value.{Value}
 use Rattle.passkey_cbor.specs.declared.error.CborError.{CborError}
 use Rattle.passkey_cbor.specs.declared.error.CborError.TheVariants as error
 
--- The cursor decoded the leading data item and passed it. It counted at least one head, and at most two for
--- each of the item's bytes; and it counted the item and every item in it.
+-- The cursor decoded the leading data item and passed it. It counted each of its heads at least once: at least
+-- one, and at most two for each of the item's bytes; and it counted the item and every item in it.
 pub record MakesLeadingItem (old new : Walk) (x : Item) : Type 0 where
   pub len : ℕ
   pub front : IsLeadingItem (ahead old) x len
   pub place : new.place ≡ old.place + len
+  pub whole : AreHeads (heads_of (take len (ahead old))) (take len (ahead old))
+  pub all : raised old.heads (heads_of (take len (ahead old))) ≤ new.heads
   pub least : raised old.heads 1 ≤ new.heads
   pub heads : new.heads ≤ old.heads + 2 * len
   pub nodes : new.nodes ≡ raised old.nodes (nodes x)
@@ -30,6 +33,7 @@ pub record FindsNoMemory (old new : Walk) : Type 0 where
   pub front : IsLeadingItem (ahead old) item len
   pub grows : Grows item
   pub place : new.place ≡ old.place
+  pub all : raised old.heads (heads_of (take len (ahead old))) ≤ new.heads
   pub least : raised old.heads 1 ≤ new.heads
   pub heads : new.heads ≤ old.heads + 2 * len
   pub least_nodes : old.nodes ≤ new.nodes

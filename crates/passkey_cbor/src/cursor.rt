@@ -70,13 +70,31 @@ impl<'a> Cursor<'a> {
     }
 
     /// Returns the next byte, with which the next head begins, or `None` at the end of the bytes.
-    /// Decodes nothing, and counts nothing.
-    pub fn initial_byte(&self) -> Option<u8>
-        ensures next { result ≡ slice_get self.now.bytes self.now.place }
+    /// The cursor doesn't move. Counts one head in both cases. (RFC 8949, section 3.)
+    pub fn initial_byte(&mut self) -> Option<u8>
+        ensures next { result ≡ slice_get self.old.bytes self.old.place }
 
         // If a data item is encoded at the cursor, this is its initial byte.
+        ensures begins { (x : Item) (to : ℕ) → IsEncodedAt x self.old.bytes self.old.place to
+            → BeginsWith x result }
+
+        ensures counted { self.new ≡ record self.old { heads = raised self.old.heads 1 } }
+
+        // The counts never decrease.
+        ensures went { Went self.old self.new }
+    {
+        let next = self.byte_ahead();
+        self.add_heads(1);
+        next
+    }
+
+    // The next byte.
+    #[inline(always)]
+    fn byte_ahead(&self) -> Option<u8>
+        ensures next { result ≡ slice_get self.now.bytes self.now.place }
         ensures begins { (x : Item) (to : ℕ) → IsEncodedAt x self.now.bytes self.now.place to
             → BeginsWith x result }
+        ensures placed { IsPlaced self.now.bytes self.now.place }
     {
         let bytes = self.bytes;
         let place = self.place;

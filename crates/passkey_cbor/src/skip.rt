@@ -1,6 +1,7 @@
 //! Skipping data items.
-ghost use Rattle.std.specs.Prelude.{ℕ, ◌≤◌, None, Some as There, is_some, IfSome, MatchOption};
+ghost use Rattle.std.specs.Prelude.{ℕ, ◌≤◌, None, Some as There, is_some, unwrap_or, IfSome, MatchOption};
 ghost use Rattle.passkey_cbor.specs.Walk.{ahead, raised, IsInside, Went};
+ghost use Rattle.passkey_cbor.specs.HeadCount.{content_len};
 ghost use Rattle.passkey_cbor.specs.Reading.{start, string_at, item_within, list_at};
 ghost use Rattle.passkey_cbor.specs.Steps.{Skips, IsLengthOf, entry_by};
 ghost use Rattle.passkey_cbor.specs.Skipped.{SkipsLeadingItem};
@@ -48,7 +49,7 @@ impl<'a> Cursor<'a> {
     #[inline(always)]
     pub(crate) fn skip_item(&mut self, levels: usize) -> bool
         requires { IsInside self.old }
-        ensures skips { Skips (start (item_within levels) (ahead self.old)) self.old self.new result }
+        ensures skips { Skips 0 (start (item_within levels) (ahead self.old)) self.old self.new result }
         ensures least { raised self.old.heads 1 ≤ self.new.heads }
     {
         let len = leaf_len(&self.bytes[self.place..]);
@@ -66,7 +67,7 @@ impl<'a> Cursor<'a> {
     #[cycle(skip)]
     fn skip_behind(&mut self, head: Head, levels: usize) -> bool
         requires { IsInside self.old }
-        ensures { Skips (item_within levels head (ahead self.old)) self.old self.new result }
+        ensures { Skips (content_len head) (item_within levels head (ahead self.old)) self.old self.new result }
     {
         match head {
             Head::Unsigned(_) => true,
@@ -86,7 +87,7 @@ impl<'a> Cursor<'a> {
     #[cycle(skip)]
     fn skip_list(&mut self, entry: Entry, len: Option<u64>, levels: usize) -> bool
         requires { IsInside self.old }
-        ensures { Skips (list_at (entry_by levels entry) len (ahead self.old)) self.old self.new result }
+        ensures { Skips 0 (list_at (entry_by levels entry) len (ahead self.old)) self.old self.new result }
     {
         match len {
             Some(len) => self.skip_entries(entry, len, levels),
@@ -98,7 +99,7 @@ impl<'a> Cursor<'a> {
     #[cycle(skip)]
     fn skip_entries(&mut self, entry: Entry, len: u64, levels: usize) -> bool
         requires { IsInside self.old }
-        ensures { Skips (list_at (entry_by levels entry) (There len) (ahead self.old)) self.old self.new result }
+        ensures { Skips 0 (list_at (entry_by levels entry) (There len) (ahead self.old)) self.old self.new result }
     {
         let mut left = len;
         while left > 0 {
@@ -114,7 +115,7 @@ impl<'a> Cursor<'a> {
     #[cycle(skip)]
     fn skip_entry(&mut self, entry: Entry, levels: usize) -> bool
         requires { IsInside self.old }
-        ensures { Skips (start (entry_by levels entry) (ahead self.old)) self.old self.new result }
+        ensures { Skips 0 (start (entry_by levels entry) (ahead self.old)) self.old self.new result }
     {
         match entry {
             Entry::Item => self.skip_item(levels),
@@ -126,7 +127,7 @@ impl<'a> Cursor<'a> {
     #[cycle(skip)]
     fn skip_to_break(&mut self, entry: Entry, levels: usize) -> bool
         requires { IsInside self.old }
-        ensures { Skips (list_at (entry_by levels entry) None (ahead self.old)) self.old self.new result }
+        ensures { Skips 0 (list_at (entry_by levels entry) None (ahead self.old)) self.old self.new result }
     {
         let mut left = None;
         loop {
@@ -146,7 +147,7 @@ impl<'a> Cursor<'a> {
     #[cycle(skip)]
     fn skip_entry_behind(&mut self, entry: Entry, head: Head, levels: usize) -> bool
         requires { IsInside self.old }
-        ensures { Skips (entry_by levels entry head (ahead self.old)) self.old self.new result }
+        ensures { Skips (content_len head) (entry_by levels entry head (ahead self.old)) self.old self.new result }
     {
         match entry {
             Entry::Item => self.skip_behind(head, levels),
@@ -159,7 +160,7 @@ impl<'a> Cursor<'a> {
     #[inline(always)]
     pub(crate) fn pass_string(&mut self, is_text: bool, len: Option<u64>) -> Option<usize>
         requires { IsInside self.old }
-        ensures skips { Skips (string_at is_text len (ahead self.old)) self.old self.new (is_some result) }
+        ensures skips { Skips (unwrap_or len 0) (string_at is_text len (ahead self.old)) self.old self.new (is_some result) }
         ensures size { IfSome result (IsLengthOf (string_at is_text len (ahead self.old))) }
     {
         match len {
@@ -175,7 +176,7 @@ impl<'a> Cursor<'a> {
     #[inline(never)]
     fn pass_chunks(&mut self, is_text: bool) -> Option<usize>
         requires { IsInside self.old }
-        ensures skips { Skips (string_at is_text None (ahead self.old)) self.old self.new (is_some result) }
+        ensures skips { Skips 0 (string_at is_text None (ahead self.old)) self.old self.new (is_some result) }
         ensures size { IfSome result (IsLengthOf (string_at is_text None (ahead self.old))) }
     {
         let mut left = None;

@@ -7,7 +7,7 @@ pub use Rattle.passkey_bytes.specs.SameMaps.{same_tests}
 pub use Rattle.passkey_bytes.specs.declared.bytes.BytesFault.{BytesFault}
 pub use Rattle.passkey_cbor.proofs.Binds.{some_is}
 pub use Rattle.passkey_cbor.proofs.EncodedFrom.{lies_size, only_one}
-pub use Rattle.passkey_cbor.proofs.Gathering.{raised-le}
+pub use Rattle.passkey_cbor.proofs.Raised.{raised-le}
 pub use Rattle.passkey_cbor.proofs.HeadAgain.{head_again}
 pub use Rattle.passkey_cbor.proofs.Items.{follows_item, low_simple, pairs_len-pairs_of}
 pub use Rattle.passkey_cbor.proofs.Lists.{head_long, encoded_long, each_long}

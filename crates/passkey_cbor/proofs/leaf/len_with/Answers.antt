@@ -12,7 +12,7 @@ returns-in-Unsigned c = record {
   leaf = λ some bytes e.
       let h = c.in-Unsigned in
       flat_leaf bytes c.args.rest.now c.args.head_len c.args.head (head.Unsigned h.field-0)
-      (number (pos h.field-0)) e h.is (λ inner. refl);
+      (number (pos h.field-0)) e h.is refl (λ inner. refl);
 }
 
 pub returns-in-Negative : goal.returns-in-Negative
@@ -21,7 +21,7 @@ returns-in-Negative c = record {
   leaf = λ some bytes e.
       let h = c.in-Negative in
       flat_leaf bytes c.args.rest.now c.args.head_len c.args.head (head.Negative h.field-0)
-      (number (negsuc h.field-0)) e h.is (λ inner. refl);
+      (number (negsuc h.field-0)) e h.is refl (λ inner. refl);
 }
 
 pub returns-in-Simple : goal.returns-in-Simple
@@ -30,5 +30,5 @@ returns-in-Simple c = record {
   leaf = λ some bytes e.
       let h = c.in-Simple in
       flat_leaf bytes c.args.rest.now c.args.head_len c.args.head (head.Simple h.field-0)
-      (simple_item h.field-0) e h.is (λ inner. refl);
+      (simple_item h.field-0) e h.is refl (λ inner. refl);
 }

@@ -1,7 +1,9 @@
-use Rattle.std.proofs.Common.{◌∙◌, List, ℕ, length, ap, sym}
+use Rattle.std.proofs.Common.{◌∙◌, List, ℕ, Option, length, ap, sym}
+use Rattle.std.specs.Prelude.{unwrap_or}
 use Rattle.passkey_cbor.specs.Walk.{ahead}
 use Rattle.passkey_cbor.proofs.Behind.{string_piece}
 use Rattle.passkey_cbor.proofs.Binds.{some_is}
+use Rattle.passkey_cbor.proofs.HeadCounts.{spans_as, spans_piece}
 use Rattle.passkey_cbor.proofs.cursor.Cursor.pass_string.Goals as goal
 
 pub returns-in-None-piece-clause-skips : goal.returns-in-None-piece-clause-skips
@@ -12,7 +14,13 @@ pub returns-in-Some-piece-clause-skips : goal.returns-in-Some-piece-clause-skips
 returns-in-Some-piece-clause-skips c =
     let read = c.in-Some-piece.ensures.reads in
     rw (string_piece c.args.is_text c.args.len c.in-Some.len (ahead c.args.self.now) c.in-Some.is)
-    (record { value = c.in-Some-piece.piece.now; reads = read.reads; passed = read.passed })
+    (record {
+      value = c.in-Some-piece.piece.now;
+      reads = read.reads;
+      passed = read.passed;
+      spans = spans_as _ c.in-Some.len c.args.self.now c.piece.new.self (ap (λ (l : Option ℕ). unwrap_or l 0) c.in-Some.is)
+          (spans_piece c.args.is_text c.in-Some.len c.args.self.now c.piece.new.self c.in-Some-piece.piece.now read);
+    })
 
 pub returns-in-Some-piece-clause-size : goal.returns-in-Some-piece-clause-size
 returns-in-Some-piece-clause-size c s rest e =

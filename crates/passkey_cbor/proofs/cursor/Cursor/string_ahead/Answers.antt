@@ -1,4 +1,5 @@
 use Rattle.std.proofs.Common.{sym}
+use Rattle.passkey_cbor.proofs.Numbers.{IsBytes-drop}
 use Rattle.passkey_cbor.proofs.Walks.{head_passed}
 use Rattle.passkey_cbor.proofs.Lending.{string_read, string_cut}
 use Rattle.passkey_cbor.proofs.cursor.Cursor.string_ahead.Goals as goal
@@ -7,7 +8,7 @@ pub returns-in-Some-region-clause-reads : goal.returns-in-Some-region-clause-rea
 returns-in-Some-region-clause-reads c =
     let read = c.in-Some.ensures in
     string_read c.args.is_text c.in-Some-string_len.len c.args.self.now c.decode.new.self c.region.new.self
-    c.in-Some.head _ read.placed.within
+    c.in-Some.head _ read.placed.within (IsBytes-drop c.args.self.now.place c.args.self.now.bytes read.placed.fits)
     (head_passed c.args.self.now c.decode.new.self read.placed read.counted c.in-Some.head read.reads)
     read.reads.further (sym c.in-Some-string_len.ensures) c.in-Some-region.ensures.reads
 

@@ -1,7 +1,7 @@
 use Rattle.std.proofs.Common.{None, Some, get_or, sym}
 use Rattle.std.proofs.lemmas.Option.{slice_get_past, slice_get-get_or}
 use Rattle.passkey_cbor.proofs.Initial.{begins_with}
-use Rattle.passkey_cbor.proofs.cursor.Cursor.initial_byte.Goals as goal
+use Rattle.passkey_cbor.proofs.cursor.Cursor.byte_ahead.Goals as goal
 
 pub returns-then-place-bytes-clause-next : goal.returns-then-place-bytes-clause-next
 returns-then-place-bytes-clause-next c =
