@@ -8,7 +8,8 @@ pub mod Items
 pub mod Filling
 pub mod LeadingItems
 pub mod Raised
-mod HeadCounts
+pub mod HeadCounts
+pub mod WholeHeads
 pub mod Walks
 pub mod Skipping
 pub mod Behind

@@ -22,7 +22,3 @@ raised_monotone n m (suc k) le = omega arith
 pub raised_then : (n m c j k : ℕ) → raised n j ≤ m → raised m k ≤ c → raised n (j + k) ≤ c
 raised_then n m c j k first second =
     omega (arith, raised-raised n j k, raised_monotone (raised n j) m k first, second)
-
--- more was counted before
-pub raised_later : (n m c k : ℕ) → n ≤ m → raised m k ≤ c → raised n k ≤ c
-raised_later n m c k le counted = omega (arith, raised_monotone n m k le, counted)

@@ -4,6 +4,7 @@ use Rattle.passkey_cbor.specs.Item.{Item}
 use Rattle.passkey_cbor.specs.Encoding.{IsEncoding}
 use Rattle.passkey_cbor.specs.Bytes.{IsBytes}
 use Rattle.passkey_cbor.specs.Depth.{depth}
+use Rattle.passkey_cbor.specs.HeadCount.{AreHeads, heads_of}
 use Rattle.passkey_cbor.specs.LeadingItem.{max_depth, IsLeadingItem, HasNoLeadingItem}
 use Rattle.passkey_cbor.specs.LeadingItemAt.{leading_item_at, IsLeadingItemOf}
 use Rattle.passkey_cbor.specs.Written.{written}
@@ -42,3 +43,7 @@ WrittenIsEncoding = (x : Item) → IsWritable x → IsEncoding x (written x)
 abbrev pub WrittenIsLeadingItem : Type 0
 WrittenIsLeadingItem = (x : Item) (rest : List ℕ) → IsWritable x → depth x ≤ max_depth
     → IsLeadingItem (written x ++ rest) x (length (written x))
+
+-- Bytes are whole heads in one way at most.
+abbrev pub WholeHeadsAreCounted : Type 0
+WholeHeadsAreCounted = (n : ℕ) (bytes : List ℕ) → AreHeads n bytes → heads_of bytes ≡ n

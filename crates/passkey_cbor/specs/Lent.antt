@@ -6,7 +6,7 @@ use Rattle.passkey_cbor.specs.LeadingItem.{IsLeadingItem}
 use Rattle.passkey_cbor.specs.HeadEncoding.{IsEncodingOfHead}
 use Rattle.passkey_cbor.specs.Inside.{Content}
 use Rattle.passkey_cbor.specs.EncodedAt.{IsEncodedAt}
-use Rattle.passkey_cbor.specs.Walk.{Walk, ahead, raised, break_heads}
+use Rattle.passkey_cbor.specs.Walk.{Walk, ahead, raised, break_heads, LooksOnce}
 use Rattle.passkey_cbor.specs.HeadCount.{AreHeads, heads_of, heads_between}
 use Rattle.passkey_cbor.specs.declared.head.Head.{Head}
 use Rattle.passkey_cbor.specs.declared.head.Head.TheVariants as head
@@ -77,18 +77,12 @@ pub record Lends (is_text : Bool) (s : List ℕ) (to : ℕ) (old new : Walk) (r 
   pub nodes : new.nodes ≡ old.nodes
   pub bytes : new.bytes ≡ old.bytes
 
--- The cursor doesn't move, and one head was decoded, which isn't the head of a string of this kind.
-pub record LendsNothing (old new : Walk) : Type 0 where
-  pub place : new.place ≡ old.place
-  pub heads : new.heads ≡ raised old.heads 1
-  pub nodes : new.nodes ≡ old.nodes
-  pub bytes : new.bytes ≡ old.bytes
-
--- If a string of this kind is encoded at the cursor, it is returned; if another data item is, nothing is.
+-- If a string of this kind is encoded at the cursor, it is returned; if another data item is, nothing is, and the
+-- cursor doesn't move.
 abbrev pub LendsFrom : Bool → Item → ℕ → Walk → Walk → Option Region → Type 0
 LendsFrom is_text x to old new (Some r) =
     (s : List ℕ) × ((x ≡ string_item is_text s) × Lends is_text s to old new r)
-LendsFrom is_text x to old new None = ((s : List ℕ) → x ≡ string_item is_text s → ⊥) × LendsNothing old new
+LendsFrom is_text x to old new None = ((s : List ℕ) → x ≡ string_item is_text s → ⊥) × LooksOnce old new
 
 abbrev pub LendsEncoded : Bool → Walk → Walk → Option Region → Type 0
 LendsEncoded is_text old new found = (x : Item) (to : ℕ) → IsEncodedAt x old.bytes old.place to

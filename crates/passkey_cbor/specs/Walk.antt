@@ -56,3 +56,10 @@ pub record Went (old new : Walk) : Type 0 where
   pub forward : old.place ≤ new.place
   pub heads : old.heads ≤ new.heads
   pub nodes : old.nodes ≤ new.nodes
+
+-- The cursor doesn't move, and counts one head.
+pub record LooksOnce (old new : Walk) : Type 0 where
+  pub place : new.place ≡ old.place
+  pub heads : new.heads ≡ raised old.heads 1
+  pub nodes : new.nodes ≡ old.nodes
+  pub bytes : new.bytes ≡ old.bytes

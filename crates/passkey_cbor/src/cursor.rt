@@ -1,7 +1,7 @@
 //! A cursor that decodes borrowed bytes head by head.
 ghost use Rattle.std.specs.Prelude.{◌≡◌, ℕ, ◌+◌, ◌<◌, ◌≤◌, drop, length, min, Some as There, None, option_map, slice_get, true, IfNone, IfSome};
 ghost use Rattle.std.specs.Str.{IsAscii};
-ghost use Rattle.passkey_cbor.specs.Walk.{ahead, raised, IsInside, IsPlaced, Went};
+ghost use Rattle.passkey_cbor.specs.Walk.{ahead, raised, IsInside, IsPlaced, LooksOnce, Went};
 ghost use Rattle.passkey_cbor.specs.Found.{FindsHead};
 ghost use Rattle.passkey_cbor.specs.Item.{Item};
 ghost use Rattle.passkey_cbor.specs.Initial.{BeginsWith};
@@ -78,7 +78,7 @@ impl<'a> Cursor<'a> {
         ensures begins { (x : Item) (to : ℕ) → IsEncodedAt x self.old.bytes self.old.place to
             → BeginsWith x result }
 
-        ensures counted { self.new ≡ record self.old { heads = raised self.old.heads 1 } }
+        ensures looks { LooksOnce self.old self.new }
 
         // The counts never decrease.
         ensures went { Went self.old self.new }

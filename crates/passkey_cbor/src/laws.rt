@@ -1,5 +1,5 @@
 //! Laws of the definitions, each the contract of a function that does nothing.
-ghost use Rattle.passkey_cbor.specs.Laws.{AtMostOneLeadingItem, NoShorterLeadingItem, LeadingItemIsFound, FoundIsLeadingItem, GivenIsShallow, WrittenIsEncoding, WrittenIsLeadingItem};
+ghost use Rattle.passkey_cbor.specs.Laws.{AtMostOneLeadingItem, NoShorterLeadingItem, LeadingItemIsFound, FoundIsLeadingItem, GivenIsShallow, WrittenIsEncoding, WrittenIsLeadingItem, WholeHeadsAreCounted};
 
 /// Bytes have at most one leading data item, with only one length: no encoding is a proper prefix
 /// of another one (RFC 8949, section 3).
@@ -37,4 +37,10 @@ pub fn written_is_encoding()
 /// leading data item.
 pub fn written_is_leading_item()
     ensures { WrittenIsLeadingItem }
+{}
+
+/// If bytes are whole heads, each with the content of its string, then `heads_of` is how many (RFC
+/// 8949, section 3).
+pub fn whole_heads_are_counted()
+    ensures { WholeHeadsAreCounted }
 {}

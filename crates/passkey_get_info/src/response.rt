@@ -168,6 +168,7 @@ impl Response {
         ensures spends { (i : Item) (to : ℕ) → S.At source.old i to → S.Spent (cost_at (members_of (limits ++ states)) number)
             (keeps_at (members_of (limits ++ states)) number) i to source.old source.new (is_ok result) }
         ensures onward { S.Goes source.old source.new }
+        ensures further { OnOk result (S.Past source.old source.new) }
     {
         match number {
             0x0b => set(&mut self.mac_serialized_large_blob_array, alloc, source),
@@ -196,6 +197,7 @@ impl Response {
         ensures spends { (i : Item) (to : ℕ) → S.At source.old i to → S.Spent (cost_at (members_of states) number)
             (keeps_at (members_of states) number) i to source.old source.new (is_ok result) }
         ensures onward { S.Goes source.old source.new }
+        ensures further { OnOk result (S.Past source.old source.new) }
     {
         match number {
             0x15 => set_accepted_or_none(&mut self.vendor_prototype_config_commands, alloc, source),

@@ -30,15 +30,17 @@ pub use Rattle.passkey_cbor.specs.Item.{Item, Pairs, no_pairs, pair, members, it
 pub use Rattle.passkey_cbor.specs.Languages.{Each, Language}
 pub use Rattle.passkey_cbor.specs.Laws.{AtMostOneLeadingItem, WrittenIsLeadingItem}
 pub use Rattle.passkey_cbor.specs.LeadingItem.{max_depth, IsLeadingItem}
-pub use Rattle.passkey_cbor.specs.Lent.{Region, Tells, PassesString, LendsNothing, IsRegion, heads_in, LendsFrom, LooksAtAll, LooksAtSome, LentWhole, string_head, string_item}
+pub use Rattle.passkey_cbor.specs.Lent.{Region, Tells, PassesString, IsRegion, heads_in, LendsFrom, LooksAtAll, LooksAtSome, LentWhole, string_head, string_item}
 pub use Rattle.passkey_cbor.specs.Names.{LooksFor, heads_until, heads_sought}
 pub use Rattle.passkey_cbor.specs.Order.{key_type, IsBefore, ctap2_order}
 pub use Rattle.passkey_cbor.specs.Pieces.{LendsPiece, LendsNoPiece, LooksAhead, LendsUpTo}
 pub use Rattle.passkey_cbor.specs.Reading.{item_within, simple_item, chunk}
-pub use Rattle.passkey_cbor.specs.Skipped.{PassesLeadingItem}
+pub use Rattle.passkey_cbor.specs.Skipped.{PassesLeadingItem, SkipsLeadingItem}
 pub use Rattle.passkey_cbor.specs.Valued.{MakesLeadingItem}
 pub use Rattle.passkey_cbor.specs.View.{item_of, pair_of}
-pub use Rattle.passkey_cbor.specs.Walk.{Walk, ahead, Went, raised, break_heads}
+pub use Rattle.passkey_cbor.specs.HeadCount.{CountsHeads, content_len, heads_of}
+pub use Rattle.passkey_cbor.proofs.WholeHeads.{counts_none, counts_then, counts_stay, counts_skip, counts_string, counts_value, counts_head, counts_more}
+pub use Rattle.passkey_cbor.specs.Walk.{Walk, LooksOnce, ahead, Went, raised, break_heads}
 pub use Rattle.passkey_cbor.specs.Writable.{IsWritable, ArePairsWritable}
 unfoldable pub use Rattle.passkey_cbor.specs.Written.{shortest_head}
 pub use Rattle.passkey_cbor.specs.Written.{written, pairs_written}

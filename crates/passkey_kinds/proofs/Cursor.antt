@@ -1,5 +1,5 @@
 -- How a cursor moves, what it spends, and values of one head or of one string.
-use Rattle.passkey_kinds.proofs.Common.{only_one, slice_get, drop-cons, get_or_from_slice_get, length-drop, drop, suc, ◌∷◌, ◌⊎◌, inl, inr, lies_size, head_again, follows_item, low_simple, head_long, encoded_long, IsEncodedAt, Opens, FindsHead, IsEncodingOfHead, PairWithin, Within, Inside, Item, byte_string, boolean, null, text_string, number, max_depth, IsLeadingItem, Region, PassesString, item_within, PassesLeadingItem, MakesLeadingItem, Walk, ahead, Went, Head, members-pairs_of, elements-items_of, aaguid, bytes, below, kept, truth, Kind, optional, text, one_named, FailsAs, size, AnswersAs, MayGrow, scalar_in, null_in, ReadsScalar, head_scalar, head_array, head_map, elements_in, members_in, OpensAt, Further, Decodes, Spends, Onward, named, Refused, OutOfMemory, Refusal, ◌≡◌, ◌∙◌, ◌<◌, ◌+◌, ℕ, arith, true, false, List, [], ◌++◌, length, Option, Some, None, option_map, refl, sym, ap, rules, ◌≤◌, Result, subst, ◌-◌, take, Ok, Err, OnOk, unwrap_or, Language, IfSome, is_ok, mul-le-mul_left, nat_tests, cases_lt, cases_eq, length-append, length-take, option_and_then}
+use Rattle.passkey_kinds.proofs.Common.{SkipsLeadingItem, Bool, CountsHeads, content_len, counts_then, counts_stay, counts_skip, counts_string, counts_value, counts_head, only_one, slice_get, drop-cons, get_or_from_slice_get, length-drop, drop, suc, ◌∷◌, ◌⊎◌, inl, inr, lies_size, head_again, follows_item, low_simple, head_long, encoded_long, IsEncodedAt, Opens, FindsHead, IsEncodingOfHead, PairWithin, Within, Inside, Item, byte_string, boolean, null, text_string, number, max_depth, IsLeadingItem, Region, PassesString, item_within, PassesLeadingItem, MakesLeadingItem, Walk, ahead, Went, Head, members-pairs_of, elements-items_of, aaguid, bytes, below, kept, truth, Kind, optional, text, one_named, FailsAs, size, AnswersAs, MayGrow, scalar_in, null_in, ReadsScalar, head_scalar, head_array, head_map, elements_in, members_in, OpensAt, Further, Decodes, Spends, Onward, named, Refused, OutOfMemory, Refusal, ◌≡◌, ◌∙◌, ◌<◌, ◌+◌, ℕ, arith, true, false, List, [], ◌++◌, length, Option, Some, None, option_map, refl, sym, ap, rules, ◌≤◌, Result, subst, ◌-◌, take, Ok, Err, OnOk, unwrap_or, Language, IfSome, is_ok, mul-le-mul_left, nat_tests, cases_lt, cases_eq, length-append, length-take, option_and_then}
 use Rattle.passkey_kinds.proofs.Lists.{answers_from, never_grows}
 use Rattle.passkey_cbor.specs.declared.head.Head.TheVariants as head
 use Rattle.passkey_cbor.specs.Item as item
@@ -28,17 +28,44 @@ pub front_long : (x : Item) (bytes : List ℕ) (len : ℕ) → IsLeadingItem byt
 front_long x bytes len f =
     omega (arith, item_long x (take len bytes) (f.shallow, f.encoded), length-take len bytes)
 
-pub head_further : (a b : Walk) (h : Head) → FindsHead a b (Some h) → Further a b
-head_further a b h p = omega (arith, p.place, head_encoded_long h p.text p.encoded)
+-- a head that no content follows
+head_further : (a b : Walk) (h : Head) → content_len h ≡ 0 → FindsHead a b (Some h) → Further a b
+head_further a b h none p = record {
+  forward = omega (arith, p.place, head_encoded_long h p.text p.encoded);
+  counts = counts_head a b h none p;
+}
 
 pub string_further : (is_text : _) (a b : Walk) (r : Region) → PassesString is_text a b r → Further a b
-string_further is_text a b r p = omega (arith, p.place, front_long _ (ahead a) p.len p.front)
+string_further is_text a b r p = record {
+  forward = omega (arith, p.place, front_long _ (ahead a) p.len p.front);
+  counts = counts_string is_text a b r p;
+}
 
 pub skip_further : (a b : Walk) → PassesLeadingItem a b → Further a b
-skip_further a b p = omega (arith, p.place, front_long p.item (ahead a) p.len p.front)
+skip_further a b p = record {
+  forward = omega (arith, p.place, front_long p.item (ahead a) p.len p.front);
+  counts = counts_skip a b p;
+}
 
 pub value_further : (a b : Walk) (x : Item) → MakesLeadingItem a b x → Further a b
-value_further a b x p = omega (arith, p.place, front_long x (ahead a) p.len p.front)
+value_further a b x p = record {
+  forward = omega (arith, p.place, front_long x (ahead a) p.len p.front);
+  counts = counts_value a b x p;
+}
+
+pub further_then : (a b c : Walk) → Further a b → CountsHeads b c → b.place ≤ c.place → Further a c
+further_then a b c p q on =
+    record { forward = omega (arith, p.forward, on); counts = counts_then a b c p.counts q }
+
+-- from the same place on, after more heads were counted
+pub further_from : (a b c : Walk) → Onward a b → b.place ≡ a.place → Further b c → Further a c
+further_from a b c on at p = record {
+  forward = omega (arith, p.forward, at);
+  counts = counts_then a b c (counts_stay a b on.same at on.heads) p.counts;
+}
+
+pub further_on : {a b c : Walk} → Further a b → Further b c → Further a c
+further_on {a} {b} {c} p q = further_then a b c p q.counts (omega (arith, q.forward))
 
 -- what holds anyway also holds if something was found
 pub if_some : {X : Type 0} {P : Type 0} (o : Option X) → P → IfSome o (λ x. P)
@@ -49,11 +76,27 @@ pub on_ok : {T E P : Type 0} (r : Result T E) → P → OnOk r P
 on_ok (Ok x) h = h
 on_ok (Err e) h = tt
 
+if_found : {X : Type 0} {P : Type 0} (o : Option X) → ((x : X) → o ≡ Some x → P) → IfSome o (λ x. P)
+if_found None h = tt
+if_found (Some x) h = h x refl
+
 -- a head that says something was decoded
 pub head_moves : {X : Type 0} (a b : Walk) (g : Head → Option X) (head : Option Head) (result : Option X)
-    → FindsHead a b head → result ≡ option_and_then g head → IfSome result (λ x. Further a b)
-head_moves a b g None result p e = rw e tt
-head_moves a b g (Some h) result p e = if_some result (head_further a b h p)
+    → ((h : Head) (x : X) → g h ≡ Some x → content_len h ≡ 0) → FindsHead a b head
+    → result ≡ option_and_then g head → IfSome result (λ x. Further a b)
+head_moves a b g None result flat p e = rw e tt
+head_moves a b g (Some h) result flat p e = if_found result (λ x is. head_further a b h (flat h x (sym e ∙ is)) p)
+
+-- no content follows the head of an array or a map
+pub array_flat : (h : Head) (left : Option ℕ) → head_array h ≡ Some left → content_len h ≡ 0
+array_flat (head.Bytes len) left e = absurd cc
+array_flat (head.Text len) left e = absurd cc
+array_flat _ left e = refl
+
+pub map_flat : (h : Head) (left : Option ℕ) → head_map h ≡ Some left → content_len h ≡ 0
+map_flat (head.Bytes len) left e = absurd cc
+map_flat (head.Text len) left e = absurd cc
+map_flat _ left e = refl
 
 -- ---- spending
 
@@ -85,6 +128,16 @@ module _ {a b d : Walk} {n : ℕ} (on : Onward a b) (back : d ≡ record b { pla
   pub stands_again : (i : Item) {to : ℕ} → IsEncodedAt i a.bytes a.place to → IsEncodedAt i d.bytes d.place to
   stands_again i l = grind (arith, stands_back)
 
+  pub further_again : {f : Walk} → Further d f → Further a f
+  further_again {f} p =
+      let there : d.place ≡ a.place = omega (arith, at, ap (λ (w : Walk). w.place) back) in
+      let rises : a.heads ≤ d.heads = omega (arith, on.heads, ap (λ (w : Walk). w.heads) back) in
+      let same : d.bytes ≡ a.bytes = ap (λ (w : Walk). w.bytes) back ∙ on.same in
+      record {
+        forward = omega (arith, p.forward, there);
+        counts = counts_then a d f (counts_stay a d same there rises) p.counts;
+      }
+
   pub spends_again : {c e kept more to : ℕ} {f : Walk} → Spends c kept to a b → Spends e more to d f
       → Spends (c + e) (kept + more) to a f
   spends_again q r = grind arith
@@ -115,10 +168,15 @@ module _ (a b : Walk) where
     );
   }
 
+  scalar_flat : (h : Head) → (head_scalar h ≡ item.null → ⊥) → content_len h ≡ 0
+  scalar_flat (head.Bytes len) is = absurd (is refl)
+  scalar_flat (head.Text len) is = absurd (is refl)
+  scalar_flat _ is = refl
+
   pub scalar_moves : (head : Option Head) (found : Item) → FindsHead a b head
       → found ≡ unwrap_or (option_map head_scalar head) item.null → (found ≡ item.null → ⊥) → Further a b
   scalar_moves None found p e is = absurd (is e)
-  scalar_moves (Some h) found p e is = head_further a b h p
+  scalar_moves (Some h) found p e is = head_further a b h (scalar_flat h (λ null. is (e ∙ null))) p
 
 -- a value is decoded only from an item that isn't refused
 pub scalar_ends : {A M : Type 0} (view : A → M) (kind : Kind M) (x : Item) (result : Result A Refusal) {Q : Type 0}
@@ -172,9 +230,30 @@ parts_open parts Encoded len opened None i to b result e o = absurd o
 parts_open parts Encoded len opened (Some h) i to b result e o =
     subst (OpensAt parts Encoded i to b) (sym e) (opened h i to b o)
 
-pub ruleset heads = (onward_of, head_moves)
+pub ruleset heads = (onward_of)
 
 -- ---- values of one head or of one string, decoded at a cursor
+
+-- further on after one part, and after a second one that was decoded
+pub further_counted : {T E : Type 0} {a b : Walk} (c : Walk) (r : Result T E) → Further a b → b.place ≤ c.place
+    → OnOk r (CountsHeads b c) → OnOk r (Further a c)
+further_counted {a = a} {b} c (Ok x) p on h = further_then a b c p h on
+further_counted c (Err e) p on h = tt
+
+pub further_twice : {T E : Type 0} {a b : Walk} (c : Walk) (r : Result T E) → Further a b → OnOk r (Further b c)
+    → OnOk r (Further a c)
+further_twice c (Ok x) p h = further_on p h
+further_twice c (Err e) p h = tt
+
+-- after a success the cursor was at the same place before
+pub further_ok : {T E : Type 0} {a b : Walk} (c : Walk) (r : Result T E) → Onward a b → b.place ≡ a.place
+    → OnOk r (Further b c) → OnOk r (Further a c)
+further_ok {a = a} {b} c (Ok x) on at h = further_from a b c on at h
+further_ok c (Err e) on at h = tt
+
+pub skipped_further : (a b : Walk) (found : Bool) → SkipsLeadingItem a b found → found ≡ true → Further a b
+skipped_further a b true p e = skip_further a b p
+skipped_further a b false p e = absurd cc
 
 -- an error of a part is one of the whole
 pub failed : {M N : Type 0} {one : Option M} {wanted : Option N} {takes may : Type 0} (e : Refusal)

@@ -1,7 +1,7 @@
 -- Strings that are lent at a cursor.
-use Rattle.passkey_kinds.proofs.Common.{raised-le, head_again, head_long, each_long, lends_start, lends_on, lends_all, AChunk, follows_chunk, IsEncodedAt, Definite, Content, Item, byte_string, text_string, Each, Region, Tells, PassesString, LendsNothing, IsRegion, heads_in, LendsFrom, LooksAtAll, LooksAtSome, LentWhole, string_head, string_item, Kind, LooksFor, heads_until, heads_sought, LendsPiece, LendsNoPiece, LooksAhead, LendsUpTo, chunk, Walk, ahead, raised, DataGrow, data_parts, AuthenticatorData, algorithm, authenticator_data, authenticator_data_nodes, CountsData, AnswersAs, bytes, MayGrow, below, list, Answers, scalar_in, Further, Decodes, LooksAtMost, Spends, names, Refused, Refusal, IsOf, whole_64, NumberState, ◌≡◌, ◌∙◌, ◌<◌, ◌+◌, ℕ, suc, arith, Bool, true, false, List, [], ◌∷◌, ◌++◌, length, Option, Some, None, option_map, refl, sym, ap, rules, ◌≤◌, Result, subst, ◌-◌, Err, cond, ℤ, ◌^◌, zero, length-append, length-take, concat, ok_or, algorithm_named, option_and_then, signed_in, Algorithm}
+use Rattle.passkey_kinds.proofs.Common.{SpendsLess, counts_stay, raised-le, head_again, head_long, each_long, lends_start, lends_on, lends_all, AChunk, follows_chunk, IsEncodedAt, Definite, Content, Item, byte_string, text_string, Each, Region, Tells, PassesString, LooksOnce, IsRegion, heads_in, LendsFrom, LooksAtAll, LooksAtSome, LentWhole, string_head, string_item, Kind, LooksFor, heads_until, heads_sought, LendsPiece, LendsNoPiece, LooksAhead, LendsUpTo, chunk, Walk, ahead, raised, DataGrow, data_parts, AuthenticatorData, algorithm, authenticator_data, authenticator_data_nodes, CountsData, AnswersAs, bytes, MayGrow, below, list, Answers, scalar_in, Further, Decodes, LooksAtMost, Spends, names, Refused, Refusal, IsOf, whole_64, NumberState, ◌≡◌, ◌∙◌, ◌<◌, ◌+◌, ℕ, suc, arith, Bool, true, false, List, [], ◌∷◌, ◌++◌, length, Option, Some, None, option_map, refl, sym, ap, rules, ◌≤◌, Result, subst, ◌-◌, Err, cond, ℤ, ◌^◌, zero, length-append, length-take, concat, ok_or, algorithm_named, option_and_then, signed_in, Algorithm}
 use Rattle.passkey_core.specs.DataReading.{fixed_at}
-use Rattle.passkey_kinds.proofs.Cursor.{stands_long, eased, on_ok, stands_back, string_further}
+use Rattle.passkey_kinds.proofs.Cursor.{stands_long, eased, on_ok, stands_back, string_further, further_then}
 use Rattle.passkey_cbor.specs.Item as item
 use Rattle.passkey_kinds.specs.Typed as typed
 
@@ -73,6 +73,21 @@ pub lent_spends : {is_text : Bool} {a b d : Walk} {r : Region} (i : Item) {to : 
     → LooksAtMost r b d → Spends 2 0 to a d × (d.place ≡ to)
 lent_spends i l p f looks = search (rules, region_shorter)
 
+-- one head to spare, since the string's own head isn't looked at again
+pub lent_less : {is_text : Bool} {a b d : Walk} {r : Region} (i : Item) {to : ℕ}
+    → IsEncodedAt i a.bytes a.place to → PassesString is_text a b r → LendsFrom is_text i to a b (Some r)
+    → LooksAtMost r b d → SpendsLess 2 0 to a d × (d.place ≡ to)
+lent_less {is_text} {a} {b} {d} {r} i {to} l p f looks =
+    let short = region_shorter is_text a b r p in
+    let at : d.place ≡ to = omega (arith, looks.place, f.1.1.place) in (
+      record {
+        within = omega (arith, at);
+        heads = omega (arith, looks.heads, f.1.1.heads, f.1.1.place, short);
+        nodes = omega (arith, looks.nodes, f.1.1.nodes);
+      },
+      at,
+    )
+
 -- no string of this type is encoded there, and one head was decoded
 pub not_lent_spends : (is_text : Bool) (a b : Walk) (i : Item) (to : ℕ) → IsEncodedAt i a.bytes a.place to
     → LendsFrom is_text i to a b None → Spends 1 0 to a b
@@ -122,7 +137,13 @@ lent_is is_text r t s e tells = whole_is is_text r.len r.bytes t s e tells
 
 module _ (a b d : Walk) (r : Region) where
   pub looked_further : (is_text : Bool) → PassesString is_text a b r → LooksAtMost r b d → Further a d
-  looked_further is_text p looks = omega (arith, string_further is_text a b r p, looks.place)
+  looked_further is_text p looks = further_then a b d (string_further is_text a b r p)
+      (counts_stay b d looks.bytes looks.place looks.rises) (omega (arith, looks.place))
+
+  pub copied_further : (is_text : Bool) → PassesString is_text a b r → LooksAtAll is_text r b d → b.heads ≤ d.heads
+      → Further a d
+  copied_further is_text p looks rises = further_then a b d (string_further is_text a b r p)
+      (counts_stay b d looks.bytes looks.place rises) (omega (arith, looks.place))
 
 -- ---- results
 
@@ -133,13 +154,18 @@ or_refused wanted (Some x) result takes e r = grind arith
 or_refused wanted None result takes e r = grind arith
 
 -- the item is still encoded there after one head that isn't its string's
-pub stands_missed : (i : Item) {a b : Walk} {to : ℕ} → LendsNothing a b → IsEncodedAt i a.bytes a.place to
+pub stands_missed : (i : Item) {a b : Walk} {to : ℕ} → LooksOnce a b → IsEncodedAt i a.bytes a.place to
     → IsEncodedAt i b.bytes b.place to
 stands_missed i {b = b} p l = stands_back i b p.bytes p.place l
 
+-- what is spent after one head that isn't the item's
+pub missed_spends : {cost kept to : ℕ} {a b d : Walk} → LooksOnce a b → a.place < to → Spends cost kept to b d
+    → Spends (suc cost) kept to a d
+missed_spends p less s = grind arith
+
 -- decoded after one head that isn't its string's
 pub missed_then : {A M : Type 0} {view : A → M} {wanted : Option M} {takes : Type 0} {cost kept to : ℕ}
-    {a b d : Walk} {result : Result A Refusal} → LendsNothing a b → a.place < to
+    {a b d : Walk} {result : Result A Refusal} → LooksOnce a b → a.place < to
     → Decodes view wanted takes cost kept to b d result → Decodes view wanted takes (suc cost) kept to a d result
 missed_then p less r = grind arith
 
@@ -247,10 +273,15 @@ data_decodes {a = a} {b} {r = r} i {t = t} {result} p f looks same counts h =
       ends = on_ok result (counts.place ∙ looks.place ∙ lent.place);
     }
 
+-- the cost of the data is added after the string
+pub counted_further : {a e d : Walk} {s : List ℕ} → Further a e → CountsData s e d → Further a d
+counted_further {a} {e} {d} p counts = further_then a e d p
+    (counts_stay e d counts.same counts.place counts.heads_rise) (omega (arith, counts.place))
+
 -- the data is decoded after the string
 pub data_further : (a b e d : Walk) (r : Region) (s : List ℕ) → PassesString false a b r → LooksAtMost r b e
     → CountsData s e d → Further a d
-data_further a b e d r s p looks counts = omega (arith, string_further false a b r p, looks.place, counts.place)
+data_further a b e d r s p looks counts = counted_further (looked_further a b e r false p looks) counts
 
 pub no_data : (i : Item) → ((s : List ℕ) → i ≡ byte_string s → ⊥) → authenticator_data i ≡ None
 no_data (item.byte_string s) h = absurd (h s refl)

@@ -1,5 +1,5 @@
 -- Laws of records and messages.
-use Rattle.passkey_kinds.proofs.Common.{only_one, IsEncodedAt, Grows, Item, no_pairs, pair, members, AtMostOneLeadingItem, IsLeadingItem, PassesLeadingItem, Walk, ahead, Went, members-pairs_of, bytes, ReadsMessage, Begins, GrowsMessage, ReadsHere, AlikeDifferInLength, SameButForLength, AnswersCarryOver, KnowsItems, known, HasNoWrongKey, AnswersAlike, SameAnswers, PassesOverUnknown, KnowsMaps, Onward, Reads, MayGrowAt, Fields, table_of, one_more, Progress, result_and_then, read_from, read_members, read_item, Table, named, Members, Naming, row, unknown, wrong, record_cost, DecodesRecord, Fault, ◌≡◌, ◌∙◌, ◌+◌, ℕ, suc, arith, List, [], ◌∷◌, ◌++◌, length, drop, refl, sym, ap, rules, ◌≤◌, Result, ◌*◌, subst, take, Ok, Err, ◌≢◌, IfErr, All-head, All-tail, take-append-drop, drop-drop, length-drop}
+use Rattle.passkey_kinds.proofs.Common.{raised, heads_of, only_one, IsEncodedAt, Grows, Item, no_pairs, pair, members, AtMostOneLeadingItem, IsLeadingItem, PassesLeadingItem, Walk, ahead, Went, members-pairs_of, bytes, ReadsMessage, Begins, GrowsMessage, ReadsHere, AlikeDifferInLength, SameButForLength, AnswersCarryOver, KnowsItems, known, HasNoWrongKey, AnswersAlike, SameAnswers, PassesOverUnknown, KnowsMaps, Onward, Reads, MayGrowAt, Fields, table_of, one_more, Progress, result_and_then, read_from, read_members, read_item, Table, named, Members, Naming, row, unknown, wrong, record_cost, DecodesRecord, Fault, ◌≡◌, ◌∙◌, ◌+◌, ℕ, suc, arith, List, [], ◌∷◌, ◌++◌, length, drop, refl, sym, ap, rules, ◌≤◌, Result, ◌*◌, subst, take, Ok, Err, ◌≢◌, IfErr, All-head, All-tail, take-append-drop, drop-drop, length-drop}
 use Rattle.passkey_kinds.proofs.Cursor.{front_long}
 use Rattle.passkey_kinds.specs.declared.fault.Fault.TheVariants as fault
 use Rattle.passkey_cbor.specs.Item as item
@@ -176,6 +176,12 @@ module _ {A P : Type 0} (view : A → P) (t : Fields P) (old s a b : Walk) (p : 
       (len : ℕ) → IsLeadingItem (ahead old) i len → b.heads ≤ old.heads + suc (record_cost t) * len
   heads_here result d i len f = grind (arith, only)
 
+  -- each of the item's heads was counted when it was skipped
+  counted_here : (i : Item) (len : ℕ) → IsLeadingItem (ahead old) i len
+      → raised old.heads (heads_of (take len (ahead old))) ≤ b.heads
+  counted_here i len f = subst (λ (n : ℕ). raised old.heads (heads_of (take n (ahead old))) ≤ b.heads)
+      (sym (only i len f).1) (omega (arith, p.counted, back.heads, on.heads))
+
   -- what the code ensures of the item here
   abbrev Reading : Result A Fault → Type 0
   Reading result = (i : Item) (to : ℕ) → IsEncodedAt i a.bytes a.place to → DecodesRecord view t i to a b result
@@ -184,7 +190,8 @@ module _ {A P : Type 0} (view : A → P) (t : Fields P) (old s a b : Walk) (p : 
   message_is message reads =
       let d = reads p.item (old.place + p.len) item_stands in
       let heads = heads_here (Ok message) d in
-      grind (arith, only, heads, skipped, back, on, p, d)
+      let all = counted_here in
+      grind (arith, only, heads, all, skipped, back, on, p, d)
 
   grows_there : (e : Fault) → Reads view (MayGrowAt (table_of t) p.item) (read_item t p.item) (Err e)
       → ◌≡◌ {A = Result A Fault} (Err e) (Err fault.OutOfMemory) → GrowsMessage t (ahead old)
@@ -200,4 +207,5 @@ module _ {A P : Type 0} (view : A → P) (t : Fields P) (old s a b : Walk) (p : 
       omega (arith, place, skipped.forward, skipped.within, ap length (bytes ∙ on.same ∙ back.bytes)) in
       let told = message_fails view (table_of t) (read_item t) (ahead old) p.item p.len e p.front d.answers in
       let grows = grows_there e d.answers in
-      grind (arith, only, inside, told, grows, same, at, skipped, p, back, on, d)
+      let all = counted_here in
+      grind (arith, only, all, inside, told, grows, same, at, skipped, p, back, on, d)

@@ -4,9 +4,10 @@ unfoldable pub use Rattle.passkey_kinds.proofs.Common.{shortest_head}
 pub use Rattle.passkey_kinds.proofs.Lists.{sized_gathered, mapped_at, head_before, kept_none, kept_elements_in, kept_members_in, after_head, numbers_are, list_in, accepted_in, map_in, filled_in, text_read, text_refused, kept_nothing, decodes_in, sized_array, none_either, never_grows, stopped, gone_on, pushed_accepted, pushed_each, entered_all, answers_from, list_array, accepted_array, map_same, grows_array, each_same, map_from_bytes-map, map_values-empty, read_more, map_values-insert, grows_map, map_values_same, fits_more, written_more, fits_next, written_next}
 pub use Rattle.passkey_kinds.proofs.Back.{true_place, Falls, accepts_it, option_place, puts_value, puts_default, kind_back, ◌▸◌, no_more, rows_back, picked, picked_back}
 pub use Rattle.passkey_kinds.proofs.LeafBack.{auth_data_back, auth_data_coherent, seen_list_back, truth_back, or_null_back, or_null_same, optional_place, byte_back, bytes_back, kept_back, anything, tolerated_place, text_back, all_of_anything, accepted_same, accepted_place, list_same, word_back, transport_back, list_back, optional_back, seen_map_back, map_back, numbers_back, size_back, aaguid_back}
-pub use Rattle.passkey_kinds.proofs.Lent.{numbered, bytes_are, data_decodes, no_data, looks_all, looks_names, lent_spends, lent_decodes, not_lent_decodes, looks_some, looks_none, bytes_grow, other_number, AddsUpTo, adds_one, adds_all, adds_looks, stands_missed, or_refused, missed_then, looked_further, lent_is}
+pub use Rattle.passkey_kinds.proofs.Lent.{numbered, bytes_are, data_decodes, no_data, looks_all, looks_names, lent_spends, lent_decodes, not_lent_decodes, looks_some, looks_none, bytes_grow, other_number, AddsUpTo, adds_one, adds_all, adds_looks, stands_missed, or_refused, missed_then, looked_further, copied_further, counted_further, data_further, lent_less, missed_spends, lent_is}
 pub use Rattle.passkey_kinds.proofs.Levels.{record_within, Within, back_if_few, back_if_good, PlaceHas, EachPlace}
-pub use Rattle.passkey_kinds.proofs.Cursor.{head_moves, eased, stands_back, onward_of, head_spends, if_some, stands_long, stands_again, spends_again, onward_then, on_ok, fails_as, ok_ends, ends_ok, named_text, no_text, failed, null_item, other_item, no_aaguid, scalar_read, scalar_moves, scalar_ends, scalar_decodes, below_scalar, truth_scalar, size_scalar, array_opened, map_opened, parts_open, null_begins, not_null_in}
+pub use Rattle.passkey_kinds.proofs.Common.{CountsHeads, counts_none, counts_then, counts_stay, counts_more}
+pub use Rattle.passkey_kinds.proofs.Cursor.{array_flat, map_flat, further_then, further_from, further_again, further_on, further_counted, further_twice, further_ok, skip_further, skipped_further, head_moves, eased, stands_back, onward_of, head_spends, if_some, stands_long, stands_again, spends_again, onward_then, on_ok, fails_as, ok_ends, ends_ok, named_text, no_text, failed, null_item, other_item, no_aaguid, scalar_read, scalar_moves, scalar_ends, scalar_decodes, below_scalar, truth_scalar, size_scalar, array_opened, map_opened, parts_open, null_begins, not_null_in}
 pub use Rattle.passkey_kinds.proofs.Keeping.{record_keeps, not_null, ok_of}
 pub use Rattle.passkey_kinds.proofs.Keys.{found_behind, names_nothing, names_scalar, key_ends}
 pub use Rattle.passkey_kinds.proofs.Lawful.{IsLawful, lawful, raised, IsLawfulAs, descriptor_law, parameters_law, user_law}

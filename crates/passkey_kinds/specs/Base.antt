@@ -9,7 +9,8 @@ pub use Rattle.passkey_cbor.specs.Item.{Item, number, items_of, pairs_of, boolea
 pub use Rattle.passkey_cbor.specs.LeadingItem.{IsLeadingItem, max_depth}
 pub use Rattle.passkey_cbor.specs.Lent.{IsRegion, Tells}
 pub use Rattle.passkey_cbor.specs.View.{pair_of, item_of}
-pub use Rattle.passkey_cbor.specs.Walk.{Walk}
+pub use Rattle.passkey_cbor.specs.HeadCount.{CountsHeads, heads_of}
+pub use Rattle.passkey_cbor.specs.Walk.{Walk, LooksOnce}
 pub use Rattle.passkey_cbor.specs.Writable.{IsWritable}
 pub use Rattle.passkey_cbor.specs.Written.{written}
 pub use Rattle.passkey_core.specs.Coherent.{is_coherent}

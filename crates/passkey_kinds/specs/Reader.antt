@@ -1,5 +1,5 @@
 -- Decoding values over a cursor.
-use Rattle.passkey_kinds.specs.Base.{Item, Walk, signed_64, number, elements, members, Grows, IsEncodedAt, ByteMap, max_depth}
+use Rattle.passkey_kinds.specs.Base.{CountsHeads, Item, Walk, signed_64, number, elements, members, Grows, IsEncodedAt, ByteMap, max_depth}
 use Rattle.std.proofs.Common.{ℕ, arith, false, refl}
 use Rattle.std.specs.Prelude.{◌≡◌, ℕ, ◌+◌, ◌*◌, ◌≤◌, ◌<◌, Bool, true, length, Option, Result, OnOk, pos, ◌==◌, false, if◌then◌else◌, List, Some, None, negsuc, ℕ, suc, max, nat_lt, IsTrue, false, [], ◌∷◌, ◌++◌, option_map, unwrap_or, ℤ}
 use Rattle.passkey_cbor.specs.EncodedAt.{Lies, Walks, WalksOn}
@@ -27,8 +27,10 @@ pub record Onward (old new : Walk) : Type 0 where
   pub heads : old.heads ≤ new.heads
   pub nodes : old.nodes ≤ new.nodes
 
-abbrev pub Further : Walk → Walk → Type 0
-Further old new = old.place < new.place
+-- The cursor moved on by whole heads, each with the content of its string, and counted at least as many.
+pub record Further (old new : Walk) : Type 0 where
+  pub forward : old.place < new.place
+  pub counts : CountsHeads old new
 
 -- The cursor is no further than `to`. At most `cost` heads were decoded for each byte up to there,
 -- and at most `kept` data items were made as values.

@@ -46,9 +46,9 @@ kept = growing 2 (counted nodes) kind.kept
 abbrev pub authenticator_data : Typed DataParts
 authenticator_data = growing 6 (counted kind.authenticator_data_nodes) kind.authenticator_data
 
--- the value, or `None` for null, which costs one head
+-- the value, or `None` for null; looking for null costs one head, and so does null
 abbrev pub optional : {M : Type 0} → Typed M → Typed (Option M)
-optional k = record { of = kind.optional k.of; takes = k.takes; cost = suc k.cost; keeps = k.keeps }
+optional k = record { of = kind.optional k.of; takes = k.takes; cost = suc (max 1 k.cost); keeps = k.keeps }
 
 -- the value, or `None` if the kind refuses the item, which costs one more pass over it
 abbrev pub tolerated : {M : Type 0} → Typed M → Typed (Option M)

@@ -108,7 +108,6 @@ impl FromCbor for [u8; 32] {
         }
     }
 
-    #[tactic(auto, using(crate::proofs::Cursor::string_further, crate::proofs::Cursor::on_ok))]
     fn read(alloc: Global, cursor: &mut Cursor<'_>) -> Result<[u8; 32], Refusal> {
         match cursor.bytes() {
             Some(token) => filled(&token, cursor),

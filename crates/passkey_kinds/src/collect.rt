@@ -1,6 +1,6 @@
 //! Elements of arrays and members of maps, decoded one after the other at a cursor.
 ghost use Rattle.std.specs.Prelude.{◌<◌, ◌≤◌, ◌+◌, ℕ, suc, IsTrue, List, length, map, is_ok, IfSome, OnOk};
-ghost use Rattle.passkey_kinds.specs.Words.{Item, item_of, AnswersAs, IsEncodedAt, kept_sum, Decodes, Spends, Further, Onward, OpensAt, Gathering, in_array, Way, AddsOne, Collects, collected};
+ghost use Rattle.passkey_kinds.specs.Words.{CountsHeads, Item, item_of, AnswersAs, IsEncodedAt, kept_sum, Decodes, Spends, Further, Onward, OpensAt, Gathering, in_array, Way, AddsOne, Collects, collected};
 ghost use Rattle.passkey_cbor.specs.EncodedAt.{Lies};
 ghost use Rattle.passkey_cbor.specs.Inside.{Left};
 
@@ -106,6 +106,7 @@ fn read_all<C: Collect>(
         → Decodes C.value (collected C.way.next xs (C.value empty)) (IsTrue C.way.takes × (0 < length xs))
         (suc C.way.cost) (kept_sum C.way.kept xs) to cursor.old cursor.new result }
     ensures onward { Onward cursor.old cursor.new }
+    ensures counts { OnOk result (CountsHeads cursor.old cursor.new) }
 {
     let mut into = empty;
     while cursor.more(&mut left) {

@@ -39,7 +39,6 @@ fn text_value<T: FromText>(
 
 /// Decodes the value of the text string at the cursor, and moves past it. Returns `Refused` if no
 /// text string is there, and `OutOfMemory` if an allocation fails.
-#[tactic(auto, using(crate::proofs::Cursor::string_further, crate::proofs::Cursor::on_ok))]
 pub fn read_text_value<T: FromText>(alloc: Global, cursor: &mut Cursor<'_>) -> Result<T, Refusal>
     ensures reads { (i : Item) (to : ℕ) → IsEncodedAt i cursor.old.bytes cursor.old.place to
         → ReadsAs (λ v. v) (growing 2 nothing (one_named (λ s. Some (T.of_text s)))) i to cursor.old cursor.new result }

@@ -1,6 +1,6 @@
 //! Records, decoded member by member.
 ghost use Rattle.std.specs.Prelude.{◌≡◌, ◌<◌, ◌≤◌, ℕ, Bool, true, false, length, map, replicate, get_or, is_ok, OnOk, set, []};
-ghost use Rattle.passkey_kinds.specs.Words.{Item, max_depth, IsEncodedAt, PairsAreEncodedAt, item_of, pair_of, Onward, Further, MayGrowIn, MayGrowAt, Reads, are_small, named_as, Fields, table_of, read_members, read_item, nested, cost_at, keeps_at, Puts, entry_of, Members, entries, named, MayGrowBy, one_more, reached, read_from, cost_by, keeps_by, DecodesMember, DecodesMembers, DecodesRecord, held_as};
+ghost use Rattle.passkey_kinds.specs.Words.{CountsHeads, Item, max_depth, IsEncodedAt, PairsAreEncodedAt, item_of, pair_of, Onward, Further, MayGrowIn, MayGrowAt, Reads, are_small, named_as, Fields, table_of, read_members, read_item, nested, cost_at, keeps_at, Puts, entry_of, Members, entries, named, MayGrowBy, one_more, reached, read_from, cost_by, keeps_by, DecodesMember, DecodesMembers, DecodesRecord, held_as};
 ghost use Rattle.passkey_kinds.specs.Record.{first_missing as missing_of};
 ghost use Rattle.passkey_cbor.specs.EncodedAt.{Lies};
 ghost use Rattle.passkey_cbor.specs.Inside.{PairWithin};
@@ -51,7 +51,8 @@ pub trait Record: Drop {
             → Puts fields number i (parts self.old) (parts self.new) result }
         ensures spends { (i : Item) (to : ℕ) → S.At source.old i to → S.Spent (cost_at fields.rows number)
             (keeps_at fields.rows number) i to source.old source.new (is_ok result) }
-        ensures onward { S.Goes source.old source.new };
+        ensures onward { S.Goes source.old source.new }
+        ensures further { OnOk result (S.Past source.old source.new) };
 }
 
 /// Decodes the value of the next member, by what its map key names.
@@ -71,6 +72,7 @@ fn read_member<R: Record, S: Source>(
     ensures spends { (value : Item) (to : ℕ) → S.At source.old value to → S.Spent (cost_by R.fields.rows
         (named_as key)) (keeps_by R.fields.rows (named_as key)) value to source.old source.new (is_ok result) }
     ensures onward { S.Goes source.old source.new }
+    ensures further { OnOk result (S.Past source.old source.new) }
 {
     let number = match key {
         Named::Row(number) => number,
@@ -206,6 +208,7 @@ fn read_pairs_ahead<R: Record>(
     ensures reads { (ms : Members) (to : ℕ) → PairsAreEncodedAt left ms cursor.old.bytes cursor.old.place to
         → DecodesMembers R.parts R.fields ms to cursor.old cursor.new result }
     ensures onward { Onward cursor.old cursor.new }
+    ensures counts { OnOk result (CountsHeads cursor.old cursor.new) }
 {
     let mut read = R::blank(alloc);
     let mut seen = no_marks();

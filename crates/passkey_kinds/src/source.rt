@@ -19,7 +19,7 @@ pub trait Source {
     /// The source didn't move back, and its counts didn't fall.
     ghost Goes: { Self → Self → Type 0 };
 
-    /// The source moved on.
+    /// The source moved on, and counted at least the heads of what it passed.
     ghost Past: { Self → Self → Type 0 };
 
     /// Decodes the item. Returns `Refused` exactly if the type doesn't accept it, and `OutOfMemory`
@@ -36,7 +36,8 @@ pub trait Source {
     fn pass(&mut self) -> bool
         ensures passes { (i : Item) (to : ℕ) → At self.old i to → result ≡ true }
         ensures spends { (i : Item) (to : ℕ) → At self.old i to → Spent 1 nothing i to self.old self.new true }
-        ensures onward { Goes self.old self.new };
+        ensures onward { Goes self.old self.new }
+        ensures further { result ≡ true → Past self.old self.new };
 
     ghost stays: { (cost : ℕ) (keeps : Keeping) (i : Item) (to : ℕ) (s : Self) → At s i to
         → Spent cost keeps i to s s false };
@@ -111,6 +112,7 @@ pub fn set<T: FromCbor, S: Source>(
     ensures spends { (i : Item) (to : ℕ) → S.At source.old i to
         → S.Spent T.typed.cost T.typed.keeps i to source.old source.new (is_ok result) }
     ensures onward { S.Goes source.old source.new }
+    ensures further { OnOk result (S.Past source.old source.new) }
 {
     *field = source.read(alloc)?;
     Ok(())
@@ -128,6 +130,7 @@ pub fn set_tolerated<T: FromCbor, S: Source>(
     ensures spends { (i : Item) (to : ℕ) → S.At source.old i to
         → S.Spent (suc T.typed.cost) T.typed.keeps i to source.old source.new (is_ok result) }
     ensures onward { S.Goes source.old source.new }
+    ensures further { OnOk result (S.Past source.old source.new) }
 {
     let read: Tolerated<T> = source.read(alloc)?;
     *field = read.0;
@@ -147,6 +150,7 @@ pub fn set_or<T: FromCbor, S: Source>(
     ensures spends { (i : Item) (to : ℕ) → S.At source.old i to
         → S.Spent (suc T.typed.cost) T.typed.keeps i to source.old source.new (is_ok result) }
     ensures onward { S.Goes source.old source.new }
+    ensures further { OnOk result (S.Past source.old source.new) }
 {
     let read: Tolerated<T> = source.read(alloc)?;
     *field = read.0.unwrap_or(default);
@@ -166,6 +170,7 @@ pub fn set_accepted<T: FromCbor, S: Source>(
     ensures spends { (i : Item) (to : ℕ) → S.At source.old i to
         → S.Spent (suc (suc T.typed.cost)) (in_elements T.typed.keeps) i to source.old source.new (is_ok result) }
     ensures onward { S.Goes source.old source.new }
+    ensures further { OnOk result (S.Past source.old source.new) }
 {
     let read: TolerantList<T> = source.read(alloc)?;
     *field = read.0;
@@ -183,6 +188,7 @@ pub fn set_accepted_or_none<T: FromCbor, S: Source>(
     ensures spends { (i : Item) (to : ℕ) → S.At source.old i to
         → S.Spent (suc (suc (suc T.typed.cost))) (in_elements T.typed.keeps) i to source.old source.new (is_ok result) }
     ensures onward { S.Goes source.old source.new }
+    ensures further { OnOk result (S.Past source.old source.new) }
 {
     let read: Tolerated<TolerantList<T>> = source.read(alloc)?;
     *field = read.0.map(|list| list.0);

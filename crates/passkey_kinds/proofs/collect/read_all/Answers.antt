@@ -1,4 +1,4 @@
-use Rattle.passkey_kinds.proofs.Steps.{arith, ◌∙◌, sym, refl, err_from_is_err_and, stopped, gone_on, onward_of, onward_then, failed, next_is, spent_within, some_are, one_more_done, each_done}
+use Rattle.passkey_kinds.proofs.Steps.{counts_then, counts_more, arith, ◌∙◌, sym, refl, err_from_is_err_and, stopped, gone_on, onward_of, onward_then, failed, next_is, spent_within, some_are, one_more_done, each_done}
 use Rattle.passkey_kinds.proofs.collect.read_all.Goals as goal
 
 pub returns-in_err-add-clause-reads : goal.returns-in_err-add-clause-reads
@@ -17,6 +17,9 @@ pub loop-alloc-preserved : goal.loop-alloc-preserved
 loop-alloc-preserved g c = record {
   onward = onward_then _ _ _ (onward_then _ _ _ c.loop-alloc.invariant.onward
       (onward_of c.loop-alloc.cursor c.more.new.self c.loop-alloc-test.ensures.went)) c.in_ok-add.ensures.onward;
+  counts = counts_then _ _ _ (counts_then _ _ _ c.loop-alloc.invariant.counts
+      (counts_more _ _ _ _ _ c.loop-alloc-test.ensures.walks.looks c.loop-alloc-test.ensures.went.heads))
+      c.in_ok-add.ensures.further.counts;
   each = λ xs to l.
       let b = c.more.new.self in
       let walks = c.loop-alloc-test.ensures.walks in
@@ -34,3 +37,7 @@ returns-clause-reads g c = λ xs to l.
     let ended = each_done (c.loop-alloc.invariant.each xs to l) c.more.new.self (g.C.Collect.way.walked _ _ _ _ _ walks)
     walks.looks (omega arith) in
     grind (arith, ended)
+
+pub returns-clause-counts : goal.returns-clause-counts
+returns-clause-counts g c = counts_then _ _ _ c.loop-alloc.invariant.counts
+    (counts_more _ _ _ _ _ c.loop-alloc-test.ensures.walks.looks c.loop-alloc-test.ensures.went.heads)

@@ -1,9 +1,10 @@
-use Rattle.passkey_kinds.proofs.Steps.{◌≡◌, ◌-◌, ℕ, suc, List, length, Lies, Left, collected, kept_sum, Onward, EachTo}
+use Rattle.passkey_kinds.proofs.Steps.{CountsHeads, ◌≡◌, ◌-◌, ℕ, suc, List, length, Lies, Left, collected, kept_sum, Onward, EachTo}
 use Rattle.passkey_kinds.proofs.collect.read_all.Given as goal
 
 abbrev pub invariant-loop-alloc : goal.invariant-loop-alloc
 invariant-loop-alloc g l = record {
   onward : Onward l.fn.cursor l.cursor;
+  counts : CountsHeads l.fn.cursor l.cursor;
   each : (xs : List g.C.Collect.Element) (to : ℕ)
       → Lies (Left g.C.Collect.way.Encoded l.fn.left xs) l.fn.cursor.bytes l.fn.cursor.place to
       → EachTo g.C.Collect.way.Encoded (λ rest. collected g.C.Collect.way.next rest (g.C.Collect.value l.into)

@@ -1,4 +1,4 @@
-use Rattle.passkey_kinds.proofs.Steps.{ap, arith, kept_parts, decodes_in, after_head, eased, stands_long}
+use Rattle.passkey_kinds.proofs.Steps.{further_counted, ap, arith, kept_parts, decodes_in, after_head, eased, stands_long}
 use Rattle.std.proofs.Math.Nat.{mul-le-mul_left}
 use Rattle.passkey_kinds.proofs.collect.read_whole.Goals as goal
 
@@ -18,3 +18,7 @@ returns-in-None-clause-reads g c = λ i to l.
     let s = c.in-None.ensures.spends i to l in
     let long = stands_long i l in
     grind (arith, mul-le-mul_left, eased, o, s, long, c.in-None.ensures.counted)
+
+pub returns-in-Some-clause-further : goal.returns-in-Some-clause-further
+returns-in-Some-clause-further g c = further_counted _ c.read_all.result c.in-Some.ensures.further
+    c.read_all.ensures.onward.forward c.read_all.ensures.counts

@@ -1,4 +1,4 @@
-use Rattle.passkey_kinds.proofs.Steps.{rules, false, sym, arith, one_named, named_text, no_text, lent_decodes, not_lent_decodes, or_refused}
+use Rattle.passkey_kinds.proofs.Steps.{on_ok, looked_further, true, rules, false, sym, arith, one_named, named_text, no_text, lent_decodes, not_lent_decodes, or_refused}
 use Rattle.passkey_kinds.proofs.names.read_named.Goals as goal
 
 pub returns-in-Some-clause-reads : goal.returns-in-Some-clause-reads
@@ -11,3 +11,7 @@ pub returns-in-None-clause-reads : goal.returns-in-None-clause-reads
 returns-in-None-clause-reads g c = λ i to l.
     let f = c.in-None.ensures.lends i to l in
     search (rules, not_lent_decodes, named_text, no_text, f)
+
+pub returns-in-Some-clause-further : goal.returns-in-Some-clause-further
+returns-in-Some-clause-further g c =
+    on_ok c.ok_or.result (looked_further _ _ _ _ true c.in-Some.ensures.front c.named.ensures.looks)

@@ -1,4 +1,4 @@
-use Rattle.passkey_kinds.proofs.Steps.{arith, max_depth, split, named_as, table_of, record_cost, ends_ok, stands_long, stands_back, key_names, at_least, cost_by_le, key_spent, member_spent}
+use Rattle.passkey_kinds.proofs.Steps.{further_twice, arith, max_depth, split, named_as, table_of, record_cost, ends_ok, stands_long, stands_back, key_names, at_least, cost_by_le, key_spent, member_spent}
 use Rattle.passkey_cbor.specs.Inside.{Within}
 use Rattle.passkey_kinds.proofs.record.read_next.Goals as goal
 
@@ -25,3 +25,7 @@ returns-in-Some-clause-reads g c = λ m to l.
     let spent = member_spent (record_cost t) (stands_long m.0 s.front) s.back.forward (at_least t.rows) key.spends
     key.ends (cost_by_le t.rows (named_as c.in-Some.key)) value.spends in
     grind (arith, ends_ok, naming, told, value, spent)
+
+pub returns-in-Some-clause-further : goal.returns-in-Some-clause-further
+returns-in-Some-clause-further g c =
+    further_twice _ c.read_member.result c.in-Some.ensures.further c.read_member.ensures.further

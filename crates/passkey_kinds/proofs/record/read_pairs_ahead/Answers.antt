@@ -1,10 +1,13 @@
-use Rattle.passkey_kinds.proofs.Steps.{rules, refl, arith, err_from_is_err_and, onward_of, onward_then, on_ok, next_is, spent_within, one_more_done, each_done, at_least, goes_on, fails, all_read}
+use Rattle.passkey_kinds.proofs.Steps.{counts_then, counts_more, rules, refl, arith, err_from_is_err_and, onward_of, onward_then, on_ok, next_is, spent_within, one_more_done, each_done, at_least, goes_on, fails, all_read}
 use Rattle.passkey_kinds.proofs.record.read_pairs_ahead.Goals as goal
 
 pub loop-alloc-preserved : goal.loop-alloc-preserved
 loop-alloc-preserved g c = record {
   onward = onward_then _ _ _ (onward_then _ _ _ c.loop-alloc.invariant.onward
       (onward_of c.loop-alloc.cursor c.more.new.self c.loop-alloc-test.ensures.went)) c.in_ok-read_next.ensures.onward;
+  counts = counts_then _ _ _ (counts_then _ _ _ c.loop-alloc.invariant.counts
+      (counts_more _ _ _ _ _ c.loop-alloc-test.ensures.walks.looks c.loop-alloc-test.ensures.went.heads))
+      c.in_ok-read_next.ensures.further.counts;
   each = λ ms to l.
       let b = c.more.new.self in
       let d = c.read_next.new.cursor in
@@ -33,3 +36,7 @@ returns-clause-reads g c = λ ms to l.
     let e = c.loop-alloc.invariant.each ms to l in
     let ended = each_done e c.more.new.self walks.pairs walks.looks (omega (arith, at_least g.R.Record.fields.rows)) in
     search (rules, all_read, on_ok, g.R.Record.fields, ended, c.finish.ensures)
+
+pub returns-clause-counts : goal.returns-clause-counts
+returns-clause-counts g c = on_ok c.finish.result (counts_then _ _ _ c.loop-alloc.invariant.counts
+    (counts_more _ _ _ _ _ c.loop-alloc-test.ensures.walks.looks c.loop-alloc-test.ensures.went.heads))

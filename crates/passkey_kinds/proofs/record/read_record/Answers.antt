@@ -1,4 +1,4 @@
-use Rattle.passkey_kinds.proofs.Steps.{members-pairs_of, arith, head_before, eased, stands_long, at_least, kept_pairs, members_are, reads_from, no_record}
+use Rattle.passkey_kinds.proofs.Steps.{further_counted, members-pairs_of, arith, head_before, eased, stands_long, at_least, kept_pairs, members_are, reads_from, no_record}
 use Rattle.passkey_kinds.proofs.record.read_record.Goals as goal
 
 pub returns-in-Some-clause-reads : goal.returns-in-Some-clause-reads
@@ -19,3 +19,7 @@ returns-in-None-clause-reads g c = λ i to l.
     let o = c.in-None.ensures.opens i to l in
     let s = c.in-None.ensures.spends i to l in
     grind (arith, no_record, eased, stands_long, at_least, o, s)
+
+pub returns-in-Some-clause-further : goal.returns-in-Some-clause-further
+returns-in-Some-clause-further g c = further_counted _ c.read_pairs_ahead.result c.in-Some.ensures.further
+    c.read_pairs_ahead.ensures.onward.forward c.read_pairs_ahead.ensures.counts

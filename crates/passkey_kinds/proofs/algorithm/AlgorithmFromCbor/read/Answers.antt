@@ -1,4 +1,4 @@
-use Rattle.passkey_kinds.proofs.Steps.{numbered, rules, false, refl, arith, sym, ap, option_and_then, algorithm_named, algorithm, stands_long, on_ok, lent_decodes, answers_from, scalar_decodes, scalar_ends, other_number, missed_then, stands_missed, looked_further}
+use Rattle.passkey_kinds.proofs.Steps.{onward_of, further_from, numbered, rules, false, refl, arith, sym, ap, option_and_then, algorithm_named, algorithm, stands_long, on_ok, lent_decodes, answers_from, scalar_decodes, scalar_ends, other_number, missed_then, stands_missed, looked_further}
 use Rattle.passkey_kinds.proofs.algorithm.AlgorithmFromCbor.read.Goals as goal
 
 pub returns-in-Some-clause-reads : goal.returns-in-Some-clause-reads
@@ -21,7 +21,8 @@ returns-in-None-clause-further c =
     let on = c.in-None.ensures.went in
     let named = answers_from (λ x. x) _ (ap (option_and_then algorithm_named) (sym c.integer.ensures)) (λ h. absurd h)
     c.named-in-None.ensures in
-    scalar_ends _ numbered _ c.named-in-None.result refl named (λ is. omega (arith, c.read_scalar.ensures.further is))
+    scalar_ends _ numbered _ c.named-in-None.result refl named (λ is. further_from _ _ _ (onward_of _ _ on)
+    (c.in-None.ensures.front.place) (c.read_scalar.ensures.further is))
 
 pub returns-in-Some-clause-further : goal.returns-in-Some-clause-further
 returns-in-Some-clause-further c =

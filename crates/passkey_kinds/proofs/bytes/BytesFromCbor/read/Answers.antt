@@ -1,4 +1,4 @@
-use Rattle.passkey_kinds.proofs.Steps.{◌∙◌, true, false, Some, sym, ap, arith, err_from_is_err_and, bytes, stands_long, on_ok, looks_all, looks_some, lent_decodes, bytes_grow, answers_from, missed_then, stands_missed, looked_further, bytes_are, elements_in, below, kept_none, list_in}
+use Rattle.passkey_kinds.proofs.Steps.{further_from, further_ok, onward_of, copied_further, ◌∙◌, true, false, Some, sym, ap, arith, err_from_is_err_and, bytes, stands_long, on_ok, looks_all, looks_some, lent_decodes, bytes_grow, answers_from, missed_then, stands_missed, looked_further, bytes_are, elements_in, below, kept_none, list_in}
 use Rattle.passkey_kinds.proofs.bytes.BytesFromCbor.read.Goals as goal
 
 pub returns-in_err-copy-clause-reads : goal.returns-in_err-copy-clause-reads
@@ -28,9 +28,21 @@ returns-in-Some-text-clause-reads c = λ i to l.
 
 pub returns-in-Some-text-clause-further : goal.returns-in-Some-text-clause-further
 returns-in-Some-text-clause-further c =
-    let went = c.in_default.ensures.went in
-    let text = c.in-Some-text.ensures in
-    grind (arith, on_ok, looked_further, text.front, c.read_base64.ensures.looks, went.forward)
+    let missed = c.in_default.ensures in
+    on_ok c.read_base64.result (further_from _ _ _ (onward_of _ _ missed.went) missed.front.place
+    (looked_further _ _ _ _ true c.in-Some-text.ensures.front c.read_base64.ensures.looks))
+
+pub returns-in-Some-clause-further : goal.returns-in-Some-clause-further
+returns-in-Some-clause-further c =
+    let copied = c.in_ok-copy.ensures in
+    copied_further _ _ _ _ false c.in-Some.ensures.front copied.looks copied.rises
+
+pub returns-clause-further : goal.returns-clause-further
+returns-clause-further c =
+    let bytes = c.in_default.ensures in
+    let text = c.in_default-text.ensures in
+    further_ok _ c.read_whole.result (onward_of _ _ bytes.went) bytes.front.place
+    (further_ok _ c.read_whole.result (onward_of _ _ text.went) text.front.place c.read_whole.ensures.further)
 
 pub returns-clause-reads : goal.returns-clause-reads
 returns-clause-reads c = λ i to l.

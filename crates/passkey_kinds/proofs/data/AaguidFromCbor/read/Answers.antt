@@ -1,4 +1,4 @@
-use Rattle.passkey_kinds.proofs.Steps.{rules, arith, false, err_from_is_err_and, aaguid, no_aaguid, lent_decodes, not_lent_decodes}
+use Rattle.passkey_kinds.proofs.Steps.{looked_further, rules, arith, false, err_from_is_err_and, aaguid, no_aaguid, lent_decodes, not_lent_decodes}
 use Rattle.passkey_kinds.proofs.data.AaguidFromCbor.read.Goals as goal
 
 pub returns-in_err-filled-in-Some-clause-reads : goal.returns-in_err-filled-in-Some-clause-reads
@@ -20,3 +20,7 @@ pub returns-in-None-clause-reads : goal.returns-in-None-clause-reads
 returns-in-None-clause-reads c = λ i to l.
     let f = c.in-None.ensures.lends i to l in
     search (rules, not_lent_decodes, no_aaguid, f)
+
+pub returns-in_ok-filled-in-Some-clause-further : goal.returns-in_ok-filled-in-Some-clause-further
+returns-in_ok-filled-in-Some-clause-further c =
+    looked_further _ _ _ _ false c.in-Some.ensures.front c.in_ok-filled-in-Some.ensures.looks

@@ -1,4 +1,4 @@
-use Rattle.passkey_kinds.proofs.Steps.{rules, true, authenticator_data, ◌∙◌, false, arith, err_from_is_err_and, data_decodes, no_data, looks_all, looks_some, looks_none, lent_decodes, not_lent_decodes, bytes_grow, lent_is}
+use Rattle.passkey_kinds.proofs.Steps.{on_ok, data_further, copied_further, counted_further, rules, true, authenticator_data, ◌∙◌, false, arith, err_from_is_err_and, data_decodes, no_data, looks_all, looks_some, looks_none, lent_decodes, not_lent_decodes, bytes_grow, lent_is}
 use Rattle.passkey_kinds.proofs.data.AuthenticatorDataFromCbor.read.Goals as goal
 
 pub returns-in-None-clause-reads : goal.returns-in-None-clause-reads
@@ -30,3 +30,14 @@ returns-in_ok-bytes-in-None-lent-clause-reads c = λ i to l.
     data_decodes i c.in-Some.ensures.front f looks
     (c.deref.ensures.value ∙ c.in_ok-bytes-in-None-lent.ensures.copies f.0 f.1.1.tells)
     c.read_counted-in-None-lent.ensures.counts c.read_counted-in-None-lent.ensures.answers
+
+pub returns-in-Some-lent-clause-further : goal.returns-in-Some-lent-clause-further
+returns-in-Some-lent-clause-further c = on_ok c.read_counted.result (data_further _ _ _ _ _ _ c.in-Some.ensures.front
+    (looks_none _ _) c.read_counted.ensures.counts)
+
+pub returns-in_ok-bytes-in-None-lent-clause-further : goal.returns-in_ok-bytes-in-None-lent-clause-further
+returns-in_ok-bytes-in-None-lent-clause-further c =
+    let copied = c.in_ok-bytes-in-None-lent.ensures in
+    on_ok c.read_counted-in-None-lent.result (counted_further
+    (copied_further _ _ _ _ false c.in-Some.ensures.front copied.looks copied.rises)
+    c.read_counted-in-None-lent.ensures.counts)

@@ -1,4 +1,4 @@
-use Rattle.passkey_kinds.proofs.Steps.{rules, ◌∙◌, true, Some, refl, sym, ap, arith, err_from_is_err_and, text, no_text, looks_all, looks_some, lent_decodes, not_lent_decodes}
+use Rattle.passkey_kinds.proofs.Steps.{copied_further, rules, ◌∙◌, true, Some, refl, sym, ap, arith, err_from_is_err_and, text, no_text, looks_all, looks_some, lent_decodes, not_lent_decodes}
 use Rattle.passkey_kinds.proofs.from_cbor.TextFromCbor.read.Goals as goal
 
 pub returns-in_err-copy-in-Some-clause-reads : goal.returns-in_err-copy-in-Some-clause-reads
@@ -21,3 +21,8 @@ pub returns-in-None-clause-reads : goal.returns-in-None-clause-reads
 returns-in-None-clause-reads c = λ i to l.
     let f = c.in-None.ensures.lends i to l in
     search (rules, not_lent_decodes, no_text, f)
+
+pub returns-in_ok-copy-in-Some-clause-further : goal.returns-in_ok-copy-in-Some-clause-further
+returns-in_ok-copy-in-Some-clause-further c =
+    let copied = c.in_ok-copy-in-Some.ensures in
+    copied_further _ _ _ _ true c.in-Some.ensures.front copied.looks copied.rises

@@ -1,4 +1,4 @@
-use Rattle.passkey_kinds.proofs.Steps.{arith, Spends, eased, stands_long, stands_again, spends_again}
+use Rattle.passkey_kinds.proofs.Steps.{further_again, skip_further, arith, Spends, eased, stands_long, stands_again, spends_again}
 use Rattle.passkey_kinds.proofs.from_cbor.ToleratedFromCbor.read.Goals as goal
 
 pub returns-in-Ok-clause-reads : goal.returns-in-Ok-clause-reads
@@ -26,3 +26,7 @@ returns-in-Err-OutOfMemory-clause-reads g c = λ i to l.
     let read = c.in-Err-OutOfMemory.ensures.reads i to l in
     let is = c.in-Err-OutOfMemory.field-0-is in
     grind (arith, eased, stands_long, read, is)
+
+pub returns-then-skip-clause-further : goal.returns-then-skip-clause-further
+returns-then-skip-clause-further g c = further_again c.in-Err-Refused.ensures.onward c.go_back.ensures
+    c.place-start.ensures (skip_further _ _ c.if-skip.ensures.front)

@@ -1,4 +1,4 @@
-use Rattle.passkey_kinds.proofs.Steps.{arith, suc, max, err_from_is_err_and, max_depth, split, stands_long, stands_back, failed, map_values-insert, key_spent, member_spent}
+use Rattle.passkey_kinds.proofs.Steps.{further_on, arith, suc, max, err_from_is_err_and, max_depth, split, stands_long, stands_back, failed, map_values-insert, key_spent, member_spent}
 use Rattle.passkey_cbor.specs.Inside.{Within}
 use Rattle.passkey_kinds.proofs.map.MapBytesCollect.add.Goals as goal
 
@@ -45,3 +45,6 @@ returns-clause-adds g c = λ x to l.
     let spent = member_spent (suc (max 3 g.T.FromCbor.typed.cost)) long s.back.forward (omega arith) key.spends key.ends
     (omega arith) value.spends in
     grind (arith, map_values-insert, spent, key.answers, value.answers, value.ends, c.in_ok-insert.ensures)
+
+pub returns-clause-further : goal.returns-clause-further
+returns-clause-further g c = further_on c.in_ok-key.ensures.further c.in_ok-read.ensures.further

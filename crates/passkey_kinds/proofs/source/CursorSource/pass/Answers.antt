@@ -1,4 +1,4 @@
-use Rattle.passkey_kinds.proofs.Common.{arith}
+use Rattle.passkey_kinds.proofs.Steps.{arith, skipped_further}
 use Rattle.passkey_kinds.proofs.source.CursorSource.pass.Goals as goal
 
 pub returns-clause-passes : goal.returns-clause-passes
@@ -8,3 +8,6 @@ pub returns-clause-spends : goal.returns-clause-spends
 returns-clause-spends c = λ i to l.
     let p = c.skip.ensures.passes i to l in
     grind (arith, p)
+
+pub returns-clause-further : goal.returns-clause-further
+returns-clause-further c = skipped_further _ _ c.skip.result c.skip.ensures.front
