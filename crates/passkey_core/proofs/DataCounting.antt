@@ -1,7 +1,9 @@
 -- What the steps of decoding authenticator data add to the counts.
-use Rattle.std.proofs.Common.{◌≡◌, ◌∙◌, ℕ, zero, suc, ◌+◌, ◌-◌, ◌^◌, ◌≤◌, min, List, length, Bool, true, false, Result, Ok, Err, Bor, refl, sym, ap, subst, arith}
-use Rattle.std.specs.Result.{IsErr}
-use Rattle.passkey_cbor.specs.LeadingItem.{IsLeadingItem}
+use Rattle.std.proofs.Common.{◌≡◌, ◌∙◌, ℕ, zero, suc, ◌+◌, ◌-◌, ◌^◌, ◌≤◌, min, List, length, take, drop, Bool, true, false, None, Result, Ok, Err, Bor, refl, sym, ap, subst, arith}
+use Rattle.passkey_cbor.specs.Bytes.{IsBytes}
+use Rattle.passkey_cbor.specs.HeadCount.{heads_of}
+use Rattle.passkey_cbor.specs.LeadingItem.{IsLeadingItem, HasNoLeadingItem}
+use Rattle.passkey_cbor.specs.LeadingItemAt.{leading_item_at}
 use Rattle.passkey_cbor.specs.Item.{Item}
 use Rattle.passkey_cbor.specs.Nodes.{nodes}
 use Rattle.passkey_cbor.specs.Valued.{MakesLeadingItem, ReadsValue}
@@ -9,11 +11,15 @@ use Rattle.passkey_cbor.specs.Walk.{Walk, ahead, raised}
 use Rattle.passkey_cbor.specs.declared.count.Count.{Count}
 use Rattle.passkey_cbor.specs.declared.error.CborError.{CborError}
 use Rattle.passkey_cbor.specs.declared.error.CborError.TheVariants as error
-use Rattle.passkey_cbor.proofs.LeadingItems.{front_given}
+use Rattle.passkey_cbor.proofs.LeadingItems.{front_given, given_front}
+use Rattle.std.proofs.lemmas.List.{length-drop}
 use Rattle.passkey_cose.specs.declared.error.CoseError.{CoseError}
-use Rattle.passkey_core.specs.DataCounts.{Counts}
-use Rattle.passkey_core.specs.DataNodes.{given_nodes, front_nodes, count_behind, count_where, count_key, one}
+use Rattle.passkey_cose.specs.declared.error.CoseError.TheVariants as cose
+use Rattle.passkey_cose.specs.CoseErrors.{cose_error_of}
+use Rattle.passkey_core.specs.DataCounts.{Counts, CountsEach, ExceptOutOfMemory, UnlessOutOfMemory}
+use Rattle.passkey_core.specs.DataNodes.{given_nodes, given_heads, front_nodes, front_heads, count_behind, count_where, count_key, one}
 use Rattle.passkey_core.specs.DataReading.{Begun, ids_at}
+use Rattle.passkey_core.proofs.DataGiven.{none_given}
 use Rattle.passkey_core.proofs.DataShrinking.{ids_shrink}
 
 -- ---- a data item that a cursor decodes at the start of the bytes
@@ -42,6 +48,21 @@ within : (bytes : List ℕ) (a : Walk) (x : Item) (len : ℕ) → a ≡ begin by
     → len ≤ length bytes
 within bytes a x len e f = (subst (λ (w : Walk). IsLeadingItem (ahead w) x len) e f).within
 
+heads_given : (bytes : List ℕ) (a : Walk) (x : Item) (len : ℕ) → a ≡ begin bytes → IsLeadingItem (ahead a) x len
+    → front_heads bytes ≡ heads_of (take len (ahead a))
+heads_given bytes a x len e f =
+    let here : IsLeadingItem bytes x len = subst (λ (w : Walk). IsLeadingItem (ahead w) x len) e f in
+    let size : length bytes - length (drop len bytes) ≡ len =
+    omega (arith, length-drop len bytes, here.within) in
+    ap (given_heads bytes) (front_given bytes x len here) ∙ ap (λ (n : ℕ). heads_of (take n bytes)) size
+    ∙ ap (λ (w : Walk). heads_of (take len (ahead w))) (sym e)
+
+-- counted from nothing on, and added to other counts
+all_heads : (a b : Walk) (n : ℕ) → a.heads ≡ 0 → raised a.heads n ≤ b.heads → min n (2 ^ 128 - 1) ≤ b.heads
+all_heads a b n none counted =
+    let first : raised 0 n ≤ b.heads = subst (λ (k : ℕ). raised k n ≤ b.heads) none counted in
+    omega (arith, raised-zero n, first)
+
 pub item_made : {A : Type 0} (bytes : List ℕ) (a b : Walk) (x : Item) (old new : Count) (v : A)
     (rest : Bor (List ℕ)) → a ≡ begin bytes → MakesLeadingItem a b x → Added old new b
     → length rest.now ≡ length bytes - b.place → Counts (λ each. each bytes) bytes old new (Ok (v, rest))
@@ -57,28 +78,41 @@ item_made bytes a b x old new v rest e m added left =
       heads = omega (arith, added.heads, m.heads, m.place);
       nodes = omega (arith, added.nodes);
       least = λ _. omega (arith, added.heads);
-      all = omega (arith, added.nodes);
+      all = record {
+        heads = omega (
+          arith,
+          added.heads,
+          heads_given bytes a x m.len e m.front,
+          all_heads a b (heads_of (take m.len (ahead a))) no_heads m.all,
+        );
+        nodes = omega (arith, added.nodes);
+      };
       heads_rise = added.heads_rise;
       nodes_rise = added.nodes_rise;
     }
 
-faulty : {A : Type 0} (bytes : List ℕ) (a b : Walk) (e : CborError) (fault : CoseError) (old new : Count)
+pub item_fails : {A : Type 0} (bytes : List ℕ) (a b : Walk) (e : CborError) (old new : Count) → IsBytes bytes
     → a ≡ begin bytes → ReadsValue a b (Err e) → Added old new b
-    → Counts {A = A} (λ each. each bytes) bytes old new (Err fault)
-faulty bytes a b error.DecodeFailed fault old new e r added =
+    → Counts {A = A} (λ each. each bytes) bytes old new (Err (cose_error_of e))
+item_fails bytes a b error.DecodeFailed old new fits e r added =
     let no_heads : a.heads ≡ 0 = ap (λ (w : Walk). w.heads) e in
     let no_nodes : a.nodes ≡ 0 = ap (λ (w : Walk). w.nodes) e in
     let size : length (ahead a) ≡ length bytes = ap (λ (w : Walk). length (ahead w)) e in
     let some : 1 ≤ b.heads = subst (λ (n : ℕ). raised n 1 ≤ b.heads) no_heads r.least in
+    let none : leading_item_at bytes ≡ None = none_given given_front bytes fits
+    (subst (λ (w : Walk). HasNoLeadingItem (ahead w)) e r.none) in
     record {
       heads = omega (arith, added.heads, r.heads);
       nodes = omega (arith, added.nodes, r.nodes);
       least = λ _. omega (arith, added.heads);
-      all = tt;
+      all = record {
+        heads = omega (arith, added.heads, ap (given_heads bytes) none);
+        nodes = omega (arith, added.nodes, r.nodes, ap given_nodes none);
+      };
       heads_rise = added.heads_rise;
       nodes_rise = added.nodes_rise;
     }
-faulty bytes a b error.OutOfMemory fault old new e r added =
+item_fails bytes a b error.OutOfMemory old new fits e r added =
     let no_heads : a.heads ≡ 0 = ap (λ (w : Walk). w.heads) e in
     let no_nodes : a.nodes ≡ 0 = ap (λ (w : Walk). w.nodes) e in
     let size : r.len ≤ length bytes = within bytes a r.item r.len e r.front in
@@ -92,14 +126,7 @@ faulty bytes a b error.OutOfMemory fault old new e r added =
       heads_rise = added.heads_rise;
       nodes_rise = added.nodes_rise;
     }
-faulty bytes a b error.OutOfRangeIntegerValue fault old new e r added = absurd r
-
-pub item_fails : {A : Type 0} (bytes : List ℕ) (a b : Walk) (e : CborError)
-    (r : Result (A × Bor (List ℕ)) CoseError) (old new : Count) → a ≡ begin bytes → ReadsValue a b (Err e)
-    → Added old new b → IsErr r → Counts (λ each. each bytes) bytes old new r
-item_fails bytes a b e (Ok x) old new is_begin reads added h = cc
-item_fails bytes a b e (Err fault) old new is_begin reads added h =
-    faulty bytes a b e fault old new is_begin reads added
+item_fails bytes a b error.OutOfRangeIntegerValue old new fits e r added = absurd r
 
 -- ---- a step that follows another one
 
@@ -115,31 +142,62 @@ counts_same places bytes old new x y rest h = record {
   nodes_rise = h.nodes_rise;
 }
 
--- an error follows, or is the step's own
-pub counts_fault : {A B : Type 0} (places : (List ℕ → ℕ) → ℕ) (bytes : List ℕ) (old new : Count)
-    (r : Result (A × Bor (List ℕ)) CoseError) (fault : CoseError) → Counts places bytes old new r
+pub except : {P : Type 0} (e : CoseError) → P → ExceptOutOfMemory e P
+except cose.OutOfMemory p = tt
+except _ p = p
+
+pub except_map : (e : CoseError) (P Q : Type 0) → ExceptOutOfMemory e P → (P → Q) → ExceptOutOfMemory e Q
+except_map cose.OutOfMemory P Q p f = tt
+except_map cose.DecodeFailed P Q p f = f p
+except_map cose.OutOfRangeIntegerValue P Q p f = f p
+except_map cose.DuplicateMapKey P Q p f = f p
+except_map cose.UnexpectedItem P Q p f = f p
+
+-- the step's own error
+pub counts_failed : {A B : Type 0} (places : (List ℕ → ℕ) → ℕ) (bytes : List ℕ) (old new : Count) (e : CoseError)
+    → Counts {A = A} places bytes old new (Err e) → Counts {A = B} places bytes old new (Err e)
+counts_failed places bytes old new e h = record {
+  heads = h.heads;
+  nodes = h.nodes;
+  least = h.least;
+  all = h.all;
+  heads_rise = h.heads_rise;
+  nodes_rise = h.nodes_rise;
+}
+
+-- an error after the step
+pub counts_refused : {A B : Type 0} (places : (List ℕ → ℕ) → ℕ) (bytes : List ℕ) (old new : Count)
+    (p : A × Bor (List ℕ)) (fault : CoseError) → Counts places bytes old new (Ok p)
     → Counts {A = B} places bytes old new (Err fault)
-counts_fault places bytes old new r fault h = record {
+counts_refused places bytes old new p fault h = record {
   heads = omega (arith, h.heads);
   nodes = h.nodes;
   least = h.least;
-  all = tt;
+  all = except fault h.all;
   heads_rise = h.heads_rise;
   nodes_rise = h.nodes_rise;
 }
 
 -- no data item is decoded
 pub counts_none : {A : Type 0} (places : (List ℕ → ℕ) → ℕ) (bytes : List ℕ) (count : Count) (fault : CoseError)
-    → places one ≡ 0 → Counts {A = A} places bytes count count (Err fault)
+    → ((each : List ℕ → ℕ) → places each ≡ 0) → Counts {A = A} places bytes count count (Err fault)
 counts_none places bytes count fault none = record {
   heads = omega arith;
   nodes = omega arith;
   least =
-      λ some. absurd (omega (arith, none, some));
-  all = tt;
+      λ some. absurd (omega (arith, none one, some));
+  all = except fault (record {
+    heads = omega (arith, none front_heads);
+    nodes = omega (arith, none front_nodes);
+  });
   heads_rise = omega arith;
   nodes_rise = omega arith;
 }
+
+pub unless_map : {A : Type 0} (r : Result A CoseError) (P Q : Type 0) → UnlessOutOfMemory r P → (P → Q)
+    → UnlessOutOfMemory r Q
+unless_map (Ok x) P Q p f = f p
+unless_map (Err e) P Q p f = except_map e P Q p f
 
 -- other places with the same counts, and more bytes
 moved : {A : Type 0} (places others : (List ℕ → ℕ) → ℕ) (bytes more : List ℕ) (old new : Count)
@@ -149,7 +207,10 @@ moved places others bytes more old new r same longer h = record {
   heads = omega (arith, h.heads);
   nodes = rw (same front_nodes) h.nodes;
   least = rw (same one) h.least;
-  all = rw (same front_nodes) h.all;
+  all = unless_map r (CountsEach places old new) (CountsEach others old new) h.all (λ (p : CountsEach places old new). record {
+    heads = omega (arith, p.heads, same front_heads);
+    nodes = omega (arith, p.nodes, same front_nodes);
+  });
   heads_rise = h.heads_rise;
   nodes_rise = h.nodes_rise;
 }
@@ -176,7 +237,7 @@ counts_behind_ids bytes ids rest old new r is_ids h =
 pub counts_no_key : {A : Type 0} (bytes : List ℕ) (e fault : CoseError) (count : Count) → Err e ≡ ids_at bytes
     → Counts {A = A} (λ each. count_key each bytes) bytes count count (Err fault)
 counts_no_key bytes e fault count h =
-    counts_none (λ each. count_key each bytes) bytes count fault (no_key one bytes e h)
+    counts_none (λ each. count_key each bytes) bytes count fault (λ each. no_key each bytes e h)
 
 -- ---- a part whose flag is set
 
@@ -195,7 +256,7 @@ counts_not_there part is_there bytes count x absent =
       heads = omega arith;
       nodes = omega arith;
       least = λ some. absurd (omega (arith, some));
-      all = omega arith;
+      all = record { heads = omega arith; nodes = omega arith };
       heads_rise = omega arith;
       nodes_rise = omega arith;
     })

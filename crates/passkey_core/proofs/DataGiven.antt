@@ -4,6 +4,7 @@ use Rattle.std.specs.Int.{w16, from_be_bytes}
 use Rattle.std.specs.Int.RustNames.{bit_and}
 use Rattle.std.proofs.Common.{◌≡◌, ◌∙◌, inl, inr, ℕ, ◌==◌, nat_lt, List, length, take, drop, Bool, true, false, if◌then◌else◌, Option, Some, None, Result, Ok, Err, refl, sym, ap, subst}
 use Rattle.passkey_cbor.specs.Bytes.{IsBytes}
+use Rattle.passkey_cbor.specs.LeadingItem.{HasNoLeadingItem}
 use Rattle.passkey_cbor.specs.LeadingItemAt.{leading_item_at, IsLeadingItemOf}
 use Rattle.passkey_cbor.specs.Item.{Item}
 use Rattle.passkey_cbor.specs.Laws.{LeadingItemIsFound, FoundIsLeadingItem}
@@ -21,7 +22,7 @@ use Rattle.passkey_core.proofs.DataReadings.{Went, then_went}
 
 -- ---- what is left after a part consists of bytes
 
-abbrev LeavesBytes : {X : Type 0} → Begun X → Type 0
+abbrev pub LeavesBytes : {X : Type 0} → Begun X → Type 0
 LeavesBytes (Ok p) = IsBytes p.1
 LeavesBytes (Err e) = Unit {0}
 
@@ -46,7 +47,7 @@ known_leaves d rest fits =
       | false ↦ tt
     ]
 
-fixed_leave : (bytes : List ℕ) → IsBytes bytes → LeavesBytes (fixed_at bytes)
+pub fixed_leave : (bytes : List ℕ) → IsBytes bytes → LeavesBytes (fixed_at bytes)
 unfolding fixed_at
 fixed_leave bytes fits =
     leaves_behind (bytes_at 32 bytes) _ (bytes_leave 32 bytes fits) (λ hash hash_fits.
@@ -175,6 +176,54 @@ pub attested_where_given : LeadingItemIsFound → (is_there : Bool) (bytes : Lis
     → Gives (ReadsWhere is_there ReadsAttested bytes) (where_at is_there attested_at bytes)
 attested_where_given law is_there bytes =
     where_given is_there ReadsAttested attested_at bytes (attested_given law bytes)
+
+-- ---- whatever the reading is, faults too, it is what the function gives
+
+pub none_given : FoundIsLeadingItem → (bytes : List ℕ) → IsBytes bytes → HasNoLeadingItem bytes
+    → leading_item_at bytes ≡ None
+none_given law bytes fits none = by_case (leading_item_at bytes) (law bytes fits) where
+  by_case : (o : Option (Item × List ℕ)) → IsLeadingItemOf bytes o → o ≡ None
+  by_case None f = refl
+  by_case (Some r) f = absurd (none r.0 f.len f.front)
+
+abbrev pub GivesAll : {Y : Type 0} → (Result Y CoseError → Type 0) → Result Y CoseError → Type 0
+GivesAll {Y} is_right given = (r : Result Y CoseError) → is_right r → given ≡ r
+
+then_gives : {X Y : Type 0} (first : Begun X → Type 0) (next : X → List ℕ → Result Y CoseError → Type 0)
+    (begun : Begun X) (go_on : X × List ℕ → Result Y CoseError) → LeavesBytes begun → GivesAll first begun
+    → ((p : X × List ℕ) → IsBytes p.1 → GivesAll (next p.0 p.1) (go_on p))
+    → GivesAll (ReadsThen first next) (begun >>= go_on)
+then_gives {X} first next begun go_on leaves gives each y h = by_begun h.begun (gives h.begun h.begins) h.goes_on where
+  by_begun : (b : Begun X) → begun ≡ b → Behind next b y → (begun >>= go_on) ≡ y
+  by_begun (Ok p) is on = ap (λ (b : Begun X). b >>= go_on) is ∙ each p (subst LeavesBytes is leaves) y on
+  by_begun (Err e) is on = ap (λ (b : Begun X). b >>= go_on) is ∙ sym on
+
+item_gives : {X : Type 0} → LeadingItemIsFound → FoundIsLeadingItem → (read : Item → Result X CoseError)
+    (bytes : List ℕ) → IsBytes bytes → GivesAll (ReadsItem read bytes) (item_at read bytes)
+item_gives law found read bytes fits r (inl q) =
+    ap (judged_front read) (law bytes q.item q.len q.front) ∙ sym q.judged
+item_gives law found read bytes fits r (inr q) =
+    ap (judged_front read) (none_given found bytes fits q.0) ∙ sym q.1
+
+attested_gives : LeadingItemIsFound → FoundIsLeadingItem → (bytes : List ℕ) → IsBytes bytes
+    → GivesAll (ReadsAttested bytes) (attested_at bytes)
+unfolding attested_at
+attested_gives law found bytes fits =
+    then_gives (λ ids. ids ≡ ids_at bytes) _ (ids_at bytes) _ (ids_leave bytes fits) (λ r e. sym e) (λ ids ids_fit.
+    then_gives (ReadsItem read_key ids.1) _ (item_at read_key ids.1) _ (item_reads found read_key ids.1 ids_fit).leaves
+    (item_gives law found read_key ids.1 ids_fit) (λ key key_fits y e. sym e))
+
+where_gives : {X : Type 0} (is_there : Bool) (part : List ℕ → Begun X → Type 0) (part_at : List ℕ → Begun X)
+    (bytes : List ℕ) → LeavesBytes (part_at bytes) → GivesAll (part bytes) (part_at bytes)
+    → GivesAll (ReadsWhere is_there part bytes) (where_at is_there part_at bytes)
+where_gives true part part_at bytes leaves gives = then_gives (part bytes) _ (part_at bytes) _ leaves gives
+    (λ p p_fits y e. sym e)
+where_gives false part part_at bytes leaves gives = λ r e. sym e
+
+pub attested_where_gives : LeadingItemIsFound → FoundIsLeadingItem → (is_there : Bool) (bytes : List ℕ)
+    → IsBytes bytes → GivesAll (ReadsWhere is_there ReadsAttested bytes) (where_at is_there attested_at bytes)
+attested_where_gives law found is_there bytes fits = where_gives is_there ReadsAttested attested_at bytes
+    (attested_reads found bytes fits).leaves (attested_gives law found bytes fits)
 
 pub read_is_given : LeadingItemIsFound → ReadIsGiven
 unfolding read_data

@@ -2,15 +2,19 @@
 use Rattle.std.proofs.Common.{◌≡◌, ◌∙◌, ℕ, ◌+◌, ◌*◌, ◌-◌, ◌^◌, ◌<◌, ◌≤◌, min, List, length, Bool, true, Option, Some, Result, Ok, Err, Bor, sym, ap, subst, arith}
 use Rattle.passkey_cbor.specs.Walk.{raised}
 use Rattle.passkey_cbor.specs.declared.count.Count.{Count}
-use Rattle.passkey_cbor.proofs.LeadingItems.{front_given}
+use Rattle.passkey_cbor.specs.Bytes.{IsBytes}
+use Rattle.passkey_cbor.proofs.LeadingItems.{front_given, given_front}
 use Rattle.passkey_cose.specs.declared.error.CoseError.{CoseError}
-use Rattle.passkey_core.specs.DataCounts.{Counts}
+use Rattle.passkey_cose.specs.declared.error.CoseError.TheVariants as cose
+use Rattle.passkey_core.specs.DataAnswers.{Returns}
+use Rattle.passkey_core.specs.DataCounts.{Counts, CountsEach, ExceptOutOfMemory, UnlessOutOfMemory}
 use Rattle.passkey_core.specs.DataFlags.{attested_flag, extensions_flag, has_flag}
-use Rattle.passkey_core.specs.DataNodes.{front_nodes, count_behind, count_where, count_key, count_data, one, data_nodes, data_places}
+use Rattle.passkey_core.specs.DataNodes.{front_heads, front_nodes, count_behind, count_where, count_key, count_data, one, data_nodes, data_places}
 use Rattle.passkey_core.specs.DataParts.{AttestedParts, DataParts}
 use Rattle.passkey_core.specs.DataRead.{attested_at, where_at}
 use Rattle.passkey_core.specs.DataReading.{Begun, ◌>>=◌, fixed_at, ids_at, ReadsAttested, ReadsWhere}
-use Rattle.passkey_core.proofs.DataGiven.{attested_where_given}
+use Rattle.passkey_core.proofs.DataCounting.{except, unless_map}
+use Rattle.passkey_core.proofs.DataGiven.{LeavesBytes, fixed_leave, attested_where_given, attested_where_gives}
 use Rattle.passkey_core.proofs.DataShrinking.{fixed_shrink}
 
 -- what decoding the bytes adds
@@ -40,6 +44,13 @@ totals_fixed bytes e count h = record {
   heads_rise = omega arith;
   nodes_rise = omega arith;
 }
+
+pub all_fixed : (bytes : List ℕ) (e : CoseError) (count : Count) → fixed_at bytes ≡ Err e
+    → ExceptOutOfMemory e (CountsEach (λ each. count_data each bytes) count count)
+all_fixed bytes e count h = except e (record {
+  heads = omega (arith, nothing_behind front_heads bytes e h);
+  nodes = omega (arith, nothing_behind front_nodes bytes e h);
+})
 
 -- ---- an error in attested credential data
 
@@ -89,6 +100,36 @@ totals_attested bytes fixed rest is_attested e old new is_fixed flag there h =
       heads_rise = h.heads_rise;
       nodes_rise = h.nodes_rise;
     }
+
+-- what is known of a fault that isn't out of memory
+faulted : {A B : Type 0} (P Q memory : Type 0) (seen : A → B) (answers : Result B CoseError → Type 0)
+    (e : CoseError) → Returns memory seen answers (Err e) → ExceptOutOfMemory e P → (answers (Err e) → P → Q)
+    → ExceptOutOfMemory e Q
+faulted P Q memory seen answers cose.OutOfMemory r p f = tt
+faulted P Q memory seen answers cose.DecodeFailed r p f = f r p
+faulted P Q memory seen answers cose.OutOfRangeIntegerValue r p f = f r p
+faulted P Q memory seen answers cose.DuplicateMapKey r p f = f r p
+faulted P Q memory seen answers cose.UnexpectedItem r p f = f r p
+
+pub all_attested : {A : Type 0} (memory : Type 0) (seen : A × Bor (List ℕ) → Option AttestedParts × List ℕ) (bytes : List ℕ) (fixed : DataParts) (rest : List ℕ) (is_attested : Bool) (e : CoseError) (old new : Count)
+    → IsBytes bytes → Ok (fixed, rest) ≡ fixed_at bytes → is_attested ≡ has_flag attested_flag fixed.flags
+    → Returns memory seen (ReadsWhere is_attested ReadsAttested rest) (Err e)
+    → Counts {A = A} (λ each. count_where is_attested (count_key each) rest) rest old new (Err e)
+    → ExceptOutOfMemory e (CountsEach (λ each. count_data each bytes) old new)
+all_attested memory seen bytes fixed rest is_attested e old new fits is_fixed flag reads h =
+    let rest_fits : IsBytes rest = subst LeavesBytes (sym is_fixed) (fixed_leave bytes fits) in
+    faulted (CountsEach (λ each. count_where is_attested (count_key each) rest) old new)
+    (CountsEach (λ each. count_data each bytes) old new) memory seen (ReadsWhere is_attested ReadsAttested rest) e reads
+    h.all (λ fails p.
+    let given = attested_where_gives front_given given_front is_attested rest rest_fits (Err e) fails in
+    let parts : (each : List ℕ → ℕ) → count_data each bytes ≡ count_where is_attested (count_key each) rest + 0 =
+    λ each. rw flag (parts_of each bytes fixed rest is_fixed)
+    ∙ ap (λ (begun : Begun (Option AttestedParts)). count_where is_attested (count_key each) rest
+    + behind_attested each fixed begun) given in
+    record {
+      heads = omega (arith, p.heads, parts front_heads);
+      nodes = omega (arith, p.nodes, parts front_nodes);
+    })
 
 -- ---- then the extensions
 
@@ -164,14 +205,18 @@ totals bytes fixed rest is_attested has_extensions attested x behind old mid new
 
 pub all_counted : {A B : Type 0} (bytes : List ℕ) (fixed : DataParts) (rest : List ℕ)
     (is_attested has_extensions : Bool) (attested : Option AttestedParts) (x : A) (behind : Bor (List ℕ))
-    (old mid new : Count) (y : B × Bor (List ℕ)) → Ok (fixed, rest) ≡ fixed_at bytes
+    (old mid new : Count) (last : Result (B × Bor (List ℕ)) CoseError) → Ok (fixed, rest) ≡ fixed_at bytes
     → is_attested ≡ has_flag attested_flag fixed.flags → has_extensions ≡ has_flag extensions_flag fixed.flags
     → ReadsWhere is_attested ReadsAttested rest (Ok (attested, behind.now))
     → Counts (λ each. count_where is_attested (count_key each) rest) rest old mid (Ok (x, behind))
-    → Counts (λ each. count_where has_extensions each behind.now) behind.now mid new (Ok y)
-    → min (old.nodes + data_nodes bytes) (2 ^ 128 - 1) ≤ new.nodes
-all_counted bytes fixed rest is_attested has_extensions attested x behind old mid new y is_fixed at ed reads first
+    → Counts (λ each. count_where has_extensions each behind.now) behind.now mid new last
+    → UnlessOutOfMemory last (CountsEach (λ each. count_data each bytes) old new)
+all_counted bytes fixed rest is_attested has_extensions attested x behind old mid new last is_fixed at ed reads first
     second =
-    let s = steps bytes fixed rest is_attested has_extensions attested x behind old mid new (Ok y) is_fixed at ed
+    let s = steps bytes fixed rest is_attested has_extensions attested x behind old mid new last is_fixed at ed
     reads first second in
-    omega (arith, s.first.all, s.second.all, s.both front_nodes)
+    unless_map last (CountsEach (λ each. count_where (has_flag extensions_flag fixed.flags) each behind.now) mid new)
+    (CountsEach (λ each. count_data each bytes) old new) s.second.all (λ p. record {
+      heads = omega (arith, s.first.all.heads, p.heads, s.both front_heads);
+      nodes = omega (arith, s.first.all.nodes, p.nodes, s.both front_nodes);
+    })

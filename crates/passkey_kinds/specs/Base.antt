@@ -14,7 +14,7 @@ pub use Rattle.passkey_cbor.specs.Walk.{Walk, LooksOnce}
 pub use Rattle.passkey_cbor.specs.Writable.{IsWritable}
 pub use Rattle.passkey_cbor.specs.Written.{written}
 pub use Rattle.passkey_core.specs.Coherent.{is_coherent}
-pub use Rattle.passkey_core.specs.DataNodes.{data_nodes}
+pub use Rattle.passkey_core.specs.DataNodes.{data_heads, data_nodes}
 pub use Rattle.passkey_core.specs.DataNormal.{IfPresent, IsData, normal_data}
 pub use Rattle.passkey_core.specs.DataParts.{DataParts, bare_data}
 pub use Rattle.passkey_core.specs.DataViews.{data_parts}

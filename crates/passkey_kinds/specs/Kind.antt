@@ -1,6 +1,6 @@
 -- Kinds: what data items decode to, and how many data items a decoded value keeps.
-use Rattle.passkey_kinds.specs.Base.{Item, elements, members, text_bytes, Grows, number, text_string, byte_string, array, boolean, null, algorithm_number, algorithm_named, Algorithm, signed_64, whole_64, Walk, data_nodes, DataParts, data_parts}
-use Rattle.std.specs.Prelude.{ℕ, ◌+◌, List, [], ◌∷◌, ◌≡◌, ◌==◌, pos, nat_lt, length, Bool, IsTrue, if◌then◌else◌, Option, Some, None, option_map, unwrap_or, Result, Ok, Err, ◌*◌, ◌≤◌, map as each_one, ◌^◌, ◌<◌, ◌&&◌}
+use Rattle.passkey_kinds.specs.Base.{Item, elements, members, text_bytes, Grows, number, text_string, byte_string, array, boolean, null, algorithm_number, algorithm_named, Algorithm, signed_64, whole_64, Walk, data_heads, data_nodes, DataParts, data_parts}
+use Rattle.std.specs.Prelude.{ℕ, ◌+◌, ◌-◌, min, List, [], ◌∷◌, ◌≡◌, ◌==◌, pos, nat_lt, length, Bool, IsTrue, if◌then◌else◌, Option, Some, None, option_map, unwrap_or, Result, Ok, Err, ◌*◌, ◌≤◌, map as each_one, ◌^◌, ◌<◌, ◌&&◌}
 use Rattle.passkey_bytes.specs.Map.{ByteMap, put_each}
 use Rattle.passkey_core.specs.DataRead.{read_data}
 use Rattle.passkey_core.specs.DataWritten.{data_written}
@@ -192,6 +192,18 @@ pub record CountsData (bytes : List ℕ) (old new : Walk) : Type 0 where
   pub nodes_rise : old.nodes ≤ new.nodes
   pub place : new.place ≡ old.place
   pub same : new.bytes ≡ old.bytes
+
+-- At least the heads and the data items of the credential public key and the extensions, as far as
+-- decoding gets, were added to the counts.
+pub record CountsDataItems (bytes : List ℕ) (heads nodes new_heads new_nodes : ℕ) : Type 0 where
+  pub all_heads : min (heads + data_heads bytes) (2 ^ 128 - 1) ≤ new_heads
+  pub all_nodes : min (nodes + data_nodes bytes) (2 ^ 128 - 1) ≤ new_nodes
+
+-- the fact, unless memory ran out
+abbrev pub UnlessOutOfMemory : {A : Type 0} → Result A Refusal → Type 0 → Type 0
+UnlessOutOfMemory (Ok x) P = P
+UnlessOutOfMemory (Err Refused) P = P
+UnlessOutOfMemory (Err OutOfMemory) P = Unit {0}
 
 -- ---- maps from byte strings, decoded from maps whose keys decode to byte strings
 

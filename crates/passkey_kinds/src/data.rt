@@ -1,6 +1,6 @@
 //! Authenticator data and AAGUIDs, decoded from byte strings and encoded as byte strings.
 ghost use Rattle.std.specs.Prelude.{◌≡◌, ℕ, ◌+◌, ◌*◌, ◌≤◌, length, List};
-ghost use Rattle.passkey_kinds.specs.Words.{byte_string, data_nodes, IsData, DataParts, data_parts, Answers, authenticator_data, aaguid, CountsData, data_tree, aaguid_tree};
+ghost use Rattle.passkey_kinds.specs.Words.{byte_string, data_nodes, IsData, DataParts, data_parts, Answers, authenticator_data, aaguid, CountsData, CountsDataItems, UnlessOutOfMemory, data_tree, aaguid_tree};
 
 use crate::array::filled;
 use crate::{FromCbor, OutOfMemory, Refusal, ToCbor};
@@ -15,6 +15,8 @@ fn read_data(alloc: Global, bytes: &[u8], count: &mut Count) -> Result<Authentic
     ensures answers { Answers data_parts authenticator_data (byte_string bytes.now) result }
     ensures heads { count.new.heads ≤ count.old.heads + (4 * length bytes.now + 4) }
     ensures nodes { count.new.nodes ≤ count.old.nodes + data_nodes bytes.now }
+    ensures all { UnlessOutOfMemory result (CountsDataItems bytes.now count.old.heads count.old.nodes
+        count.new.heads count.new.nodes) }
 {
     laws::given_is_read();
     laws::one_reading();
@@ -33,6 +35,8 @@ fn read_counted(
 ) -> Result<AuthenticatorData, Refusal>
     ensures answers { Answers data_parts authenticator_data (byte_string bytes.now) result }
     ensures counts { CountsData bytes.now cursor.old cursor.new }
+    ensures all { UnlessOutOfMemory result (CountsDataItems bytes.now cursor.old.heads cursor.old.nodes
+        cursor.new.heads cursor.new.nodes) }
 {
     let mut count = Count { heads: 0, nodes: 0 };
     let data = read_data(alloc, bytes, &mut count);

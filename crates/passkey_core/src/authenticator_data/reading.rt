@@ -7,8 +7,8 @@ ghost use Rattle.passkey_cbor.specs.Walk.{raised};
 ghost use Rattle.passkey_cose.specs.Key.{key_parts};
 ghost use Rattle.passkey_cose.specs.KeyReading.{read_key};
 ghost use Rattle.passkey_core.specs.DataAnswers.{Returns};
-ghost use Rattle.passkey_core.specs.DataCounts.{Counts};
-ghost use Rattle.passkey_core.specs.DataNodes.{count_key, count_where, data_nodes, data_places};
+ghost use Rattle.passkey_core.specs.DataCounts.{Counts, CountsEach, UnlessOutOfMemory};
+ghost use Rattle.passkey_core.specs.DataNodes.{count_data, count_key, count_where, data_nodes, data_places};
 ghost use Rattle.passkey_core.specs.DataReading.{bytes_at, fixed_at, ids_at, read_map, ReadsItem, ReadsAttested, ReadsWhere, ReadsData, AttestedGrows, DataGrow};
 ghost use Rattle.passkey_core.specs.DataViews.{attested_parts, data_parts};
 
@@ -204,12 +204,13 @@ impl AuthenticatorData {
     /// Returns what `from_slice` returns, and adds its cost to `count`, even if it returns an
     /// error. Neither count decreases, and each saturates at `u128::MAX`.
     ///
-    /// `heads`: at most four for each byte, and four more (RFC 8949, section 3). At least one if a
-    /// data item is decoded: if AT or ED is set, and there is no error before the data item.
+    /// `heads`: at most four for each byte, and four more (RFC 8949, section 3). At least those of the
+    /// key and of the extensions, as far as decoding gets, and one where no well-formed data item is;
+    /// after `OutOfMemory` at least one if a data item is decoded.
     ///
     /// `nodes`: one for each data item that is built for the key or the extensions, nested ones
-    /// included. At most as many as there are in these two, and on `Ok` exactly as many. A data
-    /// item that is no key or no map is built as well, and counted.
+    /// included, as far as decoding gets: exactly as many, and after `OutOfMemory` at most as many. A
+    /// data item that is no key or no map is built as well, and counted.
     pub fn from_slice_counted(
         alloc: Global,
         bytes: &[u8],
@@ -219,8 +220,9 @@ impl AuthenticatorData {
         ensures heads { count.new.heads ≤ count.old.heads + (4 * length bytes.now + 4) }
         ensures nodes { count.new.nodes ≤ count.old.nodes + data_nodes bytes.now }
         ensures least { 0 < data_places bytes.now → raised count.old.heads 1 ≤ count.new.heads }
-        ensures all { IfOk result (λ made.
-            min (count.old.nodes + data_nodes bytes.now) u128.MAX ≤ count.new.nodes) }
+
+        // Unless memory ran out, each head and each data item that was decoded is counted.
+        ensures all { UnlessOutOfMemory result (CountsEach (λ each. count_data each bytes.now) count.old count.new) }
         ensures heads_rise { count.old.heads ≤ count.new.heads }
         ensures nodes_rise { count.old.nodes ≤ count.new.nodes }
     {

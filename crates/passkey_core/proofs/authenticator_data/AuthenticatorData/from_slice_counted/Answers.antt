@@ -1,13 +1,16 @@
-use Rattle.std.proofs.Common.{rules, ◌≡◌, ℕ, List, true, Option, Ok, Err, option_map, Bor, sym, subst}
+use Rattle.std.proofs.Common.{rules, ◌≡◌, ◌∙◌, ap, ℕ, List, true, Option, Ok, Err, option_map, Bor, sym, subst}
+use Rattle.passkey_cbor.specs.Bytes.{IsBytes}
 use Rattle.passkey_cbor.specs.Reads.{HasGrowingLeadingItem}
 use Rattle.passkey_cbor.specs.View.{item_of}
 use Rattle.passkey_cbor.specs.declared.value.Value.{Value}
 use Rattle.passkey_core.specs.DataAnswers.{Returns}
+use Rattle.passkey_core.specs.declared.attested.data.AttestedCredentialData.{AttestedCredentialData}
 use Rattle.passkey_core.specs.DataFlags.{has_flag, attested_flag, extensions_flag}
-use Rattle.passkey_core.specs.DataReading.{fixed_at, read_map, ReadsItem, ReadsAttested, ReadsWhere, DataGrow}
+use Rattle.passkey_core.specs.DataReading.{fixed_at, read_map, ReadsItem, ReadsAttested, ReadsWhere, AttestedGrows, DataGrow}
 use Rattle.passkey_core.specs.DataViews.{attested_parts, data_parts}
 use Rattle.passkey_core.proofs.DataReadings.{fixed_fails, extensions_fail}
-use Rattle.passkey_core.proofs.DataTotals.{totals_fixed, totals_attested, totals, all_counted}
+use Rattle.std.proofs.lemmas.Result.{err_from_is_err_and}
+use Rattle.passkey_core.proofs.DataTotals.{totals_fixed, totals_attested, totals, all_fixed, all_attested, all_counted}
 use Rattle.passkey_core.proofs.authenticator_data.AuthenticatorData.from_slice_counted.Goals as goal
 
 pub returns-in_err-fixed-clause-value : goal.returns-in_err-fixed-clause-value
@@ -18,7 +21,8 @@ returns-in_err-fixed-clause-value c =
 
 pub returns-in_err-extensions-clause-value : goal.returns-in_err-extensions-clause-value
 returns-in_err-extensions-clause-value c =
-    let told : c.from_residual-in_err-extensions.result ≡ Err c.in_err-extensions.field-0.0 = search rules in
+    let p = err_from_is_err_and c.from_residual-in_err-extensions.result c.from_residual-in_err-extensions.ensures.1 in
+    let told : c.from_residual-in_err-extensions.result ≡ Err c.in_err-extensions.field-0.0 = p.1 ∙ ap Err p.2 in
     let attested : c.contains-has_attested.result ≡ has_flag attested_flag c.in_ok-fixed.fixed.flags.0 =
     search rules in
     let extensions : c.contains-has_extensions.result ≡ has_flag extensions_flag c.in_ok-fixed.fixed.flags.0 =
@@ -152,3 +156,35 @@ returns-clause-all c =
     attested_parts c.in_ok-attested.attested) c.in_ok-attested.attested c.in_ok-attested.rest c.args.count.now
     c.read_attested_where.new.count c.read_extensions_where.new.count _ c.in_ok-fixed.ensures attested
     extensions c.in_ok-attested.ensures.value c.in_ok-attested.ensures.counts c.in_ok-extensions.ensures.counts
+
+pub returns-in_err-extensions-clause-all : goal.returns-in_err-extensions-clause-all
+returns-in_err-extensions-clause-all c =
+    let p = err_from_is_err_and c.from_residual-in_err-extensions.result c.from_residual-in_err-extensions.ensures.1 in
+    let told : c.from_residual-in_err-extensions.result ≡ Err c.in_err-extensions.field-0.0 = p.1 ∙ ap Err p.2 in
+    let attested : c.contains-has_attested.result ≡ has_flag attested_flag c.in_ok-fixed.fixed.flags.0 =
+    search rules in
+    let extensions : c.contains-has_extensions.result ≡ has_flag extensions_flag c.in_ok-fixed.fixed.flags.0 =
+    search rules in
+    rw told (all_counted c.args.bytes.now (data_parts c.in_ok-fixed.fixed) c.in_ok-fixed.rest.now _ _
+    (option_map attested_parts c.in_ok-attested.attested) c.in_ok-attested.attested c.in_ok-attested.rest
+    c.args.count.now c.read_attested_where.new.count c.read_extensions_where.new.count
+    (Err c.in_err-extensions.field-0.0) c.in_ok-fixed.ensures attested extensions c.in_ok-attested.ensures.value
+    c.in_ok-attested.ensures.counts c.in_err-extensions.ensures.counts)
+
+pub returns-in_err-attested-clause-all : goal.returns-in_err-attested-clause-all
+returns-in_err-attested-clause-all c =
+    let p = err_from_is_err_and c.from_residual-in_err-attested.result c.from_residual-in_err-attested.ensures.1 in
+    let told : c.from_residual-in_err-attested.result ≡ Err c.in_err-attested.field-0.0 = p.1 ∙ ap Err p.2 in
+    let attested : c.contains-has_attested.result ≡ has_flag attested_flag c.in_ok-fixed.fixed.flags.0 =
+    search rules in
+    let fits : IsBytes c.args.bytes.now = search rules in
+    rw told (all_attested ((c.contains-has_attested.result ≡ true) × AttestedGrows c.in_ok-fixed.rest.now)
+    (λ (r : Option AttestedCredentialData × Bor (List ℕ)). (option_map attested_parts r.0, r.1.now)) c.args.bytes.now (data_parts c.in_ok-fixed.fixed) c.in_ok-fixed.rest.now
+    c.contains-has_attested.result c.in_err-attested.field-0.0 c.args.count.now c.read_attested_where.new.count
+    fits c.in_ok-fixed.ensures attested c.in_err-attested.ensures.value
+    c.in_err-attested.ensures.counts)
+
+pub returns-in_err-fixed-clause-all : goal.returns-in_err-fixed-clause-all
+returns-in_err-fixed-clause-all c =
+    let told : c.from_residual.result ≡ Err c.in_err-fixed.field-0.0 = search rules in
+    rw told (all_fixed c.args.bytes.now c.in_err-fixed.field-0.0 c.args.count.now (sym c.in_err-fixed.ensures))

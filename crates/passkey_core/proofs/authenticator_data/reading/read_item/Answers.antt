@@ -1,5 +1,7 @@
-use Rattle.std.proofs.Common.{arith, ◌∙◌, ℕ, ◌+◌, ◌-◌, ◌^◌, min, ap}
+use Rattle.std.proofs.Common.{rules, arith, ◌∙◌, ℕ, ◌+◌, ◌-◌, ◌^◌, min, ap}
 use Rattle.std.proofs.lemmas.List.{length-take, length-drop}
+use Rattle.std.proofs.lemmas.Result.{err_from_is_err_and}
+use Rattle.passkey_cbor.specs.Bytes.{IsBytes}
 use Rattle.passkey_cbor.specs.View.{item_of}
 use Rattle.passkey_core.proofs.DataCounting.{Added, item_made, item_fails}
 use Rattle.passkey_core.proofs.authenticator_data.reading.read_item.Goals as goal
@@ -14,9 +16,10 @@ returns-in_err-value-clause-counts c =
       heads_rise = c.add.ensures.heads_rise;
       nodes_rise = c.add.ensures.nodes_rise;
     } in
-    item_fails c.args.bytes.now c.new-cursor.result c.value-value.new.self c.in_err-value.field-0.0
-    c.from_residual.result c.args.count.now c.add.new.count c.new-cursor.ensures c.in_err-value.ensures.front
-    added c.from_residual.ensures.0
+    let p = err_from_is_err_and c.from_residual.result c.from_residual.ensures.1 in
+    let fits : IsBytes c.args.bytes.now = search rules in
+    rw (p.1, p.2) (item_fails c.args.bytes.now c.new-cursor.result c.value-value.new.self c.in_err-value.field-0.0
+    c.args.count.now c.add.new.count fits c.new-cursor.ensures c.in_err-value.ensures.front added)
 
 pub returns-clause-counts : goal.returns-clause-counts
 returns-clause-counts c =
