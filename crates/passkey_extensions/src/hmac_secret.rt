@@ -63,7 +63,7 @@ impl HmacGetSecretInput {
     /// item. Returns `OutOfMemory` if an allocation fails, which can only happen for a member that
     /// takes memory. On an error the cursor stays, and its counts include what was spent.
     pub fn read(alloc: Global, cursor: &mut Cursor<'_>) -> Result<HmacGetSecretInput, Fault>
-        ensures { ReadsHere hmac_input_parts hmac_input_fields 16 cursor.old cursor.new result }
+        ensures { ReadsHere hmac_input_parts hmac_input_fields 5 cursor.old cursor.new result }
     {
         read_message(alloc, cursor)
     }

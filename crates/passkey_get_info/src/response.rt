@@ -266,7 +266,7 @@ impl Response {
     /// item. Returns `OutOfMemory` if an allocation fails, which can only happen for a member that
     /// takes memory. On an error the cursor stays, and its counts include what was spent.
     pub fn read(alloc: Global, cursor: &mut Cursor<'_>) -> Result<Response, Fault>
-        ensures { ReadsHere get_info_parts get_info_fields 16 cursor.old cursor.new result }
+        ensures { ReadsHere get_info_parts get_info_fields 8 cursor.old cursor.new result }
     {
         read_message(alloc, cursor)
     }

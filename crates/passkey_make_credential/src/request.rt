@@ -140,7 +140,7 @@ impl Request {
     /// item. Returns `OutOfMemory` if an allocation fails, which can only happen for a member that
     /// takes memory. On an error the cursor stays, and its counts include what was spent.
     pub fn read(alloc: Global, cursor: &mut Cursor<'_>) -> Result<Request, Fault>
-        ensures { ReadsHere make_request_parts make_request_fields 16 cursor.old cursor.new result }
+        ensures { ReadsHere make_request_parts make_request_fields 9 cursor.old cursor.new result }
     {
         read_message(alloc, cursor)
     }

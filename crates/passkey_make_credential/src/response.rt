@@ -116,7 +116,7 @@ impl Response {
     /// item. Returns `OutOfMemory` if an allocation fails, which can only happen for a member that
     /// takes memory. On an error the cursor stays, and its counts include what was spent.
     pub fn read(alloc: Global, cursor: &mut Cursor<'_>) -> Result<Response, Fault>
-        ensures { ReadsHere make_response_parts make_response_fields 16 cursor.old cursor.new result }
+        ensures { ReadsHere make_response_parts make_response_fields 8 cursor.old cursor.new result }
     {
         read_message(alloc, cursor)
     }
