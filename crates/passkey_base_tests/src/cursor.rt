@@ -31,7 +31,7 @@ fn heads_are_decoded(rt: HostRuntime) {
         check(&rt, cursor.place() == place, "place", bytes);
         check(
             &rt,
-            cursor.count() == Count { heads: 1, nodes: 0 },
+            cursor.count() == Count { heads: 2, nodes: 0 },
             "count",
             bytes,
         );
