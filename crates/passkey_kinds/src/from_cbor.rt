@@ -37,6 +37,8 @@ pub trait FromCbor: Drop {
 
         // Whatever the bytes are, the cursor doesn't move back, and its counts don't fall.
         ensures onward { Onward cursor.old cursor.new }
+
+        // After a success it moved on by whole heads, and counted at least as many.
         ensures further { OnOk result (Further cursor.old cursor.new) };
 }
 
