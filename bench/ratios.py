@@ -1,6 +1,6 @@
 """ratios.py [PROGRAM]: whether what a call takes grows with its input, and not faster.
 
-Inputs of a dozen shapes, each of about 8 KiB and four times as large, go through calls of passkey_bench, and valgrind counts the
+Inputs of sixteen shapes, each of 6 to 46 KB and four times as large, go through calls of passkey_bench, and valgrind counts the
 instructions of a round. The table has the ratio of the larger input's to the smaller one's; the status is 1 if one is above its
 limit: 4.6, or 5.2 where labels are looked up in an ordered set. A call that goes over all that lies ahead for each item has a
 ratio of 16. Build the program first, by tools/build passkey_bench, or give another one. It takes about half a minute."""
@@ -21,11 +21,12 @@ def names(n):
     return [text(f"a name of some length, and its number {it:06}") for it in range(n)]
 
 
-# What it is, the calls, the number of parts of the smaller input, the input of so many parts, and the limit.
+# What it is, the calls, the number of parts of the smaller input, the input of so many parts, and the limit. Where much is kept the
+# smaller input is larger, since malloc is dearer once more is freed than it keeps at hand.
 SHAPES = [
     ("an array of numbers", ["skip", "from_slice"], 8000, lambda n: array([b"\x07"] * n), LINEAR),
     ("an array of indefinite length", ["skip", "from_slice"], 8000, lambda n: b"\x9f" + b"\x07" * n + b"\xff", LINEAR),
-    ("arrays of 255 levels", ["skip", "rewrite"], 32, lambda n: array([NESTED] * n), LINEAR),
+    ("arrays of 255 levels", ["skip", "rewrite"], 128, lambda n: array([NESTED] * n), LINEAR),
     ("byte strings", ["from_slice"], 500, lambda n: array([data(bytes(15))] * n), LINEAR),
     ("a byte string in chunks", ["skip", "from_slice"], 4000, lambda n: chunked(2, bytes(n)), LINEAR),
     ("a text in chunks", ["skip", "rewrite"], 4000, lambda n: chunked(3, b"a" * n), LINEAR),
@@ -36,7 +37,7 @@ SHAPES = [
     ("an unknown member of many items", ["decode-info"], 8000, lambda n: info((b"\x18\x99", array([b"\x00"] * n))), LINEAR),
     ("rejected descriptors", ["decode-ga-request"], 400, lambda n: request(array([descriptor(id=b"\x00")] * n)), LINEAR),
     ("rejected numbers in a list", ["decode-ga-request"], 8000, lambda n: request(array([b"\x07"] * n)), LINEAR),
-    ("descriptors", ["rewrite-ga-request"], 300, lambda n: request(array([descriptor(transports=array([text("usb")]))] * n)), LINEAR),
+    ("descriptors", ["rewrite-ga-request"], 1200, lambda n: request(array([descriptor(transports=array([text("usb")]))] * n)), LINEAR),
     ("transports that aren't known", ["decode-info"], 800, lambda n: info((b"\x09", array([text("smart-card")] * n))), LINEAR),
     ("labels of a key", ["decode-mc-response"], 2000,
      lambda n: response(pairs([(b"\x01", b"\x02"), *[(head(0, it), b"\x00") for it in range(300, 300 + n)]])), ORDERED),
