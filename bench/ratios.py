@@ -21,8 +21,8 @@ def names(n):
     return [text(f"a name of some length, and its number {it:06}") for it in range(n)]
 
 
-# What it is, the calls, the number of parts of the smaller input, the input of so many parts, and the limit. Where much is kept the
-# smaller input is larger, since malloc is dearer once more is freed than it keeps at hand.
+# What it is, the calls, the number of parts of the smaller input, the input of so many parts, and the limit. Where much is kept,
+# the smaller input is larger, since malloc is dearer once more is freed than it keeps at hand.
 SHAPES = [
     ("an array of numbers", ["skip", "from_slice"], 8000, lambda n: array([b"\x07"] * n), LINEAR),
     ("an array of indefinite length", ["skip", "from_slice"], 8000, lambda n: b"\x9f" + b"\x07" * n + b"\xff", LINEAR),
@@ -37,7 +37,8 @@ SHAPES = [
     ("an unknown member of many items", ["decode-info"], 8000, lambda n: info((b"\x18\x99", array([b"\x00"] * n))), LINEAR),
     ("rejected descriptors", ["decode-ga-request"], 400, lambda n: request(array([descriptor(id=b"\x00")] * n)), LINEAR),
     ("rejected numbers in a list", ["decode-ga-request"], 8000, lambda n: request(array([b"\x07"] * n)), LINEAR),
-    ("descriptors", ["rewrite-ga-request"], 1200, lambda n: request(array([descriptor(transports=array([text("usb")]))] * n)), LINEAR),
+    ("descriptors", ["rewrite-ga-request"], 1200,
+     lambda n: request(array([descriptor(transports=array([text("usb")]))] * n)), LINEAR),
     ("transports that aren't known", ["decode-info"], 800, lambda n: info((b"\x09", array([text("smart-card")] * n))), LINEAR),
     ("labels of a key", ["decode-mc-response"], 2000,
      lambda n: response(pairs([(b"\x01", b"\x02"), *[(head(0, it), b"\x00") for it in range(300, 300 + n)]])), ORDERED),
