@@ -1,6 +1,6 @@
 //! Rows of kinds that `passkey_show` doesn't have, for calls that may run out of memory and that
 //! decoding and encoding a message doesn't make. A call that runs out of memory is made again, with
-//! the value that it borrowed or gave back.
+//! the value that it borrowed or gave back. Other kinds count what it costs to decode a message.
 use crate::again_bytes::hex_again;
 use crate::again_json::json_again;
 use crate::building::build;

@@ -59,15 +59,23 @@ fn by_item<M: Message + ToCbor>(
     Ok(encoded_item(alloc, tries, &item)?)
 }
 
-/// The response has no data item of its own, but its parts have.
-fn info_by_items(alloc: Global, tries: &mut Tries, bytes: &[u8]) -> Result<Vec<u8>, RunFault> {
-    let mut info = from_item::<get_info::Response>(alloc, tries, bytes)?;
+fn replace_parts(
+    alloc: Global,
+    tries: &mut Tries,
+    info: &mut get_info::Response,
+) -> Result<(), OutOfMemory> {
     replace_by_item(alloc, tries, &mut info.versions)?;
     replace_by_item(alloc, tries, &mut info.extensions)?;
     replace_by_item(alloc, tries, &mut info.aaguid)?;
     replace_by_item(alloc, tries, &mut info.options)?;
     replace_by_item(alloc, tries, &mut info.pin_protocols)?;
-    replace_by_item(alloc, tries, &mut info.algorithms)?;
+    replace_by_item(alloc, tries, &mut info.algorithms)
+}
+
+/// The response has no data item of its own, but its parts have.
+fn info_by_items(alloc: Global, tries: &mut Tries, bytes: &[u8]) -> Result<Vec<u8>, RunFault> {
+    let mut info = from_item::<get_info::Response>(alloc, tries, bytes)?;
+    replace_parts(alloc, tries, &mut info)?;
     Ok(encoded(alloc, tries, &info)?)
 }
 
