@@ -99,4 +99,5 @@ def main():
         print(f"| {what} | `{kind}` | {size:,} | {'yes' if decoded == 'true' else 'no'} | {int(heads):,} | {int(heads) / size:.2f} | {int(nodes):,} |")
 
 
-main()
+if __name__ == "__main__":
+    main()

@@ -214,6 +214,21 @@ fn encoding<M: Message>(alloc: Global, message: &M) -> Result<Vec<u8>, OutOfMemo
     }
 }
 
+/// Returns the encoding of a decoded message, and tries again if memory ran out.
+pub fn encoded<M: Message>(
+    alloc: Global,
+    tries: &mut Tries,
+    message: &M,
+) -> Result<Vec<u8>, OutOfMemory> {
+    match encoding(alloc, message) {
+        Ok(bytes) => Ok(bytes),
+        Err(OutOfMemory) => {
+            tries.refuse();
+            encoding(alloc, message)
+        }
+    }
+}
+
 fn message_again<M: Copied>(
     alloc: Global,
     tries: &mut Tries,
@@ -221,11 +236,20 @@ fn message_again<M: Copied>(
 ) -> Result<Vec<u8>, RunFault> {
     let (mut message, _len) = M::from_slice(alloc, bytes)?;
     message.replace_parts(alloc, tries)?;
-    match encoding(alloc, &message) {
+    Ok(encoded(alloc, tries, &message)?)
+}
+
+/// Returns the encoding of a data item, and tries again if memory ran out.
+pub fn encoded_item(
+    alloc: Global,
+    tries: &mut Tries,
+    item: &Value,
+) -> Result<Vec<u8>, OutOfMemory> {
+    match item.to_vec(alloc) {
         Ok(bytes) => Ok(bytes),
         Err(OutOfMemory) => {
             tries.refuse();
-            Ok(encoding(alloc, &message)?)
+            item.to_vec(alloc)
         }
     }
 }
@@ -233,13 +257,7 @@ fn message_again<M: Copied>(
 fn item_again(alloc: Global, tries: &mut Tries, bytes: &[u8]) -> Result<Vec<u8>, RunFault> {
     let (mut item, _len) = Value::from_slice(alloc, bytes)?;
     tries.replace_equal(alloc, &mut item)?;
-    match item.to_vec(alloc) {
-        Ok(bytes) => Ok(bytes),
-        Err(OutOfMemory) => {
-            tries.refuse();
-            Ok(item.to_vec(alloc)?)
-        }
-    }
+    Ok(encoded_item(alloc, tries, &item)?)
 }
 
 /// Returns the encoding of authenticator data, and tries again if memory ran out.

@@ -11,6 +11,8 @@ mod again_bytes;
 mod again_json;
 mod alike;
 mod building;
+mod by_item;
+mod heads;
 mod hexadecimal;
 mod making;
 mod parts;

@@ -1,0 +1,109 @@
+//! Messages that are decoded from a data item in memory, and encoded by way of one.
+use crate::again_bytes::{encoded, encoded_item};
+use crate::hexadecimal::{decode, encode};
+use crate::tries::Tries;
+use passkey_rewrite::{BytesKind, RunFault};
+use passkey_types::OutOfMemory;
+use passkey_types::cbor::Value;
+use passkey_types::ctap2::extensions::HmacGetSecretInput;
+use passkey_types::ctap2::{
+    Fault, FromCbor, Message, Refusal, ToCbor, get_assertion, get_info, make_credential,
+};
+use std::alloc::Global;
+
+/// Decodes the message from the leading data item, and tries again if memory ran out.
+fn from_item<M: Message>(alloc: Global, tries: &mut Tries, bytes: &[u8]) -> Result<M, RunFault> {
+    let (item, _len) = Value::from_slice(alloc, bytes)?;
+    match M::from_value(alloc, &item) {
+        Err(Fault::OutOfMemory) => {
+            tries.refuse();
+            Ok(M::from_value(alloc, &item)?)
+        }
+        other => Ok(other?),
+    }
+}
+
+/// Returns the value's data item, and tries again if memory ran out.
+fn item_of<T: ToCbor>(alloc: Global, tries: &mut Tries, value: &T) -> Result<Value, OutOfMemory> {
+    match value.to_value(alloc) {
+        Ok(item) => Ok(item),
+        Err(OutOfMemory) => {
+            tries.refuse();
+            value.to_value(alloc)
+        }
+    }
+}
+
+/// Replaces the part by the one that its data item decodes to.
+fn replace_by_item<T: FromCbor + ToCbor>(
+    alloc: Global,
+    tries: &mut Tries,
+    part: &mut T,
+) -> Result<(), OutOfMemory> {
+    let item = item_of(alloc, tries, part)?;
+    match T::from_value(alloc, &item) {
+        Ok(other) => *part = other,
+        Err(Refusal::OutOfMemory) => return Err(OutOfMemory),
+        Err(Refusal::Refused) => tries.compare(false),
+    }
+    Ok(())
+}
+
+fn by_item<M: Message + ToCbor>(
+    alloc: Global,
+    tries: &mut Tries,
+    bytes: &[u8],
+) -> Result<Vec<u8>, RunFault> {
+    let message = from_item::<M>(alloc, tries, bytes)?;
+    let item = item_of(alloc, tries, &message)?;
+    Ok(encoded_item(alloc, tries, &item)?)
+}
+
+fn replace_parts(
+    alloc: Global,
+    tries: &mut Tries,
+    info: &mut get_info::Response,
+) -> Result<(), OutOfMemory> {
+    replace_by_item(alloc, tries, &mut info.versions)?;
+    replace_by_item(alloc, tries, &mut info.extensions)?;
+    replace_by_item(alloc, tries, &mut info.aaguid)?;
+    replace_by_item(alloc, tries, &mut info.options)?;
+    replace_by_item(alloc, tries, &mut info.pin_protocols)?;
+    replace_by_item(alloc, tries, &mut info.algorithms)
+}
+
+/// The response has no data item of its own, but its parts have.
+fn info_by_items(alloc: Global, tries: &mut Tries, bytes: &[u8]) -> Result<Vec<u8>, RunFault> {
+    let mut info = from_item::<get_info::Response>(alloc, tries, bytes)?;
+    replace_parts(alloc, tries, &mut info)?;
+    Ok(encoded(alloc, tries, &info)?)
+}
+
+fn bytes_by_item(
+    alloc: Global,
+    tries: &mut Tries,
+    kind: BytesKind,
+    bytes: &[u8],
+) -> Result<Vec<u8>, RunFault> {
+    match kind {
+        BytesKind::Cbor | BytesKind::Auth => Err(RunFault::UnknownKind),
+        BytesKind::MakeRequest => by_item::<make_credential::Request>(alloc, tries, bytes),
+        BytesKind::MakeResponse => by_item::<make_credential::Response>(alloc, tries, bytes),
+        BytesKind::GetRequest => by_item::<get_assertion::Request>(alloc, tries, bytes),
+        BytesKind::GetResponse => by_item::<get_assertion::Response>(alloc, tries, bytes),
+        BytesKind::Info => info_by_items(alloc, tries, bytes),
+        BytesKind::HmacInput => by_item::<HmacGetSecretInput>(alloc, tries, bytes),
+    }
+}
+
+/// Decodes the message from its data item, and encodes the message's data item.
+pub fn hex_by_item(
+    alloc: Global,
+    tries: &mut Tries,
+    kind: BytesKind,
+    input: &str,
+) -> Result<String, RunFault> {
+    let bytes = decode(alloc, input)?;
+    let encoded = bytes_by_item(alloc, tries, kind, &bytes)?;
+    encode(alloc, &encoded)
+}
