@@ -65,32 +65,34 @@ REFUSED = descriptor(transports=array([text("usb")]), x=b"\x00")[:1] + b"".join(
     [text("id"), data(b"\x07"), text("transports"), array([text("usb")]), text("type"), text("public-key"), b"\xf6", b"\x00"]
 )
 
-INPUTS = [
-    ("1,000 descriptors, each rejected at its last member", "ga-request", request(array([REFUSED] * 1000))),
-    ("an allow list of 256 levels with the request's", "ga-request", request(nested(255))),
-    ("an allow list of 257 levels with the request's", "ga-request", request(nested(256))),
-    ("a descriptor of 256 levels with the request's", "ga-request", request(array([nested(254)]))),
-    ("a descriptor of 257 levels", "ga-request", request(array([nested(255)]))),
-    ("transports of 256 levels", "ga-request", request(array([descriptor(transports=nested(253))]))),
-    ("transports of 257 levels", "ga-request", request(array([descriptor(transports=nested(254))]))),
-    ("a transport of 256 levels", "ga-request", request(array([descriptor(transports=array([nested(252)]))]))),
-    ("a transport of 257 levels", "ga-request", request(array([descriptor(transports=array([nested(253)]))]))),
-    ("1,000 descriptors with names in chunks of one byte", "ga-request", request(array([
-        pairs([(chunked(3, b"type"), text("public-key")), (chunked(2, b"id"), data(b"\x07")),
-               (chunked(3, b"transports"), array([chunked(3, b"usb")] * 3))])] * 1000))),
-    ("a text of 1,000 chunks under an unknown key", "info", info((b"\x18\x99", chunked(3, b"a" * 1000)))),
-    ("10,000 unknown members", "info", info(*[(text(f"x{n}"), b"\x00") for n in range(10000)])),
-    ("10,000 transports that aren't known", "info", info((b"\x09", array([text("smart-card")] * 10000)))),
-    ("a COSE key of 10,000 labels", "mc-response", response(pairs([(b"\x01", b"\x02"), *[(head(0, n), b"\x00") for n in range(100, 10100)]]))),
-    ("a COSE key without a type, of 10,000 labels", "mc-response", response(pairs([(head(0, n), b"\x00") for n in range(100, 10100)]))),
-    ("extensions of 10,000 members", "mc-response", response(pairs([(b"\x01", b"\x02")]), pairs([(text(f"x{n}"), b"\x00") for n in range(10000)]))),
-]
+def inputs(n):
+    """The messages: what each is, its kind and its bytes. The lists have n elements, or ten times n."""
+    return [
+        (f"{n:,} descriptors, each rejected at its last member", "ga-request", request(array([REFUSED] * n))),
+        ("an allow list of 256 levels with the request's", "ga-request", request(nested(255))),
+        ("an allow list of 257 levels with the request's", "ga-request", request(nested(256))),
+        ("a descriptor of 256 levels with the request's", "ga-request", request(array([nested(254)]))),
+        ("a descriptor of 257 levels", "ga-request", request(array([nested(255)]))),
+        ("transports of 256 levels", "ga-request", request(array([descriptor(transports=nested(253))]))),
+        ("transports of 257 levels", "ga-request", request(array([descriptor(transports=nested(254))]))),
+        ("a transport of 256 levels", "ga-request", request(array([descriptor(transports=array([nested(252)]))]))),
+        ("a transport of 257 levels", "ga-request", request(array([descriptor(transports=array([nested(253)]))]))),
+        (f"{n:,} descriptors with names in chunks of one byte", "ga-request", request(array([
+            pairs([(chunked(3, b"type"), text("public-key")), (chunked(2, b"id"), data(b"\x07")),
+                   (chunked(3, b"transports"), array([chunked(3, b"usb")] * 3))])] * n))),
+        (f"a text of {n:,} chunks under an unknown key", "info", info((b"\x18\x99", chunked(3, b"a" * n)))),
+        (f"{10 * n:,} unknown members", "info", info(*[(text(f"x{m}"), b"\x00") for m in range(10 * n)])),
+        (f"{10 * n:,} transports that aren't known", "info", info((b"\x09", array([text("smart-card")] * (10 * n))))),
+        (f"a COSE key of {10 * n:,} labels", "mc-response", response(pairs([(b"\x01", b"\x02"), *[(head(0, m), b"\x00") for m in range(100, 100 + 10 * n)]]))),
+        (f"a COSE key without a type, of {10 * n:,} labels", "mc-response", response(pairs([(head(0, m), b"\x00") for m in range(100, 100 + 10 * n)]))),
+        (f"extensions of {10 * n:,} members", "mc-response", response(pairs([(b"\x01", b"\x02")]), pairs([(text(f"x{m}"), b"\x00") for m in range(10 * n)]))),
+    ]
 
 
 def main():
     print("| input | message | bytes | decoded | heads | heads a byte | nodes |")
     print("|---|---|---:|---|---:|---:|---:|")
-    for what, kind, message in INPUTS:
+    for what, kind, message in inputs(1000):
         ran = subprocess.run([sys.argv[1], f"count-{kind}", "1"], input=message, capture_output=True, check=True)
         decoded, heads, nodes = ran.stdout.decode().split()
         size = len(message)
