@@ -36,7 +36,9 @@ pub struct AuthenticatorData {
 
 impl AuthenticatorData {
     /// Returns authenticator data for this relying party id, of which it holds the SHA-256 hash,
-    /// with the flags BE and BS and without other parts.
+    /// with the flags BE and BS and without other parts. BE and BS say that the credential may be
+    /// backed up, and is. If it isn't, assign `flags` next, as `data.flags = Flags::UP`, since
+    /// `set_flags` only adds.
     pub fn new(rp_id: &str, counter: Option<u32>) -> AuthenticatorData
         ensures { data_parts result ≡ bare_data (sha256 rp_id.now) 24 counter }
     {
@@ -70,7 +72,8 @@ impl AuthenticatorData {
         &self.rp_id_hash
     }
 
-    /// Returns the data with these flags set in addition to its own.
+    /// Returns the data with these flags set in addition to its own. It clears none: for data
+    /// without BE and BS, which `new` sets, assign `flags`.
     pub fn set_flags(mut self, flags: Flags) -> AuthenticatorData
         ensures { data_parts result ≡ record (data_parts self) { flags = bit_or self.flags.0 flags.0 } }
     {

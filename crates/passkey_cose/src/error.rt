@@ -9,7 +9,8 @@ use std::alloc::{AllocError, AllocFailed};
 use std::fmt;
 use thiserror::Error;
 
-/// Why decoding, constructing or changing a key failed.
+/// Why decoding, constructing or changing a key failed; or decoding authenticator data, which may
+/// hold a key.
 #[derive(Clone, Copy, Debug, PartialEq, Eq)]
 pub enum CoseError {
     /// The bytes are truncated, or no well-formed data item of at most 256 levels is where one is
@@ -17,11 +18,12 @@ pub enum CoseError {
     DecodeFailed,
     /// An allocation failed.
     OutOfMemory,
-    /// A number is out of range.
+    /// A number is out of range; in authenticator data also: bit 1 or 5 of the flags is set.
     OutOfRangeIntegerValue,
     /// A label occurs twice.
     DuplicateMapKey,
-    /// A data item has the wrong type or an invalid value, or is absent.
+    /// A data item has the wrong type or an invalid value, or is absent; in authenticator data
+    /// also: the extensions are no map.
     UnexpectedItem,
 }
 

@@ -17,11 +17,11 @@ use std::alloc::Global;
 /// The response to a registration (WebAuthn Level 3, section 5.2.1; as JSON in section 5.1).
 #[derive(Debug, Drop)]
 pub struct AuthenticatorAttestationResponse {
-    /// The client data: the JSON text whose hash is in the attestation. Compute the hash from
-    /// exactly these bytes.
+    /// The client data: a JSON text. If the attestation statement has a signature, it is also over
+    /// the SHA-256 hash of exactly these bytes; with the format "none" nothing is signed.
     pub client_data_json: Bytes,
     /// The authenticator data, as in the attestation object. A relying party should take it from
-    /// the attestation object, where it is signed.
+    /// the attestation object: if anything is signed, it is the data there.
     pub authenticator_data: Bytes,
     /// The new public key as a DER SubjectPublicKeyInfo; `None` means the member is absent, because
     /// the client doesn't support the key's algorithm.

@@ -34,10 +34,13 @@ pub struct PublicKeyCredential<R: AuthenticatorResponse> {
     pub client_extension_results: AuthenticationExtensionsClientOutputs,
 }
 
-/// A new credential (WebAuthn Level 3, section 5.1.3).
+/// A new credential (WebAuthn Level 3, section 5.1.3). The JSON that `toJSON()` makes of what
+/// `navigator.credentials.create()` returns decodes to it (`RegistrationResponseJSON`, section
+/// 5.1).
 pub type CreatedPublicKeyCredential = PublicKeyCredential<AuthenticatorAttestationResponse>;
 
-/// An assertion (WebAuthn Level 3, section 5.1.4).
+/// An assertion (WebAuthn Level 3, section 5.1.4). The JSON that `toJSON()` makes of what
+/// `navigator.credentials.get()` returns decodes to it (`AuthenticationResponseJSON`, section 5.1).
 pub type AuthenticatedPublicKeyCredential = PublicKeyCredential<AuthenticatorAssertionResponse>;
 
 impl<R: AuthenticatorResponse> JsonRecord for PublicKeyCredential<R> {

@@ -119,7 +119,13 @@ impl ToCborMap for Response {
 
 impl Response {
     /// Decodes the response at the beginning of the bytes, and returns it with its length in bytes.
-    /// Bytes after it are ignored. The errors are those of `read`.
+    /// The bytes begin with its map: there is no status byte before it. Bytes after it are ignored.
+    ///
+    /// Returns `DecodeFailed` exactly if the bytes don't begin with a well-formed data item of at
+    /// most 256 nesting levels, and `NotAMap` if the item isn't a map; otherwise the first fault of
+    /// its members in their order (`BadKey`, `Repeated`, `Refused`), or else `Missing` for the
+    /// first required member that is absent. Returns `OutOfMemory` if an allocation fails, which
+    /// can only happen for a member that takes memory.
     pub fn from_slice(alloc: Global, bytes: &[u8]) -> Result<(Response, usize), Fault>
         ensures reads { ReadsMessage get_response_parts read_get_response bytes.now result }
         ensures grows { result ≡ Err NoRoom → GrowsMessage get_response_fields bytes.now }

@@ -18,7 +18,8 @@ pub enum JsonFault {
     NotAnObject,
     /// This required member is absent.
     Missing(&'static str),
-    /// This member's value is rejected, and contains no float.
+    /// This member's value is rejected, and contains no float: it has another type, isn't one of
+    /// the accepted values, or is an object with a fault of its own.
     Refused(&'static str),
     /// This member's value is rejected, and contains a number that isn't an integer of 64 bits.
     Float(&'static str),
