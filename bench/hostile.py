@@ -83,6 +83,10 @@ def inputs(n):
         (f"a text of {n:,} chunks under an unknown key", "info", info((b"\x18\x99", chunked(3, b"a" * n)))),
         (f"{10 * n:,} unknown members", "info", info(*[(text(f"x{m}"), b"\x00") for m in range(10 * n)])),
         (f"{10 * n:,} transports that aren't known", "info", info((b"\x09", array([text("smart-card")] * (10 * n))))),
+        (f"{10 * n:,} transports that are numbers", "info", info((b"\x09", array([b"\x00"] * (10 * n))))),
+        (f"{10 * n:,} transports of no chunks", "info", info((b"\x09", array([b"\x7f\xff"] * (10 * n))))),
+        (f"3 descriptors with {10 * n:,} transports of an empty chunk, each rejected at its last member", "ga-request", request(array([
+            pairs([(text("transports"), array([b"\x7f\x60\xff"] * (10 * n))), (text("id"), data(b"\x07")), (b"\xf6", b"\x00")])] * 3))),
         (f"a COSE key of {10 * n:,} labels", "mc-response", response(pairs([(b"\x01", b"\x02"), *[(head(0, m), b"\x00") for m in range(100, 100 + 10 * n)]]))),
         (f"a COSE key without a type, of {10 * n:,} labels", "mc-response", response(pairs([(head(0, m), b"\x00") for m in range(100, 100 + 10 * n)]))),
         (f"extensions of {10 * n:,} members", "mc-response", response(pairs([(b"\x01", b"\x02")]), pairs([(text(f"x{m}"), b"\x00") for m in range(10 * n)]))),
