@@ -42,8 +42,8 @@ pub(crate) enum UrlFault {
     /// The value isn't a list of texts that are URLs, or the URL of one of them is too long for the
     /// parser.
     Refused,
-    /// An allocation failed. Also if the parser says that the URL of a text shorter than
-    /// `LONG_TEXT` is too long: its contract allows that, though its code never does it.
+    /// An allocation failed; or the parser says that the URL of a text shorter than `LONG_TEXT` is
+    /// too long, which its contract allows, and its code never does.
     OutOfMemory,
 }
 
