@@ -1,7 +1,6 @@
 //! The relying party and the user in CTAP2's messages (CTAP 2.1, section 6.1).
 #![tactic(auto)]
 
-pub mod laws;
 mod missing_rp_id;
 mod rp;
 mod user;

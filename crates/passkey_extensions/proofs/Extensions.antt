@@ -57,6 +57,10 @@ module _ {P : Type 0} (t : PlainTable P) where
       (normal_unsigned normal)
   unsigned_back {normal} law = grind (arith, kind_back, puts_value, or_null_back, no_more)
 
+  pub unsigned_keys : KeysAscend (places_of (unsigned t).members)
+  unfolding shortest_head
+  unsigned_keys o = keys_ascend (places_of (unsigned t).members o) refl
+
   or_null_plain : (n : ℕ) → ((r : P) → IsPlain n (plain_tree t r)) → (o : Option P)
       → IsPlain n (option_tree (plain_tree t) o)
   or_null_plain n each None = null_plain n
@@ -148,13 +152,16 @@ pub get_extensions_around : Around (record_kind get_extensions_fields) get_exten
 get_extensions_around = around hmac_input_around get_extensions_fields (λ e. e.hmac_secret) get_extensions_only
     (λ n. tt) (λ n i few. search (tolerated_keeps hmac_input_around) depth 9)
 
+-- ---- keys ascend
+
+pub hmac_input_keys : KeysAscend (places_of hmac_input_members)
+hmac_input_keys h = keys_ascend (places_of hmac_input_members h) (hmac_input_only.ascends h)
+
 pub make_extensions_keys : KeysAscend (places_of make_extensions_members)
 make_extensions_keys e = keys_ascend (places_of make_extensions_members e) (make_extensions_only.ascends e)
 
 pub get_extensions_keys : KeysAscend (places_of get_extensions_members)
 get_extensions_keys e = keys_ascend (places_of get_extensions_members e) (get_extensions_only.ascends e)
-
-pub ruleset keys = (values_law, inputs_law, made_outputs_law, make_extensions_keys, get_extensions_keys)
 
 -- ---- nesting levels: those of the key, and a few around it
 

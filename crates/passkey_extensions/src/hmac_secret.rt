@@ -172,6 +172,8 @@ impl ToCborMap for HmacGetSecretInput {
         sink.put_some(alloc, 4_u8, &self.pin_uv_auth_protocol)?;
         Ok(())
     }
+
+    fn ordered() {}
 }
 
 impl RecordReadBack for HmacGetSecretInput {

@@ -1,9 +1,6 @@
 //! Laws about the extensions' records. Each is the contract of a function that does nothing.
-ghost use Rattle.passkey_kinds.specs.Words.{WrittenIsReadBack, WrittenIsCanonical, places_of, KeysAscend};
-ghost use Rattle.passkey_extensions.specs.MakeExtensions.{make_extensions_members};
-ghost use Rattle.passkey_extensions.specs.GetExtensions.{get_extensions_members};
+ghost use Rattle.passkey_kinds.specs.Words.{WrittenIsReadBack, WrittenIsCanonical};
 ghost use Rattle.passkey_extensions.specs.HmacInput.{read_hmac_input, hmac_input_tree, HmacInputFits, is_hmac_input_coherent, hmac_input_kept};
-ghost use Rattle.passkey_extensions.specs.Prf.{prf_values, prf_inputs, prf_made};
 
 /// The encoding of a coherent hmac-secret input, whatever bytes follow, decodes to the input.
 pub fn written_hmac_input_is_read_back()
@@ -21,14 +18,3 @@ pub fn written_hmac_input_is_canonical()
     passkey_cbor::laws::at_most_one_leading_item();
     passkey_cbor::laws::written_is_leading_item();
 }
-
-/// Records with two or more members are encoded with their keys in CTAP2's order (CTAP 2.1, section
-/// 8).
-#[tactic(auto, using(crate::proofs::Extensions::keys))]
-pub fn written_keys_ascend()
-    ensures prf_values { KeysAscend (places_of prf_values.members) }
-    ensures prf_outputs { KeysAscend (places_of prf_made.members) }
-    ensures prf_inputs { KeysAscend (places_of prf_inputs.members) }
-    ensures creation { KeysAscend (places_of make_extensions_members) }
-    ensures assertion { KeysAscend (places_of get_extensions_members) }
-{}

@@ -59,7 +59,7 @@ impl<P: PlainRecord> PlainRecord for UnsignedExtensionOutputs<P> {
         Ok(())
     }
 
-    #[tactic(auto, using(crate::proofs::Extensions::unsigned_back))]
+    #[tactic(auto, using(crate::proofs::Extensions::unsigned_back, crate::proofs::Extensions::unsigned_keys))]
     fn lawful() {
         P::lawful();
     }

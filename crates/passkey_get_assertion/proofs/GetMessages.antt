@@ -1,7 +1,7 @@
 -- Messages of authenticatorGetAssertion: decoding their encodings again, their nesting levels, and their canonical form.
 use Rattle.passkey_kinds.proofs.Common.{record_kind, places_of}
 use Rattle.passkey_kinds.proofs.Ordered.{canonical_of}
-use Rattle.passkey_kinds.proofs.Steps.{Around, OnlyAt, around, tolerated_keeps, decoded_few, canonical_around, record_ordered, arith, shortest_head, IsLawful, lawful, truth_back, plainly, puts_value, no_more, option_map, Item, number_tree, EachPlace, Rule, list_plain, descriptor_law, ◌≡◌, ◌≤◌, nat_le, le-leb, true, Ok, refl, depth, ReadIsCoherent, OnlyDeep, only_deep, record_keeps, byte_back, text_back, bytes_back, anything, optional_place, accepted_place, tolerated_place, few_levels, puts_default, rows_back, ◌▸◌, Bool, ◌&&◌, and_from, max_depth, is_coherent, GivenIsCoherent, ReadIsGiven, WrittenDataAreReadBack, auth_data_back, auth_data_coherent, record_within, AtMostOneLeadingItem, WrittenIsLeadingItem, WrittenIsCanonical, in_order}
+use Rattle.passkey_kinds.proofs.Steps.{Around, OnlyAt, KeysAscend, keys_ascend, around, tolerated_keeps, decoded_few, canonical_around, record_ordered, arith, shortest_head, IsLawful, lawful, truth_back, plainly, puts_value, no_more, option_map, Item, number_tree, EachPlace, Rule, list_plain, descriptor_law, ◌≡◌, ◌≤◌, nat_le, le-leb, true, Ok, refl, depth, ReadIsCoherent, OnlyDeep, only_deep, record_keeps, byte_back, text_back, bytes_back, anything, optional_place, accepted_place, tolerated_place, few_levels, puts_default, rows_back, ◌▸◌, Bool, ◌&&◌, and_from, max_depth, is_coherent, GivenIsCoherent, ReadIsGiven, WrittenDataAreReadBack, auth_data_back, auth_data_coherent, record_within, AtMostOneLeadingItem, WrittenIsLeadingItem, WrittenIsCanonical, in_order}
 use Rattle.std.proofs.Common.{leb-true}
 use Rattle.passkey_entities.proofs.Entities.{user_law}
 use Rattle.passkey_extensions.proofs.Extensions.{get_parts_back, get_extensions_around, used_unsigned_law}
@@ -27,9 +27,16 @@ request_only = record {
   this = λ Q r each. each.1.1.1.0;
 }
 
+pub request_keys : KeysAscend (places_of get_request_members)
+request_keys r = keys_ascend (places_of get_request_members r) (request_only.ascends r)
+
 request_around : Around (record_kind get_request_fields) get_request_tree get_request_kept 3 6
 request_around = around get_extensions_around get_request_fields (λ r. r.extensions) request_only
     (λ n. tt) (λ n i few. search (tolerated_keeps get_extensions_around) depth 11 parts 11)
+
+pub response_keys : KeysAscend (places_of get_response_members)
+unfolding shortest_head
+response_keys r = keys_ascend (places_of get_response_members r) refl
 
 response_each : {Q : Item → Type 0} → Rule 4 Q → (r : GetResponseParts) → EachPlace Q (places_of get_response_members r)
 response_each rule r =

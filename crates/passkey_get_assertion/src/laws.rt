@@ -1,7 +1,7 @@
 //! Laws about the messages of authenticatorGetAssertion. Each is the contract of a function that
 //! does nothing.
-ghost use Rattle.passkey_kinds.specs.Words.{KeysAscend, WrittenIsReadBack, WrittenIsCanonical, places_of};
-ghost use Rattle.passkey_get_assertion.specs.GetRequest.{read_get_request, get_request_tree, GetRequestFits, is_get_request_coherent, get_request_kept, options};
+ghost use Rattle.passkey_kinds.specs.Words.{WrittenIsReadBack, WrittenIsCanonical};
+ghost use Rattle.passkey_get_assertion.specs.GetRequest.{read_get_request, get_request_tree, GetRequestFits, is_get_request_coherent, get_request_kept};
 ghost use Rattle.passkey_get_assertion.specs.GetResponse.{read_get_response, get_response_tree, GetResponseFits, is_get_response_coherent, normal_get_response, get_response_kept};
 
 /// The encoding of a coherent request, whatever bytes follow, decodes to the request.
@@ -36,10 +36,4 @@ pub fn written_get_request_is_canonical()
 #[tactic(auto, using(crate::proofs::GetMessages::get_response_canonical))]
 pub fn written_get_response_is_canonical()
     ensures { WrittenIsCanonical get_response_tree is_get_response_coherent get_response_kept }
-{}
-
-/// Options are encoded with their keys in CTAP2's order (CTAP 2.1, section 8).
-#[tactic(auto, using(crate::proofs::GetMessages::options_law))]
-pub fn written_keys_ascend()
-    ensures { KeysAscend (places_of options.members) }
 {}

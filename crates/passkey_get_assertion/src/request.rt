@@ -107,6 +107,8 @@ impl ToCborMap for Request {
         sink.put_some(alloc, 7_u8, &self.pin_protocol)?;
         Ok(())
     }
+
+    fn ordered() {}
 }
 
 impl Request {

@@ -115,6 +115,8 @@ impl ToCborMap for Response {
         sink.put_some(alloc, 8_u8, &self.unsigned_extension_outputs)?;
         Ok(())
     }
+
+    fn ordered() {}
 }
 
 impl Response {

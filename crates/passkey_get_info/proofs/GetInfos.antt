@@ -1,9 +1,10 @@
 -- authenticatorGetInfo responses: decoding their encodings again, their nesting levels, and their canonical form.
 use Rattle.passkey_kinds.proofs.Common.{record_kind}
 use Rattle.passkey_kinds.proofs.Lists.{option_same}
-use Rattle.passkey_kinds.proofs.Steps.{Around, OnlyAt, OnlyDeep, only_deep, item_around, around, optional_keeps, decoded_few, canonical_around, ◌∙◌, option_and_then, arith, ◌≡◌, Option, Some, None, refl, Item, shortest_head, kept, optional, IsReadBack, Any, Falls, accepts_it, truth_back, anything, optional_place, IsLawful, lawful, plainly, puts_value, puts_default, ◌▸◌, no_more, number_tree, PlaceHas, EachPlace, list_plain, parameters_law, nat_tests, ℕ, pos, ◌^◌, ◌<◌, nat_lt, nat_le, ltb-true, Bool, true, false, ◌&&◌, if◌then◌else◌, option_map, unwrap_or, Result, Ok, Err, OnOk, sym, ap, and_from, depth, max_depth, IfPresent, ReadIsCoherent, size, option_place, record_keeps, rows_back, size_back, aaguid_back, list_same, byte_back, word_back, text_back, bytes_back, transport_back, list_back, optional_back, all_of_anything, accepted_place, and_parts, AtMostOneLeadingItem, WrittenIsLeadingItem, WrittenIsCanonical}
+use Rattle.passkey_kinds.proofs.Steps.{Around, OnlyAt, KeysAscend, keys_ascend, OnlyDeep, only_deep, item_around, around, optional_keeps, decoded_few, canonical_around, ◌∙◌, option_and_then, arith, ◌≡◌, Option, Some, None, refl, Item, shortest_head, kept, optional, IsReadBack, Any, Falls, accepts_it, truth_back, anything, optional_place, IsLawful, lawful, plainly, puts_value, puts_default, ◌▸◌, no_more, number_tree, PlaceHas, EachPlace, list_plain, parameters_law, nat_tests, ℕ, pos, ◌^◌, ◌<◌, nat_lt, nat_le, ltb-true, Bool, true, false, ◌&&◌, if◌then◌else◌, option_map, unwrap_or, Result, Ok, Err, OnOk, sym, ap, and_from, depth, max_depth, IfPresent, ReadIsCoherent, size, option_place, record_keeps, rows_back, size_back, aaguid_back, list_same, byte_back, word_back, text_back, bytes_back, transport_back, list_back, optional_back, all_of_anything, accepted_place, and_parts, AtMostOneLeadingItem, WrittenIsLeadingItem, WrittenIsCanonical}
 use Rattle.std.proofs.Common.{ℕ, List, Bool, ◌<◌, ◌^◌, is_ok, IfErr, leb-true}
 use Rattle.passkey_cbor.specs.Item.{number, boolean, byte_string}
+use Rattle.passkey_get_info.specs.Encodable.{encodable_places}
 use Rattle.passkey_get_info.specs.GetInfo.{version, version_tree, normal_version, extension, extension_tree, normal_extension, options, unless_null, GetInfoParts, get_info_places, get_info_fields, read_get_info, get_info_tree, IsPositive, GetInfoFits, is_encodable, has_room, is_get_info_coherent, normal_get_info, get_info_kept}
 use Rattle.passkey_kinds.specs.Kind.{IsSize}
 use Rattle.passkey_kinds.specs.declared.fault.WriteFault.{WriteFault}
@@ -67,6 +68,10 @@ certifications_only = record {
       search (rule.holds, plainly, list_plain 1, options_law.plain 1, parameters_law.plain 0) depth 33;
   this = λ Q r each. let places : EachPlace Q (get_info_places r) = each in rw option_same (search);
 }
+
+pub encodable_keys : KeysAscend encodable_places
+unfolding shortest_head
+encodable_keys e = keys_ascend (encodable_places e) refl
 
 response_around : Around (record_kind get_info_fields) get_info_tree get_info_kept 1 3
 response_around = around item_around get_info_fields (λ r. r.certifications) certifications_only

@@ -1,6 +1,6 @@
 //! Laws about authenticatorGetInfo responses. Each is the contract of a function that does nothing.
-ghost use Rattle.passkey_kinds.specs.Words.{WrittenIsReadBack, WrittenIsCanonical, places_of, KeysAscend};
-ghost use Rattle.passkey_get_info.specs.GetInfo.{read_get_info, get_info_tree, GetInfoFits, is_get_info_coherent, normal_get_info, get_info_kept, options};
+ghost use Rattle.passkey_kinds.specs.Words.{WrittenIsReadBack, WrittenIsCanonical};
+ghost use Rattle.passkey_get_info.specs.GetInfo.{read_get_info, get_info_tree, GetInfoFits, is_get_info_coherent, normal_get_info, get_info_kept};
 
 /// The encoding of a coherent response, whatever bytes follow, decodes to the response, in which an
 /// unknown version or extension with a known name becomes the known one, and certifications that
@@ -20,9 +20,3 @@ pub fn written_get_info_is_canonical()
     passkey_cbor::laws::at_most_one_leading_item();
     passkey_cbor::laws::written_is_leading_item();
 }
-
-/// Options are encoded with their keys in CTAP2's order (CTAP 2.1, section 8).
-#[tactic(auto, using(crate::proofs::GetInfos::options_law))]
-pub fn written_keys_ascend()
-    ensures { KeysAscend (places_of options.members) }
-{}

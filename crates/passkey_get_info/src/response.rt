@@ -1,7 +1,7 @@
 //! authenticatorGetInfo responses.
 ghost use Rattle.std.specs.Prelude.{◌≡◌, ◌^◌, ◌++◌, ℕ, is_ok, true, false, option_map, IfOk, IfErr, OnOk};
 ghost use Rattle.std.specs.Int.NonZero.{non_zero_u128_get};
-ghost use Rattle.passkey_kinds.specs.Words.{Item, item_of, IsWritable, written, IfPresent, ReadsMessage, ReadsHere, GrowsMessage, EachFits, fields_with, places_of, MayGrowAt, Reads, cost_at, keeps_at, Puts, AllAccepted, put_all, number_tree, table_of};
+ghost use Rattle.passkey_kinds.specs.Words.{KeysAscend, Item, item_of, IsWritable, written, IfPresent, ReadsMessage, ReadsHere, GrowsMessage, EachFits, fields_with, places_of, MayGrowAt, Reads, cost_at, keeps_at, Puts, AllAccepted, put_all, number_tree, table_of};
 ghost use Rattle.passkey_get_info.specs.Encodable.{EncodableFits, encodable_capabilities, encodable_parts, encodable_places};
 ghost use Rattle.passkey_get_info.specs.GetInfo.{GetInfoParts, capabilities, limits, states, get_info_fields, read_get_info, get_info_empty, get_info_parts, get_info_tree, IsPositive, GetInfoFits, is_encodable, fault_of_size, has_room, is_get_info_coherent};
 ghost use Rattle.passkey_kinds.specs.Placed.{members_of};
@@ -440,4 +440,8 @@ impl ToCborMap for Encodable<'_> {
         self.put_state(alloc, sink)?;
         Ok(())
     }
+
+    fn ordered()
+        ensures { KeysAscend encodable_places }
+    {}
 }

@@ -52,7 +52,7 @@ impl Rng for Ascending {
 
 /// A builder for the relying party "a".
 fn builder(rt: &(impl Abort + AllocGlobal), kty: Registered<KeyType>) -> PasskeyBuilder<Ascending> {
-    let rp_id = Text::from_str(rt.alloc(), "a").expect(rt, "memory");
+    let rp_id = text(rt, "a");
     Passkey::mock(rt.alloc(), rp_id, CoseKey::new(kty), Ascending(0x0302_0100)).expect(rt, "memory")
 }
 
@@ -90,11 +90,15 @@ fn secrets(rt: &(impl Abort + AllocGlobal), second: Option<Bytes>) -> StoredHmac
     }
 }
 
-/// A passkey with a name and secrets.
+fn text(rt: &(impl Abort + AllocGlobal), text: &str) -> Text {
+    Text::from_str(rt.alloc(), text).expect(rt, "memory")
+}
+
+/// A passkey with names and secrets.
 fn named(rt: &(impl Abort + AllocGlobal)) -> Passkey {
-    let name = Text::from_str(rt.alloc(), "b").expect(rt, "memory");
     builder(rt, Registered::Assigned(KeyType::EC2))
-        .username(name)
+        .username(text(rt, "b"))
+        .user_display_name(text(rt, "c"))
         .hmac_secret(secrets(rt, None))
         .build()
 }
@@ -109,13 +113,23 @@ fn described(rt: &(impl Abort + AllocGlobal), passkey: &Passkey) -> String {
     debugged(rt, &passkey.descriptor(rt.alloc()).expect(rt, "memory"))
 }
 
+const DESCRIPTOR: &str =
+    "PublicKeyCredentialDescriptor { ty: PublicKey, id: Bytes([0, 1, 2, 3, 4, 5, 6, 7, 8, 9, 10, 11, 12, 13, 14, 15]), transports: None }";
+
 #[test]
 fn passkeys_are_copied_and_described(rt: HostRuntime) {
     let passkey = named(&rt);
     assert!(rt; is_copied(&rt, &passkey));
-    let want =
-        "PublicKeyCredentialDescriptor { ty: PublicKey, id: Bytes([0, 1, 2, 3, 4, 5, 6, 7, 8, 9, 10, 11, 12, 13, 14, 15]), transports: None }";
-    assert_shows(&rt, "the passkey", described(&rt, &passkey), want);
+    assert_shows(&rt, "the passkey", described(&rt, &passkey), DESCRIPTOR);
+    let names = debugged(&rt, &(&passkey.username, &passkey.user_display_name));
+    assert_shows(&rt, "the names", names, r#"(Some("b"), Some("c"))"#);
+}
+
+#[test]
+fn passkeys_become_descriptors(rt: HostRuntime) {
+    let descriptor = named(&rt).into_descriptor();
+    assert!(rt; descriptor.is_known());
+    assert_shows(&rt, "a passkey", debugged(&rt, &descriptor), DESCRIPTOR);
 }
 
 /// The debug text of a passkey that was used nine times.
@@ -149,4 +163,20 @@ fn keys_and_secrets_are_not_printed(rt: HostRuntime) {
     let want =
         r#"CredentialExtensions { hmac_secret: Some(StoredHmacSecret { cred_with_uv: "<Redacted>", cred_without_uv: "<Redacted>" }) }"#;
     assert_shows(&rt, "two secrets", printed_secrets(&rt, Some(second)), want);
+}
+
+/// Whether no secret is left once these were erased.
+fn are_erased(rt: &(impl Abort + AllocGlobal), second: Option<Bytes>) -> bool {
+    let mut extensions = CredentialExtensions {
+        hmac_secret: Some(secrets(rt, second)),
+    };
+    extensions.zeroize();
+    extensions == CredentialExtensions::empty()
+}
+
+#[test]
+fn secrets_are_erased(rt: HostRuntime) {
+    let second = Bytes::from_slice(rt.alloc(), &[3]).expect(&rt, "memory");
+    assert!(rt; are_erased(&rt, None), "one secret");
+    assert!(rt; are_erased(&rt, Some(second)), "two secrets");
 }

@@ -25,6 +25,10 @@ fn origins_are_a_list_of_urls(rt: HostRuntime) {
             r#"{"origins":["https://Example.co.uk","https://example.de:443/a b"],"x":1.5}"#,
             r#"{"origins":["https://example.co.uk/","https://example.de/a%20b"]}"#,
         ),
+        (
+            r#"{"origins":["https://㍿"]}"#,
+            r#"{"origins":["https://xn--6oqv20b1zgzxr/"]}"#,
+        ),
         ("[]", "NotAnObject"),
         (
             r#"{"origin":["https://example.com"]}"#,

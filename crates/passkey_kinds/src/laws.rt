@@ -1,20 +1,19 @@
 //! Laws about decoding records and lists. Each is the contract of a function that does nothing.
-ghost use Rattle.passkey_kinds.specs.Words.{read_item, KeysAscend, places_of, descriptor, parameters, webauthn_user, KnowsMaps, PassesOverUnknown, AlikeDifferInLength, KnowsItems, RefusedElementIsPassedOver, SameAnswersReadAlike, UnknownMemberIsPassedOver, made_signed, used_signed, plain_tree};
+ghost use Rattle.passkey_kinds.specs.Words.{read_item, KeysAscend, KnowsMaps, PassesOverUnknown, AlikeDifferInLength, KnowsItems, RefusedElementIsPassedOver, SameAnswersReadAlike, UnknownMemberIsPassedOver, made_signed, used_signed, plain_tree};
 ghost use Rattle.std.specs.Prelude.{◌≡◌};
 ghost use Rattle.passkey_core.specs.SignedOutputs.{creation_item, assertion_item};
 ghost use Rattle.passkey_core.specs.declared.make_credential.SignedExtensionOutputs as creation;
 ghost use Rattle.passkey_core.specs.declared.get_assertion.SignedExtensionOutputs as assertion;
 
 use crate::record::Record;
+use crate::to_cbor::ToCborMap;
 
-/// Records whose members have names alone are encoded with their keys in CTAP2's order (CTAP 2.1,
-/// section 8).
-#[tactic(auto, using(crate::proofs::Lawful::descriptor_law, crate::proofs::Lawful::parameters_law, crate::proofs::Lawful::user_law))]
-pub fn written_keys_ascend()
-    ensures descriptor { KeysAscend (places_of descriptor.members) }
-    ensures parameters { KeysAscend (places_of parameters.members) }
-    ensures user { KeysAscend (places_of webauthn_user.members) }
-{}
+/// A record is encoded with its map keys in CTAP2's order (CTAP 2.1, section 8).
+pub fn written_keys_ascend<R: ToCborMap>()
+    ensures { KeysAscend R.places }
+{
+    R::ordered();
+}
 
 /// Signed extension outputs are encoded as the data items that `to_value` of `passkey_core` returns.
 #[tactic(auto, using(crate::proofs::Lawful::made_item, crate::proofs::Lawful::used_item))]

@@ -1,6 +1,6 @@
 //! Records whose members have names alone, and which keep no data item.
 ghost use Rattle.std.specs.Prelude.{◌≡◌, ◌≤◌, ℕ, true, false, length, map, is_ok, OnOk};
-ghost use Rattle.passkey_kinds.specs.Words.{Item, PlainTable, EachFits, fields_of, places_of, plain_tree, IsReadBack, are_small, table_of, cost_at, keeps_at, Puts, entry_of, AllAccepted, put_all, entries, plain_kind};
+ghost use Rattle.passkey_kinds.specs.Words.{Item, PlainTable, EachFits, fields_of, places_of, plain_tree, KeysAscend, IsReadBack, are_small, table_of, cost_at, keeps_at, Puts, entry_of, AllAccepted, put_all, entries, plain_kind};
 
 use crate::{OutOfMemory, Record, RecordReadBack, Refusal, Row, Sink, Source, ToCborMap};
 use std::alloc::Global;
@@ -41,9 +41,11 @@ pub trait PlainRecord: Drop {
         ensures accepts { OnOk result (AllAccepted S.Accepts (places_of table.members self.now)) }
         ensures fits { OnOk result (S.Encodes → EachFits table.members self.now) };
 
-    /// The encoding of a record decodes to its normal form. Does nothing.
+    /// The encoding of a record decodes to its normal form, and its map keys ascend in CTAP2's order
+    /// (CTAP 2.1, section 8). Does nothing.
     fn lawful()
-        ensures { IsReadBack (plain_kind table) (plain_tree table) (EachFits table.members) normal };
+        ensures back { IsReadBack (plain_kind table) (plain_tree table) (EachFits table.members) normal }
+        ensures ordered { KeysAscend (places_of table.members) };
 }
 
 impl<R: PlainRecord> Record for R {
@@ -79,6 +81,10 @@ impl<R: PlainRecord> ToCborMap for R {
 
     fn put_members<S: Sink>(&self, alloc: Global, sink: &mut S) -> Result<(), OutOfMemory> {
         <R as PlainRecord>::put_members(self, alloc, sink)
+    }
+
+    fn ordered() {
+        R::lawful();
     }
 }
 

@@ -1,6 +1,6 @@
 //! Values that are encoded as data items, and records that are encoded as maps.
 ghost use Rattle.std.specs.Prelude.{◌≡◌, ◌<◌, ◌^◌, ◌++◌, pos, List, IfOk, OnOk};
-ghost use Rattle.passkey_kinds.specs.Words.{AllAccepted, put_all, Place, record_tree, encoding, Item, boolean, byte_string, text_string, item_of, IsWritable, written, IfPresent, Any, number_tree, option_tree, transport_tree, credential_type_tree};
+ghost use Rattle.passkey_kinds.specs.Words.{AllAccepted, put_all, Place, record_tree, KeysAscend, encoding, Item, boolean, byte_string, text_string, item_of, IsWritable, written, IfPresent, Any, number_tree, option_tree, transport_tree, credential_type_tree};
 
 use crate::sink::Counted;
 use crate::{Sink, Written};
@@ -204,6 +204,10 @@ pub trait ToCborMap {
         ensures put { OnOk result (S.state sink.new ≡ put_all S.step (S.state sink.old) (places self.now)) }
         ensures accepts { OnOk result (AllAccepted S.Accepts (places self.now)) }
         ensures fits { OnOk result (S.Encodes → holds self.now) };
+
+    /// The map keys ascend in CTAP2's order (CTAP 2.1, section 8). Does nothing.
+    fn ordered()
+        ensures { KeysAscend places };
 }
 
 impl<R: ToCborMap> ToCbor for R {

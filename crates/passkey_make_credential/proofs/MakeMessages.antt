@@ -1,6 +1,6 @@
 -- Messages of authenticatorMakeCredential: decoding their encodings again, their nesting levels, and their canonical form.
 use Rattle.passkey_kinds.proofs.Common.{record_kind, places_of}
-use Rattle.passkey_kinds.proofs.Steps.{Around, OnlyAt, item_around, around, required_keeps, optional_keeps, decoded_few, canonical_around, arith, ℕ, Bool, true, false, codes, text_string, shortest_head, true_place, IsLawfulAs, lawful, truth_back, PlaceHas, IsPlain, plainly, truth_plain, text_plain, puts_value, puts_default, no_more, option_map, number_tree, list_plain, descriptor_law, parameters_law, user_law, ◌≡◌, ◌≤◌, nat_le, Some, Ok, depth, ReadIsCoherent, OnlyDeep, only_deep, record_keeps, byte_back, bytes_back, anything, optional_place, accepted_same, accepted_place, rows_back, refl, ◌▸◌, ◌-◌, ◌^◌, min, nat_lt, and_from, max_depth, WrittenIsLeadingItem, is_coherent, GivenIsCoherent, ReadIsGiven, WrittenDataAreReadBack, auth_data_back, auth_data_coherent, text_back, kept_back, record_within, picked, picked_back, and_parts, AtMostOneLeadingItem, WrittenIsCanonical}
+use Rattle.passkey_kinds.proofs.Steps.{Around, OnlyAt, KeysAscend, keys_ascend, item_around, around, required_keeps, optional_keeps, decoded_few, canonical_around, arith, ℕ, Bool, true, false, codes, text_string, shortest_head, true_place, IsLawfulAs, lawful, truth_back, PlaceHas, IsPlain, plainly, truth_plain, text_plain, puts_value, puts_default, no_more, option_map, number_tree, list_plain, descriptor_law, parameters_law, user_law, ◌≡◌, ◌≤◌, nat_le, Some, Ok, depth, ReadIsCoherent, OnlyDeep, only_deep, record_keeps, byte_back, bytes_back, anything, optional_place, accepted_same, accepted_place, rows_back, refl, ◌▸◌, ◌-◌, ◌^◌, min, nat_lt, and_from, max_depth, WrittenIsLeadingItem, is_coherent, GivenIsCoherent, ReadIsGiven, WrittenDataAreReadBack, auth_data_back, auth_data_coherent, text_back, kept_back, record_within, picked, picked_back, and_parts, AtMostOneLeadingItem, WrittenIsCanonical}
 use Rattle.std.proofs.Common.{leb-true}
 use Rattle.passkey_core.specs.DataNormal.{IsData, normal_data}
 use Rattle.passkey_core.specs.DataParts.{DataParts}
@@ -42,6 +42,9 @@ request_only = record {
   this = λ Q r each. each.1.1.1.1.1.0;
 }
 
+pub request_keys : KeysAscend (places_of make_request_members)
+request_keys r = keys_ascend (places_of make_request_members r) (request_only.ascends r)
+
 request_around : Around (record_kind make_request_fields) make_request_tree make_request_kept 3 6
 request_around = around make_extensions_around make_request_fields (λ r. r.extensions) request_only
     (λ n. tt) (λ n i few. search (optional_keeps make_extensions_around) depth 13 parts 13)
@@ -54,6 +57,9 @@ response_only = record {
   each = λ Q rule r statement. search (rule.holds, plainly, made_unsigned_law.plain 0) depth 12;
   this = λ Q r each. each.1.1.0;
 }
+
+pub response_keys : KeysAscend (places_of make_response_members)
+response_keys r = keys_ascend (places_of make_response_members r) (response_only.ascends r)
 
 response_around : Around (record_kind make_response_fields) make_response_tree make_response_kept 1 5
 response_around = around item_around make_response_fields (λ r. Some r.att_stmt) response_only

@@ -1,10 +1,8 @@
 //! Laws about the messages of authenticatorMakeCredential. Each is the contract of a function that
 //! does nothing.
-ghost use Rattle.passkey_kinds.specs.Words.{is_coherent, IsData, normal_data, KeysAscend, WrittenIsReadBack, WrittenIsCanonical, places_of};
-ghost use Rattle.passkey_make_credential.specs.MakeRequest.{read_make_request, make_request_tree, MakeRequestFits, is_make_request_coherent, normal_make_request, make_request_kept, options};
+ghost use Rattle.passkey_kinds.specs.Words.{is_coherent, IsData, normal_data, WrittenIsReadBack, WrittenIsCanonical};
+ghost use Rattle.passkey_make_credential.specs.MakeRequest.{read_make_request, make_request_tree, MakeRequestFits, is_make_request_coherent, normal_make_request, make_request_kept};
 ghost use Rattle.passkey_make_credential.specs.MakeResponse.{read_make_response, make_response_tree, MakeResponseFits, is_make_response_coherent, normal_make_response, attestation_tree, unattested, make_response_kept};
-
-pub use passkey_entities::laws::written_keys_ascend as written_entity_keys_ascend;
 
 /// The encoding of a coherent request, whatever bytes follow, decodes to the request with the
 /// option `up` set to true.
@@ -56,9 +54,3 @@ pub fn written_make_response_is_canonical()
     passkey_cbor::laws::at_most_one_leading_item();
     passkey_cbor::laws::written_is_leading_item();
 }
-
-/// Options are encoded with their keys in CTAP2's order (CTAP 2.1, section 8).
-#[tactic(auto, using(crate::proofs::MakeMessages::options_law))]
-pub fn written_keys_ascend()
-    ensures { KeysAscend (places_of options.members) }
-{}

@@ -122,6 +122,8 @@ impl ToCborMap for Request {
         sink.put_some(alloc, 9_u8, &self.pin_protocol)?;
         Ok(())
     }
+
+    fn ordered() {}
 }
 
 impl Request {

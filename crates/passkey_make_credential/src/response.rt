@@ -98,6 +98,8 @@ impl ToCborMap for Response {
         sink.put_some(alloc, 6_u8, &self.unsigned_extension_outputs)?;
         Ok(())
     }
+
+    fn ordered() {}
 }
 
 impl Response {

@@ -1,5 +1,5 @@
 //! Readers and writers: the whole input, and the whole output.
-ghost use Rattle.std.specs.Prelude.{◌≡◌, ◌⊎◌, IfOk, IfErr, OnOk, OnErr, IfSome};
+ghost use Rattle.std.specs.Prelude.{◌≡◌, ◌⊎◌, ◌<◌, ◌*◌, vec_len, IfOk, IfErr, OnOk, OnErr, IfSome};
 ghost use Rattle.std.specs.Io.KnownBytes.{Appends, IsAtEnd};
 ghost use Rattle.passkey_run.specs.Streams.{AppendsBeginning};
 ghost use Rattle.passkey_run.specs.declared.fault.RunFault.TheVariants.{OutOfMemory, InputFailed, OutputFailed};
@@ -8,6 +8,9 @@ use crate::fault::RunFault;
 use std::alloc::Global;
 use std::io::{Read, Write};
 
+/// The most bytes of one read.
+const BUFFER: usize = 4096;
+
 /// Returns the input to its end. Returns `InputFailed` if reading fails or the input doesn't end
 /// within 2^32 - 1 reads, and `OutOfMemory` if an allocation fails.
 pub fn read_all<R: Read>(alloc: Global, reader: &mut R) -> Result<Vec<u8>, RunFault>
@@ -15,9 +18,19 @@ pub fn read_all<R: Read>(alloc: Global, reader: &mut R) -> Result<Vec<u8>, RunFa
     ensures end { OnOk result (IsAtEnd (R.remaining reader.new)) }
     ensures err { IfErr result (λ fault. (fault ≡ InputFailed) ⊎ (fault ≡ OutOfMemory)) }
 {
+    read_within(alloc, reader, u32::MAX)
+}
+
+/// Returns the input to its end, as `read_all` does, if it ends within this many reads.
+pub fn read_within<R: Read>(alloc: Global, reader: &mut R, reads: u32) -> Result<Vec<u8>, RunFault>
+    ensures whole { IfOk result (λ input. IfSome (R.remaining reader.old) (λ bytes. input.items ≡ bytes)) }
+    ensures end { OnOk result (IsAtEnd (R.remaining reader.new)) }
+    ensures within { IfOk result (λ input. vec_len input < BUFFER * reads) }
+    ensures err { IfErr result (λ fault. (fault ≡ InputFailed) ⊎ (fault ≡ OutOfMemory)) }
+{
     let mut input = Vec::new(alloc);
-    let mut buffer = [0u8; 4096];
-    for _ in 0..u32::MAX {
+    let mut buffer = [0u8; BUFFER];
+    for _read in 0..reads {
         match reader.read(&mut buffer) {
             Ok(0) => return Ok(input),
             Ok(n) => input.extend_from_slice(&buffer[..n])?,

@@ -1,5 +1,5 @@
 -- Stored secrets of the extension hmac-secret.
-use Rattle.std.specs.Prelude.{ℕ, ◌<◌, ◌⊎◌, List, [], length, None, codes, is_some, if◌then◌else◌}
+use Rattle.std.specs.Prelude.{◌≡◌, ℕ, ◌<◌, ◌⊎◌, List, [], length, slice_index, EachIndex, Option, None, IfSome, codes, is_some, option_map, if◌then◌else◌}
 use Rattle.std.specs.Option.{IsSomeAnd}
 use Rattle.passkey_stored.specs.declared.hmac_secret.StoredHmacSecret.{StoredHmacSecret}
 
@@ -7,6 +7,17 @@ use Rattle.passkey_stored.specs.declared.hmac_secret.StoredHmacSecret.{StoredHma
 abbrev pub HoldsSecrets : StoredHmacSecret → Type 0
 HoldsSecrets secret =
     (0 < length secret.cred_with_uv) ⊎ IsSomeAnd secret.cred_without_uv (λ bytes. 0 < length bytes)
+
+abbrev pub AreZeros : List ℕ → Type 0
+AreZeros bytes = EachIndex bytes (λ k. slice_index bytes k ≡ 0)
+
+-- each byte of the secrets is zero
+abbrev pub IsZeroed : StoredHmacSecret → Type 0
+IsZeroed secret = AreZeros secret.cred_with_uv × IfSome secret.cred_without_uv AreZeros
+
+-- how many bytes each of the secrets has
+abbrev pub lengths : StoredHmacSecret → ℕ × Option ℕ
+lengths secret = (length secret.cred_with_uv, option_map length secret.cred_without_uv)
 
 -- the secrets after they were erased
 abbrev pub erased : StoredHmacSecret

@@ -1,8 +1,8 @@
 //! Extension data of stored passkeys.
-ghost use Rattle.std.specs.Prelude.{◌≡◌, IfOk, OnErr};
+ghost use Rattle.std.specs.Prelude.{◌≡◌, IfOk, IfSome, OnErr};
 ghost use Rattle.std.specs.Option.{IsSomeAnd};
 ghost use Rattle.passkey_stored.specs.Extensions.{no_extensions};
-ghost use Rattle.passkey_stored.specs.HmacSecret.{HoldsSecrets};
+ghost use Rattle.passkey_stored.specs.HmacSecret.{HoldsSecrets, erased};
 
 use crate::hmac_secret::StoredHmacSecret;
 use passkey_memory::OutOfMemory;
@@ -44,6 +44,14 @@ impl CredentialExtensions {
         if let Some(secret) = &mut self.hmac_secret {
             secret.zeroize();
         }
+        self.remove();
+    }
+
+    /// Removes the secrets once they are erased.
+    fn remove(&mut self)
+        requires { IfSome self.old.hmac_secret (λ secret. secret ≡ erased) }
+        ensures { self.new ≡ no_extensions }
+    {
         self.hmac_secret = None;
     }
 }

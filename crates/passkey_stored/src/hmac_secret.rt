@@ -1,6 +1,6 @@
 //! Secrets of the extension hmac-secret.
-ghost use Rattle.std.specs.Prelude.{◌≡◌, [], Some, None, IfOk, OnErr};
-ghost use Rattle.passkey_stored.specs.HmacSecret.{HoldsSecrets, erased, redacted};
+ghost use Rattle.std.specs.Prelude.{◌≡◌, Some, IfOk, OnErr};
+ghost use Rattle.passkey_stored.specs.HmacSecret.{AreZeros, HoldsSecrets, IsZeroed, erased, lengths, redacted};
 
 use passkey_bytes::Bytes;
 use passkey_memory::OutOfMemory;
@@ -37,28 +37,44 @@ impl StoredHmacSecret {
     }
 
     /// Overwrites the secrets with zeros and removes them: `cred_with_uv` is then empty, and
-    /// `cred_without_uv` is `None`. The compiler may leave out writes that nothing reads, and may
-    /// have left copies of the secrets elsewhere in memory: no contract says that memory is erased.
+    /// `cred_without_uv` is `None`. What removes them requires that each byte is zero by then. The
+    /// compiler may leave out writes that nothing reads, and may have left copies of the secrets
+    /// elsewhere in memory: no contract says that memory is erased.
     pub fn zeroize(&mut self)
         ensures { self.new ≡ erased }
     {
-        erase(&mut self.cred_with_uv);
+        self.overwrite();
+        self.remove();
+    }
+
+    /// Overwrites each byte of the secrets with zero.
+    fn overwrite(&mut self)
+        ensures zeroed { IsZeroed self.new }
+        ensures as_long { lengths self.new ≡ lengths self.old }
+    {
+        write_zeros(self.cred_with_uv.as_mut_vec().as_mut_slice());
         if let Some(secret) = &mut self.cred_without_uv {
-            erase(secret);
+            write_zeros(secret.as_mut_vec().as_mut_slice());
         }
+    }
+
+    /// Removes the secrets once they are overwritten.
+    fn remove(&mut self)
+        requires { IsZeroed self.old }
+        ensures { self.new ≡ erased }
+    {
+        self.cred_with_uv.as_mut_vec().clear();
         self.cred_without_uv = None;
     }
 }
 
-/// Overwrites each byte with zero, and then removes all bytes.
-fn erase(secret: &mut Bytes)
-    ensures { secret.new ≡ [] }
+/// Overwrites each byte with zero.
+fn write_zeros(bytes: &mut [u8])
+    ensures { AreZeros bytes.new }
 {
-    let bytes = secret.as_mut_vec();
     for byte in bytes.iter_mut() {
         *byte = 0;
     }
-    bytes.clear();
 }
 
 impl fmt::Debug for StoredHmacSecret {

@@ -3,7 +3,7 @@ use Rattle.std.proofs.Common.{◌≡◌, true, true≢false, Option, Some, None,
 use Rattle.std.specs.Option.{option_and_then}
 use Rattle.passkey_json.specs.Kind.{each, list}
 use Rattle.passkey_well_known.specs.UrlKind.{url}
-use Rattle.serde_json.specs.Data.{Data, null, boolean, number, string, array, object, Items, no_items, item}
+use Rattle.serde_json.specs.Data.{Data, string, array, Items, no_items, item}
 use Rattle.serde_json.specs.Written.{has_float, items_have_float}
 use Rattle.url.specs.Parts.{Parts}
 

@@ -1,47 +1,65 @@
 -- URLs, decoded from JSON values, and the result of decoding them.
-use Rattle.std.specs.Prelude.{◌≡◌, nat_le, Bool, false, ◌||◌, IsTrue, List, length, Some, None, Result, Ok, Err}
+use Rattle.std.specs.Prelude.{◌≡◌, ◌⊎◌, ◌≤◌, ◌<◌, ℕ, List, length, Some, None, Result, Ok, Err, IsSome}
 use Rattle.std.specs.Result.{result_ok}
 use Rattle.std.specs.declared.alloc.Global.{Global}
 use Rattle.std.specs.declared.vec.Vec.{Vec}
-use Rattle.passkey_json.specs.Kind.{Kind, list, is_text, is_array}
+use Rattle.passkey_json.specs.Kind.{Kind, list}
 use Rattle.passkey_well_known.specs.declared.url_list.TheConstants.{LONG_TEXT}
 use Rattle.passkey_well_known.specs.declared.url_list.UrlFault.{UrlFault}
-use Rattle.passkey_well_known.specs.declared.url_list.UrlFault.TheVariants.{Refused, TooLong, OutOfMemory}
+use Rattle.passkey_well_known.specs.declared.url_list.UrlFault.TheVariants.{Refused, OutOfMemory}
 use Rattle.serde_json.specs.Data.{Data, string, array, Items, no_items, item}
-use Rattle.url.specs.Parser.{parse_url}
+use Rattle.url.specs.Parser.{Parsed, parse_url}
 use Rattle.url.specs.Parts.{Parts}
+use Rattle.url.specs.declared.error.ParseError.TheVariants.{Overflow}
+use Rattle.url.specs.declared.error.ParseError.TheVariants as parse_error
 
 -- the URL that a text is parsed as (URL Standard)
 abbrev pub url : Kind Parts
 url (string s) = result_ok (parse_url None s)
 url _ = None
 
--- a text so long that its URL may be refused for its length
-abbrev pub is_long : Data → Bool
-is_long (string s) = nat_le LONG_TEXT (length s)
-is_long _ = false
+-- what a parser may return for a text
+abbrev pub UrlReturns : Type 1
+UrlReturns = List ℕ → Parsed Parts → Type 0
 
-abbrev pub any_long : Items → Bool
-any_long no_items = false
-any_long (item d ds) = is_long d || any_long ds
+-- the value is a text of which this holds
+abbrev pub IsTextOf : (List ℕ → Type 0) → Data → Type 0
+IsTextOf Holds (string s) = Holds s
+IsTextOf Holds _ = ⊥
 
--- a list that contains such a text
-abbrev pub has_long : Data → Bool
-has_long (array ds) = any_long ds
-has_long _ = false
+-- one of the elements is a text of which this holds, and those before it are URLs
+abbrev pub ComesTo : (List ℕ → Type 0) → Items → Type 0
+ComesTo Holds no_items = ⊥
+ComesTo Holds (item d ds) = IsTextOf Holds d ⊎ (IsSome (url d) × ComesTo Holds ds)
 
--- The result of decoding a URL: the URL of the text; `Refused`, if there is none; or no room for
--- it.
-abbrev pub AnswersUrl : Data → Result Parts UrlFault → Type 0
-AnswersUrl d (Ok u) = url d ≡ Some u
-AnswersUrl d (Err Refused) = url d ≡ None
-AnswersUrl d (Err TooLong) = IsTrue (is_long d)
-AnswersUrl d (Err OutOfMemory) = IsTrue (is_text d)
+-- the value is a list with such a text
+abbrev pub ListComesTo : (List ℕ → Type 0) → Data → Type 0
+ListComesTo Holds (array ds) = ComesTo Holds ds
+ListComesTo Holds _ = ⊥
+
+-- any text at all: parsing it may take memory
+abbrev pub AnyText : List ℕ → Type 0
+AnyText s = Unit {0}
+
+-- a long text of which the parser says that its URL is too long
+abbrev pub HasNoRoom : UrlReturns → List ℕ → Type 0
+HasNoRoom Says s = (LONG_TEXT ≤ length s) × Says s (Err Overflow)
+
+-- a text for which the parser lacks memory, or says so of a short one
+abbrev pub LacksMemory : UrlReturns → List ℕ → Type 0
+LacksMemory Says s = Says s (Err parse_error.OutOfMemory) ⊎ ((length s < LONG_TEXT) × Says s (Err Overflow))
+
+-- The result of decoding a URL: the URL of the text; `Refused`, if there is none, or it is too long
+-- for the parser; or `OutOfMemory`, only if the parser lacks memory.
+abbrev pub AnswersUrl : UrlReturns → Data → Result Parts UrlFault → Type 0
+AnswersUrl Says d (Ok u) = url d ≡ Some u
+AnswersUrl Says d (Err Refused) = (url d ≡ None) ⊎ IsTextOf (HasNoRoom Says) d
+AnswersUrl Says d (Err OutOfMemory) = IsTextOf (LacksMemory Says) d
 
 -- The result of decoding a list of URLs: the URLs of its texts; `Refused`, if it isn't a list of
--- texts that are URLs; or no room for one of them.
-abbrev pub AnswersUrls : Data → Result (Vec Parts Global) UrlFault → Type 0
-AnswersUrls d (Ok us) = list url d ≡ Some us.items
-AnswersUrls d (Err Refused) = list url d ≡ None
-AnswersUrls d (Err TooLong) = IsTrue (has_long d)
-AnswersUrls d (Err OutOfMemory) = IsTrue (is_array d)
+-- texts that are URLs, or the URL of one of them is too long for the parser; or `OutOfMemory`, only
+-- if a text was come to.
+abbrev pub AnswersUrls : UrlReturns → Data → Result (Vec Parts Global) UrlFault → Type 0
+AnswersUrls Says d (Ok us) = list url d ≡ Some us.items
+AnswersUrls Says d (Err Refused) = (list url d ≡ None) ⊎ ListComesTo (HasNoRoom Says) d
+AnswersUrls Says d (Err OutOfMemory) = ListComesTo AnyText d

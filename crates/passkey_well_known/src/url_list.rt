@@ -1,24 +1,49 @@
 //! Lists of URLs, decoded from JSON values.
-ghost use Rattle.std.specs.Prelude.{◌≡◌};
+ghost use Rattle.std.specs.Prelude.{◌≡◌, ℕ, List, None};
 ghost use Rattle.passkey_well_known.specs.UrlKind.{AnswersUrl, AnswersUrls};
 ghost use Rattle.passkey_well_known.specs.declared.url_list.UrlFault.TheVariants.{OutOfMemory as NoMemory};
 ghost use Rattle.serde_json.specs.View.{view};
+ghost use Rattle.url.specs.Parser.{Gives, Parsed, parse_url};
+ghost use Rattle.url.specs.Parts.{Parts};
 
 use serde_json::Value;
 use std::alloc::{AllocFailed, Global};
-use url::{ParseError, Url};
+use url::{ParseError, ParseResult, Url};
 
-/// The least length, in bytes, of a text whose URL may be refused for its length. The crate `url`
-/// supports no URL of 4 GB or more, and escaping makes a shorter text at most three times as long.
-pub(crate) const LONG_TEXT: usize = 1 << 30;
+/// Parses texts as URLs. What decodes documents is generic over it, so that contracts can say which
+/// of the parser's errors become which fault, and that no other text is refused.
+pub(crate) trait UrlParser {
+    /// What parsing a text may return.
+    ghost Returns: { List ℕ → Parsed Parts → Type 0 };
+
+    fn parse(alloc: Global, text: &str) -> ParseResult<Url>
+        ensures returned { Returns text.now result }
+        ensures standard { Gives result (parse_url None text.now) };
+}
+
+/// The parser of the crate `url`.
+pub(crate) struct StandardParser;
+
+impl UrlParser for StandardParser {
+    ghost Returns = { λ text parsed. Gives parsed (parse_url None text) };
+
+    fn parse(alloc: Global, text: &str) -> ParseResult<Url> {
+        Url::parse(alloc, text)
+    }
+}
+
+/// The least length, in bytes, of a text whose URL may be too long for the parser. The crate `url`
+/// supports no URL of 4 GB or more. Escapes make a byte three, and Punycode makes a character of a
+/// host several for each one that it is mapped to, but never 256 for each byte.
+pub(crate) const LONG_TEXT: usize = 1 << 24;
 
 /// Why no URLs were decoded from a JSON value.
 pub(crate) enum UrlFault {
-    /// The value isn't a list of texts that are URLs.
+    /// The value isn't a list of texts that are URLs, or the URL of one of them is too long for the
+    /// parser.
     Refused,
-    /// One of the texts has `LONG_TEXT` bytes or more, and may be a URL of 4 GB or more.
-    TooLong,
-    /// An allocation failed, or the URL of a shorter text has 4 GB or more.
+    /// An allocation failed; or the parser says that the URL of a text shorter than `LONG_TEXT` is
+    /// too long, which its contract allows, and its code never does.
     OutOfMemory,
 }
 
@@ -31,31 +56,30 @@ impl<T: Drop> From<AllocFailed<T>> for UrlFault {
 }
 
 /// Decodes a URL from a text.
-fn read_url(alloc: Global, value: &Value) -> Result<Url, UrlFault>
-    ensures { AnswersUrl (view value.now) result }
+fn read_url<P: UrlParser>(alloc: Global, value: &Value) -> Result<Url, UrlFault>
+    ensures { AnswersUrl P.Returns (view value.now) result }
 {
     let Value::String(text) = value else {
         return Err(UrlFault::Refused);
     };
-    match Url::parse(alloc, text.as_str()) {
+    match P::parse(alloc, text.as_str()) {
         Ok(url) => Ok(url),
         Err(ParseError::OutOfMemory) => Err(UrlFault::OutOfMemory),
-        Err(ParseError::Overflow) if text.len() >= LONG_TEXT => Err(UrlFault::TooLong),
-        Err(ParseError::Overflow) => Err(UrlFault::OutOfMemory),
+        Err(ParseError::Overflow) if text.len() < LONG_TEXT => Err(UrlFault::OutOfMemory),
         Err(_) => Err(UrlFault::Refused),
     }
 }
 
 /// Decodes a list of URLs.
-pub(crate) fn read_urls(alloc: Global, value: &Value) -> Result<Vec<Url>, UrlFault>
-    ensures { AnswersUrls (view value.now) result }
+pub(crate) fn read_urls<P: UrlParser>(alloc: Global, value: &Value) -> Result<Vec<Url>, UrlFault>
+    ensures { AnswersUrls P.Returns (view value.now) result }
 {
     let Value::Array(texts) = value else {
         return Err(UrlFault::Refused);
     };
     let mut urls = Vec::new(alloc);
     for text in texts {
-        urls.push(read_url(alloc, text)?)?;
+        urls.push(read_url::<P>(alloc, text)?)?;
     }
     Ok(urls)
 }

@@ -3,10 +3,10 @@ ghost use Rattle.std.specs.Prelude.{◌≡◌, IfOk, Some, codes};
 ghost use Rattle.passkey_json.specs.Kind.{list};
 ghost use Rattle.passkey_json.specs.Members.{in_object, judged};
 ghost use Rattle.passkey_well_known.specs.UrlKind.{url};
-ghost use Rattle.passkey_well_known.specs.WellKnown.{GivesUrls, origins_in, urls_json, well_known_in, well_known_json};
+ghost use Rattle.passkey_well_known.specs.WellKnown.{GivesUrls, Standard, origins_in, urls_json, well_known_in, well_known_json};
 ghost use Rattle.serde_json.specs.View.{view};
 
-use crate::url_list::{UrlFault, read_urls};
+use crate::url_list::{StandardParser, UrlFault, UrlParser, read_urls};
 use passkey_json::{JsonFault, holds_float};
 use passkey_memory::OutOfMemory;
 use serde_json::{Map, Value};
@@ -22,14 +22,14 @@ pub struct WellKnown {
 }
 
 /// Decodes the URLs of the member `origins`.
-fn origins_of(alloc: Global, value: &Value) -> Result<Vec<Url>, JsonFault>
-    ensures { GivesUrls (Some (view value.now)) (λ urls. urls.items)
+fn origins_of<P: UrlParser>(alloc: Global, value: &Value) -> Result<Vec<Url>, JsonFault>
+    ensures { GivesUrls P.Returns (Some (view value.now)) (λ urls. urls.items)
         (judged (list url) (codes "origins") (view value.now)) result }
 {
-    match read_urls(alloc, value) {
+    match read_urls::<P>(alloc, value) {
         Ok(urls) => Ok(urls),
         Err(UrlFault::OutOfMemory) => Err(JsonFault::OutOfMemory),
-        Err(UrlFault::Refused | UrlFault::TooLong) => {
+        Err(UrlFault::Refused) => {
             if holds_float(value) {
                 Err(JsonFault::Float("origins"))
             } else {
@@ -39,29 +39,37 @@ fn origins_of(alloc: Global, value: &Value) -> Result<Vec<Url>, JsonFault>
     }
 }
 
+/// Decodes the document from a JSON value, as `WellKnown::from_json` does.
+#[tactic(auto, unfolding(crate::specs::WellKnown::well_known_in, passkey_json::specs::Members::required))]
+fn read_document<P: UrlParser>(alloc: Global, value: &Value) -> Result<WellKnown, JsonFault>
+    ensures { GivesUrls P.Returns (origins_in (view value.now)) (λ document. document.origins.items)
+        (in_object well_known_in (view value.now)) result }
+{
+    if !value.is_object() {
+        return Err(JsonFault::NotAnObject);
+    }
+    let Some(origins) = value.get("origins") else {
+        return Err(JsonFault::Missing("origins"));
+    };
+    match origins_of::<P>(alloc, origins) {
+        Ok(origins) => Ok(WellKnown { origins }),
+        Err(fault) => Err(fault),
+    }
+}
+
 impl WellKnown {
     /// Decodes the document from a JSON value: an object whose member `origins` is a list of texts
     /// that the URL Standard parses as URLs. Skips other members. Returns `NotAnObject` if the
     /// value isn't an object, and `Missing` if the member is absent. If the member isn't such a
     /// list, returns `Float` if it contains a float, and else `Refused`. Also returns `Refused` if
-    /// one of its texts has 2^30 bytes or more and its URL has 4 GB or more. Returns `OutOfMemory`
-    /// if an allocation fails, or if the URL of a shorter text has 4 GB or more; both can only
-    /// happen for a list.
-    #[tactic(auto, unfolding(crate::specs::WellKnown::well_known_in, passkey_json::specs::Members::required))]
+    /// one of its texts has 2^24 bytes or more and the crate `url` says that its URL is too long,
+    /// which URLs of 4 GB or more are. Returns `OutOfMemory` if an allocation fails, which can only
+    /// happen for a list that begins with a text.
     pub fn from_json(alloc: Global, value: &Value) -> Result<WellKnown, JsonFault>
-        ensures { GivesUrls (origins_in (view value.now)) (λ document. document.origins.items)
+        ensures { GivesUrls Standard (origins_in (view value.now)) (λ document. document.origins.items)
             (in_object well_known_in (view value.now)) result }
     {
-        if !value.is_object() {
-            return Err(JsonFault::NotAnObject);
-        }
-        let Some(origins) = value.get("origins") else {
-            return Err(JsonFault::Missing("origins"));
-        };
-        match origins_of(alloc, origins) {
-            Ok(origins) => Ok(WellKnown { origins }),
-            Err(fault) => Err(fault),
-        }
+        read_document::<StandardParser>(alloc, value)
     }
 
     /// Encodes the document: an object whose member `origins` is the list of the URLs. Returns

@@ -97,6 +97,8 @@ impl ToCborMap for ExtensionInputs {
         sink.put_some(alloc, "hmac-secret", &self.hmac_secret)?;
         Ok(())
     }
+
+    fn ordered() {}
 }
 
 impl RecordReadBack for ExtensionInputs {

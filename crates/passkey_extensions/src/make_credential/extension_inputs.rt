@@ -105,6 +105,8 @@ impl ToCborMap for ExtensionInputs {
         sink.put_some(alloc, "hmac-secret-mc", &self.hmac_secret_mc)?;
         Ok(())
     }
+
+    fn ordered() {}
 }
 
 impl RecordReadBack for ExtensionInputs {

@@ -14,13 +14,18 @@ all_read : (vs : List Value) (us : List Parts) (i : ℕ) → length vs ≤ i →
 all_read vs us i past read = grind (arith, common_steps)
 
 pub loop-text-preserved : goal.loop-text-preserved
-loop-text-preserved c =
+loop-text-preserved g c =
     let read = c.loop-text.invariant.read in
-    let long = c.loop-text.invariant.long in
-    record { read = grind (arith, common_steps, read); long = grind (arith, common_steps, long) }
+    let no_room = c.loop-text.invariant.no_room in
+    let any = c.loop-text.invariant.any in
+    record {
+      read = grind (arith, common_steps, read);
+      no_room = grind (arith, common_steps, no_room);
+      any = grind (arith, common_steps, any);
+    }
 
 pub returns : goal.returns
-returns c =
+returns g c =
     let seen : view c.args.value.now ≡ array (items_view c.in-Array.texts.items) =
     ap view c.in-Array.is ∙ view-Array c.in-Array.texts in
     let all = all_read c.deref-text-items.result.now c.loop-text.urls.items c.loop-text.text-index (omega arith)

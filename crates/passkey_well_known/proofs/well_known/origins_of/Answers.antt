@@ -5,6 +5,6 @@ use Rattle.serde_json.specs.View.{view}
 use Rattle.serde_json.specs.Written.{has_float}
 
 pub returns-then-holds_float : goal.returns-then-holds_float
-returns-then-holds_float c =
+returns-then-holds_float g c =
     let float : has_float (view c.args.value.now) ≡ true = sym c.holds_float.ensures ∙ c.if-holds_float.true in
     rw (float_refused (view c.args.value.now) float, float) refl
