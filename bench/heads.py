@@ -194,11 +194,11 @@ def authenticator_data(item):
 def row_of(key, table, numbered):
     """The row that a key names, and the heads that finding it counts."""
     if key.major == 0:
-        named = [it for it in table if it[0] == key.argument and numbered]
-        return named[0] if named else None, 2
+        named = [it for it in table if it[0] == key.argument]
+        return named[0] if named else None, 1 if numbered and key.argument < 256 else 3
     if key.major not in (2, 3):
         return None, 3
-    missed = {3: 1, 2: 2}[key.major]
+    missed = {3: 0, 2: 1}[key.major] + numbered
     compared = 0 if key.chunks is None else looks(key, [it[1].encode() for it in table])
     named = [it for it in table if it[1].encode() == key.content]
     return named[0] if named else None, missed + key.heads + compared
@@ -213,7 +213,7 @@ def record(table, numbered=False):
             heads += item.argument is None
             row, found = row_of(key, table, numbered)
             heads += found
-            if key.major not in (0, 2, 3):
+            if not (key.major in (2, 3) or numbered and key.major == 0 and key.argument < 256):
                 return "BadKey", heads, nodes
             if row is None:
                 heads += value.heads

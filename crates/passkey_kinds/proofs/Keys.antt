@@ -1,5 +1,9 @@
 -- The rows that names and map keys name.
-use Rattle.passkey_kinds.proofs.Common.{nat_tests, find, bytes_eq, ◌≡◌, ◌∙◌, ◌<◌, ◌==◌, ℕ, pos, arith, zero, suc, Bool, true, false, ◌+◌, List, [], ◌∷◌, ◌++◌, length, map, take, drop, set, get_or, Bor, add-one, Option, Some, None, cond, nat_lt, slice_get, refl, ap, cases_lt, eqb-true, length-map, map_push, take_more_set, Item, scalar_in, naming_of, IfSome, entry_of, Row, Entry, row, wrong, row_or_unknown, names, position, position_or_len, take-suc, slice_get_past, major_of, row_at, row_named}
+use Rattle.passkey_kinds.proofs.Common.{named_as, IsEncodedAt, Walk, LooksOnce, Spends, Further, Onward, sym, nat_tests, find, bytes_eq, ◌≡◌, ◌∙◌, ◌<◌, ◌==◌, ℕ, pos, arith, zero, suc, Bool, true, false, ◌+◌, List, [], ◌∷◌, ◌++◌, length, map, take, drop, set, get_or, Bor, add-one, Option, Some, None, cond, nat_lt, slice_get, refl, ap, cases_lt, eqb-true, length-map, map_push, take_more_set, Item, scalar_in, naming_of, IfSome, entry_of, Row, Entry, row, wrong, row_or_unknown, names, position, position_or_len, take-suc, slice_get_past, major_of, row_at, row_named}
+use Rattle.std.specs.Prelude.{IfNone}
+use Rattle.passkey_kinds.specs.RecordReading.{ReadsKey, FindsRow, LooksTwice}
+use Rattle.passkey_kinds.proofs.Lent.{missed_spends}
+use Rattle.passkey_kinds.proofs.Cursor.{further_from, stands_back}
 use Rattle.passkey_kinds.specs.declared.rows.Named.{Named}
 use Rattle.passkey_kinds.specs.declared.rows.Named.TheVariants as named
 use Rattle.passkey_cbor.specs.Item as item
@@ -48,22 +52,7 @@ one_more_name rows names i name d less within is before =
 
 -- ---- what a map key names that isn't a string
 
--- an integer below 0, and what is neither an integer nor a string, names nothing
-pub names_nothing : (is_numbered : Bool) (es : List Entry) (i : Item) (is : Bool) → is ≡ (major_of i == 0)
-    → is ≡ false → ((s : List ℕ) → i ≡ item.text_string s → ⊥) → ((s : List ℕ) → i ≡ item.byte_string s → ⊥)
-    → wrong ≡ names is_numbered es i
-names_nothing b es (item.byte_string s) is says other t h = absurd (h s refl)
-names_nothing b es (item.text_string s) is says other t h = absurd (t s refl)
-names_nothing true es (item.number (pos n)) is says other t h = absurd cc
-names_nothing _ es _ is says other t h = grind arith
-
--- an integer names what it names in memory
-pub names_scalar : (is_numbered : Bool) (es : List Entry) (i : Item) → (major_of i == 0) ≡ true
-    → names is_numbered es (scalar_in i) ≡ names is_numbered es i
-names_scalar b es (item.number z) is = refl
-names_scalar b es _ is = absurd cc
-
-not_wrong : (n : Named) → naming_of (Some n) ≡ wrong → ⊥
+pub not_wrong : (n : Named) → naming_of (Some n) ≡ wrong → ⊥
 not_wrong (named.Row n) e = cc
 not_wrong named.Unknown e = cc
 
@@ -72,3 +61,52 @@ pub key_ends : (b : Bool) (es : List Entry) (x : Item) (found : Option Named) {Q
     → naming_of found ≡ names b es x → ((x ≡ item.null → ⊥) → Q) → IfSome found (λ n. Q)
 key_ends b es x None e ends = tt
 key_ends b es x (Some n) e ends = ends (λ is. not_wrong n (e ∙ ap (names b es) is))
+
+-- what a scalar names, the item names that it is
+pub names_found : (b : Bool) (es : List Entry) (i : Item) (n : Named) → named_as n ≡ names b es (scalar_in i)
+    → named_as n ≡ names b es i
+names_found b es (item.number z) n e = e
+names_found b es _ n e = absurd (not_wrong n e)
+
+-- a key that is no string names what its scalar names
+pub names_other : (b : Bool) (es : List Entry) (i : Item) → ((s : List ℕ) → i ≡ item.text_string s → ⊥)
+    → ((s : List ℕ) → i ≡ item.byte_string s → ⊥) → names b es i ≡ names b es (scalar_in i)
+names_other b es (item.text_string s) t h = absurd (t s refl)
+names_other b es (item.byte_string s) t h = absurd (h s refl)
+names_other b es _ t h = refl
+
+-- ---- one way to name a row after another
+
+-- after one head that isn't a row's number
+pub number_then : (es : List Entry) (key : Item) (to : ℕ) (a b d : Walk) (found : Option Named) → LooksOnce a b
+    → a.place < to → names true es (scalar_in key) ≡ wrong → FindsRow (names true es key) 2 to b d found
+    → IfNone found (names true es key ≡ names true es (scalar_in key)) → IfNone found (LooksTwice b d)
+    → ReadsKey (names true es key) to a d found
+number_then es key to a b d (Some n) once less none r other twice =
+    record { is = r.is; spends = missed_spends once less r.spends; ends = r.ends }
+number_then es key to a b d None once less none r other twice = record {
+  is = sym (other ∙ none);
+  spends = record {
+    within = omega (arith, once.place, twice.place, less);
+    heads = omega (arith, once.heads, twice.heads, less);
+    nodes = omega (arith, once.nodes, twice.nodes);
+  };
+  ends = tt;
+}
+
+-- after two heads that aren't a string's
+pub stands_twice : (i : Item) {a b : Walk} {to : ℕ} → LooksTwice a b → IsEncodedAt i a.bytes a.place to
+    → IsEncodedAt i b.bytes b.place to
+stands_twice i {b = b} p l = stands_back i b p.bytes p.place l
+
+pub twice_spends : (to : ℕ) (a b d : Walk) → LooksTwice a b → a.place < to → Spends 1 0 to b d → Spends 3 0 to a d
+twice_spends to a b d twice less s = record {
+  within = s.within;
+  heads = omega (arith, twice.heads, twice.place, s.heads, less);
+  nodes = omega (arith, twice.nodes, s.nodes);
+}
+
+pub further_some : (a b d : Walk) (found : Option Named) → Onward a b → b.place ≡ a.place
+    → IfSome found (λ n. Further b d) → IfSome found (λ n. Further a d)
+further_some a b d None on at h = tt
+further_some a b d (Some n) on at h = further_from a b d on at h

@@ -1,9 +1,9 @@
 -- Decoding a record over a cursor: its cost and its steps.
 use Rattle.passkey_kinds.specs.Base.{Item, members, Walk}
-use Rattle.std.specs.Prelude.{ℕ, max, ◌==◌, Bool, true, false, ◌&&◌, if◌then◌else◌, List, [], ◌∷◌, ◌≡◌, Option, Some, None, Result, Ok, Err, IfSome, OnOk, slice_get}
+use Rattle.std.specs.Prelude.{ℕ, ◌+◌, ◌≤◌, max, ◌==◌, Bool, true, false, ◌&&◌, if◌then◌else◌, List, [], ◌∷◌, ◌≡◌, Option, Some, None, Result, Ok, Err, IfSome, OnOk, slice_get}
 use Rattle.passkey_kinds.specs.Kind.{Keeping, nothing, counted, kept_of, kept_sum, Typed, MayGrow}
 use Rattle.passkey_kinds.specs.Reader.{Spends, SpendsLess}
-use Rattle.passkey_kinds.specs.Record.{takes_at, MayGrowIn, MayGrowAt, Reads, naming_of, Fields, Member, table_of, record_kind, rows_of, put_at, read_members, read_from, reached, Progress, one_more, MayGrowBy, read_item, Naming, row, unknown, wrong, named, Members, accepts_at, Entry, row_or_unknown}
+use Rattle.passkey_kinds.specs.Record.{takes_at, MayGrowIn, MayGrowAt, Reads, naming_of, named_as, Fields, Member, table_of, record_kind, rows_of, put_at, read_members, read_from, reached, Progress, one_more, MayGrowBy, read_item, Naming, row, unknown, wrong, named, Members, accepts_at, Entry, row_or_unknown}
 use Rattle.passkey_kinds.specs.Typed.{growing}
 use Rattle.passkey_kinds.specs.declared.fault.Fault.{Fault}
 use Rattle.passkey_kinds.specs.declared.fault.Refusal.{Refusal}
@@ -94,6 +94,24 @@ pub record ReadsKey (wanted : Naming) (to : ℕ) (old new : Walk) (found : Optio
   pub is : naming_of found ≡ wanted
   pub spends : Spends 3 0 to old new
   pub ends : IfSome found (λ key. new.place ≡ to)
+
+-- Decoding a map key by one of the ways to name a row, at this cost; nothing is said if it names none
+-- in this way.
+pub record FoundRow (wanted : Naming) (cost to : ℕ) (old new : Walk) (found : Named) : Type 0 where
+  pub is : named_as found ≡ wanted
+  pub spends : Spends cost 0 to old new
+  pub ends : new.place ≡ to
+
+abbrev pub FindsRow : Naming → ℕ → ℕ → Walk → Walk → Option Named → Type 0
+FindsRow wanted cost to old new (Some found) = FoundRow wanted cost to old new found
+FindsRow wanted cost to old new None = Unit {0}
+
+-- The cursor doesn't move, and counts at most two heads.
+pub record LooksTwice (old new : Walk) : Type 0 where
+  pub place : new.place ≡ old.place
+  pub heads : new.heads ≤ old.heads + 2
+  pub nodes : new.nodes ≡ old.nodes
+  pub bytes : new.bytes ≡ old.bytes
 
 -- Decoding a record from a data item that ends at `to`.
 pub record DecodesRecord {A P : Type 0} (view : A → P) (t : Fields P) (i : Item) (to : ℕ) (old new : Walk)

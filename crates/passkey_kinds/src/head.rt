@@ -2,7 +2,6 @@
 ghost use Rattle.std.specs.Prelude.{◌≡◌, ℕ, ◌+◌, ◌≤◌, ◌==◌, true, false, IfSome};
 ghost use Rattle.std.specs.Option.{option_and_then};
 ghost use Rattle.passkey_kinds.specs.Words.{Item, null, IsEncodedAt, LooksOnce, Onward, Further, Spends, max_depth, null_in, scalar_of, head_array, head_map, ReadsScalar, elements_in, members_in, OpensAt};
-ghost use Rattle.passkey_cbor.specs.Initial.{major_of};
 ghost use Rattle.passkey_cbor.specs.Inside.{Within, PairWithin};
 
 use passkey_cbor::{Cursor, Head};
@@ -22,19 +21,6 @@ fn map_len(head: Option<Head>) -> Option<Option<u64>>
     match head {
         Some(Head::Map(left)) => Some(left),
         _ => None,
-    }
-}
-
-/// Returns whether the next byte has this major type. The cursor doesn't move, and counts one head.
-pub(crate) fn begins(cursor: &mut Cursor<'_>, major: u8) -> bool
-    ensures says { (i : Item) (to : ℕ) → IsEncodedAt i cursor.old.bytes cursor.old.place to
-        → result ≡ (major_of i == major) }
-    ensures looks { LooksOnce cursor.old cursor.new }
-    ensures onward { Onward cursor.old cursor.new }
-{
-    match cursor.initial_byte() {
-        Some(initial) => initial / 32 == major,
-        None => false,
     }
 }
 

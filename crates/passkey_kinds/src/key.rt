@@ -1,8 +1,8 @@
 //! Map keys at a cursor, and the rows that they name.
-ghost use Rattle.std.specs.Prelude.{◌≡◌, ◌≤◌, ℕ, List, Option, length, map, take, true, false, IfSome};
-ghost use Rattle.passkey_kinds.specs.Words.{Item, IsRegion, Tells, IsEncodedAt, Onward, Further, LooksAtMost, naming_of, named_as, entry_of, names, row_named, ReadsKey, row_at, scalar_of};
+ghost use Rattle.std.specs.Prelude.{◌≡◌, ◌≤◌, ℕ, Bool, List, Option, length, map, take, true, false, IfNone, IfSome};
+ghost use Rattle.passkey_kinds.specs.Words.{Item, LooksOnce, LooksTwice, FindsRow, scalar_in, wrong, IsRegion, Tells, IsEncodedAt, Onward, Further, LooksAtMost, naming_of, named_as, entry_of, names, row_named, ReadsKey, row_at, scalar_of};
 
-use crate::head::{begins, read_scalar};
+use crate::head::read_scalar;
 use crate::rows::{Named, Row, of_number, with_name};
 use passkey_cbor::{BytesToken, Cursor, Head, TextToken};
 
@@ -95,6 +95,80 @@ fn of_head(is_numbered: bool, rows: &[Row], head: Option<Head>) -> Option<Named>
     }
 }
 
+/// Decodes the map key at the cursor if it is a number that fits a row's, moves past it and returns
+/// what it names. Returns `None` for any other key; then the cursor doesn't move.
+fn read_number(rows: &[Row], cursor: &mut Cursor<'_>) -> Option<Named>
+    ensures finds { (key : Item) (to : ℕ) → IsEncodedAt key cursor.old.bytes cursor.old.place to
+        → FindsRow (names true (map entry_of rows.now) key) 1 to cursor.old cursor.new result }
+    ensures other { (key : Item) (to : ℕ) → IsEncodedAt key cursor.old.bytes cursor.old.place to
+        → IfNone result (names true (map entry_of rows.now) (scalar_in key) ≡ wrong) }
+    ensures misses { IfNone result (LooksOnce cursor.old cursor.new) }
+    ensures onward { Onward cursor.old cursor.new }
+    ensures further { IfSome result (λ _. Further cursor.old cursor.new) }
+{
+    let start = cursor.place();
+    match of_head(true, rows, cursor.head()) {
+        Some(key) => Some(key),
+        None => {
+            cursor.go_back(start);
+            None
+        }
+    }
+}
+
+/// Decodes the map key at the cursor if it is a text string or a byte string, moves past it and
+/// returns what it names. Returns `None` for any other key; then the cursor doesn't move.
+fn read_name(rows: &[Row], cursor: &mut Cursor<'_>) -> Option<Named>
+    requires { length rows.now ≤ 32 }
+    ensures finds { (is_numbered : Bool) (key : Item) (to : ℕ) → IsEncodedAt key cursor.old.bytes cursor.old.place to
+        → FindsRow (names is_numbered (map entry_of rows.now) key) 2 to cursor.old cursor.new result }
+    ensures other { (is_numbered : Bool) (key : Item) (to : ℕ) → IsEncodedAt key cursor.old.bytes cursor.old.place to
+        → IfNone result (names is_numbered (map entry_of rows.now) key
+        ≡ names is_numbered (map entry_of rows.now) (scalar_in key)) }
+    ensures misses { (key : Item) (to : ℕ) → IsEncodedAt key cursor.old.bytes cursor.old.place to
+        → IfNone result (LooksTwice cursor.old cursor.new) }
+    ensures stays { IfNone result (cursor.new.place ≡ cursor.old.place) }
+    ensures onward { Onward cursor.old cursor.new }
+    ensures further { IfSome result (λ _. Further cursor.old cursor.new) }
+{
+    match cursor.text() {
+        Some(token) => Some(with_text(rows, &token, cursor)),
+        None => match cursor.bytes() {
+            Some(token) => Some(with_bytes(rows, &token, cursor)),
+            None => None,
+        },
+    }
+}
+
+/// Decodes the map key at the cursor, moves past it and returns what it names in a table with
+/// numbers. Returns `None` if a record can't have this key.
+fn read_numbered(rows: &[Row], cursor: &mut Cursor<'_>) -> Option<Named>
+    requires { length rows.now ≤ 32 }
+    ensures names { (key : Item) (to : ℕ) → IsEncodedAt key cursor.old.bytes cursor.old.place to
+        → ReadsKey (names true (map entry_of rows.now) key) to cursor.old cursor.new result }
+    ensures onward { Onward cursor.old cursor.new }
+    ensures further { IfSome result (λ _. Further cursor.old cursor.new) }
+{
+    match read_number(rows, cursor) {
+        Some(key) => Some(key),
+        None => read_name(rows, cursor),
+    }
+}
+
+/// Does the same for a table without numbers, where a number names nothing.
+fn read_named(rows: &[Row], cursor: &mut Cursor<'_>) -> Option<Named>
+    requires { length rows.now ≤ 32 }
+    ensures names { (key : Item) (to : ℕ) → IsEncodedAt key cursor.old.bytes cursor.old.place to
+        → ReadsKey (names false (map entry_of rows.now) key) to cursor.old cursor.new result }
+    ensures onward { Onward cursor.old cursor.new }
+    ensures further { IfSome result (λ _. Further cursor.old cursor.new) }
+{
+    match read_name(rows, cursor) {
+        Some(key) => Some(key),
+        None => of_head(false, rows, read_scalar(cursor)),
+    }
+}
+
 /// Decodes the map key at the cursor, moves past it and returns what it names. Returns `None` if a
 /// record can't have this key.
 pub(crate) fn read_key(is_numbered: bool, rows: &[Row], cursor: &mut Cursor<'_>) -> Option<Named>
@@ -104,14 +178,9 @@ pub(crate) fn read_key(is_numbered: bool, rows: &[Row], cursor: &mut Cursor<'_>)
     ensures onward { Onward cursor.old cursor.new }
     ensures further { IfSome result (λ _. Further cursor.old cursor.new) }
 {
-    if begins(cursor, 0) {
-        return of_head(is_numbered, rows, read_scalar(cursor));
-    }
-    match cursor.text() {
-        Some(token) => Some(with_text(rows, &token, cursor)),
-        None => match cursor.bytes() {
-            Some(token) => Some(with_bytes(rows, &token, cursor)),
-            None => None,
-        },
+    if is_numbered {
+        read_numbered(rows, cursor)
+    } else {
+        read_named(rows, cursor)
     }
 }
