@@ -240,5 +240,6 @@ fn laws_at_concrete_types() {
     laws::same_answers_read_alike::<PublicKeyCredentialDescriptor>();
     laws::reading_knows_maps::<Request>();
     laws::unknown_member_changes_the_length_alone::<Request>();
+    laws::written_keys_ascend::<PublicKeyCredentialDescriptor>();
     Request::decoded_is_coherent();
 }

@@ -1,6 +1,6 @@
 -- Records of extensions: they can be decoded again, have few levels, and their keys ascend.
 use Rattle.passkey_kinds.proofs.Common.{Item, ReadIsCoherent, record_kind, places_of}
-use Rattle.passkey_kinds.proofs.Steps.{Kind, Around, OnlyAt, item_around, around, required_keeps, optional_keeps, tolerated_keeps, decoded_few, canonical_around, number_tree, ℕ, suc, ◌≤◌, arith, Option, Some, None, refl, depth, shortest_head, EachFits, IsReadBack, IsLawful, lawful, raised, truth_back, or_null_back, or_null_same, optional_place, map_back, map_values_same, IsPlain, plainly, null_plain, map_plain, numbers_plain, puts_value, puts_default, kind_back, ◌▸◌, no_more, numbers_back, result_ok, ◌≡◌, Ok, ap, byte_back, bytes_back, kept_back, anything, tolerated_place, rows_back, ◌<◌, codes, option_map, text_string, zero, nat_lt, nat_le, min, ◌^◌, ◌-◌, OnlyDeep, only_deep, AtMostOneLeadingItem, WrittenIsLeadingItem, WrittenIsCanonical, KeysAscend, ascend, keys_ascend}
+use Rattle.passkey_kinds.proofs.Steps.{Kind, Around, OnlyAt, item_around, around, required_keeps, optional_keeps, tolerated_keeps, decoded_few, canonical_around, number_tree, ℕ, suc, ◌≤◌, arith, Option, Some, None, refl, depth, shortest_head, EachFits, IsReadBack, IsLawful, lawful, raised, truth_back, or_null_back, or_null_same, optional_place, map_back, map_values_same, IsPlain, plainly, null_plain, map_plain, numbers_plain, puts_value, puts_default, kind_back, ◌▸◌, no_more, numbers_back, result_ok, ◌≡◌, Ok, ap, byte_back, bytes_back, kept_back, anything, tolerated_place, rows_back, ◌<◌, codes, option_map, text_string, zero, nat_lt, nat_le, min, ◌^◌, ◌-◌, OnlyDeep, only_deep, AtMostOneLeadingItem, WrittenIsLeadingItem, WrittenIsCanonical, KeysAscend, keys_ascend}
 use Rattle.std.proofs.Common.{leb-true}
 use Rattle.passkey_extensions.specs.GetExtensions.{get_extensions_parts, get_extensions_tree, GetExtensionsFit, get_extensions_fields, get_extensions_members, get_extensions_kept}
 use Rattle.passkey_extensions.specs.HmacInput.{HmacInputParts, read_hmac_input, hmac_input_tree, HmacInputFits, hmac_input_fields, hmac_input_members, is_hmac_input_coherent, hmac_input_kept}
