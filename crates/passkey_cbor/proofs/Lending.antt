@@ -108,7 +108,8 @@ region_sized is_text len a b region size r sized s c =
 
 -- a string with its head
 pub string_read : (is_text : Bool) (len : Option ℕ) (a b c : Walk) (h : Head) (region : List ℕ) → IsInside a
-    → IsBytes (ahead a) → PassesHead a b h → a.place < b.place → string_len is_text h ≡ Some len → RegionRead is_text len b c region
+    → IsBytes (ahead a) → PassesHead a b h → a.place < b.place → string_len is_text h ≡ Some len
+    → RegionRead is_text len b c region
     → PassesString is_text a c (record { len = len; bytes = region })
 string_read is_text len a b c h region inside fits p further is r =
     let encoded : IsEncodingOfHead (string_head is_text len) p.text =
@@ -131,7 +132,8 @@ string_read is_text len a b c h region inside fits p further is r =
     let same : length c.bytes ≡ length a.bytes = ap length (r.passed.same ∙ p.bytes) in
     let place : c.place ≡ a.place + (length p.text + length region) =
     omega (arith, size, same, inside, r.passed.within, length-drop a.place a.bytes, length-drop c.place c.bytes) in
-    let content : content_len h ≡ unwrap_or len 0 = ap content_len (string_len-is is_text h len is) ∙ string_content is_text len in
+    let content : content_len h ≡ unwrap_or len 0 =
+        ap content_len (string_len-is is_text h len is) ∙ string_content is_text len in
     let spans : Spans 0 a c = spans_headed a b c h (ap head_at p.parts ∙ head_again h p.text (ahead b) p.encoded) p.heads
     (spans_as (content_len h) (unwrap_or len 0) b c content r.spans) in
     let heads = heads_passed (length p.text + length region) a c fits (omega (arith, size)) spans in

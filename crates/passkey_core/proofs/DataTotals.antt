@@ -111,7 +111,8 @@ faulted P Q memory seen answers cose.OutOfRangeIntegerValue r p f = f r p
 faulted P Q memory seen answers cose.DuplicateMapKey r p f = f r p
 faulted P Q memory seen answers cose.UnexpectedItem r p f = f r p
 
-pub all_attested : {A : Type 0} (memory : Type 0) (seen : A × Bor (List ℕ) → Option AttestedParts × List ℕ) (bytes : List ℕ) (fixed : DataParts) (rest : List ℕ) (is_attested : Bool) (e : CoseError) (old new : Count)
+pub all_attested : {A : Type 0} (memory : Type 0) (seen : A × Bor (List ℕ) → Option AttestedParts × List ℕ)
+    (bytes : List ℕ) (fixed : DataParts) (rest : List ℕ) (is_attested : Bool) (e : CoseError) (old new : Count)
     → IsBytes bytes → Ok (fixed, rest) ≡ fixed_at bytes → is_attested ≡ has_flag attested_flag fixed.flags
     → Returns memory seen (ReadsWhere is_attested ReadsAttested rest) (Err e)
     → Counts {A = A} (λ each. count_where is_attested (count_key each) rest) rest old new (Err e)

@@ -1,6 +1,6 @@
 use super::inputs::EVERY_KIND;
 use crate::run::run;
-use passkey_run::{RunFault, read_within};
+use passkey_run::{RunFault, read_all, read_within};
 use std::io;
 use std::io::{ErrorKind, Read, Write};
 use std::process::Abort;
@@ -137,6 +137,31 @@ fn too_many_reads_fail(rt: HostRuntime) {
         panic!(rt; "the third read is the last")
     };
     assert_eq!(rt; input.as_slice(), b"f7".as_slice());
+}
+
+// Returns this many spaces, one at a time.
+#[derive(Drop)]
+struct Spaces(u32);
+
+impl Read for Spaces {
+    fn read(&mut self, buffer: &mut [u8]) -> io::Result<usize> {
+        match (self.0.checked_sub(1), buffer.first_mut()) {
+            (Some(left), Some(place)) => {
+                *place = b' ';
+                self.0 = left;
+                Ok(1)
+            }
+            _ => Ok(0),
+        }
+    }
+}
+
+#[test]
+fn an_input_may_take_many_reads(rt: HostRuntime) {
+    let Ok(input) = read_all(rt.alloc(), &mut Spaces(70_000)) else {
+        panic!(rt; "70,001 reads are allowed")
+    };
+    assert_eq!(rt; input.len(), 70_000);
 }
 
 // The output has three bytes. No write comes after one that takes no byte.

@@ -49,7 +49,8 @@ skip_behind-returns-in-Float t c =
 pub skip_behind-returns-in-Bytes : goal.skip_behind-returns-in-Bytes
 skip_behind-returns-in-Bytes t c =
     headed_skipped c.args.head (head.Bytes c.in-Bytes.len) (string_at false c.in-Bytes.len (ahead c.args.self.now)) _
-    (string_item false) c.args.self.now c.pass_string.new.self c.is_some.result c.in-Bytes.is (by_string c.args.levels false c.in-Bytes.len c.args.head
+    (string_item false) c.args.self.now c.pass_string.new.self c.is_some.result c.in-Bytes.is
+    (by_string c.args.levels false c.in-Bytes.len c.args.head
     (ahead c.args.self.now) c.in-Bytes.is) (rw c.is_some.ensures c.pass_string.ensures.skips)
 
 pub skip_behind-returns-in-Text : goal.skip_behind-returns-in-Text

@@ -179,7 +179,8 @@ returns-in_err-attested-clause-all c =
     search rules in
     let fits : IsBytes c.args.bytes.now = search rules in
     rw told (all_attested ((c.contains-has_attested.result ≡ true) × AttestedGrows c.in_ok-fixed.rest.now)
-    (λ (r : Option AttestedCredentialData × Bor (List ℕ)). (option_map attested_parts r.0, r.1.now)) c.args.bytes.now (data_parts c.in_ok-fixed.fixed) c.in_ok-fixed.rest.now
+    (λ (r : Option AttestedCredentialData × Bor (List ℕ)). (option_map attested_parts r.0, r.1.now)) c.args.bytes.now
+    (data_parts c.in_ok-fixed.fixed) c.in_ok-fixed.rest.now
     c.contains-has_attested.result c.in_err-attested.field-0.0 c.args.count.now c.read_attested_where.new.count
     fits c.in_ok-fixed.ensures attested c.in_err-attested.ensures.value
     c.in_err-attested.ensures.counts)
