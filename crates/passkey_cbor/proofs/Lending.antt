@@ -133,7 +133,7 @@ string_read is_text len a b c h region inside fits p further is r =
     let place : c.place ≡ a.place + (length p.text + length region) =
     omega (arith, size, same, inside, r.passed.within, length-drop a.place a.bytes, length-drop c.place c.bytes) in
     let content : content_len h ≡ unwrap_or len 0 =
-        ap content_len (string_len-is is_text h len is) ∙ string_content is_text len in
+    ap content_len (string_len-is is_text h len is) ∙ string_content is_text len in
     let spans : Spans 0 a c = spans_headed a b c h (ap head_at p.parts ∙ head_again h p.text (ahead b) p.encoded) p.heads
     (spans_as (content_len h) (unwrap_or len 0) b c content r.spans) in
     let heads = heads_passed (length p.text + length region) a c fits (omega (arith, size)) spans in
