@@ -1,4 +1,4 @@
-"""hostile.py PROGRAM prints the heads and nodes that messages made to be dear cost, as `passkey_bench count-..` counts
+"""hostile.py PROGRAM prints the heads and nodes that hostile messages cost, as `passkey_bench count-..` counts
 them, beside what is proved: at most 16 heads for each byte, or one for each byte and one more if no item is there."""
 import subprocess
 import sys

@@ -22,7 +22,7 @@ def names(n):
 
 
 # What it is, the calls, the number of parts of the smaller input, the input of so many parts, and the limit. Where much is kept,
-# the smaller input is larger, since malloc is dearer once more is freed than it keeps at hand.
+# the smaller input is larger, since malloc costs more once more is freed than it keeps at hand.
 SHAPES = [
     ("an array of numbers", ["skip", "from_slice"], 8000, lambda n: array([b"\x07"] * n), LINEAR),
     ("an array of indefinite length", ["skip", "from_slice"], 8000, lambda n: b"\x9f" + b"\x07" * n + b"\xff", LINEAR),
