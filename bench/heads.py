@@ -29,10 +29,6 @@ class Item:
     is_break: bool = False
 
     @property
-    def is_null(self):
-        return self.major == 7 and self.argument in (22, 23)
-
-    @property
     def again(self):
         """The heads of looking at a string once more: none in one piece, else its chunks and the break."""
         return 0 if self.chunks is None else len(self.chunks) + 1

@@ -25,8 +25,7 @@ fn heads_are_decoded(rt: HostRuntime) {
     ];
     for (bytes, head, place) in cases {
         let mut cursor = Cursor::new(bytes);
-        let initial = cursor.initial_byte();
-        check(&rt, initial == bytes.first().copied(), "initial", bytes);
+        check(&rt, !cursor.null(), "null", bytes);
         check(&rt, cursor.head() == head, "head", bytes);
         check(&rt, cursor.place() == place, "place", bytes);
         check(
@@ -35,6 +34,18 @@ fn heads_are_decoded(rt: HostRuntime) {
             "count",
             bytes,
         );
+    }
+}
+
+// Undefined is decoded as null (RFC 8949, section 3.3).
+#[test]
+fn null_is_passed(rt: HostRuntime) {
+    for bytes in [&[0xf6, 0x00], &[0xf7, 0x00]] {
+        let mut cursor = Cursor::new(bytes);
+        check(&rt, cursor.null(), "null", bytes);
+        check(&rt, cursor.place() == 1, "place", bytes);
+        check(&rt, !cursor.null(), "no null", bytes);
+        check(&rt, cursor.count().heads == 2, "heads", bytes);
     }
 }
 

@@ -25,7 +25,7 @@ pub mod Valuing
 pub mod Shrinking
 pub mod Counted
 pub mod EncodedFrom
-mod Initial
+mod Null
 pub mod More
 pub mod Lending
 pub mod Naming

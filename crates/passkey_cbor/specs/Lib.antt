@@ -3,7 +3,6 @@ pub mod FloatParts
 pub mod Ranges
 pub mod Made
 pub mod Item
-pub mod Initial
 pub mod Depth
 pub mod Nodes
 pub mod Languages
@@ -34,6 +33,7 @@ pub mod Leaf
 pub mod Building
 pub mod Valued
 pub mod EncodedAt
+pub mod Null
 pub mod Lent
 pub mod Names
 pub mod Pieces

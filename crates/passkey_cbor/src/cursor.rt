@@ -1,10 +1,9 @@
 //! A cursor that decodes borrowed bytes head by head.
 ghost use Rattle.std.specs.Prelude.{◌≡◌, ℕ, ◌+◌, ◌<◌, ◌≤◌, drop, length, min, Some as There, None, option_map, slice_get, true, IfNone, IfSome};
 ghost use Rattle.std.specs.Str.{IsAscii};
-ghost use Rattle.passkey_cbor.specs.Walk.{ahead, raised, IsInside, IsPlaced, LooksOnce, Went};
+ghost use Rattle.passkey_cbor.specs.Walk.{ahead, raised, IsInside, IsPlaced, Went};
 ghost use Rattle.passkey_cbor.specs.Found.{FindsHead};
 ghost use Rattle.passkey_cbor.specs.Item.{Item};
-ghost use Rattle.passkey_cbor.specs.Initial.{BeginsWith};
 ghost use Rattle.passkey_cbor.specs.EncodedAt.{IsEncodedAt, Opens, WalksOn};
 ghost use Rattle.passkey_cbor.specs.HeadReading.{head_at};
 ghost use Rattle.passkey_cbor.specs.Steps.{ReadsHead, ReadsStep, ReadsPiece};
@@ -67,42 +66,6 @@ impl<'a> Cursor<'a> {
         ensures { self.new ≡ record self.old { place = to } }
     {
         self.place = to;
-    }
-
-    /// Returns the next byte, with which the next head begins, or `None` at the end of the bytes.
-    /// The cursor doesn't move. Counts one head in both cases. (RFC 8949, section 3.)
-    pub fn initial_byte(&mut self) -> Option<u8>
-        ensures next { result ≡ slice_get self.old.bytes self.old.place }
-
-        // If a data item is encoded at the cursor, this is its initial byte.
-        ensures begins { (x : Item) (to : ℕ) → IsEncodedAt x self.old.bytes self.old.place to
-            → BeginsWith x result }
-
-        ensures looks { LooksOnce self.old self.new }
-
-        // The counts never decrease.
-        ensures went { Went self.old self.new }
-    {
-        let next = self.byte_ahead();
-        self.add_heads(1);
-        next
-    }
-
-    // The next byte.
-    #[inline(always)]
-    fn byte_ahead(&self) -> Option<u8>
-        ensures next { result ≡ slice_get self.now.bytes self.now.place }
-        ensures begins { (x : Item) (to : ℕ) → IsEncodedAt x self.now.bytes self.now.place to
-            → BeginsWith x result }
-        ensures placed { IsPlaced self.now.bytes self.now.place }
-    {
-        let bytes = self.bytes;
-        let place = self.place;
-        if place < bytes.len() {
-            Some(bytes[place])
-        } else {
-            None
-        }
     }
 
     /// Returns the numbers of heads decoded and of data items built so far.

@@ -1,10 +1,11 @@
 //! Skipping data items.
 ghost use Rattle.std.specs.Prelude.{ℕ, ◌≤◌, None, Some as There, is_some, unwrap_or, IfSome, MatchOption};
-ghost use Rattle.passkey_cbor.specs.Walk.{ahead, raised, IsInside, Went};
+ghost use Rattle.passkey_cbor.specs.Walk.{ahead, raised, IsInside, IsPlaced, Went};
 ghost use Rattle.passkey_cbor.specs.HeadCount.{content_len};
 ghost use Rattle.passkey_cbor.specs.Reading.{start, string_at, item_within, list_at};
 ghost use Rattle.passkey_cbor.specs.Steps.{Skips, IsLengthOf, entry_by};
 ghost use Rattle.passkey_cbor.specs.Skipped.{SkipsLeadingItem};
+ghost use Rattle.passkey_cbor.specs.Null.{BeginsNull, PassesNull, PassesNullAt};
 ghost use Rattle.passkey_cbor.specs.EncodedAt.{IsEncodedAt, Passes};
 ghost use Rattle.passkey_cbor.specs.Item.{Item};
 ghost use Rattle.passkey_cbor.specs.LeadingItem.{IsLeadingItem, HasNoLeadingItem};
@@ -41,6 +42,37 @@ impl<'a> Cursor<'a> {
             self.go_back(place);
         }
         found
+    }
+
+    /// Passes null, or undefined, which is decoded as null, and returns true. Returns false, and the
+    /// cursor doesn't move, if anything else follows. Counts one head in both cases. (RFC 8949,
+    /// section 3.3.)
+    pub fn null(&mut self) -> bool
+        ensures passes { PassesNull self.old self.new result }
+
+        // If a data item is encoded at the cursor, the result says whether it is null.
+        ensures at { (x : Item) (to : ℕ) → IsEncodedAt x self.old.bytes self.old.place to
+            → PassesNullAt x to self.old self.new result }
+
+        // The counts never decrease.
+        ensures went { Went self.old self.new }
+    {
+        if self.begins_null() {
+            return self.skip();
+        }
+        self.add_heads(1);
+        false
+    }
+
+    // Whether the next byte is that of null or of undefined.
+    #[inline(always)]
+    fn begins_null(&self) -> bool
+        ensures is { BeginsNull (ahead self.now) result }
+        ensures placed { IsPlaced self.now.bytes self.now.place }
+    {
+        let bytes = self.bytes;
+        let place = self.place;
+        place < bytes.len() && (bytes[place] == 0xf6 || bytes[place] == 0xf7)
     }
 
     /// Skips one data item of at most `levels` levels. Returns false, and stops somewhere, if none

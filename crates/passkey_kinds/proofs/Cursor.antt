@@ -1,5 +1,5 @@
 -- How a cursor moves, what it spends, and values of one head or of one string.
-use Rattle.passkey_kinds.proofs.Common.{SkipsLeadingItem, Bool, CountsHeads, content_len, counts_then, counts_stay, counts_skip, counts_string, counts_value, counts_head, only_one, slice_get, drop-cons, get_or_from_slice_get, length-drop, drop, suc, ◌∷◌, ◌⊎◌, inl, inr, lies_size, head_again, follows_item, low_simple, head_long, encoded_long, IsEncodedAt, Opens, FindsHead, IsEncodingOfHead, PairWithin, Within, Inside, Item, byte_string, boolean, null, text_string, number, max_depth, IsLeadingItem, Region, PassesString, item_within, PassesLeadingItem, MakesLeadingItem, Walk, ahead, Went, Head, members-pairs_of, elements-items_of, aaguid, bytes, below, kept, truth, Kind, optional, text, one_named, FailsAs, size, AnswersAs, MayGrow, scalar_in, null_in, ReadsScalar, head_scalar, head_array, head_map, elements_in, members_in, OpensAt, Further, Decodes, Spends, Onward, named, Refused, OutOfMemory, Refusal, ◌≡◌, ◌∙◌, ◌<◌, ◌+◌, ℕ, arith, true, false, List, [], ◌++◌, length, Option, Some, None, option_map, refl, sym, ap, rules, ◌≤◌, Result, subst, ◌-◌, take, Ok, Err, OnOk, unwrap_or, Language, IfSome, is_ok, mul-le-mul_left, nat_tests, cases_lt, cases_eq, length-append, length-take, option_and_then}
+use Rattle.passkey_kinds.proofs.Common.{SkipsLeadingItem, Bool, CountsHeads, content_len, counts_then, counts_stay, counts_skip, counts_string, counts_value, counts_head, only_one, slice_get, drop-cons, get_or_from_slice_get, length-drop, drop, suc, ◌∷◌, ◌⊎◌, inl, inr, lies_size, head_again, follows_item, low_simple, head_long, encoded_long, IsEncodedAt, Opens, FindsHead, IsEncodingOfHead, PairWithin, Within, Inside, Item, byte_string, boolean, null, text_string, number, max_depth, IsLeadingItem, Region, PassesString, item_within, PassesLeadingItem, MakesLeadingItem, Walk, ahead, Went, Head, members-pairs_of, elements-items_of, aaguid, bytes, below, kept, truth, Kind, optional, text, one_named, FailsAs, size, AnswersAs, MayGrow, scalar_in, ReadsScalar, head_scalar, head_array, head_map, elements_in, members_in, OpensAt, Further, Decodes, Spends, Onward, named, Refused, OutOfMemory, Refusal, ◌≡◌, ◌∙◌, ◌<◌, ◌+◌, ℕ, arith, true, false, List, [], ◌++◌, length, Option, Some, None, option_map, refl, sym, ap, rules, ◌≤◌, Result, subst, ◌-◌, take, Ok, Err, OnOk, unwrap_or, Language, IfSome, is_ok, mul-le-mul_left, nat_tests, cases_lt, cases_eq, length-append, length-take, option_and_then}
 use Rattle.passkey_kinds.proofs.Lists.{answers_from, never_grows}
 use Rattle.passkey_cbor.specs.declared.head.Head.TheVariants as head
 use Rattle.passkey_cbor.specs.Item as item
@@ -281,35 +281,14 @@ pub named_text : {T : Type 0} (named : List ℕ → Option T) (i : Item)
 named_text named (item.number n) = refl
 named_text named _ = refl
 
-pub not_null_in : (i : Item) → (i ≡ item.null → ⊥) → null_in i ≡ false
-not_null_in item.null other = absurd (other refl)
-not_null_in _ other = refl
-
--- null, or undefined, is the item that begins with either of these bytes
-pub null_begins : (i : Item) {bytes : List ℕ} {from to : ℕ} (b : ℕ) → IsEncodedAt i bytes from to
-    → Some b ≡ slice_get bytes from → (b ≡ 246) ⊎ (b ≡ 247) → i ≡ item.null
-null_begins i {bytes} {from} {to} b l e is =
-    let within : from < length bytes = omega (arith, stands_long i l, l.within) in
-    let here : drop from bytes ≡ b ∷ drop (suc from) bytes = drop-cons bytes from 0 within
-    ∙ ap (λ (x : ℕ). x ∷ drop (suc from) bytes) (get_or_from_slice_get bytes from b 0 (sym e)) in
-    let first : take 1 (drop from bytes) ≡ b ∷ [] = ap (take 1) here in
-    sym (only_one i item.null bytes from to 1 l (record {
-      within = omega (arith, length-drop from bytes);
-      encoded = elim is [
-        | inl q ↦ inl (first ∙ ap (λ (x : ℕ). x ∷ []) q)
-        | inr q ↦ inr (first ∙ ap (λ (x : ℕ). x ∷ []) q)
-      ];
-      shallow = omega arith;
-    })).0
-
-pub null_item : {M : Type 0} (kind : Kind M) (i : Item) → true ≡ null_in i → optional kind i ≡ Some None
+pub null_item : {M : Type 0} (kind : Kind M) (i : Item) → i ≡ item.null → optional kind i ≡ Some None
 null_item kind item.null e = refl
 null_item kind _ e = absurd cc
 
-pub other_item : {M : Type 0} (kind : Kind M) (i : Item) → false ≡ null_in i
+pub other_item : {M : Type 0} (kind : Kind M) (i : Item) → (i ≡ item.null → ⊥)
     → optional kind i ≡ option_map Some (kind i)
-other_item kind item.null e = absurd cc
-other_item kind _ e = refl
+other_item kind item.null other = absurd (other refl)
+other_item kind _ other = refl
 
 -- ---- byte strings
 

@@ -87,10 +87,6 @@ abbrev pub signed_in : Item → Option ℤ
 signed_in (number z) = signed_64 z
 signed_in _ = None
 
-abbrev pub null_in : Item → Bool
-null_in item.null = true
-null_in _ = false
-
 abbrev pub head_scalar : Head → Item
 head_scalar (head.Unsigned n) = number (pos n)
 head_scalar (head.Negative n) = number (negsuc n)

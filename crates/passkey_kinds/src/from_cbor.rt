@@ -3,7 +3,7 @@ ghost use Rattle.std.specs.Prelude.{◌^◌, ℕ, Option, option_map, OnOk};
 ghost use Rattle.passkey_kinds.specs.Words.{tolerated, Item, IsEncodedAt, item_of, Answers, Typed, Onward, Further, ReadsAs, truth, below, text, kept, optional, scalar_of};
 
 use crate::Refusal;
-use crate::head::{begins_null, read_scalar};
+use crate::head::read_scalar;
 use passkey_bytes::Text;
 use passkey_cbor::{CborError, Cursor, Head, Value};
 use std::alloc::Global;
@@ -179,12 +179,8 @@ impl<T: FromCbor> FromCbor for Option<T> {
 
     #[tactic(auto, using(crate::proofs::Cursor::skip_further))]
     fn read(alloc: Global, cursor: &mut Cursor<'_>) -> Result<Option<T>, Refusal> {
-        if begins_null(cursor) {
-            return if cursor.skip() {
-                Ok(None)
-            } else {
-                Err(Refusal::Refused)
-            };
+        if cursor.null() {
+            return Ok(None);
         }
         Ok(Some(T::read(alloc, cursor)?))
     }

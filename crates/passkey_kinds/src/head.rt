@@ -1,7 +1,7 @@
 //! Decodes one head at a cursor, by the type of data item that is wanted.
-ghost use Rattle.std.specs.Prelude.{◌≡◌, ℕ, ◌+◌, ◌≤◌, ◌==◌, true, false, IfSome};
+ghost use Rattle.std.specs.Prelude.{◌≡◌, ℕ, ◌+◌, ◌≤◌, IfSome};
 ghost use Rattle.std.specs.Option.{option_and_then};
-ghost use Rattle.passkey_kinds.specs.Words.{Item, null, IsEncodedAt, LooksOnce, Onward, Further, Spends, max_depth, null_in, scalar_of, head_array, head_map, ReadsScalar, elements_in, members_in, OpensAt};
+ghost use Rattle.passkey_kinds.specs.Words.{Item, null, IsEncodedAt, Onward, Further, Spends, max_depth, scalar_of, head_array, head_map, ReadsScalar, elements_in, members_in, OpensAt};
 ghost use Rattle.passkey_cbor.specs.Inside.{Within, PairWithin};
 
 use passkey_cbor::{Cursor, Head};
@@ -21,18 +21,6 @@ fn map_len(head: Option<Head>) -> Option<Option<u64>>
     match head {
         Some(Head::Map(left)) => Some(left),
         _ => None,
-    }
-}
-
-/// Returns whether the next byte is null or undefined. The cursor doesn't move, and counts one head.
-pub(crate) fn begins_null(cursor: &mut Cursor<'_>) -> bool
-    ensures says { (i : Item) (to : ℕ) → IsEncodedAt i cursor.old.bytes cursor.old.place to → result ≡ null_in i }
-    ensures looks { LooksOnce cursor.old cursor.new }
-    ensures onward { Onward cursor.old cursor.new }
-{
-    match cursor.initial_byte() {
-        Some(initial) => initial == 0xf6 || initial == 0xf7,
-        None => false,
     }
 }
 
