@@ -1,7 +1,7 @@
 -- How many data items are built.
 use Rattle.std.proofs.Common.{◌≡◌, ◌⊎◌, ℕ, ◌+◌, ◌-◌, ◌<◌, ◌≤◌, min, ◌^◌, List, [], ◌∷◌, length, Result, Ok, Err, refl, ap, ◌∙◌, arith, inl, inr}
 use Rattle.std.proofs.lemmas.Bool.{cases_eq, cases_lt, lt-ltb, le-ltb, ne_eqb}
-use Rattle.passkey_cbor.specs.Item.{Item, number, byte_string, text_string, array, map, tagged, boolean, null, simple, float, items_of, pairs_of}
+use Rattle.passkey_cbor.specs.Item.{Item, number, array, map, tagged, items_of, pairs_of}
 use Rattle.passkey_cbor.specs.Nodes.{nodes, items_nodes, pairs_nodes}
 use Rattle.passkey_cbor.specs.HeadReading.{Read}
 use Rattle.passkey_cbor.specs.Reading.{simple_item}

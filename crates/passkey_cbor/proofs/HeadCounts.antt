@@ -1,16 +1,15 @@
 -- How many heads bytes have, and that a cursor counts them.
-use Rattle.std.proofs.Common.{◌≡◌, ◌⊎◌, ℕ, zero, suc, ◌+◌, ◌-◌, ◌<◌, ◌≤◌, Bool, true, false, cond, List, [], ◌∷◌, ◌++◌, length, take, drop, Option, Some, None, refl, sym, ap, subst, ◌∙◌, append_assoc, arith, inl, inr}
+use Rattle.std.proofs.Common.{◌≡◌, ◌⊎◌, ℕ, zero, suc, ◌+◌, ◌<◌, ◌≤◌, Bool, true, false, cond, List, [], ◌∷◌, ◌++◌, length, take, drop, Option, Some, None, refl, sym, ap, subst, ◌∙◌, append_assoc, arith, inl, inr}
 use Rattle.std.specs.Prelude.{unwrap_or}
 use Rattle.std.proofs.lemmas.Bool.{cases_lt, lt-ltb, le-ltb}
 use Rattle.std.proofs.lemmas.List.{length-append, length-take, take-append-drop, take_at, drop_at}
 use Rattle.passkey_cbor.specs.Bytes.{IsBytes}
-use Rattle.passkey_cbor.specs.HeadReading.{◌>>=◌, Read, head_at}
-use Rattle.passkey_cbor.specs.HeadEncoding.{IsEncodingOfHead}
+use Rattle.passkey_cbor.specs.HeadReading.{◌>>=◌, head_at}
 use Rattle.passkey_cbor.specs.HeadCount.{content_len, WithContent, AreHeads, one_more_head, heads_by, heads_of, after_content, after_heads, Spans}
-use Rattle.passkey_cbor.specs.Languages.{Then, Each}
-use Rattle.passkey_cbor.specs.Reading.{is_break, end, element, Step, step_at, is_allowed, piece_at, chunk_len, chunk}
+use Rattle.passkey_cbor.specs.Languages.{Each}
+use Rattle.passkey_cbor.specs.Reading.{is_break, end, element, step_at, is_allowed, piece_at, chunk_len, chunk}
 use Rattle.passkey_cbor.specs.Steps.{HeadRead, ElementRead, EndRead, PieceRead}
-use Rattle.passkey_cbor.specs.Walk.{Walk, ahead, raised, break_heads}
+use Rattle.passkey_cbor.specs.Walk.{Walk, ahead, raised}
 use Rattle.passkey_cbor.specs.declared.head.Head.{Head}
 use Rattle.passkey_cbor.specs.declared.head.Head.TheVariants as head
 use Rattle.passkey_cbor.proofs.Binds.{some_is, none_is_some, bind_some, bind_at}

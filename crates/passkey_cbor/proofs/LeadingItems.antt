@@ -10,6 +10,7 @@ use Rattle.passkey_cbor.specs.Laws.{AtMostOneLeadingItem, NoShorterLeadingItem, 
 use Rattle.passkey_cbor.specs.Reading.{start, item_within}
 use Rattle.passkey_cbor.specs.Walk.{Walk, ahead, raised, IsPlaced}
 use Rattle.passkey_cbor.specs.Steps.{NoHead, PassesOver}
+use Rattle.passkey_cbor.specs.HeadsDecoded.{heads_decoded}
 use Rattle.passkey_cbor.specs.Skipped.{PassesLeadingItem, FindsNoLeadingItem}
 use Rattle.passkey_cbor.proofs.Binds.{some_is, none_is_some}
 use Rattle.passkey_cbor.proofs.Numbers.{IsBytes-drop}
@@ -120,10 +121,12 @@ front_passed a b placed least p =
       bytes = p.passed.same;
     }
 
-pub front_missed : (a b : Walk) (place : ℕ) → place ≡ a.place → raised a.heads 1 ≤ b.heads
-    → NoHead (start (item_within max_depth) (ahead a)) a b → FindsNoLeadingItem a (record b { place = place })
-front_missed a b place back least n = record {
+pub front_missed : (a b : Walk) (place : ℕ) → place ≡ a.place → b.heads ≡ raised a.heads (heads_decoded (ahead a))
+    → raised a.heads 1 ≤ b.heads → NoHead (start (item_within max_depth) (ahead a)) a b
+    → FindsNoLeadingItem a (record b { place = place })
+front_missed a b place back decoded least n = record {
   none = no_front (ahead a) n.reads;
+  decoded = decoded;
   place = back;
   least = least;
   heads = n.stopped.heads;

@@ -1,10 +1,11 @@
 -- Data items without others in them, which are skipped at once.
-use Rattle.std.proofs.Common.{◌≡◌, ℕ, ◌+◌, ◌<◌, ◌≤◌, Bool, true, false, List, ◌∷◌, length, take, drop, Option, Some, refl, sym, ap, ◌∙◌, arith, ◌⊎◌, inl, inr}
+use Rattle.std.proofs.Common.{◌≡◌, ℕ, suc, ◌+◌, ◌<◌, ◌≤◌, Bool, true, false, List, ◌∷◌, length, take, drop, Option, Some, refl, sym, ap, ◌∙◌, arith, ◌⊎◌, inl, inr}
 use Rattle.std.proofs.lemmas.Bool.{cases_lt, lt-ltb, le-ltb}
 use Rattle.std.proofs.lemmas.List.{length-drop, drop-drop}
 use Rattle.passkey_cbor.specs.HeadReading.{◌>>=◌, Read, head_at}
 use Rattle.passkey_cbor.specs.Item.{Item}
 use Rattle.passkey_cbor.specs.HeadCount.{content_len, after_content, after_heads}
+use Rattle.passkey_cbor.specs.HeadsDecoded.{Tally, item_heads_by, item_heads}
 use Rattle.passkey_cbor.specs.Leaf.{Headed, IsLeafLen}
 use Rattle.passkey_cbor.specs.Lent.{string_item, string_head}
 use Rattle.passkey_cbor.specs.Reading.{Reader, start, is_allowed, piece_at, item_by, item_within}
@@ -14,6 +15,7 @@ use Rattle.passkey_cbor.specs.declared.head.Head.{Head}
 use Rattle.passkey_cbor.proofs.Behind.{by_flat, by_string, string_piece}
 use Rattle.passkey_cbor.proofs.Binds.{none_is_some, bind_at}
 use Rattle.passkey_cbor.proofs.HeadCounts.{content_there, one_head, one_spans}
+use Rattle.passkey_cbor.proofs.HeadsDecoded.{started, flat_heads, headed_string}
 
 -- the only head of a data item, and the content behind it
 leaf_head : (bytes rest behind : List ℕ) (n : ℕ) (h : Head) → head_at bytes ≡ Some (h, rest) → content_len h ≡ n
@@ -23,13 +25,15 @@ leaf_head bytes rest behind n h e content within is = one_head bytes rest behind
 
 -- a head that is the whole data item
 pub flat_leaf : (bytes rest : List ℕ) (k : ℕ) (g h : Head) (x : Item) → Headed bytes k g rest → g ≡ h
-    → content_len h ≡ 0 → ((inner : Option (Reader Item)) → item_by inner h rest ≡ Some (x, rest)) → IsLeafLen bytes k
-flat_leaf bytes rest k g h x e same none flat = record {
+    → content_len h ≡ 0 → ((inner : Option (Reader Item)) → item_by inner h rest ≡ Some (x, rest))
+    → ((inner : Option (Reader Item × Tally)) → item_heads_by inner h rest ≡ 0) → IsLeafLen bytes k
+flat_leaf bytes rest k g h x e same none flat alone = record {
   leaf = x;
   one = leaf_head bytes rest rest 0 g e.reads (ap content_len same ∙ none) (omega arith) refl
       ∙ ap (λ (r : List ℕ). Some r) (sym e.parts);
   reads = λ levels. bind_at (head_at bytes) (g, rest) (λ q. item_within levels q.0 q.1) e.reads
       ∙ by_flat levels g h x rest same flat ∙ ap (λ (r : List ℕ). Some (x, r)) (sym e.parts);
+  heads = λ levels. started (item_heads levels) bytes rest g e.reads ∙ ap suc (flat_heads levels g h rest same alone);
   within = e.within;
 }
 
@@ -68,6 +72,8 @@ string_leaf bytes rest k is_text len n g e same piece size =
           ∙ ap (λ (o : Read (List ℕ)). o >>= λ t. Some (string_item is_text t.0, t.1))
           (string_piece is_text (Some len) len rest refl ∙ piece)
           ∙ ap (λ (r : List ℕ). Some (string_item is_text (take len rest), r)) after;
+      heads = λ levels. started (item_heads levels) bytes rest g e.reads
+          ∙ ap suc (headed_string levels is_text (Some len) g rest same);
       within = omega (arith, within, size, ap length e.parts, length-drop k bytes, e.within);
     }
 

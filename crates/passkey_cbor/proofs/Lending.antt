@@ -1,5 +1,5 @@
 -- Strings that a cursor passes and borrows.
-use Rattle.std.proofs.Common.{◌≡◌, ℕ, ◌+◌, ◌-◌, ◌<◌, ◌≤◌, Bool, true, false, List, ◌++◌, length, take, drop, Option, Some, None, option_map, is_some, refl, sym, ap, subst, ◌∙◌, append_assoc, arith}
+use Rattle.std.proofs.Common.{◌≡◌, ℕ, ◌+◌, ◌-◌, ◌<◌, ◌≤◌, Bool, true, false, List, ◌++◌, length, take, drop, suc, Option, Some, None, option_map, is_some, refl, sym, ap, subst, ◌∙◌, append_assoc, arith}
 use Rattle.std.proofs.lemmas.List.{length-append, length-drop, take-append-drop, take_at}
 use Rattle.passkey_cbor.specs.Bytes.{IsBytes}
 use Rattle.passkey_cbor.specs.Item.{Item}
@@ -9,9 +9,10 @@ use Rattle.passkey_cbor.specs.Encoding.{IsEncoding, Strings}
 use Rattle.passkey_cbor.specs.LeadingItem.{max_depth, IsLeadingItem}
 use Rattle.passkey_cbor.specs.HeadEncoding.{LengthHeads, IsEncodingOfHead}
 use Rattle.passkey_cbor.specs.Inside.{IsAllowed, major_type, Content}
-use Rattle.passkey_cbor.specs.HeadReading.{head_at}
+use Rattle.passkey_cbor.specs.HeadReading.{◌>>=◌, head_at}
+use Rattle.passkey_cbor.specs.HeadsDecoded.{begun_heads, string_heads, rest_heads, string_tally, string_decoded}
 use Rattle.passkey_cbor.specs.Reading.{start, string_len, string_at, string_by, item_within}
-use Rattle.passkey_cbor.specs.Walk.{Walk, ahead, raised, IsInside}
+use Rattle.passkey_cbor.specs.Walk.{Walk, ahead, raised, IsInside, Stopped}
 use Rattle.passkey_cbor.specs.HeadCount.{content_len, heads_of, Spans}
 use Rattle.std.specs.Prelude.{unwrap_or}
 use Rattle.passkey_cbor.specs.Steps.{NoHead, HeadRead, PassesOver, RegionRead, NoStringRead, ReadsString, IsLengthOf}
@@ -26,6 +27,7 @@ use Rattle.passkey_cbor.proofs.LeadingItems.{front_again}
 use Rattle.passkey_cbor.proofs.Behind.{by_string}
 use Rattle.passkey_cbor.proofs.HeadAgain.{head_again}
 use Rattle.passkey_cbor.proofs.HeadCounts.{spans_as, spans_headed, heads_passed}
+use Rattle.passkey_cbor.proofs.HeadsDecoded.{decoded_then, started}
 use Rattle.passkey_cbor.proofs.Skipping.{stopped_then}
 
 -- ---- strings as data items
@@ -161,23 +163,53 @@ string_read is_text len a b c h region inside fits p further is r =
 
 -- the next head isn't that of a string of this kind, and one head was decoded
 pub no_string_head : (is_text : Bool) (a b : Walk) → NoHead (start (string_by is_text) (ahead a)) a b
-    → b.heads ≡ raised a.heads 1 → NoStringRead is_text a b
-no_string_head is_text a b n one = record { no_string = n; least = omega (arith, one); one = λ x rest e. one }
+    → string_decoded is_text (ahead a) ≡ 1 → b.heads ≡ raised a.heads 1 → NoStringRead is_text a b
+no_string_head is_text a b n alone one = record {
+  no_string = n;
+  decoded = one ∙ ap (raised a.heads) (sym alone);
+  least = omega (arith, one);
+  one = λ x rest e. one;
+}
+
+-- no head
+pub no_head_read : (is_text : Bool) (a b : Walk) → NoHead (head_at (ahead a)) a b → b.heads ≡ raised a.heads 1
+    → NoStringRead is_text a b
+no_head_read is_text a b n one = no_string_head is_text a b
+    (record { reads = bind_none (head_at (ahead a)) (λ h. string_by is_text h.0 h.1) n.reads; stopped = n.stopped })
+    (ap (begun_heads (string_tally is_text)) n.reads) one
+
+-- the head of something else
+pub other_head_read : (is_text : Bool) (a b : Walk) (h : Head) → HeadRead a b h → string_len is_text h ≡ None
+    → Stopped a b → NoStringRead is_text a b
+other_head_read is_text a b h r other stopped = no_string_head is_text a b
+    (record {
+      reads = bind_at (head_at (ahead a)) (h, ahead b) (λ h. string_by is_text h.0 h.1) r.reads
+          ∙ ap (λ (len : Option (Option ℕ)). len >>= λ n. string_at is_text n (ahead b)) other;
+      stopped = stopped;
+    })
+    (started (string_tally is_text) (ahead a) (ahead b) h r.reads
+    ∙ ap (λ (len : Option (Option ℕ)). suc (rest_heads is_text len (ahead b))) other) r.counted
 
 -- the head is a string's, but the string isn't well-formed: so there is no leading data item
 pub string_cut : (is_text : Bool) (len : Option ℕ) (a b c : Walk) (h : Head) → HeadRead a b h
-    → string_len is_text h ≡ Some len → NoHead (string_at is_text len (ahead b)) b c → NoStringRead is_text a c
-string_cut is_text len a b c h r is n =
+    → string_len is_text h ≡ Some len → NoHead (string_at is_text len (ahead b)) b c
+    → c.heads ≡ raised b.heads (string_heads is_text len (ahead b)) → NoStringRead is_text a c
+string_cut is_text len a b c h r is n counted =
     let head_is : h ≡ string_head is_text len = string_len-is is_text h len is in
     let no_item : start (item_within max_depth) (ahead a) ≡ None = bind_at (head_at (ahead a)) (h, ahead b)
     (λ h. item_within max_depth h.0 h.1) r.reads ∙ by_string max_depth is_text len h (ahead b) head_is
     ∙ bind_none (string_at is_text len (ahead b)) (λ s. Some (string_item is_text s.0, s.1)) n.reads in
+    let more : string_decoded is_text (ahead a) ≡ suc (string_heads is_text len (ahead b)) =
+    started (string_tally is_text) (ahead a) (ahead b) h r.reads
+    ∙ ap (λ (l : Option (Option ℕ)). suc (rest_heads is_text l (ahead b))) is in
     record {
       no_string = record {
         reads = bind_at (head_at (ahead a)) (h, ahead b) (λ h. string_by is_text h.0 h.1) r.reads ∙ ap
             (λ (g : Head). string_by is_text g (ahead b)) head_is ∙ string_by_head is_text len (ahead b) ∙ n.reads;
         stopped = stopped_then a b c r.passed n.stopped;
       };
+      decoded = decoded_then a b c 1 (string_heads is_text len (ahead b)) _ r.counted counted
+          (more ∙ omega arith);
       least = omega (arith, r.counted, n.stopped.rises);
       one = λ x rest e. absurd (none_is_some (x, rest) (sym no_item ∙ e));
     }
@@ -202,6 +234,7 @@ string_missed region is_text a b place None none back n = record {
       (sym n.no_string.reads ∙ string_again_headed is_text (ahead a) s k f);
   place = back;
   one = λ x k f. n.one x (drop k (ahead a)) (front_again (ahead a) x k f);
+  decoded = n.decoded;
   least = n.least;
   heads = n.no_string.stopped.heads;
   nodes = n.no_string.stopped.nodes;

@@ -26,6 +26,7 @@ pub mod Shrinking
 pub mod Counted
 pub mod EncodedFrom
 mod Null
+pub mod HeadsDecoded
 pub mod More
 pub mod Lending
 pub mod Naming

@@ -2,7 +2,7 @@
 use Rattle.std.proofs.Common.{◌≡◌, ℕ, ◌-◌, ◌<◌, ◌≤◌, Bool, true, false, List, [], ◌∷◌, ◌++◌, length, take, drop, Option, Some, None, refl, sym, ap, subst, ◌∙◌, arith, Bor}
 use Rattle.std.specs.Prelude.{nat_lt, ◌==◌, if◌then◌else◌}
 use Rattle.std.proofs.lemmas.List.{length-append, length-drop, length-take, take-append-drop, take_at}
-use Rattle.passkey_cbor.specs.Item.{Item, Pairs, number, byte_string, text_string, array, map, tagged, boolean, null, simple, float, pairs_of}
+use Rattle.passkey_cbor.specs.Item.{Item, Pairs, map, pairs_of}
 use Rattle.passkey_cbor.specs.LeadingItem.{max_depth, IsLeadingItem}
 use Rattle.passkey_cbor.specs.Reading.{simple_item, item_within}
 use Rattle.passkey_cbor.specs.Inside.{Within, PairWithin, Inside}

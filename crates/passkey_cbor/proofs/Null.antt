@@ -1,5 +1,5 @@
 -- Null at a cursor.
-use Rattle.std.proofs.Common.{◌≡◌, ◌⊎◌, inl, inr, ℕ, suc, ◌+◌, ◌-◌, ◌<◌, ◌≤◌, ◌==◌, Bool, true, false, List, [], ◌∷◌, length, drop, take, get_or, refl, sym, ap, subst, ◌∙◌, arith}
+use Rattle.std.proofs.Common.{◌≡◌, ◌⊎◌, inl, inr, ℕ, suc, ◌-◌, ◌<◌, ◌≤◌, ◌==◌, Bool, true, false, List, [], ◌∷◌, length, drop, take, get_or, sym, ap, subst, ◌∙◌, arith}
 use Rattle.std.proofs.Math.Seq.{drop-cons}
 use Rattle.std.proofs.lemmas.List.{length-drop, length-take, get_or-take, get_or-drop}
 use Rattle.std.proofs.lemmas.Bool.{cases_eq, ne_eqb}
@@ -49,11 +49,13 @@ null_byte bytes len f =
     let size : 0 < length bytes = elim f.encoded [
       | inl e ↦ omega (arith, ap length e, length-take len bytes)
       | inr e ↦ omega (arith, ap length e, length-take len bytes)
-    ] in
-    (elim f.encoded [
-      | inl e ↦ inl (one_byte bytes len 246 e f.within)
-      | inr e ↦ inr (one_byte bytes len 247 e f.within)
-    ], size)
+    ] in (
+      elim f.encoded [
+        | inl e ↦ inl (one_byte bytes len 246 e f.within)
+        | inr e ↦ inr (one_byte bytes len 247 e f.within)
+      ],
+      size,
+    )
 
 -- other bytes aren't null
 pub null_else : (bytes : List ℕ) (place : ℕ) → place < length bytes → (get_or bytes place 0 ≡ 246 → ⊥)

@@ -1,5 +1,5 @@
 -- Counts that saturate.
-use Rattle.std.proofs.Common.{◌≡◌, ◌∙◌, ℕ, zero, suc, ◌+◌, ◌≤◌, min, ◌^◌, ◌-◌, refl, sym, ap, arith}
+use Rattle.std.proofs.Common.{◌≡◌, ◌∙◌, ℕ, zero, suc, ◌+◌, ◌≤◌, sym, ap, arith}
 use Rattle.passkey_cbor.specs.Walk.{raised}
 
 pub raised-le : (n k : ℕ) → raised n k ≤ n + k

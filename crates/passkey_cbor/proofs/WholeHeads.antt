@@ -1,5 +1,5 @@
 -- That a cursor passes whole heads, and counts at least as many, call after call.
-use Rattle.std.proofs.Common.{◌≡◌, ◌∙◌, ℕ, ◌+◌, ◌≤◌, Bool, true, false, List, [], ◌∷◌, ◌++◌, length, take, drop, Option, Some, None, refl, sym, ap, append_assoc, arith, ◌⊎◌, inl, inr}
+use Rattle.std.proofs.Common.{◌≡◌, ◌∙◌, ℕ, ◌+◌, ◌≤◌, Bool, true, false, List, [], ◌∷◌, ◌++◌, take, drop, Option, Some, None, refl, sym, ap, append_assoc, arith, ◌⊎◌, inl, inr}
 use Rattle.std.proofs.lemmas.Bool.{cases_eq, ne_eqb}
 use Rattle.std.proofs.lemmas.List.{append-nil, drop-drop, take-append-drop}
 use Rattle.passkey_cbor.specs.EncodedAt.{goes_on, Looks}
@@ -10,7 +10,7 @@ use Rattle.passkey_cbor.specs.Lent.{Region, PassesString}
 use Rattle.passkey_cbor.specs.Skipped.{PassesLeadingItem}
 use Rattle.passkey_cbor.specs.Valued.{MakesLeadingItem}
 use Rattle.passkey_cbor.specs.Item.{Item}
-use Rattle.passkey_cbor.specs.Walk.{Walk, ahead, raised, break_heads}
+use Rattle.passkey_cbor.specs.Walk.{Walk, ahead, raised}
 use Rattle.passkey_cbor.specs.declared.head.Head.{Head}
 use Rattle.passkey_cbor.specs.declared.head.Head.TheVariants as head
 use Rattle.passkey_cbor.proofs.HeadCounts.{are_heads_then}

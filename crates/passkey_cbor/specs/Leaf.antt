@@ -3,6 +3,7 @@ use Rattle.std.specs.Prelude.{◌≡◌, ℕ, ◌≤◌, List, length, drop, Som
 use Rattle.passkey_cbor.specs.Item.{Item}
 use Rattle.passkey_cbor.specs.HeadReading.{head_at}
 use Rattle.passkey_cbor.specs.HeadCount.{after_heads}
+use Rattle.passkey_cbor.specs.HeadsDecoded.{start_heads, item_heads}
 use Rattle.passkey_cbor.specs.Reading.{start, item_within}
 use Rattle.passkey_cbor.specs.declared.head.Head.{Head}
 
@@ -11,6 +12,7 @@ pub record IsLeafLen (bytes : List ℕ) (n : ℕ) : Type 0 where
   pub leaf : Item
   pub one : after_heads 1 bytes ≡ Some (drop n bytes)
   pub reads : (levels : ℕ) → start (item_within levels) bytes ≡ Some (leaf, drop n bytes)
+  pub heads : (levels : ℕ) → start_heads (item_heads levels) bytes ≡ 1
   pub within : n ≤ length bytes
 
 -- The first k bytes are this head, and the rest follows.

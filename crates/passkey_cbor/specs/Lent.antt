@@ -8,6 +8,7 @@ use Rattle.passkey_cbor.specs.Inside.{Content}
 use Rattle.passkey_cbor.specs.EncodedAt.{IsEncodedAt}
 use Rattle.passkey_cbor.specs.Walk.{Walk, ahead, raised, break_heads, LooksOnce}
 use Rattle.passkey_cbor.specs.HeadCount.{AreHeads, heads_of, heads_between}
+use Rattle.passkey_cbor.specs.HeadsDecoded.{string_decoded}
 use Rattle.passkey_cbor.specs.declared.head.Head.{Head}
 use Rattle.passkey_cbor.specs.declared.head.Head.TheVariants as head
 
@@ -51,12 +52,14 @@ pub record PassesString (is_text : Bool) (old new : Walk) (r : Region) : Type 0 
   pub nodes : new.nodes ≡ old.nodes
   pub bytes : new.bytes ≡ old.bytes
 
--- The leading data item, if there is one, is no string of this kind, and the cursor doesn't move. It counts one
--- head if there is a leading data item; else at least one, and at most one more than there are bytes ahead.
+-- The leading data item, if there is one, is no string of this kind, and the cursor doesn't move. It counts each
+-- head that was decoded: one if there is a leading data item; else those up to the fault, at least one, and at most
+-- one more than there are bytes ahead.
 pub record FindsNoString (is_text : Bool) (old new : Walk) : Type 0 where
   pub none : (s : List ℕ) (len : ℕ) → IsLeadingItem (ahead old) (string_item is_text s) len → ⊥
   pub place : new.place ≡ old.place
   pub one : (x : Item) (len : ℕ) → IsLeadingItem (ahead old) x len → new.heads ≡ raised old.heads 1
+  pub decoded : new.heads ≡ raised old.heads (string_decoded is_text (ahead old))
   pub least : raised old.heads 1 ≤ new.heads
   pub heads : new.heads ≤ old.heads + length (ahead old) + 1
   pub nodes : new.nodes ≡ old.nodes

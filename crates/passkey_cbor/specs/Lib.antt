@@ -34,6 +34,7 @@ pub mod Building
 pub mod Valued
 pub mod EncodedAt
 pub mod Null
+pub mod HeadsDecoded
 pub mod Lent
 pub mod Names
 pub mod Pieces

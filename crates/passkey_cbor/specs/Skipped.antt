@@ -4,6 +4,7 @@ use Rattle.passkey_cbor.specs.Item.{Item}
 use Rattle.passkey_cbor.specs.LeadingItem.{IsLeadingItem, HasNoLeadingItem}
 use Rattle.passkey_cbor.specs.Walk.{Walk, ahead, raised}
 use Rattle.passkey_cbor.specs.HeadCount.{AreHeads, heads_of}
+use Rattle.passkey_cbor.specs.HeadsDecoded.{heads_decoded}
 
 -- The cursor passed the leading data item, and counted each of its heads: at least one, and at most one for each
 -- of the item's bytes.
@@ -19,10 +20,11 @@ pub record PassesLeadingItem (old new : Walk) : Type 0 where
   pub nodes : new.nodes ≡ old.nodes
   pub bytes : new.bytes ≡ old.bytes
 
--- There is no leading data item, and the cursor doesn't move. It counted at least one head, and at most one
--- more than there are bytes ahead.
+-- There is no leading data item, and the cursor doesn't move. It counted each head that was decoded up to the fault:
+-- at least one, and at most one more than there are bytes ahead.
 pub record FindsNoLeadingItem (old new : Walk) : Type 0 where
   pub none : HasNoLeadingItem (ahead old)
+  pub decoded : new.heads ≡ raised old.heads (heads_decoded (ahead old))
   pub place : new.place ≡ old.place
   pub least : raised old.heads 1 ≤ new.heads
   pub heads : new.heads ≤ old.heads + length (ahead old) + 1

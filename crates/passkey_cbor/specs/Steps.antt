@@ -6,6 +6,7 @@ use Rattle.passkey_cbor.specs.Reading.{Reader, start, end, element, step_at, is_
 use Rattle.passkey_cbor.specs.LeadingItem.{max_depth}
 use Rattle.passkey_cbor.specs.Walk.{Walk, ahead, raised, break_heads, Passed, Stopped}
 use Rattle.passkey_cbor.specs.HeadCount.{Spans}
+use Rattle.passkey_cbor.specs.HeadsDecoded.{Tally, pair_heads, item_heads, string_decoded}
 use Rattle.passkey_cbor.specs.Inside.{Content}
 use Rattle.passkey_cbor.specs.Lent.{Region, PassesString}
 use Rattle.passkey_cbor.specs.Names.{place_of, heads_until}
@@ -101,6 +102,10 @@ abbrev pub entry_by : ℕ → (e : Entry) → Reader (Entered e)
 entry_by levels entry.Item = item_within levels
 entry_by levels entry.Pair = pair_by (item_within levels)
 
+abbrev pub entry_heads : ℕ → Entry → Tally
+entry_heads levels entry.Item = item_heads levels
+entry_heads levels entry.Pair = pair_heads (item_within levels) (item_heads levels)
+
 -- ---- borrowed strings
 
 -- the bytes after a string's head
@@ -148,6 +153,7 @@ CountsSought is_text names old new = (chunks : List (List ℕ)) (rest : List ℕ
 -- No string of this kind was decoded; if another data item leads, only its head was decoded.
 pub record NoStringRead (is_text : Bool) (old new : Walk) : Type 0 where
   pub no_string : NoHead (start (string_by is_text) (ahead old)) old new
+  pub decoded : new.heads ≡ raised old.heads (string_decoded is_text (ahead old))
   pub least : raised old.heads 1 ≤ new.heads
   pub one : (x : Item) (rest : List ℕ) → start (item_within max_depth) (ahead old) ≡ Some (x, rest)
       → new.heads ≡ raised old.heads 1

@@ -1,9 +1,10 @@
 //! Skipping data items.
-ghost use Rattle.std.specs.Prelude.{ℕ, ◌≤◌, None, Some as There, is_some, unwrap_or, IfSome, MatchOption};
+ghost use Rattle.std.specs.Prelude.{◌≡◌, ℕ, ◌≤◌, None, Some as There, is_some, unwrap_or, IfSome, MatchOption};
 ghost use Rattle.passkey_cbor.specs.Walk.{ahead, raised, IsInside, IsPlaced, Went};
 ghost use Rattle.passkey_cbor.specs.HeadCount.{content_len};
 ghost use Rattle.passkey_cbor.specs.Reading.{start, string_at, item_within, list_at};
-ghost use Rattle.passkey_cbor.specs.Steps.{Skips, IsLengthOf, entry_by};
+ghost use Rattle.passkey_cbor.specs.HeadsDecoded.{start_heads, list_heads, string_heads, item_heads};
+ghost use Rattle.passkey_cbor.specs.Steps.{Skips, IsLengthOf, entry_by, entry_heads};
 ghost use Rattle.passkey_cbor.specs.Skipped.{SkipsLeadingItem};
 ghost use Rattle.passkey_cbor.specs.Null.{BeginsNull, PassesNull, PassesNullAt};
 ghost use Rattle.passkey_cbor.specs.EncodedAt.{IsEncodedAt, Passes};
@@ -82,6 +83,7 @@ impl<'a> Cursor<'a> {
     pub(crate) fn skip_item(&mut self, levels: usize) -> bool
         requires { IsInside self.old }
         ensures skips { Skips 0 (start (item_within levels) (ahead self.old)) self.old self.new result }
+        ensures decoded { self.new.heads ≡ raised self.old.heads (start_heads (item_heads levels) (ahead self.old)) }
         ensures least { raised self.old.heads 1 ≤ self.new.heads }
     {
         let len = leaf_len(&self.bytes[self.place..]);
@@ -99,7 +101,8 @@ impl<'a> Cursor<'a> {
     #[cycle(skip)]
     fn skip_behind(&mut self, head: Head, levels: usize) -> bool
         requires { IsInside self.old }
-        ensures { Skips (content_len head) (item_within levels head (ahead self.old)) self.old self.new result }
+        ensures skips { Skips (content_len head) (item_within levels head (ahead self.old)) self.old self.new result }
+        ensures decoded { self.new.heads ≡ raised self.old.heads (item_heads levels head (ahead self.old)) }
     {
         match head {
             Head::Unsigned(_) => true,
@@ -119,7 +122,9 @@ impl<'a> Cursor<'a> {
     #[cycle(skip)]
     fn skip_list(&mut self, entry: Entry, len: Option<u64>, levels: usize) -> bool
         requires { IsInside self.old }
-        ensures { Skips 0 (list_at (entry_by levels entry) len (ahead self.old)) self.old self.new result }
+        ensures skips { Skips 0 (list_at (entry_by levels entry) len (ahead self.old)) self.old self.new result }
+        ensures decoded { self.new.heads
+            ≡ raised self.old.heads (list_heads (entry_by levels entry) (entry_heads levels entry) len (ahead self.old)) }
     {
         match len {
             Some(len) => self.skip_entries(entry, len, levels),
@@ -131,7 +136,9 @@ impl<'a> Cursor<'a> {
     #[cycle(skip)]
     fn skip_entries(&mut self, entry: Entry, len: u64, levels: usize) -> bool
         requires { IsInside self.old }
-        ensures { Skips 0 (list_at (entry_by levels entry) (There len) (ahead self.old)) self.old self.new result }
+        ensures skips { Skips 0 (list_at (entry_by levels entry) (There len) (ahead self.old)) self.old self.new result }
+        ensures decoded { self.new.heads ≡ raised self.old.heads
+            (list_heads (entry_by levels entry) (entry_heads levels entry) (There len) (ahead self.old)) }
     {
         let mut left = len;
         while left > 0 {
@@ -147,7 +154,8 @@ impl<'a> Cursor<'a> {
     #[cycle(skip)]
     fn skip_entry(&mut self, entry: Entry, levels: usize) -> bool
         requires { IsInside self.old }
-        ensures { Skips 0 (start (entry_by levels entry) (ahead self.old)) self.old self.new result }
+        ensures skips { Skips 0 (start (entry_by levels entry) (ahead self.old)) self.old self.new result }
+        ensures decoded { self.new.heads ≡ raised self.old.heads (start_heads (entry_heads levels entry) (ahead self.old)) }
     {
         match entry {
             Entry::Item => self.skip_item(levels),
@@ -159,7 +167,9 @@ impl<'a> Cursor<'a> {
     #[cycle(skip)]
     fn skip_to_break(&mut self, entry: Entry, levels: usize) -> bool
         requires { IsInside self.old }
-        ensures { Skips 0 (list_at (entry_by levels entry) None (ahead self.old)) self.old self.new result }
+        ensures skips { Skips 0 (list_at (entry_by levels entry) None (ahead self.old)) self.old self.new result }
+        ensures decoded { self.new.heads
+            ≡ raised self.old.heads (list_heads (entry_by levels entry) (entry_heads levels entry) None (ahead self.old)) }
     {
         let mut left = None;
         loop {
@@ -179,7 +189,8 @@ impl<'a> Cursor<'a> {
     #[cycle(skip)]
     fn skip_entry_behind(&mut self, entry: Entry, head: Head, levels: usize) -> bool
         requires { IsInside self.old }
-        ensures { Skips (content_len head) (entry_by levels entry head (ahead self.old)) self.old self.new result }
+        ensures skips { Skips (content_len head) (entry_by levels entry head (ahead self.old)) self.old self.new result }
+        ensures decoded { self.new.heads ≡ raised self.old.heads (entry_heads levels entry head (ahead self.old)) }
     {
         match entry {
             Entry::Item => self.skip_behind(head, levels),
@@ -193,6 +204,7 @@ impl<'a> Cursor<'a> {
     pub(crate) fn pass_string(&mut self, is_text: bool, len: Option<u64>) -> Option<usize>
         requires { IsInside self.old }
         ensures skips { Skips (unwrap_or len 0) (string_at is_text len (ahead self.old)) self.old self.new (is_some result) }
+        ensures decoded { self.new.heads ≡ raised self.old.heads (string_heads is_text len (ahead self.old)) }
         ensures size { IfSome result (IsLengthOf (string_at is_text len (ahead self.old))) }
     {
         match len {
@@ -209,6 +221,7 @@ impl<'a> Cursor<'a> {
     fn pass_chunks(&mut self, is_text: bool) -> Option<usize>
         requires { IsInside self.old }
         ensures skips { Skips 0 (string_at is_text None (ahead self.old)) self.old self.new (is_some result) }
+        ensures decoded { self.new.heads ≡ raised self.old.heads (string_heads is_text None (ahead self.old)) }
         ensures size { IfSome result (IsLengthOf (string_at is_text None (ahead self.old))) }
     {
         let mut left = None;

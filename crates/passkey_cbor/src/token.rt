@@ -5,7 +5,8 @@ ghost use Rattle.passkey_cbor.specs.Lent.{LendsString, LendsEncoded, LentWhole, 
 ghost use Rattle.passkey_cbor.specs.Names.{IsNameOf, LooksFor};
 ghost use Rattle.passkey_cbor.specs.Steps.{ReadsRegion, ReadsString, CountsAll};
 ghost use Rattle.passkey_cbor.specs.Reading.{is_allowed};
-ghost use Rattle.passkey_cbor.specs.Walk.{ahead, IsInside, Went};
+ghost use Rattle.passkey_cbor.specs.HeadsDecoded.{string_heads};
+ghost use Rattle.passkey_cbor.specs.Walk.{ahead, raised, IsInside, Went};
 
 use crate::cursor::{Cursor, Next};
 use crate::names::name_of;
@@ -140,6 +141,7 @@ impl<'a> Cursor<'a> {
     fn region(&mut self, is_text: bool, len: Option<u64>) -> Option<(&'a [u8], usize)>
         requires { IsInside self.old }
         ensures reads { ReadsRegion is_text len self.old self.new (option_map (λ r. r.0.now) result) }
+        ensures decoded { self.new.heads ≡ raised self.old.heads (string_heads is_text len (ahead self.old)) }
         ensures went { Went self.old self.new }
         ensures size { IfSome result (λ r. IsSized is_text (record { len = len; bytes = r.0.now }) r.1) }
     {

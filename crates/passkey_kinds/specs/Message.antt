@@ -2,6 +2,7 @@
 use Rattle.passkey_kinds.specs.Base.{IsWritable, written, array, items_of, heads_of}
 use Rattle.std.specs.Prelude.{ℕ, List, ◌++◌, codes, ◌≡◌, ◌+◌, ◌-◌, ◌*◌, ◌≤◌, length, take, Result, Ok, Err, OnErr, ◌≢◌, [], ◌∷◌, Bool, true, ◌↔◌, Option, Some, None}
 use Rattle.passkey_cbor.specs.Canonical.{IsCanonical}
+use Rattle.passkey_cbor.specs.HeadsDecoded.{heads_decoded}
 use Rattle.passkey_cbor.specs.Item.{Item, Pairs, map}
 use Rattle.passkey_cbor.specs.LeadingItem.{IsLeadingItem, HasNoLeadingItem}
 use Rattle.passkey_cbor.specs.Reads.{HasGrowingLeadingItem}
@@ -61,9 +62,9 @@ with_length old new (Err e) = Err e
 -- Decoding a message at a cursor. The result is that of decoding the bytes ahead. The cursor moves
 -- past the message, or stays if there is an error. If the bytes ahead have a leading data item, each
 -- of its heads is counted at least once, at most `cost` heads are counted for each of its bytes, and
--- at most the data items that the table keeps are made as values. Otherwise at most one head is
--- counted for each byte, and one more, and no values are made. At least one head is counted. The
--- counts include what was spent, whatever the result.
+-- at most the data items that the table keeps are made as values. Otherwise each head that is decoded
+-- up to the fault is counted, at most one for each byte, and one more, and no values are made. At
+-- least one head is counted. The counts include what was spent, whatever the result.
 pub record ReadsHere {A P : Type 0} (view : A → P) (t : Fields P) (cost : ℕ) (old new : Walk)
     (result : Result A Fault) : Type 0 where
   pub reads : ReadsMessage view (read_item t) (ahead old) (with_length old new result)
@@ -75,6 +76,7 @@ pub record ReadsHere {A P : Type 0} (view : A → P) (t : Fields P) (cost : ℕ)
       → raised old.heads (heads_of (take len (ahead old))) ≤ new.heads
   pub heads : (i : Item) (len : ℕ) → IsLeadingItem (ahead old) i len → new.heads ≤ old.heads + cost * len
   pub nodes : (i : Item) (len : ℕ) → IsLeadingItem (ahead old) i len → new.nodes ≤ old.nodes + kept_in_map t i
+  pub decoded : HasNoLeadingItem (ahead old) → new.heads ≡ raised old.heads (heads_decoded (ahead old))
   pub few_heads : HasNoLeadingItem (ahead old) → new.heads ≤ old.heads + length (ahead old) + 1
   pub no_nodes : HasNoLeadingItem (ahead old) → new.nodes ≡ old.nodes
 

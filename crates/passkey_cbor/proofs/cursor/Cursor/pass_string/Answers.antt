@@ -4,6 +4,7 @@ use Rattle.passkey_cbor.specs.Walk.{ahead}
 use Rattle.passkey_cbor.proofs.Behind.{string_piece}
 use Rattle.passkey_cbor.proofs.Binds.{some_is}
 use Rattle.passkey_cbor.proofs.HeadCounts.{spans_as, spans_piece}
+use Rattle.passkey_cbor.proofs.HeadsDecoded.{piece_heads}
 use Rattle.passkey_cbor.proofs.cursor.Cursor.pass_string.Goals as goal
 
 pub returns-in-None-piece-clause-skips : goal.returns-in-None-piece-clause-skips
@@ -28,3 +29,11 @@ returns-in-Some-piece-clause-size c s rest e =
     some_is (s, rest) (c.in-Some-piece.piece.now, ahead c.piece.new.self) (sym e ∙ string_piece c.args.is_text
     c.args.len c.in-Some.len (ahead c.args.self.now) c.in-Some.is ∙ c.in-Some-piece.ensures.reads.reads) in
     ap (λ (q : List ℕ × List ℕ). length q.0) same
+
+pub returns-in-None-piece-clause-decoded : goal.returns-in-None-piece-clause-decoded
+returns-in-None-piece-clause-decoded c = piece_heads c.args.is_text c.args.len c.in-Some.len (ahead c.args.self.now)
+    c.args.self.now c.piece.new.self c.in-Some.is c.in-None-piece.ensures.uncounted
+
+pub returns-in-Some-piece-clause-decoded : goal.returns-in-Some-piece-clause-decoded
+returns-in-Some-piece-clause-decoded c = piece_heads c.args.is_text c.args.len c.in-Some.len (ahead c.args.self.now)
+    c.args.self.now c.piece.new.self c.in-Some.is c.in-Some-piece.ensures.uncounted

@@ -10,7 +10,8 @@ use Rattle.passkey_cbor.proofs.cursor.Cursor.skip.Goals as goal
 pub returns-then-not-found : goal.returns-then-not-found
 returns-then-not-found c =
     let missed = front_missed c.args.self.now c.skip_item-found.new.self c.self.inside.place
-    (ap (λ (w : Walk). w.place) c.self.view_is) c.if-not-found.ensures.least c.if-not-found.ensures.skips in
+    (ap (λ (w : Walk). w.place) c.self.view_is) c.if-not-found.ensures.decoded c.if-not-found.ensures.least
+    c.if-not-found.ensures.skips in
     let placed : IsPlaced c.args.self.now.bytes c.args.self.now.place =
     subst (λ (w : Walk). IsPlaced w.bytes w.place) c.self.view_is c.self.invariant in
     let place_is : c.self.inside.place ≡ c.args.self.now.place = ap (λ (w : Walk). w.place) c.self.view_is in

@@ -1,0 +1,250 @@
+-- How many heads are decoded, whether skipping succeeds or not.
+use Rattle.std.proofs.Common.{◌≡◌, ◌∙◌, ℕ, zero, suc, ◌+◌, ◌-◌, ◌<◌, Bool, true, false, List, length, Option, Some, None, refl, sym, ap, arith}
+use Rattle.std.proofs.lemmas.List.{length-drop}
+use Rattle.passkey_cbor.specs.Item.{Item}
+use Rattle.passkey_cbor.specs.HeadReading.{◌>>=◌, Read, head_at}
+use Rattle.passkey_cbor.specs.Reading.{Reader, Step, element, start, step_at, pair_by, item_within}
+use Rattle.passkey_cbor.specs.HeadsDecoded.{Tally, then_heads, begun_heads, start_heads, step_heads, list_heads_by, list_heads, string_heads, pair_heads, item_heads_by, item_heads}
+use Rattle.passkey_cbor.specs.Lent.{string_head}
+use Rattle.passkey_cbor.specs.Walk.{Walk, ahead, raised, Passed}
+use Rattle.passkey_cbor.specs.Steps.{ElementRead}
+use Rattle.passkey_cbor.specs.declared.head.Head.{Head}
+use Rattle.passkey_cbor.specs.declared.head.Head.TheVariants as head
+use Rattle.passkey_cbor.proofs.Raised.{raised-raised}
+
+-- counted one after the other
+pub decoded_then : (a b c : Walk) (j k n : ℕ) → b.heads ≡ raised a.heads j → c.heads ≡ raised b.heads k → n ≡ j + k
+    → c.heads ≡ raised a.heads n
+decoded_then a b c j k n first second is =
+    second ∙ ap (λ (m : ℕ). raised m k) first ∙ raised-raised a.heads j k ∙ ap (raised a.heads) (sym is)
+
+pub as_many : (a b : Walk) {n m : ℕ} → n ≡ m → b.heads ≡ raised a.heads m → b.heads ≡ raised a.heads n
+as_many a b e counted = counted ∙ ap (raised a.heads) (sym e)
+
+pub no_more : (a : Walk) {n : ℕ} → n ≡ 0 → a.heads ≡ raised a.heads n
+no_more a e = as_many a a e refl
+
+-- ---- what comes after a head
+
+pub then_none : {A : Type 0} (read : Read A) (others : List ℕ → ℕ) → read ≡ None → then_heads read others ≡ 0
+then_none read others e = rw e refl
+
+pub then_some : {A : Type 0} (read : Read A) (x : A) (rest : List ℕ) (others : List ℕ → ℕ) → read ≡ Some (x, rest)
+    → then_heads read others ≡ others rest
+then_some read x rest others e = rw e refl
+
+pub started : (more : Tally) (bytes rest : List ℕ) (h : Head) → head_at bytes ≡ Some (h, rest)
+    → start_heads more bytes ≡ suc (more h rest)
+started more bytes rest h e = ap (begun_heads more) e
+
+-- ---- items
+
+-- the heads at this many levels, from those one level deeper
+heads_within : (levels : ℕ) → (inner : Option (Reader Item × Tally)) × (item_heads levels ≡ item_heads_by inner)
+unfolding item_heads
+heads_within zero = (None, refl)
+heads_within (suc levels) = (Some (item_within levels, item_heads levels), refl)
+
+heads_zero : item_heads 0 ≡ item_heads_by None
+unfolding item_heads
+heads_zero = refl
+
+heads_suc : (levels : ℕ) → item_heads (suc levels) ≡ item_heads_by (Some (item_within levels, item_heads levels))
+unfolding item_heads
+heads_suc levels = refl
+
+heads_deeper : (levels : ℕ) → 0 < levels
+    → item_heads levels ≡ item_heads_by (Some (item_within (levels - 1), item_heads (levels - 1)))
+heads_deeper levels some = let one : levels ≡ suc (levels - 1) =
+    omega arith in ap item_heads one ∙ heads_suc (levels - 1)
+
+-- nothing comes after this head
+pub flat_heads : (levels : ℕ) (h g : Head) (bytes : List ℕ) → h ≡ g
+    → ((inner : Option (Reader Item × Tally)) → item_heads_by inner g bytes ≡ 0) → item_heads levels h bytes ≡ 0
+flat_heads levels h g bytes is flat = ap (λ (k : Head). item_heads levels k bytes) is
+    ∙ ap (λ (t : Tally). t g bytes) (heads_within levels).1 ∙ flat (heads_within levels).0
+
+string_by_head : (inner : Option (Reader Item × Tally)) (is_text : Bool) (len : Option ℕ) (bytes : List ℕ)
+    → item_heads_by inner (string_head is_text len) bytes ≡ string_heads is_text len bytes
+unfolding item_heads_by
+string_by_head inner false len bytes = refl
+string_by_head inner true len bytes = refl
+
+pub headed_string : (levels : ℕ) (is_text : Bool) (len : Option ℕ) (h : Head) (bytes : List ℕ)
+    → h ≡ string_head is_text len → item_heads levels h bytes ≡ string_heads is_text len bytes
+headed_string levels is_text len h bytes is =
+    ap (λ (k : Head). item_heads levels k bytes) is ∙ ap (λ (t : Tally). t (string_head is_text len) bytes)
+    (heads_within levels).1 ∙ string_by_head (heads_within levels).0 is_text len bytes
+
+pub headed_array : (levels : ℕ) (len : Option ℕ) (h : Head) (bytes : List ℕ) → 0 < levels → h ≡ head.Array len
+    → item_heads levels h bytes ≡ list_heads (item_within (levels - 1)) (item_heads (levels - 1)) len bytes
+unfolding item_heads_by
+headed_array levels len h bytes some is =
+    ap (λ (k : Head). item_heads levels k bytes) is
+    ∙ ap (λ (t : Tally). t (head.Array len) bytes) (heads_deeper levels some)
+
+pub headed_map : (levels : ℕ) (len : Option ℕ) (h : Head) (bytes : List ℕ) → 0 < levels → h ≡ head.Map len
+    → item_heads levels h bytes ≡ list_heads (pair_by (item_within (levels - 1)))
+    (pair_heads (item_within (levels - 1)) (item_heads (levels - 1))) len bytes
+unfolding item_heads_by
+headed_map levels len h bytes some is =
+    ap (λ (k : Head). item_heads levels k bytes) is
+    ∙ ap (λ (t : Tally). t (head.Map len) bytes) (heads_deeper levels some)
+
+pub headed_tag : (levels n : ℕ) (h : Head) (bytes : List ℕ) → 0 < levels → h ≡ head.Tag n
+    → item_heads levels h bytes ≡ start_heads (item_heads (levels - 1)) bytes
+unfolding item_heads_by
+headed_tag levels n h bytes some is =
+    ap (λ (k : Head). item_heads levels k bytes) is
+    ∙ ap (λ (t : Tally). t (head.Tag n) bytes) (heads_deeper levels some)
+
+-- beyond the levels that are left nothing more is decoded
+pub headed_none : (levels : ℕ) (h g : Head) (bytes : List ℕ) → levels ≡ 0 → h ≡ g → item_heads_by None g bytes ≡ 0
+    → item_heads levels h bytes ≡ 0
+headed_none levels h g bytes none is e =
+    ap (λ (k : Head). item_heads levels k bytes) is ∙ ap (λ (l : ℕ). item_heads l g bytes) none
+    ∙ ap (λ (t : Tally). t g bytes) heads_zero ∙ e
+
+-- ---- the elements of a list
+
+-- The invariant of a loop over them: the heads that were decoded, and those of the elements that are left, are all.
+pub record Tallies {A : Type 0} (read : Reader A) (more : Tally) (all left : Option ℕ) (old now : Walk) : Type 0 where
+  pub decoded : ℕ
+  pub heads : now.heads ≡ raised old.heads decoded
+  pub fuel : ℕ
+  pub enough : length (ahead now) < fuel
+  pub sum : list_heads read more all (ahead old) ≡ decoded + list_heads_by read more fuel left (ahead now)
+
+pub tallies_start : {A : Type 0} (read : Reader A) (more : Tally) (left : Option ℕ) (a : Walk)
+    → Tallies read more left left a a
+tallies_start read more left a =
+    record { decoded = 0; heads = refl; fuel = suc (length (ahead a)); enough = omega arith; sum = omega arith }
+
+list_step : {A : Type 0} (read : Reader A) (more : Tally) (fuel : ℕ) (left : Option ℕ) (bytes : List ℕ)
+    → list_heads_by read more (suc fuel) left bytes
+    ≡ step_heads read more (list_heads_by read more fuel) left (step_at left bytes)
+unfolding list_heads_by
+list_step read more fuel left bytes = refl
+
+list_stepped : {A : Type 0} (read : Reader A) (more : Tally) (fuel : ℕ) (left : Option ℕ) (bytes : List ℕ)
+    (s : Option Step) → step_at left bytes ≡ s
+    → list_heads_by read more (suc fuel) left bytes ≡ step_heads read more (list_heads_by read more fuel) left s
+list_stepped read more fuel left bytes s e =
+    list_step read more fuel left bytes ∙ ap (step_heads read more (list_heads_by read more fuel) left) e
+
+module _ {A : Type 0} {read : Reader A} {more : Tally} {all left : Option ℕ} {a b : Walk}
+    (t : Tallies read more all left a b) where
+  -- nothing follows but these heads
+  pub tallies_end : (c : Walk) (n : ℕ) (s : Option Step) → step_at left (ahead b) ≡ s → c.heads ≡ raised b.heads n
+      → ((fuel : ℕ) → step_heads read more (list_heads_by read more fuel) left s ≡ n)
+      → c.heads ≡ raised a.heads (list_heads read more all (ahead a))
+  tallies_end c n s e counted last = by_fuel t.fuel t.enough t.sum where
+    by_fuel : (fuel : ℕ) → length (ahead b) < fuel
+        → list_heads read more all (ahead a) ≡ t.decoded + list_heads_by read more fuel left (ahead b)
+        → c.heads ≡ raised a.heads (list_heads read more all (ahead a))
+    by_fuel zero enough sum = absurd (omega arith)
+    by_fuel (suc fuel) enough sum = decoded_then a b c t.decoded n _ t.heads counted
+        (sum ∙ ap (λ (k : ℕ). t.decoded + k) (list_stepped read more fuel left (ahead b) s e ∙ last fuel))
+
+  -- the next element was decoded, with its first head
+  pub tallies_on : (after : Option ℕ) (c d : Walk) (h : Head) (x : A) → ElementRead left after b c h
+      → read h (ahead c) ≡ Some (x, ahead d) → d.heads ≡ raised c.heads (more h (ahead c))
+      → length (ahead d) < length (ahead b) → Tallies read more all after a d
+  tallies_on after c d h x r e counted shorter = by_fuel t.fuel t.enough t.sum where
+    by_fuel : (fuel : ℕ) → length (ahead b) < fuel
+        → list_heads read more all (ahead a) ≡ t.decoded + list_heads_by read more fuel left (ahead b)
+        → Tallies read more all after a d
+    by_fuel zero enough sum = absurd (omega arith)
+    by_fuel (suc fuel) enough sum =
+        let one : list_heads_by read more (suc fuel) left (ahead b)
+        ≡ suc (more h (ahead c) + list_heads_by read more fuel after (ahead d)) =
+        list_stepped read more fuel left (ahead b) (Some (element after h (ahead c))) r.reads
+        ∙ ap (λ (n : ℕ). suc (more h (ahead c) + n))
+        (then_some (read h (ahead c)) x (ahead d) (list_heads_by read more fuel after) e) in
+        record {
+          decoded = t.decoded + suc (more h (ahead c));
+          heads = decoded_then a b d t.decoded (suc (more h (ahead c))) (t.decoded + suc (more h (ahead c))) t.heads
+              (decoded_then b c d 1 (more h (ahead c)) (suc (more h (ahead c))) r.counted counted (omega arith)) refl;
+          fuel = fuel;
+          enough = omega (arith, enough, shorter);
+          sum = omega (arith, sum, one);
+        }
+
+  -- the next element wasn't
+  pub tallies_stuck : (after : Option ℕ) (c d : Walk) (h : Head) → ElementRead left after b c h
+      → read h (ahead c) ≡ None → d.heads ≡ raised c.heads (more h (ahead c))
+      → d.heads ≡ raised a.heads (list_heads read more all (ahead a))
+  tallies_stuck after c d h r e counted =
+      tallies_end d (suc (more h (ahead c))) (Some (element after h (ahead c))) r.reads
+      (decoded_then b c d 1 (more h (ahead c)) (suc (more h (ahead c))) r.counted counted (omega arith))
+      (λ fuel. omega (arith, then_none (read h (ahead c)) (list_heads_by read more fuel after) e))
+
+-- an element leaves fewer bytes
+pub shorter : (b c d : Walk) → Passed b c → b.place < c.place → Passed c d → length (ahead d) < length (ahead b)
+shorter b c d first further second = omega (
+  arith,
+  ap length first.same,
+  ap length second.same,
+  further,
+  first.within,
+  second.forward,
+  second.within,
+  length-drop b.place b.bytes,
+  length-drop d.place d.bytes,
+)
+
+-- ---- in a list of known length
+
+known_begun : {A : Type 0} (read : Reader A) (more : Tally) (others : Option ℕ → List ℕ → ℕ) (n : ℕ) (o : Read Head)
+    → step_heads read more others (Some (suc n)) (o >>= λ h. Some (element (Some n) h.0 h.1))
+    ≡ begun_heads more o + then_heads (o >>= λ h. read h.0 h.1) (others (Some n))
+known_begun read more others n None = omega arith
+known_begun read more others n (Some h) = omega arith
+
+known_step : {A : Type 0} (read : Reader A) (more : Tally) (fuel n : ℕ) (bytes : List ℕ)
+    → list_heads_by read more (suc fuel) (Some (suc n)) bytes
+    ≡ start_heads more bytes + then_heads (start read bytes) (list_heads_by read more fuel (Some n))
+unfolding step_at
+known_step read more fuel n bytes = list_step read more fuel (Some (suc n)) bytes
+    ∙ known_begun read more (list_heads_by read more fuel) n (head_at bytes)
+
+pub tallies_over : {A : Type 0} (read : Reader A) (more : Tally) (all : Option ℕ) (left n : ℕ) (a b d : Walk) (x : A)
+    → left ≡ suc n → Tallies read more all (Some left) a b → start read (ahead b) ≡ Some (x, ahead d)
+    → d.heads ≡ raised b.heads (start_heads more (ahead b)) → length (ahead d) < length (ahead b)
+    → Tallies read more all (Some n) a d
+tallies_over read more all left n a b d x one t e counted shorter = by_fuel t.fuel t.enough (rw (← one) t.sum) where
+  by_fuel : (fuel : ℕ) → length (ahead b) < fuel
+      → list_heads read more all (ahead a) ≡ t.decoded + list_heads_by read more fuel (Some (suc n)) (ahead b)
+      → Tallies read more all (Some n) a d
+  by_fuel zero enough sum = absurd (omega arith)
+  by_fuel (suc fuel) enough sum =
+      let here : list_heads_by read more (suc fuel) (Some (suc n)) (ahead b)
+      ≡ start_heads more (ahead b) + list_heads_by read more fuel (Some n) (ahead d) =
+      known_step read more fuel n (ahead b) ∙ ap (λ (k : ℕ). start_heads more (ahead b) + k)
+      (then_some (start read (ahead b)) x (ahead d) (list_heads_by read more fuel (Some n)) e) in
+      record {
+        decoded = t.decoded + start_heads more (ahead b);
+        heads = decoded_then a b d t.decoded (start_heads more (ahead b)) _ t.heads counted refl;
+        fuel = fuel;
+        enough = omega (arith, enough, shorter);
+        sum = omega (arith, sum, here);
+      }
+
+pub tallies_nowhere : {A : Type 0} (read : Reader A) (more : Tally) (all : Option ℕ) (left n : ℕ) (a b d : Walk)
+    → left ≡ suc n → Tallies read more all (Some left) a b → start read (ahead b) ≡ None
+    → d.heads ≡ raised b.heads (start_heads more (ahead b))
+    → d.heads ≡ raised a.heads (list_heads read more all (ahead a))
+tallies_nowhere read more all left n a b d one t e counted = by_fuel t.fuel t.enough (rw (← one) t.sum) where
+  by_fuel : (fuel : ℕ) → length (ahead b) < fuel
+      → list_heads read more all (ahead a) ≡ t.decoded + list_heads_by read more fuel (Some (suc n)) (ahead b)
+      → d.heads ≡ raised a.heads (list_heads read more all (ahead a))
+  by_fuel zero enough sum = absurd (omega arith)
+  by_fuel (suc fuel) enough sum = decoded_then a b d t.decoded (start_heads more (ahead b)) _ t.heads counted
+      (sum ∙ ap (λ (k : ℕ). t.decoded + k) (known_step read more fuel n (ahead b)
+      ∙ omega (arith, then_none (start read (ahead b)) (list_heads_by read more fuel (Some n)) e)))
+
+-- ---- strings
+
+pub piece_heads : (is_text : Bool) (len : Option ℕ) (n : ℕ) (bytes : List ℕ) (a b : Walk) → len ≡ Some n
+    → b.heads ≡ a.heads → b.heads ≡ raised a.heads (string_heads is_text len bytes)
+piece_heads is_text len n bytes a b is same = rw is same
