@@ -7,7 +7,7 @@ use passkey_core::{
     Aaguid, AttestedCredentialData, AuthenticatorData, Flags, get_assertion, make_credential,
 };
 use passkey_cose::iana::KeyType;
-use passkey_cose::{CoseKey, Registered};
+use passkey_cose::{CoseError, CoseKey, Registered};
 use std::process::Abort;
 
 /// The SHA-256 hash of `abc` (FIPS 180-4).
@@ -279,14 +279,50 @@ fn some_data_are_coherent(rt: HostRuntime) {
     }
 }
 
-/// What data decodes to whose encoding has these bytes after the hash: its extensions, or the
-/// error.
-fn reread(rt: &(impl Abort + AllocGlobal), behind: &[u8]) -> String {
-    let text = match AuthenticatorData::from_slice(rt.alloc(), with_hash(rt, behind).as_slice()) {
+/// The extensions of the data, or the error.
+fn told(rt: &(impl Abort + AllocGlobal), data: Result<AuthenticatorData, CoseError>) -> String {
+    let text = match data {
         Ok(data) => format!(in rt.alloc(); "{:?}", &data.extensions),
         Err(error) => format!(in rt.alloc(); "{error}"),
     };
     text.expect(rt, "memory")
+}
+
+/// What data decodes to whose encoding has these bytes after the hash.
+fn reread(rt: &(impl Abort + AllocGlobal), behind: &[u8]) -> String {
+    let bytes = with_hash(rt, behind);
+    told(
+        rt,
+        AuthenticatorData::from_slice(rt.alloc(), bytes.as_slice()),
+    )
+}
+
+/// What follows the hash, and what `from_slice_exact` returns: the extensions, or the first error,
+/// with loose bytes behind as the last one (WebAuthn Level 3, section 6.1).
+const EXACTLY: &[(&[u8], &str)] = &[
+    (b"\x00\0\0\0\0", "None"),
+    (b"\x00\0\0\0\0\x00", "DecodeFailed"),
+    (b"\x80\0\0\0\0\xa0", "Some(Map([]))"),
+    (b"\x80\0\0\0\0\xa0\xa0", "DecodeFailed"),
+    (
+        b"\x40\0\0\0\0\0\0\0\0\0\0\0\0\0\0\0\0\0\0\0\0\0\x01\x09\xa2\x01\x02\x03\x26",
+        "None",
+    ),
+    (
+        b"\x40\0\0\0\0\0\0\0\0\0\0\0\0\0\0\0\0\0\0\0\0\0\x01\x09\xa2\x01\x02\x03\x26\xa0",
+        "DecodeFailed",
+    ),
+    (b"\x02\0\0\0\0\x00", "OutOfRangeIntegerValue"),
+    (b"\x80\0\0\0\0\x01\x00", "UnexpectedItem"),
+];
+
+#[test]
+fn bytes_behind_the_data_are_rejected_if_asked(rt: HostRuntime) {
+    for (behind, wanted) in EXACTLY {
+        let bytes = with_hash(&rt, behind);
+        let data = AuthenticatorData::from_slice_exact(rt.alloc(), bytes.as_slice());
+        assert_same(&rt, told(&rt, data).as_str(), wanted);
+    }
 }
 
 /// Asserts that the data isn't coherent, and asserts its encoding and what the encoding decodes to.

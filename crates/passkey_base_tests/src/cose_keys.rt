@@ -120,6 +120,45 @@ fn keys_are_decoded_and_copied(rt: HostRuntime) {
     }
 }
 
+/// The encodings of public keys, and what `ec2`, `okp` and `rsa` return.
+const PUBLIC_KEYS: &[(&[u8], &str)] = &[
+    (POINT, "Some((1, [1], [2])), None, None"),
+    (
+        &[0xa3, 0x01, 0x01, 0x20, 0x06, 0x21, 0x41, 0x09],
+        "None, Some((6, [9])), None",
+    ),
+    (
+        &[
+            0xa3, 0x01, 0x03, 0x20, 0x41, 0x05, 0x21, 0x43, 0x01, 0x00, 0x01,
+        ],
+        "None, None, Some(([5], [1, 0, 1]))",
+    ),
+    // A compressed point, a point without x, and a curve that is a text.
+    (
+        &[0xa4, 0x01, 0x02, 0x20, 0x01, 0x21, 0x41, 0x01, 0x22, 0xf5],
+        "None, None, None",
+    ),
+    (
+        &[0xa3, 0x01, 0x02, 0x20, 0x01, 0x22, 0x41, 0x02],
+        "None, None, None",
+    ),
+    (
+        &[0xa3, 0x01, 0x01, 0x20, 0x61, 0x61, 0x21, 0x41, 0x09],
+        "None, None, None",
+    ),
+];
+
+#[test]
+fn public_keys_have_the_parts_of_their_type(rt: HostRuntime) {
+    for (bytes, wanted) in PUBLIC_KEYS {
+        let value = Cursor::new(bytes).value(rt.alloc()).expect(&rt, "an item");
+        let key = CoseKey::from_value(rt.alloc(), &value).expect(&rt, "a key");
+        let (ec2, okp, rsa) = (key.ec2(), key.okp(), key.rsa());
+        let shown = format!(in rt.alloc(); "{ec2:?}, {okp:?}, {rsa:?}").expect(&rt, "memory");
+        assert_same(&rt, shown.as_str(), wanted);
+    }
+}
+
 fn fault_of_param(rt: &(impl Abort + AllocGlobal), label: i64) -> Option<CoseError> {
     let answer = point(rt).with_param(rt.alloc(), Label::Int(label), Value::Null);
     answer.map_err(CoseError::from).err()

@@ -6,7 +6,7 @@ use Rattle.std.specs.Result.{result_map_both}
 use Rattle.std.proofs.Common.{◌≡◌, ◌∙◌, inl, ℕ, ◌<◌, ◌^◌, nat_lt, ◌==◌, List, [], ◌∷◌, ◌++◌, length, take, drop, Bool, true, false, not, ◌&&◌, Option, Some, None, option_map, unwrap_or, Result, Ok, refl, sym, ap, subst, arith}
 use Rattle.std.proofs.lemmas.Bool.{true≢false, and_parts, not-true, leb-true}
 use Rattle.std.proofs.lemmas.Bool.Decides.{Decides-eqb}
-use Rattle.std.proofs.lemmas.List.{append_assoc, length-append}
+use Rattle.std.proofs.lemmas.List.{append_assoc, append-nil, length-append}
 use Rattle.std.proofs.lemmas.Nat.{from_be_bytes-to_be_bytes_2, from_be_bytes-to_be_bytes_4}
 use Rattle.std.proofs.Math.Seq.{take-append_seam, drop-append_seam}
 use Rattle.passkey_cbor.specs.Heads.{two, four}
@@ -21,12 +21,12 @@ use Rattle.passkey_cose.specs.KeyNormal.{normal_key}
 use Rattle.passkey_cose.specs.KeyParts.{key_item}
 use Rattle.passkey_cose.specs.KeyReading.{read_key}
 use Rattle.passkey_cose.specs.declared.error.CoseError.{CoseError}
-use Rattle.passkey_core.specs.Coherent.{is_map, are_extensions_readable, agrees}
+use Rattle.passkey_core.specs.Coherent.{is_map, are_extensions_readable, agrees, is_coherent}
 use Rattle.passkey_core.specs.DataFlags.{has_flag, attested_flag, extensions_flag}
-use Rattle.passkey_core.specs.DataLaws.{WrittenDataAreReadBack}
-use Rattle.passkey_core.specs.DataNormal.{normal_attested, normal_data, IsAttested, IfPresent}
+use Rattle.passkey_core.specs.DataLaws.{WrittenDataAreReadBack, WrittenDataAreReadExactly}
+use Rattle.passkey_core.specs.DataNormal.{normal_attested, normal_data, IsAttested, IsData, IfPresent}
 use Rattle.passkey_core.specs.DataParts.{AttestedParts, DataParts, bare_data}
-use Rattle.passkey_core.specs.DataReading.{Begun, ◌>>=◌, bytes_at, known_only, fixed_at, ids_at, read_map, ReadsItem, ReadsAttested, ReadsWhere, ReadsData}
+use Rattle.passkey_core.specs.DataReading.{Begun, ◌>>=◌, bytes_at, known_only, fixed_at, ids_at, read_map, ReadsItem, ReadsAttested, ReadsWhere, whole_only, ReadsDataThen, ReadsDataExactly}
 use Rattle.passkey_core.specs.DataWritten.{attested_written, flags_written, data_written}
 use Rattle.passkey_core.specs.Flags.{reserved_flags}
 
@@ -156,8 +156,10 @@ flags_back is_readable flags None e = refl
 flags_back is_readable flags (Some a) e =
     flag_held flags (and_parts (has_flag attested_flag flags) (is_readable a) e).0
 
-pub data_back : WrittenIsLeadingItem → WrittenIsReadBack → WrittenDataAreReadBack
-data_back law keys d rest valid coherent =
+data_back_then : {Y : Type 0} → WrittenIsLeadingItem → WrittenIsReadBack
+    → (finish : DataParts → List ℕ → Result Y CoseError) (d : DataParts) (rest : List ℕ) → IsData d
+    → is_coherent d ≡ true → ReadsDataThen finish (data_written d ++ rest) (finish (normal_data d) rest)
+data_back_then {Y} law keys finish d rest valid coherent =
     let attested = d.attested in
     let extensions = d.extensions in
     let key_of : AttestedParts → Bool = λ a. is_key_readable a.key in
@@ -175,8 +177,8 @@ data_back law keys d rest valid coherent =
     ∙ ap (λ (f : ℕ). d.rp_id_hash ++ ((f ∷ []) ++ (to_be_bytes w32 (unwrap_or d.counter 0) ++ last))) same in
     let fixed =
     fixed_back d.rp_id_hash d.flags (unwrap_or d.counter 0) last valid.rp_id_hash valid.counter known.0 in
-    let reads : ReadsData (d.rp_id_hash ++ ((d.flags ∷ []) ++ (to_be_bytes w32 (unwrap_or d.counter 0) ++ last)))
-    (Ok (normal_data d)) = record {
+    let reads : ReadsDataThen finish (d.rp_id_hash ++ ((d.flags ∷ []) ++ (to_be_bytes w32 (unwrap_or d.counter 0)
+    ++ last))) (finish (normal_data d) rest) = record {
       begun = Ok (bare_data d.rp_id_hash d.flags (Some (unwrap_or d.counter 0)), last);
       begins = sym fixed;
       goes_on = record {
@@ -187,9 +189,17 @@ data_back law keys d rest valid coherent =
           begun = Ok (option_map (λ x. x) extensions, rest);
           begins = where_back IsWritable are_extensions_readable written (λ x. x) (ReadsItem read_map)
               (extensions_back law) (has_flag extensions_flag d.flags) extensions rest valid.extensions front.1;
-          goes_on = ap (λ (x : Option Item). (let r : Result DataParts CoseError =
-              Ok (record (normal_data d) { extensions = x }) in r)) (sym (kept extensions));
+          goes_on = ap (λ (x : Option Item). (let r : Result Y CoseError =
+              finish (record (normal_data d) { extensions = x }) rest in r)) (sym (kept extensions));
         };
       };
     } in
-    subst (λ (bytes : List ℕ). ReadsData bytes (Ok (normal_data d))) (sym whole) reads
+    subst (λ (bytes : List ℕ). ReadsDataThen finish bytes (finish (normal_data d) rest)) (sym whole) reads
+
+pub data_back : WrittenIsLeadingItem → WrittenIsReadBack → WrittenDataAreReadBack
+data_back law keys = data_back_then law keys (λ d last. Ok d)
+
+pub data_back_exactly : WrittenIsLeadingItem → WrittenIsReadBack → WrittenDataAreReadExactly
+data_back_exactly law keys d valid coherent =
+    subst (λ (bytes : List ℕ). ReadsDataExactly bytes (Ok (normal_data d))) (append-nil (data_written d))
+    (data_back_then law keys whole_only d [] valid coherent)

@@ -5,12 +5,12 @@ use Rattle.std.specs.Result.{IsOkAnd}
 use Rattle.passkey_cbor.specs.Item.{Item}
 use Rattle.passkey_cbor.specs.Reads.{HasGrowingLeadingItem}
 use Rattle.passkey_cose.specs.declared.error.CoseError.{CoseError}
-use Rattle.passkey_cose.specs.declared.error.CoseError.TheVariants.{DecodeFailed, OutOfMemory, OutOfRangeIntegerValue, DuplicateMapKey, UnexpectedItem}
+use Rattle.passkey_cose.specs.declared.error.CoseError.TheVariants.{DecodeFailed, OutOfMemory, OutOfRangeIntegerValue}
 use Rattle.passkey_core.specs.DataParts.{AttestedParts, DataParts}
 use Rattle.passkey_core.specs.Flags.{reserved_flags}
 use Rattle.passkey_core.specs.DataFlags.{has_flag, attested_flag, extensions_flag}
 use Rattle.passkey_core.specs.DataAnswers.{Returns}
-use Rattle.passkey_core.specs.DataReading.{Begun, ◌>>=◌, bytes_at, known_only, fixed_at, read_map, ReadsItem, Behind, ReadsThen, ReadsAttested, ReadsWhere, ReadsData, AttestedGrows, PartsGrow, DataGrow}
+use Rattle.passkey_core.specs.DataReading.{Begun, ◌>>=◌, bytes_at, known_only, fixed_at, read_map, ReadsItem, Behind, ReadsThen, ReadsAttested, ReadsWhere, ReadsDataThen, AttestedGrows, PartsGrow, DataGrow}
 
 -- an error of one reading is an error of another
 pub gives_fault : {A B C D : Type 0} (memory : Type 0) (other : Type 0) (seen : A → B) (told : C → D)
@@ -75,26 +75,29 @@ fixed_shape Q cut range known bytes = at_shape Q cut 32 bytes _ (λ hash. at_sha
     (λ flags. at_shape Q cut 4 flags.1 _ (λ counter. known_shape Q range known _ counter.1)))
 
 -- an error in the parts of fixed length is the result
-abbrev FailsAs : {A : Type 0} → Type 0 → (A → DataParts) → List ℕ → Begun DataParts → Type 0
-FailsAs memory seen bytes (Ok p) = Unit {0}
-FailsAs memory seen bytes (Err e) = fixed_at bytes ≡ Err e → Returns memory seen (ReadsData bytes) (Err e)
+abbrev FailsAs : {A Y : Type 0} → (DataParts → List ℕ → Result Y CoseError) → Type 0 → (A → Y) → List ℕ
+    → Begun DataParts → Type 0
+FailsAs finish memory seen bytes (Ok p) = Unit {0}
+FailsAs finish memory seen bytes (Err e) =
+    fixed_at bytes ≡ Err e → Returns memory seen (ReadsDataThen finish bytes) (Err e)
 
-pub fixed_fails : {A : Type 0} (memory : Type 0) (seen : A → DataParts) (bytes : List ℕ) (e : CoseError)
-    → fixed_at bytes ≡ Err e → Returns memory seen (ReadsData bytes) (Err e)
-fixed_fails memory seen bytes e h =
-    let wanted : FailsAs memory seen bytes (fixed_at bytes) = fixed_shape (FailsAs memory seen bytes)
+pub fixed_fails : {A Y : Type 0} (finish : DataParts → List ℕ → Result Y CoseError) (memory : Type 0) (seen : A → Y)
+    (bytes : List ℕ) (e : CoseError) → fixed_at bytes ≡ Err e
+    → Returns memory seen (ReadsDataThen finish bytes) (Err e)
+fixed_fails finish memory seen bytes e h =
+    let wanted : FailsAs finish memory seen bytes (fixed_at bytes) = fixed_shape (FailsAs finish memory seen bytes)
     (λ g. record { begun = Err DecodeFailed; begins = sym g; goes_on = refl }) (λ g.
     record { begun = Err OutOfRangeIntegerValue; begins = sym g; goes_on = refl }) (λ d rest known. tt) bytes in
-    (subst (FailsAs memory seen bytes) h wanted) h
+    (subst (FailsAs finish memory seen bytes) h wanted) h
 
-pub attested_fails : {A B : Type 0} (seen : A → DataParts) (told : B → Option AttestedParts × List ℕ)
-    (bytes : List ℕ) (fixed : DataParts) (rest : List ℕ) (e : CoseError) → Ok (fixed, rest) ≡ fixed_at bytes
+pub attested_fails : {A B Y : Type 0} (finish : DataParts → List ℕ → Result Y CoseError) (seen : A → Y)
+    (told : B → Option AttestedParts × List ℕ) (bytes : List ℕ) (fixed : DataParts) (rest : List ℕ) (e : CoseError) → Ok (fixed, rest) ≡ fixed_at bytes
     → Returns ((has_flag attested_flag fixed.flags ≡ true) × AttestedGrows rest) told
     (ReadsWhere (has_flag attested_flag fixed.flags) ReadsAttested rest) (Err e)
-    → Returns (DataGrow bytes) seen (ReadsData bytes) (Err e)
-attested_fails seen told bytes fixed rest e is_fixed h =
+    → Returns (DataGrow bytes) seen (ReadsDataThen finish bytes) (Err e)
+attested_fails finish seen told bytes fixed rest e is_fixed h =
     gives_fault ((has_flag attested_flag fixed.flags ≡ true) × AttestedGrows rest) (DataGrow bytes) told seen
-    (ReadsWhere (has_flag attested_flag fixed.flags) ReadsAttested rest) (ReadsData bytes)
+    (ReadsWhere (has_flag attested_flag fixed.flags) ReadsAttested rest) (ReadsDataThen finish bytes)
     (λ grows. subst (λ (begun : Begun DataParts). IsOkAnd begun (λ p. PartsGrow p.0 p.1)) is_fixed (inl grows))
     (λ f g. record {
       begun = Ok (fixed, rest);
@@ -103,15 +106,15 @@ attested_fails seen told bytes fixed rest e is_fixed h =
     })
     e h
 
-pub extensions_fail : {A B : Type 0} (seen : A → DataParts) (told : B → Option Item × List ℕ) (bytes : List ℕ)
-    (fixed : DataParts) (rest : List ℕ) (attested : Option AttestedParts) (behind : List ℕ) (e : CoseError)
+pub extensions_fail : {A B Y : Type 0} (finish : DataParts → List ℕ → Result Y CoseError) (seen : A → Y)
+    (told : B → Option Item × List ℕ) (bytes : List ℕ) (fixed : DataParts) (rest : List ℕ) (attested : Option AttestedParts) (behind : List ℕ) (e : CoseError)
     → Ok (fixed, rest) ≡ fixed_at bytes → ReadsWhere (has_flag attested_flag fixed.flags) ReadsAttested rest
     (Ok (attested, behind)) → Returns ((has_flag extensions_flag fixed.flags ≡ true) × HasGrowingLeadingItem behind)
     told (ReadsWhere (has_flag extensions_flag fixed.flags) (ReadsItem read_map) behind) (Err e)
-    → Returns (DataGrow bytes) seen (ReadsData bytes) (Err e)
-extensions_fail seen told bytes fixed rest attested behind e is_fixed is_attested h =
+    → Returns (DataGrow bytes) seen (ReadsDataThen finish bytes) (Err e)
+extensions_fail finish seen told bytes fixed rest attested behind e is_fixed is_attested h =
     gives_fault ((has_flag extensions_flag fixed.flags ≡ true) × HasGrowingLeadingItem behind) (DataGrow bytes) told
-    seen (ReadsWhere (has_flag extensions_flag fixed.flags) (ReadsItem read_map) behind) (ReadsData bytes)
+    seen (ReadsWhere (has_flag extensions_flag fixed.flags) (ReadsItem read_map) behind) (ReadsDataThen finish bytes)
     (λ grows. subst (λ (begun : Begun DataParts). IsOkAnd begun (λ p. PartsGrow p.0 p.1)) is_fixed
     (inr (grows.0, record { attested = attested; behind = behind; begins = is_attested; grows = grows.1 })))
     (λ f g. record {

@@ -6,7 +6,7 @@ use Rattle.passkey_core.specs.Coherent.{is_coherent}
 use Rattle.passkey_core.specs.DataNormal.{normal_data, IsData}
 use Rattle.passkey_core.specs.DataParts.{DataParts}
 use Rattle.passkey_core.specs.DataRead.{read_data}
-use Rattle.passkey_core.specs.DataReading.{ReadsData}
+use Rattle.passkey_core.specs.DataReading.{ReadsData, ReadsDataExactly}
 use Rattle.passkey_core.specs.DataWritten.{data_written}
 
 -- Bytes have only one reading: certain data, or a certain error.
@@ -33,3 +33,12 @@ ReadIsCoherent = (bytes : List ℕ) (d : DataParts) → ReadsData bytes (Ok d) �
 abbrev pub WrittenDataAreReadBack : Type 0
 WrittenDataAreReadBack = (d : DataParts) (rest : List ℕ) → IsData d → is_coherent d ≡ true
     → ReadsData (data_written d ++ rest) (Ok (normal_data d))
+
+-- What is read exactly is read with bytes behind ignored, too.
+abbrev pub ExactReadingIsReading : Type 0
+ExactReadingIsReading = (bytes : List ℕ) (d : DataParts) → ReadsDataExactly bytes (Ok d) → ReadsData bytes (Ok d)
+
+-- Coherent data, when written, is read exactly, as its normal form.
+abbrev pub WrittenDataAreReadExactly : Type 0
+WrittenDataAreReadExactly = (d : DataParts) → IsData d → is_coherent d ≡ true
+    → ReadsDataExactly (data_written d) (Ok (normal_data d))

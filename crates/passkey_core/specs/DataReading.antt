@@ -1,5 +1,5 @@
 -- Decoding authenticator data (WebAuthn Level 3, sections 6.1 and 6.5.1).
-use Rattle.std.specs.Prelude.{◌≡◌, ◌⊎◌, ℕ, ◌==◌, nat_lt, List, length, take, drop, slice_index, Bool, true, false, if◌then◌else◌, Option, Some, None, Result, Ok, Err}
+use Rattle.std.specs.Prelude.{◌≡◌, ◌⊎◌, ℕ, ◌==◌, nat_lt, List, [], ◌∷◌, length, take, drop, slice_index, Bool, true, false, if◌then◌else◌, Option, Some, None, Result, Ok, Err}
 use Rattle.std.specs.Int.{w16, w32, from_be_bytes}
 use Rattle.std.specs.Int.RustNames.{bit_and}
 use Rattle.std.specs.Result.{result_map_both, IsOkAnd}
@@ -89,14 +89,32 @@ abbrev pub ReadsWhere : {X : Type 0} → Bool → (List ℕ → Begun X → Type
 ReadsWhere true part bytes = ReadsThen (part bytes) (λ x rest begun. begun ≡ Ok (Some x, rest))
 ReadsWhere false part bytes = λ begun. begun ≡ Ok (None, bytes)
 
--- the data, or the first error; bytes after the last part are ignored
-abbrev pub ReadsData : List ℕ → Result DataParts CoseError → Type 0
-ReadsData bytes =
+-- the data, if no bytes follow
+abbrev pub whole_only : DataParts → List ℕ → Result DataParts CoseError
+whole_only d [] = Ok d
+whole_only d (b ∷ bs) = Err DecodeFailed
+
+-- the first error; or what `finish` makes of the data and of the bytes after the last part
+abbrev pub ReadsDataThen : {Y : Type 0} → (DataParts → List ℕ → Result Y CoseError) → List ℕ
+    → Result Y CoseError → Type 0
+ReadsDataThen finish bytes =
     ReadsThen (λ fixed. fixed ≡ fixed_at bytes) (λ fixed rest.
     ReadsThen (ReadsWhere (has_flag attested_flag fixed.flags) ReadsAttested rest) (λ attested behind.
     ReadsThen (ReadsWhere (has_flag extensions_flag fixed.flags) (ReadsItem read_map) behind)
     (λ extensions last answer.
-    answer ≡ Ok (record fixed { attested = attested; extensions = extensions }))))
+    answer ≡ finish (record fixed { attested = attested; extensions = extensions }) last)))
+
+-- the data, or the first error; bytes after the last part are ignored
+abbrev pub ReadsData : List ℕ → Result DataParts CoseError → Type 0
+ReadsData = ReadsDataThen (λ d last. Ok d)
+
+-- the data and the bytes after the last part, or the first error
+abbrev pub ReadsDataFront : List ℕ → Begun DataParts → Type 0
+ReadsDataFront = ReadsDataThen (λ d last. Ok (d, last))
+
+-- the data, or the first error, the last of which is that bytes follow the last part
+abbrev pub ReadsDataExactly : List ℕ → Result DataParts CoseError → Type 0
+ReadsDataExactly = ReadsDataThen whole_only
 
 -- attested credential data may run out of memory only if the credential id is complete and the leading data
 -- item after it takes memory

@@ -1,5 +1,5 @@
 //! Laws about authenticator data, each the contract of a function that does nothing.
-ghost use Rattle.passkey_core.specs.DataLaws.{OneReading, GivenIsRead, ReadIsGiven, GivenIsCoherent, ReadIsCoherent, WrittenDataAreReadBack};
+ghost use Rattle.passkey_core.specs.DataLaws.{ExactReadingIsReading, OneReading, GivenIsRead, ReadIsGiven, GivenIsCoherent, ReadIsCoherent, WrittenDataAreReadBack, WrittenDataAreReadExactly};
 
 /// Bytes decode to only one result: certain data, or a certain error (WebAuthn Level 3, section
 /// 6.1).
@@ -43,6 +43,21 @@ pub fn read_data_is_coherent()
 /// counter, and with assigned numbers in the key as the registry's values.
 pub fn written_data_are_read_back()
     ensures { WrittenDataAreReadBack }
+{
+    passkey_cbor::laws::written_is_leading_item();
+    passkey_cose::laws::written_key_is_read_back();
+}
+
+/// If bytes decode to data without bytes behind it, they decode to the same data where bytes behind
+/// are ignored.
+pub fn exact_reading_is_reading()
+    ensures { ExactReadingIsReading }
+{}
+
+/// The encoding of coherent data decodes to this data exactly, without bytes behind it, in the same
+/// normal form.
+pub fn written_data_are_read_exactly()
+    ensures { WrittenDataAreReadExactly }
 {
     passkey_cbor::laws::written_is_leading_item();
     passkey_cose::laws::written_key_is_read_back();

@@ -1,5 +1,5 @@
 //! Laws about keys, each the contract of a function that does nothing.
-ghost use Rattle.passkey_cose.specs.KeyLaws.{ReadIsReadable, ReadIsWrittenAlike, WrittenIsReadBack};
+ghost use Rattle.passkey_cose.specs.KeyLaws.{MadeFromItsParts, ReadIsReadable, ReadIsWrittenAlike, WrittenIsReadBack};
 
 /// A decoded key is encoded as a data item that decodes to the same key.
 #[tactic(auto, using(crate::proofs::KeyRound::read_is_written_alike))]
@@ -18,4 +18,9 @@ pub fn written_key_is_read_back()
 #[tactic(auto, using(crate::proofs::KeyReadable::read_is_readable))]
 pub fn read_key_is_readable()
     ensures { ReadIsReadable }
+{}
+
+/// `ec2` returns what `new_ec2_pub_key` made the key from.
+pub fn ec2_key_is_made_from_its_parts()
+    ensures { MadeFromItsParts }
 {}

@@ -12,6 +12,7 @@ pub mod laws;
 mod make;
 mod names;
 mod parts;
+mod public;
 mod readable;
 mod reading;
 mod refused;

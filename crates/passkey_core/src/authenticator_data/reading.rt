@@ -9,7 +9,7 @@ ghost use Rattle.passkey_cose.specs.KeyReading.{read_key};
 ghost use Rattle.passkey_core.specs.DataAnswers.{Returns};
 ghost use Rattle.passkey_core.specs.DataCounts.{Counts, CountsEach, UnlessOutOfMemory};
 ghost use Rattle.passkey_core.specs.DataNodes.{count_data, count_key, count_where, data_nodes, data_places};
-ghost use Rattle.passkey_core.specs.DataReading.{bytes_at, fixed_at, ids_at, read_map, ReadsItem, ReadsAttested, ReadsWhere, ReadsData, AttestedGrows, DataGrow};
+ghost use Rattle.passkey_core.specs.DataReading.{bytes_at, fixed_at, ids_at, read_map, ReadsItem, ReadsAttested, ReadsWhere, ReadsData, ReadsDataFront, ReadsDataExactly, AttestedGrows, DataGrow};
 ghost use Rattle.passkey_core.specs.DataViews.{attested_parts, data_parts};
 
 use crate::aaguid::Aaguid;
@@ -176,12 +176,35 @@ fn read_extensions_where<'a>(
     Ok((Some(extensions), rest))
 }
 
+/// The data, and the bytes after the last part.
+fn read_front<'a>(alloc: Global, bytes: &'a [u8], count: &mut Count) -> Begun<'a, AuthenticatorData>
+    ensures value { Returns (DataGrow bytes.now) (λ r. (data_parts r.0, r.1.now)) (ReadsDataFront bytes.now) result }
+    ensures heads { count.new.heads ≤ count.old.heads + (4 * length bytes.now + 4) }
+    ensures nodes { count.new.nodes ≤ count.old.nodes + data_nodes bytes.now }
+    ensures least { 0 < data_places bytes.now → raised count.old.heads 1 ≤ count.new.heads }
+    ensures all { UnlessOutOfMemory result (CountsEach (λ each. count_data each bytes.now) count.old count.new) }
+    ensures heads_rise { count.old.heads ≤ count.new.heads }
+    ensures nodes_rise { count.old.nodes ≤ count.new.nodes }
+{
+    let (fixed, rest) = read_fixed(bytes)?;
+    let has_attested = bitflags::Flags::contains(&fixed.flags, Flags::AT);
+    let has_extensions = bitflags::Flags::contains(&fixed.flags, Flags::ED);
+    let (attested, rest) = read_attested_where(alloc, has_attested, rest, count)?;
+    let (extensions, last) = read_extensions_where(alloc, has_extensions, rest, count)?;
+    let data = AuthenticatorData {
+        attested_credential_data: attested,
+        extensions,
+        ..fixed
+    };
+    Ok((data, last))
+}
+
 impl AuthenticatorData {
     /// Decodes authenticator data at the beginning of the bytes (WebAuthn Level 3, section 6.1):
     /// the relying party id's hash of 32 bytes, the flags byte, and the signature counter of 4
     /// bytes, big-endian; if AT is set, attested credential data: an AAGUID of 16 bytes, a length
     /// of 2 bytes, big-endian, a credential id of that length, and a key; and if ED is set, a map.
-    /// Bytes after the last part are ignored.
+    /// Bytes after the last part are ignored; `from_slice_exact` rejects them.
     ///
     /// `DecodeFailed` if there are fewer than 37 bytes, the attested credential data is truncated,
     /// or no well-formed data item of at most 256 levels is where the key or the extensions should
@@ -199,6 +222,24 @@ impl AuthenticatorData {
     {
         let mut count = Count { heads: 0, nodes: 0 };
         AuthenticatorData::from_slice_counted(alloc, bytes, &mut count)
+    }
+
+    /// Decodes authenticator data that is all of the bytes: returns what `from_slice` returns, but
+    /// `DecodeFailed` instead of data if bytes follow the last part. This error is the last one: it
+    /// is returned only if there is no other. `OutOfMemory` comes as in `from_slice`, and may hide
+    /// that bytes follow.
+    ///
+    /// A server uses this call, since such bytes are signed but have no meaning; some authenticators
+    /// send them.
+    pub fn from_slice_exact(alloc: Global, bytes: &[u8]) -> Result<AuthenticatorData, CoseError>
+        ensures { Returns (DataGrow bytes.now) data_parts (ReadsDataExactly bytes.now) result }
+    {
+        let mut count = Count { heads: 0, nodes: 0 };
+        let (data, last) = read_front(alloc, bytes, &mut count)?;
+        if !last.is_empty() {
+            return Err(CoseError::DecodeFailed);
+        }
+        Ok(data)
     }
 
     /// Returns what `from_slice` returns, and adds its cost to `count`, even if it returns an
@@ -226,15 +267,7 @@ impl AuthenticatorData {
         ensures heads_rise { count.old.heads ≤ count.new.heads }
         ensures nodes_rise { count.old.nodes ≤ count.new.nodes }
     {
-        let (fixed, rest) = read_fixed(bytes)?;
-        let has_attested = bitflags::Flags::contains(&fixed.flags, Flags::AT);
-        let has_extensions = bitflags::Flags::contains(&fixed.flags, Flags::ED);
-        let (attested, rest) = read_attested_where(alloc, has_attested, rest, count)?;
-        let (extensions, _) = read_extensions_where(alloc, has_extensions, rest, count)?;
-        Ok(AuthenticatorData {
-            attested_credential_data: attested,
-            extensions,
-            ..fixed
-        })
+        let (data, _) = read_front(alloc, bytes, count)?;
+        Ok(data)
     }
 }

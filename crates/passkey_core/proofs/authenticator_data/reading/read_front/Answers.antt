@@ -6,18 +6,26 @@ use Rattle.passkey_cbor.specs.declared.value.Value.{Value}
 use Rattle.passkey_core.specs.DataAnswers.{Returns}
 use Rattle.passkey_core.specs.declared.attested.data.AttestedCredentialData.{AttestedCredentialData}
 use Rattle.passkey_core.specs.DataFlags.{has_flag, attested_flag, extensions_flag}
-use Rattle.passkey_core.specs.DataReading.{fixed_at, read_map, ReadsItem, ReadsAttested, ReadsWhere, AttestedGrows, DataGrow}
+use Rattle.passkey_core.specs.DataReading.{Begun, fixed_at, read_map, ReadsItem, ReadsAttested, ReadsWhere, AttestedGrows, DataGrow}
+use Rattle.passkey_core.specs.DataParts.{DataParts}
+use Rattle.passkey_core.specs.declared.authenticator_data.AuthenticatorData.{AuthenticatorData}
 use Rattle.passkey_core.specs.DataViews.{attested_parts, data_parts}
 use Rattle.passkey_core.proofs.DataReadings.{fixed_fails, extensions_fail}
 use Rattle.std.proofs.lemmas.Result.{err_from_is_err_and}
 use Rattle.passkey_core.proofs.DataTotals.{totals_fixed, totals_attested, totals, all_fixed, all_attested, all_counted}
-use Rattle.passkey_core.proofs.authenticator_data.AuthenticatorData.from_slice_counted.Goals as goal
+use Rattle.passkey_core.proofs.authenticator_data.reading.read_front.Goals as goal
+
+abbrev front_of : DataParts → List ℕ → Begun DataParts
+front_of d last = Ok (d, last)
+
+abbrev front_view : AuthenticatorData × Bor (List ℕ) → DataParts × List ℕ
+front_view r = (data_parts r.0, r.1.now)
 
 pub returns-in_err-fixed-clause-value : goal.returns-in_err-fixed-clause-value
 returns-in_err-fixed-clause-value c =
     let told : c.from_residual.result ≡ Err c.in_err-fixed.field-0.0 = search rules in
     let fails : fixed_at c.args.bytes.now ≡ Err c.in_err-fixed.field-0.0 = sym c.in_err-fixed.ensures in
-    rw told (fixed_fails (DataGrow c.args.bytes.now) data_parts c.args.bytes.now c.in_err-fixed.field-0.0 fails)
+    rw told (fixed_fails front_of (DataGrow c.args.bytes.now) front_view c.args.bytes.now c.in_err-fixed.field-0.0 fails)
 
 pub returns-in_err-extensions-clause-value : goal.returns-in_err-extensions-clause-value
 returns-in_err-extensions-clause-value c =
@@ -42,7 +50,7 @@ returns-in_err-extensions-clause-value c =
     subst (λ b. Returns ((b ≡ true) × HasGrowingLeadingItem c.in_ok-attested.rest.now) view
     (ReadsWhere b (ReadsItem read_map) c.in_ok-attested.rest.now) (Err c.in_err-extensions.field-0.0))
     extensions c.in_err-extensions.ensures.value in
-    rw told (extensions_fail data_parts view c.args.bytes.now (data_parts c.in_ok-fixed.fixed)
+    rw told (extensions_fail front_of front_view view c.args.bytes.now (data_parts c.in_ok-fixed.fixed)
     c.in_ok-fixed.rest.now (option_map attested_parts c.in_ok-attested.attested) c.in_ok-attested.rest.now
     c.in_err-extensions.field-0.0 c.in_ok-fixed.ensures is_attested fails)
 
