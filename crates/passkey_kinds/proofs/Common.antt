@@ -23,7 +23,6 @@ pub use Rattle.passkey_cbor.specs.Encoding.{Definite, pairs_len}
 pub use Rattle.passkey_cbor.specs.Found.{FindsHead}
 pub use Rattle.passkey_cbor.specs.Grows.{Grows}
 pub use Rattle.passkey_cbor.specs.HeadEncoding.{IsEncodingOfHead}
-pub use Rattle.passkey_cbor.specs.Initial.{major_of}
 pub use Rattle.passkey_cbor.proofs.Items.{pairs_of-members}
 pub use Rattle.passkey_cbor.specs.Inside.{Content, Left, PairWithin, Within, Inside}
 pub use Rattle.passkey_cbor.specs.Item.{Item, Pairs, no_pairs, pair, members, items_of, pairs_of, byte_string, array, boolean, null, text_string, elements, number}

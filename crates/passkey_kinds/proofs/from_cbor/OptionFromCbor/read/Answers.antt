@@ -12,19 +12,19 @@ returns-then-null-clause-further g c = skip_further _ _ c.if-null.ensures.passes
 pub returns-in_err-read-clause-reads : goal.returns-in_err-read-clause-reads
 returns-in_err-read-clause-reads g c = λ i to l.
     let p = err_from_is_err_and c.from_residual.result c.from_residual.ensures.1 in
-    let other = c.null.ensures.at i to l in
+    let other = c.if-null.ensures.at i to l in
     let there = stands_missed i other.1 l in
     let read = c.in_err-read.ensures.reads i to there in
     missed_then other.1 (stands_long i l) (grind (arith, failed, other_item, eased, stands_long, there, p, other, read))
 
 pub returns-clause-reads : goal.returns-clause-reads
 returns-clause-reads g c = λ i to l.
-    let other = c.null.ensures.at i to l in
+    let other = c.if-null.ensures.at i to l in
     let there = stands_missed i other.1 l in
     let read = c.in_ok-read.ensures.reads i to there in
     missed_then other.1 (stands_long i l) (grind (arith, other_item, eased, stands_long, there, other, read))
 
 pub returns-clause-further : goal.returns-clause-further
 returns-clause-further g c =
-    let looked = c.null.ensures.passes in
-    further_from _ _ _ (onward_of _ _ c.null.ensures.went) looked.1.place c.in_ok-read.ensures.further
+    let looked = c.if-null.ensures.passes in
+    further_from _ _ _ (onward_of _ _ c.if-null.ensures.went) looked.1.place c.in_ok-read.ensures.further
