@@ -1,5 +1,5 @@
 //! A cursor that decodes borrowed bytes head by head.
-ghost use Rattle.std.specs.Prelude.{◌≡◌, ℕ, ◌+◌, ◌<◌, ◌≤◌, drop, length, min, Some as There, None, option_map, slice_get, true, IfNone, IfSome};
+ghost use Rattle.std.specs.Prelude.{◌≡◌, ℕ, ◌+◌, ◌<◌, ◌≤◌, drop, length, min, Some as There, None, option_map, true, IfNone, IfSome};
 ghost use Rattle.std.specs.Str.{IsAscii};
 ghost use Rattle.passkey_cbor.specs.Walk.{ahead, raised, IsInside, IsPlaced, Went};
 ghost use Rattle.passkey_cbor.specs.Found.{FindsHead};
@@ -307,10 +307,18 @@ pub(crate) fn is_allowed(is_text: bool, bytes: &[u8]) -> bool
     ensures { result ≡ is_allowed is_text bytes.now }
 {
     if is_text {
-        is_short_ascii(bytes) || str::from_utf8(bytes).is_ok()
+        is_short_ascii(bytes) || is_utf8(bytes)
     } else {
         true
     }
+}
+
+// Not inlined, so that a short text needs no room for what `from_utf8` returns.
+#[inline(never)]
+fn is_utf8(bytes: &[u8]) -> bool
+    ensures { result ≡ is_allowed true bytes.now }
+{
+    str::from_utf8(bytes).is_ok()
 }
 
 // Whether these are at most 64 bytes, and all ASCII: for so few this takes less time than
