@@ -1,5 +1,5 @@
 //! A cursor that decodes borrowed bytes head by head.
-ghost use Rattle.std.specs.Prelude.{◌≡◌, ℕ, ◌+◌, ◌<◌, ◌≤◌, drop, length, min, Some as There, None, option_map, true, IfNone, IfSome};
+ghost use Rattle.std.specs.Prelude.{◌≡◌, ℕ, ◌+◌, ◌<◌, ◌≤◌, drop, length, min, Some as There, None, option_map, true, false, IfNone, IfSome};
 ghost use Rattle.std.specs.Str.{IsAscii};
 ghost use Rattle.passkey_cbor.specs.Walk.{ahead, raised, IsInside, IsPlaced, Went};
 ghost use Rattle.passkey_cbor.specs.Found.{FindsHead};
@@ -306,11 +306,17 @@ pub(crate) fn piece_of(is_text: bool, len: u64, bytes: &[u8]) -> Option<(&[u8], 
 pub(crate) fn is_allowed(is_text: bool, bytes: &[u8]) -> bool
     ensures { result ≡ is_allowed is_text bytes.now }
 {
-    if is_text {
-        is_short_ascii(bytes) || is_utf8(bytes)
-    } else {
-        true
-    }
+    is_plain(is_text, bytes) || is_utf8(bytes)
+}
+
+// Whether a string of this kind may contain these bytes, as far as that is seen at once: a text if
+// it is short ASCII.
+#[inline(always)]
+pub(crate) fn is_plain(is_text: bool, bytes: &[u8]) -> bool
+    ensures allowed { result ≡ true → is_allowed is_text bytes.now ≡ true }
+    ensures text { result ≡ false → is_text ≡ true }
+{
+    !is_text || is_short_ascii(bytes)
 }
 
 // Not inlined, so that a short text needs no room for what `from_utf8` returns.
