@@ -305,9 +305,6 @@ item_long levels bytes rest b =
 pub record ItemsGo (levels all : ℕ) (bytes : List ℕ) (left : ℕ) (rest : List ℕ) : Type 0 where
   pub same : (u : List ℕ) → BeginsItems levels left rest u ↔ BeginsItems levels all bytes u
 
-pub items_begin : (levels all : ℕ) (bytes : List ℕ) → ItemsGo levels all bytes all bytes
-items_begin levels all bytes = record { same = λ u. ((λ b. b), (λ b. b)) }
-
 -- the first of several data items
 pub record First (levels left : ℕ) (rest u : List ℕ) : Type 0 where
   pub next : List ℕ
@@ -384,9 +381,6 @@ pub record PairsGo (levels all : ℕ) (bytes : List ℕ) (left : ℕ) (before : 
   where
     pub same : (u : List ℕ) → BeginsPairs levels left before rest u ↔ BeginsPairs levels all None bytes u
     pub long : IfSome before (λ k. 0 < length k)
-
-pub pairs_begin : (levels all : ℕ) (bytes : List ℕ) → PairsGo levels all bytes all None bytes
-pairs_begin levels all bytes = record { same = λ u. ((λ b. b), (λ b. b)); long = tt }
 
 -- the first of several pairs
 pub record FirstPair (levels left : ℕ) (before : Option (List ℕ)) (rest u : List ℕ) : Type 0 where

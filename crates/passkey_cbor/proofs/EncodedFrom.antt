@@ -1,9 +1,9 @@
 -- Data items encoded at an offset: as leading data items, by their heads, and for the calls of a cursor.
-use Rattle.std.proofs.Common.{◌≡◌, ℕ, ◌+◌, ◌-◌, ◌≤◌, pos, negsuc, Bool, true, false, List, [], ◌∷◌, ◌++◌, length, take, drop, Option, Some, None, Result, Ok, Err, refl, sym, ap, subst, ◌∙◌, append_assoc, arith, inl, inr}
+use Rattle.std.proofs.Common.{◌≡◌, ℕ, ◌+◌, ◌-◌, ◌≤◌, pos, negsuc, Bool, true, false, List, [], ◌++◌, length, take, drop, Option, Some, None, Result, Ok, Err, refl, sym, ap, subst, ◌∙◌, append_assoc, arith, inl, inr}
 use Rattle.std.proofs.lemmas.List.{length-append, length-drop, append-nil, take_at}
 use Rattle.passkey_cbor.specs.Item.{Item, number, byte_string, text_string, array, map, tagged, boolean, null, simple, float, elements, members}
 use Rattle.passkey_cbor.specs.Nodes.{nodes}
-use Rattle.passkey_cbor.specs.Languages.{Language, Each}
+use Rattle.passkey_cbor.specs.Languages.{Language}
 use Rattle.passkey_cbor.specs.Encoding.{IsEncoding, IsEncodingOfItems, IsEncodingOfPairs, items_len, pairs_len}
 use Rattle.passkey_cbor.specs.LeadingItem.{max_depth, IsLeadingItem}
 use Rattle.passkey_cbor.specs.Grows.{Grows}
@@ -71,17 +71,6 @@ pub record Opened (x : Item) (t : List ℕ) : Type 0 where
   pub encoded : IsEncodingOfHead first front
   pub inside : Inside first x back
   pub whole : t ≡ front ++ back
-
-each_weaker : {A : Type 0} (P Q : A → Language) → ((a : A) (t : List ℕ) → P a t → Q a t)
-    → (xs : List A) (t : List ℕ) → Each P xs t → Each Q xs t
-each_weaker P Q weaker [] t s = s
-each_weaker P Q weaker (x ∷ xs) t s = record {
-  front = s.front;
-  back = s.back;
-  first = weaker x s.front s.first;
-  second = each_weaker P Q weaker xs s.back s.second;
-  whole = s.whole;
-}
 
 -- a head that is the whole data item
 whole_head : (x : Item) (t : List ℕ) (h : Head) → IsEncodingOfHead h t → Inside h x [] → Opened x t

@@ -1,6 +1,6 @@
 -- Strings that a cursor passes and borrows.
 use Rattle.std.proofs.Common.{◌≡◌, ℕ, ◌+◌, ◌-◌, ◌<◌, ◌≤◌, Bool, true, false, List, ◌++◌, length, take, drop, suc, Option, Some, None, option_map, is_some, refl, sym, ap, subst, ◌∙◌, append_assoc, arith}
-use Rattle.std.proofs.lemmas.List.{length-append, length-drop, take-append-drop, take_at}
+use Rattle.std.proofs.lemmas.List.{length-append, length-drop, length-take, drop-drop, take-append-drop, take_at}
 use Rattle.passkey_cbor.specs.Bytes.{IsBytes}
 use Rattle.passkey_cbor.specs.Item.{Item}
 use Rattle.passkey_cbor.specs.Depth.{depth}
@@ -11,11 +11,12 @@ use Rattle.passkey_cbor.specs.HeadEncoding.{LengthHeads, IsEncodingOfHead}
 use Rattle.passkey_cbor.specs.Inside.{IsAllowed, major_type, Content}
 use Rattle.passkey_cbor.specs.HeadReading.{◌>>=◌, head_at}
 use Rattle.passkey_cbor.specs.HeadsDecoded.{begun_heads, string_heads, rest_heads, string_tally, string_decoded}
-use Rattle.passkey_cbor.specs.Reading.{start, string_len, string_at, string_by, item_within}
-use Rattle.passkey_cbor.specs.Walk.{Walk, ahead, raised, IsInside, Stopped}
+use Rattle.passkey_cbor.specs.Reading.{start, is_allowed, piece_at, string_len, string_at, string_by, item_within}
+use Rattle.passkey_cbor.specs.Walk.{Walk, ahead, raised, IsInside, IsPlaced, Passed, Stopped}
 use Rattle.passkey_cbor.specs.HeadCount.{content_len, heads_of, Spans}
 use Rattle.std.specs.Prelude.{unwrap_or}
-use Rattle.passkey_cbor.specs.Steps.{NoHead, HeadRead, PassesOver, RegionRead, NoStringRead, ReadsString, IsLengthOf}
+use Rattle.passkey_cbor.specs.Leaf.{Headed}
+use Rattle.passkey_cbor.specs.Steps.{IsHead, NoHead, HeadRead, PieceRead, PassesOver, RegionRead, NoStringRead, ReadsString, IsLengthOf}
 use Rattle.passkey_cbor.specs.Found.{PassesHead}
 use Rattle.passkey_cbor.specs.Lent.{Region, string_item, string_head, PassesString, LendsString, LendsEncoded, IsSized}
 use Rattle.passkey_cbor.specs.declared.head.Head.{Head}
@@ -24,9 +25,12 @@ use Rattle.passkey_cbor.proofs.Binds.{some_is, none_is_some, bind_at, bind_none}
 use Rattle.passkey_cbor.proofs.Strings.{starts, encodes_string_head, string_head_encodes, string_again, string_takes, string_headed, headed_string}
 use Rattle.passkey_cbor.proofs.EncodedFrom.{stands_front, only_one}
 use Rattle.passkey_cbor.proofs.LeadingItems.{front_again}
-use Rattle.passkey_cbor.proofs.Behind.{by_string}
+use Rattle.passkey_cbor.proofs.Behind.{by_string, string_piece}
+use Rattle.passkey_cbor.proofs.Leaves.{piece_there}
+use Rattle.passkey_cbor.proofs.Numbers.{IsBytes-drop}
+use Rattle.passkey_cbor.proofs.Walks.{head_passed}
 use Rattle.passkey_cbor.proofs.HeadAgain.{head_again}
-use Rattle.passkey_cbor.proofs.HeadCounts.{spans_as, spans_headed, heads_passed}
+use Rattle.passkey_cbor.proofs.HeadCounts.{spans_as, spans_headed, spans_piece, heads_passed}
 use Rattle.passkey_cbor.proofs.HeadsDecoded.{decoded_then, started}
 use Rattle.passkey_cbor.proofs.Skipping.{stopped_then}
 
@@ -69,6 +73,10 @@ string_by_head true len bytes = refl
 string_content : (is_text : Bool) (len : Option ℕ) → content_len (string_head is_text len) ≡ unwrap_or len 0
 string_content false len = refl
 string_content true len = refl
+
+string_is_head : (is_text : Bool) (n : ℕ) → IsHead (string_head is_text (Some n))
+string_is_head false n = tt
+string_is_head true n = tt
 
 -- ---- a string was passed
 
@@ -158,6 +166,71 @@ string_read is_text len a b c h region inside fits p further is r =
       nodes = r.passed.nodes ∙ p.nodes;
       bytes = r.passed.same ∙ p.bytes;
     }
+
+-- a string whose head has k bytes, and whose content is the next n bytes, with one head in all
+pub short_read : (is_text : Bool) (k n : ℕ) (h : Head) (a c : Walk) (content : List ℕ) → IsPlaced a.bytes a.place
+    → 0 < k → Headed (ahead a) k h (drop k (ahead a)) → string_len is_text h ≡ Some (Some n)
+    → n ≤ length (drop (a.place + k) a.bytes) → content ≡ take n (drop (a.place + k) a.bytes)
+    → is_allowed is_text content ≡ true → c ≡ record a { place = a.place + (k + n); heads = raised a.heads 1 }
+    → a.heads ≤ c.heads → PassesString is_text a c (record { len = Some (length content); bytes = content })
+short_read is_text k n h a c content placed some headed is within whole allowed to rises =
+    let b : Walk = record a { place = a.place + k; heads = raised a.heads 1 } in
+    let after : drop k (ahead a) ≡ ahead b = drop-drop k a.place a.bytes in
+    let heads : c.heads ≡ raised a.heads 1 = ap (λ (w : Walk). w.heads) to in
+    let place : c.place ≡ a.place + (k + n) = ap (λ (w : Walk). w.place) to in
+    let same : c.bytes ≡ a.bytes = ap (λ (w : Walk). w.bytes) to in
+    let none : c.nodes ≡ a.nodes = ap (λ (w : Walk). w.nodes) to in
+    let inside : a.place + k ≤ length a.bytes =
+    omega (arith, headed.within, length-drop a.place a.bytes, placed.within) in
+    let ends : a.place + (k + n) ≤ length a.bytes =
+    omega (arith, within, inside, length-drop (a.place + k) a.bytes) in
+    let first : HeadRead a b h = record {
+      reads = headed.reads ∙ ap (λ (r : List ℕ). Some (h, r)) after;
+      passed = record {
+        same = refl;
+        within = inside;
+        forward = omega arith;
+        rises = omega (arith, rises, heads);
+        heads = omega (arith, some);
+        nodes = refl;
+      };
+      counted = refl;
+      further = omega (arith, some);
+      well_formed = subst IsHead (sym (string_len-is is_text h (Some n) is)) (string_is_head is_text n);
+    } in
+    let behind : drop n (ahead b) ≡ ahead c =
+    drop-drop n (a.place + k) a.bytes ∙ ap (λ (i : ℕ). drop i a.bytes) (omega (arith, place))
+    ∙ ap (drop c.place) (sym same) in
+    let passed : Passed b c = record {
+      same = same;
+      within = omega (arith, place, ends, ap length same);
+      forward = omega (arith, place);
+      rises = omega (arith, heads);
+      heads = omega (arith, place, heads);
+      nodes = none;
+    } in
+    let size : length content ≡ n =
+    omega (arith, ap length whole, length-take n (drop (a.place + k) a.bytes), within) in
+    let piece : PieceRead is_text (piece_at is_text n (ahead b)) b c content = record {
+      reads = piece_there is_text n (ahead b) within (subst (λ (s : List ℕ). is_allowed is_text s ≡ true) whole allowed)
+          ∙ ap (λ (s : List ℕ). Some (s, drop n (ahead b))) (sym whole)
+          ∙ ap (λ (r : List ℕ). Some (content, r)) behind;
+      passed = passed;
+      uncounted = heads;
+      stands = allowed;
+    } in
+    let over : PassesOver n (string_at is_text (Some n) (ahead b)) b c = record {
+      value = content;
+      reads = string_piece is_text (Some n) n (ahead b) refl ∙ piece.reads;
+      passed = passed;
+      spans = spans_piece is_text n b c content piece;
+    } in
+    let fits = IsBytes-drop (a.place + k) a.bytes placed.fits in
+    let region = region_read is_text (Some n) b c content inside fits over
+    (whole ∙ ap (λ (m : ℕ). take m (ahead b)) (omega (arith, place))) in
+    subst (λ (m : ℕ). PassesString is_text a c (record { len = Some m; bytes = content })) (sym size)
+    (string_read is_text (Some n) a b c h content placed.within (IsBytes-drop a.place a.bytes placed.fits)
+    (head_passed a b placed refl h first) (omega (arith, some)) is region)
 
 -- ---- no string was passed
 

@@ -1,5 +1,5 @@
 -- The pieces of a borrowed string.
-use Rattle.std.proofs.Common.{◌≡◌, ℕ, ◌+◌, ◌-◌, ◌≤◌, Bool, List, [], ◌∷◌, ◌++◌, length, take, drop, Option, Some, None, refl, sym, ap, subst, ◌∙◌, append_assoc, arith}
+use Rattle.std.proofs.Common.{◌≡◌, ℕ, ◌+◌, ◌-◌, Bool, List, [], ◌∷◌, ◌++◌, length, take, drop, Option, Some, None, refl, sym, ap, subst, ◌∙◌, append_assoc, arith}
 use Rattle.std.specs.List.{concat}
 use Rattle.std.proofs.lemmas.List.{append-nil, length-drop, take_all}
 use Rattle.passkey_cbor.specs.Heads.{break}
@@ -13,7 +13,7 @@ use Rattle.passkey_cbor.specs.Pieces.{LendsPiece, IsAtEnd, LendsNoPiece, LooksAh
 use Rattle.passkey_cbor.specs.declared.head.Head.{Head}
 use Rattle.passkey_cbor.specs.declared.head.Head.TheVariants as head
 use Rattle.passkey_cbor.proofs.Binds.{some_is, none_is_some, bind_some}
-use Rattle.passkey_cbor.proofs.Raised.{raised-le, raised-raised}
+use Rattle.passkey_cbor.proofs.Raised.{raised-raised}
 use Rattle.passkey_cbor.proofs.HeadAgain.{head_again}
 use Rattle.passkey_cbor.proofs.Lists.{step_unknown}
 use Rattle.passkey_cbor.proofs.Strings.{AChunk, follows_chunk}
@@ -229,14 +229,6 @@ lends_on is_text whole left next a b c bytes more piece l p looks more_is = reco
   nodes = looks.nodes ∙ l.nodes;
   same = looks.bytes ∙ l.same;
 }
-
--- so far, at most the heads in the region were counted
-pub lends_within : (is_text : Bool) (whole left : Region) (a b : Walk) (bytes : List ℕ)
-    → LendsUpTo is_text whole left a b bytes → (s : List ℕ) (t : Tells is_text whole s)
-    → b.heads ≤ a.heads + heads_in is_text whole.len s whole.bytes t
-lends_within is_text whole left a b bytes l s t =
-    let h = l.lent s t in
-    omega (arith, h.heads_are, h.heads, raised-le a.heads h.counted)
 
 -- at the end, the pieces are the string, and all heads were counted
 pub lends_all : (is_text : Bool) (whole left next : Region) (a b c : Walk) (bytes : List ℕ)

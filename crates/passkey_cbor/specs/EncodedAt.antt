@@ -27,11 +27,7 @@ pub record Lies (P : Language) (bytes : List ℕ) (from to : ℕ) : Type 0 where
 abbrev pub IsEncodedAt : Item → List ℕ → ℕ → ℕ → Type 0
 IsEncodedAt x = Lies (Within max_depth x)
 
--- These bytes encode the elements that are left of an array, or the members that are left of a map, with the
--- break if the length is indefinite.
-abbrev pub ItemsAreEncodedAt : Option ℕ → List Item → List ℕ → ℕ → ℕ → Type 0
-ItemsAreEncodedAt left xs = Lies (Left (Within max_depth) left xs)
-
+-- These bytes encode the members that are left of a map, with the break if the length is indefinite.
 abbrev pub PairsAreEncodedAt : Option ℕ → List (Item × Item) → List ℕ → ℕ → ℕ → Type 0
 PairsAreEncodedAt left ms = Lies (Left (PairWithin max_depth) left ms)
 

@@ -1,5 +1,5 @@
 //! A cursor that decodes borrowed bytes head by head.
-ghost use Rattle.std.specs.Prelude.{◌≡◌, ℕ, ◌+◌, ◌<◌, ◌≤◌, drop, length, min, Some as There, None, option_map, slice_get, true, IfNone, IfSome};
+ghost use Rattle.std.specs.Prelude.{◌≡◌, ℕ, ◌+◌, ◌<◌, ◌≤◌, drop, length, min, Some as There, None, option_map, true, false, IfNone, IfSome};
 ghost use Rattle.std.specs.Str.{IsAscii};
 ghost use Rattle.passkey_cbor.specs.Walk.{ahead, raised, IsInside, IsPlaced, Went};
 ghost use Rattle.passkey_cbor.specs.Found.{FindsHead};
@@ -306,11 +306,25 @@ pub(crate) fn piece_of(is_text: bool, len: u64, bytes: &[u8]) -> Option<(&[u8], 
 pub(crate) fn is_allowed(is_text: bool, bytes: &[u8]) -> bool
     ensures { result ≡ is_allowed is_text bytes.now }
 {
-    if is_text {
-        is_short_ascii(bytes) || str::from_utf8(bytes).is_ok()
-    } else {
-        true
-    }
+    is_plain(is_text, bytes) || is_utf8(bytes)
+}
+
+// Whether a string of this kind may contain these bytes, as far as that is seen at once: a text if
+// it is short ASCII.
+#[inline(always)]
+pub(crate) fn is_plain(is_text: bool, bytes: &[u8]) -> bool
+    ensures allowed { result ≡ true → is_allowed is_text bytes.now ≡ true }
+    ensures text { result ≡ false → is_text ≡ true }
+{
+    !is_text || is_short_ascii(bytes)
+}
+
+// Not inlined, so that a short text needs no room for what `from_utf8` returns.
+#[inline(never)]
+fn is_utf8(bytes: &[u8]) -> bool
+    ensures { result ≡ is_allowed true bytes.now }
+{
+    str::from_utf8(bytes).is_ok()
 }
 
 // Whether these are at most 64 bytes, and all ASCII: for so few this takes less time than

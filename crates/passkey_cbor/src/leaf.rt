@@ -1,10 +1,32 @@
 //! Data items without others in them, whose head has at most two bytes.
-ghost use Rattle.std.specs.Prelude.{◌<◌, ◌≤◌, List, ℕ, ◌∷◌};
+ghost use Rattle.std.specs.Prelude.{◌<◌, ◌≤◌, List, ℕ, ◌∷◌, drop, length, IfSome};
 ghost use Rattle.passkey_cbor.specs.Lent.{string_head};
 ghost use Rattle.passkey_cbor.specs.Leaf.{Headed, IsLeafLen};
 
 use crate::cursor::is_allowed;
 use crate::head::Head;
+
+/// Returns the head at the beginning of the bytes, if it has one byte, or two with the argument in
+/// the second, and how many bytes it has.
+#[inline(always)]
+pub(crate) fn short_head(bytes: &[u8]) -> Option<(usize, Head)>
+    ensures headed { IfSome result (λ r. Headed bytes.now r.0 r.1 (drop r.0 bytes.now)) }
+    ensures len { IfSome result (λ r. (0 < r.0) × (r.0 ≤ length bytes.now)) }
+{
+    if bytes.is_empty() {
+        return None;
+    }
+    if let Some(head) = Head::short(bytes[0]) {
+        return Some((1, head));
+    }
+    if bytes.len() < 2 {
+        return None;
+    }
+    match Head::with_byte(bytes[0], bytes[1]) {
+        Some(head) => Some((2, head)),
+        None => None,
+    }
+}
 
 /// Returns the length of the number, the simple value or the string at the beginning of the bytes,
 /// if its head has one byte, or two with the argument in the second, and nothing is wrong with it;

@@ -91,6 +91,18 @@ impl<'a> Cursor<'a> {
             self.pass_leaf(len);
             return true;
         }
+        self.skip_other(levels)
+    }
+
+    // Skips one data item, head by head. Not inlined, so that what is passed at once needs no room for heads.
+    #[cycle(skip)]
+    #[inline(never)]
+    fn skip_other(&mut self, levels: usize) -> bool
+        requires { IsInside self.old }
+        ensures skips { Skips 0 (start (item_within levels) (ahead self.old)) self.old self.new result }
+        ensures decoded { self.new.heads ≡ raised self.old.heads (start_heads (item_heads levels) (ahead self.old)) }
+        ensures least { raised self.old.heads 1 ≤ self.new.heads }
+    {
         match self.decode() {
             None => false,
             Some(head) => self.skip_behind(head, levels),

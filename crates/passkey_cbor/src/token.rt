@@ -1,14 +1,15 @@
 //! Strings that are borrowed without a copy, in one piece or in chunks.
-ghost use Rattle.std.specs.Prelude.{◌≡◌, ◌+◌, ◌≤◌, true, false, [], ◌∷◌, ◌++◌, take, drop, length, map, option_map, IfOk, IfSome, None};
+ghost use Rattle.std.specs.Prelude.{◌≡◌, ◌+◌, ◌≤◌, true, false, [], ◌∷◌, ◌++◌, take, drop, length, map, option_map, IfOk, IfSome, MatchOption, None, Some as There};
 ghost use Rattle.std.specs.String.{string_bytes};
-ghost use Rattle.passkey_cbor.specs.Lent.{LendsString, LendsEncoded, LentWhole, LooksToCopy, LooksAtAll, LooksToFill, IsNamed, Copies, Fills, IsRegion, IsSized, Tells};
+ghost use Rattle.passkey_cbor.specs.Lent.{LendsString, PassesString, LendsEncoded, LentWhole, LooksToCopy, LooksAtAll, LooksToFill, IsNamed, Copies, Fills, IsRegion, IsSized, Tells};
 ghost use Rattle.passkey_cbor.specs.Names.{IsNameOf, LooksFor};
 ghost use Rattle.passkey_cbor.specs.Steps.{ReadsRegion, ReadsString, CountsAll};
 ghost use Rattle.passkey_cbor.specs.Reading.{is_allowed};
 ghost use Rattle.passkey_cbor.specs.HeadsDecoded.{string_heads};
 ghost use Rattle.passkey_cbor.specs.Walk.{ahead, raised, IsInside, Went};
 
-use crate::cursor::{Cursor, Next};
+use crate::cursor::{Cursor, Next, is_plain};
+use crate::leaf::short_head;
 use crate::names::name_of;
 use crate::read::copied;
 use crate::text_chunks::TextChunks;
@@ -100,6 +101,48 @@ impl<'a> Cursor<'a> {
     // the string's length in bytes. `None`, and the cursor doesn't move, if none follows.
     #[inline(always)]
     fn string(&mut self, is_text: bool) -> Option<(Option<u64>, &'a [u8], usize)>
+        ensures front { LendsString is_text self.old self.new
+            (option_map (λ r. record { len = r.0; bytes = r.1.now }) result) }
+        ensures lends { LendsEncoded is_text self.old self.new
+            (option_map (λ r. record { len = r.0; bytes = r.1.now }) result) }
+        ensures went { Went self.old self.new }
+        ensures size { IfSome result (λ r. IsSized is_text (record { len = r.0; bytes = r.1.now }) r.2) }
+    {
+        match self.short_string(is_text) {
+            Some(content) => Some((Some(content.len() as u64), content, content.len())),
+            None => self.other_string(is_text),
+        }
+    }
+
+    // Passes and returns the string of this kind at the cursor, if its head has one byte, or two with
+    // the argument in the second, and it is a byte string or short ASCII. Else does nothing.
+    #[inline(always)]
+    fn short_string(&mut self, is_text: bool) -> Option<&'a [u8]>
+        ensures passes { MatchOption result (self.new ≡ self.old) (λ s. PassesString is_text self.old self.new
+            (record { len = There (length s.now); bytes = s.now })) }
+        ensures went { Went self.old self.new }
+    {
+        let bytes = self.bytes;
+        let (head_len, head) = short_head(&bytes[self.place..])?;
+        let Some(Some(len)) = head.string_len(is_text) else {
+            return None;
+        };
+        let len = len as usize;
+        let rest = &bytes[self.place + head_len..];
+        if rest.len() < len {
+            return None;
+        }
+        let content = &rest[..len];
+        if !is_plain(is_text, content) {
+            return None;
+        }
+        self.pass_leaf(head_len + len);
+        Some(content)
+    }
+
+    // The same as `string`, for any string. Not inlined, so that a short one needs no room for it.
+    #[inline(never)]
+    fn other_string(&mut self, is_text: bool) -> Option<(Option<u64>, &'a [u8], usize)>
         ensures front { LendsString is_text self.old self.new
             (option_map (λ r. record { len = r.0; bytes = r.1.now }) result) }
         ensures lends { LendsEncoded is_text self.old self.new

@@ -238,25 +238,3 @@ pub counts_no_key : {A : Type 0} (bytes : List ℕ) (e fault : CoseError) (count
     → Counts {A = A} (λ each. count_key each bytes) bytes count count (Err fault)
 counts_no_key bytes e fault count h =
     counts_none (λ each. count_key each bytes) bytes count fault (λ each. no_key each bytes e h)
-
--- ---- a part whose flag is set
-
-pub counts_there : {A : Type 0} (part : (List ℕ → ℕ) → List ℕ → ℕ) (is_there : Bool) (bytes : List ℕ)
-    (old new : Count) (r : Result (A × Bor (List ℕ)) CoseError) → is_there ≡ true → Counts (λ each. part each bytes)
-    bytes old new r → Counts (λ each. count_where is_there (part each) bytes) bytes old new r
-counts_there part is_there bytes old new r there h =
-    moved (λ each. part each bytes) (λ each. count_where is_there (part each) bytes) bytes bytes old new r
-    (λ each. ap (λ (b : Bool). count_where b (part each) bytes) there) (omega arith) h
-
-pub counts_not_there : {A : Type 0} (part : (List ℕ → ℕ) → List ℕ → ℕ) (is_there : Bool) (bytes : Bor (List ℕ))
-    (count : Count) (x : A) → is_there ≡ false
-    → Counts (λ each. count_where is_there (part each) bytes.now) bytes.now count count (Ok (x, bytes))
-counts_not_there part is_there bytes count x absent =
-    rw absent (record {
-      heads = omega arith;
-      nodes = omega arith;
-      least = λ some. absurd (omega (arith, some));
-      all = record { heads = omega arith; nodes = omega arith };
-      heads_rise = omega arith;
-      nodes_rise = omega arith;
-    })

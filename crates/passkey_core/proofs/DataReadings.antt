@@ -90,22 +90,6 @@ fixed_fails finish memory seen bytes e h =
     record { begun = Err OutOfRangeIntegerValue; begins = sym g; goes_on = refl }) (λ d rest known. tt) bytes in
     (subst (FailsAs finish memory seen bytes) h wanted) h
 
-pub attested_fails : {A B Y : Type 0} (finish : DataParts → List ℕ → Result Y CoseError) (seen : A → Y)
-    (told : B → Option AttestedParts × List ℕ) (bytes : List ℕ) (fixed : DataParts) (rest : List ℕ) (e : CoseError) → Ok (fixed, rest) ≡ fixed_at bytes
-    → Returns ((has_flag attested_flag fixed.flags ≡ true) × AttestedGrows rest) told
-    (ReadsWhere (has_flag attested_flag fixed.flags) ReadsAttested rest) (Err e)
-    → Returns (DataGrow bytes) seen (ReadsDataThen finish bytes) (Err e)
-attested_fails finish seen told bytes fixed rest e is_fixed h =
-    gives_fault ((has_flag attested_flag fixed.flags ≡ true) × AttestedGrows rest) (DataGrow bytes) told seen
-    (ReadsWhere (has_flag attested_flag fixed.flags) ReadsAttested rest) (ReadsDataThen finish bytes)
-    (λ grows. subst (λ (begun : Begun DataParts). IsOkAnd begun (λ p. PartsGrow p.0 p.1)) is_fixed (inl grows))
-    (λ f g. record {
-      begun = Ok (fixed, rest);
-      begins = is_fixed;
-      goes_on = record { begun = Err f; begins = g; goes_on = refl };
-    })
-    e h
-
 pub extensions_fail : {A B Y : Type 0} (finish : DataParts → List ℕ → Result Y CoseError) (seen : A → Y)
     (told : B → Option Item × List ℕ) (bytes : List ℕ) (fixed : DataParts) (rest : List ℕ) (attested : Option AttestedParts) (behind : List ℕ) (e : CoseError)
     → Ok (fixed, rest) ≡ fixed_at bytes → ReadsWhere (has_flag attested_flag fixed.flags) ReadsAttested rest

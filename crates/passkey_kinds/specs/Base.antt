@@ -2,7 +2,7 @@
 pub use Rattle.passkey_bytes.specs.Encoding.{text_bytes}
 pub use Rattle.passkey_bytes.specs.Map.{ByteMap}
 pub use Rattle.passkey_cbor.specs.Depth.{depth}
-pub use Rattle.passkey_cbor.specs.EncodedAt.{ItemsAreEncodedAt, PairsAreEncodedAt, IsEncodedAt}
+pub use Rattle.passkey_cbor.specs.EncodedAt.{PairsAreEncodedAt, IsEncodedAt}
 pub use Rattle.passkey_cbor.specs.Encoder.{encoding}
 pub use Rattle.passkey_cbor.specs.Grows.{Grows}
 pub use Rattle.passkey_cbor.specs.Item.{Item, number, items_of, pairs_of, boolean, byte_string, text_string, elements, members, array, null}

@@ -115,8 +115,8 @@ skip_item-returns-then-len-gt0-clause-skips t c =
     (c.leaf_len-len.ensures.leaf (omega (arith, c.if-len-gt0.true)))))
     c.pass_leaf.ensures.passed c.pass_leaf.ensures.rises
 
-pub skip_item-returns-in-Some-clause-skips : goal.skip_item-returns-in-Some-clause-skips
-skip_item-returns-in-Some-clause-skips t c =
+pub skip_other-returns-in-Some-clause-skips : goal.skip_other-returns-in-Some-clause-skips
+skip_other-returns-in-Some-clause-skips t c =
     skips_started (item_within c.args.levels) c.in-Some.head c.args.self.now c.decode.new.self c.skip_behind.new.self
     c.skip_behind.result c.in-Some.ensures.reads c.skip_behind.ensures.skips
 

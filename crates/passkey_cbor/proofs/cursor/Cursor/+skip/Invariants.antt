@@ -8,22 +8,25 @@ abbrev pub decreases-skip_behind : goal.decreases-skip_behind
 decreases-skip_behind l = 8 * l.levels + 3
 
 abbrev pub decreases-skip_item : goal.decreases-skip_item
-decreases-skip_item l = 8 * l.levels + 4
+decreases-skip_item l = 8 * l.levels + 5
+
+abbrev pub decreases-skip_other : goal.decreases-skip_other
+decreases-skip_other l = 8 * l.levels + 4
 
 abbrev pub decreases-skip_entry : goal.decreases-skip_entry
-decreases-skip_entry l = 8 * l.levels + 5
+decreases-skip_entry l = 8 * l.levels + 6
 
 abbrev pub decreases-skip_entry_behind : goal.decreases-skip_entry_behind
-decreases-skip_entry_behind l = 8 * l.levels + 5
+decreases-skip_entry_behind l = 8 * l.levels + 6
 
 abbrev pub decreases-skip_entries : goal.decreases-skip_entries
-decreases-skip_entries l = 8 * l.levels + 6
+decreases-skip_entries l = 8 * l.levels + 7
 
 abbrev pub decreases-skip_to_break : goal.decreases-skip_to_break
-decreases-skip_to_break l = 8 * l.levels + 6
+decreases-skip_to_break l = 8 * l.levels + 7
 
 abbrev pub decreases-skip_list : goal.decreases-skip_list
-decreases-skip_list l = 8 * l.levels + 7
+decreases-skip_list l = 8 * l.levels + 8
 
 abbrev pub invariant-skip_entries-loop-left : goal.invariant-skip_entries-loop-left
 invariant-skip_entries-loop-left l =
