@@ -5,7 +5,7 @@ use Rattle.passkey_cbor.specs.Item as item
 
 -- ---- a value that isn't null, and a record that is a value
 
-pub ok_of : {M : Type 0} (r : Result M Fault) (p : M) → result_ok r ≡ Some p → r ≡ Ok p
+pub ok_of : {M E : Type 0} (r : Result M E) (p : M) → result_ok r ≡ Some p → r ≡ Ok p
 ok_of (Ok x) p e = cc
 ok_of (Err f) p e = absurd cc
 

@@ -10,6 +10,8 @@ pub mod Sinks
 pub mod Levels
 pub mod Keeping
 pub mod Loops
+pub mod Finding
+pub mod Taken
 pub mod Keys
 pub mod ByteMaps
 pub mod Ordered

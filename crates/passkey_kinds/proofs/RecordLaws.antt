@@ -139,7 +139,7 @@ message_fails view table read bytes i len e f h = grind (arith, may_grow)
 
 -- ---- at a cursor
 
-front_stands : (x : Item) (bytes : List ℕ) (place len : ℕ) → IsLeadingItem (drop place bytes) x len
+pub front_stands : (x : Item) (bytes : List ℕ) (place len : ℕ) → IsLeadingItem (drop place bytes) x len
     → IsEncodedAt x bytes place (place + len)
 front_stands x bytes place len f = record {
   text = take len (drop place bytes);

@@ -7,6 +7,7 @@ pub mod Typed
 pub mod RecordReading
 pub mod Tree
 pub mod Placed
+pub mod Lending
 pub mod Written
 pub mod Coded
 pub mod Words

@@ -1,0 +1,118 @@
+-- Finding a member's value at a cursor.
+use Rattle.passkey_kinds.proofs.Steps.{arith, ℕ, ◌≡◌, ◌∙◌, ap, subst, refl, Bool, true, false, List, Option, Some, None, Item, Members, IsEncodedAt, PairsAreEncodedAt, PairWithin, max_depth, Naming, Entry, entries, names, split, stands_back, key_names, named_as}
+use Rattle.std.specs.Prelude.{IfSome}
+use Rattle.std.proofs.Common.{zero-add}
+use Rattle.passkey_cbor.specs.EncodedAt.{Walks, Passes}
+use Rattle.passkey_cbor.specs.Inside.{Within}
+use Rattle.passkey_cbor.specs.Skipped.{PassesLeadingItem}
+use Rattle.passkey_cbor.specs.Walk.{Walk, ahead}
+use Rattle.passkey_cbor.specs.LeadingItem.{IsLeadingItem}
+use Rattle.passkey_cbor.specs.Lent.{Region, LendsFrom}
+use Rattle.passkey_kinds.proofs.RecordLaws.{front_stands}
+use Rattle.passkey_kinds.proofs.Common.{only_one, byte_string, members_in}
+use Rattle.passkey_kinds.specs.Lending.{is_row, value_if, value_among, string_in, string_of_row, LendsWanted, LendsRow}
+use Rattle.std.specs.Option.{option_and_then}
+use Rattle.passkey_kinds.specs.Record.{Table, named, naming_of}
+use Rattle.passkey_kinds.specs.RecordReading.{ReadsKey}
+use Rattle.passkey_kinds.specs.declared.rows.Named.{Named}
+
+-- The members that are left have the wanted value, if any member has it.
+pub record StillAhead (table : Table) (n : ℕ) (ms : Members) (to : ℕ) (left : Option ℕ) (now : Walk) : Type 0 where
+  pub rest : Members
+  pub ahead : PairsAreEncodedAt left rest now.bytes now.place to
+  pub same : value_among table n ms ≡ value_among table n rest
+
+-- The next of them, after its key was decoded.
+pub record NextAhead (table : Table) (n : ℕ) (ms : Members) (to : ℕ) (left : Option ℕ) (found : Option Named)
+    (now : Walk) : Type 0 where
+  pub value : Item
+  pub others : Members
+  pub middle : ℕ
+  pub same : value_among table n ms ≡ value_if n (naming_of found) value (value_among table n others)
+  pub there : IfSome found (λ _. IsEncodedAt value now.bytes now.place middle)
+  pub after : PairsAreEncodedAt left others now.bytes middle to
+
+value_there : (found : Option Named) (value : Item) (k : Walk) {bytes : List ℕ} {place middle : ℕ} → k.bytes ≡ bytes
+    → IfSome found (λ _. k.place ≡ place) → IsEncodedAt value bytes place middle
+    → IfSome found (λ _. IsEncodedAt value k.bytes k.place middle)
+value_there (Some key) value k same at l = stands_back value k same at l
+value_there None value k same at l = at
+
+pub next_ahead : (table : Table) (n : ℕ) (ms : Members) (to : ℕ) {before after : Option ℕ} {a b k : Walk}
+    {found : Option Named} {is_numbered : Bool} {rows : List Entry} → StillAhead table n ms to before a
+    → Walks (PairWithin max_depth) before after a b true → is_numbered ≡ table.is_numbered → rows ≡ entries table
+    → ((key : Item) (end : ℕ) → IsEncodedAt key b.bytes b.place end
+    → ReadsKey (names is_numbered rows key) end b k found) → k.bytes ≡ b.bytes
+    → NextAhead table n ms to after found k
+next_ahead table n ms to {b = b} {k = k} {found = found} e walks numbered rows reads same =
+    let m = walks e.rest to e.ahead in
+    let s = split (Within max_depth m.first.0) (Within max_depth m.first.1) b.bytes b.place m.middle m.here in
+    let key = reads m.first.0 s.middle s.front in
+    let naming : named table m.first.0 ≡ naming_of found = key_names table m.first.0 numbered rows key.is in
+    record {
+      value = m.first.1;
+      others = m.others;
+      middle = m.middle;
+      same = e.same ∙ ap (value_among table n) m.whole
+          ∙ ap (λ (x : Naming). value_if n x m.first.1 (value_among table n m.others)) naming;
+      there = value_there found m.first.1 k same key.ends s.back;
+      after = rw same m.after;
+    }
+
+pub value_here : (n : ℕ) (key : Named) (i : Item) (others : Option Item) → is_row n (named_as key) ≡ true
+    → value_if n (named_as key) i others ≡ Some i
+value_here n key i others e = grind arith
+
+pub value_behind : (n : ℕ) (key : Named) (i : Item) (others : Option Item) → is_row n (named_as key) ≡ false
+    → value_if n (named_as key) i others ≡ others
+value_behind n key i others e = grind arith
+
+pub passed : {table : Table} {n : ℕ} {ms : Members} {to : ℕ} {left : Option ℕ} {key : Named} {k d : Walk}
+    → is_row n (named_as key) ≡ false → (w : NextAhead table n ms to left (Some key) k) → Passes w.middle k d true
+    → StillAhead table n ms to left d
+passed {n = n} {key = key} other w p = record {
+  rest = w.others;
+  ahead = rw (p.bytes, p.place) w.after;
+  same = w.same ∙ value_behind n key w.value _ other;
+}
+
+-- ---- the byte string that the value is
+
+pub string_is : (table : Table) (n : ℕ) (i : Item) (ms : Members) → members_in i ≡ Some ms
+    → string_of_row table n i ≡ option_and_then string_in (value_among table n ms)
+string_is table n i ms e = grind arith
+
+pub string_is_not : (table : Table) (n : ℕ) (i : Item) → members_in i ≡ None → string_of_row table n i ≡ None
+string_is_not table n i e = grind arith
+
+no_string : (i : Item) → ((s : List ℕ) → i ≡ byte_string s → ⊥) → string_in i ≡ None
+no_string (byte_string s) h = absurd (h s refl)
+no_string i h = refl
+
+-- what the cursor lends of the value is wanted
+pub lends_wanted : (i : Item) (to : ℕ) (old new : Walk) (found : Option Region) → LendsFrom false i to old new found
+    → LendsWanted (string_in i) found
+lends_wanted i to old new (Some r) h = (h.0, (ap string_in h.1.0, h.1.1.tells))
+lends_wanted i to old new None h = no_string i h.0
+
+-- ---- the message at the beginning of the bytes
+
+stands_first : (i : Item) (bytes : List ℕ) (len : ℕ) → IsLeadingItem bytes i len → IsEncodedAt i bytes 0 len
+stands_first i bytes len f = subst (IsEncodedAt i bytes 0) (zero-add len) (front_stands i bytes 0 len f)
+
+pub lends_row : (table : Table) (n : ℕ) (bytes : List ℕ) (i : Item) (len : ℕ) (found : Option Region)
+    → IsLeadingItem bytes i len → LendsWanted (string_of_row table n i) found → LendsRow table n bytes found
+lends_row table n bytes i len (Some r) front h = record { item = i; len = len; front = front; holds = h }
+lends_row table n bytes i len None front h = λ j other leads.
+    ap (string_of_row table n) (only_one i j bytes 0 len other (stands_first i bytes len front) leads).0 ∙ h
+
+-- the item that the cursor passed from the start, and went back over
+module _ (bytes : List ℕ) {old s a : Walk} (start : old ≡ record { bytes = bytes; place = 0; heads = 0; nodes = 0 })
+    (p : PassesLeadingItem old s) (back : a ≡ record s { place = 0 }) where
+  pub leads : IsLeadingItem bytes p.item p.len
+  leads = subst (λ (w : Walk). IsLeadingItem (ahead w) p.item p.len) start p.front
+
+  pub stands : IsEncodedAt p.item a.bytes a.place p.len
+  stands = stands_back p.item a
+      (ap (λ (w : Walk). w.bytes) back ∙ p.bytes ∙ ap (λ (w : Walk). w.bytes) start)
+      (ap (λ (w : Walk). w.place) back) (stands_first p.item bytes p.len leads)
