@@ -16,3 +16,4 @@ pub mod Ordered
 pub mod Lawful
 pub mod Around
 pub mod Steps
+pub mod Numbered

@@ -9,4 +9,6 @@ pub mod Tree
 pub mod Placed
 pub mod Written
 pub mod Coded
+pub mod Numbered
+pub mod Held
 pub mod Words
