@@ -1,5 +1,5 @@
 -- Records and messages that one table defines: what holds of them.
-use Rattle.passkey_kinds.proofs.Common.{ℕ, suc, arith, ◌≡◌, ◌<◌, ◌≤◌, ◌^◌, ◌&&◌, Bool, true, false, List, [], ◌∷◌, Option, Some, None, option_map, refl, ap, nat_le, min, depth, max_depth, Item, null, below, Kind, optional, IsReadBack, EachFits, PlainTable, members_of, places_of, plain_tree, number_tree, KeysAscend, table_of, record_kind, null_in, IfPresent, kept_if_some, Place, read_item, WrittenIsLeadingItem, subst, max, ◌+◌, pos}
+use Rattle.passkey_kinds.proofs.Common.{ℕ, suc, arith, ◌≡◌, ◌<◌, ◌≤◌, ◌^◌, ◌&&◌, Bool, true, List, [], ◌∷◌, Option, Some, None, option_map, refl, depth, Item, null, below, optional, IsReadBack, EachFits, PlainTable, members_of, places_of, plain_tree, number_tree, KeysAscend, table_of, record_kind, IfPresent, Place, read_item, WrittenIsLeadingItem, subst, max, ◌+◌, pos}
 use Rattle.std.proofs.Common.{leb-true, lt-ltb}
 use Rattle.passkey_kinds.proofs.Around.{AtMost, Around, OnlyAt, around, decoded_few, canonical_around, OnlyDeep, only_deep}
 use Rattle.passkey_kinds.proofs.Back.{have_rows, are_distinct, missing_of, Backs, numbers, kind_back, Falls, option_place}
