@@ -8,7 +8,11 @@ use Rattle.passkey_kinds.proofs.LeafBack.{optional_back}
 use Rattle.passkey_kinds.proofs.Lawful.{raised}
 use Rattle.passkey_kinds.proofs.Levels.{PlaceHas, EachPlace}
 use Rattle.passkey_kinds.proofs.Ordered.{ascend, keys_ascend, IsPlain, Rule, record_plain, number_plain}
-use Rattle.passkey_kinds.specs.Numbered.{code_of, not_null, IsNotNull, numbered_fields, table_fields, is_shallow, has_room, kept_list, AreMessages, MessagesAreReadBack}
+use Rattle.passkey_iana.specs.Table.{numbered as numbered_value}
+use Rattle.passkey_iana.specs.TableLaws.{numbered_has}
+use Rattle.std.proofs.Common.{nat_eq}
+use Rattle.passkey_kinds.proofs.Common.{unwrap_or, unsigned_Decides}
+use Rattle.passkey_kinds.specs.Numbered.{code_in, code_of, not_null, IsNotNull, numbered_fields, table_fields, is_shallow, has_room, kept_list, AreMessages, MessagesAreReadBack}
 use Rattle.passkey_kinds.specs.Record.{Member}
 
 -- ---- values of members can be decoded again
@@ -32,6 +36,14 @@ module _ {T : Type 0} (of_byte : ℕ → T) where
         → Falls (optional (code_of of_byte).of) None (option_map (λ x. number_tree (byte_of x)) o)
         (option_map (λ x. of_byte (byte_of x)) o)
     code_place o h = option_place (optional_back code_back refl) o h
+
+-- each number is that of its value
+pub code_keeps : {T : Type 0} (byte_of : T → ℕ) (other : ℕ → T) (named : List T) → ((n : ℕ) → byte_of (other n) ≡ n)
+    → (n : ℕ) → byte_of (code_in byte_of other named n) ≡ n
+code_keeps byte_of other named own n = keeps (numbered_value nat_eq byte_of named n) refl where
+  keeps : (o : Option _) → numbered_value nat_eq byte_of named n ≡ o → byte_of (unwrap_or o (other n)) ≡ n
+  keeps None is = own n
+  keeps (Some x) is = numbered_has nat_eq unsigned_Decides byte_of named n x is
 
 not_null_of : (i : Item) → IsNotNull i → not_null i ≡ Some i
 not_null_of null h = absurd cc

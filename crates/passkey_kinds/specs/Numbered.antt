@@ -1,6 +1,7 @@
 -- Records that one table defines, with names or with numbers; messages of this form; and the values that their members have beside those of Coded.
 use Rattle.passkey_kinds.specs.Base.{Item, null, depth, max_depth, IsLeadingItem, IsWritable, written}
-use Rattle.std.specs.Prelude.{◌≡◌, ℕ, ◌<◌, ◌^◌, Bool, true, false, nat_le, List, [], ◌∷◌, length, ◌++◌, Ok, Option, Some, None, option_map}
+use Rattle.std.specs.Prelude.{◌≡◌, ℕ, ◌<◌, ◌^◌, Bool, true, false, nat_le, List, [], ◌∷◌, length, ◌++◌, Ok, nat_eq, unwrap_or, Option, Some, None, option_map}
+use Rattle.passkey_iana.specs.Table.{numbered as numbered_value}
 use Rattle.passkey_cbor.specs.Laws.{AtMostOneLeadingItem, WrittenIsLeadingItem}
 use Rattle.passkey_cbor.specs.Nodes.{nodes}
 use Rattle.passkey_kinds.specs.Kind.{Kind, Typed, counted}
@@ -19,6 +20,10 @@ abbrev pub long : Coded ℕ
 long = record { typed = below (2 ^ 64); tree = number_tree; Fits = λ n. n < 2 ^ 64 }
 
 -- ---- open enumerations: each number below 256 has a value
+
+-- the named value with this number, or another value
+abbrev pub code_in : {T : Type 0} → (T → ℕ) → (ℕ → T) → List T → ℕ → T
+code_in byte_of other named n = unwrap_or (numbered_value nat_eq byte_of named n) (other n)
 
 abbrev pub code_of : {T : Type 0} → (ℕ → T) → Typed T
 code_of of_byte = fixed 1 (λ i. option_map of_byte (kind.below 256 i))
