@@ -2,12 +2,15 @@
 //! for each command.
 #![tactic(auto)]
 
+pub mod client_pin;
 pub mod extensions;
+pub mod framing;
 pub mod get_assertion;
 pub mod get_info;
 pub mod laws;
 pub mod make_credential;
 
 pub use passkey_kinds::{
-    Fault, FromCbor, Message, OutOfMemory, Refusal, ToCbor, TolerantList, Tolerated, WriteFault,
+    Code, Fault, FromCbor, Kept, Message, OutOfMemory, Refusal, ToCbor, TolerantList, Tolerated,
+    WriteFault,
 };
