@@ -2,11 +2,15 @@
 //! for each command.
 #![tactic(auto)]
 
+pub mod bio_enrollment;
 pub mod client_pin;
+pub mod config;
+pub mod credential_management;
 pub mod extensions;
 pub mod framing;
 pub mod get_assertion;
 pub mod get_info;
+pub mod large_blobs;
 pub mod laws;
 pub mod make_credential;
 

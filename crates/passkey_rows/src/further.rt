@@ -7,8 +7,12 @@ use crate::hexadecimal::{decode, encode};
 use crate::tries::{Part, Tries};
 use passkey_rewrite::RunFault;
 use passkey_types::OutOfMemory;
+use passkey_types::cbor::Value;
 use passkey_types::ctap2::framing::{from_body, request_of, response_of};
-use passkey_types::ctap2::{Kept, Message, ToCbor, client_pin};
+use passkey_types::ctap2::large_blobs::{array_of, with_digest};
+use passkey_types::ctap2::{
+    Kept, Message, ToCbor, bio_enrollment, client_pin, config, credential_management, large_blobs,
+};
 use std::alloc::Global;
 
 /// A message that `passkey_show` doesn't have.
@@ -18,6 +22,26 @@ pub enum Further {
     PinRequest,
     /// An authenticatorClientPIN response.
     PinResponse,
+    /// An authenticatorBioEnrollment request.
+    BioRequest,
+    /// An authenticatorBioEnrollment response.
+    BioResponse,
+    /// An authenticatorCredentialManagement request.
+    CredentialRequest,
+    /// An authenticatorCredentialManagement response.
+    CredentialResponse,
+    /// An authenticatorLargeBlobs request.
+    BlobsRequest,
+    /// An authenticatorLargeBlobs response.
+    BlobsResponse,
+    /// An entry of the large-blob array.
+    BlobsEntry,
+    /// An authenticatorConfig request.
+    ConfigRequest,
+    /// Parameters of setMinPINLength.
+    ConfigMinPinLength,
+    /// Parameters of vendorPrototype.
+    ConfigVendor,
 }
 
 impl Further {
@@ -25,6 +49,16 @@ impl Further {
         match name {
             "pin-request" => Some(Further::PinRequest),
             "pin-response" => Some(Further::PinResponse),
+            "bio-request" => Some(Further::BioRequest),
+            "bio-response" => Some(Further::BioResponse),
+            "cm-request" => Some(Further::CredentialRequest),
+            "cm-response" => Some(Further::CredentialResponse),
+            "lb-request" => Some(Further::BlobsRequest),
+            "lb-response" => Some(Further::BlobsResponse),
+            "lb-entry" => Some(Further::BlobsEntry),
+            "cfg-request" => Some(Further::ConfigRequest),
+            "cfg-min-pin-length" => Some(Further::ConfigMinPinLength),
+            "cfg-vendor" => Some(Further::ConfigVendor),
             _ => None,
         }
     }
@@ -47,12 +81,17 @@ enum Way {
 
 impl Part for Kept {
     fn copy(&self, alloc: Global) -> Result<Kept, OutOfMemory> {
-        self.try_clone(alloc)
+        Kept::new(self.try_clone(alloc)?.into_value()).ok_or(OutOfMemory)
     }
 }
 
 impl Copied for client_pin::Request {
     fn replace_parts(&mut self, alloc: Global, tries: &mut Tries) -> Result<(), OutOfMemory> {
+        if let Some(permissions) = self.permissions {
+            let copy = client_pin::Permissions::from_bits(permissions.bits());
+            tries.compare(permissions.contains(copy));
+            self.permissions = Some(copy | permissions);
+        }
         tries.replace_some(alloc, &mut self.key_agreement)
     }
 }
@@ -60,6 +99,67 @@ impl Copied for client_pin::Request {
 impl Copied for client_pin::Response {
     fn replace_parts(&mut self, alloc: Global, tries: &mut Tries) -> Result<(), OutOfMemory> {
         tries.replace_some(alloc, &mut self.key_agreement)
+    }
+}
+
+impl Copied for bio_enrollment::Request {
+    fn replace_parts(&mut self, alloc: Global, tries: &mut Tries) -> Result<(), OutOfMemory> {
+        tries.replace_some(alloc, &mut self.pin_uv_auth_param)
+    }
+}
+
+impl Copied for bio_enrollment::Response {
+    fn replace_parts(&mut self, alloc: Global, tries: &mut Tries) -> Result<(), OutOfMemory> {
+        tries.replace_some(alloc, &mut self.template_id)
+    }
+}
+
+impl Copied for credential_management::Request {
+    fn replace_parts(&mut self, alloc: Global, tries: &mut Tries) -> Result<(), OutOfMemory> {
+        tries.replace_some(alloc, &mut self.pin_uv_auth_param)
+    }
+}
+
+impl Copied for credential_management::Response {
+    fn replace_parts(&mut self, alloc: Global, tries: &mut Tries) -> Result<(), OutOfMemory> {
+        tries.replace_some(alloc, &mut self.credential_id)?;
+        tries.replace_some(alloc, &mut self.public_key)
+    }
+}
+
+impl Copied for large_blobs::Request {
+    fn replace_parts(&mut self, alloc: Global, tries: &mut Tries) -> Result<(), OutOfMemory> {
+        tries.replace_some(alloc, &mut self.set)
+    }
+}
+
+impl Copied for large_blobs::Response {
+    fn replace_parts(&mut self, alloc: Global, tries: &mut Tries) -> Result<(), OutOfMemory> {
+        tries.replace_some(alloc, &mut self.config)
+    }
+}
+
+impl Copied for large_blobs::LargeBlob {
+    fn replace_parts(&mut self, alloc: Global, tries: &mut Tries) -> Result<(), OutOfMemory> {
+        tries.replace(alloc, &mut self.ciphertext)
+    }
+}
+
+impl Copied for config::Request {
+    fn replace_parts(&mut self, alloc: Global, tries: &mut Tries) -> Result<(), OutOfMemory> {
+        tries.replace_some(alloc, &mut self.sub_command_params)
+    }
+}
+
+impl Copied for config::MinPinLengthParameters {
+    fn replace_parts(&mut self, _alloc: Global, _tries: &mut Tries) -> Result<(), OutOfMemory> {
+        Ok(())
+    }
+}
+
+impl Copied for config::VendorParameters {
+    fn replace_parts(&mut self, _alloc: Global, _tries: &mut Tries) -> Result<(), OutOfMemory> {
+        Ok(())
     }
 }
 
@@ -90,6 +190,22 @@ fn answer_as(
     match kind {
         Further::PinRequest => printed::<client_pin::Request>(alloc, tries, way, &bytes),
         Further::PinResponse => printed::<client_pin::Response>(alloc, tries, way, &bytes),
+        Further::BioRequest => printed::<bio_enrollment::Request>(alloc, tries, way, &bytes),
+        Further::BioResponse => printed::<bio_enrollment::Response>(alloc, tries, way, &bytes),
+        Further::CredentialRequest => printed::<credential_management::Request>(
+            alloc, tries, way, &bytes,
+        ),
+        Further::CredentialResponse => printed::<credential_management::Response>(
+            alloc, tries, way, &bytes,
+        ),
+        Further::BlobsRequest => printed::<large_blobs::Request>(alloc, tries, way, &bytes),
+        Further::BlobsResponse => printed::<large_blobs::Response>(alloc, tries, way, &bytes),
+        Further::BlobsEntry => printed::<large_blobs::LargeBlob>(alloc, tries, way, &bytes),
+        Further::ConfigRequest => printed::<config::Request>(alloc, tries, way, &bytes),
+        Further::ConfigMinPinLength => printed::<config::MinPinLengthParameters>(
+            alloc, tries, way, &bytes,
+        ),
+        Further::ConfigVendor => printed::<config::VendorParameters>(alloc, tries, way, &bytes),
     }
 }
 
@@ -102,6 +218,22 @@ pub fn are_alike(alloc: Global, kind: Further, input: &str) -> anyhow::Result<bo
     match kind {
         Further::PinRequest => is_decoded_alike::<client_pin::Request>(alloc, &bytes),
         Further::PinResponse => is_decoded_alike::<client_pin::Response>(alloc, &bytes),
+        Further::BioRequest => is_decoded_alike::<bio_enrollment::Request>(alloc, &bytes),
+        Further::BioResponse => is_decoded_alike::<bio_enrollment::Response>(alloc, &bytes),
+        Further::CredentialRequest => is_decoded_alike::<credential_management::Request>(
+            alloc, &bytes,
+        ),
+        Further::CredentialResponse => is_decoded_alike::<credential_management::Response>(
+            alloc, &bytes,
+        ),
+        Further::BlobsRequest => is_decoded_alike::<large_blobs::Request>(alloc, &bytes),
+        Further::BlobsResponse => is_decoded_alike::<large_blobs::Response>(alloc, &bytes),
+        Further::BlobsEntry => is_decoded_alike::<large_blobs::LargeBlob>(alloc, &bytes),
+        Further::ConfigRequest => is_decoded_alike::<config::Request>(alloc, &bytes),
+        Further::ConfigMinPinLength => is_decoded_alike::<config::MinPinLengthParameters>(
+            alloc, &bytes,
+        ),
+        Further::ConfigVendor => is_decoded_alike::<config::VendorParameters>(alloc, &bytes),
     }
 }
 
@@ -123,6 +255,18 @@ fn reply(alloc: Global, input: &str) -> Result<String, RunFault> {
     };
     let body = encode(alloc, body)?;
     Ok(format!(in alloc; "{status:?} {body}")?)
+}
+
+/// `BYTES`: a serialized large-blob array, whose array is decoded and encoded; `none` if its digest
+/// is another one.
+fn blob_array(alloc: Global, input: &str) -> Result<String, RunFault> {
+    let bytes = decode(alloc, input)?;
+    let Some(array) = array_of(&bytes) else {
+        return Ok(String::from_str(alloc, "none")?);
+    };
+    let (array, _len) = Value::from_slice(alloc, array)?;
+    let array = array.to_vec(alloc)?;
+    encode(alloc, &with_digest(alloc, &array)?)
 }
 
 fn way_of(name: &str) -> (Way, &str) {
@@ -151,6 +295,7 @@ pub fn further(
     match name {
         "command" => return Some(command(alloc, input)),
         "reply" => return Some(reply(alloc, input)),
+        "lb-array" => return Some(blob_array(alloc, input)),
         _ => {}
     }
     let (way, kind) = way_of(name);
