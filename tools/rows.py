@@ -14,6 +14,12 @@ BYTES = "cbor check auth mc-request mc-response ga-request ga-response info hmac
 JSON = "creation request created authenticated client-data".split()
 SHOWN = BYTES + JSON
 
+# Further kinds of passkey_rows alone: messages, in hexadecimal.
+FURTHER = (
+    "pin-request pin-response bio-request bio-response cm-request cm-response lb-request lb-response lb-entry "
+    "cfg-request cfg-min-pin-length cfg-vendor"
+).split()
+
 
 def rows():
     """Yields each row: its kind, its input and its answer, which begins with the status."""

@@ -11,6 +11,7 @@ pub use passkey_kinds::laws::{
     alike_items_differ_in_length, reading_knows_items, reading_knows_maps,
     refused_element_is_passed_over, same_answers_read_alike,
     unknown_member_changes_the_length_alone, unknown_member_is_passed_over, written_keys_ascend,
+    written_message_is_canonical, written_message_is_read_back,
 };
 pub use passkey_make_credential::laws::{
     written_attestation_is_read_back, written_make_request_is_canonical,

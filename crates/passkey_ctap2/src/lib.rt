@@ -2,12 +2,19 @@
 //! for each command.
 #![tactic(auto)]
 
+pub mod bio_enrollment;
+pub mod client_pin;
+pub mod config;
+pub mod credential_management;
 pub mod extensions;
+pub mod framing;
 pub mod get_assertion;
 pub mod get_info;
+pub mod large_blobs;
 pub mod laws;
 pub mod make_credential;
 
 pub use passkey_kinds::{
-    Fault, FromCbor, Message, OutOfMemory, Refusal, ToCbor, TolerantList, Tolerated, WriteFault,
+    Code, Fault, FromCbor, Kept, Message, OutOfMemory, Refusal, ToCbor, TolerantList, Tolerated,
+    WriteFault,
 };

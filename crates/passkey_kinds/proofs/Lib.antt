@@ -18,3 +18,4 @@ pub mod Ordered
 pub mod Lawful
 pub mod Around
 pub mod Steps
+pub mod Numbered

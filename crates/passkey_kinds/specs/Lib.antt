@@ -10,4 +10,6 @@ pub mod Placed
 pub mod Lending
 pub mod Written
 pub mod Coded
+pub mod Numbered
+pub mod Held
 pub mod Words

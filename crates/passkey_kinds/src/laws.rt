@@ -1,10 +1,12 @@
 //! Laws about decoding records and lists. Each is the contract of a function that does nothing.
-ghost use Rattle.passkey_kinds.specs.Words.{read_item, KeysAscend, KnowsMaps, PassesOverUnknown, AlikeDifferInLength, KnowsItems, RefusedElementIsPassedOver, SameAnswersReadAlike, UnknownMemberIsPassedOver, made_signed, used_signed, plain_tree};
+ghost use Rattle.passkey_kinds.specs.Words.{read_item, KeysAscend, KnowsMaps, PassesOverUnknown, AlikeDifferInLength, KnowsItems, RefusedElementIsPassedOver, SameAnswersReadAlike, UnknownMemberIsPassedOver, made_signed, used_signed, plain_tree, WrittenIsCanonical};
+ghost use Rattle.passkey_kinds.specs.Numbered.{MessagesAreReadBack, is_shallow, kept_list};
 ghost use Rattle.std.specs.Prelude.{◌≡◌};
 ghost use Rattle.passkey_core.specs.SignedOutputs.{creation_item, assertion_item};
 ghost use Rattle.passkey_core.specs.declared.make_credential.SignedExtensionOutputs as creation;
 ghost use Rattle.passkey_core.specs.declared.get_assertion.SignedExtensionOutputs as assertion;
 
+use crate::TableMessage;
 use crate::record::Record;
 use crate::to_cbor::ToCborMap;
 
@@ -74,3 +76,22 @@ pub fn reading_knows_items<R: Record>()
 pub fn reading_knows_maps<R: Record>()
     ensures { KnowsMaps (read_item R.fields) }
 {}
+
+/// The encoding of a coherent message that one table defines, whatever bytes follow, decodes to the
+/// message's normal form.
+pub fn written_message_is_read_back<M: TableMessage>()
+    ensures { MessagesAreReadBack M.numbered M.parts M.normal M.table }
+{
+    M::lawful();
+    passkey_cbor::laws::written_is_leading_item();
+}
+
+/// The encoding of a coherent message that one table defines is in CTAP2's canonical form if the
+/// encoding of the data item that it keeps is, or if it keeps none (CTAP 2.1, section 8).
+pub fn written_message_is_canonical<M: TableMessage>()
+    ensures { WrittenIsCanonical (plain_tree M.table) (is_shallow M.table) (kept_list M.kept) }
+{
+    M::is_message();
+    passkey_cbor::laws::at_most_one_leading_item();
+    passkey_cbor::laws::written_is_leading_item();
+}

@@ -1,8 +1,8 @@
 //! Records whose members have names alone, and which keep no data item.
-ghost use Rattle.std.specs.Prelude.{◌≡◌, ◌≤◌, ℕ, true, false, length, map, is_ok, OnOk};
+ghost use Rattle.std.specs.Prelude.{◌≡◌, ◌≤◌, ℕ, true, false, length, map, is_ok, OnOk, None};
 ghost use Rattle.passkey_kinds.specs.Words.{Item, PlainTable, EachFits, fields_of, places_of, plain_tree, KeysAscend, IsReadBack, are_small, table_of, cost_at, keeps_at, Puts, entry_of, AllAccepted, put_all, entries, plain_kind};
 
-use crate::{OutOfMemory, Record, RecordReadBack, Refusal, Row, Sink, Source, ToCborMap};
+use crate::{OutOfMemory, Refusal, Row, Sink, Source, TableRecord};
 use std::alloc::Global;
 
 /// A record whose members have names alone, and which keeps no data item. One table says how it is
@@ -48,14 +48,16 @@ pub trait PlainRecord: Drop {
         ensures ordered { KeysAscend (places_of table.members) };
 }
 
-impl<R: PlainRecord> Record for R {
+impl<R: PlainRecord> TableRecord for R {
     ghost parts = { λ r. r };
 
-    ghost fields = { fields_of R.table };
+    ghost table = { R.PlainRecord.table };
 
-    ghost tree = { plain_tree R.table };
+    ghost numbered = { false };
 
-    ghost coherent = { λ r. true };
+    ghost kept = { λ r. None };
+
+    ghost normal = { R.PlainRecord.normal };
 
     fn is_numbered() -> bool {
         false
@@ -72,26 +74,12 @@ impl<R: PlainRecord> Record for R {
     fn put<S: Source>(&mut self, alloc: Global, number: u8, source: &mut S) -> Result<(), Refusal> {
         <R as PlainRecord>::put(self, alloc, number, source)
     }
-}
-
-impl<R: PlainRecord> ToCborMap for R {
-    ghost places = { λ r. places_of R.table.members r };
-
-    ghost holds = { λ r. EachFits R.table.members r };
 
     fn put_members<S: Sink>(&self, alloc: Global, sink: &mut S) -> Result<(), OutOfMemory> {
         <R as PlainRecord>::put_members(self, alloc, sink)
     }
 
-    fn ordered() {
-        R::lawful();
-    }
-}
-
-impl<R: PlainRecord> RecordReadBack for R {
-    ghost normal = { R.normal };
-
-    fn record_back() {
-        R::lawful();
+    fn lawful() {
+        <R as PlainRecord>::lawful();
     }
 }

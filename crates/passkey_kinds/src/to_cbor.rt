@@ -47,13 +47,13 @@ impl ToCbor for bool {
     }
 }
 
-fn integer(n: u32) -> Integer
+pub(crate) fn integer(n: u64) -> Integer
     ensures { result ≡ pos n }
 {
     Integer::new(i128::from(n)).unwrap()
 }
 
-pub(crate) fn number(n: u32) -> Value
+pub(crate) fn number(n: u64) -> Value
     ensures { item_of result ≡ number_tree n }
 {
     Value::Integer(integer(n))
@@ -65,11 +65,11 @@ impl ToCbor for u8 {
     ghost fits = { λ n. n < 2 ^ 8 };
 
     fn to_value(&self, _alloc: Global) -> Result<Value, OutOfMemory> {
-        Ok(number(u32::from(*self)))
+        Ok(number(u64::from(*self)))
     }
 
     fn append(&self, _alloc: Global, encoder: &mut Encoder) -> Result<(), OutOfMemory> {
-        encoder.integer(integer(u32::from(*self)))
+        encoder.integer(integer(u64::from(*self)))
     }
 }
 
@@ -79,11 +79,11 @@ impl ToCbor for u32 {
     ghost fits = { λ n. n < 2 ^ 32 };
 
     fn to_value(&self, _alloc: Global) -> Result<Value, OutOfMemory> {
-        Ok(number(*self))
+        Ok(number(u64::from(*self)))
     }
 
     fn append(&self, _alloc: Global, encoder: &mut Encoder) -> Result<(), OutOfMemory> {
-        encoder.integer(integer(*self))
+        encoder.integer(integer(u64::from(*self)))
     }
 }
 

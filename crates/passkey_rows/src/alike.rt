@@ -56,7 +56,8 @@ fn are_changed_alike<M: Message>(alloc: Global, item: &[u8], at: usize) -> Resul
     Ok(true)
 }
 
-fn is_decoded_alike<M: Message>(alloc: Global, bytes: &[u8]) -> Result<bool> {
+/// Does the same for one type of messages.
+pub fn is_decoded_alike<M: Message>(alloc: Global, bytes: &[u8]) -> Result<bool> {
     if !are_alike::<M>(alloc, bytes)? {
         return Ok(false);
     }

@@ -49,7 +49,8 @@ fn replace_by_item<T: FromCbor + ToCbor>(
     Ok(())
 }
 
-fn by_item<M: Message + ToCbor>(
+/// Decodes a message from its data item, and encodes the message's data item.
+pub fn by_item<M: Message + ToCbor>(
     alloc: Global,
     tries: &mut Tries,
     bytes: &[u8],

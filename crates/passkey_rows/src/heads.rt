@@ -6,7 +6,8 @@ use passkey_types::ctap2::extensions::HmacGetSecretInput;
 use passkey_types::ctap2::{Fault, Message, get_assertion, get_info, make_credential};
 use std::alloc::Global;
 
-fn counted<M: Message>(alloc: Global, bytes: &[u8]) -> Result<String, RunFault> {
+/// Counts the heads and the nodes as a cursor decodes a message of this type.
+pub fn counted<M: Message>(alloc: Global, bytes: &[u8]) -> Result<String, RunFault> {
     let mut cursor = Cursor::new(bytes);
     let read = M::read(alloc, &mut cursor);
     let count = cursor.count();

@@ -12,6 +12,7 @@ mod again_json;
 mod alike;
 mod building;
 mod by_item;
+mod further;
 mod heads;
 mod hexadecimal;
 mod making;
@@ -22,6 +23,7 @@ mod well_known;
 
 use crate::again::answer;
 use crate::alike::are_decoded_alike;
+use crate::further::{Further, are_alike, further};
 use crate::tries::Tries;
 use anyhow::Result;
 use passkey_rewrite::{Kind, RunFault, rewrite};
@@ -32,7 +34,10 @@ fn output_of(alloc: Global, tries: &mut Tries, row: &str) -> Result<String, RunF
     let (name, input) = row.split_once(' ').unwrap_or((row, ""));
     match Kind::from_name(name) {
         Some(kind) => rewrite(alloc, kind, input.as_bytes()),
-        None => answer(alloc, tries, name, input),
+        None => match further(alloc, tries, name, input) {
+            Some(output) => output,
+            None => answer(alloc, tries, name, input),
+        },
     }
 }
 
@@ -40,7 +45,11 @@ fn is_decoded_alike(alloc: Global, row: &str) -> Result<bool> {
     let (name, input) = row.split_once(' ').unwrap_or((row, ""));
     match Kind::from_name(name) {
         Some(Kind::Bytes(kind)) => are_decoded_alike(alloc, kind, input),
-        _ => Ok(true),
+        Some(_) => Ok(true),
+        None => match Further::from_name(name) {
+            Some(kind) => are_alike(alloc, kind, input),
+            None => Ok(true),
+        },
     }
 }
 

@@ -1,8 +1,14 @@
 //! What a platform and an authenticator exchange (CTAP 2.1): messages, authenticator data, status
 //! codes and extensions.
+pub mod bio_enrollment;
+pub mod client_pin;
+pub mod config;
+pub mod credential_management;
 pub mod extensions;
+pub mod framing;
 pub mod get_assertion;
 pub mod get_info;
+pub mod large_blobs;
 pub mod make_credential;
 
 pub use passkey_core::{
@@ -12,5 +18,6 @@ pub use passkey_core::{
 };
 pub use passkey_cose::{CoseError, CoseKeyConversionError, RefusedKey};
 pub use passkey_ctap2::{
-    Fault, FromCbor, Message, Refusal, ToCbor, TolerantList, Tolerated, WriteFault, laws,
+    Code, Fault, FromCbor, Kept, Message, Refusal, ToCbor, TolerantList, Tolerated, WriteFault,
+    laws,
 };

@@ -1,0 +1,3 @@
+pub mod SubCommand
+pub mod PinRequest
+pub mod PinResponse

@@ -1,0 +1,63 @@
+-- authenticatorClientPIN requests (CTAP 2.1, section 6.5.5).
+use Rattle.std.specs.Prelude.{ℕ, List, [], ◌∷◌, Option, None, option_map, codes}
+use Rattle.passkey_client_pin.specs.SubCommand.{sub_command_of, sub_command_byte}
+use Rattle.passkey_client_pin.specs.declared.request.Request.{Request}
+use Rattle.passkey_client_pin.specs.declared.sub_command.SubCommand.{SubCommand}
+use Rattle.passkey_client_pin.specs.declared.sub_command.SubCommand.TheVariants.{Other}
+use Rattle.passkey_kinds.specs.Coded.{text, bytes}
+use Rattle.passkey_kinds.specs.Held.{held_item}
+use Rattle.passkey_kinds.specs.Numbered.{code, kept_item}
+use Rattle.passkey_kinds.specs.Words.{Item, PlainTable, byte, word, required_at, optional_at}
+
+-- what contracts see of a request
+pub record PinRequestParts : Type 0 where
+  pub pin_uv_auth_protocol : Option ℕ
+  pub sub_command : SubCommand
+  pub key_agreement : Option Item
+  pub pin_uv_auth_param : Option (List ℕ)
+  pub new_pin_enc : Option (List ℕ)
+  pub pin_hash_enc : Option (List ℕ)
+  pub permissions : Option ℕ
+  pub rp_id : Option (List ℕ)
+
+abbrev pub pin_request_parts : Request → PinRequestParts
+pin_request_parts r = record {
+  pin_uv_auth_protocol = r.pin_uv_auth_protocol;
+  sub_command = r.sub_command;
+  key_agreement = option_map held_item r.key_agreement;
+  pin_uv_auth_param = r.pin_uv_auth_param;
+  new_pin_enc = r.new_pin_enc;
+  pin_hash_enc = r.pin_hash_enc;
+  permissions = option_map (λ p. p.0) r.permissions;
+  rp_id = r.rp_id;
+}
+
+abbrev pub pin_request : PlainTable PinRequestParts
+pin_request = record {
+  blank = record {
+    pin_uv_auth_protocol = None;
+    sub_command = Other 0;
+    key_agreement = None;
+    pin_uv_auth_param = None;
+    new_pin_enc = None;
+    pin_hash_enc = None;
+    permissions = None;
+    rp_id = None;
+  };
+  members = optional_at 1 (codes "pinUvAuthProtocol") byte (λ r. r.pin_uv_auth_protocol)
+      (λ x r. record r { pin_uv_auth_protocol = x })
+      ∷ required_at 2 (codes "subCommand") (code sub_command_of sub_command_byte) (λ r. r.sub_command)
+      (λ x r. record r { sub_command = x })
+      ∷ optional_at 3 (codes "keyAgreement") kept_item (λ r. r.key_agreement) (λ x r. record r { key_agreement = x })
+      ∷ optional_at 4 (codes "pinUvAuthParam") bytes (λ r. r.pin_uv_auth_param)
+      (λ x r. record r { pin_uv_auth_param = x })
+      ∷ optional_at 5 (codes "newPinEnc") bytes (λ r. r.new_pin_enc) (λ x r. record r { new_pin_enc = x })
+      ∷ optional_at 6 (codes "pinHashEnc") bytes (λ r. r.pin_hash_enc) (λ x r. record r { pin_hash_enc = x })
+      ∷ optional_at 9 (codes "permissions") word (λ r. r.permissions) (λ x r. record r { permissions = x })
+      ∷ optional_at 10 (codes "rpId") text (λ r. r.rp_id) (λ x r. record r { rp_id = x })
+      ∷ [];
+}
+
+-- the request that the encoding decodes to: a subcommand with a known number becomes the known one
+abbrev pub normal_pin_request : Request → Request
+normal_pin_request r = record r { sub_command = sub_command_of (sub_command_byte r.sub_command) }

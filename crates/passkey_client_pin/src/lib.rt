@@ -1,0 +1,12 @@
+//! The messages of authenticatorClientPIN (CTAP 2.1, section 6.5).
+#![tactic(auto)]
+
+mod permissions;
+mod request;
+mod response;
+mod sub_command;
+
+pub use permissions::Permissions;
+pub use request::Request;
+pub use response::Response;
+pub use sub_command::SubCommand;

@@ -1,0 +1,4 @@
+pub mod SubCommand
+pub mod CfgRequest
+pub mod MinPinLengthParameters
+pub mod VendorParameters

@@ -1,0 +1,95 @@
+-- authenticatorCredentialManagement responses (CTAP 2.1, section 6.8).
+use Rattle.std.specs.Prelude.{Bool, List, None, Option, [], codes, option_map, ℕ, ◌∷◌}
+use Rattle.passkey_credential_management.specs.CredProtect.{cred_protect_of, cred_protect_byte}
+use Rattle.passkey_credential_management.specs.declared.cred_protect.CredProtect.{CredProtect}
+use Rattle.passkey_credential_management.specs.declared.response.Response.{Response}
+use Rattle.passkey_entities.specs.Entities.{rp}
+use Rattle.passkey_entities.specs.Entities.{user}
+use Rattle.passkey_entities.specs.declared.rp.PublicKeyCredentialRpEntity.{PublicKeyCredentialRpEntity}
+use Rattle.passkey_entities.specs.declared.user.PublicKeyCredentialUserEntity.{PublicKeyCredentialUserEntity}
+use Rattle.passkey_kinds.specs.Coded.{bytes, truth}
+use Rattle.passkey_kinds.specs.Held.{held_item}
+use Rattle.passkey_kinds.specs.Numbered.{code, kept_item}
+use Rattle.passkey_kinds.specs.Words.{Item, PlainTable, optional_at, plain, word}
+use Rattle.passkey_kinds.specs.Words.{PublicKeyCredentialDescriptor}
+use Rattle.passkey_kinds.specs.Words.{descriptor}
+
+-- what contracts see of it
+pub record CmResponseParts : Type 0 where
+  pub existing_resident_credentials_count : Option ℕ
+  pub max_possible_remaining_resident_credentials_count : Option ℕ
+  pub rp : Option PublicKeyCredentialRpEntity
+  pub rp_id_hash : Option (List ℕ)
+  pub total_rps : Option ℕ
+  pub user : Option PublicKeyCredentialUserEntity
+  pub credential_id : Option PublicKeyCredentialDescriptor
+  pub public_key : Option Item
+  pub total_credentials : Option ℕ
+  pub cred_protect : Option CredProtect
+  pub large_blob_key : Option (List ℕ)
+  pub third_party_payment : Option Bool
+
+abbrev pub cm_response_parts : Response → CmResponseParts
+cm_response_parts r = record {
+  existing_resident_credentials_count = r.existing_resident_credentials_count;
+  max_possible_remaining_resident_credentials_count = r.max_possible_remaining_resident_credentials_count;
+  rp = r.rp;
+  rp_id_hash = r.rp_id_hash;
+  total_rps = r.total_rps;
+  user = r.user;
+  credential_id = r.credential_id;
+  public_key = option_map held_item r.public_key;
+  total_credentials = r.total_credentials;
+  cred_protect = r.cred_protect;
+  large_blob_key = r.large_blob_key;
+  third_party_payment = r.third_party_payment;
+}
+
+abbrev pub cm_response : PlainTable CmResponseParts
+cm_response = record {
+  blank = record {
+    existing_resident_credentials_count = None;
+    max_possible_remaining_resident_credentials_count = None;
+    rp = None;
+    rp_id_hash = None;
+    total_rps = None;
+    user = None;
+    credential_id = None;
+    public_key = None;
+    total_credentials = None;
+    cred_protect = None;
+    large_blob_key = None;
+    third_party_payment = None;
+  };
+  members = optional_at 1 (codes "existingResidentCredentialsCount") word (λ r. r.existing_resident_credentials_count)
+      (λ x r. record r { existing_resident_credentials_count = x })
+      ∷ optional_at 2 (codes "maxPossibleRemainingResidentCredentialsCount") word (λ r. r.max_possible_remaining_resident_credentials_count)
+      (λ x r. record r { max_possible_remaining_resident_credentials_count = x })
+      ∷ optional_at 3 (codes "rp") (plain rp) (λ r. r.rp)
+      (λ x r. record r { rp = x })
+      ∷ optional_at 4 (codes "rpIDHash") bytes (λ r. r.rp_id_hash)
+      (λ x r. record r { rp_id_hash = x })
+      ∷ optional_at 5 (codes "totalRPs") word (λ r. r.total_rps)
+      (λ x r. record r { total_rps = x })
+      ∷ optional_at 6 (codes "user") (plain user) (λ r. r.user)
+      (λ x r. record r { user = x })
+      ∷ optional_at 7 (codes "credentialID") (plain descriptor) (λ r. r.credential_id)
+      (λ x r. record r { credential_id = x })
+      ∷ optional_at 8 (codes "publicKey") kept_item (λ r. r.public_key)
+      (λ x r. record r { public_key = x })
+      ∷ optional_at 9 (codes "totalCredentials") word (λ r. r.total_credentials)
+      (λ x r. record r { total_credentials = x })
+      ∷ optional_at 10 (codes "credProtect") (code cred_protect_of cred_protect_byte) (λ r. r.cred_protect)
+      (λ x r. record r { cred_protect = x })
+      ∷ optional_at 11 (codes "largeBlobKey") bytes (λ r. r.large_blob_key)
+      (λ x r. record r { large_blob_key = x })
+      ∷ optional_at 12 (codes "thirdPartyPayment") truth (λ r. r.third_party_payment)
+      (λ x r. record r { third_party_payment = x })
+      ∷ [];
+}
+
+-- what the encoding decodes to: a value with the number of a named one becomes the named one
+abbrev pub normal_cm_response : Response → Response
+normal_cm_response r = record r {
+  cred_protect = option_map (λ x. cred_protect_of (cred_protect_byte x)) r.cred_protect;
+}

@@ -1,0 +1,5 @@
+pub mod SubCommand
+pub mod CredProtect
+pub mod CmParameters
+pub mod CmRequest
+pub mod CmResponse

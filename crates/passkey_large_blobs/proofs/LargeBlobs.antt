@@ -1,0 +1,58 @@
+-- Messages of authenticatorLargeBlobs: decoding their encodings again, their nesting levels, and their canonical form.
+use Rattle.passkey_kinds.proofs.Common.{record_kind, places_of}
+use Rattle.passkey_kinds.proofs.Numbered.{code_back, code_place, code_keeps, long_back, not_null_back, not_null_around, are_messages, plain_messages, numbered_law, IsNumbered, IsNumberedAs}
+use Rattle.passkey_kinds.proofs.Steps.{KeysAscend, keys_ascend, OnlyAt, optional_keeps, arith, shortest_head, truth_back, plainly, list_plain, puts_value, puts_default, kind_back, no_more, ◌▸◌, option_map, number_tree, refl, byte_back, word_back, text_back, bytes_back, anything, all_of_anything, optional_place, list_same, descriptor_law, IsReadBack, EachFits, ◌≤◌, ℕ, suc, ◌≡◌, None, true}
+use Rattle.passkey_kinds.specs.Numbered.{AreMessages, numbered_fields}
+use Rattle.passkey_kinds.specs.Words.{plain_tree}
+use Rattle.passkey_large_blobs.specs.LbRequest.{lb_request}
+use Rattle.passkey_large_blobs.specs.LbResponse.{lb_response}
+use Rattle.passkey_large_blobs.specs.LargeBlob.{large_blob}
+
+-- ---- requests
+
+pub lb_request_law : IsNumbered 0 lb_request
+unfolding shortest_head
+lb_request_law = numbered_law 0 lb_request (λ r. refl) (λ r. refl) (λ r. refl)
+    (λ k r. search (plainly) depth 12) (λ r fits.
+    puts_default (optional_place long_back refl r.get (search)) refl ▸
+    puts_default (optional_place bytes_back refl r.set (anything r.set)) refl ▸
+    puts_value long_back r.offset (search) ▸
+    puts_default (optional_place long_back refl r.length (search)) refl ▸
+    puts_default (optional_place bytes_back refl r.pin_uv_auth_param (anything r.pin_uv_auth_param)) refl ▸
+    puts_default (optional_place byte_back refl r.pin_uv_auth_protocol (search)) refl ▸
+    no_more)
+
+pub lb_request_messages : AreMessages true lb_request (λ r. None)
+unfolding shortest_head
+lb_request_messages = plain_messages 0 lb_request (omega arith) (λ r. refl)
+    (λ r. search (plainly) depth 12)
+
+-- ---- responses
+
+pub lb_response_law : IsNumbered 0 lb_response
+unfolding shortest_head
+lb_response_law = numbered_law 0 lb_response (λ r. refl) (λ r. refl) (λ r. refl)
+    (λ k r. search (plainly) depth 7) (λ r fits.
+    puts_default (optional_place bytes_back refl r.config (anything r.config)) refl ▸
+    no_more)
+
+pub lb_response_messages : AreMessages true lb_response (λ r. None)
+unfolding shortest_head
+lb_response_messages = plain_messages 0 lb_response (omega arith) (λ r. refl)
+    (λ r. search (plainly) depth 7)
+
+-- ---- entries of the large-blob array
+
+pub large_blob_law : IsNumbered 0 large_blob
+unfolding shortest_head
+large_blob_law = numbered_law 0 large_blob (λ r. refl) (λ r. refl) (λ r. refl)
+    (λ k r. search (plainly) depth 9) (λ r fits.
+    puts_value bytes_back r.ciphertext (search) ▸
+    puts_value bytes_back r.nonce (search) ▸
+    puts_value long_back r.orig_size (search) ▸
+    no_more)
+
+pub large_blob_messages : AreMessages true large_blob (λ r. None)
+unfolding shortest_head
+large_blob_messages = plain_messages 0 large_blob (omega arith) (λ r. refl)
+    (λ r. search (plainly) depth 9)

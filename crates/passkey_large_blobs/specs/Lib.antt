@@ -1,0 +1,4 @@
+pub mod LbRequest
+pub mod LbResponse
+pub mod LargeBlob
+pub mod Array
