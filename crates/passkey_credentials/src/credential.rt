@@ -66,6 +66,7 @@ impl<R: AuthenticatorResponse> PlainJsonRecord for PublicKeyCredential<R> {
         }
     }
 
+    #[tactic(auto, unfolding(passkey_json::specs::Members::or_default))]
     fn put(&mut self, number: u8, member: Member<'_>) -> Result<(), JsonFault> {
         match number {
             1 => self.id = member.required()?,
