@@ -1,33 +1,33 @@
 -- Client data (WebAuthn Level 3, section 5.8.1), decoded from an object.
-use Rattle.std.specs.Prelude.{ℕ, Bool, List, Option, None, Result, Ok, Err, codes, [], ◌∷◌, ◌||◌}
-use Rattle.passkey_client_data.specs.ClientDataType.{client_data_type_named}
+use Rattle.std.specs.Prelude.{ℕ, Bool, List, Option, None, Result, Ok, Err, codes, [], ◌∷◌, ◌||◌, refl}
+use Rattle.passkey_client_data.specs.ClientDataType.{client_data_type_name, client_data_type_named}
 use Rattle.passkey_client_data.specs.ExtraData.{is_unknown}
 use Rattle.passkey_client_data.specs.MemberLists.{members_where, without_floats, any_member}
 use Rattle.passkey_client_data.specs.declared.client_data.CollectedClientData.{CollectedClientData}
 use Rattle.passkey_client_data.specs.declared.client_data_type.ClientDataType.{ClientDataType}
+use Rattle.passkey_client_data.specs.declared.client_data_type.ClientDataType.TheVariants.{Create}
 use Rattle.passkey_client_data.specs.declared.fixed_members.FixedMembers.{FixedMembers}
+use Rattle.passkey_json.specs.Coded.{named_value, text_value, truth_value}
 use Rattle.passkey_json.specs.Fault.{Fault, no_object}
-use Rattle.passkey_json.specs.Kind.{one_named, optional, text, truth, is_text}
-use Rattle.passkey_json.specs.Members.{◌>>=◌, Object, member, required, or_default, takes_any, takes_at}
+use Rattle.passkey_json.specs.Members.{◌>>=◌, Object, takes_at}
+use Rattle.passkey_json.specs.Table.{PlainTable, members_in, optional_as, required_as, takes_of}
 use Rattle.serde_json.specs.Data.{Data, null, boolean, number, string, array, object, Members}
 use Rattle.serde_json.specs.Find.{get_member, as_object}
 use Rattle.serde_json.specs.View.{members_view}
 
 -- the members that all client data has
-unfoldable pub fixed_members_in : Object → Result FixedMembers Fault
-fixed_members_in names = do
-  ty ← required (one_named client_data_type_named) (member (codes "type") names)
-  challenge ← required text (member (codes "challenge") names)
-  origin ← required text (member (codes "origin") names)
-  cross_origin ← or_default None (optional truth) (member (codes "crossOrigin") names)
-  Ok (record { ty = ty; challenge = challenge; origin = origin; cross_origin = cross_origin })
-
--- whether one of these members is present whose decoding may take memory
-unfoldable pub fixed_members_takes : Object → Bool
-fixed_members_takes = takes_any (
-    (codes "challenge", is_text)
-    ∷ (codes "origin", is_text)
-    ∷ [])
+abbrev pub fixed_members : PlainTable FixedMembers
+fixed_members = record {
+  blank = record { ty = Create; challenge = []; origin = []; cross_origin = None };
+  members = required_as 1 (codes "type") (named_value client_data_type_name client_data_type_named)
+      (λ m. m.ty) (λ v m. record m { ty = v })
+      ∷ required_as 2 (codes "challenge") text_value (λ m. m.challenge) (λ v m. record m { challenge = v })
+      ∷ required_as 3 (codes "origin") text_value (λ m. m.origin) (λ v m. record m { origin = v })
+      ∷ optional_as 4 (codes "crossOrigin") truth_value (λ m. m.cross_origin) (λ v m. record m { cross_origin = v })
+      ∷ [];
+  whole = λ m. refl;
+  distinct = refl;
+}
 
 -- client data as contracts see it: the members that all client data has, the caller's value, and
 -- the members that neither knows
@@ -54,7 +54,7 @@ module _ {E : Type 0} (has : List ℕ → Bool) (reads : Object → Result E Fau
   -- float; then the unknown members, which contain no float either.
   unfoldable pub client_data_in : Members → Result (ClientData E) Fault
   client_data_in ms = do
-    fixed ← fixed_members_in (λ name. get_member name ms)
+    fixed ← members_in fixed_members (λ name. get_member name ms)
     extra_members ← without_floats (codes "extra_data") (members_where has ms)
     extra_data ← reads (λ name. get_member name ms)
     unknown_keys ← without_floats (codes "unknown_keys") (members_where (is_unknown has) ms)
@@ -78,7 +78,7 @@ module _ (has : List ℕ → Bool) (takes : Object → Bool) where
   -- one of the fixed members takes memory, or the caller's value does, or there is an unknown
   -- member, which is copied
   abbrev pub members_take : Members → Bool
-  members_take ms = fixed_members_takes (λ name. get_member name ms) || takes (λ name. get_member name ms)
+  members_take ms = takes_of fixed_members (λ name. get_member name ms) || takes (λ name. get_member name ms)
       || any_member (members_where (is_unknown has) ms)
 
   -- an object with such members

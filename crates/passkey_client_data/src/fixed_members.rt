@@ -1,9 +1,10 @@
 //! The members that all client data has.
-ghost use Rattle.passkey_client_data.specs.ClientData.{fixed_members_in, fixed_members_takes};
+ghost use Rattle.passkey_client_data.specs.ClientData.{fixed_members};
 
 use crate::client_data_type::ClientDataType;
 use passkey_bytes::Text;
-use passkey_json::{JsonFault, JsonRecord, Object};
+use passkey_json::{JsonFault, Member, PlainJsonRecord, Row};
+use std::alloc::Global;
 
 /// The members that all client data has (WebAuthn Level 3, section 5.8.1).
 #[derive(Drop)]
@@ -14,18 +15,35 @@ pub(crate) struct FixedMembers {
     pub(crate) cross_origin: Option<bool>,
 }
 
-impl JsonRecord for FixedMembers {
-    ghost members = { fixed_members_in };
+impl PlainJsonRecord for FixedMembers {
+    ghost table = { fixed_members };
 
-    ghost takes = { fixed_members_takes };
+    fn rows() -> &'static [Row] {
+        &[
+            Row::Named(1, "type"),
+            Row::Named(2, "challenge"),
+            Row::Named(3, "origin"),
+            Row::Named(4, "crossOrigin"),
+        ]
+    }
 
-    #[tactic(auto, unfolding(crate::specs::ClientData::fixed_members_in, crate::specs::ClientData::fixed_members_takes, passkey_json::specs::Members::takes_any, passkey_json::specs::Members::required, passkey_json::specs::Members::or_default))]
-    fn from_object(object: &Object<'_>) -> Result<FixedMembers, JsonFault> {
-        Ok(FixedMembers {
-            ty: object.member("type").required()?,
-            challenge: object.member("challenge").required()?,
-            origin: object.member("origin").required()?,
-            cross_origin: object.member("crossOrigin").or_default(None)?,
-        })
+    fn blank(alloc: Global) -> FixedMembers {
+        FixedMembers {
+            ty: ClientDataType::Create,
+            challenge: Text::empty(alloc),
+            origin: Text::empty(alloc),
+            cross_origin: None,
+        }
+    }
+
+    fn put(&mut self, number: u8, member: Member<'_>) -> Result<(), JsonFault> {
+        match number {
+            1 => self.ty = member.required()?,
+            2 => self.challenge = member.required()?,
+            3 => self.origin = member.required()?,
+            4 => self.cross_origin = member.or_default(None)?,
+            _ => {}
+        }
+        Ok(())
     }
 }

@@ -1,3 +1,1 @@
-pub mod AttestationResponse
-pub mod AssertionResponse
-pub mod Credential
+pub mod Credentials

@@ -1,14 +1,9 @@
 //! The response to a sign-in, decoded from JSON objects and encoded.
-ghost use Rattle.passkey_credentials.specs.AssertionResponse.{assertion_response_in, assertion_response_json, assertion_response_takes};
-ghost use Rattle.passkey_json.specs.Members.{record_kind, takes_in};
+ghost use Rattle.passkey_credentials.specs.Credentials.{assertion_response};
 
 use passkey_bytes::Bytes;
-use passkey_json::{
-    BytesForm, FromJson, JsonFault, JsonRecord, JsonRefusal, Object, ObjectWriter, RecordToJson,
-    ToJson, read_nested,
-};
+use passkey_json::{BytesForm, JsonFault, Member, ObjectWriter, PlainJsonRecord, PlainToJson, Row};
 use passkey_memory::OutOfMemory;
-use serde_json::Value;
 use std::alloc::Global;
 
 /// The response to a sign-in (WebAuthn Level 3, section 5.2.2; as JSON in section 5.1).
@@ -28,51 +23,57 @@ pub struct AuthenticatorAssertionResponse {
     pub attestation_object: Option<Bytes>,
 }
 
-impl JsonRecord for AuthenticatorAssertionResponse {
-    ghost members = { assertion_response_in };
+impl PlainJsonRecord for AuthenticatorAssertionResponse {
+    ghost table = { assertion_response };
 
-    ghost takes = { assertion_response_takes };
+    fn rows() -> &'static [Row] {
+        &[
+            Row::Named(1, "clientDataJSON"),
+            Row::Named(2, "authenticatorData"),
+            Row::Named(3, "signature"),
+            Row::Named(4, "userHandle"),
+            Row::Named(5, "attestationObject"),
+        ]
+    }
 
-    fn from_object(object: &Object<'_>) -> Result<AuthenticatorAssertionResponse, JsonFault> {
-        Ok(AuthenticatorAssertionResponse {
-            client_data_json: object.member("clientDataJSON").required()?,
-            authenticator_data: object.member("authenticatorData").required()?,
-            signature: object.member("signature").required()?,
-            user_handle: object.member("userHandle").or_default(None)?,
-            attestation_object: object.member("attestationObject").or_default(None)?,
-        })
+    fn blank(alloc: Global) -> AuthenticatorAssertionResponse {
+        AuthenticatorAssertionResponse {
+            client_data_json: Bytes::empty(alloc),
+            authenticator_data: Bytes::empty(alloc),
+            signature: Bytes::empty(alloc),
+            user_handle: None,
+            attestation_object: None,
+        }
+    }
+
+    fn put(&mut self, number: u8, member: Member<'_>) -> Result<(), JsonFault> {
+        match number {
+            1 => self.client_data_json = member.required()?,
+            2 => self.authenticator_data = member.required()?,
+            3 => self.signature = member.required()?,
+            4 => self.user_handle = member.or_default(None)?,
+            5 => self.attestation_object = member.or_default(None)?,
+            _ => {}
+        }
+        Ok(())
     }
 }
 
-impl FromJson for AuthenticatorAssertionResponse {
-    ghost kind = { record_kind assertion_response_in };
-
-    ghost takes = { takes_in assertion_response_takes };
-
-    fn from_value(
+impl PlainToJson for AuthenticatorAssertionResponse {
+    fn put_member(
+        &self,
+        number: u8,
         alloc: Global,
-        value: &Value,
-    ) -> Result<AuthenticatorAssertionResponse, JsonRefusal> {
-        read_nested(alloc, value)
+        form: BytesForm,
+        object: &mut ObjectWriter,
+    ) -> Result<(), OutOfMemory> {
+        match number {
+            1 => object.put(alloc, form, "clientDataJSON", &self.client_data_json),
+            2 => object.put(alloc, form, "authenticatorData", &self.authenticator_data),
+            3 => object.put(alloc, form, "signature", &self.signature),
+            4 => object.put_some(alloc, form, "userHandle", &self.user_handle),
+            5 => object.put_some(alloc, form, "attestationObject", &self.attestation_object),
+            _ => Ok(()),
+        }
     }
-}
-
-impl ToJson for AuthenticatorAssertionResponse {
-    ghost json = { assertion_response_json };
-
-    fn to_json(&self, alloc: Global, form: BytesForm) -> Result<Value, OutOfMemory> {
-        let mut members = ObjectWriter::new(alloc);
-        members.put(alloc, form, "clientDataJSON", &self.client_data_json)?;
-        members.put(alloc, form, "authenticatorData", &self.authenticator_data)?;
-        members.put(alloc, form, "signature", &self.signature)?;
-        members.put_some(alloc, form, "userHandle", &self.user_handle)?;
-        members.put_some(alloc, form, "attestationObject", &self.attestation_object)?;
-        Ok(members.into_value())
-    }
-}
-
-impl RecordToJson for AuthenticatorAssertionResponse {
-    ghost use Rattle.std.specs.Prelude.{refl};
-
-    ghost kind_is_record = { λ _. refl };
 }

@@ -1,17 +1,12 @@
 //! The response to a registration, decoded from JSON objects and encoded.
 ghost use Rattle.std.specs.Prelude.{◌≡◌, ◌<◌, ◌⊎◌, length, IfOk, OnErr};
 ghost use Rattle.std.specs.Option.{IsSomeAnd};
-ghost use Rattle.passkey_credentials.specs.AttestationResponse.{attestation_response_in, attestation_response_json, attestation_response_takes};
-ghost use Rattle.passkey_json.specs.Members.{record_kind, takes_in};
+ghost use Rattle.passkey_credentials.specs.Credentials.{attestation_response};
 
 use passkey_bytes::{Bytes, List};
-use passkey_json::{
-    BytesForm, FromJson, JsonFault, JsonRecord, JsonRefusal, Object, ObjectWriter, RecordToJson,
-    ToJson, read_nested,
-};
+use passkey_json::{BytesForm, JsonFault, Member, ObjectWriter, PlainJsonRecord, PlainToJson, Row};
 use passkey_memory::OutOfMemory;
 use passkey_webauthn::AuthenticatorTransport;
-use serde_json::Value;
 use std::alloc::Global;
 
 /// The response to a registration (WebAuthn Level 3, section 5.2.1; as JSON in section 5.1).
@@ -64,59 +59,66 @@ impl AuthenticatorAttestationResponse {
     }
 }
 
-impl JsonRecord for AuthenticatorAttestationResponse {
-    ghost members = { attestation_response_in };
+impl PlainJsonRecord for AuthenticatorAttestationResponse {
+    ghost table = { attestation_response };
 
-    ghost takes = { attestation_response_takes };
+    fn rows() -> &'static [Row] {
+        &[
+            Row::Named(1, "clientDataJSON"),
+            Row::Named(2, "authenticatorData"),
+            Row::Named(3, "publicKey"),
+            Row::Named(4, "publicKeyAlgorithm"),
+            Row::Named(5, "attestationObject"),
+            Row::Named(6, "transports"),
+        ]
+    }
 
-    #[tactic(auto, unfolding(crate::specs::AttestationResponse::attestation_response_in, crate::specs::AttestationResponse::attestation_response_takes, passkey_json::specs::Members::takes_any, passkey_json::specs::Members::required, passkey_json::specs::Members::or_default))]
-    fn from_object(object: &Object<'_>) -> Result<AuthenticatorAttestationResponse, JsonFault> {
-        Ok(AuthenticatorAttestationResponse {
-            client_data_json: object.member("clientDataJSON").required()?,
-            authenticator_data: object.member("authenticatorData").required()?,
-            public_key: object.member("publicKey").or_default(None)?,
-            public_key_algorithm: object.member("publicKeyAlgorithm").required()?,
-            attestation_object: object.member("attestationObject").required()?,
-            transports: object.member("transports").or_default(None)?,
-        })
+    fn blank(alloc: Global) -> AuthenticatorAttestationResponse {
+        AuthenticatorAttestationResponse {
+            client_data_json: Bytes::empty(alloc),
+            authenticator_data: Bytes::empty(alloc),
+            public_key: None,
+            public_key_algorithm: 0,
+            attestation_object: Bytes::empty(alloc),
+            transports: None,
+        }
+    }
+
+    fn put(&mut self, number: u8, member: Member<'_>) -> Result<(), JsonFault> {
+        match number {
+            1 => self.client_data_json = member.required()?,
+            2 => self.authenticator_data = member.required()?,
+            3 => self.public_key = member.or_default(None)?,
+            4 => self.public_key_algorithm = member.required()?,
+            5 => self.attestation_object = member.required()?,
+            6 => self.transports = member.or_default(None)?,
+            _ => {}
+        }
+        Ok(())
     }
 }
 
-impl FromJson for AuthenticatorAttestationResponse {
-    ghost kind = { record_kind attestation_response_in };
-
-    ghost takes = { takes_in attestation_response_takes };
-
-    fn from_value(
+impl PlainToJson for AuthenticatorAttestationResponse {
+    fn put_member(
+        &self,
+        number: u8,
         alloc: Global,
-        value: &Value,
-    ) -> Result<AuthenticatorAttestationResponse, JsonRefusal> {
-        read_nested(alloc, value)
+        form: BytesForm,
+        object: &mut ObjectWriter,
+    ) -> Result<(), OutOfMemory> {
+        match number {
+            1 => object.put(alloc, form, "clientDataJSON", &self.client_data_json),
+            2 => object.put(alloc, form, "authenticatorData", &self.authenticator_data),
+            3 => object.put_some(alloc, form, "publicKey", &self.public_key),
+            4 => object.put(
+                alloc,
+                form,
+                "publicKeyAlgorithm",
+                &self.public_key_algorithm,
+            ),
+            5 => object.put(alloc, form, "attestationObject", &self.attestation_object),
+            6 => object.put_some(alloc, form, "transports", &self.transports),
+            _ => Ok(()),
+        }
     }
-}
-
-impl ToJson for AuthenticatorAttestationResponse {
-    ghost json = { attestation_response_json };
-
-    fn to_json(&self, alloc: Global, form: BytesForm) -> Result<Value, OutOfMemory> {
-        let mut members = ObjectWriter::new(alloc);
-        members.put(alloc, form, "clientDataJSON", &self.client_data_json)?;
-        members.put(alloc, form, "authenticatorData", &self.authenticator_data)?;
-        members.put_some(alloc, form, "publicKey", &self.public_key)?;
-        members.put(
-            alloc,
-            form,
-            "publicKeyAlgorithm",
-            &self.public_key_algorithm,
-        )?;
-        members.put(alloc, form, "attestationObject", &self.attestation_object)?;
-        members.put_some(alloc, form, "transports", &self.transports)?;
-        Ok(members.into_value())
-    }
-}
-
-impl RecordToJson for AuthenticatorAttestationResponse {
-    ghost use Rattle.std.specs.Prelude.{refl};
-
-    ghost kind_is_record = { λ _. refl };
 }

@@ -1,18 +1,16 @@
 //! Credentials that a browser returns, decoded from JSON objects and encoded.
-ghost use Rattle.passkey_credentials.specs.Credential.{credential_in, credential_json, credential_takes};
-ghost use Rattle.passkey_json.specs.Members.{record_kind, takes_in};
+ghost use Rattle.passkey_credentials.specs.Credentials.{credential};
 
 use crate::assertion_response::AuthenticatorAssertionResponse;
 use crate::attestation_response::AuthenticatorAttestationResponse;
 use crate::response::AuthenticatorResponse;
 use passkey_bytes::{Bytes, Text};
 use passkey_json::{
-    AuthenticationExtensionsClientOutputs, AuthenticatorAttachment, BytesForm, FromJson, JsonFault,
-    JsonRecord, JsonRefusal, Object, ObjectWriter, RecordToJson, ToJson, read_nested,
+    AuthenticationExtensionsClientOutputs, AuthenticatorAttachment, BytesForm, JsonFault, Member,
+    ObjectWriter, PlainJsonRecord, PlainToJson, Row,
 };
 use passkey_memory::OutOfMemory;
 use passkey_webauthn::PublicKeyCredentialType;
-use serde_json::Value;
 use std::alloc::Global;
 
 /// A credential that a browser returns, with the authenticator's response (WebAuthn Level 3,
@@ -43,63 +41,74 @@ pub type CreatedPublicKeyCredential = PublicKeyCredential<AuthenticatorAttestati
 /// `navigator.credentials.get()` returns decodes to it (`AuthenticationResponseJSON`, section 5.1).
 pub type AuthenticatedPublicKeyCredential = PublicKeyCredential<AuthenticatorAssertionResponse>;
 
-impl<R: AuthenticatorResponse> JsonRecord for PublicKeyCredential<R> {
-    ghost members = { credential_in R.FromJson.kind };
+impl<R: AuthenticatorResponse> PlainJsonRecord for PublicKeyCredential<R> {
+    ghost table = { credential R.table };
 
-    ghost takes = { credential_takes R.FromJson.takes };
+    fn rows() -> &'static [Row] {
+        &[
+            Row::Named(1, "id"),
+            Row::Named(2, "rawId"),
+            Row::Named(3, "type"),
+            Row::Named(4, "response"),
+            Row::Named(5, "authenticatorAttachment"),
+            Row::Named(6, "clientExtensionResults"),
+        ]
+    }
 
-    #[tactic(auto, unfolding(crate::specs::Credential::credential_in, crate::specs::Credential::credential_takes, passkey_json::specs::Members::takes_any, passkey_json::specs::Members::required, passkey_json::specs::Members::tolerated, passkey_json::specs::Members::or_default))]
-    fn from_object(object: &Object<'_>) -> Result<PublicKeyCredential<R>, JsonFault> {
-        Ok(PublicKeyCredential {
-            id: object.member("id").required()?,
-            raw_id: object.member("rawId").required()?,
-            ty: object.member("type").required()?,
-            response: object.member("response").required()?,
-            authenticator_attachment: object.member("authenticatorAttachment").tolerated(None)?,
-            client_extension_results: object
-                .member("clientExtensionResults")
-                .or_default(AuthenticationExtensionsClientOutputs::empty())?,
-        })
+    fn blank(alloc: Global) -> PublicKeyCredential<R> {
+        PublicKeyCredential {
+            id: Text::empty(alloc),
+            raw_id: Bytes::empty(alloc),
+            ty: PublicKeyCredentialType::Unknown,
+            response: R::blank(alloc),
+            authenticator_attachment: None,
+            client_extension_results: AuthenticationExtensionsClientOutputs::empty(),
+        }
+    }
+
+    #[tactic(auto, unfolding(passkey_json::specs::Members::or_default))]
+    fn put(&mut self, number: u8, member: Member<'_>) -> Result<(), JsonFault> {
+        match number {
+            1 => self.id = member.required()?,
+            2 => self.raw_id = member.required()?,
+            3 => self.ty = member.required()?,
+            4 => self.response = member.required()?,
+            5 => self.authenticator_attachment = member.tolerated(None)?,
+            6 => self.client_extension_results = member.or_default(
+                AuthenticationExtensionsClientOutputs::empty(),
+            )?,
+            _ => {}
+        }
+        Ok(())
     }
 }
 
-impl<R: AuthenticatorResponse> FromJson for PublicKeyCredential<R> {
-    ghost kind = { record_kind (credential_in R.FromJson.kind) };
-
-    ghost takes = { takes_in (credential_takes R.FromJson.takes) };
-
-    fn from_value(alloc: Global, value: &Value) -> Result<PublicKeyCredential<R>, JsonRefusal> {
-        read_nested(alloc, value)
+impl<R: AuthenticatorResponse> PlainToJson for PublicKeyCredential<R> {
+    fn put_member(
+        &self,
+        number: u8,
+        alloc: Global,
+        form: BytesForm,
+        object: &mut ObjectWriter,
+    ) -> Result<(), OutOfMemory> {
+        match number {
+            1 => object.put(alloc, form, "id", &self.id),
+            2 => object.put(alloc, form, "rawId", &self.raw_id),
+            3 => object.put(alloc, form, "type", &self.ty),
+            4 => object.put(alloc, form, "response", &self.response),
+            5 => object.put_some(
+                alloc,
+                form,
+                "authenticatorAttachment",
+                &self.authenticator_attachment,
+            ),
+            6 => object.put(
+                alloc,
+                form,
+                "clientExtensionResults",
+                &self.client_extension_results,
+            ),
+            _ => Ok(()),
+        }
     }
-}
-
-impl<R: AuthenticatorResponse> ToJson for PublicKeyCredential<R> {
-    ghost json = { credential_json R.ToJson.json };
-
-    fn to_json(&self, alloc: Global, form: BytesForm) -> Result<Value, OutOfMemory> {
-        let mut members = ObjectWriter::new(alloc);
-        members.put(alloc, form, "id", &self.id)?;
-        members.put(alloc, form, "rawId", &self.raw_id)?;
-        members.put(alloc, form, "type", &self.ty)?;
-        members.put(alloc, form, "response", &self.response)?;
-        members.put_some(
-            alloc,
-            form,
-            "authenticatorAttachment",
-            &self.authenticator_attachment,
-        )?;
-        members.put(
-            alloc,
-            form,
-            "clientExtensionResults",
-            &self.client_extension_results,
-        )?;
-        Ok(members.into_value())
-    }
-}
-
-impl<R: AuthenticatorResponse> RecordToJson for PublicKeyCredential<R> {
-    ghost use Rattle.std.specs.Prelude.{refl};
-
-    ghost kind_is_record = { λ _. refl };
 }

@@ -6,7 +6,7 @@ use Rattle.passkey_json.specs.Members.{◌>>=◌}
 use Rattle.passkey_json.specs.declared.json_fault.JsonFault.{JsonFault}
 use Rattle.passkey_json.specs.declared.json_fault.JsonFault.TheVariants as fault
 
-first_fault : {A B : Type 0} (Part Whole : Type 0) (reads : Result A Fault) (e : JsonFault)
+pub first_fault : {A B : Type 0} (Part Whole : Type 0) (reads : Result A Fault) (e : JsonFault)
     (rest : A → Result B Fault) → Gives Part reads (Err e) → (Part → Whole) → Gives Whole (reads >>= rest) (Err e)
 first_fault Part Whole reads fault.OutOfMemory rest h takes = takes h
 first_fault Part Whole reads _ rest h takes = ap (λ w. w >>= rest) h

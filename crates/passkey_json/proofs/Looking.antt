@@ -2,7 +2,7 @@
 use Rattle.std.proofs.Common.{◌≡◌, ℕ, List, [], ◌∷◌, Option, Some, None, Bool, true, false, ◌&&◌, ◌||◌, not, cond, refl, sym, subst, ◌∙◌, bytes_eq, true≢false}
 use Rattle.std.proofs.lemmas.Slice.Eq.{bytes_eq-Decides}
 use Rattle.std.specs.List.{list_any}
-use Rattle.passkey_json.specs.Written.{Row, put_if, put_rows, written, at_name, are_apart}
+use Rattle.passkey_json.specs.Written.{EncodedMember, put_if, put_rows, written, at_name, are_apart}
 use Rattle.serde_json.proofs.Views.{get_member-put, get_member-put_other}
 use Rattle.serde_json.specs.Data.{Data, Members, no_members}
 use Rattle.serde_json.specs.Find.{get, get_member}
@@ -30,17 +30,17 @@ first_apart : (a b : Bool) → (not a && b) ≡ true → (a ≡ false) × (b ≡
 first_apart true b e = absurd (true≢false (sym e))
 first_apart false b e = (refl, e)
 
-abbrev has_name : List ℕ → List Row → Bool
-has_name name ws = list_any (λ (v : Row). bytes_eq name v.0) ws
+abbrev has_name : List ℕ → List EncodedMember → Bool
+has_name name ws = list_any (λ (v : EncodedMember). bytes_eq name v.0) ws
 
-looked_elsewhere : (name : List ℕ) (ws : List Row) (ms : Members) → has_name name ws ≡ false
+looked_elsewhere : (name : List ℕ) (ws : List EncodedMember) (ms : Members) → has_name name ws ≡ false
     → get_member name (put_rows ms ws) ≡ get_member name ms
 looked_elsewhere name [] ms e = refl
 looked_elsewhere name (w ∷ ws) ms e =
     let parts = neither (bytes_eq name w.0) (has_name name ws) e in
     looked_elsewhere name ws (put_if w.0 w.1 ms) parts.1 ∙ put_elsewhere name w.0 w.1 ms parts.0
 
-looked_at : (b : Bool) (name : List ℕ) (w : Row) (ws : List Row) (ms : Members) → bytes_eq name w.0 ≡ b
+looked_at : (b : Bool) (name : List ℕ) (w : EncodedMember) (ws : List EncodedMember) (ms : Members) → bytes_eq name w.0 ≡ b
     → has_name w.0 ws ≡ false → get_member name ms ≡ None
     → (get_member name (put_if w.0 w.1 ms) ≡ None
     → get_member name (put_rows (put_if w.0 w.1 ms) ws) ≡ at_name ws name)
@@ -51,16 +51,16 @@ looked_at true name w ws ms is apart none later =
     ∙ put_here name w.0 w.1 ms is none
 looked_at false name w ws ms is apart none later = later (put_elsewhere name w.0 w.1 ms is ∙ none)
 
-looked : (name : List ℕ) (ws : List Row) (ms : Members) → are_apart ws ≡ true → get_member name ms ≡ None
+looked : (name : List ℕ) (ws : List EncodedMember) (ms : Members) → are_apart ws ≡ true → get_member name ms ≡ None
     → get_member name (put_rows ms ws) ≡ at_name ws name
 looked name [] ms e none = none
 looked name (w ∷ ws) ms e none =
     let parts = first_apart (has_name w.0 ws) (are_apart ws) e in
     looked_at (bytes_eq name w.0) name w ws ms refl parts.0 none (looked name ws (put_if w.0 w.1 ms) parts.1)
 
-looked_up : (ws : List Row) → are_apart ws ≡ true → (name : List ℕ) → get name (written ws) ≡ at_name ws name
+looked_up : (ws : List EncodedMember) → are_apart ws ≡ true → (name : List ℕ) → get name (written ws) ≡ at_name ws name
 looked_up ws e name = looked name ws no_members e refl
 
 -- the value under each name of the object with these members
-pub standing : (ws : List Row) → are_apart ws ≡ true → (λ (name : List ℕ). get name (written ws)) ≡ at_name ws
+pub standing : (ws : List EncodedMember) → are_apart ws ≡ true → (λ (name : List ℕ). get name (written ws)) ≡ at_name ws
 standing ws e = λ i name. looked_up ws e name i

@@ -1,6 +1,5 @@
 -- Decoding an object member by member, in the order of the record's table.
 use Rattle.std.specs.Prelude.{ℕ, List, Option, Some, None, Result, Ok, Err, option_map, option_and_then, unwrap_or, if◌then◌else◌, Bool, false, IsTrue}
-use Rattle.std.specs.List.{list_any}
 use Rattle.std.specs.Option.{ok_or, option_map_or}
 use Rattle.std.specs.Result.{result_ok}
 use Rattle.passkey_json.specs.Fault.{Fault, no_object, missing, refused, float, repeated}
@@ -50,14 +49,6 @@ takes_at takes found = option_map_or takes found false
 -- the member is present, and decoding its value may take memory
 abbrev pub MemberTakes : (Data → Bool) → Member → Type 0
 MemberTakes takes m = IsTrue (takes_at takes m.value)
-
--- names of members, each with the values whose decoding may take memory
-abbrev pub Costs : Type 0
-Costs = List (List ℕ × (Data → Bool))
-
--- one of these members is present, with such a value
-unfoldable pub takes_any : Costs → Object → Bool
-takes_any costs object = list_any (λ cost. takes_at cost.1 (object cost.0)) costs
 
 -- an object with members whose decoding may take memory
 abbrev pub takes_in : (Object → Bool) → Data → Bool

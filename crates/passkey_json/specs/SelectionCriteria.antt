@@ -1,43 +1,12 @@
 -- A relying party's requirements for the authenticator (WebAuthn Level 3, section 5.4.4).
-use Rattle.std.specs.Prelude.{List, [], ◌∷◌, None, Result, Ok, codes}
-use Rattle.passkey_json.specs.Fault.{Fault}
-use Rattle.passkey_json.specs.Kind.{optional, one_named, truth_text}
-use Rattle.passkey_json.specs.Members.{◌>>=◌, Object, member, or_default, tolerated}
-use Rattle.passkey_json.specs.Written.{Row, written, row, row_if}
-use Rattle.passkey_json.specs.declared.bytes_form.BytesForm.{BytesForm}
-use Rattle.serde_json.specs.Data.{Data, string, boolean}
-use Rattle.std.specs.Prelude.{false}
+use Rattle.std.specs.Prelude.{[], ◌∷◌, None, codes, false, refl}
 use Rattle.passkey_json.specs.Attachment.{attachment_name, attachment_named}
+use Rattle.passkey_json.specs.Coded.{named_value, truth_text_value}
 use Rattle.passkey_json.specs.ResidentKey.{resident_key_name, resident_key_named}
+use Rattle.passkey_json.specs.Table.{PlainTable, default_as, tolerated_as, tolerated_optional_as}
 use Rattle.passkey_json.specs.UserVerification.{user_verification_name, user_verification_named}
 use Rattle.passkey_json.specs.declared.selection_criteria.AuthenticatorSelectionCriteria.{AuthenticatorSelectionCriteria}
 use Rattle.passkey_json.specs.declared.user_verification.UserVerificationRequirement.TheVariants.{Preferred}
-
-unfoldable pub selection_criteria_in : Object → Result AuthenticatorSelectionCriteria Fault
-selection_criteria_in object = do
-  attachment ← tolerated None (optional (one_named attachment_named))
-      (member (codes "authenticatorAttachment") object)
-  resident_key ← tolerated None (optional (one_named resident_key_named)) (member (codes "residentKey") object)
-  require_resident_key ← or_default false truth_text (member (codes "requireResidentKey") object)
-  user_verification ← tolerated Preferred (one_named user_verification_named)
-      (member (codes "userVerification") object)
-  Ok (record {
-    authenticator_attachment = attachment;
-    resident_key = resident_key;
-    require_resident_key = require_resident_key;
-    user_verification = user_verification;
-  })
-
-abbrev pub selection_criteria_rows : BytesForm → AuthenticatorSelectionCriteria → List Row
-selection_criteria_rows form x =
-    row_if (codes "authenticatorAttachment") (λ a. string (attachment_name a)) x.authenticator_attachment
-    ∷ row_if (codes "residentKey") (λ k. string (resident_key_name k)) x.resident_key
-    ∷ row (codes "requireResidentKey") (boolean x.require_resident_key)
-    ∷ row (codes "userVerification") (string (user_verification_name x.user_verification))
-    ∷ []
-
-abbrev pub selection_criteria_json : BytesForm → AuthenticatorSelectionCriteria → Data
-selection_criteria_json form x = written (selection_criteria_rows form x)
 
 -- any authenticator, with user verification preferred
 abbrev pub any_authenticator : AuthenticatorSelectionCriteria
@@ -46,4 +15,20 @@ any_authenticator = record {
   resident_key = None;
   require_resident_key = false;
   user_verification = Preferred;
+}
+
+abbrev pub selection_criteria : PlainTable AuthenticatorSelectionCriteria
+selection_criteria = record {
+  blank = any_authenticator;
+  members = tolerated_optional_as 1 (codes "authenticatorAttachment") (named_value attachment_name attachment_named)
+      (λ c. c.authenticator_attachment) (λ v c. record c { authenticator_attachment = v })
+      ∷ tolerated_optional_as 2 (codes "residentKey") (named_value resident_key_name resident_key_named)
+      (λ c. c.resident_key) (λ v c. record c { resident_key = v })
+      ∷ default_as 3 (codes "requireResidentKey") truth_text_value false
+      (λ c. c.require_resident_key) (λ v c. record c { require_resident_key = v })
+      ∷ tolerated_as 4 (codes "userVerification") (named_value user_verification_name user_verification_named) Preferred
+      (λ c. c.user_verification) (λ v c. record c { user_verification = v })
+      ∷ [];
+  whole = λ c. refl;
+  distinct = refl;
 }

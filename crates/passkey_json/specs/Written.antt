@@ -1,5 +1,5 @@
 -- The JSON values that values are encoded as.
-use Rattle.std.specs.Prelude.{◌≡◌, ℕ, ℤ, Bool, true, ◌&&◌, not, List, [], ◌∷◌, map, Option, Some, None, IfSome, option_map, if◌then◌else◌}
+use Rattle.std.specs.Prelude.{◌≡◌, ℕ, ℤ, Bool, true, ◌&&◌, not, List, [], ◌∷◌, map, Option, Some, None, IfSome, if◌then◌else◌}
 use Rattle.std.specs.List.{list_any}
 use Rattle.std.specs.Str.{bytes_eq}
 use Rattle.base64.specs.Engines.{url_safe_no_pad}
@@ -47,26 +47,22 @@ elements_so_far e = map view e.values.items
 -- ---- objects
 
 -- a member's name, and its encoded value if the member is present
-abbrev pub Row : Type 0
-Row = List ℕ × Option Data
+abbrev pub EncodedMember : Type 0
+EncodedMember = List ℕ × Option Data
 
-abbrev pub row : List ℕ → Data → Row
+abbrev pub row : List ℕ → Data → EncodedMember
 row name d = (name, Some d)
-
--- the member of an option, absent if it is `None`
-abbrev pub row_if : {A : Type 0} → List ℕ → (A → Data) → Option A → Row
-row_if name json o = (name, option_map json o)
 
 abbrev pub put_if : List ℕ → Option Data → Members → Members
 put_if name None ms = ms
 put_if name (Some d) ms = put name d ms
 
-abbrev pub put_rows : Members → List Row → Members
+abbrev pub put_rows : Members → List EncodedMember → Members
 put_rows ms [] = ms
 put_rows ms (w ∷ ws) = put_rows (put_if w.0 w.1 ms) ws
 
 -- the object with these members
-abbrev pub written : List Row → Data
+abbrev pub written : List EncodedMember → Data
 written ws = object (put_rows no_members ws)
 
 -- the members encoded so far
@@ -75,11 +71,11 @@ so_far w = members_view w.members.entries
 
 -- ---- looking up encoded members
 
-abbrev pub at_name : List Row → List ℕ → Option Data
+abbrev pub at_name : List EncodedMember → List ℕ → Option Data
 at_name [] name = None
 at_name (w ∷ ws) name = if bytes_eq name w.0 then w.1 else at_name ws name
 
 -- no name occurs twice among the members
-abbrev pub are_apart : List Row → Bool
+abbrev pub are_apart : List EncodedMember → Bool
 are_apart [] = true
-are_apart (w ∷ ws) = not (list_any (λ (v : Row). bytes_eq w.0 v.0) ws) && are_apart ws
+are_apart (w ∷ ws) = not (list_any (λ (v : EncodedMember). bytes_eq w.0 v.0) ws) && are_apart ws

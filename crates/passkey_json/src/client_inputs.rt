@@ -1,20 +1,15 @@
 //! Client extension inputs, decoded from JSON objects and encoded.
 ghost use Rattle.std.specs.Prelude.{◌≡◌};
-ghost use Rattle.passkey_json.specs.ClientInputs.{client_inputs_in, client_inputs_json, no_inputs, where_any, client_inputs_takes};
-ghost use Rattle.passkey_json.specs.Members.{record_kind, takes_in};
+ghost use Rattle.passkey_json.specs.Extensions.{client_inputs, no_inputs, where_any};
 
 use crate::bytes_form::BytesForm;
-use crate::from_json::FromJson;
 use crate::json_fault::JsonFault;
-use crate::json_record::{JsonRecord, read_nested};
-use crate::json_refusal::JsonRefusal;
-use crate::object::Object;
+use crate::member::Member;
+use crate::plain_json_record::{PlainJsonRecord, PlainToJson};
 use crate::prf_inputs::AuthenticationExtensionsPrfInputs;
-use crate::record_to_json::RecordToJson;
-use crate::to_json::ToJson;
+use crate::row::Row;
 use crate::written::ObjectWriter;
 use passkey_memory::OutOfMemory;
-use serde_json::Value;
 use std::alloc::Global;
 
 /// Client extension inputs: what a relying party asks of extensions (WebAuthn Level 3, section
@@ -55,48 +50,45 @@ impl AuthenticationExtensionsClientInputs {
     }
 }
 
-impl JsonRecord for AuthenticationExtensionsClientInputs {
-    ghost members = { client_inputs_in };
+impl PlainJsonRecord for AuthenticationExtensionsClientInputs {
+    ghost table = { client_inputs };
 
-    ghost takes = { client_inputs_takes };
+    fn rows() -> &'static [Row] {
+        &[
+            Row::Named(1, "credProps"),
+            Row::Named(2, "prf"),
+            Row::Named(3, "prfAlreadyHashed"),
+        ]
+    }
 
-    #[tactic(auto, unfolding(crate::specs::ClientInputs::client_inputs_in, crate::specs::ClientInputs::client_inputs_takes, crate::specs::Members::takes_any, crate::specs::Members::or_default))]
-    fn from_object(object: &Object<'_>) -> Result<AuthenticationExtensionsClientInputs, JsonFault> {
-        Ok(AuthenticationExtensionsClientInputs {
-            cred_props: object.member("credProps").or_default(None)?,
-            prf: object.member("prf").or_default(None)?,
-            prf_already_hashed: object.member("prfAlreadyHashed").or_default(None)?,
-        })
+    fn blank(_alloc: Global) -> AuthenticationExtensionsClientInputs {
+        AuthenticationExtensionsClientInputs::empty()
+    }
+
+    fn put(&mut self, number: u8, member: Member<'_>) -> Result<(), JsonFault> {
+        match number {
+            1 => self.cred_props = member.or_default(None)?,
+            2 => self.prf = member.or_default(None)?,
+            3 => self.prf_already_hashed = member.or_default(None)?,
+            _ => {}
+        }
+        Ok(())
     }
 }
 
-impl FromJson for AuthenticationExtensionsClientInputs {
-    ghost kind = { record_kind client_inputs_in };
-
-    ghost takes = { takes_in client_inputs_takes };
-
-    fn from_value(
+impl PlainToJson for AuthenticationExtensionsClientInputs {
+    fn put_member(
+        &self,
+        number: u8,
         alloc: Global,
-        value: &Value,
-    ) -> Result<AuthenticationExtensionsClientInputs, JsonRefusal> {
-        read_nested(alloc, value)
+        form: BytesForm,
+        object: &mut ObjectWriter,
+    ) -> Result<(), OutOfMemory> {
+        match number {
+            1 => object.put_some(alloc, form, "credProps", &self.cred_props),
+            2 => object.put_some(alloc, form, "prf", &self.prf),
+            3 => object.put_some(alloc, form, "prfAlreadyHashed", &self.prf_already_hashed),
+            _ => Ok(()),
+        }
     }
-}
-
-impl ToJson for AuthenticationExtensionsClientInputs {
-    ghost json = { client_inputs_json };
-
-    fn to_json(&self, alloc: Global, form: BytesForm) -> Result<Value, OutOfMemory> {
-        let mut members = ObjectWriter::new(alloc);
-        members.put_some(alloc, form, "credProps", &self.cred_props)?;
-        members.put_some(alloc, form, "prf", &self.prf)?;
-        members.put_some(alloc, form, "prfAlreadyHashed", &self.prf_already_hashed)?;
-        Ok(members.into_value())
-    }
-}
-
-impl RecordToJson for AuthenticationExtensionsClientInputs {
-    ghost use Rattle.std.specs.Prelude.{refl};
-
-    ghost kind_is_record = { λ _. refl };
 }

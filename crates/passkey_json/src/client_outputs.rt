@@ -1,21 +1,16 @@
 //! Client extension outputs, decoded from JSON objects and encoded.
 ghost use Rattle.std.specs.Prelude.{◌≡◌};
-ghost use Rattle.passkey_json.specs.Members.{record_kind, takes_in};
-ghost use Rattle.passkey_json.specs.ClientOutputs.{client_outputs_in, client_outputs_json, no_outputs, client_outputs_takes};
+ghost use Rattle.passkey_json.specs.Extensions.{client_outputs, no_outputs};
 
 use crate::bytes_form::BytesForm;
 use crate::credential_properties::CredentialPropertiesOutput;
-use crate::from_json::FromJson;
 use crate::json_fault::JsonFault;
-use crate::json_record::{JsonRecord, read_nested};
-use crate::json_refusal::JsonRefusal;
-use crate::object::Object;
-use crate::record_to_json::RecordToJson;
-use crate::to_json::ToJson;
+use crate::member::Member;
+use crate::plain_json_record::{PlainJsonRecord, PlainToJson};
+use crate::row::Row;
 use crate::written::ObjectWriter;
 use passkey_memory::OutOfMemory;
 use passkey_webauthn::AuthenticationExtensionsPrfOutputs;
-use serde_json::Value;
 use std::alloc::Global;
 
 /// Client extension outputs: what extensions return to a relying party (WebAuthn Level 3, section
@@ -40,48 +35,39 @@ impl AuthenticationExtensionsClientOutputs {
     }
 }
 
-impl JsonRecord for AuthenticationExtensionsClientOutputs {
-    ghost members = { client_outputs_in };
+impl PlainJsonRecord for AuthenticationExtensionsClientOutputs {
+    ghost table = { client_outputs };
 
-    ghost takes = { client_outputs_takes };
+    fn rows() -> &'static [Row] {
+        &[Row::Named(1, "credProps"), Row::Named(2, "prf")]
+    }
 
-    #[tactic(auto, unfolding(crate::specs::ClientOutputs::client_outputs_in, crate::specs::ClientOutputs::client_outputs_takes, crate::specs::Members::takes_any, crate::specs::Members::or_default))]
-    fn from_object(
-        object: &Object<'_>,
-    ) -> Result<AuthenticationExtensionsClientOutputs, JsonFault> {
-        Ok(AuthenticationExtensionsClientOutputs {
-            cred_props: object.member("credProps").or_default(None)?,
-            prf: object.member("prf").or_default(None)?,
-        })
+    fn blank(_alloc: Global) -> AuthenticationExtensionsClientOutputs {
+        AuthenticationExtensionsClientOutputs::empty()
+    }
+
+    fn put(&mut self, number: u8, member: Member<'_>) -> Result<(), JsonFault> {
+        match number {
+            1 => self.cred_props = member.or_default(None)?,
+            2 => self.prf = member.or_default(None)?,
+            _ => {}
+        }
+        Ok(())
     }
 }
 
-impl FromJson for AuthenticationExtensionsClientOutputs {
-    ghost kind = { record_kind client_outputs_in };
-
-    ghost takes = { takes_in client_outputs_takes };
-
-    fn from_value(
+impl PlainToJson for AuthenticationExtensionsClientOutputs {
+    fn put_member(
+        &self,
+        number: u8,
         alloc: Global,
-        value: &Value,
-    ) -> Result<AuthenticationExtensionsClientOutputs, JsonRefusal> {
-        read_nested(alloc, value)
+        form: BytesForm,
+        object: &mut ObjectWriter,
+    ) -> Result<(), OutOfMemory> {
+        match number {
+            1 => object.put_some(alloc, form, "credProps", &self.cred_props),
+            2 => object.put_some(alloc, form, "prf", &self.prf),
+            _ => Ok(()),
+        }
     }
-}
-
-impl ToJson for AuthenticationExtensionsClientOutputs {
-    ghost json = { client_outputs_json };
-
-    fn to_json(&self, alloc: Global, form: BytesForm) -> Result<Value, OutOfMemory> {
-        let mut members = ObjectWriter::new(alloc);
-        members.put_some(alloc, form, "credProps", &self.cred_props)?;
-        members.put_some(alloc, form, "prf", &self.prf)?;
-        Ok(members.into_value())
-    }
-}
-
-impl RecordToJson for AuthenticationExtensionsClientOutputs {
-    ghost use Rattle.std.specs.Prelude.{refl};
-
-    ghost kind_is_record = { λ _. refl };
 }

@@ -28,6 +28,11 @@ impl<'a> Object<'a> {
         }
     }
 
+    /// Returns the memory that values are decoded into.
+    pub(crate) fn allocator(&self) -> Global {
+        self.alloc
+    }
+
     /// Returns the member with this name, which may be absent.
     pub fn member(&self, name: &'static str) -> Member<'a>
         ensures { found result ≡ member name.now (names_of self.now) }

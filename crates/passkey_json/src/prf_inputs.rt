@@ -2,22 +2,17 @@
 ghost use Rattle.std.specs.Prelude.{◌≡◌, ◌<◌, ◌⊎◌, length, IfOk, OnErr};
 ghost use Rattle.std.specs.FinMap as fin;
 ghost use Rattle.std.specs.Option.{IsSomeAnd};
-ghost use Rattle.passkey_json.specs.Members.{record_kind, takes_in};
-ghost use Rattle.passkey_json.specs.PrfInputs.{prf_inputs_in, prf_inputs_json, no_prf_inputs, prf_inputs_takes};
+ghost use Rattle.passkey_json.specs.Extensions.{no_prf_inputs, prf_inputs};
 
 use crate::bytes_form::BytesForm;
-use crate::from_json::FromJson;
 use crate::json_fault::JsonFault;
-use crate::json_record::{JsonRecord, read_nested};
-use crate::json_refusal::JsonRefusal;
-use crate::object::Object;
-use crate::record_to_json::RecordToJson;
-use crate::to_json::ToJson;
+use crate::member::Member;
+use crate::plain_json_record::{PlainJsonRecord, PlainToJson};
+use crate::row::Row;
 use crate::written::ObjectWriter;
 use passkey_bytes::{Map, Text};
 use passkey_memory::OutOfMemory;
 use passkey_webauthn::AuthenticationExtensionsPrfValues;
-use serde_json::Value;
 use std::alloc::Global;
 
 /// Inputs of the extension prf (WebAuthn Level 3, section 10.1.4).
@@ -76,46 +71,39 @@ fn copied(
     salts.try_clone(alloc)
 }
 
-impl JsonRecord for AuthenticationExtensionsPrfInputs {
-    ghost members = { prf_inputs_in };
+impl PlainJsonRecord for AuthenticationExtensionsPrfInputs {
+    ghost table = { prf_inputs };
 
-    ghost takes = { prf_inputs_takes };
+    fn rows() -> &'static [Row] {
+        &[Row::Named(1, "eval"), Row::Named(2, "evalByCredential")]
+    }
 
-    #[tactic(auto, unfolding(crate::specs::PrfInputs::prf_inputs_in, crate::specs::PrfInputs::prf_inputs_takes, crate::specs::Members::takes_any, crate::specs::Members::or_default))]
-    fn from_object(object: &Object<'_>) -> Result<AuthenticationExtensionsPrfInputs, JsonFault> {
-        Ok(AuthenticationExtensionsPrfInputs {
-            eval: object.member("eval").or_default(None)?,
-            eval_by_credential: object.member("evalByCredential").or_default(None)?,
-        })
+    fn blank(_alloc: Global) -> AuthenticationExtensionsPrfInputs {
+        AuthenticationExtensionsPrfInputs::empty()
+    }
+
+    fn put(&mut self, number: u8, member: Member<'_>) -> Result<(), JsonFault> {
+        match number {
+            1 => self.eval = member.or_default(None)?,
+            2 => self.eval_by_credential = member.or_default(None)?,
+            _ => {}
+        }
+        Ok(())
     }
 }
 
-impl FromJson for AuthenticationExtensionsPrfInputs {
-    ghost kind = { record_kind prf_inputs_in };
-
-    ghost takes = { takes_in prf_inputs_takes };
-
-    fn from_value(
+impl PlainToJson for AuthenticationExtensionsPrfInputs {
+    fn put_member(
+        &self,
+        number: u8,
         alloc: Global,
-        value: &Value,
-    ) -> Result<AuthenticationExtensionsPrfInputs, JsonRefusal> {
-        read_nested(alloc, value)
+        form: BytesForm,
+        object: &mut ObjectWriter,
+    ) -> Result<(), OutOfMemory> {
+        match number {
+            1 => object.put_some(alloc, form, "eval", &self.eval),
+            2 => object.put_some(alloc, form, "evalByCredential", &self.eval_by_credential),
+            _ => Ok(()),
+        }
     }
-}
-
-impl ToJson for AuthenticationExtensionsPrfInputs {
-    ghost json = { prf_inputs_json };
-
-    fn to_json(&self, alloc: Global, form: BytesForm) -> Result<Value, OutOfMemory> {
-        let mut members = ObjectWriter::new(alloc);
-        members.put_some(alloc, form, "eval", &self.eval)?;
-        members.put_some(alloc, form, "evalByCredential", &self.eval_by_credential)?;
-        Ok(members.into_value())
-    }
-}
-
-impl RecordToJson for AuthenticationExtensionsPrfInputs {
-    ghost use Rattle.std.specs.Prelude.{refl};
-
-    ghost kind_is_record = { λ _. refl };
 }

@@ -1,23 +1,18 @@
 //! Authenticator selection criteria, decoded from JSON objects and encoded.
-ghost use Rattle.std.specs.Prelude.{◌≡◌, false};
-ghost use Rattle.passkey_json.specs.Members.{record_kind};
-ghost use Rattle.passkey_json.specs.SelectionCriteria.{selection_criteria_in, selection_criteria_json, any_authenticator};
+ghost use Rattle.std.specs.Prelude.{◌≡◌};
+ghost use Rattle.passkey_json.specs.SelectionCriteria.{any_authenticator, selection_criteria};
 
 use crate::attachment::AuthenticatorAttachment;
 use crate::bytes_form::BytesForm;
-use crate::from_json::FromJson;
 use crate::json_fault::JsonFault;
-use crate::json_record::{JsonRecord, read_nested};
-use crate::json_refusal::JsonRefusal;
-use crate::object::Object;
-use crate::record_to_json::RecordToJson;
+use crate::member::Member;
+use crate::plain_json_record::{PlainJsonRecord, PlainToJson};
 use crate::resident_key::ResidentKeyRequirement;
-use crate::to_json::ToJson;
+use crate::row::Row;
 use crate::truth_text::TruthText;
 use crate::user_verification::UserVerificationRequirement;
 use crate::written::ObjectWriter;
 use passkey_memory::OutOfMemory;
-use serde_json::Value;
 use std::alloc::Global;
 
 /// The relying party's requirements for the authenticator that creates the credential (WebAuthn
@@ -53,65 +48,58 @@ impl Default for AuthenticatorSelectionCriteria {
     }
 }
 
-impl JsonRecord for AuthenticatorSelectionCriteria {
-    ghost members = { selection_criteria_in };
+impl PlainJsonRecord for AuthenticatorSelectionCriteria {
+    ghost table = { selection_criteria };
 
-    ghost takes = { λ _. false };
+    fn rows() -> &'static [Row] {
+        &[
+            Row::Named(1, "authenticatorAttachment"),
+            Row::Named(2, "residentKey"),
+            Row::Named(3, "requireResidentKey"),
+            Row::Named(4, "userVerification"),
+        ]
+    }
 
-    #[tactic(auto, unfolding(crate::specs::SelectionCriteria::selection_criteria_in, crate::specs::Members::or_default, crate::specs::Members::tolerated))]
-    fn from_object(object: &Object<'_>) -> Result<AuthenticatorSelectionCriteria, JsonFault> {
-        Ok(AuthenticatorSelectionCriteria {
-            authenticator_attachment: object.member("authenticatorAttachment").tolerated(None)?,
-            resident_key: object.member("residentKey").tolerated(None)?,
-            require_resident_key: object
-                .member("requireResidentKey")
-                .or_default(TruthText(false))?
-                .get(),
-            user_verification: object
-                .member("userVerification")
-                .tolerated(UserVerificationRequirement::Preferred)?,
-        })
+    fn blank(_alloc: Global) -> AuthenticatorSelectionCriteria {
+        AuthenticatorSelectionCriteria::default()
+    }
+
+    fn put(&mut self, number: u8, member: Member<'_>) -> Result<(), JsonFault> {
+        match number {
+            1 => self.authenticator_attachment = member.tolerated(None)?,
+            2 => self.resident_key = member.tolerated(None)?,
+            3 => self.require_resident_key = member.or_default(TruthText(false))?.get(),
+            4 => self.user_verification = member.tolerated(UserVerificationRequirement::Preferred)?,
+            _ => {}
+        }
+        Ok(())
     }
 }
 
-impl FromJson for AuthenticatorSelectionCriteria {
-    ghost kind = { record_kind selection_criteria_in };
-
-    ghost takes = { λ _. false };
-
-    fn from_value(
+impl PlainToJson for AuthenticatorSelectionCriteria {
+    fn put_member(
+        &self,
+        number: u8,
         alloc: Global,
-        value: &Value,
-    ) -> Result<AuthenticatorSelectionCriteria, JsonRefusal> {
-        read_nested(alloc, value)
+        form: BytesForm,
+        object: &mut ObjectWriter,
+    ) -> Result<(), OutOfMemory> {
+        match number {
+            1 => object.put_some(
+                alloc,
+                form,
+                "authenticatorAttachment",
+                &self.authenticator_attachment,
+            ),
+            2 => object.put_some(alloc, form, "residentKey", &self.resident_key),
+            3 => object.put(
+                alloc,
+                form,
+                "requireResidentKey",
+                &TruthText(self.require_resident_key),
+            ),
+            4 => object.put(alloc, form, "userVerification", &self.user_verification),
+            _ => Ok(()),
+        }
     }
-}
-
-impl ToJson for AuthenticatorSelectionCriteria {
-    ghost json = { selection_criteria_json };
-
-    fn to_json(&self, alloc: Global, form: BytesForm) -> Result<Value, OutOfMemory> {
-        let mut members = ObjectWriter::new(alloc);
-        members.put_some(
-            alloc,
-            form,
-            "authenticatorAttachment",
-            &self.authenticator_attachment,
-        )?;
-        members.put_some(alloc, form, "residentKey", &self.resident_key)?;
-        members.put(
-            alloc,
-            form,
-            "requireResidentKey",
-            &TruthText(self.require_resident_key),
-        )?;
-        members.put(alloc, form, "userVerification", &self.user_verification)?;
-        Ok(members.into_value())
-    }
-}
-
-impl RecordToJson for AuthenticatorSelectionCriteria {
-    ghost use Rattle.std.specs.Prelude.{refl};
-
-    ghost kind_is_record = { λ _. refl };
 }

@@ -5,7 +5,7 @@ use passkey_json::BytesForm::{Base64Url, Numbers};
 use passkey_json::{
     AuthenticationExtensionsClientInputs, AuthenticationExtensionsClientOutputs,
     AuthenticationExtensionsPrfInputs, AuthenticatorSelectionCriteria, JsonFault, JsonRecord,
-    WithoutBytes,
+    ToJson,
 };
 use passkey_webauthn::{
     AuthenticationExtensionsPrfOutputs, AuthenticationExtensionsPrfValues,
@@ -276,9 +276,9 @@ fn members_that_take_no_memory_are_decoded_without_any(rt: HostRuntime) {
 }
 
 #[test]
-fn records_without_bytes_need_no_form(rt: HostRuntime) {
+fn default_criteria_prefer_user_verification(rt: HostRuntime) {
     let criteria = AuthenticatorSelectionCriteria::default();
-    let json = criteria.to_plain_json(rt.alloc()).expect(&rt, "memory");
+    let json = criteria.to_json(rt.alloc(), Base64Url).expect(&rt, "memory");
     let text = json.to_string(rt.alloc()).expect(&rt, "memory");
     assert_shows(
         &rt,

@@ -1,8 +1,4 @@
-pub mod Hints
 pub mod AttestationConveyance
 pub mod AttestationFormat
-pub mod RequestOptions
-pub mod CredentialRequest
-pub mod AttestationMembers
-pub mod CreationOptions
-pub mod CredentialCreation
+pub mod Hints
+pub mod Options

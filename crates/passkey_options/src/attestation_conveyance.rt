@@ -1,12 +1,10 @@
 //! Attestation conveyance preferences, decoded from JSON values and encoded.
-ghost use Rattle.std.specs.Prelude.{false, Some, refl};
+ghost use Rattle.std.specs.Prelude.{false, Some};
 ghost use Rattle.passkey_json.specs.Kind.{one_named};
 ghost use Rattle.passkey_options.specs.AttestationConveyance.{conveyance_name, conveyance_named, conveyance_own};
 ghost use Rattle.serde_json.specs.Data.{string};
 
-use passkey_json::{
-    BytesForm, FromJson, JsonRefusal, ToJson, WithoutBytes, read_name, written_name,
-};
+use passkey_json::{BytesForm, FromJson, JsonRefusal, ToJson, read_name, written_name};
 use passkey_memory::OutOfMemory;
 use passkey_webauthn::EnumNames;
 use serde_json::Value;
@@ -84,10 +82,6 @@ impl ToJson for AttestationConveyancePreference {
     fn to_json(&self, alloc: Global, _form: BytesForm) -> Result<Value, OutOfMemory> {
         written_name(alloc, *self)
     }
-}
-
-impl WithoutBytes for AttestationConveyancePreference {
-    ghost one_json = { λ f g x. refl };
 }
 
 impl Default for AttestationConveyancePreference {

@@ -1,23 +1,19 @@
 //! The options of a registration, decoded from JSON objects and encoded.
-ghost use Rattle.passkey_json.specs.Members.{record_kind, takes_in};
-ghost use Rattle.passkey_options.specs.CreationOptions.{creation_options_in, creation_options_json, required_members_in, choice_members_in, required_members_takes, choice_members_takes, creation_options_takes};
+ghost use Rattle.passkey_options.specs.Options.{creation_options};
 
 use crate::attestation_conveyance::AttestationConveyancePreference;
 use crate::attestation_format::AttestationStatementFormatIdentifiers;
-use crate::attestation_members::AttestationMembers;
 use crate::hints::PublicKeyCredentialHints;
 use passkey_bytes::{Bytes, List};
 use passkey_json::{
-    AuthenticationExtensionsClientInputs, AuthenticatorSelectionCriteria, BytesForm, FromJson,
-    JsonFault, JsonRecord, JsonRefusal, Object, ObjectWriter, RecordToJson, ToJson, TolerantList,
-    read_nested,
+    AuthenticationExtensionsClientInputs, AuthenticatorSelectionCriteria, BytesForm, JsonFault,
+    Member, ObjectWriter, PlainJsonRecord, PlainToJson, Row, TolerantList,
 };
 use passkey_memory::OutOfMemory;
 use passkey_webauthn::{
     PublicKeyCredentialDescriptor, PublicKeyCredentialParameters, PublicKeyCredentialRpEntity,
     PublicKeyCredentialUserEntity,
 };
-use serde_json::Value;
 use std::alloc::Global;
 
 /// The options of a registration (WebAuthn Level 3, section 5.4).
@@ -59,123 +55,86 @@ pub struct PublicKeyCredentialCreationOptions {
     pub extensions: Option<AuthenticationExtensionsClientInputs>,
 }
 
-// The members are decoded in groups, because each `?` drops what was decoded before it.
+impl PlainJsonRecord for PublicKeyCredentialCreationOptions {
+    ghost table = { creation_options };
 
-/// The required members.
-#[derive(Drop)]
-struct RequiredMembers {
-    rp: PublicKeyCredentialRpEntity,
-    user: PublicKeyCredentialUserEntity,
-    challenge: Bytes,
-    pub_key_cred_params: List<PublicKeyCredentialParameters>,
-}
+    fn rows() -> &'static [Row] {
+        &[
+            Row::Named(1, "rp"),
+            Row::Named(2, "user"),
+            Row::Named(3, "challenge"),
+            Row::Named(4, "pubKeyCredParams"),
+            Row::Named(5, "timeout"),
+            Row::Named(6, "excludeCredentials"),
+            Row::Named(7, "authenticatorSelection"),
+            Row::Named(8, "hints"),
+            Row::Named(9, "attestation"),
+            Row::Named(10, "attestationFormats"),
+            Row::Named(11, "extensions"),
+        ]
+    }
 
-impl JsonRecord for RequiredMembers {
-    ghost members = { required_members_in };
+    fn blank(alloc: Global) -> PublicKeyCredentialCreationOptions {
+        PublicKeyCredentialCreationOptions {
+            rp: PublicKeyCredentialRpEntity::blank(alloc),
+            user: PublicKeyCredentialUserEntity::blank(alloc),
+            challenge: Bytes::empty(alloc),
+            pub_key_cred_params: List::empty(alloc),
+            timeout: None,
+            exclude_credentials: None,
+            authenticator_selection: None,
+            hints: None,
+            attestation: AttestationConveyancePreference::None,
+            attestation_formats: None,
+            extensions: None,
+        }
+    }
 
-    ghost takes = { required_members_takes };
-
-    fn from_object(object: &Object<'_>) -> Result<RequiredMembers, JsonFault> {
-        Ok(RequiredMembers {
-            rp: object.member("rp").required()?,
-            user: object.member("user").required()?,
-            challenge: object.member("challenge").required()?,
-            pub_key_cred_params: object
-                .member("pubKeyCredParams")
-                .required::<TolerantList<PublicKeyCredentialParameters>>()?
-                .into_list(),
-        })
+    fn put(&mut self, number: u8, member: Member<'_>) -> Result<(), JsonFault> {
+        match number {
+            1 => self.rp = member.required()?,
+            2 => self.user = member.required()?,
+            3 => self.challenge = member.required()?,
+            4 => self.pub_key_cred_params = member.required::<TolerantList<_>>()?.into_list(),
+            5 => self.timeout = member.if_present()?,
+            6 => self.exclude_credentials = member.accepted_list()?,
+            7 => self.authenticator_selection = member.or_default(None)?,
+            8 => self.hints = member.accepted_list()?,
+            9 => self.attestation = member.tolerated(AttestationConveyancePreference::None)?,
+            10 => self.attestation_formats = member.accepted_list()?,
+            11 => self.extensions = member.or_default(None)?,
+            _ => {}
+        }
+        Ok(())
     }
 }
 
-/// The members for the timeout and for which authenticators are accepted.
-#[derive(Drop)]
-struct ChoiceMembers {
-    timeout: Option<u32>,
-    exclude_credentials: Option<List<PublicKeyCredentialDescriptor>>,
-    authenticator_selection: Option<AuthenticatorSelectionCriteria>,
-}
-
-impl JsonRecord for ChoiceMembers {
-    ghost members = { choice_members_in };
-
-    ghost takes = { choice_members_takes };
-
-    fn from_object(object: &Object<'_>) -> Result<ChoiceMembers, JsonFault> {
-        Ok(ChoiceMembers {
-            timeout: object.member("timeout").if_present()?,
-            exclude_credentials: object.member("excludeCredentials").accepted_list()?,
-            authenticator_selection: object.member("authenticatorSelection").or_default(None)?,
-        })
-    }
-}
-
-impl JsonRecord for PublicKeyCredentialCreationOptions {
-    ghost members = { creation_options_in };
-
-    ghost takes = { creation_options_takes };
-
-    fn from_object(object: &Object<'_>) -> Result<PublicKeyCredentialCreationOptions, JsonFault> {
-        let required = RequiredMembers::from_object(object)?;
-        let choice = ChoiceMembers::from_object(object)?;
-        let wishes = AttestationMembers::from_object(object)?;
-        let extensions = object.member("extensions").or_default(None)?;
-        Ok(PublicKeyCredentialCreationOptions {
-            rp: required.rp,
-            user: required.user,
-            challenge: required.challenge,
-            pub_key_cred_params: required.pub_key_cred_params,
-            timeout: choice.timeout,
-            exclude_credentials: choice.exclude_credentials,
-            authenticator_selection: choice.authenticator_selection,
-            hints: wishes.hints,
-            attestation: wishes.attestation,
-            attestation_formats: wishes.attestation_formats,
-            extensions,
-        })
-    }
-}
-
-impl FromJson for PublicKeyCredentialCreationOptions {
-    ghost kind = { record_kind creation_options_in };
-
-    ghost takes = { takes_in creation_options_takes };
-
-    fn from_value(
+impl PlainToJson for PublicKeyCredentialCreationOptions {
+    fn put_member(
+        &self,
+        number: u8,
         alloc: Global,
-        value: &Value,
-    ) -> Result<PublicKeyCredentialCreationOptions, JsonRefusal> {
-        read_nested(alloc, value)
+        form: BytesForm,
+        object: &mut ObjectWriter,
+    ) -> Result<(), OutOfMemory> {
+        match number {
+            1 => object.put(alloc, form, "rp", &self.rp),
+            2 => object.put(alloc, form, "user", &self.user),
+            3 => object.put(alloc, form, "challenge", &self.challenge),
+            4 => object.put(alloc, form, "pubKeyCredParams", &self.pub_key_cred_params),
+            5 => object.put_some(alloc, form, "timeout", &self.timeout),
+            6 => object.put_some(alloc, form, "excludeCredentials", &self.exclude_credentials),
+            7 => object.put_some(
+                alloc,
+                form,
+                "authenticatorSelection",
+                &self.authenticator_selection,
+            ),
+            8 => object.put_some(alloc, form, "hints", &self.hints),
+            9 => object.put(alloc, form, "attestation", &self.attestation),
+            10 => object.put_some(alloc, form, "attestationFormats", &self.attestation_formats),
+            11 => object.put_some(alloc, form, "extensions", &self.extensions),
+            _ => Ok(()),
+        }
     }
-}
-
-impl ToJson for PublicKeyCredentialCreationOptions {
-    ghost json = { creation_options_json };
-
-    fn to_json(&self, alloc: Global, form: BytesForm) -> Result<Value, OutOfMemory> {
-        let mut members = ObjectWriter::new(alloc);
-        members.put(alloc, form, "rp", &self.rp)?;
-        members.put(alloc, form, "user", &self.user)?;
-        members.put(alloc, form, "challenge", &self.challenge)?;
-        members.put(alloc, form, "pubKeyCredParams", &self.pub_key_cred_params)?;
-        members.put_some(alloc, form, "timeout", &self.timeout)?;
-        members.put_some(alloc, form, "excludeCredentials", &self.exclude_credentials)?;
-        members.put_some(
-            alloc,
-            form,
-            "authenticatorSelection",
-            &self.authenticator_selection,
-        )?;
-        members.put_some(alloc, form, "hints", &self.hints)?;
-        members.put(alloc, form, "attestation", &self.attestation)?;
-        members.put_some(alloc, form, "attestationFormats", &self.attestation_formats)?;
-        members.put_some(alloc, form, "extensions", &self.extensions)?;
-        Ok(members.into_value())
-    }
-}
-
-impl RecordToJson for PublicKeyCredentialCreationOptions {
-    ghost use Rattle.std.specs.Prelude.{refl};
-
-    ghost kind_is_record = { λ _. refl };
 }

@@ -1,14 +1,9 @@
 //! The argument of `navigator.credentials.create()`, decoded from JSON objects and encoded.
-ghost use Rattle.passkey_json.specs.Members.{record_kind, takes_in};
-ghost use Rattle.passkey_options.specs.CredentialCreation.{credential_creation_in, credential_creation_json, credential_creation_takes};
+ghost use Rattle.passkey_options.specs.Options.{credential_creation};
 
 use crate::creation_options::PublicKeyCredentialCreationOptions;
-use passkey_json::{
-    BytesForm, FromJson, JsonFault, JsonRecord, JsonRefusal, Object, ObjectWriter, RecordToJson,
-    ToJson, read_nested,
-};
+use passkey_json::{BytesForm, JsonFault, Member, ObjectWriter, PlainJsonRecord, PlainToJson, Row};
 use passkey_memory::OutOfMemory;
-use serde_json::Value;
 use std::alloc::Global;
 
 /// The argument of `navigator.credentials.create()` (WebAuthn Level 3, section 5.1.1).
@@ -18,41 +13,39 @@ pub struct CredentialCreationOptions {
     pub public_key: PublicKeyCredentialCreationOptions,
 }
 
-impl JsonRecord for CredentialCreationOptions {
-    ghost members = { credential_creation_in };
+impl PlainJsonRecord for CredentialCreationOptions {
+    ghost table = { credential_creation };
 
-    ghost takes = { credential_creation_takes };
+    fn rows() -> &'static [Row] {
+        &[Row::Named(1, "publicKey")]
+    }
 
-    #[tactic(auto, unfolding(crate::specs::CredentialCreation::credential_creation_in, crate::specs::CredentialCreation::credential_creation_takes, passkey_json::specs::Members::takes_any, passkey_json::specs::Members::required))]
-    fn from_object(object: &Object<'_>) -> Result<CredentialCreationOptions, JsonFault> {
-        Ok(CredentialCreationOptions {
-            public_key: object.member("publicKey").required()?,
-        })
+    fn blank(alloc: Global) -> CredentialCreationOptions {
+        CredentialCreationOptions {
+            public_key: PublicKeyCredentialCreationOptions::blank(alloc),
+        }
+    }
+
+    fn put(&mut self, number: u8, member: Member<'_>) -> Result<(), JsonFault> {
+        match number {
+            1 => self.public_key = member.required()?,
+            _ => {}
+        }
+        Ok(())
     }
 }
 
-impl FromJson for CredentialCreationOptions {
-    ghost kind = { record_kind credential_creation_in };
-
-    ghost takes = { takes_in credential_creation_takes };
-
-    fn from_value(alloc: Global, value: &Value) -> Result<CredentialCreationOptions, JsonRefusal> {
-        read_nested(alloc, value)
+impl PlainToJson for CredentialCreationOptions {
+    fn put_member(
+        &self,
+        number: u8,
+        alloc: Global,
+        form: BytesForm,
+        object: &mut ObjectWriter,
+    ) -> Result<(), OutOfMemory> {
+        match number {
+            1 => object.put(alloc, form, "publicKey", &self.public_key),
+            _ => Ok(()),
+        }
     }
-}
-
-impl ToJson for CredentialCreationOptions {
-    ghost json = { credential_creation_json };
-
-    fn to_json(&self, alloc: Global, form: BytesForm) -> Result<Value, OutOfMemory> {
-        let mut members = ObjectWriter::new(alloc);
-        members.put(alloc, form, "publicKey", &self.public_key)?;
-        Ok(members.into_value())
-    }
-}
-
-impl RecordToJson for CredentialCreationOptions {
-    ghost use Rattle.std.specs.Prelude.{refl};
-
-    ghost kind_is_record = { λ _. refl };
 }

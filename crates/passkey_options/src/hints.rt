@@ -1,12 +1,10 @@
 //! Hints about authenticators, decoded from JSON values and encoded.
-ghost use Rattle.std.specs.Prelude.{false, Some, refl};
+ghost use Rattle.std.specs.Prelude.{false, Some};
 ghost use Rattle.passkey_json.specs.Kind.{one_named};
 ghost use Rattle.passkey_options.specs.Hints.{hint_name, hint_named, hint_own};
 ghost use Rattle.serde_json.specs.Data.{string};
 
-use passkey_json::{
-    BytesForm, FromJson, JsonRefusal, ToJson, WithoutBytes, read_name, written_name,
-};
+use passkey_json::{BytesForm, FromJson, JsonRefusal, ToJson, read_name, written_name};
 use passkey_memory::OutOfMemory;
 use passkey_webauthn::EnumNames;
 use serde_json::Value;
@@ -77,8 +75,4 @@ impl ToJson for PublicKeyCredentialHints {
     fn to_json(&self, alloc: Global, _form: BytesForm) -> Result<Value, OutOfMemory> {
         written_name(alloc, *self)
     }
-}
-
-impl WithoutBytes for PublicKeyCredentialHints {
-    ghost one_json = { λ f g x. refl };
 }

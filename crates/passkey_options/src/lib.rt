@@ -4,7 +4,6 @@
 
 mod attestation_conveyance;
 mod attestation_format;
-mod attestation_members;
 mod creation_options;
 mod credential_creation;
 mod credential_request;

@@ -1,19 +1,16 @@
 //! The options of a sign-in, decoded from JSON objects and encoded.
-ghost use Rattle.passkey_json.specs.Members.{record_kind, takes_in};
-ghost use Rattle.passkey_options.specs.RequestOptions.{credential_members_in, request_options_in, request_options_json, credential_members_takes, request_options_takes};
+ghost use Rattle.passkey_options.specs.Options.{request_options};
 
 use crate::attestation_conveyance::AttestationConveyancePreference;
 use crate::attestation_format::AttestationStatementFormatIdentifiers;
-use crate::attestation_members::AttestationMembers;
 use crate::hints::PublicKeyCredentialHints;
 use passkey_bytes::{Bytes, List, Text};
 use passkey_json::{
-    AuthenticationExtensionsClientInputs, BytesForm, FromJson, JsonFault, JsonRecord, JsonRefusal,
-    Object, ObjectWriter, RecordToJson, ToJson, UserVerificationRequirement, read_nested,
+    AuthenticationExtensionsClientInputs, BytesForm, JsonFault, Member, ObjectWriter,
+    PlainJsonRecord, PlainToJson, Row, UserVerificationRequirement,
 };
 use passkey_memory::OutOfMemory;
 use passkey_webauthn::PublicKeyCredentialDescriptor;
-use serde_json::Value;
 use std::alloc::Global;
 
 /// The options of a sign-in (WebAuthn Level 3, section 5.5).
@@ -51,93 +48,73 @@ pub struct PublicKeyCredentialRequestOptions {
     pub extensions: Option<AuthenticationExtensionsClientInputs>,
 }
 
-// The members are decoded in groups, because each `?` drops what was decoded before it.
+impl PlainJsonRecord for PublicKeyCredentialRequestOptions {
+    ghost table = { request_options };
 
-/// The members for which credentials are accepted.
-#[derive(Drop)]
-struct CredentialMembers {
-    challenge: Bytes,
-    timeout: Option<u32>,
-    rp_id: Option<Text>,
-    allow_credentials: Option<List<PublicKeyCredentialDescriptor>>,
-}
+    fn rows() -> &'static [Row] {
+        &[
+            Row::Named(1, "challenge"),
+            Row::Named(2, "timeout"),
+            Row::Named(3, "rpId"),
+            Row::Aliased(4, "allowCredentials", "allowList"),
+            Row::Named(5, "userVerification"),
+            Row::Named(6, "hints"),
+            Row::Named(7, "attestation"),
+            Row::Named(8, "attestationFormats"),
+            Row::Named(9, "extensions"),
+        ]
+    }
 
-impl JsonRecord for CredentialMembers {
-    ghost members = { credential_members_in };
+    fn blank(alloc: Global) -> PublicKeyCredentialRequestOptions {
+        PublicKeyCredentialRequestOptions {
+            challenge: Bytes::empty(alloc),
+            timeout: None,
+            rp_id: None,
+            allow_credentials: None,
+            user_verification: UserVerificationRequirement::Preferred,
+            hints: None,
+            attestation: AttestationConveyancePreference::None,
+            attestation_formats: None,
+            extensions: None,
+        }
+    }
 
-    ghost takes = { credential_members_takes };
-
-    fn from_object(object: &Object<'_>) -> Result<CredentialMembers, JsonFault> {
-        Ok(CredentialMembers {
-            challenge: object.member("challenge").required()?,
-            timeout: object.member("timeout").if_present()?,
-            rp_id: object.member("rpId").or_default(None)?,
-            allow_credentials: object
-                .aliased("allowCredentials", "allowList")?
-                .accepted_list()?,
-        })
+    fn put(&mut self, number: u8, member: Member<'_>) -> Result<(), JsonFault> {
+        match number {
+            1 => self.challenge = member.required()?,
+            2 => self.timeout = member.if_present()?,
+            3 => self.rp_id = member.or_default(None)?,
+            4 => self.allow_credentials = member.accepted_list()?,
+            5 => self.user_verification = member.tolerated(UserVerificationRequirement::Preferred)?,
+            6 => self.hints = member.accepted_list()?,
+            7 => self.attestation = member.tolerated(AttestationConveyancePreference::None)?,
+            8 => self.attestation_formats = member.accepted_list()?,
+            9 => self.extensions = member.tolerated(None)?,
+            _ => {}
+        }
+        Ok(())
     }
 }
 
-impl JsonRecord for PublicKeyCredentialRequestOptions {
-    ghost members = { request_options_in };
-
-    ghost takes = { request_options_takes };
-
-    fn from_object(object: &Object<'_>) -> Result<PublicKeyCredentialRequestOptions, JsonFault> {
-        let credential = CredentialMembers::from_object(object)?;
-        let user_verification = object
-            .member("userVerification")
-            .tolerated(UserVerificationRequirement::Preferred)?;
-        let wishes = AttestationMembers::from_object(object)?;
-        let extensions = object.member("extensions").tolerated(None)?;
-        Ok(PublicKeyCredentialRequestOptions {
-            challenge: credential.challenge,
-            timeout: credential.timeout,
-            rp_id: credential.rp_id,
-            allow_credentials: credential.allow_credentials,
-            user_verification,
-            hints: wishes.hints,
-            attestation: wishes.attestation,
-            attestation_formats: wishes.attestation_formats,
-            extensions,
-        })
-    }
-}
-
-impl FromJson for PublicKeyCredentialRequestOptions {
-    ghost kind = { record_kind request_options_in };
-
-    ghost takes = { takes_in request_options_takes };
-
-    fn from_value(
+impl PlainToJson for PublicKeyCredentialRequestOptions {
+    fn put_member(
+        &self,
+        number: u8,
         alloc: Global,
-        value: &Value,
-    ) -> Result<PublicKeyCredentialRequestOptions, JsonRefusal> {
-        read_nested(alloc, value)
+        form: BytesForm,
+        object: &mut ObjectWriter,
+    ) -> Result<(), OutOfMemory> {
+        match number {
+            1 => object.put(alloc, form, "challenge", &self.challenge),
+            2 => object.put_some(alloc, form, "timeout", &self.timeout),
+            3 => object.put_some(alloc, form, "rpId", &self.rp_id),
+            4 => object.put_some(alloc, form, "allowCredentials", &self.allow_credentials),
+            5 => object.put(alloc, form, "userVerification", &self.user_verification),
+            6 => object.put_some(alloc, form, "hints", &self.hints),
+            7 => object.put(alloc, form, "attestation", &self.attestation),
+            8 => object.put_some(alloc, form, "attestationFormats", &self.attestation_formats),
+            9 => object.put_some(alloc, form, "extensions", &self.extensions),
+            _ => Ok(()),
+        }
     }
-}
-
-impl ToJson for PublicKeyCredentialRequestOptions {
-    ghost json = { request_options_json };
-
-    fn to_json(&self, alloc: Global, form: BytesForm) -> Result<Value, OutOfMemory> {
-        let mut members = ObjectWriter::new(alloc);
-        members.put(alloc, form, "challenge", &self.challenge)?;
-        members.put_some(alloc, form, "timeout", &self.timeout)?;
-        members.put_some(alloc, form, "rpId", &self.rp_id)?;
-        members.put_some(alloc, form, "allowCredentials", &self.allow_credentials)?;
-        members.put(alloc, form, "userVerification", &self.user_verification)?;
-        members.put_some(alloc, form, "hints", &self.hints)?;
-        members.put(alloc, form, "attestation", &self.attestation)?;
-        members.put_some(alloc, form, "attestationFormats", &self.attestation_formats)?;
-        members.put_some(alloc, form, "extensions", &self.extensions)?;
-        Ok(members.into_value())
-    }
-}
-
-impl RecordToJson for PublicKeyCredentialRequestOptions {
-    ghost use Rattle.std.specs.Prelude.{refl};
-
-    ghost kind_is_record = { λ _. refl };
 }

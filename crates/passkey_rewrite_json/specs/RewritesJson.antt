@@ -2,18 +2,16 @@
 use Rattle.std.specs.Prelude.{◌≡◌, ℕ, List, false, Result, Ok, Err, ⊤}
 use Rattle.passkey_client_data.specs.ClientData.{client_data}
 use Rattle.passkey_client_data.specs.ClientDataText.{client_data_text}
-use Rattle.passkey_credentials.specs.AssertionResponse.{assertion_response_in, assertion_response_json}
-use Rattle.passkey_credentials.specs.AttestationResponse.{attestation_response_in, attestation_response_json}
-use Rattle.passkey_credentials.specs.Credential.{credential_in, credential_json}
+use Rattle.passkey_credentials.specs.Credentials.{assertion_response, attestation_response, credential}
 use Rattle.passkey_json.specs.Fault.{Fault, Gives}
 use Rattle.passkey_json.specs.JsonText.{IsJson, HasNoJson}
-use Rattle.passkey_json.specs.Members.{◌>>=◌, Object, in_object, record_kind}
+use Rattle.passkey_json.specs.Members.{◌>>=◌, Object, in_object}
+use Rattle.passkey_json.specs.Table.{PlainTable, members_in, table_json}
 use Rattle.passkey_json.specs.declared.bytes_form.BytesForm.{BytesForm}
 use Rattle.passkey_json.specs.declared.bytes_form.BytesForm.TheVariants.{Base64Url}
 use Rattle.passkey_json.specs.declared.json_fault.JsonFault.{JsonFault}
 use Rattle.passkey_json.specs.declared.json_fault.JsonFault.TheVariants as json
-use Rattle.passkey_options.specs.CredentialCreation.{credential_creation_in, credential_creation_json}
-use Rattle.passkey_options.specs.CredentialRequest.{credential_request_in, credential_request_json}
+use Rattle.passkey_options.specs.Options.{credential_creation, credential_request}
 use Rattle.passkey_run.specs.declared.fault.RunFault.{RunFault}
 use Rattle.passkey_run.specs.declared.fault.RunFault.TheVariants.{JsonRefused, BadJson, OutOfMemory}
 use Rattle.passkey_run.specs.declared.kind.JsonKind.{JsonKind}
@@ -26,6 +24,10 @@ abbrev pub record_rewritten : {A : Type 0} → (Object → Result A Fault) → (
     → Result (List ℕ) Fault
 record_rewritten members json d = in_object members d >>= λ x. Ok (compact_text (json Base64Url x))
 
+-- the same for a record of this table
+abbrev table_rewritten : {A : Type 0} → PlainTable A → Data → Result (List ℕ) Fault
+table_rewritten t = record_rewritten (members_in t) (table_json t)
+
 -- the JSON text of the client data that the value decodes to, where the caller knows no further
 -- members
 abbrev pub client_data_rewritten : Data → Result (List ℕ) Fault
@@ -34,12 +36,10 @@ client_data_rewritten d =
 
 -- the output of each kind for a JSON value
 unfoldable pub json_rewritten : JsonKind → Data → Result (List ℕ) Fault
-json_rewritten Creation = record_rewritten credential_creation_in credential_creation_json
-json_rewritten Request = record_rewritten credential_request_in credential_request_json
-json_rewritten Created = record_rewritten (credential_in (record_kind attestation_response_in))
-    (credential_json attestation_response_json)
-json_rewritten Authenticated =
-    record_rewritten (credential_in (record_kind assertion_response_in)) (credential_json assertion_response_json)
+json_rewritten Creation = table_rewritten credential_creation
+json_rewritten Request = table_rewritten credential_request
+json_rewritten Created = table_rewritten (credential attestation_response)
+json_rewritten Authenticated = table_rewritten (credential assertion_response)
 json_rewritten ClientData = client_data_rewritten
 
 -- The input is a JSON text, and this is the output for its value.

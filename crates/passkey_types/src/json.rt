@@ -2,8 +2,8 @@
 //! records are in `webauthn`.
 pub use passkey_json::{
     BytesForm, FromJson, JsonFault, JsonRecord, JsonRefusal, Member, Object, ObjectWriter,
-    RecordToJson, ToJson, TolerantList, Tolerated, TruthText, WithoutBytes, holds_float, read_back,
-    read_name, read_nested, written_name,
+    PlainJsonRecord, PlainToJson, RecordToJson, Row, ToJson, TolerantList, Tolerated, TruthText,
+    holds_float, read_back, read_name, read_nested, written_name,
 };
 pub use passkey_webauthn::EnumNames;
 pub use serde_json::{Map, Value};

@@ -1,0 +1,60 @@
+-- How values are coded as JSON values: decoded, and encoded.
+use Rattle.std.specs.Prelude.{ℕ, ℤ, Bool, false, List, Option}
+use Rattle.passkey_bytes.specs.Map.{ByteMap}
+use Rattle.passkey_iana.specs.declared.algorithm.Algorithm.{Algorithm}
+use Rattle.passkey_json.specs.Kind.{Kind, algorithm, bytes, is_array, is_object, is_text, is_text_or_array, list, one_named, text, truth, truth_text, whole, word}
+use Rattle.passkey_json.specs.MapKind.{map_from_texts, map_json}
+use Rattle.passkey_json.specs.Written.{algorithm_json, bytes_json, list_json, natural_json, whole_json}
+use Rattle.passkey_json.specs.declared.bytes_form.BytesForm.{BytesForm}
+use Rattle.passkey_webauthn.specs.CredentialType.{credential_type_name, credential_type_named}
+use Rattle.passkey_webauthn.specs.Transport.{transport_name, transport_named}
+use Rattle.passkey_webauthn.specs.declared.credential_type.PublicKeyCredentialType.{PublicKeyCredentialType}
+use Rattle.passkey_webauthn.specs.declared.transport.AuthenticatorTransport.{AuthenticatorTransport}
+use Rattle.serde_json.specs.Data.{Data, boolean, string}
+
+-- how a value is decoded, which JSON values may take memory to decode, and how it is encoded
+pub record Coded (M : Type 0) : Type 0 where
+  pub kind : Kind M
+  pub takes : Data → Bool
+  pub json : BytesForm → M → Data
+
+-- a value that takes no memory to decode, and is encoded without bytes
+abbrev small_value : {M : Type 0} → Kind M → (M → Data) → Coded M
+small_value kind json = record { kind = kind; takes = λ d. false; json = λ form x. json x }
+
+abbrev pub truth_value : Coded Bool
+truth_value = small_value truth boolean
+
+abbrev pub truth_text_value : Coded Bool
+truth_text_value = small_value truth_text boolean
+
+abbrev pub word_value : Coded ℕ
+word_value = small_value word natural_json
+
+abbrev pub whole_value : Coded ℤ
+whole_value = small_value whole whole_json
+
+abbrev pub algorithm_value : Coded Algorithm
+algorithm_value = small_value algorithm algorithm_json
+
+-- a value of an enumeration, by its name
+abbrev pub named_value : {T : Type 0} → (T → List ℕ) → (List ℕ → Option T) → Coded T
+named_value name named = small_value (one_named named) (λ x. string (name x))
+
+abbrev pub credential_type_value : Coded PublicKeyCredentialType
+credential_type_value = named_value credential_type_name credential_type_named
+
+abbrev pub transport_value : Coded AuthenticatorTransport
+transport_value = named_value transport_name transport_named
+
+abbrev pub text_value : Coded (List ℕ)
+text_value = record { kind = text; takes = is_text; json = λ form s. string s }
+
+abbrev pub bytes_value : Coded (List ℕ)
+bytes_value = record { kind = bytes; takes = is_text_or_array; json = bytes_json }
+
+abbrev pub list_value : {M : Type 0} → Coded M → Coded (List M)
+list_value c = record { kind = list c.kind; takes = is_array; json = λ form. list_json (c.json form) }
+
+abbrev pub map_value : {M : Type 0} → Coded M → Coded (ByteMap M)
+map_value c = record { kind = map_from_texts c.kind; takes = is_object; json = λ form. map_json (c.json form) }

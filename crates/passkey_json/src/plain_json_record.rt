@@ -1,0 +1,146 @@
+//! Records whose members are one table, by which they are decoded and encoded.
+ghost use Rattle.std.specs.Prelude.{◌≡◌, IsTrue, OnOk, map};
+ghost use Rattle.passkey_json.specs.Fault.{Gives};
+ghost use Rattle.passkey_json.specs.Held.{GivesAs, found, names_of};
+ghost use Rattle.passkey_json.specs.Members.{MemberTakes, record_kind, takes_in};
+ghost use Rattle.passkey_json.specs.Table.{AreBack, PlainTable, RowIsBack, entries, entry_of, looked, members_in, put_row, read_row, rows_of, table_json, takes_of, takes_row};
+ghost use Rattle.passkey_json.specs.Written.{put_rows, so_far};
+
+use crate::bytes_form::BytesForm;
+use crate::from_json::FromJson;
+use crate::json_fault::JsonFault;
+use crate::json_record::{JsonRecord, read_nested};
+use crate::json_refusal::JsonRefusal;
+use crate::member::Member;
+use crate::object::Object;
+use crate::record_to_json::RecordToJson;
+use crate::row::Row;
+use crate::to_json::ToJson;
+use crate::written::ObjectWriter;
+use passkey_memory::OutOfMemory;
+use serde_json::Value;
+use std::alloc::Global;
+
+/// A record whose members are one table, by which it is decoded from an object. Unknown members are
+/// skipped.
+pub trait PlainJsonRecord: Drop {
+    /// What the record holds before a member is decoded, and its members in the order in which they
+    /// are decoded and encoded.
+    ghost table: { PlainTable Self };
+
+    /// Returns the table's rows.
+    fn rows() -> &'static [Row]
+        ensures { map entry_of result.now ≡ entries table.members };
+
+    /// Returns the record before a member is decoded. Allocates nothing.
+    fn blank(alloc: Global) -> Self
+        ensures { result ≡ table.blank };
+
+    /// Decodes the member of the row with this number and puts it into the record, or returns its
+    /// fault. Returns `OutOfMemory` if an allocation fails, which can only happen if the member is
+    /// present and its value takes memory to decode. Puts nothing if no row has the number.
+    fn put(&mut self, number: u8, member: Member<'_>) -> Result<(), JsonFault>
+        ensures { GivesAs (MemberTakes (takes_row table number) (found member.entry)) (λ _. self.new)
+            (read_row table number (found member.entry) self.old) result };
+}
+
+/// A record whose members are one table, and which is also encoded by it.
+pub trait PlainToJson: PlainJsonRecord {
+    /// Encodes the member of the row with this number and adds it to the object, if it is present. Returns
+    /// `OutOfMemory` if an allocation fails. Adds nothing if no row has the number.
+    fn put_member(
+        &self,
+        number: u8,
+        alloc: Global,
+        form: BytesForm,
+        object: &mut ObjectWriter,
+    ) -> Result<(), OutOfMemory>
+        ensures written { OnOk result (so_far object.new
+            ≡ put_row Self.table number form self.now (so_far object.old)) }
+        ensures reads_back { OnOk result (RowIsBack Self.table number form self.now) };
+}
+
+impl Row {
+    fn number(&self) -> u8
+        ensures { result ≡ (entry_of self.now).number }
+    {
+        match self {
+            Row::Named(number, _) | Row::Aliased(number, _, _) => *number,
+        }
+    }
+
+    /// Finds the member in the object.
+    fn find<'a>(&self, object: &Object<'a>) -> Result<Member<'a>, JsonFault>
+        ensures { GivesAs ⊥ found (looked (entry_of self.now) (names_of object.now)) result }
+    {
+        match self {
+            Row::Named(_, name) => Ok(object.member(name)),
+            Row::Aliased(_, name, other) => object.aliased(name, other),
+        }
+    }
+}
+
+/// Decodes the members in the table's order.
+fn read_members<R: PlainJsonRecord>(object: &Object<'_>) -> Result<R, JsonFault>
+    ensures { Gives (IsTrue (takes_of R.table (names_of object.now))) (members_in R.table (names_of object.now))
+        result }
+{
+    let mut read = R::blank(object.allocator());
+    for row in R::rows() {
+        read.put(row.number(), row.find(object)?)?;
+    }
+    Ok(read)
+}
+
+/// Encodes the members in the table's order.
+fn put_members<R: PlainToJson>(
+    record: &R,
+    alloc: Global,
+    form: BytesForm,
+    object: &mut ObjectWriter,
+) -> Result<(), OutOfMemory>
+    ensures written { OnOk result (so_far object.new
+        ≡ put_rows (so_far object.old) (rows_of R.PlainJsonRecord.table.members form record.now)) }
+    ensures reads_back { OnOk result (AreBack R.PlainJsonRecord.table.members form record.now) }
+{
+    for row in R::rows() {
+        record.put_member(row.number(), alloc, form, object)?;
+    }
+    Ok(())
+}
+
+impl<R: PlainJsonRecord> JsonRecord for R {
+    ghost members = { members_in R.table };
+
+    ghost takes = { takes_of R.table };
+
+    fn from_object(object: &Object<'_>) -> Result<R, JsonFault> {
+        read_members(object)
+    }
+}
+
+impl<R: PlainJsonRecord> FromJson for R {
+    ghost kind = { record_kind (members_in R.table) };
+
+    ghost takes = { takes_in (takes_of R.table) };
+
+    fn from_value(alloc: Global, value: &Value) -> Result<R, JsonRefusal> {
+        read_nested(alloc, value)
+    }
+}
+
+impl<R: PlainToJson> ToJson for R {
+    ghost json = { table_json R.table };
+
+    fn to_json(&self, alloc: Global, form: BytesForm) -> Result<Value, OutOfMemory> {
+        let mut object = ObjectWriter::new(alloc);
+        put_members(self, alloc, form, &mut object)?;
+        Ok(object.into_value())
+    }
+}
+
+impl<R: PlainToJson> RecordToJson for R {
+    ghost use Rattle.std.specs.Prelude.{refl};
+
+    ghost kind_is_record = { λ _. refl };
+}

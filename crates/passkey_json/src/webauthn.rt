@@ -1,0 +1,272 @@
+//! Records of WebAuthn, decoded from JSON objects and encoded (WebAuthn Level 3, section 5).
+ghost use Rattle.passkey_json.specs.WebAuthn.{descriptor, parameters, prf_outputs, prf_values, rp, user};
+
+use crate::bytes_form::BytesForm;
+use crate::json_fault::JsonFault;
+use crate::member::Member;
+use crate::plain_json_record::{PlainJsonRecord, PlainToJson};
+use crate::row::Row;
+use crate::written::ObjectWriter;
+use passkey_bytes::{Bytes, Text};
+use passkey_iana::Algorithm;
+use passkey_memory::OutOfMemory;
+use passkey_webauthn::{
+    AuthenticationExtensionsPrfOutputs, AuthenticationExtensionsPrfValues,
+    PublicKeyCredentialDescriptor, PublicKeyCredentialParameters, PublicKeyCredentialRpEntity,
+    PublicKeyCredentialType, PublicKeyCredentialUserEntity,
+};
+use std::alloc::Global;
+
+impl PlainJsonRecord for PublicKeyCredentialDescriptor {
+    ghost table = { descriptor };
+
+    fn rows() -> &'static [Row] {
+        &[
+            Row::Named(1, "type"),
+            Row::Named(2, "id"),
+            Row::Named(3, "transports"),
+        ]
+    }
+
+    fn blank(alloc: Global) -> PublicKeyCredentialDescriptor {
+        PublicKeyCredentialDescriptor {
+            ty: PublicKeyCredentialType::Unknown,
+            id: Bytes::empty(alloc),
+            transports: None,
+        }
+    }
+
+    fn put(&mut self, number: u8, member: Member<'_>) -> Result<(), JsonFault> {
+        match number {
+            1 => self.ty = member.required_tolerated(PublicKeyCredentialType::Unknown)?,
+            2 => self.id = member.required()?,
+            3 => self.transports = member.accepted_list()?,
+            _ => {}
+        }
+        Ok(())
+    }
+}
+
+impl PlainToJson for PublicKeyCredentialDescriptor {
+    fn put_member(
+        &self,
+        number: u8,
+        alloc: Global,
+        form: BytesForm,
+        object: &mut ObjectWriter,
+    ) -> Result<(), OutOfMemory> {
+        match number {
+            1 => object.put(alloc, form, "type", &self.ty),
+            2 => object.put(alloc, form, "id", &self.id),
+            3 => object.put_some(alloc, form, "transports", &self.transports),
+            _ => Ok(()),
+        }
+    }
+}
+
+impl PlainJsonRecord for PublicKeyCredentialParameters {
+    ghost table = { parameters };
+
+    fn rows() -> &'static [Row] {
+        &[Row::Named(1, "type"), Row::Named(2, "alg")]
+    }
+
+    fn blank(_alloc: Global) -> PublicKeyCredentialParameters {
+        PublicKeyCredentialParameters {
+            ty: PublicKeyCredentialType::Unknown,
+            alg: Algorithm::ES256,
+        }
+    }
+
+    fn put(&mut self, number: u8, member: Member<'_>) -> Result<(), JsonFault> {
+        match number {
+            1 => self.ty = member.required_tolerated(PublicKeyCredentialType::Unknown)?,
+            2 => self.alg = member.required()?,
+            _ => {}
+        }
+        Ok(())
+    }
+}
+
+impl PlainToJson for PublicKeyCredentialParameters {
+    fn put_member(
+        &self,
+        number: u8,
+        alloc: Global,
+        form: BytesForm,
+        object: &mut ObjectWriter,
+    ) -> Result<(), OutOfMemory> {
+        match number {
+            1 => object.put(alloc, form, "type", &self.ty),
+            2 => object.put(alloc, form, "alg", &self.alg),
+            _ => Ok(()),
+        }
+    }
+}
+
+impl PlainJsonRecord for PublicKeyCredentialRpEntity {
+    ghost table = { rp };
+
+    fn rows() -> &'static [Row] {
+        &[Row::Named(1, "id"), Row::Named(2, "name")]
+    }
+
+    fn blank(alloc: Global) -> PublicKeyCredentialRpEntity {
+        PublicKeyCredentialRpEntity {
+            id: None,
+            name: Text::empty(alloc),
+        }
+    }
+
+    fn put(&mut self, number: u8, member: Member<'_>) -> Result<(), JsonFault> {
+        match number {
+            1 => self.id = member.or_default(None)?,
+            2 => self.name = member.required()?,
+            _ => {}
+        }
+        Ok(())
+    }
+}
+
+impl PlainToJson for PublicKeyCredentialRpEntity {
+    fn put_member(
+        &self,
+        number: u8,
+        alloc: Global,
+        form: BytesForm,
+        object: &mut ObjectWriter,
+    ) -> Result<(), OutOfMemory> {
+        match number {
+            1 => object.put_some(alloc, form, "id", &self.id),
+            2 => object.put(alloc, form, "name", &self.name),
+            _ => Ok(()),
+        }
+    }
+}
+
+impl PlainJsonRecord for PublicKeyCredentialUserEntity {
+    ghost table = { user };
+
+    fn rows() -> &'static [Row] {
+        &[
+            Row::Named(1, "id"),
+            Row::Named(2, "displayName"),
+            Row::Named(3, "name"),
+        ]
+    }
+
+    fn blank(alloc: Global) -> PublicKeyCredentialUserEntity {
+        PublicKeyCredentialUserEntity {
+            id: Bytes::empty(alloc),
+            display_name: Text::empty(alloc),
+            name: Text::empty(alloc),
+        }
+    }
+
+    fn put(&mut self, number: u8, member: Member<'_>) -> Result<(), JsonFault> {
+        match number {
+            1 => self.id = member.required()?,
+            2 => self.display_name = member.required()?,
+            3 => self.name = member.required()?,
+            _ => {}
+        }
+        Ok(())
+    }
+}
+
+impl PlainToJson for PublicKeyCredentialUserEntity {
+    fn put_member(
+        &self,
+        number: u8,
+        alloc: Global,
+        form: BytesForm,
+        object: &mut ObjectWriter,
+    ) -> Result<(), OutOfMemory> {
+        match number {
+            1 => object.put(alloc, form, "id", &self.id),
+            2 => object.put(alloc, form, "displayName", &self.display_name),
+            3 => object.put(alloc, form, "name", &self.name),
+            _ => Ok(()),
+        }
+    }
+}
+
+impl PlainJsonRecord for AuthenticationExtensionsPrfValues {
+    ghost table = { prf_values };
+
+    fn rows() -> &'static [Row] {
+        &[Row::Named(1, "first"), Row::Named(2, "second")]
+    }
+
+    fn blank(alloc: Global) -> AuthenticationExtensionsPrfValues {
+        AuthenticationExtensionsPrfValues {
+            first: Bytes::empty(alloc),
+            second: None,
+        }
+    }
+
+    fn put(&mut self, number: u8, member: Member<'_>) -> Result<(), JsonFault> {
+        match number {
+            1 => self.first = member.required()?,
+            2 => self.second = member.or_default(None)?,
+            _ => {}
+        }
+        Ok(())
+    }
+}
+
+impl PlainToJson for AuthenticationExtensionsPrfValues {
+    fn put_member(
+        &self,
+        number: u8,
+        alloc: Global,
+        form: BytesForm,
+        object: &mut ObjectWriter,
+    ) -> Result<(), OutOfMemory> {
+        match number {
+            1 => object.put(alloc, form, "first", &self.first),
+            2 => object.put_some(alloc, form, "second", &self.second),
+            _ => Ok(()),
+        }
+    }
+}
+
+impl PlainJsonRecord for AuthenticationExtensionsPrfOutputs {
+    ghost table = { prf_outputs };
+
+    fn rows() -> &'static [Row] {
+        &[Row::Named(1, "enabled"), Row::Named(2, "results")]
+    }
+
+    fn blank(_alloc: Global) -> AuthenticationExtensionsPrfOutputs {
+        AuthenticationExtensionsPrfOutputs {
+            enabled: None,
+            results: None,
+        }
+    }
+
+    fn put(&mut self, number: u8, member: Member<'_>) -> Result<(), JsonFault> {
+        match number {
+            1 => self.enabled = member.or_default(None)?,
+            2 => self.results = member.or_default(None)?,
+            _ => {}
+        }
+        Ok(())
+    }
+}
+
+impl PlainToJson for AuthenticationExtensionsPrfOutputs {
+    fn put_member(
+        &self,
+        number: u8,
+        alloc: Global,
+        form: BytesForm,
+        object: &mut ObjectWriter,
+    ) -> Result<(), OutOfMemory> {
+        match number {
+            1 => object.put_some(alloc, form, "enabled", &self.enabled),
+            2 => object.put_some(alloc, form, "results", &self.results),
+            _ => Ok(()),
+        }
+    }
+}

@@ -1,0 +1,122 @@
+-- What a page asks of the browser, over JSON: the options of both ceremonies.
+use Rattle.std.specs.Prelude.{[], ◌∷◌, None, codes, refl}
+use Rattle.passkey_json.specs.Coded.{Coded, bytes_value, named_value, text_value, word_value}
+use Rattle.passkey_json.specs.Extensions.{client_inputs}
+use Rattle.passkey_json.specs.SelectionCriteria.{selection_criteria}
+use Rattle.passkey_json.specs.Table.{PlainTable, nested, accepted_as, optional_as, or_as, present_as, required_as, required_list_as, tolerated_as, tolerated_optional_as}
+use Rattle.passkey_json.specs.UserVerification.{user_verification_name, user_verification_named}
+use Rattle.passkey_json.specs.WebAuthn.{descriptor, parameters, rp, user}
+use Rattle.passkey_json.specs.declared.user_verification.UserVerificationRequirement.TheVariants.{Preferred}
+use Rattle.passkey_options.specs.AttestationConveyance.{conveyance_name, conveyance_named}
+use Rattle.passkey_options.specs.AttestationFormat.{format_name, format_named}
+use Rattle.passkey_options.specs.Hints.{hint_name, hint_named}
+use Rattle.passkey_options.specs.declared.attestation_conveyance.AttestationConveyancePreference.TheVariants.{None as NoAttestation}
+use Rattle.passkey_options.specs.declared.attestation_conveyance.AttestationConveyancePreference.{AttestationConveyancePreference}
+use Rattle.passkey_options.specs.declared.attestation_format.AttestationStatementFormatIdentifiers.{AttestationStatementFormatIdentifiers}
+use Rattle.passkey_options.specs.declared.creation_options.PublicKeyCredentialCreationOptions.{PublicKeyCredentialCreationOptions}
+use Rattle.passkey_options.specs.declared.credential_creation.CredentialCreationOptions.{CredentialCreationOptions}
+use Rattle.passkey_options.specs.declared.credential_request.CredentialRequestOptions.{CredentialRequestOptions}
+use Rattle.passkey_options.specs.declared.hints.PublicKeyCredentialHints.{PublicKeyCredentialHints}
+use Rattle.passkey_options.specs.declared.request_options.PublicKeyCredentialRequestOptions.{PublicKeyCredentialRequestOptions}
+
+abbrev hint_value : Coded PublicKeyCredentialHints
+hint_value = named_value hint_name hint_named
+
+abbrev conveyance_value : Coded AttestationConveyancePreference
+conveyance_value = named_value conveyance_name conveyance_named
+
+abbrev format_value : Coded AttestationStatementFormatIdentifiers
+format_value = named_value format_name format_named
+
+-- the options of a registration (WebAuthn Level 3, section 5.4)
+abbrev pub creation_options : PlainTable PublicKeyCredentialCreationOptions
+creation_options = record {
+  blank = record {
+    rp = rp.blank;
+    user = user.blank;
+    challenge = [];
+    pub_key_cred_params = [];
+    timeout = None;
+    exclude_credentials = None;
+    authenticator_selection = None;
+    hints = None;
+    attestation = NoAttestation;
+    attestation_formats = None;
+    extensions = None;
+  };
+  members = required_as 1 (codes "rp") (nested rp) (λ o. o.rp) (λ v o. record o { rp = v })
+      ∷ required_as 2 (codes "user") (nested user) (λ o. o.user) (λ v o. record o { user = v })
+      ∷ required_as 3 (codes "challenge") bytes_value (λ o. o.challenge) (λ v o. record o { challenge = v })
+      ∷ required_list_as 4 (codes "pubKeyCredParams") (nested parameters)
+      (λ o. o.pub_key_cred_params) (λ v o. record o { pub_key_cred_params = v })
+      ∷ present_as 5 (codes "timeout") word_value (λ o. o.timeout) (λ v o. record o { timeout = v })
+      ∷ accepted_as 6 (codes "excludeCredentials") (nested descriptor)
+      (λ o. o.exclude_credentials) (λ v o. record o { exclude_credentials = v })
+      ∷ optional_as 7 (codes "authenticatorSelection") (nested selection_criteria)
+      (λ o. o.authenticator_selection) (λ v o. record o { authenticator_selection = v })
+      ∷ accepted_as 8 (codes "hints") hint_value (λ o. o.hints) (λ v o. record o { hints = v })
+      ∷ tolerated_as 9 (codes "attestation") conveyance_value NoAttestation
+      (λ o. o.attestation) (λ v o. record o { attestation = v })
+      ∷ accepted_as 10 (codes "attestationFormats") format_value
+      (λ o. o.attestation_formats) (λ v o. record o { attestation_formats = v })
+      ∷ optional_as 11 (codes "extensions") (nested client_inputs)
+      (λ o. o.extensions) (λ v o. record o { extensions = v })
+      ∷ [];
+  whole = λ o. refl;
+  distinct = refl;
+}
+
+-- the options of a sign-in (WebAuthn Level 3, section 5.5)
+abbrev pub request_options : PlainTable PublicKeyCredentialRequestOptions
+request_options = record {
+  blank = record {
+    challenge = [];
+    timeout = None;
+    rp_id = None;
+    allow_credentials = None;
+    user_verification = Preferred;
+    hints = None;
+    attestation = NoAttestation;
+    attestation_formats = None;
+    extensions = None;
+  };
+  members = required_as 1 (codes "challenge") bytes_value (λ o. o.challenge) (λ v o. record o { challenge = v })
+      ∷ present_as 2 (codes "timeout") word_value (λ o. o.timeout) (λ v o. record o { timeout = v })
+      ∷ optional_as 3 (codes "rpId") text_value (λ o. o.rp_id) (λ v o. record o { rp_id = v })
+      ∷ or_as (codes "allowList") (accepted_as 4 (codes "allowCredentials") (nested descriptor)
+      (λ o. o.allow_credentials) (λ v o. record o { allow_credentials = v }))
+      ∷ tolerated_as 5 (codes "userVerification") (named_value user_verification_name user_verification_named) Preferred
+      (λ o. o.user_verification) (λ v o. record o { user_verification = v })
+      ∷ accepted_as 6 (codes "hints") hint_value (λ o. o.hints) (λ v o. record o { hints = v })
+      ∷ tolerated_as 7 (codes "attestation") conveyance_value NoAttestation
+      (λ o. o.attestation) (λ v o. record o { attestation = v })
+      ∷ accepted_as 8 (codes "attestationFormats") format_value
+      (λ o. o.attestation_formats) (λ v o. record o { attestation_formats = v })
+      ∷ tolerated_optional_as 9 (codes "extensions") (nested client_inputs)
+      (λ o. o.extensions) (λ v o. record o { extensions = v })
+      ∷ [];
+  whole = λ o. refl;
+  distinct = refl;
+}
+
+-- the argument of `navigator.credentials.create()` (WebAuthn Level 3, section 5.1.1)
+abbrev pub credential_creation : PlainTable CredentialCreationOptions
+credential_creation = record {
+  blank = record { public_key = creation_options.blank };
+  members = required_as 1 (codes "publicKey") (nested creation_options)
+      (λ c. c.public_key) (λ v c. record c { public_key = v })
+      ∷ [];
+  whole = λ c. refl;
+  distinct = refl;
+}
+
+-- the argument of `navigator.credentials.get()` (WebAuthn Level 3, section 5.1.2)
+abbrev pub credential_request : PlainTable CredentialRequestOptions
+credential_request = record {
+  blank = record { public_key = request_options.blank };
+  members = required_as 1 (codes "publicKey") (nested request_options)
+      (λ c. c.public_key) (λ v c. record c { public_key = v })
+      ∷ [];
+  whole = λ c. refl;
+  distinct = refl;
+}
