@@ -8,7 +8,6 @@ use Rattle.passkey_kinds.specs.Kind.{Kind, Typed, counted}
 use Rattle.passkey_kinds.specs.Kind as kind
 use Rattle.passkey_kinds.specs.Message.{ReadIsCoherent, WrittenIsCanonical, kept_if_some}
 use Rattle.passkey_kinds.specs.Placed.{Coded, PlainTable, EachFits, plain_tree, fields_with}
-use Rattle.passkey_kinds.specs.Reader.{null_in}
 use Rattle.passkey_kinds.specs.Record.{Fields, read_item}
 use Rattle.passkey_kinds.specs.RecordReading.{nested}
 use Rattle.passkey_kinds.specs.Tree.{number_tree}
@@ -33,6 +32,10 @@ code of_byte byte_of =
     record { typed = code_of of_byte; tree = λ x. number_tree (byte_of x); Fits = λ x. byte_of x < 2 ^ 8 }
 
 -- ---- items that are kept undecoded: any item but null, which means that an optional member is absent
+
+abbrev pub null_in : Item → Bool
+null_in null = true
+null_in _ = false
 
 abbrev pub IsNotNull : Item → Type 0
 IsNotNull i = null_in i ≡ false

@@ -1,7 +1,7 @@
 //! Data items that are kept undecoded.
 ghost use Rattle.std.specs.Prelude.{◌≡◌, false, IfOk, OnErr, Some, option_map};
-ghost use Rattle.passkey_kinds.specs.Words.{Item, item_of, Grows, null_in};
-ghost use Rattle.passkey_kinds.specs.Numbered.{kept_item, not_null, has_room, IsNotNull};
+ghost use Rattle.passkey_kinds.specs.Words.{Item, item_of, Grows};
+ghost use Rattle.passkey_kinds.specs.Numbered.{null_in, kept_item, not_null, has_room, IsNotNull};
 
 use crate::{FromCbor, OutOfMemory, Refusal, ToCbor};
 use passkey_cbor::{Cursor, Encoder, Value};
