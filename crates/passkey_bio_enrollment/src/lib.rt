@@ -1,6 +1,7 @@
 //! The messages of authenticatorBioEnrollment (CTAP 2.1, section 6.7).
 #![tactic(auto)]
 
+mod authenticated;
 mod fingerprint_kind;
 mod modality;
 mod parameters;
@@ -10,6 +11,7 @@ mod sample_status;
 mod sub_command;
 mod template_info;
 
+pub use authenticated::authenticated_bytes;
 pub use fingerprint_kind::FingerprintKind;
 pub use modality::Modality;
 pub use parameters::Parameters;

@@ -1,6 +1,7 @@
 //! The messages of authenticatorClientPIN (CTAP 2.1, section 6.5).
 #![tactic(auto)]
 
+mod authenticated;
 mod permissions;
 mod request;
 mod response;

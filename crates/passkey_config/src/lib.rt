@@ -1,11 +1,13 @@
 //! The request of authenticatorConfig (CTAP 2.1, section 6.11).
 #![tactic(auto)]
 
+mod authenticated;
 mod min_pin_length_parameters;
 mod request;
 mod sub_command;
 mod vendor_parameters;
 
+pub use authenticated::authenticated_bytes;
 pub use min_pin_length_parameters::MinPinLengthParameters;
 pub use request::Request;
 pub use sub_command::SubCommand;

@@ -1,12 +1,14 @@
 //! The messages of authenticatorCredentialManagement (CTAP 2.1, section 6.8).
 #![tactic(auto)]
 
+mod authenticated;
 mod cred_protect;
 mod parameters;
 mod request;
 mod response;
 mod sub_command;
 
+pub use authenticated::authenticated_bytes;
 pub use cred_protect::CredProtect;
 pub use parameters::Parameters;
 pub use request::Request;
