@@ -18,7 +18,7 @@ pub use Rattle.passkey_cbor.proofs.Views.{item_of-Array, item_of-Map, item_of-By
 pub use Rattle.passkey_cbor.proofs.Writing.{WritesItems, writes_items-begin}
 pub use Rattle.passkey_cbor.specs.Canonical.{ComesAfter, AscendFrom, Ascend, IsOrdered, AreOrdered, ArePairsOrdered, IsCanonical}
 pub use Rattle.passkey_cbor.specs.Depth.{depth, pairs_depth, items_depth}
-pub use Rattle.passkey_cbor.specs.EncodedAt.{IsEncodedAt, Lies, Next, Looks, Opens, NextIf, Walks, Values, NotValued, PairsAreEncodedAt}
+pub use Rattle.passkey_cbor.specs.EncodedAt.{IsEncodedAt, Lies, Next, Looks, Opens, Walks, PairsAreEncodedAt}
 pub use Rattle.passkey_cbor.specs.Encoding.{Definite, pairs_len}
 pub use Rattle.passkey_cbor.specs.Found.{FindsHead}
 pub use Rattle.passkey_cbor.specs.Grows.{Grows}
@@ -33,17 +33,16 @@ pub use Rattle.passkey_cbor.specs.Lent.{Region, Tells, PassesString, IsRegion, h
 pub use Rattle.passkey_cbor.specs.Names.{LooksFor, heads_until, heads_sought}
 pub use Rattle.passkey_cbor.specs.Order.{key_type, IsBefore, ctap2_order}
 pub use Rattle.passkey_cbor.specs.Pieces.{LendsPiece, LendsNoPiece, LooksAhead, LendsUpTo}
-pub use Rattle.passkey_cbor.specs.Reading.{item_within, simple_item, chunk}
+pub use Rattle.passkey_cbor.specs.Reading.{item_within, chunk}
 pub use Rattle.passkey_cbor.specs.Skipped.{PassesLeadingItem, SkipsLeadingItem}
 pub use Rattle.passkey_cbor.specs.Valued.{MakesLeadingItem}
 pub use Rattle.passkey_cbor.specs.View.{item_of, pair_of}
 pub use Rattle.passkey_cbor.specs.HeadCount.{CountsHeads, content_len, heads_of}
-pub use Rattle.passkey_cbor.proofs.WholeHeads.{counts_none, counts_then, counts_stay, counts_skip, counts_string, counts_value, counts_head, counts_more}
+pub use Rattle.passkey_cbor.proofs.WholeHeads.{counts_then, counts_stay, counts_skip, counts_string, counts_value, counts_head, counts_more}
 pub use Rattle.passkey_cbor.specs.Walk.{Walk, LooksOnce, ahead, Went, raised, break_heads}
 pub use Rattle.passkey_cbor.specs.Writable.{IsWritable, ArePairsWritable}
 unfoldable pub use Rattle.passkey_cbor.specs.Written.{shortest_head}
 pub use Rattle.passkey_cbor.specs.Written.{written, pairs_written}
-pub use Rattle.passkey_cbor.specs.declared.error.CborError.{CborError}
 pub use Rattle.passkey_cbor.specs.declared.head.Head.{Head}
 pub use Rattle.passkey_cbor.specs.declared.value.Value.TheVariants.{Bytes}
 pub use Rattle.passkey_cbor.specs.declared.value.Value.{Value}
@@ -61,11 +60,11 @@ pub use Rattle.passkey_iana.specs.Iana.{algorithm_named}
 pub use Rattle.passkey_iana.specs.declared.algorithm.Algorithm.{Algorithm}
 pub use Rattle.passkey_kinds.specs.Coded.{made_signed, used_signed, descriptor, parameters, webauthn_user}
 pub use Rattle.passkey_kinds.specs.Kind.{algorithm, algorithm_tree, aaguid, authenticator_data, authenticator_data_nodes, auth_data_tree, CountsData, Keeping, nothing, counted, kept_of, kept_sum, in_members, in_elements, AnswersAs, bytes, MayGrow, below, kept, truth, Kind, optional, each, sized_bytes, list, accepted, text, one_named, tolerated, FailsAs, or_else, Answers, Typed, with_members, map_from_bytes, entry, map_values, size, IsSize}
-pub use Rattle.passkey_kinds.specs.Message.{ReadsMessage, Begins, GrowsMessage, ReadsHere, with_length, AlikeDifferInLength, ReadIsCoherent, AllCanonical, kept_if_some, WrittenIsCanonical, WrittenIsReadBack, SameButForLength, AnswersCarryOver, KnowsItems, known_member, known, HasNoWrongKey, AnswersAlike, SameAnswers, PassesOverUnknown, KnowsMaps}
+pub use Rattle.passkey_kinds.specs.Message.{ReadsMessage, Begins, GrowsMessage, ReadsHere, AlikeDifferInLength, ReadIsCoherent, AllCanonical, kept_if_some, WrittenIsCanonical, WrittenIsReadBack, SameButForLength, AnswersCarryOver, KnowsItems, known, HasNoWrongKey, AnswersAlike, SameAnswers, PassesOverUnknown, KnowsMaps}
 pub use Rattle.passkey_kinds.specs.Placed.{EachFits, fields_of, places_of, PlainTable, members_of, plain_kind, plain_tree, IsReadBack, Any, IsByte, AreBytes}
-pub use Rattle.passkey_kinds.specs.Reader.{signed_in, collected, entered, pushed, pushed_if, pushed_below, full, scalar_in, ReadsScalar, head_scalar, head_array, head_map, elements_in, members_in, numbers_in, OpensAt, kept_parts, pushed, pushed_if, pushed_below, Further, Decodes, LooksAtMost, Spends, SpendsLess, Onward, Costs, ReadsAs, costs_nothing}
-pub use Rattle.passkey_kinds.specs.Record.{naming_of, MayGrowIn, are_small, Reads, MayGrowAt, named_as, MayGrowBy, takes_at, Fields, set_with, rows_of, table_of, put_at, unless_missing, one_more, Progress, reached, result_and_then, read_from, read_members, read_item, Member, record_kind, Entry, Table, entries, named, Members, first_missing, Naming, row, unknown, wrong, accepts_at, row_or_unknown, number_names, names, ◌>>=◌, row_named}
-pub use Rattle.passkey_kinds.specs.RecordReading.{record_cost, cost_by, kept_in, kept_in_map, greatest_cost, cost_at, keeps_at, keeps_by, keeps_nothing, none_keeps, record_keeps, HasReadTo, Sets, Puts, held_as, DecodesRecord, DecodesMember, entry_of, row_at}
+pub use Rattle.passkey_kinds.specs.Reader.{signed_in, collected, entered, pushed, pushed_if, pushed_below, full, scalar_in, ReadsScalar, head_scalar, head_array, head_map, elements_in, members_in, numbers_in, OpensAt, kept_parts, pushed, pushed_if, pushed_below, Further, Decodes, LooksAtMost, Spends, SpendsLess, Onward}
+pub use Rattle.passkey_kinds.specs.Record.{naming_of, MayGrowIn, are_small, Reads, MayGrowAt, named_as, MayGrowBy, takes_at, Fields, set_with, rows_of, table_of, put_at, unless_missing, one_more, Progress, reached, result_and_then, read_from, read_members, read_item, Member, record_kind, Entry, Table, entries, named, Members, first_missing, Naming, row, unknown, wrong, accepts_at, row_or_unknown, names, ◌>>=◌, row_named}
+pub use Rattle.passkey_kinds.specs.RecordReading.{record_cost, cost_by, kept_in, kept_in_map, greatest_cost, cost_at, keeps_at, keeps_by, keeps_nothing, none_keeps, record_keeps, HasReadTo, Sets, Puts, held_as, DecodesRecord, entry_of, row_at}
 pub use Rattle.passkey_kinds.specs.Tree.{by_length, short_first, AllAccepted, MemberAccepted, append_member, encode_member, put_all, Place, record_tree, KeysAscend, number_tree, numbers_tree, entry_tree, under, laid, list_tree, byte_map_tree, where_true, option_tree, credential_type_tree, transport_tree}
 pub use Rattle.passkey_kinds.specs.declared.fault.Fault.TheVariants.{Repeated}
 pub use Rattle.passkey_kinds.specs.declared.fault.Fault.{Fault}
@@ -75,11 +74,11 @@ pub use Rattle.passkey_kinds.specs.declared.rows.Row.{Row}
 pub use Rattle.passkey_webauthn.specs.CredentialType.{credential_type_named}
 pub use Rattle.passkey_webauthn.specs.NameLaws.{credential_type_own, transport_own}
 pub use Rattle.passkey_webauthn.specs.NumberState.{IsOf}
-pub use Rattle.passkey_webauthn.specs.NumberText.{signed_64, whole_64}
+pub use Rattle.passkey_webauthn.specs.NumberText.{whole_64}
 pub use Rattle.passkey_webauthn.specs.Transport.{transport_named}
 pub use Rattle.passkey_webauthn.specs.declared.credential_type.PublicKeyCredentialType.TheVariants.{Unknown}
 pub use Rattle.passkey_webauthn.specs.declared.number_state.NumberState.{NumberState}
-pub use Rattle.std.proofs.Common.{◌≡◌, ◌∙◌, ◌<◌, ◌+◌, nat_lt, ℕ, suc, add-one, arith, Bool, true, false, not, ◌&&◌, if◌then◌else◌, List, [], ◌∷◌, ◌++◌, length, map, replicate, drop, get_or, Option, Some, None, is_some, is_none, option_map, slice_get, inl, inr, refl, sym, ap, rules, ◌≤◌, Result, ◌*◌, subst, ◌-◌, take, nat_le, Ok, Err, OnOk, append_assoc, ◌==◌, cond, set, ◌⊎◌, Bor, pos, ℤ, negsuc, ◌≢◌, ◌^◌, max, ◌||◌, unwrap_or, zero, eq-eqb, min, ltb-true, le-leb, T, IfSome, is_ok, slice_set, OnErr, IfOk, IfErr}
+pub use Rattle.std.proofs.Common.{◌≡◌, ◌∙◌, ◌<◌, ◌+◌, nat_lt, ℕ, suc, add-one, arith, Bool, true, false, not, ◌&&◌, if◌then◌else◌, List, [], ◌∷◌, ◌++◌, length, map, replicate, drop, get_or, Option, Some, None, is_some, option_map, slice_get, inl, inr, refl, sym, ap, rules, ◌≤◌, Result, ◌*◌, subst, ◌-◌, take, nat_le, Ok, Err, OnOk, append_assoc, ◌==◌, cond, set, ◌⊎◌, Bor, pos, ℤ, ◌≢◌, ◌^◌, max, ◌||◌, unwrap_or, zero, eq-eqb, min, ltb-true, le-leb, T, IfSome, is_ok, IfOk, IfErr}
 pub use Rattle.std.proofs.Math.Nat.{mul-le-mul_left}
 pub use Rattle.std.proofs.Math.Seq.{drop-cons, take-suc}
 pub use Rattle.std.proofs.lemmas.Bool.Decides.{nat_tests}
@@ -87,7 +86,7 @@ pub use Rattle.std.proofs.lemmas.Bool.{and_parts, leb-true, true≢false, cases_
 pub use Rattle.std.proofs.lemmas.Cmp.{nat_list_cmp_total}
 pub use Rattle.std.proofs.lemmas.Fn.{always_returns_same}
 pub use Rattle.std.proofs.lemmas.List.Elements.{All-head, All-tail, All-from_recursion, recursion_from_All, filter_map-append}
-pub use Rattle.std.proofs.lemmas.List.{length-map, length-append, length-take, append-nil, drop_all, take_all, take_more_set, map_push, drop_more, get_or-set_same, get_or-set_other, length-set, get_or-map, get_or-replicate, get_or_past, length-replicate, take-append-drop, drop-drop, length-drop, drop-map}
+pub use Rattle.std.proofs.lemmas.List.{length-map, length-append, length-take, append-nil, drop_all, take_more_set, map_push, get_or-set_same, get_or-set_other, get_or-map, get_or-replicate, get_or_past, length-replicate, take-append-drop, drop-drop, length-drop, drop-map}
 pub use Rattle.std.proofs.lemmas.Option.{get_or_from_slice_get, slice_get-get_or, slice_get_past}
 pub use Rattle.std.proofs.lemmas.Result.{err_from_is_err_and}
 pub use Rattle.std.specs.Cmp.Lexicographic.{slice_cmp, bytes_decides, texts_ties}

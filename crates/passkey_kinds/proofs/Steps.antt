@@ -1,20 +1,20 @@
 -- The same, and the lemmas that proofs of the code cite. Declares nothing.
-pub use Rattle.passkey_kinds.proofs.Common.{drop, elements_in, members_in, OpensAt, kept_parts, full, sized_bytes, ByteMap, BytesFault, some_is, split, item_of-Array, item_of-Map, IsOrdered, depth, IsEncodedAt, Lies, Left, PairWithin, Item, pairs_of, byte_string, text_string, AtMostOneLeadingItem, WrittenIsLeadingItem, max_depth, item_of, pair_of, Walk, Value, is_coherent, GivenIsCoherent, ReadIsGiven, WrittenDataAreReadBack, IfPresent, data_parts, members-pairs_of, elements-items_of, algorithm_named, algorithm, collected, entered, aaguid, authenticator_data, authenticator_data_nodes, nothing, kept_of, kept_sum, in_members, in_elements, AnswersAs, bytes, MayGrow, below, kept, truth, Kind, optional, each, list, accepted, text, one_named, tolerated, with_members, map_from_bytes, map_values, ReadIsCoherent, AllCanonical, kept_if_some, WrittenIsCanonical, EachFits, fields_of, IsReadBack, Any, Spends, Onward, MayGrowIn, MayGrowAt, named_as, table_of, read_members, read_item, record_cost, cost_by, kept_in, kept_in_map, keeps_by, one_more, reached, DecodesMember, HasReadTo, entry_of, size, Entry, entries, Members, Naming, wrong, row_or_unknown, number_names, KeysAscend, number_tree, entry_tree, Refusal, OutOfMemory, Row, credential_type_named, transport_named, ◌≡◌, ◌∙◌, ◌<◌, ◌+◌, nat_lt, ℕ, suc, arith, Bool, true, false, ◌&&◌, if◌then◌else◌, List, [], ◌∷◌, ◌++◌, length, map, Option, Some, None, option_map, refl, sym, ap, rules, ◌≤◌, Result, subst, ◌-◌, take, nat_le, Ok, Err, OnOk, ◌==◌, pos, ◌^◌, max, unwrap_or, zero, eq-eqb, min, ltb-true, le-leb, and_parts, le-ltb, ne_eqb, and_from, nat_tests, length-map, length-take, drop_all, take_all, take_more_set, map_push, err_from_is_err_and, find, filter_map, option_and_then, codes, result_ok, Bytes, CborError, NotValued, PairsAreEncodedAt, ReadsAs, ReadsText, Values, deref_pair, drop-map, item_of-Bytes, by_length, is_lt, always_returns_same, text_bytes, names, costs_nothing, head_array, head_map, cases_eq, inl, inr}
+pub use Rattle.passkey_kinds.proofs.Common.{drop, elements_in, kept_parts, full, sized_bytes, ByteMap, BytesFault, split, item_of-Map, depth, IsEncodedAt, Lies, Left, PairWithin, Item, pairs_of, byte_string, text_string, AtMostOneLeadingItem, WrittenIsLeadingItem, max_depth, item_of, pair_of, Value, is_coherent, GivenIsCoherent, ReadIsGiven, WrittenDataAreReadBack, IfPresent, data_parts, members-pairs_of, algorithm_named, algorithm, collected, aaguid, authenticator_data, nothing, kept_sum, bytes, below, kept, truth, Kind, optional, text, one_named, with_members, map_values, ReadIsCoherent, WrittenIsCanonical, EachFits, fields_of, IsReadBack, Any, Spends, Onward, named_as, table_of, record_cost, kept_in, HasReadTo, entry_of, size, Entry, entries, Members, Naming, row_or_unknown, KeysAscend, number_tree, entry_tree, Row, ◌≡◌, ◌∙◌, ◌<◌, nat_lt, ℕ, suc, arith, Bool, true, false, ◌&&◌, if◌then◌else◌, List, [], ◌++◌, length, map, Option, Some, None, option_map, refl, sym, ap, rules, ◌≤◌, Result, subst, ◌-◌, nat_le, Ok, Err, OnOk, ◌==◌, pos, ◌^◌, max, unwrap_or, zero, min, ltb-true, le-leb, and_parts, and_from, nat_tests, length-map, drop_all, map_push, err_from_is_err_and, find, option_and_then, codes, result_ok, Bytes, PairsAreEncodedAt, ReadsText, deref_pair, drop-map, item_of-Bytes, by_length, is_lt, always_returns_same, text_bytes, names, head_array, head_map}
 unfoldable pub use Rattle.passkey_kinds.proofs.Common.{shortest_head}
-pub use Rattle.passkey_kinds.proofs.Lists.{sized_gathered, mapped_at, head_before, kept_none, kept_elements_in, kept_members_in, after_head, numbers_are, list_in, accepted_in, map_in, filled_in, text_read, text_refused, kept_nothing, decodes_in, sized_array, none_either, never_grows, stopped, gone_on, pushed_accepted, pushed_each, entered_all, answers_from, list_array, accepted_array, map_same, grows_array, each_same, map_from_bytes-map, map_values-empty, read_more, map_values-insert, grows_map, map_values_same, fits_more, written_more, fits_next, written_next}
+pub use Rattle.passkey_kinds.proofs.Lists.{sized_gathered, mapped_at, head_before, kept_none, kept_elements_in, kept_members_in, after_head, numbers_are, list_in, accepted_in, map_in, filled_in, text_read, text_refused, decodes_in, stopped, gone_on, answers_from, each_same, map_values-empty, read_more, map_values-insert, map_values_same, fits_more, written_more, fits_next, written_next}
 pub use Rattle.passkey_kinds.proofs.Back.{true_place, Falls, accepts_it, option_place, puts_value, puts_default, kind_back, ◌▸◌, no_more, rows_back, picked, picked_back}
 pub use Rattle.passkey_kinds.proofs.LeafBack.{auth_data_back, auth_data_coherent, seen_list_back, truth_back, or_null_back, or_null_same, optional_place, byte_back, bytes_back, kept_back, anything, tolerated_place, text_back, all_of_anything, accepted_same, accepted_place, list_same, word_back, transport_back, list_back, optional_back, seen_map_back, map_back, numbers_back, size_back, aaguid_back}
-pub use Rattle.passkey_kinds.proofs.Lent.{numbered, bytes_are, data_decodes, no_data, looks_all, looks_names, lent_spends, lent_decodes, not_lent_decodes, looks_some, looks_none, bytes_grow, other_number, AddsUpTo, adds_one, adds_all, adds_looks, stands_missed, or_refused, missed_then, looked_further, copied_further, counted_further, data_further, lent_less, missed_spends, lent_is}
-pub use Rattle.passkey_kinds.proofs.Levels.{record_within, Within, back_if_few, back_if_good, PlaceHas, EachPlace}
-pub use Rattle.passkey_kinds.proofs.Common.{CountsHeads, counts_none, counts_then, counts_stay, counts_more}
-pub use Rattle.passkey_kinds.proofs.Cursor.{array_flat, map_flat, further_then, further_from, further_again, further_on, further_counted, further_twice, further_ok, skip_further, skipped_further, head_moves, eased, stands_back, onward_of, head_spends, if_some, stands_long, stands_again, spends_again, onward_then, on_ok, fails_as, ok_ends, ends_ok, named_text, no_text, failed, null_item, other_item, no_aaguid, scalar_read, scalar_moves, scalar_ends, scalar_decodes, below_scalar, truth_scalar, size_scalar, array_opened, map_opened, parts_open}
-pub use Rattle.passkey_kinds.proofs.Keeping.{record_keeps, not_null, ok_of}
+pub use Rattle.passkey_kinds.proofs.Lent.{numbered, bytes_are, data_decodes, no_data, looks_all, looks_names, lent_spends, lent_decodes, not_lent_decodes, looks_some, looks_none, bytes_grow, other_number, AddsUpTo, adds_one, adds_all, adds_looks, stands_missed, or_refused, missed_then, looked_further, copied_further, counted_further, data_further, lent_less, lent_is}
+pub use Rattle.passkey_kinds.proofs.Levels.{record_within, back_if_few, back_if_good, PlaceHas, EachPlace}
+pub use Rattle.passkey_kinds.proofs.Common.{CountsHeads, counts_then, counts_more}
+pub use Rattle.passkey_kinds.proofs.Cursor.{array_flat, map_flat, further_from, further_again, further_on, further_counted, further_twice, further_ok, skip_further, skipped_further, head_moves, eased, stands_back, onward_of, head_spends, stands_long, stands_again, spends_again, onward_then, on_ok, fails_as, ok_ends, ends_ok, named_text, no_text, failed, null_item, other_item, no_aaguid, scalar_read, scalar_moves, scalar_ends, scalar_decodes, below_scalar, truth_scalar, size_scalar, array_opened, map_opened, parts_open}
+pub use Rattle.passkey_kinds.proofs.Keeping.{record_keeps}
 pub use Rattle.passkey_kinds.proofs.Keys.{found_behind, not_wrong, names_found, names_other, number_then, stands_twice, twice_spends, further_some, key_ends}
 pub use Rattle.passkey_kinds.proofs.Lawful.{IsLawful, lawful, raised, IsLawfulAs, descriptor_law, parameters_law, user_law}
 pub use Rattle.passkey_kinds.proofs.Loops.{EachTo, next_is, one_spare, spent_within, some_are, one_more_done, each_done, at_least, kept_pairs, kept_record, cost_by_le, key_spent, member_spent}
 pub use Rattle.passkey_kinds.proofs.Members.{members_are, key_names, goes_on, fails, all_read, reads_from, no_record, held_answers, held_ok, sets_put}
 pub use Rattle.passkey_kinds.proofs.RecordLaws.{may_grow, went_back, message_is, fault_is, skips_unknown}
-pub use Rattle.passkey_kinds.proofs.Ordered.{ascend, keys_ascend, record_ordered, ordered_of, few_levels, Rule, plainly, IsPlain, null_plain, map_plain, in_order, list_plain, numbers_plain, truth_plain, text_plain}
+pub use Rattle.passkey_kinds.proofs.Ordered.{keys_ascend, record_ordered, few_levels, Rule, plainly, IsPlain, null_plain, map_plain, in_order, list_plain, numbers_plain, truth_plain, text_plain}
 pub use Rattle.passkey_kinds.proofs.ByteMaps.{short_first_is, sorted-map}
 pub use Rattle.passkey_kinds.proofs.Sinks.{record_writable, record_written}
-pub use Rattle.passkey_kinds.proofs.Around.{AtMost, Around, OnlyAt, item_around, around, required_keeps, optional_keeps, tolerated_keeps, decoded_few, canonical_around, OnlyDeep, only_deep}
+pub use Rattle.passkey_kinds.proofs.Around.{Around, OnlyAt, item_around, around, required_keeps, optional_keeps, tolerated_keeps, decoded_few, canonical_around, OnlyDeep, only_deep}

@@ -5,7 +5,7 @@ pub use Rattle.passkey_cbor.specs.Depth.{depth}
 pub use Rattle.passkey_cbor.specs.EncodedAt.{PairsAreEncodedAt, IsEncodedAt}
 pub use Rattle.passkey_cbor.specs.Encoder.{encoding}
 pub use Rattle.passkey_cbor.specs.Grows.{Grows}
-pub use Rattle.passkey_cbor.specs.Item.{Item, number, items_of, pairs_of, boolean, byte_string, text_string, elements, members, array, null}
+pub use Rattle.passkey_cbor.specs.Item.{Item, number, items_of, boolean, byte_string, text_string, elements, members, array, null}
 pub use Rattle.passkey_cbor.specs.LeadingItem.{IsLeadingItem, max_depth}
 pub use Rattle.passkey_cbor.specs.Lent.{IsRegion, Tells}
 pub use Rattle.passkey_cbor.specs.View.{pair_of, item_of}
