@@ -6,10 +6,10 @@ use crate::SubCommand;
 use passkey_kinds::{Code, OutOfMemory};
 use std::alloc::Global;
 
-/// Returns the bytes that `pin_uv_auth_param` authenticates with the pinUvAuthToken: 32
-/// bytes 0xFF, 0x0D, the subcommand's number and the parameters
-/// (CTAP 2.1, section 6.11). The parameters are their encoding as it is sent, which `cbor::members` of
-/// the request lends, or no bytes if they are absent. Returns `OutOfMemory` if an allocation fails.
+/// Returns the bytes that `pin_uv_auth_param` authenticates with the pinUvAuthToken: 32 bytes 0xFF,
+/// 0x0D, the subcommand's number and the parameters (CTAP 2.1, section 6.11). The parameters are
+/// their encoding as it is sent, which `cbor::members` of the request lends, or no bytes if they
+/// are absent. Returns `OutOfMemory` if an allocation fails.
 pub fn authenticated_bytes(
     alloc: Global,
     sub_command: SubCommand,

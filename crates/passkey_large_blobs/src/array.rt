@@ -19,7 +19,8 @@ pub fn array_of(serialized: &[u8]) -> Option<&[u8]>
 {
     let len = serialized.len().checked_sub(DIGEST_LEN)?;
     let (array, digest) = serialized.split_at(len);
-    if Sha256::digest(array)[..DIGEST_LEN] == *digest {
+    let whole = Sha256::digest(array);
+    if &whole[..DIGEST_LEN] == digest {
         Some(array)
     } else {
         None
@@ -31,7 +32,8 @@ pub fn array_of(serialized: &[u8]) -> Option<&[u8]>
 pub fn with_digest(alloc: Global, array: &[u8]) -> Result<Vec<u8>, OutOfMemory>
     ensures { IfOk result (λ bytes. bytes.items ≡ array.now ++ digest_of array.now) }
 {
+    let whole = Sha256::digest(array);
     let mut bytes = Vec::from_slice(alloc, array)?;
-    bytes.extend_from_slice(&Sha256::digest(array)[..DIGEST_LEN])?;
+    bytes.extend_from_slice(&whole[..DIGEST_LEN])?;
     Ok(bytes)
 }

@@ -1,4 +1,4 @@
-use Rattle.passkey_kinds.proofs.Steps.{Option, List, ℕ, option_map, map, refl, ap, each_same, sets_put}
+use Rattle.passkey_kinds.proofs.Steps.{Option, List, option_map, map, refl, ap, each_same, sets_put}
 use Rattle.passkey_kinds.specs.Numbered.{numbered_fields}
 use Rattle.passkey_kinds.specs.RecordReading.{nested}
 use Rattle.passkey_kinds.specs.Typed.{optional, list}
