@@ -25,7 +25,7 @@ abbrev pub record_rewritten : {A : Type 0} → (Object → Result A Fault) → (
 record_rewritten members json d = in_object members d >>= λ x. Ok (compact_text (json Base64Url x))
 
 -- the same for a record of this table
-abbrev table_rewritten : {A : Type 0} → PlainTable A → Data → Result (List ℕ) Fault
+abbrev pub table_rewritten : {A : Type 0} → PlainTable A → Data → Result (List ℕ) Fault
 table_rewritten t = record_rewritten (members_in t) (table_json t)
 
 -- the JSON text of the client data that the value decodes to, where the caller knows no further
