@@ -3,8 +3,9 @@ pub use passkey_extensions::laws::{
     written_hmac_input_is_canonical, written_hmac_input_is_read_back,
 };
 pub use passkey_get_assertion::laws::{
-    written_get_request_is_canonical, written_get_request_is_read_back,
-    written_get_response_is_canonical, written_get_response_is_read_back,
+    get_response_auth_data_are_lent, written_get_request_is_canonical,
+    written_get_request_is_read_back, written_get_response_is_canonical,
+    written_get_response_is_read_back,
 };
 pub use passkey_get_info::laws::{written_get_info_is_canonical, written_get_info_is_read_back};
 pub use passkey_kinds::laws::{
@@ -14,7 +15,7 @@ pub use passkey_kinds::laws::{
     written_message_is_canonical, written_message_is_read_back,
 };
 pub use passkey_make_credential::laws::{
-    written_attestation_is_read_back, written_make_request_is_canonical,
-    written_make_request_is_read_back, written_make_response_is_canonical,
-    written_make_response_is_read_back,
+    make_response_auth_data_are_lent, written_attestation_is_read_back,
+    written_make_request_is_canonical, written_make_request_is_read_back,
+    written_make_response_is_canonical, written_make_response_is_read_back,
 };

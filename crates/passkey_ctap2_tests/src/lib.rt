@@ -16,4 +16,6 @@ mod messages;
 #[cfg(test)]
 mod records;
 #[cfg(test)]
+mod signed_bytes;
+#[cfg(test)]
 mod tables;

@@ -2,6 +2,8 @@
 use Rattle.passkey_kinds.proofs.Common.{record_kind, places_of}
 use Rattle.passkey_kinds.proofs.Ordered.{canonical_of}
 use Rattle.passkey_kinds.proofs.Steps.{Around, OnlyAt, KeysAscend, keys_ascend, around, tolerated_keeps, decoded_few, canonical_around, record_ordered, arith, shortest_head, IsLawful, lawful, truth_back, plainly, puts_value, no_more, option_map, Item, number_tree, EachPlace, Rule, list_plain, descriptor_law, ◌≡◌, ◌≤◌, nat_le, le-leb, true, Ok, refl, depth, ReadIsCoherent, OnlyDeep, only_deep, record_keeps, byte_back, text_back, bytes_back, anything, optional_place, accepted_place, tolerated_place, few_levels, puts_default, rows_back, ◌▸◌, Bool, ◌&&◌, and_from, max_depth, is_coherent, GivenIsCoherent, ReadIsGiven, WrittenDataAreReadBack, auth_data_back, auth_data_coherent, record_within, AtMostOneLeadingItem, WrittenIsLeadingItem, WrittenIsCanonical, in_order}
+use Rattle.passkey_kinds.proofs.Taken.{auth_data_lent}
+use Rattle.passkey_kinds.specs.Lending.{AuthDataAreLent}
 use Rattle.std.proofs.Common.{leb-true}
 use Rattle.passkey_entities.proofs.Entities.{user_law}
 use Rattle.passkey_extensions.proofs.Extensions.{get_parts_back, get_extensions_around, used_unsigned_law}
@@ -116,3 +118,8 @@ pub get_response_canonical : WrittenIsCanonical get_response_tree is_get_respons
 unfolding shortest_head
 get_response_canonical r w coherent kept = canonical_of (get_response_tree r) w (response_levels r)
     (record_ordered (places_of get_response_members r) refl (response_each (in_order 4) r))
+
+-- ---- what the authenticator data are decoded from is lent
+
+pub get_auth_data_lent : AuthDataAreLent get_response_fields (λ r. r.auth_data)
+get_auth_data_lent = auth_data_lent get_response_fields (λ r. r.auth_data) (search) refl

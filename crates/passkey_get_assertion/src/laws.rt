@@ -2,7 +2,8 @@
 //! does nothing.
 ghost use Rattle.passkey_kinds.specs.Words.{WrittenIsReadBack, WrittenIsCanonical};
 ghost use Rattle.passkey_get_assertion.specs.GetRequest.{read_get_request, get_request_tree, GetRequestFits, is_get_request_coherent, get_request_kept};
-ghost use Rattle.passkey_get_assertion.specs.GetResponse.{read_get_response, get_response_tree, GetResponseFits, is_get_response_coherent, normal_get_response, get_response_kept};
+ghost use Rattle.passkey_kinds.specs.Lending.{AuthDataAreLent};
+ghost use Rattle.passkey_get_assertion.specs.GetResponse.{get_response_fields, read_get_response, get_response_tree, GetResponseFits, is_get_response_coherent, normal_get_response, get_response_kept};
 
 /// The encoding of a coherent request, whatever bytes follow, decodes to the request.
 pub fn written_get_request_is_read_back()
@@ -36,4 +37,11 @@ pub fn written_get_request_is_canonical()
 #[tactic(auto, using(crate::proofs::GetMessages::get_response_canonical))]
 pub fn written_get_response_is_canonical()
     ensures { WrittenIsCanonical get_response_tree is_get_response_coherent get_response_kept }
+{}
+
+/// If an item is decoded as a response, its authenticator data are what the bytes decode to that
+/// `auth_data_bytes` lends.
+#[tactic(auto, using(crate::proofs::GetMessages::get_auth_data_lent))]
+pub fn get_response_auth_data_are_lent()
+    ensures { AuthDataAreLent get_response_fields (λ r. r.auth_data) }
 {}

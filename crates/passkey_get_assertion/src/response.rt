@@ -2,17 +2,18 @@
 ghost use Rattle.std.specs.Prelude.{◌≡◌, IfOk, IfErr, OnOk};
 ghost use Rattle.passkey_kinds.specs.Words.{places_of, item_of, IsWritable, written, ReadsMessage, ReadsHere, GrowsMessage, MayGrowAt, Reads, table_of};
 ghost use Rattle.passkey_get_assertion.specs.GetResponse.{GetResponseParts, get_response_fields, read_get_response, get_response_members, get_response_tree, GetResponseFits, is_get_response_coherent, get_response_parts};
+ghost use Rattle.passkey_kinds.specs.Lending.{LendsRow};
 ghost use Rattle.passkey_kinds.specs.declared.fault.Fault.TheVariants.{OutOfMemory as NoRoom};
 ghost use Rattle.passkey_kinds.specs.declared.fault.WriteFault.TheVariants.{OutOfMemory as NoMemory};
 
 use passkey_bytes::Bytes;
-use passkey_cbor::{Cursor, Value};
+use passkey_cbor::{BytesToken, Cursor, Value};
 use passkey_core::AuthenticatorData;
 use passkey_entities::PublicKeyCredentialUserEntity;
 use passkey_extensions::get_assertion::UnsignedExtensionOutputs;
 use passkey_kinds::{
-    Fault, Message, Record, Refusal, Row, Sink, Source, ToCborMap, WriteFault, message_from_slice,
-    read_message, record_from_value, set, write_message,
+    Fault, Message, Record, Refusal, Row, Sink, Source, ToCborMap, WriteFault, lend_bytes,
+    message_from_slice, read_message, record_from_value, set, write_message,
 };
 use passkey_memory::OutOfMemory;
 use passkey_webauthn::PublicKeyCredentialDescriptor;
@@ -156,6 +157,21 @@ impl Response {
             (read_get_response (item_of value.now)) result }
     {
         record_from_value(alloc, value)
+    }
+
+    /// Lends the authenticator data's bytes out of the response at the beginning of the bytes, as they
+    /// came: the signature is over them, and decoding and encoding them again may change them. They are
+    /// the value of the first member `authData` (0x02). If they are in one piece, `lent` of the token
+    /// returns it; `copy` joins chunks. Allocates nothing.
+    ///
+    /// Returns `None` if the bytes don't begin with a well-formed map of at most 256 nesting levels,
+    /// no member is `authData`, its value is no byte string, or a key before it has the fault `BadKey`.
+    /// The other members aren't checked. If `from_slice` decodes the response, these bytes are there,
+    /// and decode to its authenticator data.
+    pub fn auth_data_bytes(bytes: &[u8]) -> Option<BytesToken<'_>>
+        ensures { LendsRow (table_of get_response_fields) 2 bytes.now result }
+    {
+        lend_bytes::<Response>(bytes, 2)
     }
 
     /// Encodes the response, with the members that are present under their numbers in ascending

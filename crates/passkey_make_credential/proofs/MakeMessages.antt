@@ -1,6 +1,8 @@
 -- Messages of authenticatorMakeCredential: decoding their encodings again, their nesting levels, and their canonical form.
 use Rattle.passkey_kinds.proofs.Common.{record_kind, places_of}
 use Rattle.passkey_kinds.proofs.Steps.{Around, OnlyAt, KeysAscend, keys_ascend, item_around, around, required_keeps, optional_keeps, decoded_few, canonical_around, arith, ℕ, Bool, true, false, codes, text_string, shortest_head, true_place, IsLawfulAs, lawful, truth_back, PlaceHas, IsPlain, plainly, truth_plain, text_plain, puts_value, puts_default, no_more, option_map, number_tree, list_plain, descriptor_law, parameters_law, user_law, ◌≡◌, ◌≤◌, nat_le, Some, Ok, depth, ReadIsCoherent, OnlyDeep, only_deep, record_keeps, byte_back, bytes_back, anything, optional_place, accepted_same, accepted_place, rows_back, refl, ◌▸◌, ◌-◌, ◌^◌, min, nat_lt, and_from, max_depth, WrittenIsLeadingItem, is_coherent, GivenIsCoherent, ReadIsGiven, WrittenDataAreReadBack, auth_data_back, auth_data_coherent, text_back, kept_back, record_within, picked, picked_back, and_parts, AtMostOneLeadingItem, WrittenIsCanonical}
+use Rattle.passkey_kinds.proofs.Taken.{auth_data_lent}
+use Rattle.passkey_kinds.specs.Lending.{AuthDataAreLent}
 use Rattle.std.proofs.Common.{leb-true}
 use Rattle.passkey_core.specs.DataNormal.{IsData, normal_data}
 use Rattle.passkey_core.specs.DataParts.{DataParts}
@@ -153,3 +155,8 @@ pub make_response_canonical : AtMostOneLeadingItem → WrittenIsLeadingItem
     → WrittenIsCanonical make_response_tree is_make_response_coherent make_response_kept
 make_response_canonical one front = canonical_around one front response_around
     (λ r coherent. leb-true _ _ (and_parts (is_coherent r.auth_data) _ coherent).1)
+
+-- ---- what the authenticator data are decoded from is lent
+
+pub make_auth_data_lent : AuthDataAreLent make_response_fields (λ r. r.auth_data)
+make_auth_data_lent = auth_data_lent make_response_fields (λ r. r.auth_data) (search) refl

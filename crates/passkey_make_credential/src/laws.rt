@@ -2,7 +2,8 @@
 //! does nothing.
 ghost use Rattle.passkey_kinds.specs.Words.{is_coherent, IsData, normal_data, WrittenIsReadBack, WrittenIsCanonical};
 ghost use Rattle.passkey_make_credential.specs.MakeRequest.{read_make_request, make_request_tree, MakeRequestFits, is_make_request_coherent, normal_make_request, make_request_kept};
-ghost use Rattle.passkey_make_credential.specs.MakeResponse.{read_make_response, make_response_tree, MakeResponseFits, is_make_response_coherent, normal_make_response, attestation_tree, unattested, make_response_kept};
+ghost use Rattle.passkey_kinds.specs.Lending.{AuthDataAreLent};
+ghost use Rattle.passkey_make_credential.specs.MakeResponse.{make_response_fields, read_make_response, make_response_tree, MakeResponseFits, is_make_response_coherent, normal_make_response, attestation_tree, unattested, make_response_kept};
 
 /// The encoding of a coherent request, whatever bytes follow, decodes to the request with the
 /// option `up` set to true.
@@ -54,3 +55,10 @@ pub fn written_make_response_is_canonical()
     passkey_cbor::laws::at_most_one_leading_item();
     passkey_cbor::laws::written_is_leading_item();
 }
+
+/// If an item is decoded as a response, its authenticator data are what the bytes decode to that
+/// `auth_data_bytes` lends.
+#[tactic(auto, using(crate::proofs::MakeMessages::make_auth_data_lent))]
+pub fn make_response_auth_data_are_lent()
+    ensures { AuthDataAreLent make_response_fields (λ r. r.auth_data) }
+{}

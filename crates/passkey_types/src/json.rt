@@ -6,4 +6,4 @@ pub use passkey_json::{
     holds_float, read_back, read_name, read_nested, written_name,
 };
 pub use passkey_webauthn::EnumNames;
-pub use serde_json::{Map, Value};
+pub use serde_json::{Error, Map, Value};
