@@ -278,7 +278,9 @@ fn members_that_take_no_memory_are_decoded_without_any(rt: HostRuntime) {
 #[test]
 fn default_criteria_prefer_user_verification(rt: HostRuntime) {
     let criteria = AuthenticatorSelectionCriteria::default();
-    let json = criteria.to_json(rt.alloc(), Base64Url).expect(&rt, "memory");
+    let json = criteria
+        .to_json(rt.alloc(), Base64Url)
+        .expect(&rt, "memory");
     let text = json.to_string(rt.alloc()).expect(&rt, "memory");
     assert_shows(
         &rt,
