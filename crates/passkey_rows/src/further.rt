@@ -332,6 +332,10 @@ fn way_of(name: &str) -> (Way, &str) {
     if let Some(kind) = name.strip_prefix("body-") {
         return (Way::Body, kind);
     }
+    // Without the comparison of both ways of decoding, which makes many allocations.
+    if let Some(kind) = name.strip_prefix("once-") {
+        return (Way::Once, kind);
+    }
     (Way::Once, name)
 }
 
