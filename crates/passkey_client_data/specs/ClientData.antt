@@ -11,7 +11,7 @@ use Rattle.passkey_json.specs.Coded.{named_value, text_value, truth_value}
 use Rattle.passkey_json.specs.Fault.{Fault, no_object}
 use Rattle.passkey_json.specs.Members.{◌>>=◌, Object, takes_at}
 use Rattle.passkey_json.specs.Table.{PlainTable, members_in, optional_as, required_as, takes_of}
-use Rattle.serde_json.specs.Data.{Data, null, boolean, number, string, array, object, Members}
+use Rattle.serde_json.specs.Data.{Data, object, Members}
 use Rattle.serde_json.specs.Find.{get_member, as_object}
 use Rattle.serde_json.specs.View.{members_view}
 

@@ -1,5 +1,5 @@
 -- Client data as the bytes of a JSON text.
-use Rattle.std.specs.Prelude.{◌≡◌, ℕ, List, Result, Err, ⊤}
+use Rattle.std.specs.Prelude.{ℕ, List, Result, Err, ⊤}
 use Rattle.passkey_client_data.specs.declared.client_data_fault.ClientDataFault.{ClientDataFault}
 use Rattle.passkey_client_data.specs.declared.client_data_fault.ClientDataFault.TheVariants as data_fault
 use Rattle.passkey_json.specs.Fault.{Fault, Gives}
