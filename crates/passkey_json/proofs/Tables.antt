@@ -5,11 +5,12 @@ use Rattle.std.proofs.lemmas.List.{get_or-map, length-map}
 use Rattle.std.proofs.lemmas.Slice.Eq.{bytes_eq-Decides}
 use Rattle.std.specs.List.{list_any}
 use Rattle.std.specs.Prelude.{IsTrue}
+use Rattle.std.specs.Result.{result_ok}
 use Rattle.passkey_json.proofs.Faults.{first_fault}
 use Rattle.passkey_json.proofs.Looking.{standing}
 use Rattle.passkey_json.specs.Fault.{Fault, Gives}
-use Rattle.passkey_json.specs.Members.{◌>>=◌, Object, Member, MemberTakes, in_object, member, one_of, record_kind, takes_at, under}
-use Rattle.passkey_json.specs.Table.{AreBack, BackFrom, Entry, IsBack, JsonMember, PlainTable, are_distinct, copied, either, either_name, entries, entry_of, has_number, is_other, is_other_apart, looked, members_in, put_encoded, put_found, put_from, read_all, read_from, rows_of, table_json, take_any, takes_either, takes_from, uses}
+use Rattle.passkey_json.specs.Members.{◌>>=◌, Object, object_of, takes_in, Member, MemberTakes, in_object, member, one_of, record_kind, takes_at, under}
+use Rattle.passkey_json.specs.Table.{AreBack, TakeNothing, takes_of, BackFrom, Entry, IsBack, JsonMember, PlainTable, are_distinct, copied, either, either_name, entries, entry_of, has_number, is_other, is_other_apart, looked, members_in, put_encoded, put_found, put_from, read_all, read_from, rows_of, table_json, take_any, takes_either, takes_from, uses}
 use Rattle.passkey_json.specs.Written.{EncodedMember, ReadsBack, are_apart, at_name, put_rows, written}
 use Rattle.passkey_json.specs.declared.bytes_form.BytesForm.{BytesForm}
 use Rattle.passkey_json.specs.declared.json_fault.JsonFault.{JsonFault}
@@ -337,3 +338,24 @@ module _ {P : Type 0} where
       let e : in_object (members_in t) (written rows) ≡ Ok x =
       ap (members_in t) (standing rows (rows_apart form x t.members t.distinct)) ∙ read in
       record { plain = rw e refl; some = rw e refl }
+
+-- ---- records whose decoding takes no memory
+
+nothing_at : {A : Type 0} (takes : A → Bool) → ((x : A) → takes x ≡ false) → (o : Option A) → takes_at takes o ≡ false
+nothing_at takes none None = refl
+nothing_at takes none (Some x) = none x
+
+neither_takes : (takes : Data → Bool) → ((d : Data) → takes d ≡ false) → (name : List ℕ) (other : Option (List ℕ))
+    (object : Object) → takes_either takes name other object ≡ false
+neither_takes takes none name None object = nothing_at takes none (object name)
+neither_takes takes none name (Some other) object =
+    rw (nothing_at takes none (object name), nothing_at takes none (object other)) refl
+
+none_takes : {P : Type 0} (ms : List (JsonMember P)) → TakeNothing ms → (object : Object) → take_any ms object ≡ false
+none_takes [] none object = refl
+none_takes (m ∷ ms) none object =
+    rw (neither_takes m.takes none.0 m.entry.name m.entry.other object, none_takes ms none.1 object) refl
+
+pub takes_nothing : {P : Type 0} (t : PlainTable P) → TakeNothing t.members → (d : Data)
+    → takes_in (takes_of t) d ≡ false
+takes_nothing t none d = nothing_at (takes_of t) (none_takes t.members none) (result_ok (object_of d))

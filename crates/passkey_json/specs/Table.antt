@@ -75,6 +75,11 @@ abbrev pub take_any : {P : Type 0} → List (JsonMember P) → Object → Bool
 take_any [] object = false
 take_any (m ∷ ms) object = takes_either m.takes m.entry.name m.entry.other object || take_any ms object
 
+-- decoding takes no memory, whatever the members' values are
+abbrev pub TakeNothing : {P : Type 0} → List (JsonMember P) → Type 0
+TakeNothing [] = Unit {0}
+TakeNothing (m ∷ ms) = ((d : Data) → m.takes d ≡ false) × TakeNothing ms
+
 abbrev pub rows_of : {P : Type 0} → List (JsonMember P) → BytesForm → P → List EncodedMember
 rows_of [] form x = []
 rows_of (m ∷ ms) form x = (m.entry.name, m.json form (m.get x)) ∷ rows_of ms form x

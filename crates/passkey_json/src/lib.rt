@@ -14,6 +14,7 @@ mod from_json;
 mod json_fault;
 mod json_record;
 mod json_refusal;
+pub mod laws;
 mod list;
 mod map;
 mod member;
