@@ -1,4 +1,6 @@
 //! What both ceremonies check: client data and authenticator data.
+ghost use Rattle.std.specs.Prelude.{◌≡◌, None, OnOk};
+
 use crate::{APP, ORIGIN, PackageName, RP_ID};
 use passkey_types::bitflags::Flags as _;
 use passkey_types::cose::CoseError;
@@ -29,8 +31,10 @@ pub enum Rejected {
     Memory(#[from] OutOfMemory),
 }
 
-/// Returns an error for what is wrong, if anything is.
-pub(crate) fn unless(wrong: Option<&'static str>) -> Result<(), Rejected> {
+/// Returns an error if something is wrong.
+pub(crate) fn unless(wrong: Option<&'static str>) -> Result<(), Rejected>
+    ensures { OnOk result (wrong.entry ≡ None) }
+{
     match wrong {
         Some(reason) => Err(Rejected::Check(reason)),
         None => Ok(()),
