@@ -94,17 +94,17 @@ fn read_members<R: PlainJsonRecord>(object: &Object<'_>) -> Result<R, JsonFault>
 
 /// Encodes the members in the table's order.
 fn put_members<R: PlainToJson>(
-    record: &R,
+    value: &R,
     alloc: Global,
     form: BytesForm,
     object: &mut ObjectWriter,
 ) -> Result<(), OutOfMemory>
     ensures written { OnOk result (so_far object.new
-        ≡ put_rows (so_far object.old) (rows_of R.PlainJsonRecord.table.members form record.now)) }
-    ensures reads_back { OnOk result (AreBack R.PlainJsonRecord.table.members form record.now) }
+        ≡ put_rows (so_far object.old) (rows_of R.PlainJsonRecord.table.members form value.now)) }
+    ensures reads_back { OnOk result (AreBack R.PlainJsonRecord.table.members form value.now) }
 {
     for row in R::rows() {
-        record.put_member(row.number(), alloc, form, object)?;
+        value.put_member(row.number(), alloc, form, object)?;
     }
     Ok(())
 }
