@@ -107,11 +107,12 @@ fn wrong_since(record: &CredentialRecord, data: &AuthenticatorData) -> Option<&'
     None
 }
 
-/// Returns the bytes that an assertion's signature is over.
-fn signed_bytes(alloc: Global, data: &[u8], client_data: &[u8]) -> Result<Vec<u8>, OutOfMemory>
-    ensures { IfOk result (λ signed. signed.items ≡ data.now ++ sha256 client_data.now) }
+/// Returns the bytes that an assertion's signature is over: the authenticator data, and the hash of the
+/// client data.
+fn signed_bytes(alloc: Global, authenticator: &[u8], client: &[u8]) -> Result<Vec<u8>, OutOfMemory>
+    ensures { IfOk result (λ signed. signed.items ≡ authenticator.now ++ sha256 client.now) }
 {
-    let mut signed = Vec::from_slice(alloc, data)?;
-    signed.extend_from_slice(&Sha256::digest(client_data))?;
+    let mut signed = Vec::from_slice(alloc, authenticator)?;
+    signed.extend_from_slice(&Sha256::digest(client))?;
     Ok(signed)
 }
