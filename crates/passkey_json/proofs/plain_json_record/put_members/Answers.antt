@@ -12,18 +12,18 @@ loop-row-preserved g c =
     let put = rw c.number.ensures at c.in_ok-put_member.ensures.written in
     let back = rw c.number.ensures at c.in_ok-put_member.ensures.reads_back in
     let at = row_is _ t c.rows-row-items.ensures _ _ c.loop-row-test.true in
-    row_encoded at.1 c.args.form c.args.record.now _ (so_far c.loop-row.object) _ c.loop-row.invariant put back
+    row_encoded at.1 c.args.form c.args.value.now _ (so_far c.loop-row.object) _ c.loop-row.invariant put back
 
 pub returns-clause-written : goal.returns-clause-written
 returns-clause-written g c =
     let t = g.R.PlainJsonRecord.table in
-    (all_written t.members _ c.args.form c.args.record.now _ (so_far c.loop-row.object)
+    (all_written t.members _ c.args.form c.args.value.now _ (so_far c.loop-row.object)
     (at_end c.rows-row-items.result.now t.members c.rows-row-items.ensures _ c.loop-row-test.false)
     c.loop-row.invariant).0
 
 pub returns-clause-reads_back : goal.returns-clause-reads_back
 returns-clause-reads_back g c =
     let t = g.R.PlainJsonRecord.table in
-    (all_written t.members _ c.args.form c.args.record.now _ (so_far c.loop-row.object)
+    (all_written t.members _ c.args.form c.args.value.now _ (so_far c.loop-row.object)
     (at_end c.rows-row-items.result.now t.members c.rows-row-items.ensures _ c.loop-row-test.false)
     c.loop-row.invariant).1
