@@ -23,7 +23,7 @@ mod well_known;
 
 use crate::again::answer;
 use crate::alike::are_decoded_alike;
-use crate::further::{Further, are_alike, further};
+use crate::further::{Further, are_alike, further_row};
 use crate::tries::Tries;
 use anyhow::Result;
 use passkey_rewrite::{Kind, RunFault, rewrite};
@@ -34,7 +34,7 @@ fn output_of(alloc: Global, tries: &mut Tries, row: &str) -> Result<String, RunF
     let (name, input) = row.split_once(' ').unwrap_or((row, ""));
     match Kind::from_name(name) {
         Some(kind) => rewrite(alloc, kind, input.as_bytes()),
-        None => match further(alloc, tries, name, input) {
+        None => match further_row(alloc, tries, name, input) {
             Some(output) => output,
             None => answer(alloc, tries, name, input),
         },
