@@ -14,7 +14,7 @@ use passkey_types::ctap2::{
 use std::alloc::Global;
 
 /// A message with parts that can be copied.
-pub trait Copied: Message {
+pub trait Copied {
     /// Replaces each part that can be copied by a copy.
     fn replace_parts(&mut self, alloc: Global, tries: &mut Tries) -> Result<(), OutOfMemory>;
 }
@@ -230,7 +230,7 @@ pub fn encoded<M: Message>(
 }
 
 /// Decodes the message, replaces parts by copies, and encodes it.
-pub fn message_again<M: Copied>(
+pub fn message_again<M: Message + Copied>(
     alloc: Global,
     tries: &mut Tries,
     bytes: &[u8],

@@ -164,7 +164,7 @@ impl Copied for config::VendorParameters {
     }
 }
 
-fn printed<M: Copied + ToCbor>(
+fn printed<M: Message + Copied + ToCbor>(
     alloc: Global,
     tries: &mut Tries,
     way: Way,
