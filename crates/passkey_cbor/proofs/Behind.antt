@@ -7,8 +7,7 @@ use Rattle.passkey_cbor.specs.Reading.{Reader, start, string_at, list_at, pair_b
 use Rattle.passkey_cbor.specs.Lent.{string_item, string_head}
 use Rattle.passkey_cbor.specs.Walk.{Walk, ahead, IsInside}
 use Rattle.passkey_cbor.specs.HeadCount.{content_len}
-use Rattle.passkey_cbor.specs.Steps.{NoHead, PassesOver, Skips, entry_by}
-use Rattle.passkey_cbor.specs.declared.skip.Entry.{Entry}
+use Rattle.passkey_cbor.specs.Steps.{NoHead, PassesOver, Skips}
 use Rattle.passkey_cbor.specs.declared.head.Head.{Head}
 use Rattle.passkey_cbor.specs.declared.head.Head.TheVariants as head
 use Rattle.passkey_cbor.proofs.Binds.{bind_at}
@@ -111,21 +110,6 @@ headed_skipped h g read whole make a b found is e s =
     subst (λ (k : Head). Skips (content_len k) whole a b found) (sym is)
     (made_skipped (content_len g) read whole make a b found e s)
 
--- two data items: the first one's head is decoded already
-pub pair_skipped : (read : Reader Item) (h : Head) (a b c : Walk) (found : Bool)
-    → PassesOver (content_len h) (read h (ahead a)) a b → Skips 0 (start read (ahead b)) b c found
-    → Skips (content_len h) (pair_by read h (ahead a)) a c found
-pair_skipped read h a b c found p s =
-    let key : pair_by read h (ahead a) ≡ (start read (ahead b) >>= λ v. Some ((p.value, v.0), v.1)) = bind_at
-    (read h (ahead a)) (p.value, ahead b) (λ k. start read k.1 >>= λ v. Some ((k.0, v.0), v.1)) p.reads in
-    skips_after (content_len h) _ (pair_by read h (ahead a)) a b c found p.passed p.spans key (skips_made 0
-    (start read (ahead b))
-    (λ (v : Item). let both : Item × Item = (p.value, v) in both) b c found s)
-
-pub no_pair : (read : Reader Item) (h : Head) (a b : Walk) → NoHead (read h (ahead a)) a b
-    → NoHead (pair_by read h (ahead a)) a b
-no_pair read h a b s = skips_stuck (read h (ahead a)) (λ k. start read k.1 >>= λ v. Some ((k.0, v.0), v.1)) a b s
-
 -- a string whose head is decoded already
 pub string_piece : (is_text : Bool) (len : Option ℕ) (n : ℕ) (bytes : List ℕ) → len ≡ Some n
     → string_at is_text len bytes ≡ piece_at is_text n bytes
@@ -136,39 +120,3 @@ pub string_chunks : (is_text : Bool) (len : Option ℕ) (bytes : List ℕ) → l
     → string_at is_text len bytes ≡ (list_at (chunk is_text) None bytes >>= λ cs. Some (concat cs.0, cs.1))
 unfolding string_at
 string_chunks is_text len bytes is = ap (λ (l : Option ℕ). string_at is_text l bytes) is
-
--- an element of a list
-pub entry_skipped : (levels : ℕ) (e g : Entry) (h : Head) (a b : Walk) (found : Bool) → e ≡ g
-    → Skips (content_len h) (entry_by levels g h (ahead a)) a b found
-    → Skips (content_len h) (entry_by levels e h (ahead a)) a b found
-entry_skipped levels e g h a b found is s =
-    subst (λ (k : Entry). Skips (content_len h) (entry_by levels k h (ahead a)) a b found) (sym is) s
-
--- ---- an element of a list, from its first head on
-
-pair_begun : (read : Reader Item) (o : Read Head) → (o >>= λ h. pair_by read h.0 h.1)
-    ≡ ((o >>= λ h. read h.0 h.1) >>= λ k. start read k.1 >>= λ v. Some ((k.0, v.0), v.1))
-pair_begun read None = refl
-pair_begun read (Some h) = refl
-
-pub whole_pair : (read : Reader Item) (a b c : Walk) (found : Bool) → PassesOver 0 (start read (ahead a)) a b
-    → Skips 0 (start read (ahead b)) b c found → Skips 0 (start (pair_by read) (ahead a)) a c found
-whole_pair read a b c found p s =
-    let key : start (pair_by read) (ahead a) ≡ (start read (ahead b) >>= λ v. Some ((p.value, v.0), v.1)) =
-    pair_begun read (head_at (ahead a)) ∙ bind_at (start read (ahead a)) (p.value, ahead b)
-    (λ k. start read k.1 >>= λ v. Some ((k.0, v.0), v.1)) p.reads in
-    skips_after 0 _ (start (pair_by read) (ahead a)) a b c found p.passed p.spans key (skips_made 0
-    (start read (ahead b))
-    (λ (v : Item). let both : Item × Item = (p.value, v) in both) b c found s)
-
-pub no_key : (read : Reader Item) (a b : Walk) → NoHead (start read (ahead a)) a b
-    → NoHead (start (pair_by read) (ahead a)) a b
-no_key read a b s =
-    let stuck = skips_stuck (start read (ahead a)) (λ k. start read k.1 >>= λ v. Some ((k.0, v.0), v.1)) a b s in
-    record { reads = pair_begun read (head_at (ahead a)) ∙ stuck.reads; stopped = stuck.stopped }
-
-pub whole_entry : (levels : ℕ) (e g : Entry) (a b : Walk) (found : Bool) → e ≡ g
-    → Skips 0 (start (entry_by levels g) (ahead a)) a b found
-    → Skips 0 (start (entry_by levels e) (ahead a)) a b found
-whole_entry levels e g a b found is s =
-    subst (λ (k : Entry). Skips 0 (start (entry_by levels k) (ahead a)) a b found) (sym is) s

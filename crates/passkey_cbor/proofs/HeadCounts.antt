@@ -200,7 +200,7 @@ break_is (head.Tag n) e = absurd cc
 break_is (head.Simple n) e = absurd cc
 break_is (head.Float f) e = absurd cc
 
-element_head : (left after : Option ℕ) (bytes : List ℕ) (h : Head) (rest : List ℕ)
+pub element_head : (left after : Option ℕ) (bytes : List ℕ) (h : Head) (rest : List ℕ)
     → step_at left bytes ≡ Some (element after h rest) → head_at bytes ≡ Some (h, rest)
 unfolding step_at
 element_head (Some zero) after bytes h rest e = absurd (no_element after h bytes rest e)

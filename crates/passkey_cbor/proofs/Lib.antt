@@ -37,4 +37,6 @@ pub mod Reach
 pub mod Shortest
 pub mod CanonicalItems
 mod ShortHeads
-mod Leaves
+pub mod Leaves
+pub mod Courses
+pub mod Advancing

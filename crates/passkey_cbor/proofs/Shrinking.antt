@@ -8,11 +8,8 @@ use Rattle.passkey_cbor.specs.Item.{Item, array, map, tagged, byte_string, text_
 use Rattle.passkey_cbor.specs.Heads.{Size, width}
 use Rattle.passkey_cbor.specs.HeadReading.{◌>>=◌, Read, take_at as taken_at, number_at, size_of, argument_at, with_argument, without_argument, simple_or_float, simple_at, head_behind, head_at}
 use Rattle.passkey_cbor.specs.Reading.{Reader, start, is_break, Step, end, element, step_at, after_step, list_by, list_at, is_allowed, piece_at, chunk_len, chunk, string_at, pair_by, item_by, item_within}
-use Rattle.passkey_cbor.specs.Steps.{Entered, entry_by}
 use Rattle.passkey_cbor.specs.declared.head.Head.{Head}
 use Rattle.passkey_cbor.specs.declared.head.Head.TheVariants as head
-use Rattle.passkey_cbor.specs.declared.skip.Entry.{Entry}
-use Rattle.passkey_cbor.specs.declared.skip.Entry.TheVariants as entry
 use Rattle.passkey_cbor.proofs.Binds.{some_is, none_is_some, bind_some}
 
 -- ---- one reading after another
@@ -249,14 +246,3 @@ pub item_left : (levels : ℕ) → Shrinks (item_within levels)
 unfolding item_within
 item_left zero = item_by_left None tt
 item_left (suc levels) = item_by_left (Some (item_within levels)) (item_left levels)
-
--- an element of a list
-entry_left : (levels : ℕ) (e : Entry) → Shrinks (entry_by levels e)
-entry_left levels entry.Item = item_left levels
-entry_left levels entry.Pair = pair_left (item_within levels) (item_left levels)
-
-pub entry_consumes : (levels : ℕ) (e : Entry) (bytes : List ℕ) (y : Entered e × List ℕ)
-    → start (entry_by levels e) bytes ≡ Some y → length y.1 < length bytes
-entry_consumes levels e bytes y is =
-    let h = bind_some (head_at bytes) (λ h. entry_by levels e h.0 h.1) y is in
-    omega (arith, heads_left bytes h.0 h.1, entry_left levels e h.0.0 h.0.1 y h.2)

@@ -36,6 +36,7 @@ pub mod EncodedAt
 pub mod Null
 pub mod HeadsDecoded
 pub mod Lent
+pub mod Courses
 pub mod Names
 pub mod Pieces
 pub mod Members

@@ -2,11 +2,11 @@
 use Rattle.std.specs.Prelude.{◌≡◌, ◌⊎◌, ℕ, ◌+◌, ◌<◌, ◌≤◌, List, [], ◌++◌, length, Bool, true, false, Option, Some, None, unwrap_or, Result, Ok, Err}
 use Rattle.passkey_cbor.specs.Item.{Item}
 use Rattle.passkey_cbor.specs.HeadReading.{Read, head_at}
-use Rattle.passkey_cbor.specs.Reading.{Reader, start, end, element, step_at, is_allowed, chunk, list_at, string_at, string_by, pair_by, item_within}
+use Rattle.passkey_cbor.specs.Reading.{start, end, element, step_at, is_allowed, chunk, list_at, string_at, string_by, item_within}
 use Rattle.passkey_cbor.specs.LeadingItem.{max_depth}
 use Rattle.passkey_cbor.specs.Walk.{Walk, ahead, raised, break_heads, Passed, Stopped}
 use Rattle.passkey_cbor.specs.HeadCount.{Spans}
-use Rattle.passkey_cbor.specs.HeadsDecoded.{Tally, pair_heads, item_heads, string_decoded}
+use Rattle.passkey_cbor.specs.HeadsDecoded.{string_decoded}
 use Rattle.passkey_cbor.specs.Inside.{Content}
 use Rattle.passkey_cbor.specs.Lent.{Region, PassesString}
 use Rattle.passkey_cbor.specs.Names.{place_of, heads_until}
@@ -14,8 +14,6 @@ use Rattle.passkey_cbor.specs.declared.head.Head.{Head}
 use Rattle.passkey_cbor.specs.declared.head.Head.TheVariants as head
 use Rattle.passkey_cbor.specs.declared.cursor.Next.{Next}
 use Rattle.passkey_cbor.specs.declared.cursor.Next.TheVariants as next
-use Rattle.passkey_cbor.specs.declared.skip.Entry.{Entry}
-use Rattle.passkey_cbor.specs.declared.skip.Entry.TheVariants as entry
 
 -- ---- one head
 
@@ -92,19 +90,6 @@ pub record PassesOver {A : Type 0} (content : ℕ) (read : Read A) (old new : Wa
 abbrev pub Skips : {A : Type 0} → ℕ → Read A → Walk → Walk → Bool → Type 0
 Skips content read old new true = PassesOver content read old new
 Skips content read old new false = NoHead read old new
-
--- the elements of a list: items in an array, pairs in a map
-abbrev pub Entered : Entry → Type 0
-Entered entry.Item = Item
-Entered entry.Pair = Item × Item
-
-abbrev pub entry_by : ℕ → (e : Entry) → Reader (Entered e)
-entry_by levels entry.Item = item_within levels
-entry_by levels entry.Pair = pair_by (item_within levels)
-
-abbrev pub entry_heads : ℕ → Entry → Tally
-entry_heads levels entry.Item = item_heads levels
-entry_heads levels entry.Pair = pair_heads (item_within levels) (item_heads levels)
 
 -- ---- borrowed strings
 

@@ -179,9 +179,9 @@ impl<'a> Cursor<'a> {
         }
     }
 
-    // The next head, if it has one byte, of major type 0 to 6 or a simple value.
+    /// The next head, if it has one byte, of major type 0 to 6 or a simple value.
     #[inline(always)]
-    fn short_head(&self) -> Option<Head>
+    pub(crate) fn short_head(&self) -> Option<Head>
         ensures reads { IfSome result (λ h. head_at (ahead self.now)
             ≡ There (h, drop (self.now.place + 1) self.now.bytes)) }
         ensures within { IfSome result (λ h. self.now.place < length self.now.bytes) }
@@ -196,8 +196,8 @@ impl<'a> Cursor<'a> {
         }
     }
 
-    // Decodes the head at the cursor, as `head` does.
-    fn decode_long(&mut self) -> Option<Head>
+    /// Decodes the head at the cursor, as `head` does, whatever its length.
+    pub(crate) fn decode_long(&mut self) -> Option<Head>
         ensures reads { ReadsHead self.old self.new result }
         ensures counted { self.new.heads ≡ raised self.old.heads 1 }
         ensures rises { self.old.heads ≤ self.new.heads }

@@ -1,10 +1,11 @@
 //! Skipping data items.
-ghost use Rattle.std.specs.Prelude.{◌≡◌, ℕ, ◌≤◌, None, Some as There, is_some, unwrap_or, IfSome, MatchOption};
+ghost use Rattle.std.specs.Prelude.{◌≡◌, ◌<◌, ◌≤◌, ◌^◌, ◌-◌, ℕ, List, length, Some as There, None, is_some, unwrap_or, IfSome, MatchOption};
 ghost use Rattle.passkey_cbor.specs.Walk.{ahead, raised, IsInside, IsPlaced, Went};
-ghost use Rattle.passkey_cbor.specs.HeadCount.{content_len};
-ghost use Rattle.passkey_cbor.specs.Reading.{start, string_at, item_within, list_at};
-ghost use Rattle.passkey_cbor.specs.HeadsDecoded.{start_heads, list_heads, string_heads, item_heads};
-ghost use Rattle.passkey_cbor.specs.Steps.{Skips, IsLengthOf, entry_by, entry_heads};
+ghost use Rattle.passkey_cbor.specs.LeadingItem.{max_depth};
+ghost use Rattle.passkey_cbor.specs.Reading.{string_at};
+ghost use Rattle.passkey_cbor.specs.HeadsDecoded.{string_heads};
+ghost use Rattle.passkey_cbor.specs.Steps.{Skips, IsLengthOf};
+ghost use Rattle.passkey_cbor.specs.Courses.{items_course, pairs_course, item_course, open_course, Advances, Takes, IsPart, IsInnerPart, IsPartOf};
 ghost use Rattle.passkey_cbor.specs.Skipped.{SkipsLeadingItem};
 ghost use Rattle.passkey_cbor.specs.Null.{BeginsNull, PassesNull, PassesNullAt};
 ghost use Rattle.passkey_cbor.specs.EncodedAt.{IsEncodedAt, Passes};
@@ -16,11 +17,59 @@ use crate::depth::MAX_DEPTH;
 use crate::head::Head;
 use crate::leaf::leaf_len;
 
-/// The elements of a list: the items of an array, or the pairs of a map.
+/// What is left of an array, a map or a tag whose head is decoded already.
 #[derive(Clone, Copy)]
-pub(crate) enum Entry {
+pub(crate) enum Open {
+    /// This many data items: a pair of a map is two, and the content of a tag is one.
+    Items(u64),
+    /// Data items up to a break.
+    ItemsToBreak,
+    /// Pairs up to a break.
+    PairsToBreak,
+    /// The value of a pair, and then pairs up to a break.
+    ValueToBreak,
+}
+
+/// What was skipped.
+#[derive(Clone, Copy)]
+pub(crate) enum Part {
+    /// Nothing: no well-formed data item follows, nor an end.
+    Malformed,
+    /// The end of a list, or a break.
+    End,
+    /// A data item without others in it.
     Item,
-    Pair,
+    /// The head of a data item with others in it, which are left.
+    Head(Open),
+}
+
+// How many lists around one another a call keeps open. Those in them are another call's: so few lists need little room,
+// and at most 256 levels need 16 calls.
+const ROOM: usize = 16;
+
+impl Open {
+    // The data items of an array of this length, or up to a break.
+    #[inline(always)]
+    fn array(len: Option<u64>) -> Open
+        ensures { (levels : ℕ) (bytes : List ℕ) → open_course levels result bytes ≡ items_course levels len bytes }
+    {
+        match len {
+            Some(len) => Open::Items(len),
+            None => Open::ItemsToBreak,
+        }
+    }
+
+    // The pairs of a map of this length, or up to a break. No bytes hold more data items than there are bytes.
+    #[inline(always)]
+    fn map(len: Option<u64>) -> Open
+        ensures { (levels : ℕ) (bytes : List ℕ) → length bytes < 2 ^ 64 - 1
+            → open_course levels result bytes ≡ pairs_course levels len bytes }
+    {
+        match len {
+            Some(len) => Open::Items(len.saturating_mul(2)),
+            None => Open::PairsToBreak,
+        }
+    }
 }
 
 impl<'a> Cursor<'a> {
@@ -38,7 +87,7 @@ impl<'a> Cursor<'a> {
         ensures went { Went self.old self.new }
     {
         let place = self.place;
-        let found = self.skip_item(MAX_DEPTH);
+        let found = self.skip_item();
         if !found {
             self.go_back(place);
         }
@@ -76,138 +125,182 @@ impl<'a> Cursor<'a> {
         place < bytes.len() && (bytes[place] == 0xf6 || bytes[place] == 0xf7)
     }
 
-    /// Skips one data item of at most `levels` levels. Returns false, and stops somewhere, if none
+    /// Skips one data item of at most 256 levels. Returns false, and stops somewhere, if none
     /// follows.
-    #[cycle(skip)]
     #[inline(always)]
-    pub(crate) fn skip_item(&mut self, levels: usize) -> bool
+    fn skip_item(&mut self) -> bool
         requires { IsInside self.old }
-        ensures skips { Skips 0 (start (item_within levels) (ahead self.old)) self.old self.new result }
-        ensures decoded { self.new.heads ≡ raised self.old.heads (start_heads (item_heads levels) (ahead self.old)) }
-        ensures least { raised self.old.heads 1 ≤ self.new.heads }
+        ensures { Takes (item_course max_depth (ahead self.old)) self.old self.new result }
     {
         let len = leaf_len(&self.bytes[self.place..]);
         if len > 0 {
             self.pass_leaf(len);
             return true;
         }
-        self.skip_other(levels)
+        self.skip_other()
     }
 
-    // Skips one data item, head by head. Not inlined, so that what is passed at once needs no room for heads.
-    #[cycle(skip)]
+    // Skips one data item. Not inlined, so that what is passed at once needs no room for parts.
     #[inline(never)]
-    fn skip_other(&mut self, levels: usize) -> bool
+    fn skip_other(&mut self) -> bool
         requires { IsInside self.old }
-        ensures skips { Skips 0 (start (item_within levels) (ahead self.old)) self.old self.new result }
-        ensures decoded { self.new.heads ≡ raised self.old.heads (start_heads (item_heads levels) (ahead self.old)) }
-        ensures least { raised self.old.heads 1 ≤ self.new.heads }
+        ensures { Takes (item_course max_depth (ahead self.old)) self.old self.new result }
     {
-        match self.decode() {
-            None => false,
-            Some(head) => self.skip_behind(head, levels),
+        match self.skip_part() {
+            Part::Malformed => false,
+            Part::End => false,
+            Part::Item => true,
+            Part::Head(inner) => self.skip_list(inner, MAX_DEPTH - 1),
         }
     }
 
-    // Skips the rest of a data item whose head is decoded already.
-    #[cycle(skip)]
-    fn skip_behind(&mut self, head: Head, levels: usize) -> bool
+    // Skips the next data item, if it has no others in it, and else its head; or a break.
+    #[inline(always)]
+    fn skip_part(&mut self) -> Part
         requires { IsInside self.old }
-        ensures skips { Skips (content_len head) (item_within levels head (ahead self.old)) self.old self.new result }
-        ensures decoded { self.new.heads ≡ raised self.old.heads (item_heads levels head (ahead self.old)) }
+        ensures { IsPart self.old self.new result }
     {
-        match head {
-            Head::Unsigned(_) => true,
-            Head::Negative(_) => true,
-            Head::Simple(_) => true,
-            Head::Float(_) => true,
-            Head::Bytes(len) => self.pass_string(false, len).is_some(),
-            Head::Text(len) => self.pass_string(true, len).is_some(),
-            Head::Array(len) => levels > 0 && self.skip_list(Entry::Item, len, levels - 1),
-            Head::Map(len) => levels > 0 && self.skip_list(Entry::Pair, len, levels - 1),
-            Head::Tag(_) => levels > 0 && self.skip_item(levels - 1),
-            Head::Break => false,
-        }
-    }
-
-    // Skips the elements of a list whose head is decoded already, and its end.
-    #[cycle(skip)]
-    fn skip_list(&mut self, entry: Entry, len: Option<u64>, levels: usize) -> bool
-        requires { IsInside self.old }
-        ensures skips { Skips 0 (list_at (entry_by levels entry) len (ahead self.old)) self.old self.new result }
-        ensures decoded { self.new.heads
-            ≡ raised self.old.heads (list_heads (entry_by levels entry) (entry_heads levels entry) len (ahead self.old)) }
-    {
-        match len {
-            Some(len) => self.skip_entries(entry, len, levels),
-            None => self.skip_to_break(entry, levels),
-        }
-    }
-
-    // Skips this many elements.
-    #[cycle(skip)]
-    fn skip_entries(&mut self, entry: Entry, len: u64, levels: usize) -> bool
-        requires { IsInside self.old }
-        ensures skips { Skips 0 (list_at (entry_by levels entry) (There len) (ahead self.old)) self.old self.new result }
-        ensures decoded { self.new.heads ≡ raised self.old.heads
-            (list_heads (entry_by levels entry) (entry_heads levels entry) (There len) (ahead self.old)) }
-    {
-        let mut left = len;
-        while left > 0 {
-            if !self.skip_entry(entry, levels) {
-                return false;
+        // There are fewer than 2^64 bytes.
+        let _ = &self.bytes;
+        match self.short_head() {
+            Some(Head::Array(len)) => {
+                self.pass_leaf(1);
+                Part::Head(Open::array(len))
             }
+            Some(Head::Map(len)) => {
+                self.pass_leaf(1);
+                Part::Head(Open::map(len))
+            }
+            Some(Head::Tag(_)) => {
+                self.pass_leaf(1);
+                Part::Head(Open::Items(1))
+            }
+            _ => self.skip_long_part(),
+        }
+    }
+
+    // The same, whatever the head.
+    #[inline(never)]
+    fn skip_long_part(&mut self) -> Part
+        requires { IsInside self.old }
+        ensures { IsPart self.old self.new result }
+    {
+        // There are fewer than 2^64 bytes.
+        let _ = &self.bytes;
+        match self.decode_long() {
+            None => Part::Malformed,
+            Some(Head::Bytes(len)) => {
+                if self.pass_string(false, len).is_some() {
+                    Part::Item
+                } else {
+                    Part::Malformed
+                }
+            }
+            Some(Head::Text(len)) => {
+                if self.pass_string(true, len).is_some() {
+                    Part::Item
+                } else {
+                    Part::Malformed
+                }
+            }
+            Some(Head::Array(len)) => Part::Head(Open::array(len)),
+            Some(Head::Map(len)) => Part::Head(Open::map(len)),
+            Some(Head::Tag(_)) => Part::Head(Open::Items(1)),
+            Some(Head::Break) => Part::End,
+            Some(Head::Unsigned(_)) => Part::Item,
+            Some(Head::Negative(_)) => Part::Item,
+            Some(Head::Simple(_)) => Part::Item,
+            Some(Head::Float(_)) => Part::Item,
+        }
+    }
+
+    // Skips items of the list up to its end, or to a data item with others in it, whose head it
+    // skips too.
+    #[inline(always)]
+    fn skip_more(&mut self, list: &mut Open) -> Part
+        requires { IsInside self.old }
+        ensures { IsPartOf list.old list.new self.old self.new result }
+    {
+        match *list {
+            Open::Items(left) => {
+                let left = self.skip_leaves(left);
+                if left == 0 {
+                    return Part::End;
+                }
+                *list = Open::Items(left - 1);
+                self.skip_inner_part()
+            }
+            Open::ItemsToBreak => self.skip_part(),
+            Open::PairsToBreak => {
+                *list = Open::ValueToBreak;
+                self.skip_part()
+            }
+            Open::ValueToBreak => {
+                *list = Open::PairsToBreak;
+                self.skip_inner_part()
+            }
+        }
+    }
+
+    // The same as `skip_part` where a break isn't allowed.
+    #[inline(always)]
+    fn skip_inner_part(&mut self) -> Part
+        requires { IsInside self.old }
+        ensures { IsInnerPart self.old self.new result }
+    {
+        match self.skip_part() {
+            Part::End => Part::Malformed,
+            other => other,
+        }
+    }
+
+    // Skips data items of one head each, at most this many; returns how many are left.
+    #[inline(always)]
+    fn skip_leaves(&mut self, most: u64) -> u64
+        requires { IsInside self.old }
+        ensures { (levels : ℕ) → Advances (items_course levels (There most) (ahead self.old))
+            (items_course levels (There result)) self.old self.new }
+    {
+        let mut left = most;
+        while left > 0 {
+            let len = leaf_len(&self.bytes[self.place..]);
+            if len == 0 {
+                return left;
+            }
+            self.pass_leaf(len);
             left -= 1;
         }
-        true
+        0
     }
 
-    // Skips an element.
-    #[cycle(skip)]
-    fn skip_entry(&mut self, entry: Entry, levels: usize) -> bool
+    // Skips what is left of an array, a map or a tag, in which data items have at most `levels` levels.
+    #[inline(never)]
+    fn skip_list(&mut self, first: Open, levels: usize) -> bool
         requires { IsInside self.old }
-        ensures skips { Skips 0 (start (entry_by levels entry) (ahead self.old)) self.old self.new result }
-        ensures decoded { self.new.heads ≡ raised self.old.heads (start_heads (entry_heads levels entry) (ahead self.old)) }
+        ensures { Takes (open_course levels first (ahead self.old)) self.old self.new result }
     {
-        match entry {
-            Entry::Item => self.skip_item(levels),
-            Entry::Pair => self.skip_item(levels) && self.skip_item(levels),
-        }
-    }
-
-    // Skips the elements up to a break, and the break.
-    #[cycle(skip)]
-    fn skip_to_break(&mut self, entry: Entry, levels: usize) -> bool
-        requires { IsInside self.old }
-        ensures skips { Skips 0 (list_at (entry_by levels entry) None (ahead self.old)) self.old self.new result }
-        ensures decoded { self.new.heads
-            ≡ raised self.old.heads (list_heads (entry_by levels entry) (entry_heads levels entry) None (ahead self.old)) }
-    {
-        let mut left = None;
-        loop {
-            match self.step(&mut left) {
-                Next::Malformed => return false,
-                Next::End => return true,
-                Next::Element(head) => {
-                    if !self.skip_entry_behind(entry, head, levels) {
+        let mut opened = [Open::Items(0); ROOM];
+        opened[0] = first;
+        let mut depth = 1;
+        while depth > 0 {
+            match self.skip_more(&mut opened[depth - 1]) {
+                Part::Malformed => return false,
+                Part::End => depth -= 1,
+                Part::Item => {}
+                Part::Head(inner) => {
+                    if levels < depth {
+                        return false;
+                    }
+                    if depth < ROOM {
+                        opened[depth] = inner;
+                        depth += 1;
+                    } else if !self.skip_list(inner, levels - ROOM) {
                         return false;
                     }
                 }
             }
         }
-    }
-
-    // Skips the rest of an element whose first head is decoded already.
-    #[cycle(skip)]
-    fn skip_entry_behind(&mut self, entry: Entry, head: Head, levels: usize) -> bool
-        requires { IsInside self.old }
-        ensures skips { Skips (content_len head) (entry_by levels entry head (ahead self.old)) self.old self.new result }
-        ensures decoded { self.new.heads ≡ raised self.old.heads (entry_heads levels entry head (ahead self.old)) }
-    {
-        match entry {
-            Entry::Item => self.skip_behind(head, levels),
-            Entry::Pair => self.skip_behind(head, levels) && self.skip_item(levels),
-        }
+        true
     }
 
     /// Skips the rest of a string whose head is decoded already; returns the string's length in

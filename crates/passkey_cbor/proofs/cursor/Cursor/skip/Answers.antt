@@ -2,6 +2,8 @@ use Rattle.std.proofs.Common.{◌≡◌, ◌∙◌, ℕ, ap, subst, sym, true, f
 use Rattle.passkey_cbor.specs.Walk.{Walk, IsPlaced}
 use Rattle.passkey_cbor.specs.Skipped.{FindsNoLeadingItem}
 use Rattle.passkey_cbor.specs.EncodedAt.{Passes}
+use Rattle.passkey_cbor.specs.LeadingItem.{max_depth}
+use Rattle.passkey_cbor.proofs.Advancing.{item_skips, item_counts, item_least}
 use Rattle.passkey_cbor.proofs.LeadingItems.{front_passed, front_missed}
 use Rattle.passkey_cbor.proofs.Gathering.{went_passed, went_stopped, went_back}
 use Rattle.passkey_cbor.proofs.EncodedFrom.{passes}
@@ -9,15 +11,17 @@ use Rattle.passkey_cbor.proofs.cursor.Cursor.skip.Goals as goal
 
 pub returns-then-not-found : goal.returns-then-not-found
 returns-then-not-found c =
+    let skips = item_skips max_depth c.args.self.now c.skip_item-found.new.self false c.if-not-found.ensures in
     let missed = front_missed c.args.self.now c.skip_item-found.new.self c.self.inside.place
-    (ap (λ (w : Walk). w.place) c.self.view_is) c.if-not-found.ensures.decoded c.if-not-found.ensures.least
-    c.if-not-found.ensures.skips in
+    (ap (λ (w : Walk). w.place) c.self.view_is)
+    (item_counts max_depth c.args.self.now c.skip_item-found.new.self false c.if-not-found.ensures)
+    (item_least max_depth c.args.self.now c.skip_item-found.new.self false c.if-not-found.ensures) skips in
     let placed : IsPlaced c.args.self.now.bytes c.args.self.now.place =
     subst (λ (w : Walk). IsPlaced w.bytes w.place) c.self.view_is c.self.invariant in
     let place_is : c.self.inside.place ≡ c.args.self.now.place = ap (λ (w : Walk). w.place) c.self.view_is in
     let back = c.go_back.ensures ∙ ap (λ (p : ℕ). record c.skip_item-found.new.self { place = p }) place_is in
     let went = went_back c.args.self.now c.skip_item-found.new.self c.go_back.new.self placed.within
-    (went_stopped c.args.self.now c.skip_item-found.new.self c.if-not-found.ensures.skips.stopped) back in
+    (went_stopped c.args.self.now c.skip_item-found.new.self skips.stopped) back in
     rw (c.if-not-found.true) (record {
       front = subst (λ (w : Walk). FindsNoLeadingItem c.args.self.now w)
           (sym c.go_back.ensures) missed;
@@ -30,10 +34,11 @@ pub returns-else-not-found : goal.returns-else-not-found
 returns-else-not-found c =
     let placed : IsPlaced c.args.self.now.bytes c.args.self.now.place =
     subst (λ (w : Walk). IsPlaced w.bytes w.place) c.self.view_is c.self.invariant in
-    let passed = front_passed c.args.self.now c.skip_item-found.new.self placed c.if-not-found.ensures.least
-    c.if-not-found.ensures.skips in
+    let skips = item_skips max_depth c.args.self.now c.skip_item-found.new.self true c.if-not-found.ensures in
+    let passed = front_passed c.args.self.now c.skip_item-found.new.self placed
+    (item_least max_depth c.args.self.now c.skip_item-found.new.self true c.if-not-found.ensures) skips in
     rw c.if-not-found.false (record {
       front = passed;
       passes = λ x to l. passes c.args.self.now c.skip_item-found.new.self true x to passed l;
-      went = went_passed c.args.self.now c.skip_item-found.new.self c.if-not-found.ensures.skips.passed;
+      went = went_passed c.args.self.now c.skip_item-found.new.self skips.passed;
     })
