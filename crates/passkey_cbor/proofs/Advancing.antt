@@ -1,5 +1,5 @@
 -- What a cursor passed of what is to be decoded.
-use Rattle.std.proofs.Common.{◌≡◌, ◌⊎◌, ℕ, zero, suc, ◌+◌, ◌-◌, ◌^◌, ◌<◌, ◌≤◌, Bool, true, false, List, length, get_or, set, Option, Some, None, refl, sym, ap, subst, ◌∙◌, arith}
+use Rattle.std.proofs.Common.{◌≡◌, ℕ, zero, suc, ◌+◌, ◌-◌, ◌^◌, ◌<◌, ◌≤◌, Bool, true, false, List, length, get_or, set, Option, Some, None, refl, sym, ap, subst, ◌∙◌, arith}
 use Rattle.std.proofs.Common.{◌≢◌, get_or-set_same, get_or-set_other}
 use Rattle.std.proofs.lemmas.List.{length-drop, length-set}
 use Rattle.passkey_cbor.specs.Item.{Item}
@@ -8,10 +8,10 @@ use Rattle.passkey_cbor.specs.Reading.{Reader, start, is_break, item_by, item_wi
 use Rattle.passkey_cbor.specs.HeadsDecoded.{Tally, start_heads, begun_heads, item_heads_by, item_heads, string_heads}
 use Rattle.passkey_cbor.specs.Leaf.{IsLeafLen}
 use Rattle.passkey_cbor.specs.Lent.{string_item, string_head}
-use Rattle.passkey_cbor.specs.Walk.{Walk, ahead, raised, IsInside, Passed}
-use Rattle.passkey_cbor.specs.HeadCount.{content_len, Spans}
-use Rattle.passkey_cbor.specs.Steps.{HeadRead, NoHead, PassesOver, Skips}
-use Rattle.passkey_cbor.specs.Courses.{Course, behind_heads, over, fault, resumed, ◌▸◌, rest_of, item_course, item_behind, items_course, pairs_course, open_course, opened_course, Advances, Fails, Takes, begins_break, PassesItem, BeginsItem, NoBreak, PassesElement, BeginsElement, IsPart, IsInnerPart, IsPartOf}
+use Rattle.passkey_cbor.specs.Walk.{Walk, ahead, raised, IsInside}
+use Rattle.passkey_cbor.specs.HeadCount.{content_len}
+use Rattle.passkey_cbor.specs.Steps.{HeadRead, NoHead, Skips}
+use Rattle.passkey_cbor.specs.Courses.{Course, behind_heads, over, fault, resumed, ◌▸◌, rest_of, item_course, item_behind, items_course, pairs_course, open_course, opened_course, Advances, Fails, Takes, begins_break, BeginsItem, NoBreak, PassesElement, BeginsElement, IsPart, IsInnerPart, IsPartOf}
 use Rattle.passkey_cbor.specs.declared.head.Head.{Head}
 use Rattle.passkey_cbor.specs.declared.head.Head.TheVariants as head
 use Rattle.passkey_cbor.specs.declared.skip.Open.{Open}
@@ -94,10 +94,6 @@ then_failed whole f a b c p q = record {
   same = p.same ∙ ap (behind_heads p.number) q.same;
   stopped = stopped_then a b c p.passed q.stopped;
 }
-
-pub failed_as : (whole part : Course) (a b : Walk) → whole ≡ part → Fails part a b → Fails whole a b
-failed_as whole part a b e p =
-    record { number = p.number; decoded = p.decoded; same = e ∙ p.same; stopped = p.stopped }
 
 pub failed_whole : (whole : Course) (others : List ℕ → Course) (a b : Walk) → Fails whole a b → Fails (whole ▸ others) a b
 failed_whole whole others a b p = record {

@@ -2,17 +2,16 @@
 use Rattle.std.proofs.Common.{◌≡◌, ℕ, zero, suc, ◌-◌, ◌<◌, Bool, true, false, List, Option, Some, None, refl, sym, ap, subst, ◌∙◌, arith}
 use Rattle.std.specs.List.{concat}
 use Rattle.passkey_cbor.specs.Item.{Item, array, map, tagged, items_of, pairs_of}
-use Rattle.passkey_cbor.specs.HeadReading.{◌>>=◌, Read, head_at}
+use Rattle.passkey_cbor.specs.HeadReading.{◌>>=◌, Read}
 use Rattle.passkey_cbor.specs.Reading.{Reader, start, string_at, list_at, pair_by, item_by, item_within, chunk, piece_at}
 use Rattle.passkey_cbor.specs.Lent.{string_item, string_head}
 use Rattle.passkey_cbor.specs.Walk.{Walk, ahead, IsInside}
 use Rattle.passkey_cbor.specs.HeadCount.{content_len}
-use Rattle.passkey_cbor.specs.Steps.{NoHead, PassesOver, Skips}
+use Rattle.passkey_cbor.specs.Steps.{PassesOver, Skips}
 use Rattle.passkey_cbor.specs.declared.head.Head.{Head}
 use Rattle.passkey_cbor.specs.declared.head.Head.TheVariants as head
-use Rattle.passkey_cbor.proofs.Binds.{bind_at}
 use Rattle.passkey_cbor.proofs.HeadCounts.{spans_flat}
-use Rattle.passkey_cbor.proofs.Skipping.{passed_none, stopped_none, skips_after, skips_as, skips_made, skips_stuck}
+use Rattle.passkey_cbor.proofs.Skipping.{passed_none, skips_as, skips_made}
 
 -- the reader for this many levels, from the reader for one level deeper
 within_by : (levels : ℕ) → (inner : Option (Reader Item)) × (item_within levels ≡ item_by inner)
@@ -92,9 +91,6 @@ pub flat_skipped : {A : Type 0} (content : ℕ) (read : Read A) (x : A) (a : Wal
     → read ≡ Some (x, ahead a) → PassesOver content read a a
 flat_skipped content read x a inside none e =
     record { value = x; reads = e; passed = passed_none a inside; spans = spans_flat content a none }
-
-pub none_skipped : {A : Type 0} (read : Read A) (a : Walk) → IsInside a → read ≡ None → NoHead read a a
-none_skipped read a inside e = record { reads = e; stopped = stopped_none a inside }
 
 pub made_skipped : {A B : Type 0} (content : ℕ) (read : Read A) (whole : Read B) (make : A → B) (a b : Walk)
     (found : Bool) → whole ≡ (read >>= λ x. Some (make x.0, x.1)) → Skips content read a b found

@@ -1,14 +1,13 @@
 -- What is still to be decoded, and what a cursor passed of it.
-use Rattle.std.proofs.Common.{◌≡◌, ◌⊎◌, ℕ, zero, suc, ◌+◌, ◌*◌, ◌-◌, ◌<◌, ◌≤◌, Bool, true, false, cond, List, [], ◌∷◌, length, Option, Some, None, refl, sym, ap, ◌∙◌, arith, inl, inr}
+use Rattle.std.proofs.Common.{◌≡◌, ◌⊎◌, ℕ, zero, suc, ◌+◌, ◌*◌, ◌<◌, ◌≤◌, Bool, false, cond, List, ◌∷◌, length, Option, Some, None, refl, sym, ap, ◌∙◌, arith, inl, inr}
 use Rattle.passkey_cbor.specs.Item.{Item, tagged}
 use Rattle.passkey_cbor.specs.HeadReading.{◌>>=◌, Read, head_at}
 use Rattle.passkey_cbor.specs.Reading.{Reader, start, is_break, Step, end, element, step_at, after_step, list_by, list_at, pair_by, item_by, item_within}
 use Rattle.passkey_cbor.specs.HeadsDecoded.{Tally, then_heads, begun_heads, start_heads, step_heads, list_heads_by, list_heads, pair_heads, item_heads_by, item_heads}
-use Rattle.passkey_cbor.specs.Walk.{Walk, ahead, raised, break_heads, IsInside}
+use Rattle.passkey_cbor.specs.Walk.{break_heads}
 use Rattle.passkey_cbor.specs.Courses.{Course, behind_heads, over, fault, resumed, ◌▸◌, rest_of, course_behind, course_of, list_course, item_course, item_behind, items_course, pairs_course, open_course, begins_break}
 use Rattle.passkey_cbor.specs.declared.head.Head.{Head}
 use Rattle.passkey_cbor.specs.declared.head.Head.TheVariants as head
-use Rattle.passkey_cbor.specs.declared.skip.Open.{Open}
 use Rattle.passkey_cbor.specs.declared.skip.Open.TheVariants as opens
 use Rattle.passkey_cbor.proofs.Binds.{bind_some}
 use Rattle.passkey_cbor.proofs.HeadCounts.{element_head}

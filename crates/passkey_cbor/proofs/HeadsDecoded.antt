@@ -1,10 +1,10 @@
 -- How many heads are decoded, whether skipping succeeds or not.
-use Rattle.std.proofs.Common.{◌≡◌, ◌∙◌, ℕ, zero, suc, ◌+◌, ◌-◌, ◌<◌, Bool, true, false, List, length, Option, Some, None, refl, sym, ap, arith}
+use Rattle.std.proofs.Common.{◌≡◌, ◌∙◌, ℕ, zero, suc, ◌+◌, ◌<◌, Bool, true, false, List, length, Option, Some, None, refl, sym, ap, arith}
 use Rattle.std.proofs.lemmas.List.{length-drop}
 use Rattle.passkey_cbor.specs.Item.{Item}
-use Rattle.passkey_cbor.specs.HeadReading.{◌>>=◌, Read, head_at}
-use Rattle.passkey_cbor.specs.Reading.{Reader, Step, element, start, step_at, pair_by, item_within}
-use Rattle.passkey_cbor.specs.HeadsDecoded.{Tally, then_heads, begun_heads, start_heads, step_heads, list_heads_by, list_heads, string_heads, pair_heads, item_heads_by, item_heads}
+use Rattle.passkey_cbor.specs.HeadReading.{Read, head_at}
+use Rattle.passkey_cbor.specs.Reading.{Reader, Step, element, step_at, item_within}
+use Rattle.passkey_cbor.specs.HeadsDecoded.{Tally, then_heads, begun_heads, start_heads, step_heads, list_heads_by, list_heads, string_heads, item_heads_by, item_heads}
 use Rattle.passkey_cbor.specs.Lent.{string_head}
 use Rattle.passkey_cbor.specs.Walk.{Walk, ahead, raised, Passed}
 use Rattle.passkey_cbor.specs.Steps.{ElementRead}
@@ -45,19 +45,6 @@ unfolding item_heads
 heads_within zero = (None, refl)
 heads_within (suc levels) = (Some (item_within levels, item_heads levels), refl)
 
-heads_zero : item_heads 0 ≡ item_heads_by None
-unfolding item_heads
-heads_zero = refl
-
-heads_suc : (levels : ℕ) → item_heads (suc levels) ≡ item_heads_by (Some (item_within levels, item_heads levels))
-unfolding item_heads
-heads_suc levels = refl
-
-heads_deeper : (levels : ℕ) → 0 < levels
-    → item_heads levels ≡ item_heads_by (Some (item_within (levels - 1), item_heads (levels - 1)))
-heads_deeper levels some = let one : levels ≡ suc (levels - 1) =
-    omega arith in ap item_heads one ∙ heads_suc (levels - 1)
-
 -- nothing comes after this head
 pub flat_heads : (levels : ℕ) (h g : Head) (bytes : List ℕ) → h ≡ g
     → ((inner : Option (Reader Item × Tally)) → item_heads_by inner g bytes ≡ 0) → item_heads levels h bytes ≡ 0
@@ -75,35 +62,6 @@ pub headed_string : (levels : ℕ) (is_text : Bool) (len : Option ℕ) (h : Head
 headed_string levels is_text len h bytes is =
     ap (λ (k : Head). item_heads levels k bytes) is ∙ ap (λ (t : Tally). t (string_head is_text len) bytes)
     (heads_within levels).1 ∙ string_by_head (heads_within levels).0 is_text len bytes
-
-pub headed_array : (levels : ℕ) (len : Option ℕ) (h : Head) (bytes : List ℕ) → 0 < levels → h ≡ head.Array len
-    → item_heads levels h bytes ≡ list_heads (item_within (levels - 1)) (item_heads (levels - 1)) len bytes
-unfolding item_heads_by
-headed_array levels len h bytes some is =
-    ap (λ (k : Head). item_heads levels k bytes) is
-    ∙ ap (λ (t : Tally). t (head.Array len) bytes) (heads_deeper levels some)
-
-pub headed_map : (levels : ℕ) (len : Option ℕ) (h : Head) (bytes : List ℕ) → 0 < levels → h ≡ head.Map len
-    → item_heads levels h bytes ≡ list_heads (pair_by (item_within (levels - 1)))
-    (pair_heads (item_within (levels - 1)) (item_heads (levels - 1))) len bytes
-unfolding item_heads_by
-headed_map levels len h bytes some is =
-    ap (λ (k : Head). item_heads levels k bytes) is
-    ∙ ap (λ (t : Tally). t (head.Map len) bytes) (heads_deeper levels some)
-
-pub headed_tag : (levels n : ℕ) (h : Head) (bytes : List ℕ) → 0 < levels → h ≡ head.Tag n
-    → item_heads levels h bytes ≡ start_heads (item_heads (levels - 1)) bytes
-unfolding item_heads_by
-headed_tag levels n h bytes some is =
-    ap (λ (k : Head). item_heads levels k bytes) is
-    ∙ ap (λ (t : Tally). t (head.Tag n) bytes) (heads_deeper levels some)
-
--- beyond the levels that are left nothing more is decoded
-pub headed_none : (levels : ℕ) (h g : Head) (bytes : List ℕ) → levels ≡ 0 → h ≡ g → item_heads_by None g bytes ≡ 0
-    → item_heads levels h bytes ≡ 0
-headed_none levels h g bytes none is e =
-    ap (λ (k : Head). item_heads levels k bytes) is ∙ ap (λ (l : ℕ). item_heads l g bytes) none
-    ∙ ap (λ (t : Tally). t g bytes) heads_zero ∙ e
 
 -- ---- the elements of a list
 
@@ -192,56 +150,6 @@ shorter b c d first further second = omega (
   length-drop b.place b.bytes,
   length-drop d.place d.bytes,
 )
-
--- ---- in a list of known length
-
-known_begun : {A : Type 0} (read : Reader A) (more : Tally) (others : Option ℕ → List ℕ → ℕ) (n : ℕ) (o : Read Head)
-    → step_heads read more others (Some (suc n)) (o >>= λ h. Some (element (Some n) h.0 h.1))
-    ≡ begun_heads more o + then_heads (o >>= λ h. read h.0 h.1) (others (Some n))
-known_begun read more others n None = omega arith
-known_begun read more others n (Some h) = omega arith
-
-known_step : {A : Type 0} (read : Reader A) (more : Tally) (fuel n : ℕ) (bytes : List ℕ)
-    → list_heads_by read more (suc fuel) (Some (suc n)) bytes
-    ≡ start_heads more bytes + then_heads (start read bytes) (list_heads_by read more fuel (Some n))
-unfolding step_at
-known_step read more fuel n bytes = list_step read more fuel (Some (suc n)) bytes
-    ∙ known_begun read more (list_heads_by read more fuel) n (head_at bytes)
-
-pub tallies_over : {A : Type 0} (read : Reader A) (more : Tally) (all : Option ℕ) (left n : ℕ) (a b d : Walk) (x : A)
-    → left ≡ suc n → Tallies read more all (Some left) a b → start read (ahead b) ≡ Some (x, ahead d)
-    → d.heads ≡ raised b.heads (start_heads more (ahead b)) → length (ahead d) < length (ahead b)
-    → Tallies read more all (Some n) a d
-tallies_over read more all left n a b d x one t e counted shorter = by_fuel t.fuel t.enough (rw (← one) t.sum) where
-  by_fuel : (fuel : ℕ) → length (ahead b) < fuel
-      → list_heads read more all (ahead a) ≡ t.decoded + list_heads_by read more fuel (Some (suc n)) (ahead b)
-      → Tallies read more all (Some n) a d
-  by_fuel zero enough sum = absurd (omega arith)
-  by_fuel (suc fuel) enough sum =
-      let here : list_heads_by read more (suc fuel) (Some (suc n)) (ahead b)
-      ≡ start_heads more (ahead b) + list_heads_by read more fuel (Some n) (ahead d) =
-      known_step read more fuel n (ahead b) ∙ ap (λ (k : ℕ). start_heads more (ahead b) + k)
-      (then_some (start read (ahead b)) x (ahead d) (list_heads_by read more fuel (Some n)) e) in
-      record {
-        decoded = t.decoded + start_heads more (ahead b);
-        heads = decoded_then a b d t.decoded (start_heads more (ahead b)) _ t.heads counted refl;
-        fuel = fuel;
-        enough = omega (arith, enough, shorter);
-        sum = omega (arith, sum, here);
-      }
-
-pub tallies_nowhere : {A : Type 0} (read : Reader A) (more : Tally) (all : Option ℕ) (left n : ℕ) (a b d : Walk)
-    → left ≡ suc n → Tallies read more all (Some left) a b → start read (ahead b) ≡ None
-    → d.heads ≡ raised b.heads (start_heads more (ahead b))
-    → d.heads ≡ raised a.heads (list_heads read more all (ahead a))
-tallies_nowhere read more all left n a b d one t e counted = by_fuel t.fuel t.enough (rw (← one) t.sum) where
-  by_fuel : (fuel : ℕ) → length (ahead b) < fuel
-      → list_heads read more all (ahead a) ≡ t.decoded + list_heads_by read more fuel (Some (suc n)) (ahead b)
-      → d.heads ≡ raised a.heads (list_heads read more all (ahead a))
-  by_fuel zero enough sum = absurd (omega arith)
-  by_fuel (suc fuel) enough sum = decoded_then a b d t.decoded (start_heads more (ahead b)) _ t.heads counted
-      (sum ∙ ap (λ (k : ℕ). t.decoded + k) (known_step read more fuel n (ahead b)
-      ∙ omega (arith, then_none (start read (ahead b)) (list_heads_by read more fuel (Some n)) e)))
 
 -- ---- strings
 

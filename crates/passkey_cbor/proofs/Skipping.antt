@@ -66,17 +66,6 @@ stopped_then a b c p q =
 
 -- ---- one reading after another
 
-pub skips_after : {A : Type 0} (content : ℕ) (read whole : Read A) (a b c : Walk) (found : Bool) → Passed a b
-    → Spans content a b → whole ≡ read → Skips 0 read b c found → Skips content whole a c found
-skips_after content read whole a b c true p spans e s = record {
-  value = s.value;
-  reads = e ∙ s.reads;
-  passed = passed_then a b c p s.passed;
-  spans = spans_then content a b c spans s.spans;
-}
-skips_after content read whole a b c false p spans e s =
-    record { reads = e ∙ s.reads; stopped = stopped_then a b c p s.stopped }
-
 -- the same by another name
 pub skips_as : {A : Type 0} (content : ℕ) (read whole : Read A) (a b : Walk) (found : Bool) → whole ≡ read
     → Skips content read a b found → Skips content whole a b found
@@ -109,11 +98,6 @@ skips_made content read make a b true s = record {
 }
 skips_made content read make a b false s =
     record { reads = bind_none read (λ x. Some (make x.0, x.1)) s.reads; stopped = s.stopped }
-
--- the first of two failed
-pub skips_stuck : {A B : Type 0} (read : Read A) (next : A × List ℕ → Read B) (a b : Walk) → NoHead read a b
-    → NoHead (read >>= next) a b
-skips_stuck read next a b s = record { reads = bind_none read next s.reads; stopped = s.stopped }
 
 -- ---- the elements of a list
 
@@ -252,40 +236,3 @@ pub list_begun : {A : Type 0} (read : Reader A) (fuel n : ℕ) (bytes : List ℕ
     → list_by read (suc fuel) (Some (suc n)) bytes ≡ (start read bytes >>= after_one read fuel n)
 unfolding step_at
 list_begun read fuel n bytes = list_step read fuel (Some (suc n)) bytes ∙ begun read fuel n (head_at bytes)
-
--- the element was passed
-pub goes_over : {A : Type 0} (read : Reader A) (all : Option ℕ) (left n : ℕ) (a b d : Walk) → left ≡ suc n
-    → Goes read all (Some left) a b → PassesOver 0 (start read (ahead b)) b d → length (ahead d) < length (ahead b)
-    → Goes read all (Some n) a d
-goes_over read all left n a b d one g s shorter = more g.fuel g.enough (rw (← one) g.same) where
-  more : (fuel : ℕ) → length (ahead b) < fuel → list_at read all (ahead a)
-      ≡ (list_by read fuel (Some (suc n)) (ahead b) >>= λ xs. Some (g.done ++ xs.0, xs.1))
-      → Goes read all (Some n) a d
-  more zero enough same = absurd (omega arith)
-  more (suc fuel) enough same =
-      let first : list_by read (suc fuel) (Some (suc n)) (ahead b)
-      ≡ (list_by read fuel (Some n) (ahead d) >>= λ xs. Some (s.value ∷ xs.0, xs.1)) =
-      list_begun read fuel n (ahead b)
-      ∙ bind_at (start read (ahead b)) (s.value, ahead d) (after_one read fuel n) s.reads in
-      record {
-        passed = passed_then a b d g.passed s.passed;
-        spans = spans_then 0 a b d g.spans s.spans;
-        done = g.done ++ s.value ∷ [];
-        fuel = fuel;
-        enough = omega (arith, enough, shorter);
-        same = same ∙ ap (λ o. o >>= λ xs. Some (g.done ++ xs.0, xs.1)) first
-            ∙ regrouped g.done s.value (list_by read fuel (Some n) (ahead d));
-      }
-
--- no element follows
-pub goes_nowhere : {A : Type 0} (read : Reader A) (all : Option ℕ) (left n : ℕ) (a b d : Walk) → left ≡ suc n
-    → Goes read all (Some left) a b → NoHead (start read (ahead b)) b d → NoHead (list_at read all (ahead a)) a d
-goes_nowhere read all left n a b d one g s = record {
-  reads = rw (← one) g.same ∙ bind_none (list_by read g.fuel (Some (suc n)) (ahead b))
-      (λ xs. Some (g.done ++ xs.0, xs.1)) (none g.fuel g.enough);
-  stopped = stopped_then a b d g.passed s.stopped;
-} where
-  none : (fuel : ℕ) → length (ahead b) < fuel → list_by read fuel (Some (suc n)) (ahead b) ≡ None
-  none zero enough = absurd (omega arith)
-  none (suc fuel) enough = list_begun read fuel n (ahead b)
-      ∙ bind_none (start read (ahead b)) (after_one read fuel n) s.reads

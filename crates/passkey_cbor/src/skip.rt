@@ -1,5 +1,5 @@
 //! Skipping data items.
-ghost use Rattle.std.specs.Prelude.{◌≡◌, ◌<◌, ◌≤◌, ◌^◌, ◌-◌, ℕ, List, length, Some as There, None, is_some, unwrap_or, IfSome, MatchOption};
+ghost use Rattle.std.specs.Prelude.{◌≡◌, ◌<◌, ◌^◌, ◌-◌, ℕ, List, length, Some as There, None, is_some, unwrap_or, IfSome, MatchOption};
 ghost use Rattle.passkey_cbor.specs.Walk.{ahead, raised, IsInside, IsPlaced, Went};
 ghost use Rattle.passkey_cbor.specs.LeadingItem.{max_depth};
 ghost use Rattle.passkey_cbor.specs.Reading.{string_at};
