@@ -14,22 +14,26 @@ ghost use Rattle.passkey_cose.specs.KeyReading.{name_in, bytes_in, ops_in, under
 ghost use Rattle.passkey_cose.specs.Label.{label_item};
 ghost use Rattle.passkey_cose.specs.Registered.{named_of, IsText};
 
-use crate::checking::{check_members, is_common_number, signed_64};
+use crate::checking::{check_members, is_common_number, is_label_of, signed_64};
 use crate::error::CoseError;
 use crate::iana::{EnumI64, KeyOperation, KeyType};
 use crate::key::CoseKey;
 use crate::label::Label;
 use crate::registered::Registered;
-use crate::search::find;
 use passkey_cbor::Value;
 use passkey_memory::OutOfMemory;
 use std::alloc::Global;
 
-/// The value of the member with this label.
+/// The value of the member with this label. The label is compared as a number, without a data item for it.
 fn value_under(members: &[(Value, Value)], label: u8) -> Option<&Value>
     ensures { option_map (λ v. item_of v.now) result ≡ under label (map pair_of members.now) }
 {
-    find(&Value::from(label), members)
+    for (name, value) in members {
+        if is_label_of(name, label) {
+            return Some(value);
+        }
+    }
+    None
 }
 
 /// The registry's value that the data item represents; `None` if it represents none.
