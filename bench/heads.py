@@ -1,6 +1,7 @@
 #!/usr/bin/env python3
-"""heads.py [--stdout] prints rows of crates/passkey_rows, `heads-KIND MESSAGE` for each message of hostile.py in a small size; with
---stdout what they have to print: the heads and the nodes that decoding the message at a cursor counts, and whether it is accepted.
+"""heads.py [--stdout] prints rows of crates/passkey_rows, `heads-KIND MESSAGE` for each message of hostile.py in a small size, and
+for messages of the further commands; with --stdout what they have to print: the heads and the nodes that decoding the message at a
+cursor counts, and whether it is accepted.
 
 The counts are worked out here, from the message alone, by what docs/CONTRACTS.md says of each call and docs/DECISIONS.md of the
 order of calls: a message is skipped once, and each value is then decoded once, from left to right; what is refused where that is
@@ -101,7 +102,7 @@ class Parser:
 
 
 def scalar(accepts):
-    return lambda item: (accepts(item), 1, 0)
+    return lambda item: (bool(accepts(item)), 1, 0)
 
 
 def text(item):
@@ -109,8 +110,31 @@ def text(item):
 
 
 def byte_string(item):
-    """A byte string; texts and arrays of numbers aren't among these messages."""
-    return (True, item.heads + item.again, 0) if item.major == 2 else (False, 3, 0)
+    """A byte string, or an array of numbers; texts aren't among these messages."""
+    if item.major == 2:
+        return True, item.heads + item.again, 0
+    accepted, heads, nodes = elements(number(8))(item)
+    return accepted, 2 + heads, nodes
+
+
+def number(bits):
+    return scalar(lambda item: item.major == 0 and item.argument >> bits == 0)
+
+
+def truth(item):
+    return item.major == 7 and item.argument in (20, 21), 1, 0
+
+
+def optional(kind):
+    """A value or null, for which one head is decoded first."""
+
+    def nullable(item):
+        if item.major == 7 and item.argument in (22, 23):
+            return True, 1, 0
+        accepted, heads, nodes = kind(item)
+        return accepted, 1 + heads, nodes
+
+    return nullable
 
 
 def one_of(*names):
@@ -228,9 +252,9 @@ def record(table, numbered=False):
     return members
 
 
-def nested(table):
+def nested(table, numbered=False):
     def kind(item):
-        answer, heads, nodes = record(table)(item)
+        answer, heads, nodes = record(table, numbered)(item)
         return answer == "accepted", heads, nodes
 
     return kind
@@ -242,7 +266,83 @@ DESCRIPTOR = [
     (1, "type", tolerated(one_of("public-key")), True),
     (3, "transports", tolerated(TRANSPORTS), False),
 ]
+RP = [(1, "id", text, True), (2, "name", optional(text), False)]
+USER = [
+    (1, "id", byte_string, True),
+    (2, "name", optional(text), False),
+    (3, "displayName", optional(text), False),
+    (4, "icon", optional(text), False),
+]
+TEMPLATE = [(1, "templateId", byte_string, True), (2, "templateFriendlyName", optional(text), False)]
+PARAMETERS = [
+    (1, "rpIDHash", optional(byte_string), False),
+    (2, "credentialID", optional(nested(DESCRIPTOR)), False),
+    (3, "user", optional(nested(USER)), False),
+]
+BYTE, WORD, LONG = optional(number(8)), optional(number(32)), optional(number(64))
+STRING, TEXT, TRUTH = optional(byte_string), optional(text), optional(truth)
 MESSAGES = {
+    "pin-request": [
+        (1, "pinUvAuthProtocol", BYTE, False),
+        (2, "subCommand", number(8), True),
+        (3, "keyAgreement", optional(kept), False),
+        (4, "pinUvAuthParam", STRING, False),
+        (5, "newPinEnc", STRING, False),
+        (6, "pinHashEnc", STRING, False),
+        (9, "permissions", WORD, False),
+        (10, "rpId", TEXT, False),
+    ],
+    "pin-response": [
+        (1, "keyAgreement", optional(kept), False),
+        (2, "pinUvAuthToken", STRING, False),
+        (3, "pinRetries", WORD, False),
+        (4, "powerCycleState", TRUTH, False),
+        (5, "uvRetries", WORD, False),
+    ],
+    "bio-response": [
+        (1, "modality", BYTE, False),
+        (2, "fingerprintKind", BYTE, False),
+        (3, "maxCaptureSamplesRequiredForEnroll", WORD, False),
+        (4, "templateId", STRING, False),
+        (5, "lastEnrollSampleStatus", BYTE, False),
+        (6, "remainingSamples", WORD, False),
+        (7, "templateInfos", optional(elements(nested(TEMPLATE, True))), False),
+        (8, "maxTemplateFriendlyName", WORD, False),
+    ],
+    "cm-request": [
+        (1, "subCommand", number(8), True),
+        (2, "subCommandParams", optional(nested(PARAMETERS, True)), False),
+        (3, "pinUvAuthProtocol", BYTE, False),
+        (4, "pinUvAuthParam", STRING, False),
+    ],
+    "cm-response": [
+        (1, "existingResidentCredentialsCount", WORD, False),
+        (2, "maxPossibleRemainingResidentCredentialsCount", WORD, False),
+        (3, "rp", optional(nested(RP)), False),
+        (4, "rpIDHash", STRING, False),
+        (5, "totalRPs", WORD, False),
+        (6, "user", optional(nested(USER)), False),
+        (7, "credentialID", optional(nested(DESCRIPTOR)), False),
+        (8, "publicKey", optional(kept), False),
+        (9, "totalCredentials", WORD, False),
+        (10, "credProtect", BYTE, False),
+        (11, "largeBlobKey", STRING, False),
+        (12, "thirdPartyPayment", TRUTH, False),
+    ],
+    "lb-request": [
+        (1, "get", LONG, False),
+        (2, "set", STRING, False),
+        (3, "offset", number(64), True),
+        (4, "length", LONG, False),
+        (5, "pinUvAuthParam", STRING, False),
+        (6, "pinUvAuthProtocol", BYTE, False),
+    ],
+    "cfg-request": [
+        (1, "subCommand", number(8), True),
+        (2, "subCommandParams", optional(kept), False),
+        (3, "pinUvAuthProtocol", BYTE, False),
+        (4, "pinUvAuthParam", STRING, False),
+    ],
     "ga-request": [
         (1, "rpId", text, True),
         (2, "clientDataHash", byte_string, True),
@@ -271,8 +371,33 @@ def counted(kind, message):
     return f"{item.heads + heads} {nodes} {answer}"
 
 
+def further():
+    """Messages of the further commands: their kinds and bytes."""
+    text, data, pairs, array, chunked = hostile.text, hostile.data, hostile.pairs, hostile.array, hostile.chunked
+    key = pairs([(b"\x01", b"\x02"), (b"\x03", b"\x38\x18"), (b"\x20", b"\x01"), (b"\x21", data(b"\x07"))])
+    refused = pairs([(b"\x02", text("a")), (b"\x01", b"\xf6")])
+    templates = [pairs([(b"\x01", data(b"\x07")), (b"\x02", text("thumb"))])] * 3
+    return [
+        ("pin-request", pairs([(b"\x01", b"\x02"), (b"\x02", b"\x02")])),
+        ("pin-request", pairs([(b"\x02", b"\x03"), (b"\x03", key), (b"\x04", chunked(2, b"abc"))])),
+        ("pin-request", pairs([(chunked(3, b"subCommand"), b"\x09"), (chunked(2, b"permissions"), b"\x18\xff")])),
+        ("pin-request", pairs([(b"\x02", b"\x05"), (b"\x06", array([b"\x01", b"\x18\x02"])), (b"\x01", b"\xf6")])),
+        ("pin-request", pairs([(b"\x02", b"\x05"), (b"\x18\x63", key), (b"\x09", b"\x20")])),
+        ("pin-response", b"\xbf\x01" + key + b"\x04\xf4\x03\x08\xff"),
+        ("bio-response", pairs([(b"\x07", b"\x9f" + b"".join(templates) + b"\xff")])),
+        ("bio-response", pairs([(b"\x07", array([*templates, refused]))])),
+        ("cm-request", pairs([(b"\x01", b"\x06"), (b"\x02", pairs([(b"\x02", hostile.descriptor())]))])),
+        ("cm-request", pairs([(b"\x02", pairs([(b"\x01", data(b"\x07")), (b"\x01", b"\xf6")])), (b"\x01", b"\x04")])),
+        ("cm-response", pairs([(b"\x03", pairs([(text("id"), text("a"))])), (b"\x05", b"\x01"), (b"\x0a", b"\x03")])),
+        ("cm-response", pairs([(b"\x08", hostile.nested(255))])),
+        ("cm-response", pairs([(b"\x08", hostile.nested(256))])),
+        ("lb-request", pairs([(b"\x03", b"\x1b" + b"\xff" * 8), (b"\x01", b"\x00"), (b"\x03", b"\x00")])),
+        ("cfg-request", pairs([(b"\x01", b"\x03"), (b"\x02", pairs([(b"\x01", b"\x08"), (b"\x03", b"\xf4")]))])),
+    ]
+
+
 def main():
-    for _, kind, message in hostile.inputs(10):
+    for kind, message in [*[it[1:] for it in hostile.inputs(10)], *further()]:
         if sys.argv[1:] == ["--stdout"]:
             print(f"0 {counted(kind, message)}")
         else:

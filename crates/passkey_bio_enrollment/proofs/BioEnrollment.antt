@@ -1,5 +1,5 @@
 -- Messages of authenticatorBioEnrollment: decoding their encodings again, their nesting levels, and their canonical form.
-use Rattle.passkey_kinds.proofs.Numbered.{code_place, code_keeps, plain_messages, numbered_law, IsNumbered, IsNumberedAs}
+use Rattle.passkey_kinds.proofs.Numbered.{code_place, code_keeps, numbered_law, IsNumbered, IsNumberedAs}
 use Rattle.passkey_kinds.proofs.Steps.{arith, shortest_head, truth_back, plainly, list_plain, puts_value, puts_default, no_more, ◌▸◌, refl, byte_back, word_back, text_back, bytes_back, anything, optional_place, list_same, ℕ, suc, ◌≡◌, None, true}
 use Rattle.passkey_kinds.specs.Numbered.{AreMessages}
 use Rattle.passkey_bio_enrollment.specs.SubCommand.{sub_command_of, sub_command_byte, named_sub_commands}
@@ -40,11 +40,6 @@ bio_parameters_law = numbered_law 0 bio_parameters (λ r. refl) (λ r. refl) (λ
     puts_default (optional_place word_back refl r.timeout_milliseconds (search)) refl ▸
     no_more)
 
-pub bio_parameters_messages : AreMessages true bio_parameters (λ r. None)
-unfolding shortest_head
-bio_parameters_messages = plain_messages 0 bio_parameters (omega arith) (λ r. refl)
-    (λ r. search (plainly) depth 9)
-
 -- ---- requests
 
 pub bio_request_law : IsNumberedAs normal_bio_request 1 bio_request
@@ -59,11 +54,6 @@ bio_request_law = numbered_law 1 bio_request (λ r. refl) (λ r. refl) (λ r. re
     puts_default (optional_place truth_back refl r.get_modality (anything r.get_modality)) refl ▸
     no_more)
 
-pub bio_request_messages : AreMessages true bio_request (λ r. None)
-unfolding shortest_head
-bio_request_messages = plain_messages 1 bio_request (omega arith) (λ r. refl)
-    (λ r. search (plainly, bio_parameters_law.plain 0) depth 12)
-
 -- ---- templates
 
 pub template_info_law : IsNumbered 0 template_info
@@ -73,11 +63,6 @@ template_info_law = numbered_law 0 template_info (λ r. refl) (λ r. refl) (λ r
     puts_value bytes_back r.template_id (search) ▸
     puts_default (optional_place text_back refl r.template_friendly_name (anything r.template_friendly_name)) refl ▸
     no_more)
-
-pub template_info_messages : AreMessages true template_info (λ r. None)
-unfolding shortest_head
-template_info_messages = plain_messages 0 template_info (omega arith) (λ r. refl)
-    (λ r. search (plainly) depth 8)
 
 -- ---- responses
 
@@ -94,8 +79,3 @@ bio_response_law = numbered_law 2 bio_response (λ r. refl) (λ r. refl) (λ r. 
     puts_default (optional_place (list_same template_info_law.back) refl r.template_infos (search)) refl ▸
     puts_default (optional_place word_back refl r.max_template_friendly_name (search)) refl ▸
     no_more)
-
-pub bio_response_messages : AreMessages true bio_response (λ r. None)
-unfolding shortest_head
-bio_response_messages = plain_messages 2 bio_response (omega arith) (λ r. refl)
-    (λ r. search (plainly, list_plain (suc 0), template_info_law.plain 0) depth 14)

@@ -26,10 +26,8 @@ bio_request = record {
       (λ x r. record r { sub_command_params = x })
       ∷ optional_at 4 (codes "pinUvAuthProtocol") byte (λ r. r.pin_uv_auth_protocol)
       (λ x r. record r { pin_uv_auth_protocol = x })
-      ∷ optional_at 5 (codes "pinUvAuthParam") bytes (λ r. r.pin_uv_auth_param)
-      (λ x r. record r { pin_uv_auth_param = x })
-      ∷ optional_at 6 (codes "getModality") truth (λ r. r.get_modality)
-      (λ x r. record r { get_modality = x })
+      ∷ optional_at 5 (codes "pinUvAuthParam") bytes (λ r. r.pin_uv_auth_param) (λ x r. record r { pin_uv_auth_param = x })
+      ∷ optional_at 6 (codes "getModality") truth (λ r. r.get_modality) (λ x r. record r { get_modality = x })
       ∷ [];
 }
 

@@ -6,3 +6,4 @@ pub mod BioParameters
 pub mod BioRequest
 pub mod TemplateInfo
 pub mod BioResponse
+pub mod Authenticated

@@ -11,7 +11,6 @@ mod sample_status;
 mod sub_command;
 mod template_info;
 
-pub use authenticated::authenticated_bytes;
 pub use fingerprint_kind::FingerprintKind;
 pub use modality::Modality;
 pub use parameters::Parameters;

@@ -75,6 +75,6 @@ impl TableMessage for Parameters {
         None
     }
 
-    #[tactic(auto, using(crate::proofs::BioEnrollment::bio_parameters_messages))]
+    #[tactic(auto, using(crate::proofs::BioEnrollment::bio_parameters_law))]
     fn is_message() {}
 }

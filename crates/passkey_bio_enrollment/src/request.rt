@@ -97,6 +97,6 @@ impl TableMessage for Request {
         None
     }
 
-    #[tactic(auto, using(crate::proofs::BioEnrollment::bio_request_messages))]
+    #[tactic(auto, using(crate::proofs::BioEnrollment::bio_request_law))]
     fn is_message() {}
 }

@@ -112,6 +112,6 @@ impl TableMessage for Response {
         None
     }
 
-    #[tactic(auto, using(crate::proofs::BioEnrollment::bio_response_messages))]
+    #[tactic(auto, using(crate::proofs::BioEnrollment::bio_response_law))]
     fn is_message() {}
 }

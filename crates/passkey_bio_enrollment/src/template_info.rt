@@ -68,6 +68,6 @@ impl TableMessage for TemplateInfo {
         None
     }
 
-    #[tactic(auto, using(crate::proofs::BioEnrollment::template_info_messages))]
+    #[tactic(auto, using(crate::proofs::BioEnrollment::template_info_law))]
     fn is_message() {}
 }

@@ -32,13 +32,10 @@ pin_response = record {
     power_cycle_state = None;
     uv_retries = None;
   };
-  members = optional_at 1 (codes "keyAgreement") kept_item (λ r. r.key_agreement)
-      (λ x r. record r { key_agreement = x })
-      ∷ optional_at 2 (codes "pinUvAuthToken") bytes (λ r. r.pin_uv_auth_token)
-      (λ x r. record r { pin_uv_auth_token = x })
+  members = optional_at 1 (codes "keyAgreement") kept_item (λ r. r.key_agreement) (λ x r. record r { key_agreement = x })
+      ∷ optional_at 2 (codes "pinUvAuthToken") bytes (λ r. r.pin_uv_auth_token) (λ x r. record r { pin_uv_auth_token = x })
       ∷ optional_at 3 (codes "pinRetries") word (λ r. r.pin_retries) (λ x r. record r { pin_retries = x })
-      ∷ optional_at 4 (codes "powerCycleState") truth (λ r. r.power_cycle_state)
-      (λ x r. record r { power_cycle_state = x })
+      ∷ optional_at 4 (codes "powerCycleState") truth (λ r. r.power_cycle_state) (λ x r. record r { power_cycle_state = x })
       ∷ optional_at 5 (codes "uvRetries") word (λ r. r.uv_retries) (λ x r. record r { uv_retries = x })
       ∷ [];
 }

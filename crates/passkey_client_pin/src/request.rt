@@ -98,7 +98,7 @@ impl TableRecord for Request {
         Ok(())
     }
 
-    #[tactic(auto, using(crate::proofs::ClientPin::request_back, crate::proofs::ClientPin::request_keys))]
+    #[tactic(auto, using(crate::proofs::ClientPin::request_law))]
     fn lawful() {}
 }
 
@@ -109,6 +109,6 @@ impl TableMessage for Request {
         self.key_agreement.as_ref()
     }
 
-    #[tactic(auto, using(crate::proofs::ClientPin::request_messages))]
+    #[tactic(auto, using(crate::proofs::ClientPin::request_law))]
     fn is_message() {}
 }

@@ -76,7 +76,7 @@ impl TableRecord for Response {
         Ok(())
     }
 
-    #[tactic(auto, using(crate::proofs::ClientPin::response_back, crate::proofs::ClientPin::response_keys))]
+    #[tactic(auto, using(crate::proofs::ClientPin::response_law))]
     fn lawful() {}
 }
 
@@ -87,6 +87,6 @@ impl TableMessage for Response {
         self.key_agreement.as_ref()
     }
 
-    #[tactic(auto, using(crate::proofs::ClientPin::response_messages))]
+    #[tactic(auto, using(crate::proofs::ClientPin::response_law))]
     fn is_message() {}
 }

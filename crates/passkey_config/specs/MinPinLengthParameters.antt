@@ -12,12 +12,10 @@ min_pin_length_parameters = record {
     force_change_pin = None;
     pin_complexity_policy = None;
   };
-  members = optional_at 1 (codes "newMinPINLength") word (λ r. r.new_min_pin_length)
-      (λ x r. record r { new_min_pin_length = x })
+  members = optional_at 1 (codes "newMinPINLength") word (λ r. r.new_min_pin_length) (λ x r. record r { new_min_pin_length = x })
       ∷ optional_at 2 (codes "minPinLengthRPIDs") (list text) (λ r. r.min_pin_length_rp_ids)
       (λ x r. record r { min_pin_length_rp_ids = x })
-      ∷ optional_at 3 (codes "forceChangePin") truth (λ r. r.force_change_pin)
-      (λ x r. record r { force_change_pin = x })
+      ∷ optional_at 3 (codes "forceChangePin") truth (λ r. r.force_change_pin) (λ x r. record r { force_change_pin = x })
       ∷ optional_at 4 (codes "pinComplexityPolicy") truth (λ r. r.pin_complexity_policy)
       (λ x r. record r { pin_complexity_policy = x })
       ∷ [];

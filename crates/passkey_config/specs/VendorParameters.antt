@@ -6,10 +6,7 @@ use Rattle.passkey_kinds.specs.Words.{PlainTable, required_at}
 
 abbrev pub vendor_parameters : PlainTable VendorParameters
 vendor_parameters = record {
-  blank = record {
-    vendor_command_id = 0;
-  };
-  members = required_at 1 (codes "vendorCommandId") long (λ r. r.vendor_command_id)
-      (λ x r. record r { vendor_command_id = x })
+  blank = record { vendor_command_id = 0 };
+  members = required_at 1 (codes "vendorCommandId") long (λ r. r.vendor_command_id) (λ x r. record r { vendor_command_id = x })
       ∷ [];
 }

@@ -7,7 +7,6 @@ mod request;
 mod sub_command;
 mod vendor_parameters;
 
-pub use authenticated::authenticated_bytes;
 pub use min_pin_length_parameters::MinPinLengthParameters;
 pub use request::Request;
 pub use sub_command::SubCommand;

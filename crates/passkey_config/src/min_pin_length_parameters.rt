@@ -80,6 +80,6 @@ impl TableMessage for MinPinLengthParameters {
         None
     }
 
-    #[tactic(auto, using(crate::proofs::Config::min_pin_length_parameters_messages))]
+    #[tactic(auto, using(crate::proofs::Config::min_pin_length_parameters_law))]
     fn is_message() {}
 }

@@ -75,7 +75,7 @@ impl TableRecord for Request {
         Ok(())
     }
 
-    #[tactic(auto, using(crate::proofs::Config::cfg_request_back, crate::proofs::Config::cfg_request_keys))]
+    #[tactic(auto, using(crate::proofs::Config::cfg_request_law))]
     fn lawful() {}
 }
 
@@ -86,6 +86,6 @@ impl TableMessage for Request {
         self.sub_command_params.as_ref()
     }
 
-    #[tactic(auto, using(crate::proofs::Config::cfg_request_messages))]
+    #[tactic(auto, using(crate::proofs::Config::cfg_request_law))]
     fn is_message() {}
 }

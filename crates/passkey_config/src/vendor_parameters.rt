@@ -59,6 +59,6 @@ impl TableMessage for VendorParameters {
         None
     }
 
-    #[tactic(auto, using(crate::proofs::Config::vendor_parameters_messages))]
+    #[tactic(auto, using(crate::proofs::Config::vendor_parameters_law))]
     fn is_message() {}
 }

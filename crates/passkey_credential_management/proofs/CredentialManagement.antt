@@ -1,6 +1,6 @@
 -- Messages of authenticatorCredentialManagement: decoding their encodings again, their nesting levels, and their canonical form.
 use Rattle.passkey_kinds.proofs.Common.{record_kind, places_of}
-use Rattle.passkey_kinds.proofs.Numbered.{code_back, code_place, code_keeps, long_back, not_null_back, not_null_around, are_messages, plain_messages, numbered_law, IsNumbered, IsNumberedAs}
+use Rattle.passkey_kinds.proofs.Numbered.{code_back, code_place, code_keeps, long_back, not_null_back, not_null_around, numbered_law, keeping_law, IsKeeping, IsNumbered, IsNumberedAs}
 use Rattle.passkey_kinds.proofs.Steps.{KeysAscend, keys_ascend, OnlyAt, optional_keeps, arith, shortest_head, truth_back, plainly, list_plain, puts_value, puts_default, kind_back, no_more, ◌▸◌, option_map, number_tree, refl, byte_back, word_back, text_back, bytes_back, anything, all_of_anything, optional_place, list_same, descriptor_law, IsReadBack, EachFits, ◌≤◌, ℕ, suc, ◌≡◌, None, true}
 use Rattle.passkey_kinds.specs.Numbered.{AreMessages, numbered_fields}
 use Rattle.passkey_kinds.specs.Words.{plain_tree}
@@ -32,11 +32,6 @@ cm_parameters_law = numbered_law 2 cm_parameters (λ r. refl) (λ r. refl) (λ r
     puts_default (optional_place user_law.back refl r.user (search)) refl ▸
     no_more)
 
-pub cm_parameters_messages : AreMessages true cm_parameters (λ r. None)
-unfolding shortest_head
-cm_parameters_messages = plain_messages 2 cm_parameters (omega arith) (λ r. refl)
-    (λ r. search (plainly, descriptor_law.plain 0, user_law.plain (suc 0)) depth 9)
-
 -- ---- requests
 
 pub cm_request_law : IsNumberedAs normal_cm_request 3 cm_request
@@ -49,48 +44,24 @@ cm_request_law = numbered_law 3 cm_request (λ r. refl) (λ r. refl) (λ r. refl
     puts_default (optional_place bytes_back refl r.pin_uv_auth_param (anything r.pin_uv_auth_param)) refl ▸
     no_more)
 
-pub cm_request_messages : AreMessages true cm_request (λ r. None)
-unfolding shortest_head
-cm_request_messages = plain_messages 3 cm_request (omega arith) (λ r. refl)
-    (λ r. search (plainly, cm_parameters_law.plain 0) depth 10)
-
 -- ---- responses
 
-cm_response_only : OnlyAt 2 (places_of cm_response.members) (number_tree 8) (λ r. option_map (λ i. i) r.public_key)
+pub cm_response_law : IsKeeping cm_response_parts normal_cm_response cm_response (λ r. r.public_key)
 unfolding shortest_head
-cm_response_only = record {
-  keyed = search plainly;
-  ascends = λ r. refl;
-  each = λ Q rule r key. search (rule.holds, plainly, rp_law.plain 1, user_law.plain 1, descriptor_law.plain 0) depth 18;
-  this = λ Q r each. each.1.1.1.1.1.1.1.0;
-}
-
-pub cm_response_keys : KeysAscend (places_of cm_response.members)
-cm_response_keys r = keys_ascend (places_of cm_response.members r) (cm_response_only.ascends r)
-
-pub cm_response_back : IsReadBack (record_kind (numbered_fields cm_response))
-    (λ r. plain_tree cm_response (cm_response_parts r)) (λ r. EachFits cm_response.members (cm_response_parts r))
-    (λ r. cm_response_parts (normal_cm_response r))
-cm_response_back = record {
-  back = λ r fits.
-      let p = cm_response_parts r in
-      kind_back (numbered_fields cm_response) (places_of cm_response.members p)
-      (cm_response_parts (normal_cm_response r)) refl refl
-      (puts_default (optional_place word_back refl p.existing_resident_credentials_count (search)) refl ▸
-      puts_default (optional_place word_back refl p.max_possible_remaining_resident_credentials_count (search)) refl ▸
-      puts_default (optional_place rp_law.back refl p.rp (search)) refl ▸
-      puts_default (optional_place bytes_back refl p.rp_id_hash (anything p.rp_id_hash)) refl ▸
-      puts_default (optional_place word_back refl p.total_rps (search)) refl ▸
-      puts_default (optional_place user_law.back refl p.user (search)) refl ▸
-      puts_default (optional_place descriptor_law.back refl p.credential_id (search)) refl ▸
-      puts_default (optional_place not_null_back refl p.public_key (search)) refl ▸
-      puts_default (optional_place word_back refl p.total_credentials (search)) refl ▸
-      puts_default (code_place cred_protect_of cred_protect_byte p.cred_protect (search)) refl ▸
-      puts_default (optional_place bytes_back refl p.large_blob_key (anything p.large_blob_key)) refl ▸
-      puts_default (optional_place truth_back refl p.third_party_payment (anything p.third_party_payment)) refl ▸
-      no_more);
-}
-
-pub cm_response_messages : AreMessages true cm_response (λ r. r.public_key)
-cm_response_messages = are_messages cm_response (λ r. r.public_key) (omega arith) cm_response_only (λ m. tt)
-    (λ m i less. search (optional_keeps not_null_around) depth 17 parts 17)
+cm_response_law = keeping_law cm_response 2 8 (omega arith) (λ p. refl) (λ p. refl) (λ p. refl)
+    (λ Q rule p key. search (rule.holds, plainly, rp_law.plain 1, user_law.plain 1, descriptor_law.plain 0) depth 18) (λ Q p each. each.1.1.1.1.1.1.1.0) (λ m. tt)
+    (λ m i less. search (optional_keeps not_null_around) depth 17 parts 17) (λ r fits.
+    let p = cm_response_parts r in
+    puts_default (optional_place word_back refl p.existing_resident_credentials_count (search)) refl ▸
+    puts_default (optional_place word_back refl p.max_possible_remaining_resident_credentials_count (search)) refl ▸
+    puts_default (optional_place rp_law.back refl p.rp (search)) refl ▸
+    puts_default (optional_place bytes_back refl p.rp_id_hash (anything p.rp_id_hash)) refl ▸
+    puts_default (optional_place word_back refl p.total_rps (search)) refl ▸
+    puts_default (optional_place user_law.back refl p.user (search)) refl ▸
+    puts_default (optional_place descriptor_law.back refl p.credential_id (search)) refl ▸
+    puts_default (optional_place not_null_back refl p.public_key (search)) refl ▸
+    puts_default (optional_place word_back refl p.total_credentials (search)) refl ▸
+    puts_default (code_place cred_protect_of cred_protect_byte p.cred_protect (search)) refl ▸
+    puts_default (optional_place bytes_back refl p.large_blob_key (anything p.large_blob_key)) refl ▸
+    puts_default (optional_place truth_back refl p.third_party_payment (anything p.third_party_payment)) refl ▸
+    no_more)

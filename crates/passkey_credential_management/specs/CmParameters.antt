@@ -8,16 +8,9 @@ use Rattle.passkey_kinds.specs.Words.{descriptor}
 
 abbrev pub cm_parameters : PlainTable Parameters
 cm_parameters = record {
-  blank = record {
-    rp_id_hash = None;
-    credential_id = None;
-    user = None;
-  };
-  members = optional_at 1 (codes "rpIDHash") bytes (λ r. r.rp_id_hash)
-      (λ x r. record r { rp_id_hash = x })
-      ∷ optional_at 2 (codes "credentialID") (plain descriptor) (λ r. r.credential_id)
-      (λ x r. record r { credential_id = x })
-      ∷ optional_at 3 (codes "user") (plain user) (λ r. r.user)
-      (λ x r. record r { user = x })
+  blank = record { rp_id_hash = None; credential_id = None; user = None };
+  members = optional_at 1 (codes "rpIDHash") bytes (λ r. r.rp_id_hash) (λ x r. record r { rp_id_hash = x })
+      ∷ optional_at 2 (codes "credentialID") (plain descriptor) (λ r. r.credential_id) (λ x r. record r { credential_id = x })
+      ∷ optional_at 3 (codes "user") (plain user) (λ r. r.user) (λ x r. record r { user = x })
       ∷ [];
 }

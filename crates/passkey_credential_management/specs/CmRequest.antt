@@ -10,20 +10,14 @@ use Rattle.passkey_kinds.specs.Words.{PlainTable, byte, optional_at, required_at
 
 abbrev pub cm_request : PlainTable Request
 cm_request = record {
-  blank = record {
-    sub_command = Other 0;
-    sub_command_params = None;
-    pin_uv_auth_protocol = None;
-    pin_uv_auth_param = None;
-  };
+  blank = record { sub_command = Other 0; sub_command_params = None; pin_uv_auth_protocol = None; pin_uv_auth_param = None };
   members = required_at 1 (codes "subCommand") (code sub_command_of sub_command_byte) (λ r. r.sub_command)
       (λ x r. record r { sub_command = x })
       ∷ optional_at 2 (codes "subCommandParams") (numbered cm_parameters) (λ r. r.sub_command_params)
       (λ x r. record r { sub_command_params = x })
       ∷ optional_at 3 (codes "pinUvAuthProtocol") byte (λ r. r.pin_uv_auth_protocol)
       (λ x r. record r { pin_uv_auth_protocol = x })
-      ∷ optional_at 4 (codes "pinUvAuthParam") bytes (λ r. r.pin_uv_auth_param)
-      (λ x r. record r { pin_uv_auth_param = x })
+      ∷ optional_at 4 (codes "pinUvAuthParam") bytes (λ r. r.pin_uv_auth_param) (λ x r. record r { pin_uv_auth_param = x })
       ∷ [];
 }
 

@@ -8,7 +8,6 @@ mod request;
 mod response;
 mod sub_command;
 
-pub use authenticated::authenticated_bytes;
 pub use cred_protect::CredProtect;
 pub use parameters::Parameters;
 pub use request::Request;

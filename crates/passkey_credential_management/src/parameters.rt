@@ -78,6 +78,6 @@ impl TableMessage for Parameters {
         None
     }
 
-    #[tactic(auto, using(crate::proofs::CredentialManagement::cm_parameters_messages))]
+    #[tactic(auto, using(crate::proofs::CredentialManagement::cm_parameters_law))]
     fn is_message() {}
 }

@@ -84,6 +84,6 @@ impl TableMessage for Request {
         None
     }
 
-    #[tactic(auto, using(crate::proofs::CredentialManagement::cm_request_messages))]
+    #[tactic(auto, using(crate::proofs::CredentialManagement::cm_request_law))]
     fn is_message() {}
 }

@@ -134,7 +134,7 @@ impl TableRecord for Response {
         Ok(())
     }
 
-    #[tactic(auto, using(crate::proofs::CredentialManagement::cm_response_back, crate::proofs::CredentialManagement::cm_response_keys))]
+    #[tactic(auto, using(crate::proofs::CredentialManagement::cm_response_law))]
     fn lawful() {}
 }
 
@@ -145,6 +145,6 @@ impl TableMessage for Response {
         self.public_key.as_ref()
     }
 
-    #[tactic(auto, using(crate::proofs::CredentialManagement::cm_response_messages))]
+    #[tactic(auto, using(crate::proofs::CredentialManagement::cm_response_law))]
     fn is_message() {}
 }

@@ -1,8 +1,8 @@
 -- Finding a member's value at a cursor.
-use Rattle.passkey_kinds.proofs.Steps.{arith, ℕ, ◌≡◌, ◌∙◌, ap, subst, refl, Bool, true, false, List, Option, Some, None, Item, Members, IsEncodedAt, PairsAreEncodedAt, PairWithin, max_depth, Naming, Entry, entries, names, split, stands_back, key_names, named_as}
-use Rattle.std.specs.Prelude.{IfSome}
+use Rattle.passkey_kinds.proofs.Steps.{arith, ℕ, ◌≡◌, ◌∙◌, ap, subst, refl, sym, Bool, true, false, List, Option, Some, None, Item, Members, IsEncodedAt, PairsAreEncodedAt, max_depth, Naming, Entry, entries, names, split, stands_back, key_names, named_as}
+use Rattle.std.specs.Prelude.{IfSome, ◌∷◌}
 use Rattle.std.proofs.Common.{zero-add}
-use Rattle.passkey_cbor.specs.EncodedAt.{Walks, Passes}
+use Rattle.passkey_cbor.specs.EncodedAt.{WalksOn, Passes}
 use Rattle.passkey_cbor.specs.Inside.{Within}
 use Rattle.passkey_cbor.specs.Skipped.{PassesLeadingItem}
 use Rattle.passkey_cbor.specs.Walk.{Walk, ahead}
@@ -10,27 +10,34 @@ use Rattle.passkey_cbor.specs.LeadingItem.{IsLeadingItem}
 use Rattle.passkey_cbor.specs.Lent.{Region, LendsFrom}
 use Rattle.passkey_kinds.proofs.RecordLaws.{front_stands}
 use Rattle.passkey_kinds.proofs.Common.{only_one, byte_string, members_in}
+use Rattle.passkey_kinds.specs.LentItem.{ValueLies, IfRow}
+use Rattle.passkey_kinds.specs.declared.rows.Named.TheVariants.{Row, Unknown}
 use Rattle.passkey_kinds.specs.Lending.{is_row, value_if, value_among, string_in, string_of_row, LendsWanted, LendsRow}
 use Rattle.std.specs.Option.{option_and_then}
 use Rattle.passkey_kinds.specs.Record.{Table, named, naming_of}
 use Rattle.passkey_kinds.specs.RecordReading.{ReadsKey}
 use Rattle.passkey_kinds.specs.declared.rows.Named.{Named}
 
--- The members that are left have the wanted value, if any member has it.
-pub record StillAhead (table : Table) (n : ℕ) (ms : Members) (to : ℕ) (left : Option ℕ) (now : Walk) : Type 0 where
-  pub rest : Members
-  pub ahead : PairsAreEncodedAt left rest now.bytes now.place to
-  pub same : value_among table n ms ≡ value_among table n rest
+-- The members that are left have the wanted value, if any member has it, and have it where it is.
+pub record StillAhead (table : Table) (n : ℕ) (ms : Members) (to : ℕ) (left : Option ℕ) (old now : Walk) : Type 0
+  where
+    pub rest : Members
+    pub ahead : PairsAreEncodedAt left rest now.bytes now.place to
+    pub same : value_among table n ms ≡ value_among table n rest
+    pub lies : (from end : ℕ) → ValueLies table n rest now.bytes now.place from end
+        → ValueLies table n ms old.bytes old.place from end
 
 -- The next of them, after its key was decoded.
 pub record NextAhead (table : Table) (n : ℕ) (ms : Members) (to : ℕ) (left : Option ℕ) (found : Option Named)
-    (now : Walk) : Type 0 where
+    (old now : Walk) : Type 0 where
   pub value : Item
   pub others : Members
   pub middle : ℕ
   pub same : value_among table n ms ≡ value_if n (naming_of found) value (value_among table n others)
   pub there : IfSome found (λ _. IsEncodedAt value now.bytes now.place middle)
   pub after : PairsAreEncodedAt left others now.bytes middle to
+  pub lies : IfSome found (λ _. (from end : ℕ) → IfRow n (naming_of found) ((from ≡ now.place) × (end ≡ middle))
+      (ValueLies table n others now.bytes middle from end) → ValueLies table n ms old.bytes old.place from end)
 
 value_there : (found : Option Named) (value : Item) (k : Walk) {bytes : List ℕ} {place middle : ℕ} → k.bytes ≡ bytes
     → IfSome found (λ _. k.place ≡ place) → IsEncodedAt value bytes place middle
@@ -38,14 +45,31 @@ value_there : (found : Option Named) (value : Item) (k : Walk) {bytes : List ℕ
 value_there (Some key) value k same at l = stands_back value k same at l
 value_there None value k same at l = at
 
+lies_next : (table : Table) (n : ℕ) (found : Option Named) (first : Item × Item) (others : Members) (k : Walk)
+    {bytes : List ℕ} {at middle next : ℕ} {Q : ℕ → ℕ → Type 0} → named table first.0 ≡ naming_of found
+    → k.bytes ≡ bytes → IfSome found (λ _. k.place ≡ middle) → IsEncodedAt first.0 bytes at middle
+    → IsEncodedAt first.1 bytes middle next
+    → ((from end : ℕ) → ValueLies table n (first ∷ others) bytes at from end → Q from end)
+    → IfSome found (λ _. (from end : ℕ) → IfRow n (naming_of found) ((from ≡ k.place) × (end ≡ next))
+    (ValueLies table n others k.bytes next from end) → Q from end)
+lies_next table n (Some key) first others k {middle = middle} {next} naming same at f s on = λ from end h.
+    on from end (middle, next, (f, s, rw (naming, sym at, sym same) h))
+lies_next table n None first others k naming same at f s on = tt
+
+-- the members that were left before the cursor looked whether there are more
+ahead_again : (table : Table) (n : ℕ) (a b : Walk) (from end : ℕ) {rest ms : Members} → rest ≡ ms
+    → b.bytes ≡ a.bytes → b.place ≡ a.place → ValueLies table n ms b.bytes b.place from end
+    → ValueLies table n rest a.bytes a.place from end
+ahead_again table n a b from end whole same stays h = rw (whole, sym same, sym stays) h
+
 pub next_ahead : (table : Table) (n : ℕ) (ms : Members) (to : ℕ) {before after : Option ℕ} {a b k : Walk}
-    {found : Option Named} {is_numbered : Bool} {rows : List Entry} → StillAhead table n ms to before a
-    → Walks (PairWithin max_depth) before after a b true → is_numbered ≡ table.is_numbered → rows ≡ entries table
+    {found : Option Named} {old : Walk} {is_numbered : Bool} {rows : List Entry} → StillAhead table n ms to before old a
+    → WalksOn before after a b true → is_numbered ≡ table.is_numbered → rows ≡ entries table
     → ((key : Item) (end : ℕ) → IsEncodedAt key b.bytes b.place end
     → ReadsKey (names is_numbered rows key) end b k found) → k.bytes ≡ b.bytes
-    → NextAhead table n ms to after found k
-next_ahead table n ms to {b = b} {k = k} {found = found} e walks numbered rows reads same =
-    let m = walks e.rest to e.ahead in
+    → NextAhead table n ms to after found old k
+next_ahead table n ms to {a = a} {b} {k} {found} {old} e walks numbered rows reads same =
+    let m = walks.pairs e.rest to e.ahead in
     let s = split (Within max_depth m.first.0) (Within max_depth m.first.1) b.bytes b.place m.middle m.here in
     let key = reads m.first.0 s.middle s.front in
     let naming : named table m.first.0 ≡ naming_of found = key_names table m.first.0 numbered rows key.is in
@@ -57,6 +81,8 @@ next_ahead table n ms to {b = b} {k = k} {found = found} e walks numbered rows r
           ∙ ap (λ (x : Naming). value_if n x m.first.1 (value_among table n m.others)) naming;
       there = value_there found m.first.1 k same key.ends s.back;
       after = rw same m.after;
+      lies = lies_next table n found m.first m.others k naming same key.ends s.front s.back
+          (λ from end h. e.lies from end (ahead_again table n a b from end m.whole walks.looks.bytes (walks.looks.stays refl) h));
     }
 
 pub value_here : (n : ℕ) (key : Named) (i : Item) (others : Option Item) → is_row n (named_as key) ≡ true
@@ -67,13 +93,25 @@ pub value_behind : (n : ℕ) (key : Named) (i : Item) (others : Option Item) →
     → value_if n (named_as key) i others ≡ others
 value_behind n key i others e = grind arith
 
-pub passed : {table : Table} {n : ℕ} {ms : Members} {to : ℕ} {left : Option ℕ} {key : Named} {k d : Walk}
-    → is_row n (named_as key) ≡ false → (w : NextAhead table n ms to left (Some key) k) → Passes w.middle k d true
-    → StillAhead table n ms to left d
+-- the first member's value is wanted, or one behind it
+pub row_here : (n : ℕ) (key : Named) (Here Behind : Type 0) → is_row n (named_as key) ≡ true → Here
+    → IfRow n (named_as key) Here Behind
+row_here n (Row k) Here Behind is h = rw is h
+row_here n Unknown Here Behind is h = absurd cc
+
+row_behind : (n : ℕ) (key : Named) (Here Behind : Type 0) → is_row n (named_as key) ≡ false → Behind
+    → IfRow n (named_as key) Here Behind
+row_behind n (Row k) Here Behind is h = rw is h
+row_behind n Unknown Here Behind is h = h
+
+pub passed : {table : Table} {n : ℕ} {ms : Members} {to : ℕ} {left : Option ℕ} {key : Named}
+    {old k d : Walk} → is_row n (named_as key) ≡ false → (w : NextAhead table n ms to left (Some key) old k)
+    → Passes w.middle k d true → StillAhead table n ms to left old d
 passed {n = n} {key = key} other w p = record {
   rest = w.others;
   ahead = rw (p.bytes, p.place) w.after;
   same = w.same ∙ value_behind n key w.value _ other;
+  lies = λ from end h. w.lies from end (row_behind n key _ _ other (rw (sym p.bytes, sym p.place) h));
 }
 
 -- ---- the byte string that the value is

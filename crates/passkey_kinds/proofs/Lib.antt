@@ -11,6 +11,7 @@ pub mod Levels
 pub mod Keeping
 pub mod Loops
 pub mod Finding
+pub mod LentItem
 pub mod Taken
 pub mod Keys
 pub mod ByteMaps

@@ -52,36 +52,6 @@ not_null_of i h = refl
 pub not_null_back : IsReadBack not_null (λ i. i) IsNotNull (λ i. i)
 not_null_back = record { back = not_null_of }
 
--- ---- records with numbers that keep no data item: they can be decoded again, have few levels, and
--- their keys ascend
-
-pub record IsNumberedAs {P : Type 0} (normal : P → P) (n : ℕ) (t : PlainTable P) : Type 0 where
-  pub back : IsReadBack (record_kind (numbered_fields t)) (plain_tree t) (EachFits t.members) normal
-  pub plain : (k : ℕ) (r : P) → IsPlain (suc (raised n k)) (plain_tree t r)
-  pub keys : KeysAscend (places_of t.members)
-
--- a record that is its own normal form
-abbrev pub IsNumbered : {P : Type 0} → ℕ → PlainTable P → Type 0
-IsNumbered n t = IsNumberedAs (λ r. r) n t
-
-module _ {P : Type 0} {normal : P → P} (n : ℕ) (t : PlainTable P) where
-  pub numbered_law : ((r : P) → ascend (places_of t.members r) ≡ true)
-      → ((r : P) → (have_rows (table_of (numbered_fields t)) (numbers (members_of t.members)) (places_of t.members r)
-      && are_distinct (numbers (members_of t.members))) ≡ true)
-      → ((r : P) → missing_of (table_of (numbered_fields t)) (numbers (members_of t.members)) (places_of t.members r)
-      ≡ None) → ((k : ℕ) (r : P) → EachPlace (IsPlain (raised n k)) (places_of t.members r))
-      → ((r : P) → EachFits t.members r → Backs (members_of t.members) (places_of t.members r) t.blank (normal r))
-      → IsNumberedAs normal n t
-  numbered_law up keys complete each backs = record {
-    back =
-        record {
-          back = λ r fits. kind_back (numbered_fields t) (places_of t.members r) (normal r) (keys r) (complete
-              r) (backs r fits);
-        };
-    plain = λ k r. record_plain (raised n k) (places_of t.members r) (up r) (each k r);
-    keys = λ r. keys_ascend (places_of t.members r) (up r);
-  }
-
 -- ---- messages with one data item that is kept undecoded
 
 not_null_is : (i x : Item) → not_null i ≡ Some x → i ≡ x
@@ -142,6 +112,72 @@ plain_messages n t few up each = are_messages t (λ r. None) {n = n} {key = numb
   each = λ Q rule r none. each_holds rule (places_of t.members r) (each r);
   this = λ Q r all. tt;
 }) (λ m. tt) (λ m i less. keeps_none (depth i) (members_of t.members))
+
+-- ---- records with numbers that keep no data item: they can be decoded again, have few levels, and
+-- their keys ascend
+
+pub record IsNumberedAs {P : Type 0} (normal : P → P) (n : ℕ) (t : PlainTable P) : Type 0 where
+  pub back : IsReadBack (record_kind (numbered_fields t)) (plain_tree t) (EachFits t.members) normal
+  pub plain : (k : ℕ) (r : P) → IsPlain (suc (raised n k)) (plain_tree t r)
+  pub keys : KeysAscend (places_of t.members)
+  pub messages : raised n 0 ≤ 255 → AreMessages true t (λ r. None)
+
+-- a record that is its own normal form
+abbrev pub IsNumbered : {P : Type 0} → ℕ → PlainTable P → Type 0
+IsNumbered n t = IsNumberedAs (λ r. r) n t
+
+module _ {P : Type 0} {normal : P → P} (n : ℕ) (t : PlainTable P) where
+  pub numbered_law : ((r : P) → ascend (places_of t.members r) ≡ true)
+      → ((r : P) → (have_rows (table_of (numbered_fields t)) (numbers (members_of t.members)) (places_of t.members r)
+      && are_distinct (numbers (members_of t.members))) ≡ true)
+      → ((r : P) → missing_of (table_of (numbered_fields t)) (numbers (members_of t.members)) (places_of t.members r)
+      ≡ None) → ((k : ℕ) (r : P) → EachPlace (IsPlain (raised n k)) (places_of t.members r))
+      → ((r : P) → EachFits t.members r → Backs (members_of t.members) (places_of t.members r) t.blank (normal r))
+      → IsNumberedAs normal n t
+  numbered_law up keys complete each backs = record {
+    back =
+        record {
+          back = λ r fits. kind_back (numbered_fields t) (places_of t.members r) (normal r) (keys r) (complete
+              r) (backs r fits);
+        };
+    plain = λ k r. record_plain (raised n k) (places_of t.members r) (up r) (each k r);
+    keys = λ r. keys_ascend (places_of t.members r) (up r);
+    messages = λ few. plain_messages (raised n 0) t few up (each 0);
+  }
+
+-- ---- records with numbers that keep one data item
+
+-- It can be decoded again, its keys ascend, and it is a message.
+pub record IsKeeping {A P : Type 0} (parts : A → P) (normal : A → A) (t : PlainTable P) (kept : P → Option Item) :
+    Type 0 where
+  pub back : IsReadBack (record_kind (numbered_fields t)) (λ r. plain_tree t (parts r))
+      (λ r. EachFits t.members (parts r)) (λ r. parts (normal r))
+  pub keys : KeysAscend (places_of t.members)
+  pub messages : AreMessages true t kept
+
+-- The item is the value of row k, and the encodings of the other members have at most n levels.
+pub keeping_law : {A P : Type 0} {parts : A → P} {normal : A → A} (t : PlainTable P) {kept : P → Option Item}
+    (n k : ℕ) → n ≤ 255 → ((p : P) → ascend (places_of t.members p) ≡ true)
+    → ((p : P) → (have_rows (table_of (numbered_fields t)) (numbers (members_of t.members)) (places_of t.members p)
+    && are_distinct (numbers (members_of t.members))) ≡ true)
+    → ((p : P) → missing_of (table_of (numbered_fields t)) (numbers (members_of t.members)) (places_of t.members p)
+    ≡ None) → ((Q : Item → Type 0) → Rule n Q → (p : P) → PlaceHas Q (number_tree k) (option_map (λ i. i) (kept p))
+    → EachPlace Q (places_of t.members p))
+    → ((Q : Item → Type 0) (p : P) → EachPlace Q (places_of t.members p)
+    → PlaceHas Q (number_tree k) (option_map (λ i. i) (kept p))) → ((m : ℕ) → AtMost m (kept_list kept t.blank))
+    → ((m : ℕ) (i : Item) → depth i ≤ m + 1 → Keeps (depth i) (λ p. AtMost m (kept_list kept p)) (members_of t.members))
+    → ((r : A) → EachFits t.members (parts r) → Backs (members_of t.members) (places_of t.members (parts r)) t.blank
+    (parts (normal r))) → IsKeeping parts normal t kept
+keeping_law {parts = parts} {normal} t {kept} n k few up keys complete each this blank keep backs = record {
+  back =
+      record {
+        back = λ r fits. kind_back (numbered_fields t) (places_of t.members (parts r)) (parts (normal r)) (keys (parts
+            r)) (complete (parts r)) (backs r fits);
+      };
+  keys = λ p. keys_ascend (places_of t.members p) (up p);
+  messages = are_messages t kept few
+      (record { keyed = number_plain n (pos k); ascends = up; each = each; this = this }) blank keep;
+}
 
 -- ---- messages can be decoded again
 

@@ -8,6 +8,7 @@ pub mod RecordReading
 pub mod Tree
 pub mod Placed
 pub mod Lending
+pub mod LentItem
 pub mod Written
 pub mod Coded
 pub mod Numbered

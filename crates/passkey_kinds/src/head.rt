@@ -15,7 +15,8 @@ fn array_len(head: Option<Head>) -> Option<Option<u64>>
     }
 }
 
-fn map_len(head: Option<Head>) -> Option<Option<u64>>
+/// Returns the length in the head of a map.
+pub(crate) fn map_len(head: Option<Head>) -> Option<Option<u64>>
     ensures { result ≡ option_and_then head_map head }
 {
     match head {

@@ -1,7 +1,8 @@
 //! Lending a member's byte string out of a message's bytes, as it came.
-ghost use Rattle.std.specs.Prelude.{◌≡◌, ℕ};
+ghost use Rattle.std.specs.Prelude.{◌≡◌, ℕ, true};
 ghost use Rattle.std.specs.Option.{option_and_then};
 ghost use Rattle.passkey_kinds.specs.Words.{Item, IsEncodedAt, PairsAreEncodedAt, Onward, Members, named_as, table_of};
+ghost use Rattle.passkey_kinds.specs.LentItem.{ValueEnds};
 ghost use Rattle.passkey_kinds.specs.Lending.{is_row, value_among, string_in, string_of_row, FindsValue, LendsWanted, LendsRow};
 
 use crate::Record;
@@ -22,9 +23,15 @@ fn is_row(key: Named, number: u8) -> bool
 
 /// Moves the cursor to the value of the first member that names the row, and returns true; returns
 /// false if none does, or a wrong key comes before it.
-fn find_value<R: Record>(number: u8, mut left: Option<u64>, cursor: &mut Cursor<'_>) -> bool
+pub(crate) fn find_value<R: Record>(
+    number: u8,
+    mut left: Option<u64>,
+    cursor: &mut Cursor<'_>,
+) -> bool
     ensures finds { (ms : Members) (to : ℕ) → PairsAreEncodedAt left ms cursor.old.bytes cursor.old.place to
         → FindsValue (value_among (table_of R.fields) number ms) cursor.new result }
+    ensures lies { (ms : Members) (to : ℕ) → PairsAreEncodedAt left ms cursor.old.bytes cursor.old.place to
+        → result ≡ true → ValueEnds (table_of R.fields) number ms cursor.old cursor.new }
     ensures onward { Onward cursor.old cursor.new }
 {
     while cursor.more(&mut left) {

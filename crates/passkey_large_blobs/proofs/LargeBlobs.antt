@@ -1,7 +1,6 @@
 -- Messages of authenticatorLargeBlobs: decoding their encodings again, their nesting levels, and their canonical form.
-use Rattle.passkey_kinds.proofs.Numbered.{long_back, plain_messages, numbered_law, IsNumbered}
-use Rattle.passkey_kinds.proofs.Steps.{arith, shortest_head, plainly, puts_value, puts_default, no_more, ◌▸◌, refl, byte_back, bytes_back, anything, optional_place, None, true}
-use Rattle.passkey_kinds.specs.Numbered.{AreMessages}
+use Rattle.passkey_kinds.proofs.Numbered.{long_back, numbered_law, IsNumbered}
+use Rattle.passkey_kinds.proofs.Steps.{shortest_head, plainly, puts_value, puts_default, no_more, ◌▸◌, refl, byte_back, bytes_back, anything, optional_place}
 use Rattle.passkey_large_blobs.specs.LbRequest.{lb_request}
 use Rattle.passkey_large_blobs.specs.LbResponse.{lb_response}
 use Rattle.passkey_large_blobs.specs.LargeBlob.{large_blob}
@@ -20,11 +19,6 @@ lb_request_law = numbered_law 0 lb_request (λ r. refl) (λ r. refl) (λ r. refl
     puts_default (optional_place byte_back refl r.pin_uv_auth_protocol (search)) refl ▸
     no_more)
 
-pub lb_request_messages : AreMessages true lb_request (λ r. None)
-unfolding shortest_head
-lb_request_messages = plain_messages 0 lb_request (omega arith) (λ r. refl)
-    (λ r. search (plainly) depth 12)
-
 -- ---- responses
 
 pub lb_response_law : IsNumbered 0 lb_response
@@ -33,11 +27,6 @@ lb_response_law = numbered_law 0 lb_response (λ r. refl) (λ r. refl) (λ r. re
     (λ k r. search (plainly) depth 7) (λ r fits.
     puts_default (optional_place bytes_back refl r.config (anything r.config)) refl ▸
     no_more)
-
-pub lb_response_messages : AreMessages true lb_response (λ r. None)
-unfolding shortest_head
-lb_response_messages = plain_messages 0 lb_response (omega arith) (λ r. refl)
-    (λ r. search (plainly) depth 7)
 
 -- ---- entries of the large-blob array
 
@@ -49,8 +38,3 @@ large_blob_law = numbered_law 0 large_blob (λ r. refl) (λ r. refl) (λ r. refl
     puts_value bytes_back r.nonce (search) ▸
     puts_value long_back r.orig_size (search) ▸
     no_more)
-
-pub large_blob_messages : AreMessages true large_blob (λ r. None)
-unfolding shortest_head
-large_blob_messages = plain_messages 0 large_blob (omega arith) (λ r. refl)
-    (λ r. search (plainly) depth 9)

@@ -6,10 +6,7 @@ use Rattle.passkey_large_blobs.specs.declared.response.Response.{Response}
 
 abbrev pub lb_response : PlainTable Response
 lb_response = record {
-  blank = record {
-    config = None;
-  };
-  members = optional_at 1 (codes "config") bytes (λ r. r.config)
-      (λ x r. record r { config = x })
+  blank = record { config = None };
+  members = optional_at 1 (codes "config") bytes (λ r. r.config) (λ x r. record r { config = x })
       ∷ [];
 }

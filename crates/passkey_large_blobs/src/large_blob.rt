@@ -74,6 +74,6 @@ impl TableMessage for LargeBlob {
         None
     }
 
-    #[tactic(auto, using(crate::proofs::LargeBlobs::large_blob_messages))]
+    #[tactic(auto, using(crate::proofs::LargeBlobs::large_blob_law))]
     fn is_message() {}
 }

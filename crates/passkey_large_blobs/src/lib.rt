@@ -8,7 +8,6 @@ mod request;
 mod response;
 
 pub use array::{array_of, with_digest};
-pub use authenticated::authenticated_bytes;
 pub use large_blob::LargeBlob;
 pub use request::Request;
 pub use response::Response;

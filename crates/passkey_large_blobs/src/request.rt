@@ -95,6 +95,6 @@ impl TableMessage for Request {
         None
     }
 
-    #[tactic(auto, using(crate::proofs::LargeBlobs::lb_request_messages))]
+    #[tactic(auto, using(crate::proofs::LargeBlobs::lb_request_law))]
     fn is_message() {}
 }

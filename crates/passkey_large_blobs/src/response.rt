@@ -59,6 +59,6 @@ impl TableMessage for Response {
         None
     }
 
-    #[tactic(auto, using(crate::proofs::LargeBlobs::lb_response_messages))]
+    #[tactic(auto, using(crate::proofs::LargeBlobs::lb_response_law))]
     fn is_message() {}
 }

@@ -11,7 +11,7 @@ use passkey_types::cbor::Value;
 use passkey_types::ctap2::framing::{from_body, request_of, response_of};
 use passkey_types::ctap2::large_blobs::{array_of, with_digest};
 use passkey_types::ctap2::{
-    Code, Kept, Message, ToCbor, bio_enrollment, client_pin, config, credential_management,
+    Kept, Message, ToCbor, bio_enrollment, client_pin, config, credential_management,
     large_blobs,
 };
 use std::alloc::Global;
@@ -270,53 +270,36 @@ fn blob_array(alloc: Global, input: &str) -> Result<String, RunFault> {
     encode(alloc, &with_digest(alloc, &array)?)
 }
 
-fn pin_authenticated(alloc: Global, bytes: &[u8]) -> Result<Vec<u8>, RunFault> {
-    let (request, _len) = client_pin::Request::from_slice(alloc, bytes)?;
-    Ok(request.authenticated_bytes(alloc)?)
-}
-
-fn blobs_authenticated(alloc: Global, bytes: &[u8]) -> Result<Vec<u8>, RunFault> {
-    let (request, _len) = large_blobs::Request::from_slice(alloc, bytes)?;
-    let offset = u32::try_from(request.offset).or(Err(RunFault::UnknownKind))?;
-    match &request.set {
-        Some(set) => { Ok(large_blobs::authenticated_bytes(alloc, offset, set.as_slice())?) }
-        None => Err(RunFault::UnknownKind),
-    }
-}
-
-fn enrollment_authenticated(alloc: Global, bytes: &[u8]) -> Result<Vec<u8>, RunFault> {
-    let (modality, rest) = bytes.split_first().ok_or(RunFault::UnknownKind)?;
-    let (sub_command, parameters) = rest.split_first().ok_or(RunFault::UnknownKind)?;
-    let modality = bio_enrollment::Modality::from_byte(*modality);
-    let sub_command = bio_enrollment::SubCommand::from_byte(*sub_command);
-    Ok(bio_enrollment::authenticated_bytes(alloc, modality, sub_command, parameters)?)
-}
-
-fn management_authenticated(alloc: Global, bytes: &[u8]) -> Result<Vec<u8>, RunFault> {
-    let (sub_command, parameters) = bytes.split_first().ok_or(RunFault::UnknownKind)?;
-    let sub_command = credential_management::SubCommand::from_byte(*sub_command);
-    Ok(credential_management::authenticated_bytes(alloc, sub_command, parameters)?)
-}
-
-fn configuration_authenticated(alloc: Global, bytes: &[u8]) -> Result<Vec<u8>, RunFault> {
-    let (sub_command, parameters) = bytes.split_first().ok_or(RunFault::UnknownKind)?;
-    let sub_command = config::SubCommand::from_byte(*sub_command);
-    Ok(config::authenticated_bytes(alloc, sub_command, parameters)?)
-}
-
-/// `BYTES`: what pinUvAuthParam authenticates for a request of authenticatorClientPIN or of
-/// authenticatorLargeBlobs; or for the numbers of a modality and a subcommand, and the parameters.
+/// `BYTES`: what pinUvAuthParam authenticates for a request; `none` if it is nothing.
 fn authenticated(alloc: Global, command: &str, input: &str) -> Result<String, RunFault> {
     let bytes = decode(alloc, input)?;
     let authenticated = match command {
-        "pin" => pin_authenticated(alloc, &bytes)?,
-        "lb" => blobs_authenticated(alloc, &bytes)?,
-        "bio" => enrollment_authenticated(alloc, &bytes)?,
-        "cm" => management_authenticated(alloc, &bytes)?,
-        "cfg" => configuration_authenticated(alloc, &bytes)?,
+        "pin" => {
+            let (request, _len) = client_pin::Request::from_slice(alloc, &bytes)?;
+            Some(request.authenticated_bytes(alloc)?)
+        }
+        "bio" => {
+            let (request, _len) = bio_enrollment::Request::from_slice(alloc, &bytes)?;
+            request.authenticated_bytes(alloc, &bytes)?
+        }
+        "cm" => {
+            let (request, _len) = credential_management::Request::from_slice(alloc, &bytes)?;
+            Some(request.authenticated_bytes(alloc, &bytes)?)
+        }
+        "lb" => {
+            let (request, _len) = large_blobs::Request::from_slice(alloc, &bytes)?;
+            request.authenticated_bytes(alloc)?
+        }
+        "cfg" => {
+            let (request, _len) = config::Request::from_slice(alloc, &bytes)?;
+            Some(request.authenticated_bytes(alloc, &bytes)?)
+        }
         _ => return Err(RunFault::UnknownKind),
     };
-    encode(alloc, &authenticated)
+    match authenticated {
+        Some(authenticated) => encode(alloc, &authenticated),
+        None => Ok(String::from_str(alloc, "none")?),
+    }
 }
 
 fn way_of(name: &str) -> (Way, &str) {

@@ -1,4 +1,4 @@
 //! The messages of authenticatorLargeBlobs, and the large-blob array (CTAP 2.1, section 6.10).
 pub use passkey_ctap2::large_blobs::{
-    LargeBlob, Request, Response, array_of, authenticated_bytes, with_digest,
+    LargeBlob, Request, Response, array_of, with_digest,
 };

@@ -6,7 +6,7 @@ abbrev pub invariant-loop-left : goal.invariant-loop-left
 invariant-loop-left g l = record {
   onward : Onward l.fn.cursor l.cursor;
   each : (ms : Members) (to : ℕ) → PairsAreEncodedAt l.fn.left ms l.fn.cursor.bytes l.fn.cursor.place to
-      → StillAhead (table_of g.R.Record.fields) l.number ms to l.left l.cursor;
+      → StillAhead (table_of g.R.Record.fields) l.number ms to l.left l.fn.cursor l.cursor;
 }
 
 abbrev pub decreases-loop-left : goal.decreases-loop-left
