@@ -1,6 +1,6 @@
 //! Encoding lists and objects.
-ghost use Rattle.std.specs.Prelude.{◌≡◌, false, OnOk, Some, option_map};
-ghost use Rattle.passkey_json.specs.Written.{ReadsBack, ReadsBackIf, list_json, put_if, so_far};
+ghost use Rattle.std.specs.Prelude.{◌≡◌, false, IfSome, OnOk, Some, option_map};
+ghost use Rattle.passkey_json.specs.Written.{ReadsBack, list_json, put_if, so_far};
 ghost use Rattle.serde_json.specs.Data.{no_members, object, put};
 ghost use Rattle.serde_json.specs.View.{members_view, view};
 ghost use Rattle.serde_json.specs.Written.{has_float, members_have_float};
@@ -72,20 +72,18 @@ impl ObjectWriter {
         put_member(alloc, &mut self.members, name, value)
     }
 
-    /// Adds a member if the value is present. Returns `OutOfMemory` if an allocation fails.
-    pub fn put_some<T: ToJson>(
+    /// Adds an encoded member if there is one. Returns `OutOfMemory` if an allocation fails.
+    pub(crate) fn put_value(
         &mut self,
         alloc: Global,
-        form: BytesForm,
         name: &str,
-        member: &Option<T>,
+        member: Option<Value>,
     ) -> Result<(), OutOfMemory>
-        ensures written { OnOk result
-            (so_far self.new ≡ put_if name.now (option_map (T.json form) member.now) (so_far self.old)) }
-        ensures reads_back { OnOk result (ReadsBackIf T.kind (T.json form) member.now) }
+        requires { IfSome member (λ v. has_float (view v) ≡ false) }
+        ensures { OnOk result (so_far self.new ≡ put_if name.now (option_map view member) (so_far self.old)) }
     {
         if let Some(member) = member {
-            self.put(alloc, form, name, member)?;
+            put_member(alloc, &mut self.members, name, member)?;
         }
         Ok(())
     }
