@@ -3,7 +3,6 @@
 
 mod bytes;
 mod bytes_form;
-mod elements;
 mod extensions;
 mod floats;
 mod from_json;
