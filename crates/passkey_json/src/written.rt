@@ -1,12 +1,13 @@
 //! Encoding lists and objects.
 ghost use Rattle.std.specs.Prelude.{◌≡◌, ◌++◌, ◌∷◌, [], false, IfOk, IfSome, OnOk, Some, map, option_map};
 ghost use Rattle.passkey_json.specs.Kind.{list};
-ghost use Rattle.passkey_json.specs.Written.{ReadsBack, list_json, put_if, so_far};
+ghost use Rattle.passkey_json.specs.Written.{ReadsBack, ReadsBackIf, list_json, put_if, so_far};
 ghost use Rattle.serde_json.specs.Data.{no_members, object, put};
 ghost use Rattle.serde_json.specs.View.{items_of, members_view, view};
 ghost use Rattle.serde_json.specs.Written.{has_float, items_have_float, members_have_float};
 
 use crate::bytes_form::BytesForm;
+use crate::json_encoder::JsonEncoder;
 use crate::to_json::ToJson;
 use passkey_bytes::List;
 use passkey_memory::OutOfMemory;
@@ -94,6 +95,22 @@ impl ObjectWriter {
     {
         let value = member.to_json(alloc, form)?;
         put_member(alloc, &mut self.members, name, value)
+    }
+
+    /// Adds a member if the value is present. Returns `OutOfMemory` if an allocation fails.
+    pub fn put_some<T: ToJson>(
+        &mut self,
+        alloc: Global,
+        form: BytesForm,
+        name: &str,
+        member: &Option<T>,
+    ) -> Result<(), OutOfMemory>
+        ensures written { OnOk result
+            (so_far self.new ≡ put_if name.now (option_map (T.json form) member.now) (so_far self.old)) }
+        ensures reads_back { OnOk result (ReadsBackIf T.kind (T.json form) member.now) }
+    {
+        let member = JsonEncoder { alloc, form }.optional(member)?;
+        self.put_value(alloc, name, member)
     }
 
     /// Adds an encoded member if there is one. Returns `OutOfMemory` if an allocation fails.
