@@ -1,13 +1,13 @@
 -- Client data (WebAuthn Level 3, section 5.8.1), decoded from an object.
 use Rattle.std.specs.Prelude.{ℕ, Bool, List, Option, None, Result, Ok, Err, codes, [], ◌∷◌, ◌||◌, refl}
-use Rattle.passkey_client_data.specs.ClientDataType.{client_data_type_name, client_data_type_named}
+use Rattle.passkey_client_data.specs.ClientDataType.{client_data_type_value}
 use Rattle.passkey_client_data.specs.ExtraData.{is_unknown}
 use Rattle.passkey_client_data.specs.MemberLists.{members_where, without_floats, any_member}
 use Rattle.passkey_client_data.specs.declared.client_data.CollectedClientData.{CollectedClientData}
 use Rattle.passkey_client_data.specs.declared.client_data_type.ClientDataType.{ClientDataType}
 use Rattle.passkey_client_data.specs.declared.client_data_type.ClientDataType.TheVariants.{Create}
-use Rattle.passkey_client_data.specs.declared.fixed_members.FixedMembers.{FixedMembers}
-use Rattle.passkey_json.specs.Coded.{named_value, text_value, truth_value}
+use Rattle.passkey_client_data.specs.declared.client_data.FixedMembers.{FixedMembers}
+use Rattle.passkey_json.specs.Coded.{text_value, truth_value}
 use Rattle.passkey_json.specs.Fault.{Fault, no_object}
 use Rattle.passkey_json.specs.Members.{◌>>=◌, Object, takes_at}
 use Rattle.passkey_json.specs.Table.{PlainTable, members_in, optional_as, required_as, takes_of}
@@ -19,7 +19,7 @@ use Rattle.serde_json.specs.View.{members_view}
 abbrev pub fixed_members : PlainTable FixedMembers
 fixed_members = record {
   blank = record { ty = Create; challenge = []; origin = []; cross_origin = None };
-  members = required_as 1 (codes "type") (named_value client_data_type_name client_data_type_named)
+  members = required_as 1 (codes "type") client_data_type_value
       (λ m. m.ty) (λ v m. record m { ty = v })
       ∷ required_as 2 (codes "challenge") text_value (λ m. m.challenge) (λ v m. record m { challenge = v })
       ∷ required_as 3 (codes "origin") text_value (λ m. m.origin) (λ v m. record m { origin = v })

@@ -1,18 +1,22 @@
-//! Client data, decoded from JSON objects.
-ghost use Rattle.std.specs.Prelude.{◌≡◌, IfOk, IsTrue};
-ghost use Rattle.passkey_client_data.specs.ClientData.{client_data, held, client_data_takes};
+//! Client data, decoded from JSON objects, and from the bytes that an authenticator signs.
+ghost use Rattle.std.specs.Prelude.{◌≡◌, ◌⊎◌, Ok, IfErr, IfOk, IsTrue};
+ghost use Rattle.passkey_client_data.specs.ClientData.{client_data, client_data_takes, fixed_members, held};
+ghost use Rattle.passkey_client_data.specs.ClientDataBytes.{IsJsonOf, WhyNoClientData};
+ghost use Rattle.passkey_client_data.specs.declared.client_data_fault.ClientDataFault.TheVariants.{BadJson, OutOfMemory as NoMemory};
 ghost use Rattle.passkey_json.specs.Held.{GivesAs};
+ghost use Rattle.passkey_json.specs.JsonText.{HasNoJson, IsJson};
 ghost use Rattle.serde_json.specs.View.{view};
 
+use crate::client_data_fault::ClientDataFault;
 use crate::client_data_type::ClientDataType;
 use crate::extra_data::ClientDataExtra;
-use crate::fixed_members::FixedMembers;
 use crate::unknown_members::{known_holds_float, unknown_members};
 use indexmap::IndexMap;
 use passkey_bytes::Text;
-use passkey_json::{JsonFault, JsonRecord};
+use passkey_json::{JsonFault, JsonRecord, Member, PlainJsonRecord, Row};
 use passkey_memory::OutOfMemory;
 use serde_json::Value;
+use serde_json::error::Category;
 use std::alloc::Global;
 
 /// The client data whose hash an authenticator signs (WebAuthn Level 3, section 5.8.1). `E` has the
@@ -33,6 +37,59 @@ pub struct CollectedClientData<E = ()> {
     pub extra_data: E,
     /// The unknown members: those that `E` doesn't know and that not all client data has.
     pub unknown_keys: IndexMap<String, Value>,
+}
+
+/// The members that all client data has (WebAuthn Level 3, section 5.8.1).
+#[derive(Drop)]
+struct FixedMembers {
+    ty: ClientDataType,
+    challenge: Text,
+    origin: Text,
+    cross_origin: Option<bool>,
+}
+
+impl PlainJsonRecord for FixedMembers {
+    ghost table = { fixed_members };
+
+    fn rows() -> &'static [Row] {
+        &[
+            Row::Named(1, "type"),
+            Row::Named(2, "challenge"),
+            Row::Named(3, "origin"),
+            Row::Named(4, "crossOrigin"),
+        ]
+    }
+
+    fn blank(alloc: Global) -> FixedMembers {
+        FixedMembers {
+            ty: ClientDataType::Create,
+            challenge: Text::empty(alloc),
+            origin: Text::empty(alloc),
+            cross_origin: None,
+        }
+    }
+
+    fn put(&mut self, number: u8, member: Member<'_>) -> Result<(), JsonFault> {
+        match number {
+            1 => self.ty = member.required()?,
+            2 => self.challenge = member.required()?,
+            3 => self.origin = member.required()?,
+            4 => self.cross_origin = member.or_default(None)?,
+            _ => {}
+        }
+        Ok(())
+    }
+}
+
+fn parse(alloc: Global, bytes: &[u8]) -> Result<Value, ClientDataFault>
+    ensures ok { IfOk result (λ value. IsJson bytes.now (view value)) }
+    ensures err { IfErr result (λ fault. (fault ≡ NoMemory) ⊎ ((fault ≡ BadJson) × HasNoJson bytes.now)) }
+{
+    match Value::from_slice(alloc, bytes) {
+        Ok(value) => Ok(value),
+        Err(error) if error.classify() == Category::Memory => Err(ClientDataFault::OutOfMemory),
+        Err(_) => Err(ClientDataFault::BadJson),
+    }
 }
 
 impl<E: ClientDataExtra> CollectedClientData<E> {
@@ -70,6 +127,22 @@ impl<E: ClientDataExtra> CollectedClientData<E> {
             extra_data,
             unknown_keys,
         })
+    }
+
+    /// Decodes client data from its JSON text, such as a response's `client_data_json` (WebAuthn
+    /// Level 3, section 5.8.1.1). Returns `BadJson` if the bytes aren't UTF-8, or aren't a JSON
+    /// text of at most 127 nesting levels; else `Refused` with the fault of `from_json` for its
+    /// value. Returns `OutOfMemory` if an allocation fails.
+    pub fn from_slice(
+        alloc: Global,
+        bytes: &[u8],
+    ) -> Result<CollectedClientData<E>, ClientDataFault>
+        ensures ok { IfOk result (λ made. IsJsonOf bytes.now (λ d. client_data E.has E.reads d ≡ Ok (held made))) }
+        ensures err { IfErr result (WhyNoClientData (client_data E.has E.reads) bytes.now) }
+    {
+        let value = parse(alloc, bytes)?;
+        let data = CollectedClientData::from_json(alloc, &value)?;
+        Ok(data)
     }
 
     /// Returns an equal value. Returns `OutOfMemory` if an allocation fails.

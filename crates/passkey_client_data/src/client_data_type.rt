@@ -1,7 +1,6 @@
 //! Types of client data, decoded from JSON values and encoded as names.
-ghost use Rattle.std.specs.Prelude.{false, Some};
-ghost use Rattle.passkey_client_data.specs.ClientDataType.{client_data_type_name, client_data_type_named, client_data_type_own};
-ghost use Rattle.passkey_json.specs.Kind.{one_named};
+ghost use Rattle.std.specs.Prelude.{Some};
+ghost use Rattle.passkey_client_data.specs.ClientDataType.{client_data_type_name, client_data_type_own, client_data_type_value, client_data_types};
 
 use passkey_json::{FromJson, JsonRefusal, read_name};
 use passkey_webauthn::EnumNames;
@@ -22,29 +21,16 @@ pub enum ClientDataType {
 }
 
 impl EnumNames for ClientDataType {
-    ghost name_of = { client_data_type_name };
-
-    ghost named = { client_data_type_named };
+    ghost table = { client_data_types };
 
     ghost name_is_own = { client_data_type_own };
 
-    fn from_name(name: &str) -> Option<ClientDataType> {
-        [
-            ClientDataType::Create,
-            ClientDataType::Get,
-            ClientDataType::PaymentGet,
+    fn table() -> &'static [(&'static str, ClientDataType)] {
+        &[
+            ("webauthn.create", ClientDataType::Create),
+            ("webauthn.get", ClientDataType::Get),
+            ("payment.get", ClientDataType::PaymentGet),
         ]
-        .iter()
-        .copied()
-        .find(|value| value.name() == name)
-    }
-
-    fn name(self) -> &'static str {
-        match self {
-            ClientDataType::Create => "webauthn.create",
-            ClientDataType::Get => "webauthn.get",
-            ClientDataType::PaymentGet => "payment.get",
-        }
     }
 }
 
@@ -58,9 +44,7 @@ impl fmt::Display for ClientDataType {
 }
 
 impl FromJson for ClientDataType {
-    ghost kind = { one_named client_data_type_named };
-
-    ghost takes = { λ _. false };
+    ghost kind = { client_data_type_value.kind };
 
     fn from_value(_alloc: Global, value: &Value) -> Result<ClientDataType, JsonRefusal> {
         read_name(value)

@@ -3,12 +3,10 @@
 #![tactic(auto)]
 
 mod client_data;
-mod client_data_bytes;
 mod client_data_fault;
 mod client_data_text;
 mod client_data_type;
 mod extra_data;
-mod fixed_members;
 mod unknown_members;
 
 pub use client_data::CollectedClientData;

@@ -3,8 +3,8 @@ use Rattle.std.specs.Prelude.{[], ◌∷◌, None, codes, pos, refl}
 use Rattle.passkey_credentials.specs.declared.assertion_response.AuthenticatorAssertionResponse.{AuthenticatorAssertionResponse}
 use Rattle.passkey_credentials.specs.declared.attestation_response.AuthenticatorAttestationResponse.{AuthenticatorAttestationResponse}
 use Rattle.passkey_credentials.specs.declared.credential.PublicKeyCredential.{PublicKeyCredential}
-use Rattle.passkey_json.specs.Attachment.{attachment_name, attachment_named}
-use Rattle.passkey_json.specs.Coded.{bytes_value, credential_type_value, list_value, named_value, text_value, transport_value, whole_value}
+use Rattle.passkey_json.specs.Requirements.{attachment_value}
+use Rattle.passkey_json.specs.Coded.{bytes_value, credential_type_value, list_value, text_value, transport_value, whole_value}
 use Rattle.passkey_json.specs.Extensions.{client_outputs, no_outputs}
 use Rattle.passkey_json.specs.Table.{PlainTable, nested, default_as, optional_as, required_as, tolerated_optional_as}
 use Rattle.passkey_webauthn.specs.declared.credential_type.PublicKeyCredentialType.TheVariants.{Unknown}
@@ -74,7 +74,7 @@ credential response = record {
       ∷ required_as 2 (codes "rawId") bytes_value (λ c. c.raw_id) (λ v c. record c { raw_id = v })
       ∷ required_as 3 (codes "type") credential_type_value (λ c. c.ty) (λ v c. record c { ty = v })
       ∷ required_as 4 (codes "response") (nested response) (λ c. c.response) (λ v c. record c { response = v })
-      ∷ tolerated_optional_as 5 (codes "authenticatorAttachment") (named_value attachment_name attachment_named)
+      ∷ tolerated_optional_as 5 (codes "authenticatorAttachment") attachment_value
       (λ c. c.authenticator_attachment) (λ v c. record c { authenticator_attachment = v })
       ∷ default_as 6 (codes "clientExtensionResults") (nested client_outputs) no_outputs
       (λ c. c.client_extension_results) (λ v c. record c { client_extension_results = v })

@@ -2,8 +2,9 @@
 ghost use Rattle.passkey_credentials.specs.Credentials.{assertion_response};
 
 use passkey_bytes::Bytes;
-use passkey_json::{BytesForm, JsonFault, Member, ObjectWriter, PlainJsonRecord, PlainToJson, Row};
+use passkey_json::{JsonEncoder, JsonFault, Member, PlainJsonRecord, PlainToJson, Row};
 use passkey_memory::OutOfMemory;
+use serde_json::Value;
 use std::alloc::Global;
 
 /// The response to a sign-in (WebAuthn Level 3, section 5.2.2; as JSON in section 5.1).
@@ -60,20 +61,14 @@ impl PlainJsonRecord for AuthenticatorAssertionResponse {
 }
 
 impl PlainToJson for AuthenticatorAssertionResponse {
-    fn put_member(
-        &self,
-        number: u8,
-        alloc: Global,
-        form: BytesForm,
-        object: &mut ObjectWriter,
-    ) -> Result<(), OutOfMemory> {
+    fn encode(&self, number: u8, encoder: JsonEncoder) -> Result<Option<Value>, OutOfMemory> {
         match number {
-            1 => object.put(alloc, form, "clientDataJSON", &self.client_data_json),
-            2 => object.put(alloc, form, "authenticatorData", &self.authenticator_data),
-            3 => object.put(alloc, form, "signature", &self.signature),
-            4 => object.put_some(alloc, form, "userHandle", &self.user_handle),
-            5 => object.put_some(alloc, form, "attestationObject", &self.attestation_object),
-            _ => Ok(()),
+            1 => encoder.value(&self.client_data_json),
+            2 => encoder.value(&self.authenticator_data),
+            3 => encoder.value(&self.signature),
+            4 => encoder.optional(&self.user_handle),
+            5 => encoder.optional(&self.attestation_object),
+            _ => Ok(None),
         }
     }
 }

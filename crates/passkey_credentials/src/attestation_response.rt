@@ -4,9 +4,10 @@ ghost use Rattle.std.specs.Option.{IsSomeAnd};
 ghost use Rattle.passkey_credentials.specs.Credentials.{attestation_response};
 
 use passkey_bytes::{Bytes, List};
-use passkey_json::{BytesForm, JsonFault, Member, ObjectWriter, PlainJsonRecord, PlainToJson, Row};
+use passkey_json::{JsonEncoder, JsonFault, Member, PlainJsonRecord, PlainToJson, Row};
 use passkey_memory::OutOfMemory;
 use passkey_webauthn::AuthenticatorTransport;
+use serde_json::Value;
 use std::alloc::Global;
 
 /// The response to a registration (WebAuthn Level 3, section 5.2.1; as JSON in section 5.1).
@@ -99,26 +100,15 @@ impl PlainJsonRecord for AuthenticatorAttestationResponse {
 }
 
 impl PlainToJson for AuthenticatorAttestationResponse {
-    fn put_member(
-        &self,
-        number: u8,
-        alloc: Global,
-        form: BytesForm,
-        object: &mut ObjectWriter,
-    ) -> Result<(), OutOfMemory> {
+    fn encode(&self, number: u8, encoder: JsonEncoder) -> Result<Option<Value>, OutOfMemory> {
         match number {
-            1 => object.put(alloc, form, "clientDataJSON", &self.client_data_json),
-            2 => object.put(alloc, form, "authenticatorData", &self.authenticator_data),
-            3 => object.put_some(alloc, form, "publicKey", &self.public_key),
-            4 => object.put(
-                alloc,
-                form,
-                "publicKeyAlgorithm",
-                &self.public_key_algorithm,
-            ),
-            5 => object.put(alloc, form, "attestationObject", &self.attestation_object),
-            6 => object.put_some(alloc, form, "transports", &self.transports),
-            _ => Ok(()),
+            1 => encoder.value(&self.client_data_json),
+            2 => encoder.value(&self.authenticator_data),
+            3 => encoder.optional(&self.public_key),
+            4 => encoder.value(&self.public_key_algorithm),
+            5 => encoder.value(&self.attestation_object),
+            6 => encoder.optional(&self.transports),
+            _ => Ok(None),
         }
     }
 }

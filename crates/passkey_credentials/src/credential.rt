@@ -6,11 +6,12 @@ use crate::attestation_response::AuthenticatorAttestationResponse;
 use crate::response::AuthenticatorResponse;
 use passkey_bytes::{Bytes, Text};
 use passkey_json::{
-    AuthenticationExtensionsClientOutputs, AuthenticatorAttachment, BytesForm, JsonFault, Member,
-    ObjectWriter, PlainJsonRecord, PlainToJson, Row,
+    AuthenticationExtensionsClientOutputs, AuthenticatorAttachment, JsonEncoder, JsonFault, Member,
+    PlainJsonRecord, PlainToJson, Row,
 };
 use passkey_memory::OutOfMemory;
 use passkey_webauthn::PublicKeyCredentialType;
+use serde_json::Value;
 use std::alloc::Global;
 
 /// A credential that a browser returns, with the authenticator's response (WebAuthn Level 3,
@@ -84,31 +85,15 @@ impl<R: AuthenticatorResponse> PlainJsonRecord for PublicKeyCredential<R> {
 }
 
 impl<R: AuthenticatorResponse> PlainToJson for PublicKeyCredential<R> {
-    fn put_member(
-        &self,
-        number: u8,
-        alloc: Global,
-        form: BytesForm,
-        object: &mut ObjectWriter,
-    ) -> Result<(), OutOfMemory> {
+    fn encode(&self, number: u8, encoder: JsonEncoder) -> Result<Option<Value>, OutOfMemory> {
         match number {
-            1 => object.put(alloc, form, "id", &self.id),
-            2 => object.put(alloc, form, "rawId", &self.raw_id),
-            3 => object.put(alloc, form, "type", &self.ty),
-            4 => object.put(alloc, form, "response", &self.response),
-            5 => object.put_some(
-                alloc,
-                form,
-                "authenticatorAttachment",
-                &self.authenticator_attachment,
-            ),
-            6 => object.put(
-                alloc,
-                form,
-                "clientExtensionResults",
-                &self.client_extension_results,
-            ),
-            _ => Ok(()),
+            1 => encoder.value(&self.id),
+            2 => encoder.value(&self.raw_id),
+            3 => encoder.value(&self.ty),
+            4 => encoder.value(&self.response),
+            5 => encoder.optional(&self.authenticator_attachment),
+            6 => encoder.value(&self.client_extension_results),
+            _ => Ok(None),
         }
     }
 }

@@ -10,8 +10,8 @@ use Rattle.passkey_json.proofs.Faults.{first_fault}
 use Rattle.passkey_json.proofs.Looking.{standing}
 use Rattle.passkey_json.specs.Fault.{Fault, Gives}
 use Rattle.passkey_json.specs.Members.{◌>>=◌, Object, object_of, takes_in, Member, MemberTakes, in_object, member, one_of, record_kind, takes_at, under}
-use Rattle.passkey_json.specs.Table.{AreBack, TakeNothing, takes_of, BackFrom, Entry, IsBack, JsonMember, PlainTable, are_distinct, copied, either, either_name, entries, entry_of, has_number, is_other, is_other_apart, looked, members_in, put_encoded, put_found, put_from, read_all, read_from, rows_of, table_json, take_any, takes_either, takes_from, uses}
-use Rattle.passkey_json.specs.Written.{EncodedMember, ReadsBack, are_apart, at_name, put_rows, written}
+use Rattle.passkey_json.specs.Table.{AreBack, TakeNothing, takes_of, BackFrom, Entry, IsBack, JsonMember, PlainTable, are_distinct, copied, either, either_name, entries, entry_of, has_number, is_other, is_other_apart, looked, members_in, encoded, encoded_from, put_found, read_all, read_from, rows_of, table_json, take_any, takes_either, takes_from, uses}
+use Rattle.passkey_json.specs.Written.{EncodedMember, ReadsBack, are_apart, at_name, put_if, put_rows, written}
 use Rattle.passkey_json.specs.declared.bytes_form.BytesForm.{BytesForm}
 use Rattle.passkey_json.specs.declared.json_fault.JsonFault.{JsonFault}
 use Rattle.passkey_json.specs.declared.row.Row.{Row}
@@ -48,7 +48,7 @@ pub record IsRow {P : Type 0} (ms : List (JsonMember P)) (n : ℕ) (e : Entry) (
   pub used : has_number m.entry.number (entries ms) ≡ true
   pub read : read_from ms m.entry.number ≡ put_found m
   pub takes : takes_from ms m.entry.number ≡ m.takes
-  pub put : put_from ms m.entry.number ≡ put_encoded m
+  pub json : encoded_from ms m.entry.number ≡ encoded m
   pub back : (form : BytesForm) (x : P) → BackFrom ms m.entry.number form x → IsBack m form x
 
 module _ {P : Type 0} where
@@ -64,7 +64,7 @@ module _ {P : Type 0} where
           used = rw same refl;
           read = rw same refl;
           takes = rw same refl;
-          put = rw same refl;
+          json = rw same refl;
           back = λ form x. either_is _ (IsBack m form x) _ same;
         },
       )
@@ -82,7 +82,7 @@ module _ {P : Type 0} where
           used = or_right _ _ later.1.used;
           read = rw other later.1.read;
           takes = rw other later.1.takes;
-          put = rw other later.1.put;
+          json = rw other later.1.json;
           back = λ form x b. later.1.back form x (either_not _ _ (BackFrom ms later.0.entry.number form x) other b);
         },
       )
@@ -219,15 +219,18 @@ module _ {P : Type 0} where
     unwritten : IsUnwritten ms (m ∷ drop (n + 1) ms) form x old so_far
     unwritten = subst (λ (l : List (JsonMember P)). IsUnwritten ms l form x old so_far) at.next h
 
-    put_is : put_from ms (entry_of (get_or rows n d)).number ≡ put_encoded m
-    put_is = ap (λ (e : Entry). put_from ms e.number) at.entry ∙ at.row.put
+    put_is : (k : ℕ) → k ≡ (entry_of (get_or rows n d)).number
+        → put_if (entry_of (get_or rows n d)).name (encoded_from ms k form x) so_far
+        ≡ put_if m.entry.name (encoded m form x) so_far
+    put_is k is = rw is (ap (λ (e : Entry). put_if e.name (encoded_from ms e.number form x) so_far) at.entry
+        ∙ ap (λ (f : BytesForm → P → Option Data). put_if m.entry.name (f form x) so_far) at.row.json)
 
-    pub row_encoded : next ≡ put_from ms (entry_of (get_or rows n d)).number form x so_far
+    pub row_encoded : next ≡ put_if (entry_of (get_or rows n d)).name
+        (encoded_from ms (entry_of (get_or rows n d)).number form x) so_far
         → BackFrom ms (entry_of (get_or rows n d)).number form x
         → IsUnwritten ms (drop (n + 1) ms) form x old next
     row_encoded put back =
-        let added : next ≡ put_encoded m form x so_far =
-        put ∙ ap (λ (f : BytesForm → P → Members → Members). f form x so_far) put_is in
+        let added : next ≡ put_if m.entry.name (encoded m form x) so_far = put ∙ put_is _ refl in
         let known : IsBack m form x =
         at.row.back form x (subst (λ (e : Entry). BackFrom ms e.number form x) at.entry back) in
         record {

@@ -1,13 +1,17 @@
 -- How values are coded as JSON values: decoded, and encoded.
-use Rattle.std.specs.Prelude.{ℕ, ℤ, Bool, false, List, Option}
+use denote.Enum.Declared.{Declared}
+use Rattle.std.specs.Prelude.{ℕ, ℤ, Bool, false, List}
 use Rattle.passkey_bytes.specs.Map.{ByteMap}
 use Rattle.passkey_iana.specs.declared.algorithm.Algorithm.{Algorithm}
 use Rattle.passkey_json.specs.Kind.{Kind, algorithm, bytes, is_array, is_object, is_text, is_text_or_array, list, one_named, text, truth, truth_text, whole, word}
 use Rattle.passkey_json.specs.MapKind.{map_from_texts, map_json}
 use Rattle.passkey_json.specs.Written.{algorithm_json, bytes_json, list_json, natural_json, whole_json}
 use Rattle.passkey_json.specs.declared.bytes_form.BytesForm.{BytesForm}
-use Rattle.passkey_webauthn.specs.CredentialType.{credential_type_name, credential_type_named}
-use Rattle.passkey_webauthn.specs.Transport.{transport_name, transport_named}
+use Rattle.passkey_webauthn.specs.CredentialType.{credential_types}
+use Rattle.passkey_webauthn.specs.Names.{Names, own_name, value_in}
+use Rattle.passkey_webauthn.specs.Transport.{transports}
+use Rattle.passkey_webauthn.specs.contracts.credential_type.PublicKeyCredentialType.{the_type as credential_type}
+use Rattle.passkey_webauthn.specs.contracts.transport.AuthenticatorTransport.{the_type as transport}
 use Rattle.passkey_webauthn.specs.declared.credential_type.PublicKeyCredentialType.{PublicKeyCredentialType}
 use Rattle.passkey_webauthn.specs.declared.transport.AuthenticatorTransport.{AuthenticatorTransport}
 use Rattle.serde_json.specs.Data.{Data, boolean, string}
@@ -38,14 +42,14 @@ abbrev pub algorithm_value : Coded Algorithm
 algorithm_value = small_value algorithm algorithm_json
 
 -- a value of an enumeration, by its name
-abbrev pub named_value : {T : Type 0} → (T → List ℕ) → (List ℕ → Option T) → Coded T
-named_value name named = small_value (one_named named) (λ x. string (name x))
+abbrev pub named_value : (D : Declared) → Names D.D → Coded D.D
+named_value D names = small_value (one_named (value_in names)) (λ x. string (own_name D names x))
 
 abbrev pub credential_type_value : Coded PublicKeyCredentialType
-credential_type_value = named_value credential_type_name credential_type_named
+credential_type_value = named_value credential_type credential_types
 
 abbrev pub transport_value : Coded AuthenticatorTransport
-transport_value = named_value transport_name transport_named
+transport_value = named_value transport transports
 
 abbrev pub text_value : Coded (List ℕ)
 text_value = record { kind = text; takes = is_text; json = λ form s. string s }

@@ -3,10 +3,10 @@ use Rattle.std.specs.Prelude.{[], ◌∷◌, Bool, ◌||◌, Option, Some, None,
 use Rattle.passkey_json.specs.Coded.{map_value, truth_value}
 use Rattle.passkey_json.specs.Table.{PlainTable, nested, optional_as}
 use Rattle.passkey_json.specs.WebAuthn.{prf_outputs, prf_values}
-use Rattle.passkey_json.specs.declared.client_inputs.AuthenticationExtensionsClientInputs.{AuthenticationExtensionsClientInputs}
-use Rattle.passkey_json.specs.declared.client_outputs.AuthenticationExtensionsClientOutputs.{AuthenticationExtensionsClientOutputs}
-use Rattle.passkey_json.specs.declared.credential_properties.CredentialPropertiesOutput.{CredentialPropertiesOutput}
-use Rattle.passkey_json.specs.declared.prf_inputs.AuthenticationExtensionsPrfInputs.{AuthenticationExtensionsPrfInputs}
+use Rattle.passkey_json.specs.declared.extensions.AuthenticationExtensionsClientInputs.{AuthenticationExtensionsClientInputs}
+use Rattle.passkey_json.specs.declared.extensions.AuthenticationExtensionsClientOutputs.{AuthenticationExtensionsClientOutputs}
+use Rattle.passkey_json.specs.declared.extensions.CredentialPropertiesOutput.{CredentialPropertiesOutput}
+use Rattle.passkey_json.specs.declared.extensions.AuthenticationExtensionsPrfInputs.{AuthenticationExtensionsPrfInputs}
 
 abbrev pub no_prf_inputs : AuthenticationExtensionsPrfInputs
 no_prf_inputs = record { eval = None; eval_by_credential = None }

@@ -11,7 +11,5 @@ pub mod Coded
 pub mod Table
 pub mod WebAuthn
 pub mod Extensions
-pub mod Attachment
-pub mod ResidentKey
-pub mod UserVerification
+pub mod Requirements
 pub mod SelectionCriteria

@@ -6,11 +6,11 @@ use Rattle.passkey_json.specs.Fault.{Fault}
 use Rattle.passkey_json.specs.Kind.{optional, accepted}
 use Rattle.passkey_json.specs.MemberLaws as law
 use Rattle.passkey_json.specs.Members.{◌>>=◌, Object, Member, member, under, aliased, record_kind, takes_at, takes_in, required, required_tolerated, or_default, if_present, tolerated, accepted_list}
-use Rattle.passkey_json.specs.Written.{EncodedMember, ReadsBack, ReadsBackIf, put_if, written}
+use Rattle.passkey_json.specs.Written.{EncodedMember, ReadsBack, ReadsBackIf, written}
 use Rattle.passkey_json.specs.declared.bytes_form.BytesForm.{BytesForm}
 use Rattle.passkey_json.specs.declared.row.Row.{Row}
 use Rattle.passkey_json.specs.declared.row.Row.TheVariants as row
-use Rattle.serde_json.specs.Data.{Data, Members}
+use Rattle.serde_json.specs.Data.{Data}
 
 -- ---- members
 
@@ -54,9 +54,9 @@ takes_either takes name (Some other) object = takes_at takes (object name) || ta
 abbrev pub put_found : {P : Type 0} → JsonMember P → Member → P → Result P Fault
 put_found m found r = m.read found >>= λ x. Ok (m.set x r)
 
--- the members with the one that is encoded
-abbrev pub put_encoded : {P : Type 0} → JsonMember P → BytesForm → P → Members → Members
-put_encoded m form x ms = put_if m.entry.name (m.json form (m.get x)) ms
+-- what the member is encoded as
+abbrev pub encoded : {P : Type 0} → JsonMember P → BytesForm → P → Option Data
+encoded m form x = m.json form (m.get x)
 
 -- what is known of an encoded member
 abbrev pub IsBack : {P : Type 0} → JsonMember P → BytesForm → P → Type 0
@@ -82,7 +82,7 @@ TakeNothing (m ∷ ms) = ((d : Data) → m.takes d ≡ false) × TakeNothing ms
 
 abbrev pub rows_of : {P : Type 0} → List (JsonMember P) → BytesForm → P → List EncodedMember
 rows_of [] form x = []
-rows_of (m ∷ ms) form x = (m.entry.name, m.json form (m.get x)) ∷ rows_of ms form x
+rows_of (m ∷ ms) form x = (m.entry.name, encoded m form x) ∷ rows_of ms form x
 
 -- what is known of the encoded members
 abbrev pub AreBack : {P : Type 0} → List (JsonMember P) → BytesForm → P → Type 0
@@ -156,9 +156,9 @@ abbrev pub takes_from : {P : Type 0} → List (JsonMember P) → ℕ → Data �
 takes_from [] n = λ d. false
 takes_from (m ∷ ms) n = if n == m.entry.number then m.takes else takes_from ms n
 
-abbrev pub put_from : {P : Type 0} → List (JsonMember P) → ℕ → BytesForm → P → Members → Members
-put_from [] n = λ form x ms. ms
-put_from (m ∷ ms) n = if n == m.entry.number then put_encoded m else put_from ms n
+abbrev pub encoded_from : {P : Type 0} → List (JsonMember P) → ℕ → BytesForm → P → Option Data
+encoded_from [] n = λ form x. None
+encoded_from (m ∷ ms) n = if n == m.entry.number then encoded m else encoded_from ms n
 
 abbrev pub either : Bool → Type 0 → Type 0 → Type 0
 either true A B = A
@@ -177,9 +177,9 @@ read_row t = read_from t.members
 abbrev pub takes_row : {P : Type 0} → PlainTable P → ℕ → Data → Bool
 takes_row t = takes_from t.members
 
--- the members with that member, encoded
-abbrev pub put_row : {P : Type 0} → PlainTable P → ℕ → BytesForm → P → Members → Members
-put_row t = put_from t.members
+-- what that member is encoded as
+abbrev pub encoded_row : {P : Type 0} → PlainTable P → ℕ → BytesForm → P → Option Data
+encoded_row t = encoded_from t.members
 
 -- what is known of that member when it was encoded
 abbrev pub RowIsBack : {P : Type 0} → PlainTable P → ℕ → BytesForm → P → Type 0

@@ -9,7 +9,6 @@ use Rattle.passkey_iana.specs.declared.algorithm.Algorithm.{Algorithm}
 use Rattle.passkey_json.specs.Kind.{Kind, optional}
 use Rattle.passkey_json.specs.declared.bytes_form.BytesForm.{BytesForm}
 use Rattle.passkey_json.specs.declared.bytes_form.BytesForm.TheVariants as form
-use Rattle.passkey_json.specs.declared.elements.held.Elements.{Elements}
 use Rattle.passkey_json.specs.declared.written.held.ObjectWriter.{ObjectWriter as Holder}
 use Rattle.serde_json.specs.Data.{Data, number, unsigned, string, array, object, Members, no_members, put}
 use Rattle.serde_json.specs.Find.{of_integer}
@@ -39,10 +38,6 @@ list_json json xs = array (items_of (map json xs))
 abbrev pub bytes_json : BytesForm → List ℕ → Data
 bytes_json form.Numbers bytes = list_json natural_json bytes
 bytes_json form.Base64Url bytes = string (encode_of url_safe_no_pad bytes)
-
--- the elements encoded so far
-abbrev pub elements_so_far : Elements → List Data
-elements_so_far e = map view e.values.items
 
 -- ---- objects
 

@@ -1,16 +1,15 @@
 //! Byte strings, decoded from JSON values and encoded.
-ghost use Rattle.std.specs.Prelude.{◌≡◌, false, IfOk, OnOk};
+ghost use Rattle.std.specs.Prelude.{◌≡◌, IfOk, OnOk};
 ghost use Rattle.passkey_json.specs.Kind.{bytes as byte_string, is_text_or_array};
 ghost use Rattle.passkey_json.specs.Written.{ReadsBack, bytes_json};
-ghost use Rattle.passkey_json.specs.declared.bytes_form.BytesForm.TheVariants.{Numbers, Base64Url};
+ghost use Rattle.passkey_json.specs.declared.bytes_form.BytesForm.TheVariants.{Base64Url};
 ghost use Rattle.serde_json.specs.View.{view};
-ghost use Rattle.serde_json.specs.Written.{has_float};
 
 use crate::bytes_form::BytesForm;
-use crate::elements::Elements;
 use crate::from_json::FromJson;
 use crate::json_refusal::JsonRefusal;
 use crate::to_json::ToJson;
+use crate::written::array;
 use passkey_bytes::encoding::base64url;
 use passkey_bytes::{Bytes, BytesFault, List};
 use passkey_memory::OutOfMemory;
@@ -38,19 +37,6 @@ impl FromJson for Bytes {
     }
 }
 
-/// Returns the bytes as an array of integers.
-fn numbers(alloc: Global, bytes: &[u8]) -> Result<Value, OutOfMemory>
-    ensures written { IfOk result (λ v. view v ≡ bytes_json Numbers bytes.now) }
-    ensures reads_back { OnOk result (ReadsBack byte_string bytes.now (bytes_json Numbers bytes.now)) }
-    ensures without_floats { IfOk result (λ v. has_float (view v) ≡ false) }
-{
-    let mut elements = Elements::new(alloc);
-    for byte in bytes {
-        elements.push(alloc, BytesForm::Numbers, byte)?;
-    }
-    Ok(elements.into_value())
-}
-
 /// Returns the bytes as a text in base64url.
 fn text(alloc: Global, bytes: &[u8]) -> Result<Value, OutOfMemory>
     ensures written { IfOk result (λ v. view v ≡ bytes_json Base64Url bytes.now) }
@@ -64,7 +50,7 @@ impl ToJson for Bytes {
 
     fn to_json(&self, alloc: Global, form: BytesForm) -> Result<Value, OutOfMemory> {
         match form {
-            BytesForm::Numbers => numbers(alloc, self.as_slice()),
+            BytesForm::Numbers => array(alloc, form, self.as_slice()),
             BytesForm::Base64Url => text(alloc, self.as_slice()),
         }
     }

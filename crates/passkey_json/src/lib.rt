@@ -1,16 +1,12 @@
 //! WebAuthn's types, decoded from JSON values and encoded.
 #![tactic(auto)]
 
-mod algorithm;
-mod attachment;
 mod bytes;
 mod bytes_form;
-mod client_inputs;
-mod client_outputs;
-mod credential_properties;
-mod elements;
+mod extensions;
 mod floats;
 mod from_json;
+mod json_encoder;
 mod json_fault;
 mod json_record;
 mod json_refusal;
@@ -21,25 +17,24 @@ mod member;
 mod names;
 mod object;
 mod plain_json_record;
-mod prf_inputs;
 mod record_to_json;
-mod resident_key;
+mod requirements;
 mod row;
 mod selection_criteria;
 mod to_json;
 mod tolerated;
 mod truth_text;
-mod user_verification;
 mod webauthn;
 mod written;
 
-pub use attachment::AuthenticatorAttachment;
 pub use bytes_form::BytesForm;
-pub use client_inputs::AuthenticationExtensionsClientInputs;
-pub use client_outputs::AuthenticationExtensionsClientOutputs;
-pub use credential_properties::CredentialPropertiesOutput;
+pub use extensions::{
+    AuthenticationExtensionsClientInputs, AuthenticationExtensionsClientOutputs,
+    AuthenticationExtensionsPrfInputs, CredentialPropertiesOutput,
+};
 pub use floats::holds_float;
 pub use from_json::FromJson;
+pub use json_encoder::JsonEncoder;
 pub use json_fault::JsonFault;
 pub use json_record::{JsonRecord, read_nested};
 pub use json_refusal::JsonRefusal;
@@ -49,13 +44,13 @@ pub use names::{read_name, written_name};
 pub use object::Object;
 pub use passkey_memory::OutOfMemory;
 pub use plain_json_record::{PlainJsonRecord, PlainToJson};
-pub use prf_inputs::AuthenticationExtensionsPrfInputs;
 pub use record_to_json::{RecordToJson, read_back};
-pub use resident_key::ResidentKeyRequirement;
+pub use requirements::{
+    AuthenticatorAttachment, ResidentKeyRequirement, UserVerificationRequirement,
+};
 pub use row::Row;
 pub use selection_criteria::AuthenticatorSelectionCriteria;
 pub use to_json::ToJson;
 pub use tolerated::Tolerated;
 pub use truth_text::TruthText;
-pub use user_verification::UserVerificationRequirement;
 pub use written::ObjectWriter;

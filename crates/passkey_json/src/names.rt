@@ -1,8 +1,9 @@
 //! Names of enumerations, decoded from JSON values and encoded.
-ghost use Rattle.std.specs.Prelude.{◌≡◌, false, IfOk};
+ghost use Rattle.std.specs.Prelude.{◌≡◌, false, IfOk, OnOk};
+ghost use Rattle.passkey_json.specs.Coded.{credential_type_value, transport_value};
 ghost use Rattle.passkey_json.specs.Kind.{Answers, one_named};
-ghost use Rattle.passkey_webauthn.specs.CredentialType.{credential_type_name, credential_type_named};
-ghost use Rattle.passkey_webauthn.specs.Transport.{transport_name, transport_named};
+ghost use Rattle.passkey_json.specs.Written.{ReadsBack};
+ghost use Rattle.passkey_webauthn.specs.Names.{name_in, value_in};
 ghost use Rattle.serde_json.specs.Data.{string};
 ghost use Rattle.serde_json.specs.View.{view};
 
@@ -18,7 +19,7 @@ use std::alloc::Global;
 /// Decodes the value that a text names. Returns `Refused` if the JSON value isn't a text, or if the
 /// text isn't a name.
 pub fn read_name<T: EnumNames>(value: &Value) -> Result<T, JsonRefusal>
-    ensures { Answers (one_named T.named) (λ _. false) (view value.now) result }
+    ensures { Answers (one_named (value_in T.table)) (λ _. false) (view value.now) result }
 {
     match value {
         Value::String(name) => T::from_name(name.as_str()).ok_or(JsonRefusal::Refused),
@@ -26,46 +27,43 @@ pub fn read_name<T: EnumNames>(value: &Value) -> Result<T, JsonRefusal>
     }
 }
 
-impl FromJson for PublicKeyCredentialType {
-    ghost kind = { one_named credential_type_named };
+/// Encodes the value as its name, which decodes to the value. Returns `OutOfMemory` if an allocation
+/// fails.
+pub fn written_name<T: EnumNames>(alloc: Global, value: T) -> Result<Value, OutOfMemory>
+    ensures written { IfOk result (λ v. view v ≡ string (name_in T.eq T.table value)) }
+    ensures reads_back { OnOk result
+        (ReadsBack (one_named (value_in T.table)) value (string (name_in T.eq T.table value))) }
+{
+    Ok(Value::try_from_str(alloc, value.name())?)
+}
 
-    ghost takes = { λ _. false };
+impl FromJson for PublicKeyCredentialType {
+    ghost kind = { credential_type_value.kind };
 
     fn from_value(_alloc: Global, value: &Value) -> Result<PublicKeyCredentialType, JsonRefusal> {
         read_name(value)
     }
 }
 
-impl FromJson for AuthenticatorTransport {
-    ghost kind = { one_named transport_named };
+impl ToJson for PublicKeyCredentialType {
+    ghost json = { credential_type_value.json };
 
-    ghost takes = { λ _. false };
+    fn to_json(&self, alloc: Global, _form: BytesForm) -> Result<Value, OutOfMemory> {
+        written_name(alloc, *self)
+    }
+}
+
+impl FromJson for AuthenticatorTransport {
+    ghost kind = { transport_value.kind };
 
     fn from_value(_alloc: Global, value: &Value) -> Result<AuthenticatorTransport, JsonRefusal> {
         read_name(value)
     }
 }
 
-/// Encodes the value as its name. Returns `OutOfMemory` if an allocation fails.
-pub fn written_name<T: EnumNames>(alloc: Global, value: T) -> Result<Value, OutOfMemory>
-    ensures { IfOk result (λ v. view v ≡ string (T.name_of value)) }
-{
-    Ok(Value::try_from_str(alloc, value.name())?)
-}
-
-impl ToJson for PublicKeyCredentialType {
-    ghost json = { λ _ t. string (credential_type_name t) };
-
-    #[tactic(auto, using(passkey_webauthn::specs::NameLaws::credential_type_own))]
-    fn to_json(&self, alloc: Global, _form: BytesForm) -> Result<Value, OutOfMemory> {
-        written_name(alloc, *self)
-    }
-}
-
 impl ToJson for AuthenticatorTransport {
-    ghost json = { λ _ t. string (transport_name t) };
+    ghost json = { transport_value.json };
 
-    #[tactic(auto, using(passkey_webauthn::specs::NameLaws::transport_own))]
     fn to_json(&self, alloc: Global, _form: BytesForm) -> Result<Value, OutOfMemory> {
         written_name(alloc, *self)
     }

@@ -1,13 +1,16 @@
 //! Records whose members are one table, by which they are decoded and encoded.
-ghost use Rattle.std.specs.Prelude.{◌≡◌, IsTrue, OnOk, map};
+ghost use Rattle.std.specs.Prelude.{◌≡◌, false, IfOk, IfSome, IsTrue, OnOk, map, option_map};
 ghost use Rattle.passkey_json.specs.Fault.{Gives};
 ghost use Rattle.passkey_json.specs.Held.{GivesAs, found, names_of};
 ghost use Rattle.passkey_json.specs.Members.{MemberTakes, record_kind, takes_in};
-ghost use Rattle.passkey_json.specs.Table.{AreBack, PlainTable, RowIsBack, entries, entry_of, looked, members_in, put_row, read_row, rows_of, table_json, takes_of, takes_row};
+ghost use Rattle.passkey_json.specs.Table.{AreBack, PlainTable, RowIsBack, encoded_row, entries, entry_of, looked, members_in, read_row, rows_of, table_json, takes_of, takes_row};
 ghost use Rattle.passkey_json.specs.Written.{put_rows, so_far};
+ghost use Rattle.serde_json.specs.View.{view};
+ghost use Rattle.serde_json.specs.Written.{has_float};
 
 use crate::bytes_form::BytesForm;
 use crate::from_json::FromJson;
+use crate::json_encoder::JsonEncoder;
 use crate::json_fault::JsonFault;
 use crate::json_record::{JsonRecord, read_nested};
 use crate::json_refusal::JsonRefusal;
@@ -46,18 +49,12 @@ pub trait PlainJsonRecord: Drop {
 
 /// A record whose members are one table, and which is also encoded by it.
 pub trait PlainToJson: PlainJsonRecord {
-    /// Encodes the member of the row with this number and adds it to the object, if it is present. Returns
-    /// `OutOfMemory` if an allocation fails. Adds nothing if no row has the number.
-    fn put_member(
-        &self,
-        number: u8,
-        alloc: Global,
-        form: BytesForm,
-        object: &mut ObjectWriter,
-    ) -> Result<(), OutOfMemory>
-        ensures written { OnOk result (so_far object.new
-            ≡ put_row Self.table number form self.now (so_far object.old)) }
-        ensures reads_back { OnOk result (RowIsBack Self.table number form self.now) };
+    /// Encodes the member of the row with this number. Returns `None` if it is absent, or if no row
+    /// has the number, and `OutOfMemory` if an allocation fails.
+    fn encode(&self, number: u8, encoder: JsonEncoder) -> Result<Option<Value>, OutOfMemory>
+        ensures written { IfOk result (λ v. option_map view v ≡ encoded_row Self.table number encoder.form self.now) }
+        ensures reads_back { OnOk result (RowIsBack Self.table number encoder.form self.now) }
+        ensures without_floats { IfOk result (λ v. IfSome v (λ v. has_float (view v) ≡ false)) };
 }
 
 impl Row {
@@ -66,6 +63,14 @@ impl Row {
     {
         match self {
             Row::Named(number, _) | Row::Aliased(number, _, _) => *number,
+        }
+    }
+
+    fn name(&self) -> &'static str
+        ensures { result.now ≡ (entry_of self.now).name }
+    {
+        match self {
+            Row::Named(_, name) | Row::Aliased(_, name, _) => name,
         }
     }
 
@@ -103,8 +108,10 @@ fn put_members<R: PlainToJson>(
         ≡ put_rows (so_far object.old) (rows_of R.PlainJsonRecord.table.members form value.now)) }
     ensures reads_back { OnOk result (AreBack R.PlainJsonRecord.table.members form value.now) }
 {
+    let encoder = JsonEncoder { alloc, form };
     for row in R::rows() {
-        value.put_member(row.number(), alloc, form, object)?;
+        let member = value.encode(row.number(), encoder)?;
+        object.put_value(alloc, row.name(), member)?;
     }
     Ok(())
 }

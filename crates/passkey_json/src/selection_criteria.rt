@@ -2,17 +2,17 @@
 ghost use Rattle.std.specs.Prelude.{◌≡◌};
 ghost use Rattle.passkey_json.specs.SelectionCriteria.{any_authenticator, selection_criteria};
 
-use crate::attachment::AuthenticatorAttachment;
-use crate::bytes_form::BytesForm;
+use crate::json_encoder::JsonEncoder;
 use crate::json_fault::JsonFault;
 use crate::member::Member;
 use crate::plain_json_record::{PlainJsonRecord, PlainToJson};
-use crate::resident_key::ResidentKeyRequirement;
+use crate::requirements::{
+    AuthenticatorAttachment, ResidentKeyRequirement, UserVerificationRequirement,
+};
 use crate::row::Row;
 use crate::truth_text::TruthText;
-use crate::user_verification::UserVerificationRequirement;
-use crate::written::ObjectWriter;
 use passkey_memory::OutOfMemory;
+use serde_json::Value;
 use std::alloc::Global;
 
 /// The relying party's requirements for the authenticator that creates the credential (WebAuthn
@@ -77,29 +77,13 @@ impl PlainJsonRecord for AuthenticatorSelectionCriteria {
 }
 
 impl PlainToJson for AuthenticatorSelectionCriteria {
-    fn put_member(
-        &self,
-        number: u8,
-        alloc: Global,
-        form: BytesForm,
-        object: &mut ObjectWriter,
-    ) -> Result<(), OutOfMemory> {
+    fn encode(&self, number: u8, encoder: JsonEncoder) -> Result<Option<Value>, OutOfMemory> {
         match number {
-            1 => object.put_some(
-                alloc,
-                form,
-                "authenticatorAttachment",
-                &self.authenticator_attachment,
-            ),
-            2 => object.put_some(alloc, form, "residentKey", &self.resident_key),
-            3 => object.put(
-                alloc,
-                form,
-                "requireResidentKey",
-                &TruthText(self.require_resident_key),
-            ),
-            4 => object.put(alloc, form, "userVerification", &self.user_verification),
-            _ => Ok(()),
+            1 => encoder.optional(&self.authenticator_attachment),
+            2 => encoder.optional(&self.resident_key),
+            3 => encoder.value(&TruthText(self.require_resident_key)),
+            4 => encoder.value(&self.user_verification),
+            _ => Ok(None),
         }
     }
 }

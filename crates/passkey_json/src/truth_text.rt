@@ -46,8 +46,6 @@ fn truth_named(name: &str) -> Option<bool>
 impl FromJson for TruthText {
     ghost kind = { truth_text };
 
-    ghost takes = { λ _. false };
-
     fn from_value(_alloc: Global, value: &Value) -> Result<TruthText, JsonRefusal> {
         let truth = match value {
             Value::Bool(truth) => Some(*truth),

@@ -1,12 +1,11 @@
 //! Records of WebAuthn, decoded from JSON objects and encoded (WebAuthn Level 3, section 5).
 ghost use Rattle.passkey_json.specs.WebAuthn.{descriptor, parameters, prf_outputs, prf_values, rp, user};
 
-use crate::bytes_form::BytesForm;
+use crate::json_encoder::JsonEncoder;
 use crate::json_fault::JsonFault;
 use crate::member::Member;
 use crate::plain_json_record::{PlainJsonRecord, PlainToJson};
 use crate::row::Row;
-use crate::written::ObjectWriter;
 use passkey_bytes::{Bytes, Text};
 use passkey_iana::Algorithm;
 use passkey_memory::OutOfMemory;
@@ -15,6 +14,7 @@ use passkey_webauthn::{
     PublicKeyCredentialDescriptor, PublicKeyCredentialParameters, PublicKeyCredentialRpEntity,
     PublicKeyCredentialType, PublicKeyCredentialUserEntity,
 };
+use serde_json::Value;
 use std::alloc::Global;
 
 impl PlainJsonRecord for PublicKeyCredentialDescriptor {
@@ -48,18 +48,12 @@ impl PlainJsonRecord for PublicKeyCredentialDescriptor {
 }
 
 impl PlainToJson for PublicKeyCredentialDescriptor {
-    fn put_member(
-        &self,
-        number: u8,
-        alloc: Global,
-        form: BytesForm,
-        object: &mut ObjectWriter,
-    ) -> Result<(), OutOfMemory> {
+    fn encode(&self, number: u8, encoder: JsonEncoder) -> Result<Option<Value>, OutOfMemory> {
         match number {
-            1 => object.put(alloc, form, "type", &self.ty),
-            2 => object.put(alloc, form, "id", &self.id),
-            3 => object.put_some(alloc, form, "transports", &self.transports),
-            _ => Ok(()),
+            1 => encoder.value(&self.ty),
+            2 => encoder.value(&self.id),
+            3 => encoder.optional(&self.transports),
+            _ => Ok(None),
         }
     }
 }
@@ -89,17 +83,11 @@ impl PlainJsonRecord for PublicKeyCredentialParameters {
 }
 
 impl PlainToJson for PublicKeyCredentialParameters {
-    fn put_member(
-        &self,
-        number: u8,
-        alloc: Global,
-        form: BytesForm,
-        object: &mut ObjectWriter,
-    ) -> Result<(), OutOfMemory> {
+    fn encode(&self, number: u8, encoder: JsonEncoder) -> Result<Option<Value>, OutOfMemory> {
         match number {
-            1 => object.put(alloc, form, "type", &self.ty),
-            2 => object.put(alloc, form, "alg", &self.alg),
-            _ => Ok(()),
+            1 => encoder.value(&self.ty),
+            2 => encoder.value(&self.alg),
+            _ => Ok(None),
         }
     }
 }
@@ -129,17 +117,11 @@ impl PlainJsonRecord for PublicKeyCredentialRpEntity {
 }
 
 impl PlainToJson for PublicKeyCredentialRpEntity {
-    fn put_member(
-        &self,
-        number: u8,
-        alloc: Global,
-        form: BytesForm,
-        object: &mut ObjectWriter,
-    ) -> Result<(), OutOfMemory> {
+    fn encode(&self, number: u8, encoder: JsonEncoder) -> Result<Option<Value>, OutOfMemory> {
         match number {
-            1 => object.put_some(alloc, form, "id", &self.id),
-            2 => object.put(alloc, form, "name", &self.name),
-            _ => Ok(()),
+            1 => encoder.optional(&self.id),
+            2 => encoder.value(&self.name),
+            _ => Ok(None),
         }
     }
 }
@@ -175,18 +157,12 @@ impl PlainJsonRecord for PublicKeyCredentialUserEntity {
 }
 
 impl PlainToJson for PublicKeyCredentialUserEntity {
-    fn put_member(
-        &self,
-        number: u8,
-        alloc: Global,
-        form: BytesForm,
-        object: &mut ObjectWriter,
-    ) -> Result<(), OutOfMemory> {
+    fn encode(&self, number: u8, encoder: JsonEncoder) -> Result<Option<Value>, OutOfMemory> {
         match number {
-            1 => object.put(alloc, form, "id", &self.id),
-            2 => object.put(alloc, form, "displayName", &self.display_name),
-            3 => object.put(alloc, form, "name", &self.name),
-            _ => Ok(()),
+            1 => encoder.value(&self.id),
+            2 => encoder.value(&self.display_name),
+            3 => encoder.value(&self.name),
+            _ => Ok(None),
         }
     }
 }
@@ -216,17 +192,11 @@ impl PlainJsonRecord for AuthenticationExtensionsPrfValues {
 }
 
 impl PlainToJson for AuthenticationExtensionsPrfValues {
-    fn put_member(
-        &self,
-        number: u8,
-        alloc: Global,
-        form: BytesForm,
-        object: &mut ObjectWriter,
-    ) -> Result<(), OutOfMemory> {
+    fn encode(&self, number: u8, encoder: JsonEncoder) -> Result<Option<Value>, OutOfMemory> {
         match number {
-            1 => object.put(alloc, form, "first", &self.first),
-            2 => object.put_some(alloc, form, "second", &self.second),
-            _ => Ok(()),
+            1 => encoder.value(&self.first),
+            2 => encoder.optional(&self.second),
+            _ => Ok(None),
         }
     }
 }
@@ -256,17 +226,11 @@ impl PlainJsonRecord for AuthenticationExtensionsPrfOutputs {
 }
 
 impl PlainToJson for AuthenticationExtensionsPrfOutputs {
-    fn put_member(
-        &self,
-        number: u8,
-        alloc: Global,
-        form: BytesForm,
-        object: &mut ObjectWriter,
-    ) -> Result<(), OutOfMemory> {
+    fn encode(&self, number: u8, encoder: JsonEncoder) -> Result<Option<Value>, OutOfMemory> {
         match number {
-            1 => object.put_some(alloc, form, "enabled", &self.enabled),
-            2 => object.put_some(alloc, form, "results", &self.results),
-            _ => Ok(()),
+            1 => encoder.optional(&self.enabled),
+            2 => encoder.optional(&self.results),
+            _ => Ok(None),
         }
     }
 }

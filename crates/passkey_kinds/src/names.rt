@@ -1,14 +1,15 @@
 //! Names of enumerations, decoded from data items.
-ghost use Rattle.std.specs.Prelude.{◌≡◌, ℕ, List, true, OnOk};
+ghost use Rattle.std.specs.Prelude.{◌≡◌, ◌≤◌, ℕ, List, length, map, take, true, OnOk};
 ghost use Rattle.passkey_kinds.specs.Words.{Item, IsRegion, Tells, IsEncodedAt, Onward, Further, ReadsAs, LooksAtMost, item_of, Answers, one_named, credential_type_named, transport_named};
+ghost use Rattle.passkey_webauthn.specs.Names.{row_of, texts, value_at, value_in};
 
 use crate::{FromCbor, Refusal};
 use passkey_cbor::{Cursor, TextToken, Value};
-use passkey_webauthn::{AuthenticatorTransport, EnumNames, NameTable, PublicKeyCredentialType};
+use passkey_webauthn::{AuthenticatorTransport, EnumNames, PublicKeyCredentialType};
 use std::alloc::Global;
 
 fn read_name<T: EnumNames>(value: &Value) -> Result<T, Refusal>
-    ensures { Answers (λ x. x) (one_named T.named) (item_of value.now) result }
+    ensures { Answers (λ x. x) (one_named (value_in T.table)) (item_of value.now) result }
 {
     match value {
         Value::Text(name) => T::from_name(name.as_str()).ok_or(Refusal::Refused),
@@ -16,24 +17,53 @@ fn read_name<T: EnumNames>(value: &Value) -> Result<T, Refusal>
     }
 }
 
-/// Returns the value whose name is this text string.
-fn named<T: NameTable>(token: &TextToken<'_>, cursor: &mut Cursor<'_>) -> Option<T>
-    requires { IsRegion true token.now }
-    ensures named { (s : List ℕ) → Tells true token.now s → result ≡ T.named s }
+/// Returns the names of at most 16 rows, followed by empty names.
+#[tactic(auto, using(passkey_webauthn::specs::NameLaws::one_more_text))]
+fn names_of<T: EnumNames>(table: &[(&'static str, T)]) -> [&'static str; 16]
+    requires { length table.now ≤ 16 }
+    ensures { map (λ n. n.now) (take (length table.now) result) ≡ texts (map row_of table.now) }
+{
+    let mut names = [""; 16];
+    for (i, row) in table.iter().enumerate() {
+        names[i] = row.0;
+    }
+    names
+}
+
+/// Returns the value at this index.
+fn at_index<T: EnumNames>(table: &[(&'static str, T)], index: Option<usize>) -> Option<T>
+    ensures { result ≡ value_at (map row_of table.now) index }
+{
+    match index {
+        Some(index) => match table.get(index) {
+            Some(row) => Some(row.1),
+            None => None,
+        },
+        None => None,
+    }
+}
+
+/// Returns the value whose name is this text string. Compares its chunks with all names at once.
+fn named<T: EnumNames>(token: &TextToken<'_>, cursor: &mut Cursor<'_>) -> Option<T>
+    requires region { IsRegion true token.now }
+    requires few { length T.table ≤ 16 }
+    ensures named { (s : List ℕ) → Tells true token.now s → result ≡ value_in T.table s }
     ensures looks { LooksAtMost token.now cursor.old cursor.new }
 {
     match token.lent() {
         Some(name) => T::from_name(name),
-        None => match token.name_of(T::names(), cursor) {
-            Some(index) => T::named_at(index),
-            None => None,
-        },
+        None => {
+            let table = T::table();
+            let names = names_of(table);
+            at_index(table, token.name_of(&names[..table.len()], cursor))
+        }
     }
 }
 
-fn read_named<T: NameTable>(cursor: &mut Cursor<'_>) -> Result<T, Refusal>
+fn read_named<T: EnumNames>(cursor: &mut Cursor<'_>) -> Result<T, Refusal>
+    requires { length T.table ≤ 16 }
     ensures reads { (i : Item) (to : ℕ) → IsEncodedAt i cursor.old.bytes cursor.old.place to
-        → ReadsAs (λ x. x) (one_named T.named) i to cursor.old cursor.new result }
+        → ReadsAs (λ x. x) (one_named (value_in T.table)) i to cursor.old cursor.new result }
     ensures onward { Onward cursor.old cursor.new }
     ensures further { OnOk result (Further cursor.old cursor.new) }
 {

@@ -1,6 +1,7 @@
 //! Values that are encoded as data items, and records that are encoded as maps.
 ghost use Rattle.std.specs.Prelude.{◌≡◌, ◌<◌, ◌^◌, ◌++◌, pos, List, IfOk, OnOk};
 ghost use Rattle.passkey_kinds.specs.Words.{AllAccepted, put_all, Place, record_tree, KeysAscend, encoding, Item, boolean, byte_string, text_string, item_of, IsWritable, written, IfPresent, Any, number_tree, option_tree, transport_tree, credential_type_tree};
+ghost use Rattle.passkey_webauthn.specs.Names.{name_in};
 
 use crate::sink::Counted;
 use crate::{Sink, Written};
@@ -162,7 +163,7 @@ impl<T: ToCbor> ToCbor for Option<T> {
 }
 
 fn written_name<T: EnumNames>(alloc: Global, value: T) -> Result<Value, OutOfMemory>
-    ensures { IfOk result (λ v. item_of v ≡ text_string (T.name_of value)) }
+    ensures { IfOk result (λ v. item_of v ≡ text_string (name_in T.eq T.table value)) }
 {
     text(alloc, value.name())
 }

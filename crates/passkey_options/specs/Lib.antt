@@ -1,4 +1,2 @@
-pub mod AttestationConveyance
-pub mod AttestationFormat
-pub mod Hints
+pub mod Preferences
 pub mod Options

@@ -1,32 +1,18 @@
 -- What a page asks of the browser, over JSON: the options of both ceremonies.
 use Rattle.std.specs.Prelude.{[], ◌∷◌, None, codes, refl}
-use Rattle.passkey_json.specs.Coded.{Coded, bytes_value, named_value, text_value, word_value}
+use Rattle.passkey_json.specs.Coded.{bytes_value, text_value, word_value}
 use Rattle.passkey_json.specs.Extensions.{client_inputs}
 use Rattle.passkey_json.specs.SelectionCriteria.{selection_criteria}
 use Rattle.passkey_json.specs.Table.{PlainTable, nested, accepted_as, optional_as, or_as, present_as, required_as, required_list_as, tolerated_as, tolerated_optional_as}
-use Rattle.passkey_json.specs.UserVerification.{user_verification_name, user_verification_named}
+use Rattle.passkey_json.specs.Requirements.{user_verification_value}
 use Rattle.passkey_json.specs.WebAuthn.{descriptor, parameters, rp, user}
-use Rattle.passkey_json.specs.declared.user_verification.UserVerificationRequirement.TheVariants.{Preferred}
-use Rattle.passkey_options.specs.AttestationConveyance.{conveyance_name, conveyance_named}
-use Rattle.passkey_options.specs.AttestationFormat.{format_name, format_named}
-use Rattle.passkey_options.specs.Hints.{hint_name, hint_named}
-use Rattle.passkey_options.specs.declared.attestation_conveyance.AttestationConveyancePreference.TheVariants.{None as NoAttestation}
-use Rattle.passkey_options.specs.declared.attestation_conveyance.AttestationConveyancePreference.{AttestationConveyancePreference}
-use Rattle.passkey_options.specs.declared.attestation_format.AttestationStatementFormatIdentifiers.{AttestationStatementFormatIdentifiers}
+use Rattle.passkey_json.specs.declared.requirements.UserVerificationRequirement.TheVariants.{Preferred}
+use Rattle.passkey_options.specs.Preferences.{conveyance_value, format_value, hint_value}
+use Rattle.passkey_options.specs.declared.preferences.AttestationConveyancePreference.TheVariants.{None as NoAttestation}
 use Rattle.passkey_options.specs.declared.creation_options.PublicKeyCredentialCreationOptions.{PublicKeyCredentialCreationOptions}
-use Rattle.passkey_options.specs.declared.credential_creation.CredentialCreationOptions.{CredentialCreationOptions}
-use Rattle.passkey_options.specs.declared.credential_request.CredentialRequestOptions.{CredentialRequestOptions}
-use Rattle.passkey_options.specs.declared.hints.PublicKeyCredentialHints.{PublicKeyCredentialHints}
+use Rattle.passkey_options.specs.declared.arguments.CredentialCreationOptions.{CredentialCreationOptions}
+use Rattle.passkey_options.specs.declared.arguments.CredentialRequestOptions.{CredentialRequestOptions}
 use Rattle.passkey_options.specs.declared.request_options.PublicKeyCredentialRequestOptions.{PublicKeyCredentialRequestOptions}
-
-abbrev hint_value : Coded PublicKeyCredentialHints
-hint_value = named_value hint_name hint_named
-
-abbrev conveyance_value : Coded AttestationConveyancePreference
-conveyance_value = named_value conveyance_name conveyance_named
-
-abbrev format_value : Coded AttestationStatementFormatIdentifiers
-format_value = named_value format_name format_named
 
 -- the options of a registration (WebAuthn Level 3, section 5.4)
 abbrev pub creation_options : PlainTable PublicKeyCredentialCreationOptions
@@ -85,7 +71,7 @@ request_options = record {
       ∷ optional_as 3 (codes "rpId") text_value (λ o. o.rp_id) (λ v o. record o { rp_id = v })
       ∷ or_as (codes "allowList") (accepted_as 4 (codes "allowCredentials") (nested descriptor)
       (λ o. o.allow_credentials) (λ v o. record o { allow_credentials = v }))
-      ∷ tolerated_as 5 (codes "userVerification") (named_value user_verification_name user_verification_named) Preferred
+      ∷ tolerated_as 5 (codes "userVerification") user_verification_value Preferred
       (λ o. o.user_verification) (λ v o. record o { user_verification = v })
       ∷ accepted_as 6 (codes "hints") hint_value (λ o. o.hints) (λ v o. record o { hints = v })
       ∷ tolerated_as 7 (codes "attestation") conveyance_value NoAttestation

@@ -1,19 +1,21 @@
 //! The options of a registration, decoded from JSON objects and encoded.
 ghost use Rattle.passkey_options.specs.Options.{creation_options};
 
-use crate::attestation_conveyance::AttestationConveyancePreference;
-use crate::attestation_format::AttestationStatementFormatIdentifiers;
-use crate::hints::PublicKeyCredentialHints;
+use crate::preferences::{
+    AttestationConveyancePreference, AttestationStatementFormatIdentifiers,
+    PublicKeyCredentialHints,
+};
 use passkey_bytes::{Bytes, List};
 use passkey_json::{
-    AuthenticationExtensionsClientInputs, AuthenticatorSelectionCriteria, BytesForm, JsonFault,
-    Member, ObjectWriter, PlainJsonRecord, PlainToJson, Row, TolerantList,
+    AuthenticationExtensionsClientInputs, AuthenticatorSelectionCriteria, JsonEncoder, JsonFault,
+    Member, PlainJsonRecord, PlainToJson, Row, TolerantList,
 };
 use passkey_memory::OutOfMemory;
 use passkey_webauthn::{
     PublicKeyCredentialDescriptor, PublicKeyCredentialParameters, PublicKeyCredentialRpEntity,
     PublicKeyCredentialUserEntity,
 };
+use serde_json::Value;
 use std::alloc::Global;
 
 /// The options of a registration (WebAuthn Level 3, section 5.4).
@@ -110,31 +112,20 @@ impl PlainJsonRecord for PublicKeyCredentialCreationOptions {
 }
 
 impl PlainToJson for PublicKeyCredentialCreationOptions {
-    fn put_member(
-        &self,
-        number: u8,
-        alloc: Global,
-        form: BytesForm,
-        object: &mut ObjectWriter,
-    ) -> Result<(), OutOfMemory> {
+    fn encode(&self, number: u8, encoder: JsonEncoder) -> Result<Option<Value>, OutOfMemory> {
         match number {
-            1 => object.put(alloc, form, "rp", &self.rp),
-            2 => object.put(alloc, form, "user", &self.user),
-            3 => object.put(alloc, form, "challenge", &self.challenge),
-            4 => object.put(alloc, form, "pubKeyCredParams", &self.pub_key_cred_params),
-            5 => object.put_some(alloc, form, "timeout", &self.timeout),
-            6 => object.put_some(alloc, form, "excludeCredentials", &self.exclude_credentials),
-            7 => object.put_some(
-                alloc,
-                form,
-                "authenticatorSelection",
-                &self.authenticator_selection,
-            ),
-            8 => object.put_some(alloc, form, "hints", &self.hints),
-            9 => object.put(alloc, form, "attestation", &self.attestation),
-            10 => object.put_some(alloc, form, "attestationFormats", &self.attestation_formats),
-            11 => object.put_some(alloc, form, "extensions", &self.extensions),
-            _ => Ok(()),
+            1 => encoder.value(&self.rp),
+            2 => encoder.value(&self.user),
+            3 => encoder.value(&self.challenge),
+            4 => encoder.value(&self.pub_key_cred_params),
+            5 => encoder.optional(&self.timeout),
+            6 => encoder.optional(&self.exclude_credentials),
+            7 => encoder.optional(&self.authenticator_selection),
+            8 => encoder.optional(&self.hints),
+            9 => encoder.value(&self.attestation),
+            10 => encoder.optional(&self.attestation_formats),
+            11 => encoder.optional(&self.extensions),
+            _ => Ok(None),
         }
     }
 }

@@ -2,18 +2,15 @@
 //! encoded.
 #![tactic(auto)]
 
-mod attestation_conveyance;
-mod attestation_format;
+mod arguments;
 mod creation_options;
-mod credential_creation;
-mod credential_request;
-mod hints;
+mod preferences;
 mod request_options;
 
-pub use attestation_conveyance::AttestationConveyancePreference;
-pub use attestation_format::AttestationStatementFormatIdentifiers;
+pub use arguments::{CredentialCreationOptions, CredentialRequestOptions};
 pub use creation_options::PublicKeyCredentialCreationOptions;
-pub use credential_creation::CredentialCreationOptions;
-pub use credential_request::CredentialRequestOptions;
-pub use hints::PublicKeyCredentialHints;
+pub use preferences::{
+    AttestationConveyancePreference, AttestationStatementFormatIdentifiers,
+    PublicKeyCredentialHints,
+};
 pub use request_options::PublicKeyCredentialRequestOptions;

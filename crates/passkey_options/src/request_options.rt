@@ -1,16 +1,18 @@
 //! The options of a sign-in, decoded from JSON objects and encoded.
 ghost use Rattle.passkey_options.specs.Options.{request_options};
 
-use crate::attestation_conveyance::AttestationConveyancePreference;
-use crate::attestation_format::AttestationStatementFormatIdentifiers;
-use crate::hints::PublicKeyCredentialHints;
+use crate::preferences::{
+    AttestationConveyancePreference, AttestationStatementFormatIdentifiers,
+    PublicKeyCredentialHints,
+};
 use passkey_bytes::{Bytes, List, Text};
 use passkey_json::{
-    AuthenticationExtensionsClientInputs, BytesForm, JsonFault, Member, ObjectWriter,
-    PlainJsonRecord, PlainToJson, Row, UserVerificationRequirement,
+    AuthenticationExtensionsClientInputs, JsonEncoder, JsonFault, Member, PlainJsonRecord,
+    PlainToJson, Row, UserVerificationRequirement,
 };
 use passkey_memory::OutOfMemory;
 use passkey_webauthn::PublicKeyCredentialDescriptor;
+use serde_json::Value;
 use std::alloc::Global;
 
 /// The options of a sign-in (WebAuthn Level 3, section 5.5).
@@ -97,24 +99,18 @@ impl PlainJsonRecord for PublicKeyCredentialRequestOptions {
 }
 
 impl PlainToJson for PublicKeyCredentialRequestOptions {
-    fn put_member(
-        &self,
-        number: u8,
-        alloc: Global,
-        form: BytesForm,
-        object: &mut ObjectWriter,
-    ) -> Result<(), OutOfMemory> {
+    fn encode(&self, number: u8, encoder: JsonEncoder) -> Result<Option<Value>, OutOfMemory> {
         match number {
-            1 => object.put(alloc, form, "challenge", &self.challenge),
-            2 => object.put_some(alloc, form, "timeout", &self.timeout),
-            3 => object.put_some(alloc, form, "rpId", &self.rp_id),
-            4 => object.put_some(alloc, form, "allowCredentials", &self.allow_credentials),
-            5 => object.put(alloc, form, "userVerification", &self.user_verification),
-            6 => object.put_some(alloc, form, "hints", &self.hints),
-            7 => object.put(alloc, form, "attestation", &self.attestation),
-            8 => object.put_some(alloc, form, "attestationFormats", &self.attestation_formats),
-            9 => object.put_some(alloc, form, "extensions", &self.extensions),
-            _ => Ok(()),
+            1 => encoder.value(&self.challenge),
+            2 => encoder.optional(&self.timeout),
+            3 => encoder.optional(&self.rp_id),
+            4 => encoder.optional(&self.allow_credentials),
+            5 => encoder.value(&self.user_verification),
+            6 => encoder.optional(&self.hints),
+            7 => encoder.value(&self.attestation),
+            8 => encoder.optional(&self.attestation_formats),
+            9 => encoder.optional(&self.extensions),
+            _ => Ok(None),
         }
     }
 }

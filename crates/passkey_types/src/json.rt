@@ -1,9 +1,9 @@
 //! Decoding and encoding JSON values: what you need for a JSON record of your own. WebAuthn's
 //! records are in `webauthn`.
 pub use passkey_json::{
-    BytesForm, FromJson, JsonFault, JsonRecord, JsonRefusal, Member, Object, ObjectWriter,
-    PlainJsonRecord, PlainToJson, RecordToJson, Row, ToJson, TolerantList, Tolerated, TruthText,
-    holds_float, read_back, read_name, read_nested, written_name,
+    BytesForm, FromJson, JsonEncoder, JsonFault, JsonRecord, JsonRefusal, Member, Object,
+    ObjectWriter, PlainJsonRecord, PlainToJson, RecordToJson, Row, ToJson, TolerantList, Tolerated,
+    TruthText, holds_float, read_back, read_name, read_nested, written_name,
 };
 pub use passkey_webauthn::EnumNames;
 pub use serde_json::{Error, Map, Value};

@@ -1,9 +1,9 @@
 //! Credential types.
 ghost use Rattle.std.specs.Prelude.{Some};
-ghost use Rattle.passkey_webauthn.specs.CredentialType.{credential_type_at, credential_type_name, credential_type_named, credential_type_names};
-ghost use Rattle.passkey_webauthn.specs.NameLaws.{credential_type_by_index, credential_type_own};
+ghost use Rattle.passkey_webauthn.specs.CredentialType.{credential_type_name, credential_types};
+ghost use Rattle.passkey_webauthn.specs.NameLaws.{credential_type_own};
 
-use crate::names::{EnumNames, NameTable};
+use crate::names::EnumNames;
 use std::fmt;
 
 /// The type of a credential (WebAuthn Level 3, section 5.8.2).
@@ -16,27 +16,15 @@ pub enum PublicKeyCredentialType {
 }
 
 impl EnumNames for PublicKeyCredentialType {
-    ghost name_of = { credential_type_name };
-
-    ghost named = { credential_type_named };
+    ghost table = { credential_types };
 
     ghost name_is_own = { credential_type_own };
 
-    fn from_name(name: &str) -> Option<PublicKeyCredentialType> {
-        [
-            PublicKeyCredentialType::PublicKey,
-            PublicKeyCredentialType::Unknown,
+    fn table() -> &'static [(&'static str, PublicKeyCredentialType)] {
+        &[
+            ("public-key", PublicKeyCredentialType::PublicKey),
+            ("unknown", PublicKeyCredentialType::Unknown),
         ]
-        .iter()
-        .copied()
-        .find(|value| value.name() == name)
-    }
-
-    fn name(self) -> &'static str {
-        match self {
-            PublicKeyCredentialType::PublicKey => "public-key",
-            PublicKeyCredentialType::Unknown => "unknown",
-        }
     }
 }
 
@@ -46,26 +34,6 @@ impl fmt::Display for PublicKeyCredentialType {
     /// Writes the type's name.
     fn fmt<W: fmt::Write>(&self, f: &mut fmt::Formatter<W>) -> fmt::Result {
         f.write_str(self.name())
-    }
-}
-
-impl NameTable for PublicKeyCredentialType {
-    ghost all_names = { credential_type_names };
-
-    ghost at_index = { credential_type_at };
-
-    ghost named_by_index = { credential_type_by_index };
-
-    fn names() -> &'static [&'static str] {
-        &["public-key", "unknown"]
-    }
-
-    fn named_at(index: usize) -> Option<PublicKeyCredentialType> {
-        match index {
-            0 => Some(PublicKeyCredentialType::PublicKey),
-            1 => Some(PublicKeyCredentialType::Unknown),
-            _ => None,
-        }
     }
 }
 

@@ -15,7 +15,7 @@ mod user;
 
 pub use credential_type::PublicKeyCredentialType;
 pub use descriptor::PublicKeyCredentialDescriptor;
-pub use names::{EnumNames, NameTable};
+pub use names::EnumNames;
 pub use number_text::{NumberText, whole_part};
 pub use parameters::PublicKeyCredentialParameters;
 pub use passkey_memory::OutOfMemory;

@@ -9,8 +9,8 @@ loop-row-init g c = record { same = refl; back = λ back. back }
 pub loop-row-preserved : goal.loop-row-preserved
 loop-row-preserved g c =
     let t = g.R.PlainJsonRecord.table in
-    let put = rw c.number.ensures at c.in_ok-put_member.ensures.written in
-    let back = rw c.number.ensures at c.in_ok-put_member.ensures.reads_back in
+    let put = rw (c.name.ensures, c.in_ok-member.ensures.written, c.number.ensures) at c.in_ok-put_value.ensures in
+    let back = rw c.number.ensures at c.in_ok-member.ensures.reads_back in
     let at = row_is _ t c.rows-row-items.ensures _ _ c.loop-row-test.true in
     row_encoded at.1 c.args.form c.args.value.now _ (so_far c.loop-row.object) _ c.loop-row.invariant put back
 
