@@ -16,4 +16,5 @@ pub use passkey_bytes::{
 };
 pub use passkey_cbor as cbor;
 pub use passkey_stored::{CredentialExtensions, Passkey, PasskeyBuilder, StoredHmacSecret};
+pub use passkey_view as view;
 pub use rand_core::Rng;

@@ -1,0 +1,62 @@
+/* looks: answers requests from standard input, one a line, for tools/test-c: each over a buffer of exactly the input's length.
+
+   len HEX, canonical HEX, item OFFSET HEX, member OFFSET KEY HEX, named OFFSET NAME-IN-HEX HEX, auth HEX. `-` is no bytes. */
+#include <inttypes.h>
+#include <stdio.h>
+#include <stdlib.h>
+#include <string.h>
+
+#include "puffgrit.h"
+
+typedef struct {
+    uint8_t *bytes;
+    size_t len;
+} buffer;
+
+/* A buffer of the bytes; one byte where there are none, since the pointer must not be null. */
+static buffer read_hex(const char *hex) {
+    buffer it;
+    size_t k;
+    it.len = strcmp(hex, "-") == 0 ? 0 : strlen(hex) / 2;
+    it.bytes = malloc(it.len ? it.len : 1);
+    if (!it.bytes) exit(2);
+    for (k = 0; k < it.len; k++) {
+        unsigned int byte = 0;
+        if (sscanf(hex + 2 * k, "%2x", &byte) != 1) exit(2);
+        it.bytes[k] = (uint8_t)byte;
+    }
+    return it;
+}
+
+static void print_item(puffgrit_bool found, const puffgrit_item *i) {
+    printf("%d %" PRIu64 " %zu %zu %zu %" PRIu32 "\n", found, i->number, i->from, i->content, i->end, i->kind);
+}
+
+int main(void) {
+    static char call[16], first[1 << 16], second[1 << 16], third[1 << 16];
+    static char line[3 << 16];
+    while (fgets(line, sizeof line, stdin)) {
+        int words = sscanf(line, "%15s %65535s %65535s %65535s", call, first, second, third);
+        buffer input = read_hex(words == 2 ? first : words == 3 ? second : third);
+        puffgrit_item item = {1, 2, 3, 4, 5};
+        puffgrit_auth_data parts = {1, 2, 3, 4, 5, 6, 7, 8};
+        size_t offset = words > 2 ? (size_t)strtoull(first, 0, 10) : 0;
+        if (!strcmp(call, "len")) printf("%zu\n", puffgrit_item_len(input.bytes, input.len));
+        if (!strcmp(call, "canonical")) printf("%d\n", puffgrit_is_canonical(input.bytes, input.len));
+        if (!strcmp(call, "item")) print_item(puffgrit_item_at(input.bytes, input.len, offset, &item), &item);
+        if (!strcmp(call, "member"))
+            print_item(puffgrit_member(input.bytes, input.len, offset, (int64_t)strtoll(second, 0, 10), &item), &item);
+        if (!strcmp(call, "named")) {
+            buffer name = read_hex(second);
+            print_item(puffgrit_named(input.bytes, input.len, offset, name.bytes, name.len, &item), &item);
+            free(name.bytes);
+        }
+        if (!strcmp(call, "auth")) {
+            puffgrit_bool found = puffgrit_auth_parts(input.bytes, input.len, &parts);
+            printf("%d %zu %zu %zu %zu %zu %zu %" PRIu32 " %" PRIu32 "\n", found, parts.aaguid, parts.credential_id, parts.credential_id_len,
+                parts.public_key, parts.extensions, parts.end, parts.counter, parts.flags);
+        }
+        free(input.bytes);
+    }
+    return 0;
+}

@@ -1,0 +1,260 @@
+/* puffgrit.h: data items of CBOR and authenticator data of WebAuthn, looked at in place by proved code. Made by tools/header.
+
+   - THE POINTER OF A BUFFER MUST NOT BE NULL, even for no bytes. A buffer has at most SSIZE_MAX bytes, no other thread writes it
+     during a call, and no output overlaps it or another output.
+   - No call has a state, allocates, calls back, aborts, or loops without end, and nothing is to be freed. Calls may be made from
+     any thread and from a signal handler. The library calls no function of C.
+   - A call that finds nothing returns false, and leaves its output as it was.
+   - A call looks at whole data items: it takes as long as puffgrit_item_len of what it looks at. No proof covers the stack; a
+     thread that looks at bytes of others needs at most 64 KiB for a call. */
+#ifndef PUFFGRIT_H
+#define PUFFGRIT_H
+
+#include <stddef.h>
+#include <stdint.h>
+
+#ifdef __cplusplus
+extern "C" {
+typedef bool puffgrit_bool;
+#elif defined(__STDC_VERSION__) && __STDC_VERSION__ >= 202311L
+typedef bool puffgrit_bool;
+#elif defined(__STDC_VERSION__) && __STDC_VERSION__ >= 199901L
+typedef _Bool puffgrit_bool;
+#else
+typedef unsigned char puffgrit_bool; /* 0 or 1 */
+#endif
+
+/* The types of data items: the major types (RFC 8949, section 3.1), and one for floats. */
+#define PUFFGRIT_UNSIGNED 0u
+#define PUFFGRIT_NEGATIVE 1u
+#define PUFFGRIT_BYTES 2u
+#define PUFFGRIT_TEXT 3u
+#define PUFFGRIT_ARRAY 4u
+#define PUFFGRIT_MAP 5u
+#define PUFFGRIT_TAG 6u
+#define PUFFGRIT_SIMPLE 7u
+#define PUFFGRIT_FLOAT 8u
+
+/* The numbers of simple values. */
+#define PUFFGRIT_FALSE 20u
+#define PUFFGRIT_TRUE 21u
+#define PUFFGRIT_NULL 22u
+
+/* The number of a string, an array or a map of indefinite length. */
+#define PUFFGRIT_INDEFINITE UINT64_MAX
+
+/* A data item in bytes (RFC 8949, section 3). */
+typedef struct {
+    /* The number in the item's head: the integer n, or n of the integer -1 - n; the bytes of a string, the elements of
+       an array, or the pairs of a map, and PUFFGRIT_INDEFINITE if the length is indefinite; a tag's number; a simple
+       value; or a float's bits. */
+    uint64_t number;
+    /* The offset of the item's first byte. */
+    size_t from;
+    /* The offset behind its head: of a string's first byte or chunk, of an array's first element, of a map's first key,
+       or of a tag's content. */
+    size_t content;
+    /* The offset behind its last byte. */
+    size_t end;
+    /* Its major type, 0 to 7; 8 for a float. */
+    uint32_t kind;
+} puffgrit_item;
+
+/* The parts of authenticator data, by their offsets; 0 for a part that is absent (WebAuthn Level 3, sections 6.1 and
+   6.5.1). The relying party id's hash is the first 32 bytes. */
+typedef struct {
+    /* The AAGUID, 16 bytes. */
+    size_t aaguid;
+    /* The credential id. */
+    size_t credential_id;
+    /* The length of the credential id in bytes. */
+    size_t credential_id_len;
+    /* The credential public key, a COSE key: a map with numbers as keys. */
+    size_t public_key;
+    /* The map of extension outputs, with texts as keys. */
+    size_t extensions;
+    /* The offset behind the last part. */
+    size_t end;
+    /* The signature counter. */
+    uint32_t counter;
+    /* The flags: UP 1, UV 4, BE 8, BS 16, AT 64, ED 128. */
+    uint32_t flags;
+} puffgrit_auth_data;
+
+/* The version of this interface: 1. A call or a struct that changes raises it. */
+uint32_t puffgrit_version(void);
+
+/* Returns the length in bytes of the data item at the beginning of the bytes, or 0 if they don't begin with a
+   well-formed item of at most 256 levels. An item has at least one byte. (RFC 8949, section 3.) */
+size_t puffgrit_item_len(const uint8_t *bytes, size_t bytes_len);
+
+/* Returns whether the bytes are exactly one data item of at most 256 levels in CTAP2's canonical form. (CTAP 2.1,
+   section 8.) */
+puffgrit_bool puffgrit_is_canonical(const uint8_t *bytes, size_t bytes_len);
+
+/* Writes the data item at the offset into item and returns true. Returns false, and leaves item as it was, if no
+   well-formed item of at most 256 levels is there. Bytes behind the item are ignored. (RFC 8949, section 3.) */
+puffgrit_bool puffgrit_item_at(const uint8_t *bytes, size_t bytes_len, size_t offset, puffgrit_item *item);
+
+/* Writes the value of the first member with this integer as its key, in the map at the offset, into value and returns
+   true. Returns false, and leaves value as it was, if no well-formed map of at most 256 levels is there, or it has no
+   such member. The key may be encoded in any way. */
+puffgrit_bool puffgrit_member(const uint8_t *bytes, size_t bytes_len, size_t map, int64_t key, puffgrit_item *value);
+
+/* Writes the value of the first member with this text as its key, in the map at the offset, into value and returns true.
+   Returns false, and leaves value as it was, if no well-formed map of at most 256 levels is there, it has no such
+   member, or the name isn't UTF-8. The key may be encoded in any way. */
+puffgrit_bool puffgrit_named(const uint8_t *bytes, size_t bytes_len, size_t map, const uint8_t *name, size_t name_len, puffgrit_item *value);
+
+/* Writes the parts of the authenticator data at the beginning of the bytes into parts and returns true. Returns false,
+   and leaves parts as it was, if a part that the flags announce is cut off, or isn't a well-formed map of at most 256
+   levels where one belongs. Bytes behind the last part are ignored. Neither reserved flags nor the members of the maps
+   are checked. (WebAuthn Level 3, section 6.1.) */
+puffgrit_bool puffgrit_auth_parts(const uint8_t *bytes, size_t bytes_len, puffgrit_auth_data *parts);
+
+/* The numbers of messages' members, for puffgrit_member (CTAP 2.1, section 6). */
+
+/* mc-request */
+#define PUFFGRIT_MC_REQUEST_CLIENT_DATA_HASH 1
+#define PUFFGRIT_MC_REQUEST_RP 2
+#define PUFFGRIT_MC_REQUEST_USER 3
+#define PUFFGRIT_MC_REQUEST_PUB_KEY_CRED_PARAMS 4
+#define PUFFGRIT_MC_REQUEST_EXCLUDE_LIST 5
+#define PUFFGRIT_MC_REQUEST_EXTENSIONS 6
+#define PUFFGRIT_MC_REQUEST_OPTIONS 7
+#define PUFFGRIT_MC_REQUEST_PIN_AUTH 8
+#define PUFFGRIT_MC_REQUEST_PIN_PROTOCOL 9
+
+/* mc-response */
+#define PUFFGRIT_MC_RESPONSE_FMT 1
+#define PUFFGRIT_MC_RESPONSE_AUTH_DATA 2
+#define PUFFGRIT_MC_RESPONSE_ATT_STMT 3
+#define PUFFGRIT_MC_RESPONSE_EP_ATT 4
+#define PUFFGRIT_MC_RESPONSE_LARGE_BLOB_KEY 5
+#define PUFFGRIT_MC_RESPONSE_UNSIGNED_EXTENSION_OUTPUTS 6
+
+/* ga-request */
+#define PUFFGRIT_GA_REQUEST_RP_ID 1
+#define PUFFGRIT_GA_REQUEST_CLIENT_DATA_HASH 2
+#define PUFFGRIT_GA_REQUEST_ALLOW_LIST 3
+#define PUFFGRIT_GA_REQUEST_EXTENSIONS 4
+#define PUFFGRIT_GA_REQUEST_OPTIONS 5
+#define PUFFGRIT_GA_REQUEST_PIN_AUTH 6
+#define PUFFGRIT_GA_REQUEST_PIN_PROTOCOL 7
+
+/* ga-response */
+#define PUFFGRIT_GA_RESPONSE_CREDENTIAL 1
+#define PUFFGRIT_GA_RESPONSE_AUTH_DATA 2
+#define PUFFGRIT_GA_RESPONSE_SIGNATURE 3
+#define PUFFGRIT_GA_RESPONSE_USER 4
+#define PUFFGRIT_GA_RESPONSE_NUMBER_OF_CREDENTIALS 5
+#define PUFFGRIT_GA_RESPONSE_USER_SELECTED 6
+#define PUFFGRIT_GA_RESPONSE_LARGE_BLOB_KEY 7
+#define PUFFGRIT_GA_RESPONSE_UNSIGNED_EXTENSION_OUTPUTS 8
+
+/* info */
+#define PUFFGRIT_INFO_VERSIONS 1
+#define PUFFGRIT_INFO_EXTENSIONS 2
+#define PUFFGRIT_INFO_AAGUID 3
+#define PUFFGRIT_INFO_OPTIONS 4
+#define PUFFGRIT_INFO_MAX_MSG_SIZE 5
+#define PUFFGRIT_INFO_PIN_PROTOCOLS 6
+#define PUFFGRIT_INFO_TRANSPORTS 9
+#define PUFFGRIT_INFO_ALGORITHMS 10
+#define PUFFGRIT_INFO_MAC_SERIALIZED_LARGE_BLOB_ARRAY 11
+#define PUFFGRIT_INFO_FORCE_PIN_CHANGE 12
+#define PUFFGRIT_INFO_MIN_PIN_LENGTH 13
+#define PUFFGRIT_INFO_FIRMWARE_VERSION 14
+#define PUFFGRIT_INFO_MAX_CRED_BLOB_LENGTH 15
+#define PUFFGRIT_INFO_MAX_RPIDS_FOR_SET_MIN_PIN_LENGTH 16
+#define PUFFGRIT_INFO_PREFERRED_PLATFORM_UV_ATTEMPTS 17
+#define PUFFGRIT_INFO_UV_MODALITY 18
+#define PUFFGRIT_INFO_CERTIFICATIONS 19
+#define PUFFGRIT_INFO_REMAINING_DISCOVERABLE_CREDENTIALS 20
+#define PUFFGRIT_INFO_VENDOR_PROTOTYPE_CONFIG_COMMANDS 21
+#define PUFFGRIT_INFO_ATTESTATION_FORMATS 22
+#define PUFFGRIT_INFO_UV_COUNT_SINCE_LAST_PIN_ENTRY 23
+#define PUFFGRIT_INFO_LONG_TOUCH_FOR_RESET 24
+#define PUFFGRIT_INFO_ENC_IDENTIFIER 25
+#define PUFFGRIT_INFO_TRANSPORTS_FOR_RESET 26
+#define PUFFGRIT_INFO_PIN_COMPLEXITY_POLICY 27
+#define PUFFGRIT_INFO_PIN_COMPLEXITY_POLICY_URL 28
+#define PUFFGRIT_INFO_MAX_PIN_LENGTH 29
+
+/* pin-request */
+#define PUFFGRIT_PIN_REQUEST_PIN_UV_AUTH_PROTOCOL 1
+#define PUFFGRIT_PIN_REQUEST_SUB_COMMAND 2
+#define PUFFGRIT_PIN_REQUEST_KEY_AGREEMENT 3
+#define PUFFGRIT_PIN_REQUEST_PIN_UV_AUTH_PARAM 4
+#define PUFFGRIT_PIN_REQUEST_NEW_PIN_ENC 5
+#define PUFFGRIT_PIN_REQUEST_PIN_HASH_ENC 6
+#define PUFFGRIT_PIN_REQUEST_PERMISSIONS 9
+#define PUFFGRIT_PIN_REQUEST_RP_ID 10
+
+/* pin-response */
+#define PUFFGRIT_PIN_RESPONSE_KEY_AGREEMENT 1
+#define PUFFGRIT_PIN_RESPONSE_PIN_UV_AUTH_TOKEN 2
+#define PUFFGRIT_PIN_RESPONSE_PIN_RETRIES 3
+#define PUFFGRIT_PIN_RESPONSE_POWER_CYCLE_STATE 4
+#define PUFFGRIT_PIN_RESPONSE_UV_RETRIES 5
+
+/* bio-request */
+#define PUFFGRIT_BIO_REQUEST_MODALITY 1
+#define PUFFGRIT_BIO_REQUEST_SUB_COMMAND 2
+#define PUFFGRIT_BIO_REQUEST_SUB_COMMAND_PARAMS 3
+#define PUFFGRIT_BIO_REQUEST_PIN_UV_AUTH_PROTOCOL 4
+#define PUFFGRIT_BIO_REQUEST_PIN_UV_AUTH_PARAM 5
+#define PUFFGRIT_BIO_REQUEST_GET_MODALITY 6
+
+/* bio-response */
+#define PUFFGRIT_BIO_RESPONSE_MODALITY 1
+#define PUFFGRIT_BIO_RESPONSE_FINGERPRINT_KIND 2
+#define PUFFGRIT_BIO_RESPONSE_MAX_CAPTURE_SAMPLES_REQUIRED_FOR_ENROLL 3
+#define PUFFGRIT_BIO_RESPONSE_TEMPLATE_ID 4
+#define PUFFGRIT_BIO_RESPONSE_LAST_ENROLL_SAMPLE_STATUS 5
+#define PUFFGRIT_BIO_RESPONSE_REMAINING_SAMPLES 6
+#define PUFFGRIT_BIO_RESPONSE_TEMPLATE_INFOS 7
+#define PUFFGRIT_BIO_RESPONSE_MAX_TEMPLATE_FRIENDLY_NAME 8
+
+/* cm-request */
+#define PUFFGRIT_CM_REQUEST_SUB_COMMAND 1
+#define PUFFGRIT_CM_REQUEST_SUB_COMMAND_PARAMS 2
+#define PUFFGRIT_CM_REQUEST_PIN_UV_AUTH_PROTOCOL 3
+#define PUFFGRIT_CM_REQUEST_PIN_UV_AUTH_PARAM 4
+
+/* cm-response */
+#define PUFFGRIT_CM_RESPONSE_EXISTING_RESIDENT_CREDENTIALS_COUNT 1
+#define PUFFGRIT_CM_RESPONSE_MAX_POSSIBLE_REMAINING_RESIDENT_CREDENTIALS_COUNT 2
+#define PUFFGRIT_CM_RESPONSE_RP 3
+#define PUFFGRIT_CM_RESPONSE_RP_IDHASH 4
+#define PUFFGRIT_CM_RESPONSE_TOTAL_RPS 5
+#define PUFFGRIT_CM_RESPONSE_USER 6
+#define PUFFGRIT_CM_RESPONSE_CREDENTIAL_ID 7
+#define PUFFGRIT_CM_RESPONSE_PUBLIC_KEY 8
+#define PUFFGRIT_CM_RESPONSE_TOTAL_CREDENTIALS 9
+#define PUFFGRIT_CM_RESPONSE_CRED_PROTECT 10
+#define PUFFGRIT_CM_RESPONSE_LARGE_BLOB_KEY 11
+#define PUFFGRIT_CM_RESPONSE_THIRD_PARTY_PAYMENT 12
+
+/* lb-request */
+#define PUFFGRIT_LB_REQUEST_GET 1
+#define PUFFGRIT_LB_REQUEST_SET 2
+#define PUFFGRIT_LB_REQUEST_OFFSET 3
+#define PUFFGRIT_LB_REQUEST_LENGTH 4
+#define PUFFGRIT_LB_REQUEST_PIN_UV_AUTH_PARAM 5
+#define PUFFGRIT_LB_REQUEST_PIN_UV_AUTH_PROTOCOL 6
+
+/* lb-response */
+#define PUFFGRIT_LB_RESPONSE_CONFIG 1
+
+/* cfg-request */
+#define PUFFGRIT_CFG_REQUEST_SUB_COMMAND 1
+#define PUFFGRIT_CFG_REQUEST_SUB_COMMAND_PARAMS 2
+#define PUFFGRIT_CFG_REQUEST_PIN_UV_AUTH_PROTOCOL 3
+#define PUFFGRIT_CFG_REQUEST_PIN_UV_AUTH_PARAM 4
+
+#ifdef __cplusplus
+}
+#endif
+
+#endif

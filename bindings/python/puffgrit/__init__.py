@@ -1,0 +1,176 @@
+"""CBOR data items (RFC 8949) and authenticator data (WebAuthn Level 3, section 6.1), looked at in place by proved code.
+
+The library is libpuffgrit.so beside this file, or the one that the environment variable PUFFGRIT_LIBRARY names. A call lets other
+threads run, so its bytes have to be `bytes`, which no thread can change.
+"""
+
+from __future__ import annotations
+
+import ctypes
+import os
+from dataclasses import dataclass
+from pathlib import Path
+from typing import Iterator
+
+__all__ = ["AuthData", "Item", "auth_parts", "elements", "is_canonical", "item_at", "item_len", "member", "version"]
+
+UNSIGNED, NEGATIVE, BYTES, TEXT, ARRAY, MAP, TAG, SIMPLE, FLOAT = range(9)
+INDEFINITE = 2**64 - 1
+
+
+class _Item(ctypes.Structure):
+    _fields_ = [("number", ctypes.c_uint64), ("start", ctypes.c_size_t), ("content", ctypes.c_size_t), ("end", ctypes.c_size_t), ("kind", ctypes.c_uint32)]
+
+
+class _AuthData(ctypes.Structure):
+    _fields_ = [(it, ctypes.c_size_t) for it in ["aaguid", "credential_id", "credential_id_len", "public_key", "extensions", "end"]]
+    _fields_ += [("counter", ctypes.c_uint32), ("flags", ctypes.c_uint32)]
+
+
+_BUFFER = [ctypes.c_char_p, ctypes.c_size_t]
+
+
+def _load() -> ctypes.CDLL:
+    library = ctypes.CDLL(os.environ.get("PUFFGRIT_LIBRARY") or str(Path(__file__).with_name("libpuffgrit.so")))
+    item = ctypes.POINTER(_Item)
+    for name, result, arguments in [
+        ("version", ctypes.c_uint32, []),
+        ("item_len", ctypes.c_size_t, _BUFFER),
+        ("is_canonical", ctypes.c_bool, _BUFFER),
+        ("item_at", ctypes.c_bool, [*_BUFFER, ctypes.c_size_t, item]),
+        ("member", ctypes.c_bool, [*_BUFFER, ctypes.c_size_t, ctypes.c_int64, item]),
+        ("named", ctypes.c_bool, [*_BUFFER, ctypes.c_size_t, *_BUFFER, item]),
+        ("auth_parts", ctypes.c_bool, [*_BUFFER, ctypes.POINTER(_AuthData)]),
+    ]:
+        call = getattr(library, f"puffgrit_{name}")
+        call.restype, call.argtypes = result, arguments
+    return library
+
+
+_library = _load()
+
+
+def _checked(data: bytes) -> bytes:
+    if not isinstance(data, bytes):
+        raise TypeError(f"bytes are wanted, not {type(data).__name__}")
+    return data
+
+
+@dataclass(frozen=True)
+class Item:
+    """A data item in `data`: from `start`, its content from `content`, up to `end`."""
+
+    data: bytes
+    kind: int
+    #: The argument: an integer n, or n of -1 - n; a length (INDEFINITE without one); a tag; a simple value; a float's bits.
+    number: int
+    start: int
+    content: int
+    end: int
+
+    @property
+    def integer(self) -> int:
+        """The integer that the item is."""
+        if self.kind not in (UNSIGNED, NEGATIVE):
+            raise ValueError("no integer")
+        return self.number if self.kind == UNSIGNED else -1 - self.number
+
+    @property
+    def string(self) -> bytes:
+        """The content of a byte or text string of definite length."""
+        if self.kind not in (BYTES, TEXT) or self.number == INDEFINITE:
+            raise ValueError("no string of definite length")
+        return self.data[self.content : self.end]
+
+    def get(self, key: int | str) -> Item | None:
+        """The value of the map's first member with the key, or `None`."""
+        return member(self.data, key, self.start)
+
+    def __iter__(self) -> Iterator[Item]:
+        """The elements of an array, or the keys and values of a map in turn."""
+        return elements(self.data, self)
+
+
+@dataclass(frozen=True)
+class AuthData:
+    """Authenticator data (WebAuthn Level 3, section 6.1)."""
+
+    rp_id_hash: bytes
+    flags: int
+    counter: int
+    aaguid: bytes | None
+    credential_id: bytes | None
+    public_key: Item | None
+    extensions: Item | None
+    #: The offset behind the last part: bytes after it have no meaning.
+    end: int
+
+
+def version() -> int:
+    """The version of the library's interface."""
+    return _library.puffgrit_version()
+
+
+def item_len(data: bytes) -> int:
+    """The length of the data item at the beginning of the bytes; 0 if no well-formed one of at most 256 levels is there."""
+    return _library.puffgrit_item_len(_checked(data), len(data))
+
+
+def is_canonical(data: bytes) -> bool:
+    """Whether the bytes are exactly one data item in CTAP2's canonical form (CTAP 2.1, section 8)."""
+    return _library.puffgrit_is_canonical(_checked(data), len(data))
+
+
+def _seen(data: bytes, found: bool, it: _Item) -> Item | None:
+    return Item(data, it.kind, it.number, it.start, it.content, it.end) if found else None
+
+
+def item_at(data: bytes, offset: int = 0) -> Item | None:
+    """The data item at the offset, or `None` if no well-formed one of at most 256 levels is there."""
+    it = _Item()
+    return _seen(data, _library.puffgrit_item_at(_checked(data), len(data), offset, ctypes.byref(it)), it)
+
+
+def member(data: bytes, key: int | str, offset: int = 0) -> Item | None:
+    """The value of the first member with this key of the map at the offset, or `None`. An integer has to fit in 64 bits."""
+    it = _Item()
+    if isinstance(key, str):
+        name = key.encode()
+        found = _library.puffgrit_named(_checked(data), len(data), offset, name, len(name), ctypes.byref(it))
+    elif -(2**63) <= key < 2**63:
+        found = _library.puffgrit_member(_checked(data), len(data), offset, key, ctypes.byref(it))
+    else:
+        raise OverflowError("a key has to fit in 64 bits")
+    return _seen(data, found, it)
+
+
+def elements(data: bytes, container: Item) -> Iterator[Item]:
+    """The items in an array, or a map's keys and values in turn."""
+    if container.kind not in (ARRAY, MAP):
+        raise ValueError("neither an array nor a map")
+    end = container.end - (container.number == INDEFINITE)
+    at = container.content
+    while at < end:
+        found = item_at(data, at)
+        if found is None:
+            return
+        yield found
+        at = found.end
+
+
+def auth_parts(data: bytes) -> AuthData | None:
+    """The parts of authenticator data, or `None` if one is cut off or isn't a map where one belongs."""
+    it = _AuthData()
+    if not _library.puffgrit_auth_parts(_checked(data), len(data), ctypes.byref(it)):
+        return None
+    has_ids = it.aaguid != 0
+    return AuthData(
+        rp_id_hash=data[:32],
+        flags=it.flags,
+        counter=it.counter,
+        aaguid=data[it.aaguid : it.aaguid + 16] if has_ids else None,
+        credential_id=data[it.credential_id : it.credential_id + it.credential_id_len] if has_ids else None,
+        public_key=item_at(data, it.public_key) if has_ids else None,
+        extensions=item_at(data, it.extensions) if it.extensions else None,
+        end=it.end,
+    )

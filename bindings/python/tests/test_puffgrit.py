@@ -1,0 +1,51 @@
+"""The package's calls, over examples of RFC 8949 and WebAuthn Level 3. Run by unittest or pytest."""
+
+import unittest
+from pathlib import Path
+
+import puffgrit
+
+ROOT = Path(__file__).resolve().parents[3]
+
+
+class Puffgrit(unittest.TestCase):
+    def test_version(self):
+        self.assertEqual(puffgrit.version(), 1)
+
+    def test_lengths(self):
+        self.assertEqual(puffgrit.item_len(bytes.fromhex("9f1801ff00")), 4)
+        self.assertEqual(puffgrit.item_len(b""), 0)
+        self.assertTrue(puffgrit.is_canonical(bytes.fromhex("8101")))
+        self.assertFalse(puffgrit.is_canonical(bytes.fromhex("9f1801ff")))
+
+    def test_items(self):
+        # RFC 8949, appendix A: [1, [2, 3], [4, 5]] and {"a": 1, "b": [2, 3]}
+        nested = puffgrit.item_at(bytes.fromhex("8301820203820405"))
+        self.assertEqual([it.kind for it in nested], [puffgrit.UNSIGNED, puffgrit.ARRAY, puffgrit.ARRAY])
+        self.assertEqual(puffgrit.member(bytes.fromhex("a26161016162820203"), "a").integer, 1)
+        self.assertIsNone(puffgrit.member(bytes.fromhex("a26161016162820203"), "c"))
+        self.assertEqual(puffgrit.item_at(bytes.fromhex("3903e7")).integer, -1000)
+        self.assertIsNone(puffgrit.item_at(b"\x1c"))
+
+    def test_algorithms(self):
+        info = bytes.fromhex((ROOT / "bench/messages/info.hex").read_text())
+        algorithms = puffgrit.member(info, 0x0A)
+        self.assertEqual([it.get("alg").integer for it in algorithms], [-7, -8])
+
+    def test_authenticator_data(self):
+        key = bytes.fromhex("a10102")
+        data = bytes(32) + b"\x41" + bytes([0, 0, 0, 9]) + bytes(range(16)) + b"\x00\x02" + b"id" + key + b"\xff"
+        parts = puffgrit.auth_parts(data)
+        self.assertEqual((parts.counter, parts.flags, parts.credential_id, parts.end), (9, 0x41, b"id", len(data) - 1))
+        self.assertEqual(parts.public_key.get(1).integer, 2)
+        self.assertIsNone(puffgrit.auth_parts(data[:-2]))
+
+    def test_arguments(self):
+        with self.assertRaises(TypeError):
+            puffgrit.item_len(bytearray(b"\x00"))
+        with self.assertRaises(OverflowError):
+            puffgrit.member(b"\xa0", 2**63)
+
+
+if __name__ == "__main__":
+    unittest.main()

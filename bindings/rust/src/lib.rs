@@ -1,0 +1,121 @@
+//! CBOR data items (RFC 8949) and authenticator data (WebAuthn Level 3, section 6.1), looked at in
+//! place by proved code, without memory.
+#![no_std]
+
+use core::mem::MaybeUninit;
+
+/// A data item in bytes.
+#[repr(C)]
+#[derive(Clone, Copy, Debug, PartialEq, Eq)]
+pub struct Item {
+    /// The argument of its head, or `u64::MAX` for an indefinite length.
+    pub number: u64,
+    /// The offset of its first byte.
+    pub from: usize,
+    /// The offset behind its head.
+    pub content: usize,
+    /// The offset behind its last byte.
+    pub end: usize,
+    /// Its major type, 0 to 7; 8 for a float.
+    pub kind: u32,
+}
+
+/// The parts of authenticator data, by their offsets; 0 for a part that is absent.
+#[repr(C)]
+#[derive(Clone, Copy, Debug, PartialEq, Eq)]
+pub struct AuthData {
+    pub aaguid: usize,
+    pub credential_id: usize,
+    pub credential_id_len: usize,
+    pub public_key: usize,
+    pub extensions: usize,
+    /// The offset behind the last part.
+    pub end: usize,
+    pub counter: u32,
+    pub flags: u32,
+}
+
+extern "C" {
+    fn puffgrit_item_len(bytes: *const u8, len: usize) -> usize;
+    fn puffgrit_is_canonical(bytes: *const u8, len: usize) -> bool;
+    fn puffgrit_item_at(bytes: *const u8, len: usize, offset: usize, item: *mut Item) -> bool;
+    fn puffgrit_member(bytes: *const u8, len: usize, map: usize, key: i64, value: *mut Item) -> bool;
+    fn puffgrit_named(bytes: *const u8, len: usize, map: usize, name: *const u8, name_len: usize, value: *mut Item) -> bool;
+    fn puffgrit_auth_parts(bytes: *const u8, len: usize, parts: *mut AuthData) -> bool;
+}
+
+/// A key of a map: an integer or a text.
+#[derive(Clone, Copy, Debug)]
+pub enum Key<'a> {
+    Number(i64),
+    Name(&'a str),
+}
+
+/// Returns what the call wrote, if it says that it did.
+fn written<T>(call: impl FnOnce(*mut T) -> bool) -> Option<T> {
+    let mut value = MaybeUninit::uninit();
+    // SAFETY: a call that returns true wrote the whole value, and no call reads it.
+    call(value.as_mut_ptr()).then(|| unsafe { value.assume_init() })
+}
+
+/// The length of the data item at the beginning of the bytes, or `None` if no well-formed one of at
+/// most 256 levels is there.
+pub fn item_len(bytes: &[u8]) -> Option<usize> {
+    // SAFETY: a slice's pointer isn't null, and is readable for its length.
+    match unsafe { puffgrit_item_len(bytes.as_ptr(), bytes.len()) } {
+        0 => None,
+        len => Some(len),
+    }
+}
+
+/// Whether the bytes are exactly one data item in CTAP2's canonical form (CTAP 2.1, section 8).
+pub fn is_canonical(bytes: &[u8]) -> bool {
+    // SAFETY: as above.
+    unsafe { puffgrit_is_canonical(bytes.as_ptr(), bytes.len()) }
+}
+
+/// The data item at the offset.
+pub fn item_at(bytes: &[u8], offset: usize) -> Option<Item> {
+    // SAFETY: as above.
+    written(|item| unsafe { puffgrit_item_at(bytes.as_ptr(), bytes.len(), offset, item) })
+}
+
+/// The value of the first member with the key, in the map at the offset.
+pub fn member(bytes: &[u8], map: usize, key: Key<'_>) -> Option<Item> {
+    let (start, len) = (bytes.as_ptr(), bytes.len());
+    // SAFETY: as above.
+    written(|item| unsafe {
+        match key {
+            Key::Number(number) => puffgrit_member(start, len, map, number, item),
+            Key::Name(name) => puffgrit_named(start, len, map, name.as_ptr(), name.len(), item),
+        }
+    })
+}
+
+/// The parts of the authenticator data at the beginning of the bytes.
+pub fn auth_parts(bytes: &[u8]) -> Option<AuthData> {
+    // SAFETY: as above.
+    written(|parts| unsafe { puffgrit_auth_parts(bytes.as_ptr(), bytes.len(), parts) })
+}
+
+#[cfg(test)]
+mod tests {
+    use super::*;
+
+    #[test]
+    fn looks() {
+        assert_eq!(item_len(&[0x9f, 0x18, 0x01, 0xff, 0x00]), Some(4));
+        assert_eq!(item_len(&[]), None);
+        assert!(is_canonical(&[0x81, 0x01]));
+        assert_eq!(item_at(&[0x81, 0x01], 1).map(|it| it.number), Some(1));
+        assert_eq!(member(&[0xa1, 0x20, 0x05], 0, Key::Number(-1)).map(|it| it.number), Some(5));
+        assert_eq!(member(&[0xa1, 0x61, 0x61, 0x05], 0, Key::Name("a")).map(|it| it.from), Some(3));
+        assert_eq!(member(&[0xa0], 0, Key::Name("a")), None);
+    }
+
+    #[test]
+    fn authenticator_data() {
+        assert_eq!(auth_parts(&[0; 37]).map(|it| it.end), Some(37));
+        assert_eq!(auth_parts(&[0; 36]), None);
+    }
+}

@@ -1,0 +1,27 @@
+-- The length of a data item, and what is written of what was found.
+use Rattle.std.proofs.Common.{ℕ, zero, suc, Bool, List, length, take, Option, Some, None, arith}
+use Rattle.std.specs.Prelude.{MatchOption}
+use Rattle.std.proofs.lemmas.List.{length-take}
+use Rattle.passkey_cbor.specs.Item.{Item}
+use Rattle.passkey_cbor.specs.Inside.{Within}
+use Rattle.passkey_cbor.specs.LeadingItem.{IsLeadingItem, max_depth}
+use Rattle.passkey_cbor.specs.Reading.{item_within}
+use Rattle.passkey_cbor.proofs.Items.{follows_item}
+use Rattle.passkey_cbor.proofs.Lists.{encoded_long}
+use Rattle.passkey_view.specs.declared.item_view.ItemView.{ItemView}
+use Rattle.passkey_c.specs.declared.item.Item.{Item as CItem}
+use Rattle.passkey_c.specs.Items.{IsItemLength, Fills, Writes, item_of}
+
+-- no data item is empty
+pub is_length : (bytes : List ℕ) (x : Item) (len : ℕ) → IsLeadingItem bytes x len → IsItemLength bytes len
+is_length bytes x zero f =
+    absurd (omega (arith, length-take zero bytes,
+    encoded_long (Within max_depth) (item_within max_depth) (follows_item max_depth) x (take zero bytes)
+    (f.shallow, f.encoded)))
+is_length bytes x (suc n) f = (x, f)
+
+-- what was found is written
+pub writes : (none : Type 0) (some : ItemView → Type 0) (found : Option ItemView) (old new : CItem) (result : Bool)
+    → MatchOption found none some → Fills item_of found old new result → Writes none some old new result
+writes none some (Some v) old new result m f = rw f.0 (v, (m, f.1))
+writes none some None old new result m f = rw f.0 (m, f.1)

@@ -1,0 +1,23 @@
+//! Puffgrit for C: data items and authenticator data, looked at in the caller's memory. A slice is a
+//! pointer and a length in C. Nothing is allocated and no pointer is handed out, so nothing is to be
+//! freed. `puffgrit.h` is made from these sources (`tools/header`).
+#![tactic(auto)]
+
+ghost use Rattle.std.specs.Prelude.{◌≡◌};
+
+mod auth_data;
+mod item;
+
+pub use auth_data::{AuthData, puffgrit_auth_parts};
+pub use item::{
+    Item, puffgrit_is_canonical, puffgrit_item_at, puffgrit_item_len, puffgrit_member,
+    puffgrit_named,
+};
+
+/// The version of this interface: 1. A call or a struct that changes raises it.
+#[unsafe(no_mangle)]
+pub extern "C" fn puffgrit_version() -> u32
+    ensures { result ≡ 1 }
+{
+    1
+}

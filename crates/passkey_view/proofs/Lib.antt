@@ -1,0 +1,4 @@
+pub mod Placed
+pub mod Keys
+pub mod Walking
+pub mod Parts

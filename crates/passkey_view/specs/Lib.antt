@@ -1,0 +1,3 @@
+pub mod DataView
+pub mod ItemView
+pub mod Member
