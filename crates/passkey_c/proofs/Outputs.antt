@@ -1,23 +1,16 @@
 -- The length of a data item, and what is written of what was found.
-use Rattle.std.proofs.Common.{ℕ, zero, suc, Bool, List, length, take, Option, Some, None, arith}
+use Rattle.std.proofs.Common.{ℕ, zero, suc, Bool, List, Option, Some, None, arith}
 use Rattle.std.specs.Prelude.{MatchOption}
-use Rattle.std.proofs.lemmas.List.{length-take}
 use Rattle.passkey_cbor.specs.Item.{Item}
-use Rattle.passkey_cbor.specs.Inside.{Within}
-use Rattle.passkey_cbor.specs.LeadingItem.{IsLeadingItem, max_depth}
-use Rattle.passkey_cbor.specs.Reading.{item_within}
-use Rattle.passkey_cbor.proofs.Items.{follows_item}
-use Rattle.passkey_cbor.proofs.Lists.{encoded_long}
+use Rattle.passkey_cbor.specs.LeadingItem.{IsLeadingItem}
+use Rattle.passkey_cbor.proofs.EncodedFrom.{front_long}
 use Rattle.passkey_view.specs.declared.item_view.ItemView.{ItemView}
 use Rattle.passkey_c.specs.declared.item.Item.{Item as CItem}
 use Rattle.passkey_c.specs.Items.{IsItemLength, Fills, Writes, item_of}
 
 -- no data item is empty
 pub is_length : (bytes : List ℕ) (x : Item) (len : ℕ) → IsLeadingItem bytes x len → IsItemLength bytes len
-is_length bytes x zero f =
-    absurd (omega (arith, length-take zero bytes,
-    encoded_long (Within max_depth) (item_within max_depth) (follows_item max_depth) x (take zero bytes)
-    (f.shallow, f.encoded)))
+is_length bytes x zero f = absurd (omega (arith, front_long x bytes zero f))
 is_length bytes x (suc n) f = (x, f)
 
 -- what was found is written

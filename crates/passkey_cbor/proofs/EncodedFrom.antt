@@ -1,6 +1,6 @@
 -- Data items encoded at an offset: as leading data items, by their heads, and for the calls of a cursor.
-use Rattle.std.proofs.Common.{◌≡◌, ℕ, ◌+◌, ◌-◌, ◌≤◌, pos, negsuc, Bool, true, false, List, [], ◌++◌, length, take, drop, Option, Some, None, Result, Ok, Err, refl, sym, ap, subst, ◌∙◌, append_assoc, arith, inl, inr}
-use Rattle.std.proofs.lemmas.List.{length-append, length-drop, append-nil, take_at}
+use Rattle.std.proofs.Common.{◌≡◌, ℕ, ◌+◌, ◌-◌, ◌<◌, ◌≤◌, pos, negsuc, Bool, true, false, List, [], ◌++◌, length, take, drop, Option, Some, None, Result, Ok, Err, refl, sym, ap, subst, ◌∙◌, append_assoc, arith, inl, inr}
+use Rattle.std.proofs.lemmas.List.{length-append, length-drop, length-take, append-nil, take_at, take-append-drop, drop-drop}
 use Rattle.passkey_cbor.specs.Item.{Item, number, byte_string, text_string, array, map, tagged, boolean, null, simple, float, elements, members}
 use Rattle.passkey_cbor.specs.Nodes.{nodes}
 use Rattle.passkey_cbor.specs.Languages.{Language}
@@ -10,7 +10,7 @@ use Rattle.passkey_cbor.specs.Grows.{Grows}
 use Rattle.passkey_cbor.specs.View.{item_of}
 use Rattle.passkey_cbor.specs.HeadEncoding.{IsEncodingOfHead}
 use Rattle.passkey_cbor.specs.HeadReading.{head_at}
-use Rattle.passkey_cbor.specs.Reading.{simple_item}
+use Rattle.passkey_cbor.specs.Reading.{simple_item, item_within}
 use Rattle.passkey_cbor.specs.Inside.{Within, PairWithin, Inside}
 use Rattle.passkey_cbor.specs.Walk.{Walk, ahead, raised}
 use Rattle.passkey_cbor.specs.HeadCount.{heads_of}
@@ -26,7 +26,8 @@ use Rattle.passkey_cbor.specs.declared.error.CborError.TheVariants as error
 use Rattle.passkey_cbor.proofs.Binds.{some_is}
 use Rattle.passkey_cbor.proofs.HeadAgain.{head_again}
 use Rattle.passkey_cbor.proofs.Strings.{string_headed}
-use Rattle.passkey_cbor.proofs.Items.{items_of-elements, pairs_of-members, length-elements, length-members, each_element, each_member, listed_headed, low_simple, high_simple}
+use Rattle.passkey_cbor.proofs.Lists.{encoded_long}
+use Rattle.passkey_cbor.proofs.Items.{follows_item, items_of-elements, pairs_of-members, length-elements, length-members, each_element, each_member, listed_headed, low_simple, high_simple}
 use Rattle.passkey_cbor.proofs.LeadingItems.{at_most_one}
 
 -- ---- leading data items
@@ -54,6 +55,27 @@ stands_front x bytes from to l =
           (sym (ap (take (to - from)) l.parts ∙ take_at l.text (drop to bytes) (to - from) size)) l.encoded.1;
       shallow = l.encoded.0;
     }
+
+-- no data item is empty
+pub front_long : (x : Item) (bytes : List ℕ) (len : ℕ) → IsLeadingItem bytes x len → 0 < len
+front_long x bytes len f = omega (
+  arith,
+  encoded_long (Within max_depth) (item_within max_depth) (follows_item max_depth) x (take len bytes)
+      (f.shallow, f.encoded),
+  length-take len bytes,
+)
+
+-- the leading data item at an offset is encoded there
+pub front_stands : (x : Item) (bytes : List ℕ) (place len : ℕ) → IsLeadingItem (drop place bytes) x len
+    → IsEncodedAt x bytes place (place + len)
+front_stands x bytes place len f = record {
+  text = take len (drop place bytes);
+  encoded = (f.shallow, f.encoded);
+  parts = sym (take-append-drop len (drop place bytes))
+      ∙ ap (λ (r : List ℕ). take len (drop place bytes) ++ r) (drop-drop len place bytes);
+  forward = omega arith;
+  within = omega (arith, f.within, length-drop place bytes, front_long x (drop place bytes) len f);
+}
 
 -- the leading data item at the offset is the one encoded there
 pub only_one : (x y : Item) (bytes : List ℕ) (from to len : ℕ) → IsEncodedAt x bytes from to

@@ -29,6 +29,14 @@ pub pairs_of-members : (ps : Pairs) → pairs_of (members ps) ≡ ps
 pairs_of-members no_pairs = refl
 pairs_of-members (pair k v ps) = ap (pair k v) (pairs_of-members ps)
 
+pub elements-items_of : (xs : List Item) → elements (items_of xs) ≡ xs
+elements-items_of [] = refl
+elements-items_of (x ∷ xs) = ap (λ (ys : List Item). x ∷ ys) (elements-items_of xs)
+
+pub members-pairs_of : (ms : List (Item × Item)) → members (pairs_of ms) ≡ ms
+members-pairs_of [] = refl
+members-pairs_of (m ∷ ms) = ap (λ (ns : List (Item × Item)). m ∷ ns) (members-pairs_of ms)
+
 pub length-elements : (xs : Items) → items_len xs ≡ length (elements xs)
 length-elements no_items = refl
 length-elements (item x xs) = ap suc (length-elements xs)

@@ -1,7 +1,7 @@
 -- The members of a map, one by one.
-use Rattle.std.proofs.Common.{◌≡◌, ℕ, ◌-◌, ◌<◌, ◌≤◌, Bool, true, false, List, [], ◌∷◌, ◌++◌, length, take, drop, Option, Some, None, refl, sym, ap, subst, ◌∙◌, arith, Bor}
+use Rattle.std.proofs.Common.{◌≡◌, ℕ, ◌-◌, ◌<◌, ◌≤◌, Bool, true, false, List, [], ◌∷◌, ◌++◌, length, take, drop, Option, Some, None, refl, sym, ap, subst, ◌∙◌, zero-add, arith, Bor}
 use Rattle.std.specs.Prelude.{nat_lt, ◌==◌, if◌then◌else◌}
-use Rattle.std.proofs.lemmas.List.{length-append, length-drop, length-take, take-append-drop, take_at}
+use Rattle.std.proofs.lemmas.List.{length-append, length-drop, length-take, take_at}
 use Rattle.passkey_cbor.specs.Item.{Item, Pairs, map, pairs_of}
 use Rattle.passkey_cbor.specs.LeadingItem.{max_depth, IsLeadingItem}
 use Rattle.passkey_cbor.specs.Reading.{simple_item, item_within}
@@ -14,7 +14,7 @@ use Rattle.passkey_cbor.specs.declared.head.Head.{Head}
 use Rattle.passkey_cbor.specs.declared.head.Head.TheVariants as head
 use Rattle.passkey_cbor.proofs.Lists.{encoded_long}
 use Rattle.passkey_cbor.proofs.Items.{follows_item}
-use Rattle.passkey_cbor.proofs.EncodedFrom.{lies_size}
+use Rattle.passkey_cbor.proofs.EncodedFrom.{lies_size, front_stands}
 use Rattle.passkey_cbor.proofs.More.{split}
 
 -- ---- the bytes of one data item
@@ -193,21 +193,12 @@ nearer old new slices g =
 abbrev start : List ℕ → Walk
 start bytes = record { bytes = bytes; place = 0; heads = 0; nodes = 0 }
 
-front_stands : (bytes : List ℕ) (x : Item) (len : ℕ) → IsLeadingItem bytes x len → IsEncodedAt x bytes 0 len
-front_stands bytes x len f = record {
-  text = take len bytes;
-  encoded = (f.shallow, f.encoded);
-  parts = sym (take-append-drop len bytes);
-  forward = omega arith;
-  within = f.within;
-}
-
 -- the cursor skipped the data item and went back to the start
 stands_again : (bytes : List ℕ) (a b p : Walk) (x : Item) (len : ℕ) → a ≡ start bytes → b.bytes ≡ a.bytes
     → p ≡ record b { place = 0 } → IsLeadingItem bytes x len → IsEncodedAt x p.bytes p.place len
 stands_again bytes a b p x len new same back f =
     let bytes_are : p.bytes ≡ bytes = ap (λ (w : Walk). w.bytes) back ∙ same ∙ ap (λ (w : Walk). w.bytes) new in
-    rw (bytes_are, ap (λ (w : Walk). w.place) back) (front_stands bytes x len f)
+    rw (bytes_are, ap (λ (w : Walk). w.place) back) (subst (IsEncodedAt x bytes 0) (zero-add len) (front_stands x bytes 0 len f))
 
 pub no_item : (bytes : List ℕ) (a b : Walk) → a ≡ start bytes → FindsNoLeadingItem a b → HasNoMap bytes
 no_item bytes a b new n ms len f = n.none (map (pairs_of ms)) len (rw new f)

@@ -5,15 +5,8 @@ use Rattle.passkey_cbor.specs.Item.{Item, array, map, elements, members, items_o
 use Rattle.passkey_iana.specs.Iana.{key_operation_named}
 use Rattle.passkey_cose.specs.KeyFaults.{first_op_fault, ops_fault, first_fault}
 use Rattle.passkey_cose.specs.KeyLabels.{Members}
+use Rattle.passkey_cbor.proofs.Items.{elements-items_of, members-pairs_of}
 use Rattle.passkey_cose.specs.KeyReading.{name_in, ops_in, judged, read_key}
-
-pub elements-items_of : (xs : List Item) → elements (items_of xs) ≡ xs
-elements-items_of [] = refl
-elements-items_of (x ∷ xs) = ap (λ (ys : List Item). x ∷ ys) (elements-items_of xs)
-
-pub members-pairs_of : (ms : List (Item × Item)) → members (pairs_of ms) ≡ ms
-members-pairs_of [] = refl
-members-pairs_of (m ∷ ms) = ap (λ (ns : List (Item × Item)). m ∷ ns) (members-pairs_of ms)
 
 pub ops_fault-array : (xs : List Item) → 0 < length xs → ops_fault (array (items_of xs)) ≡ first_op_fault [] xs
 ops_fault-array [] h = absurd (omega arith)

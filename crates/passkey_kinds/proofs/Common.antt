@@ -6,10 +6,10 @@ pub use Rattle.passkey_bytes.specs.Map.{ByteMap, put_each}
 pub use Rattle.passkey_bytes.specs.SameMaps.{same_tests}
 pub use Rattle.passkey_bytes.specs.declared.bytes.BytesFault.{BytesFault}
 pub use Rattle.passkey_cbor.proofs.Binds.{some_is}
-pub use Rattle.passkey_cbor.proofs.EncodedFrom.{lies_size, only_one}
+pub use Rattle.passkey_cbor.proofs.EncodedFrom.{lies_size, only_one, front_long, front_stands}
 pub use Rattle.passkey_cbor.proofs.Raised.{raised-le}
 pub use Rattle.passkey_cbor.proofs.HeadAgain.{head_again}
-pub use Rattle.passkey_cbor.proofs.Items.{follows_item, low_simple, pairs_len-pairs_of}
+pub use Rattle.passkey_cbor.proofs.Items.{members-pairs_of, elements-items_of, follows_item, low_simple, pairs_len-pairs_of}
 pub use Rattle.passkey_cbor.proofs.Lists.{head_long, encoded_long, each_long}
 pub use Rattle.passkey_cbor.proofs.More.{split}
 pub use Rattle.passkey_cbor.proofs.Pieces.{lends_start, lends_on, lends_all}
@@ -54,7 +54,6 @@ pub use Rattle.passkey_core.specs.DataRead.{read_data}
 pub use Rattle.passkey_core.specs.DataReading.{DataGrow}
 pub use Rattle.passkey_core.specs.DataViews.{data_parts}
 pub use Rattle.passkey_core.specs.declared.authenticator_data.AuthenticatorData.{AuthenticatorData}
-pub use Rattle.passkey_cose.proofs.KeyLists.{members-pairs_of, elements-items_of}
 pub use Rattle.passkey_cose.specs.declared.error.CoseError.{CoseError}
 pub use Rattle.passkey_iana.specs.Iana.{algorithm_named}
 pub use Rattle.passkey_iana.specs.declared.algorithm.Algorithm.{Algorithm}

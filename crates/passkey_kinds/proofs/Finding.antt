@@ -8,7 +8,7 @@ use Rattle.passkey_cbor.specs.Skipped.{PassesLeadingItem}
 use Rattle.passkey_cbor.specs.Walk.{Walk, ahead}
 use Rattle.passkey_cbor.specs.LeadingItem.{IsLeadingItem}
 use Rattle.passkey_cbor.specs.Lent.{Region, LendsFrom}
-use Rattle.passkey_kinds.proofs.RecordLaws.{front_stands}
+use Rattle.passkey_cbor.proofs.EncodedFrom.{front_stands}
 use Rattle.passkey_kinds.proofs.Common.{only_one, byte_string, members_in}
 use Rattle.passkey_kinds.specs.LentItem.{ValueLies, IfRow}
 use Rattle.passkey_kinds.specs.declared.rows.Named.TheVariants.{Row, Unknown}

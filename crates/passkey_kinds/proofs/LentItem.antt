@@ -11,7 +11,7 @@ use Rattle.passkey_cbor.specs.declared.head.Head.{Head}
 use Rattle.passkey_cbor.specs.declared.head.Head.TheVariants as head
 use Rattle.passkey_kinds.proofs.Common.{only_one, members_in}
 use Rattle.passkey_kinds.proofs.Finding.{leads}
-use Rattle.passkey_kinds.proofs.RecordLaws.{front_stands}
+use Rattle.passkey_cbor.proofs.EncodedFrom.{front_stands}
 use Rattle.passkey_kinds.specs.Lending.{value_among, FindsValue}
 use Rattle.passkey_kinds.specs.LentItem.{value_in, Chosen, IfRow, ValueLies, ValueEnds, ValueAt, Entered, EntersValue, LendsMember}
 use Rattle.passkey_kinds.specs.Reader.{OpensAt}

@@ -1,6 +1,5 @@
 -- Laws of records and messages.
-use Rattle.passkey_kinds.proofs.Common.{raised, heads_of, only_one, IsEncodedAt, Grows, Item, no_pairs, pair, members, AtMostOneLeadingItem, IsLeadingItem, PassesLeadingItem, Walk, ahead, Went, members-pairs_of, bytes, ReadsMessage, Begins, GrowsMessage, ReadsHere, AlikeDifferInLength, SameButForLength, AnswersCarryOver, KnowsItems, known, HasNoWrongKey, AnswersAlike, SameAnswers, PassesOverUnknown, KnowsMaps, Onward, Reads, MayGrowAt, Fields, table_of, one_more, Progress, result_and_then, read_from, read_members, read_item, Table, named, Members, Naming, row, unknown, wrong, record_cost, DecodesRecord, Fault, ◌≡◌, ◌∙◌, ◌+◌, ℕ, suc, arith, List, [], ◌∷◌, ◌++◌, length, drop, refl, sym, ap, rules, ◌≤◌, Result, ◌*◌, subst, take, Ok, Err, ◌≢◌, IfErr, All-head, All-tail, take-append-drop, drop-drop, length-drop}
-use Rattle.passkey_kinds.proofs.Cursor.{front_long}
+use Rattle.passkey_kinds.proofs.Common.{front_stands, raised, heads_of, only_one, IsEncodedAt, Grows, Item, no_pairs, pair, members, AtMostOneLeadingItem, IsLeadingItem, PassesLeadingItem, Walk, ahead, Went, members-pairs_of, bytes, ReadsMessage, Begins, GrowsMessage, ReadsHere, AlikeDifferInLength, SameButForLength, AnswersCarryOver, KnowsItems, known, HasNoWrongKey, AnswersAlike, SameAnswers, PassesOverUnknown, KnowsMaps, Onward, Reads, MayGrowAt, Fields, table_of, one_more, Progress, result_and_then, read_from, read_members, read_item, Table, named, Members, Naming, row, unknown, wrong, record_cost, DecodesRecord, Fault, ◌≡◌, ◌∙◌, ◌+◌, ℕ, suc, arith, List, [], ◌∷◌, ◌++◌, length, drop, refl, sym, ap, rules, ◌≤◌, Result, ◌*◌, subst, take, Ok, Err, ◌≢◌, IfErr, All-head, All-tail, take-append-drop, drop-drop, length-drop}
 use Rattle.passkey_kinds.specs.declared.fault.Fault.TheVariants as fault
 use Rattle.passkey_cbor.specs.Item as item
 
@@ -138,17 +137,6 @@ pub message_fails : {A M : Type 0} (view : A → M) (table : Table) (read : Item
 message_fails view table read bytes i len e f h = grind (arith, may_grow)
 
 -- ---- at a cursor
-
-pub front_stands : (x : Item) (bytes : List ℕ) (place len : ℕ) → IsLeadingItem (drop place bytes) x len
-    → IsEncodedAt x bytes place (place + len)
-front_stands x bytes place len f = record {
-  text = take len (drop place bytes);
-  encoded = (f.shallow, f.encoded);
-  parts = sym (take-append-drop len (drop place bytes))
-      ∙ ap (λ (r : List ℕ). take len (drop place bytes) ++ r) (drop-drop len place bytes);
-  forward = omega arith;
-  within = omega (arith, f.within, length-drop place bytes, front_long x (drop place bytes) len f);
-}
 
 -- the cursor skipped the item, and went back
 pub record WentBack (old s a : Walk) : Type 0 where

@@ -6,9 +6,7 @@ use Rattle.passkey_cbor.specs.Item.{Item}
 use Rattle.passkey_cbor.specs.Languages.{Language}
 use Rattle.passkey_cbor.specs.LeadingItem.{IsLeadingItem, max_depth}
 use Rattle.passkey_cbor.specs.Inside.{Within, Inside}
-use Rattle.passkey_cbor.specs.Reading.{item_within}
-use Rattle.passkey_cbor.proofs.Lists.{encoded_long}
-use Rattle.passkey_cbor.proofs.Items.{follows_item}
+use Rattle.passkey_cbor.proofs.EncodedFrom.{front_long, front_stands}
 use Rattle.passkey_cbor.specs.HeadEncoding.{IsEncodingOfHead}
 use Rattle.passkey_cbor.specs.Walk.{Walk, ahead, Went}
 use Rattle.passkey_cbor.specs.Skipped.{PassesLeadingItem}
@@ -19,27 +17,9 @@ use Rattle.passkey_view.specs.declared.item_view.ItemView.{ItemView}
 use Rattle.passkey_view.specs.ItemView.{IsViewOf, moved}
 use Rattle.passkey_view.specs.Member.{HasMember}
 
--- the leading data item at an offset is encoded there
-pub stands_at : (x : Item) (bytes : List ℕ) (place len : ℕ) → place ≤ length bytes
-    → IsLeadingItem (drop place bytes) x len → IsEncodedAt x bytes place (place + len)
-stands_at x bytes place len inside f = record {
-  text = take len (drop place bytes);
-  encoded = (f.shallow, f.encoded);
-  parts = sym (take-append-drop len (drop place bytes))
-      ∙ ap (λ (r : List ℕ). take len (drop place bytes) ++ r) (drop-drop len place bytes);
-  forward = omega arith;
-  within = omega (arith, f.within, length-drop place bytes);
-}
-
 -- a cursor that skipped an item moved on
 pub skipped_on : (a b : Walk) → PassesLeadingItem a b → a.place < b.place
-skipped_on a b p = omega (
-  arith,
-  p.place,
-  encoded_long (Within max_depth) (item_within max_depth) (follows_item max_depth) p.item (take p.len (ahead a))
-      (p.front.shallow, p.front.encoded),
-  length-take p.len (ahead a),
-)
+skipped_on a b p = omega (arith, p.place, front_long p.item (ahead a) p.len p.front)
 
 -- ---- an item that was passed, and its head after the cursor went back
 
@@ -50,7 +30,7 @@ module _ (a s b c : Walk) (h : Head) (p : PassesLeadingItem a s) (same_bytes : b
     (same_place : b.place ≡ a.place) (q : PassesHead b c h) (inside : a.place ≤ length a.bytes) where
   whole : IsEncodedAt p.item a.bytes a.place s.place
   whole = subst (IsEncodedAt p.item a.bytes a.place) (sym p.place)
-      (stands_at p.item a.bytes a.place p.len inside p.front)
+      (front_stands p.item a.bytes a.place p.len p.front)
 
   again : IsEncodedAt p.item b.bytes b.place s.place
   again = rw (same_bytes, same_place) whole

@@ -13,6 +13,7 @@ use Rattle.passkey_cbor.specs.EncodedAt.{Lies, IsEncodedAt, PairsAreEncodedAt, W
 use Rattle.passkey_cbor.specs.declared.head.Head.{Head}
 use Rattle.passkey_cbor.specs.declared.head.Head.TheVariants as head
 use Rattle.passkey_cbor.proofs.EncodedFrom.{only_one, stands_front}
+use Rattle.passkey_cbor.proofs.Items.{members-pairs_of}
 use Rattle.passkey_cbor.proofs.More.{split}
 use Rattle.passkey_view.specs.declared.item_view.ItemView.{ItemView}
 use Rattle.passkey_view.specs.ItemView.{IsViewOf, HasItemAt, HasNoItemAt, IsOpened}
@@ -191,10 +192,6 @@ looks_first key ms to left a l = record {
 }
 
 -- ---- the map around the members
-
-members-pairs_of : (ms : Members) → members (pairs_of ms) ≡ ms
-members-pairs_of [] = refl
-members-pairs_of (m ∷ ms) = ap (λ (rest : Members). m ∷ rest) (members-pairs_of ms)
 
 members_same : (ms others : Members) → map (pairs_of ms) ≡ map (pairs_of others) → ms ≡ others
 members_same ms others e = let p : pairs_of ms ≡ pairs_of others = cc in
