@@ -1,5 +1,5 @@
 -- What a cursor passed of what is to be decoded.
-use Rattle.std.proofs.Common.{◌≡◌, ℕ, zero, suc, ◌+◌, ◌-◌, ◌^◌, ◌<◌, ◌≤◌, Bool, true, false, List, length, get_or, set, Option, Some, None, refl, sym, ap, subst, ◌∙◌, arith}
+use Rattle.std.proofs.Common.{◌≡◌, ℕ, zero, suc, ◌+◌, ◌-◌, ◌^◌, ◌<◌, ◌≤◌, Bool, true, false, List, length, drop, get_or, set, min, Option, Some, None, refl, sym, ap, subst, ◌∙◌, arith}
 use Rattle.std.proofs.Common.{◌≢◌, get_or-set_same, get_or-set_other}
 use Rattle.std.proofs.lemmas.List.{length-drop, length-set}
 use Rattle.passkey_cbor.specs.Item.{Item}
@@ -23,6 +23,7 @@ use Rattle.passkey_cbor.proofs.Binds.{none_is_some}
 use Rattle.passkey_cbor.proofs.HeadCounts.{spans_none, spans_then, spans_head, spans_flat}
 use Rattle.passkey_cbor.proofs.HeadsDecoded.{decoded_then, started, flat_heads, headed_string}
 use Rattle.passkey_cbor.proofs.Leaves.{leaf_passed}
+use Rattle.passkey_cbor.proofs.Raised.{raised-raised}
 use Rattle.passkey_cbor.proofs.Skipping.{passed_none, passed_then, stopped_none, stopped_then, skips_started}
 use Rattle.passkey_cbor.proofs.Courses.{course, behind_behind, behind_none, behind_then, then_then, then_over, rest_is, headed, no_item, items_none, items_one, items_to_break, items_end, pairs_to_break, pairs_end, open_items, open_value, open_tag, behind_array, behind_map, flat_array, flat_map, flat_tag}
 
@@ -314,6 +315,77 @@ one_passed levels n left a b one p =
     (items_course levels (Some n)) a b
     (ap (λ (k : ℕ). items_course levels (Some k) (ahead a)) one ∙ items_one levels n (ahead a))
     (passed_whole (item_course levels (ahead a)) (items_course levels (Some n)) a b p)
+
+-- the cursor at another offset, with so many more heads
+abbrev moved : Walk → ℕ → ℕ → Walk
+moved w place n = record w { place = place; heads = raised w.heads n }
+
+raised_more : (n k : ℕ) → n ≤ 2 ^ 128 - 1 → raised n k ≤ raised n (k + 1)
+raised_more n zero fits = let one : raised n 1 ≡ min (n + 1) (2 ^ 128 - 1) = refl in omega arith
+raised_more n (suc k) fits =
+    let next : suc k + 1 ≡ suc (suc k) = omega arith in
+    let more : raised n (suc k) ≤ raised n (suc (suc k)) = omega arith in
+    rw next more
+
+raised_is : (n k : ℕ) → n ≤ 2 ^ 128 - 1 → min (n + k) (2 ^ 128 - 1) ≡ raised n k
+raised_is n zero fits = omega arith
+raised_is n (suc k) fits = refl
+
+-- The invariant of a loop that passes data items of one head each up to this offset, and counts them later.
+pub record Leaves (most left place : ℕ) (a : Walk) : Type 0 where
+  pub few : left ≤ most
+  pub within : place ≤ length a.bytes
+  pub advances : a.heads ≤ 2 ^ 128 - 1 → (levels : ℕ) → Advances (items_course levels (Some most) (ahead a))
+      (items_course levels (Some left)) a (moved a place (most - left))
+
+pub leaves_none : (most place : ℕ) (a : Walk) → IsInside a → place ≡ a.place → Leaves most most place a
+leaves_none most place a inside is =
+    let none : most - most ≡ 0 = omega arith in
+    let here : moved a place (most - most) ≡ a =
+    ap (λ (p : ℕ). moved a p (most - most)) is ∙ ap (moved a a.place) none in
+    record {
+      few = omega arith;
+      within = omega arith;
+      advances = λ fits levels. subst
+          (λ (w : Walk). Advances (items_course levels (Some most) (ahead a)) (items_course levels (Some most)) a w)
+          (sym here)
+          (nothing_passed (items_course levels (Some most) (ahead a)) (items_course levels (Some most)) a inside refl);
+    }
+
+pub leaves_one : (most left n place len : ℕ) (a : Walk) → Leaves most left place a → left ≡ suc n → 0 < len
+    → IsLeafLen (drop place a.bytes) len → Leaves most n (place + len) a
+leaves_one most left n place len a t one some leaf =
+    let b = moved a place (most - left) in
+    let c = moved a (place + len) (most - n) in
+    let count : most - n ≡ (most - left) + 1 = omega (arith, t.few) in
+    let within : place + len ≤ length a.bytes = omega (arith, leaf.within, t.within, length-drop place a.bytes) in
+    let is : c ≡ record b { place = b.place + len; heads = raised b.heads 1 } =
+    ap (λ (h : ℕ). record a { place = place + len; heads = h })
+    (ap (raised a.heads) count ∙ sym (raised-raised a.heads (most - left) 1)) in
+    record {
+      few = omega (arith, t.few);
+      within = within;
+      advances = λ fits levels. both_passed (items_course levels (Some most) (ahead a)) (items_course levels (Some left))
+          (items_course levels (Some n)) a b c (t.advances fits levels)
+          (one_passed levels n left b c one (leaf_advances levels len b c t.within some leaf is
+          (omega (arith, raised_more a.heads (most - left) fits, ap (raised a.heads) count))));
+    }
+
+pub leaves_passed : (most left place : ℕ) (a b : Walk) → Leaves most left place a
+    → b ≡ record a { place = place; heads = min (a.heads + (most - left)) (2 ^ 128 - 1) } → a.heads ≤ b.heads
+    → (levels : ℕ) → Advances (items_course levels (Some most) (ahead a)) (items_course levels (Some left)) a b
+leaves_passed most left place a b t is rises levels =
+    let fits : a.heads ≤ 2 ^ 128 - 1 = omega (arith, ap (λ (w : Walk). w.heads) is) in
+    let same : b ≡ moved a place (most - left) =
+    is ∙ ap (λ (h : ℕ). record a { place = place; heads = h }) (raised_is a.heads (most - left) fits) in
+    subst (λ (w : Walk). Advances (items_course levels (Some most) (ahead a)) (items_course levels (Some left)) a w)
+    (sym same) (t.advances fits levels)
+
+pub leaves_missed : (most left : ℕ) (a : Walk) → IsInside a → left ≡ most
+    → (levels : ℕ) → Advances (items_course levels (Some most) (ahead a)) (items_course levels (Some left)) a a
+leaves_missed most left a inside same levels =
+    nothing_passed (items_course levels (Some most) (ahead a)) (items_course levels (Some left)) a inside
+    (ap (λ (n : ℕ). items_course levels (Some n) (ahead a)) (sym same))
 
 -- a data item with others in it, which are taken
 pub list_taken : (levels : ℕ) (inner : Open) (a b c : Walk) (found : Bool) → BeginsItem inner a b

@@ -110,6 +110,19 @@ impl<'a> Cursor<'a> {
         self.place += len;
     }
 
+    /// Moves to this offset, and counts so many heads.
+    pub(crate) fn pass_leaves(&mut self, place: usize, heads: u64)
+        requires { place ≤ length self.old.bytes }
+        ensures passed { self.new ≡ record self.old {
+          place = place;
+          heads = min (self.old.heads + heads) u128.MAX;
+        } }
+        ensures rises { self.old.heads ≤ self.new.heads }
+    {
+        self.add_heads(u128::from(heads));
+        self.place = place;
+    }
+
     /// Decodes the head at the cursor and moves past it. Returns `None`, and the cursor doesn't
     /// move, if no complete, well-formed head follows. Counts one head in both cases. (RFC 8949,
     /// section 3.)

@@ -261,16 +261,22 @@ impl<'a> Cursor<'a> {
         ensures { (levels : ℕ) → Advances (items_course levels (There most) (ahead self.old))
             (items_course levels (There result)) self.old self.new }
     {
+        let bytes = self.bytes;
+        let mut place = self.place;
         let mut left = most;
         while left > 0 {
-            let len = leaf_len(&self.bytes[self.place..]);
+            let len = leaf_len(&bytes[place..]);
             if len == 0 {
-                return left;
+                break;
             }
-            self.pass_leaf(len);
+            place += len;
             left -= 1;
         }
-        0
+        if left == most {
+            return left;
+        }
+        self.pass_leaves(place, most - left);
+        left
     }
 
     // Skips what is left of an array, a map or a tag, in which data items have at most `levels` levels.
