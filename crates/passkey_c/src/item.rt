@@ -128,12 +128,7 @@ pub extern "C" fn puffgrit_item_at(bytes: &[u8], offset: usize, item: &mut Item)
 /// `value` and returns true. Returns false, and leaves `value` as it was, if no well-formed map of at
 /// most 256 levels is there, or it has no such member. The key may be encoded in any way.
 #[unsafe(no_mangle)]
-pub extern "C" fn puffgrit_member(
-    bytes: &[u8],
-    map: usize,
-    key: i64,
-    value: &mut Item,
-) -> bool
+pub extern "C" fn puffgrit_member(bytes: &[u8], map: usize, key: i64, value: &mut Item) -> bool
     ensures { Writes (HasNoMember (number key) bytes.now map) (HasMember (number key) bytes.now map)
         value.old value.new result }
 {
@@ -145,12 +140,7 @@ pub extern "C" fn puffgrit_member(
 /// most 256 levels is there, it has no such member, or the name isn't UTF-8. The key may be encoded
 /// in any way.
 #[unsafe(no_mangle)]
-pub extern "C" fn puffgrit_named(
-    bytes: &[u8],
-    map: usize,
-    name: &[u8],
-    value: &mut Item,
-) -> bool
+pub extern "C" fn puffgrit_named(bytes: &[u8], map: usize, name: &[u8], value: &mut Item) -> bool
     ensures found { IsUtf8 name.now → Writes (HasNoMember (text_string name.now) bytes.now map)
         (HasMember (text_string name.now) bytes.now map) value.old value.new result }
     ensures other { (IsUtf8 name.now → ⊥) → (result ≡ false) × (value.new ≡ value.old) }
