@@ -9,7 +9,6 @@ use Rattle.passkey_cbor.specs.Lent.{string_head}
 use Rattle.passkey_cbor.specs.Walk.{Walk, ahead, raised, Passed}
 use Rattle.passkey_cbor.specs.Steps.{ElementRead}
 use Rattle.passkey_cbor.specs.declared.head.Head.{Head}
-use Rattle.passkey_cbor.specs.declared.head.Head.TheVariants as head
 use Rattle.passkey_cbor.proofs.Raised.{raised-raised}
 
 -- counted one after the other
