@@ -12,7 +12,7 @@ use Rattle.passkey_json.specs.declared.bytes_form.BytesForm.TheVariants as form
 use Rattle.passkey_json.specs.declared.written.held.ObjectWriter.{ObjectWriter as Holder}
 use Rattle.serde_json.specs.Data.{Data, number, unsigned, string, array, object, Members, no_members, put}
 use Rattle.serde_json.specs.Find.{of_integer}
-use Rattle.serde_json.specs.View.{items_of, members_view, view}
+use Rattle.serde_json.specs.View.{items_of, members_view}
 
 -- The JSON value decodes to this value, also if null is allowed and decodes to `None`.
 pub record ReadsBack {A : Type 0} (kind : Kind A) (x : A) (d : Data) : Type 0 where
