@@ -11,8 +11,7 @@ use passkey_types::cbor::Value;
 use passkey_types::ctap2::framing::{from_body, request_of, response_of};
 use passkey_types::ctap2::large_blobs::{array_of, with_digest};
 use passkey_types::ctap2::{
-    Kept, Message, ToCbor, bio_enrollment, client_pin, config, credential_management,
-    large_blobs,
+    Kept, Message, ToCbor, bio_enrollment, client_pin, config, credential_management, large_blobs,
 };
 use std::alloc::Global;
 
