@@ -1,7 +1,6 @@
 -- Messages of authenticatorBioEnrollment: decoding their encodings again, their nesting levels, and their canonical form.
 use Rattle.passkey_kinds.proofs.Numbered.{code_place, code_keeps, numbered_law, IsNumbered, IsNumberedAs}
-use Rattle.passkey_kinds.proofs.Steps.{arith, shortest_head, truth_back, plainly, list_plain, puts_value, puts_default, no_more, ◌▸◌, refl, byte_back, word_back, text_back, bytes_back, anything, optional_place, list_same, ℕ, suc, ◌≡◌, None, true}
-use Rattle.passkey_kinds.specs.Numbered.{AreMessages}
+use Rattle.passkey_kinds.proofs.Steps.{shortest_head, truth_back, plainly, list_plain, puts_value, puts_default, no_more, ◌▸◌, refl, byte_back, word_back, text_back, bytes_back, anything, optional_place, list_same, ℕ, suc, ◌≡◌}
 use Rattle.passkey_bio_enrollment.specs.SubCommand.{sub_command_of, sub_command_byte, named_sub_commands}
 use Rattle.passkey_bio_enrollment.specs.declared.sub_command.SubCommand.TheVariants as sub_command
 use Rattle.passkey_bio_enrollment.specs.Modality.{modality_of, modality_byte, named_modalitys}

@@ -1,9 +1,6 @@
 -- Messages of authenticatorCredentialManagement: decoding their encodings again, their nesting levels, and their canonical form.
-use Rattle.passkey_kinds.proofs.Common.{record_kind, places_of}
-use Rattle.passkey_kinds.proofs.Numbered.{code_back, code_place, code_keeps, long_back, not_null_back, not_null_around, numbered_law, keeping_law, IsKeeping, IsNumbered, IsNumberedAs}
-use Rattle.passkey_kinds.proofs.Steps.{KeysAscend, keys_ascend, OnlyAt, optional_keeps, arith, shortest_head, truth_back, plainly, list_plain, puts_value, puts_default, kind_back, no_more, ◌▸◌, option_map, number_tree, refl, byte_back, word_back, text_back, bytes_back, anything, all_of_anything, optional_place, list_same, descriptor_law, IsReadBack, EachFits, ◌≤◌, ℕ, suc, ◌≡◌, None, true}
-use Rattle.passkey_kinds.specs.Numbered.{AreMessages, numbered_fields}
-use Rattle.passkey_kinds.specs.Words.{plain_tree}
+use Rattle.passkey_kinds.proofs.Numbered.{code_back, code_place, code_keeps, not_null_back, not_null_around, numbered_law, keeping_law, IsKeeping, IsNumbered, IsNumberedAs}
+use Rattle.passkey_kinds.proofs.Steps.{optional_keeps, arith, shortest_head, truth_back, plainly, puts_value, puts_default, no_more, ◌▸◌, refl, byte_back, word_back, bytes_back, anything, optional_place, descriptor_law, ℕ, suc, ◌≡◌}
 use Rattle.passkey_entities.proofs.Entities.{rp_law, user_law}
 use Rattle.passkey_credential_management.specs.SubCommand.{sub_command_of, sub_command_byte, named_sub_commands}
 use Rattle.passkey_credential_management.specs.declared.sub_command.SubCommand.TheVariants as sub_command
