@@ -269,30 +269,40 @@ fn blob_array(alloc: Global, input: &str) -> Result<String, RunFault> {
     encode(alloc, &with_digest(alloc, &array)?)
 }
 
+fn pin_authenticated(alloc: Global, bytes: &[u8]) -> Result<Option<Vec<u8>>, RunFault> {
+    let (request, _len) = client_pin::Request::from_slice(alloc, bytes)?;
+    Ok(Some(request.authenticated_bytes(alloc)?))
+}
+
+fn enrollment_authenticated(alloc: Global, bytes: &[u8]) -> Result<Option<Vec<u8>>, RunFault> {
+    let (request, _len) = bio_enrollment::Request::from_slice(alloc, bytes)?;
+    Ok(request.authenticated_bytes(alloc, bytes)?)
+}
+
+fn management_authenticated(alloc: Global, bytes: &[u8]) -> Result<Option<Vec<u8>>, RunFault> {
+    let (request, _len) = credential_management::Request::from_slice(alloc, bytes)?;
+    Ok(Some(request.authenticated_bytes(alloc, bytes)?))
+}
+
+fn blobs_authenticated(alloc: Global, bytes: &[u8]) -> Result<Option<Vec<u8>>, RunFault> {
+    let (request, _len) = large_blobs::Request::from_slice(alloc, bytes)?;
+    Ok(request.authenticated_bytes(alloc)?)
+}
+
+fn configuration_authenticated(alloc: Global, bytes: &[u8]) -> Result<Option<Vec<u8>>, RunFault> {
+    let (request, _len) = config::Request::from_slice(alloc, bytes)?;
+    Ok(Some(request.authenticated_bytes(alloc, bytes)?))
+}
+
 /// `BYTES`: what pinUvAuthParam authenticates for a request; `none` if it is nothing.
 fn authenticated(alloc: Global, command: &str, input: &str) -> Result<String, RunFault> {
     let bytes = decode(alloc, input)?;
     let authenticated = match command {
-        "pin" => {
-            let (request, _len) = client_pin::Request::from_slice(alloc, &bytes)?;
-            Some(request.authenticated_bytes(alloc)?)
-        }
-        "bio" => {
-            let (request, _len) = bio_enrollment::Request::from_slice(alloc, &bytes)?;
-            request.authenticated_bytes(alloc, &bytes)?
-        }
-        "cm" => {
-            let (request, _len) = credential_management::Request::from_slice(alloc, &bytes)?;
-            Some(request.authenticated_bytes(alloc, &bytes)?)
-        }
-        "lb" => {
-            let (request, _len) = large_blobs::Request::from_slice(alloc, &bytes)?;
-            request.authenticated_bytes(alloc)?
-        }
-        "cfg" => {
-            let (request, _len) = config::Request::from_slice(alloc, &bytes)?;
-            Some(request.authenticated_bytes(alloc, &bytes)?)
-        }
+        "pin" => pin_authenticated(alloc, &bytes)?,
+        "bio" => enrollment_authenticated(alloc, &bytes)?,
+        "cm" => management_authenticated(alloc, &bytes)?,
+        "lb" => blobs_authenticated(alloc, &bytes)?,
+        "cfg" => configuration_authenticated(alloc, &bytes)?,
         _ => return Err(RunFault::UnknownKind),
     };
     match authenticated {
