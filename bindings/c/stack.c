@@ -1,4 +1,5 @@
-/* stack: prints how many bytes of stack a call takes over 256 levels of arrays, of maps and of tags. */
+/* stack: prints how many bytes of stack calls take over 256 levels, more than over a number: puffgrit_is_canonical (check), and the
+   others (look). */
 #define _POSIX_C_SOURCE 200809L
 #include <pthread.h>
 #include <stdio.h>
@@ -11,17 +12,26 @@ enum { ROOM = 1 << 20, MARK = 0xa5, LEVELS = 256 };
 static uint8_t input[2 * LEVELS + 1], room[ROOM];
 static size_t input_len;
 
-static void *run(void *unused) {
+static void *look(void *unused) {
     puffgrit_item item;
+    puffgrit_auth_data parts;
     (void)unused;
     (void)puffgrit_item_len(input, input_len);
-    (void)puffgrit_is_canonical(input, input_len);
+    (void)puffgrit_item_at(input, input_len, 0, &item);
     (void)puffgrit_member(input, input_len, 0, 1, &item);
+    (void)puffgrit_named(input, input_len, 0, (const uint8_t *)"id", 2, &item);
+    (void)puffgrit_auth_parts(input, input_len, &parts);
+    return 0;
+}
+
+static void *check(void *unused) {
+    (void)unused;
+    (void)puffgrit_is_canonical(input, input_len);
     return 0;
 }
 
 /* The bytes of its stack that the thread wrote. */
-static size_t used(void) {
+static size_t used(void *(*run)(void *)) {
     pthread_attr_t attributes;
     pthread_t thread;
     size_t untouched = 0;
@@ -34,21 +44,26 @@ static size_t used(void) {
     return ROOM - untouched;
 }
 
-static size_t over(const uint8_t *level, size_t len) {
-    size_t k;
+static void print_more(const char *calls, const char *what, size_t taken, size_t alone) {
+    printf("%s %s %lu\n", calls, what, taken > alone ? (unsigned long)(taken - alone) : 0ul);
+}
+
+static void over(const char *what, const uint8_t *level, size_t len) {
+    size_t k, look_alone, check_alone;
+    input_len = 1;
+    look_alone = used(look);
+    check_alone = used(check);
     for (k = 0; k < LEVELS; k++) memcpy(input + k * len, level, len);
     input_len = LEVELS * len + 1;
     input[input_len - 1] = 0;
-    return used();
+    print_more("look", what, used(look), look_alone);
+    print_more("check", what, used(check), check_alone);
 }
 
 int main(void) {
-    size_t none;
-    input_len = 1;
-    none = used();
-    printf("arrays %zu\n", over((const uint8_t *)"\x81", 1) - none);
-    printf("maps %zu\n", over((const uint8_t *)"\xa1\x00", 2) - none);
-    printf("tags %zu\n", over((const uint8_t *)"\xc1", 1) - none);
-    printf("arrays of indefinite length %zu\n", over((const uint8_t *)"\x9f", 1) - none);
+    over("arrays", (const uint8_t *)"\x81", 1);
+    over("maps", (const uint8_t *)"\xa1\x00", 2);
+    over("tags", (const uint8_t *)"\xc1", 1);
+    over("arrays-of-indefinite-length", (const uint8_t *)"\x9f", 1);
     return 0;
 }
