@@ -15,6 +15,8 @@ import sys
 from inputs import inputs
 
 FEW = 2
+# an input of fewer bytes takes so little that many rounds can be counted
+SMALL = 1 << 16
 # what one run takes, about, in seconds
 LONG = 0.6
 
@@ -61,8 +63,11 @@ def instructions(program, call, rounds, file):
     return int(re.search(r"I\s+refs:\s+([\d,]+)", ran.stderr)[1].replace(",", ""))
 
 
-def instructions_a_round(program, call, file, few=1, many=3):
-    """Of a run of many rounds less those of a run of few: so starting the process and reading the input don't count."""
+def instructions_a_round(program, call, file, few=None, many=None):
+    """Of a run of many rounds less those of a run of few: so starting the process and reading the input don't count, nor the first
+    rounds, in which malloc hasn't been asked for these sizes before. Of a large input a few rounds are enough."""
+    if many is None:
+        few, many = (10, 60) if os.stat(file).st_size < SMALL else (2, 4)
     counts = [instructions(program, call, rounds, file) for rounds in (few, many)]
     return (counts[1] - counts[0]) // (many - few)
 
