@@ -172,29 +172,28 @@ fn a_token_authenticates_a_request(rt: HostRuntime) {
     assert_eq!(rt; hexadecimal.as_str(), want);
 }
 
+/// Returns why there is no token, or `a token`.
+fn told(rt: &(impl Abort + AllocGlobal), info: &'static str, pin: &str) -> String {
+    let fault = token(rt, info, pin).err();
+    match fault {
+        Some(fault) => format!(in rt.alloc(); "{fault}").expect(rt, "memory"),
+        None => String::from_str(rt.alloc(), "a token").expect(rt, "memory"),
+    }
+}
+
 #[test]
 fn authenticators_without_tokens_are_refused(rt: HostRuntime) {
-    for (info, pin, want) in [
-        ("", "1234", "an empty response"),
-        (
-            "01",
-            "1234",
-            "the authenticator returned a status: Known(InvalidCommand)",
-        ),
-        ("00", "1234", "the response: Missing(1)"),
-        (
-            "00a20180035000000000000000000000000000000000",
-            "1234",
-            "no options",
-        ),
-        (INFO, "12345", "the cryptography failed"),
-    ] {
-        match token(&rt, info, pin) {
-            Ok(_) => assert!(rt; false, "a token for {info}"),
-            Err(fault) => {
-                let told = format!(in rt.alloc(); "{fault}").expect(&rt, "memory");
-                assert_eq!(rt; told.as_str(), want);
-            }
-        }
-    }
+    let status = "the authenticator returned a status: Known(InvalidCommand)";
+    let no_options = "00a20180035000000000000000000000000000000000";
+    assert_eq!(rt; told(&rt, "", "1234").as_str(), "an empty response");
+    assert_eq!(rt; told(&rt, "01", "1234").as_str(), status);
+    assert_eq!(rt;
+        told(&rt, "00", "1234").as_str(),
+        "the response: Missing(1)"
+    );
+    assert_eq!(rt; told(&rt, no_options, "1234").as_str(), "no options");
+    assert_eq!(rt;
+        told(&rt, INFO, "12345").as_str(),
+        "the cryptography failed"
+    );
 }
