@@ -11,7 +11,7 @@ use std::alloc::Global;
 /// The parameters of a subcommand of authenticatorBioEnrollment (CTAP 2.1, section 6.7). Which ones
 /// a subcommand requires isn't checked. `None` means that the member is absent; null also decodes
 /// to `None`.
-#[derive(Debug, Drop)]
+#[derive(Debug, Default, Drop)]
 pub struct Parameters {
     /// 0x01: the template's identifier.
     pub template_id: Option<Bytes>,
@@ -22,11 +22,7 @@ pub struct Parameters {
 }
 
 impl TableRecord for Parameters {
-    ghost parts = { λ r. r };
-
     ghost table = { bio_parameters };
-
-    ghost kept = { λ r. None };
 
     fn is_numbered() -> bool {
         true
@@ -41,11 +37,7 @@ impl TableRecord for Parameters {
     }
 
     fn blank(_alloc: Global) -> Parameters {
-        Parameters {
-            template_id: None,
-            template_friendly_name: None,
-            timeout_milliseconds: None,
-        }
+        Parameters::default()
     }
 
     fn put<S: Source>(&mut self, alloc: Global, number: u8, source: &mut S) -> Result<(), Refusal> {

@@ -12,7 +12,7 @@ use std::alloc::Global;
 
 /// An authenticatorBioEnrollment request (CTAP 2.1, section 6.7). Which members a subcommand
 /// requires isn't checked. `None` means that the member is absent; null also decodes to `None`.
-#[derive(Debug, Drop)]
+#[derive(Debug, Default, Drop)]
 pub struct Request {
     /// 0x01: the modality.
     pub modality: Option<Modality>,
@@ -30,11 +30,7 @@ pub struct Request {
 }
 
 impl TableRecord for Request {
-    ghost parts = { λ r. r };
-
     ghost table = { bio_request };
-
-    ghost kept = { λ r. None };
 
     ghost normal = { normal_bio_request };
 
@@ -54,14 +50,7 @@ impl TableRecord for Request {
     }
 
     fn blank(_alloc: Global) -> Request {
-        Request {
-            modality: None,
-            sub_command: None,
-            sub_command_params: None,
-            pin_uv_auth_protocol: None,
-            pin_uv_auth_param: None,
-            get_modality: None,
-        }
+        Request::default()
     }
 
     fn put<S: Source>(&mut self, alloc: Global, number: u8, source: &mut S) -> Result<(), Refusal> {

@@ -12,7 +12,7 @@ use std::alloc::Global;
 
 /// An authenticatorBioEnrollment response (CTAP 2.1, section 6.7). `None` means that the member is
 /// absent; null also decodes to `None`.
-#[derive(Debug, Drop)]
+#[derive(Debug, Default, Drop)]
 pub struct Response {
     /// 0x01: the modality.
     pub modality: Option<Modality>,
@@ -33,11 +33,7 @@ pub struct Response {
 }
 
 impl TableRecord for Response {
-    ghost parts = { λ r. r };
-
     ghost table = { bio_response };
-
-    ghost kept = { λ r. None };
 
     ghost normal = { normal_bio_response };
 
@@ -59,16 +55,7 @@ impl TableRecord for Response {
     }
 
     fn blank(_alloc: Global) -> Response {
-        Response {
-            modality: None,
-            fingerprint_kind: None,
-            max_capture_samples_required_for_enroll: None,
-            template_id: None,
-            last_enroll_sample_status: None,
-            remaining_samples: None,
-            template_infos: None,
-            max_template_friendly_name: None,
-        }
+        Response::default()
     }
 
     fn put<S: Source>(&mut self, alloc: Global, number: u8, source: &mut S) -> Result<(), Refusal> {

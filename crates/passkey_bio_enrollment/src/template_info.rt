@@ -19,11 +19,7 @@ pub struct TemplateInfo {
 }
 
 impl TableRecord for TemplateInfo {
-    ghost parts = { λ r. r };
-
     ghost table = { template_info };
-
-    ghost kept = { λ r. None };
 
     fn is_numbered() -> bool {
         true

@@ -3,40 +3,16 @@ use Rattle.std.specs.Prelude.{ℕ, List, [], ◌∷◌, Option, None, option_map
 use Rattle.passkey_client_pin.specs.SubCommand.{sub_command_of, sub_command_byte}
 use Rattle.passkey_client_pin.specs.declared.request.Request.{Request}
 use Rattle.passkey_client_pin.specs.declared.sub_command.SubCommand.{SubCommand}
-use Rattle.passkey_client_pin.specs.declared.sub_command.SubCommand.TheVariants.{Other}
+use Rattle.passkey_client_pin.specs.declared.sub_command.SubCommand.TheVariants.{GetPinRetries}
 use Rattle.passkey_kinds.specs.Coded.{text, bytes}
-use Rattle.passkey_kinds.specs.Held.{held_item}
 use Rattle.passkey_kinds.specs.Numbered.{code, kept_item}
 use Rattle.passkey_kinds.specs.Words.{Item, PlainTable, byte, word, required_at, optional_at}
 
--- what contracts see of a request
-pub record PinRequestParts : Type 0 where
-  pub pin_uv_auth_protocol : Option ℕ
-  pub sub_command : SubCommand
-  pub key_agreement : Option Item
-  pub pin_uv_auth_param : Option (List ℕ)
-  pub new_pin_enc : Option (List ℕ)
-  pub pin_hash_enc : Option (List ℕ)
-  pub permissions : Option ℕ
-  pub rp_id : Option (List ℕ)
-
-abbrev pub pin_request_parts : Request → PinRequestParts
-pin_request_parts r = record {
-  pin_uv_auth_protocol = r.pin_uv_auth_protocol;
-  sub_command = r.sub_command;
-  key_agreement = option_map held_item r.key_agreement;
-  pin_uv_auth_param = r.pin_uv_auth_param;
-  new_pin_enc = r.new_pin_enc;
-  pin_hash_enc = r.pin_hash_enc;
-  permissions = option_map (λ p. p.0) r.permissions;
-  rp_id = r.rp_id;
-}
-
-abbrev pub pin_request : PlainTable PinRequestParts
+abbrev pub pin_request : PlainTable Request
 pin_request = record {
   blank = record {
     pin_uv_auth_protocol = None;
-    sub_command = Other 0;
+    sub_command = GetPinRetries;
     key_agreement = None;
     pin_uv_auth_param = None;
     new_pin_enc = None;

@@ -2,28 +2,10 @@
 use Rattle.std.specs.Prelude.{ℕ, Bool, List, [], ◌∷◌, Option, None, option_map, codes}
 use Rattle.passkey_client_pin.specs.declared.response.Response.{Response}
 use Rattle.passkey_kinds.specs.Coded.{bytes, truth}
-use Rattle.passkey_kinds.specs.Held.{held_item}
 use Rattle.passkey_kinds.specs.Numbered.{kept_item}
 use Rattle.passkey_kinds.specs.Words.{Item, PlainTable, word, optional_at}
 
--- what contracts see of a response
-pub record PinResponseParts : Type 0 where
-  pub key_agreement : Option Item
-  pub pin_uv_auth_token : Option (List ℕ)
-  pub pin_retries : Option ℕ
-  pub power_cycle_state : Option Bool
-  pub uv_retries : Option ℕ
-
-abbrev pub pin_response_parts : Response → PinResponseParts
-pin_response_parts r = record {
-  key_agreement = option_map held_item r.key_agreement;
-  pin_uv_auth_token = r.pin_uv_auth_token;
-  pin_retries = r.pin_retries;
-  power_cycle_state = r.power_cycle_state;
-  uv_retries = r.uv_retries;
-}
-
-abbrev pub pin_response : PlainTable PinResponseParts
+abbrev pub pin_response : PlainTable Response
 pin_response = record {
   blank = record {
     key_agreement = None;

@@ -4,14 +4,26 @@ ghost use Rattle.std.specs.Int.RustNames.{bit_and, bit_or};
 ghost use Rattle.passkey_kinds.specs.Words.{below, number_tree};
 
 use passkey_cbor::{Cursor, Encoder, Value};
-use passkey_kinds::{FromCbor, OutOfMemory, Refusal, ToCbor};
+use passkey_kinds::{Blame, FromCbor, OutOfMemory, Refusal, ToCbor, Wanted};
 use std::alloc::Global;
+use std::marker::Model;
 use std::ops::BitOr;
 
 /// The permissions of a pinUvAuthToken, a set of bits (CTAP 2.1, section 6.5.5.7). Bits without a
 /// name are kept.
 #[derive(Clone, Copy, Debug, PartialEq, Eq)]
 pub struct Permissions(u32);
+
+/// Contracts see the bits.
+impl Model for Permissions {
+    ghost use Rattle.std.specs.Prelude.{ℕ};
+
+    ghost Value = { ℕ };
+
+    ghost view = { λ p. p.0 };
+
+    ghost inverse = { λ bits. record { 0 = bits } };
+}
 
 impl Permissions {
     /// mc, bit 0: authenticatorMakeCredential. It requires a relying party id.
@@ -38,21 +50,21 @@ impl Permissions {
 
     /// Returns the set with these bits.
     pub fn from_bits(bits: u32) -> Permissions
-        ensures { result.0 ≡ bits }
+        ensures { result ≡ bits }
     {
         Permissions(bits)
     }
 
     /// Returns the bits.
     pub fn bits(&self) -> u32
-        ensures { result ≡ self.now.0 }
+        ensures { result ≡ self.now }
     {
         self.0
     }
 
     /// Returns whether all permissions of the other set are in this one.
     pub fn contains(&self, other: Permissions) -> bool
-        ensures { result ≡ (bit_and self.now.0 other.0 == other.0) }
+        ensures { result ≡ (bit_and self.now other == other) }
     {
         self.0 & other.0 == other.0
     }
@@ -61,7 +73,7 @@ impl Permissions {
 impl BitOr for Permissions {
     type Output = Permissions;
 
-    ghost bitor_gives = { λ a b both. both.0 ≡ bit_or a.0 b.0 };
+    ghost bitor_gives = { λ a b both. both ≡ bit_or a b };
 
     fn bitor(self, other: Permissions) -> Permissions {
         Permissions(self.0 | other.0)
@@ -73,7 +85,7 @@ impl FromCbor for Permissions {
 
     ghost Meaning = { ℕ };
 
-    ghost view = { λ p. p.0 };
+    ghost view = { λ p. p };
 
     ghost typed = { below (2 ^ 32) };
 
@@ -84,12 +96,16 @@ impl FromCbor for Permissions {
     fn read(alloc: Global, cursor: &mut Cursor<'_>) -> Result<Permissions, Refusal> {
         Ok(Permissions(u32::read(alloc, cursor)?))
     }
+
+    fn explain(alloc: Global, _value: &Value) -> Result<Blame, OutOfMemory> {
+        Ok(Blame::wanted(alloc, Wanted::Below(4_294_967_296)))
+    }
 }
 
 impl ToCbor for Permissions {
-    ghost tree = { λ p. number_tree p.0 };
+    ghost tree = { number_tree };
 
-    ghost fits = { λ p. p.0 < 2 ^ 32 };
+    ghost fits = { λ p. p < 2 ^ 32 };
 
     fn to_value(&self, alloc: Global) -> Result<Value, OutOfMemory> {
         self.0.to_value(alloc)

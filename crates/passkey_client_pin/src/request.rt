@@ -1,5 +1,5 @@
 //! authenticatorClientPIN requests.
-ghost use Rattle.passkey_client_pin.specs.PinRequest.{PinRequestParts, pin_request, pin_request_parts, normal_pin_request};
+ghost use Rattle.passkey_client_pin.specs.PinRequest.{pin_request, normal_pin_request};
 
 use crate::{Permissions, SubCommand};
 use passkey_bytes::{Bytes, Text};
@@ -10,7 +10,7 @@ use std::alloc::Global;
 
 /// An authenticatorClientPIN request (CTAP 2.1, section 6.5.5). Which members a subcommand requires
 /// isn't checked. `None` means that the member is absent; null also decodes to `None`.
-#[derive(Debug, Drop)]
+#[derive(Debug, Default, Drop)]
 pub struct Request {
     /// 0x01: the PIN/UV auth protocol, 1 or 2.
     pub pin_uv_auth_protocol: Option<u8>,
@@ -32,10 +32,6 @@ pub struct Request {
 }
 
 impl TableRecord for Request {
-    ghost Parts = { PinRequestParts };
-
-    ghost parts = { pin_request_parts };
-
     ghost table = { pin_request };
 
     ghost kept = { λ r. r.key_agreement };
@@ -60,16 +56,7 @@ impl TableRecord for Request {
     }
 
     fn blank(_alloc: Global) -> Request {
-        Request {
-            pin_uv_auth_protocol: None,
-            sub_command: SubCommand::Other(0),
-            key_agreement: None,
-            pin_uv_auth_param: None,
-            new_pin_enc: None,
-            pin_hash_enc: None,
-            permissions: None,
-            rp_id: None,
-        }
+        Request::default()
     }
 
     fn put<S: Source>(&mut self, alloc: Global, number: u8, source: &mut S) -> Result<(), Refusal> {

@@ -1,5 +1,5 @@
 //! authenticatorClientPIN responses.
-ghost use Rattle.passkey_client_pin.specs.PinResponse.{PinResponseParts, pin_response, pin_response_parts};
+ghost use Rattle.passkey_client_pin.specs.PinResponse.{pin_response};
 
 use passkey_bytes::Bytes;
 use passkey_kinds::{
@@ -9,7 +9,7 @@ use std::alloc::Global;
 
 /// An authenticatorClientPIN response (CTAP 2.1, section 6.5.5). `None` means that the member is
 /// absent; null also decodes to `None`.
-#[derive(Debug, Drop)]
+#[derive(Debug, Default, Drop)]
 pub struct Response {
     /// 0x01: `keyAgreement`, the authenticator's public key, a COSE key.
     pub key_agreement: Option<Kept>,
@@ -24,10 +24,6 @@ pub struct Response {
 }
 
 impl TableRecord for Response {
-    ghost Parts = { PinResponseParts };
-
-    ghost parts = { pin_response_parts };
-
     ghost table = { pin_response };
 
     ghost kept = { λ r. r.key_agreement };
@@ -47,13 +43,7 @@ impl TableRecord for Response {
     }
 
     fn blank(_alloc: Global) -> Response {
-        Response {
-            key_agreement: None,
-            pin_uv_auth_token: None,
-            pin_retries: None,
-            power_cycle_state: None,
-            uv_retries: None,
-        }
+        Response::default()
     }
 
     fn put<S: Source>(&mut self, alloc: Global, number: u8, source: &mut S) -> Result<(), Refusal> {

@@ -4,10 +4,12 @@ ghost use Rattle.passkey_client_pin.specs.SubCommand.{sub_command_of, sub_comman
 
 use passkey_kinds::Code;
 
-/// A subcommand of authenticatorClientPIN, with its number (CTAP 2.1, section 6.5.5).
-#[derive(Clone, Copy, Debug, PartialEq, Eq)]
+/// A subcommand of authenticatorClientPIN, with its number (CTAP 2.1, section 6.5.5). The default asks for
+/// a count alone.
+#[derive(Clone, Copy, Debug, Default, PartialEq, Eq)]
 pub enum SubCommand {
     /// 0x01: getPINRetries.
+    #[default]
     GetPinRetries,
     /// 0x02: getKeyAgreement.
     GetKeyAgreement,

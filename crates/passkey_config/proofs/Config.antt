@@ -3,7 +3,7 @@ use Rattle.passkey_kinds.proofs.Numbered.{code_back, code_keeps, long_back, not_
 use Rattle.passkey_kinds.proofs.Steps.{optional_keeps, arith, shortest_head, truth_back, plainly, list_plain, puts_value, puts_default, no_more, ◌▸◌, refl, byte_back, word_back, text_back, bytes_back, anything, all_of_anything, optional_place, list_same, ℕ, ◌≡◌}
 use Rattle.passkey_config.specs.SubCommand.{sub_command_of, sub_command_byte, named_sub_commands}
 use Rattle.passkey_config.specs.declared.sub_command.SubCommand.TheVariants as sub_command
-use Rattle.passkey_config.specs.CfgRequest.{cfg_request, cfg_request_parts, normal_cfg_request}
+use Rattle.passkey_config.specs.CfgRequest.{cfg_request, normal_cfg_request}
 use Rattle.passkey_config.specs.MinPinLengthParameters.{min_pin_length_parameters}
 use Rattle.passkey_config.specs.VendorParameters.{vendor_parameters}
 
@@ -14,12 +14,11 @@ sub_commands_keep = code_keeps sub_command_byte sub_command.Other named_sub_comm
 
 -- ---- requests
 
-pub cfg_request_law : IsKeeping cfg_request_parts normal_cfg_request cfg_request (λ r. r.sub_command_params)
+pub cfg_request_law : IsKeeping normal_cfg_request cfg_request (λ r. r.sub_command_params)
 unfolding shortest_head
 cfg_request_law = keeping_law cfg_request 0 2 (omega arith) (λ p. refl) (λ p. refl) (λ p. refl)
     (λ Q rule p key. search (rule.holds, plainly) depth 10) (λ Q p each. each.1.0) (λ m. tt)
-    (λ m i less. search (optional_keeps not_null_around) depth 9 parts 9) (λ r fits.
-    let p = cfg_request_parts r in
+    (λ m i less. search (optional_keeps not_null_around) depth 9 parts 9) (λ p fits.
     puts_value (code_back sub_command_of sub_command_byte) p.sub_command (search) ▸
     puts_default (optional_place not_null_back refl p.sub_command_params (search)) refl ▸
     puts_default (optional_place byte_back refl p.pin_uv_auth_protocol (search)) refl ▸

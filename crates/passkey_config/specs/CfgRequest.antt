@@ -5,26 +5,10 @@ use Rattle.passkey_config.specs.declared.request.Request.{Request}
 use Rattle.passkey_config.specs.declared.sub_command.SubCommand.TheVariants.{Other}
 use Rattle.passkey_config.specs.declared.sub_command.SubCommand.{SubCommand}
 use Rattle.passkey_kinds.specs.Coded.{bytes}
-use Rattle.passkey_kinds.specs.Held.{held_item}
 use Rattle.passkey_kinds.specs.Numbered.{code, kept_item}
 use Rattle.passkey_kinds.specs.Words.{Item, PlainTable, byte, optional_at, required_at}
 
--- what contracts see of it
-pub record CfgRequestParts : Type 0 where
-  pub sub_command : SubCommand
-  pub sub_command_params : Option Item
-  pub pin_uv_auth_protocol : Option ℕ
-  pub pin_uv_auth_param : Option (List ℕ)
-
-abbrev pub cfg_request_parts : Request → CfgRequestParts
-cfg_request_parts r = record {
-  sub_command = r.sub_command;
-  sub_command_params = option_map held_item r.sub_command_params;
-  pin_uv_auth_protocol = r.pin_uv_auth_protocol;
-  pin_uv_auth_param = r.pin_uv_auth_param;
-}
-
-abbrev pub cfg_request : PlainTable CfgRequestParts
+abbrev pub cfg_request : PlainTable Request
 cfg_request = record {
   blank = record { sub_command = Other 0; sub_command_params = None; pin_uv_auth_protocol = None; pin_uv_auth_param = None };
   members = required_at 1 (codes "subCommand") (code sub_command_of sub_command_byte) (λ r. r.sub_command)

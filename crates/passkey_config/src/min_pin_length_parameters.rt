@@ -10,7 +10,7 @@ use std::alloc::Global;
 
 /// The parameters of setMinPINLength (CTAP 2.1, section 6.11.4). `None` means that the member is
 /// absent; null also decodes to `None`.
-#[derive(Debug, Drop)]
+#[derive(Debug, Default, Drop)]
 pub struct MinPinLengthParameters {
     /// 0x01: the new minimum PIN length in Unicode code points.
     pub new_min_pin_length: Option<u32>,
@@ -23,11 +23,7 @@ pub struct MinPinLengthParameters {
 }
 
 impl TableRecord for MinPinLengthParameters {
-    ghost parts = { λ r. r };
-
     ghost table = { min_pin_length_parameters };
-
-    ghost kept = { λ r. None };
 
     fn is_numbered() -> bool {
         true
@@ -43,12 +39,7 @@ impl TableRecord for MinPinLengthParameters {
     }
 
     fn blank(_alloc: Global) -> MinPinLengthParameters {
-        MinPinLengthParameters {
-            new_min_pin_length: None,
-            min_pin_length_rp_ids: None,
-            force_change_pin: None,
-            pin_complexity_policy: None,
-        }
+        MinPinLengthParameters::default()
     }
 
     fn put<S: Source>(&mut self, alloc: Global, number: u8, source: &mut S) -> Result<(), Refusal> {

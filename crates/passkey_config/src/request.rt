@@ -1,5 +1,5 @@
 //! authenticatorConfig requests.
-ghost use Rattle.passkey_config.specs.CfgRequest.{CfgRequestParts, cfg_request, cfg_request_parts, normal_cfg_request};
+ghost use Rattle.passkey_config.specs.CfgRequest.{cfg_request, normal_cfg_request};
 
 use crate::SubCommand;
 use passkey_bytes::Bytes;
@@ -25,10 +25,6 @@ pub struct Request {
 }
 
 impl TableRecord for Request {
-    ghost Parts = { CfgRequestParts };
-
-    ghost parts = { cfg_request_parts };
-
     ghost table = { cfg_request };
 
     ghost kept = { λ r. r.sub_command_params };

@@ -9,18 +9,14 @@ use std::alloc::Global;
 
 /// The parameters of vendorPrototype (CTAP 2.1, section 6.11.5). Further members are the vendor's,
 /// and are skipped.
-#[derive(Debug, Drop)]
+#[derive(Debug, Default, Drop)]
 pub struct VendorParameters {
     /// 0x01: the vendor's command.
     pub vendor_command_id: u64,
 }
 
 impl TableRecord for VendorParameters {
-    ghost parts = { λ r. r };
-
     ghost table = { vendor_parameters };
-
-    ghost kept = { λ r. None };
 
     fn is_numbered() -> bool {
         true
@@ -31,9 +27,7 @@ impl TableRecord for VendorParameters {
     }
 
     fn blank(_alloc: Global) -> VendorParameters {
-        VendorParameters {
-            vendor_command_id: 0,
-        }
+        VendorParameters::default()
     }
 
     fn put<S: Source>(&mut self, alloc: Global, number: u8, source: &mut S) -> Result<(), Refusal> {

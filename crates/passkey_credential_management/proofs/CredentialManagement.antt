@@ -8,7 +8,7 @@ use Rattle.passkey_credential_management.specs.CredProtect.{cred_protect_of, cre
 use Rattle.passkey_credential_management.specs.declared.cred_protect.CredProtect.TheVariants as cred_protect
 use Rattle.passkey_credential_management.specs.CmParameters.{cm_parameters}
 use Rattle.passkey_credential_management.specs.CmRequest.{cm_request, normal_cm_request}
-use Rattle.passkey_credential_management.specs.CmResponse.{cm_response, cm_response_parts, normal_cm_response}
+use Rattle.passkey_credential_management.specs.CmResponse.{cm_response, normal_cm_response}
 
 -- ---- each number is that of its value
 
@@ -43,12 +43,11 @@ cm_request_law = numbered_law 3 cm_request (λ r. refl) (λ r. refl) (λ r. refl
 
 -- ---- responses
 
-pub cm_response_law : IsKeeping cm_response_parts normal_cm_response cm_response (λ r. r.public_key)
+pub cm_response_law : IsKeeping normal_cm_response cm_response (λ r. r.public_key)
 unfolding shortest_head
 cm_response_law = keeping_law cm_response 2 8 (omega arith) (λ p. refl) (λ p. refl) (λ p. refl)
     (λ Q rule p key. search (rule.holds, plainly, rp_law.plain 1, user_law.plain 1, descriptor_law.plain 0) depth 18) (λ Q p each. each.1.1.1.1.1.1.1.0) (λ m. tt)
-    (λ m i less. search (optional_keeps not_null_around) depth 17 parts 17) (λ r fits.
-    let p = cm_response_parts r in
+    (λ m i less. search (optional_keeps not_null_around) depth 17 parts 17) (λ p fits.
     puts_default (optional_place word_back refl p.existing_resident_credentials_count (search)) refl ▸
     puts_default (optional_place word_back refl p.max_possible_remaining_resident_credentials_count (search)) refl ▸
     puts_default (optional_place rp_law.back refl p.rp (search)) refl ▸

@@ -3,14 +3,14 @@ use Rattle.std.specs.Prelude.{None, [], codes, ◌∷◌}
 use Rattle.passkey_credential_management.specs.CmParameters.{cm_parameters}
 use Rattle.passkey_credential_management.specs.SubCommand.{sub_command_of, sub_command_byte}
 use Rattle.passkey_credential_management.specs.declared.request.Request.{Request}
-use Rattle.passkey_credential_management.specs.declared.sub_command.SubCommand.TheVariants.{Other}
+use Rattle.passkey_credential_management.specs.declared.sub_command.SubCommand.TheVariants.{GetCredsMetadata}
 use Rattle.passkey_kinds.specs.Coded.{bytes}
 use Rattle.passkey_kinds.specs.Numbered.{code, numbered}
 use Rattle.passkey_kinds.specs.Words.{PlainTable, byte, optional_at, required_at}
 
 abbrev pub cm_request : PlainTable Request
 cm_request = record {
-  blank = record { sub_command = Other 0; sub_command_params = None; pin_uv_auth_protocol = None; pin_uv_auth_param = None };
+  blank = record { sub_command = GetCredsMetadata; sub_command_params = None; pin_uv_auth_protocol = None; pin_uv_auth_param = None };
   members = required_at 1 (codes "subCommand") (code sub_command_of sub_command_byte) (λ r. r.sub_command)
       (λ x r. record r { sub_command = x })
       ∷ optional_at 2 (codes "subCommandParams") (numbered cm_parameters) (λ r. r.sub_command_params)

@@ -8,44 +8,12 @@ use Rattle.passkey_entities.specs.Entities.{user}
 use Rattle.passkey_entities.specs.declared.rp.PublicKeyCredentialRpEntity.{PublicKeyCredentialRpEntity}
 use Rattle.passkey_entities.specs.declared.user.PublicKeyCredentialUserEntity.{PublicKeyCredentialUserEntity}
 use Rattle.passkey_kinds.specs.Coded.{bytes, truth}
-use Rattle.passkey_kinds.specs.Held.{held_item}
 use Rattle.passkey_kinds.specs.Numbered.{code, kept_item}
 use Rattle.passkey_kinds.specs.Words.{Item, PlainTable, optional_at, plain, word}
 use Rattle.passkey_kinds.specs.Words.{PublicKeyCredentialDescriptor}
 use Rattle.passkey_kinds.specs.Words.{descriptor}
 
--- what contracts see of it
-pub record CmResponseParts : Type 0 where
-  pub existing_resident_credentials_count : Option ℕ
-  pub max_possible_remaining_resident_credentials_count : Option ℕ
-  pub rp : Option PublicKeyCredentialRpEntity
-  pub rp_id_hash : Option (List ℕ)
-  pub total_rps : Option ℕ
-  pub user : Option PublicKeyCredentialUserEntity
-  pub credential_id : Option PublicKeyCredentialDescriptor
-  pub public_key : Option Item
-  pub total_credentials : Option ℕ
-  pub cred_protect : Option CredProtect
-  pub large_blob_key : Option (List ℕ)
-  pub third_party_payment : Option Bool
-
-abbrev pub cm_response_parts : Response → CmResponseParts
-cm_response_parts r = record {
-  existing_resident_credentials_count = r.existing_resident_credentials_count;
-  max_possible_remaining_resident_credentials_count = r.max_possible_remaining_resident_credentials_count;
-  rp = r.rp;
-  rp_id_hash = r.rp_id_hash;
-  total_rps = r.total_rps;
-  user = r.user;
-  credential_id = r.credential_id;
-  public_key = option_map held_item r.public_key;
-  total_credentials = r.total_credentials;
-  cred_protect = r.cred_protect;
-  large_blob_key = r.large_blob_key;
-  third_party_payment = r.third_party_payment;
-}
-
-abbrev pub cm_response : PlainTable CmResponseParts
+abbrev pub cm_response : PlainTable Response
 cm_response = record {
   blank = record {
     existing_resident_credentials_count = None;

@@ -13,7 +13,7 @@ use std::alloc::Global;
 /// The parameters of a subcommand of authenticatorCredentialManagement (CTAP 2.1, section 6.8).
 /// Which ones a subcommand requires isn't checked. `None` means that the member is absent; null
 /// also decodes to `None`.
-#[derive(Debug, Drop)]
+#[derive(Debug, Default, Drop)]
 pub struct Parameters {
     /// 0x01: `rpIDHash`, the SHA-256 hash of the relying party id, 32 bytes. The length isn't
     /// checked.
@@ -25,11 +25,7 @@ pub struct Parameters {
 }
 
 impl TableRecord for Parameters {
-    ghost parts = { λ r. r };
-
     ghost table = { cm_parameters };
-
-    ghost kept = { λ r. None };
 
     fn is_numbered() -> bool {
         true
@@ -44,11 +40,7 @@ impl TableRecord for Parameters {
     }
 
     fn blank(_alloc: Global) -> Parameters {
-        Parameters {
-            rp_id_hash: None,
-            credential_id: None,
-            user: None,
-        }
+        Parameters::default()
     }
 
     fn put<S: Source>(&mut self, alloc: Global, number: u8, source: &mut S) -> Result<(), Refusal> {

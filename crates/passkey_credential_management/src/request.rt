@@ -11,7 +11,7 @@ use std::alloc::Global;
 
 /// An authenticatorCredentialManagement request (CTAP 2.1, section 6.8). Which members a subcommand
 /// requires isn't checked. `None` means that the member is absent; null also decodes to `None`.
-#[derive(Debug, Drop)]
+#[derive(Debug, Default, Drop)]
 pub struct Request {
     /// 0x01: the subcommand.
     pub sub_command: SubCommand,
@@ -25,11 +25,7 @@ pub struct Request {
 }
 
 impl TableRecord for Request {
-    ghost parts = { λ r. r };
-
     ghost table = { cm_request };
-
-    ghost kept = { λ r. None };
 
     ghost normal = { normal_cm_request };
 
@@ -47,12 +43,7 @@ impl TableRecord for Request {
     }
 
     fn blank(_alloc: Global) -> Request {
-        Request {
-            sub_command: SubCommand::Other(0),
-            sub_command_params: None,
-            pin_uv_auth_protocol: None,
-            pin_uv_auth_param: None,
-        }
+        Request::default()
     }
 
     fn put<S: Source>(&mut self, alloc: Global, number: u8, source: &mut S) -> Result<(), Refusal> {

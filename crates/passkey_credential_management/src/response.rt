@@ -1,5 +1,5 @@
 //! authenticatorCredentialManagement responses.
-ghost use Rattle.passkey_credential_management.specs.CmResponse.{CmResponseParts, cm_response, cm_response_parts, normal_cm_response};
+ghost use Rattle.passkey_credential_management.specs.CmResponse.{cm_response, normal_cm_response};
 
 use crate::CredProtect;
 use passkey_bytes::Bytes;
@@ -13,7 +13,7 @@ use std::alloc::Global;
 
 /// An authenticatorCredentialManagement response (CTAP 2.1, section 6.8). `None` means that the
 /// member is absent; null also decodes to `None`.
-#[derive(Debug, Drop)]
+#[derive(Debug, Default, Drop)]
 pub struct Response {
     /// 0x01: the number of discoverable credentials on the authenticator.
     pub existing_resident_credentials_count: Option<u32>,
@@ -44,10 +44,6 @@ pub struct Response {
 }
 
 impl TableRecord for Response {
-    ghost Parts = { CmResponseParts };
-
-    ghost parts = { cm_response_parts };
-
     ghost table = { cm_response };
 
     ghost kept = { λ r. r.public_key };
@@ -76,20 +72,7 @@ impl TableRecord for Response {
     }
 
     fn blank(_alloc: Global) -> Response {
-        Response {
-            existing_resident_credentials_count: None,
-            max_possible_remaining_resident_credentials_count: None,
-            rp: None,
-            rp_id_hash: None,
-            total_rps: None,
-            user: None,
-            credential_id: None,
-            public_key: None,
-            total_credentials: None,
-            cred_protect: None,
-            large_blob_key: None,
-            third_party_payment: None,
-        }
+        Response::default()
     }
 
     fn put<S: Source>(&mut self, alloc: Global, number: u8, source: &mut S) -> Result<(), Refusal> {

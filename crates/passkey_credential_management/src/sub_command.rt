@@ -4,10 +4,12 @@ ghost use Rattle.passkey_credential_management.specs.SubCommand.{sub_command_of,
 
 use passkey_kinds::Code;
 
-/// A subcommand of authenticatorCredentialManagement, with its number (CTAP 2.1, section 6.8).
-#[derive(Clone, Copy, Debug, PartialEq, Eq)]
+/// A subcommand of authenticatorCredentialManagement, with its number (CTAP 2.1, section 6.8). The
+/// default asks for counts alone.
+#[derive(Clone, Copy, Debug, Default, PartialEq, Eq)]
 pub enum SubCommand {
     /// 0x01: getCredsMetadata.
+    #[default]
     GetCredsMetadata,
     /// 0x02: enumerateRPsBegin.
     EnumerateRpsBegin,

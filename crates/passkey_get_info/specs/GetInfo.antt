@@ -6,7 +6,7 @@ use Rattle.passkey_get_info.specs.declared.response.Response.{Response}
 use Rattle.passkey_get_info.specs.declared.version.Version.{Version}
 use Rattle.passkey_kinds.specs.Coded.{truth, text, bytes, aaguid, list, accepted}
 use Rattle.passkey_kinds.specs.Kind.{one_named}
-use Rattle.passkey_kinds.specs.Words.{byte, word, transport, plain, Coded, placed_if, kept_if_some, Item, text_string, Any, Kind, nothing, growing, Placed, PlainTable, default_as, optional_as, depth, null, max_depth, item_of, IfPresent, parameters, placed, required_at, optional_at, tolerated_at, places_of, EachFits, fields_with, Fields, default, read_item, Place, number_tree, record_tree, size, optional, kept, PublicKeyCredentialParameters, AuthenticatorTransport}
+use Rattle.passkey_kinds.specs.Words.{byte, word, transport, plain, Coded, placed_if, kept_if_some, Item, text_string, Any, Kind, text_as, Placed, PlainTable, default_as, optional_as, depth, null, max_depth, item_of, IfPresent, parameters, placed, required_at, optional_at, tolerated_at, places_of, EachFits, fields_with, Fields, default, read_item, Place, number_tree, record_tree, size, optional, kept, PublicKeyCredentialParameters, AuthenticatorTransport}
 use Rattle.passkey_kinds.specs.declared.fault.Fault.{Fault}
 use Rattle.passkey_kinds.specs.declared.fault.WriteFault.{WriteFault}
 use Rattle.passkey_kinds.specs.declared.fault.WriteFault.TheVariants.{OutOfMemory, NumberTooLarge}
@@ -35,7 +35,7 @@ abbrev pub version_tree : Version → Item
 version_tree v = text_string (version_name v)
 
 abbrev pub version_coded : Coded Version
-version_coded = record { typed = growing 2 nothing version; tree = version_tree; Fits = Any }
+version_coded = record { typed = text_as version; tree = version_tree; Fits = Any }
 
 -- an unknown version with the name of a known one becomes the known one
 abbrev pub normal_version : Version → Version
@@ -59,7 +59,7 @@ abbrev pub extension_tree : Extension → Item
 extension_tree e = text_string (extension_name e)
 
 abbrev pub extension_coded : Coded Extension
-extension_coded = record { typed = growing 2 nothing extension; tree = extension_tree; Fits = Any }
+extension_coded = record { typed = text_as extension; tree = extension_tree; Fits = Any }
 
 abbrev pub normal_extension : Extension → Extension
 normal_extension e = extension_named (extension_name e)

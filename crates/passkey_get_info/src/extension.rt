@@ -1,12 +1,14 @@
 //! Extensions that an authenticator supports.
 ghost use Rattle.std.specs.Prelude.{◌≡◌, true, Some};
-ghost use Rattle.passkey_kinds.specs.Words.{nothing, growing};
+ghost use Rattle.passkey_kinds.specs.Words.{text_as};
 ghost use Rattle.passkey_get_info.specs.GetInfo.{extension_name, extension_named, extension, extension_tree, normal_extension};
 ghost use Rattle.passkey_get_info.specs.declared.extension.Extension.{Extension as Told};
 
 use passkey_bytes::Text;
 use passkey_cbor::{Cursor, Encoder, Value};
-use passkey_kinds::{FromCbor, FromText, ReadBack, Refusal, ToCbor, read_text_value};
+use passkey_kinds::{
+    Blame, FromCbor, FromText, ReadBack, Refusal, ToCbor, Wanted, read_text_value,
+};
 use passkey_memory::OutOfMemory;
 use std::alloc::Global;
 use std::fmt;
@@ -62,7 +64,7 @@ impl FromText for Extension {
 impl FromCbor for Extension {
     ghost view = { λ e. e };
 
-    ghost typed = { growing 2 nothing extension };
+    ghost typed = { text_as extension };
 
     fn from_value(alloc: Global, value: &Value) -> Result<Extension, Refusal> {
         match value {
@@ -73,6 +75,10 @@ impl FromCbor for Extension {
 
     fn read(alloc: Global, cursor: &mut Cursor<'_>) -> Result<Extension, Refusal> {
         read_text_value(alloc, cursor)
+    }
+
+    fn explain(alloc: Global, _value: &Value) -> Result<Blame, OutOfMemory> {
+        Ok(Blame::wanted(alloc, Wanted::Text))
     }
 }
 

@@ -1,12 +1,14 @@
 //! Versions of CTAP that an authenticator supports.
 ghost use Rattle.std.specs.Prelude.{◌≡◌, true, Some};
-ghost use Rattle.passkey_kinds.specs.Words.{nothing, growing};
+ghost use Rattle.passkey_kinds.specs.Words.{text_as};
 ghost use Rattle.passkey_get_info.specs.GetInfo.{version_name, version_named, version, version_tree, normal_version};
 ghost use Rattle.passkey_get_info.specs.declared.version.Version.{Version as Told};
 
 use passkey_bytes::Text;
 use passkey_cbor::{Cursor, Encoder, Value};
-use passkey_kinds::{FromCbor, FromText, ReadBack, Refusal, ToCbor, read_text_value};
+use passkey_kinds::{
+    Blame, FromCbor, FromText, ReadBack, Refusal, ToCbor, Wanted, read_text_value,
+};
 use passkey_memory::OutOfMemory;
 use std::alloc::Global;
 use std::fmt;
@@ -58,7 +60,7 @@ impl FromText for Version {
 impl FromCbor for Version {
     ghost view = { λ v. v };
 
-    ghost typed = { growing 2 nothing version };
+    ghost typed = { text_as version };
 
     fn from_value(alloc: Global, value: &Value) -> Result<Version, Refusal> {
         match value {
@@ -69,6 +71,10 @@ impl FromCbor for Version {
 
     fn read(alloc: Global, cursor: &mut Cursor<'_>) -> Result<Version, Refusal> {
         read_text_value(alloc, cursor)
+    }
+
+    fn explain(alloc: Global, _value: &Value) -> Result<Blame, OutOfMemory> {
+        Ok(Blame::wanted(alloc, Wanted::Text))
     }
 }
 

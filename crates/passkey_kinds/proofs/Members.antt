@@ -15,7 +15,7 @@ key_names table key p q e = sym (e ∙ λ i. names (p i) (q i) key)
 
 -- ---- one more member
 
-none_marked : (n : ℕ) → get_or (replicate 32 false) n false ≡ false
+pub none_marked : (n : ℕ) → get_or (replicate 32 false) n false ≡ false
 none_marked n = elim (cases_lt n 32) [
   | inl less ↦ get_or-replicate 32 n false false less
   | inr past ↦ get_or_past (replicate 32 false) n false (omega (arith, past, length-replicate 32 false))

@@ -148,16 +148,14 @@ module _ {P : Type 0} {normal : P → P} (n : ℕ) (t : PlainTable P) where
 -- ---- records with numbers that keep one data item
 
 -- It can be decoded again, its keys ascend, and it is a message.
-pub record IsKeeping {A P : Type 0} (parts : A → P) (normal : A → A) (t : PlainTable P) (kept : P → Option Item) :
-    Type 0 where
-  pub back : IsReadBack (record_kind (numbered_fields t)) (λ r. plain_tree t (parts r))
-      (λ r. EachFits t.members (parts r)) (λ r. parts (normal r))
+pub record IsKeeping {P : Type 0} (normal : P → P) (t : PlainTable P) (kept : P → Option Item) : Type 0 where
+  pub back : IsReadBack (record_kind (numbered_fields t)) (plain_tree t) (EachFits t.members) normal
   pub keys : KeysAscend (places_of t.members)
   pub messages : AreMessages true t kept
 
 -- The item is the value of row k, and the encodings of the other members have at most n levels.
-pub keeping_law : {A P : Type 0} {parts : A → P} {normal : A → A} (t : PlainTable P) {kept : P → Option Item}
-    (n k : ℕ) → n ≤ 255 → ((p : P) → ascend (places_of t.members p) ≡ true)
+pub keeping_law : {P : Type 0} {normal : P → P} (t : PlainTable P) {kept : P → Option Item} (n k : ℕ) → n ≤ 255
+    → ((p : P) → ascend (places_of t.members p) ≡ true)
     → ((p : P) → (have_rows (table_of (numbered_fields t)) (numbers (members_of t.members)) (places_of t.members p)
     && are_distinct (numbers (members_of t.members))) ≡ true)
     → ((p : P) → missing_of (table_of (numbered_fields t)) (numbers (members_of t.members)) (places_of t.members p)
@@ -166,13 +164,13 @@ pub keeping_law : {A P : Type 0} {parts : A → P} {normal : A → A} (t : Plain
     → ((Q : Item → Type 0) (p : P) → EachPlace Q (places_of t.members p)
     → PlaceHas Q (number_tree k) (option_map (λ i. i) (kept p))) → ((m : ℕ) → AtMost m (kept_list kept t.blank))
     → ((m : ℕ) (i : Item) → depth i ≤ m + 1 → Keeps (depth i) (λ p. AtMost m (kept_list kept p)) (members_of t.members))
-    → ((r : A) → EachFits t.members (parts r) → Backs (members_of t.members) (places_of t.members (parts r)) t.blank
-    (parts (normal r))) → IsKeeping parts normal t kept
-keeping_law {parts = parts} {normal} t {kept} n k few up keys complete each this blank keep backs = record {
+    → ((p : P) → EachFits t.members p → Backs (members_of t.members) (places_of t.members p) t.blank (normal p))
+    → IsKeeping normal t kept
+keeping_law {normal = normal} t {kept} n k few up keys complete each this blank keep backs = record {
   back =
       record {
-        back = λ r fits. kind_back (numbered_fields t) (places_of t.members (parts r)) (parts (normal r)) (keys (parts
-            r)) (complete (parts r)) (backs r fits);
+        back = λ p fits. kind_back (numbered_fields t) (places_of t.members p) (normal p) (keys p) (complete
+            p) (backs p fits);
       };
   keys = λ p. keys_ascend (places_of t.members p) (up p);
   messages = are_messages t kept few
@@ -181,11 +179,10 @@ keeping_law {parts = parts} {normal} t {kept} n k few up keys complete each this
 
 -- ---- messages can be decoded again
 
-pub messages_back : {A P : Type 0} (b : Bool) (parts : A → P) (normal : A → A) (t : PlainTable P)
-    → WrittenIsLeadingItem
-    → IsReadBack (record_kind (table_fields b t)) (λ m. plain_tree t (parts m)) (λ m. EachFits t.members (parts m))
-    (λ m. parts (normal m)) → MessagesAreReadBack b parts normal t
-messages_back b parts normal t law back m rest fits writable coherent = (
-  law (plain_tree t (parts m)) rest writable (leb-true _ _ coherent),
-  ok_of (read_item (table_fields b t) (plain_tree t (parts m))) (parts (normal m)) (back.back m fits),
+pub messages_back : {P : Type 0} (b : Bool) (normal : P → P) (t : PlainTable P) → WrittenIsLeadingItem
+    → IsReadBack (record_kind (table_fields b t)) (plain_tree t) (EachFits t.members) normal
+    → MessagesAreReadBack b normal t
+messages_back b normal t law back m rest fits writable coherent = (
+  law (plain_tree t m) rest writable (leb-true _ _ coherent),
+  ok_of (read_item (table_fields b t) (plain_tree t m)) (normal m) (back.back m fits),
 )

@@ -1,7 +1,10 @@
 pub mod Base
 pub mod Message
+pub mod Blame
 pub mod Kind
 pub mod Record
+pub mod Blaming
+pub mod BlameLaws
 pub mod Reader
 pub mod Typed
 pub mod RecordReading
@@ -12,5 +15,5 @@ pub mod LentItem
 pub mod Written
 pub mod Coded
 pub mod Numbered
-pub mod Held
+pub mod ItemCode
 pub mod Words

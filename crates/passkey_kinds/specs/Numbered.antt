@@ -6,6 +6,7 @@ use Rattle.passkey_cbor.specs.Laws.{AtMostOneLeadingItem, WrittenIsLeadingItem}
 use Rattle.passkey_cbor.specs.Nodes.{nodes}
 use Rattle.passkey_kinds.specs.Kind.{Kind, Typed, counted}
 use Rattle.passkey_kinds.specs.Kind as kind
+use Rattle.passkey_kinds.specs.declared.blame.Wanted.TheVariants as wanted
 use Rattle.passkey_kinds.specs.Message.{ReadIsCoherent, WrittenIsCanonical, kept_if_some}
 use Rattle.passkey_kinds.specs.Placed.{Coded, PlainTable, EachFits, plain_tree, fields_with}
 use Rattle.passkey_kinds.specs.Record.{Fields, read_item}
@@ -25,7 +26,7 @@ abbrev pub code_in : {T : Type 0} → (T → ℕ) → (ℕ → T) → List T →
 code_in byte_of other named n = unwrap_or (numbered_value nat_eq byte_of named n) (other n)
 
 abbrev pub code_of : {T : Type 0} → (ℕ → T) → Typed T
-code_of of_byte = fixed 1 (λ i. option_map of_byte (kind.below 256 i))
+code_of of_byte = fixed 1 (wanted.Below 256) (λ i. option_map of_byte (kind.below 256 i))
 
 abbrev pub code : {T : Type 0} → (ℕ → T) → (T → ℕ) → Coded T
 code of_byte byte_of =
@@ -45,7 +46,7 @@ not_null null = None
 not_null i = Some i
 
 abbrev pub kept_item : Coded Item
-kept_item = record { typed = growing 2 (counted nodes) not_null; tree = λ i. i; Fits = IsNotNull }
+kept_item = record { typed = growing 2 (counted nodes) wanted.NotNull not_null; tree = λ i. i; Fits = IsNotNull }
 
 -- ---- records that one table defines, whose members have names alone, or numbers too
 
@@ -82,9 +83,8 @@ pub record AreMessages {P : Type 0} (is_numbered : Bool) (t : PlainTable P) (kep
       → WrittenIsCanonical (plain_tree t) (is_shallow t) (kept_list kept)
 
 -- The encoding of a coherent message, whatever bytes follow, decodes to the message's normal form.
-abbrev pub MessagesAreReadBack : {A P : Type 0} → Bool → (A → P) → (A → A) → PlainTable P → Type 0
-MessagesAreReadBack {A} is_numbered parts normal t = (m : A) (rest : List ℕ) → EachFits t.members (parts m)
-    → IsWritable (plain_tree t (parts m)) → is_shallow t (parts m) ≡ true
-    → IsLeadingItem (written (plain_tree t (parts m)) ++ rest) (plain_tree t (parts m))
-    (length (written (plain_tree t (parts m)))) × (read_item (table_fields is_numbered t) (plain_tree t (parts m)) ≡ Ok
-    (parts (normal m)))
+abbrev pub MessagesAreReadBack : {P : Type 0} → Bool → (P → P) → PlainTable P → Type 0
+MessagesAreReadBack {P} is_numbered normal t = (m : P) (rest : List ℕ) → EachFits t.members m
+    → IsWritable (plain_tree t m) → is_shallow t m ≡ true
+    → IsLeadingItem (written (plain_tree t m) ++ rest) (plain_tree t m) (length (written (plain_tree t m)))
+    × (read_item (table_fields is_numbered t) (plain_tree t m) ≡ Ok (normal m))

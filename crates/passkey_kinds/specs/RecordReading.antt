@@ -1,10 +1,11 @@
 -- Decoding a record over a cursor: its cost and its steps.
 use Rattle.passkey_kinds.specs.Base.{Item, members, Walk}
 use Rattle.std.specs.Prelude.{ℕ, ◌+◌, ◌≤◌, max, ◌==◌, Bool, true, false, ◌&&◌, if◌then◌else◌, List, [], ◌∷◌, ◌≡◌, Option, Some, None, Result, Ok, Err, IfSome, OnOk, slice_get}
+use Rattle.passkey_kinds.specs.Blaming.{record_blame}
+use Rattle.passkey_kinds.specs.BlameLaws.{record_inside}
 use Rattle.passkey_kinds.specs.Kind.{Keeping, nothing, counted, kept_of, kept_sum, Typed, MayGrow}
 use Rattle.passkey_kinds.specs.Reader.{Spends, SpendsLess}
 use Rattle.passkey_kinds.specs.Record.{takes_at, MayGrowIn, MayGrowAt, Reads, naming_of, named_as, Fields, Member, table_of, record_kind, rows_of, put_at, read_members, read_from, reached, Progress, one_more, MayGrowBy, read_item, Naming, row, unknown, wrong, named, Members, accepts_at, Entry, row_or_unknown}
-use Rattle.passkey_kinds.specs.Typed.{growing}
 use Rattle.passkey_kinds.specs.declared.fault.Fault.{Fault}
 use Rattle.passkey_kinds.specs.declared.fault.Refusal.{Refusal}
 use Rattle.passkey_kinds.specs.declared.fault.Refusal.TheVariants.{Refused, OutOfMemory}
@@ -65,7 +66,14 @@ record_keeps t = if none_keeps t.rows then nothing else counted (kept_in_map t)
 
 -- a record as a member of another one
 abbrev pub nested : {P : Type 0} → Fields P → Typed P
-nested t = growing (record_cost t) (record_keeps t) (record_kind t)
+nested t = record {
+  of = record_kind t;
+  takes = true;
+  cost = record_cost t;
+  keeps = record_keeps t;
+  blame = record_blame t;
+  inside = record_inside t;
+}
 
 -- ---- the steps of decoding a record
 

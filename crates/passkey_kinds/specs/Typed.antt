@@ -1,68 +1,106 @@
 -- Kinds with their costs.
-use Rattle.std.specs.Prelude.{ℕ, suc, max, Bool, true, false, List, Option}
+use Rattle.std.specs.Prelude.{ℕ, suc, max, Bool, true, false, List, Option, refl}
 use Rattle.passkey_kinds.specs.Base.{ByteMap, Item, DataParts, Algorithm}
 use Rattle.passkey_cbor.specs.Nodes.{nodes}
+use Rattle.passkey_kinds.specs.Blame.{wants}
+use Rattle.passkey_kinds.specs.Blaming.{list_blame, map_blame}
+use Rattle.passkey_kinds.specs.BlameLaws.{list_inside, map_inside}
 use Rattle.passkey_kinds.specs.Kind.{Keeping, nothing, counted, in_elements, in_members, Kind, Typed}
+use Rattle.passkey_kinds.specs.declared.blame.Wanted.{Wanted}
 use Rattle.passkey_kinds.specs.Kind as kind
+use Rattle.passkey_kinds.specs.declared.blame.Wanted.TheVariants as wanted
 
--- a kind whose values take no memory, at the cost of this many heads for each byte
-abbrev pub fixed : {M : Type 0} → ℕ → Kind M → Typed M
-fixed cost k = record { of = k; takes = false; cost = cost; keeps = nothing }
+-- a kind whose values take no memory, at the cost of this many heads for each byte, and what it wants
+abbrev pub fixed : {M : Type 0} → ℕ → Wanted → Kind M → Typed M
+fixed cost w k = record { of = k; takes = false; cost = cost; keeps = nothing; blame = λ i. wants w; inside = λ i. refl }
 
--- a kind whose values may take memory
-abbrev pub growing : {M : Type 0} → ℕ → Keeping → Kind M → Typed M
-growing cost keeps k = record { of = k; takes = true; cost = cost; keeps = keeps }
+-- a kind whose values may take memory, and what it wants
+abbrev pub growing : {M : Type 0} → ℕ → Keeping → Wanted → Kind M → Typed M
+growing cost keeps w k =
+    record { of = k; takes = true; cost = cost; keeps = keeps; blame = λ i. wants w; inside = λ i. refl }
 
 abbrev pub truth : Typed Bool
-truth = fixed 1 kind.truth
+truth = fixed 1 wanted.Boolean kind.truth
 
 abbrev pub below : ℕ → Typed ℕ
-below limit = fixed 1 (kind.below limit)
+below limit = fixed 1 (wanted.Below limit) (kind.below limit)
 
 abbrev pub size : Typed ℕ
-size = fixed 1 kind.size
+size = fixed 1 wanted.Size kind.size
 
 abbrev pub one_named : {T : Type 0} → (List ℕ → Option T) → Typed T
-one_named named = fixed 2 (kind.one_named named)
+one_named named = fixed 2 wanted.Name (kind.one_named named)
 
 abbrev pub algorithm : Typed Algorithm
-algorithm = fixed 2 kind.algorithm
+algorithm = fixed 2 wanted.Algorithm kind.algorithm
 
 abbrev pub aaguid : Typed (List ℕ)
-aaguid = fixed 2 kind.aaguid
+aaguid = fixed 2 (wanted.ByteString 16) kind.aaguid
 
 abbrev pub sized_bytes : ℕ → Typed (List ℕ)
-sized_bytes n = fixed 3 (kind.sized_bytes n)
+sized_bytes n = fixed 3 (wanted.SizedBytes n) (kind.sized_bytes n)
+
+-- text strings with a meaning
+abbrev pub text_as : {M : Type 0} → Kind M → Typed M
+text_as k = growing 2 nothing wanted.Text k
 
 abbrev pub text : Typed (List ℕ)
-text = growing 2 nothing kind.text
+text = text_as kind.text
 
 abbrev pub bytes : Typed (List ℕ)
-bytes = growing 3 nothing kind.bytes
+bytes = growing 3 nothing wanted.Bytes kind.bytes
 
 abbrev pub kept : Typed Item
-kept = growing 2 (counted nodes) kind.kept
+kept = growing 2 (counted nodes) wanted.Any kind.kept
 
 abbrev pub authenticator_data : Typed DataParts
-authenticator_data = growing 6 (counted kind.authenticator_data_nodes) kind.authenticator_data
+authenticator_data = growing 6 (counted kind.authenticator_data_nodes) wanted.AuthenticatorData kind.authenticator_data
 
 -- the value, or `None` for null; looking for null costs one head, and so does null
 abbrev pub optional : {M : Type 0} → Typed M → Typed (Option M)
-optional k = record { of = kind.optional k.of; takes = k.takes; cost = suc (max 1 k.cost); keeps = k.keeps }
+optional k = record {
+  of = kind.optional k.of;
+  takes = k.takes;
+  cost = suc (max 1 k.cost);
+  keeps = k.keeps;
+  blame = k.blame;
+  inside = k.inside;
+}
 
 -- the value, or `None` if the kind refuses the item, which costs one more pass over it
 abbrev pub tolerated : {M : Type 0} → Typed M → Typed (Option M)
-tolerated k = record { of = kind.tolerated k.of; takes = k.takes; cost = suc k.cost; keeps = k.keeps }
+tolerated k = record {
+  of = kind.tolerated k.of;
+  takes = k.takes;
+  cost = suc k.cost;
+  keeps = k.keeps;
+  blame = k.blame;
+  inside = k.inside;
+}
 
 -- the value, or this default if the kind refuses the item
 abbrev pub or_else : {M : Type 0} → M → Typed M → Typed M
 or_else default k = record k { of = kind.or_else default k.of; cost = suc k.cost }
 
 abbrev pub list : {M : Type 0} → Typed M → Typed (List M)
-list k = growing (suc k.cost) (in_elements k.keeps) (kind.list k.of)
+list k = record {
+  of = kind.list k.of;
+  takes = true;
+  cost = suc k.cost;
+  keeps = in_elements k.keeps;
+  blame = list_blame k.of k.blame;
+  inside = list_inside k;
+}
 
 abbrev pub accepted : {M : Type 0} → Typed M → Typed (List M)
-accepted k = growing (suc (suc k.cost)) (in_elements k.keeps) (kind.accepted k.of)
+accepted k = growing (suc (suc k.cost)) (in_elements k.keeps) wanted.Array (kind.accepted k.of)
 
 abbrev pub map_from_bytes : {M : Type 0} → Typed M → Typed (ByteMap M)
-map_from_bytes k = growing (suc (max 3 k.cost)) (in_members k.keeps) (kind.map_from_bytes k.of)
+map_from_bytes k = record {
+  of = kind.map_from_bytes k.of;
+  takes = true;
+  cost = suc (max 3 k.cost);
+  keeps = in_members k.keeps;
+  blame = map_blame k.of k.blame;
+  inside = map_inside k;
+}

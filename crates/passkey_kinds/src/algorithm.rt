@@ -4,7 +4,7 @@ ghost use Rattle.std.specs.Option.{option_and_then};
 ghost use Rattle.passkey_kinds.specs.Words.{IsRegion, Tells, algorithm_named, algorithm_number, algorithm_tree, AnswersAs, LooksAtMost, algorithm, whole_64, scalar_of, signed_in};
 
 use crate::head::read_scalar;
-use crate::{FromCbor, OutOfMemory, Refusal, ToCbor};
+use crate::{Blame, FromCbor, OutOfMemory, Refusal, ToCbor, Wanted};
 use passkey_cbor::{Cursor, Encoder, Head, Integer, TextToken, Value};
 use passkey_cose::signed_64;
 use passkey_iana::{Algorithm, EnumI64};
@@ -70,6 +70,10 @@ impl FromCbor for Algorithm {
             Some(token) => named(whole_of(&token, cursor)),
             None => named(integer(read_scalar(cursor))),
         }
+    }
+
+    fn explain(alloc: Global, _value: &Value) -> Result<Blame, OutOfMemory> {
+        Ok(Blame::wanted(alloc, Wanted::Algorithm))
     }
 }
 

@@ -5,7 +5,7 @@ ghost use Rattle.passkey_kinds.specs.Kind.{below};
 
 use crate::collect::{Gather, read_elements, read_whole};
 use crate::written::{append_each, write_each};
-use crate::{FromCbor, OutOfMemory, Refusal, Source, ToCbor};
+use crate::{Blame, FromCbor, OutOfMemory, Refusal, Source, ToCbor, Wanted};
 use passkey_cbor::{BytesToken, Cursor, Encoder, Value};
 use std::alloc::Global;
 
@@ -113,6 +113,10 @@ impl FromCbor for [u8; 32] {
             Some(token) => filled(&token, cursor),
             None => read_numbers_here(alloc, cursor),
         }
+    }
+
+    fn explain(alloc: Global, _value: &Value) -> Result<Blame, OutOfMemory> {
+        Ok(Blame::wanted(alloc, Wanted::SizedBytes(32)))
     }
 }
 

@@ -4,7 +4,7 @@ ghost use Rattle.std.specs.Prelude.{ℕ, List, true};
 ghost use Rattle.passkey_kinds.specs.Words.{IsRegion, Tells, LooksAtMost, text_bytes, text_string, Answers, AnswersAs, bytes, pushing, MayGrow, below};
 
 use crate::collect::{Gather, read_elements, read_whole};
-use crate::{FromCbor, Refusal, Source};
+use crate::{Blame, FromCbor, OutOfMemory, Refusal, Source, Wanted};
 use passkey_bytes::{Bytes, BytesFault};
 use passkey_cbor::{Cursor, TextToken, Value};
 use std::alloc::Global;
@@ -77,5 +77,9 @@ impl FromCbor for Bytes {
             return read_base64(alloc, &token, cursor);
         }
         read_whole(alloc, Bytes::empty(alloc), cursor)
+    }
+
+    fn explain(alloc: Global, _value: &Value) -> Result<Blame, OutOfMemory> {
+        Ok(Blame::wanted(alloc, Wanted::Bytes))
     }
 }

@@ -1,5 +1,5 @@
 //! Open enumerations of numbers below 256.
-ghost use Rattle.std.specs.Prelude.{◌≡◌, ◌<◌, ◌^◌, ℕ, suc, is_ok, OnOk, option_map};
+ghost use Rattle.std.specs.Prelude.{◌≡◌, ◌<◌, ◌^◌, ℕ, suc, is_ok, OnOk, option_map, Some};
 ghost use Rattle.passkey_kinds.specs.Words.{Item, Sets, IfPresent, MemberAccepted, nothing, number_tree, optional, put_one};
 ghost use Rattle.passkey_kinds.specs.Numbered.{code_of};
 
@@ -38,7 +38,7 @@ pub fn set_code<T: Code, S: Source>(
 ) -> Result<(), Refusal>
     ensures sets { (i : Item) (to : ℕ) → S.At source.old i to → Sets (λ c. c) (code_of T.of_byte) i field.new result }
     ensures spends { (i : Item) (to : ℕ) → S.At source.old i to
-        → S.Spent 1 nothing i to source.old source.new (is_ok result) }
+        → S.Spent 1 nothing (Some (code_of T.of_byte).blame) i to source.old source.new (is_ok result) }
     ensures onward { S.Goes source.old source.new }
     ensures further { OnOk result (S.Past source.old source.new) }
 {
@@ -57,7 +57,7 @@ pub fn set_some_code<T: Code, S: Source>(
     ensures sets { (i : Item) (to : ℕ) → S.At source.old i to
         → Sets (λ c. c) (optional (code_of T.of_byte)) i field.new result }
     ensures spends { (i : Item) (to : ℕ) → S.At source.old i to
-        → S.Spent 2 nothing i to source.old source.new (is_ok result) }
+        → S.Spent 2 nothing (Some (code_of T.of_byte).blame) i to source.old source.new (is_ok result) }
     ensures onward { S.Goes source.old source.new }
     ensures further { OnOk result (S.Past source.old source.new) }
 {

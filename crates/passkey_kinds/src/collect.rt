@@ -1,5 +1,5 @@
 //! Elements of arrays and members of maps, decoded one after the other at a cursor.
-ghost use Rattle.std.specs.Prelude.{◌<◌, ◌≤◌, ◌+◌, ℕ, suc, IsTrue, List, length, map, is_ok, IfSome, OnOk};
+ghost use Rattle.std.specs.Prelude.{◌<◌, ◌≤◌, ◌+◌, ℕ, suc, IsTrue, List, length, map, is_ok, IfSome, None, OnOk};
 ghost use Rattle.passkey_kinds.specs.Words.{CountsHeads, Item, item_of, AnswersAs, IsEncodedAt, kept_sum, Decodes, Spends, Further, Onward, OpensAt, Gathering, in_array, Way, AddsOne, Collects, collected};
 ghost use Rattle.passkey_cbor.specs.EncodedAt.{Lies};
 ghost use Rattle.passkey_cbor.specs.Inside.{Left};
@@ -54,7 +54,7 @@ pub(crate) trait Gather: Drop {
         ensures adds { (x : Item) (to : ℕ) → S.At source.old x to → AnswersAs (λ _. value self.new)
             (gathering.next x (value self.old)) (IsTrue gathering.takes) result }
         ensures spends { (x : Item) (to : ℕ) → S.At source.old x to
-            → S.Spent gathering.cost gathering.keeps x to source.old source.new (is_ok result) }
+            → S.Spent gathering.cost gathering.keeps None x to source.old source.new (is_ok result) }
         ensures onward { S.Goes source.old source.new }
         ensures further { OnOk result (S.Past source.old source.new) };
 }

@@ -3,7 +3,7 @@ ghost use Rattle.std.specs.Prelude.{◌≡◌, ℕ, ◌+◌, ◌*◌, ◌≤◌,
 ghost use Rattle.passkey_kinds.specs.Words.{byte_string, data_nodes, IsData, DataParts, data_parts, Answers, authenticator_data, aaguid, CountsData, CountsDataItems, UnlessOutOfMemory, data_tree, aaguid_tree};
 
 use crate::array::filled;
-use crate::{FromCbor, OutOfMemory, Refusal, ToCbor};
+use crate::{Blame, FromCbor, OutOfMemory, Refusal, ToCbor, Wanted};
 use passkey_cbor::{Count, Cursor, Encoder, Value};
 use passkey_core::{Aaguid, AuthenticatorData, laws};
 use passkey_cose::CoseError;
@@ -71,6 +71,10 @@ impl FromCbor for AuthenticatorData {
             None => Err(Refusal::Refused),
         }
     }
+
+    fn explain(alloc: Global, _value: &Value) -> Result<Blame, OutOfMemory> {
+        Ok(Blame::wanted(alloc, Wanted::AuthenticatorData))
+    }
 }
 
 impl ToCbor for AuthenticatorData {
@@ -116,6 +120,10 @@ impl FromCbor for Aaguid {
             Some(token) => Ok(Aaguid(filled(&token, cursor)?)),
             None => Err(Refusal::Refused),
         }
+    }
+
+    fn explain(alloc: Global, _value: &Value) -> Result<Blame, OutOfMemory> {
+        Ok(Blame::wanted(alloc, Wanted::ByteString(16)))
     }
 }
 

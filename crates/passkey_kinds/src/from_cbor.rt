@@ -1,9 +1,9 @@
 //! Values that are decoded from data items.
-ghost use Rattle.std.specs.Prelude.{◌^◌, ℕ, Option, option_map, OnOk};
-ghost use Rattle.passkey_kinds.specs.Words.{tolerated, Item, IsEncodedAt, item_of, Answers, Typed, Onward, Further, ReadsAs, truth, below, text, kept, optional, scalar_of};
+ghost use Rattle.std.specs.Prelude.{◌≡◌, ◌^◌, ℕ, Option, option_map, IfOk, OnOk};
+ghost use Rattle.passkey_kinds.specs.Words.{blame_of, tolerated, Item, IsEncodedAt, item_of, Answers, Typed, Onward, Further, ReadsAs, truth, below, text, kept, optional, scalar_of};
 
-use crate::Refusal;
 use crate::head::read_scalar;
+use crate::{Blame, OutOfMemory, Refusal, Wanted};
 use passkey_bytes::Text;
 use passkey_cbor::{CborError, Cursor, Head, Value};
 use std::alloc::Global;
@@ -16,9 +16,9 @@ pub trait FromCbor: Drop {
     ghost view: { Self → Meaning };
 
     /// The value that each data item decodes to, if it decodes to one; whether decoding may take
-    /// memory; the most heads that `read` decodes for each byte of the data item; and the data items
+    /// memory; the most heads that `read` decodes for each byte of the data item; the data items
     /// that it makes as values at most: those that the result keeps, and in authenticator data those
-    /// for the credential public key and the extensions.
+    /// for the credential public key and the extensions; and what it blames if it refuses an item.
     ghost typed: { Typed Meaning };
 
     /// Decodes the value from a data item. Returns `Refused` exactly if the type doesn't accept the
@@ -40,6 +40,12 @@ pub trait FromCbor: Drop {
 
         // After a success it moved on by whole heads, and counted at least as many.
         ensures further { OnOk result (Further cursor.old cursor.new) };
+
+    /// Returns what is to blame if the type refuses the data item: the innermost item, or map key,
+    /// that is refused, and why. Nothing is promised for an item that the type accepts. Returns
+    /// `OutOfMemory` if an allocation fails.
+    fn explain(alloc: Global, value: &Value) -> Result<Blame, OutOfMemory>
+        ensures { IfOk result (λ b. blame_of b ≡ typed.blame (item_of value.now)) };
 }
 
 fn truth_of(head: Option<Head>) -> Result<bool, Refusal>
@@ -85,6 +91,10 @@ impl FromCbor for bool {
     fn read(_alloc: Global, cursor: &mut Cursor<'_>) -> Result<bool, Refusal> {
         truth_of(read_scalar(cursor))
     }
+
+    fn explain(alloc: Global, _value: &Value) -> Result<Blame, OutOfMemory> {
+        Ok(Blame::wanted(alloc, Wanted::Boolean))
+    }
 }
 
 impl FromCbor for u8 {
@@ -102,6 +112,10 @@ impl FromCbor for u8 {
     fn read(_alloc: Global, cursor: &mut Cursor<'_>) -> Result<u8, Refusal> {
         byte(read_scalar(cursor))
     }
+
+    fn explain(alloc: Global, _value: &Value) -> Result<Blame, OutOfMemory> {
+        Ok(Blame::wanted(alloc, Wanted::Below(256)))
+    }
 }
 
 impl FromCbor for u32 {
@@ -118,6 +132,10 @@ impl FromCbor for u32 {
 
     fn read(_alloc: Global, cursor: &mut Cursor<'_>) -> Result<u32, Refusal> {
         word(read_scalar(cursor))
+    }
+
+    fn explain(alloc: Global, _value: &Value) -> Result<Blame, OutOfMemory> {
+        Ok(Blame::wanted(alloc, Wanted::Below(4_294_967_296)))
     }
 }
 
@@ -138,6 +156,10 @@ impl FromCbor for Text {
             Some(token) => Ok(Text::from(token.copy(alloc, cursor)?)),
             None => Err(Refusal::Refused),
         }
+    }
+
+    fn explain(alloc: Global, _value: &Value) -> Result<Blame, OutOfMemory> {
+        Ok(Blame::wanted(alloc, Wanted::Text))
     }
 }
 
@@ -161,6 +183,10 @@ impl FromCbor for Value {
             Err(CborError::OutOfRangeIntegerValue) => Err(Refusal::Refused),
         }
     }
+
+    fn explain(alloc: Global, _value: &Value) -> Result<Blame, OutOfMemory> {
+        Ok(Blame::wanted(alloc, Wanted::Any))
+    }
 }
 
 impl<T: FromCbor> FromCbor for Option<T> {
@@ -183,6 +209,10 @@ impl<T: FromCbor> FromCbor for Option<T> {
             return Ok(None);
         }
         Ok(Some(T::read(alloc, cursor)?))
+    }
+
+    fn explain(alloc: Global, value: &Value) -> Result<Blame, OutOfMemory> {
+        T::explain(alloc, value)
     }
 }
 
@@ -221,5 +251,9 @@ impl<T: FromCbor> FromCbor for Tolerated<T> {
             }
             Err(Refusal::OutOfMemory) => Err(Refusal::OutOfMemory),
         }
+    }
+
+    fn explain(alloc: Global, value: &Value) -> Result<Blame, OutOfMemory> {
+        T::explain(alloc, value)
     }
 }

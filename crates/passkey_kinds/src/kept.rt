@@ -1,26 +1,39 @@
 //! Data items that are kept undecoded.
 ghost use Rattle.std.specs.Prelude.{◌≡◌, false, IfOk, OnErr, Some, option_map};
 ghost use Rattle.passkey_kinds.specs.Words.{Item, item_of, Grows};
-ghost use Rattle.passkey_kinds.specs.Numbered.{null_in, kept_item, not_null, has_room, IsNotNull};
+ghost use Rattle.passkey_kinds.specs.Numbered.{kept_item, not_null, has_room, IsNotNull};
 
-use crate::{FromCbor, OutOfMemory, Refusal, ToCbor};
+use crate::{Blame, FromCbor, OutOfMemory, Refusal, ToCbor, Wanted};
 use passkey_cbor::{Cursor, Encoder, Value};
 use std::alloc::Global;
+use std::marker::Model;
 
 /// A data item other than null, which is kept undecoded: a COSE key, or parameters to which another
 /// member gives their meaning.
 #[derive(Debug, Drop)]
 pub struct Kept {
     value: Value,
-    ghost some: { null_in (item_of value) ≡ false },
+}
+
+/// Contracts see the item.
+impl Model for Kept {
+    ghost use Rattle.passkey_kinds.specs.Words.{Item, item_of};
+    ghost use Rattle.passkey_kinds.specs.ItemCode.{coded_item};
+    ghost use Rattle.passkey_kinds.specs.Numbered.{IsNotNull};
+
+    ghost Value = { Item };
+
+    ghost coded = { coded_item };
+
+    ghost view = { λ k. item_of k.value };
+
+    ghost invariant = { λ k. IsNotNull (item_of k.value) };
 }
 
 impl Kept {
-    ghost use Rattle.passkey_kinds.specs.Held.{held_item};
-
     /// Returns the item. Returns `None` exactly if it is null.
     pub fn new(value: Value) -> Option<Kept>
-        ensures { option_map held_item result ≡ not_null (item_of value) }
+        ensures { result ≡ not_null (item_of value) }
     {
         match value {
             Value::Null => None,
@@ -30,14 +43,14 @@ impl Kept {
 
     /// Lends the item.
     pub fn value(&self) -> &Value
-        ensures { item_of result.now ≡ held_item self.now }
+        ensures { item_of result.now ≡ self.now }
     {
         &self.value
     }
 
     /// Returns the item.
     pub fn into_value(self) -> Value
-        ensures { item_of result ≡ held_item self }
+        ensures { item_of result ≡ self }
     {
         self.value
     }
@@ -45,8 +58,8 @@ impl Kept {
     /// Returns an equal item. Returns `OutOfMemory` if an allocation fails, which can only happen
     /// for an item that takes memory.
     pub fn try_clone(&self, alloc: Global) -> Result<Kept, OutOfMemory>
-        ensures same { IfOk result (λ copy. held_item copy ≡ held_item self.now) }
-        ensures grows { OnErr result (Grows (held_item self.now)) }
+        ensures same { IfOk result (λ copy. copy ≡ self.now) }
+        ensures grows { OnErr result (Grows self.now) }
     {
         let value = self.value.try_clone(alloc)?;
         Ok(Kept { value })
@@ -55,18 +68,16 @@ impl Kept {
     /// Returns whether a message has room for the item: it has at most 255 nesting levels.
     /// Allocates nothing.
     pub fn has_room(&self) -> bool
-        ensures { result ≡ has_room (Some (held_item self.now)) }
+        ensures { result ≡ has_room (Some self.now) }
     {
         self.value.depth() <= 255
     }
 }
 
 impl FromCbor for Kept {
-    ghost use Rattle.passkey_kinds.specs.Held.{held_item};
-
     ghost Meaning = { Item };
 
-    ghost view = { held_item };
+    ghost view = { λ k. k };
 
     ghost typed = { kept_item.typed };
 
@@ -83,14 +94,16 @@ impl FromCbor for Kept {
     fn read(alloc: Global, cursor: &mut Cursor<'_>) -> Result<Kept, Refusal> {
         Kept::new(Value::read(alloc, cursor)?).ok_or(Refusal::Refused)
     }
+
+    fn explain(alloc: Global, _value: &Value) -> Result<Blame, OutOfMemory> {
+        Ok(Blame::wanted(alloc, Wanted::NotNull))
+    }
 }
 
 impl ToCbor for Kept {
-    ghost use Rattle.passkey_kinds.specs.Held.{held_item};
+    ghost tree = { λ k. k };
 
-    ghost tree = { held_item };
-
-    ghost fits = { λ k. IsNotNull (held_item k) };
+    ghost fits = { IsNotNull };
 
     fn to_value(&self, alloc: Global) -> Result<Value, OutOfMemory> {
         self.value.try_clone(alloc)

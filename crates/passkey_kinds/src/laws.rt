@@ -80,7 +80,7 @@ pub fn reading_knows_maps<R: Record>()
 /// The encoding of a coherent message that one table defines, whatever bytes follow, decodes to the
 /// message's normal form.
 pub fn written_message_is_read_back<M: TableMessage>()
-    ensures { MessagesAreReadBack M.numbered M.parts M.normal M.table }
+    ensures { MessagesAreReadBack M.numbered M.normal M.table }
 {
     M::lawful();
     passkey_cbor::laws::written_is_leading_item();

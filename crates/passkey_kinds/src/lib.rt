@@ -4,10 +4,12 @@
 
 mod algorithm;
 mod array;
+mod blame;
 mod bytes;
 mod code;
 mod collect;
 mod data;
+mod explain;
 mod fault;
 mod from_cbor;
 mod from_text;
@@ -37,6 +39,7 @@ mod to_cbor;
 mod webauthn;
 mod written;
 
+pub use blame::{Blame, Reason, Step, Wanted};
 pub use code::{Code, put_some_code, set_code, set_some_code};
 pub use fault::{Fault, Refusal, WriteFault};
 pub use from_cbor::{FromCbor, Tolerated};

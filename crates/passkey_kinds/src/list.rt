@@ -3,7 +3,8 @@ ghost use Rattle.std.specs.Prelude.{map, List as Items};
 ghost use Rattle.passkey_kinds.specs.Words.{list, accepted, pushing, pushing_if};
 
 use crate::collect::{Gather, read_elements, read_whole};
-use crate::{FromCbor, Refusal, Source, Tolerated};
+use crate::explain::explain_elements;
+use crate::{Blame, FromCbor, OutOfMemory, Refusal, Source, Tolerated, Wanted};
 use passkey_bytes::List;
 use passkey_cbor::{Cursor, Value};
 use std::alloc::Global;
@@ -40,6 +41,14 @@ impl<T: FromCbor> FromCbor for List<T> {
 
     fn read(alloc: Global, cursor: &mut Cursor<'_>) -> Result<List<T>, Refusal> {
         read_whole(alloc, List::empty(alloc), cursor)
+    }
+
+    #[tactic(auto, using(crate::proofs::Blames::in_array), unfolding(crate::specs::Blaming::list_blame))]
+    fn explain(alloc: Global, value: &Value) -> Result<Blame, OutOfMemory> {
+        match value {
+            Value::Array(elements) => explain_elements::<T>(alloc, elements),
+            _ => Ok(Blame::wanted(alloc, Wanted::Array)),
+        }
     }
 }
 
@@ -85,5 +94,9 @@ impl<T: FromCbor> FromCbor for TolerantList<T> {
 
     fn read(alloc: Global, cursor: &mut Cursor<'_>) -> Result<TolerantList<T>, Refusal> {
         read_whole(alloc, TolerantList(List::empty(alloc)), cursor)
+    }
+
+    fn explain(alloc: Global, _value: &Value) -> Result<Blame, OutOfMemory> {
+        Ok(Blame::wanted(alloc, Wanted::Array))
     }
 }

@@ -4,7 +4,7 @@ ghost use Rattle.passkey_kinds.specs.Words.{Answers, below, scalar_of, number_tr
 
 use crate::head::read_scalar;
 use crate::to_cbor::{integer, number};
-use crate::{FromCbor, OutOfMemory, ReadBack, Refusal, ToCbor};
+use crate::{Blame, FromCbor, OutOfMemory, ReadBack, Refusal, ToCbor, Wanted};
 use passkey_cbor::{Cursor, Encoder, Head, Value};
 use std::alloc::Global;
 
@@ -31,6 +31,10 @@ impl FromCbor for u64 {
 
     fn read(_alloc: Global, cursor: &mut Cursor<'_>) -> Result<u64, Refusal> {
         long(read_scalar(cursor))
+    }
+
+    fn explain(alloc: Global, _value: &Value) -> Result<Blame, OutOfMemory> {
+        Ok(Blame::wanted(alloc, Wanted::Below(18_446_744_073_709_551_616)))
     }
 }
 

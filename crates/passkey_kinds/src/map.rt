@@ -7,8 +7,9 @@ ghost use Rattle.passkey_kinds.specs.Words.{ByteMap, item_of, pair_of, AnswersAs
 ghost use Rattle.std.specs.FinMap as fin;
 
 use crate::collect::{Collect, read_whole};
+use crate::explain::explain_entries;
 use crate::head::read_map;
-use crate::{FromCbor, OutOfMemory, Refusal, ToCbor};
+use crate::{Blame, FromCbor, OutOfMemory, Refusal, ToCbor, Wanted};
 use passkey_bytes::{Bytes, Map};
 use passkey_cbor::{Cursor, Value};
 use std::alloc::Global;
@@ -64,6 +65,14 @@ impl<T: FromCbor> FromCbor for Map<Bytes, T> {
 
     fn read(alloc: Global, cursor: &mut Cursor<'_>) -> Result<Map<Bytes, T>, Refusal> {
         read_whole(alloc, Map::empty(alloc), cursor)
+    }
+
+    #[tactic(auto, using(crate::proofs::Members::reads_map), unfolding(crate::specs::Blaming::map_blame))]
+    fn explain(alloc: Global, value: &Value) -> Result<Blame, OutOfMemory> {
+        match value {
+            Value::Map(pairs) => explain_entries::<T>(alloc, pairs),
+            _ => Ok(Blame::wanted(alloc, Wanted::Map)),
+        }
     }
 }
 

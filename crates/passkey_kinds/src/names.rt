@@ -3,7 +3,7 @@ ghost use Rattle.std.specs.Prelude.{◌≡◌, ◌≤◌, ℕ, List, length, map
 ghost use Rattle.passkey_kinds.specs.Words.{Item, IsRegion, Tells, IsEncodedAt, Onward, Further, ReadsAs, LooksAtMost, item_of, Answers, one_named, credential_type_named, transport_named};
 ghost use Rattle.passkey_webauthn.specs.Names.{row_of, texts, value_at, value_in};
 
-use crate::{FromCbor, Refusal};
+use crate::{Blame, FromCbor, OutOfMemory, Refusal, Wanted};
 use passkey_cbor::{Cursor, TextToken, Value};
 use passkey_webauthn::{AuthenticatorTransport, EnumNames, PublicKeyCredentialType};
 use std::alloc::Global;
@@ -85,6 +85,10 @@ impl FromCbor for PublicKeyCredentialType {
     fn read(_alloc: Global, cursor: &mut Cursor<'_>) -> Result<PublicKeyCredentialType, Refusal> {
         read_named(cursor)
     }
+
+    fn explain(alloc: Global, _value: &Value) -> Result<Blame, OutOfMemory> {
+        Ok(Blame::wanted(alloc, Wanted::Name))
+    }
 }
 
 impl FromCbor for AuthenticatorTransport {
@@ -98,5 +102,9 @@ impl FromCbor for AuthenticatorTransport {
 
     fn read(_alloc: Global, cursor: &mut Cursor<'_>) -> Result<AuthenticatorTransport, Refusal> {
         read_named(cursor)
+    }
+
+    fn explain(alloc: Global, _value: &Value) -> Result<Blame, OutOfMemory> {
+        Ok(Blame::wanted(alloc, Wanted::Name))
     }
 }

@@ -1,14 +1,15 @@
 //! Records, decoded member by member.
-ghost use Rattle.std.specs.Prelude.{◌≡◌, ◌<◌, ◌≤◌, ℕ, Bool, true, false, length, map, replicate, get_or, is_ok, OnOk, set, []};
-ghost use Rattle.passkey_kinds.specs.Words.{CountsHeads, Item, max_depth, IsEncodedAt, PairsAreEncodedAt, item_of, pair_of, Onward, Further, MayGrowIn, MayGrowAt, Reads, are_small, named_as, Fields, table_of, read_members, read_item, nested, cost_at, keeps_at, Puts, entry_of, Members, entries, named, MayGrowBy, one_more, reached, read_from, cost_by, keeps_by, DecodesMember, DecodesMembers, DecodesRecord, held_as};
+ghost use Rattle.std.specs.Prelude.{◌≡◌, ◌<◌, ◌≤◌, ℕ, Bool, true, false, length, map, replicate, get_or, is_ok, OnOk, set, [], None};
+ghost use Rattle.passkey_kinds.specs.Words.{CountsHeads, Item, max_depth, IsEncodedAt, PairsAreEncodedAt, item_of, pair_of, Onward, Further, MayGrowIn, MayGrowAt, Reads, are_small, named_as, Fields, table_of, read_members, read_item, nested, cost_at, keeps_at, blame_at, Puts, entry_of, Members, entries, named, MayGrowBy, one_more, reached, read_from, cost_by, keeps_by, DecodesMember, DecodesMembers, DecodesRecord, held_as};
 ghost use Rattle.passkey_kinds.specs.Record.{first_missing as missing_of};
 ghost use Rattle.passkey_cbor.specs.EncodedAt.{Lies};
 ghost use Rattle.passkey_cbor.specs.Inside.{PairWithin};
 
+use crate::explain::explain_record;
 use crate::head::read_map;
 use crate::key::read_key;
 use crate::rows::{Named, row_of};
-use crate::{Fault, FromCbor, Refusal, Row, Source, Tree};
+use crate::{Blame, Fault, FromCbor, OutOfMemory, Refusal, Row, Source, Tree};
 use passkey_cbor::{Cursor, Value};
 use std::alloc::Global;
 
@@ -50,7 +51,7 @@ pub trait Record: Drop {
         ensures puts { (i : Item) (to : ℕ) → S.At source.old i to
             → Puts fields number i (parts self.old) (parts self.new) result }
         ensures spends { (i : Item) (to : ℕ) → S.At source.old i to → S.Spent (cost_at fields.rows number)
-            (keeps_at fields.rows number) i to source.old source.new (is_ok result) }
+            (keeps_at fields.rows number) (blame_at fields.rows number) i to source.old source.new (is_ok result) }
         ensures onward { S.Goes source.old source.new }
         ensures further { OnOk result (S.Past source.old source.new) };
 }
@@ -70,7 +71,7 @@ fn read_member<R: Record, S: Source>(
         (MayGrowBy (table_of R.fields) (named_as key) value)
         (one_more R.fields (named_as key) value (reached (R.parts read.old) seen.old)) result }
     ensures spends { (value : Item) (to : ℕ) → S.At source.old value to → S.Spent (cost_by R.fields.rows
-        (named_as key)) (keeps_by R.fields.rows (named_as key)) value to source.old source.new (is_ok result) }
+        (named_as key)) (keeps_by R.fields.rows (named_as key)) None value to source.old source.new (is_ok result) }
     ensures onward { S.Goes source.old source.new }
     ensures further { OnOk result (S.Past source.old source.new) }
 {
@@ -98,7 +99,7 @@ fn read_member<R: Record, S: Source>(
 }
 
 /// Returns whether the row with this number is marked.
-fn is_marked(seen: &[bool; 32], number: u8) -> bool
+pub(crate) fn is_marked(seen: &[bool; 32], number: u8) -> bool
     ensures { result ≡ get_or seen.now number false }
 {
     let index = usize::from(number);
@@ -106,7 +107,7 @@ fn is_marked(seen: &[bool; 32], number: u8) -> bool
 }
 
 /// Marks the row with this number. A row's number is below 32.
-fn mark(seen: &mut [bool; 32], number: u8)
+pub(crate) fn mark(seen: &mut [bool; 32], number: u8)
     ensures { number < 32 → seen.new ≡ set seen.old number true }
 {
     let index = usize::from(number);
@@ -116,7 +117,7 @@ fn mark(seen: &mut [bool; 32], number: u8)
 }
 
 /// Returns the number of the first required row that isn't marked.
-fn first_missing(rows: &[Row], seen: &[bool; 32]) -> Option<u8>
+pub(crate) fn first_missing(rows: &[Row], seen: &[bool; 32]) -> Option<u8>
     ensures { result ≡ missing_of (map entry_of rows.now) (λ n. get_or seen.now n false) }
 {
     for row in rows {
@@ -128,7 +129,7 @@ fn first_missing(rows: &[Row], seen: &[bool; 32]) -> Option<u8>
 }
 
 /// Returns marks with no row marked.
-fn no_marks() -> [bool; 32]
+pub(crate) fn no_marks() -> [bool; 32]
     ensures { result ≡ replicate 32 false }
 {
     [false; 32]
@@ -261,5 +262,9 @@ impl<R: Record> FromCbor for R {
     #[tactic(auto, using(crate::proofs::Members::held_ok))]
     fn read(alloc: Global, cursor: &mut Cursor<'_>) -> Result<R, Refusal> {
         held(read_record::<R>(alloc, cursor))
+    }
+
+    fn explain(alloc: Global, value: &Value) -> Result<Blame, OutOfMemory> {
+        explain_record::<R>(alloc, value)
     }
 }

@@ -6,7 +6,7 @@ ghost use Rattle.passkey_kinds.specs.Words.{number, Answers, size, scalar_of};
 ghost use Rattle.passkey_kinds.specs.Kind.{size as size_of};
 
 use crate::head::read_scalar;
-use crate::{FromCbor, Refusal};
+use crate::{Blame, FromCbor, OutOfMemory, Refusal, Wanted};
 use passkey_cbor::{Cursor, Head, Integer, Value};
 use std::alloc::Global;
 use std::num::NonZeroU128;
@@ -42,5 +42,9 @@ impl FromCbor for NonZeroU128 {
 
     fn read(_alloc: Global, cursor: &mut Cursor<'_>) -> Result<NonZeroU128, Refusal> {
         not_zero(read_scalar(cursor))
+    }
+
+    fn explain(alloc: Global, _value: &Value) -> Result<Blame, OutOfMemory> {
+        Ok(Blame::wanted(alloc, Wanted::Size))
     }
 }

@@ -1,6 +1,6 @@
 //! Where a record's values are decoded from.
-ghost use Rattle.std.specs.Prelude.{◌≡◌, ℕ, suc, map, option_map, is_ok, Bool, true, false, OnOk};
-ghost use Rattle.passkey_kinds.specs.Words.{Item, IsEncodedAt, item_of, Keeping, nothing, in_elements, Answers, Onward, Further, Costs, accepted, or_else, tolerated, Sets, costs_nothing, onward_same, costs_at_most};
+ghost use Rattle.std.specs.Prelude.{◌≡◌, ℕ, suc, map, option_map, Option, Some, None, is_ok, Bool, true, false, OnOk};
+ghost use Rattle.passkey_kinds.specs.Words.{Blame, Item, IsEncodedAt, item_of, Keeping, nothing, in_elements, Answers, Onward, Further, Costs, accepted, or_else, tolerated, Sets, costs_nothing, onward_same, costs_at_most};
 
 use crate::{FromCbor, Refusal, TolerantList, Tolerated};
 use passkey_bytes::List;
@@ -13,8 +13,9 @@ pub trait Source {
     ghost At: { Self → Item → ℕ → Type 0 };
 
     /// The cost of decoding the item: at most this many heads for each byte, and at most these data
-    /// items made as values. After a success the source is after the item.
-    ghost Spent: { ℕ → Keeping → Item → ℕ → Self → Self → Bool → Type 0 };
+    /// items made as values; and what is to blame for it, if a type was decoded. After a success the
+    /// source is after the item.
+    ghost Spent: { ℕ → Keeping → Option (Item → Blame) → Item → ℕ → Self → Self → Bool → Type 0 };
 
     /// The source didn't move back, and its counts didn't fall.
     ghost Goes: { Self → Self → Type 0 };
@@ -27,7 +28,7 @@ pub trait Source {
     fn read<T: FromCbor>(&mut self, alloc: Global) -> Result<T, Refusal>
         ensures answers { (i : Item) (to : ℕ) → At self.old i to → Answers T.view T.typed i result }
         ensures spends { (i : Item) (to : ℕ) → At self.old i to
-            → Spent T.typed.cost T.typed.keeps i to self.old self.new (is_ok result) }
+            → Spent T.typed.cost T.typed.keeps (Some T.typed.blame) i to self.old self.new (is_ok result) }
         ensures onward { Goes self.old self.new }
         ensures further { OnOk result (Past self.old self.new) };
 
@@ -35,17 +36,20 @@ pub trait Source {
     /// Allocates nothing.
     fn pass(&mut self) -> bool
         ensures passes { (i : Item) (to : ℕ) → At self.old i to → result ≡ true }
-        ensures spends { (i : Item) (to : ℕ) → At self.old i to → Spent 1 nothing i to self.old self.new true }
+        ensures spends { (i : Item) (to : ℕ) → At self.old i to → Spent 1 nothing None i to self.old self.new true }
         ensures onward { Goes self.old self.new }
         ensures further { result ≡ true → Past self.old self.new };
 
-    ghost stays: { (cost : ℕ) (keeps : Keeping) (i : Item) (to : ℕ) (s : Self) → At s i to
-        → Spent cost keeps i to s s false };
+    ghost stays: { (cost : ℕ) (keeps : Keeping) (blame : Option (Item → Blame)) (i : Item) (to : ℕ) (s : Self)
+        → blame ≡ None → At s i to → Spent cost keeps blame i to s s false };
 
     ghost still: { (s : Self) → Goes s s };
 
-    ghost at_most: { (cost : ℕ) (keeps : Keeping) (i : Item) (to : ℕ) (s e : Self) → Spent cost keeps i to s e true
-        → Spent cost keeps i to s e false };
+    ghost at_most: { (cost : ℕ) (keeps : Keeping) (blame : Option (Item → Blame)) (i : Item) (to : ℕ) (s e : Self)
+        → Spent cost keeps blame i to s e true → Spent cost keeps blame i to s e false };
+
+    ghost forget: { (cost : ℕ) (keeps : Keeping) (blame : Option (Item → Blame)) (i : Item) (to : ℕ) (s e : Self)
+        (ok : Bool) → Spent cost keeps blame i to s e ok → Spent cost keeps None i to s e ok };
 }
 
 /// A data item in memory.
@@ -55,17 +59,19 @@ pub struct Tree<'a>(pub &'a Value);
 impl<'a> Source for Tree<'a> {
     ghost At = { λ t i to. item_of t.0.now ≡ i };
 
-    ghost Spent = { λ cost keeps i to old new ok. Unit {0} };
+    ghost Spent = { λ cost keeps blame i to old new ok. Unit {0} };
 
     ghost Goes = { λ old new. Unit {0} };
 
     ghost Past = { λ old new. Unit {0} };
 
-    ghost stays = { λ cost keeps i to s at. tt };
+    ghost stays = { λ cost keeps blame i to s none at. tt };
 
     ghost still = { λ s. tt };
 
-    ghost at_most = { λ cost keeps i to s e spent. tt };
+    ghost at_most = { λ cost keeps blame i to s e spent. tt };
+
+    ghost forget = { λ cost keeps blame i to s e ok spent. tt };
 
     fn read<T: FromCbor>(&mut self, alloc: Global) -> Result<T, Refusal> {
         T::from_value(alloc, self.0)
@@ -80,17 +86,19 @@ impl<'a> Source for Tree<'a> {
 impl<'a> Source for Cursor<'a> {
     ghost At = { λ w i to. IsEncodedAt i w.bytes w.place to };
 
-    ghost Spent = { Costs };
+    ghost Spent = { λ cost keeps blame i to old new ok. Costs cost keeps i to old new ok };
 
     ghost Goes = { Onward };
 
     ghost Past = { Further };
 
-    ghost stays = { costs_nothing };
+    ghost stays = { λ cost keeps blame i to s none at. costs_nothing cost keeps i to s at };
 
     ghost still = { onward_same };
 
-    ghost at_most = { costs_at_most };
+    ghost at_most = { λ cost keeps blame i to s e spent. costs_at_most cost keeps i to s e spent };
+
+    ghost forget = { λ cost keeps blame i to s e ok spent. spent };
 
     fn read<T: FromCbor>(&mut self, alloc: Global) -> Result<T, Refusal> {
         T::read(alloc, self)
@@ -110,7 +118,7 @@ pub fn set<T: FromCbor, S: Source>(
 ) -> Result<(), Refusal>
     ensures sets { (i : Item) (to : ℕ) → S.At source.old i to → Sets T.view T.typed i field.new result }
     ensures spends { (i : Item) (to : ℕ) → S.At source.old i to
-        → S.Spent T.typed.cost T.typed.keeps i to source.old source.new (is_ok result) }
+        → S.Spent T.typed.cost T.typed.keeps (Some T.typed.blame) i to source.old source.new (is_ok result) }
     ensures onward { S.Goes source.old source.new }
     ensures further { OnOk result (S.Past source.old source.new) }
 {
@@ -128,7 +136,7 @@ pub fn set_tolerated<T: FromCbor, S: Source>(
     ensures sets { (i : Item) (to : ℕ) → S.At source.old i to
         → Sets (option_map T.view) (tolerated T.typed) i field.new result }
     ensures spends { (i : Item) (to : ℕ) → S.At source.old i to
-        → S.Spent (suc T.typed.cost) T.typed.keeps i to source.old source.new (is_ok result) }
+        → S.Spent (suc T.typed.cost) T.typed.keeps (Some T.typed.blame) i to source.old source.new (is_ok result) }
     ensures onward { S.Goes source.old source.new }
     ensures further { OnOk result (S.Past source.old source.new) }
 {
@@ -148,7 +156,7 @@ pub fn set_or<T: FromCbor, S: Source>(
     ensures sets { (i : Item) (to : ℕ) → S.At source.old i to
         → Sets T.view (or_else (T.view default) T.typed) i field.new result }
     ensures spends { (i : Item) (to : ℕ) → S.At source.old i to
-        → S.Spent (suc T.typed.cost) T.typed.keeps i to source.old source.new (is_ok result) }
+        → S.Spent (suc T.typed.cost) T.typed.keeps (Some T.typed.blame) i to source.old source.new (is_ok result) }
     ensures onward { S.Goes source.old source.new }
     ensures further { OnOk result (S.Past source.old source.new) }
 {
@@ -168,7 +176,8 @@ pub fn set_accepted<T: FromCbor, S: Source>(
     ensures sets { (i : Item) (to : ℕ) → S.At source.old i to
         → Sets (λ xs. map T.view xs) (accepted T.typed) i field.new result }
     ensures spends { (i : Item) (to : ℕ) → S.At source.old i to
-        → S.Spent (suc (suc T.typed.cost)) (in_elements T.typed.keeps) i to source.old source.new (is_ok result) }
+        → S.Spent (suc (suc T.typed.cost)) (in_elements T.typed.keeps) (Some (accepted T.typed).blame) i to
+        source.old source.new (is_ok result) }
     ensures onward { S.Goes source.old source.new }
     ensures further { OnOk result (S.Past source.old source.new) }
 {
@@ -186,7 +195,8 @@ pub fn set_accepted_or_none<T: FromCbor, S: Source>(
     ensures sets { (i : Item) (to : ℕ) → S.At source.old i to
         → Sets (λ o. option_map (λ xs. map T.view xs) o) (tolerated (accepted T.typed)) i field.new result }
     ensures spends { (i : Item) (to : ℕ) → S.At source.old i to
-        → S.Spent (suc (suc (suc T.typed.cost))) (in_elements T.typed.keeps) i to source.old source.new (is_ok result) }
+        → S.Spent (suc (suc (suc T.typed.cost))) (in_elements T.typed.keeps) (Some (accepted T.typed).blame) i to
+        source.old source.new (is_ok result) }
     ensures onward { S.Goes source.old source.new }
     ensures further { OnOk result (S.Past source.old source.new) }
 {

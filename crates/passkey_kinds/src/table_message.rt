@@ -1,7 +1,6 @@
 //! Messages that one table defines.
 ghost use Rattle.std.specs.Prelude.{◌≡◌, ◌≤◌, ℕ, suc, Option, option_map, IfOk, IfErr, OnOk};
 ghost use Rattle.passkey_kinds.specs.Words.{EachFits, IsWritable, Item, ReadsHere, record_cost, plain_tree, written};
-ghost use Rattle.passkey_kinds.specs.Held.{held_item};
 ghost use Rattle.passkey_kinds.specs.Numbered.{AreMessages, table_fields};
 ghost use Rattle.passkey_kinds.specs.declared.fault.WriteFault.TheVariants.{OutOfMemory as NoMemory};
 
@@ -17,7 +16,7 @@ pub trait TableMessage: TableRecord {
 
     /// Lends the data item that the message keeps undecoded, if it has one.
     fn kept(&self) -> Option<&Kept>
-        ensures { option_map (λ k. held_item k.now) result ≡ Self.kept (Self.parts self.now) };
+        ensures { option_map (λ k. k.now) result ≡ Self.kept self.now };
 
     /// What holds of the message's table. Does nothing.
     fn is_message()
@@ -28,17 +27,17 @@ pub trait TableMessage: TableRecord {
 
 impl<M: TableMessage> Message for M {
     fn read(alloc: Global, cursor: &mut Cursor<'_>) -> Result<M, Fault>
-        ensures general { ReadsHere M.TableRecord.parts (table_fields M.TableRecord.numbered M.TableRecord.table) 16 cursor.old cursor.new result }
-        ensures own { ReadsHere M.TableRecord.parts (table_fields M.TableRecord.numbered M.TableRecord.table) M.TableMessage.cost cursor.old cursor.new result }
+        ensures general { ReadsHere (λ m. m) (table_fields M.TableRecord.numbered M.TableRecord.table) 16 cursor.old cursor.new result }
+        ensures own { ReadsHere (λ m. m) (table_fields M.TableRecord.numbered M.TableRecord.table) M.TableMessage.cost cursor.old cursor.new result }
     {
         M::is_message();
         read_message(alloc, cursor)
     }
 
     fn to_vec(&self, alloc: Global) -> Result<Vec<u8>, WriteFault>
-        ensures written { IfOk result (λ bytes. bytes.items ≡ written (plain_tree M.TableRecord.table (M.TableRecord.parts self.now))) }
-        ensures writable { OnOk result (IsWritable (plain_tree M.TableRecord.table (M.TableRecord.parts self.now))) }
-        ensures fits { OnOk result (EachFits M.TableRecord.table.members (M.TableRecord.parts self.now)) }
+        ensures written { IfOk result (λ bytes. bytes.items ≡ written (plain_tree M.TableRecord.table self.now)) }
+        ensures writable { OnOk result (IsWritable (plain_tree M.TableRecord.table self.now)) }
+        ensures fits { OnOk result (EachFits M.TableRecord.table.members self.now) }
         ensures memory { IfErr result (λ e. e ≡ NoMemory) }
     {
         write_message(alloc, self)

@@ -1,6 +1,6 @@
 //! Records that one table defines.
-ghost use Rattle.std.specs.Prelude.{◌≡◌, ◌≤◌, ℕ, Bool, true, length, map, is_ok, OnOk, Option};
-ghost use Rattle.passkey_kinds.specs.Words.{Item, PlainTable, EachFits, places_of, plain_tree, KeysAscend, IsReadBack, are_small, table_of, cost_at, keeps_at, Puts, entry_of, AllAccepted, put_all, entries, record_kind};
+ghost use Rattle.std.specs.Prelude.{◌≡◌, ◌≤◌, ℕ, Bool, true, length, map, is_ok, OnOk, Option, None};
+ghost use Rattle.passkey_kinds.specs.Words.{Item, PlainTable, EachFits, places_of, plain_tree, KeysAscend, IsReadBack, are_small, table_of, cost_at, keeps_at, blame_at, Puts, entry_of, AllAccepted, put_all, entries, record_kind};
 ghost use Rattle.passkey_kinds.specs.Numbered.{table_fields, is_shallow};
 
 use crate::{OutOfMemory, Record, RecordReadBack, Refusal, Row, Sink, Source, ToCborMap};
@@ -8,20 +8,15 @@ use std::alloc::Global;
 
 /// A record that one table defines: the table says how it is decoded and how it is encoded.
 pub trait TableRecord: Drop {
-    /// What contracts see of the record.
-    ghost Parts: { Type 0 } = { Self };
-
-    ghost parts: { Self → Parts };
-
     /// What the record holds before a member is decoded, and its members in the order in which they
     /// are encoded.
-    ghost table: { PlainTable Parts };
+    ghost table: { PlainTable Self };
 
     /// Whether members have numbers in addition to their names.
     ghost numbered: { Bool } = { true };
 
     /// The data item that a message keeps undecoded, if it has one. Only `TableMessage` speaks of it.
-    ghost kept: { Parts → Option Item };
+    ghost kept: { Self → Option Item } = { λ r. None };
 
     /// The record that the encoding of a record decodes to.
     ghost normal: { Self → Self } = { λ r. r };
@@ -38,37 +33,36 @@ pub trait TableRecord: Drop {
 
     /// Returns the record before a member is decoded. Allocates nothing.
     fn blank(alloc: Global) -> Self
-        ensures { parts result ≡ table.blank };
+        ensures { result ≡ table.blank };
 
     /// Decodes the value of the row with this number and puts it into the record, as `Record::put`.
     fn put<S: Source>(&mut self, alloc: Global, number: u8, source: &mut S) -> Result<(), Refusal>
         ensures puts { (i : Item) (to : ℕ) → S.At source.old i to
-            → Puts (table_fields numbered table) number i (parts self.old) (parts self.new) result }
+            → Puts (table_fields numbered table) number i self.old self.new result }
         ensures spends { (i : Item) (to : ℕ) → S.At source.old i to
             → S.Spent (cost_at (table_fields numbered table).rows number)
-            (keeps_at (table_fields numbered table).rows number) i to source.old source.new (is_ok result) }
+            (keeps_at (table_fields numbered table).rows number)
+            (blame_at (table_fields numbered table).rows number) i to source.old source.new (is_ok result) }
         ensures onward { S.Goes source.old source.new }
         ensures further { OnOk result (S.Past source.old source.new) };
 
     /// Puts the members into a sink. Returns `OutOfMemory` if an allocation fails.
     fn put_members<S: Sink>(&self, alloc: Global, sink: &mut S) -> Result<(), OutOfMemory>
         ensures put { OnOk result
-            (S.state sink.new ≡ put_all S.step (S.state sink.old) (places_of table.members (parts self.now))) }
-        ensures accepts { OnOk result (AllAccepted S.Accepts (places_of table.members (parts self.now))) }
-        ensures fits { OnOk result (S.Encodes → EachFits table.members (parts self.now)) };
+            (S.state sink.new ≡ put_all S.step (S.state sink.old) (places_of table.members self.now)) }
+        ensures accepts { OnOk result (AllAccepted S.Accepts (places_of table.members self.now)) }
+        ensures fits { OnOk result (S.Encodes → EachFits table.members self.now) };
 
     /// The encoding of a record decodes to its normal form, and its map keys ascend in CTAP2's order
     /// (CTAP 2.1, section 8). Does nothing.
     fn lawful()
-        ensures back { IsReadBack (record_kind (table_fields numbered table)) (λ r. plain_tree table (parts r))
-            (λ r. EachFits table.members (parts r)) (λ r. parts (normal r)) }
+        ensures back { IsReadBack (record_kind (table_fields numbered table)) (plain_tree table)
+            (EachFits table.members) normal }
         ensures ordered { KeysAscend (places_of table.members) };
 }
 
 impl<R: TableRecord> Record for R {
-    ghost Parts = { R.Parts };
-
-    ghost parts = { R.parts };
+    ghost parts = { λ r. r };
 
     ghost fields = { table_fields R.numbered R.table };
 
@@ -94,9 +88,9 @@ impl<R: TableRecord> Record for R {
 }
 
 impl<R: TableRecord> ToCborMap for R {
-    ghost places = { λ r. places_of R.table.members (R.parts r) };
+    ghost places = { λ r. places_of R.table.members r };
 
-    ghost holds = { λ r. EachFits R.table.members (R.parts r) };
+    ghost holds = { λ r. EachFits R.table.members r };
 
     fn put_members<S: Sink>(&self, alloc: Global, sink: &mut S) -> Result<(), OutOfMemory> {
         <R as TableRecord>::put_members(self, alloc, sink)

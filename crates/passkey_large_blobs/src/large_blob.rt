@@ -21,11 +21,7 @@ pub struct LargeBlob {
 }
 
 impl TableRecord for LargeBlob {
-    ghost parts = { λ r. r };
-
     ghost table = { large_blob };
-
-    ghost kept = { λ r. None };
 
     fn is_numbered() -> bool {
         true

@@ -11,7 +11,7 @@ use std::alloc::Global;
 /// An authenticatorLargeBlobs request (CTAP 2.1, section 6.10). Exactly one of `get` and `set` MUST
 /// be present, which isn't checked. `None` means that the member is absent; null also decodes to
 /// `None`.
-#[derive(Debug, Drop)]
+#[derive(Debug, Default, Drop)]
 pub struct Request {
     /// 0x01: the number of bytes to read.
     pub get: Option<u64>,
@@ -30,11 +30,7 @@ pub struct Request {
 }
 
 impl TableRecord for Request {
-    ghost parts = { λ r. r };
-
     ghost table = { lb_request };
-
-    ghost kept = { λ r. None };
 
     fn is_numbered() -> bool {
         true
@@ -52,14 +48,7 @@ impl TableRecord for Request {
     }
 
     fn blank(_alloc: Global) -> Request {
-        Request {
-            get: None,
-            set: None,
-            offset: 0,
-            length: None,
-            pin_uv_auth_param: None,
-            pin_uv_auth_protocol: None,
-        }
+        Request::default()
     }
 
     fn put<S: Source>(&mut self, alloc: Global, number: u8, source: &mut S) -> Result<(), Refusal> {

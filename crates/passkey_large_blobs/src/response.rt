@@ -10,7 +10,7 @@ use std::alloc::Global;
 
 /// An authenticatorLargeBlobs response (CTAP 2.1, section 6.10). `None` means that the member is
 /// absent; null also decodes to `None`.
-#[derive(Debug, Drop)]
+#[derive(Debug, Default, Drop)]
 pub struct Response {
     /// 0x01: the fragment that was read of the serialized large-blob array. It is absent after a
     /// write.
@@ -18,11 +18,7 @@ pub struct Response {
 }
 
 impl TableRecord for Response {
-    ghost parts = { λ r. r };
-
     ghost table = { lb_response };
-
-    ghost kept = { λ r. None };
 
     fn is_numbered() -> bool {
         true
@@ -33,7 +29,7 @@ impl TableRecord for Response {
     }
 
     fn blank(_alloc: Global) -> Response {
-        Response { config: None }
+        Response::default()
     }
 
     fn put<S: Source>(&mut self, alloc: Global, number: u8, source: &mut S) -> Result<(), Refusal> {

@@ -26,11 +26,10 @@ pub fn credentials_request<P: PinUvAuthProtocol>(
         sub_command: SubCommand::EnumerateCredentialsBegin,
         sub_command_params: Some(Parameters {
             rp_id_hash: Some(hash),
-            credential_id: None,
-            user: None,
+            ..Parameters::default()
         }),
         pin_uv_auth_protocol: Some(protocol.number()),
-        pin_uv_auth_param: None,
+        ..Request::default()
     };
     let message = request.authenticated_bytes(alloc, &request.to_vec(alloc)?)?;
     let code = protocol.authenticate(alloc, token, &message)?;

@@ -51,12 +51,7 @@ fn request_of(protocol: u8, sub_command: SubCommand) -> Request {
     Request {
         pin_uv_auth_protocol: Some(protocol),
         sub_command,
-        key_agreement: None,
-        pin_uv_auth_param: None,
-        new_pin_enc: None,
-        pin_hash_enc: None,
-        permissions: None,
-        rp_id: None,
+        ..Request::default()
     }
 }
 

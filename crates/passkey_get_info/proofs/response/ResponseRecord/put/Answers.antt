@@ -1,7 +1,7 @@
-use Rattle.passkey_kinds.proofs.Steps.{ℕ, List, Option, map, option_map, refl, ap, nothing, each_same, sets_put}
+use Rattle.passkey_kinds.proofs.Steps.{ℕ, List, Option, map, option_map, refl, ap, each_same, sets_put}
 use Rattle.passkey_get_info.specs.GetInfo.{GetInfoParts, get_info_fields, get_info_parts, extension}
 use Rattle.passkey_get_info.specs.declared.extension.Extension.{Extension}
-use Rattle.passkey_kinds.specs.Typed.{below, growing, list, optional}
+use Rattle.passkey_kinds.specs.Typed.{below, list, optional, text_as}
 use Rattle.passkey_get_info.proofs.response.ResponseRecord.put.Goals as goal
 
 pub returns-in-2-clause-puts : goal.returns-in-2-clause-puts
@@ -9,7 +9,7 @@ returns-in-2-clause-puts g c = λ i to at.
     let old = get_info_parts c.args.self.now in
     let set : Option (List Extension) → GetInfoParts → GetInfoParts = λ x r. record r { extensions = x } in
     sets_put get_info_fields (λ (o : Option (List Extension)). option_map
-    (λ (xs : List Extension). map (λ (e : Extension). e) xs) o) (optional (list (growing 2 nothing extension))) set
+    (λ (xs : List Extension). map (λ (e : Extension). e) xs) o) (optional (list (text_as extension))) set
     c.args.number 2 i c.set-in-2.new.field old (set c.set-in-2.new.field old) c.set-in-2.result c.in-2.is refl
     refl refl (ap (λ o. set o old) (each_same c.set-in-2.new.field)) (c.set-in-2.ensures.sets i to at)
 
