@@ -6,6 +6,7 @@ pub mod bio_enrollment;
 pub mod client_pin;
 pub mod config;
 pub mod credential_management;
+pub mod explain;
 pub mod extensions;
 pub mod framing;
 pub mod get_assertion;
@@ -15,6 +16,6 @@ pub mod laws;
 pub mod make_credential;
 
 pub use passkey_kinds::{
-    Code, Fault, FromCbor, Kept, Message, OutOfMemory, Refusal, ToCbor, TolerantList, Tolerated,
-    WriteFault,
+    Blame, Code, Fault, FromCbor, Kept, Message, OutOfMemory, Reason, Refusal, Step, ToCbor,
+    TolerantList, Tolerated, Wanted, WriteFault,
 };

@@ -1,0 +1,3 @@
+pub mod Parts
+pub mod Way
+pub mod Explaining
