@@ -1,3 +1,4 @@
 pub mod Copied
 pub mod FaultsPassed
 pub mod Texts
+pub mod Plain

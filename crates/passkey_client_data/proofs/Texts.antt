@@ -2,12 +2,28 @@
 use Rattle.std.proofs.Common.{◌≡◌, ◌∙◌, ℕ, List, [], ◌∷◌, ◌++◌, true, false, codes, unwrap_or, refl, ap, append_assoc}
 use Rattle.passkey_client_data.proofs.Copied.{joined_none}
 use Rattle.passkey_client_data.specs.ClientData.{ClientData}
-use Rattle.passkey_client_data.specs.ClientDataText.{fixed_text, later_text, member_text, with_fixed}
+use Rattle.passkey_client_data.specs.ClientDataText.{fixed_text, later_text, member_text, name_text, with_fixed}
 use Rattle.passkey_client_data.specs.ClientDataType.{client_data_type_name}
 use Rattle.passkey_client_data.specs.MemberLists.{joined}
 use Rattle.serde_json.proofs.OnLiterals.{serde_json_on_literals}
 use Rattle.serde_json.specs.Data.{Data, boolean, object, string, Members, no_members, member}
 use Rattle.serde_json.specs.Written.{compact_text, members_text}
+
+-- a member's name and its value are its text
+pub named : (front name : List ℕ) (d : Data)
+    → front ++ name_text name ++ compact_text d ≡ front ++ member_text name d
+named front name d = append_assoc front (name_text name) (compact_text d)
+    ∙ ap (λ (s : List ℕ). front ++ 44 ∷ s) (append_assoc (compact_text (string name)) (58 ∷ []) (compact_text d))
+
+pub all_named : (front : List ℕ) (challenge origin cross_origin : Data)
+    → front ++ name_text (codes "challenge") ++ compact_text challenge ++ name_text (codes "origin")
+    ++ compact_text origin ++ name_text (codes "crossOrigin") ++ compact_text cross_origin
+    ≡ front ++ member_text (codes "challenge") challenge ++ member_text (codes "origin") origin
+    ++ member_text (codes "crossOrigin") cross_origin
+all_named front challenge origin cross_origin =
+    named _ (codes "crossOrigin") cross_origin
+    ∙ ap (λ (s : List ℕ). s ++ member_text (codes "crossOrigin") cross_origin) (named _ (codes "origin") origin
+    ∙ ap (λ (s : List ℕ). s ++ member_text (codes "origin") origin) (named front (codes "challenge") challenge))
 
 -- a member's text, and the text of the members after it
 member_then : (name : List ℕ) (d : Data) (ms : Members)

@@ -25,8 +25,7 @@ fixed_members = record {
       ∷ required_as 3 (codes "origin") text_value (λ m. m.origin) (λ v m. record m { origin = v })
       ∷ optional_as 4 (codes "crossOrigin") truth_value (λ m. m.cross_origin) (λ v m. record m { cross_origin = v })
       ∷ [];
-  whole = λ m. refl;
-  distinct = refl;
+  sound = λ m. (refl, refl);
 }
 
 -- client data as contracts see it: the members that all client data has, the caller's value, and

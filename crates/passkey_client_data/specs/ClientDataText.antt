@@ -1,5 +1,5 @@
 -- The JSON text that client data is encoded as (WebAuthn Level 3, section 5.8.1.1).
-use Rattle.std.specs.Prelude.{ℕ, List, [], ◌∷◌, ◌++◌, false, unwrap_or, Result, Ok, codes}
+use Rattle.std.specs.Prelude.{ℕ, ◌==◌, nat_lt, Bool, ◌||◌, not, List, [], ◌∷◌, ◌++◌, false, unwrap_or, Result, Ok, codes}
 use Rattle.passkey_client_data.specs.ClientData.{ClientData}
 use Rattle.passkey_client_data.specs.ClientDataType.{client_data_type_name}
 use Rattle.passkey_client_data.specs.MemberLists.{joined, without_floats}
@@ -27,6 +27,14 @@ module _ {E : Type 0} where
     Ok (compact_text (object (with_fixed x (joined extra_members unknown_keys))))
 
 -- ---- for private clauses
+
+-- whether a JSON string has the character as it is, without an escape (RFC 8259, section 7)
+abbrev pub is_plain : ℕ → Bool
+is_plain x = not (nat_lt x 32 || (x == 34) || (x == 92))
+
+-- a name behind another member, with the comma and the colon
+abbrev pub name_text : List ℕ → List ℕ
+name_text name = 44 ∷ (compact_text (string name) ++ 58 ∷ [])
 
 -- the text of a member that follows another one
 abbrev pub member_text : List ℕ → Data → List ℕ

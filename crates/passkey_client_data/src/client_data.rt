@@ -13,7 +13,9 @@ use crate::extra_data::ClientDataExtra;
 use crate::unknown_members::{known_holds_float, unknown_members};
 use indexmap::IndexMap;
 use passkey_bytes::Text;
-use passkey_json::{JsonFault, JsonRecord, Member, PlainJsonRecord, Row};
+use passkey_json::{
+    EncodeResult, JsonEncoder, JsonFault, JsonRecord, Member, PlainJsonRecord, Row,
+};
 use passkey_memory::OutOfMemory;
 use serde_json::Value;
 use serde_json::error::Category;
@@ -78,6 +80,16 @@ impl PlainJsonRecord for FixedMembers {
             _ => {}
         }
         Ok(())
+    }
+
+    fn encode(&self, number: u8, encoder: JsonEncoder) -> EncodeResult {
+        match number {
+            1 => encoder.value(&self.ty),
+            2 => encoder.value(&self.challenge),
+            3 => encoder.value(&self.origin),
+            4 => encoder.optional(&self.cross_origin),
+            _ => Ok(None),
+        }
     }
 }
 

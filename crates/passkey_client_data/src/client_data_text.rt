@@ -1,8 +1,9 @@
 //! Client data, encoded as JSON text.
 ghost use Rattle.std.specs.Prelude.{◌≡◌, ◌++◌, false, IfOk, OnOk, ⊤};
+ghost use Rattle.std.specs.List.{list_all};
 ghost use Rattle.std.specs.String.{string_bytes};
 ghost use Rattle.passkey_client_data.specs.ClientData.{held};
-ghost use Rattle.passkey_client_data.specs.ClientDataText.{client_data_text, member_text, later_text, fixed_text};
+ghost use Rattle.passkey_client_data.specs.ClientDataText.{client_data_text, fixed_text, is_plain, later_text, member_text, name_text};
 ghost use Rattle.passkey_json.specs.Fault.{Gives};
 ghost use Rattle.serde_json.specs.Data.{boolean, string};
 ghost use Rattle.serde_json.specs.View.{view, members_view};
@@ -50,11 +51,39 @@ fn put_value(alloc: Global, text: &mut String, value: &Value) -> Result<(), OutO
     Ok(())
 }
 
+/// Returns whether a JSON string has the text as it is, without an escape (RFC 8259, section 7).
+fn is_plain(text: &str) -> bool
+    ensures { result ≡ list_all is_plain text.now }
+{
+    for byte in text.as_bytes() {
+        if *byte < 32 || *byte == 34 || *byte == 92 {
+            return false;
+        }
+    }
+    true
+}
+
 /// Appends a text value.
 fn put_string(alloc: Global, text: &mut String, value: &str) -> Result<(), OutOfMemory>
     ensures { OnOk result (string_bytes text.new ≡ string_bytes text.old ++ compact_text (string value.now)) }
 {
-    put_value(alloc, text, &Value::try_from_str(alloc, value)?)
+    if !is_plain(value) {
+        return put_value(alloc, text, &Value::try_from_str(alloc, value)?);
+    }
+    text.push_str("\"")?;
+    text.push_str(value)?;
+    text.push_str("\"")?;
+    Ok(())
+}
+
+/// Appends a member's name, behind another member.
+fn put_name(alloc: Global, text: &mut String, name: &str) -> Result<(), OutOfMemory>
+    ensures { OnOk result (string_bytes text.new ≡ string_bytes text.old ++ name_text name.now) }
+{
+    text.push_str(",")?;
+    put_string(alloc, text, name)?;
+    text.push_str(":")?;
+    Ok(())
 }
 
 /// Appends a member.
@@ -67,35 +96,14 @@ fn put_member(
     ensures { has_float (view value.now) ≡ false
         → OnOk result (string_bytes text.new ≡ string_bytes text.old ++ member_text name.now (view value.now)) }
 {
-    text.push_str(",")?;
-    put_string(alloc, text, name)?;
-    text.push_str(":")?;
+    put_name(alloc, text, name)?;
     put_value(alloc, text, value)
 }
 
-/// Appends a member that is a text.
-fn put_string_member(
-    alloc: Global,
-    text: &mut String,
-    name: &str,
-    member: &str,
-) -> Result<(), OutOfMemory>
-    ensures { OnOk result
-        (string_bytes text.new ≡ string_bytes text.old ++ member_text name.now (string member.now)) }
+fn truth_text(truth: bool) -> &'static str
+    ensures { result.now ≡ compact_text (boolean truth) }
 {
-    put_member(alloc, text, name, &Value::try_from_str(alloc, member)?)
-}
-
-/// Appends a member that is a boolean.
-fn put_truth_member(
-    alloc: Global,
-    text: &mut String,
-    name: &str,
-    member: bool,
-) -> Result<(), OutOfMemory>
-    ensures { OnOk result (string_bytes text.new ≡ string_bytes text.old ++ member_text name.now (boolean member)) }
-{
-    put_member(alloc, text, name, &Value::Bool(member))
+    if truth { "true" } else { "false" }
 }
 
 fn put_extra(
@@ -133,10 +141,12 @@ impl<E: ClientDataExtra> CollectedClientData<E> {
     {
         let mut text = String::from_str(alloc, "{\"type\":")?;
         put_string(alloc, &mut text, self.ty.name())?;
-        put_string_member(alloc, &mut text, "challenge", self.challenge.as_str())?;
-        put_string_member(alloc, &mut text, "origin", self.origin.as_str())?;
-        let cross_origin = self.cross_origin.unwrap_or(false);
-        put_truth_member(alloc, &mut text, "crossOrigin", cross_origin)?;
+        put_name(alloc, &mut text, "challenge")?;
+        put_string(alloc, &mut text, self.challenge.as_str())?;
+        put_name(alloc, &mut text, "origin")?;
+        put_string(alloc, &mut text, self.origin.as_str())?;
+        put_name(alloc, &mut text, "crossOrigin")?;
+        text.push_str(truth_text(self.cross_origin.unwrap_or(false)))?;
         Ok(text)
     }
 

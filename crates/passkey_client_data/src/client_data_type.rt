@@ -2,7 +2,8 @@
 ghost use Rattle.std.specs.Prelude.{Some};
 ghost use Rattle.passkey_client_data.specs.ClientDataType.{client_data_type_name, client_data_type_own, client_data_type_value, client_data_types};
 
-use passkey_json::{FromJson, JsonRefusal, read_name};
+use passkey_json::{BytesForm, FromJson, JsonRefusal, ToJson, read_name, written_name};
+use passkey_memory::OutOfMemory;
 use passkey_webauthn::EnumNames;
 use serde_json::Value;
 use std::alloc::Global;
@@ -48,5 +49,13 @@ impl FromJson for ClientDataType {
 
     fn from_value(_alloc: Global, value: &Value) -> Result<ClientDataType, JsonRefusal> {
         read_name(value)
+    }
+}
+
+impl ToJson for ClientDataType {
+    ghost json = { client_data_type_value.json };
+
+    fn to_json(&self, alloc: Global, _form: BytesForm) -> Result<Value, OutOfMemory> {
+        written_name(alloc, *self)
     }
 }

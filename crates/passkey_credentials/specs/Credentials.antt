@@ -32,8 +32,7 @@ attestation_response = record {
       ∷ optional_as 6 (codes "transports") (list_value transport_value)
       (λ r. r.transports) (λ v r. record r { transports = v })
       ∷ [];
-  whole = λ r. refl;
-  distinct = refl;
+  sound = λ r. (refl, refl);
 }
 
 -- the response to a sign-in (WebAuthn Level 3, section 5.2.2)
@@ -55,8 +54,7 @@ assertion_response = record {
       ∷ optional_as 5 (codes "attestationObject") bytes_value
       (λ r. r.attestation_object) (λ v r. record r { attestation_object = v })
       ∷ [];
-  whole = λ r. refl;
-  distinct = refl;
+  sound = λ r. (refl, refl);
 }
 
 -- a credential with a response of this table (WebAuthn Level 3, section 5.1)
@@ -79,6 +77,5 @@ credential response = record {
       ∷ default_as 6 (codes "clientExtensionResults") (nested client_outputs) no_outputs
       (λ c. c.client_extension_results) (λ v c. record c { client_extension_results = v })
       ∷ [];
-  whole = λ c. refl;
-  distinct = refl;
+  sound = λ c. (refl, refl);
 }

@@ -2,9 +2,7 @@
 ghost use Rattle.passkey_credentials.specs.Credentials.{assertion_response};
 
 use passkey_bytes::Bytes;
-use passkey_json::{JsonEncoder, JsonFault, Member, PlainJsonRecord, PlainToJson, Row};
-use passkey_memory::OutOfMemory;
-use serde_json::Value;
+use passkey_json::{EncodeResult, JsonEncoder, JsonFault, Member, PlainJsonRecord, Row};
 use std::alloc::Global;
 
 /// The response to a sign-in (WebAuthn Level 3, section 5.2.2; as JSON in section 5.1).
@@ -58,10 +56,8 @@ impl PlainJsonRecord for AuthenticatorAssertionResponse {
         }
         Ok(())
     }
-}
 
-impl PlainToJson for AuthenticatorAssertionResponse {
-    fn encode(&self, number: u8, encoder: JsonEncoder) -> Result<Option<Value>, OutOfMemory> {
+    fn encode(&self, number: u8, encoder: JsonEncoder) -> EncodeResult {
         match number {
             1 => encoder.value(&self.client_data_json),
             2 => encoder.value(&self.authenticator_data),

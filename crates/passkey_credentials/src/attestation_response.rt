@@ -4,10 +4,9 @@ ghost use Rattle.std.specs.Option.{IsSomeAnd};
 ghost use Rattle.passkey_credentials.specs.Credentials.{attestation_response};
 
 use passkey_bytes::{Bytes, List};
-use passkey_json::{JsonEncoder, JsonFault, Member, PlainJsonRecord, PlainToJson, Row};
+use passkey_json::{EncodeResult, JsonEncoder, JsonFault, Member, PlainJsonRecord, Row};
 use passkey_memory::OutOfMemory;
 use passkey_webauthn::AuthenticatorTransport;
-use serde_json::Value;
 use std::alloc::Global;
 
 /// The response to a registration (WebAuthn Level 3, section 5.2.1; as JSON in section 5.1).
@@ -97,10 +96,8 @@ impl PlainJsonRecord for AuthenticatorAttestationResponse {
         }
         Ok(())
     }
-}
 
-impl PlainToJson for AuthenticatorAttestationResponse {
-    fn encode(&self, number: u8, encoder: JsonEncoder) -> Result<Option<Value>, OutOfMemory> {
+    fn encode(&self, number: u8, encoder: JsonEncoder) -> EncodeResult {
         match number {
             1 => encoder.value(&self.client_data_json),
             2 => encoder.value(&self.authenticator_data),

@@ -6,12 +6,10 @@ use crate::attestation_response::AuthenticatorAttestationResponse;
 use crate::response::AuthenticatorResponse;
 use passkey_bytes::{Bytes, Text};
 use passkey_json::{
-    AuthenticationExtensionsClientOutputs, AuthenticatorAttachment, JsonEncoder, JsonFault, Member,
-    PlainJsonRecord, PlainToJson, Row,
+    AuthenticationExtensionsClientOutputs, AuthenticatorAttachment, EncodeResult, JsonEncoder,
+    JsonFault, Member, PlainJsonRecord, Row,
 };
-use passkey_memory::OutOfMemory;
 use passkey_webauthn::PublicKeyCredentialType;
-use serde_json::Value;
 use std::alloc::Global;
 
 /// A credential that a browser returns, with the authenticator's response (WebAuthn Level 3,
@@ -82,10 +80,8 @@ impl<R: AuthenticatorResponse> PlainJsonRecord for PublicKeyCredential<R> {
         }
         Ok(())
     }
-}
 
-impl<R: AuthenticatorResponse> PlainToJson for PublicKeyCredential<R> {
-    fn encode(&self, number: u8, encoder: JsonEncoder) -> Result<Option<Value>, OutOfMemory> {
+    fn encode(&self, number: u8, encoder: JsonEncoder) -> EncodeResult {
         match number {
             1 => encoder.value(&self.id),
             2 => encoder.value(&self.raw_id),

@@ -1,7 +1,7 @@
 //! Authenticator responses.
 use crate::assertion_response::AuthenticatorAssertionResponse;
 use crate::attestation_response::AuthenticatorAttestationResponse;
-use passkey_json::PlainToJson;
+use passkey_json::PlainJsonRecord;
 
 mod sealed {
     /// The two types of responses.
@@ -10,7 +10,7 @@ mod sealed {
 
 /// An authenticator's response (WebAuthn Level 3, section 5.2), to a registration or to a sign-in.
 /// The trait is sealed.
-pub trait AuthenticatorResponse: sealed::Sealed + PlainToJson {}
+pub trait AuthenticatorResponse: sealed::Sealed + PlainJsonRecord {}
 
 impl sealed::Sealed for AuthenticatorAttestationResponse {}
 

@@ -1,5 +1,6 @@
 -- Looking up encoded members.
-use Rattle.std.proofs.Common.{◌≡◌, ℕ, List, [], ◌∷◌, Option, Some, None, Bool, true, false, ◌&&◌, ◌||◌, not, cond, refl, sym, subst, ◌∙◌, bytes_eq, true≢false}
+use Rattle.std.proofs.Common.{◌≡◌, ℕ, List, [], ◌∷◌, Option, Some, None, Bool, true, false, not, cond, refl, sym, subst, ◌∙◌, bytes_eq, true≢false}
+use Rattle.std.proofs.lemmas.Bool.{and_parts, not-true, or_parts}
 use Rattle.std.proofs.lemmas.Slice.Eq.{bytes_eq-Decides}
 use Rattle.std.specs.List.{list_any}
 use Rattle.passkey_json.specs.Written.{EncodedMember, put_if, put_rows, written, at_name, are_apart}
@@ -22,14 +23,6 @@ put_here : (name same : List ℕ) (o : Option Data) (ms : Members) → bytes_eq 
 put_here name same None ms e h = h
 put_here name same (Some d) ms e h = rw ((bytes_eq-Decides name same).0 e) (get_member-put same d ms)
 
-neither : (a b : Bool) → (a || b) ≡ false → (a ≡ false) × (b ≡ false)
-neither true b e = absurd (true≢false e)
-neither false b e = (refl, e)
-
-first_apart : (a b : Bool) → (not a && b) ≡ true → (a ≡ false) × (b ≡ true)
-first_apart true b e = absurd (true≢false (sym e))
-first_apart false b e = (refl, e)
-
 abbrev has_name : List ℕ → List EncodedMember → Bool
 has_name name ws = list_any (λ (v : EncodedMember). bytes_eq name v.0) ws
 
@@ -37,7 +30,7 @@ looked_elsewhere : (name : List ℕ) (ws : List EncodedMember) (ms : Members) �
     → get_member name (put_rows ms ws) ≡ get_member name ms
 looked_elsewhere name [] ms e = refl
 looked_elsewhere name (w ∷ ws) ms e =
-    let parts = neither (bytes_eq name w.0) (has_name name ws) e in
+    let parts = or_parts (bytes_eq name w.0) (has_name name ws) e in
     looked_elsewhere name ws (put_if w.0 w.1 ms) parts.1 ∙ put_elsewhere name w.0 w.1 ms parts.0
 
 looked_at : (b : Bool) (name : List ℕ) (w : EncodedMember) (ws : List EncodedMember) (ms : Members) → bytes_eq name w.0 ≡ b
@@ -55,8 +48,8 @@ looked : (name : List ℕ) (ws : List EncodedMember) (ms : Members) → are_apar
     → get_member name (put_rows ms ws) ≡ at_name ws name
 looked name [] ms e none = none
 looked name (w ∷ ws) ms e none =
-    let parts = first_apart (has_name w.0 ws) (are_apart ws) e in
-    looked_at (bytes_eq name w.0) name w ws ms refl parts.0 none (looked name ws (put_if w.0 w.1 ms) parts.1)
+    let parts = and_parts (not (has_name w.0 ws)) (are_apart ws) e in
+    looked_at (bytes_eq name w.0) name w ws ms refl (not-true _ parts.0) none (looked name ws (put_if w.0 w.1 ms) parts.1)
 
 looked_up : (ws : List EncodedMember) → are_apart ws ≡ true → (name : List ℕ) → get name (written ws) ≡ at_name ws name
 looked_up ws e name = looked name ws no_members e refl

@@ -1,6 +1,6 @@
 -- Decoding and encoding by a table.
 use Rattle.std.proofs.Common.{◌≡◌, ◌∙◌, ℕ, zero, suc, ◌<◌, ◌≤◌, ◌+◌, ◌||◌, ◌==◌, not, true, false, true≢false, bytes_eq, arith, Bool, List, [], ◌∷◌, Option, Some, None, Result, Ok, Err, length, map, drop, get_or, refl, ap, sym, subst}
-use Rattle.std.proofs.lemmas.Bool.{and_parts, eq-eqb, eqb-true, or_left, or_right}
+use Rattle.std.proofs.lemmas.Bool.{and_parts, eq-eqb, eqb-true, not-true, or_left, or_parts, or_right}
 use Rattle.std.proofs.lemmas.List.{get_or-map, length-map}
 use Rattle.std.proofs.lemmas.Slice.Eq.{bytes_eq-Decides}
 use Rattle.std.specs.List.{list_any}
@@ -10,7 +10,7 @@ use Rattle.passkey_json.proofs.Faults.{first_fault}
 use Rattle.passkey_json.proofs.Looking.{standing}
 use Rattle.passkey_json.specs.Fault.{Fault, Gives}
 use Rattle.passkey_json.specs.Members.{◌>>=◌, Object, object_of, takes_in, Member, MemberTakes, in_object, member, one_of, record_kind, takes_at, under}
-use Rattle.passkey_json.specs.Table.{AreBack, TakeNothing, takes_of, BackFrom, Entry, IsBack, JsonMember, PlainTable, are_distinct, copied, either, either_name, entries, entry_of, has_number, is_other, is_other_apart, looked, members_in, encoded, encoded_from, put_found, read_all, read_from, rows_of, table_json, take_any, takes_either, takes_from, uses}
+use Rattle.passkey_json.specs.Table.{AreBack, TakeNothing, takes_of, BackFrom, Entry, IsBack, JsonMember, PlainTable, are_distinct, copied, distinct, either, either_name, entries, entry_of, has_number, is_other, is_other_apart, looked, members_in, encoded, encoded_from, put_found, read_all, read_from, rows_of, table_json, take_any, takes_either, takes_from, uses}
 use Rattle.passkey_json.specs.Written.{EncodedMember, ReadsBack, are_apart, at_name, put_if, put_rows, written}
 use Rattle.passkey_json.specs.declared.bytes_form.BytesForm.{BytesForm}
 use Rattle.passkey_json.specs.declared.json_fault.JsonFault.{JsonFault}
@@ -21,10 +21,6 @@ use Rattle.serde_json.specs.Data.{Data, Members}
 
 one_more : (n : ℕ) → suc n ≡ n + 1
 one_more n = omega arith
-
-is_not : (a : Bool) → not a ≡ true → a ≡ false
-is_not true e = sym e
-is_not false e = refl
 
 other_number : (n k : ℕ) (es : List Entry) → has_number n es ≡ true → has_number k es ≡ false → (b : Bool)
     → (n == k) ≡ b → b ≡ false
@@ -74,7 +70,7 @@ module _ {P : Type 0} where
       let last = and_parts (is_other_apart m.entry.name m.entry.other (entries ms)) _ rest.1 in
       let later = rows_at ms n e (omega (arith, less)) last.1 in
       let other : (later.0.entry.number == m.entry.number) ≡ false =
-      other_number _ _ (entries ms) later.1.used (is_not _ parts.0) _ refl in (
+      other_number _ _ (entries ms) later.1.used (not-true _ parts.0) _ refl in (
         later.0,
         record {
           next = later.1.next;
@@ -98,7 +94,7 @@ module _ {P : Type 0} where
   row_is rows t are n d less =
       let within : n < length (entries t.members) =
       subst (λ (es : List Entry). n < length es) are (omega (arith, less, length-map rows entry_of)) in
-      let found = rows_at t.members n (entry_of d) within t.distinct in (
+      let found = rows_at t.members n (entry_of d) within (distinct t) in (
         found.0,
         record {
           next = found.1.next ∙ ap (λ (k : ℕ). found.0 ∷ drop k t.members) (one_more n);
@@ -248,10 +244,6 @@ module _ {P : Type 0} where
 
 -- ---- encoded members are found again
 
-neither : (a b : Bool) → (a || b) ≡ false → (a ≡ false) × (b ≡ false)
-neither true b e = absurd (true≢false e)
-neither false b e = (refl, e)
-
 -- only one of two names is encoded
 one_of_back : (name : List ℕ) (o : Option Data) → one_of name o None ≡ Ok (under name o)
 one_of_back name None = refl
@@ -263,7 +255,7 @@ found_under : (name : List ℕ) (other : Option (List ℕ)) (es : List Entry) (o
     → either_name name other object ≡ Ok (under name found)
 found_under name None es object found here apart absent = ap (λ (o : Option Data). Ok (under name o)) here
 found_under name (Some other) es object found here apart absent =
-    let parts = neither (bytes_eq other name) (uses other es) (is_not _ apart) in
+    let parts = or_parts (bytes_eq other name) (uses other es) (not-true _ apart) in
     let none = absent other ((bytes_eq-Decides other other).1 refl) parts.0 parts.1 in
     rw (here, none) (one_of_back name found)
 
@@ -285,16 +277,16 @@ module _ {P : Type 0} (form : BytesForm) (x : P) where
       → at_name (rows_of ms form x) name ≡ None
   absent [] name e = refl
   absent (m ∷ ms) name e =
-      let parts = neither (bytes_eq name m.entry.name) _ e in
-      let later = neither (is_other name m.entry.other) _ parts.1 in
+      let parts = or_parts (bytes_eq name m.entry.name) _ e in
+      let later = or_parts (is_other name m.entry.other) _ parts.1 in
       rw parts.0 (absent ms name later.1)
 
   no_row : (ms : List (JsonMember P)) (name : List ℕ) → uses name (entries ms) ≡ false
       → list_any (λ (w : EncodedMember). bytes_eq name w.0) (rows_of ms form x) ≡ false
   no_row [] name e = refl
   no_row (m ∷ ms) name e =
-      let parts = neither (bytes_eq name m.entry.name) _ e in
-      let later = neither (is_other name m.entry.other) _ parts.1 in
+      let parts = or_parts (bytes_eq name m.entry.name) _ e in
+      let later = or_parts (is_other name m.entry.other) _ parts.1 in
       rw parts.0 (no_row ms name later.1)
 
   rows_apart : (ms : List (JsonMember P)) → are_distinct (entries ms) ≡ true → are_apart (rows_of ms form x) ≡ true
@@ -303,7 +295,7 @@ module _ {P : Type 0} (form : BytesForm) (x : P) where
       let names = and_parts (not (has_number m.entry.number (entries ms))) _ e in
       let parts = and_parts (not (uses m.entry.name (entries ms))) _ names.1 in
       let later = and_parts (is_other_apart m.entry.name m.entry.other (entries ms)) _ parts.1 in
-      rw (no_row ms m.entry.name (is_not _ parts.0)) (rows_apart ms later.1)
+      rw (no_row ms m.entry.name (not-true _ parts.0)) (rows_apart ms later.1)
 
   each_found : (ms : List (JsonMember P)) (object : Object) → are_distinct (entries ms) ≡ true
       → ((name : List ℕ) → uses name (entries ms) ≡ true → object name ≡ at_name (rows_of ms form x) name)
@@ -320,7 +312,7 @@ module _ {P : Type 0} (form : BytesForm) (x : P) where
             agree o (or_right _ _ (or_left _ _ is)) ∙ rw apart (absent ms o unused)),
         each_found ms object later.1 (λ n used.
             agree n (or_right _ _ (or_right _ _ used))
-            ∙ rw (other_name n (entries ms) name (is_not _ parts.0) used (bytes_eq n name) refl) refl),
+            ∙ rw (other_name n (entries ms) name (not-true _ parts.0) used (bytes_eq n name) refl) refl),
       )
 
 -- ---- an encoded record can be decoded again
@@ -336,10 +328,10 @@ module _ {P : Type 0} where
       → ReadsBack (record_kind (members_in t)) x (table_json t form x)
   table_back t form x back =
       let rows = rows_of t.members form x in
-      let found = each_found form x t.members (at_name rows) t.distinct (λ name used. refl) in
-      let read : members_in t (at_name rows) ≡ Ok x = again t.members _ form x t.blank found back ∙ ap Ok (t.whole x) in
+      let found = each_found form x t.members (at_name rows) (distinct t) (λ name used. refl) in
+      let read : members_in t (at_name rows) ≡ Ok x = again t.members _ form x t.blank found back ∙ ap Ok (t.sound x).0 in
       let e : in_object (members_in t) (written rows) ≡ Ok x =
-      ap (members_in t) (standing rows (rows_apart form x t.members t.distinct)) ∙ read in
+      ap (members_in t) (standing rows (rows_apart form x t.members (distinct t))) ∙ read in
       record { plain = rw e refl; some = rw e refl }
 
 -- ---- records whose decoding takes no memory

@@ -19,8 +19,7 @@ prf_inputs = record {
       ∷ optional_as 2 (codes "evalByCredential") (map_value (nested prf_values))
       (λ p. p.eval_by_credential) (λ v p. record p { eval_by_credential = v })
       ∷ [];
-  whole = λ p. refl;
-  distinct = refl;
+  sound = λ p. (refl, refl);
 }
 
 abbrev pub no_inputs : AuthenticationExtensionsClientInputs
@@ -35,8 +34,7 @@ client_inputs = record {
       ∷ optional_as 3 (codes "prfAlreadyHashed") (nested prf_inputs)
       (λ i. i.prf_already_hashed) (λ v i. record i { prf_already_hashed = v })
       ∷ [];
-  whole = λ i. refl;
-  distinct = refl;
+  sound = λ i. (refl, refl);
 }
 
 -- whether any member is present
@@ -53,8 +51,7 @@ credential_properties = record {
   blank = record { discoverable = None };
   members = optional_as 1 (codes "rk") truth_value (λ p. p.discoverable) (λ v p. record p { discoverable = v })
       ∷ [];
-  whole = λ p. refl;
-  distinct = refl;
+  sound = λ p. (refl, refl);
 }
 
 abbrev pub no_outputs : AuthenticationExtensionsClientOutputs
@@ -68,6 +65,5 @@ client_outputs = record {
       (λ o. o.cred_props) (λ v o. record o { cred_props = v })
       ∷ optional_as 2 (codes "prf") (nested prf_outputs) (λ o. o.prf) (λ v o. record o { prf = v })
       ∷ [];
-  whole = λ o. refl;
-  distinct = refl;
+  sound = λ o. (refl, refl);
 }

@@ -27,6 +27,5 @@ selection_criteria = record {
       ∷ tolerated_as 4 (codes "userVerification") user_verification_value Preferred
       (λ c. c.user_verification) (λ v c. record c { user_verification = v })
       ∷ [];
-  whole = λ c. refl;
-  distinct = refl;
+  sound = λ c. (refl, refl);
 }

@@ -123,12 +123,15 @@ are_distinct (e ∷ es) = not (has_number e.number es)
     && (not (uses e.name es) && (is_other_apart e.name e.other es && are_distinct es))
 
 -- What a record holds before a member is decoded, and its members in the order in which they are
--- decoded and encoded. The members are all of the record.
+-- decoded and encoded. The members are all of the record, and have each number and each name once.
 pub record PlainTable (P : Type 0) : Type 1 where
   pub blank : P
   pub members : List (JsonMember P)
-  pub whole : (x : P) → copied members x blank ≡ x
-  pub distinct : are_distinct (entries members) ≡ true
+  pub sound : (x : P) → (copied members x blank ≡ x) × (are_distinct (entries members) ≡ true)
+
+-- each number and each name occurs once
+pub distinct : {P : Type 0} (t : PlainTable P) → are_distinct (entries t.members) ≡ true
+distinct t = (t.sound t.blank).1
 
 -- the record that an object decodes to, or the first fault in the table's order
 abbrev pub members_in : {P : Type 0} → PlainTable P → Object → Result P Fault

@@ -20,8 +20,7 @@ descriptor = record {
       ∷ required_as 2 (codes "id") bytes_value (λ d. d.id) (λ v d. record d { id = v })
       ∷ accepted_as 3 (codes "transports") transport_value (λ d. d.transports) (λ v d. record d { transports = v })
       ∷ [];
-  whole = λ d. refl;
-  distinct = refl;
+  sound = λ d. (refl, refl);
 }
 
 -- credential parameters (WebAuthn Level 3, section 5.3)
@@ -32,8 +31,7 @@ parameters = record {
       (λ p. p.ty) (λ v p. record p { ty = v })
       ∷ required_as 2 (codes "alg") algorithm_value (λ p. p.alg) (λ v p. record p { alg = v })
       ∷ [];
-  whole = λ p. refl;
-  distinct = refl;
+  sound = λ p. (refl, refl);
 }
 
 -- relying parties (WebAuthn Level 3, section 5.4.2)
@@ -43,8 +41,7 @@ rp = record {
   members = optional_as 1 (codes "id") text_value (λ r. r.id) (λ v r. record r { id = v })
       ∷ required_as 2 (codes "name") text_value (λ r. r.name) (λ v r. record r { name = v })
       ∷ [];
-  whole = λ r. refl;
-  distinct = refl;
+  sound = λ r. (refl, refl);
 }
 
 -- users (WebAuthn Level 3, section 5.4.3)
@@ -55,8 +52,7 @@ user = record {
       ∷ required_as 2 (codes "displayName") text_value (λ u. u.display_name) (λ v u. record u { display_name = v })
       ∷ required_as 3 (codes "name") text_value (λ u. u.name) (λ v u. record u { name = v })
       ∷ [];
-  whole = λ u. refl;
-  distinct = refl;
+  sound = λ u. (refl, refl);
 }
 
 -- salts and outputs of the extension prf (WebAuthn Level 3, section 10.1.4)
@@ -66,8 +62,7 @@ prf_values = record {
   members = required_as 1 (codes "first") bytes_value (λ p. p.first) (λ v p. record p { first = v })
       ∷ optional_as 2 (codes "second") bytes_value (λ p. p.second) (λ v p. record p { second = v })
       ∷ [];
-  whole = λ p. refl;
-  distinct = refl;
+  sound = λ p. (refl, refl);
 }
 
 -- outputs of the extension prf (WebAuthn Level 3, section 10.1.4)
@@ -77,6 +72,5 @@ prf_outputs = record {
   members = optional_as 1 (codes "enabled") truth_value (λ p. p.enabled) (λ v p. record p { enabled = v })
       ∷ optional_as 2 (codes "results") (nested prf_values) (λ p. p.results) (λ v p. record p { results = v })
       ∷ [];
-  whole = λ p. refl;
-  distinct = refl;
+  sound = λ p. (refl, refl);
 }

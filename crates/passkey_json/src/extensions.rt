@@ -4,15 +4,14 @@ ghost use Rattle.std.specs.FinMap as fin;
 ghost use Rattle.std.specs.Option.{IsSomeAnd};
 ghost use Rattle.std.specs.Prelude.{IfOk, OnErr, length, ◌<◌, ◌≡◌, ◌⊎◌};
 
-use crate::json_encoder::JsonEncoder;
+use crate::json_encoder::{EncodeResult, JsonEncoder};
 use crate::json_fault::JsonFault;
 use crate::member::Member;
-use crate::plain_json_record::{PlainJsonRecord, PlainToJson};
+use crate::plain_json_record::PlainJsonRecord;
 use crate::row::Row;
 use passkey_bytes::{Map, Text};
 use passkey_memory::OutOfMemory;
 use passkey_webauthn::{AuthenticationExtensionsPrfOutputs, AuthenticationExtensionsPrfValues};
-use serde_json::Value;
 use std::alloc::Global;
 
 /// Client extension inputs: what a relying party asks of extensions (WebAuthn Level 3, section
@@ -77,10 +76,8 @@ impl PlainJsonRecord for AuthenticationExtensionsClientInputs {
         }
         Ok(())
     }
-}
 
-impl PlainToJson for AuthenticationExtensionsClientInputs {
-    fn encode(&self, number: u8, encoder: JsonEncoder) -> Result<Option<Value>, OutOfMemory> {
+    fn encode(&self, number: u8, encoder: JsonEncoder) -> EncodeResult {
         match number {
             1 => encoder.optional(&self.cred_props),
             2 => encoder.optional(&self.prf),
@@ -165,10 +162,8 @@ impl PlainJsonRecord for AuthenticationExtensionsPrfInputs {
         }
         Ok(())
     }
-}
 
-impl PlainToJson for AuthenticationExtensionsPrfInputs {
-    fn encode(&self, number: u8, encoder: JsonEncoder) -> Result<Option<Value>, OutOfMemory> {
+    fn encode(&self, number: u8, encoder: JsonEncoder) -> EncodeResult {
         match number {
             1 => encoder.optional(&self.eval),
             2 => encoder.optional(&self.eval_by_credential),
@@ -218,10 +213,8 @@ impl PlainJsonRecord for AuthenticationExtensionsClientOutputs {
         }
         Ok(())
     }
-}
 
-impl PlainToJson for AuthenticationExtensionsClientOutputs {
-    fn encode(&self, number: u8, encoder: JsonEncoder) -> Result<Option<Value>, OutOfMemory> {
+    fn encode(&self, number: u8, encoder: JsonEncoder) -> EncodeResult {
         match number {
             1 => encoder.optional(&self.cred_props),
             2 => encoder.optional(&self.prf),
@@ -256,10 +249,8 @@ impl PlainJsonRecord for CredentialPropertiesOutput {
         }
         Ok(())
     }
-}
 
-impl PlainToJson for CredentialPropertiesOutput {
-    fn encode(&self, number: u8, encoder: JsonEncoder) -> Result<Option<Value>, OutOfMemory> {
+    fn encode(&self, number: u8, encoder: JsonEncoder) -> EncodeResult {
         match number {
             1 => encoder.optional(&self.discoverable),
             _ => Ok(None),

@@ -10,6 +10,9 @@ use passkey_memory::OutOfMemory;
 use serde_json::Value;
 use std::alloc::Global;
 
+/// What encoding a member returns: its value, or `None` if it is absent.
+pub type EncodeResult = Result<Option<Value>, OutOfMemory>;
+
 /// Encodes members as JSON values.
 #[derive(Clone, Copy)]
 pub struct JsonEncoder {
@@ -21,7 +24,7 @@ pub struct JsonEncoder {
 
 impl JsonEncoder {
     /// Encodes a member. Returns `OutOfMemory` if an allocation fails.
-    pub fn value<T: ToJson>(self, member: &T) -> Result<Option<Value>, OutOfMemory>
+    pub fn value<T: ToJson>(self, member: &T) -> EncodeResult
         ensures written { IfOk result (λ v. option_map view v ≡ Some (T.json self.form member.now)) }
         ensures reads_back { OnOk result (ReadsBack T.kind member.now (T.json self.form member.now)) }
         ensures without_floats { IfOk result (λ v. IfSome v (λ v. has_float (view v) ≡ false)) }
@@ -30,7 +33,7 @@ impl JsonEncoder {
     }
 
     /// Encodes a member if it is present. Returns `OutOfMemory` if an allocation fails.
-    pub fn optional<T: ToJson>(self, member: &Option<T>) -> Result<Option<Value>, OutOfMemory>
+    pub fn optional<T: ToJson>(self, member: &Option<T>) -> EncodeResult
         ensures written { IfOk result (λ v. option_map view v ≡ option_map (T.json self.form) member.now) }
         ensures reads_back { OnOk result (ReadsBackIf T.kind (T.json self.form) member.now) }
         ensures without_floats { IfOk result (λ v. IfSome v (λ v. has_float (view v) ≡ false)) }

@@ -34,7 +34,7 @@ pub use extensions::{
 };
 pub use floats::holds_float;
 pub use from_json::FromJson;
-pub use json_encoder::JsonEncoder;
+pub use json_encoder::{EncodeResult, JsonEncoder};
 pub use json_fault::JsonFault;
 pub use json_record::{JsonRecord, read_nested};
 pub use json_refusal::JsonRefusal;
@@ -43,7 +43,7 @@ pub use member::Member;
 pub use names::{read_name, written_name};
 pub use object::Object;
 pub use passkey_memory::OutOfMemory;
-pub use plain_json_record::{PlainJsonRecord, PlainToJson};
+pub use plain_json_record::PlainJsonRecord;
 pub use record_to_json::{RecordToJson, read_back};
 pub use requirements::{
     AuthenticatorAttachment, ResidentKeyRequirement, UserVerificationRequirement,

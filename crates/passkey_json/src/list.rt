@@ -18,7 +18,7 @@ impl<T: FromJson> FromJson for List<T> {
         let Value::Array(elements) = value else {
             return Err(JsonRefusal::Refused);
         };
-        let mut read = Vec::new(alloc);
+        let mut read = Vec::with_capacity(alloc, elements.len())?;
         for element in elements {
             read.push(T::from_value(alloc, element)?)?;
         }

@@ -47,7 +47,10 @@ fn unless_refused<T: Drop>(read: Result<T, JsonRefusal>, default: T) -> Result<T
     }
 }
 
-/// A member of an object, which may be absent.
+/// A member of an object, which may be absent. Each way to decode it returns `OutOfMemory` if an
+/// allocation fails, which can only happen for a value that takes memory to decode. If a value is
+/// rejected for which there is no default, the fault is `Float` if the value contains a float, and
+/// else `Refused`.
 #[derive(Clone, Copy)]
 pub struct Member<'a> {
     alloc: Global,
@@ -62,9 +65,7 @@ impl<'a> Member<'a> {
         Member { alloc, name, value }
     }
 
-    /// Decodes a required member. Returns `Missing` if it is absent. If its value is rejected,
-    /// returns `Float` if the value contains a float, and else `Refused`. Returns `OutOfMemory` if
-    /// an allocation fails, which can only happen for a value that takes memory to decode.
+    /// Decodes a required member. Returns `Missing` if it is absent, and the fault of a rejected value.
     #[tactic(auto, unfolding(crate::specs::Members::required))]
     pub fn required<T: FromJson>(self) -> Result<T, JsonFault>
         ensures { Gives (MemberTakes T.takes (found self.entry)) (required T.kind (found self.entry)) result }
@@ -75,9 +76,7 @@ impl<'a> Member<'a> {
         }
     }
 
-    /// Decodes a member, or returns the default if it is absent. If its value is rejected, returns
-    /// `Float` if the value contains a float, and else `Refused`. Returns `OutOfMemory` if an
-    /// allocation fails, which can only happen for a value that takes memory to decode.
+    /// Decodes a member, or returns the default if it is absent, and the fault of a rejected value.
     #[tactic(auto, unfolding(crate::specs::Members::or_default))]
     pub fn or_default<T: FromJson>(self, default: T) -> Result<T, JsonFault>
         ensures { Gives (MemberTakes T.takes (found self.entry)) (or_default default T.kind (found self.entry))
@@ -89,9 +88,7 @@ impl<'a> Member<'a> {
         }
     }
 
-    /// Decodes a member, or returns `None` if it is absent. If its value is rejected, returns
-    /// `Float` if the value contains a float, and else `Refused`. Returns `OutOfMemory` if an
-    /// allocation fails, which can only happen for a value that takes memory to decode.
+    /// Decodes a member, or returns `None` if it is absent, and the fault of a rejected value.
     #[tactic(auto, unfolding(crate::specs::Members::if_present))]
     pub fn if_present<T: FromJson>(self) -> Result<Option<T>, JsonFault>
         ensures { Gives (MemberTakes T.takes (found self.entry)) (if_present T.kind (found self.entry)) result }
@@ -103,8 +100,7 @@ impl<'a> Member<'a> {
     }
 
     /// Decodes a member, or returns the default if it is absent or rejected. Running out of memory
-    /// is still an error: returns `OutOfMemory` if an allocation fails, which can only happen for a
-    /// value that takes memory to decode. There is no other fault.
+    /// is still an error, and the only one.
     #[tactic(auto, unfolding(crate::specs::Members::tolerated))]
     pub fn tolerated<T: FromJson>(self, default: T) -> Result<T, JsonFault>
         ensures { Gives (MemberTakes T.takes (found self.entry)) (tolerated default T.kind (found self.entry))
@@ -117,9 +113,7 @@ impl<'a> Member<'a> {
     }
 
     /// Decodes a required member, or returns the default if its value is rejected. Returns
-    /// `Missing` if it is absent. Running out of memory is still an error: returns `OutOfMemory` if
-    /// an allocation fails, which can only happen for a value that takes memory to decode. There is
-    /// no other fault.
+    /// `Missing` if it is absent. Running out of memory is still an error; there is no other.
     #[tactic(auto, unfolding(crate::specs::Members::required_tolerated, crate::specs::Members::tolerated))]
     pub fn required_tolerated<T: FromJson>(self, default: T) -> Result<T, JsonFault>
         ensures { Gives (MemberTakes T.takes (found self.entry))
@@ -132,9 +126,8 @@ impl<'a> Member<'a> {
     }
 
     /// Decodes the elements of an array that are accepted, in their order. Returns `None` if the
-    /// member is absent or its value isn't an array. Running out of memory is still an error:
-    /// returns `OutOfMemory` if an allocation fails, which can only happen for an array. There is
-    /// no other fault.
+    /// member is absent or its value isn't an array. Running out of memory, which can only happen
+    /// for an array, is still an error, and the only one.
     #[tactic(auto, unfolding(crate::specs::Members::accepted_list))]
     pub fn accepted_list<T: FromJson>(self) -> Result<Option<List<T>>, JsonFault>
         ensures { Gives (MemberTakes is_array (found self.entry)) (accepted_list T.kind (found self.entry)) result }

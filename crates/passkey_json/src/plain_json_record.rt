@@ -10,7 +10,7 @@ ghost use Rattle.serde_json.specs.Written.{has_float};
 
 use crate::bytes_form::BytesForm;
 use crate::from_json::FromJson;
-use crate::json_encoder::JsonEncoder;
+use crate::json_encoder::{EncodeResult, JsonEncoder};
 use crate::json_fault::JsonFault;
 use crate::json_record::{JsonRecord, read_nested};
 use crate::json_refusal::JsonRefusal;
@@ -24,8 +24,8 @@ use passkey_memory::OutOfMemory;
 use serde_json::Value;
 use std::alloc::Global;
 
-/// A record whose members are one table, by which it is decoded from an object. Unknown members are
-/// skipped.
+/// A record whose members are one table, by which it is decoded from an object and encoded as one.
+/// Unknown members are skipped.
 pub trait PlainJsonRecord: Drop {
     /// What the record holds before a member is decoded, and its members in the order in which they
     /// are decoded and encoded.
@@ -45,15 +45,12 @@ pub trait PlainJsonRecord: Drop {
     fn put(&mut self, number: u8, member: Member<'_>) -> Result<(), JsonFault>
         ensures { GivesAs (MemberTakes (takes_row table number) (found member.entry)) (λ _. self.new)
             (read_row table number (found member.entry) self.old) result };
-}
 
-/// A record whose members are one table, and which is also encoded by it.
-pub trait PlainToJson: PlainJsonRecord {
     /// Encodes the member of the row with this number. Returns `None` if it is absent, or if no row
     /// has the number, and `OutOfMemory` if an allocation fails.
-    fn encode(&self, number: u8, encoder: JsonEncoder) -> Result<Option<Value>, OutOfMemory>
-        ensures written { IfOk result (λ v. option_map view v ≡ encoded_row Self.table number encoder.form self.now) }
-        ensures reads_back { OnOk result (RowIsBack Self.table number encoder.form self.now) }
+    fn encode(&self, number: u8, encoder: JsonEncoder) -> EncodeResult
+        ensures written { IfOk result (λ v. option_map view v ≡ encoded_row table number encoder.form self.now) }
+        ensures reads_back { OnOk result (RowIsBack table number encoder.form self.now) }
         ensures without_floats { IfOk result (λ v. IfSome v (λ v. has_float (view v) ≡ false)) };
 }
 
@@ -98,15 +95,15 @@ fn read_members<R: PlainJsonRecord>(object: &Object<'_>) -> Result<R, JsonFault>
 }
 
 /// Encodes the members in the table's order.
-fn put_members<R: PlainToJson>(
+fn put_members<R: PlainJsonRecord>(
     value: &R,
     alloc: Global,
     form: BytesForm,
     object: &mut ObjectWriter,
 ) -> Result<(), OutOfMemory>
     ensures written { OnOk result (so_far object.new
-        ≡ put_rows (so_far object.old) (rows_of R.PlainJsonRecord.table.members form value.now)) }
-    ensures reads_back { OnOk result (AreBack R.PlainJsonRecord.table.members form value.now) }
+        ≡ put_rows (so_far object.old) (rows_of R.table.members form value.now)) }
+    ensures reads_back { OnOk result (AreBack R.table.members form value.now) }
 {
     let encoder = JsonEncoder { alloc, form };
     for row in R::rows() {
@@ -136,7 +133,7 @@ impl<R: PlainJsonRecord> FromJson for R {
     }
 }
 
-impl<R: PlainToJson> ToJson for R {
+impl<R: PlainJsonRecord> ToJson for R {
     ghost json = { table_json R.table };
 
     fn to_json(&self, alloc: Global, form: BytesForm) -> Result<Value, OutOfMemory> {
@@ -146,7 +143,7 @@ impl<R: PlainToJson> ToJson for R {
     }
 }
 
-impl<R: PlainToJson> RecordToJson for R {
+impl<R: PlainJsonRecord> RecordToJson for R {
     ghost use Rattle.std.specs.Prelude.{refl};
 
     ghost kind_is_record = { λ _. refl };

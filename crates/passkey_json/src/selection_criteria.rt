@@ -2,17 +2,15 @@
 ghost use Rattle.std.specs.Prelude.{◌≡◌};
 ghost use Rattle.passkey_json.specs.SelectionCriteria.{any_authenticator, selection_criteria};
 
-use crate::json_encoder::JsonEncoder;
+use crate::json_encoder::{EncodeResult, JsonEncoder};
 use crate::json_fault::JsonFault;
 use crate::member::Member;
-use crate::plain_json_record::{PlainJsonRecord, PlainToJson};
+use crate::plain_json_record::PlainJsonRecord;
 use crate::requirements::{
     AuthenticatorAttachment, ResidentKeyRequirement, UserVerificationRequirement,
 };
 use crate::row::Row;
 use crate::truth_text::TruthText;
-use passkey_memory::OutOfMemory;
-use serde_json::Value;
 use std::alloc::Global;
 
 /// The relying party's requirements for the authenticator that creates the credential (WebAuthn
@@ -74,10 +72,8 @@ impl PlainJsonRecord for AuthenticatorSelectionCriteria {
         }
         Ok(())
     }
-}
 
-impl PlainToJson for AuthenticatorSelectionCriteria {
-    fn encode(&self, number: u8, encoder: JsonEncoder) -> Result<Option<Value>, OutOfMemory> {
+    fn encode(&self, number: u8, encoder: JsonEncoder) -> EncodeResult {
         match number {
             1 => encoder.optional(&self.authenticator_attachment),
             2 => encoder.optional(&self.resident_key),

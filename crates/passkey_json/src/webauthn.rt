@@ -1,20 +1,18 @@
 //! Records of WebAuthn, decoded from JSON objects and encoded (WebAuthn Level 3, section 5).
 ghost use Rattle.passkey_json.specs.WebAuthn.{descriptor, parameters, prf_outputs, prf_values, rp, user};
 
-use crate::json_encoder::JsonEncoder;
+use crate::json_encoder::{EncodeResult, JsonEncoder};
 use crate::json_fault::JsonFault;
 use crate::member::Member;
-use crate::plain_json_record::{PlainJsonRecord, PlainToJson};
+use crate::plain_json_record::PlainJsonRecord;
 use crate::row::Row;
 use passkey_bytes::{Bytes, Text};
 use passkey_iana::Algorithm;
-use passkey_memory::OutOfMemory;
 use passkey_webauthn::{
     AuthenticationExtensionsPrfOutputs, AuthenticationExtensionsPrfValues,
     PublicKeyCredentialDescriptor, PublicKeyCredentialParameters, PublicKeyCredentialRpEntity,
     PublicKeyCredentialType, PublicKeyCredentialUserEntity,
 };
-use serde_json::Value;
 use std::alloc::Global;
 
 impl PlainJsonRecord for PublicKeyCredentialDescriptor {
@@ -45,10 +43,8 @@ impl PlainJsonRecord for PublicKeyCredentialDescriptor {
         }
         Ok(())
     }
-}
 
-impl PlainToJson for PublicKeyCredentialDescriptor {
-    fn encode(&self, number: u8, encoder: JsonEncoder) -> Result<Option<Value>, OutOfMemory> {
+    fn encode(&self, number: u8, encoder: JsonEncoder) -> EncodeResult {
         match number {
             1 => encoder.value(&self.ty),
             2 => encoder.value(&self.id),
@@ -80,10 +76,8 @@ impl PlainJsonRecord for PublicKeyCredentialParameters {
         }
         Ok(())
     }
-}
 
-impl PlainToJson for PublicKeyCredentialParameters {
-    fn encode(&self, number: u8, encoder: JsonEncoder) -> Result<Option<Value>, OutOfMemory> {
+    fn encode(&self, number: u8, encoder: JsonEncoder) -> EncodeResult {
         match number {
             1 => encoder.value(&self.ty),
             2 => encoder.value(&self.alg),
@@ -114,10 +108,8 @@ impl PlainJsonRecord for PublicKeyCredentialRpEntity {
         }
         Ok(())
     }
-}
 
-impl PlainToJson for PublicKeyCredentialRpEntity {
-    fn encode(&self, number: u8, encoder: JsonEncoder) -> Result<Option<Value>, OutOfMemory> {
+    fn encode(&self, number: u8, encoder: JsonEncoder) -> EncodeResult {
         match number {
             1 => encoder.optional(&self.id),
             2 => encoder.value(&self.name),
@@ -154,10 +146,8 @@ impl PlainJsonRecord for PublicKeyCredentialUserEntity {
         }
         Ok(())
     }
-}
 
-impl PlainToJson for PublicKeyCredentialUserEntity {
-    fn encode(&self, number: u8, encoder: JsonEncoder) -> Result<Option<Value>, OutOfMemory> {
+    fn encode(&self, number: u8, encoder: JsonEncoder) -> EncodeResult {
         match number {
             1 => encoder.value(&self.id),
             2 => encoder.value(&self.display_name),
@@ -189,10 +179,8 @@ impl PlainJsonRecord for AuthenticationExtensionsPrfValues {
         }
         Ok(())
     }
-}
 
-impl PlainToJson for AuthenticationExtensionsPrfValues {
-    fn encode(&self, number: u8, encoder: JsonEncoder) -> Result<Option<Value>, OutOfMemory> {
+    fn encode(&self, number: u8, encoder: JsonEncoder) -> EncodeResult {
         match number {
             1 => encoder.value(&self.first),
             2 => encoder.optional(&self.second),
@@ -223,10 +211,8 @@ impl PlainJsonRecord for AuthenticationExtensionsPrfOutputs {
         }
         Ok(())
     }
-}
 
-impl PlainToJson for AuthenticationExtensionsPrfOutputs {
-    fn encode(&self, number: u8, encoder: JsonEncoder) -> Result<Option<Value>, OutOfMemory> {
+    fn encode(&self, number: u8, encoder: JsonEncoder) -> EncodeResult {
         match number {
             1 => encoder.optional(&self.enabled),
             2 => encoder.optional(&self.results),

@@ -7,7 +7,7 @@ ghost use Rattle.serde_json.specs.View.{items_of, members_view, view};
 ghost use Rattle.serde_json.specs.Written.{has_float, items_have_float, members_have_float};
 
 use crate::bytes_form::BytesForm;
-use crate::json_encoder::JsonEncoder;
+use crate::json_encoder::{EncodeResult, JsonEncoder};
 use crate::to_json::ToJson;
 use passkey_bytes::List;
 use passkey_memory::OutOfMemory;
@@ -39,7 +39,7 @@ pub(crate) fn array<T: ToJson>(
     ensures reads_back { OnOk result (ReadsBack (list T.kind) elements.now (list_json (T.json form) elements.now)) }
     ensures without_floats { IfOk result (λ v. has_float (view v) ≡ false) }
 {
-    let mut values = Vec::new(alloc);
+    let mut values = Vec::with_capacity(alloc, elements.len())?;
     for element in elements {
         push_value(&mut values, element.to_json(alloc, form)?)?;
     }

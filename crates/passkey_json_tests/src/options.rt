@@ -13,7 +13,7 @@ fn each_field_of_a_creation_is_the_member_of_its_name(rt: HostRuntime) {
         &rt,
         &[(
             r#"{"publicKey":{"attestation":"direct","attestationFormats":["tpm"],"authenticatorSelection":{},"challenge":"AQ","excludeCredentials":[{"type":"public-key","id":"Ag"}],"extensions":{},"hints":["hybrid"],"pubKeyCredParams":[{"type":"public-key","alg":-7}],"rp":{"name":"a"},"timeout":"300000","user":{"id":"Aw","name":"b","displayName":"c"}}}"#,
-            r#"CredentialCreationOptions { public_key: PublicKeyCredentialCreationOptions { rp: PublicKeyCredentialRpEntity { id: None, name: "a" }, user: PublicKeyCredentialUserEntity { id: Bytes([3]), display_name: "c", name: "b" }, challenge: Bytes([1]), pub_key_cred_params: [PublicKeyCredentialParameters { ty: PublicKey, alg: ES256 }], timeout: Some(300000), exclude_credentials: Some([PublicKeyCredentialDescriptor { ty: PublicKey, id: Bytes([2]), transports: None }]), authenticator_selection: Some(AuthenticatorSelectionCriteria { authenticator_attachment: None, resident_key: None, require_resident_key: false, user_verification: Preferred }), hints: Some([Hybrid]), attestation: Direct, attestation_formats: Some([Tpm]), extensions: Some(AuthenticationExtensionsClientInputs { cred_props: None, prf: None, prf_already_hashed: None }) } }"#,
+            r#"CredentialOptions { public_key: PublicKeyCredentialCreationOptions { rp: PublicKeyCredentialRpEntity { id: None, name: "a" }, user: PublicKeyCredentialUserEntity { id: Bytes([3]), display_name: "c", name: "b" }, challenge: Bytes([1]), pub_key_cred_params: [PublicKeyCredentialParameters { ty: PublicKey, alg: ES256 }], timeout: Some(300000), exclude_credentials: Some([PublicKeyCredentialDescriptor { ty: PublicKey, id: Bytes([2]), transports: None }]), authenticator_selection: Some(AuthenticatorSelectionCriteria { authenticator_attachment: None, resident_key: None, require_resident_key: false, user_verification: Preferred }), hints: Some([Hybrid]), attestation: Direct, attestation_formats: Some([Tpm]), extensions: Some(AuthenticationExtensionsClientInputs { cred_props: None, prf: None, prf_already_hashed: None }) } }"#,
         )],
     );
 }
@@ -24,7 +24,7 @@ fn each_field_of_a_request_is_the_member_of_its_name(rt: HostRuntime) {
         &rt,
         &[(
             r#"{"publicKey":{"allowList":[{"type":"public-key","id":"Ag"}],"attestation":"direct","attestationFormats":["tpm"],"challenge":"AQ","extensions":{"credProps":true},"hints":["hybrid"],"rpId":"a","timeout":300000,"userVerification":"required"}}"#,
-            r#"CredentialRequestOptions { public_key: PublicKeyCredentialRequestOptions { challenge: Bytes([1]), timeout: Some(300000), rp_id: Some("a"), allow_credentials: Some([PublicKeyCredentialDescriptor { ty: PublicKey, id: Bytes([2]), transports: None }]), user_verification: Required, hints: Some([Hybrid]), attestation: Direct, attestation_formats: Some([Tpm]), extensions: Some(AuthenticationExtensionsClientInputs { cred_props: Some(true), prf: None, prf_already_hashed: None }) } }"#,
+            r#"CredentialOptions { public_key: PublicKeyCredentialRequestOptions { challenge: Bytes([1]), timeout: Some(300000), rp_id: Some("a"), allow_credentials: Some([PublicKeyCredentialDescriptor { ty: PublicKey, id: Bytes([2]), transports: None }]), user_verification: Required, hints: Some([Hybrid]), attestation: Direct, attestation_formats: Some([Tpm]), extensions: Some(AuthenticationExtensionsClientInputs { cred_props: Some(true), prf: None, prf_already_hashed: None }) } }"#,
         )],
     );
 }

@@ -10,8 +10,7 @@ use Rattle.passkey_json.specs.declared.requirements.UserVerificationRequirement.
 use Rattle.passkey_options.specs.Preferences.{conveyance_value, format_value, hint_value}
 use Rattle.passkey_options.specs.declared.preferences.AttestationConveyancePreference.TheVariants.{None as NoAttestation}
 use Rattle.passkey_options.specs.declared.creation_options.PublicKeyCredentialCreationOptions.{PublicKeyCredentialCreationOptions}
-use Rattle.passkey_options.specs.declared.arguments.CredentialCreationOptions.{CredentialCreationOptions}
-use Rattle.passkey_options.specs.declared.arguments.CredentialRequestOptions.{CredentialRequestOptions}
+use Rattle.passkey_options.specs.declared.arguments.CredentialOptions.{CredentialOptions}
 use Rattle.passkey_options.specs.declared.request_options.PublicKeyCredentialRequestOptions.{PublicKeyCredentialRequestOptions}
 
 -- the options of a registration (WebAuthn Level 3, section 5.4)
@@ -48,8 +47,7 @@ creation_options = record {
       ∷ optional_as 11 (codes "extensions") (nested client_inputs)
       (λ o. o.extensions) (λ v o. record o { extensions = v })
       ∷ [];
-  whole = λ o. refl;
-  distinct = refl;
+  sound = λ o. (refl, refl);
 }
 
 -- the options of a sign-in (WebAuthn Level 3, section 5.5)
@@ -81,28 +79,23 @@ request_options = record {
       ∷ tolerated_optional_as 9 (codes "extensions") (nested client_inputs)
       (λ o. o.extensions) (λ v o. record o { extensions = v })
       ∷ [];
-  whole = λ o. refl;
-  distinct = refl;
+  sound = λ o. (refl, refl);
+}
+
+-- the argument of a call with options of this table
+abbrev pub credential_options : {O : Type 0} → PlainTable O → PlainTable (CredentialOptions O)
+credential_options options = record {
+  blank = record { public_key = options.blank };
+  members = required_as 1 (codes "publicKey") (nested options)
+      (λ c. c.public_key) (λ v c. record c { public_key = v })
+      ∷ [];
+  sound = λ c. (refl, refl);
 }
 
 -- the argument of `navigator.credentials.create()` (WebAuthn Level 3, section 5.1.1)
-abbrev pub credential_creation : PlainTable CredentialCreationOptions
-credential_creation = record {
-  blank = record { public_key = creation_options.blank };
-  members = required_as 1 (codes "publicKey") (nested creation_options)
-      (λ c. c.public_key) (λ v c. record c { public_key = v })
-      ∷ [];
-  whole = λ c. refl;
-  distinct = refl;
-}
+abbrev pub credential_creation : PlainTable (CredentialOptions PublicKeyCredentialCreationOptions)
+credential_creation = credential_options creation_options
 
 -- the argument of `navigator.credentials.get()` (WebAuthn Level 3, section 5.1.2)
-abbrev pub credential_request : PlainTable CredentialRequestOptions
-credential_request = record {
-  blank = record { public_key = request_options.blank };
-  members = required_as 1 (codes "publicKey") (nested request_options)
-      (λ c. c.public_key) (λ v c. record c { public_key = v })
-      ∷ [];
-  whole = λ c. refl;
-  distinct = refl;
-}
+abbrev pub credential_request : PlainTable (CredentialOptions PublicKeyCredentialRequestOptions)
+credential_request = credential_options request_options

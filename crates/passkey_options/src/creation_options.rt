@@ -7,15 +7,13 @@ use crate::preferences::{
 };
 use passkey_bytes::{Bytes, List};
 use passkey_json::{
-    AuthenticationExtensionsClientInputs, AuthenticatorSelectionCriteria, JsonEncoder, JsonFault,
-    Member, PlainJsonRecord, PlainToJson, Row, TolerantList,
+    AuthenticationExtensionsClientInputs, AuthenticatorSelectionCriteria, EncodeResult,
+    JsonEncoder, JsonFault, Member, PlainJsonRecord, Row, TolerantList,
 };
-use passkey_memory::OutOfMemory;
 use passkey_webauthn::{
     PublicKeyCredentialDescriptor, PublicKeyCredentialParameters, PublicKeyCredentialRpEntity,
     PublicKeyCredentialUserEntity,
 };
-use serde_json::Value;
 use std::alloc::Global;
 
 /// The options of a registration (WebAuthn Level 3, section 5.4).
@@ -109,10 +107,8 @@ impl PlainJsonRecord for PublicKeyCredentialCreationOptions {
         }
         Ok(())
     }
-}
 
-impl PlainToJson for PublicKeyCredentialCreationOptions {
-    fn encode(&self, number: u8, encoder: JsonEncoder) -> Result<Option<Value>, OutOfMemory> {
+    fn encode(&self, number: u8, encoder: JsonEncoder) -> EncodeResult {
         match number {
             1 => encoder.value(&self.rp),
             2 => encoder.value(&self.user),

@@ -7,7 +7,7 @@ mod creation_options;
 mod preferences;
 mod request_options;
 
-pub use arguments::{CredentialCreationOptions, CredentialRequestOptions};
+pub use arguments::{CredentialCreationOptions, CredentialOptions, CredentialRequestOptions};
 pub use creation_options::PublicKeyCredentialCreationOptions;
 pub use preferences::{
     AttestationConveyancePreference, AttestationStatementFormatIdentifiers,

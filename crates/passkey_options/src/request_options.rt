@@ -7,12 +7,10 @@ use crate::preferences::{
 };
 use passkey_bytes::{Bytes, List, Text};
 use passkey_json::{
-    AuthenticationExtensionsClientInputs, JsonEncoder, JsonFault, Member, PlainJsonRecord,
-    PlainToJson, Row, UserVerificationRequirement,
+    AuthenticationExtensionsClientInputs, EncodeResult, JsonEncoder, JsonFault, Member,
+    PlainJsonRecord, Row, UserVerificationRequirement,
 };
-use passkey_memory::OutOfMemory;
 use passkey_webauthn::PublicKeyCredentialDescriptor;
-use serde_json::Value;
 use std::alloc::Global;
 
 /// The options of a sign-in (WebAuthn Level 3, section 5.5).
@@ -96,10 +94,8 @@ impl PlainJsonRecord for PublicKeyCredentialRequestOptions {
         }
         Ok(())
     }
-}
 
-impl PlainToJson for PublicKeyCredentialRequestOptions {
-    fn encode(&self, number: u8, encoder: JsonEncoder) -> Result<Option<Value>, OutOfMemory> {
+    fn encode(&self, number: u8, encoder: JsonEncoder) -> EncodeResult {
         match number {
             1 => encoder.value(&self.challenge),
             2 => encoder.optional(&self.timeout),

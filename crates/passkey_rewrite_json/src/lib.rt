@@ -34,7 +34,9 @@ fn rewrite_record<R: JsonRecord + ToJson>(alloc: Global, input: &[u8]) -> Result
 {
     let value = parse(alloc, input)?;
     let record = R::from_json(alloc, &value)?;
+    drop(value);
     let written = record.to_json(alloc, BytesForm::Base64Url)?;
+    drop(record);
     Ok(written.to_string(alloc)?)
 }
 
@@ -44,8 +46,8 @@ fn rewrite_client_data(alloc: Global, input: &[u8]) -> Result<String, RunFault>
 {
     let value = parse(alloc, input)?;
     let client_data: CollectedClientData = CollectedClientData::from_json(alloc, &value)?;
-    let text = client_data.to_text(alloc)?;
-    Ok(String::from_str(alloc, text.as_str())?)
+    drop(value);
+    Ok(String::from(client_data.to_text(alloc)?))
 }
 
 /// Decodes the JSON text as the kind and encodes the result, as compact JSON with bytes in
