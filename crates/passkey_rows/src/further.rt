@@ -1,6 +1,7 @@
 //! Messages that `passkey_show` doesn't have, and the bytes that are sent around them.
 use crate::again_bytes::{Copied, encoded, message_again};
 use crate::alike::is_decoded_alike;
+use crate::attestation::attestation_row;
 use crate::by_item::by_item;
 use crate::heads::counted;
 use crate::hexadecimal::{decode, encode};
@@ -346,6 +347,9 @@ pub fn further_row(
     }
     if let Some(command) = name.strip_prefix("authenticated-") {
         return Some(authenticated(alloc, command, input));
+    }
+    if let Some(output) = attestation_row(alloc, name, input) {
+        return Some(output);
     }
     let (way, kind) = way_of(name);
     let kind = Further::from_name(kind)?;

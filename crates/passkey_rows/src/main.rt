@@ -10,6 +10,7 @@ mod again;
 mod again_bytes;
 mod again_json;
 mod alike;
+mod attestation;
 mod building;
 mod by_item;
 mod further;

@@ -1,8 +1,8 @@
 //! Decoding and encoding JSON values: what you need for a JSON record of your own. WebAuthn's
 //! records are in `webauthn`.
 pub use passkey_json::{
-    BytesForm, FromJson, JsonEncoder, JsonFault, JsonRecord, JsonRefusal, Member, Object,
-    ObjectWriter, PlainJsonRecord, PlainToJson, RecordToJson, Row, ToJson, TolerantList, Tolerated,
+    BytesForm, EncodeResult, FromJson, JsonEncoder, JsonFault, JsonRecord, JsonRefusal, Member,
+    Object, ObjectWriter, PlainJsonRecord, RecordToJson, Row, ToJson, TolerantList, Tolerated,
     TruthText, holds_float, read_back, read_name, read_nested, written_name,
 };
 pub use passkey_webauthn::EnumNames;

@@ -3,6 +3,7 @@
 //! and COSE keys.
 #![tactic(auto)]
 
+pub mod attestation;
 pub mod cose;
 pub mod ctap2;
 pub mod json;

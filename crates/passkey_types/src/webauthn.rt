@@ -17,8 +17,9 @@ pub use passkey_json::{
 };
 pub use passkey_options::{
     AttestationConveyancePreference, AttestationStatementFormatIdentifiers,
-    CredentialCreationOptions, CredentialRequestOptions, PublicKeyCredentialCreationOptions,
-    PublicKeyCredentialHints, PublicKeyCredentialRequestOptions,
+    CredentialCreationOptions, CredentialOptions, CredentialRequestOptions,
+    PublicKeyCredentialCreationOptions, PublicKeyCredentialHints,
+    PublicKeyCredentialRequestOptions,
 };
 pub use passkey_webauthn::{
     AuthenticationExtensionsPrfOutputs, AuthenticationExtensionsPrfValues, AuthenticatorTransport,

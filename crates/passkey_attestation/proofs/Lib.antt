@@ -1,0 +1,4 @@
+pub mod Statements
+pub mod Back
+pub mod Views
+pub mod Coherent

@@ -1,0 +1,6 @@
+pub mod AlgorithmIdentifier
+pub mod Statements
+pub mod Formats
+pub mod Compound
+pub mod Fault
+pub mod Statement

@@ -1,0 +1,193 @@
+-- certInfo and pubArea, when written, are read back.
+use Rattle.std.specs.Int.{w16, w32, w64, to_be_bytes}
+use Rattle.std.proofs.Common.{◌≡◌, ◌∙◌, ℕ, ◌<◌, ◌^◌, nat_lt, List, [], ◌∷◌, ◌++◌, length, take, drop, Bool, true, false, Option, Some, refl, ap, subst, arith}
+use Rattle.std.proofs.Common.{lit<}
+use Rattle.std.proofs.lemmas.Bool.{leb-true}
+use Rattle.std.proofs.lemmas.List.{append-nil, length-append}
+use Rattle.std.proofs.lemmas.Nat.{from_be_bytes-to_be_bytes_2, from_be_bytes-to_be_bytes_4, from_be_bytes-to_be_bytes_8}
+use Rattle.std.proofs.Math.Seq.{take-append_seam, drop-append_seam}
+use Rattle.passkey_tpm.proofs.Appended.{cert_info_grouped, rsa_grouped, ecc_grouped, pub_area_grouped}
+use Rattle.passkey_tpm.specs.CertInfo.{CertInfoParts, magic, certify, header_at, yes_no_byte, yes_no_at, clock_info_at, cert_info_at, cert_info_in, cert_info_written, IsClockInfo, IsCertInfo}
+use Rattle.passkey_tpm.specs.HashAlgorithm.{hash_at}
+use Rattle.passkey_tpm.specs.Parts.{◌>>=◌, bytes_at, u8_at, u16_at, u32_at, u64_at, sized_at}
+use Rattle.passkey_tpm.specs.PubArea.{KeyParts, RsaParts, EccParts, PubAreaParts, curve_id, curve_at, null_at, null_written, rsa_at, ecc_at, key_at, key_type, key_written, pub_area_at, pub_area_in, pub_area_written, IsRsa, IsEcc, IsKey, IsPubArea}
+use Rattle.passkey_tpm.specs.PubArea.KeyParts.{rsa, ecc}
+use Rattle.passkey_tpm.specs.Scheme.{hash_written, rsa_scheme_at, ecc_scheme_at, rsa_scheme_written, ecc_scheme_written}
+use Rattle.passkey_tpm.specs.declared.cert_info.ClockInfo.{ClockInfo}
+use Rattle.passkey_tpm.specs.declared.hash_algorithm.HashAlgorithm.{HashAlgorithm}
+use Rattle.passkey_tpm.specs.declared.hash_algorithm.HashAlgorithm.TheVariants.{Sha1, Sha256, Sha384, Sha512}
+use Rattle.passkey_tpm.specs.declared.public_key.Curve.{Curve}
+use Rattle.passkey_tpm.specs.declared.public_key.Curve.TheVariants.{P256, P384, P521}
+use Rattle.passkey_tpm.specs.declared.scheme.EccScheme.{EccScheme}
+use Rattle.passkey_tpm.specs.declared.scheme.EccScheme.TheVariants as ecc_scheme
+use Rattle.passkey_tpm.specs.declared.scheme.RsaScheme.{RsaScheme}
+use Rattle.passkey_tpm.specs.declared.scheme.RsaScheme.TheVariants as rsa_scheme
+
+-- ---- parts of a fixed length, and sized byte strings
+
+-- what follows a part that was read
+after : {X Y : Type 0} {o : Option X} {x : X} (next : X → Option Y) → o ≡ Some x → (o >>= next) ≡ next x
+after next e = ap (λ o. o >>= next) e
+
+not_short : (n : ℕ) (front rest : List ℕ) → length front ≡ n → nat_lt (length (front ++ rest)) n ≡ false
+not_short n front rest e =
+    (elim (nat_lt (length (front ++ rest)) n) as (λ (b : Bool). nat_lt (length (front ++ rest)) n ≡ b → b ≡ false) [
+      | true ↦ λ h. (let less : length (front ++ rest) < n = leb-true _ _ h in let whole =
+          length-append front rest in absurd (omega (arith, less, whole, e)))
+      | false ↦ λ h. refl
+    ]) refl
+
+bytes_front : (n : ℕ) (front rest : List ℕ) → length front ≡ n → bytes_at n (front ++ rest) ≡ Some (front, rest)
+bytes_front n front rest e =
+    let begins : take n (front ++ rest) ≡ front =
+    subst (λ (m : ℕ). take m (front ++ rest) ≡ front) e (take-append_seam front rest) in
+    let ends : drop n (front ++ rest) ≡ rest =
+    subst (λ (m : ℕ). drop m (front ++ rest) ≡ rest) e (drop-append_seam front rest) in
+    rw (not_short n front rest e, begins, ends) refl
+
+u8_back : (n : ℕ) (rest : List ℕ) → u8_at (n ∷ rest) ≡ Some (n, rest)
+unfolding u8_at
+u8_back n rest = after _ (bytes_front 1 (n ∷ []) rest refl) ∙ refl
+
+u16_back : (n : ℕ) (rest : List ℕ) → n < 2 ^ 16 → u16_at (to_be_bytes w16 n ++ rest) ≡ Some (n, rest)
+unfolding u16_at
+u16_back n rest fits =
+    after _ (bytes_front 2 (to_be_bytes w16 n) rest refl) ∙ ap (λ (m : ℕ). Some (m, rest)) (from_be_bytes-to_be_bytes_2 n fits)
+
+u32_back : (n : ℕ) (rest : List ℕ) → n < 2 ^ 32 → u32_at (to_be_bytes w32 n ++ rest) ≡ Some (n, rest)
+unfolding u32_at
+u32_back n rest fits =
+    after _ (bytes_front 4 (to_be_bytes w32 n) rest refl) ∙ ap (λ (m : ℕ). Some (m, rest)) (from_be_bytes-to_be_bytes_4 n fits)
+
+u64_back : (n : ℕ) (rest : List ℕ) → n < 2 ^ 64 → u64_at (to_be_bytes w64 n ++ rest) ≡ Some (n, rest)
+unfolding u64_at
+u64_back n rest fits =
+    after _ (bytes_front 8 (to_be_bytes w64 n) rest refl) ∙ ap (λ (m : ℕ). Some (m, rest)) (from_be_bytes-to_be_bytes_8 n fits)
+
+-- a byte string's length in 2 bytes
+abbrev size_of : List ℕ → List ℕ
+size_of bytes = to_be_bytes w16 (length bytes)
+
+sized_back : (bytes rest : List ℕ) → length bytes < 2 ^ 16
+    → sized_at (to_be_bytes w16 (length bytes) ++ (bytes ++ rest)) ≡ Some (bytes, rest)
+unfolding sized_at
+sized_back bytes rest fits =
+    after _ (u16_back (length bytes) (bytes ++ rest) fits) ∙ bytes_front (length bytes) bytes rest refl
+
+-- ---- certInfo
+
+header_back : (rest : List ℕ) → header_at (to_be_bytes w32 magic ++ (to_be_bytes w16 certify ++ rest)) ≡ Some rest
+unfolding header_at
+header_back rest =
+    after _ (u32_back magic (to_be_bytes w16 certify ++ rest) (lit< tt)) ∙ after _ (u16_back certify rest (lit< tt))
+
+yes_no_back : (b : Bool) (rest : List ℕ) → yes_no_at (yes_no_byte b ∷ rest) ≡ Some (b, rest)
+unfolding yes_no_at
+yes_no_back true rest = after _ (u8_back 1 rest)
+yes_no_back false rest = after _ (u8_back 0 rest)
+
+clock_info_back : (c : ClockInfo) (rest : List ℕ) → IsClockInfo c
+    → clock_info_at (to_be_bytes w64 c.clock ++ (to_be_bytes w32 c.reset_count ++ (to_be_bytes w32 c.restart_count
+    ++ (yes_no_byte c.safe ∷ rest)))) ≡ Some (c, rest)
+unfolding clock_info_at
+clock_info_back c rest valid =
+    after _ (u64_back c.clock _ valid.clock) ∙ after _ (u32_back c.reset_count _ valid.resets)
+    ∙ after _ (u32_back c.restart_count _ valid.restarts) ∙ after _ (yes_no_back c.safe rest)
+
+cert_info_front : (c : CertInfoParts) (rest : List ℕ) → IsCertInfo c → cert_info_at (cert_info_written c ++ rest)
+    ≡ Some (c, rest)
+unfolding cert_info_at
+cert_info_front c rest valid =
+    let clock = c.clock_info in
+    let grouped = cert_info_grouped (to_be_bytes w32 magic) (to_be_bytes w16 certify) (size_of c.qualified_signer)
+    c.qualified_signer (size_of c.extra_data) c.extra_data (to_be_bytes w64 clock.clock) (to_be_bytes w32
+    clock.reset_count) (to_be_bytes w32 clock.restart_count) (yes_no_byte clock.safe ∷ []) (to_be_bytes w64
+    c.firmware_version) (size_of c.name) c.name (size_of c.qualified_name) c.qualified_name rest in
+    ap cert_info_at grouped ∙ after _ (header_back _) ∙ after _ (sized_back c.qualified_signer _ valid.signer)
+    ∙ after _ (sized_back c.extra_data _ valid.extra) ∙ after _ (clock_info_back clock _ valid.clock)
+    ∙ after _ (u64_back c.firmware_version _ valid.firmware) ∙ after _ (sized_back c.name _ valid.name)
+    ∙ after _ (sized_back c.qualified_name rest valid.qualified)
+
+pub cert_info_back : (c : CertInfoParts) → IsCertInfo c → cert_info_in (cert_info_written c) ≡ Some c
+cert_info_back c valid =
+    after _ (subst (λ (s : List ℕ). cert_info_at s ≡ Some (c, [])) (append-nil (cert_info_written c))
+    (cert_info_front c [] valid))
+
+-- ---- pubArea
+
+hash_back : (h : HashAlgorithm) (rest : List ℕ) → hash_at (hash_written h ++ rest) ≡ Some (h, rest)
+unfolding hash_at
+hash_back Sha1 rest = after _ (u16_back 0x0004 rest (lit< tt))
+hash_back Sha256 rest = after _ (u16_back 0x000B rest (lit< tt))
+hash_back Sha384 rest = after _ (u16_back 0x000C rest (lit< tt))
+hash_back Sha512 rest = after _ (u16_back 0x000D rest (lit< tt))
+
+null_back : (rest : List ℕ) → null_at (null_written ++ rest) ≡ Some rest
+unfolding null_at
+null_back rest = after _ (u16_back 0x0010 rest (lit< tt))
+
+curve_back : (curve : Curve) (rest : List ℕ) → curve_at (to_be_bytes w16 (curve_id curve) ++ rest) ≡ Some (curve, rest)
+unfolding curve_at
+curve_back P256 rest = after _ (u16_back 0x0003 rest (lit< tt))
+curve_back P384 rest = after _ (u16_back 0x0004 rest (lit< tt))
+curve_back P521 rest = after _ (u16_back 0x0005 rest (lit< tt))
+
+rsa_scheme_back : (s : RsaScheme) (rest : List ℕ) → rsa_scheme_at (rsa_scheme_written s ++ rest) ≡ Some (s, rest)
+unfolding rsa_scheme_at
+rsa_scheme_back rsa_scheme.Null rest = after _ (u16_back 0x0010 rest (lit< tt))
+rsa_scheme_back (rsa_scheme.RsaSsa h) rest =
+    after _ (u16_back 0x0014 (hash_written h ++ rest) (lit< tt)) ∙ after _ (hash_back h rest)
+rsa_scheme_back rsa_scheme.RsaEs rest = after _ (u16_back 0x0015 rest (lit< tt))
+rsa_scheme_back (rsa_scheme.RsaPss h) rest =
+    after _ (u16_back 0x0016 (hash_written h ++ rest) (lit< tt)) ∙ after _ (hash_back h rest)
+rsa_scheme_back (rsa_scheme.Oaep h) rest =
+    after _ (u16_back 0x0017 (hash_written h ++ rest) (lit< tt)) ∙ after _ (hash_back h rest)
+
+ecc_scheme_back : (s : EccScheme) (rest : List ℕ) → ecc_scheme_at (ecc_scheme_written s ++ rest) ≡ Some (s, rest)
+unfolding ecc_scheme_at
+ecc_scheme_back ecc_scheme.Null rest = after _ (u16_back 0x0010 rest (lit< tt))
+ecc_scheme_back (ecc_scheme.Ecdsa h) rest =
+    after _ (u16_back 0x0018 (hash_written h ++ rest) (lit< tt)) ∙ after _ (hash_back h rest)
+
+rsa_back : (k : RsaParts) (rest : List ℕ) → IsRsa k → rsa_at (null_written ++ (rsa_scheme_written k.scheme
+    ++ (to_be_bytes w16 k.key_bits ++ (to_be_bytes w32 k.exponent ++ (to_be_bytes w16 (length k.modulus)
+    ++ (k.modulus ++ rest)))))) ≡ Some (k, rest)
+unfolding rsa_at
+rsa_back k rest valid =
+    after _ (null_back _) ∙ after _ (rsa_scheme_back k.scheme _) ∙ after _ (u16_back k.key_bits _ valid.bits)
+    ∙ after _ (u32_back k.exponent _ valid.exponent) ∙ after _ (sized_back k.modulus rest valid.modulus)
+
+ecc_back : (k : EccParts) (rest : List ℕ) → IsEcc k → ecc_at (null_written ++ (ecc_scheme_written k.scheme
+    ++ (to_be_bytes w16 (curve_id k.curve) ++ (null_written ++ (to_be_bytes w16 (length k.x) ++ (k.x
+    ++ (to_be_bytes w16 (length k.y) ++ (k.y ++ rest)))))))) ≡ Some (k, rest)
+unfolding ecc_at
+ecc_back k rest valid =
+    after _ (null_back _) ∙ after _ (ecc_scheme_back k.scheme _) ∙ after _ (curve_back k.curve _)
+    ∙ after _ (null_back _) ∙ after _ (sized_back k.x _ valid.x) ∙ after _ (sized_back k.y rest valid.y)
+
+key_back : (k : KeyParts) (rest : List ℕ) → IsKey k → key_at (key_type k) (key_written k ++ rest) ≡ Some (k, rest)
+key_back (rsa k) rest valid =
+    ap (key_at 0x0001) (rsa_grouped null_written (rsa_scheme_written k.scheme) (to_be_bytes w16 k.key_bits)
+    (to_be_bytes w32 k.exponent) (size_of k.modulus) k.modulus rest) ∙ after _ (rsa_back k rest valid)
+key_back (ecc k) rest valid =
+    ap (key_at 0x0023) (ecc_grouped null_written (ecc_scheme_written k.scheme) (to_be_bytes w16 (curve_id k.curve))
+    null_written (size_of k.x) k.x (size_of k.y) k.y rest) ∙ after _ (ecc_back k rest valid)
+
+type_fits : (k : KeyParts) → key_type k < 2 ^ 16
+type_fits (rsa k) = lit< tt
+type_fits (ecc k) = lit< tt
+
+pub_area_front : (a : PubAreaParts) (rest : List ℕ) → IsPubArea a → pub_area_at (pub_area_written a ++ rest)
+    ≡ Some (a, rest)
+unfolding pub_area_at
+pub_area_front a rest valid =
+    let grouped = pub_area_grouped (to_be_bytes w16 (key_type a.key)) (hash_written a.name_alg) (to_be_bytes w32
+    a.object_attributes) (size_of a.auth_policy) a.auth_policy (key_written a.key) rest in
+    ap pub_area_at grouped ∙ after _ (u16_back (key_type a.key) _ (type_fits a.key)) ∙ after _ (hash_back a.name_alg _)
+    ∙ after _ (u32_back a.object_attributes _ valid.attributes) ∙ after _ (sized_back a.auth_policy _ valid.policy)
+    ∙ after _ (key_back a.key rest valid.key)
+
+pub pub_area_back : (a : PubAreaParts) → IsPubArea a → pub_area_in (pub_area_written a) ≡ Some a
+pub_area_back a valid =
+    after _ (subst (λ (s : List ℕ). pub_area_at s ≡ Some (a, [])) (append-nil (pub_area_written a))
+    (pub_area_front a [] valid))

@@ -1,0 +1,3 @@
+pub mod Appended
+pub mod Back
+pub mod Taken

@@ -1,0 +1,507 @@
+-- certInfo and pubArea, when read, are written as the same bytes.
+use Rattle.std.specs.Int.{w8, w16, w32, w64, from_be_bytes, to_be_bytes}
+use Rattle.std.proofs.Common.{◌≡◌, ◌∙◌, ◌==◌, ◌&&◌, ◌+◌, ◌≤◌, ℕ, ◌<◌, nat_lt, List, [], ◌∷◌, ◌++◌, length, slice_index, take, drop, Bool, true, false, if◌then◌else◌, ◌⊎◌, inl, inr, Option, Some, None, refl, sym, ap, subst, arith, lit<}
+use Rattle.std.proofs.Math.ListN.{get_or-append}
+use Rattle.std.proofs.lemmas.Bool.{and_parts, cases_lt, eqb-true, leb-true}
+use Rattle.std.proofs.lemmas.Bool.Decides.{nat_tests}
+use Rattle.std.proofs.lemmas.List.{append_assoc, append-nil, get_or-append-add, get_or_past, length-take-le, take-append-drop}
+use Rattle.std.proofs.lemmas.Nat.{be_bytes_2, be_bytes_4, be_bytes_8}
+use Rattle.passkey_tpm.specs.CertInfo.{CertInfoParts, magic, certify, header_at, yes_no, yes_no_byte, yes_no_at, clock_info_at, cert_info_at, clock_info_written, cert_info_written}
+use Rattle.passkey_tpm.specs.HashAlgorithm.{hash_algorithm_of, hash_algorithm_id, hash_at}
+use Rattle.passkey_tpm.specs.Laws.{CertInfoIsWrittenBack, PubAreaIsWrittenBack}
+use Rattle.passkey_tpm.specs.Parts.{IsBytes, ◌>>=◌, bytes_at, u8_at, u16_at, u32_at, u64_at, sized_at, sized_written, whole_only}
+use Rattle.passkey_tpm.specs.PubArea.{KeyParts, RsaParts, EccParts, PubAreaParts, curve_of, curve_id, curve_at, null_at, null_written, rsa_at, ecc_at, key_at, key_type, key_written, rsa_written, ecc_written, pub_area_at, pub_area_written}
+use Rattle.passkey_tpm.specs.PubArea.KeyParts.{rsa, ecc}
+use Rattle.passkey_tpm.specs.Scheme.{hash_written, hashed, rsa_scheme_at, ecc_scheme_at, rsa_scheme_written, ecc_scheme_written}
+use Rattle.passkey_tpm.specs.declared.cert_info.ClockInfo.{ClockInfo}
+use Rattle.passkey_tpm.specs.declared.hash_algorithm.HashAlgorithm.{HashAlgorithm}
+use Rattle.passkey_tpm.specs.declared.public_key.Curve.{Curve}
+use Rattle.passkey_tpm.specs.declared.scheme.EccScheme.{EccScheme}
+use Rattle.passkey_tpm.specs.declared.scheme.EccScheme.TheVariants as ecc_scheme
+use Rattle.passkey_tpm.specs.declared.scheme.RsaScheme.{RsaScheme}
+use Rattle.passkey_tpm.specs.declared.scheme.RsaScheme.TheVariants as rsa_scheme
+
+-- ---- a part that was read, and what follows it
+
+-- The bytes are a part's encoding, and what follows.
+record Taken (bytes written rest : List ℕ) : Type 0 where
+  joined : written ++ rest ≡ bytes
+  fits : IsBytes rest
+
+-- A step that returned a value went on from one.
+record Went {X Y : Type 0} (o : Option X) (next : X → Option Y) (y : Y) : Type 0 where
+  x : X
+  was : o ≡ Some x
+  gives : next x ≡ Some y
+
+went : {X Y : Type 0} (o : Option X) (next : X → Option Y) (y : Y) → (o >>= next) ≡ Some y → Went o next y
+went None next y e = absurd cc
+went (Some x) next y e = record { x = x; was = refl; gives = e }
+
+some_is : {X : Type 0} {x y : X} → Some x ≡ Some y → x ≡ y
+some_is e = cc
+
+pair_is : {X : Type 0} {x y : X} {r s : List ℕ} → ◌≡◌ {A = Option (X × List ℕ)} (Some (x, r)) (Some (y, s))
+    → (x ≡ y) × (r ≡ s)
+pair_is {X} e = let p = some_is e in (ap (λ (q : X × List ℕ). q.0) p, ap (λ (q : X × List ℕ). q.1) p)
+
+-- ---- parts of a fixed length
+
+record Front (n : ℕ) (bytes front rest : List ℕ) : Type 0 where
+  taken : Taken bytes front rest
+  sized : length front ≡ n
+  fits : IsBytes front
+
+-- the value of a test that stopped nothing
+stopped_not : {X : Type 0} (b : Bool) (x y : X) → (if b then None else Some x) ≡ Some y → (b ≡ false) × (x ≡ y)
+stopped_not true x y e = absurd cc
+stopped_not false x y e = (refl, cc)
+
+front_fits : (front rest : List ℕ) → IsBytes (front ++ rest) → IsBytes front
+front_fits front rest h i = by_case (nat_lt i (length front)) refl where
+  by_case : (b : Bool) → nat_lt i (length front) ≡ b → slice_index front i < 256
+  by_case true is =
+      let less : i < length front = leb-true _ _ is in
+      subst (λ (n : ℕ). n < 256) (get_or-append front rest 0 i less) (h i)
+  by_case false is =
+      let past : length front ≤ i = grind (arith, nat_tests, cases_lt) in
+      subst (λ (n : ℕ). n < 256) (sym (get_or_past front i 0 past)) (lit< tt)
+
+rest_fits : (front rest : List ℕ) → IsBytes (front ++ rest) → IsBytes rest
+rest_fits front rest h i = subst (λ (n : ℕ). n < 256) (get_or-append-add front rest i 0) (h (length front + i))
+
+bytes_taken : (n : ℕ) (bytes front rest : List ℕ) → IsBytes bytes → bytes_at n bytes ≡ Some (front, rest)
+    → Front n bytes front rest
+bytes_taken n bytes front rest fits e =
+    let parts : List ℕ × List ℕ = (take n bytes, drop n bytes) in
+    let p = stopped_not (nat_lt (length bytes) n) parts (front, rest) e in
+    let same : take n bytes ≡ front = ap (λ (r : List ℕ × List ℕ). r.0) p.1 in
+    let behind : drop n bytes ≡ rest = ap (λ (r : List ℕ × List ℕ). r.1) p.1 in
+    let short = p.0 in
+    let long : n ≤ length bytes = grind (arith, nat_tests, cases_lt, short) in
+    let joined : front ++ rest ≡ bytes = rw (← same, ← behind) (take-append-drop n bytes) in
+    let whole : IsBytes (front ++ rest) = subst (λ (t : List ℕ). IsBytes t) (sym joined) fits in record {
+      taken = record { joined = joined; fits = rest_fits front rest whole };
+      sized = ap length (sym same) ∙ length-take-le n bytes long;
+      fits = front_fits front rest whole;
+    }
+
+-- the same bytes, in another spelling
+respelled : {bytes written other rest : List ℕ} → written ≡ other → Taken bytes written rest → Taken bytes other rest
+respelled {bytes} {written} {other} {rest} e t =
+    record { joined = ap (λ (w : List ℕ). w ++ rest) (sym e) ∙ t.joined; fits = t.fits }
+
+-- a part, and then another one
+then_taken : {bytes a b mid rest : List ℕ} → Taken bytes a mid → Taken mid b rest → Taken bytes (a ++ b) rest
+then_taken {bytes} {a} {b} {mid} {rest} s t = record {
+  joined = append_assoc a b rest ∙ ap (λ (w : List ℕ). a ++ w) t.joined ∙ s.joined;
+  fits = t.fits;
+}
+
+one_byte : (front : List ℕ) → length front ≡ 1 → front ≡ from_be_bytes w8 front ∷ []
+one_byte [] e = absurd (omega (arith, e))
+one_byte (b ∷ []) e = refl
+one_byte (b ∷ c ∷ bs) e = absurd (omega (arith, e))
+
+u8_taken : (bytes : List ℕ) (n : ℕ) (rest : List ℕ) → IsBytes bytes → u8_at bytes ≡ Some (n, rest)
+    → Taken bytes (n ∷ []) rest
+unfolding u8_at
+u8_taken bytes n rest fits e =
+    let w = went (bytes_at 1 bytes) _ (n, rest) e in
+    let f = bytes_taken 1 bytes w.x.0 w.x.1 fits w.was in
+    let number : from_be_bytes w8 w.x.0 ≡ n = (pair_is w.gives).0 in
+    let behind : w.x.1 ≡ rest = (pair_is w.gives).1 in
+    subst (λ (r : List ℕ). Taken bytes (n ∷ []) r) behind
+    (respelled (one_byte w.x.0 f.sized ∙ ap (λ (m : ℕ). m ∷ []) number) f.taken)
+
+u16_taken : (bytes : List ℕ) (n : ℕ) (rest : List ℕ) → IsBytes bytes → u16_at bytes ≡ Some (n, rest)
+    → Taken bytes (to_be_bytes w16 n) rest
+unfolding u16_at
+u16_taken bytes n rest fits e =
+    let w = went (bytes_at 2 bytes) _ (n, rest) e in
+    let f = bytes_taken 2 bytes w.x.0 w.x.1 fits w.was in
+    let number : n ≡ from_be_bytes w16 w.x.0 = sym (pair_is w.gives).0 in
+    let behind : w.x.1 ≡ rest = (pair_is w.gives).1 in
+    subst (λ (r : List ℕ). Taken bytes (to_be_bytes w16 n) r) behind
+    (respelled (sym (be_bytes_2 w.x.0 n f.sized f.fits number)) f.taken)
+
+u32_taken : (bytes : List ℕ) (n : ℕ) (rest : List ℕ) → IsBytes bytes → u32_at bytes ≡ Some (n, rest)
+    → Taken bytes (to_be_bytes w32 n) rest
+unfolding u32_at
+u32_taken bytes n rest fits e =
+    let w = went (bytes_at 4 bytes) _ (n, rest) e in
+    let f = bytes_taken 4 bytes w.x.0 w.x.1 fits w.was in
+    let number : n ≡ from_be_bytes w32 w.x.0 = sym (pair_is w.gives).0 in
+    let behind : w.x.1 ≡ rest = (pair_is w.gives).1 in
+    subst (λ (r : List ℕ). Taken bytes (to_be_bytes w32 n) r) behind
+    (respelled (sym (be_bytes_4 w.x.0 n f.sized f.fits number)) f.taken)
+
+u64_taken : (bytes : List ℕ) (n : ℕ) (rest : List ℕ) → IsBytes bytes → u64_at bytes ≡ Some (n, rest)
+    → Taken bytes (to_be_bytes w64 n) rest
+unfolding u64_at
+u64_taken bytes n rest fits e =
+    let w = went (bytes_at 8 bytes) _ (n, rest) e in
+    let f = bytes_taken 8 bytes w.x.0 w.x.1 fits w.was in
+    let number : n ≡ from_be_bytes w64 w.x.0 = sym (pair_is w.gives).0 in
+    let behind : w.x.1 ≡ rest = (pair_is w.gives).1 in
+    subst (λ (r : List ℕ). Taken bytes (to_be_bytes w64 n) r) behind
+    (respelled (sym (be_bytes_8 w.x.0 n f.sized f.fits number)) f.taken)
+
+sized_taken : (bytes s rest : List ℕ) → IsBytes bytes → sized_at bytes ≡ Some (s, rest)
+    → Taken bytes (sized_written s) rest
+unfolding sized_at
+sized_taken bytes s rest fits e =
+    let w = went (u16_at bytes) _ (s, rest) e in
+    let len = u16_taken bytes w.x.0 w.x.1 fits w.was in
+    let f = bytes_taken w.x.0 w.x.1 s rest len.fits w.gives in
+    then_taken (respelled (ap (to_be_bytes w16) (sym f.sized)) len) f.taken
+
+-- ---- certInfo
+
+-- the value of a test that let something through
+passed : {X : Type 0} (b : Bool) (x y : X) → (if b then Some x else None) ≡ Some y → (b ≡ true) × (x ≡ y)
+passed true x y e = (refl, cc)
+passed false x y e = absurd cc
+
+header_taken : (bytes rest : List ℕ) → IsBytes bytes → header_at bytes ≡ Some rest
+    → Taken bytes (to_be_bytes w32 magic ++ to_be_bytes w16 certify) rest
+unfolding header_at
+header_taken bytes rest fits e =
+    let a = went (u32_at bytes) _ rest e in
+    let first = u32_taken bytes a.x.0 a.x.1 fits a.was in
+    let b = went (u16_at a.x.1) _ rest a.gives in
+    let second = u16_taken a.x.1 b.x.0 b.x.1 first.fits b.was in
+    let p = passed (a.x.0 == magic && b.x.0 == certify) b.x.1 rest b.gives in
+    let both = and_parts (a.x.0 == magic) (b.x.0 == certify) p.0 in
+    subst (λ (r : List ℕ). Taken bytes (to_be_bytes w32 magic ++ to_be_bytes w16 certify) r) p.1 (then_taken
+    (respelled (ap (to_be_bytes w32) (eqb-true a.x.0 magic both.0)) first)
+    (respelled (ap (to_be_bytes w16) (eqb-true b.x.0 certify both.1)) second))
+
+yes_no_of : (n : ℕ) (b : Bool) → yes_no n ≡ Some b → n ≡ yes_no_byte b
+yes_no_of n b e = by_case (n == 0) (n == 1) refl refl where
+  by_case : (x y : Bool) → (n == 0) ≡ x → (n == 1) ≡ y → n ≡ yes_no_byte b
+  by_case true y is is_one = let same : false ≡ b = cc (rw is at e) in eqb-true n 0 is ∙ ap yes_no_byte same
+  by_case false true is is_one = let same : true ≡ b = cc (rw (is, is_one) at e) in eqb-true n 1 is_one ∙ ap yes_no_byte same
+  by_case false false is is_one = absurd (cc (rw (is, is_one) at e))
+
+yes_no_taken : (bytes : List ℕ) (b : Bool) (rest : List ℕ) → IsBytes bytes → yes_no_at bytes ≡ Some (b, rest)
+    → Taken bytes (yes_no_byte b ∷ []) rest
+unfolding yes_no_at
+yes_no_taken bytes b rest fits e =
+    let w = went (u8_at bytes) _ (b, rest) e in
+    let f = u8_taken bytes w.x.0 w.x.1 fits w.was in
+    let v = went (yes_no w.x.0) _ (b, rest) w.gives in
+    let flag : v.x ≡ b = (pair_is v.gives).0 in
+    let behind : w.x.1 ≡ rest = (pair_is v.gives).1 in
+    subst (λ (r : List ℕ). Taken bytes (yes_no_byte b ∷ []) r) behind
+    (respelled (ap (λ (n : ℕ). n ∷ []) (yes_no_of w.x.0 v.x v.was ∙ ap yes_no_byte flag)) f)
+
+clock_info_taken : (bytes : List ℕ) (c : ClockInfo) (rest : List ℕ) → IsBytes bytes
+    → clock_info_at bytes ≡ Some (c, rest) → Taken bytes (clock_info_written c) rest
+unfolding clock_info_at
+clock_info_taken bytes c rest fits e =
+    let w1 = went (u64_at bytes) _ (c, rest) e in
+    let t1 = u64_taken bytes w1.x.0 w1.x.1 fits w1.was in
+    let w2 = went (u32_at w1.x.1) _ (c, rest) w1.gives in
+    let t2 = u32_taken w1.x.1 w2.x.0 w2.x.1 t1.fits w2.was in
+    let w3 = went (u32_at w2.x.1) _ (c, rest) w2.gives in
+    let t3 = u32_taken w2.x.1 w3.x.0 w3.x.1 t2.fits w3.was in
+    let w4 = went (yes_no_at w3.x.1) _ (c, rest) w3.gives in
+    let t4 = yes_no_taken w3.x.1 w4.x.0 w4.x.1 t3.fits w4.was in
+    let made : ClockInfo = record { clock = w1.x.0; reset_count = w2.x.0; restart_count = w3.x.0; safe = w4.x.0 } in
+    let same : made ≡ c = (pair_is w4.gives).0 in
+    let behind : w4.x.1 ≡ rest = (pair_is w4.gives).1 in
+    subst (λ (r : List ℕ). Taken bytes (clock_info_written c) r) behind
+    (subst (λ (m : ClockInfo). Taken bytes (clock_info_written m) w4.x.1) same
+    (then_taken (then_taken (then_taken t1 t2) t3) t4))
+
+cert_info_taken : (bytes : List ℕ) (c : CertInfoParts) (rest : List ℕ) → IsBytes bytes
+    → cert_info_at bytes ≡ Some (c, rest) → Taken bytes (cert_info_written c) rest
+unfolding cert_info_at
+cert_info_taken bytes c rest fits e =
+    let w0 = went (header_at bytes) _ (c, rest) e in
+    let t0 = header_taken bytes w0.x fits w0.was in
+    let w1 = went (sized_at w0.x) _ (c, rest) w0.gives in
+    let t1 = sized_taken w0.x w1.x.0 w1.x.1 t0.fits w1.was in
+    let w2 = went (sized_at w1.x.1) _ (c, rest) w1.gives in
+    let t2 = sized_taken w1.x.1 w2.x.0 w2.x.1 t1.fits w2.was in
+    let w3 = went (clock_info_at w2.x.1) _ (c, rest) w2.gives in
+    let t3 = clock_info_taken w2.x.1 w3.x.0 w3.x.1 t2.fits w3.was in
+    let w4 = went (u64_at w3.x.1) _ (c, rest) w3.gives in
+    let t4 = u64_taken w3.x.1 w4.x.0 w4.x.1 t3.fits w4.was in
+    let w5 = went (sized_at w4.x.1) _ (c, rest) w4.gives in
+    let t5 = sized_taken w4.x.1 w5.x.0 w5.x.1 t4.fits w5.was in
+    let w6 = went (sized_at w5.x.1) _ (c, rest) w5.gives in
+    let t6 = sized_taken w5.x.1 w6.x.0 w6.x.1 t5.fits w6.was in
+    let made : CertInfoParts = record {
+      qualified_signer = w1.x.0;
+      extra_data = w2.x.0;
+      clock_info = w3.x.0;
+      firmware_version = w4.x.0;
+      name = w5.x.0;
+      qualified_name = w6.x.0;
+    } in
+    let same : made ≡ c = (pair_is w6.gives).0 in
+    let behind : w6.x.1 ≡ rest = (pair_is w6.gives).1 in
+    subst (λ (r : List ℕ). Taken bytes (cert_info_written c) r) behind
+    (subst (λ (m : CertInfoParts). Taken bytes (cert_info_written m) w6.x.1) same
+    (then_taken (then_taken (then_taken (then_taken (then_taken (then_taken t0 t1) t2) t3) t4) t5) t6))
+
+-- nothing follows
+empty_is : (l : List ℕ) → nat_lt 0 (length l) ≡ false → l ≡ []
+empty_is [] e = refl
+empty_is (b ∷ bs) e = absurd (grind (arith, nat_tests, cases_lt))
+
+whole_taken : {X : Type 0} (bytes written : List ℕ) (r : X × List ℕ) (x : X) → whole_only r ≡ Some x
+    → Taken bytes written r.1 → (written ≡ bytes) × (r.0 ≡ x)
+whole_taken bytes written r x e t =
+    let p = stopped_not (nat_lt 0 (length r.1)) r.0 x e in
+    let none = empty_is r.1 p.0 in
+    (sym (append-nil written) ∙ ap (λ (l : List ℕ). written ++ l) (sym none) ∙ t.joined, p.1)
+
+pub cert_info_same : CertInfoIsWrittenBack
+cert_info_same bytes c fits e =
+    let w = went (cert_info_at bytes) _ c e in
+    let t = cert_info_taken bytes w.x.0 w.x.1 fits w.was in
+    let all = whole_taken bytes (cert_info_written w.x.0) w.x c w.gives t in
+    ap cert_info_written (sym all.1) ∙ all.0
+
+-- ---- pubArea
+
+-- a test of a number, and what it chose
+chosen : {X : Type 0} (n k : ℕ) (o other : Option X) (x : X) → (if n == k then o else other) ≡ Some x
+    → ((n ≡ k) × (o ≡ Some x)) ⊎ (other ≡ Some x)
+chosen n k o other x e = by_case (n == k) refl where
+  by_case : (b : Bool) → (n == k) ≡ b → ((n ≡ k) × (o ≡ Some x)) ⊎ (other ≡ Some x)
+  by_case true is = inl (eqb-true n k is, rw is at e)
+  by_case false is = inr (rw is at e)
+
+none_chosen : {X : Type 0} {P : Type 0} (x : X) → ◌≡◌ {A = Option X} None (Some x) → P
+none_chosen x e = absurd cc
+
+hash_of : (n : ℕ) (h : HashAlgorithm) → hash_algorithm_of n ≡ Some h → n ≡ hash_algorithm_id h
+hash_of n h e = elim (chosen n 0x0004 _ _ h e) [
+  | inl p ↦ p.0 ∙ ap hash_algorithm_id (some_is p.1)
+  | inr f ↦ elim (chosen n 0x000B _ _ h f) [
+    | inl p ↦ p.0 ∙ ap hash_algorithm_id (some_is p.1)
+    | inr f ↦ elim (chosen n 0x000C _ _ h f) [
+      | inl p ↦ p.0 ∙ ap hash_algorithm_id (some_is p.1)
+      | inr f ↦ elim (chosen n 0x000D _ _ h f) [
+        | inl p ↦ p.0 ∙ ap hash_algorithm_id (some_is p.1)
+        | inr f ↦ none_chosen h f
+      ]
+    ]
+  ]
+]
+
+curve_is : (n : ℕ) (c : Curve) → curve_of n ≡ Some c → n ≡ curve_id c
+curve_is n c e = elim (chosen n 0x0003 _ _ c e) [
+  | inl p ↦ p.0 ∙ ap curve_id (some_is p.1)
+  | inr f ↦ elim (chosen n 0x0004 _ _ c f) [
+    | inl p ↦ p.0 ∙ ap curve_id (some_is p.1)
+    | inr f ↦ elim (chosen n 0x0005 _ _ c f) [
+      | inl p ↦ p.0 ∙ ap curve_id (some_is p.1)
+      | inr f ↦ none_chosen c f
+    ]
+  ]
+]
+
+hash_taken : (bytes : List ℕ) (h : HashAlgorithm) (rest : List ℕ) → IsBytes bytes → hash_at bytes ≡ Some (h, rest)
+    → Taken bytes (hash_written h) rest
+unfolding hash_at
+hash_taken bytes h rest fits e =
+    let w = went (u16_at bytes) _ (h, rest) e in
+    let t = u16_taken bytes w.x.0 w.x.1 fits w.was in
+    let v = went (hash_algorithm_of w.x.0) _ (h, rest) w.gives in
+    let same : v.x ≡ h = (pair_is v.gives).0 in
+    let behind : w.x.1 ≡ rest = (pair_is v.gives).1 in
+    subst (λ (r : List ℕ). Taken bytes (hash_written h) r) behind
+    (respelled (ap (to_be_bytes w16) (hash_of w.x.0 v.x v.was ∙ ap hash_algorithm_id same)) t)
+
+curve_taken : (bytes : List ℕ) (c : Curve) (rest : List ℕ) → IsBytes bytes → curve_at bytes ≡ Some (c, rest)
+    → Taken bytes (to_be_bytes w16 (curve_id c)) rest
+unfolding curve_at
+curve_taken bytes c rest fits e =
+    let w = went (u16_at bytes) _ (c, rest) e in
+    let t = u16_taken bytes w.x.0 w.x.1 fits w.was in
+    let v = went (curve_of w.x.0) _ (c, rest) w.gives in
+    let same : v.x ≡ c = (pair_is v.gives).0 in
+    let behind : w.x.1 ≡ rest = (pair_is v.gives).1 in
+    subst (λ (r : List ℕ). Taken bytes (to_be_bytes w16 (curve_id c)) r) behind
+    (respelled (ap (to_be_bytes w16) (curve_is w.x.0 v.x v.was ∙ ap curve_id same)) t)
+
+null_taken : (bytes rest : List ℕ) → IsBytes bytes → null_at bytes ≡ Some rest → Taken bytes null_written rest
+unfolding null_at
+null_taken bytes rest fits e =
+    let w = went (u16_at bytes) _ rest e in
+    let t = u16_taken bytes w.x.0 w.x.1 fits w.was in
+    let p = passed (w.x.0 == 0x0010) w.x.1 rest w.gives in
+    subst (λ (r : List ℕ). Taken bytes null_written r) p.1
+    (respelled (ap (to_be_bytes w16) (eqb-true w.x.0 0x0010 p.0)) t)
+
+-- the scheme's identifier, and its hash algorithm
+hashed_taken : {S : Type 0} (bytes : List ℕ) (id n : ℕ) (mid : List ℕ) (make : HashAlgorithm → S) (written : S → List ℕ)
+    → ((h : HashAlgorithm) → written (make h) ≡ to_be_bytes w16 n ++ hash_written h)
+    → Taken bytes (to_be_bytes w16 id) mid → id ≡ n → (s : S) (rest : List ℕ) → hashed make mid ≡ Some (s, rest)
+    → Taken bytes (written s) rest
+hashed_taken bytes id n mid make written spelled t same s rest e =
+    let w = went (hash_at mid) _ (s, rest) e in
+    let u = hash_taken mid w.x.0 w.x.1 t.fits w.was in
+    let made : make w.x.0 ≡ s = (pair_is w.gives).0 in
+    let behind : w.x.1 ≡ rest = (pair_is w.gives).1 in
+    subst (λ (r : List ℕ). Taken bytes (written s) r) behind
+    (respelled (sym (spelled w.x.0) ∙ ap written made) (then_taken (respelled (ap (to_be_bytes w16) same) t) u))
+
+-- the scheme's identifier alone
+alone_taken : {S : Type 0} (bytes : List ℕ) (id n : ℕ) (mid : List ℕ) (this : S) (written : S → List ℕ)
+    → written this ≡ to_be_bytes w16 n → Taken bytes (to_be_bytes w16 id) mid → id ≡ n → (s : S) (rest : List ℕ)
+    → ◌≡◌ {A = Option (S × List ℕ)} (Some (this, mid)) (Some (s, rest)) → Taken bytes (written s) rest
+alone_taken {S = S} bytes id n mid this written spelled t same s rest e =
+    let made : this ≡ s = (pair_is e).0 in
+    let behind : mid ≡ rest = (pair_is e).1 in
+    subst (λ (r : List ℕ). Taken bytes (written s) r) behind
+    (respelled (ap (to_be_bytes w16) same ∙ sym spelled ∙ ap written made) t)
+
+rsa_scheme_taken : (bytes : List ℕ) (s : RsaScheme) (rest : List ℕ) → IsBytes bytes
+    → rsa_scheme_at bytes ≡ Some (s, rest) → Taken bytes (rsa_scheme_written s) rest
+unfolding rsa_scheme_at
+rsa_scheme_taken bytes s rest fits e =
+    let w = went (u16_at bytes) _ (s, rest) e in
+    let t = u16_taken bytes w.x.0 w.x.1 fits w.was in
+    let id = w.x.0 in
+    let mid = w.x.1 in
+    elim (chosen id 0x0010 _ _ (s, rest) w.gives) [
+      | inl p ↦ alone_taken bytes id 0x0010 mid rsa_scheme.Null rsa_scheme_written refl t p.0 s rest p.1
+      | inr f ↦ elim (chosen id 0x0014 _ _ (s, rest) f) [
+        | inl p ↦ hashed_taken bytes id 0x0014 mid rsa_scheme.RsaSsa rsa_scheme_written (λ h. refl) t p.0 s rest p.1
+        | inr f ↦ elim (chosen id 0x0015 _ _ (s, rest) f) [
+          | inl p ↦ alone_taken bytes id 0x0015 mid rsa_scheme.RsaEs rsa_scheme_written refl t p.0 s rest p.1
+          | inr f ↦ elim (chosen id 0x0016 _ _ (s, rest) f) [
+            | inl p ↦ hashed_taken bytes id 0x0016 mid rsa_scheme.RsaPss rsa_scheme_written (λ h. refl) t p.0 s rest p.1
+            | inr f ↦ elim (chosen id 0x0017 _ _ (s, rest) f) [
+              | inl p ↦ hashed_taken bytes id 0x0017 mid rsa_scheme.Oaep rsa_scheme_written (λ h. refl) t p.0 s rest p.1
+              | inr f ↦ none_chosen (s, rest) f
+            ]
+          ]
+        ]
+      ]
+    ]
+
+ecc_scheme_taken : (bytes : List ℕ) (s : EccScheme) (rest : List ℕ) → IsBytes bytes
+    → ecc_scheme_at bytes ≡ Some (s, rest) → Taken bytes (ecc_scheme_written s) rest
+unfolding ecc_scheme_at
+ecc_scheme_taken bytes s rest fits e =
+    let w = went (u16_at bytes) _ (s, rest) e in
+    let t = u16_taken bytes w.x.0 w.x.1 fits w.was in
+    let id = w.x.0 in
+    let mid = w.x.1 in
+    elim (chosen id 0x0010 _ _ (s, rest) w.gives) [
+      | inl p ↦ alone_taken bytes id 0x0010 mid ecc_scheme.Null ecc_scheme_written refl t p.0 s rest p.1
+      | inr f ↦ elim (chosen id 0x0018 _ _ (s, rest) f) [
+        | inl p ↦ hashed_taken bytes id 0x0018 mid ecc_scheme.Ecdsa ecc_scheme_written (λ h. refl) t p.0 s rest p.1
+        | inr f ↦ none_chosen (s, rest) f
+      ]
+    ]
+
+rsa_taken : (bytes : List ℕ) (k : RsaParts) (rest : List ℕ) → IsBytes bytes → rsa_at bytes ≡ Some (k, rest)
+    → Taken bytes (rsa_written k) rest
+unfolding rsa_at
+rsa_taken bytes k rest fits e =
+    let w0 = went (null_at bytes) _ (k, rest) e in
+    let t0 = null_taken bytes w0.x fits w0.was in
+    let w1 = went (rsa_scheme_at w0.x) _ (k, rest) w0.gives in
+    let t1 = rsa_scheme_taken w0.x w1.x.0 w1.x.1 t0.fits w1.was in
+    let w2 = went (u16_at w1.x.1) _ (k, rest) w1.gives in
+    let t2 = u16_taken w1.x.1 w2.x.0 w2.x.1 t1.fits w2.was in
+    let w3 = went (u32_at w2.x.1) _ (k, rest) w2.gives in
+    let t3 = u32_taken w2.x.1 w3.x.0 w3.x.1 t2.fits w3.was in
+    let w4 = went (sized_at w3.x.1) _ (k, rest) w3.gives in
+    let t4 = sized_taken w3.x.1 w4.x.0 w4.x.1 t3.fits w4.was in
+    let made : RsaParts = record { scheme = w1.x.0; key_bits = w2.x.0; exponent = w3.x.0; modulus = w4.x.0 } in
+    let same : made ≡ k = (pair_is w4.gives).0 in
+    let behind : w4.x.1 ≡ rest = (pair_is w4.gives).1 in
+    subst (λ (r : List ℕ). Taken bytes (rsa_written k) r) behind
+    (subst (λ (m : RsaParts). Taken bytes (rsa_written m) w4.x.1) same
+    (then_taken (then_taken (then_taken (then_taken t0 t1) t2) t3) t4))
+
+ecc_taken : (bytes : List ℕ) (k : EccParts) (rest : List ℕ) → IsBytes bytes → ecc_at bytes ≡ Some (k, rest)
+    → Taken bytes (ecc_written k) rest
+unfolding ecc_at
+ecc_taken bytes k rest fits e =
+    let w0 = went (null_at bytes) _ (k, rest) e in
+    let t0 = null_taken bytes w0.x fits w0.was in
+    let w1 = went (ecc_scheme_at w0.x) _ (k, rest) w0.gives in
+    let t1 = ecc_scheme_taken w0.x w1.x.0 w1.x.1 t0.fits w1.was in
+    let w2 = went (curve_at w1.x.1) _ (k, rest) w1.gives in
+    let t2 = curve_taken w1.x.1 w2.x.0 w2.x.1 t1.fits w2.was in
+    let w3 = went (null_at w2.x.1) _ (k, rest) w2.gives in
+    let t3 = null_taken w2.x.1 w3.x t2.fits w3.was in
+    let w4 = went (sized_at w3.x) _ (k, rest) w3.gives in
+    let t4 = sized_taken w3.x w4.x.0 w4.x.1 t3.fits w4.was in
+    let w5 = went (sized_at w4.x.1) _ (k, rest) w4.gives in
+    let t5 = sized_taken w4.x.1 w5.x.0 w5.x.1 t4.fits w5.was in
+    let made : EccParts = record { scheme = w1.x.0; curve = w2.x.0; x = w4.x.0; y = w5.x.0 } in
+    let same : made ≡ k = (pair_is w5.gives).0 in
+    let behind : w5.x.1 ≡ rest = (pair_is w5.gives).1 in
+    subst (λ (r : List ℕ). Taken bytes (ecc_written k) r) behind
+    (subst (λ (m : EccParts). Taken bytes (ecc_written m) w5.x.1) same
+    (then_taken (then_taken (then_taken (then_taken (then_taken t0 t1) t2) t3) t4) t5))
+
+-- the key of a type, with the type
+record KeyTaken (bytes : List ℕ) (type : ℕ) (k : KeyParts) (rest : List ℕ) : Type 0 where
+  taken : Taken bytes (key_written k) rest
+  type_is : type ≡ key_type k
+
+key_taken : (type : ℕ) (bytes : List ℕ) (k : KeyParts) (rest : List ℕ) → IsBytes bytes
+    → key_at type bytes ≡ Some (k, rest) → KeyTaken bytes type k rest
+key_taken type bytes k rest fits e = elim (chosen type 0x0001 _ _ (k, rest) e) [
+  | inl p ↦
+      let w = went (rsa_at bytes) _ (k, rest) p.1 in
+      let t = rsa_taken bytes w.x.0 w.x.1 fits w.was in
+      let made : rsa w.x.0 ≡ k = (pair_is w.gives).0 in
+      let behind : w.x.1 ≡ rest = (pair_is w.gives).1 in record {
+        taken = subst (λ (r : List ℕ). Taken bytes (key_written k) r) behind (respelled (ap key_written made) t);
+        type_is = p.0 ∙ ap key_type made;
+      }
+  | inr f ↦ elim (chosen type 0x0023 _ _ (k, rest) f) [
+    | inl p ↦
+        let w = went (ecc_at bytes) _ (k, rest) p.1 in
+        let t = ecc_taken bytes w.x.0 w.x.1 fits w.was in
+        let made : ecc w.x.0 ≡ k = (pair_is w.gives).0 in
+        let behind : w.x.1 ≡ rest = (pair_is w.gives).1 in record {
+          taken = subst (λ (r : List ℕ). Taken bytes (key_written k) r) behind (respelled (ap key_written made) t);
+          type_is = p.0 ∙ ap key_type made;
+        }
+    | inr f ↦ none_chosen (k, rest) f
+  ]
+]
+
+pub_area_taken : (bytes : List ℕ) (a : PubAreaParts) (rest : List ℕ) → IsBytes bytes
+    → pub_area_at bytes ≡ Some (a, rest) → Taken bytes (pub_area_written a) rest
+unfolding pub_area_at
+pub_area_taken bytes a rest fits e =
+    let w0 = went (u16_at bytes) _ (a, rest) e in
+    let t0 = u16_taken bytes w0.x.0 w0.x.1 fits w0.was in
+    let w1 = went (hash_at w0.x.1) _ (a, rest) w0.gives in
+    let t1 = hash_taken w0.x.1 w1.x.0 w1.x.1 t0.fits w1.was in
+    let w2 = went (u32_at w1.x.1) _ (a, rest) w1.gives in
+    let t2 = u32_taken w1.x.1 w2.x.0 w2.x.1 t1.fits w2.was in
+    let w3 = went (sized_at w2.x.1) _ (a, rest) w2.gives in
+    let t3 = sized_taken w2.x.1 w3.x.0 w3.x.1 t2.fits w3.was in
+    let w4 = went (key_at w0.x.0 w3.x.1) _ (a, rest) w3.gives in
+    let t4 = key_taken w0.x.0 w3.x.1 w4.x.0 w4.x.1 t3.fits w4.was in
+    let made : PubAreaParts =
+    record { name_alg = w1.x.0; object_attributes = w2.x.0; auth_policy = w3.x.0; key = w4.x.0 } in
+    let same : made ≡ a = (pair_is w4.gives).0 in
+    let behind : w4.x.1 ≡ rest = (pair_is w4.gives).1 in
+    subst (λ (r : List ℕ). Taken bytes (pub_area_written a) r) behind
+    (subst (λ (m : PubAreaParts). Taken bytes (pub_area_written m) w4.x.1) same
+    (then_taken (then_taken (then_taken (then_taken (respelled (ap (to_be_bytes w16) t4.type_is) t0) t1) t2) t3)
+    t4.taken))
+
+pub pub_area_same : PubAreaIsWrittenBack
+pub_area_same bytes a fits e =
+    let w = went (pub_area_at bytes) _ a e in
+    let t = pub_area_taken bytes w.x.0 w.x.1 fits w.was in
+    let all = whole_taken bytes (pub_area_written w.x.0) w.x a w.gives t in
+    ap pub_area_written (sym all.1) ∙ all.0

@@ -1,0 +1,6 @@
+pub mod Parts
+pub mod HashAlgorithm
+pub mod CertInfo
+pub mod Scheme
+pub mod PubArea
+pub mod Laws

@@ -1,0 +1,19 @@
+//! The two TPM structures of a tpm attestation statement, which are no CBOR (WebAuthn Level 3,
+//! section 8.3; TPM 2.0 Library, Part 2). Decoding lends the bytes and allocates nothing.
+#![tactic(auto)]
+
+mod cert_info;
+mod encode_error;
+mod hash_algorithm;
+pub mod laws;
+mod part;
+mod pub_area;
+mod public_key;
+mod scheme;
+
+pub use cert_info::{CertInfo, ClockInfo};
+pub use encode_error::EncodeError;
+pub use hash_algorithm::HashAlgorithm;
+pub use pub_area::PubArea;
+pub use public_key::{Curve, EccKey, PublicKey, RsaKey};
+pub use scheme::{EccScheme, RsaScheme};
