@@ -1,6 +1,8 @@
 /* looks: answers requests from standard input, one a line, for tools/test-c: each over a buffer of exactly the input's length.
 
-   len HEX, canonical HEX, item OFFSET HEX, member OFFSET KEY HEX, named OFFSET NAME-IN-HEX HEX, auth HEX. `-` is no bytes. */
+   len HEX, canonical HEX, item OFFSET HEX, member OFFSET KEY HEX, named OFFSET NAME-IN-HEX HEX, auth HEX, rewrite KIND ROOM HEX.
+   `-` is no bytes. An answer to `rewrite` is the status, the length and, in hexadecimal, the output if the status is 0 and else
+   whether the output is as it was. */
 #include <inttypes.h>
 #include <stdio.h>
 #include <stdlib.h>
@@ -32,6 +34,22 @@ static void print_item(puffgrit_bool found, const puffgrit_item *i) {
     printf("%d %" PRIu64 " %zu %zu %zu %" PRIu32 "\n", found, i->number, i->from, i->content, i->end, i->kind);
 }
 
+/* Rewrites into an output of exactly so many bytes. */
+static void rewrite(uint32_t kind, size_t room, buffer input) {
+    uint8_t *out = malloc(room ? room : 1);
+    size_t len = 77, k, same = 1;
+    uint32_t status;
+    if (!out) exit(2);
+    memset(out, 0xa5, room);
+    status = puffgrit_rewrite(kind, input.bytes, input.len, out, room, &len);
+    printf("%" PRIu32 " %zu ", status, len);
+    for (k = status == PUFFGRIT_OK ? len : 0; k < room; k++) same &= out[k] == 0xa5;
+    if (status == PUFFGRIT_OK && len <= room)
+        for (k = 0; k < len; k++) printf("%02x", out[k]);
+    printf(same ? "\n" : "changed\n");
+    free(out);
+}
+
 int main(void) {
     static char call[16], first[1 << 16], second[1 << 16], third[1 << 16];
     static char line[3 << 16];
@@ -56,6 +74,7 @@ int main(void) {
             printf("%d %zu %zu %zu %zu %zu %zu %" PRIu32 " %" PRIu32 "\n", found, parts.aaguid, parts.credential_id, parts.credential_id_len,
                 parts.public_key, parts.extensions, parts.end, parts.counter, parts.flags);
         }
+        if (!strcmp(call, "rewrite")) rewrite((uint32_t)offset, (size_t)strtoull(second, 0, 10), input);
         free(input.bytes);
     }
     return 0;

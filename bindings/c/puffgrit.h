@@ -1,12 +1,15 @@
-/* puffgrit.h: data items of CBOR and authenticator data of WebAuthn, looked at in place by proved code. Made by tools/header.
+/* puffgrit.h: messages of CTAP2 and WebAuthn, decoded, checked and encoded again, and data items of CBOR and authenticator data,
+   looked at in place, by proved code. Made by tools/header.
 
    - THE POINTER OF A BUFFER MUST NOT BE NULL, even for no bytes. A buffer has at most SSIZE_MAX bytes, no other thread writes it
      during a call, and no output overlaps it or another output.
-   - No call has a state, allocates, calls back, aborts, or loops without end, and nothing is to be freed. Calls may be made from
-     any thread and from a signal handler. The library calls no function of C.
+   - No call has a state, calls back, aborts, or loops without end, and nothing is to be freed. Calls may be made from any thread.
+   - puffgrit_rewrite alone allocates, by rattle_alloc, rattle_realloc and rattle_dealloc, which stand for malloc, realloc and free in
+     the library; a program with functions of these names has its own. The other calls call no function of C, and may be made from
+     a signal handler.
    - A call that finds nothing returns false, and leaves its output as it was.
-   - A call looks at whole data items: it takes as long as puffgrit_item_len of what it looks at. No proof covers the stack: over
-     256 levels puffgrit_is_canonical takes up to 56 KiB, and the others 8. */
+   - A call that looks at a data item looks at all of it: it takes as long as puffgrit_item_len. No proof covers the stack: over 256
+     levels puffgrit_rewrite takes up to 192 KiB, puffgrit_is_canonical 56, and the others 8. */
 #ifndef PUFFGRIT_H
 #define PUFFGRIT_H
 
@@ -42,6 +45,41 @@ typedef unsigned char puffgrit_bool; /* 0 or 1 */
 
 /* The number of a string, an array or a map of indefinite length. */
 #define PUFFGRIT_INDEFINITE UINT64_MAX
+
+/* The kinds of puffgrit_rewrite. */
+#define PUFFGRIT_KIND_CBOR 1u
+#define PUFFGRIT_KIND_AUTH 2u
+#define PUFFGRIT_KIND_MC_REQUEST 3u
+#define PUFFGRIT_KIND_MC_RESPONSE 4u
+#define PUFFGRIT_KIND_GA_REQUEST 5u
+#define PUFFGRIT_KIND_GA_RESPONSE 6u
+#define PUFFGRIT_KIND_INFO 7u
+#define PUFFGRIT_KIND_HMAC_INPUT 8u
+#define PUFFGRIT_KIND_CREATION 9u
+#define PUFFGRIT_KIND_REQUEST 10u
+#define PUFFGRIT_KIND_CREATED 11u
+#define PUFFGRIT_KIND_AUTHENTICATED 12u
+#define PUFFGRIT_KIND_CLIENT_DATA 13u
+
+/* The statuses of puffgrit_rewrite. A fault's status is in the first byte, and the number of its member in the second. */
+#define PUFFGRIT_OK 0u
+#define PUFFGRIT_TOO_SHORT 1u
+#define PUFFGRIT_OUT_OF_MEMORY 2u
+#define PUFFGRIT_UNKNOWN_KIND 3u
+#define PUFFGRIT_FAULT_DECODE_FAILED 16u
+#define PUFFGRIT_FAULT_NOT_A_MAP 17u
+#define PUFFGRIT_FAULT_NOT_AN_OBJECT 17u
+#define PUFFGRIT_FAULT_BAD_KEY 18u
+#define PUFFGRIT_FAULT_REPEATED 19u
+#define PUFFGRIT_FAULT_REFUSED 20u
+#define PUFFGRIT_FAULT_MISSING 21u
+#define PUFFGRIT_FAULT_OUT_OF_RANGE_INTEGER_VALUE 22u
+#define PUFFGRIT_FAULT_DUPLICATE_MAP_KEY 23u
+#define PUFFGRIT_FAULT_UNEXPECTED_ITEM 24u
+#define PUFFGRIT_FAULT_FLOAT 25u
+#define PUFFGRIT_FAULT_BAD_JSON 26u
+#define PUFFGRIT_STATUS_OF(returned) ((returned) & 255u)
+#define PUFFGRIT_MEMBER_OF(returned) ((returned) >> 8)
 
 /* A data item in bytes (RFC 8949, section 3). */
 typedef struct {
@@ -80,6 +118,16 @@ typedef struct {
     /* The flags: UP 1, UV 4, BE 8, BS 16, AT 64, ED 128. */
     uint32_t flags;
 } puffgrit_auth_data;
+
+/* Decodes the input as this kind, encodes the result again, in CTAP2's canonical form or as compact JSON, and writes it
+   to the beginning of out and its length to len. Bytes behind a data item, a message or authenticator data are ignored.
+   Returns PUFFGRIT_OK then; PUFFGRIT_TOO_SHORT, with the length that is needed in len, if the output has fewer bytes;
+   PUFFGRIT_OUT_OF_MEMORY if an allocation fails; PUFFGRIT_UNKNOWN_KIND; or why the input is rejected: its first fault,
+   from PUFFGRIT_FAULT_DECODE_FAILED on, and in the second byte the number of the member that it is about
+   (PUFFGRIT_MEMBER_OF). out stays as it was but for PUFFGRIT_OK, and so does len but for PUFFGRIT_OK and
+   PUFFGRIT_TOO_SHORT. All memory that was allocated is freed. (CTAP 2.1, sections 6 and 8; WebAuthn Level 3, sections 5
+   and 6.1.) */
+uint32_t puffgrit_rewrite(uint32_t kind, const uint8_t *input, size_t input_len, uint8_t *out, size_t out_len, size_t *len);
 
 /* The version of this interface: 1. A call or a struct that changes raises it. */
 uint32_t puffgrit_version(void);

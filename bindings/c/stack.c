@@ -1,5 +1,5 @@
-/* stack: prints how many bytes of stack calls take over 256 levels, more than over a number: puffgrit_is_canonical (check), and the
-   others (look). */
+/* stack: prints how many bytes of stack calls take over 256 levels, more than over a number: puffgrit_is_canonical (check),
+   puffgrit_rewrite (rewrite), and the others (look). */
 #define _POSIX_C_SOURCE 200809L
 #include <pthread.h>
 #include <stdio.h>
@@ -9,7 +9,7 @@
 
 enum { ROOM = 1 << 20, MARK = 0xa5, LEVELS = 256 };
 
-static uint8_t input[2 * LEVELS + 1], room[ROOM];
+static uint8_t input[2 * LEVELS + 1], output[2 * LEVELS + 1], room[ROOM];
 static size_t input_len;
 
 static void *look(void *unused) {
@@ -27,6 +27,13 @@ static void *look(void *unused) {
 static void *check(void *unused) {
     (void)unused;
     (void)puffgrit_is_canonical(input, input_len);
+    return 0;
+}
+
+static void *again(void *unused) {
+    size_t len;
+    (void)unused;
+    (void)puffgrit_rewrite(PUFFGRIT_KIND_CBOR, input, input_len, output, sizeof output, &len);
     return 0;
 }
 
@@ -49,15 +56,17 @@ static void print_more(const char *calls, const char *what, size_t taken, size_t
 }
 
 static void over(const char *what, const uint8_t *level, size_t len) {
-    size_t k, look_alone, check_alone;
+    size_t k, look_alone, check_alone, again_alone;
     input_len = 1;
     look_alone = used(look);
     check_alone = used(check);
+    again_alone = used(again);
     for (k = 0; k < LEVELS; k++) memcpy(input + k * len, level, len);
     input_len = LEVELS * len + 1;
     input[input_len - 1] = 0;
     print_more("look", what, used(look), look_alone);
     print_more("check", what, used(check), check_alone);
+    print_more("rewrite", what, used(again), again_alone);
 }
 
 int main(void) {

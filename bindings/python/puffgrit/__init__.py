@@ -1,4 +1,5 @@
-"""CBOR data items (RFC 8949) and authenticator data (WebAuthn Level 3, section 6.1), looked at in place by proved code.
+"""Messages of CTAP2 and WebAuthn, decoded, checked and encoded again, and CBOR data items (RFC 8949) and authenticator data
+(WebAuthn Level 3, section 6.1), looked at in place, by proved code.
 
 The library is libpuffgrit.so beside this file, or the one that the environment variable PUFFGRIT_LIBRARY names. A call lets other
 threads run, so its bytes have to be `bytes`, which no thread can change.
@@ -12,10 +13,29 @@ from dataclasses import dataclass
 from pathlib import Path
 from typing import Iterator
 
-__all__ = ["AuthData", "Item", "auth_parts", "elements", "is_canonical", "item_at", "item_len", "member", "version"]
+__all__ = ["KINDS", "AuthData", "Fault", "Item", "auth_parts", "elements", "is_canonical", "item_at", "item_len", "member", "rewrite", "version"]
 
 UNSIGNED, NEGATIVE, BYTES, TEXT, ARRAY, MAP, TAG, SIMPLE, FLOAT = range(9)
 INDEFINITE = 2**64 - 1
+
+#: The kinds of `rewrite`: of bytes, and from `creation` on of JSON texts.
+KINDS = (
+    "cbor auth mc-request mc-response ga-request ga-response info hmac-input creation request created authenticated client-data"
+).split()
+
+_FAULTS = {
+    16: "DecodeFailed",
+    17: "NotAMap",
+    18: "BadKey",
+    19: "Repeated",
+    20: "Refused",
+    21: "Missing",
+    22: "OutOfRangeIntegerValue",
+    23: "DuplicateMapKey",
+    24: "UnexpectedItem",
+    25: "Float",
+    26: "BadJson",
+}
 
 
 class _Item(ctypes.Structure):
@@ -41,6 +61,7 @@ def _load() -> ctypes.CDLL:
         ("member", ctypes.c_bool, [*_BUFFER, ctypes.c_size_t, ctypes.c_int64, item]),
         ("named", ctypes.c_bool, [*_BUFFER, ctypes.c_size_t, *_BUFFER, item]),
         ("auth_parts", ctypes.c_bool, [*_BUFFER, ctypes.POINTER(_AuthData)]),
+        ("rewrite", ctypes.c_uint32, [ctypes.c_uint32, *_BUFFER, ctypes.c_char_p, ctypes.c_size_t, ctypes.POINTER(ctypes.c_size_t)]),
     ]:
         call = getattr(library, f"puffgrit_{name}")
         call.restype, call.argtypes = result, arguments
@@ -54,6 +75,17 @@ def _checked(data: bytes) -> bytes:
     if not isinstance(data, bytes):
         raise TypeError(f"bytes are wanted, not {type(data).__name__}")
     return data
+
+
+class Fault(ValueError):
+    """Why an input is rejected: its first fault (docs/FAULTS.md)."""
+
+    def __init__(self, name: str, member: int | None):
+        super().__init__(name if member is None else f"{name}({member})")
+        #: The fault's name, as `Refused`; `NotAMap` of a JSON value that is no object.
+        self.name = name
+        #: The number of the message's member that it is about.
+        self.member = member
 
 
 @dataclass(frozen=True)
@@ -174,3 +206,26 @@ def auth_parts(data: bytes) -> AuthData | None:
         extensions=item_at(data, it.extensions) if it.extensions else None,
         end=it.end,
     )
+
+
+def rewrite(kind: str, data: bytes) -> bytes:
+    """Decodes the data as the kind (one of `KINDS`), and returns its encoding: CTAP2's canonical form, or compact JSON.
+
+    Raises `Fault` if the kind rejects the data, and `MemoryError`. Bytes behind a data item, a message or authenticator data are
+    ignored.
+    """
+    if kind not in KINDS:
+        raise ValueError(f"no kind {kind!r}")
+    number, room, length = KINDS.index(kind) + 1, len(_checked(data)) + 256, ctypes.c_size_t()
+    while True:
+        out = ctypes.create_string_buffer(room)
+        status = _library.puffgrit_rewrite(number, data, len(data), out, room, ctypes.byref(length))
+        if status != 1:
+            break
+        room = length.value
+    if status == 0:
+        return out.raw[: length.value]
+    if status == 2:
+        raise MemoryError("puffgrit_rewrite")
+    fault = status & 255
+    raise Fault(_FAULTS[fault], status >> 8 if fault in (19, 20, 21) and number < 9 else None)

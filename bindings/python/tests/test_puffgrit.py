@@ -40,6 +40,20 @@ class Puffgrit(unittest.TestCase):
         self.assertEqual(parts.public_key.get(1).integer, 2)
         self.assertIsNone(puffgrit.auth_parts(data[:-2]))
 
+    def test_rewriting(self):
+        # RFC 8949, section 8, and a required member that is absent; the JSON of WebAuthn Level 3, section 5.1
+        self.assertEqual(puffgrit.rewrite("cbor", bytes.fromhex("9f1801ff")), bytes.fromhex("8101"))
+        self.assertEqual(
+            puffgrit.rewrite("request", b'{"publicKey":{"challenge":"AQ=="}}'),
+            b'{"publicKey":{"attestation":"none","challenge":"AQ","userVerification":"preferred"}}',
+        )
+        for kind, data, name, number in [("ga-request", b"\xa0", "Missing", 1), ("info", b"\x80", "NotAMap", None), ("creation", b"{", "BadJson", None)]:
+            with self.assertRaises(puffgrit.Fault) as caught:
+                puffgrit.rewrite(kind, data)
+            self.assertEqual((caught.exception.name, caught.exception.member), (name, number))
+        with self.assertRaises(ValueError):
+            puffgrit.rewrite("key", b"")
+
     def test_arguments(self):
         with self.assertRaises(TypeError):
             puffgrit.item_len(bytearray(b"\x00"))

@@ -1,5 +1,6 @@
-//! CBOR data items (RFC 8949) and authenticator data (WebAuthn Level 3, section 6.1), looked at in
-//! place by proved code, without memory.
+//! Messages of CTAP2 and WebAuthn, decoded, checked and encoded again, and CBOR data items (RFC 8949)
+//! and authenticator data (WebAuthn Level 3, section 6.1), looked at in place, by proved code.
+//! `rewrite` alone allocates, and frees what it allocated.
 #![no_std]
 
 use core::mem::MaybeUninit;
@@ -42,6 +43,38 @@ extern "C" {
     fn puffgrit_member(bytes: *const u8, len: usize, map: usize, key: i64, value: *mut Item) -> bool;
     fn puffgrit_named(bytes: *const u8, len: usize, map: usize, name: *const u8, name_len: usize, value: *mut Item) -> bool;
     fn puffgrit_auth_parts(bytes: *const u8, len: usize, parts: *mut AuthData) -> bool;
+    fn puffgrit_rewrite(kind: u32, input: *const u8, input_len: usize, out: *mut u8, out_len: usize, len: *mut usize) -> u32;
+}
+
+/// What `rewrite` decodes: bytes, and from `Creation` on JSON texts.
+#[repr(u32)]
+#[derive(Clone, Copy, Debug, PartialEq, Eq)]
+pub enum Kind {
+    Cbor = 1,
+    Auth,
+    MakeCredentialRequest,
+    MakeCredentialResponse,
+    GetAssertionRequest,
+    GetAssertionResponse,
+    Info,
+    HmacInput,
+    Creation,
+    Request,
+    Created,
+    Authenticated,
+    ClientData,
+}
+
+/// Why `rewrite` wrote nothing.
+#[derive(Clone, Copy, Debug, PartialEq, Eq)]
+pub enum Error {
+    /// The encoding has this many bytes, for which the output is too short.
+    TooShort(usize),
+    /// An allocation failed.
+    OutOfMemory,
+    /// The input is rejected: the status of its first fault in puffgrit.h (`PUFFGRIT_FAULT_..`), and
+    /// the number of the member that it is about, or 0.
+    Rejected { fault: u8, member: u8 },
 }
 
 /// A key of a map: an integer or a text.
@@ -98,6 +131,21 @@ pub fn auth_parts(bytes: &[u8]) -> Option<AuthData> {
     written(|parts| unsafe { puffgrit_auth_parts(bytes.as_ptr(), bytes.len(), parts) })
 }
 
+/// Decodes the input as the kind, and writes its encoding to the beginning of the output: CTAP2's
+/// canonical form (CTAP 2.1, section 8), or compact JSON. Returns the encoding's length. Bytes behind
+/// a data item, a message or authenticator data are ignored.
+pub fn rewrite(kind: Kind, input: &[u8], out: &mut [u8]) -> Result<usize, Error> {
+    let mut len = 0;
+    // SAFETY: as above, and no output overlaps another buffer.
+    let status = unsafe { puffgrit_rewrite(kind as u32, input.as_ptr(), input.len(), out.as_mut_ptr(), out.len(), &mut len) };
+    match status {
+        0 => Ok(len),
+        1 => Err(Error::TooShort(len)),
+        2 => Err(Error::OutOfMemory),
+        _ => Err(Error::Rejected { fault: status as u8, member: (status >> 8) as u8 }),
+    }
+}
+
 #[cfg(test)]
 mod tests {
     use super::*;
@@ -111,6 +159,16 @@ mod tests {
         assert_eq!(member(&[0xa1, 0x20, 0x05], 0, Key::Number(-1)).map(|it| it.number), Some(5));
         assert_eq!(member(&[0xa1, 0x61, 0x61, 0x05], 0, Key::Name("a")).map(|it| it.from), Some(3));
         assert_eq!(member(&[0xa0], 0, Key::Name("a")), None);
+    }
+
+    #[test]
+    fn rewrites() {
+        let mut out = [0; 16];
+        assert_eq!(rewrite(Kind::Cbor, &[0x9f, 0x18, 0x01, 0xff], &mut out), Ok(2));
+        assert_eq!(out[..3], [0x81, 0x01, 0x00]);
+        assert_eq!(rewrite(Kind::Cbor, &[0x81, 0x01], &mut out[..1]), Err(Error::TooShort(2)));
+        assert_eq!(rewrite(Kind::GetAssertionRequest, &[0xa0], &mut out), Err(Error::Rejected { fault: 21, member: 1 }));
+        assert_eq!(rewrite(Kind::Request, b"{", &mut out), Err(Error::Rejected { fault: 26, member: 0 }));
     }
 
     #[test]

@@ -1,2 +1,5 @@
 pub mod AuthData
 pub mod Items
+pub mod Forms
+pub mod Statuses
+pub mod Rewriting

@@ -6,4 +6,5 @@ mod rewrite_bytes;
 mod rewriting;
 
 pub use passkey_run::{BytesKind, JsonKind, Kind, RunFault};
+pub use rewrite_bytes::rewrite_raw;
 pub use rewriting::rewrite;

@@ -6,7 +6,10 @@ use passkey_extensions::HmacGetSecretInput;
 use passkey_run::{BytesKind, RunFault, decode_hex, rewrite_data, rewrite_item, rewrite_message};
 use std::alloc::Global;
 
-fn rewrite(alloc: Global, kind: BytesKind, bytes: &[u8]) -> Result<Vec<u8>, RunFault>
+/// Decodes the bytes as the kind and encodes the result. Bytes behind it are ignored. If the kind
+/// rejects the bytes, returns `MessageRefused` for a message and else `Refused`. Returns
+/// `OutOfMemory` if an allocation fails.
+pub fn rewrite_raw(alloc: Global, kind: BytesKind, bytes: &[u8]) -> Result<Vec<u8>, RunFault>
     ensures ok { IfOk result (λ encoding. Rewrites kind bytes.now encoding.items) }
     ensures err { IfErr result (IsRefusal kind bytes.now) }
 {
@@ -33,6 +36,6 @@ pub fn rewrite_hex(alloc: Global, kind: BytesKind, input: &[u8]) -> Result<Strin
     ensures err { IfErr result (HasNoHex kind input.now) }
 {
     let bytes = decode_hex(alloc, input)?;
-    let encoding = rewrite(alloc, kind, bytes.as_slice())?;
+    let encoding = rewrite_raw(alloc, kind, bytes.as_slice())?;
     Ok(hex::encode(alloc, encoding.as_slice())?)
 }

@@ -6,7 +6,7 @@ use Rattle.passkey_get_info.specs.GetInfo.{read_get_info}
 use Rattle.passkey_make_credential.specs.MakeRequest.{read_make_request}
 use Rattle.passkey_make_credential.specs.MakeResponse.{read_make_response}
 use Rattle.passkey_rewrite.proofs.Refusing.{item_refused, data_refused, message_refused}
-use Rattle.passkey_rewrite.proofs.rewrite_bytes.rewrite.Goals as goal
+use Rattle.passkey_rewrite.proofs.rewrite_bytes.rewrite_raw.Goals as goal
 use Rattle.passkey_rewrite.specs.Rewriting.{IsRefusal, RefusesAs, Rewrites}
 use Rattle.passkey_run.specs.declared.kind.BytesKind.{BytesKind}
 use Rattle.passkey_run.specs.declared.kind.BytesKind.TheVariants.{MakeRequest, MakeResponse, GetRequest, GetResponse, Info, HmacInput}

@@ -1,0 +1,73 @@
+//! The statuses of calls that decode.
+ghost use Rattle.std.specs.Prelude.{◌≡◌, ◌+◌, ◌*◌, ◌<◌};
+ghost use Rattle.passkey_c.specs.Statuses.{data_status, json_status, message_status, status_of};
+
+use passkey_cose::CoseError;
+use passkey_json::JsonFault;
+use passkey_kinds::Fault;
+use passkey_run::RunFault;
+
+/// Returns the status of a fault at the member with this number.
+fn at_member(status: u32, number: u8) -> u32
+    requires { status < 256 }
+    ensures { result ≡ status + 256 * number }
+{
+    status + 256 * u32::from(number)
+}
+
+/// Returns the status of a message's fault.
+fn message_status(fault: Fault) -> u32
+    ensures { result ≡ message_status fault }
+{
+    match fault {
+        Fault::OutOfMemory => 2,
+        Fault::DecodeFailed => 16,
+        Fault::NotAMap => 17,
+        Fault::BadKey => 18,
+        Fault::Repeated(number) => at_member(19, number),
+        Fault::Refused(number) => at_member(20, number),
+        Fault::Missing(number) => at_member(21, number),
+    }
+}
+
+/// Returns the status of the fault of a data item or of authenticator data.
+fn data_status(error: CoseError) -> u32
+    ensures { result ≡ data_status error }
+{
+    match error {
+        CoseError::OutOfMemory => 2,
+        CoseError::DecodeFailed => 16,
+        CoseError::OutOfRangeIntegerValue => 22,
+        CoseError::DuplicateMapKey => 23,
+        CoseError::UnexpectedItem => 24,
+    }
+}
+
+/// Returns the status of the fault of a JSON value.
+fn json_status(fault: JsonFault) -> u32
+    ensures { result ≡ json_status fault }
+{
+    match fault {
+        JsonFault::OutOfMemory => 2,
+        JsonFault::NotAnObject => 17,
+        JsonFault::Repeated(_) => 19,
+        JsonFault::Refused(_) => 20,
+        JsonFault::Missing(_) => 21,
+        JsonFault::Float(_) => 25,
+    }
+}
+
+/// Returns the status of a fault.
+pub(crate) fn status_of(fault: RunFault) -> u32
+    ensures { result ≡ status_of fault }
+{
+    match fault {
+        RunFault::Refused(error) => data_status(error),
+        RunFault::MessageRefused(fault) => message_status(fault),
+        RunFault::JsonRefused(fault) => json_status(fault),
+        RunFault::BadJson => 26,
+        RunFault::OutOfMemory => 2,
+        RunFault::BadHex | RunFault::UnknownKind | RunFault::InputFailed | RunFault::OutputFailed =>
+            27,
+    }
+}
