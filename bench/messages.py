@@ -1,7 +1,8 @@
-"""messages.py PROGRAM FOLDER INPUTS counts the instructions that decoding a message takes, and decoding and encoding it; and what
-the calls over whole data items take, of the same messages and of the array INPUTS/credentials.
+"""messages.py PROGRAM FOLDER INPUTS counts the instructions that decoding a message takes, and decoding and encoding it; what the
+calls over whole data items take, of the same messages and of the array INPUTS/credentials; and what decoding and encoding JSON texts
+takes.
 
-FOLDER has the messages in hexadecimal. Counted are the instructions of valgrind's cachegrind outside the kernel."""
+FOLDER has the messages in hexadecimal, and the JSON texts. Counted are the instructions of valgrind's cachegrind outside the kernel."""
 import subprocess
 import sys
 import tempfile
@@ -10,6 +11,14 @@ from pathlib import Path
 from measure import instructions_a_round
 
 KINDS = [("info", "authenticatorGetInfo response"), ("mc-response", "authenticatorMakeCredential response"), ("ga-request", "authenticatorGetAssertion request")]
+
+TEXTS = [
+    ("creation", "options of a registration"),
+    ("request", "options of a sign-in"),
+    ("created", "credential of a registration"),
+    ("authenticated", "credential of a sign-in"),
+    ("client-data", "client data"),
+]
 
 
 def message_row(program, kind, name, message, file):
@@ -40,6 +49,10 @@ def main():
         print("\n| item | bytes | `item_len` | `from_slice` | `to_vec` |\n|---|---:|---:|---:|---:|")
         for item in items:
             print(item_row(program, *item), flush=True)
+    print("\n| JSON text | bytes | decode and encode |\n|---|---:|---:|")
+    for kind, name in TEXTS:
+        file = folder / f"{kind}.json"
+        print(f"| {name} | {file.stat().st_size:,} | {instructions_a_round(program, kind, file):,} |", flush=True)
 
 
 if __name__ == "__main__":

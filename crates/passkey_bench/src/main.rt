@@ -5,6 +5,8 @@
 
 use anyhow::{Result, bail};
 use passkey_cbor::{Cursor, Value, item_len};
+use passkey_rewrite_json::rewrite_json;
+use passkey_run::JsonKind;
 use passkey_types::ctap2::{Message, get_assertion, get_info, make_credential};
 use std::alloc::Global;
 use std::env;
@@ -28,6 +30,7 @@ enum Call {
     Decode(Kind),
     DecodeAndEncode(Kind),
     Count(Kind),
+    Json(JsonKind),
 }
 
 fn call_named(name: &str) -> Option<Call> {
@@ -44,6 +47,11 @@ fn call_named(name: &str) -> Option<Call> {
         "rewrite-info" => Some(Call::DecodeAndEncode(Kind::Info)),
         "rewrite-mc-response" => Some(Call::DecodeAndEncode(Kind::MakeResponse)),
         "rewrite-ga-request" => Some(Call::DecodeAndEncode(Kind::GetRequest)),
+        "creation" => Some(Call::Json(JsonKind::Creation)),
+        "request" => Some(Call::Json(JsonKind::Request)),
+        "created" => Some(Call::Json(JsonKind::Created)),
+        "authenticated" => Some(Call::Json(JsonKind::Authenticated)),
+        "client-data" => Some(Call::Json(JsonKind::ClientData)),
         _ => None,
     }
 }
@@ -102,6 +110,10 @@ fn len_found(alloc: Global, call: Call, bytes: &[u8]) -> usize {
         Call::DecodeAndEncode(Kind::GetRequest) => {
             rewritten::<get_assertion::Request>(alloc, bytes)
         }
+        Call::Json(kind) => match rewrite_json(alloc, kind, bytes) {
+            Ok(_) => bytes.len(),
+            Err(_) => 0,
+        },
         Call::Count(_) => 0,
     }
 }
