@@ -20,8 +20,8 @@ ghost use Rattle.passkey_bytes.specs.BytesLoan.{LendsVec};
 ghost use Rattle.passkey_bytes.specs.List.{GivesItems, LendsItems};
 
 use crate::encoding;
-use passkey_memory::OutOfMemory;
-use std::alloc::{AllocError, AllocFailed, Global};
+use passkey_memory::{MemoryError, OutOfMemory};
+use std::alloc::{AllocError, Global};
 use std::cmp::Ordering;
 use std::hash::{Hash, Hasher};
 use std::marker::Model;
@@ -265,26 +265,10 @@ pub enum BytesFault {
     OutOfMemory,
 }
 
-impl From<AllocError> for BytesFault {
+impl<E: MemoryError> From<E> for BytesFault {
     ghost from_gives = { λ _ fault. fault ≡ NoMemory };
 
-    fn from(_error: AllocError) -> BytesFault {
-        BytesFault::OutOfMemory
-    }
-}
-
-impl<T: Drop> From<AllocFailed<T>> for BytesFault {
-    ghost from_gives = { λ _ fault. fault ≡ NoMemory };
-
-    fn from(_error: AllocFailed<T>) -> BytesFault {
-        BytesFault::OutOfMemory
-    }
-}
-
-impl From<OutOfMemory> for BytesFault {
-    ghost from_gives = { λ _ fault. fault ≡ NoMemory };
-
-    fn from(_error: OutOfMemory) -> BytesFault {
+    fn from(_error: E) -> BytesFault {
         BytesFault::OutOfMemory
     }
 }

@@ -3,8 +3,7 @@ ghost use Rattle.std.specs.Prelude.{◌≡◌, Some};
 ghost use Rattle.passkey_cbor.specs.ErrorNames.{cbor_error_name};
 ghost use Rattle.passkey_cbor.specs.declared.error.CborError.TheVariants.{OutOfMemory as NoMemory};
 
-use passkey_memory::OutOfMemory;
-use std::alloc::{AllocError, AllocFailed};
+use passkey_memory::MemoryError;
 use std::error::Error;
 use std::fmt;
 
@@ -33,26 +32,10 @@ impl fmt::Display for CborError {
 
 impl Error for CborError {}
 
-impl From<AllocError> for CborError {
+impl<E: MemoryError> From<E> for CborError {
     ghost from_gives = { λ _ e. e ≡ NoMemory };
 
-    fn from(_error: AllocError) -> CborError {
-        CborError::OutOfMemory
-    }
-}
-
-impl<T: Drop> From<AllocFailed<T>> for CborError {
-    ghost from_gives = { λ _ e. e ≡ NoMemory };
-
-    fn from(_error: AllocFailed<T>) -> CborError {
-        CborError::OutOfMemory
-    }
-}
-
-impl From<OutOfMemory> for CborError {
-    ghost from_gives = { λ _ e. e ≡ NoMemory };
-
-    fn from(_error: OutOfMemory) -> CborError {
+    fn from(_error: E) -> CborError {
         CborError::OutOfMemory
     }
 }

@@ -3,8 +3,7 @@ ghost use Rattle.std.specs.Prelude.{◌≡◌};
 ghost use Rattle.passkey_json.specs.Names.{json_fault_name};
 ghost use Rattle.passkey_json.specs.declared.json_fault.JsonFault.TheVariants.{OutOfMemory as NoMemory};
 
-use passkey_memory::OutOfMemory;
-use std::alloc::{AllocError, AllocFailed};
+use passkey_memory::MemoryError;
 use std::error::Error;
 use std::fmt;
 
@@ -44,26 +43,10 @@ impl fmt::Display for JsonFault {
 
 impl Error for JsonFault {}
 
-impl From<AllocError> for JsonFault {
+impl<E: MemoryError> From<E> for JsonFault {
     ghost from_gives = { λ _ e. e ≡ NoMemory };
 
-    fn from(_error: AllocError) -> JsonFault {
-        JsonFault::OutOfMemory
-    }
-}
-
-impl<T: Drop> From<AllocFailed<T>> for JsonFault {
-    ghost from_gives = { λ _ e. e ≡ NoMemory };
-
-    fn from(_error: AllocFailed<T>) -> JsonFault {
-        JsonFault::OutOfMemory
-    }
-}
-
-impl From<OutOfMemory> for JsonFault {
-    ghost from_gives = { λ _ e. e ≡ NoMemory };
-
-    fn from(_error: OutOfMemory) -> JsonFault {
+    fn from(_error: E) -> JsonFault {
         JsonFault::OutOfMemory
     }
 }

@@ -5,8 +5,7 @@ ghost use Rattle.passkey_kinds.specs.declared.fault.Fault.TheVariants.{OutOfMemo
 ghost use Rattle.passkey_kinds.specs.declared.fault.Refusal.TheVariants.{OutOfMemory as NoMemory};
 ghost use Rattle.passkey_kinds.specs.declared.fault.WriteFault.TheVariants.{OutOfMemory as Full};
 
-use passkey_memory::OutOfMemory;
-use std::alloc::{AllocError, AllocFailed};
+use passkey_memory::MemoryError;
 use std::{error, fmt};
 use thiserror::Error;
 
@@ -21,26 +20,10 @@ pub enum Refusal {
     OutOfMemory,
 }
 
-impl From<AllocError> for Refusal {
+impl<E: MemoryError> From<E> for Refusal {
     ghost from_gives = { λ _ e. e ≡ NoMemory };
 
-    fn from(_error: AllocError) -> Refusal {
-        Refusal::OutOfMemory
-    }
-}
-
-impl<T: Drop> From<AllocFailed<T>> for Refusal {
-    ghost from_gives = { λ _ e. e ≡ NoMemory };
-
-    fn from(_error: AllocFailed<T>) -> Refusal {
-        Refusal::OutOfMemory
-    }
-}
-
-impl From<OutOfMemory> for Refusal {
-    ghost from_gives = { λ _ e. e ≡ NoMemory };
-
-    fn from(_error: OutOfMemory) -> Refusal {
+    fn from(_error: E) -> Refusal {
         Refusal::OutOfMemory
     }
 }
@@ -83,26 +66,10 @@ impl fmt::Display for Fault {
 
 impl error::Error for Fault {}
 
-impl From<AllocError> for Fault {
+impl<E: MemoryError> From<E> for Fault {
     ghost from_gives = { λ _ e. e ≡ NoRoom };
 
-    fn from(_error: AllocError) -> Fault {
-        Fault::OutOfMemory
-    }
-}
-
-impl<T: Drop> From<AllocFailed<T>> for Fault {
-    ghost from_gives = { λ _ e. e ≡ NoRoom };
-
-    fn from(_error: AllocFailed<T>) -> Fault {
-        Fault::OutOfMemory
-    }
-}
-
-impl From<OutOfMemory> for Fault {
-    ghost from_gives = { λ _ e. e ≡ NoRoom };
-
-    fn from(_error: OutOfMemory) -> Fault {
+    fn from(_error: E) -> Fault {
         Fault::OutOfMemory
     }
 }
@@ -118,26 +85,10 @@ pub enum WriteFault {
     NumberTooLarge,
 }
 
-impl From<AllocError> for WriteFault {
+impl<E: MemoryError> From<E> for WriteFault {
     ghost from_gives = { λ _ e. e ≡ Full };
 
-    fn from(_error: AllocError) -> WriteFault {
-        WriteFault::OutOfMemory
-    }
-}
-
-impl<T: Drop> From<AllocFailed<T>> for WriteFault {
-    ghost from_gives = { λ _ e. e ≡ Full };
-
-    fn from(_error: AllocFailed<T>) -> WriteFault {
-        WriteFault::OutOfMemory
-    }
-}
-
-impl From<OutOfMemory> for WriteFault {
-    ghost from_gives = { λ _ e. e ≡ Full };
-
-    fn from(_error: OutOfMemory) -> WriteFault {
+    fn from(_error: E) -> WriteFault {
         WriteFault::OutOfMemory
     }
 }

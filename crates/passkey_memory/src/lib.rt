@@ -3,4 +3,4 @@
 
 mod out_of_memory;
 
-pub use out_of_memory::OutOfMemory;
+pub use out_of_memory::{MemoryError, OutOfMemory};

@@ -19,6 +19,16 @@ impl fmt::Display for OutOfMemory {
 
 impl Error for OutOfMemory {}
 
+/// An error of an allocation that failed: one of std's two, or `OutOfMemory`. Each fault that may also
+/// be `OutOfMemory` is made from all three by one `impl`.
+pub trait MemoryError: Drop {}
+
+impl MemoryError for AllocError {}
+
+impl<T: Drop> MemoryError for AllocFailed<T> {}
+
+impl MemoryError for OutOfMemory {}
+
 impl From<AllocError> for OutOfMemory {
     fn from(_error: AllocError) -> OutOfMemory {
         OutOfMemory

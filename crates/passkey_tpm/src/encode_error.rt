@@ -2,8 +2,7 @@
 ghost use Rattle.std.specs.Prelude.{◌≡◌};
 ghost use Rattle.passkey_tpm.specs.declared.encode_error.EncodeError.TheVariants.{OutOfMemory as NoMemory};
 
-use passkey_memory::OutOfMemory;
-use std::alloc::{AllocError, AllocFailed};
+use passkey_memory::MemoryError;
 use thiserror::Error;
 
 /// Why a TPM structure was not encoded.
@@ -17,26 +16,10 @@ pub enum EncodeError {
     TooLong,
 }
 
-impl From<AllocError> for EncodeError {
+impl<E: MemoryError> From<E> for EncodeError {
     ghost from_gives = { λ _ e. e ≡ NoMemory };
 
-    fn from(_error: AllocError) -> EncodeError {
-        EncodeError::OutOfMemory
-    }
-}
-
-impl<T: Drop> From<AllocFailed<T>> for EncodeError {
-    ghost from_gives = { λ _ e. e ≡ NoMemory };
-
-    fn from(_error: AllocFailed<T>) -> EncodeError {
-        EncodeError::OutOfMemory
-    }
-}
-
-impl From<OutOfMemory> for EncodeError {
-    ghost from_gives = { λ _ e. e ≡ NoMemory };
-
-    fn from(_error: OutOfMemory) -> EncodeError {
+    fn from(_error: E) -> EncodeError {
         EncodeError::OutOfMemory
     }
 }
