@@ -8,7 +8,7 @@ use Rattle.passkey_cbor.specs.Reading.{Reader, start, is_break, item_by, item_wi
 use Rattle.passkey_cbor.specs.HeadsDecoded.{Tally, start_heads, begun_heads, item_heads_by, item_heads, string_heads}
 use Rattle.passkey_cbor.specs.Leaf.{IsLeafLen}
 use Rattle.passkey_cbor.specs.Lent.{string_item, string_head}
-use Rattle.passkey_cbor.specs.Walk.{Walk, ahead, raised, IsInside}
+use Rattle.passkey_cbor.specs.CursorState.{CursorState, ahead, raised, IsInside}
 use Rattle.passkey_cbor.specs.HeadCount.{content_len}
 use Rattle.passkey_cbor.specs.Steps.{HeadRead, NoHead, Skips}
 use Rattle.passkey_cbor.specs.Courses.{Course, behind_heads, over, fault, resumed, ◌▸◌, rest_of, item_course, item_behind, items_course, pairs_course, open_course, opened_course, Advances, Fails, Takes, begins_break, BeginsItem, NoBreak, PassesElement, BeginsElement, IsPart, IsInnerPart, IsPartOf}
@@ -29,7 +29,7 @@ use Rattle.passkey_cbor.proofs.Courses.{course, behind_behind, behind_none, behi
 
 -- ---- one after the other
 
-pub nothing_passed : (whole : Course) (others : List ℕ → Course) (a : Walk) → IsInside a → whole ≡ others (ahead a)
+pub nothing_passed : (whole : Course) (others : List ℕ → Course) (a : CursorState) → IsInside a → whole ≡ others (ahead a)
     → Advances whole others a a
 nothing_passed whole others a inside e = record {
   number = 0;
@@ -39,7 +39,7 @@ nothing_passed whole others a inside e = record {
   spans = spans_none a;
 }
 
-pub both_passed : (whole : Course) (f g : List ℕ → Course) (a b c : Walk) → Advances whole f a b
+pub both_passed : (whole : Course) (f g : List ℕ → Course) (a b c : CursorState) → Advances whole f a b
     → Advances (f (ahead b)) g b c → Advances whole g a c
 both_passed whole f g a b c p q = record {
   number = p.number + q.number;
@@ -49,12 +49,12 @@ both_passed whole f g a b c p q = record {
   spans = spans_then 0 a b c p.spans q.spans;
 }
 
-pub passed_as : (whole part : Course) (f : List ℕ → Course) (a b : Walk) → whole ≡ part → Advances part f a b
+pub passed_as : (whole part : Course) (f : List ℕ → Course) (a b : CursorState) → whole ≡ part → Advances part f a b
     → Advances whole f a b
 passed_as whole part f a b e p =
     record { number = p.number; decoded = p.decoded; same = e ∙ p.same; passed = p.passed; spans = p.spans }
 
-pub passed_to : (whole : Course) (f g : List ℕ → Course) (a b : Walk) → f (ahead b) ≡ g (ahead b) → Advances whole f a b
+pub passed_to : (whole : Course) (f g : List ℕ → Course) (a b : CursorState) → f (ahead b) ≡ g (ahead b) → Advances whole f a b
     → Advances whole g a b
 passed_to whole f g a b e p = record {
   number = p.number;
@@ -65,7 +65,7 @@ passed_to whole f g a b e p = record {
 }
 
 -- a whole, and what comes after it
-pub passed_whole : (whole : Course) (others : List ℕ → Course) (a b : Walk) → Advances whole over a b
+pub passed_whole : (whole : Course) (others : List ℕ → Course) (a b : CursorState) → Advances whole over a b
     → Advances (whole ▸ others) others a b
 passed_whole whole others a b p = record {
   number = p.number;
@@ -77,7 +77,7 @@ passed_whole whole others a b p = record {
 }
 
 -- a part, and what comes after the whole
-pub passed_part : (whole : Course) (f others : List ℕ → Course) (a b : Walk) → Advances whole f a b
+pub passed_part : (whole : Course) (f others : List ℕ → Course) (a b : CursorState) → Advances whole f a b
     → Advances (whole ▸ others) (λ rest. f rest ▸ others) a b
 passed_part whole f others a b p = record {
   number = p.number;
@@ -87,7 +87,7 @@ passed_part whole f others a b p = record {
   spans = p.spans;
 }
 
-pub then_failed : (whole : Course) (f : List ℕ → Course) (a b c : Walk) → Advances whole f a b
+pub then_failed : (whole : Course) (f : List ℕ → Course) (a b c : CursorState) → Advances whole f a b
     → Fails (f (ahead b)) b c → Fails whole a c
 then_failed whole f a b c p q = record {
   number = p.number + q.number;
@@ -96,7 +96,7 @@ then_failed whole f a b c p q = record {
   stopped = stopped_then a b c p.passed q.stopped;
 }
 
-pub failed_whole : (whole : Course) (others : List ℕ → Course) (a b : Walk) → Fails whole a b → Fails (whole ▸ others) a b
+pub failed_whole : (whole : Course) (others : List ℕ → Course) (a b : CursorState) → Fails whole a b → Fails (whole ▸ others) a b
 failed_whole whole others a b p = record {
   number = p.number;
   decoded = p.decoded;
@@ -107,7 +107,7 @@ failed_whole whole others a b p = record {
 -- ---- data items
 
 -- by what skipping says
-pub item_taken : (levels : ℕ) (a b : Walk) (found : Bool) → Skips 0 (start (item_within levels) (ahead a)) a b found
+pub item_taken : (levels : ℕ) (a b : CursorState) (found : Bool) → Skips 0 (start (item_within levels) (ahead a)) a b found
     → b.heads ≡ raised a.heads (start_heads (item_heads levels) (ahead a)) → Takes (item_course levels (ahead a)) a b found
 unfolding item_course
 item_taken levels a b true s counted =
@@ -133,7 +133,7 @@ none_read : (read : Read Item) → rest_of read ≡ None → read ≡ None
 none_read None e = refl
 none_read (Some x) e = absurd (none_is_some x.1 (sym e))
 
-pub item_skips : (levels : ℕ) (a b : Walk) (found : Bool) → Takes (item_course levels (ahead a)) a b found
+pub item_skips : (levels : ℕ) (a b : CursorState) (found : Bool) → Takes (item_course levels (ahead a)) a b found
     → Skips 0 (start (item_within levels) (ahead a)) a b found
 unfolding item_course
 item_skips levels a b true p =
@@ -144,7 +144,7 @@ item_skips levels a b false p = record {
   stopped = p.stopped;
 }
 
-pub item_counts : (levels : ℕ) (a b : Walk) (found : Bool) → Takes (item_course levels (ahead a)) a b found
+pub item_counts : (levels : ℕ) (a b : CursorState) (found : Bool) → Takes (item_course levels (ahead a)) a b found
     → b.heads ≡ raised a.heads (start_heads (item_heads levels) (ahead a))
 unfolding item_course
 item_counts levels a b true p =
@@ -161,7 +161,7 @@ raised_once : (n k : ℕ) → 0 < k → raised n 1 ≤ raised n k
 raised_once n zero some = absurd (omega arith)
 raised_once n (suc k) some = omega arith
 
-pub item_least : (levels : ℕ) (a b : Walk) (found : Bool) → Takes (item_course levels (ahead a)) a b found
+pub item_least : (levels : ℕ) (a b : CursorState) (found : Bool) → Takes (item_course levels (ahead a)) a b found
     → raised a.heads 1 ≤ b.heads
 item_least levels a b found p =
     let counted = item_counts levels a b found p in
@@ -169,7 +169,7 @@ item_least levels a b found p =
 
 -- ---- the next head
 
-pub head_passed : (a b : Walk) (h : Head) → HeadRead a b h → content_len h ≡ 0 → (levels : ℕ)
+pub head_passed : (a b : CursorState) (h : Head) → HeadRead a b h → content_len h ≡ 0 → (levels : ℕ)
     → Advances (item_course levels (ahead a)) (item_behind levels h) a b
 head_passed a b h r none levels = record {
   number = 1;
@@ -180,7 +180,7 @@ head_passed a b h r none levels = record {
 }
 
 -- a data item whose head says what is in it
-begun : (a b : Walk) (h : Head) (inner : Open) → HeadRead a b h → content_len h ≡ 0 → is_break h ≡ false
+begun : (a b : CursorState) (h : Head) (inner : Open) → HeadRead a b h → content_len h ≡ 0 → is_break h ≡ false
     → item_behind 0 h (ahead b) ≡ fault 0
     → ((levels : ℕ) → item_behind (suc levels) h (ahead b) ≡ open_course levels inner (ahead b))
     → IsPart a b (part.Head inner)
@@ -199,14 +199,14 @@ begun a b h inner r none goes_on flat deeper = (
   },
 )
 
-pub array_begun : (a b : Walk) (h : Head) (len : Option ℕ) (inner : Open) → h ≡ head.Array len → HeadRead a b h
+pub array_begun : (a b : CursorState) (h : Head) (len : Option ℕ) (inner : Open) → h ≡ head.Array len → HeadRead a b h
     → ((levels : ℕ) (bytes : List ℕ) → open_course levels inner bytes ≡ items_course levels len bytes)
     → IsPart a b (part.Head inner)
 array_begun a b h len inner is r same =
     begun a b (head.Array len) inner (subst (λ (g : Head). HeadRead a b g) is r) refl refl (flat_array len (ahead b))
     (λ levels. behind_array levels len (ahead b) ∙ sym (same levels (ahead b)))
 
-pub map_begun : (a b : Walk) (h : Head) (len : Option ℕ) (inner : Open) → h ≡ head.Map len → HeadRead a b h
+pub map_begun : (a b : CursorState) (h : Head) (len : Option ℕ) (inner : Open) → h ≡ head.Map len → HeadRead a b h
     → length a.bytes < 2 ^ 64 → ((levels : ℕ) (bytes : List ℕ) → length bytes < 2 ^ 64 - 1
     → open_course levels inner bytes ≡ pairs_course levels len bytes) → IsPart a b (part.Head inner)
 map_begun a b h len inner is r few same =
@@ -215,14 +215,14 @@ map_begun a b h len inner is r few same =
     begun a b (head.Map len) inner (subst (λ (g : Head). HeadRead a b g) is r) refl refl (flat_map len (ahead b))
     (λ levels. behind_map levels len (ahead b) ∙ sym (same levels (ahead b) fewer))
 
-pub tag_begun : (a b : Walk) (h : Head) (n : ℕ) → h ≡ head.Tag n → HeadRead a b h
+pub tag_begun : (a b : CursorState) (h : Head) (n : ℕ) → h ≡ head.Tag n → HeadRead a b h
     → IsPart a b (part.Head (opens.Items 1))
 tag_begun a b h n is r =
     begun a b (head.Tag n) (opens.Items 1) (subst (λ (g : Head). HeadRead a b g) is r) refl refl (flat_tag n (ahead b))
     (λ levels. open_tag levels n (ahead b))
 
 -- a head alone
-pub alone : (a b : Walk) (h g : Head) (x : Item) → h ≡ g → HeadRead a b h → content_len g ≡ 0 → is_break g ≡ false
+pub alone : (a b : CursorState) (h g : Head) (x : Item) → h ≡ g → HeadRead a b h → content_len g ≡ 0 → is_break g ≡ false
     → ((inner : Option (Reader Item)) → item_by inner g (ahead b) ≡ Some (x, ahead b))
     → ((inner : Option (Reader Item × Tally)) → item_heads_by inner g (ahead b) ≡ 0) → IsPart a b part.Item
 alone a b h g x is r none goes_on reads heads = (
@@ -239,7 +239,7 @@ alone a b h g x is r none goes_on reads heads = (
 )
 
 -- a string
-string_taken : (levels : ℕ) (is_text : Bool) (len : Option ℕ) (h : Head) (a b c : Walk) (found : Bool)
+string_taken : (levels : ℕ) (is_text : Bool) (len : Option ℕ) (h : Head) (a b c : CursorState) (found : Bool)
     → h ≡ string_head is_text len → HeadRead a b h
     → Skips (content_len (string_head is_text len)) (string_at is_text len (ahead b)) b c found
     → c.heads ≡ raised b.heads (string_heads is_text len (ahead b)) → Takes (item_course levels (ahead a)) a c found
@@ -252,7 +252,7 @@ string_taken levels is_text len h a b c found is r s counted =
     (counted ∙ ap (raised b.heads) (sym (headed_string levels is_text len h (ahead b) is)))
     (started (item_heads levels) (ahead a) (ahead b) h r.reads ∙ omega arith))
 
-pub string_passed : (is_text : Bool) (len : Option ℕ) (h : Head) (a b c : Walk) (found : Bool) → true ≡ found
+pub string_passed : (is_text : Bool) (len : Option ℕ) (h : Head) (a b c : CursorState) (found : Bool) → true ≡ found
     → h ≡ string_head is_text len → is_break (string_head is_text len) ≡ false → HeadRead a b h
     → Skips (content_len (string_head is_text len)) (string_at is_text len (ahead b)) b c found
     → c.heads ≡ raised b.heads (string_heads is_text len (ahead b)) → IsPart a c part.Item
@@ -266,7 +266,7 @@ string_passed is_text len h a b c found so is goes_on r s counted =
       },
     )
 
-pub string_failed : (is_text : Bool) (len : Option ℕ) (h : Head) (a b c : Walk) (found : Bool) → false ≡ found
+pub string_failed : (is_text : Bool) (len : Option ℕ) (h : Head) (a b c : CursorState) (found : Bool) → false ≡ found
     → h ≡ string_head is_text len → is_break (string_head is_text len) ≡ false → HeadRead a b h
     → Skips (content_len (string_head is_text len)) (string_at is_text len (ahead b)) b c found
     → c.heads ≡ raised b.heads (string_heads is_text len (ahead b)) → IsPart a c part.Malformed
@@ -276,7 +276,7 @@ string_failed is_text len h a b c found so is goes_on r s counted =
     (ap begins_break r.reads ∙ ap is_break is ∙ goes_on, λ levels. string_taken levels is_text len h a b c false is r none counted)
 
 -- no well-formed head
-head_failed : (levels : ℕ) (a b : Walk) → NoHead (head_at (ahead a)) a b → b.heads ≡ raised a.heads 1
+head_failed : (levels : ℕ) (a b : CursorState) → NoHead (head_at (ahead a)) a b → b.heads ≡ raised a.heads 1
     → Fails (item_course levels (ahead a)) a b
 unfolding item_course
 head_failed levels a b r counted = record {
@@ -286,11 +286,11 @@ head_failed levels a b r counted = record {
   stopped = r.stopped;
 }
 
-pub no_head : (a b : Walk) → NoHead (head_at (ahead a)) a b → b.heads ≡ raised a.heads 1 → IsPart a b part.Malformed
+pub no_head : (a b : CursorState) → NoHead (head_at (ahead a)) a b → b.heads ≡ raised a.heads 1 → IsPart a b part.Malformed
 no_head a b r counted = (ap begins_break r.reads, λ levels. head_failed levels a b r counted)
 
 -- a break, where a data item is wanted
-pub break_failed : (levels : ℕ) (a b : Walk) → HeadRead a b head.Break → Fails (item_course levels (ahead a)) a b
+pub break_failed : (levels : ℕ) (a b : CursorState) → HeadRead a b head.Break → Fails (item_course levels (ahead a)) a b
 break_failed levels a b r = record {
   number = 1;
   decoded = r.counted;
@@ -300,15 +300,15 @@ break_failed levels a b r = record {
 
 -- ---- data items passed at once
 
-pub leaf_advances : (levels n : ℕ) (a b : Walk) → IsInside a → 0 < n → IsLeafLen (ahead a) n
+pub leaf_advances : (levels n : ℕ) (a b : CursorState) → IsInside a → 0 < n → IsLeafLen (ahead a) n
     → b ≡ record a { place = a.place + n; heads = raised a.heads 1 } → a.heads ≤ b.heads
     → Advances (item_course levels (ahead a)) over a b
 leaf_advances levels n a b inside some l is rises =
     item_taken levels a b true (leaf_passed a b levels n inside some l is rises)
-    (ap (λ (w : Walk). w.heads) is ∙ ap (raised a.heads) (sym (l.heads levels)))
+    (ap (λ (w : CursorState). w.heads) is ∙ ap (raised a.heads) (sym (l.heads levels)))
 
 -- one data item fewer is left
-pub one_passed : (levels n left : ℕ) (a b : Walk) → left ≡ suc n → Advances (item_course levels (ahead a)) over a b
+pub one_passed : (levels n left : ℕ) (a b : CursorState) → left ≡ suc n → Advances (item_course levels (ahead a)) over a b
     → Advances (items_course levels (Some left) (ahead a)) (items_course levels (Some n)) a b
 one_passed levels n left a b one p =
     passed_as (items_course levels (Some left) (ahead a)) (item_course levels (ahead a) ▸ items_course levels (Some n))
@@ -317,7 +317,7 @@ one_passed levels n left a b one p =
     (passed_whole (item_course levels (ahead a)) (items_course levels (Some n)) a b p)
 
 -- the cursor at another offset, with so many more heads
-abbrev moved : Walk → ℕ → ℕ → Walk
+abbrev moved : CursorState → ℕ → ℕ → CursorState
 moved w place n = record w { place = place; heads = raised w.heads n }
 
 raised_more : (n k : ℕ) → n ≤ 2 ^ 128 - 1 → raised n k ≤ raised n (k + 1)
@@ -332,13 +332,13 @@ raised_is n zero fits = omega arith
 raised_is n (suc k) fits = refl
 
 -- The invariant of a loop that passes data items of one head each up to this offset, and counts them later.
-pub record Leaves (most left place : ℕ) (a : Walk) : Type 0 where
+pub record Leaves (most left place : ℕ) (a : CursorState) : Type 0 where
   pub few : left ≤ most
   pub within : place ≤ length a.bytes
   pub advances : a.heads ≤ 2 ^ 128 - 1 → (levels : ℕ) → Advances (items_course levels (Some most) (ahead a))
       (items_course levels (Some left)) a (moved a place (most - left))
 
-pub leaves_none : (most place : ℕ) (a : Walk) → IsInside a → place ≡ a.place → Leaves most most place a
+pub leaves_none : (most place : ℕ) (a : CursorState) → IsInside a → place ≡ a.place → Leaves most most place a
 leaves_none most place a inside is =
     let none : most - most ≡ 0 = omega arith in
     let here : moved a place (most - most) ≡ a =
@@ -347,12 +347,12 @@ leaves_none most place a inside is =
       few = omega arith;
       within = omega arith;
       advances = λ fits levels. subst
-          (λ (w : Walk). Advances (items_course levels (Some most) (ahead a)) (items_course levels (Some most)) a w)
+          (λ (w : CursorState). Advances (items_course levels (Some most) (ahead a)) (items_course levels (Some most)) a w)
           (sym here)
           (nothing_passed (items_course levels (Some most) (ahead a)) (items_course levels (Some most)) a inside refl);
     }
 
-pub leaves_one : (most left n place len : ℕ) (a : Walk) → Leaves most left place a → left ≡ suc n → 0 < len
+pub leaves_one : (most left n place len : ℕ) (a : CursorState) → Leaves most left place a → left ≡ suc n → 0 < len
     → IsLeafLen (drop place a.bytes) len → Leaves most n (place + len) a
 leaves_one most left n place len a t one some leaf =
     let b = moved a place (most - left) in
@@ -371,24 +371,24 @@ leaves_one most left n place len a t one some leaf =
           (omega (arith, raised_more a.heads (most - left) fits, ap (raised a.heads) count))));
     }
 
-pub leaves_passed : (most left place : ℕ) (a b : Walk) → Leaves most left place a
+pub leaves_passed : (most left place : ℕ) (a b : CursorState) → Leaves most left place a
     → b ≡ record a { place = place; heads = min (a.heads + (most - left)) (2 ^ 128 - 1) } → a.heads ≤ b.heads
     → (levels : ℕ) → Advances (items_course levels (Some most) (ahead a)) (items_course levels (Some left)) a b
 leaves_passed most left place a b t is rises levels =
-    let fits : a.heads ≤ 2 ^ 128 - 1 = omega (arith, ap (λ (w : Walk). w.heads) is) in
+    let fits : a.heads ≤ 2 ^ 128 - 1 = omega (arith, ap (λ (w : CursorState). w.heads) is) in
     let same : b ≡ moved a place (most - left) =
     is ∙ ap (λ (h : ℕ). record a { place = place; heads = h }) (raised_is a.heads (most - left) fits) in
-    subst (λ (w : Walk). Advances (items_course levels (Some most) (ahead a)) (items_course levels (Some left)) a w)
+    subst (λ (w : CursorState). Advances (items_course levels (Some most) (ahead a)) (items_course levels (Some left)) a w)
     (sym same) (t.advances fits levels)
 
-pub leaves_missed : (most left : ℕ) (a : Walk) → IsInside a → left ≡ most
+pub leaves_missed : (most left : ℕ) (a : CursorState) → IsInside a → left ≡ most
     → (levels : ℕ) → Advances (items_course levels (Some most) (ahead a)) (items_course levels (Some left)) a a
 leaves_missed most left a inside same levels =
     nothing_passed (items_course levels (Some most) (ahead a)) (items_course levels (Some left)) a inside
     (ap (λ (n : ℕ). items_course levels (Some n) (ahead a)) (sym same))
 
 -- a data item with others in it, which are taken
-pub list_taken : (levels : ℕ) (inner : Open) (a b c : Walk) (found : Bool) → BeginsItem inner a b
+pub list_taken : (levels : ℕ) (inner : Open) (a b c : CursorState) (found : Bool) → BeginsItem inner a b
     → Takes (open_course levels inner (ahead b)) b c found → Takes (item_course (suc levels) (ahead a)) a c found
 list_taken levels inner a b c true q p =
     both_passed (item_course (suc levels) (ahead a)) (open_course levels inner) over a b c (q.deeper levels) p
@@ -398,7 +398,7 @@ list_taken levels inner a b c false q p =
 -- ---- the next data items of an open list
 
 -- a data item in it, and what is left after it
-pub inner_part : (before after : Open) (a b c : Walk) (p : Part) → ((levels : ℕ) → Advances
+pub inner_part : (before after : Open) (a b c : CursorState) (p : Part) → ((levels : ℕ) → Advances
     (open_course levels before (ahead a)) (λ rest. item_course levels rest ▸ open_course levels after) a b)
     → IsInnerPart b c p → IsPartOf before after a c p
 inner_part before after a b c part.Malformed first q = λ levels.
@@ -423,7 +423,7 @@ inner_part before after a b c (part.Head inner) first q = record {
 }
 
 -- the same where a break ends the list
-to_break : (before after : Open) (a b : Walk) (p : Part) → IsInside a
+to_break : (before after : Open) (a b : CursorState) (p : Part) → IsInside a
     → ((levels : ℕ) → NoBreak a → open_course levels before (ahead a)
     ≡ (item_course levels (ahead a) ▸ open_course levels after))
     → ((levels : ℕ) (rest : List ℕ) → head_at (ahead a) ≡ Some (head.Break, rest)
@@ -442,26 +442,26 @@ to_break before after a b part.Item inside next ends q = inner_part before after
 to_break before after a b (part.Head inner) inside next ends q = inner_part before after a a b (part.Head inner)
     (λ levels. nothing_passed _ (λ rest. item_course levels rest ▸ open_course levels after) a inside (next levels q.0)) q.1
 
-pub items_part : (a b : Walk) (p : Part) → IsInside a → IsPart a b p
+pub items_part : (a b : CursorState) (p : Part) → IsInside a → IsPart a b p
     → IsPartOf opens.ItemsToBreak opens.ItemsToBreak a b p
 unfolding open_course
 items_part a b p inside q = to_break opens.ItemsToBreak opens.ItemsToBreak a b p inside
     (λ levels. items_to_break levels (ahead a)) (λ levels. items_end levels (ahead a)) q
 
-pub pairs_part : (a b : Walk) (p : Part) → IsInside a → IsPart a b p
+pub pairs_part : (a b : CursorState) (p : Part) → IsInside a → IsPart a b p
     → IsPartOf opens.PairsToBreak opens.ValueToBreak a b p
 unfolding open_course
 pairs_part a b p inside q = to_break opens.PairsToBreak opens.ValueToBreak a b p inside
     (λ levels. pairs_to_break levels (ahead a)) (λ levels. pairs_end levels (ahead a)) q
 
-pub value_part : (a b : Walk) (p : Part) → IsInside a → IsInnerPart a b p
+pub value_part : (a b : CursorState) (p : Part) → IsInside a → IsInnerPart a b p
     → IsPartOf opens.ValueToBreak opens.PairsToBreak a b p
 value_part a b p inside q = inner_part opens.ValueToBreak opens.PairsToBreak a a b p
     (λ levels. nothing_passed _ (λ rest. item_course levels rest ▸ open_course levels opens.PairsToBreak) a inside
     (open_value levels (ahead a))) q
 
 -- after some data items that were passed at once
-pub leaves_end : (left none : ℕ) (a b : Walk) → none ≡ 0
+pub leaves_end : (left none : ℕ) (a b : CursorState) → none ≡ 0
     → ((levels : ℕ) → Advances (items_course levels (Some left) (ahead a)) (items_course levels (Some none)) a b)
     → (after : Open) → IsPartOf (opens.Items left) after a b part.End
 leaves_end left none a b is first after = λ levels.
@@ -470,7 +470,7 @@ leaves_end left none a b is first after = λ levels.
     (passed_to (items_course levels (Some left) (ahead a)) (items_course levels (Some none)) over a b
     (ap (λ (n : ℕ). items_course levels (Some n) (ahead b)) is ∙ items_none levels (ahead b)) (first levels))
 
-pub leaves_part : (left more n : ℕ) (a b c : Walk) (p : Part) → more ≡ suc n
+pub leaves_part : (left more n : ℕ) (a b c : CursorState) (p : Part) → more ≡ suc n
     → ((levels : ℕ) → Advances (items_course levels (Some left) (ahead a)) (items_course levels (Some more)) a b)
     → IsInnerPart b c p → IsPartOf (opens.Items left) (opens.Items n) a c p
 unfolding open_course
@@ -524,12 +524,12 @@ opened_at levels n xs x within bytes =
     (opened_kept levels n n xs x (omega arith))
 
 -- The invariant of the loop over open lists: what was skipped, and then what is left of them, is all of the first.
-pub record Opened (whole : Course) (levels depth : ℕ) (xs : List Open) (old now : Walk) : Type 0 where
+pub record Opened (whole : Course) (levels depth : ℕ) (xs : List Open) (old now : CursorState) : Type 0 where
   pub advances : Advances whole (opened_course levels xs depth) old now
   pub few : depth ≤ length xs
   pub shallow : depth ≤ levels + 1
 
-pub opened_first : (levels : ℕ) (first : Open) (xs : List Open) (a : Walk) → IsInside a → 0 < length xs
+pub opened_first : (levels : ℕ) (first : Open) (xs : List Open) (a : CursorState) → IsInside a → 0 < length xs
     → Opened (open_course levels first (ahead a)) levels 1 (set xs 0 first) a a
 opened_first levels first xs a inside some =
     let all : levels - 0 ≡ levels = omega arith in
@@ -544,13 +544,13 @@ opened_first levels first xs a inside some =
     }
 
 -- the whole list is skipped
-pub opened_over : (whole : Course) (levels depth : ℕ) (xs : List Open) (a b : Walk)
+pub opened_over : (whole : Course) (levels depth : ℕ) (xs : List Open) (a b : CursorState)
     → Opened whole levels depth xs a b → depth ≡ 0 → Advances whole over a b
 opened_over whole levels depth xs a b o none = passed_to whole (opened_course levels xs depth) over a b
     (ap (λ (n : ℕ). opened_course levels xs n (ahead b)) none ∙ opened_none levels xs (ahead b)) o.advances
 
 -- the last open list, and those around it
-module _ {whole : Course} {levels depth : ℕ} {xs : List Open} {a b : Walk} (o : Opened whole levels depth xs a b)
+module _ {whole : Course} {levels depth : ℕ} {xs : List Open} {a b : CursorState} (o : Opened whole levels depth xs a b)
     (n : ℕ) (one : depth ≡ suc n) (before after : Open) (is : before ≡ get_or xs n (opens.Items 0)) where
   split : Advances whole (λ rest. open_course (levels - n) before rest ▸ opened_course levels xs n) a b
   split = passed_to whole (opened_course levels xs depth)
@@ -558,11 +558,11 @@ module _ {whole : Course} {levels depth : ℕ} {xs : List Open} {a b : Walk} (o 
       (ap (λ (k : ℕ). opened_course levels xs k (ahead b)) one ∙ opened_one levels n xs (ahead b)
       ∙ ap (λ (y : Open). open_course (levels - n) y (ahead b) ▸ opened_course levels xs n) (sym is)) o.advances
 
-  pub opened_failed : (c : Walk) → IsPartOf before after b c part.Malformed → Fails whole a c
+  pub opened_failed : (c : CursorState) → IsPartOf before after b c part.Malformed → Fails whole a c
   opened_failed c q = then_failed whole (λ rest. open_course (levels - n) before rest ▸ opened_course levels xs n) a b c
       split (failed_whole (open_course (levels - n) before (ahead b)) (opened_course levels xs n) b c (q (levels - n)))
 
-  pub opened_end : (c : Walk) → IsPartOf before after b c part.End → Opened whole levels n (set xs n after) a c
+  pub opened_end : (c : CursorState) → IsPartOf before after b c part.End → Opened whole levels n (set xs n after) a c
   opened_end c q = record {
     advances = passed_to whole (opened_course levels xs n) (opened_course levels (set xs n after) n) a c
         (sym (opened_kept levels n n xs after (omega arith) (ahead c)))
@@ -573,7 +573,7 @@ module _ {whole : Course} {levels depth : ℕ} {xs : List Open} {a b : Walk} (o 
     shallow = omega (arith, o.shallow);
   }
 
-  pub opened_item : (c : Walk) → PassesElement before after b c → Opened whole levels depth (set xs n after) a c
+  pub opened_item : (c : CursorState) → PassesElement before after b c → Opened whole levels depth (set xs n after) a c
   opened_item c q = record {
     advances = passed_to whole (λ rest. open_course (levels - n) after rest ▸ opened_course levels xs n)
         (opened_course levels (set xs n after) depth) a c
@@ -588,7 +588,7 @@ module _ {whole : Course} {levels depth : ℕ} {xs : List Open} {a b : Walk} (o 
   }
 
   -- a list in it, which is left
-  around : (inner : Open) (c : Walk) → BeginsElement before after inner b c → depth ≤ levels
+  around : (inner : Open) (c : CursorState) → BeginsElement before after inner b c → depth ≤ levels
       → Advances whole (λ rest. open_course (levels - depth) inner rest ▸ opened_course levels (set xs n after) depth) a c
   around inner c q deep =
       let k = levels - depth in
@@ -609,7 +609,7 @@ module _ {whole : Course} {levels depth : ℕ} {xs : List Open} {a b : Walk} (o 
       (passed_part (open_course (levels - n) before (ahead b))
       (λ rest. open_course k inner rest ▸ open_course (levels - n) after) (opened_course levels xs n) b c part))
 
-  pub opened_inner : (inner : Open) (c : Walk) → BeginsElement before after inner b c → depth ≤ levels
+  pub opened_inner : (inner : Open) (c : CursorState) → BeginsElement before after inner b c → depth ≤ levels
       → depth < length xs → Opened whole levels (depth + 1) (set (set xs n after) depth inner) a c
   opened_inner inner c q deep room =
       let ys = set xs n after in
@@ -626,7 +626,7 @@ module _ {whole : Course} {levels depth : ℕ} {xs : List Open} {a b : Walk} (o 
       }
 
   -- no deeper list is allowed
-  pub opened_too_deep : (inner : Open) (c : Walk) → BeginsElement before after inner b c → levels < depth
+  pub opened_too_deep : (inner : Open) (c : CursorState) → BeginsElement before after inner b c → levels < depth
       → Fails whole a c
   opened_too_deep inner c q deep =
       let level : levels - n ≡ 0 = omega (arith, one) in
@@ -635,7 +635,7 @@ module _ {whole : Course} {levels depth : ℕ} {xs : List Open} {a b : Walk} (o 
       (failed_whole (open_course (levels - n) before (ahead b)) (opened_course levels xs n) b c none)
 
   -- another call skips it
-  pub opened_called : (inner : Open) (c d : Walk) → BeginsElement before after inner b c → depth ≤ levels
+  pub opened_called : (inner : Open) (c d : CursorState) → BeginsElement before after inner b c → depth ≤ levels
       → Advances (open_course (levels - depth) inner (ahead c)) over c d → Opened whole levels depth (set xs n after) a d
   opened_called inner c d q deep p = record {
     advances = both_passed whole
@@ -646,7 +646,7 @@ module _ {whole : Course} {levels depth : ℕ} {xs : List Open} {a b : Walk} (o 
     shallow = o.shallow;
   }
 
-  pub opened_call_failed : (inner : Open) (c d : Walk) → BeginsElement before after inner b c → depth ≤ levels
+  pub opened_call_failed : (inner : Open) (c d : CursorState) → BeginsElement before after inner b c → depth ≤ levels
       → Fails (open_course (levels - depth) inner (ahead c)) c d → Fails whole a d
   opened_call_failed inner c d q deep p =
       then_failed whole (λ rest. open_course (levels - depth) inner rest ▸ opened_course levels (set xs n after) depth)

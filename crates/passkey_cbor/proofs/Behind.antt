@@ -5,7 +5,7 @@ use Rattle.passkey_cbor.specs.Item.{Item, array, map, tagged, items_of, pairs_of
 use Rattle.passkey_cbor.specs.HeadReading.{◌>>=◌, Read}
 use Rattle.passkey_cbor.specs.Reading.{Reader, start, string_at, list_at, pair_by, item_by, item_within, chunk, piece_at}
 use Rattle.passkey_cbor.specs.Lent.{string_item, string_head}
-use Rattle.passkey_cbor.specs.Walk.{Walk, ahead, IsInside}
+use Rattle.passkey_cbor.specs.CursorState.{CursorState, ahead, IsInside}
 use Rattle.passkey_cbor.specs.HeadCount.{content_len}
 use Rattle.passkey_cbor.specs.Steps.{PassesOver, Skips}
 use Rattle.passkey_cbor.specs.declared.head.Head.{Head}
@@ -87,19 +87,19 @@ by_break levels h bytes is = ap (λ (k : Head). item_within levels k bytes) is
 
 -- ---- skipping it
 
-pub flat_skipped : {A : Type 0} (content : ℕ) (read : Read A) (x : A) (a : Walk) → IsInside a → content ≡ 0
+pub flat_skipped : {A : Type 0} (content : ℕ) (read : Read A) (x : A) (a : CursorState) → IsInside a → content ≡ 0
     → read ≡ Some (x, ahead a) → PassesOver content read a a
 flat_skipped content read x a inside none e =
     record { value = x; reads = e; passed = passed_none a inside; spans = spans_flat content a none }
 
-pub made_skipped : {A B : Type 0} (content : ℕ) (read : Read A) (whole : Read B) (make : A → B) (a b : Walk)
+pub made_skipped : {A B : Type 0} (content : ℕ) (read : Read A) (whole : Read B) (make : A → B) (a b : CursorState)
     (found : Bool) → whole ≡ (read >>= λ x. Some (make x.0, x.1)) → Skips content read a b found
     → Skips content whole a b found
 made_skipped content read whole make a b found e s = skips_as content (read >>= λ x. Some (make x.0, x.1)) whole a b
     found e (skips_made content read make a b found s)
 
 -- the same for a head that says how many bytes of content follow
-pub headed_skipped : {A B : Type 0} (h g : Head) (read : Read A) (whole : Read B) (make : A → B) (a b : Walk)
+pub headed_skipped : {A B : Type 0} (h g : Head) (read : Read A) (whole : Read B) (make : A → B) (a b : CursorState)
     (found : Bool) → h ≡ g → whole ≡ (read >>= λ x. Some (make x.0, x.1)) → Skips (content_len g) read a b found
     → Skips (content_len h) whole a b found
 headed_skipped h g read whole make a b found is e s =

@@ -95,8 +95,8 @@ to_content : (levels : ℕ) (x : Item) (bytes rest : List ℕ) → IsWritable x 
     → bytes ≡ content_of x ++ rest → BeginsContent levels (head_of x) bytes rest
 to_content levels (number (pos n)) bytes rest w o d p = sym p
 to_content levels (number (negsuc n)) bytes rest w o d p = sym p
-to_content levels (byte_string s) bytes rest w o d p = record { content = s; long = refl; stands = tt; parts = p }
-to_content levels (text_string s) bytes rest w o d p = record { content = s; long = refl; stands = w.1; parts = p }
+to_content levels (byte_string s) bytes rest w o d p = record { content = s; long = refl; allowed_text = tt; parts = p }
+to_content levels (text_string s) bytes rest w o d p = record { content = s; long = refl; allowed_text = w.1; parts = p }
 to_content levels (array xs) bytes rest w o d p = (
   omega (arith, d),
   record { items = xs; counted = refl; writable = w.1; ordered = o; shallow = omega (arith, d); parts = p },
@@ -191,7 +191,7 @@ from_content levels (head.Text (Some n)) bytes rest s e = record {
   item = text_string e.content;
   headed = ap (λ (k : ℕ). head.Text (Some k)) e.long;
   writable =
-      (let fits : n < 2 ^ 64 = heads_fit 3 n (shortest_head 3 n) s in (omega (arith, fits, e.long), e.stands));
+      (let fits : n < 2 ^ 64 = heads_fit 3 n (shortest_head 3 n) s in (omega (arith, fits, e.long), e.allowed_text));
   ordered = tt;
   shallow = omega arith;
   parts = e.parts;
@@ -233,12 +233,12 @@ string_left is_text len bytes fits (Some r) e =
     record {
       content = r.0;
       long = sym t.encoded.0.0;
-      stands = t.encoded.0.1;
+      allowed_text = t.encoded.0.1;
       parts = t.parts ∙ ap (λ (s : List ℕ). s ++ r.1) t.encoded.1;
     }
 string_left is_text len bytes fits None e = λ rest b.
     none_is_some (b.content, rest) (e ∙ ap (piece_at is_text len) b.parts ∙ ap (λ (n : ℕ). piece_at is_text n
-    (b.content ++ rest)) (sym b.long) ∙ piece_again is_text b.content rest b.stands)
+    (b.content ++ rest)) (sym b.long) ∙ piece_again is_text b.content rest b.allowed_text)
 
 -- ---- one data item
 

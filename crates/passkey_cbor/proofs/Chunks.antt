@@ -5,7 +5,7 @@ use Rattle.std.specs.List.{concat}
 use Rattle.std.proofs.lemmas.List.{append-nil, length-append, length-drop}
 use Rattle.std.proofs.lemmas.Str.{IsUtf8-nil, IsUtf8-append, IsUtf8-from_is_utf8, is_utf8-from_IsUtf8}
 use Rattle.passkey_cbor.specs.Reading.{chunk, is_allowed, step_at, list_at, string_at}
-use Rattle.passkey_cbor.specs.Walk.{Walk, ahead, raised, break_heads, IsInside, Went}
+use Rattle.passkey_cbor.specs.CursorState.{CursorState, ahead, raised, break_heads, IsInside, MovesForward}
 use Rattle.passkey_cbor.specs.Steps.{NoHead, PassesOver, ElementRead, EndRead, PieceRead, IsLengthOf, CountsAll, CountsSome, CountsSought}
 use Rattle.passkey_cbor.specs.Names.{begins_one, heads_until}
 use Rattle.passkey_cbor.specs.Building.{IsNotEmpty, total, some_bytes, Makes}
@@ -28,12 +28,12 @@ total-no_nodes [] = refl
 total-no_nodes (c ∷ chunks) = omega (arith, total-no_nodes chunks)
 
 -- The chunks so far join to the bytes, and one head was counted for each.
-pub record Collected (old now : Walk) (bytes : List ℕ) (chunks : List (List ℕ)) : Type 0 where
+pub record Collected (old now : CursorState) (bytes : List ℕ) (chunks : List (List ℕ)) : Type 0 where
   pub joined : concat chunks ≡ bytes
   pub heads : now.heads ≡ raised old.heads (length chunks)
 
 -- The invariant of a loop over chunks.
-abbrev pub Collects : Bool → Option ℕ → Walk → Walk → List ℕ → Type 0
+abbrev pub Collects : Bool → Option ℕ → CursorState → CursorState → List ℕ → Type 0
 Collects is_text left old now bytes = Gathers (chunk is_text) no_nodes None left old now (Collected old now bytes)
 
 is_allowed-append : (is_text : Bool) (s t : List ℕ) → is_allowed is_text s ≡ true → is_allowed is_text t ≡ true
@@ -70,13 +70,13 @@ concat-not_empty ((b ∷ c) ∷ chunks) others s some = tt
 
 -- ---- the loop's result, by its invariant
 
-pub collects_start : (is_text : Bool) (a : Walk) (bytes : List ℕ) → IsInside a → bytes ≡ []
+pub collects_start : (is_text : Bool) (a : CursorState) (bytes : List ℕ) → IsInside a → bytes ≡ []
     → Collects is_text None a a bytes
 collects_start is_text a bytes inside none = gathers_start (chunk is_text) no_nodes None a (Collected a a bytes)
     inside (record { joined = sym none; heads = refl })
 
 -- one more chunk
-collected_on : (a b c d : Walk) (bytes more s x : List ℕ) (before : List (List ℕ)) → Collected a b bytes before
+collected_on : (a b c d : CursorState) (bytes more s x : List ℕ) (before : List (List ℕ)) → Collected a b bytes before
     → c.heads ≡ raised b.heads 1 → d.heads ≡ c.heads → more ≡ bytes ++ s → s ≡ x
     → Collected a d more (before ++ x ∷ [])
 collected_on a b c d bytes more s x before done counted uncounted pushed x_is =
@@ -88,7 +88,7 @@ collected_on a b c d bytes more s x before done counted uncounted pushed x_is =
           ∙ ap (raised a.heads) one_more;
     }
 
-pub collects_on : (is_text : Bool) (left after : Option ℕ) (a b c d : Walk) (h : Head) (bytes more s : List ℕ)
+pub collects_on : (is_text : Bool) (left after : Option ℕ) (a b c d : CursorState) (h : Head) (bytes more s : List ℕ)
     → Collects is_text left a b bytes → ElementRead left after b c h
     → PieceRead is_text (chunk is_text h (ahead c)) c d s → more ≡ bytes ++ s → Collects is_text after a d more
 collects_on is_text left after a b c d h bytes more s g n p pushed =
@@ -123,11 +123,11 @@ chunks_of is_text bytes s rest e =
     }
 
 -- no string is decoded, as the chunks show
-no_string : (is_text : Bool) (a b : Walk) → Went a b → ((s rest : List ℕ) → string_at is_text None (ahead a)
+no_string : (is_text : Bool) (a b : CursorState) → MovesForward a b → ((s rest : List ℕ) → string_at is_text None (ahead a)
     ≡ Some (s, rest) → ⊥) → Makes some_bytes (string_at is_text None (ahead a)) a b (Err error.DecodeFailed)
 no_string is_text a b went none = record { went = went; made = none; heads = λ s rest e. absurd (none s rest e) }
 
-pub collects_malformed : (is_text : Bool) (left : Option ℕ) (a b c : Walk) (bytes : List ℕ)
+pub collects_malformed : (is_text : Bool) (left : Option ℕ) (a b c : CursorState) (bytes : List ℕ)
     → Collects is_text left a b bytes → NoHead (step_at left (ahead b)) b c
     → Makes some_bytes (string_at is_text None (ahead a)) a c (Err error.DecodeFailed)
 collects_malformed is_text left a b c bytes g n =
@@ -135,7 +135,7 @@ collects_malformed is_text left a b c bytes g n =
     let cs = chunks_of is_text (ahead a) s rest e in
     gathers_nothing (chunk is_text) no_nodes None left a b c (Collected a b bytes) g n cs.chunks rest cs.reads)
 
-pub collects_no_chunk : (is_text : Bool) (left after : Option ℕ) (a b c d : Walk) (h : Head) (bytes : List ℕ)
+pub collects_no_chunk : (is_text : Bool) (left after : Option ℕ) (a b c d : CursorState) (h : Head) (bytes : List ℕ)
     → Collects is_text left a b bytes → ElementRead left after b c h → NoHead (chunk is_text h (ahead c)) c d
     → Makes some_bytes (string_at is_text None (ahead a)) a d (Err error.DecodeFailed)
 collects_no_chunk is_text left after a b c d h bytes g n none =
@@ -146,7 +146,7 @@ collects_no_chunk is_text left after a b c d h bytes g n none =
     cs.reads in
     none_is_some (r.first, r.middle) (sym none.reads ∙ r.one))
 
-pub collects_full : (is_text : Bool) (left after : Option ℕ) (a b c d : Walk) (h : Head) (bytes s : List ℕ)
+pub collects_full : (is_text : Bool) (left after : Option ℕ) (a b c d : CursorState) (h : Head) (bytes s : List ℕ)
     → Collects is_text left a b bytes → ElementRead left after b c h → PieceRead is_text (chunk is_text h (ahead c))
     c d s → 0 < length s → Makes some_bytes (string_at is_text None (ahead a)) a d (Err error.OutOfMemory)
 collects_full is_text left after a b c d h bytes s g n p some = record {
@@ -178,7 +178,7 @@ collects_full is_text left after a b c d h bytes s g n p some = record {
   first_is : (x u : List ℕ) → chunk is_text h (ahead c) ≡ Some (x, u) → s ≡ x
   first_is x u one = ap (λ (q : List ℕ × List ℕ). q.0) (some_is (s, ahead d) (x, u) (sym p.reads ∙ one))
 
-pub collects_end : (is_text : Bool) (left : Option ℕ) (a b c : Walk) (v : Vec ℕ Global) → Collects is_text left a b
+pub collects_end : (is_text : Bool) (left : Option ℕ) (a b c : CursorState) (v : Vec ℕ Global) → Collects is_text left a b
     v.items → EndRead left b c → Makes some_bytes (string_at is_text None (ahead a)) a c (Ok v)
 collects_end is_text left a b c v g n = record {
   went = went_then a b c g.went (went_passed b c n.passed);
@@ -195,7 +195,7 @@ collects_end is_text left a b c v g n = record {
 
 -- ---- how many heads the loop counted, by its invariant
 
-pub counts_no_step : (is_text : Bool) (left : Option ℕ) (a b c : Walk) (bytes : List ℕ) → Collects is_text left a b
+pub counts_no_step : (is_text : Bool) (left : Option ℕ) (a b c : CursorState) (bytes : List ℕ) → Collects is_text left a b
     bytes → NoHead (step_at left (ahead b)) b c → c.heads ≡ raised b.heads 1 → CountsSome is_text a c
 counts_no_step is_text left a b c bytes g n one = record {
   least = omega (arith, g.went.heads, one);
@@ -203,7 +203,7 @@ counts_no_step is_text left a b c bytes g n one = record {
       (gathers_nothing (chunk is_text) no_nodes None left a b c (Collected a b bytes) g n chunks rest e);
 }
 
-pub counts_no_chunk : (is_text : Bool) (left after : Option ℕ) (a b c d : Walk) (h : Head) (bytes : List ℕ)
+pub counts_no_chunk : (is_text : Bool) (left after : Option ℕ) (a b c d : CursorState) (h : Head) (bytes : List ℕ)
     → Collects is_text left a b bytes → ElementRead left after b c h → NoHead (chunk is_text h (ahead c)) c d
     → d.heads ≡ c.heads → CountsSome is_text a d
 counts_no_chunk is_text left after a b c d h bytes g n none uncounted = record {
@@ -214,7 +214,7 @@ counts_no_chunk is_text left after a b c d h bytes g n none uncounted = record {
       absurd (none_is_some (r.first, r.middle) (sym none.reads ∙ r.one));
 }
 
-pub counts_here : (is_text : Bool) (left after : Option ℕ) (a b c d : Walk) (h : Head) (bytes s : List ℕ)
+pub counts_here : (is_text : Bool) (left after : Option ℕ) (a b c d : CursorState) (h : Head) (bytes s : List ℕ)
     → Collects is_text left a b bytes → ElementRead left after b c h
     → PieceRead is_text (chunk is_text h (ahead c)) c d s → CountsSome is_text a d
 counts_here is_text left after a b c d h bytes s g n p = record {
@@ -234,13 +234,13 @@ counts_here is_text left after a b c d h bytes s g n p = record {
 }
 
 -- a break was decoded after these chunks
-ends_counted : (left : Option ℕ) (a b c : Walk) (k : ℕ) → left ≡ None → b.heads ≡ raised a.heads k
+ends_counted : (left : Option ℕ) (a b c : CursorState) (k : ℕ) → left ≡ None → b.heads ≡ raised a.heads k
     → EndRead left b c → c.heads ≡ raised a.heads (k + 1)
 ends_counted left a b c k unknown heads n =
     n.counted ∙ ap (λ (l : Option ℕ). raised b.heads (break_heads l)) unknown ∙ ap (λ (i : ℕ). raised i 1) heads
     ∙ raised-raised a.heads k 1
 
-pub counts_end : (is_text : Bool) (left : Option ℕ) (a b c : Walk) (bytes : List ℕ) → left ≡ None
+pub counts_end : (is_text : Bool) (left : Option ℕ) (a b c : CursorState) (bytes : List ℕ) → left ≡ None
     → Collects is_text left a b bytes → EndRead left b c → CountsAll is_text a c
 counts_end is_text left a b c bytes unknown g n chunks rest e =
     let r = g.goes chunks rest e in
@@ -251,17 +251,17 @@ counts_end is_text left a b c bytes unknown g n chunks rest e =
 
 -- The look-up goes past the chunks so far: it counts one head for each, and then those that the other chunks
 -- count.
-pub record Sought (names : List (List ℕ)) (old now : Walk) (bytes : List ℕ) (chunks : List (List ℕ)) : Type 0 where
+pub record Sought (names : List (List ℕ)) (old now : CursorState) (bytes : List ℕ) (chunks : List (List ℕ)) : Type 0 where
   pub collected : Collected old now bytes chunks
   pub until : (others : List (List ℕ))
       → heads_until names [] (chunks ++ others) ≡ length chunks + heads_until names bytes others
 
 -- The invariant of a loop over chunks that looks up names.
-abbrev pub Seeks : Bool → List (List ℕ) → Option ℕ → Walk → Walk → List ℕ → Type 0
+abbrev pub Seeks : Bool → List (List ℕ) → Option ℕ → CursorState → CursorState → List ℕ → Type 0
 Seeks is_text names left old now bytes =
     Gathers (chunk is_text) no_nodes None left old now (Sought names old now bytes)
 
-pub seeks_collects : (is_text : Bool) (names : List (List ℕ)) (left : Option ℕ) (a b : Walk) (bytes : List ℕ)
+pub seeks_collects : (is_text : Bool) (names : List (List ℕ)) (left : Option ℕ) (a b : CursorState) (bytes : List ℕ)
     → Seeks is_text names left a b bytes → Collects is_text left a b bytes
 seeks_collects is_text names left a b bytes g = record {
   went = g.went;
@@ -279,7 +279,7 @@ seeks_collects is_text names left a b bytes g = record {
       };
 }
 
-pub seeks_start : (is_text : Bool) (names : List (List ℕ)) (a : Walk) (bytes : List ℕ) → IsInside a → bytes ≡ []
+pub seeks_start : (is_text : Bool) (names : List (List ℕ)) (a : CursorState) (bytes : List ℕ) → IsInside a → bytes ≡ []
     → Seeks is_text names None a a bytes
 seeks_start is_text names a bytes inside none =
     gathers_start (chunk is_text) no_nodes None a (Sought names a a bytes) inside (record {
@@ -288,7 +288,7 @@ seeks_start is_text names a bytes inside none =
           ∙ sym (zero-add (heads_until names bytes others));
     })
 
-pub seeks_on : (is_text : Bool) (names : List (List ℕ)) (left after : Option ℕ) (a b c d : Walk) (h : Head)
+pub seeks_on : (is_text : Bool) (names : List (List ℕ)) (left after : Option ℕ) (a b c d : CursorState) (h : Head)
     (bytes more s : List ℕ) → Seeks is_text names left a b bytes → ElementRead left after b c h
     → PieceRead is_text (chunk is_text h (ahead c)) c d s → more ≡ bytes ++ s → begins_one (bytes ++ s) names ≡ true
     → Seeks is_text names after a d more
@@ -316,12 +316,12 @@ seeks_on is_text names left after a b c d h bytes more s g n p pushed begins =
       heads = omega (arith, passed_heads c d p.passed, ap length rest_is);
     })
 
-pub sought_no_step : (is_text : Bool) (names : List (List ℕ)) (left : Option ℕ) (a b c : Walk) (bytes : List ℕ)
+pub sought_no_step : (is_text : Bool) (names : List (List ℕ)) (left : Option ℕ) (a b c : CursorState) (bytes : List ℕ)
     → Seeks is_text names left a b bytes → NoHead (step_at left (ahead b)) b c → CountsSought is_text names a c
 sought_no_step is_text names left a b c bytes g n chunks rest e =
     absurd (gathers_nothing (chunk is_text) no_nodes None left a b c (Sought names a b bytes) g n chunks rest e)
 
-pub sought_no_chunk : (is_text : Bool) (names : List (List ℕ)) (left after : Option ℕ) (a b c d : Walk) (h : Head)
+pub sought_no_chunk : (is_text : Bool) (names : List (List ℕ)) (left after : Option ℕ) (a b c d : CursorState) (h : Head)
     (bytes : List ℕ) → Seeks is_text names left a b bytes → ElementRead left after b c h
     → NoHead (chunk is_text h (ahead c)) c d → CountsSought is_text names a d
 sought_no_chunk is_text names left after a b c d h bytes g n none chunks rest e =
@@ -330,7 +330,7 @@ sought_no_chunk is_text names left after a b c d h bytes g n none chunks rest e 
     absurd (none_is_some (r.first, r.middle) (sym none.reads ∙ r.one))
 
 -- no name begins with the chunks so far
-pub sought_stops : (is_text : Bool) (names : List (List ℕ)) (left after : Option ℕ) (a b c d : Walk) (h : Head)
+pub sought_stops : (is_text : Bool) (names : List (List ℕ)) (left after : Option ℕ) (a b c d : CursorState) (h : Head)
     (bytes s : List ℕ) → Seeks is_text names left a b bytes → ElementRead left after b c h → PieceRead is_text
     (chunk is_text h (ahead c)) c d s → begins_one (bytes ++ s) names ≡ false → CountsSought is_text names a d
 sought_stops is_text names left after a b c d h bytes s g n p none chunks rest e =
@@ -347,7 +347,7 @@ sought_stops is_text names left after a b c d h bytes s g n p none chunks rest e
     p.uncounted ∙ n.counted ∙ ap (λ (i : ℕ). raised i 1) r.done.collected.heads
     ∙ raised-raised a.heads (length r.before) 1 ∙ ap (raised a.heads) sum
 
-pub sought_end : (is_text : Bool) (names : List (List ℕ)) (left : Option ℕ) (a b c : Walk) (bytes : List ℕ)
+pub sought_end : (is_text : Bool) (names : List (List ℕ)) (left : Option ℕ) (a b c : CursorState) (bytes : List ℕ)
     → left ≡ None → Seeks is_text names left a b bytes → EndRead left b c → CountsSought is_text names a c
 sought_end is_text names left a b c bytes unknown g n chunks rest e =
     let k = gathers_end (chunk is_text) no_nodes None left a b c (Sought names a b bytes) g n chunks rest e in
@@ -358,7 +358,7 @@ sought_end is_text names left a b c bytes unknown g n chunks rest e =
 -- ---- the total length of the chunks
 
 -- a chunk's content is no longer than the bytes that were passed
-pub chunk_passed : (is_text : Bool) (c d : Walk) (h : Head) (s : List ℕ)
+pub chunk_passed : (is_text : Bool) (c d : CursorState) (h : Head) (s : List ℕ)
     → PieceRead is_text (chunk is_text h (ahead c)) c d s → length s + c.place ≤ d.place
 chunk_passed is_text c d h s p =
     let long : length d.bytes ≡ length c.bytes = ap length p.passed.same in
@@ -373,7 +373,7 @@ chunk_passed is_text c d h s p =
     )
 
 -- The invariant of a loop that skips chunks and adds their lengths.
-pub record Measures (is_text : Bool) (left : Option ℕ) (old now : Walk) (size : ℕ) : Type 0 where
+pub record Measures (is_text : Bool) (left : Option ℕ) (old now : CursorState) (size : ℕ) : Type 0 where
   pub goes : Goes (chunk is_text) None left old now
   pub bytes : List ℕ
   pub size_is : length bytes ≡ size
@@ -381,18 +381,18 @@ pub record Measures (is_text : Bool) (left : Option ℕ) (old now : Walk) (size 
   pub fits : size + old.place ≤ now.place
 
 -- if the chunks were skipped, so was the string
-pub chunks_passed : (is_text : Bool) (a b : Walk) → IsInside a
+pub chunks_passed : (is_text : Bool) (a b : CursorState) → IsInside a
     → PassesOver 0 (list_at (chunk is_text) None (ahead a)) a b
     → PassesOver 0 (string_at is_text None (ahead a)) a b
 chunks_passed is_text a b inside p = made_skipped 0 (list_at (chunk is_text) None (ahead a)) _ concat a b true
     (string_chunks is_text None (ahead a) refl) p
 
-pub chunks_missed : (is_text : Bool) (a b : Walk) → IsInside a → NoHead (list_at (chunk is_text) None (ahead a)) a b
+pub chunks_missed : (is_text : Bool) (a b : CursorState) → IsInside a → NoHead (list_at (chunk is_text) None (ahead a)) a b
     → NoHead (string_at is_text None (ahead a)) a b
 chunks_missed is_text a b inside n = made_skipped 0 (list_at (chunk is_text) None (ahead a)) _ concat a b false
     (string_chunks is_text None (ahead a) refl) n
 
-pub measures_start : (is_text : Bool) (a : Walk) → IsInside a → Measures is_text None a a 0
+pub measures_start : (is_text : Bool) (a : CursorState) → IsInside a → Measures is_text None a a 0
 measures_start is_text a inside = record {
   goes = goes_start (chunk is_text) None a inside;
   bytes = [];
@@ -401,7 +401,7 @@ measures_start is_text a inside = record {
   fits = omega arith;
 }
 
-pub measures_on : (is_text : Bool) (left after : Option ℕ) (a b c d : Walk) (h : Head) (size : ℕ) (s : List ℕ)
+pub measures_on : (is_text : Bool) (left after : Option ℕ) (a b c d : CursorState) (h : Head) (size : ℕ) (s : List ℕ)
     → Measures is_text left a b size → ElementRead left after b c h
     → PieceRead is_text (chunk is_text h (ahead c)) c d s → Measures is_text after a d (size + length s)
 measures_on is_text left after a b c d h size s m n p = record {
@@ -413,7 +413,7 @@ measures_on is_text left after a b c d h size s m n p = record {
   fits = omega (arith, m.fits, n.passed.forward, chunk_passed is_text c d h s p);
 }
 
-pub measured : (is_text : Bool) (left : Option ℕ) (a b c : Walk) (size : ℕ) → Measures is_text left a b size
+pub measured : (is_text : Bool) (left : Option ℕ) (a b c : CursorState) (size : ℕ) → Measures is_text left a b size
     → EndRead left b c → IsLengthOf (string_at is_text None (ahead a)) size
 measured is_text left a b c size m n s rest e =
     let cs = chunks_of is_text (ahead a) s rest e in

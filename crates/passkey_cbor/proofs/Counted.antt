@@ -5,7 +5,7 @@ use Rattle.passkey_cbor.specs.Item.{Item, number, array, map, tagged, items_of, 
 use Rattle.passkey_cbor.specs.Nodes.{nodes, items_nodes, pairs_nodes}
 use Rattle.passkey_cbor.specs.HeadReading.{Read}
 use Rattle.passkey_cbor.specs.Reading.{simple_item}
-use Rattle.passkey_cbor.specs.Walk.{Walk, ahead, raised}
+use Rattle.passkey_cbor.specs.CursorState.{CursorState, ahead, raised}
 use Rattle.passkey_cbor.specs.Building.{total, an_item, a_counted_item, a_pair, Made, Makes}
 use Rattle.passkey_cbor.specs.declared.value.Value.{Value}
 use Rattle.passkey_cbor.specs.declared.error.CborError.{CborError}
@@ -66,13 +66,13 @@ simple_size n = omega (arith, simple_nodes n)
 -- ---- a data item is counted once
 
 -- one more data item was counted
-abbrev pub one_more : Walk → Walk
+abbrev pub one_more : CursorState → CursorState
 one_more a = record a { heads = min (a.heads + 0) (2 ^ 128 - 1); nodes = min (a.nodes + 1) (2 ^ 128 - 1) }
 
-counted : (x : Item) (rest : List ℕ) (a b c : Walk) (result : Result Value CborError) → b ≡ one_more a
+counted : (x : Item) (rest : List ℕ) (a b c : CursorState) (result : Result Value CborError) → b ≡ one_more a
     → Made a_counted_item x rest b c result → Made an_item x rest a c result
 counted x rest a b c (Ok v) e k =
-    let up : b.nodes ≡ raised a.nodes 1 = ap (λ (w : Walk). w.nodes) e in
+    let up : b.nodes ≡ raised a.nodes 1 = ap (λ (w : CursorState). w.nodes) e in
     let sum : 1 + (nodes x - 1) ≡ nodes x = omega (arith, nodes-pos x) in (
       k.0,
       k.1,
@@ -80,14 +80,14 @@ counted x rest a b c (Ok v) e k =
           ∙ ap (raised a.nodes) sum,
     )
 counted x rest a b c (Err f) e k =
-    let up : b.nodes ≡ min (a.nodes + 1) (2 ^ 128 - 1) = ap (λ (w : Walk). w.nodes) e in
+    let up : b.nodes ≡ min (a.nodes + 1) (2 ^ 128 - 1) = ap (λ (w : CursorState). w.nodes) e in
     fails_within a_counted_item an_item x x rest rest a b c f (λ t. t) (omega (arith, up, nodes-pos x)) k
 
-pub counted_once : (read : Read Item) (a b c : Walk) (result : Result Value CborError) → b ≡ one_more a
+pub counted_once : (read : Read Item) (a b c : CursorState) (result : Result Value CborError) → b ≡ one_more a
     → a.heads ≤ b.heads → a.nodes ≤ b.nodes → Makes a_counted_item read b c result → Makes an_item read a c result
 counted_once read a b c result e heads nodes k =
-    let bytes_are : b.bytes ≡ a.bytes = ap (λ (w : Walk). w.bytes) e in
-    let place_is : b.place ≡ a.place = ap (λ (w : Walk). w.place) e in
+    let bytes_are : b.bytes ≡ a.bytes = ap (λ (w : CursorState). w.bytes) e in
+    let place_is : b.place ≡ a.place = ap (λ (w : CursorState). w.place) e in
     record {
       went = record {
         same = k.went.same ∙ bytes_are;
@@ -98,5 +98,5 @@ counted_once read a b c result e heads nodes k =
       };
       made = λ x rest f. counted x rest a b c result e (k.made x rest f);
       heads = λ x rest f. omega
-          (arith, k.heads x rest f, ap (λ (w : Walk). w.heads) e, ap (λ (w : Walk). length (ahead w)) e);
+          (arith, k.heads x rest f, ap (λ (w : CursorState). w.heads) e, ap (λ (w : CursorState). length (ahead w)) e);
     }

@@ -4,7 +4,7 @@ use Rattle.passkey_cbor.specs.Item.{Item, tagged}
 use Rattle.passkey_cbor.specs.HeadReading.{◌>>=◌, Read, head_at}
 use Rattle.passkey_cbor.specs.Reading.{Reader, start, is_break, Step, end, element, step_at, after_step, list_by, list_at, pair_by, item_by, item_within}
 use Rattle.passkey_cbor.specs.HeadsDecoded.{Tally, then_heads, begun_heads, start_heads, step_heads, list_heads_by, list_heads, pair_heads, item_heads_by, item_heads}
-use Rattle.passkey_cbor.specs.Walk.{break_heads}
+use Rattle.passkey_cbor.specs.CursorState.{break_heads}
 use Rattle.passkey_cbor.specs.Courses.{Course, behind_heads, over, fault, resumed, ◌▸◌, rest_of, course_behind, course_of, list_course, item_course, item_behind, items_course, pairs_course, open_course, begins_break}
 use Rattle.passkey_cbor.specs.declared.head.Head.{Head}
 use Rattle.passkey_cbor.specs.declared.head.Head.TheVariants as head

@@ -12,7 +12,7 @@ use Rattle.passkey_cbor.specs.HeadEncoding.{IsEncodingOfHead}
 use Rattle.passkey_cbor.specs.HeadReading.{head_at}
 use Rattle.passkey_cbor.specs.Reading.{simple_item, item_within}
 use Rattle.passkey_cbor.specs.Inside.{Within, PairWithin, Inside}
-use Rattle.passkey_cbor.specs.Walk.{Walk, ahead, raised}
+use Rattle.passkey_cbor.specs.CursorState.{CursorState, ahead, raised}
 use Rattle.passkey_cbor.specs.HeadCount.{heads_of}
 use Rattle.passkey_cbor.specs.Found.{FindsHead}
 use Rattle.passkey_cbor.specs.Skipped.{SkipsLeadingItem}
@@ -168,7 +168,7 @@ opened (float f) t w = whole_head _ t (head.Float f) w.1 (refl, refl)
 
 -- ---- the calls of a cursor
 
-pub opens : (a b : Walk) (found : Option Head) (x : Item) (to : ℕ) → FindsHead a b found
+pub opens : (a b : CursorState) (found : Option Head) (x : Item) (to : ℕ) → FindsHead a b found
     → IsEncodedAt x a.bytes a.place to → Opens x to b found
 opens a b None x to n l =
     let o = opened x l.text l.encoded in
@@ -205,7 +205,7 @@ opens a b (Some h) x to p l =
       within = omega (arith, l.within, ap length p.bytes);
     }
 
-pub passes : (a b : Walk) (found : Bool) (x : Item) (to : ℕ) → SkipsLeadingItem a b found
+pub passes : (a b : CursorState) (found : Bool) (x : Item) (to : ℕ) → SkipsLeadingItem a b found
     → IsEncodedAt x a.bytes a.place to → Passes to a b found
 passes a b true x to p l =
     let same = only_one x p.item a.bytes a.place to p.len l p.front in
@@ -220,7 +220,7 @@ passes a b true x to p l =
     }
 passes a b false x to n l = absurd (n.none x (to - a.place) (stands_front x a.bytes a.place to l))
 
-pub values : (a b : Walk) (result : Result Value CborError) (x : Item) (to : ℕ) → ReadsValue a b result
+pub values : (a b : CursorState) (result : Result Value CborError) (x : Item) (to : ℕ) → ReadsValue a b result
     → IsEncodedAt x a.bytes a.place to → Values x to a b result
 values a b (Ok v) x to p l =
     let same = only_one x (item_of v) a.bytes a.place to p.len l p.front in

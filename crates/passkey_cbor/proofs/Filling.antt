@@ -5,7 +5,7 @@ use Rattle.std.proofs.lemmas.List.{length-append, length-take, length-drop, take
 use Rattle.passkey_cbor.specs.Inside.{Content}
 use Rattle.passkey_cbor.specs.Reading.{chunk, step_at, list_at}
 use Rattle.passkey_cbor.specs.Steps.{NoHead, ElementRead, EndRead, PieceRead}
-use Rattle.passkey_cbor.specs.Walk.{Walk, ahead}
+use Rattle.passkey_cbor.specs.CursorState.{CursorState, ahead}
 use Rattle.passkey_cbor.specs.declared.head.Head.{Head}
 use Rattle.passkey_cbor.proofs.Binds.{some_is, none_is_some}
 use Rattle.passkey_cbor.proofs.Gathering.{Here, gathers_nothing, gathers_here, gathers_end}
@@ -13,29 +13,29 @@ use Rattle.passkey_cbor.proofs.Chunks.{no_nodes, Collected, Collects, concat-app
 use Rattle.passkey_cbor.proofs.Joining.{chunks_in}
 
 -- the region of a byte string in chunks, and a cursor's position in it
-module _ (region : List ℕ) (a : Walk) (at_start : ahead a ≡ region) (s : List ℕ) (c : Content false None s region)
-    (left : Option ℕ) (b : Walk) (bytes : List ℕ) (g : Collects false left a b bytes) where
+module _ (region : List ℕ) (a : CursorState) (at_start : ahead a ≡ region) (s : List ℕ) (c : Content false None s region)
+    (left : Option ℕ) (b : CursorState) (bytes : List ℕ) (g : Collects false left a b bytes) where
   chunks_there : list_at (chunk false) None (ahead a) ≡ Some (c.first.0, [])
   chunks_there = chunks_in false s region a at_start c
 
   -- a well-formed step follows
-  pub step_there : (d : Walk) → NoHead (step_at left (ahead b)) b d → ⊥
+  pub step_there : (d : CursorState) → NoHead (step_at left (ahead b)) b d → ⊥
   step_there d n =
       gathers_nothing (chunk false) no_nodes None left a b d (Collected a b bytes) g n c.first.0 [] chunks_there
 
-  chunk_here : (after : Option ℕ) (d : Walk) (h : Head) → ElementRead left after b d h
+  chunk_here : (after : Option ℕ) (d : CursorState) (h : Head) → ElementRead left after b d h
       → Here (chunk false) no_nodes after a d h (Collected a b bytes) c.first.0 []
   chunk_here after d h n = gathers_here (chunk false) no_nodes None left after a b d h (Collected a b bytes) g n
       c.first.0 [] chunks_there
 
   -- after a chunk's head, its content follows
-  pub chunk_there : (after : Option ℕ) (d e : Walk) (h : Head) → ElementRead left after b d h
+  pub chunk_there : (after : Option ℕ) (d e : CursorState) (h : Head) → ElementRead left after b d h
       → NoHead (chunk false h (ahead d)) d e → ⊥
   chunk_there after d e h n none = let r =
       chunk_here after d h n in none_is_some (r.first, r.middle) (sym none.reads ∙ r.one)
 
   -- the chunk is no longer than what is left of the string
-  pub chunk_fits : (after : Option ℕ) (d e : Walk) (h : Head) (t : List ℕ) → ElementRead left after b d h
+  pub chunk_fits : (after : Option ℕ) (d e : CursorState) (h : Head) (t : List ℕ) → ElementRead left after b d h
       → PieceRead false (chunk false h (ahead d)) d e t → length bytes + length t ≤ length s
   chunk_fits after d e h t n p =
       let r = chunk_here after d h n in
@@ -53,7 +53,7 @@ module _ (region : List ℕ) (a : Walk) (at_start : ahead a ≡ region) (s : Lis
       )
 
   -- all chunks were copied
-  pub all_there : (d : Walk) → EndRead left b d → s ≡ bytes
+  pub all_there : (d : CursorState) → EndRead left b d → s ≡ bytes
   all_there d n = sym c.first.1.0 ∙ (gathers_end (chunk false) no_nodes None left a b d (Collected a b bytes) g n
       c.first.0 [] chunks_there).done.joined
 

@@ -4,7 +4,7 @@ use Rattle.std.proofs.Common.{Vec, Global}
 use Rattle.std.proofs.lemmas.List.{append-nil, length-drop, map-append}
 use Rattle.passkey_cbor.specs.HeadReading.{◌>>=◌, Read}
 use Rattle.passkey_cbor.specs.Reading.{Reader, start, Step, end, element, step_at, after_step, list_by, list_at}
-use Rattle.passkey_cbor.specs.Walk.{Walk, ahead, raised, IsInside, Passed, Stopped, Went}
+use Rattle.passkey_cbor.specs.CursorState.{CursorState, ahead, raised, IsInside, Passed, Stopped, MovesForward}
 use Rattle.passkey_cbor.specs.Steps.{NoHead, ElementRead, EndRead, ReadsHead}
 use Rattle.passkey_cbor.specs.Building.{IsNotEmpty, total, Making, each_of, Made, Makes}
 use Rattle.passkey_cbor.specs.declared.head.Head.{Head}
@@ -18,11 +18,11 @@ use Rattle.std.specs.Option.{IsSomeAnd}
 
 -- ---- where the cursor goes
 
-pub went_none : (a : Walk) → IsInside a → Went a a
+pub went_none : (a : CursorState) → IsInside a → MovesForward a a
 went_none a inside =
     record { same = refl; within = inside; forward = omega arith; heads = omega arith; nodes = omega arith }
 
-pub went_passed : (a b : Walk) → Passed a b → Went a b
+pub went_passed : (a b : CursorState) → Passed a b → MovesForward a b
 went_passed a b p = record {
   same = p.same;
   within = p.within;
@@ -31,7 +31,7 @@ went_passed a b p = record {
   nodes = omega (arith, p.nodes);
 }
 
-pub went_stopped : (a b : Walk) → Stopped a b → Went a b
+pub went_stopped : (a b : CursorState) → Stopped a b → MovesForward a b
 went_stopped a b p = record {
   same = p.same;
   within = p.within;
@@ -40,7 +40,7 @@ went_stopped a b p = record {
   nodes = omega (arith, p.nodes);
 }
 
-pub went_then : (a b c : Walk) → Went a b → Went b c → Went a c
+pub went_then : (a b c : CursorState) → MovesForward a b → MovesForward b c → MovesForward a c
 went_then a b c p q = record {
   same = q.same ∙ p.same;
   within = q.within;
@@ -50,22 +50,22 @@ went_then a b c p q = record {
 }
 
 -- the cursor went on, and back to where it began
-pub went_back : (a b c : Walk) → IsInside a → Went a b → c ≡ record b { place = a.place } → Went a c
+pub went_back : (a b c : CursorState) → IsInside a → MovesForward a b → c ≡ record b { place = a.place } → MovesForward a c
 went_back a b c inside p e = record {
-  same = ap (λ (w : Walk). w.bytes) e ∙ p.same;
+  same = ap (λ (w : CursorState). w.bytes) e ∙ p.same;
   within =
-      omega (arith, inside, ap length p.same, ap (λ (w : Walk). length w.bytes) e, ap (λ (w : Walk). w.place) e);
-  forward = omega (arith, ap (λ (w : Walk). w.place) e);
-  heads = omega (arith, p.heads, ap (λ (w : Walk). w.heads) e);
-  nodes = omega (arith, p.nodes, ap (λ (w : Walk). w.nodes) e);
+      omega (arith, inside, ap length p.same, ap (λ (w : CursorState). length w.bytes) e, ap (λ (w : CursorState). w.place) e);
+  forward = omega (arith, ap (λ (w : CursorState). w.place) e);
+  heads = omega (arith, p.heads, ap (λ (w : CursorState). w.heads) e);
+  nodes = omega (arith, p.nodes, ap (λ (w : CursorState). w.nodes) e);
 }
 
-pub went_head : (a b : Walk) (found : Option Head) → ReadsHead a b found → Went a b
+pub went_head : (a b : CursorState) (found : Option Head) → ReadsHead a b found → MovesForward a b
 went_head a b (Some h) r = went_passed a b r.passed
 went_head a b None r = went_stopped a b r.stopped
 
 -- at most one head for each byte that was passed
-pub passed_heads : (a b : Walk) → Passed a b → b.heads + length (ahead b) ≤ a.heads + length (ahead a)
+pub passed_heads : (a b : CursorState) → Passed a b → b.heads + length (ahead b) ≤ a.heads + length (ahead a)
 passed_heads a b p =
     let long : length b.bytes ≡ length a.bytes = ap length p.same in
     omega (arith, long, p.within, p.forward, p.heads, length-drop a.place a.bytes, length-drop b.place b.bytes)
@@ -73,8 +73,8 @@ passed_heads a b p =
 -- ---- one reading after another
 
 -- nothing is decoded, so there is nothing to prove
-pub makes_nothing : {V X : Type 0} (m : Making V X) (read : Read X) (a b : Walk) (result : Result V CborError)
-    → Went a b → read ≡ None → Makes m read a b result
+pub makes_nothing : {V X : Type 0} (m : Making V X) (read : Read X) (a b : CursorState) (result : Result V CborError)
+    → MovesForward a b → read ≡ None → Makes m read a b result
 makes_nothing m read a b result went e = record {
   went = went;
   made = λ x rest f. absurd (none_is_some (x, rest) (sym e ∙ f));
@@ -82,7 +82,7 @@ makes_nothing m read a b result went e = record {
 }
 
 -- a value is decoded and built
-pub makes_one : {V X : Type 0} (m : Making V X) (read : Read X) (x : X) (a b : Walk) (v : V) → Passed a b
+pub makes_one : {V X : Type 0} (m : Making V X) (read : Read X) (x : X) (a b : CursorState) (v : V) → Passed a b
     → read ≡ Some (x, ahead b) → m.view v ≡ x → m.size x ≡ 0 → Makes m read a b (Ok v)
 makes_one {X = X} m read x a b v p e same none = record {
   went = went_passed a b p;
@@ -96,20 +96,20 @@ makes_one {X = X} m read x a b v p e same none = record {
 
 -- if a part fails, so does the whole
 pub fails_within : {V W X Y : Type 0} (m : Making V X) (all : Making W Y) (x : X) (y : Y) (rest rest_all : List ℕ)
-    (old mid now : Walk) (e : CborError) → (m.Takes x → all.Takes y) → mid.nodes + m.size x ≤ old.nodes + all.size y
+    (old mid now : CursorState) (e : CborError) → (m.Takes x → all.Takes y) → mid.nodes + m.size x ≤ old.nodes + all.size y
     → Made m x rest mid now (Err e) → Made all y rest_all old now (Err e)
 fails_within m all x y rest rest_all old mid now error.OutOfMemory takes size k =
     (takes k.0, omega (arith, k.1, size))
 fails_within m all x y rest rest_all old mid now _ takes size k = k
 
 -- nothing was built before
-made_from : {V X : Type 0} (m : Making V X) (x : X) (rest : List ℕ) (a b c : Walk) (result : Result V CborError)
+made_from : {V X : Type 0} (m : Making V X) (x : X) (rest : List ℕ) (a b c : CursorState) (result : Result V CborError)
     → b.nodes ≡ a.nodes → Made m x rest b c result → Made m x rest a c result
 made_from m x rest a b c (Ok v) e k = (k.0, k.1, k.2 ∙ ap (λ (n : ℕ). raised n (m.size x)) e)
 made_from m x rest a b c (Err f) e k = fails_within m m x x rest rest a b c f (λ t. t) (omega (arith, e)) k
 
 -- a head was decoded before
-pub makes_after : {V X : Type 0} (m : Making V X) (read whole : Read X) (a b c : Walk) (result : Result V CborError)
+pub makes_after : {V X : Type 0} (m : Making V X) (read whole : Read X) (a b c : CursorState) (result : Result V CborError)
     → Passed a b → whole ≡ read → Makes m read b c result → Makes m whole a c result
 makes_after m read whole a b c result p e k = record {
   went = went_then a b c (went_passed a b p) k.went;
@@ -136,7 +136,7 @@ put_from {X = X} {Y = Y} make read whole e y rest f =
 
 -- what was built becomes part of something else
 pub makes_put : {V W X Y : Type 0} (m : Making V X) (all : Making W Y) (make : X → Y) (read : Read X)
-    (whole : Read Y) (a b : Walk) (v : V) (w : W)
+    (whole : Read Y) (a b : CursorState) (v : V) (w : W)
     → whole ≡ (read >>= λ x. Some (make x.0, x.1)) → all.view w ≡ make (m.view v)
     → ((x : X) → all.size (make x) ≡ m.size x) → Makes m read a b (Ok v) → Makes all whole a b (Ok w)
 makes_put m all make read whole a b v w e same size k = record {
@@ -150,7 +150,7 @@ makes_put m all make read whole a b v w e same size k = record {
 
 -- building a part of something else failed
 pub fails_put : {V W X Y : Type 0} (m : Making V X) (all : Making W Y) (make : X → Y) (read : Read X)
-    (whole : Read Y) (a b : Walk) (e : CborError)
+    (whole : Read Y) (a b : CursorState) (e : CborError)
     → whole ≡ (read >>= λ x. Some (make x.0, x.1)) → ((x : X) → m.Takes x → all.Takes (make x))
     → ((x : X) → all.size (make x) ≡ m.size x) → Makes m read a b (Err e) → Makes all whole a b (Err e)
 fails_put m all make read whole a b e is takes size k = record {
@@ -164,7 +164,7 @@ fails_put m all make read whole a b e is takes size k = record {
 
 -- the part was built, but allocating the whole failed
 pub full_put : {V W X Y : Type 0} (m : Making V X) (all : Making W Y) (make : X → Y) (read : Read X)
-    (whole : Read Y) (a b : Walk) (v : V)
+    (whole : Read Y) (a b : CursorState) (v : V)
     → whole ≡ (read >>= λ x. Some (make x.0, x.1)) → ((x : X) → all.Takes (make x)) → ((x : X)
     → all.size (make x) ≡ m.size x) → Makes m read a b (Ok v) → Makes all whole a b (Err error.OutOfMemory)
 full_put m all make read whole a b v is takes size k = record {
@@ -202,7 +202,7 @@ two_from {X = X} {Y = Y} read next p rest e =
 
 -- both were built
 pub makes_both : {V W X Y : Type 0} (m : Making V X) (n : Making W Y) (both : Making (V × W) (X × Y))
-    (read : Read X) (next : List ℕ → Read Y) (a b c : Walk) (v : V) (w : W)
+    (read : Read X) (next : List ℕ → Read Y) (a b c : CursorState) (v : V) (w : W)
     → both.view (v, w) ≡ (m.view v, n.view w) → ((p : X × Y) → both.size p ≡ m.size p.0 + n.size p.1) → Makes m read
     a b (Ok v) → Makes n (next (ahead b)) b c (Ok w) → Makes both (together read next) a c (Ok (v, w))
 makes_both {X = X} {Y = Y} m n both read next a b c v w same size k l = record {
@@ -226,7 +226,7 @@ makes_both {X = X} {Y = Y} m n both read next a b c v w same size k l = record {
 
 -- the first was not built
 pub fails_first : {V W X Y : Type 0} (m : Making V X) (both : Making W (X × Y)) (read : Read X) (next : List ℕ
-    → Read Y) (a b : Walk) (e : CborError) → ((p : X × Y) → both.Takes p) → ((p : X × Y) → m.size p.0 ≤ both.size p)
+    → Read Y) (a b : CursorState) (e : CborError) → ((p : X × Y) → both.Takes p) → ((p : X × Y) → m.size p.0 ≤ both.size p)
     → ((u : List ℕ) (y : Y × List ℕ) → next u ≡ Some y → length y.1 ≤ length u)
     → Makes m read a b (Err e) → Makes both (together read next) a b (Err e)
 fails_first m both read next a b e takes size shrinks k = record {
@@ -242,7 +242,7 @@ fails_first m both read next a b e takes size shrinks k = record {
 
 -- the second was not built
 pub fails_second : {V W T X Y : Type 0} (m : Making V X) (n : Making T Y) (both : Making W (X × Y)) (read : Read X)
-    (next : List ℕ → Read Y) (a b c : Walk) (v : V) (e : CborError) → ((p : X × Y) → both.Takes p)
+    (next : List ℕ → Read Y) (a b c : CursorState) (v : V) (e : CborError) → ((p : X × Y) → both.Takes p)
     → ((p : X × Y) → both.size p ≡ m.size p.0 + n.size p.1)
     → Makes m read a b (Ok v) → Makes n (next (ahead b)) b c (Err e) → Makes both (together read next) a c (Err e)
 fails_second m n both read next a b c v e takes size k l = record {
@@ -266,7 +266,7 @@ total-append size [] ys = omega arith
 total-append size (x ∷ xs) ys = omega (arith, total-append size xs ys)
 
 -- The elements built so far, followed by those still to be decoded, are all of them.
-pub record Remaining {X : Type 0} (read : Reader X) (size : X → ℕ) (left : Option ℕ) (old now : Walk)
+pub record Remaining {X : Type 0} (read : Reader X) (size : X → ℕ) (left : Option ℕ) (old now : CursorState)
     (Done : List X → Type 0) (xs : List X) (rest : List ℕ) : Type 0 where
   pub before : List X
   pub done : Done before
@@ -278,13 +278,13 @@ pub record Remaining {X : Type 0} (read : Reader X) (size : X → ℕ) (left : O
   pub heads : now.heads + length (ahead now) ≤ old.heads + length (ahead old)
 
 -- The invariant of a loop over them.
-pub record Gathers {X : Type 0} (read : Reader X) (size : X → ℕ) (all left : Option ℕ) (old now : Walk)
+pub record Gathers {X : Type 0} (read : Reader X) (size : X → ℕ) (all left : Option ℕ) (old now : CursorState)
     (Done : List X → Type 0) : Type 0 where
-  pub went : Went old now
+  pub went : MovesForward old now
   pub goes : (xs : List X) (rest : List ℕ) → list_at read all (ahead old) ≡ Some (xs, rest)
       → Remaining read size left old now Done xs rest
 
-pub gathers_start : {X : Type 0} (read : Reader X) (size : X → ℕ) (left : Option ℕ) (a : Walk)
+pub gathers_start : {X : Type 0} (read : Reader X) (size : X → ℕ) (left : Option ℕ) (a : CursorState)
     (Done : List X → Type 0) → IsInside a → Done [] → Gathers read size left left a a Done
 gathers_start read size left a Done inside none = record {
   went = went_none a inside;
@@ -316,7 +316,7 @@ some_decoded {X = X} read fuel (Some (suc n)) bytes xs rest some e =
     subst IsNotEmpty same tt
 
 -- memory ran out before the first element
-pub no_room : {V X : Type 0} (m : Making V X) (read : Reader X) (len : Option ℕ) (a : Walk) → Shrinks read
+pub no_room : {V X : Type 0} (m : Making V X) (read : Reader X) (len : Option ℕ) (a : CursorState) → Shrinks read
     → IsInside a → IsSomeAnd len (λ n. 0 < n)
     → Makes (each_of m) (list_at read len (ahead a)) a a (Err error.OutOfMemory)
 no_room m read len a shrinks inside some = record {
@@ -338,7 +338,7 @@ list_goes read (suc fuel) left bytes xs rest e =
     (s.0, s.1, (fuel, s.2))
 
 -- no well-formed step follows, so no list is decoded
-pub gathers_nothing : {X : Type 0} (read : Reader X) (size : X → ℕ) (all left : Option ℕ) (a b c : Walk)
+pub gathers_nothing : {X : Type 0} (read : Reader X) (size : X → ℕ) (all left : Option ℕ) (a b c : CursorState)
     (Done : List X → Type 0) → Gathers read size all left a b Done → NoHead (step_at left (ahead b)) b c
     → (xs : List X) (rest : List ℕ) → list_at read all (ahead a) ≡ Some (xs, rest) → ⊥
 gathers_nothing read size all left a b c Done g n xs rest e =
@@ -347,14 +347,14 @@ gathers_nothing read size all left a b c Done g n xs rest e =
     none_is_some s.0 (sym n.reads ∙ s.1)
 
 -- all elements were built
-pub record Ended {X : Type 0} (size : X → ℕ) (old now : Walk) (Done : List X → Type 0) (xs : List X)
+pub record Ended {X : Type 0} (size : X → ℕ) (old now : CursorState) (Done : List X → Type 0) (xs : List X)
     (rest : List ℕ) : Type 0 where
   pub done : Done xs
   pub rest_is : ahead now ≡ rest
   pub nodes : now.nodes ≡ raised old.nodes (total size xs)
   pub heads : now.heads + length rest ≤ old.heads + length (ahead old)
 
-pub gathers_end : {X : Type 0} (read : Reader X) (size : X → ℕ) (all left : Option ℕ) (a b c : Walk)
+pub gathers_end : {X : Type 0} (read : Reader X) (size : X → ℕ) (all left : Option ℕ) (a b c : CursorState)
     (Done : List X → Type 0) → Gathers read size all left a b Done → EndRead left b c
     → (xs : List X) (rest : List ℕ) → list_at read all (ahead a) ≡ Some (xs, rest) → Ended size a c Done xs rest
 gathers_end {X = X} read size all left a b c Done g n xs rest e =
@@ -374,7 +374,7 @@ gathers_end {X = X} read size all left a b c Done g n xs rest e =
     }
 
 -- the next element is decoded, and then the others
-pub record Here {X : Type 0} (read : Reader X) (size : X → ℕ) (after : Option ℕ) (old now : Walk) (h : Head)
+pub record Here {X : Type 0} (read : Reader X) (size : X → ℕ) (after : Option ℕ) (old now : CursorState) (h : Head)
     (Done : List X → Type 0) (xs : List X) (rest : List ℕ) : Type 0 where
   pub before : List X
   pub done : Done before
@@ -388,7 +388,7 @@ pub record Here {X : Type 0} (read : Reader X) (size : X → ℕ) (after : Optio
   pub nodes : now.nodes ≡ raised old.nodes (total size before)
   pub heads : now.heads + length (ahead now) ≤ old.heads + length (ahead old)
 
-pub gathers_here : {X : Type 0} (read : Reader X) (size : X → ℕ) (all left after : Option ℕ) (a b c : Walk)
+pub gathers_here : {X : Type 0} (read : Reader X) (size : X → ℕ) (all left after : Option ℕ) (a b c : CursorState)
     (h : Head) (Done : List X → Type 0) → Gathers read size all left a b Done → ElementRead left after b c h → (xs :
     List X) (rest : List ℕ) → list_at read all (ahead a) ≡ Some (xs, rest) → Here read size after a c h Done xs rest
 gathers_here {X = X} read size all left after a b c h Done g n xs rest e =
@@ -416,7 +416,7 @@ gathers_here {X = X} read size all left after a b c h Done g n xs rest e =
     }
 
 -- what to prove for one more element
-pub record Goes_on {X : Type 0} (size : X → ℕ) (old new : Walk) (More : List X → Type 0) (before : List X) (x : X)
+pub record Goes_on {X : Type 0} (size : X → ℕ) (old new : CursorState) (More : List X → Type 0) (before : List X) (x : X)
     (u : List ℕ) : Type 0 where
   pub more : More (before ++ x ∷ [])
   pub rest_is : ahead new ≡ u
@@ -424,9 +424,9 @@ pub record Goes_on {X : Type 0} (size : X → ℕ) (old new : Walk) (More : List
   pub heads : new.heads + length u ≤ old.heads + length (ahead old)
 
 -- the element was built
-pub gathers_on : {X : Type 0} (read : Reader X) (size : X → ℕ) (all left after : Option ℕ) (a b c d : Walk)
+pub gathers_on : {X : Type 0} (read : Reader X) (size : X → ℕ) (all left after : Option ℕ) (a b c d : CursorState)
     (h : Head) (Done More : List X → Type 0) → Gathers read size all left a b Done → ElementRead left after b c h
-    → Went c d
+    → MovesForward c d
     → ((before : List X) (x : X) (u : List ℕ) → Done before → read h (ahead c) ≡ Some (x, u)
     → Goes_on size c d More before x u) → Gathers read size all after a d More
 gathers_on {X = X} read size all left after a b c d h Done More g n went made = record {
@@ -455,7 +455,7 @@ not_empty (y ∷ before) others xs x e = subst IsNotEmpty (sym e) tt
 
 -- ---- the result of a loop over the elements
 
-pub gathers_malformed : {V X : Type 0} (m : Making V X) (read : Reader X) (all left : Option ℕ) (a b c : Walk)
+pub gathers_malformed : {V X : Type 0} (m : Making V X) (read : Reader X) (all left : Option ℕ) (a b c : CursorState)
     (Done : List X → Type 0) → Gathers read m.size all left a b Done → NoHead (step_at left (ahead b)) b c
     → Makes (each_of m) (list_at read all (ahead a)) a c (Err error.DecodeFailed)
 gathers_malformed m read all left a b c Done g n = record {
@@ -464,7 +464,7 @@ gathers_malformed m read all left a b c Done g n = record {
   heads = λ xs rest e. absurd (gathers_nothing read m.size all left a b c Done g n xs rest e);
 }
 
-pub gathers_made : {V X : Type 0} (m : Making V X) (read : Reader X) (all left : Option ℕ) (a b c : Walk)
+pub gathers_made : {V X : Type 0} (m : Making V X) (read : Reader X) (all left : Option ℕ) (a b c : CursorState)
     (v : Vec V Global) → Gathers read m.size all left a b (λ xs. map m.view v.items ≡ xs) → EndRead left b c
     → Makes (each_of m) (list_at read all (ahead a)) a c (Ok v)
 gathers_made m read all left a b c v g n = record {
@@ -480,7 +480,7 @@ part_made : {X : Type 0} (size : X → ℕ) (before others xs : List X) (x : X) 
 part_made size before others xs x e = omega (arith, ap (total size) e, total-append size before (x ∷ others))
 
 -- an element was not built
-pub gathers_fails : {V X : Type 0} (m : Making V X) (read : Reader X) (all left after : Option ℕ) (a b c d : Walk)
+pub gathers_fails : {V X : Type 0} (m : Making V X) (read : Reader X) (all left after : Option ℕ) (a b c d : CursorState)
     (h : Head) (Done : List X → Type 0) (e : CborError) → Shrinks read → Gathers read m.size all left a b Done
     → ElementRead left after b c h → Makes m (read h (ahead c)) c d (Err e)
     → Makes (each_of m) (list_at read all (ahead a)) a d (Err e)
@@ -506,7 +506,7 @@ gathers_fails m read all left after a b c d h Done e shrinks g n k = record {
 }
 
 -- the element was built, but memory for the list ran out
-pub gathers_full : {V X : Type 0} (m : Making V X) (read : Reader X) (all left after : Option ℕ) (a b c d : Walk)
+pub gathers_full : {V X : Type 0} (m : Making V X) (read : Reader X) (all left after : Option ℕ) (a b c d : CursorState)
     (h : Head) (Done : List X → Type 0) (v : V) → Shrinks read → Gathers read m.size all left a b Done
     → ElementRead left after b c h → Makes m (read h (ahead c)) c d (Ok v)
     → Makes (each_of m) (list_at read all (ahead a)) a d (Err error.OutOfMemory)
@@ -536,7 +536,7 @@ gathers_full m read all left after a b c d h Done v shrinks g n k = record {
 }
 
 -- the element was built, and is appended to the others
-pub gathers_pushed : {V X : Type 0} (m : Making V X) (read : Reader X) (all left after : Option ℕ) (a b c d : Walk)
+pub gathers_pushed : {V X : Type 0} (m : Making V X) (read : Reader X) (all left after : Option ℕ) (a b c d : CursorState)
     (h : Head) (vs ws : List V) (v : V) → Gathers read m.size all left a b (λ xs. map m.view vs ≡ xs)
     → ElementRead left after b c h → Makes m (read h (ahead c)) c d (Ok v) → ws ≡ vs ++ v ∷ []
     → Gathers read m.size all after a d (λ xs. map m.view ws ≡ xs)

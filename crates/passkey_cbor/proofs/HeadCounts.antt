@@ -9,7 +9,7 @@ use Rattle.passkey_cbor.specs.HeadCount.{content_len, WithContent, AreHeads, one
 use Rattle.passkey_cbor.specs.Languages.{Each}
 use Rattle.passkey_cbor.specs.Reading.{is_break, end, element, step_at, is_allowed, piece_at, chunk_len, chunk}
 use Rattle.passkey_cbor.specs.Steps.{HeadRead, ElementRead, EndRead, PieceRead}
-use Rattle.passkey_cbor.specs.Walk.{Walk, ahead, raised}
+use Rattle.passkey_cbor.specs.CursorState.{CursorState, ahead, raised}
 use Rattle.passkey_cbor.specs.declared.head.Head.{Head}
 use Rattle.passkey_cbor.specs.declared.head.Head.TheVariants as head
 use Rattle.passkey_cbor.proofs.Binds.{some_is, none_is_some, bind_some, bind_at}
@@ -71,7 +71,7 @@ heads_then (suc n) m x y z e f =
 
 -- ---- what a cursor passed
 
-pub spans_none : (a : Walk) → Spans 0 a a
+pub spans_none : (a : CursorState) → Spans 0 a a
 spans_none a = record {
   number = 0;
   reads = bind_at (after_content 0 (ahead a)) (ahead a) (after_heads 0) (no_content (ahead a))
@@ -80,11 +80,11 @@ spans_none a = record {
 }
 
 -- from a head on, the content is passed
-spanned : (a b : Walk) (s : Spans 0 a b) → after_heads s.number (ahead a) ≡ Some (ahead b)
+spanned : (a b : CursorState) (s : Spans 0 a b) → after_heads s.number (ahead a) ≡ Some (ahead b)
 spanned a b s = sym (bind_at (after_content 0 (ahead a)) (ahead a) (after_heads s.number) (no_content (ahead a)))
     ∙ s.reads
 
-pub spans_then : (k : ℕ) (a b c : Walk) → Spans k a b → Spans 0 b c → Spans k a c
+pub spans_then : (k : ℕ) (a b c : CursorState) → Spans k a b → Spans 0 b c → Spans k a c
 spans_then k a b c s t =
     let first = bind_some (after_content k (ahead a)) (after_heads s.number) (ahead b) s.reads in
     record {
@@ -96,7 +96,7 @@ spans_then k a b c s t =
     }
 
 -- a head, its content, and heads after it
-pub spans_headed : (a b c : Walk) (h : Head) → head_at (ahead a) ≡ Some (h, ahead b) → b.heads ≡ raised a.heads 1
+pub spans_headed : (a b c : CursorState) (h : Head) → head_at (ahead a) ≡ Some (h, ahead b) → b.heads ≡ raised a.heads 1
     → Spans (content_len h) b c → Spans 0 a c
 spans_headed a b c h reads one s = record {
   number = suc s.number;
@@ -108,10 +108,10 @@ spans_headed a b c h reads one s = record {
       ∙ ap (raised a.heads) sum;
 }
 
-pub spans_head : (a b c : Walk) (h : Head) → HeadRead a b h → Spans (content_len h) b c → Spans 0 a c
+pub spans_head : (a b c : CursorState) (h : Head) → HeadRead a b h → Spans (content_len h) b c → Spans 0 a c
 spans_head a b c h r s = spans_headed a b c h r.reads r.counted s
 
-pub one_spans : (a b : Walk) → after_heads 1 (ahead a) ≡ Some (ahead b) → b.heads ≡ raised a.heads 1 → Spans 0 a b
+pub one_spans : (a b : CursorState) → after_heads 1 (ahead a) ≡ Some (ahead b) → b.heads ≡ raised a.heads 1 → Spans 0 a b
 one_spans a b e one = record {
   number = 1;
   reads = bind_at (after_content 0 (ahead a)) (ahead a) (after_heads 1) (no_content (ahead a)) ∙ e;
@@ -119,10 +119,10 @@ one_spans a b e one = record {
 }
 
 -- no content, and nothing after it
-pub spans_flat : (k : ℕ) (a : Walk) → k ≡ 0 → Spans k a a
+pub spans_flat : (k : ℕ) (a : CursorState) → k ≡ 0 → Spans k a a
 spans_flat k a none = subst (λ (n : ℕ). Spans n a a) (sym none) (spans_none a)
 
-pub spans_as : (k n : ℕ) (a b : Walk) → k ≡ n → Spans n a b → Spans k a b
+pub spans_as : (k n : ℕ) (a b : CursorState) → k ≡ n → Spans n a b → Spans k a b
 spans_as k n a b same s = subst (λ (m : ℕ). Spans m a b) (sym same) s
 
 -- ---- pieces of strings
@@ -141,14 +141,14 @@ piece_content is_text n bytes s rest e = by_test (cases_lt (length bytes) n) whe
   by_test (inr le) =
       content_there n bytes le ∙ ap Some (checked (is_allowed is_text (take n bytes)) (rw (le-ltb (length bytes) n le) at e))
 
-content_spans : (k : ℕ) (a b : Walk) → after_content k (ahead a) ≡ Some (ahead b) → b.heads ≡ a.heads → Spans k a b
+content_spans : (k : ℕ) (a b : CursorState) → after_content k (ahead a) ≡ Some (ahead b) → b.heads ≡ a.heads → Spans k a b
 content_spans k a b e same = record {
   number = 0;
   reads = bind_at (after_content k (ahead a)) (ahead b) (after_heads 0) e ∙ no_heads (ahead b);
   counted = same;
 }
 
-pub spans_piece : (is_text : Bool) (n : ℕ) (a b : Walk) (s : List ℕ)
+pub spans_piece : (is_text : Bool) (n : ℕ) (a b : CursorState) (s : List ℕ)
     → PieceRead is_text (piece_at is_text n (ahead a)) a b s → Spans n a b
 spans_piece is_text n a b s p = content_spans n a b (piece_content is_text n (ahead a) s (ahead b) p.reads) p.uncounted
 
@@ -166,7 +166,7 @@ chunk_content is_text (head.Simple m) n e = absurd (none_is_some n e)
 chunk_content is_text (head.Float f) n e = absurd (none_is_some n e)
 chunk_content is_text head.Break n e = absurd (none_is_some n e)
 
-pub spans_chunk : (is_text : Bool) (h : Head) (a b : Walk) (s : List ℕ)
+pub spans_chunk : (is_text : Bool) (h : Head) (a b : CursorState) (s : List ℕ)
     → PieceRead is_text (chunk is_text h (ahead a)) a b s → Spans (content_len h) a b
 spans_chunk is_text h a b s p =
     let n = bind_some (chunk_len is_text h) (λ n. piece_at is_text n (ahead a)) (s, ahead b) p.reads in
@@ -217,7 +217,7 @@ element_head None after bytes h rest e =
       by_break true g r f = absurd (no_element after h r rest f)
       by_break false g r f = same_element None after g h r rest f
 
-pub spans_element : (left after : Option ℕ) (a b c : Walk) (h : Head) → ElementRead left after a b h
+pub spans_element : (left after : Option ℕ) (a b c : CursorState) (h : Head) → ElementRead left after a b h
     → Spans (content_len h) b c → Spans 0 a c
 spans_element left after a b c h r s =
     spans_headed a b c h (element_head left after (ahead a) h (ahead b) r.reads) r.counted s
@@ -247,7 +247,7 @@ some_more n bytes rest e =
     let q = bind_some (head_at bytes) (λ h. Some (element (Some n) h.0 h.1)) (end rest) e in
     no_end (Some n) q.0.0 q.0.1 rest q.2
 
-pub spans_end : (left : Option ℕ) (a b : Walk) → EndRead left a b → Spans 0 a b
+pub spans_end : (left : Option ℕ) (a b : CursorState) → EndRead left a b → Spans 0 a b
 spans_end (Some zero) a b r =
     content_spans 0 a b (no_content (ahead a) ∙ ap Some (no_more (ahead a) (ahead b) r.reads)) r.counted
 spans_end (Some (suc n)) a b r = absurd (some_more n (ahead a) (ahead b) r.reads)
@@ -360,11 +360,11 @@ are_heads_then n m s t a b = record {
 -- ---- the heads from one offset to another
 
 -- What a cursor passed is whole heads, and it counted each of them.
-pub record HeadsPassed (len : ℕ) (old new : Walk) : Type 0 where
+pub record HeadsPassed (len : ℕ) (old new : CursorState) : Type 0 where
   pub whole : AreHeads (heads_of (take len (ahead old))) (take len (ahead old))
   pub counted : new.heads ≡ raised old.heads (heads_of (take len (ahead old)))
 
-pub heads_passed : (len : ℕ) (a b : Walk) → IsBytes (ahead a) → len + length (ahead b) ≡ length (ahead a) → Spans 0 a b
+pub heads_passed : (len : ℕ) (a b : CursorState) → IsBytes (ahead a) → len + length (ahead b) ≡ length (ahead a) → Spans 0 a b
     → HeadsPassed len a b
 heads_passed len a b fits size s =
     let t = heads_taken s.number (ahead a) (ahead b) fits (spanned a b s) in

@@ -6,21 +6,21 @@ use Rattle.passkey_cbor.specs.HeadReading.{Read, head_at}
 use Rattle.passkey_cbor.specs.Reading.{Reader, Step, element, step_at, item_within}
 use Rattle.passkey_cbor.specs.HeadsDecoded.{Tally, then_heads, begun_heads, start_heads, step_heads, list_heads_by, list_heads, string_heads, item_heads_by, item_heads}
 use Rattle.passkey_cbor.specs.Lent.{string_head}
-use Rattle.passkey_cbor.specs.Walk.{Walk, ahead, raised, Passed}
+use Rattle.passkey_cbor.specs.CursorState.{CursorState, ahead, raised, Passed}
 use Rattle.passkey_cbor.specs.Steps.{ElementRead}
 use Rattle.passkey_cbor.specs.declared.head.Head.{Head}
 use Rattle.passkey_cbor.proofs.Raised.{raised-raised}
 
 -- counted one after the other
-pub decoded_then : (a b c : Walk) (j k n : ℕ) → b.heads ≡ raised a.heads j → c.heads ≡ raised b.heads k → n ≡ j + k
+pub decoded_then : (a b c : CursorState) (j k n : ℕ) → b.heads ≡ raised a.heads j → c.heads ≡ raised b.heads k → n ≡ j + k
     → c.heads ≡ raised a.heads n
 decoded_then a b c j k n first second is =
     second ∙ ap (λ (m : ℕ). raised m k) first ∙ raised-raised a.heads j k ∙ ap (raised a.heads) (sym is)
 
-pub as_many : (a b : Walk) {n m : ℕ} → n ≡ m → b.heads ≡ raised a.heads m → b.heads ≡ raised a.heads n
+pub as_many : (a b : CursorState) {n m : ℕ} → n ≡ m → b.heads ≡ raised a.heads m → b.heads ≡ raised a.heads n
 as_many a b e counted = counted ∙ ap (raised a.heads) (sym e)
 
-pub no_more : (a : Walk) {n : ℕ} → n ≡ 0 → a.heads ≡ raised a.heads n
+pub no_more : (a : CursorState) {n : ℕ} → n ≡ 0 → a.heads ≡ raised a.heads n
 no_more a e = as_many a a e refl
 
 -- ---- what comes after a head
@@ -65,14 +65,14 @@ headed_string levels is_text len h bytes is =
 -- ---- the elements of a list
 
 -- The invariant of a loop over them: the heads that were decoded, and those of the elements that are left, are all.
-pub record Tallies {A : Type 0} (read : Reader A) (more : Tally) (all left : Option ℕ) (old now : Walk) : Type 0 where
+pub record Tallies {A : Type 0} (read : Reader A) (more : Tally) (all left : Option ℕ) (old now : CursorState) : Type 0 where
   pub decoded : ℕ
   pub heads : now.heads ≡ raised old.heads decoded
   pub fuel : ℕ
   pub enough : length (ahead now) < fuel
   pub sum : list_heads read more all (ahead old) ≡ decoded + list_heads_by read more fuel left (ahead now)
 
-pub tallies_start : {A : Type 0} (read : Reader A) (more : Tally) (left : Option ℕ) (a : Walk)
+pub tallies_start : {A : Type 0} (read : Reader A) (more : Tally) (left : Option ℕ) (a : CursorState)
     → Tallies read more left left a a
 tallies_start read more left a =
     record { decoded = 0; heads = refl; fuel = suc (length (ahead a)); enough = omega arith; sum = omega arith }
@@ -89,10 +89,10 @@ list_stepped : {A : Type 0} (read : Reader A) (more : Tally) (fuel : ℕ) (left 
 list_stepped read more fuel left bytes s e =
     list_step read more fuel left bytes ∙ ap (step_heads read more (list_heads_by read more fuel) left) e
 
-module _ {A : Type 0} {read : Reader A} {more : Tally} {all left : Option ℕ} {a b : Walk}
+module _ {A : Type 0} {read : Reader A} {more : Tally} {all left : Option ℕ} {a b : CursorState}
     (t : Tallies read more all left a b) where
   -- nothing follows but these heads
-  pub tallies_end : (c : Walk) (n : ℕ) (s : Option Step) → step_at left (ahead b) ≡ s → c.heads ≡ raised b.heads n
+  pub tallies_end : (c : CursorState) (n : ℕ) (s : Option Step) → step_at left (ahead b) ≡ s → c.heads ≡ raised b.heads n
       → ((fuel : ℕ) → step_heads read more (list_heads_by read more fuel) left s ≡ n)
       → c.heads ≡ raised a.heads (list_heads read more all (ahead a))
   tallies_end c n s e counted last = by_fuel t.fuel t.enough t.sum where
@@ -104,7 +104,7 @@ module _ {A : Type 0} {read : Reader A} {more : Tally} {all left : Option ℕ} {
         (sum ∙ ap (λ (k : ℕ). t.decoded + k) (list_stepped read more fuel left (ahead b) s e ∙ last fuel))
 
   -- the next element was decoded, with its first head
-  pub tallies_on : (after : Option ℕ) (c d : Walk) (h : Head) (x : A) → ElementRead left after b c h
+  pub tallies_on : (after : Option ℕ) (c d : CursorState) (h : Head) (x : A) → ElementRead left after b c h
       → read h (ahead c) ≡ Some (x, ahead d) → d.heads ≡ raised c.heads (more h (ahead c))
       → length (ahead d) < length (ahead b) → Tallies read more all after a d
   tallies_on after c d h x r e counted shorter = by_fuel t.fuel t.enough t.sum where
@@ -128,7 +128,7 @@ module _ {A : Type 0} {read : Reader A} {more : Tally} {all left : Option ℕ} {
         }
 
   -- the next element wasn't
-  pub tallies_stuck : (after : Option ℕ) (c d : Walk) (h : Head) → ElementRead left after b c h
+  pub tallies_stuck : (after : Option ℕ) (c d : CursorState) (h : Head) → ElementRead left after b c h
       → read h (ahead c) ≡ None → d.heads ≡ raised c.heads (more h (ahead c))
       → d.heads ≡ raised a.heads (list_heads read more all (ahead a))
   tallies_stuck after c d h r e counted =
@@ -137,7 +137,7 @@ module _ {A : Type 0} {read : Reader A} {more : Tally} {all left : Option ℕ} {
       (λ fuel. omega (arith, then_none (read h (ahead c)) (list_heads_by read more fuel after) e))
 
 -- an element leaves fewer bytes
-pub shorter : (b c d : Walk) → Passed b c → b.place < c.place → Passed c d → length (ahead d) < length (ahead b)
+pub shorter : (b c d : CursorState) → Passed b c → b.place < c.place → Passed c d → length (ahead d) < length (ahead b)
 shorter b c d first further second = omega (
   arith,
   ap length first.same,
@@ -152,6 +152,6 @@ shorter b c d first further second = omega (
 
 -- ---- strings
 
-pub piece_heads : (is_text : Bool) (len : Option ℕ) (n : ℕ) (bytes : List ℕ) (a b : Walk) → len ≡ Some n
+pub piece_heads : (is_text : Bool) (len : Option ℕ) (n : ℕ) (bytes : List ℕ) (a b : CursorState) → len ≡ Some n
     → b.heads ≡ a.heads → b.heads ≡ raised a.heads (string_heads is_text len bytes)
 piece_heads is_text len n bytes a b is same = rw is same

@@ -8,7 +8,7 @@ use Rattle.passkey_cbor.specs.LeadingItem.{max_depth, IsLeadingItem, HasNoLeadin
 use Rattle.passkey_cbor.specs.LeadingItemAt.{leading_item_at, IsLeadingItemOf}
 use Rattle.passkey_cbor.specs.Laws.{AtMostOneLeadingItem, NoShorterLeadingItem, LeadingItemIsFound, FoundIsLeadingItem}
 use Rattle.passkey_cbor.specs.Reading.{start, item_within}
-use Rattle.passkey_cbor.specs.Walk.{Walk, ahead, raised, IsPlaced}
+use Rattle.passkey_cbor.specs.CursorState.{CursorState, ahead, raised, IsPlaced}
 use Rattle.passkey_cbor.specs.Steps.{NoHead, PassesOver}
 use Rattle.passkey_cbor.specs.HeadsDecoded.{heads_decoded}
 use Rattle.passkey_cbor.specs.Skipped.{PassesLeadingItem, FindsNoLeadingItem}
@@ -93,7 +93,7 @@ no_shorter bytes x k j f lt y l g =
 
 -- ---- skipping the leading data item
 
-pub front_passed : (a b : Walk) → IsPlaced a.bytes a.place → raised a.heads 1 ≤ b.heads
+pub front_passed : (a b : CursorState) → IsPlaced a.bytes a.place → raised a.heads 1 ≤ b.heads
     → PassesOver 0 (start (item_within max_depth) (ahead a)) a b → PassesLeadingItem a b
 front_passed a b placed least p =
     let long : length b.bytes ≡ length a.bytes = ap length p.passed.same in
@@ -121,7 +121,7 @@ front_passed a b placed least p =
       bytes = p.passed.same;
     }
 
-pub front_missed : (a b : Walk) (place : ℕ) → place ≡ a.place → b.heads ≡ raised a.heads (heads_decoded (ahead a))
+pub front_missed : (a b : CursorState) (place : ℕ) → place ≡ a.place → b.heads ≡ raised a.heads (heads_decoded (ahead a))
     → raised a.heads 1 ≤ b.heads → NoHead (start (item_within max_depth) (ahead a)) a b
     → FindsNoLeadingItem a (record b { place = place })
 front_missed a b place back decoded least n = record {

@@ -10,7 +10,7 @@ use Rattle.passkey_cbor.specs.Leaf.{Headed, IsLeafLen}
 use Rattle.passkey_cbor.specs.Lent.{string_item, string_head}
 use Rattle.passkey_cbor.specs.Reading.{Reader, start, is_allowed, piece_at, item_by, item_within}
 use Rattle.passkey_cbor.specs.Steps.{PassesOver}
-use Rattle.passkey_cbor.specs.Walk.{Walk, ahead, raised, IsInside}
+use Rattle.passkey_cbor.specs.CursorState.{CursorState, ahead, raised, IsInside}
 use Rattle.passkey_cbor.specs.declared.head.Head.{Head}
 use Rattle.passkey_cbor.proofs.Behind.{by_flat, by_string, string_piece}
 use Rattle.passkey_cbor.proofs.Binds.{none_is_some, bind_at}
@@ -88,13 +88,13 @@ pub headed_two : (b a : ℕ) (behind rest : List ℕ) (h : Head) → behind ≡ 
 headed_two b a behind rest h next e = rw next (record { reads = e; parts = refl; within = omega arith })
 
 -- a cursor that passes such an item
-pub leaf_passed : (a b : Walk) (levels n : ℕ) → IsInside a → 0 < n → IsLeafLen (ahead a) n
+pub leaf_passed : (a b : CursorState) (levels n : ℕ) → IsInside a → 0 < n → IsLeafLen (ahead a) n
     → b ≡ record a { place = a.place + n; heads = raised a.heads 1 } → a.heads ≤ b.heads
     → PassesOver 0 (start (item_within levels) (ahead a)) a b
 leaf_passed a b levels n inside some l is rises =
-    let place : b.place ≡ a.place + n = ap (λ (w : Walk). w.place) is in
-    let heads : b.heads ≡ raised a.heads 1 = ap (λ (w : Walk). w.heads) is in
-    let same : b.bytes ≡ a.bytes = ap (λ (w : Walk). w.bytes) is in
+    let place : b.place ≡ a.place + n = ap (λ (w : CursorState). w.place) is in
+    let heads : b.heads ≡ raised a.heads 1 = ap (λ (w : CursorState). w.heads) is in
+    let same : b.bytes ≡ a.bytes = ap (λ (w : CursorState). w.bytes) is in
     let after : drop n (ahead a) ≡ ahead b = drop-drop n a.place a.bytes ∙ ap (λ (k : ℕ). drop k a.bytes) (sym place)
     ∙ ap (drop b.place) (sym same) in
     record {
@@ -107,6 +107,6 @@ leaf_passed a b levels n inside some l is rises =
         forward = omega (arith, place);
         rises = rises;
         heads = omega (arith, place, heads, some);
-        nodes = ap (λ (w : Walk). w.nodes) is;
+        nodes = ap (λ (w : CursorState). w.nodes) is;
       };
     }

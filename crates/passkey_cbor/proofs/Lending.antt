@@ -12,7 +12,7 @@ use Rattle.passkey_cbor.specs.Inside.{IsAllowed, major_type, Content}
 use Rattle.passkey_cbor.specs.HeadReading.{◌>>=◌, head_at}
 use Rattle.passkey_cbor.specs.HeadsDecoded.{begun_heads, string_heads, rest_heads, string_tally, string_decoded}
 use Rattle.passkey_cbor.specs.Reading.{start, is_allowed, piece_at, string_len, string_at, string_by, item_within}
-use Rattle.passkey_cbor.specs.Walk.{Walk, ahead, raised, IsInside, IsPlaced, Passed, Stopped}
+use Rattle.passkey_cbor.specs.CursorState.{CursorState, ahead, raised, IsInside, IsPlaced, Passed, Stopped}
 use Rattle.passkey_cbor.specs.HeadCount.{content_len, heads_of, Spans}
 use Rattle.std.specs.Prelude.{unwrap_or}
 use Rattle.passkey_cbor.specs.Leaf.{Headed}
@@ -81,7 +81,7 @@ string_is_head true n = tt
 -- ---- a string was passed
 
 -- the bytes after a string's head
-pub region_read : (is_text : Bool) (len : Option ℕ) (a b : Walk) (region : List ℕ) → IsInside a → IsBytes (ahead a)
+pub region_read : (is_text : Bool) (len : Option ℕ) (a b : CursorState) (region : List ℕ) → IsInside a → IsBytes (ahead a)
     → PassesOver (unwrap_or len 0) (string_at is_text len (ahead a)) a b → region ≡ take (b.place - a.place) (ahead a)
     → RegionRead is_text len a b region
 region_read is_text len a b region inside fits p is =
@@ -110,14 +110,14 @@ region_read is_text len a b region inside fits p is =
     }
 
 -- the length of a region's string
-pub region_sized : (is_text : Bool) (len : Option ℕ) (a b : Walk) (region : List ℕ) (size : ℕ)
+pub region_sized : (is_text : Bool) (len : Option ℕ) (a b : CursorState) (region : List ℕ) (size : ℕ)
     → RegionRead is_text len a b region → IsLengthOf (string_at is_text len (ahead a)) size
     → IsSized is_text (record { len = len; bytes = region }) size
 region_sized is_text len a b region size r sized s c =
     sized s (ahead b) (ap (string_at is_text len) r.parts ∙ string_again is_text len s region (ahead b) c)
 
 -- a string with its head
-pub string_read : (is_text : Bool) (len : Option ℕ) (a b c : Walk) (h : Head) (region : List ℕ) → IsInside a
+pub string_read : (is_text : Bool) (len : Option ℕ) (a b c : CursorState) (h : Head) (region : List ℕ) → IsInside a
     → IsBytes (ahead a) → PassesHead a b h → a.place < b.place → string_len is_text h ≡ Some len
     → RegionRead is_text len b c region
     → PassesString is_text a c (record { len = len; bytes = region })
@@ -168,18 +168,18 @@ string_read is_text len a b c h region inside fits p further is r =
     }
 
 -- a string whose head has k bytes, and whose content is the next n bytes, with one head in all
-pub short_read : (is_text : Bool) (k n : ℕ) (h : Head) (a c : Walk) (content : List ℕ) → IsPlaced a.bytes a.place
+pub short_read : (is_text : Bool) (k n : ℕ) (h : Head) (a c : CursorState) (content : List ℕ) → IsPlaced a.bytes a.place
     → 0 < k → Headed (ahead a) k h (drop k (ahead a)) → string_len is_text h ≡ Some (Some n)
     → n ≤ length (drop (a.place + k) a.bytes) → content ≡ take n (drop (a.place + k) a.bytes)
     → is_allowed is_text content ≡ true → c ≡ record a { place = a.place + (k + n); heads = raised a.heads 1 }
     → a.heads ≤ c.heads → PassesString is_text a c (record { len = Some (length content); bytes = content })
 short_read is_text k n h a c content placed some headed is within whole allowed to rises =
-    let b : Walk = record a { place = a.place + k; heads = raised a.heads 1 } in
+    let b : CursorState = record a { place = a.place + k; heads = raised a.heads 1 } in
     let after : drop k (ahead a) ≡ ahead b = drop-drop k a.place a.bytes in
-    let heads : c.heads ≡ raised a.heads 1 = ap (λ (w : Walk). w.heads) to in
-    let place : c.place ≡ a.place + (k + n) = ap (λ (w : Walk). w.place) to in
-    let same : c.bytes ≡ a.bytes = ap (λ (w : Walk). w.bytes) to in
-    let none : c.nodes ≡ a.nodes = ap (λ (w : Walk). w.nodes) to in
+    let heads : c.heads ≡ raised a.heads 1 = ap (λ (w : CursorState). w.heads) to in
+    let place : c.place ≡ a.place + (k + n) = ap (λ (w : CursorState). w.place) to in
+    let same : c.bytes ≡ a.bytes = ap (λ (w : CursorState). w.bytes) to in
+    let none : c.nodes ≡ a.nodes = ap (λ (w : CursorState). w.nodes) to in
     let inside : a.place + k ≤ length a.bytes =
     omega (arith, headed.within, length-drop a.place a.bytes, placed.within) in
     let ends : a.place + (k + n) ≤ length a.bytes =
@@ -217,7 +217,7 @@ short_read is_text k n h a c content placed some headed is within whole allowed 
           ∙ ap (λ (r : List ℕ). Some (content, r)) behind;
       passed = passed;
       uncounted = heads;
-      stands = allowed;
+      allowed_text = allowed;
     } in
     let over : PassesOver n (string_at is_text (Some n) (ahead b)) b c = record {
       value = content;
@@ -235,7 +235,7 @@ short_read is_text k n h a c content placed some headed is within whole allowed 
 -- ---- no string was passed
 
 -- the next head isn't that of a string of this kind, and one head was decoded
-pub no_string_head : (is_text : Bool) (a b : Walk) → NoHead (start (string_by is_text) (ahead a)) a b
+pub no_string_head : (is_text : Bool) (a b : CursorState) → NoHead (start (string_by is_text) (ahead a)) a b
     → string_decoded is_text (ahead a) ≡ 1 → b.heads ≡ raised a.heads 1 → NoStringRead is_text a b
 no_string_head is_text a b n alone one = record {
   no_string = n;
@@ -245,14 +245,14 @@ no_string_head is_text a b n alone one = record {
 }
 
 -- no head
-pub no_head_read : (is_text : Bool) (a b : Walk) → NoHead (head_at (ahead a)) a b → b.heads ≡ raised a.heads 1
+pub no_head_read : (is_text : Bool) (a b : CursorState) → NoHead (head_at (ahead a)) a b → b.heads ≡ raised a.heads 1
     → NoStringRead is_text a b
 no_head_read is_text a b n one = no_string_head is_text a b
     (record { reads = bind_none (head_at (ahead a)) (λ h. string_by is_text h.0 h.1) n.reads; stopped = n.stopped })
     (ap (begun_heads (string_tally is_text)) n.reads) one
 
 -- the head of something else
-pub other_head_read : (is_text : Bool) (a b : Walk) (h : Head) → HeadRead a b h → string_len is_text h ≡ None
+pub other_head_read : (is_text : Bool) (a b : CursorState) (h : Head) → HeadRead a b h → string_len is_text h ≡ None
     → Stopped a b → NoStringRead is_text a b
 other_head_read is_text a b h r other stopped = no_string_head is_text a b
     (record {
@@ -264,7 +264,7 @@ other_head_read is_text a b h r other stopped = no_string_head is_text a b
     ∙ ap (λ (len : Option (Option ℕ)). suc (rest_heads is_text len (ahead b))) other) r.counted
 
 -- the head is a string's, but the string isn't well-formed: so there is no leading data item
-pub string_cut : (is_text : Bool) (len : Option ℕ) (a b c : Walk) (h : Head) → HeadRead a b h
+pub string_cut : (is_text : Bool) (len : Option ℕ) (a b c : CursorState) (h : Head) → HeadRead a b h
     → string_len is_text h ≡ Some len → NoHead (string_at is_text len (ahead b)) b c
     → c.heads ≡ raised b.heads (string_heads is_text len (ahead b)) → NoStringRead is_text a c
 string_cut is_text len a b c h r is n counted =
@@ -298,7 +298,7 @@ string_again_headed is_text bytes s k f =
     ∙ string_by_head is_text h.len (p.back ++ drop k bytes)
     ∙ string_again is_text h.len s p.back (drop k bytes) p.second
 
-pub string_missed : {T : Type 0} (region : T → Region) (is_text : Bool) (a b : Walk) (place : ℕ) (found : Option T)
+pub string_missed : {T : Type 0} (region : T → Region) (is_text : Bool) (a b : CursorState) (place : ℕ) (found : Option T)
     → is_some found ≡ false → place ≡ a.place → ReadsString is_text a b (option_map region found)
     → LendsString is_text a (record b { place = place }) (option_map region found)
 string_missed region is_text a b place (Some r) none back n = absurd cc
@@ -314,7 +314,7 @@ string_missed region is_text a b place None none back n = record {
   bytes = n.no_string.stopped.same;
 }
 
-pub string_found : {T : Type 0} (region : T → Region) (is_text : Bool) (a b : Walk) (found : Option T)
+pub string_found : {T : Type 0} (region : T → Region) (is_text : Bool) (a b : CursorState) (found : Option T)
     → is_some found ≡ true → ReadsString is_text a b (option_map region found)
     → LendsString is_text a b (option_map region found)
 string_found region is_text a b (Some r) some p = p
@@ -322,7 +322,7 @@ string_found region is_text a b None some p = absurd cc
 
 -- ---- by the data item that is encoded at the cursor
 
-pub lends : (is_text : Bool) (a b : Walk) (found : Option Region) → LendsString is_text a b found
+pub lends : (is_text : Bool) (a b : CursorState) (found : Option Region) → LendsString is_text a b found
     → LendsEncoded is_text a b found
 lends is_text a b (Some r) p x to l =
     let same = only_one x (string_item is_text p.content) a.bytes a.place to p.len l p.front in (

@@ -6,7 +6,7 @@ use Rattle.passkey_cbor.specs.Item.{Item, Pairs, map, pairs_of}
 use Rattle.passkey_cbor.specs.LeadingItem.{max_depth, IsLeadingItem}
 use Rattle.passkey_cbor.specs.Reading.{simple_item, item_within}
 use Rattle.passkey_cbor.specs.Inside.{Within, PairWithin, Inside}
-use Rattle.passkey_cbor.specs.Walk.{Walk}
+use Rattle.passkey_cbor.specs.CursorState.{CursorState}
 use Rattle.passkey_cbor.specs.Skipped.{PassesLeadingItem, FindsNoLeadingItem}
 use Rattle.passkey_cbor.specs.EncodedAt.{Lies, IsEncodedAt, PairsAreEncodedAt, Passes, Next, WalksOn}
 use Rattle.passkey_cbor.specs.Members.{MembersLeft, AreLeft, SomeLeft, GivesFirst, Ended, NextMember, GivesNext, AllLeft, HasNoMap, LendsItem}
@@ -19,7 +19,7 @@ use Rattle.passkey_cbor.proofs.More.{split}
 
 -- ---- the bytes of one data item
 
-pub lends_item : (bytes : List ℕ) (a b : Walk) (found : Bool) (from end : ℕ) → bytes ≡ a.bytes → from ≡ a.place
+pub lends_item : (bytes : List ℕ) (a b : CursorState) (found : Bool) (from end : ℕ) → bytes ≡ a.bytes → from ≡ a.place
     → end ≡ b.place → ((x : Item) (to : ℕ) → IsEncodedAt x a.bytes a.place to → Passes to a b found)
     → (x : Item) (to : ℕ) → IsEncodedAt x a.bytes a.place to
     → LendsItem x to a b (take (end - from) (drop from bytes))
@@ -37,7 +37,7 @@ lends_item bytes a b found from end same from_is end_is passes x to l =
     }
 
 -- the cursor is still within the bytes
-pub passed_within : (a b : Walk) → PassesLeadingItem a b → b.place ≤ length a.bytes
+pub passed_within : (a b : CursorState) → PassesLeadingItem a b → b.place ≤ length a.bytes
 passed_within a b p =
     let some = encoded_long (Within max_depth) (item_within max_depth) (follows_item max_depth) p.item
     (take p.len (drop a.place a.bytes)) (p.front.shallow, p.front.encoded) in
@@ -50,7 +50,7 @@ passed_within a b p =
       length-drop a.place a.bytes,
     )
 
-pub not_passed : (to : ℕ) (a b : Walk) → Passes to a b false → ⊥
+pub not_passed : (to : ℕ) (a b : CursorState) → Passes to a b false → ⊥
 not_passed to a b p = let found : false ≡ true = p.is_found in absurd cc
 
 -- ---- the next member
@@ -69,7 +69,7 @@ first_is_next : (ms : List (Item × Item)) (to : ℕ) (old new : MembersLeft) (f
 first_is_next ms to old new first others slices e g =
     subst (λ (ms : List (Item × Item)). NextMember ms to old (Some slices) new) (sym e) g
 
-pub ends : (before after : Option ℕ) (a m : Walk) (bytes : List ℕ) → a.bytes ≡ bytes → SomeLeft (at bytes a.place
+pub ends : (before after : Option ℕ) (a m : CursorState) (bytes : List ℕ) → a.bytes ≡ bytes → SomeLeft (at bytes a.place
     before) → WalksOn before after a m false → GivesNext (at bytes a.place before) None (at bytes m.place (Some 0))
 ends before after a m bytes same some w = record {
   some = some;
@@ -87,13 +87,13 @@ ends before after a m bytes same some w = record {
 }
 
 -- the first of the members that are left is next after `more`
-next_there : (before after : Option ℕ) (a m : Walk) (bytes : List ℕ) (ms : List (Item × Item)) (to : ℕ)
+next_there : (before after : Option ℕ) (a m : CursorState) (bytes : List ℕ) (ms : List (Item × Item)) (to : ℕ)
     → a.bytes ≡ bytes → WalksOn before after a m true → AreLeft ms to (at bytes a.place before)
     → Next (PairWithin max_depth) after ms m.bytes m.place to
 next_there before after a m bytes ms to same w l = w.pairs ms to (rw same l)
 
 -- a key is encoded there, so it is passed
-pub key_there : (before after : Option ℕ) (a m : Walk) (bytes : List ℕ) → a.bytes ≡ bytes
+pub key_there : (before after : Option ℕ) (a m : CursorState) (bytes : List ℕ) → a.bytes ≡ bytes
     → SomeLeft (at bytes a.place before) → WalksOn before after a m true
     → ((x : Item) (to : ℕ) → IsEncodedAt x m.bytes m.place to → ⊥) → ⊥
 key_there before after a m bytes same some w none =
@@ -102,7 +102,7 @@ key_there before after a m bytes same some w none =
     none n.first.0 s.middle s.front
 
 -- after it, its value is encoded
-pub value_there : (before after : Option ℕ) (a m k : Walk) (bytes : List ℕ) (key : Bor (List ℕ)) → a.bytes ≡ bytes
+pub value_there : (before after : Option ℕ) (a m k : CursorState) (bytes : List ℕ) (key : Bor (List ℕ)) → a.bytes ≡ bytes
     → SomeLeft (at bytes a.place before) → WalksOn before after a m true
     → k.bytes ≡ m.bytes → ((x : Item) (to : ℕ) → IsEncodedAt x m.bytes m.place to → LendsItem x to m k key.now)
     → ((x : Item) (to : ℕ) → IsEncodedAt x k.bytes k.place to → ⊥) → ⊥
@@ -112,7 +112,7 @@ value_there before after a m k bytes key same some w same_k lends none =
     let p = lends n.first.0 s.middle s.front in
     none n.first.1 n.middle (rw (same_k, p.place) s.back)
 
-gives_first : (after : Option ℕ) (m k v : Walk) (key value : List ℕ) (ms : List (Item × Item)) (to : ℕ)
+gives_first : (after : Option ℕ) (m k v : CursorState) (key value : List ℕ) (ms : List (Item × Item)) (to : ℕ)
     (n : Next (PairWithin max_depth) after ms m.bytes m.place to) (before : Option ℕ)
     → k.bytes ≡ m.bytes → ((x : Item) (to : ℕ) → IsEncodedAt x m.bytes m.place to → LendsItem x to m k key)
     → ((x : Item) (to : ℕ) → IsEncodedAt x k.bytes k.place to → LendsItem x to k v value)
@@ -132,7 +132,7 @@ gives_first after m k v key value ms to n before same_k lends_key lends_value =
       bytes = refl;
     }
 
-pub gives : (before after : Option ℕ) (a m k v : Walk) (bytes : List ℕ) (key value : Bor (List ℕ)) → a.bytes ≡ bytes
+pub gives : (before after : Option ℕ) (a m k v : CursorState) (bytes : List ℕ) (key value : Bor (List ℕ)) → a.bytes ≡ bytes
     → SomeLeft (at bytes a.place before) → WalksOn before after a m true
     → k.bytes ≡ m.bytes → ((x : Item) (to : ℕ) → IsEncodedAt x m.bytes m.place to → LendsItem x to m k key.now)
     → ((x : Item) (to : ℕ) → IsEncodedAt x k.bytes k.place to → LendsItem x to k v value.now)
@@ -190,20 +190,20 @@ nearer old new slices g =
 
 -- ---- a map as the leading data item
 
-abbrev start : List ℕ → Walk
+abbrev start : List ℕ → CursorState
 start bytes = record { bytes = bytes; place = 0; heads = 0; nodes = 0 }
 
 -- the cursor skipped the data item and went back to the start
-stands_again : (bytes : List ℕ) (a b p : Walk) (x : Item) (len : ℕ) → a ≡ start bytes → b.bytes ≡ a.bytes
+stands_again : (bytes : List ℕ) (a b p : CursorState) (x : Item) (len : ℕ) → a ≡ start bytes → b.bytes ≡ a.bytes
     → p ≡ record b { place = 0 } → IsLeadingItem bytes x len → IsEncodedAt x p.bytes p.place len
 stands_again bytes a b p x len new same back f =
-    let bytes_are : p.bytes ≡ bytes = ap (λ (w : Walk). w.bytes) back ∙ same ∙ ap (λ (w : Walk). w.bytes) new in
-    rw (bytes_are, ap (λ (w : Walk). w.place) back) (subst (IsEncodedAt x bytes 0) (zero-add len) (front_stands x bytes 0 len f))
+    let bytes_are : p.bytes ≡ bytes = ap (λ (w : CursorState). w.bytes) back ∙ same ∙ ap (λ (w : CursorState). w.bytes) new in
+    rw (bytes_are, ap (λ (w : CursorState). w.place) back) (subst (IsEncodedAt x bytes 0) (zero-add len) (front_stands x bytes 0 len f))
 
-pub no_item : (bytes : List ℕ) (a b : Walk) → a ≡ start bytes → FindsNoLeadingItem a b → HasNoMap bytes
+pub no_item : (bytes : List ℕ) (a b : CursorState) → a ≡ start bytes → FindsNoLeadingItem a b → HasNoMap bytes
 no_item bytes a b new n ms len f = n.none (map (pairs_of ms)) len (rw new f)
 
-pub no_head : (bytes : List ℕ) (a b p : Walk) → a ≡ start bytes → b.bytes ≡ a.bytes → p ≡ record b { place = 0 }
+pub no_head : (bytes : List ℕ) (a b p : CursorState) → a ≡ start bytes → b.bytes ≡ a.bytes → p ≡ record b { place = 0 }
     → ((x : Item) (to : ℕ) → IsEncodedAt x p.bytes p.place to → ⊥) → HasNoMap bytes
 no_head bytes a b p new same back none ms len f =
     none (map (pairs_of ms)) len (stands_again bytes a b p (map (pairs_of ms)) len new same back f)
@@ -237,7 +237,7 @@ not_inside (head.Float f) ps t other i = differs ps _ i.0 refl
 not_inside head.Break ps t other i = i
 not_inside _ ps t other i = differs ps _ i.1.0 refl
 
-pub no_map : (bytes : List ℕ) (a b p n : Walk) (h : Head) → a ≡ start bytes → b.bytes ≡ a.bytes
+pub no_map : (bytes : List ℕ) (a b p n : CursorState) (h : Head) → a ≡ start bytes → b.bytes ≡ a.bytes
     → p ≡ record b { place = 0 } → ((left : Option ℕ) → h ≡ head.Map left → ⊥)
     → ((x : Item) (to : ℕ) → IsEncodedAt x p.bytes p.place to → Lies (Inside h x) n.bytes n.place to)
     → HasNoMap bytes
@@ -245,17 +245,17 @@ no_map bytes a b p n h new same back other opens ms len f =
     let o = opens (map (pairs_of ms)) len (stands_again bytes a b p (map (pairs_of ms)) len new same back f) in
     not_inside h (pairs_of ms) o.text other o.encoded
 
-pub all_left : (bytes : List ℕ) (a b p n : Walk) (h : Head) (left : Option ℕ) → a ≡ start bytes
+pub all_left : (bytes : List ℕ) (a b p n : CursorState) (h : Head) (left : Option ℕ) → a ≡ start bytes
     → PassesLeadingItem a b → p ≡ record b { place = 0 } → n.bytes ≡ p.bytes → h ≡ head.Map left
     → ((x : Item) (to : ℕ) → IsEncodedAt x p.bytes p.place to → Lies (Inside h x) n.bytes n.place to)
     → (n.bytes ≡ bytes) × AllLeft bytes (at bytes n.place left)
 all_left bytes a b p n h left new passed back same_n is opens =
     let front : IsLeadingItem bytes passed.item passed.len =
-    subst (λ (w : Walk). IsLeadingItem (drop w.place w.bytes) passed.item passed.len) new passed.front in
+    subst (λ (w : CursorState). IsLeadingItem (drop w.place w.bytes) passed.item passed.len) new passed.front in
     let o = subst (λ (h : Head). Lies (Inside h passed.item) n.bytes n.place passed.len) is (opens passed.item
     passed.len (stands_again bytes a b p passed.item passed.len new passed.bytes back front)) in
     let bytes_are : n.bytes ≡ bytes =
-    same_n ∙ ap (λ (w : Walk). w.bytes) back ∙ passed.bytes ∙ ap (λ (w : Walk). w.bytes) new in
+    same_n ∙ ap (λ (w : CursorState). w.bytes) back ∙ passed.bytes ∙ ap (λ (w : CursorState). w.bytes) new in
     let i = o.encoded in
     let there : PairsAreEncodedAt left i.0 n.bytes n.place passed.len =
     record { text = o.text; encoded = i.1.1; parts = o.parts; forward = o.forward; within = o.within } in (

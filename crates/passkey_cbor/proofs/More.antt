@@ -11,7 +11,7 @@ use Rattle.passkey_cbor.specs.Reading.{Reader, is_break, pair_by, item_within}
 use Rattle.passkey_cbor.specs.Inside.{Within, PairWithin, Left}
 use Rattle.passkey_cbor.specs.HeadEncoding.{IsEncodingOfHead}
 use Rattle.passkey_cbor.specs.Found.{PassesHead}
-use Rattle.passkey_cbor.specs.Walk.{Walk, ahead, raised, IsInside, IsPlaced}
+use Rattle.passkey_cbor.specs.CursorState.{CursorState, ahead, raised, IsInside, IsPlaced}
 use Rattle.passkey_cbor.specs.Steps.{HeadRead, NoHead}
 use Rattle.passkey_cbor.specs.EncodedAt.{Lies, Next, Walks, Looks, WalksOn, goes_on, left_after}
 use Rattle.passkey_cbor.specs.declared.head.Head.{Head}
@@ -167,7 +167,7 @@ follows_pairs : Follows (PairWithin max_depth) (pair_by (item_within max_depth))
 follows_pairs = follows_pair (Within max_depth) (item_within max_depth) follows_items
 
 -- items and pairs alike
-both_walk : (before after : Option ℕ) (a b : Walk) (found : Bool)
+both_walk : (before after : Option ℕ) (a b : CursorState) (found : Bool)
     → ((A : Type 0) (P : A → Language) (read : Reader A) → Follows P read → Walks P before after a b found)
     → Looks before after a b found → WalksOn before after a b found
 both_walk before after a b found walks looks = record {
@@ -177,7 +177,7 @@ both_walk before after a b found walks looks = record {
 }
 
 -- with a definite length, the cursor doesn't move
-known_looks : (n : ℕ) (a : Walk) (found : Bool) → IsInside a → found ≡ nat_lt 0 n
+known_looks : (n : ℕ) (a : CursorState) (found : Bool) → IsInside a → found ≡ nat_lt 0 n
     → Looks (Some n) (left_after (Some n) found) a a found
 known_looks n a found inside is = record {
   answer = is;
@@ -190,14 +190,14 @@ known_looks n a found inside is = record {
   bytes = refl;
 }
 
-pub none_left : (before : Option ℕ) (n : ℕ) (a : Walk) → IsInside a → before ≡ Some n → n ≡ 0
+pub none_left : (before : Option ℕ) (n : ℕ) (a : CursorState) → IsInside a → before ≡ Some n → n ≡ 0
     → WalksOn before before a a false
 none_left before n a inside is none =
     both_walk before before a a false (λ A P read f xs to l. none_known P n xs a.bytes a.place to none
     (subst (λ (left : Option ℕ). Lies (Left P left xs) a.bytes a.place to) is l)) (subst (λ (left : Option ℕ).
     Looks left left a a false) (sym is) (known_looks n a false inside (sym (ap (nat_lt 0) none))))
 
-pub some_left : (before : Option ℕ) (n : ℕ) (a : Walk) → IsInside a → before ≡ Some n → 0 < n
+pub some_left : (before : Option ℕ) (n : ℕ) (a : CursorState) → IsInside a → before ≡ Some n → 0 < n
     → WalksOn before (Some (n - 1)) a a true
 some_left before n a inside is some =
     both_walk before (Some (n - 1)) a a true (λ A P read f xs to l. next_known P n xs a.bytes a.place to some
@@ -228,11 +228,11 @@ another_head bytes rest h r e other f =
       not_both : (b : Bool) → b ≡ true → b ≡ false → ⊥
       not_both b p q = absurd cc
 
-record BreakPassed (a b : Walk) : Type 0 where
+record BreakPassed (a b : CursorState) : Type 0 where
   pub ahead_is : goes_on None (ahead a) ≡ false
   pub place : b.place ≡ a.place + 1
 
-break_passed : (a b : Walk) (h : Head) → is_break h ≡ true → PassesHead a b h → BreakPassed a b
+break_passed : (a b : CursorState) (h : Head) → is_break h ≡ true → PassesHead a b h → BreakPassed a b
 break_passed a b h ends p =
     let text_is : p.text ≡ break ∷ [] =
     subst (λ (g : Head). IsEncodingOfHead g p.text) (break_head h ends) p.encoded in
@@ -241,7 +241,7 @@ break_passed a b h ends p =
       place = omega (arith, p.place, ap length text_is);
     }
 
-looks_unknown : (before : Option ℕ) (a b : Walk) (found : Bool) → before ≡ None → found ≡ goes_on None (ahead a)
+looks_unknown : (before : Option ℕ) (a b : CursorState) (found : Bool) → before ≡ None → found ≡ goes_on None (ahead a)
     → (found ≡ true → b.place ≡ a.place) → (found ≡ false → b.place ≡ a.place + 1) → b.place ≤ length b.bytes
     → b.heads ≡ raised a.heads 1 → b.nodes ≡ a.nodes → b.bytes ≡ a.bytes → Looks before before a b found
 looks_unknown before a b found is answer stays passes within heads nodes bytes =
@@ -257,7 +257,7 @@ looks_unknown before a b found is answer stays passes within heads nodes bytes =
     })
 
 -- a break follows
-pub break_there : (before : Option ℕ) (a b : Walk) (h : Head) → IsPlaced a.bytes a.place → before ≡ None
+pub break_there : (before : Option ℕ) (a b : CursorState) (h : Head) → IsPlaced a.bytes a.place → before ≡ None
     → is_break h ≡ true → HeadRead a b h → WalksOn before before a b false
 break_there before a b h placed is ends r =
     let passed = break_passed a b h ends (head_passed a b placed r.counted h r) in
@@ -287,39 +287,39 @@ some_element P [] bytes from to some l = absurd (some refl)
 some_element P (x ∷ xs) bytes from to some l = next_unknown P x xs bytes from to l
 
 -- the same, by the cursor's offset
-at_place : {A : Type 0} (P : A → Language) (before : Option ℕ) (xs : List A) (a c : Walk) (to : ℕ)
+at_place : {A : Type 0} (P : A → Language) (before : Option ℕ) (xs : List A) (a c : CursorState) (to : ℕ)
     → c.place ≡ a.place → c.bytes ≡ a.bytes → before ≡ None → Next P None xs a.bytes a.place to
     → Next P before xs c.bytes c.place to
 at_place P before xs a c to place bytes is n = rw (place, bytes, is) n
 
 -- another head follows, and the cursor went back
-pub element_there : (before : Option ℕ) (a b c : Walk) (h : Head) → IsInside a → before ≡ None → is_break h ≡ false
+pub element_there : (before : Option ℕ) (a b c : CursorState) (h : Head) → IsInside a → before ≡ None → is_break h ≡ false
     → HeadRead a b h → c ≡ record b { place = a.place } → WalksOn before before a c true
 element_there before a b c h inside is other r back =
     both_walk before before a c true (λ A P read f xs to l.
     let left_is = subst (λ (left : Option ℕ). Lies (Left P left xs) a.bytes a.place to) is l in
     let t = head_there P read f xs a.bytes a.place to left_is in
     let same = some_is (t.0, t.1.0) (h, ahead b) (sym t.1.1.reads ∙ r.reads) in
-    at_place P before xs a c to (ap (λ (w : Walk). w.place) back) (ap (λ (w : Walk). w.bytes) back ∙ r.passed.same)
+    at_place P before xs a c to (ap (λ (w : CursorState). w.place) back) (ap (λ (w : CursorState). w.bytes) back ∙ r.passed.same)
     is (some_element P xs a.bytes a.place to
     (t.1.1.goes_on (ap (λ (q : Head × List ℕ). is_break q.0) same ∙ other)) left_is))
     (looks_unknown before a c true is
     (sym (no_break_ahead (ahead a) (λ rest e. another_head (ahead a) rest h (ahead b) r.reads other e)))
-    (λ e. ap (λ (w : Walk). w.place) back)
+    (λ e. ap (λ (w : CursorState). w.place) back)
     (λ e. absurd cc)
     (omega (
       arith,
       inside,
-      ap (λ (w : Walk). w.place) back,
-      ap (λ (w : Walk). length w.bytes) back,
+      ap (λ (w : CursorState). w.place) back,
+      ap (λ (w : CursorState). length w.bytes) back,
       ap length r.passed.same,
     ))
-    (ap (λ (w : Walk). w.heads) back ∙ r.counted)
-    (ap (λ (w : Walk). w.nodes) back ∙ r.passed.nodes)
-    (ap (λ (w : Walk). w.bytes) back ∙ r.passed.same))
+    (ap (λ (w : CursorState). w.heads) back ∙ r.counted)
+    (ap (λ (w : CursorState). w.nodes) back ∙ r.passed.nodes)
+    (ap (λ (w : CursorState). w.bytes) back ∙ r.passed.same))
 
 -- no well-formed head follows, so no list is left
-pub no_head_there : (before : Option ℕ) (a b : Walk) → before ≡ None → b.heads ≡ raised a.heads 1
+pub no_head_there : (before : Option ℕ) (a b : CursorState) → before ≡ None → b.heads ≡ raised a.heads 1
     → b.place ≡ a.place → NoHead (head_at (ahead a)) a b → WalksOn before before a b true
 no_head_there before a b is one stays n =
     both_walk before before a b true (λ A P read f xs to l.

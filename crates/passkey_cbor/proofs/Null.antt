@@ -7,7 +7,7 @@ use Rattle.passkey_cbor.specs.Item.{Item, null}
 use Rattle.passkey_cbor.specs.LeadingItem.{IsLeadingItem}
 use Rattle.passkey_cbor.specs.HeadCount.{heads_of, heads_by}
 use Rattle.passkey_cbor.specs.HeadReading.{head_at, head_behind, simple_at}
-use Rattle.passkey_cbor.specs.Walk.{Walk, ahead, raised}
+use Rattle.passkey_cbor.specs.CursorState.{CursorState, ahead, raised}
 use Rattle.passkey_cbor.specs.Skipped.{SkipsLeadingItem}
 use Rattle.passkey_cbor.specs.EncodedAt.{IsEncodedAt, Passes}
 use Rattle.passkey_cbor.specs.Null.{BeginsNull, PassesNull, PassesNullAt}
@@ -76,7 +76,7 @@ null_heads : (bytes : List ℕ) → IsLeadingItem bytes null 1 → heads_of (tak
 unfolding heads_of heads_by head_at head_behind simple_at
 null_heads bytes f = elim f.encoded [ inl e ↦ ap heads_of e | inr e ↦ ap heads_of e ]
 
-pub skips_null : (a b : Walk) (found : Bool) → IsLeadingItem (ahead a) null 1 → SkipsLeadingItem a b found
+pub skips_null : (a b : CursorState) (found : Bool) → IsLeadingItem (ahead a) null 1 → SkipsLeadingItem a b found
     → PassesNull a b found
 skips_null a b true f p =
     let same = at_most_one (ahead a) p.item null p.len 1 p.front f in
@@ -85,12 +85,12 @@ skips_null a b true f p =
     record { front = f; passed = p; heads = p.counted ∙ ap (raised a.heads) counted }
 skips_null a b false f p = absurd (p.none null 1 f)
 
-pub null_passed : (x : Item) (to : ℕ) (a b : Walk) (found : Bool) → IsLeadingItem (ahead a) null 1
+pub null_passed : (x : Item) (to : ℕ) (a b : CursorState) (found : Bool) → IsLeadingItem (ahead a) null 1
     → IsEncodedAt x a.bytes a.place to → Passes to a b found → PassesNullAt x to a b found
 null_passed x to a b true f l p = (sym (only_one x null a.bytes a.place to 1 l f).0, p)
 null_passed x to a b false f l p = absurd (cc p.is_found)
 
-pub not_null : (x : Item) (to : ℕ) (a : Walk) → BeginsNull (ahead a) false → IsEncodedAt x a.bytes a.place to
+pub not_null : (x : Item) (to : ℕ) (a : CursorState) → BeginsNull (ahead a) false → IsEncodedAt x a.bytes a.place to
     → x ≡ null → ⊥
 not_null x to a none l e =
     none (to - a.place) (subst (λ (i : Item). IsLeadingItem (ahead a) i (to - a.place)) e (stands_front x a.bytes a.place to l))

@@ -6,9 +6,9 @@ use Rattle.passkey_cbor.specs.Heads.{break}
 use Rattle.passkey_cbor.specs.Inside.{Left, Content}
 use Rattle.passkey_cbor.specs.HeadReading.{head_at}
 use Rattle.passkey_cbor.specs.Reading.{end, element, step_at, chunk}
-use Rattle.passkey_cbor.specs.Walk.{Walk, ahead, raised, break_heads, Passed}
+use Rattle.passkey_cbor.specs.CursorState.{CursorState, ahead, raised, break_heads, Passed}
 use Rattle.passkey_cbor.specs.Steps.{NoHead, ElementRead, EndRead, PieceRead}
-use Rattle.passkey_cbor.specs.Lent.{Region, IsRegion, Tells, heads_in, LooksAtAll}
+use Rattle.passkey_cbor.specs.Lent.{Region, IsRegion, HoldsString, heads_in, LooksAtAll}
 use Rattle.passkey_cbor.specs.Pieces.{LendsPiece, IsAtEnd, LendsNoPiece, LooksAhead, in_chunks, LendsUpTo}
 use Rattle.passkey_cbor.specs.declared.head.Head.{Head}
 use Rattle.passkey_cbor.specs.declared.head.Head.TheVariants as head
@@ -117,26 +117,26 @@ no_chunks is_text (x ∷ xs) bytes rest c step = let both : element None c.h c.b
 -- ---- the first chunk, and the region after it
 
 -- a region, and a cursor at its start
-module _ (is_text : Bool) (region : List ℕ) (a : Walk) (at_start : ahead a ≡ region) where
+module _ (is_text : Bool) (region : List ℕ) (a : CursorState) (at_start : ahead a ≡ region) where
   first_there : (s : List ℕ) (t : Content is_text None s region) → IsEncodedFirst is_text t.first.0 (ahead a)
   first_there s t = stands_first is_text t.first.0 (ahead a)
       (subst (Left (AChunk is_text) None t.first.0) (sym at_start) (chunks_left is_text s region t))
 
-  pub no_step_there : (b : Walk) → NoHead (step_at None (ahead a)) a b → (s : List ℕ)
+  pub no_step_there : (b : CursorState) → NoHead (step_at None (ahead a)) a b → (s : List ℕ)
       → Content is_text None s region → ⊥
   no_step_there b n s t = no_step is_text t.first.0 (ahead a) (first_there s t) n.reads
 
-  pub no_chunk_there : (after : Option ℕ) (b d : Walk) (h : Head) → ElementRead None after a b h
+  pub no_chunk_there : (after : Option ℕ) (b d : CursorState) (h : Head) → ElementRead None after a b h
       → NoHead (chunk is_text h (ahead b)) b d → (s : List ℕ) → Content is_text None s region → ⊥
   no_chunk_there after b d h n none s t =
       no_chunk is_text t.first.0 (ahead a) (ahead b) after h (first_there s t) n.reads none.reads
 
-  pub at_end : (b : Walk) → EndRead None a b → IsAtEnd is_text (in_chunks region)
+  pub at_end : (b : CursorState) → EndRead None a b → IsAtEnd is_text (in_chunks region)
   at_end b n s t =
       let none = no_chunks is_text t.first.0 (ahead a) (ahead b) (first_there s t) n.reads in
       (sym t.first.1.0 ∙ ap concat none, ap (λ (cs : List (List ℕ)). length cs + 1) none)
 
-  pub splits_chunk : (after : Option ℕ) (b d : Walk) (h : Head) (piece rest : List ℕ) → ElementRead None after a b h
+  pub splits_chunk : (after : Option ℕ) (b d : CursorState) (h : Head) (piece rest : List ℕ) → ElementRead None after a b h
       → PieceRead is_text (chunk is_text h (ahead b)) b d piece → rest ≡ ahead d
       → LendsPiece is_text (in_chunks region) (in_chunks rest) piece
   splits_chunk after b d h piece rest n p rest_is = record {
@@ -171,11 +171,11 @@ module _ (is_text : Bool) (region : List ℕ) (a : Walk) (at_start : ahead a ≡
   }
 
 -- the bytes after the chunk that was decoded
-pub rest_there : (region : List ℕ) (a b d : Walk) (place : ℕ)
+pub rest_there : (region : List ℕ) (a b d : CursorState) (place : ℕ)
     → a ≡ record { bytes = region; place = 0; heads = 0; nodes = 0 } → Passed a b → Passed b d → place ≡ d.place
     → take (length region - place) (drop place region) ≡ ahead d
 rest_there region a b d place start one two at =
-    let same : d.bytes ≡ region = two.same ∙ one.same ∙ ap (λ (w : Walk). w.bytes) start in
+    let same : d.bytes ≡ region = two.same ∙ one.same ∙ ap (λ (w : CursorState). w.bytes) start in
     take_all (length region - place) (drop place region) (omega (arith, length-drop place region))
     ∙ ap (λ (n : ℕ). drop n region) at ∙ ap (drop d.place) (sym same)
 
@@ -200,7 +200,7 @@ break_lent is_text None region none l = record { none = l; ended = refl }
 
 -- ---- a loop over the pieces
 
-pub lends_start : (is_text : Bool) (whole : Region) (a : Walk) → LendsUpTo is_text whole whole a a []
+pub lends_start : (is_text : Bool) (whole : Region) (a : CursorState) → LendsUpTo is_text whole whole a a []
 lends_start is_text whole a = record {
   lent = λ s t. record { rest = s; tells = t; joined = refl; counted = 0; heads_are = omega arith; heads = refl };
   place = refl;
@@ -208,7 +208,7 @@ lends_start is_text whole a = record {
   same = refl;
 }
 
-pub lends_on : (is_text : Bool) (whole left next : Region) (a b c : Walk) (bytes more piece : List ℕ)
+pub lends_on : (is_text : Bool) (whole left next : Region) (a b c : CursorState) (bytes more piece : List ℕ)
     → LendsUpTo is_text whole left a b bytes → LendsPiece is_text left next piece → LooksAhead left b c
     → more ≡ bytes ++ piece → LendsUpTo is_text whole next a c more
 lends_on is_text whole left next a b c bytes more piece l p looks more_is = record {
@@ -231,9 +231,9 @@ lends_on is_text whole left next a b c bytes more piece l p looks more_is = reco
 }
 
 -- at the end, the pieces are the string, and all heads were counted
-pub lends_all : (is_text : Bool) (whole left next : Region) (a b c : Walk) (bytes : List ℕ)
+pub lends_all : (is_text : Bool) (whole left next : Region) (a b c : CursorState) (bytes : List ℕ)
     → LendsUpTo is_text whole left a b bytes → LendsNoPiece is_text left next → LooksAhead left b c
-    → ((s : List ℕ) → Tells is_text whole s → s ≡ bytes) × LooksAtAll is_text whole a c
+    → ((s : List ℕ) → HoldsString is_text whole s → s ≡ bytes) × LooksAtAll is_text whole a c
 lends_all is_text whole left next a b c bytes l p looks = (
   λ s t. let h =
       l.lent s t in h.joined ∙ ap (λ (r : List ℕ). bytes ++ r) (p.none h.rest h.tells).0 ∙ append-nil bytes,

@@ -1,6 +1,6 @@
 -- Counts that saturate.
 use Rattle.std.proofs.Common.{◌≡◌, ◌∙◌, ℕ, zero, suc, ◌+◌, ◌≤◌, sym, ap, arith}
-use Rattle.passkey_cbor.specs.Walk.{raised}
+use Rattle.passkey_cbor.specs.CursorState.{raised}
 
 pub raised-le : (n k : ℕ) → raised n k ≤ n + k
 raised-le n zero = omega arith

@@ -3,7 +3,7 @@ use Rattle.std.proofs.Common.{◌≡◌, ℕ, zero, suc, ◌<◌, Bool, true, fa
 use Rattle.std.proofs.lemmas.List.{length-drop}
 use Rattle.passkey_cbor.specs.HeadReading.{◌>>=◌, Read, head_at}
 use Rattle.passkey_cbor.specs.Reading.{Reader, start, Step, end, element, step_at, after_step, list_by, list_at}
-use Rattle.passkey_cbor.specs.Walk.{Walk, ahead, IsInside, Passed, Stopped}
+use Rattle.passkey_cbor.specs.CursorState.{CursorState, ahead, IsInside, Passed, Stopped}
 use Rattle.passkey_cbor.specs.HeadCount.{content_len, Spans}
 use Rattle.passkey_cbor.specs.Steps.{NoHead, HeadRead, ElementRead, EndRead, PassesOver, Skips}
 use Rattle.passkey_cbor.specs.declared.head.Head.{Head}
@@ -12,7 +12,7 @@ use Rattle.passkey_cbor.proofs.HeadCounts.{spans_none, spans_then, spans_head, s
 
 -- ---- where the cursor goes
 
-pub passed_none : (a : Walk) → IsInside a → Passed a a
+pub passed_none : (a : CursorState) → IsInside a → Passed a a
 passed_none a inside = record {
   same = refl;
   within = inside;
@@ -22,7 +22,7 @@ passed_none a inside = record {
   nodes = refl;
 }
 
-pub passed_then : (a b c : Walk) → Passed a b → Passed b c → Passed a c
+pub passed_then : (a b c : CursorState) → Passed a b → Passed b c → Passed a c
 passed_then a b c p q =
     record {
       same = q.same ∙ p.same;
@@ -33,7 +33,7 @@ passed_then a b c p q =
       nodes = q.nodes ∙ p.nodes;
     }
 
-pub stopped_none : (a : Walk) → IsInside a → Stopped a a
+pub stopped_none : (a : CursorState) → IsInside a → Stopped a a
 stopped_none a inside = record {
   same = refl;
   within = inside;
@@ -43,7 +43,7 @@ stopped_none a inside = record {
   nodes = refl;
 }
 
-pub stopped_then : (a b c : Walk) → Passed a b → Stopped b c → Stopped a c
+pub stopped_then : (a b c : CursorState) → Passed a b → Stopped b c → Stopped a c
 stopped_then a b c p q =
     let long : length b.bytes ≡ length a.bytes = ap length p.same in
     record {
@@ -67,14 +67,14 @@ stopped_then a b c p q =
 -- ---- one reading after another
 
 -- the same by another name
-pub skips_as : {A : Type 0} (content : ℕ) (read whole : Read A) (a b : Walk) (found : Bool) → whole ≡ read
+pub skips_as : {A : Type 0} (content : ℕ) (read whole : Read A) (a b : CursorState) (found : Bool) → whole ≡ read
     → Skips content read a b found → Skips content whole a b found
 skips_as content read whole a b true e s =
     record { value = s.value; reads = e ∙ s.reads; passed = s.passed; spans = s.spans }
 skips_as content read whole a b false e s = record { reads = e ∙ s.reads; stopped = s.stopped }
 
 -- a head, and what follows it
-pub skips_started : {A : Type 0} (read : Reader A) (h : Head) (a b c : Walk) (found : Bool) → HeadRead a b h
+pub skips_started : {A : Type 0} (read : Reader A) (h : Head) (a b c : CursorState) (found : Bool) → HeadRead a b h
     → Skips (content_len h) (read h (ahead b)) b c found → Skips 0 (start read (ahead a)) a c found
 skips_started read h a b c true r s = record {
   value = s.value;
@@ -88,7 +88,7 @@ skips_started read h a b c false r s = record {
 }
 
 -- what was decoded becomes part of something else
-pub skips_made : {A B : Type 0} (content : ℕ) (read : Read A) (make : A → B) (a b : Walk) (found : Bool)
+pub skips_made : {A B : Type 0} (content : ℕ) (read : Read A) (make : A → B) (a b : CursorState) (found : Bool)
     → Skips content read a b found → Skips content (read >>= λ x. Some (make x.0, x.1)) a b found
 skips_made content read make a b true s = record {
   value = make s.value;
@@ -102,7 +102,7 @@ skips_made content read make a b false s =
 -- ---- the elements of a list
 
 -- The invariant of a loop over them: those that were skipped, followed by those that are left, are all of them.
-pub record Goes {A : Type 0} (read : Reader A) (all left : Option ℕ) (old now : Walk) : Type 0 where
+pub record Goes {A : Type 0} (read : Reader A) (all left : Option ℕ) (old now : CursorState) : Type 0 where
   pub passed : Passed old now
   pub spans : Spans 0 old now
   pub done : List A
@@ -114,7 +114,7 @@ behind_none : {A : Type 0} (read : Read (List A)) → read ≡ (read >>= λ xs. 
 behind_none None = refl
 behind_none (Some xs) = refl
 
-pub goes_start : {A : Type 0} (read : Reader A) (left : Option ℕ) (a : Walk) → IsInside a → Goes read left left a a
+pub goes_start : {A : Type 0} (read : Reader A) (left : Option ℕ) (a : CursorState) → IsInside a → Goes read left left a a
 goes_start read left a inside = record {
   passed = passed_none a inside;
   spans = spans_none a;
@@ -141,7 +141,7 @@ list_stuck read zero left bytes some e = absurd (omega arith)
 list_stuck read (suc fuel) left bytes some e =
     list_step read fuel left bytes ∙ bind_none (step_at left bytes) (after_step read (list_by read fuel)) e
 
-pub goes_end : {A : Type 0} (read : Reader A) (all left : Option ℕ) (a b c : Walk) → Goes read all left a b
+pub goes_end : {A : Type 0} (read : Reader A) (all left : Option ℕ) (a b c : CursorState) → Goes read all left a b
     → EndRead left b c → PassesOver 0 (list_at read all (ahead a)) a c
 goes_end read all left a b c g r = ended g.fuel g.enough g.same where
   ended : (fuel : ℕ) → length (ahead b) < fuel → list_at read all (ahead a) ≡ (list_by read fuel left (ahead b)
@@ -155,7 +155,7 @@ goes_end read all left a b c g r = ended g.fuel g.enough g.same where
     spans = spans_then 0 a b c g.spans (spans_end left b c r);
   }
 
-pub goes_malformed : {A : Type 0} (read : Reader A) (all left : Option ℕ) (a b c : Walk) → Goes read all left a b
+pub goes_malformed : {A : Type 0} (read : Reader A) (all left : Option ℕ) (a b c : CursorState) → Goes read all left a b
     → NoHead (step_at left (ahead b)) b c → NoHead (list_at read all (ahead a)) a c
 goes_malformed read all left a b c g r = record {
   reads = g.same ∙ bind_none (list_by read g.fuel left (ahead b)) (λ xs. Some (g.done ++ xs.0, xs.1))
@@ -163,7 +163,7 @@ goes_malformed read all left a b c g r = record {
   stopped = stopped_then a b c g.passed r.stopped;
 }
 
-pub goes_stuck : {A : Type 0} (read : Reader A) (all left after : Option ℕ) (a b c d : Walk) (h : Head)
+pub goes_stuck : {A : Type 0} (read : Reader A) (all left after : Option ℕ) (a b c d : CursorState) (h : Head)
     → Goes read all left a b → ElementRead left after b c h → NoHead (read h (ahead c)) c d
     → NoHead (list_at read all (ahead a)) a d
 goes_stuck read all left after a b c d h g r s = record {
@@ -186,7 +186,7 @@ regrouped done x None = refl
 regrouped {A = A} done x (Some xs) = ap (λ (ys : List A). let read : List A × List ℕ = (ys, xs.1) in Some read)
     (sym (append_assoc done (x ∷ []) xs.0))
 
-pub goes_on : {A : Type 0} (read : Reader A) (all left after : Option ℕ) (a b c d : Walk) (h : Head) → Goes read all
+pub goes_on : {A : Type 0} (read : Reader A) (all left after : Option ℕ) (a b c d : CursorState) (h : Head) → Goes read all
     left a b → ElementRead left after b c h → PassesOver (content_len h) (read h (ahead c)) c d
     → Goes read all after a d
 goes_on read all left after a b c d h g r s = more g.fuel g.enough g.same where

@@ -59,8 +59,8 @@ unfolding piece_at
 piece_takes is_text n bytes s u fits e =
     let b = bind_some (taken_at n bytes) (λ t. cond (is_allowed is_text t.0) (Some t) None) (s, u) e in
     by_test b.0 (is_allowed is_text b.0.0) refl b.1 b.2 where
-      by_test : (t : List ℕ × List ℕ) (stands : Bool) → is_allowed is_text t.0 ≡ stands → taken_at n bytes ≡ Some t
-          → cond stands (Some t) None ≡ Some (s, u) → Took (Content is_text (Some n) s) bytes u
+      by_test : (t : List ℕ × List ℕ) (allowed_text : Bool) → is_allowed is_text t.0 ≡ allowed_text → taken_at n bytes ≡ Some t
+          → cond allowed_text (Some t) None ≡ Some (s, u) → Took (Content is_text (Some n) s) bytes u
       by_test t false is f g = absurd (none_is_some (s, u) g)
       by_test t true is f g =
           let p = some_is t (s, u) g in

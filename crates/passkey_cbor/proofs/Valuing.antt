@@ -5,7 +5,7 @@ use Rattle.passkey_cbor.specs.Item.{Item, byte_string, array, map, items_of, pai
 use Rattle.passkey_cbor.specs.Nodes.{nodes}
 use Rattle.passkey_cbor.specs.LeadingItem.{max_depth}
 use Rattle.passkey_cbor.specs.Reading.{start, item_within}
-use Rattle.passkey_cbor.specs.Walk.{Walk, ahead, raised}
+use Rattle.passkey_cbor.specs.CursorState.{CursorState, ahead, raised}
 use Rattle.passkey_cbor.specs.Skipped.{PassesLeadingItem}
 use Rattle.passkey_cbor.specs.Building.{IsNotEmpty, Made, Makes, an_item}
 use Rattle.passkey_cbor.specs.Valued.{MakesLeadingItem, ReadsValue}
@@ -33,17 +33,17 @@ grows_map (m ∷ ms) h = tt
 -- ---- the cursor skipped the data item and went back
 
 -- the bytes ahead are the same again
-back_ahead : (a b c : Walk) → PassesLeadingItem a b → c ≡ record b { place = a.place } → ahead c ≡ ahead a
+back_ahead : (a b c : CursorState) → PassesLeadingItem a b → c ≡ record b { place = a.place } → ahead c ≡ ahead a
 back_ahead a b c p e = ap ahead e ∙ ap (λ (bytes : List ℕ). drop a.place bytes) p.bytes
 
 -- the leading data item is decoded
-back_reads : (a b c : Walk) (p : PassesLeadingItem a b) → c ≡ record b { place = a.place }
+back_reads : (a b c : CursorState) (p : PassesLeadingItem a b) → c ≡ record b { place = a.place }
     → start (item_within max_depth) (ahead c) ≡ Some (p.item, drop p.len (ahead a))
 back_reads a b c p e =
     ap (start (item_within max_depth)) (back_ahead a b c p e) ∙ front_again (ahead a) p.item p.len p.front
 
 -- at most two heads for each byte of the data item
-two_heads : (a b c d : Walk) (p : PassesLeadingItem a b) (result : Result Value CborError) → c ≡ record b {
+two_heads : (a b c d : CursorState) (p : PassesLeadingItem a b) (result : Result Value CborError) → c ≡ record b {
   place =
       a.place;
 } → Makes an_item (start (item_within max_depth) (ahead c)) c d result → d.heads ≤ a.heads + 2 * p.len
@@ -51,19 +51,19 @@ two_heads a b c d p result e m =
     omega (
       arith,
       m.heads p.item (drop p.len (ahead a)) (back_reads a b c p e),
-      ap (λ (w : Walk). w.heads) e,
+      ap (λ (w : CursorState). w.heads) e,
       p.heads,
       p.front.within,
       ap length (back_ahead a b c p e),
       length-drop p.len (ahead a),
     )
 
-pub value_made : (a b c d : Walk) (v : Value) → PassesLeadingItem a b → c ≡ record b { place = a.place }
+pub value_made : (a b c d : CursorState) (v : Value) → PassesLeadingItem a b → c ≡ record b { place = a.place }
     → Makes an_item (start (item_within max_depth) (ahead c)) c d (Ok v) → MakesLeadingItem a d (item_of v)
 value_made a b c d v p e m =
     let k = m.made p.item (drop p.len (ahead a)) (back_reads a b c p e) in
-    let same : d.bytes ≡ a.bytes = m.went.same ∙ ap (λ (w : Walk). w.bytes) e ∙ p.bytes in
-    let back : a.place ≤ d.place = omega (arith, m.went.forward, ap (λ (w : Walk). w.place) e) in
+    let same : d.bytes ≡ a.bytes = m.went.same ∙ ap (λ (w : CursorState). w.bytes) e ∙ p.bytes in
+    let back : a.place ≤ d.place = omega (arith, m.went.forward, ap (λ (w : CursorState). w.place) e) in
     let place : d.place ≡ a.place + p.len =
     omega (
       arith,
@@ -77,20 +77,20 @@ value_made a b c d v p e m =
       length-drop d.place d.bytes,
     ) in
     let nodes_are : d.nodes ≡ raised a.nodes (nodes p.item) =
-    k.2 ∙ ap (λ (n : ℕ). raised n (nodes p.item)) (ap (λ (w : Walk). w.nodes) e ∙ p.nodes) in
+    k.2 ∙ ap (λ (n : ℕ). raised n (nodes p.item)) (ap (λ (w : CursorState). w.nodes) e ∙ p.nodes) in
     subst (MakesLeadingItem a d) (sym k.0) (record {
       len = p.len;
       front = p.front;
       place = place;
       whole = p.whole;
-      all = omega (arith, p.counted, ap (λ (w : Walk). w.heads) e, m.went.heads);
-      least = omega (arith, p.least, ap (λ (w : Walk). w.heads) e, m.went.heads);
+      all = omega (arith, p.counted, ap (λ (w : CursorState). w.heads) e, m.went.heads);
+      least = omega (arith, p.least, ap (λ (w : CursorState). w.heads) e, m.went.heads);
       heads = two_heads a b c d p (Ok v) e m;
       nodes = nodes_are;
       bytes = same;
     })
 
-pub value_fails : (a b c d f : Walk) (x : CborError) → PassesLeadingItem a b → c ≡ record b { place = a.place }
+pub value_fails : (a b c d f : CursorState) (x : CborError) → PassesLeadingItem a b → c ≡ record b { place = a.place }
     → Makes an_item (start (item_within max_depth) (ahead c)) c d (Err x) → f ≡ record d { place = a.place }
     → ReadsValue a f (Err x)
 value_fails a b c d f x p e m back =
@@ -103,14 +103,14 @@ value_fails a b c d f x p e m back =
         len = p.len;
         front = p.front;
         grows = k.0;
-        place = ap (λ (w : Walk). w.place) back;
+        place = ap (λ (w : CursorState). w.place) back;
         all = omega
-            (arith, p.counted, ap (λ (w : Walk). w.heads) e, m.went.heads, ap (λ (w : Walk). w.heads) back);
-        least = omega (arith, p.least, ap (λ (w : Walk). w.heads) e, m.went.heads, ap (λ (w : Walk). w.heads) back);
-        heads = omega (arith, heads, ap (λ (w : Walk). w.heads) back);
+            (arith, p.counted, ap (λ (w : CursorState). w.heads) e, m.went.heads, ap (λ (w : CursorState). w.heads) back);
+        least = omega (arith, p.least, ap (λ (w : CursorState). w.heads) e, m.went.heads, ap (λ (w : CursorState). w.heads) back);
+        heads = omega (arith, heads, ap (λ (w : CursorState). w.heads) back);
         least_nodes =
-            omega (arith, p.nodes, ap (λ (w : Walk). w.nodes) e, m.went.nodes, ap (λ (w : Walk). w.nodes) back);
-        nodes = omega (arith, k.1, ap (λ (w : Walk). w.nodes) back, ap (λ (w : Walk). w.nodes) e, p.nodes);
-        bytes = ap (λ (w : Walk). w.bytes) back ∙ m.went.same ∙ ap (λ (w : Walk). w.bytes) e ∙ p.bytes;
+            omega (arith, p.nodes, ap (λ (w : CursorState). w.nodes) e, m.went.nodes, ap (λ (w : CursorState). w.nodes) back);
+        nodes = omega (arith, k.1, ap (λ (w : CursorState). w.nodes) back, ap (λ (w : CursorState). w.nodes) e, p.nodes);
+        bytes = ap (λ (w : CursorState). w.bytes) back ∙ m.went.same ∙ ap (λ (w : CursorState). w.bytes) e ∙ p.bytes;
       }
       by_error error.OutOfRangeIntegerValue heads k = absurd k

@@ -4,7 +4,7 @@ use Rattle.std.specs.Prelude.{IfNone}
 use Rattle.std.proofs.lemmas.List.{length-append, length-drop, drop-drop, drop_at, take_rest}
 use Rattle.passkey_cbor.specs.HeadReading.{◌>>=◌, head_at}
 use Rattle.passkey_cbor.specs.Reading.{end, element, step_at, is_break, is_allowed, piece_at}
-use Rattle.passkey_cbor.specs.Walk.{Walk, ahead, raised, break_heads, IsInside, IsPlaced}
+use Rattle.passkey_cbor.specs.CursorState.{CursorState, ahead, raised, break_heads, IsInside, IsPlaced}
 use Rattle.passkey_cbor.specs.Found.{PassesHead, FindsNoHead, FindsHead}
 use Rattle.passkey_cbor.specs.Steps.{IsHead, ReadsHead, HeadRead, NoHead, ElementRead, EndRead, PieceRead}
 use Rattle.passkey_cbor.specs.HeadEncoding.{IsEncodingOfHead}
@@ -17,7 +17,7 @@ use Rattle.passkey_cbor.proofs.HeadTakes.{head_takes}
 use Rattle.passkey_cbor.proofs.Lists.{head_long}
 use Rattle.passkey_cbor.proofs.Strings.{is_allowed-is, piece_takes}
 
-abbrev pub walk : List ℕ → ℕ → ℕ → ℕ → Walk
+abbrev pub walk : List ℕ → ℕ → ℕ → ℕ → CursorState
 walk bytes place heads nodes = record { bytes = bytes; place = place; heads = heads; nodes = nodes }
 
 -- ---- what is left of the bytes is a suffix of them
@@ -97,13 +97,13 @@ head_read bytes place heads counted nodes h u rises one t = record {
 }
 
 -- a head of one byte
-pub short_read : (a b : Walk) (h : Head) → IsPlaced a.bytes a.place → a.place < length a.bytes
+pub short_read : (a b : CursorState) (h : Head) → IsPlaced a.bytes a.place → a.place < length a.bytes
     → head_at (ahead a) ≡ Some (h, drop (a.place + 1) a.bytes)
     → b ≡ record a { place = a.place + 1; heads = raised a.heads 1 } → a.heads ≤ b.heads → HeadRead a b h
 short_read a b h placed inside e is rises =
-    let place : b.place ≡ a.place + 1 = ap (λ (w : Walk). w.place) is in
-    let heads : b.heads ≡ raised a.heads 1 = ap (λ (w : Walk). w.heads) is in
-    let same : b.bytes ≡ a.bytes = ap (λ (w : Walk). w.bytes) is in
+    let place : b.place ≡ a.place + 1 = ap (λ (w : CursorState). w.place) is in
+    let heads : b.heads ≡ raised a.heads 1 = ap (λ (w : CursorState). w.heads) is in
+    let same : b.bytes ≡ a.bytes = ap (λ (w : CursorState). w.bytes) is in
     let t = head_takes (ahead a) h (drop (a.place + 1) a.bytes) (IsBytes-drop a.place a.bytes placed.fits) e in
     record {
       reads = e ∙ ap (λ (n : ℕ). Some (h, drop n a.bytes)) (sym place)
@@ -114,7 +114,7 @@ short_read a b h placed inside e is rises =
         forward = omega (arith, place);
         rises = rises;
         heads = omega (arith, place, heads);
-        nodes = ap (λ (w : Walk). w.nodes) is;
+        nodes = ap (λ (w : CursorState). w.nodes) is;
       };
       counted = heads;
       further = omega (arith, place);
@@ -123,7 +123,7 @@ short_read a b h placed inside e is rises =
 
 -- ---- one step of a list
 
-pub step_end : (w : Walk) (left : Option ℕ) (n : ℕ) → IsInside w → left ≡ Some n → n ≡ 0 → EndRead left w w
+pub step_end : (w : CursorState) (left : Option ℕ) (n : ℕ) → IsInside w → left ≡ Some n → n ≡ 0 → EndRead left w w
 unfolding step_at
 step_end w left n inside is none = record {
   reads = ap (λ (l : Option ℕ). step_at l (ahead w)) (is ∙ ap Some none);
@@ -155,7 +155,7 @@ known_is left n bytes is some =
     let one : n ≡ suc (n - 1) = omega arith in
     ap (λ (l : Option ℕ). step_at l bytes) (is ∙ ap Some one) ∙ step_known (n - 1) bytes
 
-pub element_known : (a b : Walk) (left : Option ℕ) (n : ℕ) (h : Head) → left ≡ Some n → 0 < n → HeadRead a b h
+pub element_known : (a b : CursorState) (left : Option ℕ) (n : ℕ) (h : Head) → left ≡ Some n → 0 < n → HeadRead a b h
     → ElementRead left (Some (n - 1)) a b h
 element_known a b left n h is some r = record {
   reads = known_is left n (ahead a) is some
@@ -166,7 +166,7 @@ element_known a b left n h is some r = record {
   well_formed = r.well_formed;
 }
 
-pub no_element_known : (a b : Walk) (left : Option ℕ) (n : ℕ) → left ≡ Some n → 0 < n
+pub no_element_known : (a b : CursorState) (left : Option ℕ) (n : ℕ) → left ≡ Some n → 0 < n
     → NoHead (head_at (ahead a)) a b → NoHead (step_at left (ahead a)) a b
 no_element_known a b left n is some r = record {
   reads = known_is left n (ahead a) is some
@@ -179,7 +179,7 @@ unknown_is : (left : Option ℕ) (bytes : List ℕ) → left ≡ None → step_a
     ≡ (head_at bytes >>= λ h. cond (is_break h.0) (Some (end h.1)) (Some (element None h.0 h.1)))
 unknown_is left bytes is = ap (λ (l : Option ℕ). step_at l bytes) is ∙ step_unknown bytes
 
-pub element_unknown : (a b : Walk) (left : Option ℕ) (h : Head) → left ≡ None → is_break h ≡ false → HeadRead a b h
+pub element_unknown : (a b : CursorState) (left : Option ℕ) (h : Head) → left ≡ None → is_break h ≡ false → HeadRead a b h
     → ElementRead left left a b h
 element_unknown a b left h is goes_on r = record {
   reads = unknown_is left (ahead a) is ∙ bind_at (head_at (ahead a)) (h, ahead b)
@@ -190,7 +190,7 @@ element_unknown a b left h is goes_on r = record {
   well_formed = r.well_formed;
 }
 
-pub break_unknown : (a b : Walk) (left : Option ℕ) (h : Head) → left ≡ None → is_break h ≡ true → HeadRead a b h
+pub break_unknown : (a b : CursorState) (left : Option ℕ) (h : Head) → left ≡ None → is_break h ≡ true → HeadRead a b h
     → EndRead left a b
 break_unknown a b left h is ends r = record {
   reads = unknown_is left (ahead a) is ∙ bind_at (head_at (ahead a)) (h, ahead b)
@@ -199,7 +199,7 @@ break_unknown a b left h is ends r = record {
   counted = r.counted ∙ ap (λ (l : Option ℕ). raised a.heads (break_heads l)) (sym is);
 }
 
-pub no_element_unknown : (a b : Walk) (left : Option ℕ) → left ≡ None → NoHead (head_at (ahead a)) a b
+pub no_element_unknown : (a b : CursorState) (left : Option ℕ) → left ≡ None → NoHead (head_at (ahead a)) a b
     → NoHead (step_at left (ahead a)) a b
 no_element_unknown a b left is r = record {
   reads = unknown_is left (ahead a) is ∙ bind_none (head_at (ahead a))
@@ -212,7 +212,7 @@ no_element_unknown a b left is r = record {
 pub record PieceTaken (is_text : Bool) (len : ℕ) (bytes : List ℕ) (place : ℕ) (s u : List ℕ) : Type 0 where
   pub reads : piece_at is_text len (drop place bytes) ≡ Some (s, drop (length bytes - length u) bytes)
   pub forward : place ≤ length bytes - length u
-  pub stands : is_allowed is_text s ≡ true
+  pub allowed_text : is_allowed is_text s ≡ true
   pub shorter : length u ≤ length bytes
 
 pub piece_taken : (is_text : Bool) (len : ℕ) (bytes : List ℕ) (place : ℕ) (s u : List ℕ) → IsPlaced bytes place
@@ -226,7 +226,7 @@ piece_taken is_text len bytes place s u placed e =
     record {
       reads = reads ∙ ap (λ (r : List ℕ). Some (s, r)) (sym b.rest_is);
       forward = omega (arith, b.place_is);
-      stands = is_allowed-is is_text s t.encoded.0.1;
+      allowed_text = is_allowed-is is_text s t.encoded.0.1;
       shorter = b.shorter;
     }
 
@@ -244,12 +244,12 @@ piece_read is_text len bytes place heads nodes s u t = record {
     nodes = refl;
   };
   uncounted = refl;
-  stands = t.stands;
+  allowed_text = t.allowed_text;
 }
 
 -- ---- the next head, by its encoding
 
-pub head_passed : (a b : Walk) → IsPlaced a.bytes a.place → b.heads ≡ raised a.heads 1 → (h : Head) → HeadRead a b h
+pub head_passed : (a b : CursorState) → IsPlaced a.bytes a.place → b.heads ≡ raised a.heads 1 → (h : Head) → HeadRead a b h
     → PassesHead a b h
 head_passed a b placed counted h r =
     let t = head_takes (ahead a) h (ahead b) (IsBytes-drop a.place a.bytes placed.fits) r.reads in
@@ -274,7 +274,7 @@ head_passed a b placed counted h r =
       bytes = r.passed.same;
     }
 
-pub head_missed : (a b : Walk) → b.heads ≡ raised a.heads 1 → b.place ≡ a.place → NoHead (head_at (ahead a)) a b
+pub head_missed : (a b : CursorState) → b.heads ≡ raised a.heads 1 → b.place ≡ a.place → NoHead (head_at (ahead a)) a b
     → FindsNoHead a b
 head_missed a b counted stays n = record {
   none = λ h text rest s e. none_is_some (h, rest) (sym n.reads ∙ ap head_at e ∙ head_again h text rest s);
@@ -284,7 +284,7 @@ head_missed a b counted stays n = record {
   bytes = n.stopped.same;
 }
 
-pub finds_head : (a b : Walk) (found : Option Head) → IsPlaced a.bytes a.place → b.heads ≡ raised a.heads 1
+pub finds_head : (a b : CursorState) (found : Option Head) → IsPlaced a.bytes a.place → b.heads ≡ raised a.heads 1
     → IfNone found (b.place ≡ a.place) → ReadsHead a b found → FindsHead a b found
 finds_head a b (Some h) placed counted stays r = head_passed a b placed counted h r
 finds_head a b None placed counted stays r = head_missed a b counted stays r

@@ -10,7 +10,7 @@ use Rattle.passkey_cbor.specs.Lent.{Region, PassesString}
 use Rattle.passkey_cbor.specs.Skipped.{PassesLeadingItem}
 use Rattle.passkey_cbor.specs.Valued.{MakesLeadingItem}
 use Rattle.passkey_cbor.specs.Item.{Item}
-use Rattle.passkey_cbor.specs.Walk.{Walk, ahead, raised}
+use Rattle.passkey_cbor.specs.CursorState.{CursorState, ahead, raised}
 use Rattle.passkey_cbor.specs.declared.head.Head.{Head}
 use Rattle.passkey_cbor.specs.declared.head.Head.TheVariants as head
 use Rattle.passkey_cbor.proofs.HeadCounts.{are_heads_then}
@@ -19,10 +19,10 @@ use Rattle.passkey_cbor.proofs.Raised.{raised_then}
 pub no_heads : AreHeads 0 []
 no_heads = record { heads = []; number = refl; encoded = refl }
 
-pub counts_none : (a : Walk) → CountsHeads a a
+pub counts_none : (a : CursorState) → CountsHeads a a
 counts_none a = record { number = 0; text = []; heads = no_heads; parts = refl; counted = omega arith }
 
-pub counts_then : (a b c : Walk) → CountsHeads a b → CountsHeads b c → CountsHeads a c
+pub counts_then : (a b c : CursorState) → CountsHeads a b → CountsHeads b c → CountsHeads a c
 counts_then a b c p q = record {
   number = p.number + q.number;
   text = p.text ++ q.text;
@@ -32,7 +32,7 @@ counts_then a b c p q = record {
 }
 
 -- the cursor doesn't move, and its count of heads doesn't decrease
-pub counts_stay : (a b : Walk) → b.bytes ≡ a.bytes → b.place ≡ a.place → a.heads ≤ b.heads → CountsHeads a b
+pub counts_stay : (a b : CursorState) → b.bytes ≡ a.bytes → b.place ≡ a.place → a.heads ≤ b.heads → CountsHeads a b
 counts_stay a b same at rises = record {
   number = 0;
   text = [];
@@ -42,7 +42,7 @@ counts_stay a b same at rises = record {
 }
 
 -- what was passed from one offset on is whole heads
-counts_from : (a b : Walk) (len : ℕ) → b.place ≡ a.place + len → b.bytes ≡ a.bytes
+counts_from : (a b : CursorState) (len : ℕ) → b.place ≡ a.place + len → b.bytes ≡ a.bytes
     → AreHeads (heads_of (take len (ahead a))) (take len (ahead a))
     → raised a.heads (heads_of (take len (ahead a))) ≤ b.heads → CountsHeads a b
 counts_from a b len at same heads counted = record {
@@ -54,17 +54,17 @@ counts_from a b len at same heads counted = record {
   counted = counted;
 }
 
-pub counts_skip : (a b : Walk) → PassesLeadingItem a b → CountsHeads a b
+pub counts_skip : (a b : CursorState) → PassesLeadingItem a b → CountsHeads a b
 counts_skip a b p = counts_from a b p.len p.place p.bytes p.whole (omega (arith, p.counted))
 
-pub counts_string : (is_text : Bool) (a b : Walk) (r : Region) → PassesString is_text a b r → CountsHeads a b
+pub counts_string : (is_text : Bool) (a b : CursorState) (r : Region) → PassesString is_text a b r → CountsHeads a b
 counts_string is_text a b r p = counts_from a b p.len p.place p.bytes p.all_heads (omega (arith, p.counted))
 
-pub counts_value : (a b : Walk) (x : Item) → MakesLeadingItem a b x → CountsHeads a b
+pub counts_value : (a b : CursorState) (x : Item) → MakesLeadingItem a b x → CountsHeads a b
 counts_value a b x p = counts_from a b p.len p.place p.bytes p.whole p.all
 
 -- a head that no content follows
-pub counts_head : (a b : Walk) (h : Head) → content_len h ≡ 0 → PassesHead a b h → CountsHeads a b
+pub counts_head : (a b : CursorState) (h : Head) → content_len h ≡ 0 → PassesHead a b h → CountsHeads a b
 counts_head a b h none p = record {
   number = 1;
   text = p.text;
@@ -108,7 +108,7 @@ broken (b ∷ bytes) e = by_test (cases_eq b break) where
   by_test (inl is) = (bytes, ap (λ (n : ℕ). n ∷ bytes) is)
   by_test (inr other) = absurd (false_is_true (rw (ne_eqb b break other) at e))
 
-ended : (a b : Walk) → b.bytes ≡ a.bytes → b.place ≡ a.place + 1 → b.heads ≡ raised a.heads 1
+ended : (a b : CursorState) → b.bytes ≡ a.bytes → b.place ≡ a.place + 1 → b.heads ≡ raised a.heads 1
     → (q : (rest : List ℕ) × (ahead a ≡ break ∷ rest)) → CountsHeads a b
 ended a b same at one q = record {
   number = 1;
@@ -120,7 +120,7 @@ ended a b same at one q = record {
 }
 
 -- whether a list goes on; at its end the break is passed
-pub counts_more : (before after : Option ℕ) (a b : Walk) (found : Bool) → Looks before after a b found → a.heads ≤ b.heads
+pub counts_more : (before after : Option ℕ) (a b : CursorState) (found : Bool) → Looks before after a b found → a.heads ≤ b.heads
     → CountsHeads a b
 counts_more before after a b true k rises = counts_stay a b k.bytes (k.stays refl) rises
 counts_more (Some n) after a b false k rises = counts_stay a b k.bytes (omega (arith, k.passes refl)) rises

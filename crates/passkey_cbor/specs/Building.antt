@@ -6,7 +6,7 @@ use Rattle.passkey_cbor.specs.Nodes.{nodes}
 use Rattle.passkey_cbor.specs.Grows.{Grows}
 use Rattle.passkey_cbor.specs.View.{item_of, pair_of}
 use Rattle.passkey_cbor.specs.HeadReading.{Read}
-use Rattle.passkey_cbor.specs.Walk.{Walk, ahead, raised, Went}
+use Rattle.passkey_cbor.specs.CursorState.{CursorState, ahead, raised, MovesForward}
 use Rattle.passkey_cbor.specs.declared.value.Value.{Value}
 use Rattle.passkey_cbor.specs.declared.error.CborError.{CborError}
 use Rattle.passkey_cbor.specs.declared.error.CborError.TheVariants as error
@@ -53,16 +53,16 @@ a_text = record { view = string_bytes; Takes = λ s. Unit {0}; size = λ s. 0 }
 
 -- If the bytes decode to x, then x was built, and each data item in it counted; or memory ran out, which
 -- happens only if x takes memory.
-abbrev pub Made : {V X : Type 0} → Making V X → X → List ℕ → Walk → Walk → Result V CborError → Type 0
+abbrev pub Made : {V X : Type 0} → Making V X → X → List ℕ → CursorState → CursorState → Result V CborError → Type 0
 Made m x rest old new (Ok v) = (m.view v ≡ x) × (ahead new ≡ rest) × (new.nodes ≡ raised old.nodes (m.size x))
 Made m x rest old new (Err error.DecodeFailed) = ⊥
 Made m x rest old new (Err error.OutOfMemory) = m.Takes x × (new.nodes ≤ old.nodes + m.size x)
 Made m x rest old new (Err error.OutOfRangeIntegerValue) = ⊥
 
 -- If the bytes decode, their content is built, and at most one head is counted for each byte of it.
-pub record Makes {V X : Type 0} (m : Making V X) (read : Read X) (old new : Walk) (result : Result V CborError) :
+pub record Makes {V X : Type 0} (m : Making V X) (read : Read X) (old new : CursorState) (result : Result V CborError) :
     Type 0 where
-  pub went : Went old new
+  pub went : MovesForward old new
   pub made : (x : X) (rest : List ℕ) → read ≡ Some (x, rest) → Made m x rest old new result
   pub heads : (x : X) (rest : List ℕ) → read ≡ Some (x, rest)
       → new.heads + length rest ≤ old.heads + length (ahead old)

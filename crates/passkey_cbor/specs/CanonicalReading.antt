@@ -110,7 +110,7 @@ pub record BeginsPairs (levels count : ℕ) (before : Option (List ℕ)) (bytes 
 pub record BeginsString (is_text : Bool) (len : ℕ) (bytes rest : List ℕ) : Type 0 where
   pub content : List ℕ
   pub long : length content ≡ len
-  pub stands : IsAllowed is_text content
+  pub allowed_text : IsAllowed is_text content
   pub parts : bytes ≡ content ++ rest
 
 -- What follows the head of a canonical data item.

@@ -4,7 +4,7 @@ use Rattle.std.specs.Prelude.{◌≡◌, ℕ, zero, suc, ◌+◌, ◌-◌, ◌<�
 use Rattle.passkey_cbor.specs.HeadReading.{Read, head_at}
 use Rattle.passkey_cbor.specs.Reading.{Reader, start, is_break, list_at, pair_by, item_within}
 use Rattle.passkey_cbor.specs.HeadsDecoded.{Tally, start_heads, list_heads, pair_heads, item_heads}
-use Rattle.passkey_cbor.specs.Walk.{Walk, ahead, raised, Passed, Stopped}
+use Rattle.passkey_cbor.specs.CursorState.{CursorState, ahead, raised, Passed, Stopped}
 use Rattle.passkey_cbor.specs.HeadCount.{Spans}
 use Rattle.passkey_cbor.specs.Steps.{HeadRead}
 use Rattle.passkey_cbor.specs.declared.head.Head.{Head}
@@ -88,7 +88,7 @@ opened_course levels opened (suc n) bytes =
 -- ---- what a cursor passed
 
 -- The cursor passed a part, which has this many heads, and the rest comes after it.
-pub record Advances (whole : Course) (others : List ℕ → Course) (old new : Walk) : Type 0 where
+pub record Advances (whole : Course) (others : List ℕ → Course) (old new : CursorState) : Type 0 where
   pub number : ℕ
   pub decoded : new.heads ≡ raised old.heads number
   pub same : whole ≡ behind_heads number (others (ahead new))
@@ -96,14 +96,14 @@ pub record Advances (whole : Course) (others : List ℕ → Course) (old new : W
   pub spans : Spans 0 old new
 
 -- The cursor stopped at a fault.
-pub record Fails (whole : Course) (old new : Walk) : Type 0 where
+pub record Fails (whole : Course) (old new : CursorState) : Type 0 where
   pub number : ℕ
   pub decoded : new.heads ≡ raised old.heads number
   pub same : whole ≡ fault number
   pub stopped : Stopped old new
 
 -- The cursor passed the whole, or stopped at a fault.
-abbrev pub Takes : Course → Walk → Walk → Bool → Type 0
+abbrev pub Takes : Course → CursorState → CursorState → Bool → Type 0
 Takes whole old new true = Advances whole over old new
 Takes whole old new false = Fails whole old new
 
@@ -114,48 +114,48 @@ begins_break None = false
 begins_break (Some h) = is_break h.0
 
 -- The cursor passed a data item.
-pub record PassesItem (old new : Walk) : Type 0 where
+pub record PassesItem (old new : CursorState) : Type 0 where
   pub advances : (levels : ℕ) → Advances (item_course levels (ahead old)) over old new
   pub further : old.place < new.place
 
 -- The cursor passed the head of a data item with others in it; with no level left, this is a fault.
-pub record BeginsItem (inner : Open) (old new : Walk) : Type 0 where
+pub record BeginsItem (inner : Open) (old new : CursorState) : Type 0 where
   pub flat : Fails (item_course 0 (ahead old)) old new
   pub deeper : (levels : ℕ) → Advances (item_course (suc levels) (ahead old)) (open_course levels inner) old new
   pub further : old.place < new.place
 
 -- the next data item, where no break is allowed
-abbrev pub IsInnerPart : Walk → Walk → Part → Type 0
+abbrev pub IsInnerPart : CursorState → CursorState → Part → Type 0
 IsInnerPart old new part.Malformed = (levels : ℕ) → Fails (item_course levels (ahead old)) old new
 IsInnerPart old new part.End = ⊥
 IsInnerPart old new part.Item = PassesItem old new
 IsInnerPart old new (part.Head inner) = BeginsItem inner old new
 
-abbrev pub NoBreak : Walk → Type 0
+abbrev pub NoBreak : CursorState → Type 0
 NoBreak w = begins_break (head_at (ahead w)) ≡ false
 
 -- the next data item, or a break
-abbrev pub IsPart : Walk → Walk → Part → Type 0
+abbrev pub IsPart : CursorState → CursorState → Part → Type 0
 IsPart old new part.Malformed = NoBreak old × ((levels : ℕ) → Fails (item_course levels (ahead old)) old new)
 IsPart old new part.End = HeadRead old new head.Break
 IsPart old new part.Item = NoBreak old × PassesItem old new
 IsPart old new (part.Head inner) = NoBreak old × BeginsItem inner old new
 
 -- The cursor passed data items of an open list.
-pub record PassesElement (before after : Open) (old new : Walk) : Type 0 where
+pub record PassesElement (before after : Open) (old new : CursorState) : Type 0 where
   pub advances : (levels : ℕ)
       → Advances (open_course levels before (ahead old)) (open_course levels after) old new
   pub further : old.place < new.place
 
 -- The cursor passed data items of an open list, and the head of the next one, which has others in it.
-pub record BeginsElement (before after inner : Open) (old new : Walk) : Type 0 where
+pub record BeginsElement (before after inner : Open) (old new : CursorState) : Type 0 where
   pub flat : Fails (open_course 0 before (ahead old)) old new
   pub deeper : (levels : ℕ) → Advances (open_course (suc levels) before (ahead old))
       (λ rest. open_course levels inner rest ▸ open_course (suc levels) after) old new
   pub further : old.place < new.place
 
 -- the next data items of an open list, up to one with others in it, or the list's end
-abbrev pub IsPartOf : Open → Open → Walk → Walk → Part → Type 0
+abbrev pub IsPartOf : Open → Open → CursorState → CursorState → Part → Type 0
 IsPartOf before after old new part.Malformed = (levels : ℕ) → Fails (open_course levels before (ahead old)) old new
 IsPartOf before after old new part.End = (levels : ℕ) → Advances (open_course levels before (ahead old)) over old new
 IsPartOf before after old new part.Item = PassesElement before after old new

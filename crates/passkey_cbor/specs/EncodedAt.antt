@@ -8,7 +8,7 @@ use Rattle.passkey_cbor.specs.Grows.{Grows}
 use Rattle.passkey_cbor.specs.Inside.{Within, PairWithin, Left, Inside}
 use Rattle.passkey_cbor.specs.View.{item_of}
 use Rattle.passkey_cbor.specs.Heads.{break}
-use Rattle.passkey_cbor.specs.Walk.{Walk, ahead, raised, break_heads}
+use Rattle.passkey_cbor.specs.CursorState.{CursorState, ahead, raised, break_heads}
 use Rattle.passkey_cbor.specs.HeadCount.{heads_between}
 use Rattle.passkey_cbor.specs.declared.head.Head.{Head}
 use Rattle.passkey_cbor.specs.declared.value.Value.{Value}
@@ -34,13 +34,13 @@ PairsAreEncodedAt left ms = Lies (Left (PairWithin max_depth) left ms)
 -- ---- what a cursor's calls do if a data item is encoded from the cursor's offset to `to`
 
 -- `head` decodes the data item's head, and the rest of the item's encoding follows, up to `to`.
-abbrev pub Opens : Item → ℕ → Walk → Option Head → Type 0
+abbrev pub Opens : Item → ℕ → CursorState → Option Head → Type 0
 Opens x to new (Some h) = Lies (Inside h x) new.bytes new.place to
 Opens x to new None = ⊥
 
 -- `skip` passes the data item, and counts each of its heads: at least one, and at most one for each of the item's
 -- bytes.
-pub record Passes (to : ℕ) (old new : Walk) (found : Bool) : Type 0 where
+pub record Passes (to : ℕ) (old new : CursorState) (found : Bool) : Type 0 where
   pub is_found : found ≡ true
   pub place : new.place ≡ to
   pub counted : new.heads ≡ raised old.heads (heads_between old.bytes old.place to)
@@ -51,7 +51,7 @@ pub record Passes (to : ℕ) (old new : Walk) (found : Bool) : Type 0 where
 
 -- `value` decodes the data item and passes it; or it runs out of memory, and the cursor doesn't move. It counts
 -- each of its heads at least once: at least one, and at most two for each of the item's bytes.
-pub record Valued (x : Item) (to : ℕ) (old new : Walk) (v : Value) : Type 0 where
+pub record Valued (x : Item) (to : ℕ) (old new : CursorState) (v : Value) : Type 0 where
   pub value : item_of v ≡ x
   pub place : new.place ≡ to
   pub all : raised old.heads (heads_between old.bytes old.place to) ≤ new.heads
@@ -60,7 +60,7 @@ pub record Valued (x : Item) (to : ℕ) (old new : Walk) (v : Value) : Type 0 wh
   pub nodes : new.nodes ≡ raised old.nodes (nodes x)
   pub bytes : new.bytes ≡ old.bytes
 
-pub record NotValued (x : Item) (to : ℕ) (old new : Walk) : Type 0 where
+pub record NotValued (x : Item) (to : ℕ) (old new : CursorState) : Type 0 where
   pub grows : Grows x
   pub place : new.place ≡ old.place
   pub all : raised old.heads (heads_between old.bytes old.place to) ≤ new.heads
@@ -70,7 +70,7 @@ pub record NotValued (x : Item) (to : ℕ) (old new : Walk) : Type 0 where
   pub nodes : new.nodes ≤ old.nodes + nodes x
   pub bytes : new.bytes ≡ old.bytes
 
-abbrev pub Values : Item → ℕ → Walk → Walk → Result Value CborError → Type 0
+abbrev pub Values : Item → ℕ → CursorState → CursorState → Result Value CborError → Type 0
 Values x to old new (Ok v) = Valued x to old new v
 Values x to old new (Err error.DecodeFailed) = ⊥
 Values x to old new (Err error.OutOfMemory) = NotValued x to old new
@@ -89,12 +89,12 @@ pub record Next {A : Type 0} (P : A → Language) (left : Option ℕ) (xs : List
   pub after : Lies (Left P left others) bytes middle to
 
 -- whether an element is left; if none is, the cursor is at the list's end
-abbrev pub NextIf : {A : Type 0} → (A → Language) → Option ℕ → List A → Walk → ℕ → Bool → Type 0
+abbrev pub NextIf : {A : Type 0} → (A → Language) → Option ℕ → List A → CursorState → ℕ → Bool → Type 0
 NextIf P left xs new to true = Next P left xs new.bytes new.place to
 NextIf P left xs new to false = (xs ≡ []) × (new.place ≡ to)
 
 -- The result of `more` if elements in these languages are left, from the cursor's offset to some other offset.
-abbrev pub Walks : {A : Type 0} → (A → Language) → Option ℕ → Option ℕ → Walk → Walk → Bool → Type 0
+abbrev pub Walks : {A : Type 0} → (A → Language) → Option ℕ → Option ℕ → CursorState → CursorState → Bool → Type 0
 Walks {A} P before after old new found =
     (xs : List A) (to : ℕ) → Lies (Left P before xs) old.bytes old.place to → NextIf P after xs new to found
 
@@ -112,7 +112,7 @@ left_after None found = None
 
 -- What `more` returns, and where it leaves the cursor, whatever bytes follow: it passes a break, and else the
 -- cursor doesn't move.
-pub record Looks (before after : Option ℕ) (old new : Walk) (found : Bool) : Type 0 where
+pub record Looks (before after : Option ℕ) (old new : CursorState) (found : Bool) : Type 0 where
   pub answer : found ≡ goes_on before (ahead old)
   pub left : after ≡ left_after before found
   pub stays : found ≡ true → new.place ≡ old.place
@@ -122,7 +122,7 @@ pub record Looks (before after : Option ℕ) (old new : Walk) (found : Bool) : T
   pub nodes : new.nodes ≡ old.nodes
   pub bytes : new.bytes ≡ old.bytes
 
-pub record WalksOn (before after : Option ℕ) (old new : Walk) (found : Bool) : Type 0 where
+pub record WalksOn (before after : Option ℕ) (old new : CursorState) (found : Bool) : Type 0 where
   pub items : Walks (Within max_depth) before after old new found
   pub pairs : Walks (PairWithin max_depth) before after old new found
   pub looks : Looks before after old new found

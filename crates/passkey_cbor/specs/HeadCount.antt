@@ -3,7 +3,7 @@ use Rattle.std.specs.Prelude.{◌≡◌, ℕ, zero, suc, ◌-◌, ◌≤◌, Lis
 use Rattle.passkey_cbor.specs.Languages.{Language, Then, Each}
 use Rattle.passkey_cbor.specs.HeadEncoding.{IsEncodingOfHead}
 use Rattle.passkey_cbor.specs.HeadReading.{◌>>=◌, Read, head_at}
-use Rattle.passkey_cbor.specs.Walk.{Walk, ahead, raised}
+use Rattle.passkey_cbor.specs.CursorState.{CursorState, ahead, raised}
 use Rattle.passkey_cbor.specs.declared.head.Head.{Head}
 use Rattle.passkey_cbor.specs.declared.head.Head.TheVariants as head
 
@@ -50,7 +50,7 @@ abbrev pub heads_between : List ℕ → ℕ → ℕ → ℕ
 heads_between bytes from to = heads_of (take (to - from) (drop from bytes))
 
 -- The cursor passed whole heads, each with the content of its string, and counted at least as many.
-pub record CountsHeads (old new : Walk) : Type 0 where
+pub record CountsHeads (old new : CursorState) : Type 0 where
   pub number : ℕ
   pub text : List ℕ
   pub heads : AreHeads number text
@@ -70,7 +70,7 @@ after_heads (suc n) bytes = head_at bytes >>= λ h. after_content (content_len h
 
 -- The cursor passed this many bytes of content, and then heads, each with its content. It counted each of these
 -- heads.
-pub record Spans (content : ℕ) (old new : Walk) : Type 0 where
+pub record Spans (content : ℕ) (old new : CursorState) : Type 0 where
   pub number : ℕ
   pub reads : (after_content content (ahead old) >>= after_heads number) ≡ Some (ahead new)
   pub counted : new.heads ≡ raised old.heads number

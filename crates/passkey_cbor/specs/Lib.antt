@@ -24,7 +24,7 @@ pub mod HeadReading
 pub mod Reading
 pub mod LeadingItemAt
 pub mod Inside
-pub mod Walk
+pub mod CursorState
 pub mod HeadCount
 pub mod Steps
 pub mod Found

@@ -5,7 +5,7 @@ use Rattle.passkey_cbor.specs.Item.{Item, map, pairs_of}
 use Rattle.passkey_cbor.specs.LeadingItem.{max_depth, IsLeadingItem}
 use Rattle.passkey_cbor.specs.Inside.{Within}
 use Rattle.passkey_cbor.specs.EncodedAt.{PairsAreEncodedAt}
-use Rattle.passkey_cbor.specs.Walk.{Walk}
+use Rattle.passkey_cbor.specs.CursorState.{CursorState}
 
 -- The offset in the bytes at which the members that are left begin, and how many of them the map's head counts;
 -- `None` for indefinite length.
@@ -72,11 +72,11 @@ HasNoMap bytes = (ms : List (Item × Item)) (len : ℕ) → IsLeadingItem bytes 
 -- ---- the bytes of one data item
 
 -- The slice encodes the data item and begins at the old offset, and the cursor passed it.
-pub record LendsItem (x : Item) (to : ℕ) (old new : Walk) (slice : List ℕ) : Type 0 where
+pub record LendsItem (x : Item) (to : ℕ) (old new : CursorState) (slice : List ℕ) : Type 0 where
   pub encoded : Within max_depth x slice
   pub here : drop old.place old.bytes ≡ slice ++ drop to old.bytes
   pub place : new.place ≡ to
 
-abbrev pub LendsSlice : Item → ℕ → Walk → Walk → Option (Bor (List ℕ)) → Type 0
+abbrev pub LendsSlice : Item → ℕ → CursorState → CursorState → Option (Bor (List ℕ)) → Type 0
 LendsSlice x to old new None = ⊥
 LendsSlice x to old new (Some slice) = LendsItem x to old new slice.now

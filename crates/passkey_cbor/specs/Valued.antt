@@ -5,7 +5,7 @@ use Rattle.passkey_cbor.specs.Nodes.{nodes}
 use Rattle.passkey_cbor.specs.LeadingItem.{IsLeadingItem}
 use Rattle.passkey_cbor.specs.Grows.{Grows}
 use Rattle.passkey_cbor.specs.View.{item_of}
-use Rattle.passkey_cbor.specs.Walk.{Walk, ahead, raised}
+use Rattle.passkey_cbor.specs.CursorState.{CursorState, ahead, raised}
 use Rattle.passkey_cbor.specs.HeadCount.{AreHeads, heads_of}
 use Rattle.passkey_cbor.specs.Skipped.{FindsNoLeadingItem}
 use Rattle.passkey_cbor.specs.declared.value.Value.{Value}
@@ -14,7 +14,7 @@ use Rattle.passkey_cbor.specs.declared.error.CborError.TheVariants as error
 
 -- The cursor decoded the leading data item and passed it. It counted each of its heads at least once: at least
 -- one, and at most two for each of the item's bytes; and it counted the item and every item in it.
-pub record MakesLeadingItem (old new : Walk) (x : Item) : Type 0 where
+pub record MakesLeadingItem (old new : CursorState) (x : Item) : Type 0 where
   pub len : ℕ
   pub front : IsLeadingItem (ahead old) x len
   pub place : new.place ≡ old.place + len
@@ -27,7 +27,7 @@ pub record MakesLeadingItem (old new : Walk) (x : Item) : Type 0 where
 
 -- The leading data item takes memory, and an allocation failed; the cursor doesn't move, and its counts don't
 -- decrease.
-pub record FindsNoMemory (old new : Walk) : Type 0 where
+pub record FindsNoMemory (old new : CursorState) : Type 0 where
   pub item : Item
   pub len : ℕ
   pub front : IsLeadingItem (ahead old) item len
@@ -40,7 +40,7 @@ pub record FindsNoMemory (old new : Walk) : Type 0 where
   pub nodes : new.nodes ≤ old.nodes + nodes item
   pub bytes : new.bytes ≡ old.bytes
 
-abbrev pub ReadsValue : Walk → Walk → Result Value CborError → Type 0
+abbrev pub ReadsValue : CursorState → CursorState → Result Value CborError → Type 0
 ReadsValue old new (Ok v) = MakesLeadingItem old new (item_of v)
 ReadsValue old new (Err error.DecodeFailed) = FindsNoLeadingItem old new
 ReadsValue old new (Err error.OutOfMemory) = FindsNoMemory old new

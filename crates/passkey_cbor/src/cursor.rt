@@ -1,7 +1,7 @@
 //! A cursor that decodes borrowed bytes head by head.
 ghost use Rattle.std.specs.Prelude.{◌≡◌, ℕ, ◌+◌, ◌<◌, ◌≤◌, drop, length, min, Some as There, None, option_map, true, false, IfNone, IfSome};
 ghost use Rattle.std.specs.Str.{IsAscii};
-ghost use Rattle.passkey_cbor.specs.Walk.{ahead, raised, IsInside, IsPlaced, Went};
+ghost use Rattle.passkey_cbor.specs.CursorState.{ahead, raised, IsInside, IsPlaced, MovesForward};
 ghost use Rattle.passkey_cbor.specs.Found.{FindsHead};
 ghost use Rattle.passkey_cbor.specs.Item.{Item};
 ghost use Rattle.passkey_cbor.specs.EncodedAt.{IsEncodedAt, Opens, WalksOn};
@@ -24,9 +24,9 @@ pub struct Cursor<'a> {
 }
 
 impl<'a> Model for Cursor<'a> {
-    ghost use Rattle.passkey_cbor.specs.Walk.{Walk, IsPlaced};
+    ghost use Rattle.passkey_cbor.specs.CursorState.{CursorState, IsPlaced};
 
-    ghost Value = { Walk };
+    ghost Value = { CursorState };
 
     ghost view = { λ c. record { bytes = c.bytes.now; place = c.place; heads = c.count.heads; nodes = c.count.nodes } };
 
@@ -135,7 +135,7 @@ impl<'a> Cursor<'a> {
             → Opens x to self.new result }
 
         // The counts never decrease.
-        ensures went { Went self.old self.new }
+        ensures went { MovesForward self.old self.new }
     {
         self.decode()
     }
@@ -149,7 +149,7 @@ impl<'a> Cursor<'a> {
         ensures walks { WalksOn left.old left.new self.old self.new result }
 
         // The counts never decrease.
-        ensures went { Went self.old self.new }
+        ensures went { MovesForward self.old self.new }
     {
         let place = self.place;
         let known = *left;

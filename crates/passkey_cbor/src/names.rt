@@ -4,7 +4,7 @@ ghost use Rattle.std.specs.List.{position};
 ghost use Rattle.std.specs.Str.{bytes_eq};
 ghost use Rattle.passkey_cbor.specs.Names.{begins, begins_one, IsNameOf, LooksFor};
 ghost use Rattle.passkey_cbor.specs.Steps.{AreSought, CountsSought};
-ghost use Rattle.passkey_cbor.specs.Walk.{IsInside};
+ghost use Rattle.passkey_cbor.specs.CursorState.{IsInside};
 
 use crate::cursor::{Cursor, Next};
 

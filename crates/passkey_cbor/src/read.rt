@@ -2,7 +2,7 @@
 ghost use Rattle.std.specs.Prelude.{◌≡◌, ◌<◌, ◌≤◌, ◌⊎◌, ℕ, [], length, true, Err, IfOk, OnErr};
 ghost use Rattle.std.specs.Option.{IsSomeAnd};
 ghost use Rattle.passkey_cbor.specs.Item as item;
-ghost use Rattle.passkey_cbor.specs.Walk.{ahead, IsInside, Went};
+ghost use Rattle.passkey_cbor.specs.CursorState.{ahead, IsInside, MovesForward};
 ghost use Rattle.passkey_cbor.specs.Reading.{start, is_allowed, piece_at, string_at, pair_by, simple_item, item_within, list_at};
 ghost use Rattle.passkey_cbor.specs.Steps.{IsHead, CountsChunks};
 ghost use Rattle.passkey_cbor.specs.Building.{Makes, an_item, a_counted_item, a_pair, each_of, some_bytes, a_text};
@@ -73,7 +73,7 @@ impl<'a> Cursor<'a> {
             → Values x to self.old self.new result }
 
         // The counts never decrease.
-        ensures went { Went self.old self.new }
+        ensures went { MovesForward self.old self.new }
     {
         let place = self.place;
         if !self.skip() {
@@ -231,7 +231,7 @@ impl<'a> Cursor<'a> {
     ) -> Result<Vec<u8>, CborError>
         requires { IsInside self.old }
         ensures made { Makes some_bytes (string_at is_text len (ahead self.old)) self.old self.new result }
-        ensures stands { IfOk result (λ v. is_allowed is_text v.items ≡ true) }
+        ensures allowed_text { IfOk result (λ v. is_allowed is_text v.items ≡ true) }
     {
         match len {
             Some(len) => self.build_piece(alloc, is_text, len),
@@ -243,7 +243,7 @@ impl<'a> Cursor<'a> {
     fn build_piece(&mut self, alloc: Global, is_text: bool, len: u64) -> Result<Vec<u8>, CborError>
         requires { IsInside self.old }
         ensures made { Makes some_bytes (piece_at is_text len (ahead self.old)) self.old self.new result }
-        ensures stands { IfOk result (λ v. is_allowed is_text v.items ≡ true) }
+        ensures allowed_text { IfOk result (λ v. is_allowed is_text v.items ≡ true) }
     {
         match self.piece(is_text, len) {
             None => Err(CborError::DecodeFailed),
@@ -259,7 +259,7 @@ impl<'a> Cursor<'a> {
     ) -> Result<Vec<u8>, CborError>
         requires { IsInside self.old }
         ensures made { Makes some_bytes (string_at is_text None (ahead self.old)) self.old self.new result }
-        ensures stands { IfOk result (λ v. is_allowed is_text v.items ≡ true) }
+        ensures allowed_text { IfOk result (λ v. is_allowed is_text v.items ≡ true) }
         ensures counted { CountsChunks is_text self.old self.new result }
     {
         let mut bytes = Vec::new(alloc);

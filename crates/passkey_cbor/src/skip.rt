@@ -1,6 +1,6 @@
 //! Skipping data items.
 ghost use Rattle.std.specs.Prelude.{◌≡◌, ◌<◌, ◌^◌, ◌-◌, ℕ, List, length, Some as There, None, is_some, unwrap_or, IfSome, MatchOption};
-ghost use Rattle.passkey_cbor.specs.Walk.{ahead, raised, IsInside, IsPlaced, Went};
+ghost use Rattle.passkey_cbor.specs.CursorState.{ahead, raised, IsInside, IsPlaced, MovesForward};
 ghost use Rattle.passkey_cbor.specs.LeadingItem.{max_depth};
 ghost use Rattle.passkey_cbor.specs.Reading.{string_at};
 ghost use Rattle.passkey_cbor.specs.HeadsDecoded.{string_heads};
@@ -84,7 +84,7 @@ impl<'a> Cursor<'a> {
             → Passes to self.old self.new result }
 
         // The counts never decrease.
-        ensures went { Went self.old self.new }
+        ensures went { MovesForward self.old self.new }
     {
         let place = self.place;
         let found = self.skip_item();
@@ -105,7 +105,7 @@ impl<'a> Cursor<'a> {
             → PassesNullAt x to self.old self.new result }
 
         // The counts never decrease.
-        ensures went { Went self.old self.new }
+        ensures went { MovesForward self.old self.new }
     {
         if self.begins_null() {
             return self.skip();

@@ -1,12 +1,12 @@
 //! Strings that are borrowed without a copy, in one piece or in chunks.
 ghost use Rattle.std.specs.Prelude.{◌≡◌, ◌+◌, ◌≤◌, true, false, [], ◌∷◌, ◌++◌, take, drop, length, map, option_map, IfOk, IfSome, MatchOption, None, Some as There};
 ghost use Rattle.std.specs.String.{string_bytes};
-ghost use Rattle.passkey_cbor.specs.Lent.{LendsString, PassesString, LendsEncoded, LentWhole, LooksToCopy, LooksAtAll, LooksToFill, IsNamed, Copies, Fills, IsRegion, IsSized, Tells};
+ghost use Rattle.passkey_cbor.specs.Lent.{LendsString, PassesString, LendsEncoded, LentWhole, LooksToCopy, LooksAtAll, LooksToFill, IsNamed, Copies, Fills, IsRegion, IsSized, HoldsString};
 ghost use Rattle.passkey_cbor.specs.Names.{IsNameOf, LooksFor};
 ghost use Rattle.passkey_cbor.specs.Steps.{ReadsRegion, ReadsString, CountsAll};
 ghost use Rattle.passkey_cbor.specs.Reading.{is_allowed};
 ghost use Rattle.passkey_cbor.specs.HeadsDecoded.{string_heads};
-ghost use Rattle.passkey_cbor.specs.Walk.{ahead, raised, IsInside, Went};
+ghost use Rattle.passkey_cbor.specs.CursorState.{ahead, raised, IsInside, MovesForward};
 
 use crate::cursor::{Cursor, Next, is_plain};
 use crate::leaf::short_head;
@@ -71,7 +71,7 @@ impl<'a> Cursor<'a> {
         ensures lends { LendsEncoded true self.old self.new result }
 
         // The counts never decrease.
-        ensures went { Went self.old self.new }
+        ensures went { MovesForward self.old self.new }
     {
         match self.string(true) {
             None => None,
@@ -89,7 +89,7 @@ impl<'a> Cursor<'a> {
         ensures lends { LendsEncoded false self.old self.new result }
 
         // The counts never decrease.
-        ensures went { Went self.old self.new }
+        ensures went { MovesForward self.old self.new }
     {
         match self.string(false) {
             None => None,
@@ -105,7 +105,7 @@ impl<'a> Cursor<'a> {
             (option_map (λ r. record { len = r.0; bytes = r.1.now }) result) }
         ensures lends { LendsEncoded is_text self.old self.new
             (option_map (λ r. record { len = r.0; bytes = r.1.now }) result) }
-        ensures went { Went self.old self.new }
+        ensures went { MovesForward self.old self.new }
         ensures size { IfSome result (λ r. IsSized is_text (record { len = r.0; bytes = r.1.now }) r.2) }
     {
         match self.short_string(is_text) {
@@ -120,7 +120,7 @@ impl<'a> Cursor<'a> {
     fn short_string(&mut self, is_text: bool) -> Option<&'a [u8]>
         ensures passes { MatchOption result (self.new ≡ self.old) (λ s. PassesString is_text self.old self.new
             (record { len = There (length s.now); bytes = s.now })) }
-        ensures went { Went self.old self.new }
+        ensures went { MovesForward self.old self.new }
     {
         let bytes = self.bytes;
         let (head_len, head) = short_head(&bytes[self.place..])?;
@@ -147,7 +147,7 @@ impl<'a> Cursor<'a> {
             (option_map (λ r. record { len = r.0; bytes = r.1.now }) result) }
         ensures lends { LendsEncoded is_text self.old self.new
             (option_map (λ r. record { len = r.0; bytes = r.1.now }) result) }
-        ensures went { Went self.old self.new }
+        ensures went { MovesForward self.old self.new }
         ensures size { IfSome result (λ r. IsSized is_text (record { len = r.0; bytes = r.1.now }) r.2) }
     {
         let place = self.place;
@@ -163,7 +163,7 @@ impl<'a> Cursor<'a> {
     fn string_ahead(&mut self, is_text: bool) -> Option<(Option<u64>, &'a [u8], usize)>
         ensures reads { ReadsString is_text self.old self.new
             (option_map (λ r. record { len = r.0; bytes = r.1.now }) result) }
-        ensures went { Went self.old self.new }
+        ensures went { MovesForward self.old self.new }
         ensures size { IfSome result (λ r. IsSized is_text (record { len = r.0; bytes = r.1.now }) r.2) }
     {
         match self.decode() {
@@ -185,7 +185,7 @@ impl<'a> Cursor<'a> {
         requires { IsInside self.old }
         ensures reads { ReadsRegion is_text len self.old self.new (option_map (λ r. r.0.now) result) }
         ensures decoded { self.new.heads ≡ raised self.old.heads (string_heads is_text len (ahead self.old)) }
-        ensures went { Went self.old self.new }
+        ensures went { MovesForward self.old self.new }
         ensures size { IfSome result (λ r. IsSized is_text (record { len = len; bytes = r.0.now }) r.1) }
     {
         let bytes = self.bytes;
@@ -207,7 +207,7 @@ fn copy(
 ) -> Result<Vec<u8>, OutOfMemory>
     requires { IsRegion is_text (record { len = len; bytes = region.now }) }
     ensures copies { Copies (λ v. v.items) is_text (record { len = len; bytes = region.now }) result }
-    ensures stands { IfOk result (λ v. is_allowed is_text v.items ≡ true) }
+    ensures allowed_text { IfOk result (λ v. is_allowed is_text v.items ≡ true) }
     ensures looks { LooksToCopy is_text (record { len = len; bytes = region.now }) cursor.old cursor.new result }
     ensures rises { cursor.old.heads ≤ cursor.new.heads }
 {
@@ -239,7 +239,7 @@ fn put_chunks(chunks: &mut Cursor<'_>, into: &mut [u8])
     requires inside { IsInside chunks.old }
     requires region { IsRegion false (record { len = None; bytes = ahead chunks.old }) }
     requires size { IsSized false (record { len = None; bytes = ahead chunks.old }) (length into.old) }
-    ensures filled { Tells false (record { len = None; bytes = ahead chunks.old }) into.new }
+    ensures filled { HoldsString false (record { len = None; bytes = ahead chunks.old }) into.new }
     ensures counted { CountsAll false chunks.old chunks.new }
 {
     let mut left = None;
@@ -265,7 +265,7 @@ fn put_chunks(chunks: &mut Cursor<'_>, into: &mut [u8])
 fn fill_chunks(region: &[u8], cursor: &mut Cursor<'_>, into: &mut [u8])
     requires region { IsRegion false (record { len = None; bytes = region.now }) }
     requires size { IsSized false (record { len = None; bytes = region.now }) (length into.old) }
-    ensures filled { Tells false (record { len = None; bytes = region.now }) into.new }
+    ensures filled { HoldsString false (record { len = None; bytes = region.now }) into.new }
     ensures looks { LooksAtAll false (record { len = None; bytes = region.now }) cursor.old cursor.new }
     ensures rises { cursor.old.heads ≤ cursor.new.heads }
 {

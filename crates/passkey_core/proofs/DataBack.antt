@@ -58,10 +58,10 @@ fixed_back : (hash : List ℕ) (flags counter : ℕ) (rest : List ℕ) → lengt
 unfolding fixed_at
 fixed_back hash flags counter rest hashed fits known =
     let number : from_be_bytes w32 (to_be_bytes w32 counter) ≡ counter = from_be_bytes-to_be_bytes_4 counter fits in
-    let judged : known_only (bare_data hash flags (Some (from_be_bytes w32 (to_be_bytes w32 counter)))) rest
+    let verdict : known_only (bare_data hash flags (Some (from_be_bytes w32 (to_be_bytes w32 counter)))) rest
     ≡ Ok (bare_data hash flags (Some counter), rest) = rw (number, known) refl in
     step 32 hash ((flags ∷ []) ++ (to_be_bytes w32 counter ++ rest)) _ hashed ∙ step 1 (flags ∷ []) (to_be_bytes w32
-    counter ++ rest) _ refl ∙ step 4 (to_be_bytes w32 counter) rest _ (length-to_be_bytes four counter) ∙ judged
+    counter ++ rest) _ refl ∙ step 4 (to_be_bytes w32 counter) rest _ (length-to_be_bytes four counter) ∙ verdict
 
 ids_back : (aaguid id rest : List ℕ) → length aaguid ≡ 16 → length id < 2 ^ 16
     → ids_at (aaguid ++ (to_be_bytes w16 (length id) ++ (id ++ rest))) ≡ Ok ((aaguid, id), rest)
@@ -79,7 +79,7 @@ item_back : {X : Type 0} → WrittenIsLeadingItem → (read : Item → Result X 
     List ℕ) → IsWritable i → is_shallow i ≡ true → read i ≡ Ok x → ReadsItem read (written i ++ rest) (Ok (x, rest))
 item_back {X = X} law read i x rest writable shallow e =
     let ends : drop (length (written i)) (written i ++ rest) ≡ rest = drop-append_seam (written i) rest in
-    let judged : result_map_both (λ (y : X). (let p : X × List ℕ = (
+    let verdict : result_map_both (λ (y : X). (let p : X × List ℕ = (
       y,
       drop (length (written i)) (written i ++ rest),
     ) in p)) (λ (f : CoseError). f) (read i) ≡ Ok (x, rest) = ap
@@ -89,7 +89,7 @@ item_back {X = X} law read i x rest writable shallow e =
       item = i;
       len = length (written i);
       front = law i rest writable (leb-true _ _ shallow);
-      judged = sym judged;
+      verdict = sym verdict;
     })
 
 attested_back : WrittenIsLeadingItem → WrittenIsReadBack → (a : AttestedParts) (rest : List ℕ) → IsAttested a

@@ -27,13 +27,13 @@ ok_is : {X : Type 0} (x y : X) → (let r : Result X CoseError = Ok x in r) ≡ 
 ok_is x y e = cc
 
 -- the result of the first part, and the reading after it
-record Went {X Y : Type 0} (begun : Begun X) (next : X × List ℕ → Result Y CoseError) (y : Y) : Type 0 where
+record MovesForward {X Y : Type 0} (begun : Begun X) (next : X × List ℕ → Result Y CoseError) (y : Y) : Type 0 where
   part : X × List ℕ
   begins : begun ≡ Ok part
   goes_on : next part ≡ Ok y
 
 went : {X Y : Type 0} (begun : Begun X) (next : X × List ℕ → Result Y CoseError) (y : Y) → (begun >>= next) ≡ Ok y
-    → Went begun next y
+    → MovesForward begun next y
 went (Ok p) next y e = record { part = p; begins = refl; goes_on = e }
 went (Err f) next y e = cc
 

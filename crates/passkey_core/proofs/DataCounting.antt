@@ -7,7 +7,7 @@ use Rattle.passkey_cbor.specs.LeadingItemAt.{leading_item_at}
 use Rattle.passkey_cbor.specs.Item.{Item}
 use Rattle.passkey_cbor.specs.Nodes.{nodes}
 use Rattle.passkey_cbor.specs.Valued.{MakesLeadingItem, ReadsValue}
-use Rattle.passkey_cbor.specs.Walk.{Walk, ahead, raised}
+use Rattle.passkey_cbor.specs.CursorState.{CursorState, ahead, raised}
 use Rattle.passkey_cbor.specs.declared.count.Count.{Count}
 use Rattle.passkey_cbor.specs.declared.error.CborError.{CborError}
 use Rattle.passkey_cbor.specs.declared.error.CborError.TheVariants as error
@@ -24,11 +24,11 @@ use Rattle.passkey_core.proofs.DataShrinking.{ids_shrink}
 
 -- ---- a data item that a cursor decodes at the start of the bytes
 
-abbrev begin : List ℕ → Walk
+abbrev begin : List ℕ → CursorState
 begin bytes = record { bytes = bytes; place = 0; heads = 0; nodes = 0 }
 
 -- the cursor's counts are added
-pub record Added (old new : Count) (w : Walk) : Type 0 where
+pub record Added (old new : Count) (w : CursorState) : Type 0 where
   pub heads : new.heads ≡ min (old.heads + w.heads) (2 ^ 128 - 1)
   pub nodes : new.nodes ≡ min (old.nodes + w.nodes) (2 ^ 128 - 1)
   pub heads_rise : old.heads ≤ new.heads
@@ -38,41 +38,41 @@ raised-zero : (n : ℕ) → raised 0 n ≡ min n (2 ^ 128 - 1)
 raised-zero zero = refl
 raised-zero (suc n) = omega arith
 
-nodes_given : (bytes : List ℕ) (a : Walk) (x : Item) (len : ℕ) → a ≡ begin bytes → IsLeadingItem (ahead a) x len
+nodes_given : (bytes : List ℕ) (a : CursorState) (x : Item) (len : ℕ) → a ≡ begin bytes → IsLeadingItem (ahead a) x len
     → front_nodes bytes ≡ nodes x
 nodes_given bytes a x len e f =
-    let here : IsLeadingItem bytes x len = subst (λ (w : Walk). IsLeadingItem (ahead w) x len) e f in
+    let here : IsLeadingItem bytes x len = subst (λ (w : CursorState). IsLeadingItem (ahead w) x len) e f in
     ap given_nodes (front_given bytes x len here)
 
-within : (bytes : List ℕ) (a : Walk) (x : Item) (len : ℕ) → a ≡ begin bytes → IsLeadingItem (ahead a) x len
+within : (bytes : List ℕ) (a : CursorState) (x : Item) (len : ℕ) → a ≡ begin bytes → IsLeadingItem (ahead a) x len
     → len ≤ length bytes
-within bytes a x len e f = (subst (λ (w : Walk). IsLeadingItem (ahead w) x len) e f).within
+within bytes a x len e f = (subst (λ (w : CursorState). IsLeadingItem (ahead w) x len) e f).within
 
-heads_given : (bytes : List ℕ) (a : Walk) (x : Item) (len : ℕ) → a ≡ begin bytes → IsLeadingItem (ahead a) x len
+heads_given : (bytes : List ℕ) (a : CursorState) (x : Item) (len : ℕ) → a ≡ begin bytes → IsLeadingItem (ahead a) x len
     → front_heads bytes ≡ heads_of (take len (ahead a))
 heads_given bytes a x len e f =
-    let here : IsLeadingItem bytes x len = subst (λ (w : Walk). IsLeadingItem (ahead w) x len) e f in
+    let here : IsLeadingItem bytes x len = subst (λ (w : CursorState). IsLeadingItem (ahead w) x len) e f in
     let size : length bytes - length (drop len bytes) ≡ len =
     omega (arith, length-drop len bytes, here.within) in
     ap (given_heads bytes) (front_given bytes x len here) ∙ ap (λ (n : ℕ). heads_of (take n bytes)) size
-    ∙ ap (λ (w : Walk). heads_of (take len (ahead w))) (sym e)
+    ∙ ap (λ (w : CursorState). heads_of (take len (ahead w))) (sym e)
 
 -- counted from nothing on, and added to other counts
-all_heads : (a b : Walk) (n : ℕ) → a.heads ≡ 0 → raised a.heads n ≤ b.heads → min n (2 ^ 128 - 1) ≤ b.heads
+all_heads : (a b : CursorState) (n : ℕ) → a.heads ≡ 0 → raised a.heads n ≤ b.heads → min n (2 ^ 128 - 1) ≤ b.heads
 all_heads a b n none counted =
     let first : raised 0 n ≤ b.heads = subst (λ (k : ℕ). raised k n ≤ b.heads) none counted in
     omega (arith, raised-zero n, first)
 
-pub item_made : {A : Type 0} (bytes : List ℕ) (a b : Walk) (x : Item) (old new : Count) (v : A)
+pub item_made : {A : Type 0} (bytes : List ℕ) (a b : CursorState) (x : Item) (old new : Count) (v : A)
     (rest : Bor (List ℕ)) → a ≡ begin bytes → MakesLeadingItem a b x → Added old new b
     → length rest.now ≡ length bytes - b.place → Counts (λ each. each bytes) bytes old new (Ok (v, rest))
 item_made bytes a b x old new v rest e m added left =
-    let no_heads : a.heads ≡ 0 = ap (λ (w : Walk). w.heads) e in
-    let no_place : a.place ≡ 0 = ap (λ (w : Walk). w.place) e in
+    let no_heads : a.heads ≡ 0 = ap (λ (w : CursorState). w.heads) e in
+    let no_place : a.place ≡ 0 = ap (λ (w : CursorState). w.place) e in
     let size : m.len ≤ length bytes = within bytes a x m.len e m.front in
     let given : front_nodes bytes ≡ nodes x = nodes_given bytes a x m.len e m.front in
     let made : b.nodes ≡ min (nodes x) (2 ^ 128 - 1) =
-    m.nodes ∙ ap (λ (w : Walk). raised w.nodes (nodes x)) e ∙ raised-zero (nodes x) in
+    m.nodes ∙ ap (λ (w : CursorState). raised w.nodes (nodes x)) e ∙ raised-zero (nodes x) in
     let some : 1 ≤ b.heads = subst (λ (n : ℕ). raised n 1 ≤ b.heads) no_heads m.least in
     record {
       heads = omega (arith, added.heads, m.heads, m.place);
@@ -91,16 +91,16 @@ item_made bytes a b x old new v rest e m added left =
       nodes_rise = added.nodes_rise;
     }
 
-pub item_fails : {A : Type 0} (bytes : List ℕ) (a b : Walk) (e : CborError) (old new : Count) → IsBytes bytes
+pub item_fails : {A : Type 0} (bytes : List ℕ) (a b : CursorState) (e : CborError) (old new : Count) → IsBytes bytes
     → a ≡ begin bytes → ReadsValue a b (Err e) → Added old new b
     → Counts {A = A} (λ each. each bytes) bytes old new (Err (cose_error_of e))
 item_fails bytes a b error.DecodeFailed old new fits e r added =
-    let no_heads : a.heads ≡ 0 = ap (λ (w : Walk). w.heads) e in
-    let no_nodes : a.nodes ≡ 0 = ap (λ (w : Walk). w.nodes) e in
-    let size : length (ahead a) ≡ length bytes = ap (λ (w : Walk). length (ahead w)) e in
+    let no_heads : a.heads ≡ 0 = ap (λ (w : CursorState). w.heads) e in
+    let no_nodes : a.nodes ≡ 0 = ap (λ (w : CursorState). w.nodes) e in
+    let size : length (ahead a) ≡ length bytes = ap (λ (w : CursorState). length (ahead w)) e in
     let some : 1 ≤ b.heads = subst (λ (n : ℕ). raised n 1 ≤ b.heads) no_heads r.least in
     let none : leading_item_at bytes ≡ None = none_given given_front bytes fits
-    (subst (λ (w : Walk). HasNoLeadingItem (ahead w)) e r.none) in
+    (subst (λ (w : CursorState). HasNoLeadingItem (ahead w)) e r.none) in
     record {
       heads = omega (arith, added.heads, r.heads);
       nodes = omega (arith, added.nodes, r.nodes);
@@ -113,8 +113,8 @@ item_fails bytes a b error.DecodeFailed old new fits e r added =
       nodes_rise = added.nodes_rise;
     }
 item_fails bytes a b error.OutOfMemory old new fits e r added =
-    let no_heads : a.heads ≡ 0 = ap (λ (w : Walk). w.heads) e in
-    let no_nodes : a.nodes ≡ 0 = ap (λ (w : Walk). w.nodes) e in
+    let no_heads : a.heads ≡ 0 = ap (λ (w : CursorState). w.heads) e in
+    let no_nodes : a.nodes ≡ 0 = ap (λ (w : CursorState). w.nodes) e in
     let size : r.len ≤ length bytes = within bytes a r.item r.len e r.front in
     let given : front_nodes bytes ≡ nodes r.item = nodes_given bytes a r.item r.len e r.front in
     let some : 1 ≤ b.heads = subst (λ (n : ℕ). raised n 1 ≤ b.heads) no_heads r.least in

@@ -18,7 +18,7 @@ use Rattle.passkey_core.specs.DataParts.{DataParts}
 use Rattle.passkey_core.specs.DataRead.{judged_front, item_at, attested_at, where_at, read_data}
 use Rattle.passkey_core.specs.DataReading.{Begun, ◌>>=◌, bytes_at, known_only, fixed_at, ids_at, read_map, ReadsItem, Behind, ReadsThen, ReadsAttested, ReadsWhere}
 use Rattle.passkey_core.specs.Flags.{reserved_flags}
-use Rattle.passkey_core.proofs.DataReadings.{Went, then_went}
+use Rattle.passkey_core.proofs.DataReadings.{MovesForward, then_went}
 
 -- ---- what is left after a part consists of bytes
 
@@ -94,7 +94,7 @@ front_reads {X} read bytes fits (Some r) f = record {
     item = r.0;
     len = f.len;
     front = f.front;
-    judged = ap (λ (rest : List ℕ). result_map_both
+    verdict = ap (λ (rest : List ℕ). result_map_both
         (λ (x : X). (let p : X × List ℕ = (x, rest) in p)) (λ (e : CoseError). e) (read r.0)) f.behind;
   });
   leaves = judged_leaves r.1 (subst IsBytes (sym f.behind) (IsBytes-drop f.len bytes fits)) (read r.0);
@@ -151,12 +151,12 @@ then_given : {X Y : Type 0} (first : Begun X → Type 0) (next : X → List ℕ 
     (begun : Begun X) (go_on : X × List ℕ → Result Y CoseError) (y : Y) → Gives first begun → ((p : X × List ℕ)
     → next p.0 p.1 (Ok y) → go_on p ≡ Ok y) → ReadsThen first next (Ok y) → (begun >>= go_on) ≡ Ok y
 then_given {X} first next begun go_on y given each h =
-    let w : Went first next y = then_went first next y h in
+    let w : MovesForward first next y = then_went first next y h in
     ap (λ (b : Begun X). b >>= go_on) (given (w.part, w.rest) w.begins) ∙ each (w.part, w.rest) w.goes_on
 
 item_given : {X : Type 0} → LeadingItemIsFound → (read : Item → Result X CoseError) (bytes : List ℕ)
     → Gives (ReadsItem read bytes) (item_at read bytes)
-item_given law read bytes p (inl r) = ap (judged_front read) (law bytes r.item r.len r.front) ∙ sym r.judged
+item_given law read bytes p (inl r) = ap (judged_front read) (law bytes r.item r.len r.front) ∙ sym r.verdict
 item_given law read bytes p (inr r) = cc
 
 attested_given : LeadingItemIsFound → (bytes : List ℕ) → Gives (ReadsAttested bytes) (attested_at bytes)
@@ -201,7 +201,7 @@ then_gives {X} first next begun go_on leaves gives each y h = by_begun h.begun (
 item_gives : {X : Type 0} → LeadingItemIsFound → FoundIsLeadingItem → (read : Item → Result X CoseError)
     (bytes : List ℕ) → IsBytes bytes → GivesAll (ReadsItem read bytes) (item_at read bytes)
 item_gives law found read bytes fits r (inl q) =
-    ap (judged_front read) (law bytes q.item q.len q.front) ∙ sym q.judged
+    ap (judged_front read) (law bytes q.item q.len q.front) ∙ sym q.verdict
 item_gives law found read bytes fits r (inr q) =
     ap (judged_front read) (none_given found bytes fits q.0) ∙ sym q.1
 

@@ -22,7 +22,7 @@ key_grows _ p rest h = cc
 
 key_front : (bytes : List ℕ) (p : KeyParts × List ℕ) → ReadsItem read_key bytes (Ok p) → HasGrowingLeadingItem bytes
 key_front bytes p (inl r) =
-    record { item = r.item; len = r.len; front = r.front; grows = key_grows r.item p (drop r.len bytes) r.judged }
+    record { item = r.item; len = r.len; front = r.front; grows = key_grows r.item p (drop r.len bytes) r.verdict }
 key_front bytes p (inr r) = cc
 
 -- if the key was read, its data item is present and takes memory

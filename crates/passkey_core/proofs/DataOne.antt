@@ -35,7 +35,7 @@ front_one {X = X} law read bytes a b p q =
     (read p.item) ≡ result_map_both (λ (x : X). (let r : X × List ℕ = (x, drop q.len bytes) in r)) (λ e. e)
     (read q.item) = λ i. result_map_both (λ (x : X). (let r : X × List ℕ = (x, drop (same.1 i) bytes) in r))
     (λ e. e) (read (same.0 i)) in
-    p.judged ∙ shared ∙ sym q.judged
+    p.verdict ∙ shared ∙ sym q.verdict
 
 reads_one : {X : Type 0} → AtMostOneLeadingItem → (read : Item → Result X CoseError) (bytes : List ℕ)
     → HasOne (ReadsItem read bytes)

@@ -30,7 +30,7 @@ pub part_fails : {X : Type 0} (part : List ℕ → Begun X → Type 0) (is_there
 part_fails part is_there bytes there e h = rw there (record { begun = Err e; begins = h; goes_on = refl })
 
 -- the first part of a successful reading, and the reading after it
-pub record Went {X Y : Type 0} (first : Begun X → Type 0) (next : X → List ℕ → Result Y CoseError → Type 0)
+pub record MovesForward {X Y : Type 0} (first : Begun X → Type 0) (next : X → List ℕ → Result Y CoseError → Type 0)
     (y : Y) : Type 0 where
   pub part : X
   pub rest : List ℕ
@@ -38,12 +38,12 @@ pub record Went {X Y : Type 0} (first : Begun X → Type 0) (next : X → List �
   pub goes_on : next part rest (Ok y)
 
 went : {X Y : Type 0} (first : Begun X → Type 0) (next : X → List ℕ → Result Y CoseError → Type 0) (y : Y)
-    (begun : Begun X) → first begun → Behind next begun (Ok y) → Went first next y
+    (begun : Begun X) → first begun → Behind next begun (Ok y) → MovesForward first next y
 went first next y (Ok p) b g = record { part = p.0; rest = p.1; begins = b; goes_on = g }
 went first next y (Err e) b g = cc
 
 pub then_went : {X Y : Type 0} (first : Begun X → Type 0) (next : X → List ℕ → Result Y CoseError → Type 0) (y : Y)
-    → ReadsThen first next (Ok y) → Went first next y
+    → ReadsThen first next (Ok y) → MovesForward first next y
 then_went first next y p = went first next y p.begun p.begins p.goes_on
 
 pub at_shape : {Y : Type 0} (Q : Result Y CoseError → Type 0) → Q (Err DecodeFailed)

@@ -1,7 +1,7 @@
 -- What one step of decoding authenticator data adds to the counts.
 use Rattle.std.specs.Prelude.{ℕ, ◌+◌, ◌*◌, ◌-◌, ◌^◌, ◌<◌, ◌≤◌, min, List, length, Result, Ok, Err}
 use Rattle.std.specs.Borrow.{Bor}
-use Rattle.passkey_cbor.specs.Walk.{raised}
+use Rattle.passkey_cbor.specs.CursorState.{raised}
 use Rattle.passkey_cbor.specs.declared.count.Count.{Count}
 use Rattle.passkey_cose.specs.declared.error.CoseError.{CoseError}
 use Rattle.passkey_cose.specs.declared.error.CoseError.TheVariants.{OutOfMemory}

@@ -58,7 +58,7 @@ pub record IsReadBy {X : Type 0} (read : Item → Result X CoseError) (bytes : L
     pub item : Item
     pub len : ℕ
     pub front : IsLeadingItem bytes item len
-    pub judged : begun
+    pub verdict : begun
         ≡ result_map_both (λ (x : X). (let p : X × List ℕ = (x, drop len bytes) in p)) (λ e. e) (read item)
 
 -- the leading data item, as `read` reads it; or `DecodeFailed` if there is none

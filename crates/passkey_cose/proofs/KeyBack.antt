@@ -12,7 +12,7 @@ use Rattle.passkey_iana.specs.Signed64.{is_signed_64}
 use Rattle.passkey_cose.specs.KeyFaults.{name_fault, op_fault, first_op_fault}
 use Rattle.passkey_cose.specs.KeyNormal.{normal_named, normal_key, IsKey}
 use Rattle.passkey_cose.specs.KeyParts.{KeyParts, op_item, ops_item, key_members, key_item}
-use Rattle.passkey_cose.specs.KeyReading.{assigned_or_other, name_in, bytes_in, ops_in, under, further, key_type, judged, read_key}
+use Rattle.passkey_cose.specs.KeyReading.{assigned_or_other, name_in, bytes_in, ops_in, under, further, key_type, key_or_fault, read_key}
 use Rattle.passkey_cose.specs.Registered.{Named, assigned, other, text, named_item}
 use Rattle.passkey_cose.specs.RegisteredSame.{NumbersName}
 use Rattle.passkey_cose.specs.declared.error.CoseError.{CoseError}
@@ -153,7 +153,7 @@ key_back k valid typed =
       base_iv = k.base_iv;
       params = k.params;
     } in
-    let read : judged ms None
+    let read : key_or_fault ms None
     ≡ result_map_both made (λ (f : CoseError). f) (key_type (Some (normal_named key_type_named k.kty))) =
     λ i. result_map_both (λ (kty : Named KeyType). (let l : KeyParts = record {
       kty = kty;
@@ -164,5 +164,5 @@ key_back k valid typed =
       params = others i;
     } in l)) (λ (f : CoseError). f)
     (key_type (types i)) in
-    read_key-map ms ∙ ap (judged ms) valid.good ∙ read
+    read_key-map ms ∙ ap (key_or_fault ms) valid.good ∙ read
     ∙ ap (result_map_both made (λ (f : CoseError). f)) (type_back k.kty typed)

@@ -13,7 +13,7 @@ use Rattle.passkey_iana.specs.Signed64.{is_signed_64}
 use Rattle.passkey_cose.specs.KeyFaults.{first_fault}
 use Rattle.passkey_cose.specs.KeyLabels.{Members, is_label, is_common}
 use Rattle.passkey_cose.specs.KeyParts.{KeyParts, member, key_members, key_item}
-use Rattle.passkey_cose.specs.KeyReading.{assigned_or_other, name_in, under, further, key_from, key_type, judged}
+use Rattle.passkey_cose.specs.KeyReading.{assigned_or_other, name_in, under, further, key_from, key_type, key_or_fault}
 use Rattle.passkey_cose.specs.Registered.{Named, assigned, other, text}
 use Rattle.passkey_cose.specs.declared.error.CoseError.{CoseError}
 use Rattle.passkey_iana.specs.declared.key_type.KeyType.{KeyType}
@@ -134,7 +134,7 @@ typed_readable ms kty good e shallow =
     and_from (not (is_reserved kty)) (is_shallow (key_item (key_from ms kty)))
     (ap not (unreserved (under 1 ms) kty e)) (le-leb _ _ fits)
 
-good_readable : (ms : Members) (k : KeyParts) → first_fault [] ms ≡ None → judged ms None ≡ Ok k
+good_readable : (ms : Members) (k : KeyParts) → first_fault [] ms ≡ None → key_or_fault ms None ≡ Ok k
     → suc (pairs_depth (pairs_of ms)) ≤ max_depth → is_key_readable k ≡ true
 good_readable ms k good e shallow =
     (elim (key_type (option_and_then (name_in key_type_named) (under 1 ms)))
@@ -145,11 +145,11 @@ good_readable ms k good e shallow =
       | Err f ↦ λ h. λ w. cc
     ]) refl e
 
-members_readable : (ms : Members) (k : KeyParts) → judged ms (first_fault [] ms) ≡ Ok k
+members_readable : (ms : Members) (k : KeyParts) → key_or_fault ms (first_fault [] ms) ≡ Ok k
     → suc (pairs_depth (pairs_of ms)) ≤ max_depth → is_key_readable k ≡ true
 members_readable ms k e shallow =
     (elim (first_fault [] ms)
-    as (λ (o : Option CoseError). first_fault [] ms ≡ o → judged ms o ≡ Ok k → is_key_readable k ≡ true) [
+    as (λ (o : Option CoseError). first_fault [] ms ≡ o → key_or_fault ms o ≡ Ok k → is_key_readable k ≡ true) [
       | Some f ↦ λ h. λ w. cc
       | None ↦ λ h. λ w. good_readable ms k h w shallow
     ]) refl e

@@ -10,7 +10,7 @@ use Rattle.passkey_cose.specs.KeyFaults.{first_fault}
 use Rattle.passkey_cose.specs.KeyLabels.{Members}
 use Rattle.passkey_cose.specs.KeyLaws.{ReadIsWrittenAlike}
 use Rattle.passkey_cose.specs.KeyParts.{KeyParts, member, key_members, key_item}
-use Rattle.passkey_cose.specs.KeyReading.{name_in, bytes_in, ops_in, under, further, key_from, key_type, judged, read_key}
+use Rattle.passkey_cose.specs.KeyReading.{name_in, bytes_in, ops_in, under, further, key_from, key_type, key_or_fault, read_key}
 use Rattle.passkey_cose.specs.Registered.{Named, named_item}
 use Rattle.passkey_cose.specs.declared.error.CoseError.{CoseError}
 use Rattle.passkey_iana.specs.declared.key_type.KeyType.{KeyType}
@@ -45,7 +45,7 @@ written_members ms kty good named =
 
 -- members are read alike if their values under the common labels and their other members are the same
 judged_alike : (ms ns : Members) → under 1 ms ≡ under 1 ns → under 2 ms ≡ under 2 ns → under 3 ms ≡ under 3 ns
-    → under 4 ms ≡ under 4 ns → under 5 ms ≡ under 5 ns → further ms ≡ further ns → judged ms None ≡ judged ns None
+    → under 4 ms ≡ under 4 ns → under 5 ms ≡ under 5 ns → further ms ≡ further ns → key_or_fault ms None ≡ key_or_fault ns None
 judged_alike ms ns types ids algs ops ivs others =
     λ i. result_map_both
     (λ (kty : Named KeyType). let k : KeyParts = record {
@@ -59,7 +59,7 @@ judged_alike ms ns types ids algs ops ivs others =
     (λ (e : CoseError). e)
     (key_type (option_and_then (name_in key_type_named) (types i)))
 
-sorted_alike : (ms : Members) → judged (sorted_of ms) None ≡ judged ms None
+sorted_alike : (ms : Members) → key_or_fault (sorted_of ms) None ≡ key_or_fault ms None
 unfolding sorted_of
 sorted_alike ms =
     let a = under 1 ms in
@@ -85,13 +85,13 @@ read_good ms kty good e =
     ap (first_fault []) (written_members ms kty good (key_type_is (type_of ms) kty e)) ∙ sorted_first ms good
 
 typed : (ms : Members) (kty : Named KeyType) → first_fault [] ms ≡ None → key_type (type_of ms) ≡ Ok kty
-    → read_key (key_item (key_from ms kty)) ≡ judged ms None
+    → read_key (key_item (key_from ms kty)) ≡ key_or_fault ms None
 typed ms kty good e =
     let written = written_members ms kty good (key_type_is (type_of ms) kty e) in
     ap (λ (ns : Members). read_key (map (pairs_of ns))) written ∙ read_key-map (sorted_of ms)
-    ∙ ap (judged (sorted_of ms)) (sorted_first ms good) ∙ sorted_alike ms
+    ∙ ap (key_or_fault (sorted_of ms)) (sorted_first ms good) ∙ sorted_alike ms
 
-good_round : (ms : Members) (k : KeyParts) → first_fault [] ms ≡ None → judged ms None ≡ Ok k
+good_round : (ms : Members) (k : KeyParts) → first_fault [] ms ≡ None → key_or_fault ms None ≡ Ok k
     → read_key (key_item k) ≡ Ok k
 unfolding type_of
 good_round ms k good e =
@@ -102,10 +102,10 @@ good_round ms k good e =
       | Err f ↦ λ h. λ w. cc
     ]) refl e
 
-members_round : (ms : Members) (k : KeyParts) → judged ms (first_fault [] ms) ≡ Ok k → read_key (key_item k) ≡ Ok k
+members_round : (ms : Members) (k : KeyParts) → key_or_fault ms (first_fault [] ms) ≡ Ok k → read_key (key_item k) ≡ Ok k
 members_round ms k e =
     (elim (first_fault [] ms)
-    as (λ (o : Option CoseError). first_fault [] ms ≡ o → judged ms o ≡ Ok k → read_key (key_item k) ≡ Ok k) [
+    as (λ (o : Option CoseError). first_fault [] ms ≡ o → key_or_fault ms o ≡ Ok k → read_key (key_item k) ≡ Ok k) [
       | Some f ↦ λ h. λ w. cc
       | None ↦ λ h. λ w. good_round ms k h w
     ]) refl e

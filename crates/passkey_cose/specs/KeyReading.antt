@@ -58,11 +58,11 @@ key_type (Some (assigned Reserved)) = Err UnexpectedItem
 key_type (Some kty) = Ok kty
 
 -- the error in the members, or else their key
-abbrev pub judged : Members → Option CoseError → Result KeyParts CoseError
-judged ms (Some e) = Err e
-judged ms None =
+abbrev pub key_or_fault : Members → Option CoseError → Result KeyParts CoseError
+key_or_fault ms (Some e) = Err e
+key_or_fault ms None =
     result_map_both (key_from ms) (λ e. e) (key_type (option_and_then (name_in key_type_named) (under 1 ms)))
 
 abbrev pub read_key : Item → Result KeyParts CoseError
-read_key (map ps) = judged (members ps) (first_fault [] (members ps))
+read_key (map ps) = key_or_fault (members ps) (first_fault [] (members ps))
 read_key _ = Err UnexpectedItem

@@ -10,7 +10,7 @@ ghost use Rattle.passkey_cose.specs.KeyFaults.{name_fault, first_fault};
 ghost use Rattle.passkey_cose.specs.KeyLabels.{is_common};
 ghost use Rattle.passkey_cose.specs.KeyParams.{params_of};
 ghost use Rattle.passkey_cose.specs.KeyParts.{TakesMemory};
-ghost use Rattle.passkey_cose.specs.KeyReading.{name_in, bytes_in, ops_in, under, further, key_from, key_type, judged, read_key};
+ghost use Rattle.passkey_cose.specs.KeyReading.{name_in, bytes_in, ops_in, under, further, key_from, key_type, key_or_fault, read_key};
 ghost use Rattle.passkey_cose.specs.Label.{label_item};
 ghost use Rattle.passkey_cose.specs.Registered.{named_of, IsText};
 
@@ -189,7 +189,7 @@ fn read_parts(
 
 fn read_members(alloc: Global, members: &[(Value, Value)]) -> Result<CoseKey, CoseError>
     requires { first_fault [] (map pair_of members.now) ≡ None }
-    ensures { ReadsPart TakesMemory key_parts (judged (map pair_of members.now) None) result }
+    ensures { ReadsPart TakesMemory key_parts (key_or_fault (map pair_of members.now) None) result }
 {
     let kty = read_kty(alloc, members)?;
     Ok(read_parts(alloc, members, kty)?)

@@ -10,7 +10,7 @@ use Rattle.passkey_cbor.specs.Found.{PassesHead}
 use Rattle.passkey_cbor.specs.HeadEncoding.{IsEncodingOfHead}
 use Rattle.passkey_cbor.specs.Item.{Item}
 use Rattle.passkey_cbor.specs.LeadingItem.{IsLeadingItem}
-use Rattle.passkey_cbor.specs.Walk.{Walk}
+use Rattle.passkey_cbor.specs.CursorState.{CursorState}
 use Rattle.passkey_cbor.specs.declared.head.Head.{Head}
 use Rattle.passkey_explain.proofs.Parts.{opened_parts, part_there}
 use Rattle.passkey_explain.specs.Along.{parts_of, part_index, ItemsLie, LeadsTo, LiesAlong, PassesItems, Entered, Enters}
@@ -28,7 +28,7 @@ ahead_at [] after x e = after_first after x e
 ahead_at (y ∷ ys) after x e = ahead_at ys after x e
 
 -- the head that the cursor passed
-headed : (h : Head) (a b : Walk) → PassesHead a b h → a.place ≤ b.place → b.place ≤ length a.bytes
+headed : (h : Head) (a b : CursorState) → PassesHead a b h → a.place ≤ b.place → b.place ≤ length a.bytes
     → Lies (IsEncodingOfHead h) a.bytes a.place b.place
 headed h a b p forward within = record {
   text = p.text;
@@ -39,11 +39,11 @@ headed h a b p forward within = record {
 }
 
 -- the items that follow the head
-pub opened : (h : Head) (i : Item) (to : ℕ) (b : Walk) → Opens i to b (Some h)
+pub opened : (h : Head) (i : Item) (to : ℕ) (b : CursorState) → Opens i to b (Some h)
     → (end : ℕ) × ItemsLie (parts_of i) b.bytes b.place end
 opened h i to b l = opened_parts h i b.bytes b.place to l
 
-pub entered : (s : Step) (i part : Item) (h : Head) (to end : ℕ) (a b d : Walk) → PassesHead a b h
+pub entered : (s : Step) (i part : Item) (h : Head) (to end : ℕ) (a b d : CursorState) → PassesHead a b h
     → Opens i to b (Some h) → part_at s i ≡ Some part
     → PassesItems (parts_of i) (part_index s) end b d true → Entered s i part a d
 entered s i part h to end a b d p o is passed =
@@ -71,7 +71,7 @@ entered s i part h to end a b d p o is passed =
       same = passed.1 ∙ p.bytes;
     }
 
-pub enters : (s : Step) (i part : Item) (h : Head) (to end : ℕ) (a b d : Walk) (found : Bool) → PassesHead a b h
+pub enters : (s : Step) (i part : Item) (h : Head) (to end : ℕ) (a b d : CursorState) (found : Bool) → PassesHead a b h
     → Opens i to b (Some h) → part_at s i ≡ Some part → PassesItems (parts_of i) (part_index s) end b d found
     → Enters s i part a d found
 enters s i part h to end a b d true p o is passed = entered s i part h to end a b d p o is passed
@@ -87,7 +87,7 @@ pub starts : (i : Item) (bytes : List ℕ) (len : ℕ) → IsLeadingItem bytes i
 starts i bytes len f = subst (IsEncodedAt i bytes 0) (zero-add len) (front_stands i bytes 0 len f)
 
 -- The cursor is where the steps lead that were taken, and the rest leads on from there.
-pub record OnTheWay (path rest : List Step) (i part : Item) (bytes : List ℕ) (now : Walk) : Type 0 where
+pub record OnTheWay (path rest : List Step) (i part : Item) (bytes : List ℕ) (now : CursorState) : Type 0 where
   pub here : Item
   pub to : ℕ
   pub same : now.bytes ≡ bytes
@@ -95,17 +95,17 @@ pub record OnTheWay (path rest : List Step) (i part : Item) (bytes : List ℕ) (
   pub along : item_along rest here ≡ Some part
   pub lies : (from end : ℕ) → LiesAlong rest here bytes now.place from end → LiesAlong path i bytes 0 from end
 
-pub way_begins : (path rest : List Step) (i part : Item) (len : ℕ) (bytes : List ℕ) (a : Walk)
+pub way_begins : (path rest : List Step) (i part : Item) (len : ℕ) (bytes : List ℕ) (a : CursorState)
     → a ≡ record { bytes = bytes; place = 0; heads = 0; nodes = 0 } → rest ≡ path → IsEncodedAt i bytes 0 len
     → item_along path i ≡ Some part → OnTheWay path rest i part bytes a
 way_begins path rest i part len bytes a start whole l along = record {
   here = i;
   to = len;
-  same = ap (λ (w : Walk). w.bytes) start;
-  there = subst (λ (k : ℕ). IsEncodedAt i bytes k len) (sym (ap (λ (w : Walk). w.place) start)) l;
+  same = ap (λ (w : CursorState). w.bytes) start;
+  there = subst (λ (k : ℕ). IsEncodedAt i bytes k len) (sym (ap (λ (w : CursorState). w.place) start)) l;
   along = rw whole along;
   lies = λ from end h. subst (λ (ss : List Step). LiesAlong ss i bytes 0 from end) whole
-      (subst (λ (k : ℕ). LiesAlong rest i bytes k from end) (ap (λ (w : Walk). w.place) start) h);
+      (subst (λ (k : ℕ). LiesAlong rest i bytes k from end) (ap (λ (w : CursorState). w.place) start) h);
 }
 
 -- the part that the next step leads to, if the whole path leads somewhere
@@ -114,7 +114,7 @@ some_part : (ss : List Step) (part : Item) (o : Option Item) → option_and_then
 some_part ss part (Some middle) e = (middle, (refl, e))
 some_part ss part None e = absurd cc
 
-module _ {path rest : List Step} {i part : Item} {bytes : List ℕ} (s : Step) (ss : List Step) (a b : Walk)
+module _ {path rest : List Step} {i part : Item} {bytes : List ℕ} (s : Step) (ss : List Step) (a b : CursorState)
     (w : OnTheWay path rest i part bytes a) (is : rest ≡ s ∷ ss) where
   taken : (middle : Item) → item_along ss middle ≡ Some part → (found : Bool) → Enters s w.here middle a b found
       → (found ≡ true) × OnTheWay path ss i part bytes b
@@ -143,7 +143,7 @@ module _ {path rest : List Step} {i part : Item} {bytes : List ℕ} (s : Step) (
       taken next.0 next.1.1 found (enters w.here next.0 w.to here next.1.0)
 
 -- the cursor is where the whole path leads
-pub way_ends : {path rest : List Step} {i part : Item} {bytes : List ℕ} {a : Walk} (w : OnTheWay path rest i part bytes a)
+pub way_ends : {path rest : List Step} {i part : Item} {bytes : List ℕ} {a : CursorState} (w : OnTheWay path rest i part bytes a)
     (offset len : ℕ) → rest ≡ [] → offset ≡ a.place → offset + len ≡ w.to
     → LiesAlong path i bytes 0 offset (offset + len)
 way_ends {path} {rest} {i} {part} {bytes} {a} w offset len over start sum =

@@ -3,7 +3,7 @@ use Rattle.std.specs.Prelude.{◌≡◌, ℕ, suc, ◌+◌, List, [], ◌∷◌,
 use Rattle.passkey_cbor.specs.EncodedAt.{Lies, IsEncodedAt}
 use Rattle.passkey_cbor.specs.HeadEncoding.{IsEncodingOfHead}
 use Rattle.passkey_cbor.specs.Item.{Item, array, elements, members}
-use Rattle.passkey_cbor.specs.Walk.{Walk}
+use Rattle.passkey_cbor.specs.CursorState.{CursorState}
 use Rattle.passkey_cbor.specs.declared.head.Head.{Head}
 use Rattle.passkey_explain.specs.declared.along.Extent.{Extent}
 use Rattle.passkey_kinds.specs.Blame.{Step, element, member, value, key}
@@ -66,17 +66,17 @@ pub record PassedItems (xs : List Item) (n : ℕ) (bytes : List ℕ) (from place
   pub passed : ItemsLie before bytes from place
   pub ahead : ItemsLie after bytes place to
 
-abbrev pub PassesItems : List Item → ℕ → ℕ → Walk → Walk → Bool → Type 0
+abbrev pub PassesItems : List Item → ℕ → ℕ → CursorState → CursorState → Bool → Type 0
 PassesItems xs n to old new true = PassedItems xs n old.bytes old.place new.place to × (new.bytes ≡ old.bytes)
 PassesItems xs n to old new false = ⊥
 
 -- The cursor went from the head of a data item to the part that the step leads to.
-pub record Entered (s : Step) (i part : Item) (old new : Walk) : Type 0 where
+pub record Entered (s : Step) (i part : Item) (old new : CursorState) : Type 0 where
   pub leads : LeadsTo s i old.bytes old.place new.place part
   pub to : ℕ
   pub there : IsEncodedAt part old.bytes new.place to
   pub same : new.bytes ≡ old.bytes
 
-abbrev pub Enters : Step → Item → Item → Walk → Walk → Bool → Type 0
+abbrev pub Enters : Step → Item → Item → CursorState → CursorState → Bool → Type 0
 Enters s i part old new true = Entered s i part old new
 Enters s i part old new false = ⊥

@@ -6,7 +6,7 @@ use Rattle.passkey_extensions.specs.GetExtensions.{get_extensions_parts, get_ext
 use Rattle.passkey_extensions.specs.HmacInput.{HmacInputParts, read_hmac_input, hmac_input_tree, HmacInputFits, hmac_input_fields, hmac_input_members, is_hmac_input_coherent, hmac_input_kept}
 use Rattle.passkey_extensions.specs.MakeExtensions.{make_extensions_parts, make_extensions_tree, MakeExtensionsFit, make_extensions_fields, make_extensions_members, make_extensions_kept}
 use Rattle.passkey_extensions.specs.Prf.{prf_values, prf_inputs, prf_made, prf_used, unsigned, normal_unsigned}
-use Rattle.passkey_kinds.specs.Coded.{from_bytes, plain}
+use Rattle.passkey_kinds.specs.Coded.{byte_map, plain}
 use Rattle.passkey_kinds.specs.Placed.{PlainTable, plain_kind, plain_tree}
 use Rattle.passkey_kinds.specs.Tree.{option_tree}
 
@@ -20,8 +20,8 @@ values_law =
     puts_default (optional_place (numbers_back 32) refl v.second (search)) refl ▸
     no_more)
 
-values_map_back : IsReadBack (from_bytes (plain prf_values)).typed.of (from_bytes (plain prf_values)).tree
-    (from_bytes (plain prf_values)).Fits (λ m. m)
+values_map_back : IsReadBack (byte_map (plain prf_values)).typed.of (byte_map (plain prf_values)).tree
+    (byte_map (plain prf_values)).Fits (λ m. m)
 values_map_back = grind (arith, map_back, values_law, map_values_same)
 
 pub inputs_law : IsLawful 3 prf_inputs

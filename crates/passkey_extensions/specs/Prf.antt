@@ -5,7 +5,7 @@ use Rattle.passkey_extensions.specs.declared.prf.AuthenticatorPrfInputs.{Authent
 use Rattle.passkey_extensions.specs.declared.prf.AuthenticatorPrfMakeOutputs.{AuthenticatorPrfMakeOutputs}
 use Rattle.passkey_extensions.specs.declared.prf.AuthenticatorPrfValues.{AuthenticatorPrfValues}
 use Rattle.passkey_extensions.specs.declared.unsigned.UnsignedExtensionOutputs.{UnsignedExtensionOutputs}
-use Rattle.passkey_kinds.specs.Coded.{truth, sized_bytes, or_null, from_bytes, plain}
+use Rattle.passkey_kinds.specs.Coded.{truth, sized_bytes, or_null, byte_map, plain}
 use Rattle.passkey_kinds.specs.Words.{PlainTable, required_as, default_as, optional_as}
 use Rattle.passkey_webauthn.specs.declared.prf_outputs.AuthenticationExtensionsPrfOutputs.{AuthenticationExtensionsPrfOutputs}
 use Rattle.passkey_webauthn.specs.declared.prf_values.AuthenticationExtensionsPrfValues.{AuthenticationExtensionsPrfValues}
@@ -24,7 +24,7 @@ abbrev pub prf_inputs : PlainTable AuthenticatorPrfInputs
 prf_inputs = record {
   blank = record { eval = None; eval_by_credential = None };
   members = optional_as 1 (codes "eval") (plain prf_values) (λ i. i.eval) (λ x i. record i { eval = x })
-      ∷ optional_as 2 (codes "eval_by_credential") (from_bytes (plain prf_values)) (λ i. i.eval_by_credential)
+      ∷ optional_as 2 (codes "eval_by_credential") (byte_map (plain prf_values)) (λ i. i.eval_by_credential)
       (λ x i. record i { eval_by_credential = x })
       ∷ [];
 }

@@ -230,8 +230,8 @@ abbrev pub IsPositive : ℕ → Type 0
 IsPositive n = 0 < n
 
 -- what the authenticator supports, with this data item as its greatest message size
-abbrev pub capabilities_with : (GetInfoParts → Option Item) → List (Placed GetInfoParts)
-capabilities_with encoded =
+abbrev pub first_members_with : (GetInfoParts → Option Item) → List (Placed GetInfoParts)
+first_members_with encoded =
     required_at 1 (codes "versions") (list version_coded) (λ r. r.versions) (λ x r. record r { versions = x })
     ∷ optional_at 2 (codes "extensions") (list extension_coded) (λ r. r.extensions) (λ x r. record r { extensions = x })
     ∷ required_at 3 (codes "aaguid") aaguid (λ r. r.aaguid) (λ x r. record r { aaguid = x })
@@ -245,11 +245,11 @@ capabilities_with encoded =
     (λ x r. record r { algorithms = x })
     ∷ []
 
-abbrev pub capabilities : List (Placed GetInfoParts)
-capabilities = capabilities_with (λ r. option_map number_tree r.max_msg_size)
+abbrev pub first_members : List (Placed GetInfoParts)
+first_members = first_members_with (λ r. option_map number_tree r.max_msg_size)
 
-abbrev pub limits : List (Placed GetInfoParts)
-limits =
+abbrev pub middle_members : List (Placed GetInfoParts)
+middle_members =
     optional_at 11 (codes "macSerializedLargeBlobArray") word (λ r. r.mac_serialized_large_blob_array)
     (λ x r. record r { mac_serialized_large_blob_array = x })
     ∷ optional_at 12 (codes "forcePinChange") truth (λ r. r.force_pin_change)
@@ -270,8 +270,8 @@ limits =
     (λ x r. record r { remaining_discoverable_credentials = x })
     ∷ []
 
-abbrev pub states : List (Placed GetInfoParts)
-states =
+abbrev pub last_members : List (Placed GetInfoParts)
+last_members =
     tolerated_at 21 (codes "vendorPrototypeConfigCommands") (accepted word) (λ r. r.vendor_prototype_config_commands)
     (λ x r. record r { vendor_prototype_config_commands = x })
     ∷ tolerated_at 22 (codes "attestationFormats") (accepted text) (λ r. r.attestation_formats)
@@ -293,7 +293,7 @@ states =
 -- ---- decoding
 
 abbrev pub get_info_fields : Fields GetInfoParts
-get_info_fields = fields_with true get_info_empty (capabilities ++ limits ++ states)
+get_info_fields = fields_with true get_info_empty (first_members ++ middle_members ++ last_members)
 
 -- the response that a data item decodes to, or its first fault
 abbrev pub read_get_info : Item → Result GetInfoParts Fault
@@ -302,7 +302,7 @@ read_get_info = read_item get_info_fields
 -- ---- encoding
 
 abbrev pub get_info_places : GetInfoParts → List Place
-get_info_places = places_of (capabilities ++ limits ++ states)
+get_info_places = places_of (first_members ++ middle_members ++ last_members)
 
 abbrev pub get_info_tree : GetInfoParts → Item
 get_info_tree r = record_tree (get_info_places r)
@@ -313,7 +313,7 @@ get_info_kept r = kept_if_some (λ i. i ∷ []) r.certifications
 
 -- what holds of every response
 abbrev pub GetInfoFits : GetInfoParts → Type 0
-GetInfoFits r = EachFits capabilities r × (EachFits limits r × EachFits states r)
+GetInfoFits r = EachFits first_members r × (EachFits middle_members r × EachFits last_members r)
 
 -- ---- which responses can be encoded, and decoded again
 

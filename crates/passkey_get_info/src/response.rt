@@ -2,8 +2,8 @@
 ghost use Rattle.std.specs.Prelude.{◌≡◌, ◌^◌, ◌++◌, ℕ, is_ok, true, false, option_map, IfOk, IfErr, OnOk};
 ghost use Rattle.std.specs.Int.NonZero.{non_zero_u128_get};
 ghost use Rattle.passkey_kinds.specs.Words.{KeysAscend, Item, item_of, IsWritable, written, IfPresent, ReadsMessage, ReadsHere, GrowsMessage, EachFits, fields_with, places_of, MayGrowAt, Reads, cost_at, keeps_at, blame_at, Puts, AllAccepted, put_all, number_tree, table_of};
-ghost use Rattle.passkey_get_info.specs.Encodable.{EncodableFits, encodable_capabilities, encodable_parts, encodable_places};
-ghost use Rattle.passkey_get_info.specs.GetInfo.{GetInfoParts, capabilities, limits, states, get_info_fields, read_get_info, get_info_empty, get_info_parts, get_info_tree, IsPositive, GetInfoFits, is_encodable, fault_of_size, has_room, is_get_info_coherent};
+ghost use Rattle.passkey_get_info.specs.Encodable.{EncodableFits, encodable_first_members, encodable_parts, encodable_places};
+ghost use Rattle.passkey_get_info.specs.GetInfo.{GetInfoParts, first_members, middle_members, last_members, get_info_fields, read_get_info, get_info_empty, get_info_parts, get_info_tree, IsPositive, GetInfoFits, is_encodable, fault_of_size, has_room, is_get_info_coherent};
 ghost use Rattle.passkey_kinds.specs.Placed.{members_of};
 ghost use Rattle.passkey_kinds.specs.declared.fault.Fault.TheVariants.{OutOfMemory as NoRoom};
 ghost use Rattle.passkey_kinds.specs.declared.fault.WriteFault.TheVariants.{NumberTooLarge as TooLarge};
@@ -149,27 +149,27 @@ impl Record for Response {
             0x06 => set(&mut self.pin_protocols, alloc, source),
             0x09 => set_accepted_or_none(&mut self.transports, alloc, source),
             0x0a => set_accepted_or_none(&mut self.algorithms, alloc, source),
-            _ => self.put_limit(alloc, number, source),
+            _ => self.set_middle_member(alloc, number, source),
         }
     }
 }
 
 impl Response {
     /// Decodes the value of a row from 0x0B on.
-    fn put_limit<S: Source>(
+    fn set_middle_member<S: Source>(
         &mut self,
         alloc: Global,
         number: u8,
         source: &mut S,
     ) -> Result<(), Refusal>
         ensures puts { (i : Item) (to : ℕ) → S.At source.old i to
-            → Puts (fields_with true get_info_empty (limits ++ states)) number i (get_info_parts self.old)
+            → Puts (fields_with true get_info_empty (middle_members ++ last_members)) number i (get_info_parts self.old)
             (get_info_parts self.new) result }
-        ensures spends { (i : Item) (to : ℕ) → S.At source.old i to → S.Spent (cost_at (members_of (limits ++ states)) number)
-            (keeps_at (members_of (limits ++ states)) number) (blame_at (members_of (limits ++ states)) number) i to
+        ensures spends { (i : Item) (to : ℕ) → S.At source.old i to → S.HasCost (cost_at (members_of (middle_members ++ last_members)) number)
+            (keeps_at (members_of (middle_members ++ last_members)) number) (blame_at (members_of (middle_members ++ last_members)) number) i to
             source.old source.new (is_ok result) }
-        ensures onward { S.Goes source.old source.new }
-        ensures further { OnOk result (S.Past source.old source.new) }
+        ensures onward { S.IsOnward source.old source.new }
+        ensures further { OnOk result (S.IsFurther source.old source.new) }
     {
         match number {
             0x0b => set(&mut self.mac_serialized_large_blob_array, alloc, source),
@@ -182,24 +182,24 @@ impl Response {
             0x12 => set(&mut self.uv_modality, alloc, source),
             0x13 => set(&mut self.certifications, alloc, source),
             0x14 => set(&mut self.remaining_discoverable_credentials, alloc, source),
-            _ => self.put_state(alloc, number, source),
+            _ => self.set_last_member(alloc, number, source),
         }
     }
 
     /// Decodes the value of a row from 0x15 on.
-    fn put_state<S: Source>(
+    fn set_last_member<S: Source>(
         &mut self,
         alloc: Global,
         number: u8,
         source: &mut S,
     ) -> Result<(), Refusal>
         ensures puts { (i : Item) (to : ℕ) → S.At source.old i to
-            → Puts (fields_with true get_info_empty states) number i (get_info_parts self.old) (get_info_parts self.new) result }
-        ensures spends { (i : Item) (to : ℕ) → S.At source.old i to → S.Spent (cost_at (members_of states) number)
-            (keeps_at (members_of states) number) (blame_at (members_of states) number) i to
+            → Puts (fields_with true get_info_empty last_members) number i (get_info_parts self.old) (get_info_parts self.new) result }
+        ensures spends { (i : Item) (to : ℕ) → S.At source.old i to → S.HasCost (cost_at (members_of last_members) number)
+            (keeps_at (members_of last_members) number) (blame_at (members_of last_members) number) i to
             source.old source.new (is_ok result) }
-        ensures onward { S.Goes source.old source.new }
-        ensures further { OnOk result (S.Past source.old source.new) }
+        ensures onward { S.IsOnward source.old source.new }
+        ensures further { OnOk result (S.IsFurther source.old source.new) }
     {
         match number {
             0x15 => set_accepted_or_none(&mut self.vendor_prototype_config_commands, alloc, source),
@@ -372,12 +372,12 @@ struct Encodable<'a> {
 }
 
 impl Encodable<'_> {
-    fn put_capabilities<S: Sink>(&self, alloc: Global, sink: &mut S) -> Result<(), OutOfMemory>
+    fn put_first_members<S: Sink>(&self, alloc: Global, sink: &mut S) -> Result<(), OutOfMemory>
         ensures put { OnOk result
-            (S.state sink.new ≡ put_all S.step (S.state sink.old) (encodable_capabilities self.now)) }
-        ensures accepts { OnOk result (AllAccepted S.Accepts (encodable_capabilities self.now)) }
+            (S.state sink.new ≡ put_all S.step (S.state sink.old) (encodable_first_members self.now)) }
+        ensures accepts { OnOk result (AllAccepted S.Accepts (encodable_first_members self.now)) }
         ensures fits { OnOk result (S.Encodes → IfPresent IsPositive (encodable_parts self.now).max_msg_size
-            → EachFits capabilities (encodable_parts self.now)) }
+            → EachFits first_members (encodable_parts self.now)) }
     {
         sink.put(alloc, 0x01_u8, &self.response.versions)?;
         sink.put_some(alloc, 0x02_u8, &self.response.extensions)?;
@@ -390,11 +390,11 @@ impl Encodable<'_> {
         Ok(())
     }
 
-    fn put_limits<S: Sink>(&self, alloc: Global, sink: &mut S) -> Result<(), OutOfMemory>
+    fn put_middle_members<S: Sink>(&self, alloc: Global, sink: &mut S) -> Result<(), OutOfMemory>
         ensures put { OnOk result
-            (S.state sink.new ≡ put_all S.step (S.state sink.old) (places_of limits (encodable_parts self.now))) }
-        ensures accepts { OnOk result (AllAccepted S.Accepts (places_of limits (encodable_parts self.now))) }
-        ensures fits { OnOk result (S.Encodes → EachFits limits (encodable_parts self.now)) }
+            (S.state sink.new ≡ put_all S.step (S.state sink.old) (places_of middle_members (encodable_parts self.now))) }
+        ensures accepts { OnOk result (AllAccepted S.Accepts (places_of middle_members (encodable_parts self.now))) }
+        ensures fits { OnOk result (S.Encodes → EachFits middle_members (encodable_parts self.now)) }
     {
         let response = self.response;
         sink.put_some(alloc, 0x0b_u8, &response.mac_serialized_large_blob_array)?;
@@ -410,11 +410,11 @@ impl Encodable<'_> {
         Ok(())
     }
 
-    fn put_state<S: Sink>(&self, alloc: Global, sink: &mut S) -> Result<(), OutOfMemory>
+    fn put_last_members<S: Sink>(&self, alloc: Global, sink: &mut S) -> Result<(), OutOfMemory>
         ensures put { OnOk result
-            (S.state sink.new ≡ put_all S.step (S.state sink.old) (places_of states (encodable_parts self.now))) }
-        ensures accepts { OnOk result (AllAccepted S.Accepts (places_of states (encodable_parts self.now))) }
-        ensures fits { OnOk result (S.Encodes → EachFits states (encodable_parts self.now)) }
+            (S.state sink.new ≡ put_all S.step (S.state sink.old) (places_of last_members (encodable_parts self.now))) }
+        ensures accepts { OnOk result (AllAccepted S.Accepts (places_of last_members (encodable_parts self.now))) }
+        ensures fits { OnOk result (S.Encodes → EachFits last_members (encodable_parts self.now)) }
     {
         let response = self.response;
         sink.put_some(alloc, 0x15_u8, &response.vendor_prototype_config_commands)?;
@@ -437,9 +437,9 @@ impl ToCborMap for Encodable<'_> {
 
     #[tactic(auto, using(passkey_kinds::proofs::Sinks::accepted_both))]
     fn put_members<S: Sink>(&self, alloc: Global, sink: &mut S) -> Result<(), OutOfMemory> {
-        self.put_capabilities(alloc, sink)?;
-        self.put_limits(alloc, sink)?;
-        self.put_state(alloc, sink)?;
+        self.put_first_members(alloc, sink)?;
+        self.put_middle_members(alloc, sink)?;
+        self.put_last_members(alloc, sink)?;
         Ok(())
     }
 

@@ -69,15 +69,15 @@ aliased name other object = one_of name (object name) (object other)
 abbrev pub fault_of : List ℕ → Data → Fault
 fault_of name d = if has_float d then float name else refused name
 
-abbrev pub judged : {A : Type 0} → Kind A → List ℕ → Data → Result A Fault
-judged kind name d = ok_or (kind d) (fault_of name d)
+abbrev pub decoded_or_fault : {A : Type 0} → Kind A → List ℕ → Data → Result A Fault
+decoded_or_fault kind name d = ok_or (kind d) (fault_of name d)
 
 abbrev pub must : {A : Type 0} → Kind A → List ℕ → Option Data → Result A Fault
-must kind name (Some d) = judged kind name d
+must kind name (Some d) = decoded_or_fault kind name d
 must kind name None = Err (missing name)
 
 abbrev pub may : {A : Type 0} → Kind A → A → List ℕ → Option Data → Result A Fault
-may kind default name (Some d) = judged kind name d
+may kind default name (Some d) = decoded_or_fault kind name d
 may kind default name None = Ok default
 
 -- the value, which must be present

@@ -3,7 +3,7 @@ ghost use Rattle.std.specs.Prelude.{◌≡◌, Err, IsTrue, option_map};
 ghost use Rattle.passkey_json.specs.Fault.{Gives};
 ghost use Rattle.passkey_json.specs.Held.{IsUnlessRefused, found};
 ghost use Rattle.passkey_json.specs.Kind.{is_array};
-ghost use Rattle.passkey_json.specs.Members.{MemberTakes, under, fault_of, judged, required, or_default, if_present, tolerated, required_tolerated, accepted_list};
+ghost use Rattle.passkey_json.specs.Members.{MemberTakes, under, fault_of, decoded_or_fault, required, or_default, if_present, tolerated, required_tolerated, accepted_list};
 ghost use Rattle.serde_json.specs.View.{view};
 
 use crate::floats::holds_float;
@@ -27,8 +27,12 @@ fn fault_of(name: &'static str, value: &Value) -> JsonFault
 }
 
 /// Returns the value that a JSON value decodes to, or the fault.
-fn judged<T: FromJson>(alloc: Global, name: &'static str, value: &Value) -> Result<T, JsonFault>
-    ensures { Gives (IsTrue (T.takes (view value.now))) (judged T.kind name.now (view value.now)) result }
+fn decoded_or_fault<T: FromJson>(
+    alloc: Global,
+    name: &'static str,
+    value: &Value,
+) -> Result<T, JsonFault>
+    ensures { Gives (IsTrue (T.takes (view value.now))) (decoded_or_fault T.kind name.now (view value.now)) result }
 {
     match T::from_value(alloc, value) {
         Ok(read) => Ok(read),
@@ -71,7 +75,7 @@ impl<'a> Member<'a> {
         ensures { Gives (MemberTakes T.takes (found self.entry)) (required T.kind (found self.entry)) result }
     {
         match self.value {
-            Some(value) => judged(self.alloc, self.name, value),
+            Some(value) => decoded_or_fault(self.alloc, self.name, value),
             None => Err(JsonFault::Missing(self.name)),
         }
     }
@@ -83,7 +87,7 @@ impl<'a> Member<'a> {
             result }
     {
         match self.value {
-            Some(value) => judged(self.alloc, self.name, value),
+            Some(value) => decoded_or_fault(self.alloc, self.name, value),
             None => Ok(default),
         }
     }
@@ -94,7 +98,7 @@ impl<'a> Member<'a> {
         ensures { Gives (MemberTakes T.takes (found self.entry)) (if_present T.kind (found self.entry)) result }
     {
         match self.value {
-            Some(value) => Ok(Some(judged(self.alloc, self.name, value)?)),
+            Some(value) => Ok(Some(decoded_or_fault(self.alloc, self.name, value)?)),
             None => Ok(None),
         }
     }

@@ -29,7 +29,7 @@ pub use Rattle.passkey_cbor.specs.Item.{Item, Pairs, no_pairs, pair, members, it
 pub use Rattle.passkey_cbor.specs.Languages.{Each, Language}
 pub use Rattle.passkey_cbor.specs.Laws.{AtMostOneLeadingItem, WrittenIsLeadingItem}
 pub use Rattle.passkey_cbor.specs.LeadingItem.{max_depth, IsLeadingItem}
-pub use Rattle.passkey_cbor.specs.Lent.{Region, Tells, PassesString, IsRegion, heads_in, LendsFrom, LooksAtAll, LooksAtSome, LentWhole, string_head, string_item}
+pub use Rattle.passkey_cbor.specs.Lent.{Region, HoldsString, PassesString, IsRegion, heads_in, LendsFrom, LooksAtAll, LooksAtSome, LentWhole, string_head, string_item}
 pub use Rattle.passkey_cbor.specs.Names.{LooksFor, heads_until, heads_sought}
 pub use Rattle.passkey_cbor.specs.Order.{key_type, IsBefore, ctap2_order}
 pub use Rattle.passkey_cbor.specs.Pieces.{LendsPiece, LendsNoPiece, LooksAhead, LendsUpTo}
@@ -39,7 +39,7 @@ pub use Rattle.passkey_cbor.specs.Valued.{MakesLeadingItem}
 pub use Rattle.passkey_cbor.specs.View.{item_of, pair_of}
 pub use Rattle.passkey_cbor.specs.HeadCount.{CountsHeads, content_len, heads_of}
 pub use Rattle.passkey_cbor.proofs.WholeHeads.{counts_then, counts_stay, counts_skip, counts_string, counts_value, counts_head, counts_more}
-pub use Rattle.passkey_cbor.specs.Walk.{Walk, LooksOnce, ahead, Went, raised, break_heads}
+pub use Rattle.passkey_cbor.specs.CursorState.{CursorState, LooksOnce, ahead, MovesForward, raised, break_heads}
 pub use Rattle.passkey_cbor.specs.Writable.{IsWritable, ArePairsWritable}
 unfoldable pub use Rattle.passkey_cbor.specs.Written.{shortest_head}
 pub use Rattle.passkey_cbor.specs.Written.{written, pairs_written}
@@ -63,7 +63,7 @@ pub use Rattle.passkey_kinds.specs.Message.{ReadsMessage, Begins, GrowsMessage, 
 pub use Rattle.passkey_kinds.specs.Placed.{EachFits, fields_of, places_of, PlainTable, members_of, plain_kind, plain_tree, IsReadBack, Any, IsByte, AreBytes}
 pub use Rattle.passkey_kinds.specs.Reader.{signed_in, collected, entered, pushed, pushed_if, pushed_below, full, scalar_in, ReadsScalar, head_scalar, head_array, head_map, elements_in, members_in, numbers_in, OpensAt, kept_parts, pushed, pushed_if, pushed_below, Further, Decodes, LooksAtMost, Spends, SpendsLess, Onward}
 pub use Rattle.passkey_kinds.specs.Record.{naming_of, MayGrowIn, are_small, Reads, MayGrowAt, named_as, MayGrowBy, takes_at, Fields, set_with, rows_of, table_of, put_at, unless_missing, one_more, Progress, reached, result_and_then, read_from, read_members, read_item, Member, record_kind, Entry, Table, entries, named, Members, first_missing, Naming, row, unknown, wrong, accepts_at, row_or_unknown, names, ◌>>=◌, row_named}
-pub use Rattle.passkey_kinds.specs.RecordReading.{record_cost, cost_by, kept_in, kept_in_map, greatest_cost, cost_at, keeps_at, keeps_by, keeps_nothing, none_keeps, record_keeps, HasReadTo, Sets, Puts, held_as, DecodesRecord, entry_of, row_at}
+pub use Rattle.passkey_kinds.specs.RecordReading.{record_cost, cost_by, kept_in, kept_in_map, greatest_cost, cost_at, keeps_at, keeps_by, keeps_nothing, none_keeps, record_keeps, HasReadTo, Sets, Puts, as_nested, DecodesRecord, entry_of, row_at}
 pub use Rattle.passkey_kinds.specs.Tree.{by_length, short_first, AllAccepted, MemberAccepted, append_member, encode_member, put_all, Place, record_tree, KeysAscend, number_tree, numbers_tree, entry_tree, under, laid, list_tree, byte_map_tree, where_true, option_tree, credential_type_tree, transport_tree}
 pub use Rattle.passkey_kinds.specs.declared.fault.Fault.TheVariants.{Repeated}
 pub use Rattle.passkey_kinds.specs.declared.fault.Fault.{Fault}

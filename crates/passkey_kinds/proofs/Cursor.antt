@@ -1,15 +1,15 @@
 -- How a cursor moves, what it spends, and values of one head or of one string.
-use Rattle.passkey_kinds.proofs.Common.{front_long, SkipsLeadingItem, Bool, CountsHeads, content_len, counts_then, counts_stay, counts_skip, counts_string, counts_value, counts_head, only_one, slice_get, drop-cons, get_or_from_slice_get, length-drop, drop, suc, ◌∷◌, ◌⊎◌, inl, inr, lies_size, head_again, follows_item, low_simple, head_long, encoded_long, IsEncodedAt, Opens, FindsHead, IsEncodingOfHead, PairWithin, Within, Inside, Item, byte_string, boolean, null, text_string, number, max_depth, IsLeadingItem, Region, PassesString, item_within, PassesLeadingItem, MakesLeadingItem, Walk, ahead, Went, Head, members-pairs_of, elements-items_of, aaguid, bytes, below, kept, truth, Kind, optional, text, one_named, FailsAs, size, AnswersAs, MayGrow, scalar_in, ReadsScalar, head_scalar, head_array, head_map, elements_in, members_in, OpensAt, Further, Decodes, Spends, Onward, named, Refused, OutOfMemory, Refusal, ◌≡◌, ◌∙◌, ◌<◌, ◌+◌, ℕ, arith, true, false, List, [], ◌++◌, length, Option, Some, None, option_map, refl, sym, ap, rules, ◌≤◌, Result, subst, ◌-◌, take, Ok, Err, OnOk, unwrap_or, Language, IfSome, is_ok, mul-le-mul_left, nat_tests, cases_lt, cases_eq, length-append, length-take, option_and_then}
+use Rattle.passkey_kinds.proofs.Common.{front_long, SkipsLeadingItem, Bool, CountsHeads, content_len, counts_then, counts_stay, counts_skip, counts_string, counts_value, counts_head, only_one, slice_get, drop-cons, get_or_from_slice_get, length-drop, drop, suc, ◌∷◌, ◌⊎◌, inl, inr, lies_size, head_again, follows_item, low_simple, head_long, encoded_long, IsEncodedAt, Opens, FindsHead, IsEncodingOfHead, PairWithin, Within, Inside, Item, byte_string, boolean, null, text_string, number, max_depth, IsLeadingItem, Region, PassesString, item_within, PassesLeadingItem, MakesLeadingItem, CursorState, ahead, MovesForward, Head, members-pairs_of, elements-items_of, aaguid, bytes, below, kept, truth, Kind, optional, text, one_named, FailsAs, size, AnswersAs, MayGrow, scalar_in, ReadsScalar, head_scalar, head_array, head_map, elements_in, members_in, OpensAt, Further, Decodes, Spends, Onward, named, Refused, OutOfMemory, Refusal, ◌≡◌, ◌∙◌, ◌<◌, ◌+◌, ℕ, arith, true, false, List, [], ◌++◌, length, Option, Some, None, option_map, refl, sym, ap, rules, ◌≤◌, Result, subst, ◌-◌, take, Ok, Err, OnOk, unwrap_or, Language, IfSome, is_ok, mul-le-mul_left, nat_tests, cases_lt, cases_eq, length-append, length-take, option_and_then}
 use Rattle.passkey_kinds.proofs.Lists.{answers_from, never_grows}
 use Rattle.passkey_cbor.specs.declared.head.Head.TheVariants as head
 use Rattle.passkey_cbor.specs.Item as item
 
 -- ---- moving on
 
-pub onward_of : (a b : Walk) → Went a b → Onward a b
+pub onward_of : (a b : CursorState) → MovesForward a b → Onward a b
 onward_of a b w = grind arith
 
-pub onward_then : (a b c : Walk) → Onward a b → Onward b c → Onward a c
+pub onward_then : (a b c : CursorState) → Onward a b → Onward b c → Onward a c
 onward_then a b c p q = grind arith
 
 -- ---- further on
@@ -25,42 +25,42 @@ head_encoded_long : (h : Head) (t : List ℕ) → IsEncodingOfHead h t → 0 < l
 head_encoded_long h t s = omega (arith, head_long (t ++ []) h [] (head_again h t [] s), length-append t [])
 
 -- a head that no content follows
-head_further : (a b : Walk) (h : Head) → content_len h ≡ 0 → FindsHead a b (Some h) → Further a b
+head_further : (a b : CursorState) (h : Head) → content_len h ≡ 0 → FindsHead a b (Some h) → Further a b
 head_further a b h none p = record {
   forward = omega (arith, p.place, head_encoded_long h p.text p.encoded);
   counts = counts_head a b h none p;
 }
 
-pub string_further : (is_text : _) (a b : Walk) (r : Region) → PassesString is_text a b r → Further a b
+pub string_further : (is_text : _) (a b : CursorState) (r : Region) → PassesString is_text a b r → Further a b
 string_further is_text a b r p = record {
   forward = omega (arith, p.place, front_long _ (ahead a) p.len p.front);
   counts = counts_string is_text a b r p;
 }
 
-pub skip_further : (a b : Walk) → PassesLeadingItem a b → Further a b
+pub skip_further : (a b : CursorState) → PassesLeadingItem a b → Further a b
 skip_further a b p = record {
   forward = omega (arith, p.place, front_long p.item (ahead a) p.len p.front);
   counts = counts_skip a b p;
 }
 
-pub value_further : (a b : Walk) (x : Item) → MakesLeadingItem a b x → Further a b
+pub value_further : (a b : CursorState) (x : Item) → MakesLeadingItem a b x → Further a b
 value_further a b x p = record {
   forward = omega (arith, p.place, front_long x (ahead a) p.len p.front);
   counts = counts_value a b x p;
 }
 
-pub further_then : (a b c : Walk) → Further a b → CountsHeads b c → b.place ≤ c.place → Further a c
+pub further_then : (a b c : CursorState) → Further a b → CountsHeads b c → b.place ≤ c.place → Further a c
 further_then a b c p q on =
     record { forward = omega (arith, p.forward, on); counts = counts_then a b c p.counts q }
 
 -- from the same place on, after more heads were counted
-pub further_from : (a b c : Walk) → Onward a b → b.place ≡ a.place → Further b c → Further a c
+pub further_from : (a b c : CursorState) → Onward a b → b.place ≡ a.place → Further b c → Further a c
 further_from a b c on at p = record {
   forward = omega (arith, p.forward, at);
   counts = counts_then a b c (counts_stay a b on.same at on.heads) p.counts;
 }
 
-pub further_on : {a b c : Walk} → Further a b → Further b c → Further a c
+pub further_on : {a b c : CursorState} → Further a b → Further b c → Further a c
 further_on {a} {b} {c} p q = further_then a b c p q.counts (omega (arith, q.forward))
 
 -- what holds anyway also holds if something was found
@@ -77,7 +77,7 @@ if_found None h = tt
 if_found (Some x) h = h x refl
 
 -- a head that says something was decoded
-pub head_moves : {X : Type 0} (a b : Walk) (g : Head → Option X) (head : Option Head) (result : Option X)
+pub head_moves : {X : Type 0} (a b : CursorState) (g : Head → Option X) (head : Option Head) (result : Option X)
     → ((h : Head) (x : X) → g h ≡ Some x → content_len h ≡ 0) → FindsHead a b head
     → result ≡ option_and_then g head → IfSome result (λ x. Further a b)
 head_moves a b g None result flat p e = rw e tt
@@ -97,17 +97,17 @@ map_flat _ left e = refl
 -- ---- spending
 
 -- a decoded head
-pub head_spends : (a b : Walk) (found : Option Head) (x : Item) (to : ℕ) → FindsHead a b found → Opens x to b found
+pub head_spends : (a b : CursorState) (found : Option Head) (x : Item) (to : ℕ) → FindsHead a b found → Opens x to b found
     → IsEncodedAt x a.bytes a.place to → Spends 1 0 to a b
 head_spends a b None x to p o l = absurd o
 head_spends a b (Some h) x to p o l = search (rules, stands_long)
 
-dearer : (c e kept more to : ℕ) (a b : Walk) → a.place ≤ to → Spends c kept to a b
+dearer : (c e kept more to : ℕ) (a b : CursorState) → a.place ≤ to → Spends c kept to a b
     → Spends (c + e) (kept + more) to a b
 dearer c e kept more to a b le p = grind (arith, mul-le-mul_left)
 
 -- a lower cost is within a higher one
-pub eased : {c d kept more to : ℕ} {a b : Walk} → c ≤ d → kept ≤ more → a.place ≤ to → Spends c kept to a b
+pub eased : {c d kept more to : ℕ} {a b : CursorState} → c ≤ d → kept ≤ more → a.place ≤ to → Spends c kept to a b
     → Spends d more to a b
 eased {c} {d} {kept} {more} {to} {a} {b} le few within p =
     subst (λ (n : ℕ). Spends n more to a b) (omega (arith, le))
@@ -115,26 +115,26 @@ eased {c} {d} {kept} {more} {to} {a} {b} le few within p =
     (dearer c (d - c) kept (more - kept) to a b within p))
 
 -- the item is still encoded at the place that the cursor went back to
-pub stands_back : (i : Item) (b : Walk) {bytes : List ℕ} {place to : ℕ} → b.bytes ≡ bytes → b.place ≡ place
+pub stands_back : (i : Item) (b : CursorState) {bytes : List ℕ} {place to : ℕ} → b.bytes ≡ bytes → b.place ≡ place
     → IsEncodedAt i bytes place to → IsEncodedAt i b.bytes b.place to
 stands_back i b same at l = rw (same, at) l
 
 -- the cursor went back to the place where it was, and the item was decoded again
-module _ {a b d : Walk} {n : ℕ} (on : Onward a b) (back : d ≡ record b { place = n }) (at : n ≡ a.place) where
+module _ {a b d : CursorState} {n : ℕ} (on : Onward a b) (back : d ≡ record b { place = n }) (at : n ≡ a.place) where
   pub stands_again : (i : Item) {to : ℕ} → IsEncodedAt i a.bytes a.place to → IsEncodedAt i d.bytes d.place to
   stands_again i l = grind (arith, stands_back)
 
-  pub further_again : {f : Walk} → Further d f → Further a f
+  pub further_again : {f : CursorState} → Further d f → Further a f
   further_again {f} p =
-      let there : d.place ≡ a.place = omega (arith, at, ap (λ (w : Walk). w.place) back) in
-      let rises : a.heads ≤ d.heads = omega (arith, on.heads, ap (λ (w : Walk). w.heads) back) in
-      let same : d.bytes ≡ a.bytes = ap (λ (w : Walk). w.bytes) back ∙ on.same in
+      let there : d.place ≡ a.place = omega (arith, at, ap (λ (w : CursorState). w.place) back) in
+      let rises : a.heads ≤ d.heads = omega (arith, on.heads, ap (λ (w : CursorState). w.heads) back) in
+      let same : d.bytes ≡ a.bytes = ap (λ (w : CursorState). w.bytes) back ∙ on.same in
       record {
         forward = omega (arith, p.forward, there);
         counts = counts_then a d f (counts_stay a d same there rises) p.counts;
       }
 
-  pub spends_again : {c e kept more to : ℕ} {f : Walk} → Spends c kept to a b → Spends e more to d f
+  pub spends_again : {c e kept more to : ℕ} {f : CursorState} → Spends c kept to a b → Spends e more to d f
       → Spends (c + e) (kept + more) to a f
   spends_again q r = grind arith
 
@@ -149,7 +149,7 @@ nothing_left : (h : Head) (i : Item) (t : List ℕ) → (head_scalar h ≡ item.
 nothing_left (head.Simple n) i t is w = w.1
 nothing_left _ i t is w = grind arith
 
-module _ (a b : Walk) where
+module _ (a b : CursorState) where
   pub scalar_read : (head : Option Head) (i : Item) (to : ℕ) (found : Item)
       → found ≡ unwrap_or (option_map head_scalar head) item.null → FindsHead a b head → Opens i to b head
       → IsEncodedAt i a.bytes a.place to → ReadsScalar i to a b found
@@ -184,7 +184,7 @@ scalar_ends view kind x (Ok y) refused h ends =
 
 -- The value that the item's head has.
 pub scalar_decodes : {A M : Type 0} {view : A → M} (kind : Kind M) {wanted : Option M} {may : Type 0} (i : Item)
-    {x : Item} {to : ℕ} {a b : Walk} {result : Result A Refusal} → kind item.null ≡ None → wanted ≡ kind (scalar_in i)
+    {x : Item} {to : ℕ} {a b : CursorState} {result : Result A Refusal} → kind item.null ≡ None → wanted ≡ kind (scalar_in i)
     → ReadsScalar i to a b x → AnswersAs view (kind x) (MayGrow false x) result
     → Decodes view wanted may 1 0 to a b result
 scalar_decodes {view = view} kind i {x} {result = result} refused same r h = record {
@@ -207,20 +207,20 @@ size_scalar _ = refl
 
 -- ---- heads of arrays and maps
 
-pub array_opened : (h : Head) (i : Item) (to : ℕ) (b : Walk) → Opens i to b (Some h)
+pub array_opened : (h : Head) (i : Item) (to : ℕ) (b : CursorState) → Opens i to b (Some h)
     → OpensAt elements_in (Within max_depth) i to b (head_array h)
 array_opened (head.Array left) i to b o = grind (arith, elements-items_of)
 array_opened _ i to b o = grind (arith, nat_tests, cases_lt, cases_eq, o.encoded)
 
-pub map_opened : (h : Head) (i : Item) (to : ℕ) (b : Walk) → Opens i to b (Some h)
+pub map_opened : (h : Head) (i : Item) (to : ℕ) (b : CursorState) → Opens i to b (Some h)
     → OpensAt members_in (PairWithin max_depth) i to b (head_map h)
 map_opened (head.Map left) i to b o = grind (arith, members-pairs_of)
 map_opened _ i to b o = grind (arith, nat_tests, cases_lt, cases_eq, o.encoded)
 
 pub parts_open : {X : Type 0} (parts : Item → Option (List X)) (Encoded : X → Language)
     (len : Head → Option (Option ℕ))
-    → ((h : Head) (i : Item) (to : ℕ) (b : Walk) → Opens i to b (Some h) → OpensAt parts Encoded i to b (len h))
-    → (head : Option Head) (i : Item) (to : ℕ) (b : Walk) (result : Option (Option ℕ))
+    → ((h : Head) (i : Item) (to : ℕ) (b : CursorState) → Opens i to b (Some h) → OpensAt parts Encoded i to b (len h))
+    → (head : Option Head) (i : Item) (to : ℕ) (b : CursorState) (result : Option (Option ℕ))
     → result ≡ option_and_then len head → Opens i to b head → OpensAt parts Encoded i to b result
 parts_open parts Encoded len opened None i to b result e o = absurd o
 parts_open parts Encoded len opened (Some h) i to b result e o =
@@ -231,23 +231,23 @@ pub ruleset heads = (onward_of)
 -- ---- values of one head or of one string, decoded at a cursor
 
 -- further on after one part, and after a second one that was decoded
-pub further_counted : {T E : Type 0} {a b : Walk} (c : Walk) (r : Result T E) → Further a b → b.place ≤ c.place
+pub further_counted : {T E : Type 0} {a b : CursorState} (c : CursorState) (r : Result T E) → Further a b → b.place ≤ c.place
     → OnOk r (CountsHeads b c) → OnOk r (Further a c)
 further_counted {a = a} {b} c (Ok x) p on h = further_then a b c p h on
 further_counted c (Err e) p on h = tt
 
-pub further_twice : {T E : Type 0} {a b : Walk} (c : Walk) (r : Result T E) → Further a b → OnOk r (Further b c)
+pub further_twice : {T E : Type 0} {a b : CursorState} (c : CursorState) (r : Result T E) → Further a b → OnOk r (Further b c)
     → OnOk r (Further a c)
 further_twice c (Ok x) p h = further_on p h
 further_twice c (Err e) p h = tt
 
 -- after a success the cursor was at the same place before
-pub further_ok : {T E : Type 0} {a b : Walk} (c : Walk) (r : Result T E) → Onward a b → b.place ≡ a.place
+pub further_ok : {T E : Type 0} {a b : CursorState} (c : CursorState) (r : Result T E) → Onward a b → b.place ≡ a.place
     → OnOk r (Further b c) → OnOk r (Further a c)
 further_ok {a = a} {b} c (Ok x) on at h = further_from a b c on at h
 further_ok c (Err e) on at h = tt
 
-pub skipped_further : (a b : Walk) (found : Bool) → SkipsLeadingItem a b found → found ≡ true → Further a b
+pub skipped_further : (a b : CursorState) (found : Bool) → SkipsLeadingItem a b found → found ≡ true → Further a b
 skipped_further a b true p e = skip_further a b p
 skipped_further a b false p e = absurd cc
 
@@ -294,7 +294,7 @@ no_aaguid _ h = refl
 
 -- an error is the same for any view of the value
 pub fails_as : {A B M N : Type 0} {view : A → M} {seen : B → N} {wanted : Option M} {given : Option N}
-    {takes may : Type 0} {cost kept more to : ℕ} {a b : Walk} (e : Refusal) → kept ≡ more
+    {takes may : Type 0} {cost kept more to : ℕ} {a b : CursorState} (e : Refusal) → kept ≡ more
     → (wanted ≡ None → given ≡ None) → (takes → may) → Decodes view wanted takes cost kept to a b (Err e)
     → Decodes seen given may cost more to a b (Err e)
 fails_as {cost = cost} {to = to} {a = a} {b} e few none grows r = grind (arith, failed)

@@ -5,7 +5,7 @@ use Rattle.std.proofs.Common.{zero-add}
 use Rattle.passkey_cbor.specs.EncodedAt.{WalksOn, Passes}
 use Rattle.passkey_cbor.specs.Inside.{Within}
 use Rattle.passkey_cbor.specs.Skipped.{PassesLeadingItem}
-use Rattle.passkey_cbor.specs.Walk.{Walk, ahead}
+use Rattle.passkey_cbor.specs.CursorState.{CursorState, ahead}
 use Rattle.passkey_cbor.specs.LeadingItem.{IsLeadingItem}
 use Rattle.passkey_cbor.specs.Lent.{Region, LendsFrom}
 use Rattle.passkey_cbor.proofs.EncodedFrom.{front_stands}
@@ -19,7 +19,7 @@ use Rattle.passkey_kinds.specs.RecordReading.{ReadsKey}
 use Rattle.passkey_kinds.specs.declared.rows.Named.{Named}
 
 -- The members that are left have the wanted value, if any member has it, and have it where it is.
-pub record StillAhead (table : Table) (n : ℕ) (ms : Members) (to : ℕ) (left : Option ℕ) (old now : Walk) : Type 0
+pub record StillAhead (table : Table) (n : ℕ) (ms : Members) (to : ℕ) (left : Option ℕ) (old now : CursorState) : Type 0
   where
     pub rest : Members
     pub ahead : PairsAreEncodedAt left rest now.bytes now.place to
@@ -29,7 +29,7 @@ pub record StillAhead (table : Table) (n : ℕ) (ms : Members) (to : ℕ) (left 
 
 -- The next of them, after its key was decoded.
 pub record NextAhead (table : Table) (n : ℕ) (ms : Members) (to : ℕ) (left : Option ℕ) (found : Option Named)
-    (old now : Walk) : Type 0 where
+    (old now : CursorState) : Type 0 where
   pub value : Item
   pub others : Members
   pub middle : ℕ
@@ -39,13 +39,13 @@ pub record NextAhead (table : Table) (n : ℕ) (ms : Members) (to : ℕ) (left :
   pub lies : IfSome found (λ _. (from end : ℕ) → IfRow n (naming_of found) ((from ≡ now.place) × (end ≡ middle))
       (ValueLies table n others now.bytes middle from end) → ValueLies table n ms old.bytes old.place from end)
 
-value_there : (found : Option Named) (value : Item) (k : Walk) {bytes : List ℕ} {place middle : ℕ} → k.bytes ≡ bytes
+value_there : (found : Option Named) (value : Item) (k : CursorState) {bytes : List ℕ} {place middle : ℕ} → k.bytes ≡ bytes
     → IfSome found (λ _. k.place ≡ place) → IsEncodedAt value bytes place middle
     → IfSome found (λ _. IsEncodedAt value k.bytes k.place middle)
 value_there (Some key) value k same at l = stands_back value k same at l
 value_there None value k same at l = at
 
-lies_next : (table : Table) (n : ℕ) (found : Option Named) (first : Item × Item) (others : Members) (k : Walk)
+lies_next : (table : Table) (n : ℕ) (found : Option Named) (first : Item × Item) (others : Members) (k : CursorState)
     {bytes : List ℕ} {at middle next : ℕ} {Q : ℕ → ℕ → Type 0} → named table first.0 ≡ naming_of found
     → k.bytes ≡ bytes → IfSome found (λ _. k.place ≡ middle) → IsEncodedAt first.0 bytes at middle
     → IsEncodedAt first.1 bytes middle next
@@ -57,13 +57,13 @@ lies_next table n (Some key) first others k {middle = middle} {next} naming same
 lies_next table n None first others k naming same at f s on = tt
 
 -- the members that were left before the cursor looked whether there are more
-ahead_again : (table : Table) (n : ℕ) (a b : Walk) (from end : ℕ) {rest ms : Members} → rest ≡ ms
+ahead_again : (table : Table) (n : ℕ) (a b : CursorState) (from end : ℕ) {rest ms : Members} → rest ≡ ms
     → b.bytes ≡ a.bytes → b.place ≡ a.place → ValueLies table n ms b.bytes b.place from end
     → ValueLies table n rest a.bytes a.place from end
 ahead_again table n a b from end whole same stays h = rw (whole, sym same, sym stays) h
 
-pub next_ahead : (table : Table) (n : ℕ) (ms : Members) (to : ℕ) {before after : Option ℕ} {a b k : Walk}
-    {found : Option Named} {old : Walk} {is_numbered : Bool} {rows : List Entry} → StillAhead table n ms to before old a
+pub next_ahead : (table : Table) (n : ℕ) (ms : Members) (to : ℕ) {before after : Option ℕ} {a b k : CursorState}
+    {found : Option Named} {old : CursorState} {is_numbered : Bool} {rows : List Entry} → StillAhead table n ms to before old a
     → WalksOn before after a b true → is_numbered ≡ table.is_numbered → rows ≡ entries table
     → ((key : Item) (end : ℕ) → IsEncodedAt key b.bytes b.place end
     → ReadsKey (names is_numbered rows key) end b k found) → k.bytes ≡ b.bytes
@@ -105,7 +105,7 @@ row_behind n (Row k) Here Behind is h = rw is h
 row_behind n Unknown Here Behind is h = h
 
 pub passed : {table : Table} {n : ℕ} {ms : Members} {to : ℕ} {left : Option ℕ} {key : Named}
-    {old k d : Walk} → is_row n (named_as key) ≡ false → (w : NextAhead table n ms to left (Some key) old k)
+    {old k d : CursorState} → is_row n (named_as key) ≡ false → (w : NextAhead table n ms to left (Some key) old k)
     → Passes w.middle k d true → StillAhead table n ms to left old d
 passed {n = n} {key = key} other w p = record {
   rest = w.others;
@@ -128,7 +128,7 @@ no_string (byte_string s) h = absurd (h s refl)
 no_string i h = refl
 
 -- what the cursor lends of the value is wanted
-pub lends_wanted : (i : Item) (to : ℕ) (old new : Walk) (found : Option Region) → LendsFrom false i to old new found
+pub lends_wanted : (i : Item) (to : ℕ) (old new : CursorState) (found : Option Region) → LendsFrom false i to old new found
     → LendsWanted (string_in i) found
 lends_wanted i to old new (Some r) h = (h.0, (ap string_in h.1.0, h.1.1.tells))
 lends_wanted i to old new None h = no_string i h.0
@@ -145,12 +145,12 @@ lends_row table n bytes i len None front h = λ j other leads.
     ap (string_of_row table n) (only_one i j bytes 0 len other (stands_first i bytes len front) leads).0 ∙ h
 
 -- the item that the cursor passed from the start, and went back over
-module _ (bytes : List ℕ) {old s a : Walk} (start : old ≡ record { bytes = bytes; place = 0; heads = 0; nodes = 0 })
+module _ (bytes : List ℕ) {old s a : CursorState} (start : old ≡ record { bytes = bytes; place = 0; heads = 0; nodes = 0 })
     (p : PassesLeadingItem old s) (back : a ≡ record s { place = 0 }) where
   pub leads : IsLeadingItem bytes p.item p.len
-  leads = subst (λ (w : Walk). IsLeadingItem (ahead w) p.item p.len) start p.front
+  leads = subst (λ (w : CursorState). IsLeadingItem (ahead w) p.item p.len) start p.front
 
-  pub stands : IsEncodedAt p.item a.bytes a.place p.len
-  stands = stands_back p.item a
-      (ap (λ (w : Walk). w.bytes) back ∙ p.bytes ∙ ap (λ (w : Walk). w.bytes) start)
-      (ap (λ (w : Walk). w.place) back) (stands_first p.item bytes p.len leads)
+  pub encoded_there : IsEncodedAt p.item a.bytes a.place p.len
+  encoded_there = stands_back p.item a
+      (ap (λ (w : CursorState). w.bytes) back ∙ p.bytes ∙ ap (λ (w : CursorState). w.bytes) start)
+      (ap (λ (w : CursorState). w.place) back) (stands_first p.item bytes p.len leads)

@@ -1,5 +1,5 @@
 -- The rows that names and map keys name.
-use Rattle.passkey_kinds.proofs.Common.{named_as, IsEncodedAt, Walk, LooksOnce, Spends, Further, Onward, sym, nat_tests, find, bytes_eq, ◌≡◌, ◌∙◌, ◌<◌, ◌==◌, ℕ, pos, arith, zero, suc, Bool, true, false, ◌+◌, List, [], ◌∷◌, ◌++◌, length, map, take, drop, set, get_or, Bor, add-one, Option, Some, None, cond, nat_lt, slice_get, refl, ap, cases_lt, eqb-true, length-map, map_push, take_more_set, Item, scalar_in, naming_of, IfSome, entry_of, Row, Entry, row, wrong, row_or_unknown, names, position, position_or_len, take-suc, slice_get_past, row_at, row_named}
+use Rattle.passkey_kinds.proofs.Common.{named_as, IsEncodedAt, CursorState, LooksOnce, Spends, Further, Onward, sym, nat_tests, find, bytes_eq, ◌≡◌, ◌∙◌, ◌<◌, ◌==◌, ℕ, pos, arith, zero, suc, Bool, true, false, ◌+◌, List, [], ◌∷◌, ◌++◌, length, map, take, drop, set, get_or, Bor, add-one, Option, Some, None, cond, nat_lt, slice_get, refl, ap, cases_lt, eqb-true, length-map, map_push, take_more_set, Item, scalar_in, naming_of, IfSome, entry_of, Row, Entry, row, wrong, row_or_unknown, names, position, position_or_len, take-suc, slice_get_past, row_at, row_named}
 use Rattle.std.specs.Prelude.{IfNone}
 use Rattle.passkey_kinds.specs.RecordReading.{ReadsKey, FindsRow, LooksTwice}
 use Rattle.passkey_kinds.proofs.Lent.{missed_spends}
@@ -78,7 +78,7 @@ names_other b es _ t h = refl
 -- ---- one way to name a row after another
 
 -- after one head that isn't a row's number
-pub number_then : (es : List Entry) (key : Item) (to : ℕ) (a b d : Walk) (found : Option Named) → LooksOnce a b
+pub number_then : (es : List Entry) (key : Item) (to : ℕ) (a b d : CursorState) (found : Option Named) → LooksOnce a b
     → a.place < to → names true es (scalar_in key) ≡ wrong → FindsRow (names true es key) 2 to b d found
     → IfNone found (names true es key ≡ names true es (scalar_in key)) → IfNone found (LooksTwice b d)
     → ReadsKey (names true es key) to a d found
@@ -95,18 +95,18 @@ number_then es key to a b d None once less none r other twice = record {
 }
 
 -- after two heads that aren't a string's
-pub stands_twice : (i : Item) {a b : Walk} {to : ℕ} → LooksTwice a b → IsEncodedAt i a.bytes a.place to
+pub stands_twice : (i : Item) {a b : CursorState} {to : ℕ} → LooksTwice a b → IsEncodedAt i a.bytes a.place to
     → IsEncodedAt i b.bytes b.place to
 stands_twice i {b = b} p l = stands_back i b p.bytes p.place l
 
-pub twice_spends : (to : ℕ) (a b d : Walk) → LooksTwice a b → a.place < to → Spends 1 0 to b d → Spends 3 0 to a d
+pub twice_spends : (to : ℕ) (a b d : CursorState) → LooksTwice a b → a.place < to → Spends 1 0 to b d → Spends 3 0 to a d
 twice_spends to a b d twice less s = record {
   within = s.within;
   heads = omega (arith, twice.heads, twice.place, s.heads, less);
   nodes = omega (arith, twice.nodes, s.nodes);
 }
 
-pub further_some : (a b d : Walk) (found : Option Named) → Onward a b → b.place ≡ a.place
+pub further_some : (a b d : CursorState) (found : Option Named) → Onward a b → b.place ≡ a.place
     → IfSome found (λ n. Further b d) → IfSome found (λ n. Further a d)
 further_some a b d None on at h = tt
 further_some a b d (Some n) on at h = further_from a b d on at h

@@ -1,5 +1,5 @@
 -- Strings that are lent at a cursor.
-use Rattle.passkey_kinds.proofs.Common.{SpendsLess, counts_stay, raised-le, head_again, head_long, each_long, lends_start, lends_on, lends_all, AChunk, follows_chunk, IsEncodedAt, Definite, Content, Item, byte_string, text_string, Each, Region, Tells, PassesString, LooksOnce, IsRegion, heads_in, LendsFrom, LooksAtAll, LooksAtSome, LentWhole, string_head, string_item, Kind, LooksFor, heads_until, heads_sought, LendsPiece, LendsNoPiece, LooksAhead, LendsUpTo, chunk, Walk, ahead, raised, DataGrow, data_parts, AuthenticatorData, algorithm, authenticator_data, authenticator_data_nodes, CountsData, AnswersAs, bytes, MayGrow, below, list, Answers, scalar_in, Further, Decodes, LooksAtMost, Spends, names, Refused, Refusal, IsOf, whole_64, NumberState, ◌≡◌, ◌∙◌, ◌<◌, ◌+◌, ℕ, suc, arith, Bool, true, false, List, [], ◌∷◌, ◌++◌, length, Option, Some, None, option_map, refl, sym, ap, rules, ◌≤◌, Result, subst, ◌-◌, Err, cond, ℤ, ◌^◌, zero, length-append, length-take, concat, ok_or, algorithm_named, option_and_then, signed_in, Algorithm}
+use Rattle.passkey_kinds.proofs.Common.{SpendsLess, counts_stay, raised-le, head_again, head_long, each_long, lends_start, lends_on, lends_all, AChunk, follows_chunk, IsEncodedAt, Definite, Content, Item, byte_string, text_string, Each, Region, HoldsString, PassesString, LooksOnce, IsRegion, heads_in, LendsFrom, LooksAtAll, LooksAtSome, LentWhole, string_head, string_item, Kind, LooksFor, heads_until, heads_sought, LendsPiece, LendsNoPiece, LooksAhead, LendsUpTo, chunk, CursorState, ahead, raised, DataGrow, data_parts, AuthenticatorData, algorithm, authenticator_data, authenticator_data_nodes, CountsData, AnswersAs, bytes, MayGrow, below, list, Answers, scalar_in, Further, Decodes, LooksAtMost, Spends, names, Refused, Refusal, IsOf, whole_64, NumberState, ◌≡◌, ◌∙◌, ◌<◌, ◌+◌, ℕ, suc, arith, Bool, true, false, List, [], ◌∷◌, ◌++◌, length, Option, Some, None, option_map, refl, sym, ap, rules, ◌≤◌, Result, subst, ◌-◌, Err, cond, ℤ, ◌^◌, zero, length-append, length-take, concat, ok_or, algorithm_named, option_and_then, signed_in, Algorithm}
 use Rattle.passkey_core.specs.DataReading.{fixed_at}
 use Rattle.passkey_kinds.proofs.Cursor.{stands_long, eased, on_ok, stands_back, string_further, further_then}
 use Rattle.passkey_cbor.specs.Item as item
@@ -34,7 +34,7 @@ sought_few is_text names None s bytes c = omega (arith, until_few names [] c.fir
 
 -- ---- looking again
 
-module _ {r : Region} {a b : Walk} (rises : a.heads ≤ b.heads) where
+module _ {r : Region} {a b : CursorState} (rises : a.heads ≤ b.heads) where
   looked : b.heads ≤ a.heads + length r.bytes → b.place ≡ a.place → b.nodes ≡ a.nodes → b.bytes ≡ a.bytes
       → LooksAtMost r a b
   looked heads place nodes bytes = grind (arith)
@@ -54,13 +54,13 @@ module _ {r : Region} {a b : Walk} (rises : a.heads ≤ b.heads) where
       let few = sought_few is_text names r.len t.0 r.bytes t.1 in
       looked (omega (arith, l.heads t.0 t.1, raised-le, few)) l.place l.nodes l.bytes
 
-pub looks_none : (r : Region) (a : Walk) → LooksAtMost r a a
+pub looks_none : (r : Region) (a : CursorState) → LooksAtMost r a a
 looks_none r a = record { heads = omega arith; rises = omega arith; place = refl; nodes = refl; bytes = refl }
 
 -- ---- what a string costs
 
 -- what follows a string's head is shorter than the string
-region_shorter : (is_text : Bool) (a b : Walk) (r : Region) → PassesString is_text a b r
+region_shorter : (is_text : Bool) (a b : CursorState) (r : Region) → PassesString is_text a b r
     → a.place + length r.bytes < b.place
 region_shorter is_text a b r p =
     let h = p.headed in
@@ -68,13 +68,13 @@ region_shorter is_text a b r p =
     omega (arith, long, length-take p.len (ahead a), length-append {A = ℕ}, ap length h.whole, ap length h.second)
 
 -- The string that is encoded there is lent, and then looked at again at most once.
-pub lent_spends : {is_text : Bool} {a b d : Walk} {r : Region} (i : Item) {to : ℕ}
+pub lent_spends : {is_text : Bool} {a b d : CursorState} {r : Region} (i : Item) {to : ℕ}
     → IsEncodedAt i a.bytes a.place to → PassesString is_text a b r → LendsFrom is_text i to a b (Some r)
     → LooksAtMost r b d → Spends 2 0 to a d × (d.place ≡ to)
 lent_spends i l p f looks = search (rules, region_shorter)
 
 -- one head to spare, since the string's own head isn't looked at again
-pub lent_less : {is_text : Bool} {a b d : Walk} {r : Region} (i : Item) {to : ℕ}
+pub lent_less : {is_text : Bool} {a b d : CursorState} {r : Region} (i : Item) {to : ℕ}
     → IsEncodedAt i a.bytes a.place to → PassesString is_text a b r → LendsFrom is_text i to a b (Some r)
     → LooksAtMost r b d → SpendsLess 2 0 to a d × (d.place ≡ to)
 lent_less {is_text} {a} {b} {d} {r} i {to} l p f looks =
@@ -89,13 +89,13 @@ lent_less {is_text} {a} {b} {d} {r} i {to} l p f looks =
     )
 
 -- no string of this type is encoded there, and one head was decoded
-pub not_lent_spends : (is_text : Bool) (a b : Walk) (i : Item) (to : ℕ) → IsEncodedAt i a.bytes a.place to
+pub not_lent_spends : (is_text : Bool) (a b : CursorState) (i : Item) (to : ℕ) → IsEncodedAt i a.bytes a.place to
     → LendsFrom is_text i to a b None → Spends 1 0 to a b
 not_lent_spends is_text a b i to l f = search (rules, stands_long)
 
 -- The result for a string that is lent, and then looked at again at most once: that of the string in memory.
 pub lent_decodes : {A M : Type 0} {view : A → M} (kind : Kind M) (takes : Bool) {cost kept : ℕ} {is_text : Bool}
-    {a b d : Walk} {r : Region} (i : Item) {to : ℕ} {result : Result A Refusal} → 2 ≤ cost
+    {a b d : CursorState} {r : Region} (i : Item) {to : ℕ} {result : Result A Refusal} → 2 ≤ cost
     → IsEncodedAt i a.bytes a.place to → PassesString is_text a b r → (f : LendsFrom is_text i to a b (Some r))
     → LooksAtMost r b d
     → AnswersAs view (kind (string_item is_text f.0)) (MayGrow takes (string_item is_text f.0)) result
@@ -115,7 +115,7 @@ bytes_grow (x ∷ s) some = (refl, tt)
 
 -- The result if no string of this type is encoded there.
 pub not_lent_decodes : {A M : Type 0} (view : A → M) (wanted : Option M) (takes : Type 0) (is_text : Bool)
-    (cost kept : ℕ) (a b : Walk) (i : Item) (to : ℕ) → 1 ≤ cost → IsEncodedAt i a.bytes a.place to
+    (cost kept : ℕ) (a b : CursorState) (i : Item) (to : ℕ) → 1 ≤ cost → IsEncodedAt i a.bytes a.place to
     → LendsFrom is_text i to a b None → wanted ≡ None → Decodes view wanted takes cost kept to a b (Err Refused)
 not_lent_decodes view wanted takes is_text cost kept a b i to one l f none = record {
   answers = none;
@@ -132,10 +132,10 @@ whole_is is_text None bytes t s e c = absurd cc
 whole_is is_text (Some n) bytes t s e c = grind arith
 
 -- what is lent of a string in one piece is the whole string
-pub lent_is : (is_text : Bool) (r : Region) (t s : List ℕ) → LentWhole r (Some t) → Tells is_text r s → t ≡ s
+pub lent_is : (is_text : Bool) (r : Region) (t s : List ℕ) → LentWhole r (Some t) → HoldsString is_text r s → t ≡ s
 lent_is is_text r t s e tells = whole_is is_text r.len r.bytes t s e tells
 
-module _ (a b d : Walk) (r : Region) where
+module _ (a b d : CursorState) (r : Region) where
   pub looked_further : (is_text : Bool) → PassesString is_text a b r → LooksAtMost r b d → Further a d
   looked_further is_text p looks = further_then a b d (string_further is_text a b r p)
       (counts_stay b d looks.bytes looks.place looks.rises) (omega (arith, looks.place))
@@ -154,18 +154,18 @@ or_refused wanted (Some x) result takes e r = grind arith
 or_refused wanted None result takes e r = grind arith
 
 -- the item is still encoded there after one head that isn't its string's
-pub stands_missed : (i : Item) {a b : Walk} {to : ℕ} → LooksOnce a b → IsEncodedAt i a.bytes a.place to
+pub stands_missed : (i : Item) {a b : CursorState} {to : ℕ} → LooksOnce a b → IsEncodedAt i a.bytes a.place to
     → IsEncodedAt i b.bytes b.place to
 stands_missed i {b = b} p l = stands_back i b p.bytes p.place l
 
 -- what is spent after one head that isn't the item's
-pub missed_spends : {cost kept to : ℕ} {a b d : Walk} → LooksOnce a b → a.place < to → Spends cost kept to b d
+pub missed_spends : {cost kept to : ℕ} {a b d : CursorState} → LooksOnce a b → a.place < to → Spends cost kept to b d
     → Spends (suc cost) kept to a d
 missed_spends p less s = grind arith
 
 -- decoded after one head that isn't its string's
 pub missed_then : {A M : Type 0} {view : A → M} {wanted : Option M} {takes : Type 0} {cost kept to : ℕ}
-    {a b d : Walk} {result : Result A Refusal} → LooksOnce a b → a.place < to
+    {a b d : CursorState} {result : Result A Refusal} → LooksOnce a b → a.place < to
     → Decodes view wanted takes cost kept to b d result → Decodes view wanted takes (suc cost) kept to a d result
 missed_then p less r = grind arith
 
@@ -188,16 +188,16 @@ raised_rises n (suc k) h = omega arith
 -- ---- a loop over the pieces
 
 -- The pieces lent so far were added to the text of the number.
-pub record AddsUpTo (whole left : Region) (old now : Walk) (number : NumberState) : Type 0 where
+pub record AddsUpTo (whole left : Region) (old now : CursorState) (number : NumberState) : Type 0 where
   pub bytes : List ℕ
   pub lent : LendsUpTo true whole left old now bytes
   pub is_of : IsOf number bytes
 
-pub adds_none : {whole left : Region} (a : Walk) (n : NumberState) → left ≡ whole → IsOf n []
+pub adds_none : {whole left : Region} (a : CursorState) (n : NumberState) → left ≡ whole → IsOf n []
     → AddsUpTo whole left a a n
 adds_none {whole} a n e h = record { bytes = []; lent = rw e (lends_start true whole a); is_of = h }
 
-module _ {whole left next : Region} {a b d : Walk} {n : NumberState} (u : AddsUpTo whole left a b n)
+module _ {whole left next : Region} {a b d : CursorState} {n : NumberState} (u : AddsUpTo whole left a b n)
     (looks : LooksAhead left b d) where
   pub adds_one : (m : NumberState) {piece : List ℕ} →
       LendsPiece true left next piece → ((text : List ℕ) → IsOf n text → IsOf m (text ++ piece))
@@ -211,7 +211,7 @@ module _ {whole left next : Region} {a b d : Walk} {n : NumberState} (u : AddsUp
   -- at the end, the text of the number is the string
   pub adds_all : LendsNoPiece true left next → (found : Option ℤ)
       → ((text : List ℕ) → IsOf n text → found ≡ whole_64 text) →
-      (s : List ℕ) → Tells true whole s → found ≡ whole_64 s
+      (s : List ℕ) → HoldsString true whole s → found ≡ whole_64 s
   adds_all p found h s t =
       h u.bytes u.is_of ∙ ap whole_64 (sym ((lends_all true whole left next a b d u.bytes u.lent p looks).0 s t))
 
@@ -254,7 +254,7 @@ content_short None s bytes c = grind (arith, chunks_whole, length-append)
 
 -- ---- all of the data
 
-pub data_decodes : {a b e d : Walk} {r : Region} (i : Item) {to : ℕ} {t : List ℕ}
+pub data_decodes : {a b e d : CursorState} {r : Region} (i : Item) {to : ℕ} {t : List ℕ}
     {result : Result AuthenticatorData Refusal} → PassesString false a b r → (f : LendsFrom false i to a b (Some r))
     → LooksAtMost r b e → t ≡ f.0 → CountsData t e d → Answers data_parts typed.authenticator_data (byte_string t)
     result → Decodes data_parts (authenticator_data i) (MayGrow true i) 6 (authenticator_data_nodes i) to a d result
@@ -274,12 +274,12 @@ data_decodes {a = a} {b} {r = r} i {t = t} {result} p f looks same counts h =
     }
 
 -- the cost of the data is added after the string
-pub counted_further : {a e d : Walk} {s : List ℕ} → Further a e → CountsData s e d → Further a d
+pub counted_further : {a e d : CursorState} {s : List ℕ} → Further a e → CountsData s e d → Further a d
 counted_further {a} {e} {d} p counts = further_then a e d p
     (counts_stay e d counts.same counts.place counts.heads_rise) (omega (arith, counts.place))
 
 -- the data is decoded after the string
-pub data_further : (a b e d : Walk) (r : Region) (s : List ℕ) → PassesString false a b r → LooksAtMost r b e
+pub data_further : (a b e d : CursorState) (r : Region) (s : List ℕ) → PassesString false a b r → LooksAtMost r b e
     → CountsData s e d → Further a d
 data_further a b e d r s p looks counts = counted_further (looked_further a b e r false p looks) counts
 

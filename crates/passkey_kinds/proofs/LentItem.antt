@@ -6,7 +6,7 @@ use Rattle.std.proofs.Common.{zero-add}
 use Rattle.passkey_cbor.specs.EncodedAt.{Passes}
 use Rattle.passkey_cbor.specs.Found.{FindsHead, PassesHead}
 use Rattle.passkey_cbor.specs.Skipped.{PassesLeadingItem}
-use Rattle.passkey_cbor.specs.Walk.{Walk}
+use Rattle.passkey_cbor.specs.CursorState.{CursorState}
 use Rattle.passkey_cbor.specs.declared.head.Head.{Head}
 use Rattle.passkey_cbor.specs.declared.head.Head.TheVariants as head
 use Rattle.passkey_kinds.proofs.Common.{only_one, members_in}
@@ -39,7 +39,7 @@ lies_value table n (m ∷ ms) bytes at from to h =
 
 -- ---- a map at a cursor
 
-module _ (table : Table) (n : ℕ) (i : Item) (to : ℕ) {left : Option ℕ} (a b d : Walk) (p : PassesHead a b (head.Map left))
+module _ (table : Table) (n : ℕ) (i : Item) (to : ℕ) {left : Option ℕ} (a b d : CursorState) (p : PassesHead a b (head.Map left))
     (o : OpensAt members_in (PairWithin max_depth) i to b (Some left)) (same : d.bytes ≡ b.bytes) where
   pub enters : (found : Bool) → (found ≡ true → ValueEnds table n o.0 b d) → FindsValue (value_among table n o.0) d found
       → EntersValue table n i a d found
@@ -63,7 +63,7 @@ module _ (table : Table) (n : ℕ) (i : Item) (to : ℕ) {left : Option ℕ} (a 
   enters false ends finds = ap (option_and_then (value_among table n)) o.1.0 ∙ finds
 
 -- the head that the cursor passed is that of a map
-pub map_passed : (a b : Walk) (found : Option Head) (left : Option ℕ) → option_and_then head_map found ≡ Some left
+pub map_passed : (a b : CursorState) (found : Option Head) (left : Option ℕ) → option_and_then head_map found ≡ Some left
     → FindsHead a b found → PassesHead a b (head.Map left)
 map_passed a b None left e p = absurd cc
 map_passed a b (Some (head.Map n)) left e p =
@@ -85,16 +85,16 @@ at_start opening {bytes} {there} {place} same zero e =
     subst (λ (k : ℕ). there ≡ opening ++ drop k there) (zero-add (length opening)) at_zero in
     subst (λ (bs : List ℕ). bs ≡ opening ++ drop (length opening) bs) same moved
 
-module _ (table : Table) (n : ℕ) (bytes : List ℕ) {old s a : Walk}
+module _ (table : Table) (n : ℕ) (bytes : List ℕ) {old s a : CursorState}
     (start : old ≡ record { bytes = bytes; place = 0; heads = 0; nodes = 0 }) (p : PassesLeadingItem old s)
     (back : a ≡ record s { place = 0 }) where
   same_bytes : a.bytes ≡ bytes
-  same_bytes = ap (λ (w : Walk). w.bytes) back ∙ p.bytes ∙ ap (λ (w : Walk). w.bytes) start
+  same_bytes = ap (λ (w : CursorState). w.bytes) back ∙ p.bytes ∙ ap (λ (w : CursorState). w.bytes) start
 
   at_zero : a.place ≡ 0
-  at_zero = ap (λ (w : Walk). w.place) back
+  at_zero = ap (λ (w : CursorState). w.place) back
 
-  pub value_at : {b : Walk} → (e : Entered table n p.item a b) → ValueAt table n bytes b.place e.to
+  pub value_at : {b : CursorState} → (e : Entered table n p.item a b) → ValueAt table n bytes b.place e.to
   value_at {b} e = record {
     item = p.item;
     len = p.len;
@@ -118,7 +118,7 @@ module _ (table : Table) (n : ℕ) (bytes : List ℕ) {old s a : Walk}
       leading).0 ∙ none
 
 -- the value is there to be passed
-pub passes_value : (table : Table) (n : ℕ) {i : Item} {a b d : Walk} {found : Bool} (e : Entered table n i a b)
+pub passes_value : (table : Table) (n : ℕ) {i : Item} {a b d : CursorState} {found : Bool} (e : Entered table n i a b)
     → ((j : Item) (to : ℕ) → IsEncodedAt j b.bytes b.place to → Passes to b d found) → Passes e.to b d found
 passes_value table n {a = a} {b} e passes =
     let v = lies_value table n e.members a.bytes _ b.place e.to e.lies in

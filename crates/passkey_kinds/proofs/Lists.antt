@@ -1,5 +1,5 @@
 -- Lists, arrays and maps, decoded and encoded element by element.
-use Rattle.passkey_kinds.proofs.Common.{same_bytes, entries_empty, bytes_or_fault, ByteMap, put_each, BytesFault, some_is, string_again, item_of-Array, item_of-Map, Item, items_of, pairs_of, byte_string, array, Region, Tells, item_of, pair_of, Walk, Value, IfPresent, members-pairs_of, elements-items_of, Keeping, nothing, counted, kept_of, kept_sum, in_members, in_elements, AnswersAs, bytes, MayGrow, below, kept, Kind, each, sized_bytes, list, accepted, with_members, map_from_bytes, entry, map_values, collected, entered, pushed, pushed_if, pushed_below, full, elements_in, members_in, numbers_in, kept_parts, Decodes, Spends, entries, Refusal, ◌≡◌, ◌∙◌, ◌<◌, ◌+◌, ℕ, suc, add-one, arith, Bool, true, false, if◌then◌else◌, List, [], ◌∷◌, ◌++◌, length, map, drop, get_or, Option, Some, None, option_map, refl, sym, ap, ◌≤◌, Result, ◌*◌, Ok, Err, ◌==◌, cond, zero, mul-le-mul_left, drop-cons, cases_lt, le-ltb, ne_eqb, lt-ltb, nat_list_cmp_total, filter_map-append, length-map, length-append, append-nil, get_or-map, slice_cmp, find, filter_map, cons_option, All, option_and_then, nat_cmp}
+use Rattle.passkey_kinds.proofs.Common.{same_bytes, entries_empty, bytes_or_fault, ByteMap, put_each, BytesFault, some_is, string_again, item_of-Array, item_of-Map, Item, items_of, pairs_of, byte_string, array, Region, HoldsString, item_of, pair_of, CursorState, Value, IfPresent, members-pairs_of, elements-items_of, Keeping, nothing, counted, kept_of, kept_sum, in_members, in_elements, AnswersAs, bytes, MayGrow, below, kept, Kind, each, sized_bytes, list, accepted, with_members, map_from_bytes, entry, map_values, collected, entered, pushed, pushed_if, pushed_below, full, elements_in, members_in, numbers_in, kept_parts, Decodes, Spends, entries, Refusal, ◌≡◌, ◌∙◌, ◌<◌, ◌+◌, ℕ, suc, add-one, arith, Bool, true, false, if◌then◌else◌, List, [], ◌∷◌, ◌++◌, length, map, drop, get_or, Option, Some, None, option_map, refl, sym, ap, ◌≤◌, Result, ◌*◌, Ok, Err, ◌==◌, cond, zero, mul-le-mul_left, drop-cons, cases_lt, le-ltb, ne_eqb, lt-ltb, nat_list_cmp_total, filter_map-append, length-map, length-append, append-nil, get_or-map, slice_cmp, find, filter_map, cons_option, All, option_and_then, nat_cmp}
 use Rattle.std.proofs.lemmas.List.{append_assoc}
 use Rattle.std.specs.FinMap as fin
 use Rattle.passkey_cbor.specs.Item as item
@@ -50,13 +50,13 @@ where_twice P g o h = grind arith
 
 -- ---- the head before the elements
 
-pub head_before : (cost kept many to : ℕ) (a b d : Walk) → 0 < cost → kept ≤ many → a.place < b.place
+pub head_before : (cost kept many to : ℕ) (a b d : CursorState) → 0 < cost → kept ≤ many → a.place < b.place
     → b.heads ≤ a.heads + 1 → b.nodes ≤ a.nodes + 0 → Spends cost kept to b d → Spends cost many to a d
 head_before zero kept many to a b d some few further one none s = absurd (omega (arith, some))
 head_before (suc k) kept many to a b d some few further one none s = grind (arith, mul-le-mul_left)
 
 pub decodes_in : {A M : Type 0} {wanted given : Option M} {takes may : Type 0} (view : A → M)
-    (cost kept many to : ℕ) (a b d : Walk) (result : Result A Refusal) → given ≡ wanted → (takes → may)
+    (cost kept many to : ℕ) (a b d : CursorState) (result : Result A Refusal) → given ≡ wanted → (takes → may)
     → kept ≤ many → a.place < b.place → b.heads ≤ a.heads + 1 → b.nodes ≤ a.nodes + 0
     → Decodes view wanted takes (suc cost) kept to b d result → Decodes view given may (suc cost) many to a d result
 decodes_in view cost kept many to a b d result same grows few further one none r = grind (arith, answers_from, head_before)
@@ -81,7 +81,7 @@ kept_members_in nothing i = kept_none (members_in i)
 kept_members_in (counted count) i = grind arith
 
 -- the first byte costs one head alone
-pub after_head : (cost kept to : ℕ) (a b d : Walk) → a.place < b.place → b.heads ≤ a.heads + 1
+pub after_head : (cost kept to : ℕ) (a b d : CursorState) → a.place < b.place → b.heads ≤ a.heads + 1
     → Spends (suc cost) kept to b d → d.heads + suc cost * suc a.place ≤ suc a.heads + suc cost * to
 after_head cost kept to a b d further one s = grind (arith, mul-le-mul_left)
 
@@ -93,7 +93,7 @@ sized_array n seen xs = grind (arith, elements-items_of, length-map)
 -- ---- arrays of bytes, decoded at a cursor
 
 -- a region is that of one string
-pub tells_one : (is_text : Bool) (r : Region) (s t : List ℕ) → Tells is_text r s → Tells is_text r t → s ≡ t
+pub tells_one : (is_text : Bool) (r : Region) (s t : List ℕ) → HoldsString is_text r s → HoldsString is_text r t → s ≡ t
 tells_one is_text r s t p q =
     let one = string_again is_text r.len s r.bytes [] p in
     let other = string_again is_text r.len t r.bytes [] q in

@@ -1,5 +1,5 @@
 -- Loops over the rest of a list or a map at a cursor.
-use Rattle.passkey_kinds.proofs.Common.{raised-le, Lies, Next, Looks, Walks, Left, Item, pairs_of, Language, Walk, ahead, break_heads, members-pairs_of, Keeping, nothing, counted, kept_of, kept, Spends, SpendsLess, Fields, table_of, Member, named, Members, Naming, cost_by, kept_in, kept_in_map, greatest_cost, cost_at, keeps_at, keeps_by, keeps_nothing, none_keeps, record_keeps, ◌≡◌, ◌∙◌, ◌<◌, ◌+◌, ℕ, suc, arith, Bool, true, false, if◌then◌else◌, List, [], ◌∷◌, length, Option, refl, sym, ap, ◌≤◌, ◌*◌, zero, mul-le-mul_left, and_parts}
+use Rattle.passkey_kinds.proofs.Common.{raised-le, Lies, Next, Looks, Walks, Left, Item, pairs_of, Language, CursorState, ahead, break_heads, members-pairs_of, Keeping, nothing, counted, kept_of, kept, Spends, SpendsLess, Fields, table_of, Member, named, Members, Naming, cost_by, kept_in, kept_in_map, greatest_cost, cost_at, keeps_at, keeps_by, keeps_nothing, none_keeps, record_keeps, ◌≡◌, ◌∙◌, ◌<◌, ◌+◌, ℕ, suc, arith, Bool, true, false, if◌then◌else◌, List, [], ◌∷◌, length, Option, refl, sym, ap, ◌≤◌, ◌*◌, zero, mul-le-mul_left, and_parts}
 use Rattle.passkey_kinds.proofs.Cursor.{eased}
 use Rattle.passkey_cbor.specs.Item as item
 
@@ -8,7 +8,7 @@ use Rattle.passkey_cbor.specs.Item as item
 -- How far the loop is: which elements are left, what is known with these ahead, and what was spent
 -- on those before them.
 pub record EachTo {A : Type 0} (P : A → Language) (Done : List A → Type 0) (kept : List A → ℕ) (cost : ℕ)
-    (left : Option ℕ) (is : List A) (to : ℕ) (start now : Walk) : Type 0 where
+    (left : Option ℕ) (is : List A) (to : ℕ) (start now : CursorState) : Type 0 where
   pub rest : List A
   pub ahead : Lies (Left P left rest) now.bytes now.place to
   pub done : Done rest
@@ -17,7 +17,7 @@ pub record EachTo {A : Type 0} (P : A → Language) (Done : List A → Type 0) (
   pub fewer : length rest ≤ length is
 
 -- The loop is over.
-pub record EachDone {A : Type 0} (Done : List A → Type 0) (cost all to : ℕ) (start now : Walk) : Type 0 where
+pub record EachDone {A : Type 0} (Done : List A → Type 0) (cost all to : ℕ) (start now : CursorState) : Type 0 where
   pub done : Done []
   pub spends : Spends cost all to start now
   pub place : now.place ≡ to
@@ -25,7 +25,7 @@ pub record EachDone {A : Type 0} (Done : List A → Type 0) (cost all to : ℕ) 
 break_one : (left : Option ℕ) → break_heads left ≤ 1
 break_one left = grind arith
 
-pub one_looked : (before after : Option ℕ) (a b : Walk) (found : Bool) → Looks before after a b found
+pub one_looked : (before after : Option ℕ) (a b : CursorState) (found : Bool) → Looks before after a b found
     → b.heads ≤ a.heads + 1
 one_looked before after a b found l = grind (arith, raised-le, break_one)
 
@@ -35,23 +35,23 @@ heads_end zero from start place a b more to some before look at = absurd (omega 
 heads_end (suc k) from start place a b more to some before look at = rw at (omega (arith, before, look))
 
 -- an element of at least one byte leaves a head to spare
-pub one_spare : (k kept to : ℕ) (b d : Walk) → b.place < to → Spends k kept to b d → SpendsLess (suc k) kept to b d
+pub one_spare : (k kept to : ℕ) (b d : CursorState) → b.place < to → Spends k kept to b d → SpendsLess (suc k) kept to b d
 one_spare k kept to b d less s = grind (arith)
 
 pub begun : {A : Type 0} (P : A → Language) (Done : List A → Type 0) (kept : List A → ℕ) (cost : ℕ) (is : List A)
-    (to : ℕ) (start : Walk) (left : Option ℕ) → Done is → Lies (Left P left is) start.bytes start.place to
+    (to : ℕ) (start : CursorState) (left : Option ℕ) → Done is → Lies (Left P left is) start.bytes start.place to
     → EachTo P Done kept cost left is to start start
 begun P Done kept cost is to start left done ahead = grind (arith)
 
 module _ {A : Type 0} {P : A → Language} {Done : List A → Type 0} {kept : List A → ℕ} {cost : ℕ} {is : List A}
-    {to : ℕ} {start a : Walk} {before : Option ℕ} (e : EachTo P Done kept cost before is to start a)
-    {after : Option ℕ} (b : Walk) where
+    {to : ℕ} {start a : CursorState} {before : Option ℕ} (e : EachTo P Done kept cost before is to start a)
+    {after : Option ℕ} (b : CursorState) where
   -- the next element
   pub next_is : Walks P before after a b true → Next P after e.rest b.bytes b.place to
   next_is walks = walks e.rest to e.ahead
 
   -- what was spent on it in full or in part, and on those before it: its end is no further than the list's
-  pub spent_within : (d : Walk) → Looks before after a b true → (n : Next P after e.rest b.bytes b.place to)
+  pub spent_within : (d : CursorState) → Looks before after a b true → (n : Next P after e.rest b.bytes b.place to)
       → (one : ℕ) → kept (n.first ∷ n.others) ≡ one + kept n.others → SpendsLess cost one n.middle b d
       → Spends cost (kept is) to start d
   spent_within d looks n one whole spends = grind (arith, one_looked, mul-le-mul_left)
@@ -61,7 +61,7 @@ module _ {A : Type 0} {P : A → Language} {Done : List A → Type 0} {kept : Li
   some_are n = omega (arith, e.fewer, ap length n.whole)
 
   -- one more element
-  pub one_more_done : (Next_done : List A → Type 0) (d : Walk) → Looks before after a b true
+  pub one_more_done : (Next_done : List A → Type 0) (d : CursorState) → Looks before after a b true
       → (n : Next P after e.rest b.bytes b.place to) → (one : ℕ) → kept (n.first ∷ n.others) ≡ one + kept n.others
       → SpendsLess cost one n.middle b d → d.place ≡ n.middle → d.bytes ≡ b.bytes → Next_done n.others
       → EachTo P Next_done kept cost after is to start d
@@ -124,7 +124,7 @@ kept_pairs t ms i e = omega (arith, ap (kept_in_map t) e, ap (kept_in t) (member
 -- ---- what a member costs
 
 -- a member's map key by itself, and with its value
-module _ (c : ℕ) {middle to : ℕ} {b d : Walk} (first : b.place < middle) (second : middle ≤ to) (four : 4 ≤ c)
+module _ (c : ℕ) {middle to : ℕ} {b d : CursorState} (first : b.place < middle) (second : middle ≤ to) (four : 4 ≤ c)
     (key : Spends 3 0 middle b d) where
   key_heads : (c : ℕ) → 4 ≤ c → suc d.heads + c * b.place ≤ b.heads + c * middle
   key_heads zero four = absurd (omega (arith, four))
@@ -134,7 +134,7 @@ module _ (c : ℕ) {middle to : ℕ} {b d : Walk} (first : b.place < middle) (se
   pub key_spent : SpendsLess c 0 to b d
   key_spent = grind (arith, key_heads, mul-le-mul_left)
 
-  pub member_spent : {one k : ℕ} {f : Walk} → d.place ≡ middle → k ≤ c → Spends k one to d f
+  pub member_spent : {one k : ℕ} {f : CursorState} → d.place ≡ middle → k ≤ c → Spends k one to d f
       → SpendsLess c one to b f
   member_spent {one = one} {f = f} at cheap value =
       let eased_value = eased {d = c} {more = one} cheap (omega arith) (omega (arith, at, second)) value in

@@ -1,7 +1,7 @@
 -- A record's members, decoded one after the other.
 use Rattle.passkey_cbor.specs.Item.{pairs_of}
 use Rattle.passkey_kinds.proofs.Lists.{mapped_at}
-use Rattle.passkey_kinds.proofs.Common.{item_of-Map, pairs_of-members, Item, members-pairs_of, AnswersAs, accepted, Typed, members_in, MayGrowIn, are_small, Reads, MayGrowBy, takes_at, Fields, set_with, rows_of, table_of, put_at, one_more, Progress, reached, result_and_then, read_from, read_members, read_item, Entry, Table, entries, named, Members, Naming, row, accepts_at, row_or_unknown, names, HasReadTo, Sets, Puts, held_as, Fault, Refusal, ◌≡◌, ◌∙◌, ◌<◌, ℕ, arith, Bool, true, false, List, [], ◌∷◌, length, map, replicate, get_or, Some, None, is_some, inl, inr, sym, ap, Result, subst, Ok, Err, OnOk, ◌==◌, set, ◌||◌, and_parts, leb-true, cases_lt, get_or-set_same, get_or-set_other, get_or-replicate, get_or_past, length-replicate, find, result_ok}
+use Rattle.passkey_kinds.proofs.Common.{item_of-Map, pairs_of-members, Item, members-pairs_of, AnswersAs, accepted, Typed, members_in, MayGrowIn, are_small, Reads, MayGrowBy, takes_at, Fields, set_with, rows_of, table_of, put_at, one_more, Progress, reached, result_and_then, read_from, read_members, read_item, Entry, Table, entries, named, Members, Naming, row, accepts_at, row_or_unknown, names, HasReadTo, Sets, Puts, as_nested, Fault, Refusal, ◌≡◌, ◌∙◌, ◌<◌, ℕ, arith, Bool, true, false, List, [], ◌∷◌, length, map, replicate, get_or, Some, None, is_some, inl, inr, sym, ap, Result, subst, Ok, Err, OnOk, ◌==◌, set, ◌||◌, and_parts, leb-true, cases_lt, get_or-set_same, get_or-set_other, get_or-replicate, get_or_past, length-replicate, find, result_ok}
 use Rattle.passkey_kinds.specs.declared.fault.Fault.TheVariants.{Refused}
 use Rattle.passkey_kinds.specs.declared.fault.Fault.TheVariants as fault
 use Rattle.passkey_cbor.specs.Item as item
@@ -90,10 +90,10 @@ members_are i ms e = grind (arith, pairs_of-members)
 -- ---- records inside others
 
 pub held_answers : {A P : Type 0} {takes may : Type 0} (t : Fields P) (view : A → P) (wanted : Result P Fault) (r :
-    Result A Fault) → (takes → may) → Reads view takes wanted r → AnswersAs view (result_ok wanted) may (held_as r)
+    Result A Fault) → (takes → may) → Reads view takes wanted r → AnswersAs view (result_ok wanted) may (as_nested r)
 held_answers t view wanted r grows h = grind arith
 
-pub held_ok : {A : Type 0} (Q : Type 0) (r : Result A Fault) → OnOk r Q → OnOk (held_as r) Q
+pub held_ok : {A : Type 0} (Q : Type 0) (r : Result A Fault) → OnOk r Q → OnOk (as_nested r) Q
 held_ok Q r h = grind arith
 
 pub puts_refused : {P : Type 0} (t : Fields P) (n : ℕ) (i : Item) (old new : P) (why : Refusal)

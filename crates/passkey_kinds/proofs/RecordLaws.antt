@@ -1,14 +1,14 @@
 -- Laws of records and messages.
-use Rattle.passkey_kinds.proofs.Common.{front_stands, raised, heads_of, only_one, IsEncodedAt, Grows, Item, no_pairs, pair, members, AtMostOneLeadingItem, IsLeadingItem, PassesLeadingItem, Walk, ahead, Went, members-pairs_of, bytes, ReadsMessage, Begins, GrowsMessage, ReadsHere, AlikeDifferInLength, SameButForLength, AnswersCarryOver, KnowsItems, known, HasNoWrongKey, AnswersAlike, SameAnswers, PassesOverUnknown, KnowsMaps, Onward, Reads, MayGrowAt, Fields, table_of, one_more, Progress, result_and_then, read_from, read_members, read_item, Table, named, Members, Naming, row, unknown, wrong, record_cost, DecodesRecord, Fault, ◌≡◌, ◌∙◌, ◌+◌, ℕ, suc, arith, List, [], ◌∷◌, ◌++◌, length, drop, refl, sym, ap, rules, ◌≤◌, Result, ◌*◌, subst, take, Ok, Err, ◌≢◌, IfErr, All-head, All-tail, take-append-drop, drop-drop, length-drop}
+use Rattle.passkey_kinds.proofs.Common.{front_stands, raised, heads_of, only_one, IsEncodedAt, Grows, Item, no_pairs, pair, members, AtMostOneLeadingItem, IsLeadingItem, PassesLeadingItem, CursorState, ahead, MovesForward, members-pairs_of, bytes, ReadsMessage, Begins, GrowsMessage, ReadsHere, AlikeDifferInLength, SameButForLength, AnswersCarryOver, KnowsItems, known, HasNoWrongKey, AnswersAlike, SameAnswers, PassesOverUnknown, KnowsMaps, Onward, Reads, MayGrowAt, Fields, table_of, one_more, Progress, result_and_then, read_from, read_members, read_item, Table, named, Members, Naming, row, unknown, wrong, record_cost, DecodesRecord, Fault, ◌≡◌, ◌∙◌, ◌+◌, ℕ, suc, arith, List, [], ◌∷◌, ◌++◌, length, drop, refl, sym, ap, rules, ◌≤◌, Result, ◌*◌, subst, take, Ok, Err, ◌≢◌, IfErr, All-head, All-tail, take-append-drop, drop-drop, length-drop}
 use Rattle.passkey_kinds.specs.declared.fault.Fault.TheVariants as fault
 use Rattle.passkey_cbor.specs.Item as item
 
 -- ---- bytes whose leading data items decode alike: the results differ only in the length
 
 -- the result of decoding the leading data item, with its length
-abbrev Tells : {A M : Type 0} → (A → M) → Result M Fault → ℕ → Result (A × ℕ) Fault → Type 0
-Tells view wanted len (Ok r) = (r.1 ≡ len) × (wanted ≡ Ok (view r.0))
-Tells view wanted len (Err e) = wanted ≡ Err e
+abbrev HoldsString : {A M : Type 0} → (A → M) → Result M Fault → ℕ → Result (A × ℕ) Fault → Type 0
+HoldsString view wanted len (Ok r) = (r.1 ≡ len) × (wanted ≡ Ok (view r.0))
+HoldsString view wanted len (Err e) = wanted ≡ Err e
 
 -- ---- if there is a leading data item, any result but `OutOfMemory` is the result of decoding it
 
@@ -18,22 +18,22 @@ holds_at law bytes x len Holds front begun = grind arith
 
 tells : {A M : Type 0} → AtMostOneLeadingItem → (view : A → M) (read : Item → Result M Fault) (bytes : List ℕ)
     (x : Item) (len : ℕ) → IsLeadingItem bytes x len → (r : Result (A × ℕ) Fault) → r ≢ Err fault.OutOfMemory
-    → ReadsMessage view read bytes r → Tells view (read x) len r
+    → ReadsMessage view read bytes r → HoldsString view (read x) len r
 tells law view read bytes x len front r some h = grind (arith, holds_at)
 
 may_tell : {A M : Type 0} (view : A → M) (read : Item → Result M Fault) → KnowsItems read
     → (bytes : List ℕ) (x : Item) (len : ℕ) → IsLeadingItem bytes x len → (r : Result (A × ℕ) Fault)
-    → r ≢ Err fault.OutOfMemory → Tells view (read x) len r → ReadsMessage view read bytes r
+    → r ≢ Err fault.OutOfMemory → HoldsString view (read x) len r → ReadsMessage view read bytes r
 may_tell view read knows bytes x len front r some told = let known = knows x in grind (arith, known)
 
 -- ---- two results of decoding that are the same but for the length
 
 same_told : {A M : Type 0} (view : A → M) (one other : Result M Fault) → one ≡ other → (n m : ℕ)
-    (r s : Result (A × ℕ) Fault) → Tells view one n r → Tells view other m s → SameButForLength view m r s
+    (r s : Result (A × ℕ) Fault) → HoldsString view one n r → HoldsString view other m s → SameButForLength view m r s
 same_told view one other same n m r s t u = grind arith
 
 told_same : {A M : Type 0} (view : A → M) (one other : Result M Fault) → one ≡ other → (n m : ℕ)
-    (r s : Result (A × ℕ) Fault) → Tells view one n r → SameButForLength view m r s → Tells view other m s
+    (r s : Result (A × ℕ) Fault) → HoldsString view one n r → SameButForLength view m r s → HoldsString view other m s
 told_same view one other same n m r s t u = grind arith
 
 carries_over : {A M : Type 0} → AtMostOneLeadingItem → (view : A → M) (read : Item → Result M Fault)
@@ -139,18 +139,18 @@ message_fails view table read bytes i len e f h = grind (arith, may_grow)
 -- ---- at a cursor
 
 -- the cursor skipped the item, and went back
-pub record WentBack (old s a : Walk) : Type 0 where
+pub record WentBack (old s a : CursorState) : Type 0 where
   pub bytes : a.bytes ≡ s.bytes
   pub place : a.place ≡ old.place
   pub heads : a.heads ≡ s.heads
   pub nodes : a.nodes ≡ s.nodes
 
-pub went_back : (old s a : Walk) (k : ℕ) → k ≡ old.place → a ≡ record s { place = k } → WentBack old s a
+pub went_back : (old s a : CursorState) (k : ℕ) → k ≡ old.place → a ≡ record s { place = k } → WentBack old s a
 went_back old s a k at e = grind (arith)
 
 -- A message whose item was skipped and then decoded from the same place.
-module _ {A P : Type 0} (view : A → P) (t : Fields P) (old s a b : Walk) (p : PassesLeadingItem old s)
-    (skipped : Went old s) (back : WentBack old s a) (on : Onward a b) where
+module _ {A P : Type 0} (view : A → P) (t : Fields P) (old s a b : CursorState) (p : PassesLeadingItem old s)
+    (skipped : MovesForward old s) (back : WentBack old s a) (on : Onward a b) where
   item_stands : IsEncodedAt p.item a.bytes a.place (old.place + p.len)
   item_stands = rw (back.bytes, p.bytes, back.place) (front_stands p.item old.bytes old.place p.len p.front)
 
@@ -185,12 +185,12 @@ module _ {A P : Type 0} (view : A → P) (t : Fields P) (old s a b : Walk) (p : 
       → ◌≡◌ {A = Result A Fault} (Err e) (Err fault.OutOfMemory) → GrowsMessage t (ahead old)
   grows_there e h same = let front = p.front in grind (arith, front)
 
-  pub fault_is : (e : Fault) (c : Walk) (k : ℕ) → k ≡ old.place → c ≡ record b { place = k } → Reading (Err e)
+  pub fault_is : (e : Fault) (c : CursorState) (k : ℕ) → k ≡ old.place → c ≡ record b { place = k } → Reading (Err e)
       → ReadsHere view t (suc (record_cost t)) old c (Err e)
   fault_is e c k at same reads =
       let d = reads p.item (old.place + p.len) item_stands in
-      let place : c.place ≡ old.place = ap (λ (w : Walk). w.place) same ∙ at in
-      let bytes : c.bytes ≡ b.bytes = ap (λ (w : Walk). w.bytes) same in
+      let place : c.place ≡ old.place = ap (λ (w : CursorState). w.place) same ∙ at in
+      let bytes : c.bytes ≡ b.bytes = ap (λ (w : CursorState). w.bytes) same in
       let inside : c.place ≤ length c.bytes =
       omega (arith, place, skipped.forward, skipped.within, ap length (bytes ∙ on.same ∙ back.bytes)) in
       let told = message_fails view (table_of t) (read_item t) (ahead old) p.item p.len e p.front d.answers in

@@ -7,10 +7,10 @@ pub use Rattle.passkey_cbor.specs.Encoder.{encoding}
 pub use Rattle.passkey_cbor.specs.Grows.{Grows}
 pub use Rattle.passkey_cbor.specs.Item.{Item, number, items_of, boolean, byte_string, text_string, elements, members, array, null}
 pub use Rattle.passkey_cbor.specs.LeadingItem.{IsLeadingItem, max_depth}
-pub use Rattle.passkey_cbor.specs.Lent.{IsRegion, Tells}
+pub use Rattle.passkey_cbor.specs.Lent.{IsRegion, HoldsString}
 pub use Rattle.passkey_cbor.specs.View.{pair_of, item_of}
 pub use Rattle.passkey_cbor.specs.HeadCount.{CountsHeads, heads_of}
-pub use Rattle.passkey_cbor.specs.Walk.{Walk, LooksOnce}
+pub use Rattle.passkey_cbor.specs.CursorState.{CursorState, LooksOnce}
 pub use Rattle.passkey_cbor.specs.Writable.{IsWritable}
 pub use Rattle.passkey_cbor.specs.Written.{written}
 pub use Rattle.passkey_core.specs.Coherent.{is_coherent}

@@ -71,8 +71,8 @@ list c = record { typed = typed.list c.typed; tree = list_tree c.tree; Fits = Al
 abbrev pub accepted : {M : Type 0} → Coded M → Coded (List M)
 accepted c = record { typed = typed.accepted c.typed; tree = list_tree c.tree; Fits = All c.Fits }
 
-abbrev pub from_bytes : {M : Type 0} → Coded M → Coded (ByteMap M)
-from_bytes c = record {
+abbrev pub byte_map : {M : Type 0} → Coded M → Coded (ByteMap M)
+byte_map c = record {
   typed = typed.map_from_bytes c.typed;
   tree = λ m. byte_map_tree c.tree m;
   Fits = λ m. All (λ e. c.Fits e.1) (fin.entries m);

@@ -1,5 +1,5 @@
 -- Kinds: what data items decode to, and how many data items a decoded value keeps.
-use Rattle.passkey_kinds.specs.Base.{Item, elements, members, text_bytes, Grows, number, text_string, byte_string, array, boolean, null, algorithm_number, algorithm_named, Algorithm, signed_64, whole_64, Walk, data_heads, data_nodes, DataParts, data_parts}
+use Rattle.passkey_kinds.specs.Base.{Item, elements, members, text_bytes, Grows, number, text_string, byte_string, array, boolean, null, algorithm_number, algorithm_named, Algorithm, signed_64, whole_64, CursorState, data_heads, data_nodes, DataParts, data_parts}
 use Rattle.std.specs.Prelude.{ℕ, ◌+◌, ◌-◌, min, List, [], ◌∷◌, ◌≡◌, ◌==◌, pos, nat_lt, length, Bool, IsTrue, if◌then◌else◌, Option, Some, None, option_map, unwrap_or, Result, Ok, Err, ◌*◌, ◌≤◌, map as each_one, ◌^◌, ◌<◌, ◌&&◌}
 use Rattle.passkey_bytes.specs.Map.{ByteMap, put_each}
 use Rattle.passkey_kinds.specs.Blame.{Blame, IsIn}
@@ -189,7 +189,7 @@ aaguid_tree a = byte_string a.0
 -- The cost of decoding these bytes as authenticator data, in a cursor's counts: at most four heads
 -- for each byte and four more, and the data items made as values for the credential public key and
 -- the extensions. The cursor doesn't move.
-pub record CountsData (bytes : List ℕ) (old new : Walk) : Type 0 where
+pub record CountsData (bytes : List ℕ) (old new : CursorState) : Type 0 where
   pub heads : new.heads ≤ old.heads + (4 * length bytes + 4)
   pub nodes : new.nodes ≤ old.nodes + data_nodes bytes
   pub heads_rise : old.heads ≤ new.heads

@@ -1,10 +1,10 @@
 -- Lending a member's byte string out of a message's bytes.
-use Rattle.passkey_kinds.specs.Base.{Item, byte_string, members, IsEncodedAt, Tells, DataParts}
+use Rattle.passkey_kinds.specs.Base.{Item, byte_string, members, IsEncodedAt, HoldsString, DataParts}
 use Rattle.std.specs.Prelude.{◌≡◌, ℕ, ◌==◌, Bool, true, false, if◌then◌else◌, List, [], ◌∷◌, Option, Some, None, Ok}
 use Rattle.std.specs.Option.{option_and_then}
 use Rattle.passkey_cbor.specs.LeadingItem.{IsLeadingItem}
 use Rattle.passkey_cbor.specs.Lent.{Region}
-use Rattle.passkey_cbor.specs.Walk.{Walk}
+use Rattle.passkey_cbor.specs.CursorState.{CursorState}
 use Rattle.passkey_core.specs.DataRead.{read_data}
 use Rattle.passkey_kinds.specs.Message.{Begins}
 use Rattle.passkey_kinds.specs.Record.{Table, Naming, row, wrong, named, Members, Fields, table_of, read_item}
@@ -33,13 +33,13 @@ string_of_row table n (item.map ps) = option_and_then string_in (value_among tab
 string_of_row table n _ = None
 
 -- The cursor is at the wanted value, or there is none.
-abbrev pub FindsValue : Option Item → Walk → Bool → Type 0
+abbrev pub FindsValue : Option Item → CursorState → Bool → Type 0
 FindsValue wanted new true = (i : Item) × (to : ℕ) × ((wanted ≡ Some i) × IsEncodedAt i new.bytes new.place to)
 FindsValue wanted new false = wanted ≡ None
 
 -- The wanted string is lent, or there is none.
 abbrev pub LendsWanted : Option (List ℕ) → Option Region → Type 0
-LendsWanted wanted (Some r) = (s : List ℕ) × ((wanted ≡ Some s) × Tells false r s)
+LendsWanted wanted (Some r) = (s : List ℕ) × ((wanted ≡ Some s) × HoldsString false r s)
 LendsWanted wanted None = wanted ≡ None
 
 -- The byte string of row n in the bytes' leading data item is lent, or there is none.

@@ -4,7 +4,7 @@ use Rattle.std.specs.Prelude.{◌≡◌, ℕ, ◌+◌, ◌-◌, Bool, true, fals
 use Rattle.std.specs.Option.{option_and_then}
 use Rattle.passkey_cbor.specs.HeadEncoding.{IsEncodingOfHead}
 use Rattle.passkey_cbor.specs.LeadingItem.{IsLeadingItem}
-use Rattle.passkey_cbor.specs.Walk.{Walk}
+use Rattle.passkey_cbor.specs.CursorState.{CursorState}
 use Rattle.passkey_cbor.specs.declared.head.Head.TheVariants as head
 use Rattle.passkey_kinds.specs.Lending.{is_row, value_among}
 use Rattle.passkey_kinds.specs.Reader.{members_in}
@@ -59,11 +59,11 @@ IsFollowed table n message front whole =
 -- ---- at a cursor
 
 -- The cursor went to the value of row n, among members that are encoded from its old offset on.
-abbrev pub ValueEnds : Table → ℕ → Members → Walk → Walk → Type 0
+abbrev pub ValueEnds : Table → ℕ → Members → CursorState → CursorState → Type 0
 ValueEnds table n ms old new = (to : ℕ) × ValueLies table n ms old.bytes old.place new.place to
 
 -- The cursor went from a map to the value of row n.
-pub record Entered (table : Table) (n : ℕ) (i : Item) (old new : Walk) : Type 0 where
+pub record Entered (table : Table) (n : ℕ) (i : Item) (old new : CursorState) : Type 0 where
   pub members : Members
   pub is_map : members_in i ≡ Some members
   pub left : Option ℕ
@@ -75,6 +75,6 @@ pub record Entered (table : Table) (n : ℕ) (i : Item) (old new : Walk) : Type 
   pub same : new.bytes ≡ old.bytes
 
 -- The same, or the item has no such value.
-abbrev pub EntersValue : Table → ℕ → Item → Walk → Walk → Bool → Type 0
+abbrev pub EntersValue : Table → ℕ → Item → CursorState → CursorState → Bool → Type 0
 EntersValue table n i old new true = Entered table n i old new
 EntersValue table n i old new false = value_in table n i ≡ None

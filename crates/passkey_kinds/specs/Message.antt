@@ -6,7 +6,7 @@ use Rattle.passkey_cbor.specs.HeadsDecoded.{heads_decoded}
 use Rattle.passkey_cbor.specs.Item.{Item, Pairs, map}
 use Rattle.passkey_cbor.specs.LeadingItem.{IsLeadingItem, HasNoLeadingItem}
 use Rattle.passkey_cbor.specs.Reads.{HasGrowingLeadingItem}
-use Rattle.passkey_cbor.specs.Walk.{Walk, ahead, raised, Went}
+use Rattle.passkey_cbor.specs.CursorState.{CursorState, ahead, raised, MovesForward}
 use Rattle.passkey_kinds.specs.Kind.{Kind, accepted}
 use Rattle.passkey_kinds.specs.Record.{MayGrowAt, Fields, read_item, table_of, rows_of, put_at, read_members, Table, Naming, row, unknown, wrong, named, Members, accepts_at}
 use Rattle.passkey_kinds.specs.RecordReading.{kept_in_map}
@@ -55,7 +55,7 @@ GrowsMessage t bytes = Begins bytes (λ i len. MayGrowAt (table_of t) i)
 -- ---- at a cursor
 
 -- the result, with the number of bytes that the cursor moved over
-abbrev pub with_length : {A : Type 0} → Walk → Walk → Result A Fault → Result (A × ℕ) Fault
+abbrev pub with_length : {A : Type 0} → CursorState → CursorState → Result A Fault → Result (A × ℕ) Fault
 with_length old new (Ok message) = Ok (message, new.place - old.place)
 with_length old new (Err e) = Err e
 
@@ -65,12 +65,12 @@ with_length old new (Err e) = Err e
 -- at most the data items that the table keeps are made as values. Otherwise each head that is decoded
 -- up to the fault is counted, at most one for each byte, and one more, and no values are made. At
 -- least one head is counted. The counts include what was spent, whatever the result.
-pub record ReadsHere {A P : Type 0} (view : A → P) (t : Fields P) (cost : ℕ) (old new : Walk)
+pub record ReadsHere {A P : Type 0} (view : A → P) (t : Fields P) (cost : ℕ) (old new : CursorState)
     (result : Result A Fault) : Type 0 where
   pub reads : ReadsMessage view (read_item t) (ahead old) (with_length old new result)
   pub grows : result ≡ Err fault.OutOfMemory → GrowsMessage t (ahead old)
   pub stays : OnErr result (new.place ≡ old.place)
-  pub went : Went old new
+  pub went : MovesForward old new
   pub least : raised old.heads 1 ≤ new.heads
   pub all_heads : (i : Item) (len : ℕ) → IsLeadingItem (ahead old) i len
       → raised old.heads (heads_of (take len (ahead old))) ≤ new.heads

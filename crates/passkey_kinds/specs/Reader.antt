@@ -1,5 +1,5 @@
 -- Decoding values over a cursor.
-use Rattle.passkey_kinds.specs.Base.{CountsHeads, Item, Walk, signed_64, number, elements, members, Grows, IsEncodedAt, ByteMap, max_depth}
+use Rattle.passkey_kinds.specs.Base.{CountsHeads, Item, CursorState, signed_64, number, elements, members, Grows, IsEncodedAt, ByteMap, max_depth}
 use Rattle.std.proofs.Common.{ℕ, arith, false, refl}
 use Rattle.std.specs.Prelude.{◌≡◌, ℕ, ◌+◌, ◌*◌, ◌≤◌, ◌<◌, Bool, true, length, Option, Result, OnOk, pos, ◌==◌, false, if◌then◌else◌, List, Some, None, negsuc, ℕ, suc, max, nat_lt, IsTrue, false, [], ◌∷◌, ◌++◌, option_map, unwrap_or, ℤ}
 use Rattle.passkey_cbor.specs.EncodedAt.{Lies, Walks, WalksOn}
@@ -20,7 +20,7 @@ use Rattle.passkey_cbor.specs.Item as item
 
 -- The cursor has the same bytes, didn't move back, is still within the bytes if it was before, and
 -- its counts didn't fall.
-pub record Onward (old new : Walk) : Type 0 where
+pub record Onward (old new : CursorState) : Type 0 where
   pub same : new.bytes ≡ old.bytes
   pub within : old.place ≤ length old.bytes → new.place ≤ length new.bytes
   pub forward : old.place ≤ new.place
@@ -28,19 +28,19 @@ pub record Onward (old new : Walk) : Type 0 where
   pub nodes : old.nodes ≤ new.nodes
 
 -- The cursor moved on by whole heads, each with the content of its string, and counted at least as many.
-pub record Further (old new : Walk) : Type 0 where
+pub record Further (old new : CursorState) : Type 0 where
   pub forward : old.place < new.place
   pub counts : CountsHeads old new
 
 -- The cursor is no further than `to`. At most `cost` heads were decoded for each byte up to there,
 -- and at most `kept` data items were made as values.
-pub record Spends (cost kept to : ℕ) (old new : Walk) : Type 0 where
+pub record Spends (cost kept to : ℕ) (old new : CursorState) : Type 0 where
   pub within : new.place ≤ to
   pub heads : new.heads + cost * old.place ≤ old.heads + cost * to
   pub nodes : new.nodes ≤ old.nodes + kept
 
 -- The same with one head to spare, to look for the element.
-pub record SpendsLess (cost kept to : ℕ) (old new : Walk) : Type 0 where
+pub record SpendsLess (cost kept to : ℕ) (old new : CursorState) : Type 0 where
   pub within : new.place ≤ to
   pub heads : suc new.heads + cost * old.place ≤ old.heads + cost * to
   pub nodes : new.nodes ≤ old.nodes + kept
@@ -48,26 +48,26 @@ pub record SpendsLess (cost kept to : ℕ) (old new : Walk) : Type 0 where
 -- Decoding a data item that ends at `to`: the result is as `AnswersAs` says for the wanted value,
 -- decoding has at most this cost, and after a success the cursor is after the item.
 pub record Decodes {A M : Type 0} (view : A → M) (wanted : Option M) (takes : Type 0) (cost kept to : ℕ)
-    (old new : Walk) (result : Result A Refusal) : Type 0 where
+    (old new : CursorState) (result : Result A Refusal) : Type 0 where
   pub answers : AnswersAs view wanted takes result
   pub spends : Spends cost kept to old new
   pub ends : OnOk result (new.place ≡ to)
 
 -- The same, where the wanted value is the one that the kind has for the item.
-abbrev pub ReadsAs : {A M : Type 0} → (A → M) → Typed M → Item → ℕ → Walk → Walk → Result A Refusal → Type 0
+abbrev pub ReadsAs : {A M : Type 0} → (A → M) → Typed M → Item → ℕ → CursorState → CursorState → Result A Refusal → Type 0
 ReadsAs view k i to old new result = Decodes view (k.of i) (MayGrow k.takes i) k.cost (kept_of k.keeps i) to old
     new result
 
 -- Decoding the item, which ends at `to`, has at most this cost; after a success the cursor is at
 -- `to`.
-pub record Costs (cost : ℕ) (keeps : Keeping) (i : Item) (to : ℕ) (old new : Walk) (ok : Bool) : Type 0 where
+pub record Costs (cost : ℕ) (keeps : Keeping) (i : Item) (to : ℕ) (old new : CursorState) (ok : Bool) : Type 0 where
   pub spends : Spends cost (kept_of keeps i) to old new
   pub ends : ok ≡ true → new.place ≡ to
 
 -- ---- looking at a string again
 
 -- The cursor doesn't move, and at most one head is counted for each byte of the string's region.
-pub record LooksAtMost (r : Region) (old new : Walk) : Type 0 where
+pub record LooksAtMost (r : Region) (old new : CursorState) : Type 0 where
   pub heads : new.heads ≤ old.heads + length r.bytes
   pub rises : old.heads ≤ new.heads
   pub place : new.place ≡ old.place
@@ -106,7 +106,7 @@ head_map (head.Map left) = Some left
 head_map _ = None
 
 -- Decoding one head returns the item, if it is an integer or a boolean, and then the cursor is after it.
-pub record ReadsScalar (i : Item) (to : ℕ) (old new : Walk) (found : Item) : Type 0 where
+pub record ReadsScalar (i : Item) (to : ℕ) (old new : CursorState) (found : Item) : Type 0 where
   pub is : found ≡ scalar_in i
   pub spends : Spends 1 0 to old new
   pub ends : (found ≡ item.null → ⊥) → new.place ≡ to
@@ -122,7 +122,7 @@ members_in _ = None
 
 -- Decoding one head returns the length (`Some None` for an indefinite length), and the parts come
 -- next; or it returns `None`, and the item has no such parts.
-abbrev pub OpensAt : {X : Type 0} → (Item → Option (List X)) → (X → Language) → Item → ℕ → Walk
+abbrev pub OpensAt : {X : Type 0} → (Item → Option (List X)) → (X → Language) → Item → ℕ → CursorState
     → Option (Option ℕ) → Type 0
 OpensAt {X} parts Encoded i to new (Some left) =
     (xs : List X) × ((parts i ≡ Some xs) × Lies (Left Encoded left xs) new.bytes new.place to)
@@ -130,7 +130,7 @@ OpensAt parts Encoded i to new None = parts i ≡ None
 
 -- ---- laws about a cursor that doesn't move: it has spent nothing, and `Onward` holds from it to itself
 
-pub costs_nothing : (cost : ℕ) (keeps : Keeping) (i : Item) (to : ℕ) (s : Walk) → IsEncodedAt i s.bytes s.place to
+pub costs_nothing : (cost : ℕ) (keeps : Keeping) (i : Item) (to : ℕ) (s : CursorState) → IsEncodedAt i s.bytes s.place to
     → Costs cost keeps i to s s false
 costs_nothing cost keeps i to s l = record {
   spends = record {
@@ -141,11 +141,11 @@ costs_nothing cost keeps i to s l = record {
   ends = λ e. absurd cc;
 }
 
-pub costs_at_most : (cost : ℕ) (keeps : Keeping) (i : Item) (to : ℕ) (s e : Walk) → Costs cost keeps i to s e true
+pub costs_at_most : (cost : ℕ) (keeps : Keeping) (i : Item) (to : ℕ) (s e : CursorState) → Costs cost keeps i to s e true
     → Costs cost keeps i to s e false
 costs_at_most cost keeps i to s e spent = record { spends = spent.spends; ends = λ h. absurd cc }
 
-pub onward_same : (a : Walk) → Onward a a
+pub onward_same : (a : CursorState) → Onward a a
 onward_same a =
     record { same = refl; within = λ h. h; forward = omega arith; heads = omega arith; nodes = omega arith }
 
@@ -168,11 +168,11 @@ pub record Way (X V : Type 0) : Type 1 where
   pub cost : ℕ
   pub kept : X → ℕ
   pub grows : (i : Item) (xs : List X) → parts i ≡ Some xs → 0 < length xs → Grows i
-  pub walked : (before after : Option ℕ) (old new : Walk) (found : Bool) → WalksOn before after old new found
+  pub walked : (before after : Option ℕ) (old new : CursorState) (found : Bool) → WalksOn before after old new found
       → Walks Encoded before after old new found
 
 -- Decoding and adding an element that ends at `to`, and what was put together before and after it.
-pub record AddsOne {X V : Type 0} (w : Way X V) (x : X) (before after : V) (to : ℕ) (old new : Walk)
+pub record AddsOne {X V : Type 0} (w : Way X V) (x : X) (before after : V) (to : ℕ) (old new : CursorState)
     (result : Result (Unit {0}) Refusal) : Type 0 where
   pub answers : AnswersAs (λ _. after) (w.next x before) (IsTrue w.takes) result
   pub spends : SpendsLess (suc w.cost) (w.kept x) to old new
@@ -185,7 +185,7 @@ kept_parts kept (Some xs) = kept_sum kept xs
 
 -- Decoding an item whose elements are put together from this value on. The first byte costs one head
 -- alone.
-pub record Collects {C X V : Type 0} (value : C → V) (w : Way X V) (v : V) (i : Item) (to : ℕ) (old new : Walk)
+pub record Collects {C X V : Type 0} (value : C → V) (w : Way X V) (v : V) (i : Item) (to : ℕ) (old new : CursorState)
     (result : Result C Refusal) : Type 0 where
   pub decodes : Decodes value (option_and_then (λ xs. collected w.next xs v) (w.parts i)) (MayGrow w.takes i)
       (suc w.cost) (kept_parts w.kept (w.parts i)) to old new result

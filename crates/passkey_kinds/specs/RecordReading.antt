@@ -1,5 +1,5 @@
 -- Decoding a record over a cursor: its cost and its steps.
-use Rattle.passkey_kinds.specs.Base.{Item, members, Walk}
+use Rattle.passkey_kinds.specs.Base.{Item, members, CursorState}
 use Rattle.std.specs.Prelude.{ℕ, ◌+◌, ◌≤◌, max, ◌==◌, Bool, true, false, ◌&&◌, if◌then◌else◌, List, [], ◌∷◌, ◌≡◌, Option, Some, None, Result, Ok, Err, IfSome, OnOk, slice_get}
 use Rattle.passkey_kinds.specs.Blaming.{record_blame}
 use Rattle.passkey_kinds.specs.BlameLaws.{record_inside}
@@ -98,31 +98,31 @@ pub record HasReadTo {P : Type 0} (t : Fields P) (ms rest : Members) (held : P) 
 -- ---- over a cursor
 
 -- Decoding a map key that ends at `to`.
-pub record ReadsKey (wanted : Naming) (to : ℕ) (old new : Walk) (found : Option Named) : Type 0 where
+pub record ReadsKey (wanted : Naming) (to : ℕ) (old new : CursorState) (found : Option Named) : Type 0 where
   pub is : naming_of found ≡ wanted
   pub spends : Spends 3 0 to old new
   pub ends : IfSome found (λ key. new.place ≡ to)
 
 -- Decoding a map key by one of the ways to name a row, at this cost; nothing is said if it names none
 -- in this way.
-pub record FoundRow (wanted : Naming) (cost to : ℕ) (old new : Walk) (found : Named) : Type 0 where
+pub record FoundRow (wanted : Naming) (cost to : ℕ) (old new : CursorState) (found : Named) : Type 0 where
   pub is : named_as found ≡ wanted
   pub spends : Spends cost 0 to old new
   pub ends : new.place ≡ to
 
-abbrev pub FindsRow : Naming → ℕ → ℕ → Walk → Walk → Option Named → Type 0
+abbrev pub FindsRow : Naming → ℕ → ℕ → CursorState → CursorState → Option Named → Type 0
 FindsRow wanted cost to old new (Some found) = FoundRow wanted cost to old new found
 FindsRow wanted cost to old new None = Unit {0}
 
 -- The cursor doesn't move, and counts at most two heads.
-pub record LooksTwice (old new : Walk) : Type 0 where
+pub record LooksTwice (old new : CursorState) : Type 0 where
   pub place : new.place ≡ old.place
   pub heads : new.heads ≤ old.heads + 2
   pub nodes : new.nodes ≡ old.nodes
   pub bytes : new.bytes ≡ old.bytes
 
 -- Decoding a record from a data item that ends at `to`.
-pub record DecodesRecord {A P : Type 0} (view : A → P) (t : Fields P) (i : Item) (to : ℕ) (old new : Walk)
+pub record DecodesRecord {A P : Type 0} (view : A → P) (t : Fields P) (i : Item) (to : ℕ) (old new : CursorState)
     (result : Result A Fault) : Type 0 where
   pub answers : Reads view (MayGrowAt (table_of t) i) (read_item t i) result
   pub spends : Spends (record_cost t) (kept_in_map t i) to old new
@@ -130,23 +130,23 @@ pub record DecodesRecord {A P : Type 0} (view : A → P) (t : Fields P) (i : Ite
 
 -- The same for one member, by what its map key names.
 pub record DecodesMember {P : Type 0} (t : Fields P) (naming : Naming) (m : Item × Item) (before after : Progress P)
-    (to : ℕ) (old new : Walk) (result : Result (Unit {0}) Fault) : Type 0 where
+    (to : ℕ) (old new : CursorState) (result : Result (Unit {0}) Fault) : Type 0 where
   pub answers : Reads (λ _. after) (MayGrowBy (table_of t) naming m.1) (one_more t naming m.1 before) result
   pub spends : SpendsLess (record_cost t) (kept_of (keeps_by t.rows naming) m.1) to old new
   pub ends : OnOk result (new.place ≡ to)
 
 -- The same for the members that follow a map's head.
-pub record DecodesMembers {A P : Type 0} (view : A → P) (t : Fields P) (ms : Members) (to : ℕ) (old new : Walk)
+pub record DecodesMembers {A P : Type 0} (view : A → P) (t : Fields P) (ms : Members) (to : ℕ) (old new : CursorState)
     (result : Result A Fault) : Type 0 where
   pub answers : Reads view (MayGrowIn (table_of t) ms) (read_members t ms) result
   pub spends : Spends (record_cost t) (kept_in t ms) to old new
   pub ends : OnOk result (new.place ≡ to)
 
 -- The result for a record inside another one: each fault but `OutOfMemory` becomes `Refused`.
-abbrev pub held_as : {A : Type 0} → Result A Fault → Result A Refusal
-held_as (Ok x) = Ok x
-held_as (Err fault.OutOfMemory) = Err OutOfMemory
-held_as (Err _) = Err Refused
+abbrev pub as_nested : {A : Type 0} → Result A Fault → Result A Refusal
+as_nested (Ok x) = Ok x
+as_nested (Err fault.OutOfMemory) = Err OutOfMemory
+as_nested (Err _) = Err Refused
 
 -- ---- the code's rows, as entries of a table
 

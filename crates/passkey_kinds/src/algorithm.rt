@@ -1,7 +1,7 @@
 //! COSE algorithm identifiers, decoded from data items and encoded.
 ghost use Rattle.std.specs.Prelude.{◌≡◌, ℕ, List, true};
 ghost use Rattle.std.specs.Option.{option_and_then};
-ghost use Rattle.passkey_kinds.specs.Words.{IsRegion, Tells, algorithm_named, algorithm_number, algorithm_tree, AnswersAs, LooksAtMost, algorithm, whole_64, scalar_of, signed_in};
+ghost use Rattle.passkey_kinds.specs.Words.{IsRegion, HoldsString, algorithm_named, algorithm_number, algorithm_tree, AnswersAs, LooksAtMost, algorithm, whole_64, scalar_of, signed_in};
 
 use crate::head::read_scalar;
 use crate::{Blame, FromCbor, OutOfMemory, Refusal, ToCbor, Wanted};
@@ -38,7 +38,7 @@ fn integer(head: Option<Head>) -> Option<i64>
 #[tactic(auto, using(crate::proofs::Lent::adds_none))]
 fn whole_of(token: &TextToken<'_>, cursor: &mut Cursor<'_>) -> Option<i64>
     requires { IsRegion true token.now }
-    ensures whole { (s : List ℕ) → Tells true token.now s → result ≡ whole_64 s }
+    ensures whole { (s : List ℕ) → HoldsString true token.now s → result ≡ whole_64 s }
     ensures looks { LooksAtMost token.now cursor.old cursor.new }
 {
     // The count of heads never exceeds this bound, where adding to it stops, so adding never lowers

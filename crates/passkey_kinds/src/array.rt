@@ -1,6 +1,6 @@
 //! Arrays of 32 bytes, decoded from data items and encoded as arrays of integers.
 ghost use Rattle.std.specs.Prelude.{◌≡◌, ◌==◌, ℕ, [], OnOk, List, length, map, take, if◌then◌else◌, false, Some, None};
-ghost use Rattle.passkey_kinds.specs.Words.{Item, Tells, IsEncodedAt, Further, Onward, Decodes, LooksAtMost, item_of, byte_string, Answers, AnswersAs, each, AreBytes, numbers_tree, sized_bytes, filling, full, numbers_in, MayGrow};
+ghost use Rattle.passkey_kinds.specs.Words.{Item, HoldsString, IsEncodedAt, Further, Onward, Decodes, LooksAtMost, item_of, byte_string, Answers, AnswersAs, each, AreBytes, numbers_tree, sized_bytes, filling, full, numbers_in, MayGrow};
 ghost use Rattle.passkey_kinds.specs.Kind.{below};
 
 use crate::collect::{Gather, read_elements, read_whole};
@@ -82,7 +82,7 @@ pub(crate) fn filled<const N: usize>(
     token: &BytesToken<'_>,
     cursor: &mut Cursor<'_>,
 ) -> Result<[u8; N], Refusal>
-    ensures answers { (s : List ℕ) → Tells false token.now s
+    ensures answers { (s : List ℕ) → HoldsString false token.now s
         → Answers (λ b. b) (sized_bytes N) (byte_string s) result }
     ensures looks { LooksAtMost token.now cursor.old cursor.new }
 {

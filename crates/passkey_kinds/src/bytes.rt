@@ -1,7 +1,7 @@
 //! Bytes, decoded from byte strings, from arrays of integers, and from text strings in base64url or
 //! base64.
 ghost use Rattle.std.specs.Prelude.{ℕ, List, true};
-ghost use Rattle.passkey_kinds.specs.Words.{IsRegion, Tells, LooksAtMost, text_bytes, text_string, Answers, AnswersAs, bytes, pushing, MayGrow, below};
+ghost use Rattle.passkey_kinds.specs.Words.{IsRegion, HoldsString, LooksAtMost, text_bytes, text_string, Answers, AnswersAs, bytes, pushing, MayGrow, below};
 
 use crate::collect::{Gather, read_elements, read_whole};
 use crate::{Blame, FromCbor, OutOfMemory, Refusal, Source, Wanted};
@@ -20,7 +20,7 @@ fn read_text(alloc: Global, text: &str) -> Result<Bytes, Refusal>
     }
 }
 
-/// Bytes behind one another.
+/// Consecutive bytes.
 impl Gather for Bytes {
     ghost Value = { List ℕ };
 
@@ -42,7 +42,7 @@ fn read_base64(
     cursor: &mut Cursor<'_>,
 ) -> Result<Bytes, Refusal>
     requires { IsRegion true token.now }
-    ensures answers { (s : List ℕ) → Tells true token.now s → Answers (λ b. b) bytes (text_string s) result }
+    ensures answers { (s : List ℕ) → HoldsString true token.now s → Answers (λ b. b) bytes (text_string s) result }
     ensures looks { LooksAtMost token.now cursor.old cursor.new }
 {
     match token.lent() {

@@ -38,9 +38,9 @@ pub fn set_code<T: Code, S: Source>(
 ) -> Result<(), Refusal>
     ensures sets { (i : Item) (to : ℕ) → S.At source.old i to → Sets (λ c. c) (code_of T.of_byte) i field.new result }
     ensures spends { (i : Item) (to : ℕ) → S.At source.old i to
-        → S.Spent 1 nothing (Some (code_of T.of_byte).blame) i to source.old source.new (is_ok result) }
-    ensures onward { S.Goes source.old source.new }
-    ensures further { OnOk result (S.Past source.old source.new) }
+        → S.HasCost 1 nothing (Some (code_of T.of_byte).blame) i to source.old source.new (is_ok result) }
+    ensures onward { S.IsOnward source.old source.new }
+    ensures further { OnOk result (S.IsFurther source.old source.new) }
 {
     let byte: u8 = source.read(alloc)?;
     *field = T::from_byte(byte);
@@ -57,9 +57,9 @@ pub fn set_some_code<T: Code, S: Source>(
     ensures sets { (i : Item) (to : ℕ) → S.At source.old i to
         → Sets (λ c. c) (optional (code_of T.of_byte)) i field.new result }
     ensures spends { (i : Item) (to : ℕ) → S.At source.old i to
-        → S.Spent 2 nothing (Some (code_of T.of_byte).blame) i to source.old source.new (is_ok result) }
-    ensures onward { S.Goes source.old source.new }
-    ensures further { OnOk result (S.Past source.old source.new) }
+        → S.HasCost 2 nothing (Some (code_of T.of_byte).blame) i to source.old source.new (is_ok result) }
+    ensures onward { S.IsOnward source.old source.new }
+    ensures further { OnOk result (S.IsFurther source.old source.new) }
 {
     let byte: Option<u8> = source.read(alloc)?;
     *field = match byte {

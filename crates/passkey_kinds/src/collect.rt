@@ -5,7 +5,7 @@ ghost use Rattle.passkey_cbor.specs.EncodedAt.{Lies};
 ghost use Rattle.passkey_cbor.specs.Inside.{Left};
 
 use crate::head::read_array;
-use crate::{Refusal, Source, Tree};
+use crate::{InMemory, Refusal, Source};
 use passkey_cbor::{Cursor, Value};
 use std::alloc::Global;
 
@@ -54,9 +54,9 @@ pub(crate) trait Gather: Drop {
         ensures adds { (x : Item) (to : ℕ) → S.At source.old x to → AnswersAs (λ _. value self.new)
             (gathering.next x (value self.old)) (IsTrue gathering.takes) result }
         ensures spends { (x : Item) (to : ℕ) → S.At source.old x to
-            → S.Spent gathering.cost gathering.keeps None x to source.old source.new (is_ok result) }
-        ensures onward { S.Goes source.old source.new }
-        ensures further { OnOk result (S.Past source.old source.new) };
+            → S.HasCost gathering.cost gathering.keeps None x to source.old source.new (is_ok result) }
+        ensures onward { S.IsOnward source.old source.new }
+        ensures further { OnOk result (S.IsFurther source.old source.new) };
 }
 
 /// Decodes the elements in memory, and adds them. Returns `Refused` if one of them isn't accepted.
@@ -70,7 +70,7 @@ pub(crate) fn read_elements<G: Gather>(
 {
     let mut into = empty;
     for element in elements {
-        Gather::add(&mut into, alloc, &mut Tree(element))?;
+        Gather::add(&mut into, alloc, &mut InMemory(element))?;
     }
     Ok(into)
 }

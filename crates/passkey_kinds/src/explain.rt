@@ -21,11 +21,11 @@ struct Blaming<'a> {
 impl<'a> Source for Blaming<'a> {
     ghost At = { λ b i to. item_of b.value.now ≡ i };
 
-    ghost Spent = { λ cost keeps blame i to old new ok. IfSome blame (λ of. IfOk new.found (λ b. blame_of b ≡ of i)) };
+    ghost HasCost = { λ cost keeps blame i to old new ok. IfSome blame (λ of. IfOk new.found (λ b. blame_of b ≡ of i)) };
 
-    ghost Goes = { λ old new. Unit {0} };
+    ghost IsOnward = { λ old new. Unit {0} };
 
-    ghost Past = { λ old new. Unit {0} };
+    ghost IsFurther = { λ old new. Unit {0} };
 
     ghost stays = { λ cost keeps blame i to s none at. says_nothing _ none };
 
@@ -40,7 +40,7 @@ impl<'a> Source for Blaming<'a> {
         T::from_value(alloc, self.value)
     }
 
-    fn pass(&mut self) -> bool {
+    fn skip(&mut self) -> bool {
         true
     }
 }

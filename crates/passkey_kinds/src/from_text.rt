@@ -1,6 +1,6 @@
 //! Values that are decoded from text strings, whatever the text.
 ghost use Rattle.std.specs.Prelude.{◌≡◌, ℕ, List, true, IfOk, OnOk};
-ghost use Rattle.passkey_kinds.specs.Words.{Item, IsRegion, Tells, IsEncodedAt, Onward, Further, ReadsAs, LooksAtMost, Answers, text_string, text_as};
+ghost use Rattle.passkey_kinds.specs.Words.{Item, IsRegion, HoldsString, IsEncodedAt, Onward, Further, ReadsAs, LooksAtMost, Answers, text_string, text_as};
 ghost use Rattle.passkey_kinds.specs.Kind.{one_named};
 
 use crate::{OutOfMemory, Refusal};
@@ -24,7 +24,7 @@ fn text_value<T: FromText>(
     cursor: &mut Cursor<'_>,
 ) -> Result<T, Refusal>
     requires { IsRegion true token.now }
-    ensures answers { (s : List ℕ) → Tells true token.now s → Answers (λ v. v)
+    ensures answers { (s : List ℕ) → HoldsString true token.now s → Answers (λ v. v)
         (text_as (one_named (λ s. Some (T.of_text s)))) (text_string s) result }
     ensures looks { LooksAtMost token.now cursor.old cursor.new }
 {

@@ -1,6 +1,6 @@
 //! Map keys at a cursor, and the rows that they name.
 ghost use Rattle.std.specs.Prelude.{◌≡◌, ◌≤◌, ℕ, Bool, List, Option, length, map, take, true, false, IfNone, IfSome};
-ghost use Rattle.passkey_kinds.specs.Words.{Item, LooksOnce, LooksTwice, FindsRow, scalar_in, wrong, IsRegion, Tells, IsEncodedAt, Onward, Further, LooksAtMost, naming_of, named_as, entry_of, names, row_named, ReadsKey, row_at, scalar_of};
+ghost use Rattle.passkey_kinds.specs.Words.{Item, LooksOnce, LooksTwice, FindsRow, scalar_in, wrong, IsRegion, HoldsString, IsEncodedAt, Onward, Further, LooksAtMost, naming_of, named_as, entry_of, names, row_named, ReadsKey, row_at, scalar_of};
 
 use crate::head::read_scalar;
 use crate::rows::{Named, Row, of_number, with_name};
@@ -37,7 +37,7 @@ fn at_index(rows: &[Row], index: Option<usize>) -> Named
 fn with_text(rows: &[Row], token: &TextToken<'_>, cursor: &mut Cursor<'_>) -> Named
     requires region { IsRegion true token.now }
     requires few { length rows.now ≤ 32 }
-    ensures names { (s : List ℕ) → Tells true token.now s → named_as result ≡ row_named (map entry_of rows.now) s }
+    ensures names { (s : List ℕ) → HoldsString true token.now s → named_as result ≡ row_named (map entry_of rows.now) s }
     ensures looks { LooksAtMost token.now cursor.old cursor.new }
 {
     match token.lent() {
@@ -52,7 +52,7 @@ fn with_text(rows: &[Row], token: &TextToken<'_>, cursor: &mut Cursor<'_>) -> Na
 fn with_text_chunks(rows: &[Row], token: &TextToken<'_>, cursor: &mut Cursor<'_>) -> Named
     requires region { IsRegion true token.now }
     requires few { length rows.now ≤ 32 }
-    ensures names { (s : List ℕ) → Tells true token.now s → named_as result ≡ row_named (map entry_of rows.now) s }
+    ensures names { (s : List ℕ) → HoldsString true token.now s → named_as result ≡ row_named (map entry_of rows.now) s }
     ensures looks { LooksAtMost token.now cursor.old cursor.new }
 {
     let names = names_of(rows);
@@ -63,7 +63,7 @@ fn with_text_chunks(rows: &[Row], token: &TextToken<'_>, cursor: &mut Cursor<'_>
 fn with_bytes(rows: &[Row], token: &BytesToken<'_>, cursor: &mut Cursor<'_>) -> Named
     requires region { IsRegion false token.now }
     requires few { length rows.now ≤ 32 }
-    ensures names { (s : List ℕ) → Tells false token.now s → named_as result ≡ row_named (map entry_of rows.now) s }
+    ensures names { (s : List ℕ) → HoldsString false token.now s → named_as result ≡ row_named (map entry_of rows.now) s }
     ensures looks { LooksAtMost token.now cursor.old cursor.new }
 {
     match token.lent() {
@@ -78,7 +78,7 @@ fn with_bytes(rows: &[Row], token: &BytesToken<'_>, cursor: &mut Cursor<'_>) -> 
 fn with_byte_chunks(rows: &[Row], token: &BytesToken<'_>, cursor: &mut Cursor<'_>) -> Named
     requires region { IsRegion false token.now }
     requires few { length rows.now ≤ 32 }
-    ensures names { (s : List ℕ) → Tells false token.now s → named_as result ≡ row_named (map entry_of rows.now) s }
+    ensures names { (s : List ℕ) → HoldsString false token.now s → named_as result ≡ row_named (map entry_of rows.now) s }
     ensures looks { LooksAtMost token.now cursor.old cursor.new }
 {
     let names = names_of(rows);

@@ -55,8 +55,10 @@ pub use read_back::{ReadBack, RecordReadBack};
 pub use record::{Record, record_from_value};
 pub use rows::Row;
 pub use sink::Sink;
-pub use source::{Source, Tree, set, set_accepted, set_accepted_or_none, set_or, set_tolerated};
+pub use source::{
+    InMemory, Source, set, set_accepted, set_accepted_or_none, set_or, set_tolerated,
+};
 pub use table_message::TableMessage;
 pub use table_record::TableRecord;
 pub use to_cbor::{ToCbor, ToCborMap};
-pub use written::Written;
+pub use written::MapBuilder;

@@ -9,7 +9,7 @@ use passkey_bytes::List;
 use passkey_cbor::{Cursor, Value};
 use std::alloc::Global;
 
-/// Elements behind one another.
+/// Consecutive elements.
 impl<T: FromCbor> Gather for List<T> {
     ghost Value = { Items T.Meaning };
 
@@ -57,7 +57,7 @@ impl<T: FromCbor> FromCbor for List<T> {
 #[derive(Debug, Drop)]
 pub struct TolerantList<T>(pub List<T>);
 
-/// Elements behind one another, without those that aren't accepted.
+/// Consecutive elements, without those that aren't accepted.
 impl<T: FromCbor> Gather for TolerantList<T> {
     ghost Value = { Items T.Meaning };
 

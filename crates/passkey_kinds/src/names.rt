@@ -1,6 +1,6 @@
 //! Names of enumerations, decoded from data items.
 ghost use Rattle.std.specs.Prelude.{◌≡◌, ◌≤◌, ℕ, List, length, map, take, true, OnOk};
-ghost use Rattle.passkey_kinds.specs.Words.{Item, IsRegion, Tells, IsEncodedAt, Onward, Further, ReadsAs, LooksAtMost, item_of, Answers, one_named, credential_type_named, transport_named};
+ghost use Rattle.passkey_kinds.specs.Words.{Item, IsRegion, HoldsString, IsEncodedAt, Onward, Further, ReadsAs, LooksAtMost, item_of, Answers, one_named, credential_type_named, transport_named};
 ghost use Rattle.passkey_webauthn.specs.Names.{row_of, texts, value_at, value_in};
 
 use crate::{Blame, FromCbor, OutOfMemory, Refusal, Wanted};
@@ -47,7 +47,7 @@ fn at_index<T: EnumNames>(table: &[(&'static str, T)], index: Option<usize>) -> 
 fn named<T: EnumNames>(token: &TextToken<'_>, cursor: &mut Cursor<'_>) -> Option<T>
     requires region { IsRegion true token.now }
     requires few { length T.table ≤ 16 }
-    ensures named { (s : List ℕ) → Tells true token.now s → result ≡ value_in T.table s }
+    ensures named { (s : List ℕ) → HoldsString true token.now s → result ≡ value_in T.table s }
     ensures looks { LooksAtMost token.now cursor.old cursor.new }
 {
     match token.lent() {

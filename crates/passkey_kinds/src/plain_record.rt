@@ -29,11 +29,11 @@ pub trait PlainRecord: Drop {
     fn put<S: Source>(&mut self, alloc: Global, number: u8, source: &mut S) -> Result<(), Refusal>
         ensures puts { (i : Item) (to : ℕ) → S.At source.old i to
             → Puts (fields_of table) number i self.old self.new result }
-        ensures spends { (i : Item) (to : ℕ) → S.At source.old i to → S.Spent (cost_at (fields_of table).rows number)
+        ensures spends { (i : Item) (to : ℕ) → S.At source.old i to → S.HasCost (cost_at (fields_of table).rows number)
             (keeps_at (fields_of table).rows number) (blame_at (fields_of table).rows number) i to
             source.old source.new (is_ok result) }
-        ensures onward { S.Goes source.old source.new }
-        ensures further { OnOk result (S.Past source.old source.new) };
+        ensures onward { S.IsOnward source.old source.new }
+        ensures further { OnOk result (S.IsFurther source.old source.new) };
 
     /// Puts the members into a sink. Returns `OutOfMemory` if an allocation fails.
     fn put_members<S: Sink>(&self, alloc: Global, sink: &mut S) -> Result<(), OutOfMemory>

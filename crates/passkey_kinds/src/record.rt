@@ -1,6 +1,6 @@
 //! Records, decoded member by member.
 ghost use Rattle.std.specs.Prelude.{◌≡◌, ◌<◌, ◌≤◌, ℕ, Bool, true, false, length, map, replicate, get_or, is_ok, OnOk, set, [], None};
-ghost use Rattle.passkey_kinds.specs.Words.{CountsHeads, Item, max_depth, IsEncodedAt, PairsAreEncodedAt, item_of, pair_of, Onward, Further, MayGrowIn, MayGrowAt, Reads, are_small, named_as, Fields, table_of, read_members, read_item, nested, cost_at, keeps_at, blame_at, Puts, entry_of, Members, entries, named, MayGrowBy, one_more, reached, read_from, cost_by, keeps_by, DecodesMember, DecodesMembers, DecodesRecord, held_as};
+ghost use Rattle.passkey_kinds.specs.Words.{CountsHeads, Item, max_depth, IsEncodedAt, PairsAreEncodedAt, item_of, pair_of, Onward, Further, MayGrowIn, MayGrowAt, Reads, are_small, named_as, Fields, table_of, read_members, read_item, nested, cost_at, keeps_at, blame_at, Puts, entry_of, Members, entries, named, MayGrowBy, one_more, reached, read_from, cost_by, keeps_by, DecodesMember, DecodesMembers, DecodesRecord, as_nested};
 ghost use Rattle.passkey_kinds.specs.Record.{first_missing as missing_of};
 ghost use Rattle.passkey_cbor.specs.EncodedAt.{Lies};
 ghost use Rattle.passkey_cbor.specs.Inside.{PairWithin};
@@ -9,7 +9,7 @@ use crate::explain::explain_record;
 use crate::head::read_map;
 use crate::key::read_key;
 use crate::rows::{Named, row_of};
-use crate::{Blame, Fault, FromCbor, OutOfMemory, Refusal, Row, Source, Tree};
+use crate::{Blame, Fault, FromCbor, InMemory, OutOfMemory, Refusal, Row, Source};
 use passkey_cbor::{Cursor, Value};
 use std::alloc::Global;
 
@@ -50,10 +50,10 @@ pub trait Record: Drop {
     fn put<S: Source>(&mut self, alloc: Global, number: u8, source: &mut S) -> Result<(), Refusal>
         ensures puts { (i : Item) (to : ℕ) → S.At source.old i to
             → Puts fields number i (parts self.old) (parts self.new) result }
-        ensures spends { (i : Item) (to : ℕ) → S.At source.old i to → S.Spent (cost_at fields.rows number)
+        ensures spends { (i : Item) (to : ℕ) → S.At source.old i to → S.HasCost (cost_at fields.rows number)
             (keeps_at fields.rows number) (blame_at fields.rows number) i to source.old source.new (is_ok result) }
-        ensures onward { S.Goes source.old source.new }
-        ensures further { OnOk result (S.Past source.old source.new) };
+        ensures onward { S.IsOnward source.old source.new }
+        ensures further { OnOk result (S.IsFurther source.old source.new) };
 }
 
 /// Decodes the value of the next member, by what its map key names.
@@ -70,15 +70,15 @@ fn read_member<R: Record, S: Source>(
         → S.At source.old value to → Reads (λ _. reached (R.parts read.new) seen.new)
         (MayGrowBy (table_of R.fields) (named_as key) value)
         (one_more R.fields (named_as key) value (reached (R.parts read.old) seen.old)) result }
-    ensures spends { (value : Item) (to : ℕ) → S.At source.old value to → S.Spent (cost_by R.fields.rows
+    ensures spends { (value : Item) (to : ℕ) → S.At source.old value to → S.HasCost (cost_by R.fields.rows
         (named_as key)) (keeps_by R.fields.rows (named_as key)) None value to source.old source.new (is_ok result) }
-    ensures onward { S.Goes source.old source.new }
-    ensures further { OnOk result (S.Past source.old source.new) }
+    ensures onward { S.IsOnward source.old source.new }
+    ensures further { OnOk result (S.IsFurther source.old source.new) }
 {
     let number = match key {
         Named::Row(number) => number,
         Named::Unknown => {
-            if source.pass() {
+            if source.skip() {
                 return Ok(());
             }
             // A well-formed map has a value for every key, so this is only reached for other bytes.
@@ -157,7 +157,7 @@ fn read_pairs<R: Record>(alloc: Global, pairs: &[(Value, Value)]) -> Result<R, F
             Some(key) => key,
             None => return Err(Fault::BadKey),
         };
-        read_member(alloc, &mut read, &mut seen, key, &mut Tree(value))?;
+        read_member(alloc, &mut read, &mut seen, key, &mut InMemory(value))?;
     }
     finish(read, &seen)
 }
@@ -235,8 +235,8 @@ pub(crate) fn read_record<R: Record>(alloc: Global, cursor: &mut Cursor<'_>) -> 
 
 /// Returns the result for a record inside another one: each fault but `OutOfMemory` becomes
 /// `Refused`.
-fn held<R: Record>(read: Result<R, Fault>) -> Result<R, Refusal>
-    ensures { result ≡ held_as read }
+fn nested_result<R: Record>(read: Result<R, Fault>) -> Result<R, Refusal>
+    ensures { result ≡ as_nested read }
 {
     match read {
         Ok(record) => Ok(record),
@@ -256,12 +256,12 @@ impl<R: Record> FromCbor for R {
 
     #[tactic(auto, using(crate::proofs::RecordLaws::may_grow, crate::proofs::Members::held_answers))]
     fn from_value(alloc: Global, value: &Value) -> Result<R, Refusal> {
-        held(record_from_value::<R>(alloc, value))
+        nested_result(record_from_value::<R>(alloc, value))
     }
 
     #[tactic(auto, using(crate::proofs::Members::held_ok))]
     fn read(alloc: Global, cursor: &mut Cursor<'_>) -> Result<R, Refusal> {
-        held(read_record::<R>(alloc, cursor))
+        nested_result(read_record::<R>(alloc, cursor))
     }
 
     fn explain(alloc: Global, value: &Value) -> Result<Blame, OutOfMemory> {

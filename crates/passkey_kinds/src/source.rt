@@ -15,55 +15,55 @@ pub trait Source {
     /// The cost of decoding the item: at most this many heads for each byte, and at most these data
     /// items made as values; and what is to blame for it, if a type was decoded. After a success the
     /// source is after the item.
-    ghost Spent: { ℕ → Keeping → Option (Item → Blame) → Item → ℕ → Self → Self → Bool → Type 0 };
+    ghost HasCost: { ℕ → Keeping → Option (Item → Blame) → Item → ℕ → Self → Self → Bool → Type 0 };
 
     /// The source didn't move back, and its counts didn't fall.
-    ghost Goes: { Self → Self → Type 0 };
+    ghost IsOnward: { Self → Self → Type 0 };
 
     /// The source moved on, and counted at least the heads of what it passed.
-    ghost Past: { Self → Self → Type 0 };
+    ghost IsFurther: { Self → Self → Type 0 };
 
     /// Decodes the item. Returns `Refused` exactly if the type doesn't accept it, and `OutOfMemory`
     /// if an allocation fails, which can only happen for an item that takes memory.
     fn read<T: FromCbor>(&mut self, alloc: Global) -> Result<T, Refusal>
         ensures answers { (i : Item) (to : ℕ) → At self.old i to → Answers T.view T.typed i result }
         ensures spends { (i : Item) (to : ℕ) → At self.old i to
-            → Spent T.typed.cost T.typed.keeps (Some T.typed.blame) i to self.old self.new (is_ok result) }
-        ensures onward { Goes self.old self.new }
-        ensures further { OnOk result (Past self.old self.new) };
+            → HasCost T.typed.cost T.typed.keeps (Some T.typed.blame) i to self.old self.new (is_ok result) }
+        ensures onward { IsOnward self.old self.new }
+        ensures further { OnOk result (IsFurther self.old self.new) };
 
     /// Skips the item, which is the value of an unknown member, and returns whether there is one.
     /// Allocates nothing.
-    fn pass(&mut self) -> bool
+    fn skip(&mut self) -> bool
         ensures passes { (i : Item) (to : ℕ) → At self.old i to → result ≡ true }
-        ensures spends { (i : Item) (to : ℕ) → At self.old i to → Spent 1 nothing None i to self.old self.new true }
-        ensures onward { Goes self.old self.new }
-        ensures further { result ≡ true → Past self.old self.new };
+        ensures spends { (i : Item) (to : ℕ) → At self.old i to → HasCost 1 nothing None i to self.old self.new true }
+        ensures onward { IsOnward self.old self.new }
+        ensures further { result ≡ true → IsFurther self.old self.new };
 
     ghost stays: { (cost : ℕ) (keeps : Keeping) (blame : Option (Item → Blame)) (i : Item) (to : ℕ) (s : Self)
-        → blame ≡ None → At s i to → Spent cost keeps blame i to s s false };
+        → blame ≡ None → At s i to → HasCost cost keeps blame i to s s false };
 
-    ghost still: { (s : Self) → Goes s s };
+    ghost still: { (s : Self) → IsOnward s s };
 
     ghost at_most: { (cost : ℕ) (keeps : Keeping) (blame : Option (Item → Blame)) (i : Item) (to : ℕ) (s e : Self)
-        → Spent cost keeps blame i to s e true → Spent cost keeps blame i to s e false };
+        → HasCost cost keeps blame i to s e true → HasCost cost keeps blame i to s e false };
 
     ghost forget: { (cost : ℕ) (keeps : Keeping) (blame : Option (Item → Blame)) (i : Item) (to : ℕ) (s e : Self)
-        (ok : Bool) → Spent cost keeps blame i to s e ok → Spent cost keeps None i to s e ok };
+        (ok : Bool) → HasCost cost keeps blame i to s e ok → HasCost cost keeps None i to s e ok };
 }
 
 /// A data item in memory.
 #[derive(Drop)]
-pub struct Tree<'a>(pub &'a Value);
+pub struct InMemory<'a>(pub &'a Value);
 
-impl<'a> Source for Tree<'a> {
+impl<'a> Source for InMemory<'a> {
     ghost At = { λ t i to. item_of t.0.now ≡ i };
 
-    ghost Spent = { λ cost keeps blame i to old new ok. Unit {0} };
+    ghost HasCost = { λ cost keeps blame i to old new ok. Unit {0} };
 
-    ghost Goes = { λ old new. Unit {0} };
+    ghost IsOnward = { λ old new. Unit {0} };
 
-    ghost Past = { λ old new. Unit {0} };
+    ghost IsFurther = { λ old new. Unit {0} };
 
     ghost stays = { λ cost keeps blame i to s none at. tt };
 
@@ -77,7 +77,7 @@ impl<'a> Source for Tree<'a> {
         T::from_value(alloc, self.0)
     }
 
-    fn pass(&mut self) -> bool {
+    fn skip(&mut self) -> bool {
         true
     }
 }
@@ -86,11 +86,11 @@ impl<'a> Source for Tree<'a> {
 impl<'a> Source for Cursor<'a> {
     ghost At = { λ w i to. IsEncodedAt i w.bytes w.place to };
 
-    ghost Spent = { λ cost keeps blame i to old new ok. Costs cost keeps i to old new ok };
+    ghost HasCost = { λ cost keeps blame i to old new ok. Costs cost keeps i to old new ok };
 
-    ghost Goes = { Onward };
+    ghost IsOnward = { Onward };
 
-    ghost Past = { Further };
+    ghost IsFurther = { Further };
 
     ghost stays = { λ cost keeps blame i to s none at. costs_nothing cost keeps i to s at };
 
@@ -104,7 +104,7 @@ impl<'a> Source for Cursor<'a> {
         T::read(alloc, self)
     }
 
-    fn pass(&mut self) -> bool {
+    fn skip(&mut self) -> bool {
         self.skip()
     }
 }
@@ -118,9 +118,9 @@ pub fn set<T: FromCbor, S: Source>(
 ) -> Result<(), Refusal>
     ensures sets { (i : Item) (to : ℕ) → S.At source.old i to → Sets T.view T.typed i field.new result }
     ensures spends { (i : Item) (to : ℕ) → S.At source.old i to
-        → S.Spent T.typed.cost T.typed.keeps (Some T.typed.blame) i to source.old source.new (is_ok result) }
-    ensures onward { S.Goes source.old source.new }
-    ensures further { OnOk result (S.Past source.old source.new) }
+        → S.HasCost T.typed.cost T.typed.keeps (Some T.typed.blame) i to source.old source.new (is_ok result) }
+    ensures onward { S.IsOnward source.old source.new }
+    ensures further { OnOk result (S.IsFurther source.old source.new) }
 {
     *field = source.read(alloc)?;
     Ok(())
@@ -136,9 +136,9 @@ pub fn set_tolerated<T: FromCbor, S: Source>(
     ensures sets { (i : Item) (to : ℕ) → S.At source.old i to
         → Sets (option_map T.view) (tolerated T.typed) i field.new result }
     ensures spends { (i : Item) (to : ℕ) → S.At source.old i to
-        → S.Spent (suc T.typed.cost) T.typed.keeps (Some T.typed.blame) i to source.old source.new (is_ok result) }
-    ensures onward { S.Goes source.old source.new }
-    ensures further { OnOk result (S.Past source.old source.new) }
+        → S.HasCost (suc T.typed.cost) T.typed.keeps (Some T.typed.blame) i to source.old source.new (is_ok result) }
+    ensures onward { S.IsOnward source.old source.new }
+    ensures further { OnOk result (S.IsFurther source.old source.new) }
 {
     let read: Tolerated<T> = source.read(alloc)?;
     *field = read.0;
@@ -156,9 +156,9 @@ pub fn set_or<T: FromCbor, S: Source>(
     ensures sets { (i : Item) (to : ℕ) → S.At source.old i to
         → Sets T.view (or_else (T.view default) T.typed) i field.new result }
     ensures spends { (i : Item) (to : ℕ) → S.At source.old i to
-        → S.Spent (suc T.typed.cost) T.typed.keeps (Some T.typed.blame) i to source.old source.new (is_ok result) }
-    ensures onward { S.Goes source.old source.new }
-    ensures further { OnOk result (S.Past source.old source.new) }
+        → S.HasCost (suc T.typed.cost) T.typed.keeps (Some T.typed.blame) i to source.old source.new (is_ok result) }
+    ensures onward { S.IsOnward source.old source.new }
+    ensures further { OnOk result (S.IsFurther source.old source.new) }
 {
     let read: Tolerated<T> = source.read(alloc)?;
     *field = read.0.unwrap_or(default);
@@ -176,10 +176,10 @@ pub fn set_accepted<T: FromCbor, S: Source>(
     ensures sets { (i : Item) (to : ℕ) → S.At source.old i to
         → Sets (λ xs. map T.view xs) (accepted T.typed) i field.new result }
     ensures spends { (i : Item) (to : ℕ) → S.At source.old i to
-        → S.Spent (suc (suc T.typed.cost)) (in_elements T.typed.keeps) (Some (accepted T.typed).blame) i to
+        → S.HasCost (suc (suc T.typed.cost)) (in_elements T.typed.keeps) (Some (accepted T.typed).blame) i to
         source.old source.new (is_ok result) }
-    ensures onward { S.Goes source.old source.new }
-    ensures further { OnOk result (S.Past source.old source.new) }
+    ensures onward { S.IsOnward source.old source.new }
+    ensures further { OnOk result (S.IsFurther source.old source.new) }
 {
     let read: TolerantList<T> = source.read(alloc)?;
     *field = read.0;
@@ -195,10 +195,10 @@ pub fn set_accepted_or_none<T: FromCbor, S: Source>(
     ensures sets { (i : Item) (to : ℕ) → S.At source.old i to
         → Sets (λ o. option_map (λ xs. map T.view xs) o) (tolerated (accepted T.typed)) i field.new result }
     ensures spends { (i : Item) (to : ℕ) → S.At source.old i to
-        → S.Spent (suc (suc (suc T.typed.cost))) (in_elements T.typed.keeps) (Some (accepted T.typed).blame) i to
+        → S.HasCost (suc (suc (suc T.typed.cost))) (in_elements T.typed.keeps) (Some (accepted T.typed).blame) i to
         source.old source.new (is_ok result) }
-    ensures onward { S.Goes source.old source.new }
-    ensures further { OnOk result (S.Past source.old source.new) }
+    ensures onward { S.IsOnward source.old source.new }
+    ensures further { OnOk result (S.IsFurther source.old source.new) }
 {
     let read: Tolerated<TolerantList<T>> = source.read(alloc)?;
     *field = read.0.map(|list| list.0);

@@ -40,11 +40,11 @@ pub trait TableRecord: Drop {
         ensures puts { (i : Item) (to : ℕ) → S.At source.old i to
             → Puts (table_fields numbered table) number i self.old self.new result }
         ensures spends { (i : Item) (to : ℕ) → S.At source.old i to
-            → S.Spent (cost_at (table_fields numbered table).rows number)
+            → S.HasCost (cost_at (table_fields numbered table).rows number)
             (keeps_at (table_fields numbered table).rows number)
             (blame_at (table_fields numbered table).rows number) i to source.old source.new (is_ok result) }
-        ensures onward { S.Goes source.old source.new }
-        ensures further { OnOk result (S.Past source.old source.new) };
+        ensures onward { S.IsOnward source.old source.new }
+        ensures further { OnOk result (S.IsFurther source.old source.new) };
 
     /// Puts the members into a sink. Returns `OutOfMemory` if an allocation fails.
     fn put_members<S: Sink>(&self, alloc: Global, sink: &mut S) -> Result<(), OutOfMemory>

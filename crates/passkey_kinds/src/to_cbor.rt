@@ -4,7 +4,7 @@ ghost use Rattle.passkey_kinds.specs.Words.{AllAccepted, put_all, Place, record_
 ghost use Rattle.passkey_webauthn.specs.Names.{name_in};
 
 use crate::sink::Counted;
-use crate::{Sink, Written};
+use crate::{MapBuilder, Sink};
 use passkey_bytes::{Bytes, Text};
 use passkey_cbor::{Encoder, Integer, Value};
 use passkey_memory::OutOfMemory;
@@ -218,7 +218,7 @@ impl<R: ToCborMap> ToCbor for R {
 
     #[tactic(auto, using(crate::proofs::Sinks::appended_all))]
     fn to_value(&self, alloc: Global) -> Result<Value, OutOfMemory> {
-        let mut members = Written::new(alloc);
+        let mut members = MapBuilder::new(alloc);
         self.put_members(alloc, &mut members)?;
         Ok(members.into_value())
     }

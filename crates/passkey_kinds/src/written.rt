@@ -52,16 +52,16 @@ impl<T: ToCbor> ToCbor for List<T> {
 
 /// The members of a map, in the order in which they are encoded.
 #[derive(Drop)]
-pub struct Written {
+pub struct MapBuilder {
     members: Vec<(Value, Value)>,
 }
 
-impl Written {
+impl MapBuilder {
     /// Returns no members. Allocates nothing.
-    pub fn new(alloc: Global) -> Written
+    pub fn new(alloc: Global) -> MapBuilder
         ensures { members_of result ≡ [] }
     {
-        Written {
+        MapBuilder {
             members: Vec::new(alloc),
         }
     }
@@ -74,7 +74,7 @@ impl Written {
     }
 }
 
-impl Sink for Written {
+impl Sink for MapBuilder {
     ghost State = { Members };
 
     ghost state = { members_of };

@@ -15,7 +15,7 @@ Judges bytes text =
 pub record IsChecked (input text : List ℕ) : Type 0 where
   pub bytes : List ℕ
   pub decoded : decode_of (trimmed input) ≡ Ok bytes
-  pub judged : Judges bytes text
+  pub verdict : Judges bytes text
 
 -- why there is no output; memory may run out for any input
 abbrev pub HasNoBytes : List ℕ → RunFault → Type 0

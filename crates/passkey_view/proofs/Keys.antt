@@ -2,8 +2,8 @@
 use Rattle.std.proofs.Common.{◌≡◌, ◌↔◌, ℕ, ℤ, pos, negsuc, Bool, true, false, List, Option, Some, None, IsTrue, refl, sym, ap, subst, ◌∙◌, arith}
 use Rattle.std.proofs.lemmas.Bool.Decides.{nat_tests}
 use Rattle.passkey_cbor.specs.Item.{Item, number, text_string}
-use Rattle.passkey_cbor.specs.Walk.{Walk}
-use Rattle.passkey_cbor.specs.Lent.{Region, IsNamed, Tells}
+use Rattle.passkey_cbor.specs.CursorState.{CursorState}
+use Rattle.passkey_cbor.specs.Lent.{Region, IsNamed, HoldsString}
 use Rattle.passkey_cbor.specs.Inside.{Inside}
 use Rattle.passkey_cbor.specs.EncodedAt.{Opens}
 use Rattle.passkey_cbor.specs.declared.head.Head.{Head}
@@ -17,13 +17,13 @@ number_inside (head.Simple n) x z t i = grind (arith, nat_tests, i.0)
 number_inside _ x z t i = grind arith
 
 -- a head is that of a number exactly if its data item is the number
-pub is_number : (found : Option Head) (x : Item) (z : ℤ) (to : ℕ) (b : Walk) → Opens x to b found
+pub is_number : (found : Option Head) (x : Item) (z : ℤ) (to : ℕ) (b : CursorState) → Opens x to b found
     → IsHeadOfNumber z found ↔ (x ≡ number z)
 is_number None x z to b o = absurd o
 is_number (Some h) x z to b o = number_inside h x z o.text o.encoded
 
 -- a text string is named exactly if its data item is the name
-pub is_name : (r : Region) (x : Item) (s name : List ℕ) (found : Bool) → x ≡ text_string s → Tells true r s
+pub is_name : (r : Region) (x : Item) (s name : List ℕ) (found : Bool) → x ≡ text_string s → HoldsString true r s
     → IsNamed true r name found → IsTrue found ↔ (x ≡ text_string name)
 is_name r x s name found e t same = let n = same s t in grind (arith, e, n)
 

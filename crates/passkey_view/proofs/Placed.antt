@@ -8,7 +8,7 @@ use Rattle.passkey_cbor.specs.LeadingItem.{IsLeadingItem, max_depth}
 use Rattle.passkey_cbor.specs.Inside.{Within, Inside}
 use Rattle.passkey_cbor.proofs.EncodedFrom.{front_long, front_stands}
 use Rattle.passkey_cbor.specs.HeadEncoding.{IsEncodingOfHead}
-use Rattle.passkey_cbor.specs.Walk.{Walk, ahead, Went}
+use Rattle.passkey_cbor.specs.CursorState.{CursorState, ahead, MovesForward}
 use Rattle.passkey_cbor.specs.Skipped.{PassesLeadingItem}
 use Rattle.passkey_cbor.specs.Found.{PassesHead}
 use Rattle.passkey_cbor.specs.EncodedAt.{Lies, IsEncodedAt, Opens}
@@ -18,15 +18,15 @@ use Rattle.passkey_view.specs.ItemView.{IsViewOf, moved}
 use Rattle.passkey_view.specs.Member.{HasMember}
 
 -- a cursor that skipped an item moved on
-pub skipped_on : (a b : Walk) → PassesLeadingItem a b → a.place < b.place
+pub skipped_on : (a b : CursorState) → PassesLeadingItem a b → a.place < b.place
 skipped_on a b p = omega (arith, p.place, front_long p.item (ahead a) p.len p.front)
 
 -- ---- an item that was passed, and its head after the cursor went back
 
-pub is_inside : (a b : Walk) → Went a b → a.place ≤ length a.bytes
+pub is_inside : (a b : CursorState) → MovesForward a b → a.place ≤ length a.bytes
 is_inside a b w = omega (arith, w.forward, w.within, ap length w.same)
 
-module _ (a s b c : Walk) (h : Head) (p : PassesLeadingItem a s) (same_bytes : b.bytes ≡ a.bytes)
+module _ (a s b c : CursorState) (h : Head) (p : PassesLeadingItem a s) (same_bytes : b.bytes ≡ a.bytes)
     (same_place : b.place ≡ a.place) (q : PassesHead b c h) (inside : a.place ≤ length a.bytes) where
   whole : IsEncodedAt p.item a.bytes a.place s.place
   whole = subst (IsEncodedAt p.item a.bytes a.place) (sym p.place)

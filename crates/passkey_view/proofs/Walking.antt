@@ -8,7 +8,7 @@ use Rattle.passkey_cbor.specs.Item.{Item, map, members, pairs_of}
 use Rattle.passkey_cbor.specs.Languages.{Language, Each}
 use Rattle.passkey_cbor.specs.LeadingItem.{max_depth}
 use Rattle.passkey_cbor.specs.Inside.{Within, PairWithin, Inside}
-use Rattle.passkey_cbor.specs.Walk.{Walk}
+use Rattle.passkey_cbor.specs.CursorState.{CursorState}
 use Rattle.passkey_cbor.specs.EncodedAt.{Lies, IsEncodedAt, PairsAreEncodedAt, Walks, Looks, Passes}
 use Rattle.passkey_cbor.specs.declared.head.Head.{Head}
 use Rattle.passkey_cbor.specs.declared.head.Head.TheVariants as head
@@ -63,7 +63,7 @@ is_false e p = grind arith
 -- ---- from member to member
 
 -- Members without the key were passed, and the others are left.
-pub record LooksOn (key : Item) (ms : Members) (bytes : List ℕ) (from to : ℕ) (left : Option ℕ) (now : Walk) :
+pub record LooksOn (key : Item) (ms : Members) (bytes : List ℕ) (from to : ℕ) (left : Option ℕ) (now : CursorState) :
     Type 0 where
   pub passed : Members
   pub rest : Members
@@ -75,7 +75,7 @@ pub record LooksOn (key : Item) (ms : Members) (bytes : List ℕ) (from to : ℕ
 
 -- The cursor passed the next member's key, and the result says whether it is the one that is looked for.
 pub record PassedNext (key : Item) (ms : Members) (bytes : List ℕ) (from to : ℕ) (left : Option ℕ)
-    (found : Option Bool) (old now : Walk) : Type 0 where
+    (found : Option Bool) (old now : CursorState) : Type 0 where
   pub passed : Members
   pub label : Item
   pub value : Item
@@ -93,7 +93,7 @@ pub record PassedNext (key : Item) (ms : Members) (bytes : List ℕ) (from to : 
   pub reads : PassesKey key label key_end old now found
   pub same : old.bytes ≡ bytes
 
-pub passed_next : (key : Item) (ms : Members) (bytes : List ℕ) (from to : ℕ) {before after : Option ℕ} {a b k : Walk}
+pub passed_next : (key : Item) (ms : Members) (bytes : List ℕ) (from to : ℕ) {before after : Option ℕ} {a b k : CursorState}
     {found : Option Bool} → LooksOn key ms bytes from to before a
     → Walks (PairWithin max_depth) before after a b true → Looks before after a b true
     → ((x : Item) (end : ℕ) → IsEncodedAt x b.bytes b.place end → PassesKey key x end b k found)
@@ -121,7 +121,7 @@ passed_next key ms bytes from to {b = b} e walks looks reads =
       same = same;
     }
 
-module _ {key : Item} {ms : Members} {bytes : List ℕ} {from to : ℕ} {left : Option ℕ} {b k : Walk} where
+module _ {key : Item} {ms : Members} {bytes : List ℕ} {from to : ℕ} {left : Option ℕ} {b k : CursorState} where
   pub not_read : PassedNext key ms bytes from to left None b k → ⊥
   not_read n = n.reads
 
@@ -129,7 +129,7 @@ module _ {key : Item} {ms : Members} {bytes : List ℕ} {from to : ℕ} {left : 
       → IsEncodedAt n.value k.bytes k.place n.value_end
   value_there n = rw (n.reads.bytes, n.same, n.reads.place) n.there
 
-  pub looks_on : {d : Walk} {found : Bool} → found ≡ false
+  pub looks_on : {d : CursorState} {found : Bool} → found ≡ false
       → (n : PassedNext key ms bytes from to left (Some found) b k) → Passes n.value_end k d true
       → LooksOn key ms bytes from to left d
   looks_on {d} is_not n p =
@@ -173,14 +173,14 @@ module _ {key : Item} {ms : Members} {bytes : List ℕ} {from to : ℕ} {left : 
   finds_first is_key n (Some v) h = first_among is_key n v h
 
 -- no member is left
-pub none_has_it : {key : Item} {ms : Members} {bytes : List ℕ} {from to : ℕ} {before : Option ℕ} {a : Walk}
-    (after : Option ℕ) (b : Walk) → LooksOn key ms bytes from to before a
+pub none_has_it : {key : Item} {ms : Members} {bytes : List ℕ} {from to : ℕ} {before : Option ℕ} {a : CursorState}
+    (after : Option ℕ) (b : CursorState) → LooksOn key ms bytes from to before a
     → Walks (PairWithin max_depth) before after a b false → HasNoKey key ms
 none_has_it {key} {to = to} after b e walks =
     let done = walks e.rest to e.ahead in
     subst (HasNoKey key) (sym (e.whole ∙ ap (λ (r : Members). e.passed ++ r) done.0 ∙ append-nil e.passed)) e.none
 
-pub looks_first : (key : Item) (ms : Members) (to : ℕ) (left : Option ℕ) (a : Walk) → PairsAreEncodedAt left ms a.bytes a.place to → LooksOn key ms a.bytes a.place to left a
+pub looks_first : (key : Item) (ms : Members) (to : ℕ) (left : Option ℕ) (a : CursorState) → PairsAreEncodedAt left ms a.bytes a.place to → LooksOn key ms a.bytes a.place to left a
 looks_first key ms to left a l = record {
   passed = [];
   rest = ms;
@@ -212,7 +212,7 @@ found_among key x ms bytes offset view v e (Some w) f = record {
 }
 
 -- what is found behind the head of the map is found in the map
-pub found_in_map : (key x : Item) (left : Option ℕ) (view : ItemView) (found : Option ItemView) (a b : Walk)
+pub found_in_map : (key x : Item) (left : Option ℕ) (view : ItemView) (found : Option ItemView) (a b : CursorState)
     → IsViewOf x a.bytes a.place view → view.head ≡ head.Map left → IsOpened a b view
     → ((ms : Members) (to : ℕ) → PairsAreEncodedAt left ms b.bytes b.place to
     → FindsAmong key ms b.bytes b.place found)

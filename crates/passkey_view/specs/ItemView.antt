@@ -4,7 +4,7 @@ use Rattle.passkey_cbor.specs.Item.{Item}
 use Rattle.passkey_cbor.specs.HeadEncoding.{IsEncodingOfHead}
 use Rattle.passkey_cbor.specs.Inside.{Inside}
 use Rattle.passkey_cbor.specs.EncodedAt.{Lies, IsEncodedAt}
-use Rattle.passkey_cbor.specs.Walk.{Walk}
+use Rattle.passkey_cbor.specs.CursorState.{CursorState}
 use Rattle.passkey_view.specs.declared.item_view.ItemView.{ItemView}
 
 -- The data item is encoded from the offset to the view's end: the view's head, and behind it, from the view's
@@ -27,6 +27,6 @@ abbrev pub moved : ℕ → ItemView → ItemView
 moved n v = record { head = v.head; from = v.from + n; content = v.content + n; end = v.end + n }
 
 -- The cursor is behind the item's head.
-pub record IsOpened (old new : Walk) (v : ItemView) : Type 0 where
+pub record IsOpened (old new : CursorState) (v : ItemView) : Type 0 where
   pub place : new.place ≡ v.content
   pub bytes : new.bytes ≡ old.bytes

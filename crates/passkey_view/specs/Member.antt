@@ -6,7 +6,7 @@ use Rattle.passkey_cbor.specs.Languages.{Each}
 use Rattle.passkey_cbor.specs.LeadingItem.{max_depth}
 use Rattle.passkey_cbor.specs.Inside.{PairWithin}
 use Rattle.passkey_cbor.specs.EncodedAt.{Lies, IsEncodedAt}
-use Rattle.passkey_cbor.specs.Walk.{Walk}
+use Rattle.passkey_cbor.specs.CursorState.{CursorState}
 use Rattle.passkey_cbor.specs.declared.head.Head.{Head}
 use Rattle.passkey_cbor.specs.declared.head.Head.TheVariants as head
 use Rattle.passkey_view.specs.declared.item_view.ItemView.{ItemView}
@@ -24,12 +24,12 @@ IsHeadOfNumber z (Some (head.Negative n)) = negsuc n ≡ z
 IsHeadOfNumber z _ = ⊥
 
 -- The cursor passed the data item, and the result says whether it is the key.
-pub record PassedKey (key x : Item) (to : ℕ) (old new : Walk) (found : Bool) : Type 0 where
+pub record PassedKey (key x : Item) (to : ℕ) (old new : CursorState) (found : Bool) : Type 0 where
   pub is : IsTrue found ↔ (x ≡ key)
   pub place : new.place ≡ to
   pub bytes : new.bytes ≡ old.bytes
 
-abbrev pub PassesKey : Item → Item → ℕ → Walk → Walk → Option Bool → Type 0
+abbrev pub PassesKey : Item → Item → ℕ → CursorState → CursorState → Option Bool → Type 0
 PassesKey key x to old new (Some found) = PassedKey key x to old new found
 PassesKey key x to old new None = ⊥
 

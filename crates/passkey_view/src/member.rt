@@ -2,7 +2,7 @@
 ghost use Rattle.std.specs.Prelude.{◌↔◌, ℕ, IsTrue, MatchOption};
 ghost use Rattle.passkey_cbor.specs.Item.{Item, number, text_string};
 ghost use Rattle.passkey_cbor.specs.EncodedAt.{IsEncodedAt, PairsAreEncodedAt};
-ghost use Rattle.passkey_cbor.specs.Walk.{Went};
+ghost use Rattle.passkey_cbor.specs.CursorState.{MovesForward};
 ghost use Rattle.passkey_view.specs.Member.{Members, IsHeadOfNumber, PassesKey, FindsAmong, HasMember, HasNoMember};
 
 use crate::item_view::{ItemView, moved, view_ahead};
@@ -18,7 +18,7 @@ pub trait Key: Copy {
     fn pass(&self, cursor: &mut Cursor<'_>) -> Option<bool>
         ensures passes { (x : Item) (to : ℕ) → IsEncodedAt x cursor.old.bytes cursor.old.place to
             → PassesKey (item self.now) x to cursor.old cursor.new result }
-        ensures went { Went cursor.old cursor.new };
+        ensures went { MovesForward cursor.old cursor.new };
 }
 
 impl Key for i64 {

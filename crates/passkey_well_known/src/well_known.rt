@@ -1,7 +1,7 @@
 //! The document of related origins, which lists the origins that may use a relying party id.
 ghost use Rattle.std.specs.Prelude.{◌≡◌, IfOk, Some, codes};
 ghost use Rattle.passkey_json.specs.Kind.{list};
-ghost use Rattle.passkey_json.specs.Members.{in_object, judged};
+ghost use Rattle.passkey_json.specs.Members.{in_object, decoded_or_fault};
 ghost use Rattle.passkey_well_known.specs.UrlKind.{url};
 ghost use Rattle.passkey_well_known.specs.WellKnown.{GivesUrls, Standard, origins_in, urls_json, well_known_in, well_known_json};
 ghost use Rattle.serde_json.specs.View.{view};
@@ -24,7 +24,7 @@ pub struct WellKnown {
 /// Decodes the URLs of the member `origins`.
 fn origins_of<P: UrlParser>(alloc: Global, value: &Value) -> Result<Vec<Url>, JsonFault>
     ensures { GivesUrls P.Returns (Some (view value.now)) (λ urls. urls.items)
-        (judged (list url) (codes "origins") (view value.now)) result }
+        (decoded_or_fault (list url) (codes "origins") (view value.now)) result }
 {
     match read_urls::<P>(alloc, value) {
         Ok(urls) => Ok(urls),

@@ -1,6 +1,6 @@
 use Rattle.std.proofs.Common.{◌∙◌, ℕ, ◌+◌, ◌-◌, ◌^◌, min, List, map, ap}
 use Rattle.passkey_cbor.specs.Names.{place_of}
-use Rattle.passkey_cbor.specs.Walk.{Walk, ahead}
+use Rattle.passkey_cbor.specs.CursorState.{CursorState, ahead}
 use Rattle.passkey_cbor.proofs.Joining.{name_of_chunks, looks_for, looks_for_none, whole_region}
 use Rattle.passkey_cbor.proofs.Naming.{place_of-told}
 use Rattle.passkey_cbor.proofs.names.name_of.Goals as goal
@@ -18,7 +18,7 @@ returns-in-None-clause-name c =
 pub returns-in-None-clause-looks : goal.returns-in-None-clause-looks
 returns-in-None-clause-looks c = looks_for c.args.is_text _ c.args.len c.args.region.now c.new-chunks.result
     c.place_of_joined-place.new.chunks c.args.cursor.now c.add_heads.new.self c.in-None.is
-    (ap ahead c.new-chunks.ensures) (ap (λ (w : Walk). w.heads) c.new-chunks.ensures)
+    (ap ahead c.new-chunks.ensures) (ap (λ (w : CursorState). w.heads) c.new-chunks.ensures)
     c.place_of_joined-place.ensures.counted (c.add_heads.ensures.raised ∙ ap (λ (h : ℕ). record c.args.cursor.now
     { heads = min (c.args.cursor.now.heads + h) (2 ^ 128 - 1) }) c.count.ensures.heads)
 

@@ -1,13 +1,13 @@
 use Rattle.std.proofs.Common.{◌≡◌, ◌-◌, true, length, take, drop, ℕ, List, ap, subst, rules}
 use Rattle.std.proofs.lemmas.Str.{IsUtf8-from_is_utf8}
 use Rattle.passkey_cbor.specs.Pieces.{LendsPiece, in_chunks}
-use Rattle.passkey_cbor.specs.Walk.{ahead}
+use Rattle.passkey_cbor.specs.CursorState.{ahead}
 use Rattle.passkey_cbor.proofs.Pieces.{no_step_there, no_chunk_there, at_end, splits_chunk, rest_there}
 use Rattle.passkey_cbor.proofs.text_chunks.first_chunk.Goals as goal
 
 pub unwrap-requires : goal.unwrap-requires
 unwrap-requires c = let text =
-    IsUtf8-from_is_utf8 c.in-Some.piece.now c.in-Some.ensures.reads.stands in search rules
+    IsUtf8-from_is_utf8 c.in-Some.piece.now c.in-Some.ensures.reads.allowed_text in search rules
 
 pub returns-in-Malformed : goal.returns-in-Malformed
 returns-in-Malformed c s t = absurd (no_step_there true c.args.region.now c.new-chunks.result

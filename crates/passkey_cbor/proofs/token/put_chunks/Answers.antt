@@ -1,7 +1,7 @@
 use Rattle.std.proofs.Common.{◌≡◌, ◌+◌, ◌≤◌, ◌∙◌, false, length, take, List, ℕ, None, refl, sym, subst, arith}
 use Rattle.std.proofs.lemmas.List.{length-take}
 use Rattle.passkey_cbor.specs.Inside.{Content}
-use Rattle.passkey_cbor.specs.Walk.{ahead}
+use Rattle.passkey_cbor.specs.CursorState.{ahead}
 use Rattle.passkey_cbor.proofs.Chunks.{collects_start, collects_on, counts_end}
 use Rattle.passkey_cbor.proofs.Filling.{step_there, chunk_there, chunk_fits, all_there, put_behind, put_long, fills}
 use Rattle.passkey_cbor.proofs.token.put_chunks.Goals as goal

@@ -1,6 +1,6 @@
 use Rattle.std.proofs.Common.{◌≡◌, suc, ◌-◌, ◌∷◌, [], get_or, set, refl, arith}
 use Rattle.std.proofs.lemmas.List.{length-set}
-use Rattle.passkey_cbor.specs.Walk.{ahead}
+use Rattle.passkey_cbor.specs.CursorState.{ahead}
 use Rattle.passkey_cbor.specs.Courses.{open_course}
 use Rattle.passkey_cbor.specs.declared.skip.Open.TheVariants as opens
 use Rattle.passkey_cbor.proofs.Advancing.{opened_first, opened_over, opened_failed, opened_end, opened_item, opened_inner, opened_too_deep, opened_called, opened_call_failed}

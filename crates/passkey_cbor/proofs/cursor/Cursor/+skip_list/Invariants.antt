@@ -1,5 +1,5 @@
 use Rattle.std.proofs.Common.{◌≡◌, ◌+◌, ◌*◌, ◌-◌, length}
-use Rattle.passkey_cbor.specs.Walk.{ahead}
+use Rattle.passkey_cbor.specs.CursorState.{ahead}
 use Rattle.passkey_cbor.specs.Courses.{open_course}
 use Rattle.passkey_cbor.proofs.Advancing.{Opened}
 use Rattle.passkey_cbor.proofs.cursor.Cursor.+skip_list.Given as goal

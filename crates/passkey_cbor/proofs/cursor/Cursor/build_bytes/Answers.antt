@@ -1,4 +1,4 @@
-use Rattle.passkey_cbor.specs.Walk.{ahead}
+use Rattle.passkey_cbor.specs.CursorState.{ahead}
 use Rattle.passkey_cbor.proofs.Behind.{string_piece}
 use Rattle.passkey_cbor.proofs.cursor.Cursor.build_bytes.Goals as goal
 

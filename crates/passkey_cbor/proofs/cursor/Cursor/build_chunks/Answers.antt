@@ -7,7 +7,7 @@ pub loop-bytes-init : goal.loop-bytes-init
 loop-bytes-init c = record {
   unknown = refl;
   collects = collects_start c.args.is_text c.args.self.now _ c.requires c.new-bytes.ensures.items;
-  stands = is_allowed-nil c.args.is_text _ c.new-bytes.ensures.items;
+  allowed_text = is_allowed-nil c.args.is_text _ c.new-bytes.ensures.items;
 }
 
 pub returns-in-Malformed-clause-made : goal.returns-in-Malformed-clause-made
@@ -33,8 +33,8 @@ loop-bytes-preserved c = record {
       c.step.new.self c.chunk.new.self c.in-Element.head c.loop-bytes.bytes.items _ c.in-Some.piece.now
       c.loop-bytes.invariant.collects c.in-Element.ensures.reads c.in-Some.ensures.reads
       c.in_ok-extend_from_slice-in-Some.ensures.items;
-  stands = is_allowed-more c.args.is_text c.loop-bytes.bytes.items c.in-Some.piece.now _
-      c.in_ok-extend_from_slice-in-Some.ensures.items c.loop-bytes.invariant.stands c.in-Some.ensures.reads.stands;
+  allowed_text = is_allowed-more c.args.is_text c.loop-bytes.bytes.items c.in-Some.piece.now _
+      c.in_ok-extend_from_slice-in-Some.ensures.items c.loop-bytes.invariant.allowed_text c.in-Some.ensures.reads.allowed_text;
 }
 
 pub returns-in_err-extend_from_slice-in-Some-clause-made : goal.returns-in_err-extend_from_slice-in-Some-clause-made

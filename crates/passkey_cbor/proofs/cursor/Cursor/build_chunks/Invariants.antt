@@ -7,7 +7,7 @@ abbrev pub invariant-loop-bytes : goal.invariant-loop-bytes
 invariant-loop-bytes l = record {
   unknown : l.left ≡ None;
   collects : Collects l.is_text l.left l.fn.self l.self l.bytes.items;
-  stands : is_allowed l.is_text l.bytes.items ≡ true;
+  allowed_text : is_allowed l.is_text l.bytes.items ≡ true;
 }
 
 abbrev pub decreases-loop-bytes : goal.decreases-loop-bytes

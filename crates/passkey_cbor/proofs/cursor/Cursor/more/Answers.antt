@@ -1,5 +1,5 @@
 use Rattle.std.proofs.Common.{◌≡◌, ◌∙◌, ℕ, Some, None, ap, subst, sym, arith}
-use Rattle.passkey_cbor.specs.Walk.{Walk, IsPlaced}
+use Rattle.passkey_cbor.specs.CursorState.{CursorState, IsPlaced}
 use Rattle.passkey_cbor.proofs.Gathering.{went_none, went_head, went_back}
 use Rattle.passkey_cbor.proofs.More.{none_left, some_left, break_there, element_there, no_head_there}
 use Rattle.passkey_cbor.proofs.cursor.Cursor.more.Goals as goal
@@ -7,13 +7,13 @@ use Rattle.passkey_cbor.proofs.cursor.Cursor.more.Goals as goal
 pub returns-then-n-eq0-clause-walks : goal.returns-then-n-eq0-clause-walks
 returns-then-n-eq0-clause-walks c =
     let placed : IsPlaced c.args.self.now.bytes c.args.self.now.place =
-    subst (λ (w : Walk). IsPlaced w.bytes w.place) c.self.view_is c.self.invariant in
+    subst (λ (w : CursorState). IsPlaced w.bytes w.place) c.self.view_is c.self.invariant in
     none_left c.args.left.now c.in-Some.n c.args.self.now placed.within c.in-Some.is c.if-n-eq0.true
 
 pub returns-else-n-eq0-clause-walks : goal.returns-else-n-eq0-clause-walks
 returns-else-n-eq0-clause-walks c =
     let placed : IsPlaced c.args.self.now.bytes c.args.self.now.place =
-    subst (λ (w : Walk). IsPlaced w.bytes w.place) c.self.view_is c.self.invariant in
+    subst (λ (w : CursorState). IsPlaced w.bytes w.place) c.self.view_is c.self.invariant in
     some_left c.args.left.now c.in-Some.n c.args.self.now placed.within c.in-Some.is (omega arith)
 
 pub returns-then-is_break-clause-walks : goal.returns-then-is_break-clause-walks
@@ -28,8 +28,8 @@ returns-in-None-decode-clause-walks c = no_head_there c.args.left.now c.args.sel
 pub returns-else-is_break-clause-walks : goal.returns-else-is_break-clause-walks
 returns-else-is_break-clause-walks c =
     let placed : IsPlaced c.args.self.now.bytes c.args.self.now.place =
-    subst (λ (w : Walk). IsPlaced w.bytes w.place) c.self.view_is c.self.invariant in
-    let place_is : c.self.inside.place ≡ c.args.self.now.place = ap (λ (w : Walk). w.place) c.self.view_is in
+    subst (λ (w : CursorState). IsPlaced w.bytes w.place) c.self.view_is c.self.invariant in
+    let place_is : c.self.inside.place ≡ c.args.self.now.place = ap (λ (w : CursorState). w.place) c.self.view_is in
     element_there c.args.left.now c.args.self.now c.decode.new.self c.go_back.new.self c.in-Some-decode.head
     placed.within c.in-None.is (sym c.if-is_break.ensures) c.in-Some-decode.ensures.reads
     (c.go_back.ensures ∙ ap (λ (p : ℕ). record c.decode.new.self { place = p }) place_is)
@@ -37,13 +37,13 @@ returns-else-is_break-clause-walks c =
 pub returns-then-n-eq0-clause-went : goal.returns-then-n-eq0-clause-went
 returns-then-n-eq0-clause-went c =
     let placed : IsPlaced c.args.self.now.bytes c.args.self.now.place =
-    subst (λ (w : Walk). IsPlaced w.bytes w.place) c.self.view_is c.self.invariant in
+    subst (λ (w : CursorState). IsPlaced w.bytes w.place) c.self.view_is c.self.invariant in
     went_none c.args.self.now placed.within
 
 pub returns-else-n-eq0-clause-went : goal.returns-else-n-eq0-clause-went
 returns-else-n-eq0-clause-went c =
     let placed : IsPlaced c.args.self.now.bytes c.args.self.now.place =
-    subst (λ (w : Walk). IsPlaced w.bytes w.place) c.self.view_is c.self.invariant in
+    subst (λ (w : CursorState). IsPlaced w.bytes w.place) c.self.view_is c.self.invariant in
     went_none c.args.self.now placed.within
 
 pub returns-then-is_break-clause-went : goal.returns-then-is_break-clause-went
@@ -57,8 +57,8 @@ returns-in-None-decode-clause-went c =
 pub returns-else-is_break-clause-went : goal.returns-else-is_break-clause-went
 returns-else-is_break-clause-went c =
     let placed : IsPlaced c.args.self.now.bytes c.args.self.now.place =
-    subst (λ (w : Walk). IsPlaced w.bytes w.place) c.self.view_is c.self.invariant in
-    let place_is : c.self.inside.place ≡ c.args.self.now.place = ap (λ (w : Walk). w.place) c.self.view_is in
+    subst (λ (w : CursorState). IsPlaced w.bytes w.place) c.self.view_is c.self.invariant in
+    let place_is : c.self.inside.place ≡ c.args.self.now.place = ap (λ (w : CursorState). w.place) c.self.view_is in
     went_back c.args.self.now c.decode.new.self c.go_back.new.self placed.within
     (went_head c.args.self.now c.decode.new.self (Some c.in-Some-decode.head) c.in-Some-decode.ensures.reads)
     (c.go_back.ensures ∙ ap (λ (p : ℕ). record c.decode.new.self { place = p }) place_is)

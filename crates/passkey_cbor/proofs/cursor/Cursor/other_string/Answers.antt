@@ -1,5 +1,5 @@
 use Rattle.std.proofs.Common.{◌≡◌, ℕ, List, Bor, Option, ap, subst}
-use Rattle.passkey_cbor.specs.Walk.{Walk, IsPlaced}
+use Rattle.passkey_cbor.specs.CursorState.{CursorState, IsPlaced}
 use Rattle.passkey_cbor.specs.Lent.{Region}
 use Rattle.passkey_cbor.proofs.Gathering.{went_back}
 use Rattle.passkey_cbor.proofs.Lending.{string_missed, string_found, lends}
@@ -10,12 +10,12 @@ region_of r = record { len = r.0; bytes = r.1.now }
 
 pub returns-then-is_none : goal.returns-then-is_none
 returns-then-is_none c =
-    let place_is : c.self.inside.place ≡ c.args.self.now.place = ap (λ (w : Walk). w.place) c.self.view_is in
+    let place_is : c.self.inside.place ≡ c.args.self.now.place = ap (λ (w : CursorState). w.place) c.self.view_is in
     let missed =
     string_missed region_of c.args.is_text c.args.self.now c.string_ahead-found.new.self c.self.inside.place
     c.string_ahead-found.result c.if-is_none.ensures place_is c.string_ahead-found.ensures.reads in
     let placed : IsPlaced c.args.self.now.bytes c.args.self.now.place =
-    subst (λ (w : Walk). IsPlaced w.bytes w.place) c.self.view_is c.self.invariant in
+    subst (λ (w : CursorState). IsPlaced w.bytes w.place) c.self.view_is c.self.invariant in
     let went = went_back c.args.self.now c.string_ahead-found.new.self (record c.string_ahead-found.new.self
     { place = c.self.inside.place }) placed.within c.string_ahead-found.ensures.went
     (ap (λ (p : ℕ). record c.string_ahead-found.new.self { place = p }) place_is) in

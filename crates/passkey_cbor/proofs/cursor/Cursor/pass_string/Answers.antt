@@ -1,6 +1,6 @@
 use Rattle.std.proofs.Common.{◌∙◌, List, ℕ, Option, length, ap, sym}
 use Rattle.std.specs.Prelude.{unwrap_or}
-use Rattle.passkey_cbor.specs.Walk.{ahead}
+use Rattle.passkey_cbor.specs.CursorState.{ahead}
 use Rattle.passkey_cbor.proofs.Behind.{string_piece}
 use Rattle.passkey_cbor.proofs.Binds.{some_is}
 use Rattle.passkey_cbor.proofs.HeadCounts.{spans_as, spans_piece}

@@ -1,7 +1,7 @@
 use Rattle.std.proofs.Common.{◌≡◌, ◌∙◌, ◌+◌, ◌-◌, List, ℕ, Some, take, drop, length, sym, ap, subst, refl, arith}
 use Rattle.std.proofs.lemmas.List.{take_rest}
 use Rattle.passkey_cbor.specs.Leaf.{Headed}
-use Rattle.passkey_cbor.specs.Walk.{Walk, ahead, IsPlaced}
+use Rattle.passkey_cbor.specs.CursorState.{CursorState, ahead, IsPlaced}
 use Rattle.passkey_cbor.proofs.Lending.{short_read}
 use Rattle.passkey_cbor.proofs.cursor.Cursor.short_string.Goals as goal
 
@@ -10,9 +10,9 @@ returns-clause-passes c =
     let s = c.self.inside in
     let h = c.in_ok-head_len in
     let placed : IsPlaced c.args.self.now.bytes c.args.self.now.place =
-    subst (λ (w : Walk). IsPlaced w.bytes w.place) c.self.view_is c.self.invariant in
-    let at : s.place ≡ c.args.self.now.place = ap (λ (w : Walk). w.place) c.self.view_is in
-    let bytes : s.bytes.now ≡ c.args.self.now.bytes = ap (λ (w : Walk). w.bytes) c.self.view_is in
+    subst (λ (w : CursorState). IsPlaced w.bytes w.place) c.self.view_is c.self.invariant in
+    let at : s.place ≡ c.args.self.now.place = ap (λ (w : CursorState). w.place) c.self.view_is in
+    let bytes : s.bytes.now ≡ c.args.self.now.bytes = ap (λ (w : CursorState). w.bytes) c.self.view_is in
     let whole : take (length s.bytes.now - s.place) (drop s.place s.bytes.now) ≡ ahead c.args.self.now =
     take_rest s.bytes.now s.place ∙ rw (at, bytes) refl in
     let rest : take (length s.bytes.now - (s.place + h.head_len)) (drop (s.place + h.head_len) s.bytes.now)

@@ -1,5 +1,5 @@
 use Rattle.std.proofs.Common.{◌≡◌, ◌∙◌, ℕ, ap, subst, sym, true, false}
-use Rattle.passkey_cbor.specs.Walk.{Walk, IsPlaced}
+use Rattle.passkey_cbor.specs.CursorState.{CursorState, IsPlaced}
 use Rattle.passkey_cbor.specs.Skipped.{FindsNoLeadingItem}
 use Rattle.passkey_cbor.specs.EncodedAt.{Passes}
 use Rattle.passkey_cbor.specs.LeadingItem.{max_depth}
@@ -13,19 +13,19 @@ pub returns-then-not-found : goal.returns-then-not-found
 returns-then-not-found c =
     let skips = item_skips max_depth c.args.self.now c.skip_item-found.new.self false c.if-not-found.ensures in
     let missed = front_missed c.args.self.now c.skip_item-found.new.self c.self.inside.place
-    (ap (λ (w : Walk). w.place) c.self.view_is)
+    (ap (λ (w : CursorState). w.place) c.self.view_is)
     (item_counts max_depth c.args.self.now c.skip_item-found.new.self false c.if-not-found.ensures)
     (item_least max_depth c.args.self.now c.skip_item-found.new.self false c.if-not-found.ensures) skips in
     let placed : IsPlaced c.args.self.now.bytes c.args.self.now.place =
-    subst (λ (w : Walk). IsPlaced w.bytes w.place) c.self.view_is c.self.invariant in
-    let place_is : c.self.inside.place ≡ c.args.self.now.place = ap (λ (w : Walk). w.place) c.self.view_is in
+    subst (λ (w : CursorState). IsPlaced w.bytes w.place) c.self.view_is c.self.invariant in
+    let place_is : c.self.inside.place ≡ c.args.self.now.place = ap (λ (w : CursorState). w.place) c.self.view_is in
     let back = c.go_back.ensures ∙ ap (λ (p : ℕ). record c.skip_item-found.new.self { place = p }) place_is in
     let went = went_back c.args.self.now c.skip_item-found.new.self c.go_back.new.self placed.within
     (went_stopped c.args.self.now c.skip_item-found.new.self skips.stopped) back in
     rw (c.if-not-found.true) (record {
-      front = subst (λ (w : Walk). FindsNoLeadingItem c.args.self.now w)
+      front = subst (λ (w : CursorState). FindsNoLeadingItem c.args.self.now w)
           (sym c.go_back.ensures) missed;
-      passes = λ x to l. subst (λ (w : Walk). Passes to c.args.self.now w false)
+      passes = λ x to l. subst (λ (w : CursorState). Passes to c.args.self.now w false)
           (sym c.go_back.ensures) (passes c.args.self.now _ false x to missed l);
       went = went;
     })
@@ -33,7 +33,7 @@ returns-then-not-found c =
 pub returns-else-not-found : goal.returns-else-not-found
 returns-else-not-found c =
     let placed : IsPlaced c.args.self.now.bytes c.args.self.now.place =
-    subst (λ (w : Walk). IsPlaced w.bytes w.place) c.self.view_is c.self.invariant in
+    subst (λ (w : CursorState). IsPlaced w.bytes w.place) c.self.view_is c.self.invariant in
     let skips = item_skips max_depth c.args.self.now c.skip_item-found.new.self true c.if-not-found.ensures in
     let passed = front_passed c.args.self.now c.skip_item-found.new.self placed
     (item_least max_depth c.args.self.now c.skip_item-found.new.self true c.if-not-found.ensures) skips in

@@ -1,13 +1,13 @@
 use Rattle.std.proofs.Common.{◌≡◌, suc, ◌-◌, ap, subst, arith}
 use Rattle.std.proofs.lemmas.List.{take_rest}
-use Rattle.passkey_cbor.specs.Walk.{Walk}
+use Rattle.passkey_cbor.specs.CursorState.{CursorState}
 use Rattle.passkey_cbor.specs.Leaf.{IsLeafLen}
 use Rattle.passkey_cbor.proofs.Advancing.{leaves_none, leaves_one, leaves_passed, leaves_missed}
 use Rattle.passkey_cbor.proofs.cursor.Cursor.skip_leaves.Goals as goal
 
 pub loop-left-init : goal.loop-left-init
 loop-left-init c = leaves_none c.args.most c.self.inside.place c.args.self.now c.requires
-    (ap (λ (w : Walk). w.place) c.self.view_is)
+    (ap (λ (w : CursorState). w.place) c.self.view_is)
 
 pub loop-left-preserved : goal.loop-left-preserved
 loop-left-preserved c =

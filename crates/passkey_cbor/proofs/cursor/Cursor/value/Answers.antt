@@ -1,5 +1,5 @@
 use Rattle.std.proofs.Common.{◌≡◌, ◌∙◌, ap, subst, ℕ}
-use Rattle.passkey_cbor.specs.Walk.{Walk, IsPlaced, Went}
+use Rattle.passkey_cbor.specs.CursorState.{CursorState, IsPlaced, MovesForward}
 use Rattle.passkey_cbor.proofs.Valuing.{value_made, value_fails}
 use Rattle.passkey_cbor.proofs.EncodedFrom.{values}
 use Rattle.passkey_cbor.proofs.Gathering.{went_then, went_back}
@@ -10,13 +10,13 @@ use Rattle.passkey_cbor.proofs.cursor.Cursor.value.Goals as goal
 
 pub returns-in-Ok : goal.returns-in-Ok
 returns-in-Ok c =
-    let place_is : c.self.inside.place ≡ c.args.self.now.place = ap (λ (w : Walk). w.place) c.self.view_is in
+    let place_is : c.self.inside.place ≡ c.args.self.now.place = ap (λ (w : CursorState). w.place) c.self.view_is in
     let front : ReadsValue c.args.self.now c.build_item.new.self (Ok c.in-Ok.value) = value_made c.args.self.now
     c.skip.new.self c.go_back.new.self c.build_item.new.self c.in-Ok.value c.if-not-skip.ensures.front
     (c.go_back.ensures ∙ ap (λ (p : ℕ). record c.skip.new.self { place = p }) place_is) c.in-Ok.ensures in
     let placed : IsPlaced c.args.self.now.bytes c.args.self.now.place =
-    subst (λ (w : Walk). IsPlaced w.bytes w.place) c.self.view_is c.self.invariant in
-    let began : Went c.args.self.now c.go_back.new.self =
+    subst (λ (w : CursorState). IsPlaced w.bytes w.place) c.self.view_is c.self.invariant in
+    let began : MovesForward c.args.self.now c.go_back.new.self =
     went_back c.args.self.now c.skip.new.self c.go_back.new.self placed.within c.if-not-skip.ensures.went
     (c.go_back.ensures ∙ ap (λ (p : ℕ). record c.skip.new.self { place = p }) place_is) in
     record {
@@ -27,15 +27,15 @@ returns-in-Ok c =
 
 pub returns-in-Err : goal.returns-in-Err
 returns-in-Err c =
-    let place_is : c.self.inside.place ≡ c.args.self.now.place = ap (λ (w : Walk). w.place) c.self.view_is in
+    let place_is : c.self.inside.place ≡ c.args.self.now.place = ap (λ (w : CursorState). w.place) c.self.view_is in
     let front : ReadsValue c.args.self.now c.go_back-in-Err.new.self (Err c.in-Err.error) =
     value_fails c.args.self.now c.skip.new.self c.go_back.new.self c.build_item.new.self
     c.go_back-in-Err.new.self c.in-Err.error c.if-not-skip.ensures.front
     (c.go_back.ensures ∙ ap (λ (p : ℕ). record c.skip.new.self { place = p }) place_is) c.in-Err.ensures
     (c.go_back-in-Err.ensures ∙ ap (λ (p : ℕ). record c.build_item.new.self { place = p }) place_is) in
     let placed : IsPlaced c.args.self.now.bytes c.args.self.now.place =
-    subst (λ (w : Walk). IsPlaced w.bytes w.place) c.self.view_is c.self.invariant in
-    let began : Went c.args.self.now c.go_back.new.self =
+    subst (λ (w : CursorState). IsPlaced w.bytes w.place) c.self.view_is c.self.invariant in
+    let began : MovesForward c.args.self.now c.go_back.new.self =
     went_back c.args.self.now c.skip.new.self c.go_back.new.self placed.within c.if-not-skip.ensures.went
     (c.go_back.ensures ∙ ap (λ (p : ℕ). record c.skip.new.self { place = p }) place_is) in
     let went = went_back c.args.self.now c.build_item.new.self c.go_back-in-Err.new.self placed.within

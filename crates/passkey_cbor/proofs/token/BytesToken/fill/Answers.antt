@@ -1,5 +1,5 @@
 use Rattle.std.proofs.Common.{false, ℕ, Option, sym, subst, arith}
-use Rattle.passkey_cbor.specs.Lent.{Region, IsRegion, IsSized, Tells}
+use Rattle.passkey_cbor.specs.Lent.{Region, IsRegion, IsSized, HoldsString}
 use Rattle.passkey_cbor.proofs.token.BytesToken.fill.Goals as goal
 
 pub fill_chunks-requires-clause-region : goal.fill_chunks-requires-clause-region
@@ -15,6 +15,6 @@ fill_chunks-requires-clause-size c s t = omega (
 
 pub returns-in-None-clause-filled : goal.returns-in-None-clause-filled
 returns-in-None-clause-filled c =
-    subst (λ (r : Region). Tells false r c.fill_chunks.new.into) c.self.view_is
-    (subst (λ (len : Option ℕ). Tells false (record { len = len; bytes = c.self.inside.region.now })
+    subst (λ (r : Region). HoldsString false r c.fill_chunks.new.into) c.self.view_is
+    (subst (λ (len : Option ℕ). HoldsString false (record { len = len; bytes = c.self.inside.region.now })
     c.fill_chunks.new.into) (sym c.in-None.is) c.fill_chunks.ensures.filled)

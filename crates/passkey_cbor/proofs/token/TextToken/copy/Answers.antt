@@ -2,4 +2,4 @@ use Rattle.std.proofs.lemmas.Str.{IsUtf8-from_is_utf8}
 use Rattle.passkey_cbor.proofs.token.TextToken.copy.Goals as goal
 
 pub from_utf8_unchecked-requires : goal.from_utf8_unchecked-requires
-from_utf8_unchecked-requires c = IsUtf8-from_is_utf8 _ c.in_ok-bytes.ensures.stands
+from_utf8_unchecked-requires c = IsUtf8-from_is_utf8 _ c.in_ok-bytes.ensures.allowed_text

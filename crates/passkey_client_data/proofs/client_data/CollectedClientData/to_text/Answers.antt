@@ -10,9 +10,9 @@ pub returns : goal.returns
 unfolding client_data_text
 returns g c =
     let written = c.in_ok-extra.ensures in
-    let judged = rw c.deref.ensures.value at c.extra_holds_float.ensures in
+    let decoded_or_fault = rw c.deref.ensures.value at c.extra_holds_float.ensures in
     let extra : members_have_float (members_view c.in_ok-extra.extra.items) ≡ false =
-    sym judged ∙ c.if-extra_holds_float.false in
+    sym decoded_or_fault ∙ c.if-extra_holds_float.false in
     let unknown : members_have_float (members_view c.args.self.now.unknown_keys.entries) ≡ false =
     sym c.unknown_holds_float.ensures ∙ c.if-unknown_holds_float.false in
     let put = rw c.deref-2.ensures.value at c.in_ok-put_extra.ensures in

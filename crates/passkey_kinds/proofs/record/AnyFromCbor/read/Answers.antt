@@ -4,4 +4,4 @@ use Rattle.passkey_kinds.proofs.record.AnyFromCbor.read.Goals as goal
 pub returns-clause-reads : goal.returns-clause-reads
 returns-clause-reads g c = λ i to l.
     let r = c.read_record.ensures.reads i to l in
-    grind (arith, held_answers, may_grow, eased, kept_record, stands_long, held_ok, r, c.held.ensures)
+    grind (arith, held_answers, may_grow, eased, kept_record, stands_long, held_ok, r, c.nested_result.ensures)

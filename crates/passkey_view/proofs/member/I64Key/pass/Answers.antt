@@ -1,12 +1,12 @@
 use Rattle.std.proofs.Common.{◌≡◌, ◌∙◌, ap}
-use Rattle.passkey_cbor.specs.Walk.{Walk}
+use Rattle.passkey_cbor.specs.CursorState.{CursorState}
 use Rattle.passkey_view.proofs.Keys.{is_number, and_then}
 use Rattle.passkey_view.proofs.member.I64Key.pass.Goals as goal
 
 pub returns-then-skip-clause-passes : goal.returns-then-skip-clause-passes
 returns-then-skip-clause-passes c = λ x to l.
-    let bytes = ap (λ (w : Walk). w.bytes) c.go_back.ensures ∙ c.head.ensures.went.same in
-    let place = ap (λ (w : Walk). w.place) c.go_back.ensures ∙ c.place-start.ensures in
+    let bytes = ap (λ (w : CursorState). w.bytes) c.go_back.ensures ∙ c.head.ensures.went.same in
+    let place = ap (λ (w : CursorState). w.place) c.go_back.ensures ∙ c.place-start.ensures in
     let p = c.if-skip.ensures.passes x to (rw (bytes, place) l) in
     record {
       is = and_then c.is_number-found.ensures (is_number _ x c.args.self.now to c.head.new.self (c.head.ensures.opens x to l));
@@ -16,8 +16,8 @@ returns-then-skip-clause-passes c = λ x to l.
 
 pub returns-else-skip-clause-passes : goal.returns-else-skip-clause-passes
 returns-else-skip-clause-passes c = λ x to l.
-    let bytes = ap (λ (w : Walk). w.bytes) c.go_back.ensures ∙ c.head.ensures.went.same in
-    let place = ap (λ (w : Walk). w.place) c.go_back.ensures ∙ c.place-start.ensures in
+    let bytes = ap (λ (w : CursorState). w.bytes) c.go_back.ensures ∙ c.head.ensures.went.same in
+    let place = ap (λ (w : CursorState). w.place) c.go_back.ensures ∙ c.place-start.ensures in
     let p = c.if-skip.ensures.passes x to (rw (bytes, place) l) in
     let lie = p.is_found in
     absurd cc

@@ -2,14 +2,14 @@
 use Rattle.std.specs.Prelude.{◌≡◌, ℕ, zero, suc, ◌+◌, ◌-◌, ◌^◌, ◌≤◌, min, List, length, drop, Option, Some, None}
 use Rattle.passkey_cbor.specs.Bytes.{IsBytes}
 
-pub record Walk : Type 0 where
+pub record CursorState : Type 0 where
   pub bytes : List ℕ
   pub place : ℕ
   pub heads : ℕ
   pub nodes : ℕ
 
 -- the bytes from the cursor's offset on
-abbrev pub ahead : Walk → List ℕ
+abbrev pub ahead : CursorState → List ℕ
 ahead w = drop w.place w.bytes
 
 -- a count raised by k, saturating at 2^128 - 1
@@ -28,11 +28,11 @@ pub record IsPlaced (bytes : List ℕ) (place : ℕ) : Type 0 where
   pub within : place ≤ length bytes
   pub fits : IsBytes bytes
 
-abbrev pub IsInside : Walk → Type 0
+abbrev pub IsInside : CursorState → Type 0
 IsInside w = w.place ≤ length w.bytes
 
 -- The cursor moved forward, and counted at most one head for each byte that it passed, and no data items.
-pub record Passed (old new : Walk) : Type 0 where
+pub record Passed (old new : CursorState) : Type 0 where
   pub same : new.bytes ≡ old.bytes
   pub within : new.place ≤ length new.bytes
   pub forward : old.place ≤ new.place
@@ -41,7 +41,7 @@ pub record Passed (old new : Walk) : Type 0 where
   pub nodes : new.nodes ≡ old.nodes
 
 -- The cursor stopped, and counted at most one head more than there were bytes ahead, and no data items.
-pub record Stopped (old new : Walk) : Type 0 where
+pub record Stopped (old new : CursorState) : Type 0 where
   pub same : new.bytes ≡ old.bytes
   pub within : new.place ≤ length new.bytes
   pub forward : old.place ≤ new.place
@@ -50,7 +50,7 @@ pub record Stopped (old new : Walk) : Type 0 where
   pub nodes : new.nodes ≡ old.nodes
 
 -- The cursor has the same bytes and hasn't moved back, and its counts didn't decrease.
-pub record Went (old new : Walk) : Type 0 where
+pub record MovesForward (old new : CursorState) : Type 0 where
   pub same : new.bytes ≡ old.bytes
   pub within : new.place ≤ length new.bytes
   pub forward : old.place ≤ new.place
@@ -58,7 +58,7 @@ pub record Went (old new : Walk) : Type 0 where
   pub nodes : old.nodes ≤ new.nodes
 
 -- The cursor doesn't move, and counts one head.
-pub record LooksOnce (old new : Walk) : Type 0 where
+pub record LooksOnce (old new : CursorState) : Type 0 where
   pub place : new.place ≡ old.place
   pub heads : new.heads ≡ raised old.heads 1
   pub nodes : new.nodes ≡ old.nodes

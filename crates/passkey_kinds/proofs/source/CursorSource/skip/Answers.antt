@@ -1,5 +1,5 @@
 use Rattle.passkey_kinds.proofs.Steps.{arith, skipped_further}
-use Rattle.passkey_kinds.proofs.source.CursorSource.pass.Goals as goal
+use Rattle.passkey_kinds.proofs.source.CursorSource.skip.Goals as goal
 
 pub returns-clause-passes : goal.returns-clause-passes
 returns-clause-passes c = λ i to l. (c.skip.ensures.passes i to l).is_found
