@@ -66,10 +66,14 @@ is_shallow t r = nat_le (depth (plain_tree t r)) max_depth
 
 -- ---- messages that one table defines, and that keep at most one data item undecoded
 
+-- the nesting levels that a message leaves to its members: `max_depth` without its own
+abbrev pub member_depth : ℕ
+member_depth = 255
+
 -- the item that is kept, if there is one, leaves room for the message's own level
 abbrev pub has_room : Option Item → Bool
 has_room None = true
-has_room (Some i) = nat_le (depth i) 255
+has_room (Some i) = nat_le (depth i) member_depth
 
 abbrev pub kept_list : {P : Type 0} → (P → Option Item) → P → List Item
 kept_list kept r = kept_if_some (λ i. i ∷ []) (kept r)

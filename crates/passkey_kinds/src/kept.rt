@@ -4,7 +4,7 @@ ghost use Rattle.passkey_kinds.specs.Words.{Item, item_of, Grows};
 ghost use Rattle.passkey_kinds.specs.Numbered.{kept_item, not_null, has_room, IsNotNull};
 
 use crate::{Blame, FromCbor, OutOfMemory, Refusal, ToCbor, Wanted};
-use passkey_cbor::{Cursor, Encoder, Value};
+use passkey_cbor::{Cursor, Encoder, MAX_DEPTH, Value};
 use std::alloc::Global;
 use std::marker::Model;
 
@@ -65,12 +65,12 @@ impl Kept {
         Ok(Kept { value })
     }
 
-    /// Returns whether a message has room for the item: it has at most 255 nesting levels.
+    /// Returns whether a message has room for the item: it has fewer than `MAX_DEPTH` nesting levels.
     /// Allocates nothing.
     pub fn has_room(&self) -> bool
         ensures { result ≡ has_room (Some self.now) }
     {
-        self.value.depth() <= 255
+        self.value.depth() <= MAX_DEPTH - 1
     }
 }
 

@@ -1,15 +1,16 @@
 -- certInfo and pubArea, when written, are read back.
-use Rattle.std.specs.Int.{w16, w32, w64, to_be_bytes}
+use Rattle.std.specs.Int.{Width, w16, w32, w64, from_be_bytes, to_be_bytes}
 use Rattle.std.proofs.Common.{◌≡◌, ◌∙◌, ℕ, ◌<◌, ◌^◌, nat_lt, List, [], ◌∷◌, ◌++◌, length, take, drop, Bool, true, false, Option, Some, refl, ap, subst, arith}
 use Rattle.std.proofs.Common.{lit<}
-use Rattle.std.proofs.lemmas.Bool.{leb-true}
+use Rattle.std.proofs.lemmas.Bool.{cases_lt}
+use Rattle.std.proofs.lemmas.Bool.Decides.{nat_tests}
 use Rattle.std.proofs.lemmas.List.{append-nil, length-append}
 use Rattle.std.proofs.lemmas.Nat.{from_be_bytes-to_be_bytes_2, from_be_bytes-to_be_bytes_4, from_be_bytes-to_be_bytes_8}
 use Rattle.std.proofs.Math.Seq.{take-append_seam, drop-append_seam}
 use Rattle.passkey_tpm.proofs.Appended.{cert_info_grouped, rsa_grouped, ecc_grouped, pub_area_grouped}
 use Rattle.passkey_tpm.specs.CertInfo.{CertInfoParts, magic, certify, header_at, yes_no_byte, yes_no_at, clock_info_at, cert_info_at, cert_info_in, cert_info_written, IsClockInfo, IsCertInfo}
 use Rattle.passkey_tpm.specs.HashAlgorithm.{hash_at}
-use Rattle.passkey_tpm.specs.Parts.{◌>>=◌, bytes_at, u8_at, u16_at, u32_at, u64_at, sized_at}
+use Rattle.passkey_tpm.specs.Parts.{◌>>=◌, bytes_at, number_at, u8_at, u16_at, u32_at, u64_at, sized_at}
 use Rattle.passkey_tpm.specs.PubArea.{KeyParts, RsaParts, EccParts, PubAreaParts, curve_id, curve_at, null_at, null_written, rsa_at, ecc_at, key_at, key_type, key_written, pub_area_at, pub_area_in, pub_area_written, IsRsa, IsEcc, IsKey, IsPubArea}
 use Rattle.passkey_tpm.specs.PubArea.KeyParts.{rsa, ecc}
 use Rattle.passkey_tpm.specs.Scheme.{hash_written, rsa_scheme_at, ecc_scheme_at, rsa_scheme_written, ecc_scheme_written}
@@ -31,11 +32,7 @@ after next e = ap (λ o. o >>= next) e
 
 not_short : (n : ℕ) (front rest : List ℕ) → length front ≡ n → nat_lt (length (front ++ rest)) n ≡ false
 not_short n front rest e =
-    (elim (nat_lt (length (front ++ rest)) n) as (λ (b : Bool). nat_lt (length (front ++ rest)) n ≡ b → b ≡ false) [
-      | true ↦ λ h. (let less : length (front ++ rest) < n = leb-true _ _ h in let whole =
-          length-append front rest in absurd (omega (arith, less, whole, e)))
-      | false ↦ λ h. refl
-    ]) refl
+    let whole = length-append front rest in grind (arith, nat_tests, cases_lt, whole, e)
 
 bytes_front : (n : ℕ) (front rest : List ℕ) → length front ≡ n → bytes_at n (front ++ rest) ≡ Some (front, rest)
 bytes_front n front rest e =
@@ -49,20 +46,24 @@ u8_back : (n : ℕ) (rest : List ℕ) → u8_at (n ∷ rest) ≡ Some (n, rest)
 unfolding u8_at
 u8_back n rest = after _ (bytes_front 1 (n ∷ []) rest refl) ∙ refl
 
+-- an unsigned integer of a width that has n bytes
+number_back : (w : Width) (n m : ℕ) (rest : List ℕ) → length (to_be_bytes w m) ≡ n
+    → from_be_bytes w (to_be_bytes w m) ≡ m
+    → number_at w n (to_be_bytes w m ++ rest) ≡ Some (m, rest)
+number_back w n m rest sized same =
+    after _ (bytes_front n (to_be_bytes w m) rest sized) ∙ ap (λ (k : ℕ). Some (k, rest)) same
+
 u16_back : (n : ℕ) (rest : List ℕ) → n < 2 ^ 16 → u16_at (to_be_bytes w16 n ++ rest) ≡ Some (n, rest)
 unfolding u16_at
-u16_back n rest fits =
-    after _ (bytes_front 2 (to_be_bytes w16 n) rest refl) ∙ ap (λ (m : ℕ). Some (m, rest)) (from_be_bytes-to_be_bytes_2 n fits)
+u16_back n rest fits = number_back w16 2 n rest refl (from_be_bytes-to_be_bytes_2 n fits)
 
 u32_back : (n : ℕ) (rest : List ℕ) → n < 2 ^ 32 → u32_at (to_be_bytes w32 n ++ rest) ≡ Some (n, rest)
 unfolding u32_at
-u32_back n rest fits =
-    after _ (bytes_front 4 (to_be_bytes w32 n) rest refl) ∙ ap (λ (m : ℕ). Some (m, rest)) (from_be_bytes-to_be_bytes_4 n fits)
+u32_back n rest fits = number_back w32 4 n rest refl (from_be_bytes-to_be_bytes_4 n fits)
 
 u64_back : (n : ℕ) (rest : List ℕ) → n < 2 ^ 64 → u64_at (to_be_bytes w64 n ++ rest) ≡ Some (n, rest)
 unfolding u64_at
-u64_back n rest fits =
-    after _ (bytes_front 8 (to_be_bytes w64 n) rest refl) ∙ ap (λ (m : ℕ). Some (m, rest)) (from_be_bytes-to_be_bytes_8 n fits)
+u64_back n rest fits = number_back w64 8 n rest refl (from_be_bytes-to_be_bytes_8 n fits)
 
 -- a byte string's length in 2 bytes
 abbrev size_of : List ℕ → List ℕ

@@ -1,5 +1,5 @@
 -- certInfo and pubArea, when read, are written as the same bytes.
-use Rattle.std.specs.Int.{w8, w16, w32, w64, from_be_bytes, to_be_bytes}
+use Rattle.std.specs.Int.{Width, w8, w16, w32, w64, from_be_bytes, to_be_bytes}
 use Rattle.std.proofs.Common.{◌≡◌, ◌∙◌, ◌==◌, ◌&&◌, ◌+◌, ◌≤◌, ℕ, ◌<◌, nat_lt, List, [], ◌∷◌, ◌++◌, length, slice_index, take, drop, Bool, true, false, if◌then◌else◌, ◌⊎◌, inl, inr, Option, Some, None, refl, sym, ap, subst, arith, lit<}
 use Rattle.std.proofs.Math.ListN.{get_or-append}
 use Rattle.std.proofs.lemmas.Bool.{and_parts, cases_lt, eqb-true, leb-true}
@@ -9,7 +9,7 @@ use Rattle.std.proofs.lemmas.Nat.{be_bytes_2, be_bytes_4, be_bytes_8}
 use Rattle.passkey_tpm.specs.CertInfo.{CertInfoParts, magic, certify, header_at, yes_no, yes_no_byte, yes_no_at, clock_info_at, cert_info_at, clock_info_written, cert_info_written}
 use Rattle.passkey_tpm.specs.HashAlgorithm.{hash_algorithm_of, hash_algorithm_id, hash_at}
 use Rattle.passkey_tpm.specs.Laws.{CertInfoIsWrittenBack, PubAreaIsWrittenBack}
-use Rattle.passkey_tpm.specs.Parts.{IsBytes, ◌>>=◌, bytes_at, u8_at, u16_at, u32_at, u64_at, sized_at, sized_written, whole_only}
+use Rattle.passkey_tpm.specs.Parts.{IsBytes, ◌>>=◌, bytes_at, number_at, u8_at, u16_at, u32_at, u64_at, sized_at, sized_written, whole_only}
 use Rattle.passkey_tpm.specs.PubArea.{KeyParts, RsaParts, EccParts, PubAreaParts, curve_of, curve_id, curve_at, null_at, null_written, rsa_at, ecc_at, key_at, key_type, key_written, rsa_written, ecc_written, pub_area_at, pub_area_written}
 use Rattle.passkey_tpm.specs.PubArea.KeyParts.{rsa, ecc}
 use Rattle.passkey_tpm.specs.Scheme.{hash_written, hashed, rsa_scheme_at, ecc_scheme_at, rsa_scheme_written, ecc_scheme_written}
@@ -114,38 +114,34 @@ u8_taken bytes n rest fits e =
     subst (λ (r : List ℕ). Taken bytes (n ∷ []) r) behind
     (respelled (one_byte w.x.0 f.sized ∙ ap (λ (m : ℕ). m ∷ []) number) f.taken)
 
+-- an unsigned integer of a width that has n bytes, whose bytes are those that it was decoded from
+number_taken : (w : Width) (n : ℕ)
+    → ((front : List ℕ) (m : ℕ) → length front ≡ n → IsBytes front → m ≡ from_be_bytes w front → to_be_bytes w m ≡ front)
+    → (bytes : List ℕ) (m : ℕ) (rest : List ℕ) → IsBytes bytes
+    → number_at w n bytes ≡ Some (m, rest)
+    → Taken bytes (to_be_bytes w m) rest
+number_taken w n again bytes m rest fits e =
+    let r = went (bytes_at n bytes) _ (m, rest) e in
+    let f = bytes_taken n bytes r.x.0 r.x.1 fits r.was in
+    let number : m ≡ from_be_bytes w r.x.0 = sym (pair_is r.gives).0 in
+    let behind : r.x.1 ≡ rest = (pair_is r.gives).1 in
+    subst (λ (l : List ℕ). Taken bytes (to_be_bytes w m) l) behind
+    (respelled (sym (again r.x.0 m f.sized f.fits number)) f.taken)
+
 u16_taken : (bytes : List ℕ) (n : ℕ) (rest : List ℕ) → IsBytes bytes → u16_at bytes ≡ Some (n, rest)
     → Taken bytes (to_be_bytes w16 n) rest
 unfolding u16_at
-u16_taken bytes n rest fits e =
-    let w = went (bytes_at 2 bytes) _ (n, rest) e in
-    let f = bytes_taken 2 bytes w.x.0 w.x.1 fits w.was in
-    let number : n ≡ from_be_bytes w16 w.x.0 = sym (pair_is w.gives).0 in
-    let behind : w.x.1 ≡ rest = (pair_is w.gives).1 in
-    subst (λ (r : List ℕ). Taken bytes (to_be_bytes w16 n) r) behind
-    (respelled (sym (be_bytes_2 w.x.0 n f.sized f.fits number)) f.taken)
+u16_taken = number_taken w16 2 be_bytes_2
 
 u32_taken : (bytes : List ℕ) (n : ℕ) (rest : List ℕ) → IsBytes bytes → u32_at bytes ≡ Some (n, rest)
     → Taken bytes (to_be_bytes w32 n) rest
 unfolding u32_at
-u32_taken bytes n rest fits e =
-    let w = went (bytes_at 4 bytes) _ (n, rest) e in
-    let f = bytes_taken 4 bytes w.x.0 w.x.1 fits w.was in
-    let number : n ≡ from_be_bytes w32 w.x.0 = sym (pair_is w.gives).0 in
-    let behind : w.x.1 ≡ rest = (pair_is w.gives).1 in
-    subst (λ (r : List ℕ). Taken bytes (to_be_bytes w32 n) r) behind
-    (respelled (sym (be_bytes_4 w.x.0 n f.sized f.fits number)) f.taken)
+u32_taken = number_taken w32 4 be_bytes_4
 
 u64_taken : (bytes : List ℕ) (n : ℕ) (rest : List ℕ) → IsBytes bytes → u64_at bytes ≡ Some (n, rest)
     → Taken bytes (to_be_bytes w64 n) rest
 unfolding u64_at
-u64_taken bytes n rest fits e =
-    let w = went (bytes_at 8 bytes) _ (n, rest) e in
-    let f = bytes_taken 8 bytes w.x.0 w.x.1 fits w.was in
-    let number : n ≡ from_be_bytes w64 w.x.0 = sym (pair_is w.gives).0 in
-    let behind : w.x.1 ≡ rest = (pair_is w.gives).1 in
-    subst (λ (r : List ℕ). Taken bytes (to_be_bytes w64 n) r) behind
-    (respelled (sym (be_bytes_8 w.x.0 n f.sized f.fits number)) f.taken)
+u64_taken = number_taken w64 8 be_bytes_8
 
 sized_taken : (bytes s rest : List ℕ) → IsBytes bytes → sized_at bytes ≡ Some (s, rest)
     → Taken bytes (sized_written s) rest

@@ -1,10 +1,12 @@
 //! Extension inputs of authenticatorGetAssertion requests.
 ghost use Rattle.std.specs.Prelude.{nat_le, ◌≡◌, true};
+ghost use Rattle.passkey_kinds.specs.Numbered.{member_depth};
 ghost use Rattle.passkey_kinds.specs.Words.{places_of, depth};
 ghost use Rattle.passkey_core.specs.SignedOutputs.{where_some};
 ghost use Rattle.passkey_extensions.specs.GetExtensions.{GetExtensionsParts, get_extensions_fields, get_extensions_parts, no_get_extensions, has_get_extension, GetExtensionsFit, get_extensions_members, get_extensions_tree};
 
 use crate::{AuthenticatorPrfInputs, HmacGetSecretInput};
+use passkey_cbor::MAX_DEPTH;
 use passkey_kinds::{Record, RecordReadBack, Refusal, Row, Sink, Source, ToCborMap, set_tolerated};
 use passkey_memory::OutOfMemory;
 use std::alloc::Global;
@@ -31,13 +33,13 @@ impl ExtensionInputs {
         }
     }
 
-    /// Returns whether the encoding of the inputs has at most 255 nesting levels, so that a message
-    /// with them has at most 256. Allocates nothing.
+    /// Returns whether the encoding of the inputs has fewer than `MAX_DEPTH` nesting levels, so that a
+    /// message with them has at most as many. Allocates nothing.
     pub fn fits_in_message(&self) -> bool
-        ensures { result ≡ nat_le (depth (get_extensions_tree (get_extensions_parts self.now))) 255 }
+        ensures { result ≡ nat_le (depth (get_extensions_tree (get_extensions_parts self.now))) member_depth }
     {
         match &self.hmac_secret {
-            Some(input) => input.is_within(254),
+            Some(input) => input.is_within(MAX_DEPTH - 2),
             None => true,
         }
     }
