@@ -1,0 +1,105 @@
+-- The data items of an array or a map, one after the other.
+use Rattle.std.proofs.Common.{◌≡◌, ℕ, ◌+◌, ◌≤◌, Bool, true, false, List, [], ◌∷◌, ◌++◌, length, drop, Option, Some, None, refl, sym, ap, subst, arith}
+use Rattle.std.proofs.lemmas.Bool.Decides.{nat_tests}
+use Rattle.std.proofs.lemmas.List.{length-append}
+use Rattle.passkey_cbor.specs.Item.{Item}
+use Rattle.passkey_cbor.specs.Languages.{Each}
+use Rattle.passkey_cbor.specs.Heads.{break}
+use Rattle.passkey_cbor.specs.Inside.{Within}
+use Rattle.passkey_malformed.specs.Stops.{Begins, ItemLeads, ListLeads, EndsList, Stops, StopsInList, items_in, wants, break_in}
+use Rattle.passkey_malformed.specs.declared.why.Why.{Why}
+use Rattle.passkey_malformed.proofs.Lists.{none_yet, one_more, items_long}
+
+-- There are no more than the list has.
+abbrev pub IsAmong : Bool → Option ℕ → ℕ → Type 0
+IsAmong is_map (Some m) n = n ≤ items_in is_map m
+IsAmong is_map None n = Unit {0}
+
+-- Whole data items were passed.
+pub record ItemsGo (is_map : Bool) (len : Option ℕ) (levels : ℕ) (bytes : List ℕ) (passed : ℕ) (here : List ℕ) :
+    Type 0 where
+  pub items : List Item
+  pub count : length items ≡ passed
+  pub before : Begins (Each (Within levels) items) bytes here
+  pub among : IsAmong is_map len passed
+
+among_none : (is_map : Bool) (len : Option ℕ) → IsAmong is_map len 0
+among_none is_map (Some m) = omega arith
+among_none is_map None = tt
+
+among_more : (is_map : Bool) (len : Option ℕ) (n : ℕ) (here : List ℕ) → wants is_map len n here ≡ true
+    → IsAmong is_map len (n + 1)
+among_more is_map (Some m) n here w = grind (arith, nat_tests)
+among_more is_map None n here w = tt
+
+pub items_start : (is_map : Bool) (len : Option ℕ) (levels : ℕ) (bytes : List ℕ)
+    → ItemsGo is_map len levels bytes 0 bytes
+items_start is_map len levels bytes = record {
+  items = [];
+  count = refl;
+  before = none_yet (Within levels) bytes;
+  among = among_none is_map len;
+}
+
+module _ {is_map : Bool} {len : Option ℕ} {levels : ℕ} {bytes : List ℕ} {passed : ℕ} {here : List ℕ}
+    (go : ItemsGo is_map len levels bytes passed here) where
+  pub items_go : (next : List ℕ) → wants is_map len passed here ≡ true → ItemLeads levels here next
+      → ItemsGo is_map len levels bytes (passed + 1) next
+  items_go next w i = record {
+    items = go.items ++ i.0 ∷ [];
+    count = omega (arith, go.count, length-append go.items (i.0 ∷ []));
+    before = one_more (Within levels) go.items i.0 bytes here next go.before i.1;
+    among = among_more is_map len passed here w;
+  }
+
+  pub items_few : passed ≤ length bytes
+  items_few = omega (arith, go.count, items_long levels go.items bytes here go.before)
+
+  pub items_stop : (why : Why) (rest : List ℕ) → wants is_map len passed here ≡ true
+      → Stops levels (break_in is_map len passed) here why rest → StopsInList is_map len levels bytes why rest
+  items_stop why rest w s = record {
+    items = go.items;
+    here = here;
+    passed = go.before;
+    wanted = subst (λ (n : ℕ). wants is_map len n here ≡ true) (sym go.count) w;
+    stop = subst (λ (n : ℕ). Stops levels (break_in is_map len n) here why rest) (sym go.count) s;
+  }
+
+  listed : (rest : List ℕ) → EndsList is_map len passed here rest → ListLeads is_map len levels bytes rest
+  listed rest e = record {
+    items = go.items;
+    here = here;
+    passed = go.before;
+    ends = subst (λ (n : ℕ). EndsList is_map len n here rest) (sym go.count) e;
+  }
+
+ends_known : (is_map : Bool) (m passed : ℕ) (here : List ℕ) → passed ≤ items_in is_map m
+    → wants is_map (Some m) passed here ≡ false → EndsList is_map (Some m) passed here here
+ends_known is_map m passed here among w =
+    let none : items_in is_map m ≤ passed = grind (arith, nat_tests) in (omega (arith, among, none), refl)
+
+pub known_end : {is_map : Bool} {levels m : ℕ} {bytes : List ℕ} {passed : ℕ} {here : List ℕ}
+    → ItemsGo is_map (Some m) levels bytes passed here → wants is_map (Some m) passed here ≡ false
+    → ListLeads is_map (Some m) levels bytes here
+known_end {is_map} {levels} {m} {bytes} {passed} {here} go w =
+    listed go here (ends_known is_map m passed here go.among w)
+
+ends_unknown : (is_map : Bool) (passed : ℕ) (here : List ℕ) → wants is_map None passed here ≡ false
+    → EndsList is_map None passed here (drop 1 here)
+ends_unknown is_map passed [] w = absurd (grind (arith, nat_tests))
+ends_unknown is_map passed (b ∷ rest) w = (
+  grind (arith, nat_tests),
+  let q : b ≡ break = grind (arith, nat_tests) in
+      ap (λ (k : ℕ). k ∷ rest) q,
+)
+
+pub unknown_end : {is_map : Bool} {levels : ℕ} {bytes : List ℕ} {passed : ℕ} {here : List ℕ}
+    → ItemsGo is_map None levels bytes passed here → wants is_map None passed here ≡ false
+    → ListLeads is_map None levels bytes (drop 1 here)
+unknown_end {is_map} {levels} {bytes} {passed} {here} go w =
+    listed go (drop 1 here) (ends_unknown is_map passed here w)
+
+pub some_left : (is_map : Bool) (passed : ℕ) (here : List ℕ) → wants is_map None passed here ≡ false
+    → 1 ≤ length here
+some_left is_map passed [] w = absurd (grind (arith, nat_tests))
+some_left is_map passed (b ∷ rest) w = omega arith
