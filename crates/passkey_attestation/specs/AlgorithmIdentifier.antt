@@ -6,7 +6,7 @@ use Rattle.passkey_kinds.specs.Placed.{Coded}
 use Rattle.passkey_kinds.specs.Reader.{signed_in}
 use Rattle.passkey_kinds.specs.Typed.{fixed}
 use Rattle.passkey_kinds.specs.Words.{Item, Typed, number}
-use Rattle.passkey_kinds.specs.declared.blame.Wanted.TheVariants as wanted
+use Rattle.passkey_kinds.specs.declared.wanted.Wanted.TheVariants as wanted
 
 abbrev pub identifier_of : ℤ → AlgorithmIdentifier
 identifier_of z = record { 0 = z }

@@ -1,28 +1,20 @@
 //! COSE algorithm identifiers, registered or not.
-ghost use Rattle.std.specs.Prelude.{◌≡◌, ℕ, true};
+ghost use Rattle.std.specs.Prelude.{◌≡◌, true};
 ghost use Rattle.passkey_attestation.specs.AlgorithmIdentifier.{identifier_tree, signed};
 ghost use Rattle.passkey_iana.specs.Signed64.{is_signed_64};
-ghost use Rattle.passkey_kinds.specs.Words.{Answers, Further, IsEncodedAt, Item, Onward, ReadsScalar, null, scalar_of};
+ghost use Rattle.passkey_kinds.specs.Words.{Answers, scalar_of};
 
 use passkey_cbor::{Cursor, Encoder, Head, Integer, Value};
 use passkey_cose::signed_64;
-use passkey_kinds::{Blame, FromCbor, OutOfMemory, Refusal, ToCbor, Wanted};
+use passkey_kinds::{
+    Form, FromCbor, Look, OutOfMemory, Refusal, ToCbor, Wanted, looked, read_scalar,
+};
 use std::alloc::Global;
 
 /// A COSEAlgorithmIdentifier (WebAuthn Level 3, section 5.8.5): a number of IANA's registry of COSE
 /// algorithms, or any other signed 64-bit integer.
 #[derive(Clone, Copy, Debug, PartialEq, Eq)]
 pub struct AlgorithmIdentifier(pub i64);
-
-/// Decodes the head at the cursor, which is the whole data item if that is an integer.
-fn read_scalar(cursor: &mut Cursor<'_>) -> Option<Head>
-    ensures reads { (i : Item) (to : ℕ) → IsEncodedAt i cursor.old.bytes cursor.old.place to
-        → ReadsScalar i to cursor.old cursor.new (scalar_of result) }
-    ensures onward { Onward cursor.old cursor.new }
-    ensures further { (scalar_of result ≡ null → ⊥) → Further cursor.old cursor.new }
-{
-    cursor.head()
-}
 
 fn identifier(head: Option<Head>) -> Result<AlgorithmIdentifier, Refusal>
     ensures { Answers (λ a. a) signed (scalar_of head) result }
@@ -67,8 +59,11 @@ impl FromCbor for AlgorithmIdentifier {
         identifier(read_scalar(cursor))
     }
 
-    fn explain(alloc: Global, _value: &Value) -> Result<Blame, OutOfMemory> {
-        Ok(Blame::wanted(alloc, Wanted::Algorithm))
+    fn look(alloc: Global, _way: &[u8], value: &Value) -> Result<Look, OutOfMemory> {
+        looked(
+            AlgorithmIdentifier::from_value(alloc, value),
+            Form::Leaf(Wanted::Algorithm),
+        )
     }
 }
 

@@ -4,7 +4,7 @@ ghost use Rattle.std.specs.Int.RustNames.{bit_and, bit_or};
 ghost use Rattle.passkey_kinds.specs.Words.{below, number_tree};
 
 use passkey_cbor::{Cursor, Encoder, Value};
-use passkey_kinds::{Blame, FromCbor, OutOfMemory, Refusal, ToCbor, Wanted};
+use passkey_kinds::{Form, FromCbor, Look, OutOfMemory, Refusal, ToCbor, Wanted, looked};
 use std::alloc::Global;
 use std::marker::Model;
 use std::ops::BitOr;
@@ -97,8 +97,11 @@ impl FromCbor for Permissions {
         Ok(Permissions(u32::read(alloc, cursor)?))
     }
 
-    fn explain(alloc: Global, _value: &Value) -> Result<Blame, OutOfMemory> {
-        Ok(Blame::wanted(alloc, Wanted::Below(4_294_967_296)))
+    fn look(alloc: Global, _way: &[u8], value: &Value) -> Result<Look, OutOfMemory> {
+        looked(
+            Permissions::from_value(alloc, value),
+            Form::Leaf(Wanted::Below(4_294_967_296)),
+        )
     }
 }
 

@@ -1,3 +1,7 @@
-//! Why a message is refused, and where in its bytes.
+//! Why a message is refused, and where in its bytes; what is in it, by the names of its members.
 
-pub use passkey_explain::{Explanation, Extent, RefusedItem, explain, locate};
+pub use passkey_explain::{
+    Blame, Description, Explanation, Extent, FieldName, Reason, RefusedItem, Step, describe,
+    explain, locate,
+};
+pub use passkey_malformed::{Malformed, Why, malformed};

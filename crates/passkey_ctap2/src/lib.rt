@@ -16,6 +16,6 @@ pub mod laws;
 pub mod make_credential;
 
 pub use passkey_kinds::{
-    Blame, Code, Fault, FromCbor, Kept, Message, OutOfMemory, Reason, Refusal, Step, ToCbor,
-    TolerantList, Tolerated, Wanted, WriteFault,
+    Code, Fault, Form, FromCbor, Kept, Look, Message, OutOfMemory, Refusal, ToCbor, TolerantList,
+    Tolerated, Wanted, WriteFault,
 };

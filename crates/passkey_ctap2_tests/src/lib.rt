@@ -2,6 +2,8 @@
 #![tactic(auto)]
 
 #[cfg(test)]
+mod descriptions;
+#[cfg(test)]
 mod explanations;
 #[cfg(test)]
 mod extensions;

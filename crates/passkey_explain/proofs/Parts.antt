@@ -12,7 +12,7 @@ use Rattle.passkey_cbor.specs.LeadingItem.{max_depth}
 use Rattle.passkey_cbor.specs.Reading.{simple_item}
 use Rattle.passkey_cbor.specs.declared.head.Head.{Head}
 use Rattle.passkey_explain.specs.Along.{turns, parts_of, part_index, ItemsLie, PassedItems}
-use Rattle.passkey_kinds.specs.Blame.{Step, element, member, value, key, part_at}
+use Rattle.passkey_explain.specs.Blame.{Step, element, member, value, key, part_at}
 use Rattle.passkey_cbor.specs.Item as item
 use Rattle.passkey_cbor.specs.declared.head.Head.TheVariants as head
 

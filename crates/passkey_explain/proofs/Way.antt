@@ -3,7 +3,7 @@ use Rattle.std.proofs.Common.{◌≡◌, ◌∙◌, ℕ, ◌+◌, ◌<◌, ◌�
 use Rattle.passkey_cbor.proofs.EncodedFrom.{front_stands}
 use Rattle.std.proofs.lemmas.Option.{slice_get_within, slice_get-get_or, get_or_from_slice_get}
 use Rattle.passkey_kinds.proofs.Steps.{mapped_at}
-use Rattle.passkey_kinds.specs.declared.blame.Step.{Step as CodeStep}
+use Rattle.passkey_explain.specs.declared.blame.Step.{Step as CodeStep}
 use Rattle.std.specs.Option.{option_and_then}
 use Rattle.passkey_cbor.specs.EncodedAt.{Lies, IsEncodedAt, Opens}
 use Rattle.passkey_cbor.specs.Found.{PassesHead}
@@ -14,7 +14,7 @@ use Rattle.passkey_cbor.specs.CursorState.{CursorState}
 use Rattle.passkey_cbor.specs.declared.head.Head.{Head}
 use Rattle.passkey_explain.proofs.Parts.{opened_parts, part_there}
 use Rattle.passkey_explain.specs.Along.{parts_of, part_index, ItemsLie, LeadsTo, LiesAlong, PassesItems, Entered, Enters}
-use Rattle.passkey_kinds.specs.Blame.{Step, part_at, item_along, step_of}
+use Rattle.passkey_explain.specs.Blame.{Step, part_at, item_along, step_of}
 
 -- ---- from an array or a map to one of its parts
 

@@ -6,7 +6,7 @@ use Rattle.passkey_cbor.specs.Item.{Item, array, elements, members}
 use Rattle.passkey_cbor.specs.CursorState.{CursorState}
 use Rattle.passkey_cbor.specs.declared.head.Head.{Head}
 use Rattle.passkey_explain.specs.declared.along.Extent.{Extent}
-use Rattle.passkey_kinds.specs.Blame.{Step, element, member, value, key}
+use Rattle.passkey_explain.specs.Blame.{Step, element, member, value, key}
 use Rattle.passkey_cbor.specs.Item as item
 
 -- the keys and the values of a map, in turn

@@ -3,11 +3,11 @@ ghost use Rattle.std.specs.Prelude.{◌≡◌, ℕ, ◌≤◌, ◌+◌, List, So
 ghost use Rattle.passkey_cbor.specs.EncodedAt.{IsEncodedAt};
 ghost use Rattle.passkey_cbor.specs.Item.{Item};
 ghost use Rattle.passkey_cbor.specs.LeadingItem.{IsLeadingItem};
-ghost use Rattle.passkey_kinds.specs.Blame.{step_of, part_at, item_along};
+ghost use Rattle.passkey_explain.specs.Blame.{step_of, part_at, item_along};
 ghost use Rattle.passkey_explain.specs.Along.{part_index, ItemsLie, PassesItems, Enters, IsLocated};
 
+use crate::Step;
 use passkey_cbor::Cursor;
-use passkey_kinds::Step;
 
 /// Where a data item, or a map key, is encoded.
 #[derive(Clone, Copy, Debug, PartialEq, Eq)]

@@ -1,7 +1,7 @@
 //! Explanations as a person reads them.
 
-use crate::{Explanation, RefusedItem};
-use passkey_kinds::{Fault, Reason, Step};
+use crate::{Explanation, Reason, RefusedItem, Step};
+use passkey_kinds::Fault;
 use std::fmt;
 
 /// Writes a step behind those before it: a member by its name, and an element by its index.
@@ -54,7 +54,7 @@ impl fmt::Display for RefusedItem {
 impl fmt::Display for Explanation {
     fn fmt<W: fmt::Write>(&self, f: &mut fmt::Formatter<W>) -> fmt::Result {
         match self {
-            Explanation::NotWellFormed => f.write_str("no well-formed data item begins the bytes"),
+            Explanation::NotWellFormed(malformed) => write!(f, "{malformed}"),
             Explanation::Refused(item) => write!(f, "{item}"),
         }
     }

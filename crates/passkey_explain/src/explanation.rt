@@ -1,13 +1,16 @@
 //! Why bytes aren't decoded as a message.
 ghost use Rattle.std.specs.Prelude.{◌≡◌, ℕ, IfOk};
-ghost use Rattle.passkey_cbor.specs.LeadingItem.{IsLeadingItem};
+ghost use Rattle.passkey_cbor.specs.LeadingItem.{IsLeadingItem, HasNoLeadingItem};
+ghost use Rattle.passkey_malformed.specs.Stops.{IsMalformed};
 ghost use Rattle.passkey_kinds.specs.Words.{item_of};
 ghost use Rattle.passkey_kinds.specs.declared.fault.Fault.TheVariants.{OutOfMemory as NoRoom};
 ghost use Rattle.passkey_explain.specs.Explains.{Explains, ExplainsItem};
 
-use crate::{Extent, locate};
+use crate::descent::explain_value;
+use crate::{Blame, Extent, locate};
 use passkey_cbor::{CborError, Value};
-use passkey_kinds::{Blame, Fault, FromCbor, Message, record_from_value};
+use passkey_kinds::{Fault, Message, record_from_value};
+use passkey_malformed::{Malformed, malformed};
 use passkey_memory::OutOfMemory;
 use std::alloc::Global;
 
@@ -25,10 +28,19 @@ pub struct RefusedItem {
 /// Why bytes aren't decoded as a message.
 #[derive(Debug, Drop)]
 pub enum Explanation {
-    /// They don't begin with a well-formed data item of at most 256 levels: `DecodeFailed`.
-    NotWellFormed,
+    /// They don't begin with a well-formed data item of at most 256 levels: `DecodeFailed`. Where and
+    /// why they don't.
+    NotWellFormed(Malformed),
     /// An item in them, or a map key, is refused.
     Refused(RefusedItem),
+}
+
+/// Returns where and why no data item begins the bytes.
+fn not_well_formed(bytes: &[u8]) -> Malformed
+    requires { HasNoLeadingItem bytes.now }
+    ensures { IsMalformed bytes.now result }
+{
+    malformed(bytes).unwrap()
 }
 
 /// Returns the fault, unless memory ran out.
@@ -54,7 +66,7 @@ fn explain_item<M: Message>(
         Ok(_) => return Ok(None),
         Err(fault) => item_fault(fault)?,
     };
-    let blame = <M as FromCbor>::explain(alloc, value)?;
+    let blame = explain_value::<M>(alloc, value)?;
     let extent = locate(bytes, &blame.path).unwrap();
     Ok(Some(RefusedItem {
         fault,
@@ -72,7 +84,10 @@ pub fn explain<M: Message>(alloc: Global, bytes: &[u8]) -> Result<Option<Explana
     let value = match Value::from_slice(alloc, bytes) {
         Ok((value, _)) => value,
         Err(CborError::OutOfMemory) => return Err(OutOfMemory),
-        Err(_) => return Ok(Some(Explanation::NotWellFormed)),
+        Err(_) => {
+            let malformed = not_well_formed(bytes);
+            return Ok(Some(Explanation::NotWellFormed(malformed)));
+        }
     };
     match explain_item::<M>(alloc, bytes, &value)? {
         Some(item) => Ok(Some(Explanation::Refused(item))),

@@ -2,8 +2,13 @@
 #![tactic(auto)]
 
 mod along;
+mod blame;
+mod descent;
+mod description;
 mod display;
 mod explanation;
 
 pub use along::{Extent, locate};
+pub use blame::{Blame, Reason, Step};
+pub use description::{Description, FieldName, describe};
 pub use explanation::{Explanation, RefusedItem, explain};

@@ -7,7 +7,7 @@ ghost use Rattle.passkey_get_info.specs.declared.extension.Extension.{Extension 
 use passkey_bytes::Text;
 use passkey_cbor::{Cursor, Encoder, Value};
 use passkey_kinds::{
-    Blame, FromCbor, FromText, ReadBack, Refusal, ToCbor, Wanted, read_text_value,
+    Form, FromCbor, FromText, Look, ReadBack, Refusal, ToCbor, Wanted, looked, read_text_value,
 };
 use passkey_memory::OutOfMemory;
 use std::alloc::Global;
@@ -77,8 +77,11 @@ impl FromCbor for Extension {
         read_text_value(alloc, cursor)
     }
 
-    fn explain(alloc: Global, _value: &Value) -> Result<Blame, OutOfMemory> {
-        Ok(Blame::wanted(alloc, Wanted::Text))
+    fn look(alloc: Global, _way: &[u8], value: &Value) -> Result<Look, OutOfMemory> {
+        looked(
+            Extension::from_value(alloc, value),
+            Form::Leaf(Wanted::Text),
+        )
     }
 }
 

@@ -1,7 +1,7 @@
 //! authenticatorGetInfo responses.
 ghost use Rattle.std.specs.Prelude.{◌≡◌, ◌^◌, ◌++◌, ℕ, is_ok, true, false, option_map, IfOk, IfErr, OnOk};
 ghost use Rattle.std.specs.Int.NonZero.{non_zero_u128_get};
-ghost use Rattle.passkey_kinds.specs.Words.{KeysAscend, Item, item_of, IsWritable, written, IfPresent, ReadsMessage, ReadsHere, GrowsMessage, EachFits, fields_with, places_of, MayGrowAt, Reads, cost_at, keeps_at, blame_at, Puts, AllAccepted, put_all, number_tree, table_of};
+ghost use Rattle.passkey_kinds.specs.Words.{KeysAscend, Item, item_of, IsWritable, written, IfPresent, ReadsMessage, ReadsHere, GrowsMessage, EachFits, fields_with, places_of, MayGrowAt, Reads, cost_at, keeps_at, shape_at, Puts, AllAccepted, put_all, number_tree, table_of};
 ghost use Rattle.passkey_get_info.specs.Encodable.{EncodableFits, encodable_first_members, encodable_parts, encodable_places};
 ghost use Rattle.passkey_get_info.specs.GetInfo.{GetInfoParts, first_members, middle_members, last_members, get_info_fields, read_get_info, get_info_empty, get_info_parts, get_info_tree, IsPositive, GetInfoFits, is_encodable, fault_of_size, has_room, is_get_info_coherent};
 ghost use Rattle.passkey_kinds.specs.Placed.{members_of};
@@ -166,7 +166,7 @@ impl Response {
             → Puts (fields_with true get_info_empty (middle_members ++ last_members)) number i (get_info_parts self.old)
             (get_info_parts self.new) result }
         ensures spends { (i : Item) (to : ℕ) → S.At source.old i to → S.HasCost (cost_at (members_of (middle_members ++ last_members)) number)
-            (keeps_at (members_of (middle_members ++ last_members)) number) (blame_at (members_of (middle_members ++ last_members)) number) i to
+            (keeps_at (members_of (middle_members ++ last_members)) number) (shape_at (members_of (middle_members ++ last_members)) number) i to
             source.old source.new (is_ok result) }
         ensures onward { S.IsOnward source.old source.new }
         ensures further { OnOk result (S.IsFurther source.old source.new) }
@@ -196,7 +196,7 @@ impl Response {
         ensures puts { (i : Item) (to : ℕ) → S.At source.old i to
             → Puts (fields_with true get_info_empty last_members) number i (get_info_parts self.old) (get_info_parts self.new) result }
         ensures spends { (i : Item) (to : ℕ) → S.At source.old i to → S.HasCost (cost_at (members_of last_members) number)
-            (keeps_at (members_of last_members) number) (blame_at (members_of last_members) number) i to
+            (keeps_at (members_of last_members) number) (shape_at (members_of last_members) number) i to
             source.old source.new (is_ok result) }
         ensures onward { S.IsOnward source.old source.new }
         ensures further { OnOk result (S.IsFurther source.old source.new) }

@@ -7,7 +7,7 @@ ghost use Rattle.passkey_get_info.specs.declared.version.Version.{Version as Tol
 use passkey_bytes::Text;
 use passkey_cbor::{Cursor, Encoder, Value};
 use passkey_kinds::{
-    Blame, FromCbor, FromText, ReadBack, Refusal, ToCbor, Wanted, read_text_value,
+    Form, FromCbor, FromText, Look, ReadBack, Refusal, ToCbor, Wanted, looked, read_text_value,
 };
 use passkey_memory::OutOfMemory;
 use std::alloc::Global;
@@ -73,8 +73,8 @@ impl FromCbor for Version {
         read_text_value(alloc, cursor)
     }
 
-    fn explain(alloc: Global, _value: &Value) -> Result<Blame, OutOfMemory> {
-        Ok(Blame::wanted(alloc, Wanted::Text))
+    fn look(alloc: Global, _way: &[u8], value: &Value) -> Result<Look, OutOfMemory> {
+        looked(Version::from_value(alloc, value), Form::Leaf(Wanted::Text))
     }
 }
 

@@ -1,5 +1,5 @@
 -- How a cursor moves, what it spends, and values of one head or of one string.
-use Rattle.passkey_kinds.proofs.Common.{front_long, SkipsLeadingItem, Bool, CountsHeads, content_len, counts_then, counts_stay, counts_skip, counts_string, counts_value, counts_head, only_one, slice_get, drop-cons, get_or_from_slice_get, length-drop, drop, suc, ◌∷◌, ◌⊎◌, inl, inr, lies_size, head_again, follows_item, low_simple, head_long, encoded_long, IsEncodedAt, Opens, FindsHead, IsEncodingOfHead, PairWithin, Within, Inside, Item, byte_string, boolean, null, text_string, number, max_depth, IsLeadingItem, Region, PassesString, item_within, PassesLeadingItem, MakesLeadingItem, CursorState, ahead, MovesForward, Head, members-pairs_of, elements-items_of, aaguid, bytes, below, kept, truth, Kind, optional, text, one_named, FailsAs, size, AnswersAs, MayGrow, scalar_in, ReadsScalar, head_scalar, head_array, head_map, elements_in, members_in, OpensAt, Further, Decodes, Spends, Onward, named, Refused, OutOfMemory, Refusal, ◌≡◌, ◌∙◌, ◌<◌, ◌+◌, ℕ, arith, true, false, List, [], ◌++◌, length, Option, Some, None, option_map, refl, sym, ap, rules, ◌≤◌, Result, subst, ◌-◌, take, Ok, Err, OnOk, unwrap_or, Language, IfSome, is_ok, mul-le-mul_left, nat_tests, cases_lt, cases_eq, length-append, length-take, option_and_then}
+use Rattle.passkey_kinds.proofs.Common.{front_long, SkipsLeadingItem, Bool, CountsHeads, content_len, counts_then, counts_stay, counts_skip, counts_string, counts_value, counts_head, lies_size, head_again, follows_item, low_simple, head_long, encoded_long, IsEncodedAt, Opens, FindsHead, IsEncodingOfHead, PairWithin, Within, Inside, Item, byte_string, boolean, null, text_string, number, max_depth, Region, PassesString, item_within, PassesLeadingItem, MakesLeadingItem, CursorState, ahead, MovesForward, Head, members-pairs_of, elements-items_of, aaguid, below, kept, truth, Kind, optional, text, one_named, FailsAs, size, AnswersAs, MayGrow, scalar_in, ReadsScalar, head_scalar, head_array, head_map, elements_in, members_in, OpensAt, Further, Decodes, Spends, Onward, named, Refused, OutOfMemory, Refusal, ◌≡◌, ◌∙◌, ◌<◌, ◌+◌, ℕ, arith, true, false, List, [], ◌++◌, length, Option, Some, None, option_map, refl, sym, ap, rules, ◌≤◌, Result, subst, ◌-◌, Ok, Err, OnOk, unwrap_or, Language, IfSome, is_ok, mul-le-mul_left, nat_tests, cases_lt, cases_eq, length-append, option_and_then}
 use Rattle.passkey_kinds.proofs.Lists.{answers_from, never_grows}
 use Rattle.passkey_cbor.specs.declared.head.Head.TheVariants as head
 use Rattle.passkey_cbor.specs.Item as item

@@ -1,6 +1,5 @@
 -- The nesting levels of records, by those of the values under their keys.
 use Rattle.passkey_kinds.proofs.Common.{depth, pairs_depth, Item, pairs_of, WrittenIsLeadingItem, max_depth, each, WrittenIsReadBack, Members, AllAccepted, MemberAccepted, Place, record_tree, under, laid, Fault, ◌≡◌, ℕ, suc, arith, Bool, true, ◌&&◌, List, [], ◌∷◌, ◌++◌, Option, Some, None, option_map, ◌≤◌, Result, nat_le, Ok, max}
-use Rattle.std.specs.FinMap as fin
 
 -- ---- what holds of each key and value of a record's places
 

@@ -20,4 +20,4 @@ pub mod Lawful
 pub mod Around
 pub mod Steps
 pub mod Numbered
-pub mod Blames
+pub mod Looks

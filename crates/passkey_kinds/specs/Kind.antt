@@ -1,8 +1,8 @@
 -- Kinds: what data items decode to, and how many data items a decoded value keeps.
 use Rattle.passkey_kinds.specs.Base.{Item, elements, members, text_bytes, Grows, number, text_string, byte_string, array, boolean, null, algorithm_number, algorithm_named, Algorithm, signed_64, whole_64, CursorState, data_heads, data_nodes, DataParts, data_parts}
-use Rattle.std.specs.Prelude.{ℕ, ◌+◌, ◌-◌, min, List, [], ◌∷◌, ◌≡◌, ◌==◌, pos, nat_lt, length, Bool, IsTrue, if◌then◌else◌, Option, Some, None, option_map, unwrap_or, Result, Ok, Err, ◌*◌, ◌≤◌, map as each_one, ◌^◌, ◌<◌, ◌&&◌}
+use Rattle.std.specs.Prelude.{ℕ, ◌+◌, ◌-◌, min, List, [], ◌∷◌, ◌≡◌, ◌==◌, pos, nat_lt, length, Bool, IsTrue, if◌then◌else◌, Option, Some, None, is_some, option_map, unwrap_or, Result, Ok, Err, ◌*◌, ◌≤◌, map as each_one, ◌^◌, ◌<◌, ◌&&◌}
 use Rattle.passkey_bytes.specs.Map.{ByteMap, put_each}
-use Rattle.passkey_kinds.specs.Blame.{Blame, IsIn}
+use Rattle.passkey_kinds.specs.Shape.{Shape}
 use Rattle.passkey_core.specs.DataRead.{read_data}
 use Rattle.passkey_core.specs.DataWritten.{data_written}
 use Rattle.passkey_core.specs.declared.aaguid.Aaguid.{Aaguid}
@@ -71,15 +71,17 @@ abbrev pub MayGrow : Bool → Item → Type 0
 MayGrow takes i = IsTrue takes × Grows i
 
 -- A kind; whether decoding a value may allocate memory; how many heads it decodes at most for each
--- byte of the data item; which data items it makes as values; and what it blames if it refuses an item,
--- which is inside that item.
+-- byte of the data item; which data items it makes as values; and its shape.
 pub record Typed (M : Type 0) : Type 0 where
   pub of : Kind M
   pub takes : Bool
   pub cost : ℕ
   pub keeps : Keeping
-  pub blame : Item → Blame
-  pub inside : (i : Item) → IsIn i (blame i)
+  pub shape : Shape
+
+-- whether the kind has a value for the item
+abbrev pub accepts : {M : Type 0} → Typed M → Item → Bool
+accepts k i = is_some (k.of i)
 
 -- the result of decoding an item
 abbrev pub Answers : {A M : Type 0} → (A → M) → Typed M → Item → Result A Refusal → Type 0

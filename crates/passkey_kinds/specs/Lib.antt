@@ -1,13 +1,12 @@
 pub mod Base
 pub mod Message
-pub mod Blame
+pub mod Shape
 pub mod Kind
 pub mod Record
-pub mod Blaming
-pub mod BlameLaws
 pub mod Reader
 pub mod Typed
 pub mod RecordReading
+pub mod Look
 pub mod Tree
 pub mod Placed
 pub mod Lending

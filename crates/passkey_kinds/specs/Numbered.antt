@@ -6,7 +6,7 @@ use Rattle.passkey_cbor.specs.Laws.{AtMostOneLeadingItem, WrittenIsLeadingItem}
 use Rattle.passkey_cbor.specs.Nodes.{nodes}
 use Rattle.passkey_kinds.specs.Kind.{Kind, Typed, counted}
 use Rattle.passkey_kinds.specs.Kind as kind
-use Rattle.passkey_kinds.specs.declared.blame.Wanted.TheVariants as wanted
+use Rattle.passkey_kinds.specs.declared.wanted.Wanted.TheVariants as wanted
 use Rattle.passkey_kinds.specs.Message.{ReadIsCoherent, WrittenIsCanonical, kept_if_some}
 use Rattle.passkey_kinds.specs.Placed.{Coded, PlainTable, EachFits, plain_tree, fields_with}
 use Rattle.passkey_kinds.specs.Record.{Fields, read_item}

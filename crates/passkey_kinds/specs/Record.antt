@@ -5,6 +5,7 @@ use Rattle.passkey_kinds.specs.Kind.{below, Kind, Typed, MayGrow}
 use Rattle.passkey_kinds.specs.declared.fault.Fault.{Fault}
 use Rattle.passkey_kinds.specs.declared.fault.Fault.TheVariants.{BadKey, Repeated, Refused, NotAMap, Missing}
 use Rattle.passkey_kinds.specs.declared.rows.Named.{Named}
+pub use Rattle.passkey_kinds.specs.Shape.{Entry}
 use Rattle.std.specs.List.{find}
 use Rattle.std.specs.Result.{result_ok}
 use Rattle.std.specs.Str.{bytes_eq}
@@ -13,12 +14,6 @@ use Rattle.passkey_kinds.specs.declared.fault.Fault.TheVariants as fault
 use Rattle.passkey_cbor.specs.Item as item
 
 -- ---- tables of members
-
--- a member's number and name, and whether it is required
-pub record Entry : Type 0 where
-  pub number : ℕ
-  pub name : List ℕ
-  pub is_required : Bool
 
 pub record Row : Type 0 where
   pub entry : Entry

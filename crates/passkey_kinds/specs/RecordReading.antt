@@ -1,16 +1,16 @@
 -- Decoding a record over a cursor: its cost and its steps.
 use Rattle.passkey_kinds.specs.Base.{Item, members, CursorState}
 use Rattle.std.specs.Prelude.{ℕ, ◌+◌, ◌≤◌, max, ◌==◌, Bool, true, false, ◌&&◌, if◌then◌else◌, List, [], ◌∷◌, ◌≡◌, Option, Some, None, Result, Ok, Err, IfSome, OnOk, slice_get}
-use Rattle.passkey_kinds.specs.Blaming.{record_blame}
-use Rattle.passkey_kinds.specs.BlameLaws.{record_inside}
-use Rattle.passkey_kinds.specs.Kind.{Keeping, nothing, counted, kept_of, kept_sum, Typed, MayGrow}
+use Rattle.passkey_kinds.specs.Kind.{Keeping, nothing, counted, kept_of, kept_sum, Typed, MayGrow, accepts}
 use Rattle.passkey_kinds.specs.Reader.{Spends, SpendsLess}
 use Rattle.passkey_kinds.specs.Record.{takes_at, MayGrowIn, MayGrowAt, Reads, naming_of, named_as, Fields, Member, table_of, record_kind, rows_of, put_at, read_members, read_from, reached, Progress, one_more, MayGrowBy, read_item, Naming, row, unknown, wrong, named, Members, accepts_at, Entry, row_or_unknown}
+use Rattle.passkey_kinds.specs.Shape.{Shape, Rows, record_of, no_rows}
 use Rattle.passkey_kinds.specs.declared.fault.Fault.{Fault}
 use Rattle.passkey_kinds.specs.declared.fault.Refusal.{Refusal}
 use Rattle.passkey_kinds.specs.declared.fault.Refusal.TheVariants.{Refused, OutOfMemory}
 use Rattle.passkey_kinds.specs.declared.rows.Named.{Named}
 use Rattle.passkey_kinds.specs.declared.rows.Row.{Row}
+use Rattle.passkey_kinds.specs.Shape as shape
 use Rattle.passkey_kinds.specs.declared.fault.Fault.TheVariants as fault
 use Rattle.passkey_cbor.specs.Item as item
 use Rattle.passkey_kinds.specs.declared.rows.Row.TheVariants as row
@@ -64,6 +64,20 @@ none_keeps (m ∷ ms) = keeps_nothing m.kind.keeps && none_keeps ms
 abbrev pub record_keeps : {P : Type 0} → Fields P → Keeping
 record_keeps t = if none_keeps t.rows then nothing else counted (kept_in_map t)
 
+-- ---- its shape
+
+abbrev pub shapes_of : {P : Type 0} → List (Member P) → Rows
+shapes_of [] = no_rows
+shapes_of (m ∷ ms) = shape.row m.entry (accepts m.kind) m.kind.shape (shapes_of ms)
+
+abbrev pub shape_of : {P : Type 0} → Fields P → Shape
+shape_of t = record_of t.is_numbered (shapes_of t.rows)
+
+-- the shape of the value of row n, if there is such a row
+abbrev pub shape_at : {P : Type 0} → List (Member P) → ℕ → Option Shape
+shape_at [] n = None
+shape_at (m ∷ ms) n = if m.entry.number == n then Some m.kind.shape else shape_at ms n
+
 -- a record as a member of another one
 abbrev pub nested : {P : Type 0} → Fields P → Typed P
 nested t = record {
@@ -71,8 +85,7 @@ nested t = record {
   takes = true;
   cost = record_cost t;
   keeps = record_keeps t;
-  blame = record_blame t;
-  inside = record_inside t;
+  shape = shape_of t;
 }
 
 -- ---- the steps of decoding a record

@@ -1,23 +1,29 @@
 -- Kinds with their costs.
-use Rattle.std.specs.Prelude.{ℕ, suc, max, Bool, true, false, List, Option, refl}
+use Rattle.std.specs.Prelude.{ℕ, suc, max, Bool, true, false, List, Option}
 use Rattle.passkey_kinds.specs.Base.{ByteMap, Item, DataParts, Algorithm}
 use Rattle.passkey_cbor.specs.Nodes.{nodes}
-use Rattle.passkey_kinds.specs.Blame.{wants}
-use Rattle.passkey_kinds.specs.Blaming.{list_blame, map_blame}
-use Rattle.passkey_kinds.specs.BlameLaws.{list_inside, map_inside}
-use Rattle.passkey_kinds.specs.Kind.{Keeping, nothing, counted, in_elements, in_members, Kind, Typed}
-use Rattle.passkey_kinds.specs.declared.blame.Wanted.{Wanted}
+use Rattle.passkey_kinds.specs.Kind.{Keeping, nothing, counted, in_elements, in_members, Kind, Typed, accepts}
+use Rattle.passkey_kinds.specs.Shape.{Shape, leaf}
+use Rattle.passkey_kinds.specs.declared.wanted.Wanted.{Wanted}
 use Rattle.passkey_kinds.specs.Kind as kind
-use Rattle.passkey_kinds.specs.declared.blame.Wanted.TheVariants as wanted
+use Rattle.passkey_kinds.specs.Shape as shape
+use Rattle.passkey_kinds.specs.declared.wanted.Wanted.TheVariants as wanted
+
+-- an array whose elements are of this kind
+abbrev pub list_of : {M : Type 0} → Typed M → Shape
+list_of k = shape.list (accepts k) k.shape
+
+-- a map from byte strings whose values are of this kind
+abbrev pub map_of : {M : Type 0} → Typed M → Shape
+map_of k = shape.map (accepts k) k.shape
 
 -- a kind whose values take no memory, at the cost of this many heads for each byte, and what it wants
 abbrev pub fixed : {M : Type 0} → ℕ → Wanted → Kind M → Typed M
-fixed cost w k = record { of = k; takes = false; cost = cost; keeps = nothing; blame = λ i. wants w; inside = λ i. refl }
+fixed cost w k = record { of = k; takes = false; cost = cost; keeps = nothing; shape = leaf w }
 
 -- a kind whose values may take memory, and what it wants
 abbrev pub growing : {M : Type 0} → ℕ → Keeping → Wanted → Kind M → Typed M
-growing cost keeps w k =
-    record { of = k; takes = true; cost = cost; keeps = keeps; blame = λ i. wants w; inside = λ i. refl }
+growing cost keeps w k = record { of = k; takes = true; cost = cost; keeps = keeps; shape = leaf w }
 
 abbrev pub truth : Typed Bool
 truth = fixed 1 wanted.Boolean kind.truth
@@ -63,8 +69,7 @@ optional k = record {
   takes = k.takes;
   cost = suc (max 1 k.cost);
   keeps = k.keeps;
-  blame = k.blame;
-  inside = k.inside;
+  shape = k.shape;
 }
 
 -- the value, or `None` if the kind refuses the item, which costs one more pass over it
@@ -74,8 +79,7 @@ tolerated k = record {
   takes = k.takes;
   cost = suc k.cost;
   keeps = k.keeps;
-  blame = k.blame;
-  inside = k.inside;
+  shape = k.shape;
 }
 
 -- the value, or this default if the kind refuses the item
@@ -88,12 +92,17 @@ list k = record {
   takes = true;
   cost = suc k.cost;
   keeps = in_elements k.keeps;
-  blame = list_blame k.of k.blame;
-  inside = list_inside k;
+  shape = list_of k;
 }
 
 abbrev pub accepted : {M : Type 0} → Typed M → Typed (List M)
-accepted k = growing (suc (suc k.cost)) (in_elements k.keeps) wanted.Array (kind.accepted k.of)
+accepted k = record {
+  of = kind.accepted k.of;
+  takes = true;
+  cost = suc (suc k.cost);
+  keeps = in_elements k.keeps;
+  shape = list_of k;
+}
 
 abbrev pub map_from_bytes : {M : Type 0} → Typed M → Typed (ByteMap M)
 map_from_bytes k = record {
@@ -101,6 +110,5 @@ map_from_bytes k = record {
   takes = true;
   cost = suc (max 3 k.cost);
   keeps = in_members k.keeps;
-  blame = map_blame k.of k.blame;
-  inside = map_inside k;
+  shape = map_of k;
 }

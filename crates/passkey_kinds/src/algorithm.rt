@@ -4,7 +4,7 @@ ghost use Rattle.std.specs.Option.{option_and_then};
 ghost use Rattle.passkey_kinds.specs.Words.{IsRegion, HoldsString, algorithm_named, algorithm_number, algorithm_tree, AnswersAs, LooksAtMost, algorithm, whole_64, scalar_of, signed_in};
 
 use crate::head::read_scalar;
-use crate::{Blame, FromCbor, OutOfMemory, Refusal, ToCbor, Wanted};
+use crate::{Form, FromCbor, Look, OutOfMemory, Refusal, ToCbor, Wanted, looked};
 use passkey_cbor::{Cursor, Encoder, Head, Integer, TextToken, Value};
 use passkey_cose::signed_64;
 use passkey_iana::{Algorithm, EnumI64};
@@ -72,8 +72,11 @@ impl FromCbor for Algorithm {
         }
     }
 
-    fn explain(alloc: Global, _value: &Value) -> Result<Blame, OutOfMemory> {
-        Ok(Blame::wanted(alloc, Wanted::Algorithm))
+    fn look(alloc: Global, _way: &[u8], value: &Value) -> Result<Look, OutOfMemory> {
+        looked(
+            Algorithm::from_value(alloc, value),
+            Form::Leaf(Wanted::Algorithm),
+        )
     }
 }
 

@@ -5,7 +5,7 @@ ghost use Rattle.passkey_kinds.specs.Kind.{below};
 
 use crate::collect::{Gather, read_elements, read_whole};
 use crate::written::{append_each, write_each};
-use crate::{Blame, FromCbor, OutOfMemory, Refusal, Source, ToCbor, Wanted};
+use crate::{Form, FromCbor, Look, OutOfMemory, Refusal, Source, ToCbor, Wanted, looked};
 use passkey_cbor::{BytesToken, Cursor, Encoder, Value};
 use std::alloc::Global;
 
@@ -115,8 +115,11 @@ impl FromCbor for [u8; 32] {
         }
     }
 
-    fn explain(alloc: Global, _value: &Value) -> Result<Blame, OutOfMemory> {
-        Ok(Blame::wanted(alloc, Wanted::SizedBytes(32)))
+    fn look(alloc: Global, _way: &[u8], value: &Value) -> Result<Look, OutOfMemory> {
+        looked(
+            <[u8; 32]>::from_value(alloc, value),
+            Form::Leaf(Wanted::SizedBytes(32)),
+        )
     }
 }
 

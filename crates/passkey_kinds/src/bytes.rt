@@ -4,7 +4,7 @@ ghost use Rattle.std.specs.Prelude.{ℕ, List, true};
 ghost use Rattle.passkey_kinds.specs.Words.{IsRegion, HoldsString, LooksAtMost, text_bytes, text_string, Answers, AnswersAs, bytes, pushing, MayGrow, below};
 
 use crate::collect::{Gather, read_elements, read_whole};
-use crate::{Blame, FromCbor, OutOfMemory, Refusal, Source, Wanted};
+use crate::{Form, FromCbor, Look, OutOfMemory, Refusal, Source, Wanted, looked};
 use passkey_bytes::{Bytes, BytesFault};
 use passkey_cbor::{Cursor, TextToken, Value};
 use std::alloc::Global;
@@ -79,7 +79,7 @@ impl FromCbor for Bytes {
         read_whole(alloc, Bytes::empty(alloc), cursor)
     }
 
-    fn explain(alloc: Global, _value: &Value) -> Result<Blame, OutOfMemory> {
-        Ok(Blame::wanted(alloc, Wanted::Bytes))
+    fn look(alloc: Global, _way: &[u8], value: &Value) -> Result<Look, OutOfMemory> {
+        looked(Bytes::from_value(alloc, value), Form::Leaf(Wanted::Bytes))
     }
 }

@@ -38,7 +38,7 @@ pub fn set_code<T: Code, S: Source>(
 ) -> Result<(), Refusal>
     ensures sets { (i : Item) (to : ℕ) → S.At source.old i to → Sets (λ c. c) (code_of T.of_byte) i field.new result }
     ensures spends { (i : Item) (to : ℕ) → S.At source.old i to
-        → S.HasCost 1 nothing (Some (code_of T.of_byte).blame) i to source.old source.new (is_ok result) }
+        → S.HasCost 1 nothing (Some (code_of T.of_byte).shape) i to source.old source.new (is_ok result) }
     ensures onward { S.IsOnward source.old source.new }
     ensures further { OnOk result (S.IsFurther source.old source.new) }
 {
@@ -57,7 +57,7 @@ pub fn set_some_code<T: Code, S: Source>(
     ensures sets { (i : Item) (to : ℕ) → S.At source.old i to
         → Sets (λ c. c) (optional (code_of T.of_byte)) i field.new result }
     ensures spends { (i : Item) (to : ℕ) → S.At source.old i to
-        → S.HasCost 2 nothing (Some (code_of T.of_byte).blame) i to source.old source.new (is_ok result) }
+        → S.HasCost 2 nothing (Some (code_of T.of_byte).shape) i to source.old source.new (is_ok result) }
     ensures onward { S.IsOnward source.old source.new }
     ensures further { OnOk result (S.IsFurther source.old source.new) }
 {

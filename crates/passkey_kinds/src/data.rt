@@ -3,7 +3,7 @@ ghost use Rattle.std.specs.Prelude.{◌≡◌, ℕ, ◌+◌, ◌*◌, ◌≤◌,
 ghost use Rattle.passkey_kinds.specs.Words.{byte_string, data_nodes, IsData, DataParts, data_parts, Answers, authenticator_data, aaguid, CountsData, CountsDataItems, UnlessOutOfMemory, data_tree, aaguid_tree};
 
 use crate::array::filled;
-use crate::{Blame, FromCbor, OutOfMemory, Refusal, ToCbor, Wanted};
+use crate::{Form, FromCbor, Look, OutOfMemory, Refusal, ToCbor, Wanted, looked};
 use passkey_cbor::{Count, Cursor, Encoder, Value};
 use passkey_core::{Aaguid, AuthenticatorData, laws};
 use passkey_cose::CoseError;
@@ -72,8 +72,11 @@ impl FromCbor for AuthenticatorData {
         }
     }
 
-    fn explain(alloc: Global, _value: &Value) -> Result<Blame, OutOfMemory> {
-        Ok(Blame::wanted(alloc, Wanted::AuthenticatorData))
+    fn look(alloc: Global, _way: &[u8], value: &Value) -> Result<Look, OutOfMemory> {
+        looked(
+            AuthenticatorData::from_value(alloc, value),
+            Form::Leaf(Wanted::AuthenticatorData),
+        )
     }
 }
 
@@ -122,8 +125,11 @@ impl FromCbor for Aaguid {
         }
     }
 
-    fn explain(alloc: Global, _value: &Value) -> Result<Blame, OutOfMemory> {
-        Ok(Blame::wanted(alloc, Wanted::ByteString(16)))
+    fn look(alloc: Global, _way: &[u8], value: &Value) -> Result<Look, OutOfMemory> {
+        looked(
+            Aaguid::from_value(alloc, value),
+            Form::Leaf(Wanted::ByteString(16)),
+        )
     }
 }
 

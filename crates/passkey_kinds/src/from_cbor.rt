@@ -1,9 +1,11 @@
 //! Values that are decoded from data items.
-ghost use Rattle.std.specs.Prelude.{◌≡◌, ◌^◌, ℕ, Option, option_map, IfOk, OnOk};
-ghost use Rattle.passkey_kinds.specs.Words.{blame_of, tolerated, Item, IsEncodedAt, item_of, Answers, Typed, Onward, Further, ReadsAs, truth, below, text, kept, optional, scalar_of};
+ghost use Rattle.std.specs.Prelude.{◌≡◌, ◌^◌, ℕ, Option, option_map, OnOk};
+ghost use Rattle.passkey_kinds.specs.Look.{Looks, tested};
+ghost use Rattle.passkey_kinds.specs.Shape.{reached};
+ghost use Rattle.passkey_kinds.specs.Words.{tolerated, Item, IsEncodedAt, item_of, Answers, Typed, Onward, Further, ReadsAs, truth, below, text, kept, optional, scalar_of};
 
 use crate::head::read_scalar;
-use crate::{Blame, OutOfMemory, Refusal, Wanted};
+use crate::{Form, Look, OutOfMemory, Refusal, Wanted, looked};
 use passkey_bytes::Text;
 use passkey_cbor::{CborError, Cursor, Head, Value};
 use std::alloc::Global;
@@ -18,7 +20,7 @@ pub trait FromCbor: Drop {
     /// The value that each data item decodes to, if it decodes to one; whether decoding may take
     /// memory; the most heads that `read` decodes for each byte of the data item; the data items
     /// that it makes as values at most: those that the result keeps, and in authenticator data those
-    /// for the credential public key and the extensions; and what it blames if it refuses an item.
+    /// for the credential public key and the extensions; and what it is decoded from, part by part.
     ghost typed: { Typed Meaning };
 
     /// Decodes the value from a data item. Returns `Refused` exactly if the type doesn't accept the
@@ -41,11 +43,13 @@ pub trait FromCbor: Drop {
         // After a success it moved on by whole heads, and counted at least as many.
         ensures further { OnOk result (Further cursor.old cursor.new) };
 
-    /// Returns what is to blame if the type refuses the data item: the innermost item, or map key,
-    /// that is refused, and why. Nothing is promised for an item that the type accepts. Returns
+    /// Returns what the part of the type to which the way leads is decoded from, and whether it
+    /// accepts the data item. For each list and map on the way there is any number, which leads to
+    /// its elements or values, and for each record the number of a row, which leads to its value; an
+    /// empty way leads to the type itself. Nothing is promised for a way that leads nowhere. Returns
     /// `OutOfMemory` if an allocation fails.
-    fn explain(alloc: Global, value: &Value) -> Result<Blame, OutOfMemory>
-        ensures { IfOk result (λ b. blame_of b ≡ typed.blame (item_of value.now)) };
+    fn look(alloc: Global, way: &[u8], value: &Value) -> Result<Look, OutOfMemory>
+        ensures { Looks (reached way.now (tested typed)) (item_of value.now) result };
 }
 
 fn truth_of(head: Option<Head>) -> Result<bool, Refusal>
@@ -92,8 +96,8 @@ impl FromCbor for bool {
         truth_of(read_scalar(cursor))
     }
 
-    fn explain(alloc: Global, _value: &Value) -> Result<Blame, OutOfMemory> {
-        Ok(Blame::wanted(alloc, Wanted::Boolean))
+    fn look(alloc: Global, _way: &[u8], value: &Value) -> Result<Look, OutOfMemory> {
+        looked(bool::from_value(alloc, value), Form::Leaf(Wanted::Boolean))
     }
 }
 
@@ -113,8 +117,8 @@ impl FromCbor for u8 {
         byte(read_scalar(cursor))
     }
 
-    fn explain(alloc: Global, _value: &Value) -> Result<Blame, OutOfMemory> {
-        Ok(Blame::wanted(alloc, Wanted::Below(256)))
+    fn look(alloc: Global, _way: &[u8], value: &Value) -> Result<Look, OutOfMemory> {
+        looked(u8::from_value(alloc, value), Form::Leaf(Wanted::Below(256)))
     }
 }
 
@@ -134,8 +138,11 @@ impl FromCbor for u32 {
         word(read_scalar(cursor))
     }
 
-    fn explain(alloc: Global, _value: &Value) -> Result<Blame, OutOfMemory> {
-        Ok(Blame::wanted(alloc, Wanted::Below(4_294_967_296)))
+    fn look(alloc: Global, _way: &[u8], value: &Value) -> Result<Look, OutOfMemory> {
+        looked(
+            u32::from_value(alloc, value),
+            Form::Leaf(Wanted::Below(4_294_967_296)),
+        )
     }
 }
 
@@ -158,8 +165,8 @@ impl FromCbor for Text {
         }
     }
 
-    fn explain(alloc: Global, _value: &Value) -> Result<Blame, OutOfMemory> {
-        Ok(Blame::wanted(alloc, Wanted::Text))
+    fn look(alloc: Global, _way: &[u8], value: &Value) -> Result<Look, OutOfMemory> {
+        looked(Text::from_value(alloc, value), Form::Leaf(Wanted::Text))
     }
 }
 
@@ -184,8 +191,8 @@ impl FromCbor for Value {
         }
     }
 
-    fn explain(alloc: Global, _value: &Value) -> Result<Blame, OutOfMemory> {
-        Ok(Blame::wanted(alloc, Wanted::Any))
+    fn look(alloc: Global, _way: &[u8], value: &Value) -> Result<Look, OutOfMemory> {
+        looked(Value::from_value(alloc, value), Form::Leaf(Wanted::Any))
     }
 }
 
@@ -211,8 +218,12 @@ impl<T: FromCbor> FromCbor for Option<T> {
         Ok(Some(T::read(alloc, cursor)?))
     }
 
-    fn explain(alloc: Global, value: &Value) -> Result<Blame, OutOfMemory> {
-        T::explain(alloc, value)
+    fn look(alloc: Global, way: &[u8], value: &Value) -> Result<Look, OutOfMemory> {
+        let look = T::look(alloc, way, value)?;
+        match way.split_first() {
+            None => looked(<Option<T>>::from_value(alloc, value), look.form),
+            Some(_) => Ok(look),
+        }
     }
 }
 
@@ -253,7 +264,11 @@ impl<T: FromCbor> FromCbor for Tolerated<T> {
         }
     }
 
-    fn explain(alloc: Global, value: &Value) -> Result<Blame, OutOfMemory> {
-        T::explain(alloc, value)
+    fn look(alloc: Global, way: &[u8], value: &Value) -> Result<Look, OutOfMemory> {
+        let look = T::look(alloc, way, value)?;
+        match way.split_first() {
+            None => looked(<Tolerated<T>>::from_value(alloc, value), look.form),
+            Some(_) => Ok(look),
+        }
     }
 }

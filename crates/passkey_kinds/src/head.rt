@@ -27,7 +27,7 @@ pub(crate) fn map_len(head: Option<Head>) -> Option<Option<u64>>
 
 /// Decodes the head at the cursor, which is the whole data item if that is an integer or a boolean.
 #[tactic(auto, using(crate::proofs::Cursor::heads))]
-pub(crate) fn read_scalar(cursor: &mut Cursor<'_>) -> Option<Head>
+pub fn read_scalar(cursor: &mut Cursor<'_>) -> Option<Head>
     ensures reads { (i : Item) (to : ℕ) → IsEncodedAt i cursor.old.bytes cursor.old.place to
         → ReadsScalar i to cursor.old cursor.new (scalar_of result) }
     ensures onward { Onward cursor.old cursor.new }

@@ -3,7 +3,7 @@ ghost use Rattle.std.specs.Prelude.{◌≡◌, false, IfOk, OnErr, Some, option_
 ghost use Rattle.passkey_kinds.specs.Words.{Item, item_of, Grows};
 ghost use Rattle.passkey_kinds.specs.Numbered.{kept_item, not_null, has_room, IsNotNull};
 
-use crate::{Blame, FromCbor, OutOfMemory, Refusal, ToCbor, Wanted};
+use crate::{Form, FromCbor, Look, OutOfMemory, Refusal, ToCbor, Wanted, looked};
 use passkey_cbor::{Cursor, Encoder, MAX_DEPTH, Value};
 use std::alloc::Global;
 use std::marker::Model;
@@ -95,8 +95,8 @@ impl FromCbor for Kept {
         Kept::new(Value::read(alloc, cursor)?).ok_or(Refusal::Refused)
     }
 
-    fn explain(alloc: Global, _value: &Value) -> Result<Blame, OutOfMemory> {
-        Ok(Blame::wanted(alloc, Wanted::NotNull))
+    fn look(alloc: Global, _way: &[u8], value: &Value) -> Result<Look, OutOfMemory> {
+        looked(Kept::from_value(alloc, value), Form::Leaf(Wanted::NotNull))
     }
 }
 

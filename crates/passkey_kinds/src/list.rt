@@ -3,8 +3,7 @@ ghost use Rattle.std.specs.Prelude.{map, List as Items};
 ghost use Rattle.passkey_kinds.specs.Words.{list, accepted, pushing, pushing_if};
 
 use crate::collect::{Gather, read_elements, read_whole};
-use crate::explain::explain_elements;
-use crate::{Blame, FromCbor, OutOfMemory, Refusal, Source, Tolerated, Wanted};
+use crate::{Form, FromCbor, Look, OutOfMemory, Refusal, Source, Tolerated, looked};
 use passkey_bytes::List;
 use passkey_cbor::{Cursor, Value};
 use std::alloc::Global;
@@ -43,11 +42,10 @@ impl<T: FromCbor> FromCbor for List<T> {
         read_whole(alloc, List::empty(alloc), cursor)
     }
 
-    #[tactic(auto, using(crate::proofs::Blames::in_array), unfolding(crate::specs::Blaming::list_blame))]
-    fn explain(alloc: Global, value: &Value) -> Result<Blame, OutOfMemory> {
-        match value {
-            Value::Array(elements) => explain_elements::<T>(alloc, elements),
-            _ => Ok(Blame::wanted(alloc, Wanted::Array)),
+    fn look(alloc: Global, way: &[u8], value: &Value) -> Result<Look, OutOfMemory> {
+        match way.split_first() {
+            None => looked(<List<T>>::from_value(alloc, value), Form::List),
+            Some((_, rest)) => T::look(alloc, rest, value),
         }
     }
 }
@@ -96,7 +94,10 @@ impl<T: FromCbor> FromCbor for TolerantList<T> {
         read_whole(alloc, TolerantList(List::empty(alloc)), cursor)
     }
 
-    fn explain(alloc: Global, _value: &Value) -> Result<Blame, OutOfMemory> {
-        Ok(Blame::wanted(alloc, Wanted::Array))
+    fn look(alloc: Global, way: &[u8], value: &Value) -> Result<Look, OutOfMemory> {
+        match way.split_first() {
+            None => looked(<TolerantList<T>>::from_value(alloc, value), Form::List),
+            Some((_, rest)) => T::look(alloc, rest, value),
+        }
     }
 }

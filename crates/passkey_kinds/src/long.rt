@@ -4,7 +4,7 @@ ghost use Rattle.passkey_kinds.specs.Words.{Answers, below, scalar_of, number_tr
 
 use crate::head::read_scalar;
 use crate::to_cbor::{integer, number};
-use crate::{Blame, FromCbor, OutOfMemory, ReadBack, Refusal, ToCbor, Wanted};
+use crate::{Form, FromCbor, Look, OutOfMemory, ReadBack, Refusal, ToCbor, Wanted, looked};
 use passkey_cbor::{Cursor, Encoder, Head, Value};
 use std::alloc::Global;
 
@@ -33,8 +33,11 @@ impl FromCbor for u64 {
         long(read_scalar(cursor))
     }
 
-    fn explain(alloc: Global, _value: &Value) -> Result<Blame, OutOfMemory> {
-        Ok(Blame::wanted(alloc, Wanted::Below(18_446_744_073_709_551_616)))
+    fn look(alloc: Global, _way: &[u8], value: &Value) -> Result<Look, OutOfMemory> {
+        looked(
+            u64::from_value(alloc, value),
+            Form::Leaf(Wanted::Below(18_446_744_073_709_551_616)),
+        )
     }
 }
 

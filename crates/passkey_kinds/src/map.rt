@@ -7,9 +7,8 @@ ghost use Rattle.passkey_kinds.specs.Words.{ByteMap, item_of, pair_of, AnswersAs
 ghost use Rattle.std.specs.FinMap as fin;
 
 use crate::collect::{Collect, read_whole};
-use crate::explain::explain_entries;
 use crate::head::read_map;
-use crate::{Blame, FromCbor, OutOfMemory, Refusal, ToCbor, Wanted};
+use crate::{Form, FromCbor, Look, OutOfMemory, Refusal, ToCbor, looked};
 use passkey_bytes::{Bytes, Map};
 use passkey_cbor::{Cursor, Value};
 use std::alloc::Global;
@@ -67,11 +66,10 @@ impl<T: FromCbor> FromCbor for Map<Bytes, T> {
         read_whole(alloc, Map::empty(alloc), cursor)
     }
 
-    #[tactic(auto, using(crate::proofs::Members::reads_map), unfolding(crate::specs::Blaming::map_blame))]
-    fn explain(alloc: Global, value: &Value) -> Result<Blame, OutOfMemory> {
-        match value {
-            Value::Map(pairs) => explain_entries::<T>(alloc, pairs),
-            _ => Ok(Blame::wanted(alloc, Wanted::Map)),
+    fn look(alloc: Global, way: &[u8], value: &Value) -> Result<Look, OutOfMemory> {
+        match way.split_first() {
+            None => looked(<Map<Bytes, T>>::from_value(alloc, value), Form::Map),
+            Some((_, rest)) => T::look(alloc, rest, value),
         }
     }
 }

@@ -3,7 +3,7 @@ ghost use Rattle.std.specs.Prelude.{◌≡◌, ◌≤◌, ℕ, List, length, map
 ghost use Rattle.passkey_kinds.specs.Words.{Item, IsRegion, HoldsString, IsEncodedAt, Onward, Further, ReadsAs, LooksAtMost, item_of, Answers, one_named, credential_type_named, transport_named};
 ghost use Rattle.passkey_webauthn.specs.Names.{row_of, texts, value_at, value_in};
 
-use crate::{Blame, FromCbor, OutOfMemory, Refusal, Wanted};
+use crate::{Form, FromCbor, Look, OutOfMemory, Refusal, Wanted, looked};
 use passkey_cbor::{Cursor, TextToken, Value};
 use passkey_webauthn::{AuthenticatorTransport, EnumNames, PublicKeyCredentialType};
 use std::alloc::Global;
@@ -86,8 +86,11 @@ impl FromCbor for PublicKeyCredentialType {
         read_named(cursor)
     }
 
-    fn explain(alloc: Global, _value: &Value) -> Result<Blame, OutOfMemory> {
-        Ok(Blame::wanted(alloc, Wanted::Name))
+    fn look(alloc: Global, _way: &[u8], value: &Value) -> Result<Look, OutOfMemory> {
+        looked(
+            PublicKeyCredentialType::from_value(alloc, value),
+            Form::Leaf(Wanted::Name),
+        )
     }
 }
 
@@ -104,7 +107,10 @@ impl FromCbor for AuthenticatorTransport {
         read_named(cursor)
     }
 
-    fn explain(alloc: Global, _value: &Value) -> Result<Blame, OutOfMemory> {
-        Ok(Blame::wanted(alloc, Wanted::Name))
+    fn look(alloc: Global, _way: &[u8], value: &Value) -> Result<Look, OutOfMemory> {
+        looked(
+            AuthenticatorTransport::from_value(alloc, value),
+            Form::Leaf(Wanted::Name),
+        )
     }
 }

@@ -1,6 +1,6 @@
 //! Records whose members have names alone, and which keep no data item.
 ghost use Rattle.std.specs.Prelude.{◌≡◌, ◌≤◌, ℕ, true, false, length, map, is_ok, OnOk};
-ghost use Rattle.passkey_kinds.specs.Words.{Item, PlainTable, EachFits, fields_of, places_of, plain_tree, KeysAscend, IsReadBack, are_small, table_of, cost_at, keeps_at, blame_at, Puts, entry_of, AllAccepted, put_all, entries, plain_kind};
+ghost use Rattle.passkey_kinds.specs.Words.{Item, PlainTable, EachFits, fields_of, places_of, plain_tree, KeysAscend, IsReadBack, are_small, table_of, cost_at, keeps_at, shape_at, Puts, entry_of, AllAccepted, put_all, entries, plain_kind};
 
 use crate::{OutOfMemory, Refusal, Row, Sink, Source, TableRecord};
 use std::alloc::Global;
@@ -30,7 +30,7 @@ pub trait PlainRecord: Drop {
         ensures puts { (i : Item) (to : ℕ) → S.At source.old i to
             → Puts (fields_of table) number i self.old self.new result }
         ensures spends { (i : Item) (to : ℕ) → S.At source.old i to → S.HasCost (cost_at (fields_of table).rows number)
-            (keeps_at (fields_of table).rows number) (blame_at (fields_of table).rows number) i to
+            (keeps_at (fields_of table).rows number) (shape_at (fields_of table).rows number) i to
             source.old source.new (is_ok result) }
         ensures onward { S.IsOnward source.old source.new }
         ensures further { OnOk result (S.IsFurther source.old source.new) };

@@ -1,15 +1,15 @@
 //! Records, decoded member by member.
 ghost use Rattle.std.specs.Prelude.{◌≡◌, ◌<◌, ◌≤◌, ℕ, Bool, true, false, length, map, replicate, get_or, is_ok, OnOk, set, [], None};
-ghost use Rattle.passkey_kinds.specs.Words.{CountsHeads, Item, max_depth, IsEncodedAt, PairsAreEncodedAt, item_of, pair_of, Onward, Further, MayGrowIn, MayGrowAt, Reads, are_small, named_as, Fields, table_of, read_members, read_item, nested, cost_at, keeps_at, blame_at, Puts, entry_of, Members, entries, named, MayGrowBy, one_more, reached, read_from, cost_by, keeps_by, DecodesMember, DecodesMembers, DecodesRecord, as_nested};
+ghost use Rattle.passkey_kinds.specs.Words.{CountsHeads, Item, max_depth, IsEncodedAt, PairsAreEncodedAt, item_of, pair_of, Onward, Further, MayGrowIn, MayGrowAt, Reads, are_small, named_as, Fields, table_of, read_members, read_item, nested, cost_at, keeps_at, shape_at, Puts, entry_of, Members, entries, named, MayGrowBy, one_more, reached, read_from, cost_by, keeps_by, DecodesMember, DecodesMembers, DecodesRecord, as_nested};
 ghost use Rattle.passkey_kinds.specs.Record.{first_missing as missing_of};
 ghost use Rattle.passkey_cbor.specs.EncodedAt.{Lies};
 ghost use Rattle.passkey_cbor.specs.Inside.{PairWithin};
 
-use crate::explain::explain_record;
 use crate::head::read_map;
 use crate::key::read_key;
+use crate::look::look_at_row;
 use crate::rows::{Named, row_of};
-use crate::{Blame, Fault, FromCbor, InMemory, OutOfMemory, Refusal, Row, Source};
+use crate::{Fault, Form, FromCbor, InMemory, Look, OutOfMemory, Refusal, Row, Source, looked};
 use passkey_cbor::{Cursor, Value};
 use std::alloc::Global;
 
@@ -51,7 +51,7 @@ pub trait Record: Drop {
         ensures puts { (i : Item) (to : ℕ) → S.At source.old i to
             → Puts fields number i (parts self.old) (parts self.new) result }
         ensures spends { (i : Item) (to : ℕ) → S.At source.old i to → S.HasCost (cost_at fields.rows number)
-            (keeps_at fields.rows number) (blame_at fields.rows number) i to source.old source.new (is_ok result) }
+            (keeps_at fields.rows number) (shape_at fields.rows number) i to source.old source.new (is_ok result) }
         ensures onward { S.IsOnward source.old source.new }
         ensures further { OnOk result (S.IsFurther source.old source.new) };
 }
@@ -99,7 +99,7 @@ fn read_member<R: Record, S: Source>(
 }
 
 /// Returns whether the row with this number is marked.
-pub(crate) fn is_marked(seen: &[bool; 32], number: u8) -> bool
+pub fn is_marked(seen: &[bool; 32], number: u8) -> bool
     ensures { result ≡ get_or seen.now number false }
 {
     let index = usize::from(number);
@@ -107,7 +107,7 @@ pub(crate) fn is_marked(seen: &[bool; 32], number: u8) -> bool
 }
 
 /// Marks the row with this number. A row's number is below 32.
-pub(crate) fn mark(seen: &mut [bool; 32], number: u8)
+pub fn mark(seen: &mut [bool; 32], number: u8)
     ensures { number < 32 → seen.new ≡ set seen.old number true }
 {
     let index = usize::from(number);
@@ -117,7 +117,7 @@ pub(crate) fn mark(seen: &mut [bool; 32], number: u8)
 }
 
 /// Returns the number of the first required row that isn't marked.
-pub(crate) fn first_missing(rows: &[Row], seen: &[bool; 32]) -> Option<u8>
+pub fn first_missing(rows: &[Row], seen: &[bool; 32]) -> Option<u8>
     ensures { result ≡ missing_of (map entry_of rows.now) (λ n. get_or seen.now n false) }
 {
     for row in rows {
@@ -129,7 +129,7 @@ pub(crate) fn first_missing(rows: &[Row], seen: &[bool; 32]) -> Option<u8>
 }
 
 /// Returns marks with no row marked.
-pub(crate) fn no_marks() -> [bool; 32]
+pub fn no_marks() -> [bool; 32]
     ensures { result ≡ replicate 32 false }
 {
     [false; 32]
@@ -264,7 +264,13 @@ impl<R: Record> FromCbor for R {
         nested_result(read_record::<R>(alloc, cursor))
     }
 
-    fn explain(alloc: Global, value: &Value) -> Result<Blame, OutOfMemory> {
-        explain_record::<R>(alloc, value)
+    fn look(alloc: Global, way: &[u8], value: &Value) -> Result<Look, OutOfMemory> {
+        match way.split_first() {
+            None => looked(
+                nested_result(record_from_value::<R>(alloc, value)),
+                Form::Record(R::is_numbered(), R::rows()),
+            ),
+            Some((number, rest)) => look_at_row::<R>(alloc, *number, rest, value),
+        }
     }
 }

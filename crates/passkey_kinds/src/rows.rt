@@ -16,7 +16,8 @@ pub enum Row {
 }
 
 impl Row {
-    pub(crate) fn number(&self) -> u8
+    /// Returns the member's number.
+    pub fn number(&self) -> u8
         ensures { result ≡ (entry_of self.now).number }
     {
         match self {
@@ -24,7 +25,8 @@ impl Row {
         }
     }
 
-    pub(crate) fn name(&self) -> &'static str
+    /// Returns the member's name.
+    pub fn name(&self) -> &'static str
         ensures { result.now ≡ (entry_of self.now).name }
     {
         match self {
@@ -44,7 +46,7 @@ impl Row {
 
 /// What a map key names.
 #[derive(Clone, Copy)]
-pub(crate) enum Named {
+pub enum Named {
     /// The row with this number.
     Row(u8),
     /// No row of the table.
@@ -99,7 +101,7 @@ pub(crate) fn of_number(is_numbered: bool, rows: &[Row], number: Option<u8>) -> 
 }
 
 /// Returns what the map key names. Returns `None` if a record can't have this key.
-pub(crate) fn row_of(is_numbered: bool, rows: &[Row], key: &Value) -> Option<Named>
+pub fn row_of(is_numbered: bool, rows: &[Row], key: &Value) -> Option<Named>
     ensures { naming_of result ≡ names is_numbered (map entry_of rows.now) (item_of key.now) }
 {
     match key {

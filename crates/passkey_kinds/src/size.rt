@@ -6,7 +6,7 @@ ghost use Rattle.passkey_kinds.specs.Words.{number, Answers, size, scalar_of};
 ghost use Rattle.passkey_kinds.specs.Kind.{size as size_of};
 
 use crate::head::read_scalar;
-use crate::{Blame, FromCbor, OutOfMemory, Refusal, Wanted};
+use crate::{Form, FromCbor, Look, OutOfMemory, Refusal, Wanted, looked};
 use passkey_cbor::{Cursor, Head, Integer, Value};
 use std::alloc::Global;
 use std::num::NonZeroU128;
@@ -44,7 +44,10 @@ impl FromCbor for NonZeroU128 {
         not_zero(read_scalar(cursor))
     }
 
-    fn explain(alloc: Global, _value: &Value) -> Result<Blame, OutOfMemory> {
-        Ok(Blame::wanted(alloc, Wanted::Size))
+    fn look(alloc: Global, _way: &[u8], value: &Value) -> Result<Look, OutOfMemory> {
+        looked(
+            NonZeroU128::from_value(alloc, value),
+            Form::Leaf(Wanted::Size),
+        )
     }
 }

@@ -1,6 +1,6 @@
 //! Where a record's values are decoded from.
 ghost use Rattle.std.specs.Prelude.{◌≡◌, ℕ, suc, map, option_map, Option, Some, None, is_ok, Bool, true, false, OnOk};
-ghost use Rattle.passkey_kinds.specs.Words.{Blame, Item, IsEncodedAt, item_of, Keeping, nothing, in_elements, Answers, Onward, Further, Costs, accepted, or_else, tolerated, Sets, costs_nothing, onward_same, costs_at_most};
+ghost use Rattle.passkey_kinds.specs.Words.{Shape, Item, IsEncodedAt, item_of, Keeping, nothing, in_elements, Answers, Onward, Further, Costs, accepted, or_else, tolerated, Sets, costs_nothing, onward_same, costs_at_most};
 
 use crate::{FromCbor, Refusal, TolerantList, Tolerated};
 use passkey_bytes::List;
@@ -13,9 +13,9 @@ pub trait Source {
     ghost At: { Self → Item → ℕ → Type 0 };
 
     /// The cost of decoding the item: at most this many heads for each byte, and at most these data
-    /// items made as values; and what is to blame for it, if a type was decoded. After a success the
-    /// source is after the item.
-    ghost HasCost: { ℕ → Keeping → Option (Item → Blame) → Item → ℕ → Self → Self → Bool → Type 0 };
+    /// items made as values; and the shape of the type that was decoded, if one was. After a success
+    /// the source is after the item.
+    ghost HasCost: { ℕ → Keeping → Option Shape → Item → ℕ → Self → Self → Bool → Type 0 };
 
     /// The source didn't move back, and its counts didn't fall.
     ghost IsOnward: { Self → Self → Type 0 };
@@ -28,7 +28,7 @@ pub trait Source {
     fn read<T: FromCbor>(&mut self, alloc: Global) -> Result<T, Refusal>
         ensures answers { (i : Item) (to : ℕ) → At self.old i to → Answers T.view T.typed i result }
         ensures spends { (i : Item) (to : ℕ) → At self.old i to
-            → HasCost T.typed.cost T.typed.keeps (Some T.typed.blame) i to self.old self.new (is_ok result) }
+            → HasCost T.typed.cost T.typed.keeps (Some T.typed.shape) i to self.old self.new (is_ok result) }
         ensures onward { IsOnward self.old self.new }
         ensures further { OnOk result (IsFurther self.old self.new) };
 
@@ -40,16 +40,16 @@ pub trait Source {
         ensures onward { IsOnward self.old self.new }
         ensures further { result ≡ true → IsFurther self.old self.new };
 
-    ghost stays: { (cost : ℕ) (keeps : Keeping) (blame : Option (Item → Blame)) (i : Item) (to : ℕ) (s : Self)
-        → blame ≡ None → At s i to → HasCost cost keeps blame i to s s false };
+    ghost stays: { (cost : ℕ) (keeps : Keeping) (shape : Option Shape) (i : Item) (to : ℕ) (s : Self)
+        → shape ≡ None → At s i to → HasCost cost keeps shape i to s s false };
 
     ghost still: { (s : Self) → IsOnward s s };
 
-    ghost at_most: { (cost : ℕ) (keeps : Keeping) (blame : Option (Item → Blame)) (i : Item) (to : ℕ) (s e : Self)
-        → HasCost cost keeps blame i to s e true → HasCost cost keeps blame i to s e false };
+    ghost at_most: { (cost : ℕ) (keeps : Keeping) (shape : Option Shape) (i : Item) (to : ℕ) (s e : Self)
+        → HasCost cost keeps shape i to s e true → HasCost cost keeps shape i to s e false };
 
-    ghost forget: { (cost : ℕ) (keeps : Keeping) (blame : Option (Item → Blame)) (i : Item) (to : ℕ) (s e : Self)
-        (ok : Bool) → HasCost cost keeps blame i to s e ok → HasCost cost keeps None i to s e ok };
+    ghost forget: { (cost : ℕ) (keeps : Keeping) (shape : Option Shape) (i : Item) (to : ℕ) (s e : Self)
+        (ok : Bool) → HasCost cost keeps shape i to s e ok → HasCost cost keeps None i to s e ok };
 }
 
 /// A data item in memory.
@@ -59,19 +59,19 @@ pub struct InMemory<'a>(pub &'a Value);
 impl<'a> Source for InMemory<'a> {
     ghost At = { λ t i to. item_of t.0.now ≡ i };
 
-    ghost HasCost = { λ cost keeps blame i to old new ok. Unit {0} };
+    ghost HasCost = { λ cost keeps shape i to old new ok. Unit {0} };
 
     ghost IsOnward = { λ old new. Unit {0} };
 
     ghost IsFurther = { λ old new. Unit {0} };
 
-    ghost stays = { λ cost keeps blame i to s none at. tt };
+    ghost stays = { λ cost keeps shape i to s none at. tt };
 
     ghost still = { λ s. tt };
 
-    ghost at_most = { λ cost keeps blame i to s e spent. tt };
+    ghost at_most = { λ cost keeps shape i to s e spent. tt };
 
-    ghost forget = { λ cost keeps blame i to s e ok spent. tt };
+    ghost forget = { λ cost keeps shape i to s e ok spent. tt };
 
     fn read<T: FromCbor>(&mut self, alloc: Global) -> Result<T, Refusal> {
         T::from_value(alloc, self.0)
@@ -86,19 +86,19 @@ impl<'a> Source for InMemory<'a> {
 impl<'a> Source for Cursor<'a> {
     ghost At = { λ w i to. IsEncodedAt i w.bytes w.place to };
 
-    ghost HasCost = { λ cost keeps blame i to old new ok. Costs cost keeps i to old new ok };
+    ghost HasCost = { λ cost keeps shape i to old new ok. Costs cost keeps i to old new ok };
 
     ghost IsOnward = { Onward };
 
     ghost IsFurther = { Further };
 
-    ghost stays = { λ cost keeps blame i to s none at. costs_nothing cost keeps i to s at };
+    ghost stays = { λ cost keeps shape i to s none at. costs_nothing cost keeps i to s at };
 
     ghost still = { onward_same };
 
-    ghost at_most = { λ cost keeps blame i to s e spent. costs_at_most cost keeps i to s e spent };
+    ghost at_most = { λ cost keeps shape i to s e spent. costs_at_most cost keeps i to s e spent };
 
-    ghost forget = { λ cost keeps blame i to s e ok spent. spent };
+    ghost forget = { λ cost keeps shape i to s e ok spent. spent };
 
     fn read<T: FromCbor>(&mut self, alloc: Global) -> Result<T, Refusal> {
         T::read(alloc, self)
@@ -118,7 +118,7 @@ pub fn set<T: FromCbor, S: Source>(
 ) -> Result<(), Refusal>
     ensures sets { (i : Item) (to : ℕ) → S.At source.old i to → Sets T.view T.typed i field.new result }
     ensures spends { (i : Item) (to : ℕ) → S.At source.old i to
-        → S.HasCost T.typed.cost T.typed.keeps (Some T.typed.blame) i to source.old source.new (is_ok result) }
+        → S.HasCost T.typed.cost T.typed.keeps (Some T.typed.shape) i to source.old source.new (is_ok result) }
     ensures onward { S.IsOnward source.old source.new }
     ensures further { OnOk result (S.IsFurther source.old source.new) }
 {
@@ -136,7 +136,7 @@ pub fn set_tolerated<T: FromCbor, S: Source>(
     ensures sets { (i : Item) (to : ℕ) → S.At source.old i to
         → Sets (option_map T.view) (tolerated T.typed) i field.new result }
     ensures spends { (i : Item) (to : ℕ) → S.At source.old i to
-        → S.HasCost (suc T.typed.cost) T.typed.keeps (Some T.typed.blame) i to source.old source.new (is_ok result) }
+        → S.HasCost (suc T.typed.cost) T.typed.keeps (Some T.typed.shape) i to source.old source.new (is_ok result) }
     ensures onward { S.IsOnward source.old source.new }
     ensures further { OnOk result (S.IsFurther source.old source.new) }
 {
@@ -156,7 +156,7 @@ pub fn set_or<T: FromCbor, S: Source>(
     ensures sets { (i : Item) (to : ℕ) → S.At source.old i to
         → Sets T.view (or_else (T.view default) T.typed) i field.new result }
     ensures spends { (i : Item) (to : ℕ) → S.At source.old i to
-        → S.HasCost (suc T.typed.cost) T.typed.keeps (Some T.typed.blame) i to source.old source.new (is_ok result) }
+        → S.HasCost (suc T.typed.cost) T.typed.keeps (Some T.typed.shape) i to source.old source.new (is_ok result) }
     ensures onward { S.IsOnward source.old source.new }
     ensures further { OnOk result (S.IsFurther source.old source.new) }
 {
@@ -176,7 +176,7 @@ pub fn set_accepted<T: FromCbor, S: Source>(
     ensures sets { (i : Item) (to : ℕ) → S.At source.old i to
         → Sets (λ xs. map T.view xs) (accepted T.typed) i field.new result }
     ensures spends { (i : Item) (to : ℕ) → S.At source.old i to
-        → S.HasCost (suc (suc T.typed.cost)) (in_elements T.typed.keeps) (Some (accepted T.typed).blame) i to
+        → S.HasCost (suc (suc T.typed.cost)) (in_elements T.typed.keeps) (Some (accepted T.typed).shape) i to
         source.old source.new (is_ok result) }
     ensures onward { S.IsOnward source.old source.new }
     ensures further { OnOk result (S.IsFurther source.old source.new) }
@@ -195,7 +195,7 @@ pub fn set_accepted_or_none<T: FromCbor, S: Source>(
     ensures sets { (i : Item) (to : ℕ) → S.At source.old i to
         → Sets (λ o. option_map (λ xs. map T.view xs) o) (tolerated (accepted T.typed)) i field.new result }
     ensures spends { (i : Item) (to : ℕ) → S.At source.old i to
-        → S.HasCost (suc (suc (suc T.typed.cost))) (in_elements T.typed.keeps) (Some (accepted T.typed).blame) i to
+        → S.HasCost (suc (suc (suc T.typed.cost))) (in_elements T.typed.keeps) (Some (accepted T.typed).shape) i to
         source.old source.new (is_ok result) }
     ensures onward { S.IsOnward source.old source.new }
     ensures further { OnOk result (S.IsFurther source.old source.new) }

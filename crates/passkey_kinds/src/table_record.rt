@@ -1,6 +1,6 @@
 //! Records that one table defines.
 ghost use Rattle.std.specs.Prelude.{◌≡◌, ◌≤◌, ℕ, Bool, true, length, map, is_ok, OnOk, Option, None};
-ghost use Rattle.passkey_kinds.specs.Words.{Item, PlainTable, EachFits, places_of, plain_tree, KeysAscend, IsReadBack, are_small, table_of, cost_at, keeps_at, blame_at, Puts, entry_of, AllAccepted, put_all, entries, record_kind};
+ghost use Rattle.passkey_kinds.specs.Words.{Item, PlainTable, EachFits, places_of, plain_tree, KeysAscend, IsReadBack, are_small, table_of, cost_at, keeps_at, shape_at, Puts, entry_of, AllAccepted, put_all, entries, record_kind};
 ghost use Rattle.passkey_kinds.specs.Numbered.{table_fields, is_shallow};
 
 use crate::{OutOfMemory, Record, RecordReadBack, Refusal, Row, Sink, Source, ToCborMap};
@@ -42,7 +42,7 @@ pub trait TableRecord: Drop {
         ensures spends { (i : Item) (to : ℕ) → S.At source.old i to
             → S.HasCost (cost_at (table_fields numbered table).rows number)
             (keeps_at (table_fields numbered table).rows number)
-            (blame_at (table_fields numbered table).rows number) i to source.old source.new (is_ok result) }
+            (shape_at (table_fields numbered table).rows number) i to source.old source.new (is_ok result) }
         ensures onward { S.IsOnward source.old source.new }
         ensures further { OnOk result (S.IsFurther source.old source.new) };
 

@@ -1,13 +1,11 @@
 -- The data items of an array or a map, one after the other.
-use Rattle.std.proofs.Common.{◌≡◌, ℕ, ◌+◌, ◌≤◌, Bool, true, false, List, [], ◌∷◌, ◌++◌, length, drop, Option, Some, None, refl, sym, ap, subst, arith}
+use Rattle.std.proofs.Common.{◌≡◌, ℕ, ◌+◌, ◌≤◌, Bool, true, List, [], ◌∷◌, ◌++◌, length, Option, Some, None, refl, arith}
 use Rattle.std.proofs.lemmas.Bool.Decides.{nat_tests}
 use Rattle.std.proofs.lemmas.List.{length-append}
 use Rattle.passkey_cbor.specs.Item.{Item}
 use Rattle.passkey_cbor.specs.Languages.{Each}
-use Rattle.passkey_cbor.specs.Heads.{break}
 use Rattle.passkey_cbor.specs.Inside.{Within}
-use Rattle.passkey_malformed.specs.Stops.{Begins, ItemLeads, ListLeads, EndsList, Stops, StopsInList, items_in, wants, break_in}
-use Rattle.passkey_malformed.specs.declared.why.Why.{Why}
+use Rattle.passkey_malformed.specs.Stops.{Begins, ItemLeads, items_in, wants}
 use Rattle.passkey_malformed.proofs.Lists.{none_yet, one_more, items_long}
 
 -- There are no more than the list has.
@@ -54,52 +52,3 @@ module _ {is_map : Bool} {len : Option ℕ} {levels : ℕ} {bytes : List ℕ} {p
 
   pub items_few : passed ≤ length bytes
   items_few = omega (arith, go.count, items_long levels go.items bytes here go.before)
-
-  pub items_stop : (why : Why) (rest : List ℕ) → wants is_map len passed here ≡ true
-      → Stops levels (break_in is_map len passed) here why rest → StopsInList is_map len levels bytes why rest
-  items_stop why rest w s = record {
-    items = go.items;
-    here = here;
-    passed = go.before;
-    wanted = subst (λ (n : ℕ). wants is_map len n here ≡ true) (sym go.count) w;
-    stop = subst (λ (n : ℕ). Stops levels (break_in is_map len n) here why rest) (sym go.count) s;
-  }
-
-  listed : (rest : List ℕ) → EndsList is_map len passed here rest → ListLeads is_map len levels bytes rest
-  listed rest e = record {
-    items = go.items;
-    here = here;
-    passed = go.before;
-    ends = subst (λ (n : ℕ). EndsList is_map len n here rest) (sym go.count) e;
-  }
-
-ends_known : (is_map : Bool) (m passed : ℕ) (here : List ℕ) → passed ≤ items_in is_map m
-    → wants is_map (Some m) passed here ≡ false → EndsList is_map (Some m) passed here here
-ends_known is_map m passed here among w =
-    let none : items_in is_map m ≤ passed = grind (arith, nat_tests) in (omega (arith, among, none), refl)
-
-pub known_end : {is_map : Bool} {levels m : ℕ} {bytes : List ℕ} {passed : ℕ} {here : List ℕ}
-    → ItemsGo is_map (Some m) levels bytes passed here → wants is_map (Some m) passed here ≡ false
-    → ListLeads is_map (Some m) levels bytes here
-known_end {is_map} {levels} {m} {bytes} {passed} {here} go w =
-    listed go here (ends_known is_map m passed here go.among w)
-
-ends_unknown : (is_map : Bool) (passed : ℕ) (here : List ℕ) → wants is_map None passed here ≡ false
-    → EndsList is_map None passed here (drop 1 here)
-ends_unknown is_map passed [] w = absurd (grind (arith, nat_tests))
-ends_unknown is_map passed (b ∷ rest) w = (
-  grind (arith, nat_tests),
-  let q : b ≡ break = grind (arith, nat_tests) in
-      ap (λ (k : ℕ). k ∷ rest) q,
-)
-
-pub unknown_end : {is_map : Bool} {levels : ℕ} {bytes : List ℕ} {passed : ℕ} {here : List ℕ}
-    → ItemsGo is_map None levels bytes passed here → wants is_map None passed here ≡ false
-    → ListLeads is_map None levels bytes (drop 1 here)
-unknown_end {is_map} {levels} {bytes} {passed} {here} go w =
-    listed go (drop 1 here) (ends_unknown is_map passed here w)
-
-pub some_left : (is_map : Bool) (passed : ℕ) (here : List ℕ) → wants is_map None passed here ≡ false
-    → 1 ≤ length here
-some_left is_map passed [] w = absurd (grind (arith, nat_tests))
-some_left is_map passed (b ∷ rest) w = omega arith

@@ -1,7 +1,7 @@
 use Rattle.passkey_explain.proofs.Way.{opened, enough, enters}
 use Rattle.passkey_explain.proofs.along.enter.Goals as goal
 use Rattle.passkey_explain.specs.Along.{parts_of}
-use Rattle.passkey_kinds.specs.Blame.{step_of}
+use Rattle.passkey_explain.specs.Blame.{step_of}
 
 pub returns-in-Some : goal.returns-in-Some
 returns-in-Some c = λ i part to l is.

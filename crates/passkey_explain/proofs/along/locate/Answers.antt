@@ -2,9 +2,9 @@ use Rattle.std.proofs.Common.{arith, sym, subst, refl, ◌+◌, ◌≡◌, ◌-�
 use Rattle.std.proofs.lemmas.List.{length-map}
 use Rattle.passkey_cbor.specs.EncodedAt.{IsEncodedAt}
 use Rattle.passkey_kinds.proofs.Steps.{drop_all}
-use Rattle.passkey_kinds.specs.Blame.{step_of}
+use Rattle.passkey_explain.specs.Blame.{step_of}
 use Rattle.passkey_explain.proofs.Way.{way_begins, starts, step_taken, step_there, way_ends}
-use Rattle.passkey_kinds.specs.declared.blame.Step.TheVariants as code
+use Rattle.passkey_explain.specs.declared.blame.Step.TheVariants as code
 use Rattle.passkey_explain.proofs.along.locate.Goals as goal
 
 pub loop-step-init : goal.loop-step-init

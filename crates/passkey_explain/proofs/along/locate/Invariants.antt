@@ -2,7 +2,7 @@ use Rattle.std.proofs.Common.{◌≡◌, ℕ, drop, map, Some}
 use Rattle.passkey_cbor.specs.Item.{Item}
 use Rattle.passkey_cbor.specs.LeadingItem.{IsLeadingItem}
 use Rattle.passkey_explain.proofs.Way.{OnTheWay}
-use Rattle.passkey_kinds.specs.Blame.{step_of, item_along}
+use Rattle.passkey_explain.specs.Blame.{step_of, item_along}
 use Rattle.passkey_explain.proofs.along.locate.Given as goal
 
 abbrev pub invariant-loop-step : goal.invariant-loop-step

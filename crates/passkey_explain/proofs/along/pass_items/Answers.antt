@@ -13,16 +13,19 @@ loop-i-preserved c = record {
   each = λ xs to l enough.
       let less : c.loop-i.i < length xs = omega (arith, enough, c.loop-i-test.true) in
       let n = next_item xs c.loop-i.i _ _ _ to less (c.loop-i.invariant.each xs to l enough) in
-      let here = subst (λ (bs : List ℕ). IsEncodedAt n.first bs c.loop-i.cursor.place n.next) (sym c.loop-i.invariant.same) n.here in
+      let same = sym c.loop-i.invariant.same in
+      let here = subst (λ (bs : List ℕ). IsEncodedAt n.first bs c.loop-i.cursor.place n.next) same n.here in
       let p = c.if-not-skip.ensures.passes n.first n.next here in
-      subst (λ (k : ℕ). PassedItems xs (c.loop-i.i + 1) c.args.cursor.now.bytes c.args.cursor.now.place k to) (sym p.place) n.after;
+      let old = c.args.cursor.now in
+      subst (λ (k : ℕ). PassedItems xs (c.loop-i.i + 1) old.bytes old.place k to) (sym p.place) n.after;
 }
 
 pub returns-then-not-skip : goal.returns-then-not-skip
 returns-then-not-skip c = λ xs to l enough.
     let less : c.loop-i.i < length xs = omega (arith, enough, c.loop-i-test.true) in
     let n = next_item xs c.loop-i.i _ _ _ to less (c.loop-i.invariant.each xs to l enough) in
-    let here = subst (λ (bs : List ℕ). IsEncodedAt n.first bs c.loop-i.cursor.place n.next) (sym c.loop-i.invariant.same) n.here in
+    let same = sym c.loop-i.invariant.same in
+    let here = subst (λ (bs : List ℕ). IsEncodedAt n.first bs c.loop-i.cursor.place n.next) same n.here in
     let no = (c.if-not-skip.ensures.passes n.first n.next here).is_found in
     absurd cc
 

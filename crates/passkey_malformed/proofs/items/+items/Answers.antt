@@ -48,42 +48,59 @@ behind_item-returns-in-Text t c =
 pub behind_item-returns-in-None : goal.behind_item-returns-in-None
 behind_item-returns-in-None t c =
     too_deep c.in-Ok.found.0 c.in-Ok.found.1.now (nests_array c.in-Array.is) c.in-Ok.ensures
-    (record { none_left = omega (arith, c.in-None.ensures); is = c.too_deep.ensures.why; there = c.too_deep.ensures.rest })
+    (record {
+      none_left = omega (arith, c.in-None.ensures);
+      is = c.too_deep.ensures.why;
+      there = c.too_deep.ensures.rest;
+    })
 
 pub behind_item-returns-in-Some : goal.behind_item-returns-in-Some
 behind_item-returns-in-Some t c =
     let b = headed _ _ c.in-Array.is c.in-Ok.ensures in
-    let one : c.args.levels ≡ suc c.in-Some.inner = omega (arith, c.in-Some.ensures.0, c.in-Some.ensures.1) in
+    let e = c.in-Some.ensures in
+    let one : c.args.levels ≡ suc c.in-Some.inner = omega (arith, e.0, e.1) in
     judged c.behind_list.result
     (λ rest l. array_led c.args.levels c.args.bytes.now c.in-Ok.found.1.now (λ i. omega (arith, c.type_inv.bytes i))
     c.in-Array.len c.in-Some.inner rest.now one b l)
-    (λ stop s. in_list false c.in-Array.len c.in-Ok.found.1.now s.here s.items one b s.passed s.wanted s.stop)
+    (λ stop s.
+    in_list false c.in-Array.len c.in-Ok.found.1.now s.here s.items one b s.passed s.wanted s.stop)
     c.behind_list.ensures
 
 pub behind_item-returns-in-None-checked_sub : goal.behind_item-returns-in-None-checked_sub
 behind_item-returns-in-None-checked_sub t c =
     too_deep c.in-Ok.found.0 c.in-Ok.found.1.now (nests_map c.in-Map.is) c.in-Ok.ensures
-    (record { none_left = omega (arith, c.in-None-checked_sub.ensures); is = c.too_deep-in-None-checked_sub.ensures.why; there = c.too_deep-in-None-checked_sub.ensures.rest })
+    (record {
+      none_left = omega (arith, c.in-None-checked_sub.ensures);
+      is = c.too_deep-in-None-checked_sub.ensures.why;
+      there = c.too_deep-in-None-checked_sub.ensures.rest;
+    })
 
 pub behind_item-returns-in-Some-checked_sub : goal.behind_item-returns-in-Some-checked_sub
 behind_item-returns-in-Some-checked_sub t c =
     let b = headed _ _ c.in-Map.is c.in-Ok.ensures in
-    let one : c.args.levels ≡ suc c.in-Some-checked_sub.inner = omega (arith, c.in-Some-checked_sub.ensures.0, c.in-Some-checked_sub.ensures.1) in
+    let e = c.in-Some-checked_sub.ensures in
+    let one : c.args.levels ≡ suc c.in-Some-checked_sub.inner = omega (arith, e.0, e.1) in
     judged c.behind_list-in-Some-checked_sub.result
     (λ rest l. map_led c.args.levels c.args.bytes.now c.in-Ok.found.1.now (λ i. omega (arith, c.type_inv.bytes i))
     c.in-Map.len c.in-Some-checked_sub.inner rest.now one b l)
-    (λ stop s. in_list true c.in-Map.len c.in-Ok.found.1.now s.here s.items one b s.passed s.wanted s.stop)
+    (λ stop s.
+    in_list true c.in-Map.len c.in-Ok.found.1.now s.here s.items one b s.passed s.wanted s.stop)
     c.behind_list-in-Some-checked_sub.ensures
 
 pub behind_item-returns-in-None-checked_sub-2 : goal.behind_item-returns-in-None-checked_sub-2
 behind_item-returns-in-None-checked_sub-2 t c =
     too_deep c.in-Ok.found.0 c.in-Ok.found.1.now (nests_tag c.in-Tag.is) c.in-Ok.ensures
-    (record { none_left = omega (arith, c.in-None-checked_sub-2.ensures); is = c.too_deep-in-None-checked_sub-2.ensures.why; there = c.too_deep-in-None-checked_sub-2.ensures.rest })
+    (record {
+      none_left = omega (arith, c.in-None-checked_sub-2.ensures);
+      is = c.too_deep-in-None-checked_sub-2.ensures.why;
+      there = c.too_deep-in-None-checked_sub-2.ensures.rest;
+    })
 
 pub behind_item-returns-in-Some-checked_sub-2 : goal.behind_item-returns-in-Some-checked_sub-2
 behind_item-returns-in-Some-checked_sub-2 t c =
     let b = headed _ _ c.in-Tag.is c.in-Ok.ensures in
-    let one : c.args.levels ≡ suc c.in-Some-checked_sub-2.inner = omega (arith, c.in-Some-checked_sub-2.ensures.0, c.in-Some-checked_sub-2.ensures.1) in
+    let e = c.in-Some-checked_sub-2.ensures in
+    let one : c.args.levels ≡ suc c.in-Some-checked_sub-2.inner = omega (arith, e.0, e.1) in
     judged c.behind_item.result
     (λ rest l. tag_led c.args.levels c.args.bytes.now c.in-Ok.found.1.now (λ i. omega (arith, c.type_inv.bytes i))
     c.in-Tag.field-0 c.in-Some-checked_sub-2.inner rest.now one b l)

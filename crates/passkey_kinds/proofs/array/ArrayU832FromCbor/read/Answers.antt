@@ -1,4 +1,4 @@
-use Rattle.passkey_kinds.proofs.Steps.{on_ok, looked_further, further_ok, onward_of, arith, false, sized_bytes, stands_long, lent_decodes, stands_missed, missed_then, numbers_are}
+use Rattle.passkey_kinds.proofs.Steps.{on_ok, looked_further, arith, false, sized_bytes, stands_long, lent_decodes, stands_missed, missed_then, numbers_are}
 use Rattle.passkey_kinds.proofs.array.ArrayU832FromCbor.read.Goals as goal
 
 pub returns-in-Some-clause-reads : goal.returns-in-Some-clause-reads

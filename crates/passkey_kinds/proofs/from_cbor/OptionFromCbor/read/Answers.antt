@@ -1,4 +1,4 @@
-use Rattle.passkey_kinds.proofs.Steps.{arith, Spends, err_from_is_err_and, eased, stands_long, stands_missed, missed_then, further_from, skip_further, onward_of, failed, null_item, other_item}
+use Rattle.passkey_kinds.proofs.Steps.{arith, err_from_is_err_and, eased, stands_long, stands_missed, missed_then, further_from, skip_further, onward_of, failed, null_item, other_item}
 use Rattle.passkey_kinds.proofs.from_cbor.OptionFromCbor.read.Goals as goal
 
 pub returns-then-null-clause-reads : goal.returns-then-null-clause-reads
