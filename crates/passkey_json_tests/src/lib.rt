@@ -6,6 +6,8 @@ mod client_data;
 #[cfg(test)]
 mod credentials;
 #[cfg(test)]
+mod explanations;
+#[cfg(test)]
 mod json;
 #[cfg(test)]
 mod kinds;

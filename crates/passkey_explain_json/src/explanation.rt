@@ -1,0 +1,38 @@
+//! Why a JSON value isn't decoded as a record.
+ghost use Rattle.std.specs.Prelude.{IfOk};
+ghost use Rattle.passkey_explain_json.specs.Explains.{Explains};
+ghost use Rattle.serde_json.specs.View.{view};
+
+use crate::blame::JsonBlame;
+use crate::blames::BlamesRows;
+use crate::records::blame_fault;
+use passkey_json::{JsonFault, JsonRecord};
+use passkey_memory::OutOfMemory;
+use serde_json::Value;
+use std::alloc::Global;
+
+/// Why a JSON value isn't decoded as a record, and where in it.
+#[derive(Debug, Drop)]
+pub struct JsonExplanation {
+    /// The fault with which the record isn't decoded.
+    pub fault: JsonFault,
+    /// The innermost value that is refused, and why.
+    pub blame: JsonBlame,
+}
+
+/// Explains why the record isn't decoded from the JSON value. Returns `None` exactly if it is, as by
+/// `JsonRecord::from_json`, and `OutOfMemory` if an allocation fails. A record inside others is
+/// decoded once for each of them.
+pub fn explain_json<R: BlamesRows>(
+    alloc: Global,
+    value: &Value,
+) -> Result<Option<JsonExplanation>, OutOfMemory>
+    ensures { IfOk result (Explains R.table R.rows_blame (view value.now)) }
+{
+    let fault = match R::from_json(alloc, value) {
+        Ok(_) => return Ok(None),
+        Err(fault) => fault,
+    };
+    let blame = blame_fault::<R>(alloc, value, fault)?;
+    Ok(Some(JsonExplanation { fault, blame }))
+}

@@ -1,0 +1,86 @@
+//! Where JSON values are refused, and why.
+use crate::json::parsed;
+use passkey_credentials::CreatedPublicKeyCredential;
+use passkey_explain_json::{BlamesRows, explain_json};
+use passkey_options::{CredentialCreationOptions, CredentialRequestOptions};
+use std::process::Abort;
+use std::test::Fail;
+
+/// Ends the test unless this is how the record explains the JSON text: nothing if it is decoded, or
+/// the fault and what is to blame.
+fn expect<R: BlamesRows>(rt: &(impl Abort + AllocGlobal), text: &str, wanted: &str) {
+    let value = parsed(rt, text);
+    let found = match explain_json::<R>(rt.alloc(), &value).expect(rt, "memory") {
+        None => String::new(rt.alloc()),
+        Some(told) => format!(in rt.alloc(); "{}: {}", told.fault, told.blame).expect(rt, "memory"),
+    };
+    assert_eq!(rt; found.as_str(), wanted);
+}
+
+/// Texts of the options of a registration, and how they are explained: a nested member, a float, a
+/// member that is missing, a member of a map, no object, and places that tolerate anything.
+const CREATIONS: &[(&str, &str)] = &[
+    (
+        r#"{"publicKey": {"rp": {"name": "r"}, "challenge": "AA", "pubKeyCredParams": [],
+            "user": {"id": "AA", "name": "n", "displayName": 5}}}"#,
+        "Refused(\"publicKey\"): publicKey.user.displayName: a text is wanted",
+    ),
+    (
+        r#"{"publicKey": {"rp": {"name": "r"}, "challenge": "AA", "pubKeyCredParams": [],
+            "user": {"id": "AA", "name": "n", "displayName": 5.5}}}"#,
+        "Float(\"publicKey\"): publicKey.user.displayName: a text is wanted",
+    ),
+    (
+        r#"{"publicKey": {"rp": {"name": "r"}, "challenge": "AA", "pubKeyCredParams": [],
+            "user": {"id": "AA", "name": "n"}}}"#,
+        "Refused(\"publicKey\"): publicKey.user: displayName is missing",
+    ),
+    (
+        r#"{"publicKey": {"rp": {"name": "r"}, "challenge": "AA", "pubKeyCredParams": {},
+            "user": {"id": "AA", "name": "n", "displayName": "d"}}}"#,
+        "Refused(\"publicKey\"): publicKey.pubKeyCredParams: an array is wanted",
+    ),
+    (
+        r#"{"publicKey": {"rp": {"name": "r"}, "challenge": "AA", "pubKeyCredParams": [],
+            "user": {"id": "AA", "name": "n", "displayName": "d"},
+            "extensions": {"prf": {"evalByCredential": {"k": {"first": "AA"}, "l": {"first": true}}}}}}"#,
+        "Refused(\"publicKey\"): publicKey.extensions.prf.evalByCredential[\"l\"].first: a text in base64url is wanted",
+    ),
+    (
+        r#"{"publicKey": {"rp": {"name": "r"}, "challenge": "AA", "pubKeyCredParams": [{"alg": true}],
+            "attestation": 7, "hints": 7, "excludeCredentials": [7],
+            "user": {"id": [0, 256], "name": "n", "displayName": "d"}}}"#,
+        "Refused(\"publicKey\"): publicKey.user.id: a text in base64url is wanted",
+    ),
+    (
+        r#"{"publicKey": {"rp": {"name": "r"}, "challenge": "AA", "pubKeyCredParams": [{"alg": true}],
+            "attestation": 7, "hints": 7, "excludeCredentials": [7],
+            "user": {"id": [0, 255], "name": "n", "displayName": "d"}}}"#,
+        "",
+    ),
+    ("[]", "NotAnObject: an object is wanted"),
+    ("{}", "Missing(\"publicKey\"): publicKey is missing"),
+];
+
+#[test]
+fn creation_options_are_explained(rt: HostRuntime) {
+    for (text, wanted) in CREATIONS {
+        expect::<CredentialCreationOptions>(&rt, text, wanted);
+    }
+}
+
+#[test]
+fn other_records_are_explained(rt: HostRuntime) {
+    expect::<CredentialRequestOptions>(
+        &rt,
+        r#"{"publicKey": {"challenge": "AA", "allowCredentials": [], "allowList": []}}"#,
+        "Refused(\"publicKey\"): publicKey: allowCredentials is present under both of its names",
+    );
+    expect::<CreatedPublicKeyCredential>(
+        &rt,
+        r#"{"id": "AA", "rawId": "AA", "type": "public-key", "clientExtensionResults": {},
+            "response": {"clientDataJSON": "AA", "authenticatorData": "AA", "publicKeyAlgorithm": -7,
+            "attestationObject": "AA", "transports": ["usb", 7]}}"#,
+        "Refused(\"response\"): response.transports[1]: a name that the standard lists is wanted",
+    );
+}
