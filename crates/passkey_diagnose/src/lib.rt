@@ -1,0 +1,11 @@
+//! Diagnostic notation (RFC 8949, section 8): data items as text that people read.
+#![tactic(auto)]
+
+mod diagnosis;
+mod float;
+#[cfg(test)]
+mod tests;
+mod text;
+
+pub use diagnosis::{diagnose, diagnose_indented};
+pub use text::{escape_controls, quote};
