@@ -1,0 +1,78 @@
+-- What is printed of bytes.
+use Rattle.std.specs.Prelude.{◌≡◌, ◌⊎◌, ℕ, List, [], ◌∷◌, ◌++◌, Some, ⊤}
+use Rattle.hex.specs.Hex.{encode_lower}
+use Rattle.passkey_cbor.specs.Item.{Item}
+use Rattle.passkey_cbor.specs.LeadingItem.{IsLeadingItem}
+use Rattle.passkey_diagnose.specs.Diagnosis.{diagnosis}
+use Rattle.passkey_rewrite.specs.Rewriting.{Rewrites, IsRefusal}
+use Rattle.passkey_inspect_input.specs.Input.{bytes_as}
+use Rattle.passkey_inspect_input.specs.declared.Form.{Form}
+use Rattle.passkey_rewrite_json.specs.RewritesJson.{RewritesJson, json_rewritten}
+use Rattle.passkey_run.specs.declared.kind.JsonKind.{JsonKind}
+use Rattle.passkey_run.specs.declared.fault.RunFault.{RunFault}
+use Rattle.passkey_inspect.specs.declared.options.Output.{Output}
+use Rattle.passkey_inspect.specs.declared.options.Output.TheVariants.{Report, Diagnosis, Encoding}
+use Rattle.passkey_inspect.specs.declared.kind.InspectKind.{InspectKind}
+use Rattle.passkey_inspect.specs.declared.kind.InspectKind.TheVariants.{Bytes, Further, Json}
+
+-- What decoding the bytes as the kind and encoding the result returns, for the kinds of `passkey_show`.
+abbrev pub Encodes : InspectKind → List ℕ → List ℕ → Type 0
+Encodes (Bytes kind) bytes encoding = Rewrites kind bytes encoding
+Encodes (Further kind) bytes encoding = ⊤
+Encodes (Json kind) bytes encoding = ⊥
+
+-- Why these kinds reject the bytes.
+abbrev pub IsRefused : InspectKind → List ℕ → RunFault → Type 0
+IsRefused (Bytes kind) bytes fault = IsRefusal kind bytes fault
+IsRefused (Further kind) bytes fault = ⊤
+IsRefused (Json kind) bytes fault = ⊤
+
+-- The text is the encoding, in lower-case hexadecimal.
+pub record ShowsEncoding (kind : InspectKind) (bytes text : List ℕ) : Type 0 where
+  pub encoding : List ℕ
+  pub encodes : Encodes kind bytes encoding
+  pub shown : text ≡ encode_lower encoding
+
+-- The text is the leading data item in diagnostic notation, an element or a member a line.
+pub record ShowsItem (bytes text : List ℕ) : Type 0 where
+  pub front : Item
+  pub len : ℕ
+  pub begins : IsLeadingItem bytes front len
+  pub shown : text ≡ diagnosis front (10 ∷ [])
+
+-- What is printed of the bytes as the kind: exactly the encoding, or the item in diagnostic notation, in lines. Nothing is
+-- said of reports, of JSON and of dumps.
+abbrev pub Prints : Output → InspectKind → List ℕ → List ℕ → Type 0
+Prints Diagnosis kind bytes line = (text : List ℕ) × ShowsItem bytes text × (line ≡ text ++ 10 ∷ [])
+Prints Encoding kind bytes line = (text : List ℕ) × ShowsEncoding kind bytes text × (line ≡ text ++ 10 ∷ [])
+Prints _ kind bytes line = ⊤
+
+-- What is printed of the bytes as some kind.
+abbrev pub PrintsAs : Output → List ℕ → List ℕ → Type 0
+PrintsAs output bytes line = (kind : InspectKind) × Prints output kind bytes line
+
+-- The message is all of the bytes, or what follows a command or a status code.
+abbrev pub IsMessageIn : List ℕ → List ℕ → Type 0
+IsMessageIn bytes message = (bytes ≡ message) ⊎ ((first : ℕ) × (bytes ≡ first ∷ message))
+
+-- What is printed of the bytes that an input spells.
+pub record PrintsBytes (output : Output) (bytes line : List ℕ) : Type 0 where
+  pub message : List ℕ
+  pub inside : IsMessageIn bytes message
+  pub prints : PrintsAs output message line
+
+-- What is printed of a JSON text as some kind: the record that it is decoded to, in a line. Nothing is said of reports.
+abbrev pub PrintsRecord : Output → List ℕ → List ℕ → Type 0
+PrintsRecord Report input line = ⊤
+PrintsRecord _ input line =
+    (kind : JsonKind) × (text : List ℕ) × RewritesJson (json_rewritten kind) input text × (line ≡ text ++ 10 ∷ [])
+
+-- What is printed of an input that spells bytes in some form.
+pub record PrintsSpelled (output : Output) (input line : List ℕ) : Type 0 where
+  pub form : Form
+  pub bytes : List ℕ
+  pub spelled : bytes_as form input ≡ Some bytes
+  pub prints : PrintsBytes output bytes line
+
+abbrev pub PrintsInput : Output → List ℕ → List ℕ → Type 0
+PrintsInput output input line = PrintsSpelled output input line ⊎ PrintsRecord output input line

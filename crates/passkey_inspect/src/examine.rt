@@ -1,0 +1,156 @@
+//! Bytes, decoded as a kind.
+
+use crate::kind::{FurtherKind, InspectKind};
+use passkey_cbor::{CborError, Value};
+use passkey_core::AuthenticatorData;
+use passkey_cose::{CoseError, CoseKey};
+use passkey_explain::{Description, Explanation, describe, explain};
+use passkey_extensions::HmacGetSecretInput;
+use passkey_kinds::{Fault, Message};
+use passkey_malformed::malformed;
+use passkey_memory::OutOfMemory;
+use passkey_report::{describe_value, open_authenticator_data, open_key, opened};
+use passkey_run::BytesKind;
+use std::alloc::Global;
+
+/// What bytes are as a kind.
+#[derive(Drop)]
+pub enum Examined {
+    /// The kind accepts them: what is in them, and how many of the bytes are read.
+    Accepted(Description, usize),
+    /// The kind refuses them: the fault, and an explanation.
+    Refused(String),
+}
+
+/// Returns the fault and the explanation, each in a line.
+fn refusal_text(alloc: Global, explanation: &Explanation) -> Result<String, OutOfMemory> {
+    let fault = match explanation {
+        Explanation::NotWellFormed(_) => Fault::DecodeFailed,
+        Explanation::Refused(item) => item.fault,
+    };
+    Ok(format!(in alloc; "{fault}\n{explanation}")?)
+}
+
+fn refused(alloc: Global, error: CoseError) -> Result<Examined, OutOfMemory> {
+    match error {
+        CoseError::OutOfMemory => Err(OutOfMemory),
+        error => Ok(Examined::Refused(format!(in alloc; "{error}")?)),
+    }
+}
+
+/// Returns what is told of bytes that no well-formed data item begins.
+fn cbor_refused(alloc: Global, bytes: &[u8], error: CborError) -> Result<Examined, OutOfMemory> {
+    match (error, malformed(bytes)) {
+        (CborError::OutOfMemory, _) => Err(OutOfMemory),
+        (_, Some(malformed)) => {
+            let explanation = Explanation::NotWellFormed(malformed);
+            Ok(Examined::Refused(refusal_text(alloc, &explanation)?))
+        }
+        (error, None) => Ok(Examined::Refused(format!(in alloc; "{error}")?)),
+    }
+}
+
+fn examine_item(alloc: Global, bytes: &[u8]) -> Result<Examined, OutOfMemory> {
+    match Value::from_slice(alloc, bytes) {
+        Ok((value, len)) => Ok(Examined::Accepted(describe_value(alloc, &value)?, len)),
+        Err(error) => cbor_refused(alloc, bytes, error),
+    }
+}
+
+fn examine_data(alloc: Global, bytes: &[u8]) -> Result<Examined, OutOfMemory> {
+    match AuthenticatorData::from_slice_exact(alloc, bytes) {
+        Ok(parts) => Ok(Examined::Accepted(open_authenticator_data(alloc, &parts)?, bytes.len())),
+        Err(error) => refused(alloc, error),
+    }
+}
+
+fn examine_key(alloc: Global, bytes: &[u8]) -> Result<Examined, OutOfMemory> {
+    let (value, len) = match Value::from_slice(alloc, bytes) {
+        Ok(front) => front,
+        Err(error) => return cbor_refused(alloc, bytes, error),
+    };
+    if let Err(error) = CoseKey::from_value(alloc, &value) {
+        return refused(alloc, error);
+    }
+    let description = match &value {
+        Value::Map(pairs) => open_key(alloc, pairs.as_slice())?,
+        _ => describe_value(alloc, &value)?,
+    };
+    Ok(Examined::Accepted(description, len))
+}
+
+/// Examines a message. No bytes are an empty map, as in the body of a request or a response
+/// (CTAP 2.1, section 8).
+fn examine_message<M: Message>(alloc: Global, bytes: &[u8]) -> Result<Examined, OutOfMemory> {
+    if let Some(explanation) = explain::<M>(alloc, bytes)? {
+        return Ok(Examined::Refused(refusal_text(alloc, &explanation)?));
+    }
+    match Value::from_slice(alloc, bytes) {
+        Ok((value, len)) => {
+            let description = describe::<M>(alloc, &value)?;
+            Ok(Examined::Accepted(opened(alloc, &description)?, len))
+        }
+        Err(error) => cbor_refused(alloc, bytes, error),
+    }
+}
+
+fn examine_known(alloc: Global, kind: BytesKind, bytes: &[u8]) -> Result<Examined, OutOfMemory> {
+    match kind {
+        BytesKind::Cbor => examine_item(alloc, bytes),
+        BytesKind::Auth => examine_data(alloc, bytes),
+        BytesKind::MakeRequest => examine_message::<passkey_make_credential::Request>(alloc, bytes),
+        BytesKind::MakeResponse => {
+            examine_message::<passkey_make_credential::Response>(alloc, bytes)
+        }
+        BytesKind::GetRequest => examine_message::<passkey_get_assertion::Request>(alloc, bytes),
+        BytesKind::GetResponse => examine_message::<passkey_get_assertion::Response>(alloc, bytes),
+        BytesKind::Info => examine_message::<passkey_get_info::Response>(alloc, bytes),
+        BytesKind::HmacInput => examine_message::<HmacGetSecretInput>(alloc, bytes),
+    }
+}
+
+fn examine_further(
+    alloc: Global,
+    kind: FurtherKind,
+    bytes: &[u8],
+) -> Result<Examined, OutOfMemory> {
+    match kind {
+        FurtherKind::PinRequest => examine_message::<passkey_client_pin::Request>(alloc, bytes),
+        FurtherKind::PinResponse => examine_message::<passkey_client_pin::Response>(alloc, bytes),
+        FurtherKind::BioRequest => {
+            examine_message::<passkey_bio_enrollment::Request>(alloc, bytes)
+        }
+        FurtherKind::BioResponse => {
+            examine_message::<passkey_bio_enrollment::Response>(alloc, bytes)
+        }
+        FurtherKind::CredentialRequest => {
+            examine_message::<passkey_credential_management::Request>(alloc, bytes)
+        }
+        FurtherKind::CredentialResponse => {
+            examine_message::<passkey_credential_management::Response>(alloc, bytes)
+        }
+        FurtherKind::BlobsRequest => examine_message::<passkey_large_blobs::Request>(alloc, bytes),
+        FurtherKind::BlobsResponse => {
+            examine_message::<passkey_large_blobs::Response>(alloc, bytes)
+        }
+        FurtherKind::BlobsEntry => examine_message::<passkey_large_blobs::LargeBlob>(alloc, bytes),
+        FurtherKind::ConfigRequest => examine_message::<passkey_config::Request>(alloc, bytes),
+        FurtherKind::ConfigMinPinLength => {
+            examine_message::<passkey_config::MinPinLengthParameters>(alloc, bytes)
+        }
+        FurtherKind::ConfigVendor => {
+            examine_message::<passkey_config::VendorParameters>(alloc, bytes)
+        }
+        FurtherKind::Key => examine_key(alloc, bytes),
+    }
+}
+
+/// Decodes the bytes as the kind. A kind of JSON refuses them. Returns `OutOfMemory` if an
+/// allocation fails.
+pub fn examine(alloc: Global, kind: InspectKind, bytes: &[u8]) -> Result<Examined, OutOfMemory> {
+    match kind {
+        InspectKind::Bytes(kind) => examine_known(alloc, kind, bytes),
+        InspectKind::Further(kind) => examine_further(alloc, kind, bytes),
+        InspectKind::Json(_) => Ok(Examined::Refused(String::from_str(alloc, "BadJson")?)),
+    }
+}

@@ -1,0 +1,71 @@
+//! Why a run of the program failed.
+
+use passkey_memory::OutOfMemory;
+use passkey_run::RunFault;
+use std::alloc::{AllocError, AllocFailed, Global};
+use std::fmt;
+
+/// Why a run failed. Each fault has an exit status and text on standard error.
+#[derive(Debug, Drop)]
+pub enum InspectFault {
+    /// As in `passkey_show`.
+    Run(RunFault),
+    /// The kind refuses the message. The text has the kind and the fault in a line, and in another
+    /// which item, and what is wanted there, where a table tells it; status 1.
+    Refused(String),
+    /// The input isn't base64; status 1.
+    BadBase64,
+    /// An argument is none of the program's; status 2.
+    BadArguments,
+}
+
+impl InspectFault {
+    /// Returns the fault for a message that a kind refuses, with what is told of it.
+    pub fn refused(alloc: Global, kind: &str, text: &str) -> Result<InspectFault, OutOfMemory> {
+        Ok(InspectFault::Refused(format!(in alloc; "{kind} refuses it: {text}")?))
+    }
+
+    /// Returns the exit status, 1 to 4.
+    pub fn status(&self) -> u8 {
+        match self {
+            InspectFault::Run(fault) => fault.status(),
+            InspectFault::Refused(_) | InspectFault::BadBase64 => 1,
+            InspectFault::BadArguments => 2,
+        }
+    }
+}
+
+impl fmt::Display for InspectFault {
+    fn fmt<W: fmt::Write>(&self, f: &mut fmt::Formatter<W>) -> fmt::Result {
+        match self {
+            InspectFault::Run(fault) => write!(f, "{fault}"),
+            InspectFault::Refused(text) => f.write_str(text.as_str()),
+            InspectFault::BadBase64 => f.write_str("BadBase64"),
+            InspectFault::BadArguments => f.write_str("bad arguments; --help lists them"),
+        }
+    }
+}
+
+impl From<RunFault> for InspectFault {
+    fn from(fault: RunFault) -> InspectFault {
+        InspectFault::Run(fault)
+    }
+}
+
+impl From<OutOfMemory> for InspectFault {
+    fn from(_error: OutOfMemory) -> InspectFault {
+        InspectFault::Run(RunFault::OutOfMemory)
+    }
+}
+
+impl From<AllocError> for InspectFault {
+    fn from(_error: AllocError) -> InspectFault {
+        InspectFault::Run(RunFault::OutOfMemory)
+    }
+}
+
+impl<T: Drop> From<AllocFailed<T>> for InspectFault {
+    fn from(_error: AllocFailed<T>) -> InspectFault {
+        InspectFault::Run(RunFault::OutOfMemory)
+    }
+}

@@ -1,0 +1,72 @@
+//! The first byte of a request or of a response.
+ghost use Rattle.passkey_inspect.specs.Prints.{IsMessageIn};
+
+use crate::kind::{FurtherKind, InspectKind};
+use passkey_framing::{Command, request_of};
+use passkey_memory::OutOfMemory;
+use passkey_run::BytesKind;
+use std::alloc::Global;
+
+/// What stands before a message (CTAP 2.1, section 8).
+#[derive(Clone, Copy, Debug, PartialEq, Eq)]
+pub enum Frame {
+    /// Nothing.
+    None,
+    /// The status code of a response, CTAP2_OK.
+    Success,
+    /// The command of a request.
+    Command(Command),
+}
+
+/// Returns whether the bytes are none, or begin with a map (RFC 8949, section 3.1).
+fn is_body(bytes: &[u8]) -> bool {
+    match bytes.first() {
+        None => true,
+        Some(first) => *first / 32 == 5,
+    }
+}
+
+/// Returns what stands before a message, and lends the bytes behind it. It is a status code if the
+/// first byte is 0, or a command if it is one that the standard names; and no bytes, or a map, are
+/// behind it.
+pub fn frame_of(bytes: &[u8]) -> (Frame, &[u8])
+    ensures { IsMessageIn bytes.now result.1.now }
+{
+    if let [0, body @ ..] = bytes {
+        if is_body(body) {
+            return (Frame::Success, body);
+        }
+    }
+    match request_of(bytes) {
+        Some((Command::Other(_), _)) | None => (Frame::None, bytes),
+        Some((command, body)) if is_body(body) => (Frame::Command(command), body),
+        Some(_) => (Frame::None, bytes),
+    }
+}
+
+/// Returns the kind of the command's parameters.
+pub fn request_kind(command: Command) -> Option<InspectKind> {
+    match command {
+        Command::MakeCredential => Some(InspectKind::Bytes(BytesKind::MakeRequest)),
+        Command::GetAssertion => Some(InspectKind::Bytes(BytesKind::GetRequest)),
+        Command::ClientPin => Some(InspectKind::Further(FurtherKind::PinRequest)),
+        Command::BioEnrollment | Command::PrototypeBioEnrollment => {
+            Some(InspectKind::Further(FurtherKind::BioRequest))
+        }
+        Command::CredentialManagement | Command::PrototypeCredentialManagement => {
+            Some(InspectKind::Further(FurtherKind::CredentialRequest))
+        }
+        Command::LargeBlobs => Some(InspectKind::Further(FurtherKind::BlobsRequest)),
+        Command::Config => Some(InspectKind::Further(FurtherKind::ConfigRequest)),
+        _ => None,
+    }
+}
+
+/// Returns a line that tells what stands before a message, or no text.
+pub fn frame_text(alloc: Global, frame: Frame) -> Result<String, OutOfMemory> {
+    match frame {
+        Frame::None => Ok(String::new(alloc)),
+        Frame::Success => Ok(String::from_str(alloc, "status byte: 00 (CTAP2_OK)\n")?),
+        Frame::Command(command) => Ok(format!(in alloc; "command byte: {command:?}\n")?),
+    }
+}

@@ -1,0 +1,287 @@
+//! One run: reads bytes, and returns what is printed.
+ghost use Rattle.std.specs.Prelude.{◌≡◌, ◌++◌, ◌∷◌, [], IfOk, string_bytes};
+ghost use Rattle.passkey_inspect.specs.Prints.{Prints, PrintsAs, PrintsBytes, PrintsInput, ShowsEncoding, ShowsItem};
+
+use crate::encode::encode;
+use crate::examine::{Examined, examine};
+use crate::fault::InspectFault;
+use crate::frame::{Frame, frame_of, frame_text, request_kind};
+use crate::kind::{AUTH, BYTES_KINDS, CBOR, InspectKind, name_of};
+use crate::options::{Options, Output};
+use crate::records::print_record;
+use passkey_cbor::Value;
+use passkey_diagnose::diagnose_indented;
+use passkey_dump::dump;
+use passkey_explain::{Description, FieldName};
+use passkey_inspect_input::{Form, bytes_as, form_of};
+use passkey_memory::OutOfMemory;
+use passkey_report::{json_of, report_of};
+use passkey_run::RunFault;
+use std::alloc::Global;
+
+/// The kinds that accept bytes.
+#[derive(Drop)]
+struct Matches {
+    /// Their names, the best first.
+    names: Vec<&'static str>,
+    /// The best, and what is in the bytes.
+    best: Option<(InspectKind, Description)>,
+}
+
+/// Returns how well a table fits: how many members it knows, less those that it doesn't.
+fn score_of(description: &Description) -> i64 {
+    let Description::Record(fields) = description else {
+        return 0;
+    };
+    let mut score = 0i64;
+    for (name, _) in fields {
+        score = match name {
+            FieldName::Member(_, _) => score.saturating_add(1),
+            FieldName::Unknown(_) => score.saturating_sub(1),
+        };
+    }
+    score
+}
+
+/// Returns whether the kind knows more than half of the members, if there are any.
+fn fits(description: &Description) -> bool {
+    match description {
+        Description::Record(fields) => fields.is_empty() || score_of(description) > 0,
+        _ => true,
+    }
+}
+
+/// Adds a kind, as the best if it fits better than those before.
+fn add_match(
+    matches: &mut Matches,
+    name: &'static str,
+    kind: InspectKind,
+    description: Description,
+) -> Result<(), OutOfMemory> {
+    let is_better = match &matches.best {
+        None => true,
+        Some((_, best)) => score_of(best) < score_of(&description),
+    };
+    if is_better {
+        matches.names.insert(0, name)?;
+        matches.best = Some((kind, description));
+    } else {
+        matches.names.push(name)?;
+    }
+    Ok(())
+}
+
+/// Returns the kinds that accept all of the bytes and know more than half of the members.
+fn matches_of(alloc: Global, bytes: &[u8]) -> Result<Matches, OutOfMemory> {
+    let mut matches = Matches {
+        names: Vec::new(alloc),
+        best: None,
+    };
+    for (name, kind) in BYTES_KINDS {
+        if let Examined::Accepted(description, len) = examine(alloc, kind, bytes)? {
+            if len >= bytes.len() && fits(&description) {
+                add_match(&mut matches, name, kind, description)?;
+            }
+        }
+    }
+    Ok(matches)
+}
+
+/// Returns the message encoded again, in lower-case hexadecimal.
+fn encoding_text(alloc: Global, kind: InspectKind, bytes: &[u8]) -> Result<String, RunFault>
+    ensures { IfOk result (λ text. ShowsEncoding kind bytes.now (string_bytes text)) }
+{
+    let encoding = encode(alloc, kind, bytes)?;
+    Ok(hex::encode(alloc, encoding.as_slice())?)
+}
+
+/// Returns the leading data item in diagnostic notation, an element or a member a line.
+fn item_text(alloc: Global, bytes: &[u8]) -> Result<String, RunFault>
+    ensures { IfOk result (λ text. ShowsItem bytes.now (string_bytes text)) }
+{
+    let (value, _) = Value::from_slice(alloc, bytes)?;
+    Ok(diagnose_indented(alloc, &value)?)
+}
+
+fn form_name(form: Form) -> &'static str {
+    match form {
+        Form::Hexadecimal => "hexadecimal",
+        Form::Base64 => "base64",
+        Form::Json => "JSON",
+        Form::Raw => "raw",
+    }
+}
+
+/// Bytes of a message, and how they came.
+#[derive(Clone, Copy)]
+struct Body<'a> {
+    form: Form,
+    /// How many bytes the input spells.
+    len: usize,
+    frame: Frame,
+    bytes: &'a [u8],
+}
+
+/// Returns the lines before a report: the input's form and length, and the byte before the message.
+fn heading(alloc: Global, body: &Body<'_>) -> Result<String, OutOfMemory> {
+    let form = form_name(body.form);
+    let len = body.len;
+    let mut text = format!(in alloc; "input: {form}, {len} bytes\n")?;
+    text.push_str(frame_text(alloc, body.frame)?.as_str())?;
+    Ok(text)
+}
+
+/// Returns the text as a line.
+pub(crate) fn with_line_feed(mut text: String) -> Result<String, RunFault>
+    ensures { IfOk result (λ line. string_bytes line ≡ string_bytes text ++ 10 ∷ []) }
+{
+    text.push('\n')?;
+    Ok(text)
+}
+
+/// Returns a report of the message, with the lines before it.
+fn report_text(
+    alloc: Global,
+    body: &Body<'_>,
+    kind: InspectKind,
+    description: &Description,
+    len: usize,
+) -> Result<String, OutOfMemory> {
+    let mut text = heading(alloc, body)?;
+    text.push_str(report_of(alloc, name_of(kind), description)?.as_str())?;
+    if let Ok(encoding) = encode(alloc, kind, body.bytes) {
+        if encoding.as_slice() != body.bytes.get(..len).unwrap_or(&[]) {
+            text.push_str("encoded again it differs: --cbor shows it\n")?;
+        }
+    }
+    if len < body.bytes.len() {
+        let rest = body.bytes.len() - len;
+        text.push_str(format!(in alloc; "bytes behind it: {rest}\n")?.as_str())?;
+    }
+    Ok(text)
+}
+
+/// Returns what is printed of a message that the kind accepts. Of authenticator data, which aren't a
+/// data item, there is no dump but a report.
+fn text_of(
+    alloc: Global,
+    output: Output,
+    body: &Body<'_>,
+    kind: InspectKind,
+    description: &Description,
+    len: usize,
+) -> Result<String, RunFault>
+    ensures { IfOk result (λ text. Prints output kind body.now.bytes.now (string_bytes text)) }
+{
+    match output {
+        Output::Dump if kind != AUTH => Ok(dump(alloc, body.bytes)?),
+        Output::Report | Output::Dump => Ok(report_text(alloc, body, kind, description, len)?),
+        Output::Json => with_line_feed(json_of(alloc, description)?),
+        Output::Diagnosis => with_line_feed(item_text(alloc, body.bytes)?),
+        Output::Encoding => with_line_feed(encoding_text(alloc, kind, body.bytes)?),
+    }
+}
+
+/// Returns what is printed of a message of which the kind is known.
+fn print_as(
+    alloc: Global,
+    output: Output,
+    body: &Body<'_>,
+    kind: InspectKind,
+) -> Result<String, InspectFault>
+    ensures { IfOk result (λ text. Prints output kind body.now.bytes.now (string_bytes text)) }
+{
+    match examine(alloc, kind, body.bytes)? {
+        Examined::Accepted(description, len) => Ok(text_of(
+            alloc,
+            output,
+            body,
+            kind,
+            &description,
+            len,
+        )?),
+        Examined::Refused(text) => {
+            Err(InspectFault::refused(alloc, name_of(kind), text.as_str())?)
+        }
+    }
+}
+
+/// Returns a report of what the best of the kinds finds, and the kinds' names.
+fn report_found(
+    alloc: Global,
+    body: &Body<'_>,
+    matches: &Matches,
+    kind: InspectKind,
+    description: &Description,
+) -> Result<String, OutOfMemory> {
+    let mut text = heading(alloc, body)?;
+    text.push_str("kinds:")?;
+    for name in &matches.names {
+        text.push(' ')?;
+        text.push_str(name)?;
+    }
+    text.push('\n')?;
+    text.push_str(report_of(alloc, name_of(kind), description)?.as_str())?;
+    Ok(text)
+}
+
+/// Returns what is printed of a message of which the kind is to be found.
+fn print_found(alloc: Global, output: Output, body: &Body<'_>) -> Result<String, InspectFault>
+    ensures { IfOk result (λ text. PrintsAs output body.now.bytes.now (string_bytes text)) }
+{
+    let matches = matches_of(alloc, body.bytes)?;
+    let Some((kind, description)) = &matches.best else {
+        return print_as(alloc, output, body, CBOR);
+    };
+    match output {
+        Output::Report => Ok(report_found(alloc, body, &matches, *kind, description)?),
+        _ => print_as(alloc, output, body, *kind),
+    }
+}
+
+/// Returns what is printed of the bytes that an input spells in this form.
+fn print_bytes(
+    alloc: Global,
+    options: &Options<'_>,
+    form: Form,
+    bytes: &[u8],
+) -> Result<String, InspectFault>
+    ensures { IfOk result (λ text. PrintsBytes options.now.output bytes.now (string_bytes text)) }
+{
+    let (frame, message) = frame_of(bytes);
+    let body = Body {
+        form,
+        len: bytes.len(),
+        frame,
+        bytes: message,
+    };
+    let kind = match (options.kind, frame) {
+        (Some(kind), _) => Some(kind),
+        (None, Frame::Command(command)) => request_kind(command),
+        (None, _) => None,
+    };
+    match kind {
+        Some(kind) => print_as(alloc, options.output, &body, kind),
+        None => print_found(alloc, options.output, &body),
+    }
+}
+
+/// Returns what is printed of the input. Returns the fault if it spells no bytes in the form that
+/// was named, or is refused; then the fault says why.
+pub fn inspect(alloc: Global, options: &Options<'_>, input: &[u8]) -> Result<String, InspectFault>
+    ensures { IfOk result (λ text. PrintsInput options.now.output input.now (string_bytes text)) }
+{
+    let form = match (options.form, options.kind) {
+        (Some(form), _) => form,
+        (None, Some(InspectKind::Json(_))) => Form::Json,
+        (None, _) => form_of(alloc, input)?,
+    };
+    if form == Form::Json {
+        return print_record(alloc, options, input);
+    }
+    match bytes_as(alloc, form, input)? {
+        Some(bytes) => print_bytes(alloc, options, form, bytes.as_slice()),
+        None if form == Form::Hexadecimal => Err(InspectFault::Run(RunFault::BadHex)),
+        None => Err(InspectFault::BadBase64),
+    }
+}

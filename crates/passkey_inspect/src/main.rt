@@ -1,0 +1,64 @@
+//! `passkey_inspect [KIND] [FILE]` tells what is in a passkey message: its members by their names,
+//! or where it is refused. `--help` lists the options. The exit status is 0, or that of a fault,
+//! which is told on standard error.
+#![tactic(auto)]
+
+mod encode;
+mod examine;
+mod fault;
+mod frame;
+mod inspect;
+mod kind;
+mod options;
+mod records;
+
+use fault::InspectFault;
+use options::{HELP, Options, VERSION, options_of};
+use passkey_run::{RunFault, read_all, read_words, write_all};
+use std::alloc::Global;
+use std::fs;
+use std::io::{Read, Write};
+use std::process::ExitCode;
+use std::rt::{Env, Files};
+
+fn read_input<R: Files + AllocGlobal>(
+    rt: &R,
+    reader: &mut impl Read,
+    file: Option<&str>,
+) -> Result<Vec<u8>, RunFault> {
+    let Some(path) = file else {
+        return read_all(rt.alloc(), reader);
+    };
+    match fs::open(rt, path) {
+        Ok(mut file) => read_all(rt.alloc(), &mut file),
+        Err(_) => Err(RunFault::InputFailed),
+    }
+}
+
+fn show<R: Env + Files + AllocGlobal>(
+    rt: &R,
+    reader: &mut impl Read,
+    writer: &mut impl Write,
+) -> Result<(), InspectFault> {
+    let words = read_words(rt)?;
+    let options = options_of(&words).ok_or(InspectFault::BadArguments)?;
+    if options.help {
+        return Ok(write_all(writer, HELP.as_bytes())?);
+    }
+    if options.version {
+        return Ok(write_all(writer, VERSION.as_bytes())?);
+    }
+    let input = read_input(rt, reader, options.file)?;
+    let text = inspect::inspect(rt.alloc(), &options, input.as_slice())?;
+    Ok(write_all(writer, text.as_bytes())?)
+}
+
+fn main(rt: HostRuntime) -> ExitCode {
+    match show(&rt, &mut rt.stdin(), &mut rt.stdout()) {
+        Ok(()) => ExitCode::SUCCESS,
+        Err(fault) => {
+            let _ = eprintln!(rt; "{fault}");
+            ExitCode::from(fault.status())
+        }
+    }
+}

@@ -1,0 +1,234 @@
+//! JSON texts, and what is in their byte strings.
+ghost use Rattle.std.specs.Prelude.{IfOk, string_bytes};
+ghost use Rattle.passkey_inspect.specs.Prints.{PrintsRecord};
+
+use crate::examine::{Examined, examine};
+use crate::fault::InspectFault;
+use crate::inspect::with_line_feed;
+use crate::kind::{InspectKind, JSON_KINDS, name_of};
+use crate::options::{Options, Output};
+use passkey_bytes::{Bytes, BytesFault};
+use passkey_credentials::{AuthenticatedPublicKeyCredential, CreatedPublicKeyCredential};
+use passkey_diagnose::escape_controls;
+use passkey_explain_json::{BlamesRows, explain_json};
+use passkey_memory::OutOfMemory;
+use passkey_options::{CredentialCreationOptions, CredentialRequestOptions};
+use passkey_report::report_of;
+use passkey_rewrite_json::rewrite_json;
+use passkey_run::{BytesKind, JsonKind, RunFault};
+use serde_json::Value;
+use serde_json::error::Category;
+use std::alloc::Global;
+
+fn parse(alloc: Global, input: &[u8]) -> Result<Value, RunFault> {
+    match Value::from_slice(alloc, input) {
+        Ok(value) => Ok(value),
+        Err(error) if error.classify() == Category::Memory => Err(RunFault::OutOfMemory),
+        Err(_) => Err(RunFault::BadJson),
+    }
+}
+
+/// Appends a JSON value, one member a line.
+fn push_value(
+    out: &mut String,
+    alloc: Global,
+    title: &str,
+    value: &Value,
+) -> Result<(), OutOfMemory> {
+    let text = value.to_string_pretty(alloc)?;
+    out.push_str(title)?;
+    out.push_str(": ")?;
+    out.push_str(escape_controls(alloc, text.as_str())?.as_str())?;
+    Ok(out.push('\n')?)
+}
+
+/// Returns the bytes that a member's text spells in base64url.
+fn bytes_at(alloc: Global, value: &Value, path: &str) -> Result<Option<Bytes>, OutOfMemory> {
+    let Some(text) = value.pointer(path).and_then(|found| found.as_str()) else {
+        return Ok(None);
+    };
+    match Bytes::try_from(alloc, text) {
+        Ok(bytes) => Ok(Some(bytes)),
+        Err(BytesFault::OutOfMemory) => Err(OutOfMemory),
+        Err(_) => Ok(None),
+    }
+}
+
+/// Appends what is in the bytes of a member, if it is there and the kind accepts it.
+fn push_bytes(
+    out: &mut String,
+    alloc: Global,
+    value: &Value,
+    path: &str,
+    kind: BytesKind,
+) -> Result<(), OutOfMemory> {
+    let Some(bytes) = bytes_at(alloc, value, path)? else {
+        return Ok(());
+    };
+    match examine(alloc, InspectKind::Bytes(kind), bytes.as_slice())? {
+        Examined::Accepted(description, _) => {
+            let title = path.rsplit('/').next().unwrap_or(path);
+            Ok(out.push_str(report_of(alloc, title, &description)?.as_str())?)
+        }
+        Examined::Refused(_) => Ok(()),
+    }
+}
+
+/// Appends the collected client data of a credential, if they are a JSON text.
+fn push_client_data(out: &mut String, alloc: Global, value: &Value) -> Result<(), OutOfMemory> {
+    let Some(bytes) = bytes_at(alloc, value, "/response/clientDataJSON")? else {
+        return Ok(());
+    };
+    match parse(alloc, bytes.as_slice()) {
+        Ok(client_data) => push_value(out, alloc, "clientDataJSON", &client_data),
+        Err(RunFault::OutOfMemory) => Err(OutOfMemory),
+        Err(_) => Ok(()),
+    }
+}
+
+/// Returns a report: the JSON value, and what is in a credential's byte strings.
+fn report(
+    alloc: Global,
+    kind: InspectKind,
+    names: &[&'static str],
+    input: &[u8],
+) -> Result<String, InspectFault> {
+    let value = parse(alloc, input)?;
+    let len = input.len();
+    let mut text = format!(in alloc; "input: JSON, {len} bytes\n")?;
+    if !names.is_empty() {
+        text.push_str("kinds:")?;
+        for name in names {
+            text.push(' ')?;
+            text.push_str(name)?;
+        }
+        text.push('\n')?;
+    }
+    push_value(&mut text, alloc, name_of(kind), &value)?;
+    if let InspectKind::Json(JsonKind::Created | JsonKind::Authenticated) = kind {
+        push_client_data(&mut text, alloc, &value)?;
+        let object = "/response/attestationObject";
+        push_bytes(&mut text, alloc, &value, object, BytesKind::MakeResponse)?;
+        let data = "/response/authenticatorData";
+        push_bytes(&mut text, alloc, &value, data, BytesKind::Auth)?;
+    }
+    Ok(text)
+}
+
+/// Returns a line feed, and what in the value the record refuses; or no text if it accepts it.
+fn blame_text<R: BlamesRows>(alloc: Global, value: &Value) -> Result<String, OutOfMemory> {
+    match explain_json::<R>(alloc, value)? {
+        Some(explanation) => {
+            let blame = &explanation.blame;
+            Ok(format!(in alloc; "\n{blame}")?)
+        }
+        None => Ok(String::new(alloc)),
+    }
+}
+
+/// Returns a line feed, and what in the value the kind refuses; or no text for client data, of which
+/// no table tells it.
+fn kind_blame(alloc: Global, kind: JsonKind, value: &Value) -> Result<String, OutOfMemory> {
+    match kind {
+        JsonKind::Creation => blame_text::<CredentialCreationOptions>(alloc, value),
+        JsonKind::Request => blame_text::<CredentialRequestOptions>(alloc, value),
+        JsonKind::Created => blame_text::<CreatedPublicKeyCredential>(alloc, value),
+        JsonKind::Authenticated => blame_text::<AuthenticatedPublicKeyCredential>(alloc, value),
+        JsonKind::ClientData => Ok(String::new(alloc)),
+    }
+}
+
+/// Returns the fault with which the kind refuses the input, and what in it is refused.
+fn refused(
+    alloc: Global,
+    kind: JsonKind,
+    fault: RunFault,
+    input: &[u8],
+) -> Result<InspectFault, InspectFault> {
+    match fault {
+        RunFault::JsonRefused(fault) => {
+            let blame = kind_blame(alloc, kind, &parse(alloc, input)?)?;
+            let text = format!(in alloc; "{fault}{blame}")?;
+            let text = escape_controls(alloc, text.as_str())?;
+            let name = name_of(InspectKind::Json(kind));
+            Ok(InspectFault::refused(alloc, name, text.as_str())?)
+        }
+        fault => Ok(InspectFault::Run(fault)),
+    }
+}
+
+fn print_as(
+    alloc: Global,
+    output: Output,
+    kind: InspectKind,
+    names: &[&'static str],
+    input: &[u8],
+) -> Result<String, InspectFault>
+    ensures { IfOk result (λ text. PrintsRecord output input.now (string_bytes text)) }
+{
+    let InspectKind::Json(json_kind) = kind else {
+        return Err(InspectFault::Run(RunFault::BadHex));
+    };
+    let text = match rewrite_json(alloc, json_kind, input) {
+        Ok(text) => text,
+        Err(fault) => return Err(refused(alloc, json_kind, fault, input)?),
+    };
+    match output {
+        Output::Report => report(alloc, kind, names, input),
+        _ => Ok(with_line_feed(text)?),
+    }
+}
+
+fn accepts(alloc: Global, kind: InspectKind, input: &[u8]) -> Result<bool, RunFault> {
+    let InspectKind::Json(kind) = kind else {
+        return Ok(false);
+    };
+    match rewrite_json(alloc, kind, input) {
+        Ok(_) => Ok(true),
+        Err(RunFault::OutOfMemory) => Err(RunFault::OutOfMemory),
+        Err(_) => Ok(false),
+    }
+}
+
+/// Returns the kind that the members of a value suggest.
+fn likely_kind(value: &Value) -> InspectKind {
+    if value.pointer("/response/attestationObject").is_some() {
+        return InspectKind::Json(JsonKind::Created);
+    }
+    if value.pointer("/response").is_some() {
+        return InspectKind::Json(JsonKind::Authenticated);
+    }
+    if value.pointer("/publicKey/rp").is_some() {
+        return InspectKind::Json(JsonKind::Creation);
+    }
+    if value.pointer("/publicKey").is_some() {
+        return InspectKind::Json(JsonKind::Request);
+    }
+    InspectKind::Json(JsonKind::ClientData)
+}
+
+/// Returns what is printed of a JSON text: of the kind that was named, or else of the first that
+/// accepts it. Returns the fault of the kind; if none was named and none accepts the text, of the
+/// one that its members suggest.
+pub fn print_record(
+    alloc: Global,
+    options: &Options<'_>,
+    input: &[u8],
+) -> Result<String, InspectFault>
+    ensures { IfOk result (λ text. PrintsRecord options.now.output input.now (string_bytes text)) }
+{
+    if let Some(kind) = options.kind {
+        return print_as(alloc, options.output, kind, &[], input);
+    }
+    let value = parse(alloc, input)?;
+    let mut names = Vec::new(alloc);
+    let mut best = None;
+    for (name, kind) in JSON_KINDS {
+        if accepts(alloc, kind, input)? {
+            names.push(name)?;
+            best = best.or(Some(kind));
+        }
+    }
+    let kind = best.unwrap_or(likely_kind(&value));
+    print_as(alloc, options.output, kind, names.as_slice(), input)
+}

@@ -1,0 +1,56 @@
+-- The form of an input, and the bytes that it spells.
+use Rattle.std.specs.Prelude.{ℕ, List, [], ◌∷◌, Bool, false, ◌==◌, ◌||◌, if◌then◌else◌, Option, Some, is_some, flat_map, encode_utf8}
+use Rattle.std.specs.Result.{result_ok}
+use Rattle.hex.specs.Hex.{decode_of}
+use Rattle.passkey_bytes.specs.Encoding.{base64url_bytes}
+use Rattle.passkey_inspect_input.specs.declared.Form.{Form}
+use Rattle.passkey_inspect_input.specs.declared.Form.TheVariants.{Hexadecimal, Base64, Json, Raw}
+
+-- a tab, a line feed, a carriage return or a space
+abbrev pub is_space : ℕ → Bool
+is_space byte = byte == 9 || byte == 10 || byte == 13 || byte == 32
+
+-- a byte of hexadecimal, unless it is white space or a colon
+abbrev pub hex_text : ℕ → List ℕ
+hex_text byte = if is_space byte || byte == 58 then [] else byte ∷ []
+
+-- the digits: without `0x` at the beginning
+abbrev pub digits_of : List ℕ → List ℕ
+digits_of [] = []
+digits_of (first ∷ []) = first ∷ []
+digits_of (first ∷ second ∷ digits) =
+    if first == 48 then (if second == 120 || second == 88 then digits else first ∷ second ∷ digits)
+    else first ∷ second ∷ digits
+
+abbrev pub hex_bytes : List ℕ → Option (List ℕ)
+hex_bytes input = result_ok (decode_of (digits_of (flat_map hex_text input)))
+
+-- the symbol of base64url for one of base64
+abbrev pub url_symbol : ℕ → ℕ
+url_symbol byte = if byte == 43 then 45 else if byte == 47 then 95 else byte
+
+-- a symbol of base64url, unless it is white space
+abbrev pub symbol_text : ℕ → List ℕ
+symbol_text byte = if is_space byte then [] else encode_utf8 (url_symbol byte)
+
+abbrev pub base64_bytes : List ℕ → Option (List ℕ)
+base64_bytes input = base64url_bytes (flat_map symbol_text input)
+
+-- the first byte behind white space is a brace
+abbrev pub begins_json : List ℕ → Bool
+begins_json [] = false
+begins_json (byte ∷ rest) = if is_space byte then begins_json rest else byte == 123
+
+-- the bytes that an input spells in a form
+abbrev pub bytes_as : Form → List ℕ → Option (List ℕ)
+bytes_as Hexadecimal input = hex_bytes input
+bytes_as Base64 input = base64_bytes input
+bytes_as Json input = Some input
+bytes_as Raw input = Some input
+
+abbrev pub form_of : List ℕ → Form
+form_of input =
+    if begins_json input then Json
+    else if is_some (hex_bytes input) then Hexadecimal
+    else if is_some (base64_bytes input) then Base64
+    else Raw

@@ -1,0 +1,144 @@
+//! Bytes as people paste them: in hexadecimal, base64 or base64url, as a JSON text, or as they are.
+#![tactic(auto)]
+
+#[cfg(test)]
+mod tests;
+
+ghost use Rattle.std.specs.Prelude.{◌≡◌, IfOk, flat_map, option_map, string_bytes};
+ghost use Rattle.passkey_inspect_input.specs.Input.{is_space, hex_text, digits_of, hex_bytes, url_symbol, symbol_text, base64_bytes, begins_json, form_of, bytes_as};
+
+use hex::FromHexError;
+use passkey_bytes::encoding;
+use passkey_memory::OutOfMemory;
+use std::alloc::{AllocError, Global};
+
+/// How an input spells its bytes.
+#[derive(Clone, Copy, Debug, PartialEq, Eq)]
+pub enum Form {
+    /// In hexadecimal, of either case. White space and colons are ignored, and a leading `0x`.
+    Hexadecimal,
+    /// In base64 or base64url (RFC 4648, sections 4 and 5), padded or not. White space is ignored.
+    Base64,
+    /// The bytes of a JSON text.
+    Json,
+    /// The bytes as they are.
+    Raw,
+}
+
+/// Returns whether a byte is a tab, a line feed, a carriage return or a space.
+fn is_space(byte: u8) -> bool
+    ensures { result ≡ is_space byte }
+{
+    matches!(byte, b'\t' | b'\n' | b'\r' | b' ')
+}
+
+fn without_separators(alloc: Global, input: &[u8]) -> Result<Vec<u8>, AllocError>
+    ensures { IfOk result (λ text. text.items ≡ flat_map hex_text input.now) }
+{
+    let mut text = Vec::new(alloc);
+    for byte in input {
+        if !is_space(*byte) && *byte != b':' {
+            text.push(*byte)?;
+        }
+    }
+    Ok(text)
+}
+
+fn digits_of(text: &[u8]) -> &[u8]
+    ensures { result.now ≡ digits_of text.now }
+{
+    match text {
+        [b'0', b'x' | b'X', digits @ ..] => digits,
+        _ => text,
+    }
+}
+
+/// Returns the bytes that the input spells in hexadecimal of either case, or `None` if it doesn't.
+/// White space and colons are ignored, and `0x` at the beginning. `OutOfMemory` if an allocation
+/// fails.
+pub fn from_hexadecimal(alloc: Global, input: &[u8]) -> Result<Option<Vec<u8>>, OutOfMemory>
+    ensures { IfOk result (λ found. option_map (λ v. v.items) found ≡ hex_bytes input.now) }
+{
+    let text = without_separators(alloc, input)?;
+    match hex::decode(alloc, digits_of(text.as_slice())) {
+        Ok(bytes) => Ok(Some(bytes)),
+        Err(FromHexError::OutOfMemory) => Err(OutOfMemory),
+        Err(_) => Ok(None),
+    }
+}
+
+fn url_symbol(byte: u8) -> u8
+    ensures { result ≡ url_symbol byte }
+{
+    match byte {
+        b'+' => b'-',
+        b'/' => b'_',
+        _ => byte,
+    }
+}
+
+fn symbols_of(alloc: Global, input: &[u8]) -> Result<String, AllocError>
+    ensures { IfOk result (λ text. string_bytes text ≡ flat_map symbol_text input.now) }
+{
+    let mut text = String::new(alloc);
+    for byte in input {
+        if !is_space(*byte) {
+            text.push(char::from(url_symbol(*byte)))?;
+        }
+    }
+    Ok(text)
+}
+
+/// Returns the bytes that the input spells in base64 or base64url (RFC 4648, sections 4 and 5), or
+/// `None` if it doesn't. White space is ignored, and each `=` at the end; both alphabets may be
+/// mixed. `OutOfMemory` if an allocation fails.
+pub fn from_base64(alloc: Global, input: &[u8]) -> Result<Option<Vec<u8>>, OutOfMemory>
+    ensures { IfOk result (λ found. option_map (λ v. v.items) found ≡ base64_bytes input.now) }
+{
+    let text = symbols_of(alloc, input)?;
+    encoding::try_from_base64url(alloc, text.as_str())
+}
+
+/// Returns whether the first byte behind white space begins an object of JSON.
+fn begins_json(input: &[u8]) -> bool
+    ensures { result ≡ begins_json input.now }
+{
+    let mut rest = input;
+    while let Some((first, others)) = rest.split_first() {
+        if !is_space(*first) {
+            return *first == b'{';
+        }
+        rest = others;
+    }
+    false
+}
+
+/// Returns the bytes that the input spells in this form, or `None` if it spells none.
+/// `OutOfMemory` if an allocation fails.
+pub fn bytes_as(alloc: Global, form: Form, input: &[u8]) -> Result<Option<Vec<u8>>, OutOfMemory>
+    ensures { IfOk result (λ found. option_map (λ v. v.items) found ≡ bytes_as form input.now) }
+{
+    match form {
+        Form::Hexadecimal => from_hexadecimal(alloc, input),
+        Form::Base64 => from_base64(alloc, input),
+        Form::Json | Form::Raw => Ok(Some(Vec::from_slice(alloc, input)?)),
+    }
+}
+
+/// Returns the form of the input: JSON if it begins as an object, and else the first of hexadecimal
+/// and base64 in which it spells bytes, or else the bytes as they are. `OutOfMemory` if an
+/// allocation fails.
+pub fn form_of(alloc: Global, input: &[u8]) -> Result<Form, OutOfMemory>
+    ensures { IfOk result (λ form. form ≡ form_of input.now) }
+{
+    if begins_json(input) {
+        return Ok(Form::Json);
+    }
+    if from_hexadecimal(alloc, input)?.is_some() {
+        return Ok(Form::Hexadecimal);
+    }
+    if from_base64(alloc, input)?.is_some() {
+        return Ok(Form::Base64);
+    }
+    Ok(Form::Raw)
+}

@@ -1,0 +1,13 @@
+//! What is in a message, for people: its members by their names, one a line, or as JSON.
+#![tactic(auto)]
+
+mod inside;
+mod item;
+mod json;
+mod leaf;
+mod report;
+
+pub use inside::{open_authenticator_data, open_key, opened};
+pub use item::describe_value;
+pub use json::json_of;
+pub use report::report_of;
