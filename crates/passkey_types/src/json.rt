@@ -1,5 +1,8 @@
 //! Decoding and encoding JSON values: what you need for a JSON record of your own. WebAuthn's
 //! records are in `webauthn`.
+pub use passkey_explain_json::{
+    Blames, BlamesRows, JsonBlame, JsonExplanation, JsonReason, JsonStep, WantedJson, explain_json,
+};
 pub use passkey_json::{
     BytesForm, EncodeResult, FromJson, JsonEncoder, JsonFault, JsonRecord, JsonRefusal, Member,
     Object, ObjectWriter, PlainJsonRecord, RecordToJson, Row, ToJson, TolerantList, Tolerated,
