@@ -56,7 +56,7 @@ fn requests(rt: HostRuntime) {
             "member 1 is missing (offset 0, length 8)",
         ),
         // cut off
-        ("a101", "no well-formed data item begins the bytes"),
+        ("a101", "the bytes end before the data item does (offset 2)"),
     ];
     assert_explained::<Request>(&rt, &rows);
 }
