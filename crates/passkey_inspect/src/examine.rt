@@ -38,7 +38,7 @@ fn refused(alloc: Global, error: CoseError) -> Result<Examined, OutOfMemory> {
     }
 }
 
-/// Returns what is told of bytes that no well-formed data item begins.
+/// Explains where and why bytes don't begin with a well-formed data item.
 fn cbor_refused(alloc: Global, bytes: &[u8], error: CborError) -> Result<Examined, OutOfMemory> {
     match (error, malformed(bytes)) {
         (CborError::OutOfMemory, _) => Err(OutOfMemory),

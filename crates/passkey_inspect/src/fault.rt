@@ -20,7 +20,7 @@ pub enum InspectFault {
 }
 
 impl InspectFault {
-    /// Returns the fault for a message that a kind refuses, with what is told of it.
+    /// Returns the fault for an input that this kind refuses, for the reason in the text.
     pub fn refused(alloc: Global, kind: &str, text: &str) -> Result<InspectFault, OutOfMemory> {
         Ok(InspectFault::Refused(format!(in alloc; "{kind} refuses it: {text}")?))
     }
