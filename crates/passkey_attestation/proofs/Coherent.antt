@@ -11,7 +11,7 @@ use Rattle.passkey_attestation.specs.declared.fault.StatementFault.{StatementFau
 use Rattle.passkey_attestation.specs.declared.format.AttestationFormat.{AttestationFormat}
 use Rattle.passkey_attestation.specs.declared.format.AttestationFormat.TheVariants as format
 use Rattle.passkey_cbor.specs.Item as item
-use Rattle.passkey_kinds.specs.Kind.{list}
+use Rattle.passkey_kinds.specs.Kind.{list_from}
 use Rattle.passkey_kinds.specs.Placed.{plain_kind}
 use Rattle.passkey_kinds.specs.Words.{Item}
 use Rattle.passkey_webauthn.specs.Names.{Names, value_in}
@@ -45,7 +45,7 @@ of_compound (Err f) all s e = absurd cc
 
 compound_whole : (i : Item) (es : List ElementParts) → read_compound i ≡ Ok es → are_compound es ≡ true
 unfolding read_compound
-compound_whole i es e = whole (list (plain_kind element) i) es e
+compound_whole i es e = whole (list_from (plain_kind element) i) es e
 
 of_known : (f : AttestationFormat) (i : Item) (s : StatementParts) → read_known f i ≡ Ok s → Holds (format_name f) s
 of_known format.Packed i s e = of_map _ packed_parts (λ x. (refl, refl)) _ s e

@@ -20,7 +20,7 @@ use Rattle.passkey_attestation.specs.declared.statement.AttestationStatement.{At
 use Rattle.passkey_attestation.specs.declared.statement.AttestationStatement.TheVariants as statement
 use Rattle.passkey_attestation.specs.declared.tpm.TpmStatement.{TpmStatement}
 use Rattle.passkey_cbor.specs.Item as item
-use Rattle.passkey_kinds.specs.Kind.{list}
+use Rattle.passkey_kinds.specs.Kind.{list_from}
 use Rattle.passkey_kinds.specs.Placed.{PlainTable, EachFits, fields_of, plain_kind, plain_tree}
 use Rattle.passkey_kinds.specs.Record.{MayGrowAt, read_item, table_of}
 use Rattle.passkey_kinds.specs.Tree.{list_tree, map_tree}
@@ -70,7 +70,7 @@ compound_of None = Err NotCompound
 compound_of (Some es) = if are_compound es then Ok es else Err NotCompound
 
 unfoldable pub read_compound : Item → Result (List ElementParts) StatementFault
-read_compound i = compound_of (list (plain_kind element) i)
+read_compound i = compound_of (list_from (plain_kind element) i)
 
 abbrev pub read_known : AttestationFormat → Item → Result StatementParts StatementFault
 read_known format.Packed i = made_by packed_parts (read_map packed i)

@@ -8,7 +8,7 @@ use Rattle.passkey_attestation.specs.declared.fido_u2f.FidoU2fStatement.{FidoU2f
 use Rattle.passkey_attestation.specs.declared.packed.PackedStatement.{PackedStatement}
 use Rattle.passkey_attestation.specs.declared.safety_net.SafetyNetStatement.{SafetyNetStatement}
 use Rattle.passkey_attestation.specs.declared.tpm.TpmStatement.{TpmStatement}
-use Rattle.passkey_kinds.specs.Coded.{bytes, item, list, text}
+use Rattle.passkey_kinds.specs.Coded.{bytes, item, list_of, text}
 use Rattle.passkey_kinds.specs.Words.{Item, PlainTable, item_of, null, optional_as, required_as}
 
 -- section 8.2
@@ -17,7 +17,7 @@ packed = record {
   blank = record { alg = identifier_of (pos 0); sig = []; x5c = None; ecdaa_key_id = None };
   members = required_as 1 (codes "alg") algorithm_identifier (λ r. r.alg) (λ x r. record r { alg = x })
       ∷ required_as 2 (codes "sig") bytes (λ r. r.sig) (λ x r. record r { sig = x })
-      ∷ optional_as 3 (codes "x5c") (list bytes) (λ r. r.x5c) (λ x r. record r { x5c = x })
+      ∷ optional_as 3 (codes "x5c") (list_of bytes) (λ r. r.x5c) (λ x r. record r { x5c = x })
       ∷ optional_as 4 (codes "ecdaaKeyId") bytes (λ r. r.ecdaa_key_id) (λ x r. record r { ecdaa_key_id = x })
       ∷ [];
 }
@@ -29,7 +29,7 @@ tpm = record {
   members = required_as 1 (codes "alg") algorithm_identifier (λ r. r.alg) (λ x r. record r { alg = x })
       ∷ required_as 2 (codes "sig") bytes (λ r. r.sig) (λ x r. record r { sig = x })
       ∷ required_as 3 (codes "ver") text (λ r. r.ver) (λ x r. record r { ver = x })
-      ∷ required_as 4 (codes "x5c") (list bytes) (λ r. r.x5c) (λ x r. record r { x5c = x })
+      ∷ required_as 4 (codes "x5c") (list_of bytes) (λ r. r.x5c) (λ x r. record r { x5c = x })
       ∷ required_as 5 (codes "pubArea") bytes (λ r. r.pub_area) (λ x r. record r { pub_area = x })
       ∷ required_as 6 (codes "certInfo") bytes (λ r. r.cert_info) (λ x r. record r { cert_info = x })
       ∷ [];
@@ -41,7 +41,7 @@ android_key = record {
   blank = record { alg = identifier_of (pos 0); sig = []; x5c = [] };
   members = required_as 1 (codes "alg") algorithm_identifier (λ r. r.alg) (λ x r. record r { alg = x })
       ∷ required_as 2 (codes "sig") bytes (λ r. r.sig) (λ x r. record r { sig = x })
-      ∷ required_as 3 (codes "x5c") (list bytes) (λ r. r.x5c) (λ x r. record r { x5c = x })
+      ∷ required_as 3 (codes "x5c") (list_of bytes) (λ r. r.x5c) (λ x r. record r { x5c = x })
       ∷ [];
 }
 
@@ -59,7 +59,7 @@ abbrev pub fido_u2f : PlainTable FidoU2fStatement
 fido_u2f = record {
   blank = record { sig = []; x5c = [] };
   members = required_as 1 (codes "sig") bytes (λ r. r.sig) (λ x r. record r { sig = x })
-      ∷ required_as 2 (codes "x5c") (list bytes) (λ r. r.x5c) (λ x r. record r { x5c = x })
+      ∷ required_as 2 (codes "x5c") (list_of bytes) (λ r. r.x5c) (λ x r. record r { x5c = x })
       ∷ [];
 }
 
@@ -68,7 +68,7 @@ abbrev pub apple : PlainTable AppleStatement
 apple = record {
   blank = record { alg = None; x5c = [] };
   members = optional_as 1 (codes "alg") algorithm_identifier (λ r. r.alg) (λ x r. record r { alg = x })
-      ∷ required_as 2 (codes "x5c") (list bytes) (λ r. r.x5c) (λ x r. record r { x5c = x })
+      ∷ required_as 2 (codes "x5c") (list_of bytes) (λ r. r.x5c) (λ x r. record r { x5c = x })
       ∷ [];
 }
 

@@ -5,7 +5,7 @@ use Rattle.passkey_bio_enrollment.specs.Modality.{modality_of, modality_byte}
 use Rattle.passkey_bio_enrollment.specs.SampleStatus.{sample_status_of, sample_status_byte}
 use Rattle.passkey_bio_enrollment.specs.TemplateInfo.{template_info}
 use Rattle.passkey_bio_enrollment.specs.declared.response.Response.{Response}
-use Rattle.passkey_kinds.specs.Coded.{bytes, list}
+use Rattle.passkey_kinds.specs.Coded.{bytes, list_of}
 use Rattle.passkey_kinds.specs.Numbered.{code, numbered}
 use Rattle.passkey_kinds.specs.Words.{PlainTable, optional_at, word}
 
@@ -31,7 +31,7 @@ bio_response = record {
       ∷ optional_at 5 (codes "lastEnrollSampleStatus") (code sample_status_of sample_status_byte) (λ r. r.last_enroll_sample_status)
       (λ x r. record r { last_enroll_sample_status = x })
       ∷ optional_at 6 (codes "remainingSamples") word (λ r. r.remaining_samples) (λ x r. record r { remaining_samples = x })
-      ∷ optional_at 7 (codes "templateInfos") (list (numbered template_info)) (λ r. r.template_infos)
+      ∷ optional_at 7 (codes "templateInfos") (list_of (numbered template_info)) (λ r. r.template_infos)
       (λ x r. record r { template_infos = x })
       ∷ optional_at 8 (codes "maxTemplateFriendlyName") word (λ r. r.max_template_friendly_name)
       (λ x r. record r { max_template_friendly_name = x })

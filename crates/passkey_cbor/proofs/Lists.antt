@@ -1,5 +1,5 @@
 -- Lists of elements: their encodings decode to them, and bytes that decode to them encode them.
-use Rattle.std.proofs.Common.{◌≡◌, ℕ, zero, suc, ◌<◌, ◌≤◌, Bool, true, false, cond, List, [], ◌∷◌, ◌++◌, length, Option, Some, None, refl, sym, ap, subst, ◌∙◌, append_assoc, arith}
+use Rattle.std.proofs.Common.{◌≡◌, ℕ, zero, suc, ◌<◌, ◌≤◌, Bool, true, false, cond, List, [], ◌∷◌, ◌++◌, length, Option, Some, None, refl, sym, ap, subst, ◌∙◌, append_assoc, append-nil, arith}
 use Rattle.std.proofs.lemmas.List.{length-append}
 use Rattle.passkey_cbor.specs.Bytes.{IsBytes}
 use Rattle.passkey_cbor.specs.Languages.{Language, Each}
@@ -12,6 +12,19 @@ use Rattle.passkey_cbor.specs.declared.head.Head.TheVariants as head
 use Rattle.passkey_cbor.proofs.Binds.{some_is, none_is_some, bind_some, bind_at}
 use Rattle.passkey_cbor.proofs.HeadAgain.{head_again}
 use Rattle.passkey_cbor.proofs.HeadTakes.{Took, head_takes}
+
+-- one more element behind the others
+pub each_and_one : {A : Type 0} (P : A → Language) (xs : List A) (x : A) (s t : List ℕ) → Each P xs s → P x t
+    → Each P (xs ++ x ∷ []) (s ++ t)
+each_and_one P [] x s t e p =
+    record { front = t; back = []; first = p; second = refl; whole = ap (λ (r : List ℕ). r ++ t) e ∙ sym (append-nil t) }
+each_and_one P (y ∷ ys) x s t e p = record {
+  front = e.front;
+  back = e.back ++ t;
+  first = e.first;
+  second = each_and_one P ys x e.back t e.second p;
+  whole = ap (λ (r : List ℕ). r ++ t) e.whole ∙ append_assoc e.front e.back t;
+}
 
 -- The reader decodes exactly the encodings in the language.
 pub record Follows {A : Type 0} (P : A → Language) (read : Reader A) : Type 0 where

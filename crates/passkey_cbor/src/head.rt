@@ -183,8 +183,9 @@ impl Head {
         }
     }
 
-    /// The length of the chunk; `None` if the head isn't that of a chunk in this kind of string.
-    pub(crate) fn chunk_len(&self, is_text: bool) -> Option<u64>
+    /// Returns the length in bytes of a chunk of a string, a text string or a byte string, that
+    /// begins with this head; `None` if none does (RFC 8949, section 3.2.3).
+    pub fn chunk_len(&self, is_text: bool) -> Option<u64>
         ensures { result ≡ chunk_len is_text self.now }
     {
         match self {

@@ -10,7 +10,7 @@ use Rattle.passkey_core.specs.DataParts.{AttestedParts, DataParts}
 use Rattle.passkey_core.specs.Flags.{reserved_flags}
 use Rattle.passkey_core.specs.DataFlags.{has_flag, attested_flag, extensions_flag}
 use Rattle.passkey_core.specs.DataAnswers.{Returns}
-use Rattle.passkey_core.specs.DataReading.{Begun, ◌>>=◌, bytes_at, known_only, fixed_at, read_map, ReadsItem, Behind, ReadsThen, ReadsAttested, ReadsWhere, ReadsDataThen, AttestedGrows, PartsGrow, DataGrow}
+use Rattle.passkey_core.specs.DataReading.{Begun, ◌>>=◌, bytes_at, known_only, fixed_at, read_map, ReadsItem, Behind, ReadsThen, ReadsAttested, ReadsWhere, ReadsDataThen, AttestedGrows, PartsGrow, DataGrows}
 
 -- an error of one reading is an error of another
 pub gives_fault : {A B C D : Type 0} (memory : Type 0) (other : Type 0) (seen : A → B) (told : C → D)
@@ -95,9 +95,9 @@ pub extensions_fail : {A B Y : Type 0} (finish : DataParts → List ℕ → Resu
     → Ok (fixed, rest) ≡ fixed_at bytes → ReadsWhere (has_flag attested_flag fixed.flags) ReadsAttested rest
     (Ok (attested, behind)) → Returns ((has_flag extensions_flag fixed.flags ≡ true) × HasGrowingLeadingItem behind)
     told (ReadsWhere (has_flag extensions_flag fixed.flags) (ReadsItem read_map) behind) (Err e)
-    → Returns (DataGrow bytes) seen (ReadsDataThen finish bytes) (Err e)
+    → Returns (DataGrows bytes) seen (ReadsDataThen finish bytes) (Err e)
 extensions_fail finish seen told bytes fixed rest attested behind e is_fixed is_attested h =
-    gives_fault ((has_flag extensions_flag fixed.flags ≡ true) × HasGrowingLeadingItem behind) (DataGrow bytes) told
+    gives_fault ((has_flag extensions_flag fixed.flags ≡ true) × HasGrowingLeadingItem behind) (DataGrows bytes) told
     seen (ReadsWhere (has_flag extensions_flag fixed.flags) (ReadsItem read_map) behind) (ReadsDataThen finish bytes)
     (λ grows. subst (λ (begun : Begun DataParts). IsOkAnd begun (λ p. PartsGrow p.0 p.1)) is_fixed
     (inr (grows.0, record { attested = attested; behind = behind; begins = is_attested; grows = grows.1 })))

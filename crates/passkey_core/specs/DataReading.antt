@@ -138,5 +138,5 @@ PartsGrow fixed rest =
 
 -- decoding authenticator data may run out of memory only if the parts of fixed length have no error, and a
 -- later part may
-abbrev pub DataGrow : List ℕ → Type 0
-DataGrow bytes = IsOkAnd (fixed_at bytes) (λ fixed. PartsGrow fixed.0 fixed.1)
+abbrev pub DataGrows : List ℕ → Type 0
+DataGrows bytes = IsOkAnd (fixed_at bytes) (λ fixed. PartsGrow fixed.0 fixed.1)

@@ -6,8 +6,8 @@ use Rattle.passkey_cbor.specs.Item.{Item, boolean, byte_string, text_string, pai
 use Rattle.passkey_cose.specs.KeyLabels.{Members}
 use Rattle.passkey_core.specs.DataParts.{DataParts}
 use Rattle.passkey_core.specs.DataFlags.{extensions_flag}
-use Rattle.passkey_core.specs.declared.get_assertion.SignedExtensionOutputs as assertion
-use Rattle.passkey_core.specs.declared.make_credential.SignedExtensionOutputs as creation
+use Rattle.passkey_core.specs.declared.get_assertion.SignedExtensionOutputs as get_assertion
+use Rattle.passkey_core.specs.declared.make_credential.SignedExtensionOutputs as make_credential
 
 -- the member with this name; none if the value is absent
 abbrev pub named : List ℕ → Option Item → Members
@@ -20,31 +20,31 @@ hmac_secret = codes "hmac-secret"
 abbrev pub hmac_secret_mc : List ℕ
 hmac_secret_mc = codes "hmac-secret-mc"
 
-abbrev pub creation_item : creation.SignedExtensionOutputs → Item
-creation_item o = item.map (pairs_of (named hmac_secret (option_map boolean o.hmac_secret)
+abbrev pub make_credential_item : make_credential.SignedExtensionOutputs → Item
+make_credential_item o = item.map (pairs_of (named hmac_secret (option_map boolean o.hmac_secret)
     ++ named hmac_secret_mc (option_map byte_string o.hmac_secret_mc)))
 
-abbrev pub assertion_item : assertion.SignedExtensionOutputs → Item
-assertion_item o = item.map (pairs_of (named hmac_secret (option_map byte_string o.hmac_secret)))
+abbrev pub get_assertion_item : get_assertion.SignedExtensionOutputs → Item
+get_assertion_item o = item.map (pairs_of (named hmac_secret (option_map byte_string o.hmac_secret)))
 
 -- the value if it has a member
 abbrev pub where_some : {X : Type 0} → Bool → X → Option X
 where_some has_member x = if has_member then Some x else None
 
-abbrev pub has_creation_member : creation.SignedExtensionOutputs → Bool
-has_creation_member o = is_some o.hmac_secret || is_some o.hmac_secret_mc
+abbrev pub has_make_credential_member : make_credential.SignedExtensionOutputs → Bool
+has_make_credential_member o = is_some o.hmac_secret || is_some o.hmac_secret_mc
 
-abbrev pub has_assertion_member : assertion.SignedExtensionOutputs → Bool
-has_assertion_member o = is_some o.hmac_secret
+abbrev pub has_get_assertion_member : get_assertion.SignedExtensionOutputs → Bool
+has_get_assertion_member o = is_some o.hmac_secret
 
 -- the extension outputs as a map; `None` if no output is present
-abbrev pub creation_extensions : Option creation.SignedExtensionOutputs → Option Item
-creation_extensions None = None
-creation_extensions (Some o) = if has_creation_member o then Some (creation_item o) else None
+abbrev pub make_credential_extensions : Option make_credential.SignedExtensionOutputs → Option Item
+make_credential_extensions None = None
+make_credential_extensions (Some o) = if has_make_credential_member o then Some (make_credential_item o) else None
 
-abbrev pub assertion_extensions : Option assertion.SignedExtensionOutputs → Option Item
-assertion_extensions None = None
-assertion_extensions (Some o) = if has_assertion_member o then Some (assertion_item o) else None
+abbrev pub get_assertion_extensions : Option get_assertion.SignedExtensionOutputs → Option Item
+get_assertion_extensions None = None
+get_assertion_extensions (Some o) = if has_get_assertion_member o then Some (get_assertion_item o) else None
 
 -- the data with these extensions and the flag ED set; unchanged if there are none
 abbrev pub with_extensions : DataParts → Option Item → DataParts

@@ -3,7 +3,7 @@ ghost use Rattle.std.specs.Prelude.{◌≡◌, ◌↔◌, ◌<◌, ◌^◌, ◌�
 ghost use Rattle.std.specs.Cmp.{on_per, partial_equiv_from_equiv};
 ghost use Rattle.std.specs.Ordering.{on};
 ghost use Rattle.passkey_cose.specs.Key.{key_parts};
-ghost use Rattle.passkey_cose.specs.KeyParts.{TakesMemory};
+ghost use Rattle.passkey_cose.specs.KeyParts.{KeyGrows};
 ghost use Rattle.passkey_core.specs.DataSame.{attested_eq, attested_eq-equivalence};
 ghost use Rattle.passkey_core.specs.DataViews.{attested_parts};
 
@@ -53,7 +53,7 @@ impl AttestedCredentialData {
     pub fn try_clone(&self, alloc: Global) -> Result<AttestedCredentialData, OutOfMemory>
         ensures same { IfOk result (λ copy. attested_parts copy ≡ attested_parts self.now) }
         ensures grows { OnErr result
-            ((0 < length (attested_parts self.now).credential_id) ⊎ TakesMemory (attested_parts self.now).key) }
+            ((0 < length (attested_parts self.now).credential_id) ⊎ KeyGrows (attested_parts self.now).key) }
     {
         let mut credential_id = Vec::new(alloc);
         credential_id.extend_from_slice(&self.credential_id)?;

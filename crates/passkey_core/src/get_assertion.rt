@@ -1,7 +1,7 @@
 //! Extension outputs in the authenticator data of an assertion (CTAP 2.1, section 6.2).
 ghost use Rattle.std.specs.Prelude.{◌≡◌, IfOk, IsSome, IsTrue, OnErr, option_map};
 ghost use Rattle.passkey_cbor.specs.View.{item_of};
-ghost use Rattle.passkey_core.specs.SignedOutputs.{assertion_item, has_assertion_member, where_some, assertion_extensions};
+ghost use Rattle.passkey_core.specs.SignedOutputs.{get_assertion_item, has_get_assertion_member, where_some, get_assertion_extensions};
 
 use crate::signed_outputs::{bytes_value, push_output};
 use passkey_bytes::Bytes;
@@ -19,7 +19,7 @@ pub struct SignedExtensionOutputs {
 impl SignedExtensionOutputs {
     /// `Some` with the outputs if one is present; `None` if all are absent.
     pub fn zip_contents(self) -> Option<SignedExtensionOutputs>
-        ensures { result ≡ where_some (has_assertion_member self) self }
+        ensures { result ≡ where_some (has_get_assertion_member self) self }
     {
         if self.hmac_secret.is_some() {
             Some(self)
@@ -31,8 +31,8 @@ impl SignedExtensionOutputs {
     /// The outputs as a map: `hmac-secret`, if present. `OutOfMemory` if an allocation fails, which
     /// can't happen if it is absent.
     pub fn to_value(&self, alloc: Global) -> Result<Value, OutOfMemory>
-        ensures value { IfOk result (λ v. item_of v ≡ assertion_item self.now) }
-        ensures grows { OnErr result (IsTrue (has_assertion_member self.now)) }
+        ensures value { IfOk result (λ v. item_of v ≡ get_assertion_item self.now) }
+        ensures grows { OnErr result (IsTrue (has_get_assertion_member self.now)) }
     {
         let mut outputs = Vec::new(alloc);
         let secrets = bytes_value(alloc, &self.hmac_secret)?;
@@ -46,8 +46,8 @@ pub(crate) fn to_extensions(
     alloc: Global,
     outputs: Option<SignedExtensionOutputs>,
 ) -> Result<Option<Value>, OutOfMemory>
-    ensures value { IfOk result (λ v. option_map item_of v ≡ assertion_extensions outputs) }
-    ensures grows { OnErr result (IsSome (assertion_extensions outputs)) }
+    ensures value { IfOk result (λ v. option_map item_of v ≡ get_assertion_extensions outputs) }
+    ensures grows { OnErr result (IsSome (get_assertion_extensions outputs)) }
 {
     let Some(outputs) = outputs else {
         return Ok(None);

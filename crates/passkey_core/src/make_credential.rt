@@ -1,7 +1,7 @@
 //! Extension outputs in the authenticator data of a registration (CTAP 2.1, section 6.1).
 ghost use Rattle.std.specs.Prelude.{◌≡◌, IfOk, IsSome, IsTrue, OnErr, option_map};
 ghost use Rattle.passkey_cbor.specs.View.{item_of};
-ghost use Rattle.passkey_core.specs.SignedOutputs.{creation_item, has_creation_member, where_some, creation_extensions};
+ghost use Rattle.passkey_core.specs.SignedOutputs.{make_credential_item, has_make_credential_member, where_some, make_credential_extensions};
 
 use crate::signed_outputs::{bytes_value, push_output};
 use passkey_bytes::Bytes;
@@ -21,7 +21,7 @@ pub struct SignedExtensionOutputs {
 impl SignedExtensionOutputs {
     /// `Some` with the outputs if one is present; `None` if all are absent.
     pub fn zip_contents(self) -> Option<SignedExtensionOutputs>
-        ensures { result ≡ where_some (has_creation_member self) self }
+        ensures { result ≡ where_some (has_make_credential_member self) self }
     {
         if self.hmac_secret.is_some() || self.hmac_secret_mc.is_some() {
             Some(self)
@@ -33,8 +33,8 @@ impl SignedExtensionOutputs {
     /// The outputs as a map: `hmac-secret` and `hmac-secret-mc`, each if present. `OutOfMemory` if
     /// an allocation fails, which can't happen if both are absent.
     pub fn to_value(&self, alloc: Global) -> Result<Value, OutOfMemory>
-        ensures value { IfOk result (λ v. item_of v ≡ creation_item self.now) }
-        ensures grows { OnErr result (IsTrue (has_creation_member self.now)) }
+        ensures value { IfOk result (λ v. item_of v ≡ make_credential_item self.now) }
+        ensures grows { OnErr result (IsTrue (has_make_credential_member self.now)) }
     {
         let mut outputs = Vec::new(alloc);
         let secret = self.hmac_secret.map(Value::Bool);
@@ -50,8 +50,8 @@ pub(crate) fn to_extensions(
     alloc: Global,
     outputs: Option<SignedExtensionOutputs>,
 ) -> Result<Option<Value>, OutOfMemory>
-    ensures value { IfOk result (λ v. option_map item_of v ≡ creation_extensions outputs) }
-    ensures grows { OnErr result (IsSome (creation_extensions outputs)) }
+    ensures value { IfOk result (λ v. option_map item_of v ≡ make_credential_extensions outputs) }
+    ensures grows { OnErr result (IsSome (make_credential_extensions outputs)) }
 {
     let Some(outputs) = outputs else {
         return Ok(None);

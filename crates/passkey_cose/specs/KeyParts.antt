@@ -61,8 +61,8 @@ key_item k = item.map (pairs_of (key_members k))
 
 -- the keys that take memory to hold: those with a text as type or algorithm, a key id, operations, a Base IV or
 -- further parameters
-abbrev pub TakesMemory : KeyParts → Type 0
-TakesMemory k =
+abbrev pub KeyGrows : KeyParts → Type 0
+KeyGrows k =
     IsText k.kty
     ⊎ IsSome k.key_id
     ⊎ IsSomeAnd k.alg IsText

@@ -2,7 +2,7 @@
 ghost use Rattle.std.specs.Prelude.{◌≡◌, ◌<◌, length, map, IsSome, IsSomeAnd, option_map, IfOk, OnErr};
 ghost use Rattle.passkey_cose.specs.Key.{key_parts};
 ghost use Rattle.passkey_cose.specs.KeyParams.{params_of};
-ghost use Rattle.passkey_cose.specs.KeyParts.{TakesMemory};
+ghost use Rattle.passkey_cose.specs.KeyParts.{KeyGrows};
 ghost use Rattle.passkey_cose.specs.Registered.{named_of, IsText};
 
 use crate::iana::{Algorithm, KeyOperation};
@@ -66,7 +66,7 @@ impl CoseKey {
     /// whose type and algorithm are numbers and which has no other part.
     pub fn try_clone(&self, alloc: Global) -> Result<CoseKey, OutOfMemory>
         ensures same { IfOk result (λ k. key_parts k ≡ key_parts self.now) }
-        ensures grows { OnErr result (TakesMemory (key_parts self.now)) }
+        ensures grows { OnErr result (KeyGrows (key_parts self.now)) }
     {
         let key_ops = copy_ops(alloc, self.key_ops())?;
         let params = copy_params(alloc, self.params())?;

@@ -9,7 +9,7 @@ ghost use Rattle.passkey_cose.specs.KeyChecks.{ReadsPart};
 ghost use Rattle.passkey_cose.specs.KeyFaults.{name_fault, first_fault};
 ghost use Rattle.passkey_cose.specs.KeyLabels.{is_common};
 ghost use Rattle.passkey_cose.specs.KeyParams.{params_of};
-ghost use Rattle.passkey_cose.specs.KeyParts.{TakesMemory};
+ghost use Rattle.passkey_cose.specs.KeyParts.{KeyGrows};
 ghost use Rattle.passkey_cose.specs.KeyReading.{name_in, bytes_in, ops_in, under, further, key_from, key_type, key_or_fault, read_key};
 ghost use Rattle.passkey_cose.specs.Label.{label_item};
 ghost use Rattle.passkey_cose.specs.Registered.{named_of, IsText};
@@ -170,7 +170,7 @@ fn read_parts(
     requires typed { key_type (option_and_then (name_in key_type_named) (under 1 (map pair_of members.now)))
         ≡ Ok (named_of kty) }
     ensures same { IfOk result (λ k. key_parts k ≡ key_from (map pair_of members.now) (named_of kty)) }
-    ensures grows { OnErr result (TakesMemory (key_from (map pair_of members.now) (named_of kty))) }
+    ensures grows { OnErr result (KeyGrows (key_from (map pair_of members.now) (named_of kty))) }
 {
     let key_id = read_bytes_under(alloc, members, 2)?;
     let alg = read_name_under(alloc, members, 3)?;
@@ -189,7 +189,7 @@ fn read_parts(
 
 fn read_members(alloc: Global, members: &[(Value, Value)]) -> Result<CoseKey, CoseError>
     requires { first_fault [] (map pair_of members.now) ≡ None }
-    ensures { ReadsPart TakesMemory key_parts (key_or_fault (map pair_of members.now) None) result }
+    ensures { ReadsPart KeyGrows key_parts (key_or_fault (map pair_of members.now) None) result }
 {
     let kty = read_kty(alloc, members)?;
     Ok(read_parts(alloc, members, kty)?)
@@ -212,7 +212,7 @@ impl CoseKey {
     /// ones in ordered sets. If an allocation for these sets fails, they are compared with one
     /// another, in quadratic time.
     pub fn from_value(alloc: Global, value: &Value) -> Result<CoseKey, CoseError>
-        ensures { ReadsPart TakesMemory key_parts (read_key (item_of value.now)) result }
+        ensures { ReadsPart KeyGrows key_parts (read_key (item_of value.now)) result }
     {
         match value {
             Value::Map(members) => {

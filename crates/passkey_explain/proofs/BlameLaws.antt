@@ -5,7 +5,7 @@ use Rattle.std.specs.Option.{option_and_then}
 use Rattle.passkey_explain.specs.Blame.{Blame, Step, wants, at_fault, under, element, member, value, key, IsIn, item_along, part_at}
 use Rattle.passkey_explain.specs.Blaming.{blamed, blamed_row, blame_elements, list_blame, blame_entries, map_blame, blame_value, blame_one, blame_missing, blame_from, seen_with, record_blame, name_at, accepts_in}
 use Rattle.passkey_kinds.specs.Base.{Item, array, elements, members}
-use Rattle.passkey_kinds.specs.Kind.{bytes}
+use Rattle.passkey_kinds.specs.Kind.{bytes_from}
 use Rattle.passkey_kinds.specs.Record.{Members, Naming, row, unknown, wrong, names, first_missing}
 use Rattle.passkey_kinds.specs.Shape.{Entry, Shape, leaf, record_of, Rows, no_rows, entries_in}
 use Rattle.passkey_kinds.specs.Shape as shape
@@ -62,7 +62,7 @@ module _ (accepts : Item → Bool) (of : Item → Blame) (inside_of : (i : Item)
       let at = first_left (members ps) n m ms left in
       let v = under (value n) (of m.1) in
       let later = blame_entries accepts of (suc n) ms in
-      either i (is_some (bytes m.0)) (if accepts m.1 then later else v) (under (key n) (wants wanted.Bytes))
+      either i (is_some (bytes_from m.0)) (if accepts m.1 then later else v) (under (key n) (wants wanted.Bytes))
       (either i (accepts m.1) later v (entries_inside ps (suc n) ms (others_left (members ps) n m ms left))
       (within i m.1 (value n) (of m.1) (ap (option_map (λ (p : Item × Item). p.1)) at) (inside_of m.1)))
       (within i m.0 (key n) (wants wanted.Bytes) (ap (option_map (λ (p : Item × Item). p.0)) at) refl)

@@ -1,5 +1,5 @@
 -- What lists, maps and records blame, step by step.
-use Rattle.passkey_kinds.proofs.Common.{item_of-Array, elements-items_of, Item, Members, Naming, row, names, find, Entry, row_or_unknown, bytes, are_small, entry_of, item_of, array, unwrap_or, elements_in, members_in, ◌≡◌, ◌∙◌, ◌<◌, ◌+◌, ◌==◌, ℕ, suc, arith, add-one, Bool, true, false, List, [], ◌∷◌, ◌++◌, length, map, drop, get_or, set, replicate, first_missing, get_or-set_same, get_or-set_other, Option, Some, None, is_some, option_map, refl, sym, ap, subst, if◌then◌else◌, Result, Ok, Err, option_and_then}
+use Rattle.passkey_kinds.proofs.Common.{item_of-Array, elements-items_of, Item, Members, Naming, row, names, find, Entry, row_or_unknown, bytes_from, are_small, entry_of, item_of, array, unwrap_or, elements_in, members_in, ◌≡◌, ◌∙◌, ◌<◌, ◌+◌, ◌==◌, ℕ, suc, arith, add-one, Bool, true, false, List, [], ◌∷◌, ◌++◌, length, map, drop, get_or, set, replicate, first_missing, get_or-set_same, get_or-set_other, Option, Some, None, is_some, option_map, refl, sym, ap, subst, if◌then◌else◌, Result, Ok, Err, option_and_then}
 use Rattle.std.proofs.Common.{Bor, IfOk, append_assoc, append-nil}
 use Rattle.std.proofs.lemmas.List.{map-append}
 use Rattle.std.proofs.lemmas.Bool.Decides.{nat_tests}
@@ -82,15 +82,15 @@ module _ (accepts : Item → Bool) (of : Item → Blame) (n : ℕ) where
       → blame_elements accepts of n all ≡ under (element n) (of x)
   element_refused x xs all at bad = rw (at, bad) refl
 
-  pub entry_accepted : (m : Item × Item) (ms all : Members) → all ≡ m ∷ ms → is_some (bytes m.0) ≡ true
+  pub entry_accepted : (m : Item × Item) (ms all : Members) → all ≡ m ∷ ms → is_some (bytes_from m.0) ≡ true
       → accepts m.1 ≡ true → blame_entries accepts of n all ≡ blame_entries accepts of (n + 1) ms
   entry_accepted m ms all at first good = rw (at, first, good, add-one n) refl
 
-  pub key_refused : (m : Item × Item) (ms all : Members) → all ≡ m ∷ ms → is_some (bytes m.0) ≡ false
+  pub key_refused : (m : Item × Item) (ms all : Members) → all ≡ m ∷ ms → is_some (bytes_from m.0) ≡ false
       → blame_entries accepts of n all ≡ under (key n) (wants wanted.Bytes)
   key_refused m ms all at bad = rw (at, bad) refl
 
-  pub value_refused : (m : Item × Item) (ms all : Members) → all ≡ m ∷ ms → is_some (bytes m.0) ≡ true
+  pub value_refused : (m : Item × Item) (ms all : Members) → all ≡ m ∷ ms → is_some (bytes_from m.0) ≡ true
       → accepts m.1 ≡ false → blame_entries accepts of n all ≡ under (value n) (of m.1)
   value_refused m ms all at first bad = rw (at, first, bad) refl
 

@@ -1,5 +1,5 @@
 -- What is blamed is what is refused.
-use Rattle.passkey_kinds.proofs.Common.{Fields, Member, Members, Naming, Progress, row, unknown, wrong, entries, table_of, rows_of, accepts_at, named, names, first_missing, unless_missing, one_more, read_from, record_kind, result_ok, result_and_then, put_at, ◌||◌, read_item, bytes, ◌≡◌, ◌∙◌, ℕ, suc, ◌==◌, Bool, true, false, List, [], ◌∷◌, Option, Some, None, is_some, option_map, slice_get, unwrap_or, Result, Ok, Err, inl, inr, refl, sym, ap, subst, if◌then◌else◌}
+use Rattle.passkey_kinds.proofs.Common.{Fields, Member, Members, Naming, Progress, row, unknown, wrong, entries, table_of, rows_of, accepts_at, named, names, first_missing, unless_missing, one_more, read_from, record_kind, result_ok, result_and_then, put_at, ◌||◌, read_item, bytes_from, ◌≡◌, ◌∙◌, ℕ, suc, ◌==◌, Bool, true, false, List, [], ◌∷◌, Option, Some, None, is_some, option_map, slice_get, unwrap_or, Result, Ok, Err, inl, inr, refl, sym, ap, subst, if◌then◌else◌}
 use Rattle.passkey_explain.proofs.BlameLaws.{AreLeft, first_left, others_left, all_left}
 use Rattle.passkey_explain.proofs.Blames.{named_there, some_same}
 use Rattle.passkey_kinds.proofs.Looks.{same_entries}
@@ -145,7 +145,7 @@ module _ (accepts : Item → Bool) (s : Shape)
 
   key_case : (a : Item → Bool) (ps : item.Pairs) (n : ℕ) (m : Item × Item) (ms : Members) → a (item.map ps) ≡ false
       → slice_get (members ps) n ≡ Some m → Refuses (record { accepts = a; shape = shape.map accepts s }) (item.map ps)
-      (blame_entries accepts (blamed s) (suc n) ms) → (o : Option (List ℕ)) → bytes m.0 ≡ o
+      (blame_entries accepts (blamed s) (suc n) ms) → (o : Option (List ℕ)) → bytes_from m.0 ≡ o
       → Refuses (record { accepts = a; shape = shape.map accepts s }) (item.map ps) (if is_some o
       then (if accepts m.1 then blame_entries accepts (blamed s) (suc n) ms else under (value n) (blamed s m.1))
       else under (key n) (wants wanted.Bytes))
@@ -158,7 +158,7 @@ module _ (accepts : Item → Bool) (s : Shape)
   entries_refused a ps n [] left bad = bad
   entries_refused a ps n (m ∷ ms) left bad =
       key_case a ps n m ms bad (first_left (members ps) n m ms left)
-      (entries_refused a ps (suc n) ms (others_left (members ps) n m ms left) bad) (bytes m.0) refl
+      (entries_refused a ps (suc n) ms (others_left (members ps) n m ms left) bad) (bytes_from m.0) refl
 
   map_refused : (a : Item → Bool) (i : Item) → a i ≡ false
       → Refuses (record { accepts = a; shape = shape.map accepts s }) i (map_blame accepts (blamed s) i)

@@ -2,7 +2,7 @@
 use Rattle.std.specs.Prelude.{ℕ, suc, ◌==◌, ◌||◌, Bool, false, if◌then◌else◌, List, [], ◌∷◌, Option, Some, None, is_some, option_map, unwrap_or}
 use Rattle.passkey_explain.specs.Blame.{Blame, wants, at_fault, under, element, member, value, key}
 use Rattle.passkey_kinds.specs.Base.{Item, array, elements, members}
-use Rattle.passkey_kinds.specs.Kind.{bytes}
+use Rattle.passkey_kinds.specs.Kind.{bytes_from}
 use Rattle.passkey_kinds.specs.Record.{Members, Naming, row, unknown, wrong, names, first_missing}
 use Rattle.passkey_kinds.specs.Shape.{Entry, Shape, leaf, record_of, Rows, no_rows, entries_in, row_in, Tested}
 use Rattle.passkey_kinds.specs.Shape as shape
@@ -25,7 +25,7 @@ list_blame accepts blame _ = wants wanted.Array
 
 abbrev pub blame_entries : (Item → Bool) → (Item → Blame) → ℕ → Members → Blame
 blame_entries accepts blame n [] = wants wanted.Map
-blame_entries accepts blame n (m ∷ ms) = if is_some (bytes m.0)
+blame_entries accepts blame n (m ∷ ms) = if is_some (bytes_from m.0)
     then (if accepts m.1 then blame_entries accepts blame (suc n) ms else under (value n) (blame m.1))
     else under (key n) (wants wanted.Bytes)
 

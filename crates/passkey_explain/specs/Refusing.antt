@@ -3,7 +3,7 @@ use Rattle.std.specs.Prelude.{◌≡◌, ◌⊎◌, ℕ, false, List, [], ◌∷
 use Rattle.passkey_explain.specs.Blame.{Blame, Step, member, key, part_at}
 use Rattle.passkey_explain.specs.declared.blame.Reason.{Reason}
 use Rattle.passkey_kinds.specs.Base.{Item}
-use Rattle.passkey_kinds.specs.Kind.{bytes}
+use Rattle.passkey_kinds.specs.Kind.{bytes_from}
 use Rattle.passkey_kinds.specs.Record.{names, row, wrong}
 use Rattle.passkey_kinds.specs.Shape.{Shape, record_of, Tested, entries_in, part_of}
 use Rattle.passkey_kinds.specs.declared.fault.Fault.{Fault}
@@ -18,7 +18,7 @@ number_of _ = 0
 
 -- The map's key is refused: it isn't bytes, it names no member, or it is one that was named before.
 abbrev pub KeyIsRefused : Shape → Item → Reason → Type 0
-KeyIsRefused (shape.map accepts s) label why = bytes label ≡ None
+KeyIsRefused (shape.map accepts s) label why = bytes_from label ≡ None
 KeyIsRefused (record_of is_numbered rows) label why =
     ((names is_numbered (entries_in rows) label ≡ wrong) × (why ≡ reason.Fault BadKey))
     ⊎ ((n : ℕ) × ((names is_numbered (entries_in rows) label ≡ row n) × (why ≡ reason.Fault (Repeated n))))

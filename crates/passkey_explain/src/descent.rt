@@ -1,6 +1,6 @@
 //! What a type that refuses a data item blames.
 ghost use Rattle.std.specs.Prelude.{◌≡◌, ◌++◌, ◌∷◌, [], ℕ, true, false, length, map, get_or, option_map, is_some, IfOk, IfSome, Some, None};
-ghost use Rattle.passkey_kinds.specs.Kind.{bytes};
+ghost use Rattle.passkey_kinds.specs.Kind.{bytes_from};
 ghost use Rattle.passkey_kinds.specs.Look.{tested, HasForm};
 ghost use Rattle.passkey_kinds.specs.Record.{names};
 ghost use Rattle.passkey_kinds.specs.Shape.{Rows, Tested, reached};
@@ -59,7 +59,7 @@ fn next_element<'a, M: FromCbor>(
 
 /// Returns whether the item is bytes.
 fn is_bytes(alloc: Global, value: &Value) -> Result<bool, OutOfMemory>
-    ensures { IfOk result (λ b. b ≡ is_some (bytes (item_of value.now))) }
+    ensures { IfOk result (λ b. b ≡ is_some (bytes_from (item_of value.now))) }
 {
     match Bytes::from_value(alloc, value) {
         Ok(_) => Ok(true),

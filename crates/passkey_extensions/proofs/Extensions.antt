@@ -5,7 +5,7 @@ use Rattle.std.proofs.Common.{leb-true}
 use Rattle.passkey_extensions.specs.GetExtensions.{get_extensions_parts, get_extensions_tree, GetExtensionsFit, get_extensions_fields, get_extensions_members, get_extensions_kept}
 use Rattle.passkey_extensions.specs.HmacInput.{HmacInputParts, read_hmac_input, hmac_input_tree, HmacInputFits, hmac_input_fields, hmac_input_members, is_hmac_input_coherent, hmac_input_kept}
 use Rattle.passkey_extensions.specs.MakeExtensions.{make_extensions_parts, make_extensions_tree, MakeExtensionsFit, make_extensions_fields, make_extensions_members, make_extensions_kept}
-use Rattle.passkey_extensions.specs.Prf.{prf_values, prf_inputs, prf_made, prf_used, unsigned, normal_unsigned}
+use Rattle.passkey_extensions.specs.Prf.{prf_values, prf_inputs, make_credential_prf, get_assertion_prf, unsigned, normal_unsigned}
 use Rattle.passkey_kinds.specs.Coded.{byte_map, plain}
 use Rattle.passkey_kinds.specs.Placed.{PlainTable, plain_kind, plain_tree}
 use Rattle.passkey_kinds.specs.Tree.{option_tree}
@@ -34,18 +34,18 @@ inputs_law = lawful 3 prf_inputs (λ i. refl) (λ i. refl) (λ i. refl)
 
 -- ---- outputs
 
-pub made_outputs_law : IsLawful 2 prf_made
+pub make_credential_prf_law : IsLawful 2 make_credential_prf
 unfolding shortest_head
-made_outputs_law =
-    lawful 2 prf_made (λ o. refl) (λ o. refl) (λ o. refl) (λ k o. search (plainly, values_law.plain k)) (λ o fits.
+make_credential_prf_law =
+    lawful 2 make_credential_prf (λ o. refl) (λ o. refl) (λ o. refl) (λ k o. search (plainly, values_law.plain k)) (λ o fits.
     puts_value truth_back o.enabled (search) ▸
     puts_default (optional_place values_law.back refl o.results (search)) refl ▸
     no_more)
 
-pub used_outputs_law : IsLawful 2 prf_used
+pub get_assertion_prf_law : IsLawful 2 get_assertion_prf
 unfolding shortest_head
-used_outputs_law =
-    lawful 2 prf_used (λ o. refl) (λ o. refl) (λ o. refl) (λ k o. search (plainly, values_law.plain k)) (λ o fits.
+get_assertion_prf_law =
+    lawful 2 get_assertion_prf (λ o. refl) (λ o. refl) (λ o. refl) (λ k o. search (plainly, values_law.plain k)) (λ o fits.
     puts_value values_law.back o.results (search) ▸
     no_more)
 
@@ -73,11 +73,11 @@ module _ {P : Type 0} (t : PlainTable P) where
       puts_value (or_null_same law.back refl) o.prf fits.0 ▸
       no_more)
 
-pub made_unsigned_law : IsLawful 3 (unsigned prf_made)
-made_unsigned_law = unsigned_law prf_made made_outputs_law
+pub make_credential_unsigned_law : IsLawful 3 (unsigned make_credential_prf)
+make_credential_unsigned_law = unsigned_law make_credential_prf make_credential_prf_law
 
-pub used_unsigned_law : IsLawful 3 (unsigned prf_used)
-used_unsigned_law = unsigned_law prf_used used_outputs_law
+pub get_assertion_unsigned_law : IsLawful 3 (unsigned get_assertion_prf)
+get_assertion_unsigned_law = unsigned_law get_assertion_prf get_assertion_prf_law
 
 -- ---- the encodings of the extensions' records can be decoded again
 
@@ -178,11 +178,11 @@ pub input_within : (h : HmacInputParts) (n : ℕ) → n < 2 ^ 64
     → nat_lt (min (depth h.key_agreement) (2 ^ 64 - 1)) n ≡ nat_le (depth (hmac_input_tree h)) n
 input_within h n small = grind (arith, input_up, input_down)
 
-pub made_levels : OnlyDeep (places_of make_extensions_members) hmac_input_tree (λ e. e.hmac_secret_mc) 254
-made_levels = only_deep 254 (omega arith) make_extensions_only
+pub make_credential_levels : OnlyDeep (places_of make_extensions_members) hmac_input_tree (λ e. e.hmac_secret_mc) 254
+make_credential_levels = only_deep 254 (omega arith) make_extensions_only
 
-pub used_levels : OnlyDeep (places_of get_extensions_members) hmac_input_tree (λ e. e.hmac_secret) 254
-used_levels = only_deep 254 (omega arith) get_extensions_only
+pub get_assertion_levels : OnlyDeep (places_of get_extensions_members) hmac_input_tree (λ e. e.hmac_secret) 254
+get_assertion_levels = only_deep 254 (omega arith) get_extensions_only
 
 -- ---- laws of inputs of the extension hmac-secret
 

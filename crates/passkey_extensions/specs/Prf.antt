@@ -31,16 +31,16 @@ prf_inputs = record {
 
 -- ---- outputs
 
-abbrev pub prf_made : PlainTable AuthenticatorPrfMakeOutputs
-prf_made = record {
+abbrev pub make_credential_prf : PlainTable AuthenticatorPrfMakeOutputs
+make_credential_prf = record {
   blank = record { enabled = false; results = None };
   members = required_as 1 (codes "enabled") truth (λ o. o.enabled) (λ x o. record o { enabled = x })
       ∷ optional_as 2 (codes "results") (plain prf_values) (λ o. o.results) (λ x o. record o { results = x })
       ∷ [];
 }
 
-abbrev pub prf_used : PlainTable AuthenticatorPrfGetOutputs
-prf_used = record {
+abbrev pub get_assertion_prf : PlainTable AuthenticatorPrfGetOutputs
+get_assertion_prf = record {
   blank = record { results = record { first = replicate 32 0; second = None } };
   members = required_as 1 (codes "results") (plain prf_values) (λ o. o.results) (λ x o. record o { results = x }) ∷ [];
 }
@@ -61,8 +61,8 @@ abbrev pub webauthn_values : AuthenticatorPrfValues → AuthenticationExtensions
 webauthn_values v = record { first = v.first; second = v.second }
 
 -- at a registration, where `enabled` is present
-abbrev pub webauthn_made : AuthenticatorPrfMakeOutputs → AuthenticationExtensionsPrfOutputs
-webauthn_made o = record { enabled = Some o.enabled; results = option_map webauthn_values o.results }
+abbrev pub registration_prf : AuthenticatorPrfMakeOutputs → AuthenticationExtensionsPrfOutputs
+registration_prf o = record { enabled = Some o.enabled; results = option_map webauthn_values o.results }
 
-abbrev pub webauthn_used : AuthenticatorPrfGetOutputs → AuthenticationExtensionsPrfOutputs
-webauthn_used o = record { enabled = None; results = Some (webauthn_values o.results) }
+abbrev pub authentication_prf : AuthenticatorPrfGetOutputs → AuthenticationExtensionsPrfOutputs
+authentication_prf o = record { enabled = None; results = Some (webauthn_values o.results) }

@@ -2,7 +2,7 @@
 ghost use Rattle.std.specs.Prelude.{true, ◌≡◌, is_some, IfOk, OnErr};
 ghost use Rattle.std.specs.Option.{IsSomeAnd};
 ghost use Rattle.std.specs.FinMap as fin;
-ghost use Rattle.passkey_extensions.specs.Prf.{prf_inputs, prf_values, prf_made, prf_used, webauthn_values, webauthn_made, webauthn_used};
+ghost use Rattle.passkey_extensions.specs.Prf.{prf_inputs, prf_values, make_credential_prf, get_assertion_prf, webauthn_values, registration_prf, authentication_prf};
 
 use passkey_bytes::{Bytes, Map};
 use passkey_kinds::{PlainRecord, Refusal, Row, Sink, Source, set};
@@ -175,7 +175,7 @@ impl AuthenticatorPrfMakeOutputs {
         &self,
         alloc: Global,
     ) -> Result<AuthenticationExtensionsPrfOutputs, OutOfMemory>
-        ensures same { IfOk result (λ outputs. outputs ≡ webauthn_made self.now) }
+        ensures same { IfOk result (λ outputs. outputs ≡ registration_prf self.now) }
         ensures grows { OnErr result (is_some self.now.results ≡ true) }
     {
         let results = match &self.results {
@@ -190,7 +190,7 @@ impl AuthenticatorPrfMakeOutputs {
 }
 
 impl PlainRecord for AuthenticatorPrfMakeOutputs {
-    ghost table = { prf_made };
+    ghost table = { make_credential_prf };
 
     fn rows() -> &'static [Row] {
         &[Row::Required(1, "enabled"), Row::Optional(2, "results")]
@@ -217,7 +217,7 @@ impl PlainRecord for AuthenticatorPrfMakeOutputs {
         Ok(())
     }
 
-    #[tactic(auto, using(crate::proofs::Extensions::made_outputs_law))]
+    #[tactic(auto, using(crate::proofs::Extensions::make_credential_prf_law))]
     fn lawful() {}
 }
 
@@ -235,7 +235,7 @@ impl AuthenticatorPrfGetOutputs {
         &self,
         alloc: Global,
     ) -> Result<AuthenticationExtensionsPrfOutputs, OutOfMemory>
-        ensures { IfOk result (λ outputs. outputs ≡ webauthn_used self.now) }
+        ensures { IfOk result (λ outputs. outputs ≡ authentication_prf self.now) }
     {
         Ok(AuthenticationExtensionsPrfOutputs {
             enabled: None,
@@ -245,7 +245,7 @@ impl AuthenticatorPrfGetOutputs {
 }
 
 impl PlainRecord for AuthenticatorPrfGetOutputs {
-    ghost table = { prf_used };
+    ghost table = { get_assertion_prf };
 
     fn rows() -> &'static [Row] {
         &[Row::Required(1, "results")]
@@ -269,6 +269,6 @@ impl PlainRecord for AuthenticatorPrfGetOutputs {
         Ok(())
     }
 
-    #[tactic(auto, using(crate::proofs::Extensions::used_outputs_law))]
+    #[tactic(auto, using(crate::proofs::Extensions::get_assertion_prf_law))]
     fn lawful() {}
 }

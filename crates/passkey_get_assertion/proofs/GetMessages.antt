@@ -6,7 +6,7 @@ use Rattle.passkey_kinds.proofs.Taken.{auth_data_lent}
 use Rattle.passkey_kinds.specs.Lending.{AuthDataAreLent}
 use Rattle.std.proofs.Common.{leb-true}
 use Rattle.passkey_entities.proofs.Entities.{user_law}
-use Rattle.passkey_extensions.proofs.Extensions.{get_parts_back, get_extensions_around, used_unsigned_law}
+use Rattle.passkey_extensions.proofs.Extensions.{get_parts_back, get_extensions_around, get_assertion_unsigned_law}
 use Rattle.passkey_extensions.specs.GetExtensions.{get_extensions_tree}
 use Rattle.passkey_get_assertion.specs.GetRequest.{options, GetRequestParts, get_request_members, get_request_fields, read_get_request, get_request_tree, GetRequestFits, is_get_request_coherent, get_request_kept}
 use Rattle.passkey_get_assertion.specs.GetResponse.{GetResponseParts, get_response_members, get_response_fields, read_get_response, get_response_tree, GetResponseFits, is_get_response_coherent, normal_get_response, get_response_kept}
@@ -42,7 +42,7 @@ response_keys r = keys_ascend (places_of get_response_members r) refl
 
 response_each : {Q : Item → Type 0} → Rule 4 Q → (r : GetResponseParts) → EachPlace Q (places_of get_response_members r)
 response_each rule r =
-    search (rule.holds, plainly, descriptor_law.plain 2, user_law.plain 3, used_unsigned_law.plain 0) depth 14
+    search (rule.holds, plainly, descriptor_law.plain 2, user_law.plain 3, get_assertion_unsigned_law.plain 0) depth 14
 
 -- ---- an encoding can be decoded again
 
@@ -94,7 +94,7 @@ response_back written given r fits coherent =
     puts_default (optional_place byte_back refl r.number_of_credentials (search)) refl ▸
     puts_default (optional_place truth_back refl r.user_selected (anything r.user_selected)) refl ▸
     puts_default (optional_place bytes_back refl r.large_blob_key (anything r.large_blob_key)) refl ▸
-    puts_default (optional_place used_unsigned_law.back refl r.unsigned_extension_outputs (search)) refl ▸
+    puts_default (optional_place get_assertion_unsigned_law.back refl r.unsigned_extension_outputs (search)) refl ▸
     no_more)
 
 -- ---- a decoded response is coherent

@@ -3,7 +3,7 @@ use Rattle.std.specs.Prelude.{[], ◌∷◌, true, false, codes, ℕ, nat_le, Bo
 use Rattle.passkey_extensions.specs.GetExtensions.{GetExtensionsParts, get_extensions_coded, get_extensions_parts, get_extensions_kept}
 use Rattle.passkey_get_assertion.specs.declared.options.Options.{Options}
 use Rattle.passkey_get_assertion.specs.declared.request.Request.{Request}
-use Rattle.passkey_kinds.specs.Coded.{truth, byte, text, bytes, accepted, plain}
+use Rattle.passkey_kinds.specs.Coded.{truth, byte, text, bytes, accepted_of, plain}
 use Rattle.passkey_kinds.specs.Words.{kept_if_some, PlainTable, default_as, depth, max_depth, Item, Placed, required_at, default_at, optional_at, tolerated_at, places_of, EachFits, descriptor, Fields, fields_with, read_item, record_tree, PublicKeyCredentialDescriptor}
 use Rattle.passkey_kinds.specs.declared.fault.Fault.{Fault}
 
@@ -47,7 +47,7 @@ abbrev pub get_request_members : List (Placed GetRequestParts)
 get_request_members =
     required_at 1 (codes "rpId") text (λ r. r.rp_id) (λ x r. record r { rp_id = x })
     ∷ required_at 2 (codes "clientDataHash") bytes (λ r. r.client_data_hash) (λ x r. record r { client_data_hash = x })
-    ∷ tolerated_at 3 (codes "allowList") (accepted (plain descriptor)) (λ r. r.allow_list)
+    ∷ tolerated_at 3 (codes "allowList") (accepted_of (plain descriptor)) (λ r. r.allow_list)
     (λ x r. record r { allow_list = x })
     ∷ tolerated_at 4 (codes "extensions") get_extensions_coded (λ r. r.extensions) (λ x r. record r { extensions = x })
     ∷ default_at 5 (codes "options") (plain options) (λ r. r.options) (λ x r. record r { options = x })

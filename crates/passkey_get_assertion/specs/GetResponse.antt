@@ -5,7 +5,7 @@ use Rattle.passkey_kinds.specs.Coded.{truth, byte, bytes, authenticator_data, pl
 use Rattle.passkey_kinds.specs.declared.fault.Fault.{Fault}
 use Rattle.passkey_entities.specs.Entities.{user}
 use Rattle.passkey_entities.specs.declared.user.PublicKeyCredentialUserEntity.{PublicKeyCredentialUserEntity}
-use Rattle.passkey_extensions.specs.Prf.{prf_used, unsigned}
+use Rattle.passkey_extensions.specs.Prf.{get_assertion_prf, unsigned}
 use Rattle.passkey_extensions.specs.declared.prf.AuthenticatorPrfGetOutputs.{AuthenticatorPrfGetOutputs}
 use Rattle.passkey_extensions.specs.declared.unsigned.UnsignedExtensionOutputs.{UnsignedExtensionOutputs}
 use Rattle.passkey_get_assertion.specs.declared.response.Response.{Response}
@@ -43,7 +43,7 @@ get_response_members =
     (λ x r. record r { number_of_credentials = x })
     ∷ optional_at 6 (codes "userSelected") truth (λ r. r.user_selected) (λ x r. record r { user_selected = x })
     ∷ optional_at 7 (codes "largeBlobKey") bytes (λ r. r.large_blob_key) (λ x r. record r { large_blob_key = x })
-    ∷ optional_at 8 (codes "unsignedExtensionOutputs") (plain (unsigned prf_used)) (λ r. r.unsigned_extension_outputs)
+    ∷ optional_at 8 (codes "unsignedExtensionOutputs") (plain (unsigned get_assertion_prf)) (λ r. r.unsigned_extension_outputs)
     (λ x r. record r { unsigned_extension_outputs = x })
     ∷ []
 

@@ -1,7 +1,7 @@
 -- authenticatorGetInfo responses: decoding their encodings again, their nesting levels, and their canonical form.
 use Rattle.passkey_kinds.proofs.Common.{record_kind}
 use Rattle.passkey_kinds.proofs.Lists.{option_same}
-use Rattle.passkey_kinds.proofs.Steps.{Around, OnlyAt, KeysAscend, keys_ascend, OnlyDeep, only_deep, item_around, around, optional_keeps, decoded_few, canonical_around, ◌∙◌, option_and_then, arith, ◌≡◌, Option, Some, None, refl, Item, shortest_head, kept, optional, IsReadBack, Any, Falls, accepts_it, truth_back, anything, optional_place, IsLawful, lawful, plainly, puts_value, puts_default, ◌▸◌, no_more, number_tree, PlaceHas, EachPlace, list_plain, parameters_law, nat_tests, ℕ, pos, ◌^◌, ◌<◌, nat_lt, nat_le, ltb-true, Bool, true, false, ◌&&◌, if◌then◌else◌, option_map, unwrap_or, Result, Ok, Err, OnOk, sym, ap, and_from, depth, max_depth, IfPresent, ReadIsCoherent, size, option_place, record_keeps, rows_back, size_back, aaguid_back, list_same, byte_back, word_back, text_back, bytes_back, transport_back, list_back, optional_back, all_of_anything, accepted_place, and_parts, AtMostOneLeadingItem, WrittenIsLeadingItem, WrittenIsCanonical}
+use Rattle.passkey_kinds.proofs.Steps.{Around, OnlyAt, KeysAscend, keys_ascend, OnlyDeep, only_deep, item_around, around, optional_keeps, decoded_few, canonical_around, ◌∙◌, option_and_then, arith, ◌≡◌, Option, Some, None, refl, Item, shortest_head, any_from, optional_from, IsReadBack, Any, Falls, accepts_it, truth_back, anything, optional_place, IsLawful, lawful, plainly, puts_value, puts_default, ◌▸◌, no_more, number_tree, PlaceHas, EachPlace, list_plain, parameters_law, nat_tests, ℕ, pos, ◌^◌, ◌<◌, nat_lt, nat_le, ltb-true, Bool, true, false, ◌&&◌, if◌then◌else◌, option_map, unwrap_or, Result, Ok, Err, OnOk, sym, ap, and_from, depth, max_depth, IfPresent, ReadIsCoherent, size_from, option_place, record_keeps, rows_back, size_back, aaguid_back, list_same, byte_back, word_back, text_back, bytes_back, transport_back, list_back, optional_back, all_of_anything, accepted_place, and_parts, AtMostOneLeadingItem, WrittenIsLeadingItem, WrittenIsCanonical}
 use Rattle.std.proofs.Common.{ℕ, List, Bool, ◌<◌, ◌^◌, is_ok, IfErr, leb-true}
 use Rattle.passkey_cbor.specs.Item.{number, boolean, byte_string}
 use Rattle.passkey_get_info.specs.Encodable.{encodable_places}
@@ -10,6 +10,7 @@ use Rattle.passkey_kinds.specs.Kind.{IsSize}
 use Rattle.passkey_kinds.specs.declared.fault.WriteFault.{WriteFault}
 use Rattle.passkey_kinds.specs.declared.fault.WriteFault.TheVariants.{NumberTooLarge}
 use Rattle.passkey_cbor.specs.Item as item
+use Rattle.passkey_kinds.specs.Coded as coded
 use Rattle.passkey_kinds.specs.Typed as typed
 use Rattle.passkey_kinds.specs.Record.{default}
 use Rattle.passkey_kinds.proofs.Back.{Puts}
@@ -23,25 +24,25 @@ pub extension_back : IsReadBack extension extension_tree Any normal_extension
 extension_back = record { back = λ e h. refl }
 
 -- a kept data item that may be null
-kept_or_null : (i : Item) → optional kept i ≡ Some (unless_null i)
+kept_or_null : (i : Item) → optional_from any_from i ≡ Some (unless_null i)
 kept_or_null (number z) = refl
 kept_or_null _ = refl
 
-pub kept_place : (o : Option Item) → Falls (optional kept) None o (option_and_then unless_null o)
+pub kept_place : (o : Option Item) → Falls (optional_from any_from) None o (option_and_then unless_null o)
 kept_place None = record { value = refl; accepted = λ i e. absurd cc }
 kept_place (Some i) = grind (arith, kept_or_null, accepts_it)
 
 -- what the rows of these kinds put
 module _ {P : Type 0} {n : ℕ} {name : List ℕ} {old : P} where
-  truth_row : {set : Bool → P → P} (b : Bool) → Puts (default n name typed.truth set) (Some (boolean b)) old (set b old)
+  truth_row : {set : Bool → P → P} (b : Bool) → Puts (default n name coded.truth.typed set) (Some (boolean b)) old (set b old)
   truth_row b = puts_value truth_back b tt
 
   flag_row : {set : Option Bool → P → P} (o : Option Bool) → set None old ≡ old
-      → Puts (default n name (typed.optional typed.truth) set) (option_map boolean o) old (set o old)
+      → Puts (default n name (typed.optional coded.truth.typed) set) (option_map boolean o) old (set o old)
   flag_row o same = puts_default (optional_place truth_back refl o (anything o)) same
 
   bytes_row : {set : Option (List ℕ) → P → P} (o : Option (List ℕ)) → set None old ≡ old
-      → Puts (default n name (typed.optional typed.bytes) set) (option_map byte_string o) old (set o old)
+      → Puts (default n name (typed.optional coded.bytes.typed) set) (option_map byte_string o) old (set o old)
   bytes_row o same = puts_default (optional_place bytes_back refl o (anything o)) same
 
   word_row : {set : Option ℕ → P → P} (o : Option ℕ) → IfPresent (λ k. k < 2 ^ 32) o → set None old ≡ old
@@ -141,11 +142,11 @@ in_range n true false e = refl
 in_range n false b e = refl
 
 -- each decoded size can be encoded
-encoded_item : (i : Item) → is_encodable (unwrap_or (optional size i) None) ≡ true
+encoded_item : (i : Item) → is_encodable (unwrap_or (optional_from size_from i) None) ≡ true
 encoded_item (item.number (pos n)) = in_range n (nat_lt 0 n) (nat_lt n (2 ^ 64)) refl
 encoded_item _ = refl
 
-size_good : (i : Item) (o : Option ℕ) → optional size i ≡ Some o → is_encodable o ≡ true
+size_good : (i : Item) (o : Option ℕ) → optional_from size_from i ≡ Some o → is_encodable o ≡ true
 size_good i o e = grind (arith, encoded_item)
 
 abbrev SizeIsGood : GetInfoParts → Type 0

@@ -4,9 +4,9 @@ use Rattle.passkey_get_info.specs.declared.extension.Extension.{Extension}
 use Rattle.passkey_get_info.specs.declared.options.Options.{Options}
 use Rattle.passkey_get_info.specs.declared.response.Response.{Response}
 use Rattle.passkey_get_info.specs.declared.version.Version.{Version}
-use Rattle.passkey_kinds.specs.Coded.{truth, text, bytes, aaguid, list, accepted}
-use Rattle.passkey_kinds.specs.Kind.{one_named}
-use Rattle.passkey_kinds.specs.Words.{byte, word, transport, plain, Coded, placed_if, kept_if_some, Item, text_string, Any, Kind, text_as, Placed, PlainTable, default_as, optional_as, depth, null, max_depth, item_of, IfPresent, parameters, placed, required_at, optional_at, tolerated_at, places_of, EachFits, fields_with, Fields, default, read_item, Place, number_tree, record_tree, size, optional, kept, PublicKeyCredentialParameters, AuthenticatorTransport}
+use Rattle.passkey_kinds.specs.Coded.{truth, text, bytes, aaguid, list_of, accepted_of}
+use Rattle.passkey_kinds.specs.Kind.{name_from}
+use Rattle.passkey_kinds.specs.Words.{byte, item, word, transport, plain, Coded, placed_if, kept_if_some, Item, text_string, Any, Kind, text_as, Placed, PlainTable, default_as, optional_as, depth, null, max_depth, item_of, IfPresent, parameters, placed, required_at, optional_at, tolerated_at, places_of, EachFits, fields_with, Fields, default, read_item, Place, number_tree, record_tree, size, optional, PublicKeyCredentialParameters, AuthenticatorTransport}
 use Rattle.passkey_kinds.specs.declared.fault.Fault.{Fault}
 use Rattle.passkey_kinds.specs.declared.fault.WriteFault.{WriteFault}
 use Rattle.passkey_kinds.specs.declared.fault.WriteFault.TheVariants.{OutOfMemory, NumberTooLarge}
@@ -29,7 +29,7 @@ version_named name =
     unwrap_or (named_in version_name (versions.FIDO_2_0 ∷ versions.FIDO_2_1 ∷ []) name) (versions.Unknown name)
 
 abbrev pub version : Kind Version
-version = one_named (λ name. Some (version_named name))
+version = name_from (λ name. Some (version_named name))
 
 abbrev pub version_tree : Version → Item
 version_tree v = text_string (version_name v)
@@ -53,7 +53,7 @@ extension_named name = unwrap_or (named_in extension_name (extensions.HmacSecret
     ∷ extensions.HmacSecretMakeCredential ∷ extensions.Prf ∷ []) name) (extensions.Unknown name)
 
 abbrev pub extension : Kind Extension
-extension = one_named (λ name. Some (extension_named name))
+extension = name_from (λ name. Some (extension_named name))
 
 abbrev pub extension_tree : Extension → Item
 extension_tree e = text_string (extension_name e)
@@ -232,16 +232,16 @@ IsPositive n = 0 < n
 -- what the authenticator supports, with this data item as its greatest message size
 abbrev pub first_members_with : (GetInfoParts → Option Item) → List (Placed GetInfoParts)
 first_members_with encoded =
-    required_at 1 (codes "versions") (list version_coded) (λ r. r.versions) (λ x r. record r { versions = x })
-    ∷ optional_at 2 (codes "extensions") (list extension_coded) (λ r. r.extensions) (λ x r. record r { extensions = x })
+    required_at 1 (codes "versions") (list_of version_coded) (λ r. r.versions) (λ x r. record r { versions = x })
+    ∷ optional_at 2 (codes "extensions") (list_of extension_coded) (λ r. r.extensions) (λ x r. record r { extensions = x })
     ∷ required_at 3 (codes "aaguid") aaguid (λ r. r.aaguid) (λ x r. record r { aaguid = x })
     ∷ optional_at 4 (codes "options") (plain options) (λ r. r.options) (λ x r. record r { options = x })
     ∷ placed_if (λ r. IfPresent IsPositive r.max_msg_size)
     (default 5 (codes "maxMsgSize") (optional size) (λ x r. record r { max_msg_size = x }))
     (λ r. (number_tree 5, encoded r))
-    ∷ optional_at 6 (codes "pinProtocols") (list byte) (λ r. r.pin_protocols) (λ x r. record r { pin_protocols = x })
-    ∷ tolerated_at 9 (codes "transports") (accepted transport) (λ r. r.transports) (λ x r. record r { transports = x })
-    ∷ tolerated_at 10 (codes "algorithms") (accepted (plain parameters)) (λ r. r.algorithms)
+    ∷ optional_at 6 (codes "pinProtocols") (list_of byte) (λ r. r.pin_protocols) (λ x r. record r { pin_protocols = x })
+    ∷ tolerated_at 9 (codes "transports") (accepted_of transport) (λ r. r.transports) (λ x r. record r { transports = x })
+    ∷ tolerated_at 10 (codes "algorithms") (accepted_of (plain parameters)) (λ r. r.algorithms)
     (λ x r. record r { algorithms = x })
     ∷ []
 
@@ -264,7 +264,7 @@ middle_members =
     ∷ optional_at 17 (codes "preferredPlatformUvAttempts") word (λ r. r.preferred_platform_uv_attempts)
     (λ x r. record r { preferred_platform_uv_attempts = x })
     ∷ optional_at 18 (codes "uvModality") word (λ r. r.uv_modality) (λ x r. record r { uv_modality = x })
-    ∷ placed (default 19 (codes "certifications") (optional kept) (λ x r. record r { certifications = x }))
+    ∷ placed (default 19 (codes "certifications") (optional item.typed) (λ x r. record r { certifications = x }))
     (λ r. (number_tree 19, r.certifications))
     ∷ optional_at 20 (codes "remainingDiscoverableCredentials") word (λ r. r.remaining_discoverable_credentials)
     (λ x r. record r { remaining_discoverable_credentials = x })
@@ -272,16 +272,16 @@ middle_members =
 
 abbrev pub last_members : List (Placed GetInfoParts)
 last_members =
-    tolerated_at 21 (codes "vendorPrototypeConfigCommands") (accepted word) (λ r. r.vendor_prototype_config_commands)
+    tolerated_at 21 (codes "vendorPrototypeConfigCommands") (accepted_of word) (λ r. r.vendor_prototype_config_commands)
     (λ x r. record r { vendor_prototype_config_commands = x })
-    ∷ tolerated_at 22 (codes "attestationFormats") (accepted text) (λ r. r.attestation_formats)
+    ∷ tolerated_at 22 (codes "attestationFormats") (accepted_of text) (λ r. r.attestation_formats)
     (λ x r. record r { attestation_formats = x })
     ∷ optional_at 23 (codes "uvCountSinceLastPinEntry") word (λ r. r.uv_count_since_last_pin_entry)
     (λ x r. record r { uv_count_since_last_pin_entry = x })
     ∷ optional_at 24 (codes "longTouchForReset") truth (λ r. r.long_touch_for_reset)
     (λ x r. record r { long_touch_for_reset = x })
     ∷ optional_at 25 (codes "encIdentifier") bytes (λ r. r.enc_identifier) (λ x r. record r { enc_identifier = x })
-    ∷ tolerated_at 26 (codes "transportsForReset") (accepted transport) (λ r. r.transports_for_reset)
+    ∷ tolerated_at 26 (codes "transportsForReset") (accepted_of transport) (λ r. r.transports_for_reset)
     (λ x r. record r { transports_for_reset = x })
     ∷ optional_at 27 (codes "pinComplexityPolicy") truth (λ r. r.pin_complexity_policy)
     (λ x r. record r { pin_complexity_policy = x })

@@ -1,5 +1,5 @@
 -- Values that keep data items undecoded: what holds of their encodings, by what holds of the kept items.
-use Rattle.passkey_kinds.proofs.Common.{same_tests, depth, IsOrdered, Item, AtMostOneLeadingItem, WrittenIsLeadingItem, max_depth, IsWritable, kept, Kind, optional, tolerated, ReadIsCoherent, AllCanonical, kept_if_some, WrittenIsCanonical, Fields, read_item, record_kind, Place, record_tree, ◌≡◌, ◌<◌, ◌+◌, ◌-◌, ℕ, suc, arith, Bool, true, List, [], ◌∷◌, Option, Some, None, option_map, sym, ap, ◌≤◌, subst, nat_le, le-leb, max, leb-true, result_ok}
+use Rattle.passkey_kinds.proofs.Common.{same_tests, depth, IsOrdered, Item, AtMostOneLeadingItem, WrittenIsLeadingItem, max_depth, IsWritable, any_from, Kind, optional_from, tolerated_from, ReadIsCoherent, AllCanonical, kept_if_some, WrittenIsCanonical, Fields, read_item, record_kind, Place, record_tree, ◌≡◌, ◌<◌, ◌+◌, ◌-◌, ℕ, suc, arith, Bool, true, List, [], ◌∷◌, Option, Some, None, option_map, sym, ap, ◌≤◌, subst, nat_le, le-leb, max, leb-true, result_ok}
 use Rattle.std.proofs.Common.{leb-true}
 use Rattle.passkey_kinds.proofs.Keeping.{Keeps, record_keeps, not_null, ok_of}
 use Rattle.passkey_kinds.proofs.Levels.{PlaceHas, EachPlace, Within, record_within, of_record as levels_of}
@@ -24,7 +24,7 @@ pub record Around {X : Type 0} (kind : Kind X) (tree : X → Item) (kept_items :
     pub decoded : (n : ℕ) (i : Item) (x : X) → kind i ≡ Some x → depth i ≤ n + d → AtMost n (kept_items x)
 
 -- an item that is kept
-pub item_around : Around kept (λ i. i) (λ i. i ∷ []) 0 0
+pub item_around : Around any_from (λ i. i) (λ i. i ∷ []) 0 0
 item_around = record {
   levels = λ n i less h. omega (arith, h.0);
   within = λ n i h. (omega (arith, h), tt);
@@ -60,12 +60,12 @@ module _ {X : Type 0} {kind : Kind X} {tree : X → Item} {kept_items : X → Li
       → AtMost n (kept_items x)
   required_keeps n most i x e less few = inner.decoded n i x e (omega (arith, less, few))
 
-  pub optional_keeps : (n most : ℕ) (i : Item) (o : Option X) → optional kind i ≡ Some o → depth i < most
+  pub optional_keeps : (n most : ℕ) (i : Item) (o : Option X) → optional_from kind i ≡ Some o → depth i < most
       → most ≤ n + suc d → AtMost n (kept_if_some kept_items o)
   optional_keeps n most i None e less few = tt
   optional_keeps n most i (Some x) e less few = required_keeps n most i x (not_null kind i x e) less few
 
-  pub tolerated_keeps : (n most : ℕ) (i : Item) (o : Option X) → tolerated kind i ≡ Some o → depth i < most
+  pub tolerated_keeps : (n most : ℕ) (i : Item) (o : Option X) → tolerated_from kind i ≡ Some o → depth i < most
       → most ≤ n + suc d → AtMost n (kept_if_some kept_items o)
   tolerated_keeps n most i None e less few = tt
   tolerated_keeps n most i (Some x) e less few = required_keeps n most i x (cc) less few

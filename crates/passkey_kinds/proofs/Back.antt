@@ -1,5 +1,5 @@
 -- Records can be decoded again from the encodings of their members.
-use Rattle.passkey_kinds.proofs.Common.{Item, boolean, IfPresent, members-pairs_of, truth, Kind, IsReadBack, Fields, set_with, rows_of, table_of, put_at, unless_missing, one_more, Progress, result_and_then, read_from, read_members, read_item, Member, record_kind, Table, entries, named, Members, first_missing, Naming, row, accepts_at, ◌>>=◌, Place, record_tree, under, laid, where_true, ◌≡◌, ◌∙◌, ℕ, arith, Bool, true, false, not, ◌&&◌, List, [], ◌∷◌, ◌++◌, Option, Some, None, is_some, option_map, refl, sym, ap, Ok, ◌==◌, cond, set, ◌||◌, unwrap_or, and_parts, ne_eqb, eqb-true, not-true, eqb-false, unsigned_Decides, list_any, result_ok}
+use Rattle.passkey_kinds.proofs.Common.{Item, boolean, IfPresent, members-pairs_of, truth_from, Kind, IsReadBack, Fields, set_with, rows_of, table_of, put_at, unless_missing, one_more, Progress, result_and_then, read_from, read_members, read_item, Member, record_kind, Table, entries, named, Members, first_missing, Naming, row, accepts_at, ◌>>=◌, Place, record_tree, under, laid, where_true, ◌≡◌, ◌∙◌, ℕ, arith, Bool, true, false, not, ◌&&◌, List, [], ◌∷◌, ◌++◌, Option, Some, None, is_some, option_map, refl, sym, ap, Ok, ◌==◌, cond, set, ◌||◌, unwrap_or, and_parts, ne_eqb, eqb-true, not-true, eqb-false, unsigned_Decides, list_any, result_ok}
 use Rattle.std.proofs.lemmas.Bool.{or_parts}
 
 -- ---- the values that the places of a record have for its rows
@@ -76,9 +76,9 @@ option_place {kind = kind} r None h = record { value = refl; accepted = none_the
 option_place {kind = kind} {tree = tree} {normal = normal} r (Some x) h = grind (arith, given_it)
 
 -- a flag that is encoded only if it is true decodes to itself
-pub true_place : (key : Item) (b : Bool) → Falls truth true (where_true key b).1 true
-true_place key true = given_it truth true (boolean true) true refl
-true_place key false = record { value = refl; accepted = none_there truth }
+pub true_place : (key : Item) (b : Bool) → Falls truth_from true (where_true key b).1 true
+true_place key true = given_it truth_from true (boolean true) true refl
+true_place key false = record { value = refl; accepted = none_there truth_from }
 
 -- the same for an equal value
 pub falls_as : {M : Type 0} {kind : Kind M} {default : M} {o : Option Item} {y z : M} → y ≡ z

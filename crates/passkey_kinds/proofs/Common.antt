@@ -51,18 +51,18 @@ pub use Rattle.passkey_core.specs.DataLaws.{GivenIsCoherent, ReadIsGiven, Writte
 pub use Rattle.passkey_core.specs.DataNormal.{IfPresent, IsData, normal_data}
 pub use Rattle.passkey_core.specs.DataParts.{DataParts}
 pub use Rattle.passkey_core.specs.DataRead.{read_data}
-pub use Rattle.passkey_core.specs.DataReading.{DataGrow}
+pub use Rattle.passkey_core.specs.DataReading.{DataGrows}
 pub use Rattle.passkey_core.specs.DataViews.{data_parts}
 pub use Rattle.passkey_core.specs.declared.authenticator_data.AuthenticatorData.{AuthenticatorData}
 pub use Rattle.passkey_cose.specs.declared.error.CoseError.{CoseError}
 pub use Rattle.passkey_iana.specs.Iana.{algorithm_named}
 pub use Rattle.passkey_iana.specs.declared.algorithm.Algorithm.{Algorithm}
-pub use Rattle.passkey_kinds.specs.Coded.{made_signed, used_signed, descriptor, parameters, webauthn_user}
-pub use Rattle.passkey_kinds.specs.Kind.{algorithm, algorithm_tree, aaguid, authenticator_data, authenticator_data_nodes, auth_data_tree, CountsData, Keeping, nothing, counted, kept_of, kept_sum, in_members, in_elements, AnswersAs, bytes, MayGrow, below, kept, truth, Kind, optional, each, sized_bytes, list, accepted, text, one_named, tolerated, FailsAs, or_else, Answers, Typed, with_members, map_from_bytes, entry, map_values, size, IsSize}
+pub use Rattle.passkey_kinds.specs.Coded.{make_credential_signed, get_assertion_signed, descriptor, parameters, webauthn_user}
+pub use Rattle.passkey_kinds.specs.Kind.{algorithm_from, algorithm_tree, aaguid_from, data_from, authenticator_data_nodes, auth_data_tree, CountsData, Keeping, nothing, counted, kept_of, kept_sum, in_members, in_elements, AnswersAs, bytes_from, MayGrow, number_from, any_from, truth_from, Kind, optional_from, each, sized_bytes_from, list_from, accepted_from, text_from, name_from, tolerated_from, FailsAs, or_else_from, Answers, Typed, with_members, byte_map_from, entry, map_values, size_from, IsSize}
 pub use Rattle.passkey_kinds.specs.Message.{ReadsMessage, Begins, GrowsMessage, ReadsHere, AlikeDifferInLength, ReadIsCoherent, AllCanonical, kept_if_some, WrittenIsCanonical, WrittenIsReadBack, SameButForLength, AnswersCarryOver, KnowsItems, known, HasNoWrongKey, AnswersAlike, SameAnswers, PassesOverUnknown, KnowsMaps}
 pub use Rattle.passkey_kinds.specs.Placed.{EachFits, fields_of, places_of, PlainTable, members_of, plain_kind, plain_tree, IsReadBack, Any, IsByte, AreBytes}
 pub use Rattle.passkey_kinds.specs.Reader.{signed_in, collected, entered, pushed, pushed_if, pushed_below, full, scalar_in, ReadsScalar, head_scalar, head_array, head_map, elements_in, members_in, numbers_in, OpensAt, kept_parts, pushed, pushed_if, pushed_below, Further, Decodes, LooksAtMost, Spends, SpendsLess, Onward}
-pub use Rattle.passkey_kinds.specs.Record.{naming_of, MayGrowIn, are_small, Reads, MayGrowAt, named_as, MayGrowBy, takes_at, Fields, set_with, rows_of, table_of, put_at, unless_missing, one_more, Progress, reached, result_and_then, read_from, read_members, read_item, Member, record_kind, Entry, Table, entries, named, Members, first_missing, Naming, row, unknown, wrong, accepts_at, row_or_unknown, names, ◌>>=◌, row_named}
+pub use Rattle.passkey_kinds.specs.Record.{naming_of, MayGrowIn, are_small, Reads, MayGrowAt, named_as, MayGrowBy, takes_at, Fields, set_with, rows_of, table_of, put_at, unless_missing, one_more, Progress, progress_of, result_and_then, read_from, read_members, read_item, Member, record_kind, Entry, Table, entries, named, Members, first_missing, Naming, row, unknown, wrong, accepts_at, row_or_unknown, names, ◌>>=◌, row_named}
 pub use Rattle.passkey_kinds.specs.RecordReading.{record_cost, cost_by, kept_in, kept_in_map, greatest_cost, cost_at, keeps_at, keeps_by, keeps_nothing, none_keeps, record_keeps, HasReadTo, Sets, Puts, as_nested, DecodesRecord, entry_of, row_at}
 pub use Rattle.passkey_kinds.specs.Tree.{by_length, short_first, AllAccepted, MemberAccepted, append_member, encode_member, put_all, Place, record_tree, KeysAscend, number_tree, numbers_tree, entry_tree, under, laid, list_tree, byte_map_tree, where_true, option_tree, credential_type_tree, transport_tree}
 pub use Rattle.passkey_kinds.specs.declared.fault.Fault.TheVariants.{Repeated}

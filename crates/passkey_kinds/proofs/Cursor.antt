@@ -1,5 +1,5 @@
 -- How a cursor moves, what it spends, and values of one head or of one string.
-use Rattle.passkey_kinds.proofs.Common.{front_long, SkipsLeadingItem, Bool, CountsHeads, content_len, counts_then, counts_stay, counts_skip, counts_string, counts_value, counts_head, lies_size, head_again, follows_item, low_simple, head_long, encoded_long, IsEncodedAt, Opens, FindsHead, IsEncodingOfHead, PairWithin, Within, Inside, Item, byte_string, boolean, null, text_string, number, max_depth, Region, PassesString, item_within, PassesLeadingItem, MakesLeadingItem, CursorState, ahead, MovesForward, Head, members-pairs_of, elements-items_of, aaguid, below, kept, truth, Kind, optional, text, one_named, FailsAs, size, AnswersAs, MayGrow, scalar_in, ReadsScalar, head_scalar, head_array, head_map, elements_in, members_in, OpensAt, Further, Decodes, Spends, Onward, named, Refused, OutOfMemory, Refusal, ◌≡◌, ◌∙◌, ◌<◌, ◌+◌, ℕ, arith, true, false, List, [], ◌++◌, length, Option, Some, None, option_map, refl, sym, ap, rules, ◌≤◌, Result, subst, ◌-◌, Ok, Err, OnOk, unwrap_or, Language, IfSome, is_ok, mul-le-mul_left, nat_tests, cases_lt, cases_eq, length-append, option_and_then}
+use Rattle.passkey_kinds.proofs.Common.{front_long, SkipsLeadingItem, Bool, CountsHeads, content_len, counts_then, counts_stay, counts_skip, counts_string, counts_value, counts_head, lies_size, head_again, follows_item, low_simple, head_long, encoded_long, IsEncodedAt, Opens, FindsHead, IsEncodingOfHead, PairWithin, Within, Inside, Item, byte_string, boolean, null, text_string, number, max_depth, Region, PassesString, item_within, PassesLeadingItem, MakesLeadingItem, CursorState, ahead, MovesForward, Head, members-pairs_of, elements-items_of, aaguid_from, number_from, truth_from, Kind, optional_from, text_from, name_from, FailsAs, size_from, AnswersAs, MayGrow, scalar_in, ReadsScalar, head_scalar, head_array, head_map, elements_in, members_in, OpensAt, Further, Decodes, Spends, Onward, named, Refused, OutOfMemory, Refusal, ◌≡◌, ◌∙◌, ◌<◌, ◌+◌, ℕ, arith, true, false, List, [], ◌++◌, length, Option, Some, None, option_map, refl, sym, ap, rules, ◌≤◌, Result, subst, ◌-◌, Ok, Err, OnOk, unwrap_or, Language, IfSome, is_ok, mul-le-mul_left, nat_tests, cases_lt, cases_eq, length-append, option_and_then}
 use Rattle.passkey_kinds.proofs.Lists.{answers_from, never_grows}
 use Rattle.passkey_cbor.specs.declared.head.Head.TheVariants as head
 use Rattle.passkey_cbor.specs.Item as item
@@ -193,15 +193,15 @@ scalar_decodes {view = view} kind i {x} {result = result} refused same r h = rec
   ends = scalar_ends view kind x result refused h r.ends;
 }
 
-pub below_scalar : (limit : ℕ) (i : Item) → below limit i ≡ below limit (scalar_in i)
+pub below_scalar : (limit : ℕ) (i : Item) → number_from limit i ≡ number_from limit (scalar_in i)
 below_scalar limit (item.number z) = refl
 below_scalar limit _ = refl
 
-pub truth_scalar : (i : Item) → truth i ≡ truth (scalar_in i)
+pub truth_scalar : (i : Item) → truth_from i ≡ truth_from (scalar_in i)
 truth_scalar (item.boolean b) = refl
 truth_scalar _ = refl
 
-pub size_scalar : (i : Item) → size i ≡ size (scalar_in i)
+pub size_scalar : (i : Item) → size_from i ≡ size_from (scalar_in i)
 size_scalar (item.number z) = refl
 size_scalar _ = refl
 
@@ -268,27 +268,27 @@ ends_ok (Err e) h = tt
 
 -- ---- texts and null
 
-pub no_text : (i : Item) → ((s : List ℕ) → i ≡ item.text_string s → ⊥) → text i ≡ None
+pub no_text : (i : Item) → ((s : List ℕ) → i ≡ item.text_string s → ⊥) → text_from i ≡ None
 no_text (item.text_string s) h = absurd (h s refl)
 no_text _ h = refl
 
 pub named_text : {T : Type 0} (named : List ℕ → Option T) (i : Item)
-    → one_named named i ≡ option_and_then named (text i)
+    → name_from named i ≡ option_and_then named (text_from i)
 named_text named (item.number n) = refl
 named_text named _ = refl
 
-pub null_item : {M : Type 0} (kind : Kind M) (i : Item) → i ≡ item.null → optional kind i ≡ Some None
+pub null_item : {M : Type 0} (kind : Kind M) (i : Item) → i ≡ item.null → optional_from kind i ≡ Some None
 null_item kind item.null e = refl
 null_item kind _ e = absurd cc
 
 pub other_item : {M : Type 0} (kind : Kind M) (i : Item) → (i ≡ item.null → ⊥)
-    → optional kind i ≡ option_map Some (kind i)
+    → optional_from kind i ≡ option_map Some (kind i)
 other_item kind item.null other = absurd (other refl)
 other_item kind _ other = refl
 
 -- ---- byte strings
 
-pub no_aaguid : (i : Item) → ((s : List ℕ) → i ≡ item.byte_string s → ⊥) → aaguid i ≡ None
+pub no_aaguid : (i : Item) → ((s : List ℕ) → i ≡ item.byte_string s → ⊥) → aaguid_from i ≡ None
 no_aaguid (item.byte_string s) h = absurd (h s refl)
 no_aaguid _ h = refl
 

@@ -1,8 +1,8 @@
 -- Plain records: they can be decoded again, have few levels, and their keys ascend.
-use Rattle.passkey_kinds.proofs.Common.{shortest_head, made_signed, used_signed, descriptor, parameters, webauthn_user, each, EachFits, fields_of, places_of, PlainTable, members_of, plain_kind, plain_tree, IsReadBack, table_of, KeysAscend, Unknown, ◌≡◌, ℕ, suc, arith, Bool, true, ◌&&◌, List, Option, Some, None, refl, zero}
-use Rattle.passkey_core.specs.SignedOutputs.{creation_item, assertion_item}
-use Rattle.passkey_core.specs.declared.make_credential.SignedExtensionOutputs as creation
-use Rattle.passkey_core.specs.declared.get_assertion.SignedExtensionOutputs as assertion
+use Rattle.passkey_kinds.proofs.Common.{shortest_head, make_credential_signed, get_assertion_signed, descriptor, parameters, webauthn_user, each, EachFits, fields_of, places_of, PlainTable, members_of, plain_kind, plain_tree, IsReadBack, table_of, KeysAscend, Unknown, ◌≡◌, ℕ, suc, arith, Bool, true, ◌&&◌, List, Option, Some, None, refl, zero}
+use Rattle.passkey_core.specs.SignedOutputs.{make_credential_item, get_assertion_item}
+use Rattle.passkey_core.specs.declared.make_credential.SignedExtensionOutputs as make_credential
+use Rattle.passkey_core.specs.declared.get_assertion.SignedExtensionOutputs as get_assertion
 use Rattle.passkey_kinds.proofs.Back.{have_rows, are_distinct, missing_of, Backs, numbers, kind_back, puts_value, puts_default, ◌▸◌, no_more}
 use Rattle.passkey_kinds.proofs.LeafBack.{text_back, bytes_back, credential_type_back, transport_back, algorithm_back, or_else_back, accepted_place, truth_back, optional_place, anything}
 use Rattle.passkey_kinds.proofs.Levels.{EachPlace}
@@ -64,30 +64,30 @@ pub user_law : IsLawful 0 webauthn_user
 unfolding shortest_head
 user_law = grind (arith, lawful, plainly, puts_value, bytes_back, text_back, no_more)
 
-pub made_signed_law : IsLawful 0 made_signed
+pub make_credential_signed_law : IsLawful 0 make_credential_signed
 unfolding shortest_head
-made_signed_law =
+make_credential_signed_law =
     grind (arith, lawful, plainly, puts_default, optional_place, truth_back, bytes_back, anything, no_more)
 
-pub used_signed_law : IsLawful 0 used_signed
+pub get_assertion_signed_law : IsLawful 0 get_assertion_signed
 unfolding shortest_head
-used_signed_law = grind (arith, lawful, plainly, puts_default, optional_place, bytes_back, anything, no_more)
+get_assertion_signed_law = grind (arith, lawful, plainly, puts_default, optional_place, bytes_back, anything, no_more)
 
-made_laid : (made : Option Bool) (secrets : Option (List ℕ))
-    → plain_tree made_signed (record { hmac_secret = made; hmac_secret_mc = secrets })
-    ≡ creation_item (record { hmac_secret = made; hmac_secret_mc = secrets })
-made_laid None None = refl
-made_laid None (Some b) = refl
-made_laid (Some t) None = refl
-made_laid (Some t) (Some b) = refl
+make_credential_places : (made : Option Bool) (secrets : Option (List ℕ))
+    → plain_tree make_credential_signed (record { hmac_secret = made; hmac_secret_mc = secrets })
+    ≡ make_credential_item (record { hmac_secret = made; hmac_secret_mc = secrets })
+make_credential_places None None = refl
+make_credential_places None (Some b) = refl
+make_credential_places (Some t) None = refl
+make_credential_places (Some t) (Some b) = refl
 
-pub made_item : (o : creation.SignedExtensionOutputs) → plain_tree made_signed o ≡ creation_item o
-made_item o = made_laid o.hmac_secret o.hmac_secret_mc
+pub make_credential_same : (o : make_credential.SignedExtensionOutputs) → plain_tree make_credential_signed o ≡ make_credential_item o
+make_credential_same o = make_credential_places o.hmac_secret o.hmac_secret_mc
 
-used_laid : (secrets : Option (List ℕ)) → plain_tree used_signed (record { hmac_secret = secrets })
-    ≡ assertion_item (record { hmac_secret = secrets })
-used_laid None = refl
-used_laid (Some b) = refl
+get_assertion_places : (secrets : Option (List ℕ)) → plain_tree get_assertion_signed (record { hmac_secret = secrets })
+    ≡ get_assertion_item (record { hmac_secret = secrets })
+get_assertion_places None = refl
+get_assertion_places (Some b) = refl
 
-pub used_item : (o : assertion.SignedExtensionOutputs) → plain_tree used_signed o ≡ assertion_item o
-used_item o = used_laid o.hmac_secret
+pub get_assertion_same : (o : get_assertion.SignedExtensionOutputs) → plain_tree get_assertion_signed o ≡ get_assertion_item o
+get_assertion_same o = get_assertion_places o.hmac_secret

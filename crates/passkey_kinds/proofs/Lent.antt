@@ -1,9 +1,9 @@
 -- Strings that are lent at a cursor.
-use Rattle.passkey_kinds.proofs.Common.{SpendsLess, counts_stay, raised-le, head_again, head_long, each_long, lends_start, lends_on, lends_all, AChunk, follows_chunk, IsEncodedAt, Definite, Content, Item, byte_string, text_string, Each, Region, HoldsString, PassesString, LooksOnce, IsRegion, heads_in, LendsFrom, LooksAtAll, LooksAtSome, LentWhole, string_head, string_item, Kind, LooksFor, heads_until, heads_sought, LendsPiece, LendsNoPiece, LooksAhead, LendsUpTo, chunk, CursorState, ahead, raised, DataGrow, data_parts, AuthenticatorData, algorithm, authenticator_data, authenticator_data_nodes, CountsData, AnswersAs, bytes, MayGrow, below, list, Answers, scalar_in, Further, Decodes, LooksAtMost, Spends, names, Refused, Refusal, IsOf, whole_64, NumberState, ◌≡◌, ◌∙◌, ◌<◌, ◌+◌, ℕ, suc, arith, Bool, true, false, List, [], ◌∷◌, ◌++◌, length, Option, Some, None, option_map, refl, sym, ap, rules, ◌≤◌, Result, subst, ◌-◌, Err, cond, ℤ, ◌^◌, zero, length-append, length-take, concat, ok_or, algorithm_named, option_and_then, signed_in, Algorithm}
+use Rattle.passkey_kinds.proofs.Common.{SpendsLess, counts_stay, raised-le, head_again, head_long, each_long, lends_start, lends_on, lends_all, AChunk, follows_chunk, IsEncodedAt, Definite, Content, Item, byte_string, text_string, Each, Region, HoldsString, PassesString, LooksOnce, IsRegion, heads_in, LendsFrom, LooksAtAll, LooksAtSome, LentWhole, string_head, string_item, Kind, LooksFor, heads_until, heads_sought, LendsPiece, LendsNoPiece, LooksAhead, LendsUpTo, chunk, CursorState, ahead, raised, DataGrows, data_parts, AuthenticatorData, algorithm_from, data_from, authenticator_data_nodes, CountsData, AnswersAs, bytes_from, MayGrow, number_from, list_from, Answers, scalar_in, Further, Decodes, LooksAtMost, Spends, names, Refused, Refusal, IsOf, whole_64, NumberState, ◌≡◌, ◌∙◌, ◌<◌, ◌+◌, ℕ, suc, arith, Bool, true, false, List, [], ◌∷◌, ◌++◌, length, Option, Some, None, option_map, refl, sym, ap, rules, ◌≤◌, Result, subst, ◌-◌, Err, cond, ℤ, ◌^◌, zero, length-append, length-take, concat, ok_or, algorithm_named, option_and_then, signed_in, Algorithm}
 use Rattle.passkey_core.specs.DataReading.{fixed_at}
 use Rattle.passkey_kinds.proofs.Cursor.{stands_long, eased, on_ok, stands_back, string_further, further_then}
 use Rattle.passkey_cbor.specs.Item as item
-use Rattle.passkey_kinds.specs.Typed as typed
+use Rattle.passkey_kinds.specs.Coded.{authenticator_data}
 
 -- ---- no more heads than bytes
 
@@ -172,7 +172,7 @@ missed_then p less r = grind arith
 -- ---- byte strings
 
 pub bytes_are : (i : Item) → ((s : List ℕ) → i ≡ item.byte_string s → ⊥) → ((s : List ℕ) → i ≡ item.text_string s → ⊥)
-    → bytes i ≡ list (below 256) i
+    → bytes_from i ≡ list_from (number_from 256) i
 bytes_are (item.byte_string s) b t = absurd (b s refl)
 bytes_are (item.text_string s) b t = absurd (t s refl)
 bytes_are _ b t = refl
@@ -228,7 +228,7 @@ module _ {whole left next : Region} {a b d : CursorState} {n : NumberState} (u :
 abbrev pub numbered : Item → Option Algorithm
 numbered i = option_and_then algorithm_named (signed_in i)
 
-pub other_number : (i : Item) → ((s : List ℕ) → i ≡ item.text_string s → ⊥) → algorithm i ≡ numbered (scalar_in i)
+pub other_number : (i : Item) → ((s : List ℕ) → i ≡ item.text_string s → ⊥) → algorithm_from i ≡ numbered (scalar_in i)
 other_number (item.number z) t = refl
 other_number (item.text_string s) t = absurd (t s refl)
 other_number _ t = refl
@@ -236,7 +236,7 @@ other_number _ t = refl
 -- ---- authenticator data, decoded from a byte string at a cursor
 
 -- parts that take memory are encoded in the bytes, so these aren't empty
-pub parts_grow : (bytes : List ℕ) → DataGrow bytes → MayGrow true (byte_string bytes)
+pub parts_grow : (bytes : List ℕ) → DataGrows bytes → MayGrow true (byte_string bytes)
 unfolding fixed_at
 parts_grow [] e = absurd e
 parts_grow (b ∷ rest) e = (refl, tt)
@@ -256,15 +256,15 @@ content_short None s bytes c = grind (arith, chunks_whole, length-append)
 
 pub data_decodes : {a b e d : CursorState} {r : Region} (i : Item) {to : ℕ} {t : List ℕ}
     {result : Result AuthenticatorData Refusal} → PassesString false a b r → (f : LendsFrom false i to a b (Some r))
-    → LooksAtMost r b e → t ≡ f.0 → CountsData t e d → Answers data_parts typed.authenticator_data (byte_string t)
-    result → Decodes data_parts (authenticator_data i) (MayGrow true i) 6 (authenticator_data_nodes i) to a d result
+    → LooksAtMost r b e → t ≡ f.0 → CountsData t e d → Answers data_parts authenticator_data.typed (byte_string t)
+    result → Decodes data_parts (data_from i) (MayGrow true i) 6 (authenticator_data_nodes i) to a d result
 data_decodes {a = a} {b} {r = r} i {t = t} {result} p f looks same counts h =
     let is : i ≡ byte_string t = f.1.0 ∙ ap byte_string (sym same) in
     let lent = f.1.1 in
     let short = content_short r.len f.0 r.bytes lent.tells in
     record {
       answers =
-          subst (λ (x : Item). AnswersAs data_parts (authenticator_data x) (MayGrow true x) result) (sym is) h;
+          subst (λ (x : Item). AnswersAs data_parts (data_from x) (MayGrow true x) result) (sym is) h;
       spends = record {
         within = omega (arith, lent);
         heads = omega (arith, lent, region_shorter false a b r p, short, ap length same);
@@ -283,6 +283,6 @@ pub data_further : (a b e d : CursorState) (r : Region) (s : List ℕ) → Passe
     → CountsData s e d → Further a d
 data_further a b e d r s p looks counts = counted_further (looked_further a b e r false p looks) counts
 
-pub no_data : (i : Item) → ((s : List ℕ) → i ≡ byte_string s → ⊥) → authenticator_data i ≡ None
+pub no_data : (i : Item) → ((s : List ℕ) → i ≡ byte_string s → ⊥) → data_from i ≡ None
 no_data (item.byte_string s) h = absurd (h s refl)
 no_data _ h = refl

@@ -1,5 +1,5 @@
 -- Lists, arrays and maps, decoded and encoded element by element.
-use Rattle.passkey_kinds.proofs.Common.{same_bytes, entries_empty, bytes_or_fault, ByteMap, put_each, BytesFault, some_is, string_again, item_of-Array, item_of-Map, Item, items_of, pairs_of, byte_string, array, Region, HoldsString, item_of, pair_of, CursorState, Value, IfPresent, members-pairs_of, elements-items_of, Keeping, nothing, counted, kept_of, kept_sum, in_members, in_elements, AnswersAs, bytes, MayGrow, below, kept, Kind, each, sized_bytes, list, accepted, with_members, map_from_bytes, entry, map_values, collected, entered, pushed, pushed_if, pushed_below, full, elements_in, members_in, numbers_in, kept_parts, Decodes, Spends, entries, Refusal, ◌≡◌, ◌∙◌, ◌<◌, ◌+◌, ℕ, suc, add-one, arith, Bool, true, false, if◌then◌else◌, List, [], ◌∷◌, ◌++◌, length, map, drop, get_or, Option, Some, None, option_map, refl, sym, ap, ◌≤◌, Result, ◌*◌, Ok, Err, ◌==◌, cond, zero, mul-le-mul_left, drop-cons, cases_lt, le-ltb, ne_eqb, lt-ltb, nat_list_cmp_total, filter_map-append, length-map, length-append, append-nil, get_or-map, slice_cmp, find, filter_map, cons_option, All, option_and_then, nat_cmp}
+use Rattle.passkey_kinds.proofs.Common.{same_bytes, entries_empty, bytes_or_fault, ByteMap, put_each, BytesFault, some_is, string_again, item_of-Array, item_of-Map, Item, items_of, pairs_of, byte_string, array, Region, HoldsString, item_of, pair_of, CursorState, Value, IfPresent, members-pairs_of, elements-items_of, Keeping, nothing, counted, kept_of, kept_sum, in_members, in_elements, AnswersAs, bytes_from, MayGrow, number_from, Kind, each, sized_bytes_from, list_from, accepted_from, with_members, byte_map_from, entry, map_values, collected, entered, pushed, pushed_if, pushed_below, full, elements_in, members_in, numbers_in, kept_parts, Decodes, Spends, entries, Refusal, ◌≡◌, ◌∙◌, ◌<◌, ◌+◌, ℕ, suc, add-one, arith, Bool, true, false, if◌then◌else◌, List, [], ◌∷◌, ◌++◌, length, map, drop, get_or, Option, Some, None, option_map, refl, sym, ap, ◌≤◌, Result, ◌*◌, Ok, Err, ◌==◌, cond, zero, mul-le-mul_left, drop-cons, cases_lt, le-ltb, ne_eqb, lt-ltb, nat_list_cmp_total, filter_map-append, length-map, length-append, append-nil, get_or-map, slice_cmp, find, filter_map, cons_option, All, option_and_then, nat_cmp}
 use Rattle.std.proofs.lemmas.List.{append_assoc}
 use Rattle.std.specs.FinMap as fin
 use Rattle.passkey_cbor.specs.Item as item
@@ -11,11 +11,11 @@ pub answers_from : {A M : Type 0} {wanted given : Option M} {takes may : Type 0}
     Refusal) → given ≡ wanted → (takes → may) → AnswersAs view wanted takes result → AnswersAs view given may result
 answers_from view result e f h = grind arith
 
-pub list_array : {M : Type 0} (kind : Kind M) (xs : List Item) → list kind (array (items_of xs)) ≡ each kind xs
+pub list_array : {M : Type 0} (kind : Kind M) (xs : List Item) → list_from kind (array (items_of xs)) ≡ each kind xs
 list_array kind xs = ap (each kind) (elements-items_of xs)
 
 pub accepted_array : {M : Type 0} (kind : Kind M) (xs : List Item)
-    → accepted kind (array (items_of xs)) ≡ Some (filter_map kind xs)
+    → accepted_from kind (array (items_of xs)) ≡ Some (filter_map kind xs)
 accepted_array kind xs = ap (λ ys. Some (filter_map kind ys)) (elements-items_of xs)
 
 pub grows_array : {X : Type 0} (seen : X → Item) (xs : List X) → 0 < length xs
@@ -86,8 +86,8 @@ pub after_head : (cost kept to : ℕ) (a b d : CursorState) → a.place < b.plac
 after_head cost kept to a b d further one s = grind (arith, mul-le-mul_left)
 
 -- an array of exactly n bytes
-pub sized_array : {X : Type 0} (n : ℕ) (seen : X → Item) (xs : List X) → sized_bytes n
-    (array (items_of (map seen xs))) ≡ (if length xs == n then each (below 256) (map seen xs) else None)
+pub sized_array : {X : Type 0} (n : ℕ) (seen : X → Item) (xs : List X) → sized_bytes_from n
+    (array (items_of (map seen xs))) ≡ (if length xs == n then each (number_from 256) (map seen xs) else None)
 sized_array n seen xs = grind (arith, elements-items_of, length-map)
 
 -- ---- arrays of bytes, decoded at a cursor
@@ -102,7 +102,7 @@ tells_one is_text r s t p q =
 pub none_either : {X : Type 0} (b : Bool) (o : Option X) → o ≡ None → (if b then o else None) ≡ None
 none_either b o h = grind arith
 
-pub numbers_are : (n : ℕ) (i : Item) → ((s : List ℕ) → i ≡ item.byte_string s → ⊥) → sized_bytes n i ≡ numbers_in n i
+pub numbers_are : (n : ℕ) (i : Item) → ((s : List ℕ) → i ≡ item.byte_string s → ⊥) → sized_bytes_from n i ≡ numbers_in n i
 numbers_are n i b = grind (arith, b)
 
 pub never_grows : (i : Item) → MayGrow false i → ⊥
@@ -115,7 +115,7 @@ values_without : {M : Type 0} (kind : Kind M) (before behind : List Item) (x : I
 values_without {M} kind before behind x refused = grind (arith, filter_map-append)
 
 pub refused_is_passed_over : {M : Type 0} (kind : Kind M) (before behind : List Item) (x : Item) → kind x ≡ None
-    → accepted kind (array (items_of (before ++ x ∷ behind))) ≡ accepted kind (array (items_of (before ++ behind)))
+    → accepted_from kind (array (items_of (before ++ x ∷ behind))) ≡ accepted_from kind (array (items_of (before ++ behind)))
 refused_is_passed_over kind before behind x refused = grind (arith, accepted_array, values_without)
 
 -- ---- lists that are encoded one value after the other
@@ -191,22 +191,22 @@ module _ {M : Type 0} (kind : Kind M) where
       (option_map (λ es. (k, v) ∷ es) rest) ≡ option_map (put_each (fin.insert m k v)) rest
   put_first m k v rest = grind arith
 
-  pub with_member : (m : ByteMap M) (x : Item × Item) (ms : List (Item × Item)) (k : List ℕ) (v : M) → bytes x.0
+  pub with_member : (m : ByteMap M) (x : Item × Item) (ms : List (Item × Item)) (k : List ℕ) (v : M) → bytes_from x.0
       ≡ Some k → kind x.1 ≡ Some v → with_members kind m (x ∷ ms) ≡ with_members kind (fin.insert m k v) ms
   with_member m x ms k v key value = rw (key, value) (put_first m k v (each (entry kind) ms))
 
   -- one more pair that is decoded
   pub read_more : {A : Type 0} (view : A → M) (pairs : List (Value × Value)) (i : ℕ) (x : Value × Value)
-      (m : ByteMap A) (k : List ℕ) (v : A) → x ≡ get_or pairs i x → i < length pairs → bytes (item_of x.0) ≡ Some k
+      (m : ByteMap A) (k : List ℕ) (v : A) → x ≡ get_or pairs i x → i < length pairs → bytes_from (item_of x.0) ≡ Some k
       → kind (item_of x.1) ≡ Some (view v) → with_members kind (map_values view m) (map pair_of (drop i pairs))
       ≡ with_members kind (map_values view (fin.insert m k v)) (map pair_of (drop (i + 1) pairs))
   read_more view pairs i x m k v e within key value =
       rw (rest_is pairs i x e within, map_values-insert view m k v)
       (with_member (map_values view m) (pair_of x) (map pair_of (drop (i + 1) pairs)) k (view v) key value)
 
-  pub map_from_bytes-map : (ms : List (Item × Item))
-      → map_from_bytes kind (item.map (pairs_of ms)) ≡ with_members kind fin.empty ms
-  map_from_bytes-map ms = ap (with_members kind fin.empty) (members-pairs_of ms)
+  pub byte_map_from-map : (ms : List (Item × Item))
+      → byte_map_from kind (item.map (pairs_of ms)) ≡ with_members kind fin.empty ms
+  byte_map_from-map ms = ap (with_members kind fin.empty) (members-pairs_of ms)
 
 pub grows_map : {X : Type 0} (seen : X → Item × Item) (xs : List X) → 0 < length xs
     → MayGrow true (item.map (pairs_of (map seen xs)))
@@ -280,40 +280,40 @@ module _ {M : Type 0} (n : ℕ) (kind : Kind M) where
 -- ---- the elements of an item, put together
 
 pub list_in : {M : Type 0} (kind : Kind M) (i : Item) {none : List M} → none ≡ []
-    → option_and_then (λ xs. collected (pushed kind) xs none) (elements_in i) ≡ list kind i
+    → option_and_then (λ xs. collected (pushed kind) xs none) (elements_in i) ≡ list_from kind i
 list_in kind i e = grind (arith, pushed_each)
 
 pub accepted_in : {M : Type 0} (kind : Kind M) (i : Item) {none : List M} → none ≡ []
-    → option_and_then (λ xs. collected (pushed_if kind) xs none) (elements_in i) ≡ accepted kind i
+    → option_and_then (λ xs. collected (pushed_if kind) xs none) (elements_in i) ≡ accepted_from kind i
 accepted_in kind i e = grind (arith, pushed_accepted)
 
 pub map_in : {M : Type 0} (kind : Kind M) (i : Item) {none : ByteMap M} → none ≡ fin.empty
-    → option_and_then (λ ms. collected (entered kind) ms none) (members_in i) ≡ map_from_bytes kind i
+    → option_and_then (λ ms. collected (entered kind) ms none) (members_in i) ≡ byte_map_from kind i
 map_in kind i e = grind (arith, entered_all)
 
 pub filled_in : (n : ℕ) (i : Item) {none : List ℕ} → none ≡ []
-    → option_and_then (full n) (option_and_then (λ xs. collected (pushed_below n (below 256)) xs none) (elements_in i))
+    → option_and_then (full n) (option_and_then (λ xs. collected (pushed_below n (number_from 256)) xs none) (elements_in i))
     ≡ numbers_in n i
 filled_in n i e = grind (arith, full_each)
 
 -- ---- the elements of an array in memory, put together
 
 module _ {M : Type 0} (kind : Kind M) (is : List Item) {none : List M} (empty : none ≡ []) where
-  pub list_gathered : list kind (array (items_of is)) ≡ collected (pushed kind) is none
+  pub list_gathered : list_from kind (array (items_of is)) ≡ collected (pushed kind) is none
   list_gathered = list_array kind is ∙ sym (pushed_each kind is empty)
 
-  pub accepted_gathered : accepted kind (array (items_of is)) ≡ collected (pushed_if kind) is none
+  pub accepted_gathered : accepted_from kind (array (items_of is)) ≡ collected (pushed_if kind) is none
   accepted_gathered = accepted_array kind is ∙ sym (pushed_accepted kind is empty)
 
 pub bytes_gathered : (is : List Item) {none : List ℕ} → none ≡ []
-    → bytes (array (items_of is)) ≡ collected (pushed (below 256)) is none
-bytes_gathered is empty = ap (each (below 256)) (elements-items_of is) ∙ sym (pushed_each (below 256) is empty)
+    → bytes_from (array (items_of is)) ≡ collected (pushed (number_from 256)) is none
+bytes_gathered is empty = ap (each (number_from 256)) (elements-items_of is) ∙ sym (pushed_each (number_from 256) is empty)
 
 pub sized_gathered : {X : Type 0} (n : ℕ) (seen : X → Item) (xs : List X) {none : List ℕ} → none ≡ []
-    → (if length xs == n then each (below 256) (map seen xs) else None)
-    ≡ option_and_then (full n) (collected (pushed_below n (below 256)) (map seen xs) none)
-sized_gathered n seen xs empty = ap (λ (k : ℕ). if k == n then each (below 256) (map seen xs) else None)
-    (sym (length-map xs seen)) ∙ sym (full_each n (below 256) (map seen xs) empty)
+    → (if length xs == n then each (number_from 256) (map seen xs) else None)
+    ≡ option_and_then (full n) (collected (pushed_below n (number_from 256)) (map seen xs) none)
+sized_gathered n seen xs empty = ap (λ (k : ℕ). if k == n then each (number_from 256) (map seen xs) else None)
+    (sym (length-map xs seen)) ∙ sym (full_each n (number_from 256) (map seen xs) empty)
 
 -- ---- the bytes that texts decode to
 
@@ -334,6 +334,6 @@ pub ruleset arrays = (
   bytes_gathered,
   sized_array,
   grows_array,
-  map_from_bytes-map,
+  byte_map_from-map,
   grows_map,
 )

@@ -1,5 +1,5 @@
 -- Loops over the rest of a list or a map at a cursor.
-use Rattle.passkey_kinds.proofs.Common.{raised-le, Lies, Next, Looks, Walks, Left, Item, pairs_of, Language, CursorState, ahead, break_heads, members-pairs_of, Keeping, nothing, counted, kept_of, kept, Spends, SpendsLess, Fields, table_of, Member, named, Members, Naming, cost_by, kept_in, kept_in_map, greatest_cost, cost_at, keeps_at, keeps_by, keeps_nothing, none_keeps, record_keeps, ◌≡◌, ◌∙◌, ◌<◌, ◌+◌, ℕ, suc, arith, Bool, true, false, if◌then◌else◌, List, [], ◌∷◌, length, Option, refl, sym, ap, ◌≤◌, ◌*◌, zero, mul-le-mul_left, and_parts}
+use Rattle.passkey_kinds.proofs.Common.{raised-le, Lies, Next, Looks, Walks, Left, Item, pairs_of, Language, CursorState, ahead, break_heads, members-pairs_of, Keeping, nothing, counted, kept_of, Spends, SpendsLess, Fields, table_of, Member, named, Members, Naming, cost_by, kept_in, kept_in_map, greatest_cost, cost_at, keeps_at, keeps_by, keeps_nothing, none_keeps, record_keeps, ◌≡◌, ◌∙◌, ◌<◌, ◌+◌, ℕ, suc, arith, Bool, true, false, if◌then◌else◌, List, [], ◌∷◌, length, Option, refl, sym, ap, ◌≤◌, ◌*◌, zero, mul-le-mul_left, and_parts}
 use Rattle.passkey_kinds.proofs.Cursor.{eased}
 use Rattle.passkey_cbor.specs.Item as item
 

@@ -1,7 +1,7 @@
 -- A record's members, decoded one after the other.
 use Rattle.passkey_cbor.specs.Item.{pairs_of}
 use Rattle.passkey_kinds.proofs.Lists.{mapped_at}
-use Rattle.passkey_kinds.proofs.Common.{item_of-Map, pairs_of-members, Item, members-pairs_of, AnswersAs, accepted, Typed, members_in, MayGrowIn, are_small, Reads, MayGrowBy, takes_at, Fields, set_with, rows_of, table_of, put_at, one_more, Progress, reached, result_and_then, read_from, read_members, read_item, Entry, Table, entries, named, Members, Naming, row, accepts_at, row_or_unknown, names, HasReadTo, Sets, Puts, as_nested, Fault, Refusal, ◌≡◌, ◌∙◌, ◌<◌, ℕ, arith, Bool, true, false, List, [], ◌∷◌, length, map, replicate, get_or, Some, None, is_some, inl, inr, sym, ap, Result, subst, Ok, Err, OnOk, ◌==◌, set, ◌||◌, and_parts, leb-true, cases_lt, get_or-set_same, get_or-set_other, get_or-replicate, get_or_past, length-replicate, find, result_ok}
+use Rattle.passkey_kinds.proofs.Common.{item_of-Map, pairs_of-members, Item, members-pairs_of, AnswersAs, Typed, members_in, MayGrowIn, are_small, Reads, MayGrowBy, takes_at, Fields, set_with, rows_of, table_of, put_at, one_more, Progress, progress_of, result_and_then, read_from, read_members, read_item, Entry, Table, entries, named, Members, Naming, row, accepts_at, row_or_unknown, names, HasReadTo, Sets, Puts, as_nested, Fault, Refusal, ◌≡◌, ◌∙◌, ◌<◌, ℕ, arith, Bool, true, false, List, [], ◌∷◌, length, map, replicate, get_or, Some, None, is_some, inl, inr, sym, ap, Result, subst, Ok, Err, OnOk, ◌==◌, set, ◌||◌, and_parts, leb-true, cases_lt, get_or-set_same, get_or-set_other, get_or-replicate, get_or_past, length-replicate, find, result_ok}
 use Rattle.passkey_kinds.specs.declared.fault.Fault.TheVariants.{Refused}
 use Rattle.passkey_kinds.specs.declared.fault.Fault.TheVariants as fault
 use Rattle.passkey_cbor.specs.Item as item
@@ -24,7 +24,7 @@ none_marked n = elim (cases_lt n 32) [
 module _ {P : Type 0} (t : Fields P) (held : P) (marks : List Bool) (n : ℕ) (i : Item) where
   pub was_put : (next : P) (more : List Bool) → get_or marks n false ≡ false
       → accepts_at (rows_of t.rows) n i ≡ true → put_at t.rows n i held ≡ next → more ≡ set marks n true
-      → n < length marks → one_more t (row n) i (reached held marks) ≡ Ok (reached next more)
+      → n < length marks → one_more t (row n) i (progress_of held marks) ≡ Ok (progress_of next more)
   was_put next more none accepted put marked within =
       rw (none, accepted) (λ j. Ok (record { seen = λ k. also k j; made = put j })) where
         also : (k : ℕ) → (k == n) || get_or marks k false ≡ get_or more k false
@@ -62,23 +62,23 @@ module _ {P : Type 0} (t : Fields P) where
       (at : rest ≡ m ∷ others) (names_it : named (table_of t) m.0 ≡ naming) (h : HasReadTo t ms rest old marks) where
     -- all members decode to what this one and the others make of the record
     steps : read_members t ms
-        ≡ result_and_then (λ n. read_from t others n) (one_more t naming m.1 (reached old marks))
-    steps = grind (arith, read_from, reached, result_and_then, one_more)
+        ≡ result_and_then (λ n. read_from t others n) (one_more t naming m.1 (progress_of old marks))
+    steps = grind (arith, read_from, progress_of, result_and_then, one_more)
 
-    pub goes_on : (new : P) (next : List Bool) → one_more t naming m.1 (reached old marks) ≡ Ok (reached new next)
+    pub goes_on : (new : P) (next : List Bool) → one_more t naming m.1 (progress_of old marks) ≡ Ok (progress_of new next)
         → HasReadTo t ms others new next
     goes_on new next good = grind (arith, steps, result_and_then, read_from, table_of, inr)
 
     pub fails : {A : Type 0} (view : A → P) (after : Progress P) (f : Fault) → Reads (λ (u : Unit {0}). after)
-        (MayGrowBy (table_of t) naming m.1) (one_more t naming m.1 (reached old marks)) (Err f)
+        (MayGrowBy (table_of t) naming m.1) (one_more t naming m.1 (progress_of old marks)) (Err f)
         → Reads view (MayGrowIn (table_of t) ms) (read_members t ms) (Err f)
     fails view after f s = grind (arith, steps, h)
 
   -- all members were decoded
   pub all_read : {A : Type 0} (view : A → P) (ms rest : Members) (held : P) (marks : List Bool) (r : Result A Fault)
-      → rest ≡ [] → HasReadTo t ms rest held marks → Reads view ⊥ (read_from t [] (reached held marks)) r
+      → rest ≡ [] → HasReadTo t ms rest held marks → Reads view ⊥ (read_from t [] (progress_of held marks)) r
       → Reads view (MayGrowIn (table_of t) ms) (read_members t ms) r
-  all_read view ms rest held marks r ended h told = grind (arith, reads_from, read_members, read_from, reached)
+  all_read view ms rest held marks r ended h told = grind (arith, reads_from, read_members, read_from, progress_of)
 
 -- an item that isn't a map isn't a record
 pub no_record : {P : Type 0} (t : Fields P) (i : Item) → members_in i ≡ None → read_item t i ≡ Err fault.NotAMap

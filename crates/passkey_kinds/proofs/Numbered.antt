@@ -1,5 +1,5 @@
 -- Records and messages that one table defines: what holds of them.
-use Rattle.passkey_kinds.proofs.Common.{ℕ, suc, arith, ◌≡◌, ◌<◌, ◌≤◌, ◌^◌, ◌&&◌, Bool, true, List, [], ◌∷◌, Option, Some, None, option_map, refl, depth, Item, null, below, optional, IsReadBack, EachFits, PlainTable, members_of, places_of, plain_tree, number_tree, KeysAscend, table_of, record_kind, IfPresent, Place, read_item, WrittenIsLeadingItem, subst, max, ◌+◌, pos}
+use Rattle.passkey_kinds.proofs.Common.{ℕ, suc, arith, ◌≡◌, ◌<◌, ◌≤◌, ◌^◌, ◌&&◌, Bool, true, List, [], ◌∷◌, Option, Some, None, option_map, refl, depth, Item, null, number_from, optional_from, IsReadBack, EachFits, PlainTable, members_of, places_of, plain_tree, number_tree, KeysAscend, table_of, record_kind, IfPresent, Place, read_item, WrittenIsLeadingItem, subst, max, ◌+◌, pos}
 use Rattle.std.proofs.Common.{leb-true, lt-ltb}
 use Rattle.passkey_kinds.proofs.Around.{AtMost, Around, OnlyAt, around, decoded_few, canonical_around, OnlyDeep, only_deep}
 use Rattle.passkey_kinds.proofs.Back.{have_rows, are_distinct, missing_of, Backs, numbers, kind_back, Falls, option_place}
@@ -17,13 +17,13 @@ use Rattle.passkey_kinds.specs.Record.{Member}
 
 -- ---- values of members can be decoded again
 
-pub long_back : IsReadBack (below (2 ^ 64)) number_tree (λ n. n < 2 ^ 64) (λ n. n)
+pub long_back : IsReadBack (number_from (2 ^ 64)) number_tree (λ n. n < 2 ^ 64) (λ n. n)
 long_back = record { back = λ n h. rw (lt-ltb n (2 ^ 64) h) refl }
 
 module _ {T : Type 0} (of_byte : ℕ → T) where
   -- a value of an open enumeration, or null
   pub some_code : (i : Item)
-      → optional (code_of of_byte).of i ≡ option_map (option_map of_byte) (optional (below 256) i)
+      → optional_from (code_of of_byte).of i ≡ option_map (option_map of_byte) (optional_from (number_from 256) i)
   some_code null = refl
   some_code i = grind arith
 
@@ -33,7 +33,7 @@ module _ {T : Type 0} (of_byte : ℕ → T) where
     code_back = record { back = λ x h. rw (lt-ltb (byte_of x) (2 ^ 8) h) refl }
 
     pub code_place : (o : Option T) → IfPresent (λ x. byte_of x < 2 ^ 8) o
-        → Falls (optional (code_of of_byte).of) None (option_map (λ x. number_tree (byte_of x)) o)
+        → Falls (optional_from (code_of of_byte).of) None (option_map (λ x. number_tree (byte_of x)) o)
         (option_map (λ x. of_byte (byte_of x)) o)
     code_place o h = option_place (optional_back code_back refl) o h
 

@@ -1,5 +1,5 @@
 -- Laws of records and messages.
-use Rattle.passkey_kinds.proofs.Common.{front_stands, raised, heads_of, only_one, IsEncodedAt, Grows, Item, no_pairs, pair, members, AtMostOneLeadingItem, IsLeadingItem, PassesLeadingItem, CursorState, ahead, MovesForward, members-pairs_of, bytes, ReadsMessage, Begins, GrowsMessage, ReadsHere, AlikeDifferInLength, SameButForLength, AnswersCarryOver, KnowsItems, known, HasNoWrongKey, AnswersAlike, SameAnswers, PassesOverUnknown, KnowsMaps, Onward, Reads, MayGrowAt, Fields, table_of, one_more, Progress, result_and_then, read_from, read_members, read_item, Table, named, Members, Naming, row, unknown, wrong, record_cost, DecodesRecord, Fault, ◌≡◌, ◌∙◌, ◌+◌, ℕ, suc, arith, List, [], ◌∷◌, ◌++◌, length, refl, sym, ap, rules, ◌≤◌, Result, ◌*◌, subst, take, Ok, Err, ◌≢◌, IfErr, All-head, All-tail}
+use Rattle.passkey_kinds.proofs.Common.{front_stands, raised, heads_of, only_one, IsEncodedAt, Grows, Item, no_pairs, pair, members, AtMostOneLeadingItem, IsLeadingItem, PassesLeadingItem, CursorState, ahead, MovesForward, members-pairs_of, ReadsMessage, Begins, GrowsMessage, ReadsHere, AlikeDifferInLength, SameButForLength, AnswersCarryOver, KnowsItems, known, HasNoWrongKey, AnswersAlike, SameAnswers, PassesOverUnknown, KnowsMaps, Onward, Reads, MayGrowAt, Fields, table_of, one_more, Progress, result_and_then, read_from, read_members, read_item, Table, named, Members, Naming, row, unknown, wrong, record_cost, DecodesRecord, Fault, ◌≡◌, ◌∙◌, ◌+◌, ℕ, suc, arith, List, [], ◌∷◌, ◌++◌, length, refl, sym, ap, rules, ◌≤◌, Result, ◌*◌, subst, take, Ok, Err, ◌≢◌, IfErr, All-head, All-tail}
 use Rattle.passkey_kinds.specs.declared.fault.Fault.TheVariants as fault
 use Rattle.passkey_cbor.specs.Item as item
 

@@ -1,5 +1,5 @@
 -- What sinks hold after the members of a record: a counter, an encoder, and a list of members.
-use Rattle.passkey_kinds.proofs.Common.{◌∙◌, pairs_len-pairs_of, pairs_len, Item, pairs_of, IsWritable, ArePairsWritable, shortest_head, written, pairs_written, accepted, Members, AllAccepted, append_member, encode_member, put_all, Place, record_tree, under, laid, ◌≡◌, ◌<◌, ◌+◌, ℕ, suc, arith, List, [], ◌∷◌, ◌++◌, length, Option, Some, None, refl, sym, append_assoc, ◌^◌, append-nil}
+use Rattle.passkey_kinds.proofs.Common.{◌∙◌, pairs_len-pairs_of, pairs_len, Item, pairs_of, IsWritable, ArePairsWritable, shortest_head, written, pairs_written, Members, AllAccepted, append_member, encode_member, put_all, Place, record_tree, under, laid, ◌≡◌, ◌<◌, ◌+◌, ℕ, suc, arith, List, [], ◌∷◌, ◌++◌, length, Option, Some, None, refl, sym, append_assoc, ◌^◌, append-nil}
 use Rattle.passkey_kinds.specs.Tree.{put_one}
 use Rattle.passkey_kinds.proofs.Levels.{laid_has}
 

@@ -1,5 +1,5 @@
 -- A part of a decoded record is what one row's kind says of the first member that names the row.
-use Rattle.passkey_kinds.proofs.Common.{Item, byte_string, Kind, Entry, Fields, Member, Members, set_with, rows_of, table_of, put_at, first_missing, unless_missing, one_more, Progress, result_and_then, read_from, entries, named, Naming, row, unknown, wrong, accepts_at, members, DataParts, read_data, authenticator_data, ◌≡◌, ◌∙◌, ◌==◌, ◌&&◌, ℕ, arith, Bool, true, false, List, [], ◌∷◌, Option, Some, None, is_some, refl, sym, ap, Ok, nat_tests, cases_eq, true≢false, inl, inr, option_and_then, list_any}
+use Rattle.passkey_kinds.proofs.Common.{Item, byte_string, Kind, Entry, Fields, Member, Members, set_with, rows_of, table_of, put_at, first_missing, unless_missing, one_more, Progress, result_and_then, read_from, entries, named, Naming, row, unknown, wrong, accepts_at, members, DataParts, read_data, data_from, ◌≡◌, ◌∙◌, ◌==◌, ◌&&◌, ℕ, arith, Bool, true, false, List, [], ◌∷◌, Option, Some, None, is_some, refl, sym, ap, Ok, nat_tests, cases_eq, true≢false, inl, inr, option_and_then, list_any}
 use Rattle.passkey_cbor.specs.Item as item
 use Rattle.passkey_kinds.specs.Lending.{value_if, value_among, string_in, AuthDataAreLent}
 use Rattle.passkey_kinds.proofs.Keeping.{ok_of}
@@ -93,16 +93,16 @@ module _ {P X : Type 0} (n : ℕ) (get : P → X) (kind : Kind X) where
 
 -- ---- authenticator data, in row 2
 
-data_in : (i : Item) (d : DataParts) → authenticator_data i ≡ Some d
+data_in : (i : Item) (d : DataParts) → data_from i ≡ Some d
     → (s : List ℕ) × ((string_in i ≡ Some s) × (read_data s ≡ Ok d))
 data_in (byte_string s) d e = (s, (refl, ok_of (read_data s) d e))
 data_in i d e = absurd cc
 
 pub auth_data_lent : {P : Type 0} (t : Fields P) (auth_data : P → DataParts)
-    → OnlyRow 2 auth_data authenticator_data t.rows → is_required 2 (entries (table_of t)) ≡ true
+    → OnlyRow 2 auth_data data_from t.rows → is_required 2 (entries (table_of t)) ≡ true
     → AuthDataAreLent t auth_data
 auth_data_lent t auth_data only wanted (item.map ps) p e =
-    let f = found 2 auth_data authenticator_data t only p wanted (members ps) _ refl e in
+    let f = found 2 auth_data data_from t only p wanted (members ps) _ refl e in
     let d = data_in f.value (auth_data p) f.said in
     (d.0, (ap (option_and_then string_in) f.is ∙ d.1.0, d.1.1))
 auth_data_lent t auth_data only wanted i p e = absurd cc

@@ -2,21 +2,24 @@
 use Rattle.passkey_kinds.specs.Base.{ByteMap, Item, boolean, byte_string, text_string, credential_type_named, transport_named, IfPresent, IsData, DataParts, Algorithm, AuthenticatorTransport, Unknown, PublicKeyCredentialDescriptor, PublicKeyCredentialParameters, PublicKeyCredentialUserEntity}
 use Rattle.std.specs.Prelude.{◌≡◌, ℕ, ◌<◌, ◌^◌, Bool, List, length, Option, [], ◌∷◌, None, codes}
 use Rattle.passkey_iana.specs.declared.algorithm.Algorithm.TheVariants.{ES256}
-use Rattle.passkey_kinds.specs.Kind.{algorithm_tree, auth_data_tree}
+use Rattle.passkey_cbor.specs.Nodes.{nodes}
+use Rattle.passkey_kinds.specs.Kind.{aaguid_from, algorithm_from, algorithm_tree, any_from, auth_data_tree, authenticator_data_nodes, bytes_from, counted, data_from, nothing, sized_bytes_from, text_from, truth_from}
 use Rattle.passkey_kinds.specs.Placed.{Coded, PlainTable, EachFits, fields_of, plain_tree, Any, AreBytes, IsByte, required_as, tolerated_as, optional_as}
 use Rattle.passkey_kinds.specs.RecordReading.{nested}
 use Rattle.passkey_kinds.specs.Tree.{number_tree, option_tree, list_tree, numbers_tree, byte_map_tree, credential_type_tree, transport_tree}
 use Rattle.passkey_webauthn.specs.declared.credential_type.PublicKeyCredentialType.{PublicKeyCredentialType}
 use Rattle.std.specs.List.{All}
 use Rattle.std.specs.FinMap as fin
-use Rattle.passkey_core.specs.declared.make_credential.SignedExtensionOutputs as made
+use Rattle.passkey_core.specs.declared.make_credential.SignedExtensionOutputs as make_credential
+use Rattle.passkey_kinds.specs.Typed.{fixed, growing, text_as}
 use Rattle.passkey_kinds.specs.Typed as typed
-use Rattle.passkey_core.specs.declared.get_assertion.SignedExtensionOutputs as used
+use Rattle.passkey_kinds.specs.declared.wanted.Wanted.TheVariants as wanted
+use Rattle.passkey_core.specs.declared.get_assertion.SignedExtensionOutputs as get_assertion
 
 -- ---- values of members, as they are decoded and as they are encoded
 
 abbrev pub truth : Coded Bool
-truth = record { typed = typed.truth; tree = boolean; Fits = Any }
+truth = record { typed = fixed 1 wanted.Boolean truth_from; tree = boolean; Fits = Any }
 
 abbrev pub byte : Coded ℕ
 byte = record { typed = typed.below 256; tree = number_tree; Fits = IsByte }
@@ -25,21 +28,33 @@ abbrev pub word : Coded ℕ
 word = record { typed = typed.below (2 ^ 32); tree = number_tree; Fits = λ n. n < 2 ^ 32 }
 
 abbrev pub text : Coded (List ℕ)
-text = record { typed = typed.text; tree = text_string; Fits = Any }
+text = record { typed = text_as text_from; tree = text_string; Fits = Any }
 
 abbrev pub bytes : Coded (List ℕ)
-bytes = record { typed = typed.bytes; tree = byte_string; Fits = Any }
+bytes = record { typed = growing 3 nothing wanted.Bytes bytes_from; tree = byte_string; Fits = Any }
 
 -- exactly this many bytes, encoded as an array of integers
 abbrev pub sized_bytes : ℕ → Coded (List ℕ)
-sized_bytes n = record { typed = typed.sized_bytes n; tree = numbers_tree; Fits = AreBytes n }
+sized_bytes n = record {
+  typed = fixed 3 (wanted.SizedBytes n) (sized_bytes_from n);
+  tree = numbers_tree;
+  Fits = AreBytes n;
+}
 
 -- exactly 16 bytes
 abbrev pub aaguid : Coded (List ℕ)
-aaguid = record { typed = typed.aaguid; tree = byte_string; Fits = λ s. length s ≡ 16 }
+aaguid = record {
+  typed = fixed 2 (wanted.ByteString 16) aaguid_from;
+  tree = byte_string;
+  Fits = λ s. length s ≡ 16;
+}
 
 abbrev pub algorithm : Coded Algorithm
-algorithm = record { typed = typed.algorithm; tree = algorithm_tree; Fits = Any }
+algorithm = record {
+  typed = fixed 2 wanted.Algorithm algorithm_from;
+  tree = algorithm_tree;
+  Fits = Any;
+}
 
 -- the type, or `Unknown` for any other item
 abbrev pub credential_type : Coded PublicKeyCredentialType
@@ -50,11 +65,15 @@ abbrev pub transport : Coded AuthenticatorTransport
 transport = record { typed = typed.one_named transport_named; tree = transport_tree; Fits = Any }
 
 abbrev pub authenticator_data : Coded DataParts
-authenticator_data = record { typed = typed.authenticator_data; tree = auth_data_tree; Fits = IsData }
+authenticator_data = record {
+  typed = growing 6 (counted authenticator_data_nodes) wanted.AuthenticatorData data_from;
+  tree = auth_data_tree;
+  Fits = IsData;
+}
 
 -- any item, unchanged
 abbrev pub item : Coded Item
-item = record { typed = typed.kept; tree = λ i. i; Fits = Any }
+item = record { typed = growing 2 (counted nodes) wanted.Any any_from; tree = λ i. i; Fits = Any }
 
 -- `None` is encoded as null
 abbrev pub or_null : {M : Type 0} → Coded M → Coded (Option M)
@@ -64,12 +83,12 @@ or_null c = record {
   Fits = λ o. IfPresent c.Fits o;
 }
 
-abbrev pub list : {M : Type 0} → Coded M → Coded (List M)
-list c = record { typed = typed.list c.typed; tree = list_tree c.tree; Fits = All c.Fits }
+abbrev pub list_of : {M : Type 0} → Coded M → Coded (List M)
+list_of c = record { typed = typed.list c.typed; tree = list_tree c.tree; Fits = All c.Fits }
 
 -- a list without the elements that are refused
-abbrev pub accepted : {M : Type 0} → Coded M → Coded (List M)
-accepted c = record { typed = typed.accepted c.typed; tree = list_tree c.tree; Fits = All c.Fits }
+abbrev pub accepted_of : {M : Type 0} → Coded M → Coded (List M)
+accepted_of c = record { typed = typed.accepted c.typed; tree = list_tree c.tree; Fits = All c.Fits }
 
 abbrev pub byte_map : {M : Type 0} → Coded M → Coded (ByteMap M)
 byte_map c = record {
@@ -90,7 +109,7 @@ descriptor = record {
   blank = record { ty = Unknown; id = []; transports = None };
   members = required_as 2 (codes "id") bytes (λ d. d.id) (λ x d. record d { id = x })
       ∷ required_as 1 (codes "type") credential_type (λ d. d.ty) (λ x d. record d { ty = x })
-      ∷ tolerated_as 3 (codes "transports") (accepted transport) (λ d. d.transports) (λ x d. record d { transports = x })
+      ∷ tolerated_as 3 (codes "transports") (accepted_of transport) (λ d. d.transports) (λ x d. record d { transports = x })
       ∷ [];
 }
 
@@ -116,16 +135,16 @@ webauthn_user = record {
 -- ---- extension outputs in authenticator data, of a registration and of an assertion (WebAuthn Level 3,
 -- section 9.5)
 
-abbrev pub made_signed : PlainTable made.SignedExtensionOutputs
-made_signed = record {
+abbrev pub make_credential_signed : PlainTable make_credential.SignedExtensionOutputs
+make_credential_signed = record {
   blank = record { hmac_secret = None; hmac_secret_mc = None };
   members = optional_as 1 (codes "hmac-secret") truth (λ o. o.hmac_secret) (λ x o. record o { hmac_secret = x })
       ∷ optional_as 2 (codes "hmac-secret-mc") bytes (λ o. o.hmac_secret_mc) (λ x o. record o { hmac_secret_mc = x })
       ∷ [];
 }
 
-abbrev pub used_signed : PlainTable used.SignedExtensionOutputs
-used_signed = record {
+abbrev pub get_assertion_signed : PlainTable get_assertion.SignedExtensionOutputs
+get_assertion_signed = record {
   blank = record { hmac_secret = None };
   members = optional_as 1 (codes "hmac-secret") bytes (λ o. o.hmac_secret) (λ x o. record o { hmac_secret = x }) ∷ [];
 }

@@ -87,32 +87,32 @@ accepts k i = is_some (k.of i)
 abbrev pub Answers : {A M : Type 0} → (A → M) → Typed M → Item → Result A Refusal → Type 0
 Answers view k i = AnswersAs view (k.of i) (MayGrow k.takes i)
 
-abbrev pub truth : Kind Bool
-truth (boolean b) = Some b
-truth _ = None
+abbrev pub truth_from : Kind Bool
+truth_from (boolean b) = Some b
+truth_from _ = None
 
 -- unsigned integers below a limit
-abbrev pub below : ℕ → Kind ℕ
-below limit (number (pos n)) = if nat_lt n limit then Some n else None
-below limit _ = None
+abbrev pub number_from : ℕ → Kind ℕ
+number_from limit (number (pos n)) = if nat_lt n limit then Some n else None
+number_from limit _ = None
 
-abbrev pub text : Kind (List ℕ)
-text (text_string s) = Some s
-text _ = None
+abbrev pub text_from : Kind (List ℕ)
+text_from (text_string s) = Some s
+text_from _ = None
 
 -- a text string that is one of these names
-abbrev pub one_named : {T : Type 0} → (List ℕ → Option T) → Kind T
-one_named named (text_string s) = named s
-one_named named _ = None
+abbrev pub name_from : {T : Type 0} → (List ℕ → Option T) → Kind T
+name_from named (text_string s) = named s
+name_from named _ = None
 
 -- any item, unchanged
-abbrev pub kept : Kind Item
-kept i = Some i
+abbrev pub any_from : Kind Item
+any_from i = Some i
 
 -- null decodes to `None`
-abbrev pub optional : {M : Type 0} → Kind M → Kind (Option M)
-optional kind null = Some None
-optional kind i = option_map Some (kind i)
+abbrev pub optional_from : {M : Type 0} → Kind M → Kind (Option M)
+optional_from kind null = Some None
+optional_from kind i = option_map Some (kind i)
 
 -- the values of all elements, if every element has one
 abbrev pub each : {X M : Type 0} → (X → Option M) → List X → Option (List M)
@@ -121,43 +121,43 @@ each kind (i ∷ is) = option_and_then (λ x. option_map (λ xs. x ∷ xs) (each
 
 -- a byte string; an array of integers from 0 to 255; or a text string in base64url or base64, with
 -- white space allowed around it
-abbrev pub bytes : Kind (List ℕ)
-bytes (byte_string s) = Some s
-bytes (array xs) = each (below 256) (elements xs)
-bytes (text_string s) = text_bytes (trim s)
-bytes _ = None
+abbrev pub bytes_from : Kind (List ℕ)
+bytes_from (byte_string s) = Some s
+bytes_from (array xs) = each (number_from 256) (elements xs)
+bytes_from (text_string s) = text_bytes (trim s)
+bytes_from _ = None
 
 -- a byte string or an array of integers from 0 to 255, of exactly this length
-abbrev pub sized_bytes : ℕ → Kind (List ℕ)
-sized_bytes n (byte_string s) = if length s == n then Some s else None
-sized_bytes n (array xs) = if length (elements xs) == n then each (below 256) (elements xs) else None
-sized_bytes n _ = None
+abbrev pub sized_bytes_from : ℕ → Kind (List ℕ)
+sized_bytes_from n (byte_string s) = if length s == n then Some s else None
+sized_bytes_from n (array xs) = if length (elements xs) == n then each (number_from 256) (elements xs) else None
+sized_bytes_from n _ = None
 
-abbrev pub list : {M : Type 0} → Kind M → Kind (List M)
-list kind (array xs) = each kind (elements xs)
-list kind _ = None
+abbrev pub list_from : {M : Type 0} → Kind M → Kind (List M)
+list_from kind (array xs) = each kind (elements xs)
+list_from kind _ = None
 
 -- the values of the elements that the kind accepts, in their order
-abbrev pub accepted : {M : Type 0} → Kind M → Kind (List M)
-accepted kind (array xs) = Some (filter_map kind (elements xs))
-accepted kind _ = None
+abbrev pub accepted_from : {M : Type 0} → Kind M → Kind (List M)
+accepted_from kind (array xs) = Some (filter_map kind (elements xs))
+accepted_from kind _ = None
 
 -- the value, or `None` if the kind refuses the item
-abbrev pub tolerated : {M : Type 0} → Kind M → Kind (Option M)
-tolerated kind i = Some (kind i)
+abbrev pub tolerated_from : {M : Type 0} → Kind M → Kind (Option M)
+tolerated_from kind i = Some (kind i)
 
 -- the value, or this default if the kind refuses the item
-abbrev pub or_else : {M : Type 0} → M → Kind M → Kind M
-or_else default kind i = Some (unwrap_or (kind i) default)
+abbrev pub or_else_from : {M : Type 0} → M → Kind M → Kind M
+or_else_from default kind i = Some (unwrap_or (kind i) default)
 
 -- ---- identifiers of COSE algorithms (RFC 9053, section 2; IANA's COSE Algorithms registry)
 
 -- an integer, or the whole part of a number in a text string, if it fits in 64 bits and is the
 -- identifier of an algorithm
-abbrev pub algorithm : Kind Algorithm
-algorithm (number z) = option_and_then algorithm_named (signed_64 z)
-algorithm (text_string s) = option_and_then algorithm_named (whole_64 s)
-algorithm _ = None
+abbrev pub algorithm_from : Kind Algorithm
+algorithm_from (number z) = option_and_then algorithm_named (signed_64 z)
+algorithm_from (text_string s) = option_and_then algorithm_named (whole_64 s)
+algorithm_from _ = None
 
 abbrev pub algorithm_tree : Algorithm → Item
 algorithm_tree a = number (algorithm_number a)
@@ -165,9 +165,9 @@ algorithm_tree a = number (algorithm_number a)
 -- ---- authenticator data and AAGUIDs (WebAuthn Level 3, sections 6.1 and 6.5.1)
 
 -- a byte string that decodes as authenticator data; the kind refuses it for any fault
-abbrev pub authenticator_data : Kind DataParts
-authenticator_data (byte_string s) = result_ok (read_data s)
-authenticator_data _ = None
+abbrev pub data_from : Kind DataParts
+data_from (byte_string s) = result_ok (read_data s)
+data_from _ = None
 
 -- how many data items decoding makes as values, for the credential public key and the extensions
 abbrev pub authenticator_data_nodes : Item → ℕ
@@ -181,9 +181,9 @@ abbrev pub data_tree : AuthenticatorData → Item
 data_tree d = auth_data_tree (data_parts d)
 
 -- a byte string of 16 bytes
-abbrev pub aaguid : Kind (List ℕ)
-aaguid (byte_string s) = if length s == 16 then Some s else None
-aaguid _ = None
+abbrev pub aaguid_from : Kind (List ℕ)
+aaguid_from (byte_string s) = if length s == 16 then Some s else None
+aaguid_from _ = None
 
 abbrev pub aaguid_tree : Aaguid → Item
 aaguid_tree a = byte_string a.0
@@ -215,15 +215,15 @@ UnlessOutOfMemory (Err OutOfMemory) P = Unit {0}
 
 -- the key and the value of a member, if both are accepted
 abbrev pub entry : {M : Type 0} → Kind M → Item × Item → Option (List ℕ × M)
-entry kind m = option_zip (bytes m.0) (kind m.1)
+entry kind m = option_zip (bytes_from m.0) (kind m.1)
 
 -- the map with the entries of these members, if all members are accepted
 abbrev pub with_members : {M : Type 0} → Kind M → ByteMap M → List (Item × Item) → Option (ByteMap M)
 with_members kind m ms = option_map (put_each m) (each (entry kind) ms)
 
-abbrev pub map_from_bytes : {M : Type 0} → Kind M → Kind (ByteMap M)
-map_from_bytes kind (item.map ps) = with_members kind fin.empty (members ps)
-map_from_bytes kind _ = None
+abbrev pub byte_map_from : {M : Type 0} → Kind M → Kind (ByteMap M)
+byte_map_from kind (item.map ps) = with_members kind fin.empty (members ps)
+byte_map_from kind _ = None
 
 -- the map with the view of each of its values
 abbrev pub map_values : {A M : Type 0} → (A → M) → ByteMap A → ByteMap M
@@ -231,9 +231,9 @@ map_values view m = fin.from_entries (each_one (λ e. (e.0, view e.1)) (fin.entr
 
 -- ---- sizes: unsigned integers of at most 64 bits, except 0 (CTAP 2.1, section 6.4; RFC 8949, section 3.1)
 
-abbrev pub size : Kind ℕ
-size (number (pos n)) = if nat_lt 0 n && nat_lt n (2 ^ 64) then Some n else None
-size _ = None
+abbrev pub size_from : Kind ℕ
+size_from (number (pos n)) = if nat_lt 0 n && nat_lt n (2 ^ 64) then Some n else None
+size_from _ = None
 
 abbrev pub IsSize : ℕ → Type 0
 IsSize n = (0 < n) × (n < 2 ^ 64)

@@ -7,7 +7,7 @@ use Rattle.passkey_cbor.specs.Item.{Item, Pairs, map}
 use Rattle.passkey_cbor.specs.LeadingItem.{IsLeadingItem, HasNoLeadingItem}
 use Rattle.passkey_cbor.specs.Reads.{HasGrowingLeadingItem}
 use Rattle.passkey_cbor.specs.CursorState.{CursorState, ahead, raised, MovesForward}
-use Rattle.passkey_kinds.specs.Kind.{Kind, accepted}
+use Rattle.passkey_kinds.specs.Kind.{Kind, accepted_from}
 use Rattle.passkey_kinds.specs.Record.{MayGrowAt, Fields, read_item, table_of, rows_of, put_at, read_members, Table, Naming, row, unknown, wrong, named, Members, accepts_at}
 use Rattle.passkey_kinds.specs.RecordReading.{kept_in_map}
 use Rattle.passkey_kinds.specs.Tree.{map_tree}
@@ -151,7 +151,7 @@ WrittenIsCanonical {P} tree is_coherent kept =
 -- An element that the kind refuses changes nothing, wherever it is in a tolerant list.
 abbrev pub RefusedElementIsPassedOver : Type 0 → Type 0
 RefusedElementIsPassedOver M = (kind : Kind M) (before behind : List Item) (x : Item) → kind x ≡ None
-    → accepted kind (array (items_of (before ++ x ∷ behind))) ≡ accepted kind (array (items_of (before ++ behind)))
+    → accepted_from kind (array (items_of (before ++ x ∷ behind))) ≡ accepted_from kind (array (items_of (before ++ behind)))
 
 -- A member under a key that the table doesn't know changes nothing, wherever it is.
 abbrev pub UnknownMemberIsPassedOver : {P : Type 0} → Fields P → Type 0

@@ -26,7 +26,7 @@ abbrev pub code_in : {T : Type 0} → (T → ℕ) → (ℕ → T) → List T →
 code_in byte_of other named n = unwrap_or (numbered_value nat_eq byte_of named n) (other n)
 
 abbrev pub code_of : {T : Type 0} → (ℕ → T) → Typed T
-code_of of_byte = fixed 1 (wanted.Below 256) (λ i. option_map of_byte (kind.below 256 i))
+code_of of_byte = fixed 1 (wanted.Below 256) (λ i. option_map of_byte (kind.number_from 256 i))
 
 abbrev pub code : {T : Type 0} → (ℕ → T) → (T → ℕ) → Coded T
 code of_byte byte_of =

@@ -7,7 +7,7 @@ use Rattle.passkey_cbor.specs.Inside.{Left, Within, PairWithin}
 use Rattle.passkey_cbor.specs.Languages.{Language}
 use Rattle.passkey_cbor.specs.Lent.{Region}
 use Rattle.passkey_cbor.specs.declared.head.Head.{Head}
-use Rattle.passkey_kinds.specs.Kind.{Keeping, nothing, kept_of, kept_sum, Typed, AnswersAs, MayGrow, Kind, below, each, entry}
+use Rattle.passkey_kinds.specs.Kind.{Keeping, nothing, kept_of, kept_sum, Typed, AnswersAs, MayGrow, Kind, number_from, each, entry}
 use Rattle.passkey_kinds.specs.declared.fault.Refusal.{Refusal}
 use Rattle.std.proofs.Math.Nat.{mul-le-mul_left}
 use Rattle.std.specs.List.{cons_option}
@@ -237,7 +237,7 @@ pushed_below n kind i xs = if nat_lt (length xs) n then pushed kind i xs else No
 
 -- bytes, at most n of them
 abbrev pub filling : ℕ → Gathering (List ℕ)
-filling n = record { next = pushed_below n (below 256); takes = false; cost = 1; keeps = nothing }
+filling n = record { next = pushed_below n (number_from 256); takes = false; cost = 1; keeps = nothing }
 
 -- the list, if it has n elements
 abbrev pub full : {M : Type 0} → ℕ → List M → Option (List M)
@@ -245,7 +245,7 @@ full n xs = if length xs == n then Some xs else None
 
 -- the bytes of an array of n integers from 0 to 255
 abbrev pub numbers_in : ℕ → Item → Option (List ℕ)
-numbers_in n i = option_and_then (λ is. if length is == n then each (below 256) is else None) (elements_in i)
+numbers_in n i = option_and_then (λ is. if length is == n then each (number_from 256) is else None) (elements_in i)
 
 -- under its key
 abbrev pub entered : {M : Type 0} → Kind M → Item × Item → ByteMap M → Option (ByteMap M)

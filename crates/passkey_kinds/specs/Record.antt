@@ -1,7 +1,7 @@
 -- Records as tables of members, and what a data item decodes to by such a table.
 use Rattle.passkey_kinds.specs.Base.{Item, number, text_string, byte_string, members}
 use Rattle.std.specs.Prelude.{ℕ, ◌==◌, Bool, true, false, ◌&&◌, ◌||◌, if◌then◌else◌, List, [], ◌∷◌, map, Option, Some, None, is_some, option_map, Result, Ok, Err, ◌≡◌, nat_lt, ◌⊎◌, get_or, not}
-use Rattle.passkey_kinds.specs.Kind.{below, Kind, Typed, MayGrow}
+use Rattle.passkey_kinds.specs.Kind.{number_from, Kind, Typed, MayGrow}
 use Rattle.passkey_kinds.specs.declared.fault.Fault.{Fault}
 use Rattle.passkey_kinds.specs.declared.fault.Fault.TheVariants.{BadKey, Repeated, Refused, NotAMap, Missing}
 use Rattle.passkey_kinds.specs.declared.rows.Named.{Named}
@@ -49,7 +49,7 @@ number_names true None rows = wrong
 number_names false n rows = wrong
 
 abbrev pub names : Bool → List Entry → Item → Naming
-names is_numbered rows (number z) = number_names is_numbered (below 256 (number z)) rows
+names is_numbered rows (number z) = number_names is_numbered (number_from 256 (number z)) rows
 names is_numbered rows (text_string name) = row_named rows name
 names is_numbered rows (byte_string name) = row_named rows name
 names is_numbered rows _ = wrong
@@ -205,5 +205,5 @@ are_small [] = true
 are_small (e ∷ es) = nat_lt e.number 32 && are_small es
 
 -- the record so far, and the rows that are marked
-abbrev pub reached : {P : Type 0} → P → List Bool → Progress P
-reached held marks = record { seen = λ n. get_or marks n false; made = held }
+abbrev pub progress_of : {P : Type 0} → P → List Bool → Progress P
+progress_of held marks = record { seen = λ n. get_or marks n false; made = held }

@@ -3,7 +3,7 @@ use Rattle.passkey_kinds.specs.Base.{Item, members, CursorState}
 use Rattle.std.specs.Prelude.{ℕ, ◌+◌, ◌≤◌, max, ◌==◌, Bool, true, false, ◌&&◌, if◌then◌else◌, List, [], ◌∷◌, ◌≡◌, Option, Some, None, Result, Ok, Err, IfSome, OnOk, slice_get}
 use Rattle.passkey_kinds.specs.Kind.{Keeping, nothing, counted, kept_of, kept_sum, Typed, MayGrow, accepts}
 use Rattle.passkey_kinds.specs.Reader.{Spends, SpendsLess}
-use Rattle.passkey_kinds.specs.Record.{takes_at, MayGrowIn, MayGrowAt, Reads, naming_of, named_as, Fields, Member, table_of, record_kind, rows_of, put_at, read_members, read_from, reached, Progress, one_more, MayGrowBy, read_item, Naming, row, unknown, wrong, named, Members, accepts_at, Entry, row_or_unknown}
+use Rattle.passkey_kinds.specs.Record.{takes_at, MayGrowIn, MayGrowAt, Reads, naming_of, named_as, Fields, Member, table_of, record_kind, rows_of, put_at, read_members, read_from, progress_of, Progress, one_more, MayGrowBy, read_item, Naming, row, unknown, wrong, named, Members, accepts_at, Entry, row_or_unknown}
 use Rattle.passkey_kinds.specs.Shape.{Shape, Rows, record_of, no_rows}
 use Rattle.passkey_kinds.specs.declared.fault.Fault.{Fault}
 use Rattle.passkey_kinds.specs.declared.fault.Refusal.{Refusal}
@@ -105,7 +105,7 @@ Puts t n i old new (Err OutOfMemory) = MayGrow (takes_at (rows_of t.rows) n) i
 
 -- The members before the rest have no fault, and the record holds their values.
 pub record HasReadTo {P : Type 0} (t : Fields P) (ms rest : Members) (held : P) (marks : List Bool) : Type 0 where
-  pub same : read_members t ms ≡ read_from t rest (reached held marks)
+  pub same : read_members t ms ≡ read_from t rest (progress_of held marks)
   pub grows : MayGrowIn (table_of t) rest → MayGrowIn (table_of t) ms
 
 -- ---- over a cursor

@@ -10,12 +10,12 @@ use Rattle.passkey_kinds.specs.Shape as shape
 use Rattle.passkey_kinds.specs.declared.wanted.Wanted.TheVariants as wanted
 
 -- an array whose elements are of this kind
-abbrev pub list_of : {M : Type 0} → Typed M → Shape
-list_of k = shape.list (accepts k) k.shape
+abbrev pub list_shape : {M : Type 0} → Typed M → Shape
+list_shape k = shape.list (accepts k) k.shape
 
 -- a map from byte strings whose values are of this kind
-abbrev pub map_of : {M : Type 0} → Typed M → Shape
-map_of k = shape.map (accepts k) k.shape
+abbrev pub map_shape : {M : Type 0} → Typed M → Shape
+map_shape k = shape.map (accepts k) k.shape
 
 -- a kind whose values take no memory, at the cost of this many heads for each byte, and what it wants
 abbrev pub fixed : {M : Type 0} → ℕ → Wanted → Kind M → Typed M
@@ -25,47 +25,23 @@ fixed cost w k = record { of = k; takes = false; cost = cost; keeps = nothing; s
 abbrev pub growing : {M : Type 0} → ℕ → Keeping → Wanted → Kind M → Typed M
 growing cost keeps w k = record { of = k; takes = true; cost = cost; keeps = keeps; shape = leaf w }
 
-abbrev pub truth : Typed Bool
-truth = fixed 1 wanted.Boolean kind.truth
-
 abbrev pub below : ℕ → Typed ℕ
-below limit = fixed 1 (wanted.Below limit) (kind.below limit)
+below limit = fixed 1 (wanted.Below limit) (kind.number_from limit)
 
 abbrev pub size : Typed ℕ
-size = fixed 1 wanted.Size kind.size
+size = fixed 1 wanted.Size kind.size_from
 
 abbrev pub one_named : {T : Type 0} → (List ℕ → Option T) → Typed T
-one_named named = fixed 2 wanted.Name (kind.one_named named)
-
-abbrev pub algorithm : Typed Algorithm
-algorithm = fixed 2 wanted.Algorithm kind.algorithm
-
-abbrev pub aaguid : Typed (List ℕ)
-aaguid = fixed 2 (wanted.ByteString 16) kind.aaguid
-
-abbrev pub sized_bytes : ℕ → Typed (List ℕ)
-sized_bytes n = fixed 3 (wanted.SizedBytes n) (kind.sized_bytes n)
+one_named named = fixed 2 wanted.Name (kind.name_from named)
 
 -- text strings with a meaning
 abbrev pub text_as : {M : Type 0} → Kind M → Typed M
 text_as k = growing 2 nothing wanted.Text k
 
-abbrev pub text : Typed (List ℕ)
-text = text_as kind.text
-
-abbrev pub bytes : Typed (List ℕ)
-bytes = growing 3 nothing wanted.Bytes kind.bytes
-
-abbrev pub kept : Typed Item
-kept = growing 2 (counted nodes) wanted.Any kind.kept
-
-abbrev pub authenticator_data : Typed DataParts
-authenticator_data = growing 6 (counted kind.authenticator_data_nodes) wanted.AuthenticatorData kind.authenticator_data
-
 -- the value, or `None` for null; looking for null costs one head, and so does null
 abbrev pub optional : {M : Type 0} → Typed M → Typed (Option M)
 optional k = record {
-  of = kind.optional k.of;
+  of = kind.optional_from k.of;
   takes = k.takes;
   cost = suc (max 1 k.cost);
   keeps = k.keeps;
@@ -75,7 +51,7 @@ optional k = record {
 -- the value, or `None` if the kind refuses the item, which costs one more pass over it
 abbrev pub tolerated : {M : Type 0} → Typed M → Typed (Option M)
 tolerated k = record {
-  of = kind.tolerated k.of;
+  of = kind.tolerated_from k.of;
   takes = k.takes;
   cost = suc k.cost;
   keeps = k.keeps;
@@ -84,31 +60,31 @@ tolerated k = record {
 
 -- the value, or this default if the kind refuses the item
 abbrev pub or_else : {M : Type 0} → M → Typed M → Typed M
-or_else default k = record k { of = kind.or_else default k.of; cost = suc k.cost }
+or_else default k = record k { of = kind.or_else_from default k.of; cost = suc k.cost }
 
 abbrev pub list : {M : Type 0} → Typed M → Typed (List M)
 list k = record {
-  of = kind.list k.of;
+  of = kind.list_from k.of;
   takes = true;
   cost = suc k.cost;
   keeps = in_elements k.keeps;
-  shape = list_of k;
+  shape = list_shape k;
 }
 
 abbrev pub accepted : {M : Type 0} → Typed M → Typed (List M)
 accepted k = record {
-  of = kind.accepted k.of;
+  of = kind.accepted_from k.of;
   takes = true;
   cost = suc (suc k.cost);
   keeps = in_elements k.keeps;
-  shape = list_of k;
+  shape = list_shape k;
 }
 
 abbrev pub map_from_bytes : {M : Type 0} → Typed M → Typed (ByteMap M)
 map_from_bytes k = record {
-  of = kind.map_from_bytes k.of;
+  of = kind.byte_map_from k.of;
   takes = true;
   cost = suc (max 3 k.cost);
   keeps = in_members k.keeps;
-  shape = map_of k;
+  shape = map_shape k;
 }

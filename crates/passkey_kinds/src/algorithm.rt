@@ -55,7 +55,7 @@ fn whole_of(token: &TextToken<'_>, cursor: &mut Cursor<'_>) -> Option<i64>
 impl FromCbor for Algorithm {
     ghost view = { λ a. a };
 
-    ghost typed = { algorithm };
+    ghost typed = { algorithm.typed };
 
     fn from_value(_alloc: Global, value: &Value) -> Result<Algorithm, Refusal> {
         match value {

@@ -1,7 +1,7 @@
 //! Arrays of 32 bytes, decoded from data items and encoded as arrays of integers.
 ghost use Rattle.std.specs.Prelude.{◌≡◌, ◌==◌, ℕ, [], OnOk, List, length, map, take, if◌then◌else◌, false, Some, None};
 ghost use Rattle.passkey_kinds.specs.Words.{Item, HoldsString, IsEncodedAt, Further, Onward, Decodes, LooksAtMost, item_of, byte_string, Answers, AnswersAs, each, AreBytes, numbers_tree, sized_bytes, filling, full, numbers_in, MayGrow};
-ghost use Rattle.passkey_kinds.specs.Kind.{below};
+ghost use Rattle.passkey_kinds.specs.Kind.{number_from};
 
 use crate::collect::{Gather, read_elements, read_whole};
 use crate::written::{append_each, write_each};
@@ -57,7 +57,7 @@ fn whole(front: Front) -> Result<[u8; 32], Refusal>
 /// elements or one of them isn't an integer from 0 to 255.
 fn read_numbers(alloc: Global, elements: &[Value]) -> Result<[u8; 32], Refusal>
     ensures { AnswersAs (λ b. b)
-        (if length elements.now == 32 then each (below 256) (map item_of elements.now) else None) ⊥ result }
+        (if length elements.now == 32 then each (number_from 256) (map item_of elements.now) else None) ⊥ result }
 {
     match read_elements(alloc, no_bytes(), elements) {
         Ok(front) => whole(front),
@@ -83,7 +83,7 @@ pub(crate) fn filled<const N: usize>(
     cursor: &mut Cursor<'_>,
 ) -> Result<[u8; N], Refusal>
     ensures answers { (s : List ℕ) → HoldsString false token.now s
-        → Answers (λ b. b) (sized_bytes N) (byte_string s) result }
+        → Answers (λ b. b) (sized_bytes N).typed (byte_string s) result }
     ensures looks { LooksAtMost token.now cursor.old cursor.new }
 {
     let mut bytes = [0; N];
@@ -97,7 +97,7 @@ pub(crate) fn filled<const N: usize>(
 impl FromCbor for [u8; 32] {
     ghost view = { λ b. b };
 
-    ghost typed = { sized_bytes 32 };
+    ghost typed = { (sized_bytes 32).typed };
 
     #[tactic(auto, using(crate::proofs::Lists::arrays))]
     fn from_value(alloc: Global, value: &Value) -> Result<[u8; 32], Refusal> {

@@ -42,7 +42,7 @@ fn read_base64(
     cursor: &mut Cursor<'_>,
 ) -> Result<Bytes, Refusal>
     requires { IsRegion true token.now }
-    ensures answers { (s : List ℕ) → HoldsString true token.now s → Answers (λ b. b) bytes (text_string s) result }
+    ensures answers { (s : List ℕ) → HoldsString true token.now s → Answers (λ b. b) bytes.typed (text_string s) result }
     ensures looks { LooksAtMost token.now cursor.old cursor.new }
 {
     match token.lent() {
@@ -57,7 +57,7 @@ fn read_base64(
 impl FromCbor for Bytes {
     ghost view = { λ b. b };
 
-    ghost typed = { bytes };
+    ghost typed = { bytes.typed };
 
     #[tactic(auto, using(crate::proofs::Lists::arrays))]
     fn from_value(alloc: Global, value: &Value) -> Result<Bytes, Refusal> {

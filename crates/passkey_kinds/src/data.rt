@@ -12,7 +12,7 @@ use std::alloc::Global;
 /// Decodes the content of a byte string as authenticator data, and adds the cost to `count`.
 #[tactic(auto, using(crate::proofs::Lent::parts_grow))]
 fn read_data(alloc: Global, bytes: &[u8], count: &mut Count) -> Result<AuthenticatorData, Refusal>
-    ensures answers { Answers data_parts authenticator_data (byte_string bytes.now) result }
+    ensures answers { Answers data_parts authenticator_data.typed (byte_string bytes.now) result }
     ensures heads { count.new.heads ≤ count.old.heads + (4 * length bytes.now + 4) }
     ensures nodes { count.new.nodes ≤ count.old.nodes + data_nodes bytes.now }
     ensures all { UnlessOutOfMemory result (CountsDataItems bytes.now count.old.heads count.old.nodes
@@ -33,7 +33,7 @@ fn read_counted(
     bytes: &[u8],
     cursor: &mut Cursor<'_>,
 ) -> Result<AuthenticatorData, Refusal>
-    ensures answers { Answers data_parts authenticator_data (byte_string bytes.now) result }
+    ensures answers { Answers data_parts authenticator_data.typed (byte_string bytes.now) result }
     ensures counts { CountsData bytes.now cursor.old cursor.new }
     ensures all { UnlessOutOfMemory result (CountsDataItems bytes.now cursor.old.heads cursor.old.nodes
         cursor.new.heads cursor.new.nodes) }
@@ -49,7 +49,7 @@ impl FromCbor for AuthenticatorData {
 
     ghost view = { data_parts };
 
-    ghost typed = { authenticator_data };
+    ghost typed = { authenticator_data.typed };
 
     fn from_value(alloc: Global, value: &Value) -> Result<AuthenticatorData, Refusal> {
         match value {
@@ -96,7 +96,7 @@ impl ToCbor for AuthenticatorData {
 
 /// Decodes the content of a byte string as an AAGUID. `Refused` unless it has 16 bytes.
 fn read_aaguid(bytes: &[u8]) -> Result<Aaguid, Refusal>
-    ensures { Answers (λ a. a.0) aaguid (byte_string bytes.now) result }
+    ensures { Answers (λ a. a.0) aaguid.typed (byte_string bytes.now) result }
 {
     match <[u8; 16]>::try_from(bytes) {
         Ok(bytes) => Ok(Aaguid(bytes)),
@@ -109,7 +109,7 @@ impl FromCbor for Aaguid {
 
     ghost view = { λ a. a.0 };
 
-    ghost typed = { aaguid };
+    ghost typed = { aaguid.typed };
 
     fn from_value(_alloc: Global, value: &Value) -> Result<Aaguid, Refusal> {
         match value {

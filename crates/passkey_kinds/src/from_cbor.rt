@@ -2,7 +2,7 @@
 ghost use Rattle.std.specs.Prelude.{◌≡◌, ◌^◌, ℕ, Option, option_map, OnOk};
 ghost use Rattle.passkey_kinds.specs.Look.{Looks, tested};
 ghost use Rattle.passkey_kinds.specs.Shape.{reached};
-ghost use Rattle.passkey_kinds.specs.Words.{tolerated, Item, IsEncodedAt, item_of, Answers, Typed, Onward, Further, ReadsAs, truth, below, text, kept, optional, scalar_of};
+ghost use Rattle.passkey_kinds.specs.Words.{tolerated, Item, IsEncodedAt, item_of, Answers, Typed, Onward, Further, ReadsAs, truth, below, text, item, optional, scalar_of};
 
 use crate::head::read_scalar;
 use crate::{Form, Look, OutOfMemory, Refusal, Wanted, looked};
@@ -53,7 +53,7 @@ pub trait FromCbor: Drop {
 }
 
 fn truth_of(head: Option<Head>) -> Result<bool, Refusal>
-    ensures { Answers (λ b. b) truth (scalar_of head) result }
+    ensures { Answers (λ b. b) truth.typed (scalar_of head) result }
 {
     match head {
         Some(Head::Simple(20)) => Ok(false),
@@ -83,7 +83,7 @@ fn word(head: Option<Head>) -> Result<u32, Refusal>
 impl FromCbor for bool {
     ghost view = { λ b. b };
 
-    ghost typed = { truth };
+    ghost typed = { truth.typed };
 
     fn from_value(_alloc: Global, value: &Value) -> Result<bool, Refusal> {
         match value {
@@ -149,7 +149,7 @@ impl FromCbor for u32 {
 impl FromCbor for Text {
     ghost view = { λ t. t };
 
-    ghost typed = { text };
+    ghost typed = { text.typed };
 
     fn from_value(alloc: Global, value: &Value) -> Result<Text, Refusal> {
         match value {
@@ -175,7 +175,7 @@ impl FromCbor for Value {
 
     ghost view = { item_of };
 
-    ghost typed = { kept };
+    ghost typed = { item.typed };
 
     fn from_value(alloc: Global, value: &Value) -> Result<Value, Refusal> {
         Ok(value.try_clone(alloc)?)

@@ -1,7 +1,7 @@
 //! Values that are decoded from text strings, whatever the text.
 ghost use Rattle.std.specs.Prelude.{◌≡◌, ℕ, List, true, IfOk, OnOk};
 ghost use Rattle.passkey_kinds.specs.Words.{Item, IsRegion, HoldsString, IsEncodedAt, Onward, Further, ReadsAs, LooksAtMost, Answers, text_string, text_as};
-ghost use Rattle.passkey_kinds.specs.Kind.{one_named};
+ghost use Rattle.passkey_kinds.specs.Kind.{name_from};
 
 use crate::{OutOfMemory, Refusal};
 use passkey_cbor::{Cursor, TextToken};
@@ -25,7 +25,7 @@ fn text_value<T: FromText>(
 ) -> Result<T, Refusal>
     requires { IsRegion true token.now }
     ensures answers { (s : List ℕ) → HoldsString true token.now s → Answers (λ v. v)
-        (text_as (one_named (λ s. Some (T.of_text s)))) (text_string s) result }
+        (text_as (name_from (λ s. Some (T.of_text s)))) (text_string s) result }
     ensures looks { LooksAtMost token.now cursor.old cursor.new }
 {
     match token.lent() {
@@ -41,7 +41,7 @@ fn text_value<T: FromText>(
 /// text string is there, and `OutOfMemory` if an allocation fails.
 pub fn read_text_value<T: FromText>(alloc: Global, cursor: &mut Cursor<'_>) -> Result<T, Refusal>
     ensures reads { (i : Item) (to : ℕ) → IsEncodedAt i cursor.old.bytes cursor.old.place to
-        → ReadsAs (λ v. v) (text_as (one_named (λ s. Some (T.of_text s)))) i to cursor.old cursor.new result }
+        → ReadsAs (λ v. v) (text_as (name_from (λ s. Some (T.of_text s)))) i to cursor.old cursor.new result }
     ensures onward { Onward cursor.old cursor.new }
     ensures further { OnOk result (Further cursor.old cursor.new) }
 {

@@ -1,13 +1,13 @@
 //! Extension outputs in the authenticator data of an assertion, decoded from data items and encoded
 //! (WebAuthn Level 3, section 9.5).
-ghost use Rattle.passkey_kinds.specs.Coded.{used_signed};
+ghost use Rattle.passkey_kinds.specs.Coded.{get_assertion_signed};
 
 use crate::{OutOfMemory, PlainRecord, Refusal, Row, Sink, Source, set};
 use passkey_core::get_assertion::SignedExtensionOutputs;
 use std::alloc::Global;
 
 impl PlainRecord for SignedExtensionOutputs {
-    ghost table = { used_signed };
+    ghost table = { get_assertion_signed };
 
     fn rows() -> &'static [Row] {
         &[Row::Optional(1, "hmac-secret")]
@@ -28,6 +28,6 @@ impl PlainRecord for SignedExtensionOutputs {
         sink.put_some(alloc, "hmac-secret", &self.hmac_secret)
     }
 
-    #[tactic(auto, using(crate::proofs::Lawful::used_signed_law))]
+    #[tactic(auto, using(crate::proofs::Lawful::get_assertion_signed_law))]
     fn lawful() {}
 }

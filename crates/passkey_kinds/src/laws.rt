@@ -1,10 +1,10 @@
 //! Laws about decoding records and lists. Each is the contract of a function that does nothing.
-ghost use Rattle.passkey_kinds.specs.Words.{read_item, KeysAscend, KnowsMaps, PassesOverUnknown, AlikeDifferInLength, KnowsItems, RefusedElementIsPassedOver, SameAnswersReadAlike, UnknownMemberIsPassedOver, made_signed, used_signed, plain_tree, WrittenIsCanonical};
+ghost use Rattle.passkey_kinds.specs.Words.{read_item, KeysAscend, KnowsMaps, PassesOverUnknown, AlikeDifferInLength, KnowsItems, RefusedElementIsPassedOver, SameAnswersReadAlike, UnknownMemberIsPassedOver, make_credential_signed, get_assertion_signed, plain_tree, WrittenIsCanonical};
 ghost use Rattle.passkey_kinds.specs.Numbered.{MessagesAreReadBack, is_shallow, kept_list};
 ghost use Rattle.std.specs.Prelude.{◌≡◌};
-ghost use Rattle.passkey_core.specs.SignedOutputs.{creation_item, assertion_item};
-ghost use Rattle.passkey_core.specs.declared.make_credential.SignedExtensionOutputs as creation;
-ghost use Rattle.passkey_core.specs.declared.get_assertion.SignedExtensionOutputs as assertion;
+ghost use Rattle.passkey_core.specs.SignedOutputs.{make_credential_item, get_assertion_item};
+ghost use Rattle.passkey_core.specs.declared.make_credential.SignedExtensionOutputs as make_credential;
+ghost use Rattle.passkey_core.specs.declared.get_assertion.SignedExtensionOutputs as get_assertion;
 
 use crate::TableMessage;
 use crate::record::Record;
@@ -18,10 +18,10 @@ pub fn written_keys_ascend<R: ToCborMap>()
 }
 
 /// Signed extension outputs are encoded as the data items that `to_value` of `passkey_core` returns.
-#[tactic(auto, using(crate::proofs::Lawful::made_item, crate::proofs::Lawful::used_item))]
+#[tactic(auto, using(crate::proofs::Lawful::make_credential_same, crate::proofs::Lawful::get_assertion_same))]
 pub fn signed_outputs_are_their_items()
-    ensures made { (o : creation.SignedExtensionOutputs) → plain_tree made_signed o ≡ creation_item o }
-    ensures used { (o : assertion.SignedExtensionOutputs) → plain_tree used_signed o ≡ assertion_item o }
+    ensures make_credential { (o : make_credential.SignedExtensionOutputs) → plain_tree make_credential_signed o ≡ make_credential_item o }
+    ensures get_assertion { (o : get_assertion.SignedExtensionOutputs) → plain_tree get_assertion_signed o ≡ get_assertion_item o }
 {}
 
 /// A member under a key that the record's table doesn't know changes nothing, wherever it is: the

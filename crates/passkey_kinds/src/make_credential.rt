@@ -1,13 +1,13 @@
 //! Extension outputs in the authenticator data of a registration, decoded from data items and
 //! encoded (WebAuthn Level 3, section 9.5).
-ghost use Rattle.passkey_kinds.specs.Coded.{made_signed};
+ghost use Rattle.passkey_kinds.specs.Coded.{make_credential_signed};
 
 use crate::{OutOfMemory, PlainRecord, Refusal, Row, Sink, Source, set};
 use passkey_core::make_credential::SignedExtensionOutputs;
 use std::alloc::Global;
 
 impl PlainRecord for SignedExtensionOutputs {
-    ghost table = { made_signed };
+    ghost table = { make_credential_signed };
 
     fn rows() -> &'static [Row] {
         &[
@@ -37,6 +37,6 @@ impl PlainRecord for SignedExtensionOutputs {
         Ok(())
     }
 
-    #[tactic(auto, using(crate::proofs::Lawful::made_signed_law))]
+    #[tactic(auto, using(crate::proofs::Lawful::make_credential_signed_law))]
     fn lawful() {}
 }

@@ -1,6 +1,6 @@
 //! Records, decoded member by member.
 ghost use Rattle.std.specs.Prelude.{◌≡◌, ◌<◌, ◌≤◌, ℕ, Bool, true, false, length, map, replicate, get_or, is_ok, OnOk, set, [], None};
-ghost use Rattle.passkey_kinds.specs.Words.{CountsHeads, Item, max_depth, IsEncodedAt, PairsAreEncodedAt, item_of, pair_of, Onward, Further, MayGrowIn, MayGrowAt, Reads, are_small, named_as, Fields, table_of, read_members, read_item, nested, cost_at, keeps_at, shape_at, Puts, entry_of, Members, entries, named, MayGrowBy, one_more, reached, read_from, cost_by, keeps_by, DecodesMember, DecodesMembers, DecodesRecord, as_nested};
+ghost use Rattle.passkey_kinds.specs.Words.{CountsHeads, Item, max_depth, IsEncodedAt, PairsAreEncodedAt, item_of, pair_of, Onward, Further, MayGrowIn, MayGrowAt, Reads, are_small, named_as, Fields, table_of, read_members, read_item, nested, cost_at, keeps_at, shape_at, Puts, entry_of, Members, entries, named, MayGrowBy, one_more, progress_of, read_from, cost_by, keeps_by, DecodesMember, DecodesMembers, DecodesRecord, as_nested};
 ghost use Rattle.passkey_kinds.specs.Record.{first_missing as missing_of};
 ghost use Rattle.passkey_cbor.specs.EncodedAt.{Lies};
 ghost use Rattle.passkey_cbor.specs.Inside.{PairWithin};
@@ -67,9 +67,9 @@ fn read_member<R: Record, S: Source>(
 ) -> Result<(), Fault>
     requires { are_small (entries (table_of R.fields)) ≡ true }
     ensures reads { (label value : Item) (to : ℕ) → named (table_of R.fields) label ≡ named_as key
-        → S.At source.old value to → Reads (λ _. reached (R.parts read.new) seen.new)
+        → S.At source.old value to → Reads (λ _. progress_of (R.parts read.new) seen.new)
         (MayGrowBy (table_of R.fields) (named_as key) value)
-        (one_more R.fields (named_as key) value (reached (R.parts read.old) seen.old)) result }
+        (one_more R.fields (named_as key) value (progress_of (R.parts read.old) seen.old)) result }
     ensures spends { (value : Item) (to : ℕ) → S.At source.old value to → S.HasCost (cost_by R.fields.rows
         (named_as key)) (keeps_by R.fields.rows (named_as key)) None value to source.old source.new (is_ok result) }
     ensures onward { S.IsOnward source.old source.new }
@@ -137,7 +137,7 @@ pub fn no_marks() -> [bool; 32]
 
 /// Returns the record, or `Missing` for the first required row that isn't marked.
 fn finish<R: Record>(read: R, seen: &[bool; 32]) -> Result<R, Fault>
-    ensures { Reads R.parts ⊥ (read_from R.fields [] (reached (R.parts read) seen.now)) result }
+    ensures { Reads R.parts ⊥ (read_from R.fields [] (progress_of (R.parts read) seen.now)) result }
 {
     match first_missing(R::rows(), seen) {
         Some(number) => Err(Fault::Missing(number)),
@@ -188,8 +188,8 @@ fn read_next<R: Record>(
 ) -> Result<(), Fault>
     ensures reads { (m : Item × Item) (to : ℕ)
         → Lies (PairWithin max_depth m) cursor.old.bytes cursor.old.place to
-        → DecodesMember R.fields (named (table_of R.fields) m.0) m (reached (R.parts read.old) seen.old)
-        (reached (R.parts read.new) seen.new) to cursor.old cursor.new result }
+        → DecodesMember R.fields (named (table_of R.fields) m.0) m (progress_of (R.parts read.old) seen.old)
+        (progress_of (R.parts read.new) seen.new) to cursor.old cursor.new result }
     ensures onward { Onward cursor.old cursor.new }
     ensures further { OnOk result (Further cursor.old cursor.new) }
 {

@@ -3,7 +3,7 @@
 ghost use Rattle.std.specs.Prelude.{◌≡◌, ℕ, option_map};
 ghost use Rattle.std.specs.Int.NonZero.{non_zero_u128_get};
 ghost use Rattle.passkey_kinds.specs.Words.{number, Answers, size, scalar_of};
-ghost use Rattle.passkey_kinds.specs.Kind.{size as size_of};
+ghost use Rattle.passkey_kinds.specs.Kind.{size_from as size_of};
 
 use crate::head::read_scalar;
 use crate::{Form, FromCbor, Look, OutOfMemory, Refusal, Wanted, looked};

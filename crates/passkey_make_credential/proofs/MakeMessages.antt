@@ -7,7 +7,7 @@ use Rattle.std.proofs.Common.{leb-true}
 use Rattle.passkey_core.specs.DataNormal.{IsData, normal_data}
 use Rattle.passkey_core.specs.DataParts.{DataParts}
 use Rattle.passkey_entities.proofs.Entities.{rp_law}
-use Rattle.passkey_extensions.proofs.Extensions.{make_parts_back, make_extensions_around, made_unsigned_law}
+use Rattle.passkey_extensions.proofs.Extensions.{make_parts_back, make_extensions_around, make_credential_unsigned_law}
 use Rattle.passkey_extensions.specs.MakeExtensions.{make_extensions_tree}
 use Rattle.passkey_kinds.specs.Message.{WrittenIsReadBack}
 use Rattle.passkey_kinds.specs.Tree.{where_true}
@@ -56,7 +56,7 @@ unfolding shortest_head
 response_only = record {
   keyed = search plainly;
   ascends = λ r. refl;
-  each = λ Q rule r statement. search (rule.holds, plainly, made_unsigned_law.plain 0) depth 12;
+  each = λ Q rule r statement. search (rule.holds, plainly, make_credential_unsigned_law.plain 0) depth 12;
   this = λ Q r each. each.1.1.0;
 }
 
@@ -111,7 +111,7 @@ response_back written given r fits coherent =
     puts_value kept_back r.att_stmt tt ▸
     puts_default (optional_place truth_back refl r.ep_att (anything r.ep_att)) refl ▸
     puts_default (optional_place bytes_back refl r.large_blob_key (anything r.large_blob_key)) refl ▸
-    puts_default (optional_place made_unsigned_law.back refl r.unsigned_extension_outputs (search)) refl ▸
+    puts_default (optional_place make_credential_unsigned_law.back refl r.unsigned_extension_outputs (search)) refl ▸
     no_more)
 
 attestation_back : WrittenDataAreReadBack → ReadIsGiven → (d : DataParts) → IsData d → is_coherent d ≡ true

@@ -3,7 +3,7 @@ use Rattle.std.specs.Prelude.{[], ◌∷◌, true, false, codes, ℕ, nat_le, Bo
 use Rattle.passkey_entities.specs.Entities.{rp}
 use Rattle.passkey_entities.specs.declared.rp.PublicKeyCredentialRpEntity.{PublicKeyCredentialRpEntity}
 use Rattle.passkey_extensions.specs.MakeExtensions.{MakeExtensionsParts, make_extensions_coded, make_extensions_parts, make_extensions_kept}
-use Rattle.passkey_kinds.specs.Coded.{truth, bytes, accepted}
+use Rattle.passkey_kinds.specs.Coded.{truth, bytes, accepted_of}
 use Rattle.passkey_kinds.specs.Words.{byte, plain, where_true, kept_if_some, text_string, PlainTable, placed, default_as, default, depth, max_depth, Item, Placed, required_at, default_at, optional_at, tolerated_at, places_of, EachFits, descriptor, parameters, webauthn_user, Fields, fields_with, read_item, record_tree, PublicKeyCredentialDescriptor, PublicKeyCredentialParameters, PublicKeyCredentialUserEntity}
 use Rattle.passkey_kinds.specs.declared.fault.Fault.{Fault}
 use Rattle.passkey_make_credential.specs.declared.options.Options.{Options}
@@ -61,9 +61,9 @@ make_request_members =
     required_at 1 (codes "clientDataHash") bytes (λ r. r.client_data_hash) (λ x r. record r { client_data_hash = x })
     ∷ required_at 2 (codes "rp") (plain rp) (λ r. r.rp) (λ x r. record r { rp = x })
     ∷ required_at 3 (codes "user") (plain webauthn_user) (λ r. r.user) (λ x r. record r { user = x })
-    ∷ required_at 4 (codes "pubKeyCredParams") (accepted (plain parameters)) (λ r. r.pub_key_cred_params)
+    ∷ required_at 4 (codes "pubKeyCredParams") (accepted_of (plain parameters)) (λ r. r.pub_key_cred_params)
     (λ x r. record r { pub_key_cred_params = x })
-    ∷ tolerated_at 5 (codes "excludeList") (accepted (plain descriptor)) (λ r. r.exclude_list)
+    ∷ tolerated_at 5 (codes "excludeList") (accepted_of (plain descriptor)) (λ r. r.exclude_list)
     (λ x r. record r { exclude_list = x })
     ∷ optional_at 6 (codes "extensions") make_extensions_coded (λ r. r.extensions) (λ x r. record r { extensions = x })
     ∷ default_at 7 (codes "options") (plain options) (λ r. r.options) (λ x r. record r { options = x })

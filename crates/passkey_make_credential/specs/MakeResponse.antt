@@ -4,7 +4,7 @@ use Rattle.passkey_kinds.specs.Words.{depth, max_depth, Item, text_string, null,
 use Rattle.passkey_kinds.specs.Coded.{truth, text, bytes, authenticator_data, item, plain}
 use Rattle.passkey_kinds.specs.declared.fault.Fault.{Fault}
 use Rattle.passkey_cbor.specs.Item.{map, no_pairs}
-use Rattle.passkey_extensions.specs.Prf.{prf_made, unsigned}
+use Rattle.passkey_extensions.specs.Prf.{make_credential_prf, unsigned}
 use Rattle.passkey_extensions.specs.declared.prf.AuthenticatorPrfMakeOutputs.{AuthenticatorPrfMakeOutputs}
 use Rattle.passkey_extensions.specs.declared.unsigned.UnsignedExtensionOutputs.{UnsignedExtensionOutputs}
 use Rattle.passkey_make_credential.specs.declared.response.Response.{Response}
@@ -35,7 +35,7 @@ make_response_members =
     ∷ required_at 3 (codes "attStmt") item (λ r. r.att_stmt) (λ x r. record r { att_stmt = x })
     ∷ optional_at 4 (codes "epAtt") truth (λ r. r.ep_att) (λ x r. record r { ep_att = x })
     ∷ optional_at 5 (codes "largeBlobKey") bytes (λ r. r.large_blob_key) (λ x r. record r { large_blob_key = x })
-    ∷ optional_at 6 (codes "unsignedExtensionOutputs") (plain (unsigned prf_made)) (λ r. r.unsigned_extension_outputs)
+    ∷ optional_at 6 (codes "unsignedExtensionOutputs") (plain (unsigned make_credential_prf)) (λ r. r.unsigned_extension_outputs)
     (λ x r. record r { unsigned_extension_outputs = x })
     ∷ []
 

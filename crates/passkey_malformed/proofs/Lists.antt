@@ -7,22 +7,10 @@ use Rattle.passkey_cbor.specs.Heads.{break}
 use Rattle.passkey_cbor.specs.Inside.{Within, PairWithin, Left}
 use Rattle.passkey_cbor.specs.Reading.{Reader, item_within}
 use Rattle.passkey_cbor.proofs.Items.{follows_item}
-use Rattle.passkey_cbor.proofs.Lists.{Follows, encoded_long, each_long}
+use Rattle.passkey_cbor.proofs.Lists.{each_and_one, Follows, encoded_long, each_long}
 use Rattle.passkey_malformed.specs.Stops.{Begins, ItemLeads}
 
 -- ---- one more behind the others
-
-each_and_one : {A : Type 0} (P : A → Language) (xs : List A) (x : A) (s t : List ℕ) → Each P xs s → P x t
-    → Each P (xs ++ x ∷ []) (s ++ t)
-each_and_one P [] x s t e p =
-    record { front = t; back = []; first = p; second = refl; whole = ap (λ (r : List ℕ). r ++ t) e ∙ sym (append-nil t) }
-each_and_one P (y ∷ ys) x s t e p = record {
-  front = e.front;
-  back = e.back ++ t;
-  first = e.first;
-  second = each_and_one P ys x e.back t e.second p;
-  whole = ap (λ (r : List ℕ). r ++ t) e.whole ∙ append_assoc e.front e.back t;
-}
 
 pub none_yet : {A : Type 0} (P : A → Language) (bytes : List ℕ) → Begins (Each P []) bytes bytes
 none_yet P bytes = record { text = []; encoded = refl; parts = refl }

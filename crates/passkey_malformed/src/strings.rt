@@ -1,7 +1,6 @@
 //! Strings, or why none is there.
 ghost use Rattle.std.specs.Prelude.{◌≡◌, ◌-◌, List, ℕ, None as Unknown, length, MatchResult};
 ghost use Rattle.passkey_cbor.specs.Inside.{Content};
-ghost use Rattle.passkey_cbor.specs.Reading.{chunk_len};
 ghost use Rattle.passkey_malformed.specs.Stops.{StringLeads, NoPiece, StopsInChunks, StopsInString};
 ghost use Rattle.std.specs.Prelude.{Some as Known};
 
@@ -29,18 +28,6 @@ fn behind_piece(is_text: bool, len: u64, bytes: &[u8]) -> Result<&[u8], Stop<'_>
     Ok(rest)
 }
 
-/// Returns the length of a chunk with this head, or `None` if it is no chunk's head in this kind of
-/// string.
-fn chunk_len(is_text: bool, head: Head) -> Option<u64>
-    ensures { result ≡ chunk_len is_text head }
-{
-    match head {
-        Head::Bytes(len) => { if is_text { None } else { len } }
-        Head::Text(len) => { if is_text { len } else { None } }
-        _ => None,
-    }
-}
-
 /// Returns the bytes behind the chunks of a string and their break.
 fn behind_chunks(is_text: bool, bytes: &[u8]) -> Result<&[u8], Stop<'_>>
     ensures { MatchResult result (λ rest. StringLeads is_text Unknown bytes.now rest.now)
@@ -55,7 +42,7 @@ fn behind_chunks(is_text: bool, bytes: &[u8]) -> Result<&[u8], Stop<'_>>
         if let Head::Break = head {
             return Ok(behind);
         }
-        match chunk_len(is_text, head) {
+        match head.chunk_len(is_text) {
             None => {
                 return Err(Stop {
                     why: Why::BadChunk,

@@ -3,7 +3,7 @@ use Rattle.std.specs.Prelude.{ℕ, ◌<◌, ◌⊎◌, List, ◌++◌, length, c
 use Rattle.std.specs.Fmt.{decimal, signed_decimal}
 use Rattle.std.specs.Option.{IsSomeAnd}
 use Rattle.passkey_cose.specs.Key.{key_parts}
-use Rattle.passkey_cose.specs.KeyParts.{KeyParts, TakesMemory}
+use Rattle.passkey_cose.specs.KeyParts.{KeyParts, KeyGrows}
 use Rattle.passkey_cose.specs.Registered.{Named, assigned, other, text}
 use Rattle.passkey_iana.specs.declared.key_type.KeyType.{KeyType}
 use Rattle.passkey_iana.specs.declared.key_type.KeyType.TheVariants as key_type
@@ -61,9 +61,9 @@ abbrev pub IsFilled : Option (List ℕ) → Type 0
 IsFilled o = IsSomeAnd o (λ bytes. 0 < length bytes)
 
 -- the passkey takes memory
-abbrev pub StoresMemory : PasskeyParts → Type 0
-StoresMemory p =
-    TakesMemory p.key
+abbrev pub PasskeyGrows : PasskeyParts → Type 0
+PasskeyGrows p =
+    KeyGrows p.key
     ⊎ (0 < length p.credential_id)
     ⊎ (0 < length p.rp_id)
     ⊎ IsFilled p.user_handle

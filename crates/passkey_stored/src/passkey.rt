@@ -1,7 +1,7 @@
 //! Passkeys.
 ghost use Rattle.std.specs.Prelude.{◌≡◌, ◌<◌, Some, length, IfOk, OnErr};
 ghost use Rattle.std.specs.Option.{IsSomeAnd};
-ghost use Rattle.passkey_stored.specs.Passkey.{StoresMemory, fresh, key_type_name, named, passkey_parts, printed};
+ghost use Rattle.passkey_stored.specs.Passkey.{PasskeyGrows, fresh, key_type_name, named, passkey_parts, printed};
 ghost use Rattle.rand_core.specs.Stream.{fill_bytes};
 
 use crate::builder::PasskeyBuilder;
@@ -110,7 +110,7 @@ impl Passkey {
     /// if no part of the passkey takes memory.
     pub fn try_clone(&self, alloc: Global) -> Result<Passkey, OutOfMemory>
         ensures same { IfOk result (λ copy. passkey_parts copy ≡ passkey_parts self.now) }
-        ensures grows { OnErr result (StoresMemory (passkey_parts self.now)) }
+        ensures grows { OnErr result (PasskeyGrows (passkey_parts self.now)) }
     {
         let user = self.user(alloc)?;
         let extensions = self.extensions.try_clone(alloc)?;
@@ -133,7 +133,7 @@ impl Passkey {
         ensures handle { IfOk result (λ user. user.handle ≡ self.now.user_handle) }
         ensures name { IfOk result (λ user. user.name ≡ self.now.username) }
         ensures display_name { IfOk result (λ user. user.display_name ≡ self.now.user_display_name) }
-        ensures grows { OnErr result (StoresMemory (passkey_parts self.now)) }
+        ensures grows { OnErr result (PasskeyGrows (passkey_parts self.now)) }
     {
         Ok(User {
             handle: copied_bytes(alloc, &self.user_handle)?,

@@ -14,24 +14,13 @@ use Rattle.passkey_cbor.specs.declared.head.Head.{Head}
 use Rattle.passkey_cbor.specs.declared.head.Head.TheVariants as head
 use Rattle.passkey_cbor.proofs.EncodedFrom.{only_one, stands_front}
 use Rattle.passkey_cbor.proofs.Items.{members-pairs_of}
+use Rattle.passkey_cbor.proofs.Lists.{each_and_one}
 use Rattle.passkey_cbor.proofs.More.{split}
 use Rattle.passkey_view.specs.declared.item_view.ItemView.{ItemView}
 use Rattle.passkey_view.specs.ItemView.{IsViewOf, HasItemAt, HasNoItemAt, IsOpened}
 use Rattle.passkey_view.specs.Member.{Members, PassedKey, PassesKey, HasNoKey, IsFirstAmong, FindsAmong, HasMember, HasNoMember}
 
 -- ---- one more element behind the others
-
-each_and_one : {A : Type 0} (P : A → Language) (xs : List A) (x : A) (s t : List ℕ) → Each P xs s → P x t
-    → Each P (xs ++ x ∷ []) (s ++ t)
-each_and_one P [] x s t e p =
-    record { front = t; back = []; first = p; second = refl; whole = ap (λ (r : List ℕ). r ++ t) e ∙ sym (append-nil t) }
-each_and_one P (y ∷ ys) x s t e p = record {
-  front = e.front;
-  back = e.back ++ t;
-  first = e.first;
-  second = each_and_one P ys x e.back t e.second p;
-  whole = ap (λ (r : List ℕ). r ++ t) e.whole ∙ append_assoc e.front e.back t;
-}
 
 lies_and_one : {A : Type 0} (P : A → Language) (xs : List A) (x : A) (bytes : List ℕ) (from middle to : ℕ)
     → Lies (Each P xs) bytes from middle → Lies (P x) bytes middle to → Lies (Each P (xs ++ x ∷ [])) bytes from to

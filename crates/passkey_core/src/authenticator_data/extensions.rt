@@ -1,7 +1,7 @@
 //! Setting the extension outputs of authenticator data.
 ghost use Rattle.std.specs.Prelude.{◌≡◌, IfOk, IfErr, OnErr, IsSome};
 ghost use Rattle.passkey_core.specs.DataViews.{data_parts};
-ghost use Rattle.passkey_core.specs.SignedOutputs.{creation_extensions, assertion_extensions, with_extensions};
+ghost use Rattle.passkey_core.specs.SignedOutputs.{make_credential_extensions, get_assertion_extensions, with_extensions};
 ghost use Rattle.passkey_core.specs.SignedPut.{PutsExtensions};
 
 use crate::authenticator_data::AuthenticatorData;
@@ -40,9 +40,9 @@ impl AuthenticatorData {
         outputs: Option<make_credential::SignedExtensionOutputs>,
     ) -> Result<AuthenticatorData, GivenBack<AuthenticatorData>>
         ensures put { IfOk result
-            (λ d. data_parts d ≡ with_extensions (data_parts self) (creation_extensions outputs)) }
+            (λ d. data_parts d ≡ with_extensions (data_parts self) (make_credential_extensions outputs)) }
         ensures back { IfErr result (λ e. e.value ≡ self) }
-        ensures grows { OnErr result (IsSome (creation_extensions outputs)) }
+        ensures grows { OnErr result (IsSome (make_credential_extensions outputs)) }
     {
         self.put_extensions(make_credential::to_extensions(alloc, outputs))
     }
@@ -56,9 +56,9 @@ impl AuthenticatorData {
         outputs: Option<get_assertion::SignedExtensionOutputs>,
     ) -> Result<AuthenticatorData, GivenBack<AuthenticatorData>>
         ensures put { IfOk result
-            (λ d. data_parts d ≡ with_extensions (data_parts self) (assertion_extensions outputs)) }
+            (λ d. data_parts d ≡ with_extensions (data_parts self) (get_assertion_extensions outputs)) }
         ensures back { IfErr result (λ e. e.value ≡ self) }
-        ensures grows { OnErr result (IsSome (assertion_extensions outputs)) }
+        ensures grows { OnErr result (IsSome (get_assertion_extensions outputs)) }
     {
         self.put_extensions(get_assertion::to_extensions(alloc, outputs))
     }

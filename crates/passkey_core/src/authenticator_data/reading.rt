@@ -9,7 +9,7 @@ ghost use Rattle.passkey_cose.specs.KeyReading.{read_key};
 ghost use Rattle.passkey_core.specs.DataAnswers.{Returns};
 ghost use Rattle.passkey_core.specs.DataCounts.{Counts, CountsEach, UnlessOutOfMemory};
 ghost use Rattle.passkey_core.specs.DataNodes.{count_data, count_key, count_where, data_nodes, data_places};
-ghost use Rattle.passkey_core.specs.DataReading.{bytes_at, fixed_at, ids_at, read_map, ReadsItem, ReadsAttested, ReadsWhere, ReadsData, ReadsDataFront, ReadsDataExactly, AttestedGrows, DataGrow};
+ghost use Rattle.passkey_core.specs.DataReading.{bytes_at, fixed_at, ids_at, read_map, ReadsItem, ReadsAttested, ReadsWhere, ReadsData, ReadsDataFront, ReadsDataExactly, AttestedGrows, DataGrows};
 ghost use Rattle.passkey_core.specs.DataViews.{attested_parts, data_parts};
 
 use crate::aaguid::Aaguid;
@@ -178,7 +178,7 @@ fn read_extensions_where<'a>(
 
 /// The data, and the bytes after the last part.
 fn read_front<'a>(alloc: Global, bytes: &'a [u8], count: &mut Count) -> Begun<'a, AuthenticatorData>
-    ensures value { Returns (DataGrow bytes.now) (λ r. (data_parts r.0, r.1.now)) (ReadsDataFront bytes.now) result }
+    ensures value { Returns (DataGrows bytes.now) (λ r. (data_parts r.0, r.1.now)) (ReadsDataFront bytes.now) result }
     ensures heads { count.new.heads ≤ count.old.heads + (4 * length bytes.now + 4) }
     ensures nodes { count.new.nodes ≤ count.old.nodes + data_nodes bytes.now }
     ensures least { 0 < data_places bytes.now → raised count.old.heads 1 ≤ count.new.heads }
@@ -218,7 +218,7 @@ impl AuthenticatorData {
     /// it is checked, so `OutOfMemory` may hide that it is no key or no map. Never if neither AT
     /// nor ED is set.
     pub fn from_slice(alloc: Global, bytes: &[u8]) -> Result<AuthenticatorData, CoseError>
-        ensures { Returns (DataGrow bytes.now) data_parts (ReadsData bytes.now) result }
+        ensures { Returns (DataGrows bytes.now) data_parts (ReadsData bytes.now) result }
     {
         let mut count = Count { heads: 0, nodes: 0 };
         AuthenticatorData::from_slice_counted(alloc, bytes, &mut count)
@@ -232,7 +232,7 @@ impl AuthenticatorData {
     /// A server uses this call, since such bytes are signed but have no meaning; some authenticators
     /// send them.
     pub fn from_slice_exact(alloc: Global, bytes: &[u8]) -> Result<AuthenticatorData, CoseError>
-        ensures { Returns (DataGrow bytes.now) data_parts (ReadsDataExactly bytes.now) result }
+        ensures { Returns (DataGrows bytes.now) data_parts (ReadsDataExactly bytes.now) result }
     {
         let mut count = Count { heads: 0, nodes: 0 };
         let (data, last) = read_front(alloc, bytes, &mut count)?;
@@ -257,7 +257,7 @@ impl AuthenticatorData {
         bytes: &[u8],
         count: &mut Count,
     ) -> Result<AuthenticatorData, CoseError>
-        ensures value { Returns (DataGrow bytes.now) data_parts (ReadsData bytes.now) result }
+        ensures value { Returns (DataGrows bytes.now) data_parts (ReadsData bytes.now) result }
         ensures heads { count.new.heads ≤ count.old.heads + (4 * length bytes.now + 4) }
         ensures nodes { count.new.nodes ≤ count.old.nodes + data_nodes bytes.now }
         ensures least { 0 < data_places bytes.now → raised count.old.heads 1 ≤ count.new.heads }

@@ -6,7 +6,7 @@ use Rattle.passkey_cbor.specs.declared.value.Value.{Value}
 use Rattle.passkey_core.specs.DataAnswers.{Returns}
 use Rattle.passkey_core.specs.declared.attested.data.AttestedCredentialData.{AttestedCredentialData}
 use Rattle.passkey_core.specs.DataFlags.{has_flag, attested_flag, extensions_flag}
-use Rattle.passkey_core.specs.DataReading.{Begun, fixed_at, read_map, ReadsItem, ReadsAttested, ReadsWhere, AttestedGrows, DataGrow}
+use Rattle.passkey_core.specs.DataReading.{Begun, fixed_at, read_map, ReadsItem, ReadsAttested, ReadsWhere, AttestedGrows, DataGrows}
 use Rattle.passkey_core.specs.DataParts.{DataParts}
 use Rattle.passkey_core.specs.declared.authenticator_data.AuthenticatorData.{AuthenticatorData}
 use Rattle.passkey_core.specs.DataViews.{attested_parts, data_parts}
@@ -25,7 +25,7 @@ pub returns-in_err-fixed-clause-value : goal.returns-in_err-fixed-clause-value
 returns-in_err-fixed-clause-value c =
     let told : c.from_residual.result ≡ Err c.in_err-fixed.field-0.0 = search rules in
     let fails : fixed_at c.args.bytes.now ≡ Err c.in_err-fixed.field-0.0 = sym c.in_err-fixed.ensures in
-    rw told (fixed_fails front_of (DataGrow c.args.bytes.now) front_view c.args.bytes.now c.in_err-fixed.field-0.0 fails)
+    rw told (fixed_fails front_of (DataGrows c.args.bytes.now) front_view c.args.bytes.now c.in_err-fixed.field-0.0 fails)
 
 pub returns-in_err-extensions-clause-value : goal.returns-in_err-extensions-clause-value
 returns-in_err-extensions-clause-value c =

@@ -1,10 +1,10 @@
-use Rattle.passkey_kinds.proofs.Steps.{onward_of, further_from, numbered, rules, false, refl, arith, sym, ap, option_and_then, algorithm_named, algorithm, stands_long, on_ok, lent_decodes, answers_from, scalar_decodes, scalar_ends, other_number, missed_then, stands_missed, looked_further}
+use Rattle.passkey_kinds.proofs.Steps.{onward_of, further_from, numbered, rules, false, refl, arith, sym, ap, option_and_then, algorithm_named, algorithm_from, stands_long, on_ok, lent_decodes, answers_from, scalar_decodes, scalar_ends, other_number, missed_then, stands_missed, looked_further}
 use Rattle.passkey_kinds.proofs.algorithm.AlgorithmFromCbor.read.Goals as goal
 
 pub returns-in-Some-clause-reads : goal.returns-in-Some-clause-reads
 returns-in-Some-clause-reads c = λ i to l.
     let f = c.in-Some.ensures.lends i to l in
-    lent_decodes algorithm false i (omega arith) l c.in-Some.ensures.front f c.whole_of.ensures.looks
+    lent_decodes algorithm_from false i (omega arith) l c.in-Some.ensures.front f c.whole_of.ensures.looks
     (answers_from (λ x. x) _ (ap (option_and_then algorithm_named) (sym (c.whole_of.ensures.whole f.0 f.1.1.tells)))
     (λ h. absurd h) c.named.ensures)
 

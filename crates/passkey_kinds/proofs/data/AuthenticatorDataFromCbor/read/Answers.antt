@@ -1,4 +1,4 @@
-use Rattle.passkey_kinds.proofs.Steps.{on_ok, data_further, copied_further, counted_further, rules, true, authenticator_data, ◌∙◌, false, arith, err_from_is_err_and, data_decodes, no_data, looks_all, looks_some, looks_none, lent_decodes, not_lent_decodes, bytes_grow, lent_is}
+use Rattle.passkey_kinds.proofs.Steps.{on_ok, data_further, copied_further, counted_further, rules, true, data_from, ◌∙◌, false, arith, err_from_is_err_and, data_decodes, no_data, looks_all, looks_some, looks_none, lent_decodes, not_lent_decodes, bytes_grow, lent_is}
 use Rattle.passkey_kinds.proofs.data.AuthenticatorDataFromCbor.read.Goals as goal
 
 pub returns-in-None-clause-reads : goal.returns-in-None-clause-reads
@@ -12,7 +12,7 @@ returns-in_err-bytes-in-None-lent-clause-reads c = λ i to l.
     let f = c.in-Some.ensures.lends i to l in
     let looks = looks_some c.in_err-bytes-in-None-lent.ensures.rises false (f.0, f.1.1.tells)
     c.in_err-bytes-in-None-lent.ensures.looks in
-    rw (p.1, p.2) (lent_decodes authenticator_data true i (omega arith) l c.in-Some.ensures.front f looks
+    rw (p.1, p.2) (lent_decodes data_from true i (omega arith) l c.in-Some.ensures.front f looks
     (bytes_grow f.0 (c.in_err-bytes-in-None-lent.ensures.copies f.0 f.1.1.tells)))
 
 pub returns-in-Some-lent-clause-reads : goal.returns-in-Some-lent-clause-reads

@@ -1,4 +1,4 @@
-use Rattle.passkey_kinds.proofs.Steps.{copied_further, rules, ◌∙◌, true, Some, refl, sym, ap, arith, err_from_is_err_and, text, no_text, looks_all, looks_some, lent_decodes, not_lent_decodes}
+use Rattle.passkey_kinds.proofs.Steps.{copied_further, rules, ◌∙◌, true, Some, refl, sym, ap, arith, err_from_is_err_and, text_from, no_text, looks_all, looks_some, lent_decodes, not_lent_decodes}
 use Rattle.passkey_kinds.proofs.from_cbor.TextFromCbor.read.Goals as goal
 
 pub returns-in_err-copy-in-Some-clause-reads : goal.returns-in_err-copy-in-Some-clause-reads
@@ -6,14 +6,14 @@ returns-in_err-copy-in-Some-clause-reads c = λ i to l.
     let p = err_from_is_err_and c.from_residual.result c.from_residual.ensures.1 in
     let f = c.in-Some.ensures.lends i to l in
     let copied = c.in_err-copy-in-Some.ensures in
-    rw (p.1, p.2) (lent_decodes text true i (omega arith) l c.in-Some.ensures.front f
+    rw (p.1, p.2) (lent_decodes text_from true i (omega arith) l c.in-Some.ensures.front f
     (looks_some copied.rises true (f.0, f.1.1.tells) copied.looks) (refl, tt))
 
 pub returns-in_ok-copy-in-Some-clause-reads : goal.returns-in_ok-copy-in-Some-clause-reads
 returns-in_ok-copy-in-Some-clause-reads c = λ i to l.
     let f = c.in-Some.ensures.lends i to l in
     let copied = c.in_ok-copy-in-Some.ensures in
-    lent_decodes text true i (omega arith) l c.in-Some.ensures.front f
+    lent_decodes text_from true i (omega arith) l c.in-Some.ensures.front f
     (looks_all copied.rises true (f.0, f.1.1.tells) copied.looks)
     (ap Some (sym (c.from.ensures ∙ copied.copies f.0 f.1.1.tells)))
 

@@ -1,11 +1,11 @@
-use Rattle.passkey_kinds.proofs.Steps.{◌^◌, refl, below, below_scalar, scalar_decodes, scalar_ends}
+use Rattle.passkey_kinds.proofs.Steps.{◌^◌, refl, number_from, below_scalar, scalar_decodes, scalar_ends}
 use Rattle.passkey_kinds.proofs.long.U64FromCbor.read.Goals as goal
 
 pub returns-clause-reads : goal.returns-clause-reads
 returns-clause-reads c = λ i to l.
-    scalar_decodes (below (2 ^ 64)) i refl (below_scalar (2 ^ 64) i) (c.read_scalar.ensures.reads i to l)
+    scalar_decodes (number_from (2 ^ 64)) i refl (below_scalar (2 ^ 64) i) (c.read_scalar.ensures.reads i to l)
     c.long.ensures
 
 pub returns-clause-further : goal.returns-clause-further
 returns-clause-further c =
-    scalar_ends _ (below (2 ^ 64)) _ c.long.result refl c.long.ensures c.read_scalar.ensures.further
+    scalar_ends _ (number_from (2 ^ 64)) _ c.long.result refl c.long.ensures c.read_scalar.ensures.further

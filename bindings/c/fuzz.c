@@ -1,0 +1,82 @@
+/* A coverage-guided fuzzer of puffgrit.h, for libFuzzer: tools/fuzz-c builds and runs it. The first byte of an input picks the kind,
+   the others are what is decoded. It aborts where a call does what puffgrit.h rules out. */
+#include <stdlib.h>
+#include <string.h>
+
+#include "puffgrit.h"
+
+int LLVMFuzzerTestOneInput(const uint8_t *data, size_t size);
+
+static void want(int right) {
+    if (!right) abort();
+}
+
+/* Memory of exactly this length, so that ASan sees each byte beyond it. */
+static uint8_t *copy_of(const uint8_t *bytes, size_t len) {
+    uint8_t *copy = malloc(len ? len : 1);
+    if (!copy) exit(0);
+    if (len) memcpy(copy, bytes, len);
+    return copy;
+}
+
+/* Decodes and encodes, in an output of one byte less than is needed, and then of exactly that. Returns the encoding, or none. */
+static uint8_t *encoding_of(uint32_t kind, const uint8_t *bytes, size_t len, uint32_t *status, size_t *needed) {
+    uint8_t none = 0xa5, *out;
+    size_t again = 0;
+    *status = puffgrit_rewrite(kind, bytes, len, &none, 0, needed);
+    want(none == 0xa5);
+    if (*status != PUFFGRIT_TOO_SHORT) {
+        /* No encoding is empty, so nothing fits into no bytes. */
+        want(*status != PUFFGRIT_OK);
+        return NULL;
+    }
+    out = malloc(*needed);
+    if (!out) exit(0);
+    memset(out, 0xa5, *needed);
+    want(puffgrit_rewrite(kind, bytes, len, out, *needed - 1, &again) == PUFFGRIT_TOO_SHORT && again == *needed && out[0] == 0xa5);
+    *status = puffgrit_rewrite(kind, bytes, len, out, *needed, &again);
+    want(*status == PUFFGRIT_OK && again == *needed);
+    return out;
+}
+
+static void rewrite(uint32_t kind, const uint8_t *bytes, size_t len) {
+    uint32_t status, second;
+    size_t needed = 0, same = 0, item = puffgrit_item_len(bytes, len);
+    uint8_t *out = encoding_of(kind, bytes, len, &status, &needed), *again;
+    int is_item = kind == PUFFGRIT_KIND_CBOR || (kind >= PUFFGRIT_KIND_MC_REQUEST && kind <= PUFFGRIT_KIND_HMAC_INPUT);
+    if (is_item) want((status == PUFFGRIT_FAULT_DECODE_FAILED) == (item == 0));
+    if (!out) return;
+    if (is_item) {
+        /* What follows the item plays no part. */
+        want(puffgrit_item_len(out, needed) == needed);
+        again = encoding_of(kind, bytes, item, &second, &same);
+        want(again && same == needed && memcmp(again, out, needed) == 0);
+        free(again);
+    }
+    /* What is encoded is decoded as the same value. */
+    again = encoding_of(kind, out, needed, &second, &same);
+    want(again && same == needed && memcmp(again, out, needed) == 0);
+    free(again);
+    free(out);
+}
+
+static void look(const uint8_t *bytes, size_t len) {
+    puffgrit_item item;
+    puffgrit_auth_data parts;
+    size_t whole = puffgrit_item_len(bytes, len);
+    int there = puffgrit_item_at(bytes, len, 0, &item);
+    want(there == (whole != 0));
+    if (there) want(item.end == whole && item.content <= item.end);
+    if (puffgrit_is_canonical(bytes, len)) want(whole == len);
+    if (puffgrit_auth_parts(bytes, len, &parts)) want(parts.end <= len);
+}
+
+int LLVMFuzzerTestOneInput(const uint8_t *data, size_t size) {
+    uint8_t *bytes;
+    if (size == 0) return 0;
+    bytes = copy_of(data + 1, size - 1);
+    look(bytes, size - 1);
+    rewrite(data[0] % PUFFGRIT_KIND_CLIENT_DATA + 1, bytes, size - 1);
+    free(bytes);
+    return 0;
+}
