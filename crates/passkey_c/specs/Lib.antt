@@ -1,5 +1,3 @@
-pub mod AuthData
-pub mod Items
 pub mod Forms
 pub mod Statuses
 pub mod Rewriting

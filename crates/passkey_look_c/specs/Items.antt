@@ -5,7 +5,7 @@ use Rattle.passkey_cbor.specs.LeadingItem.{IsLeadingItem, HasNoLeadingItem}
 use Rattle.passkey_cbor.specs.declared.head.Head.{Head}
 use Rattle.passkey_cbor.specs.declared.head.Head.TheVariants as head
 use Rattle.passkey_view.specs.declared.item_view.ItemView.{ItemView}
-use Rattle.passkey_c.specs.declared.item.Item.{Item}
+use Rattle.passkey_look_c.specs.declared.item.Item.{Item}
 
 -- the major type (RFC 8949, section 3.1), and 8 for a float
 abbrev pub type_of : Head → ℕ

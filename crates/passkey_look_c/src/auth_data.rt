@@ -1,7 +1,7 @@
 //! The parts of authenticator data, for C.
 ghost use Rattle.std.specs.Prelude.{◌≡◌};
 ghost use Rattle.passkey_view.specs.DataView.{IsDataView};
-ghost use Rattle.passkey_c.specs.AuthData.{HasNoData, WritesParts, from_of, aaguid_of, id_of, id_len_of, key_of, parts_of};
+ghost use Rattle.passkey_look_c.specs.AuthData.{HasNoData, WritesParts, from_of, aaguid_of, id_of, id_len_of, key_of, parts_of};
 
 use passkey_view::{AttestedView, DataView, ItemView, data_parts};
 

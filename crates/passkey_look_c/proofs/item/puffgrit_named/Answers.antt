@@ -1,5 +1,5 @@
-use Rattle.passkey_c.proofs.Outputs.{writes}
-use Rattle.passkey_c.proofs.item.puffgrit_named.Goals as goal
+use Rattle.passkey_look_c.proofs.Outputs.{writes}
+use Rattle.passkey_look_c.proofs.item.puffgrit_named.Goals as goal
 
 pub returns-in-Ok-clause-found : goal.returns-in-Ok-clause-found
 returns-in-Ok-clause-found c = λ _.

@@ -5,7 +5,7 @@ ghost use Rattle.passkey_cbor.specs.Canonical.{IsCanonical};
 ghost use Rattle.passkey_cbor.specs.Item.{number, text_string};
 ghost use Rattle.passkey_view.specs.ItemView.{HasItemAt, HasNoItemAt};
 ghost use Rattle.passkey_view.specs.Member.{HasMember, HasNoMember};
-ghost use Rattle.passkey_c.specs.Items.{Fills, Writes, IsItemLength, number_of, type_of, item_of};
+ghost use Rattle.passkey_look_c.specs.Items.{Fills, Writes, IsItemLength, number_of, type_of, item_of};
 
 use passkey_cbor::Head;
 use passkey_view::{ItemView, item_at, member_at};

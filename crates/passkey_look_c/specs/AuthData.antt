@@ -4,8 +4,8 @@ use Rattle.passkey_view.specs.declared.data_view.AttestedView.{AttestedView}
 use Rattle.passkey_view.specs.declared.data_view.DataView.{DataView}
 use Rattle.passkey_view.specs.declared.item_view.ItemView.{ItemView}
 use Rattle.passkey_view.specs.DataView.{IsDataView}
-use Rattle.passkey_c.specs.Items.{WritesAs}
-use Rattle.passkey_c.specs.declared.auth_data.AuthData.{AuthData}
+use Rattle.passkey_look_c.specs.Items.{WritesAs}
+use Rattle.passkey_look_c.specs.declared.auth_data.AuthData.{AuthData}
 
 -- where the part begins, or 0 if it is absent
 abbrev pub from_of : Option ItemView → ℕ

@@ -5,8 +5,8 @@ use Rattle.passkey_cbor.specs.Item.{Item}
 use Rattle.passkey_cbor.specs.LeadingItem.{IsLeadingItem}
 use Rattle.passkey_cbor.proofs.EncodedFrom.{front_long}
 use Rattle.passkey_view.specs.declared.item_view.ItemView.{ItemView}
-use Rattle.passkey_c.specs.declared.item.Item.{Item as CItem}
-use Rattle.passkey_c.specs.Items.{IsItemLength, Fills, Writes, item_of}
+use Rattle.passkey_look_c.specs.declared.item.Item.{Item as CItem}
+use Rattle.passkey_look_c.specs.Items.{IsItemLength, Fills, Writes, item_of}
 
 -- no data item is empty
 pub is_length : (bytes : List ℕ) (x : Item) (len : ℕ) → IsLeadingItem bytes x len → IsItemLength bytes len

@@ -1,0 +1,92 @@
+// Data items of CBOR and authenticator data, looked at by proved code (crates/passkey_look_c) as WebAssembly.
+//
+// Bytes are a Uint8Array, which is copied into the module's memory for each call; offsets and lengths are numbers, and an item's
+// number is a BigInt. What isn't there is null. The module needs a memory of 64 bits, or puffgrit_32.wasm one of 32.
+
+/** The number of a string, an array or a map of indefinite length. */
+export const INDEFINITE = 2n ** 64n - 1n;
+
+/** The types of data items: the major types (RFC 8949, section 3.1), and one for floats. */
+export const UNSIGNED = 0, NEGATIVE = 1, BYTES = 2, TEXT = 3, ARRAY = 4, MAP = 5, TAG = 6, SIMPLE = 7, FLOAT = 8;
+
+const PAGE = 65536, ITEM = 40, PARTS = 56;
+
+/** Returns the calls of a module: of its bytes, or of a WebAssembly.Module. */
+export async function load(source) {
+  const made = await WebAssembly.instantiate(source, {});
+  const calls = (made.instance ?? made).exports;
+  const base = Number(calls.__heap_base.value); // the stack lies below
+
+  /** Writes the parts one after the other, each at a multiple of 8, with room for `more` bytes; returns their places and the room's. */
+  function put(parts, more) {
+    const places = [];
+    let place = base;
+    for (const part of parts) {
+      places.push(place);
+      place += Math.ceil(part.length / 8) * 8;
+    }
+    const lack = Math.ceil((place + more - calls.memory.buffer.byteLength) / PAGE);
+    if (lack > 0) {
+      try {
+        calls.memory.grow(BigInt(lack));
+      } catch {
+        calls.memory.grow(lack); // engines of before 2025, and a memory of 32 bits
+      }
+    }
+    const memory = new Uint8Array(calls.memory.buffer);
+    parts.forEach((part, k) => memory.set(part, places[k]));
+    return [...places, place];
+  }
+
+  const slice = (place, bytes) => [BigInt(place), BigInt(bytes.length)];
+  const is = (result) => (Number(result) & 1) === 1;
+
+  function itemHere(place) {
+    const view = new DataView(calls.memory.buffer, place, ITEM);
+    const [from, content, end] = [8, 16, 24].map((at) => Number(view.getBigUint64(at, true)));
+    return { kind: view.getUint32(32, true), number: view.getBigUint64(0, true), from, content, end };
+  }
+
+  return {
+    /** The length in bytes of the data item at the beginning; 0 if no well-formed item of at most 256 levels is there. */
+    itemLen(bytes) {
+      const [place] = put([bytes], 0);
+      return Number(calls.puffgrit_item_len(...slice(place, bytes)));
+    },
+
+    /** Whether the bytes are exactly one data item in CTAP2's canonical form (CTAP 2.1, section 8). */
+    isCanonical(bytes) {
+      const [place] = put([bytes], 0);
+      return is(calls.puffgrit_is_canonical(...slice(place, bytes)));
+    },
+
+    /** The data item at an offset. */
+    itemAt(bytes, offset) {
+      const [place, out] = put([bytes], ITEM);
+      return is(calls.puffgrit_item_at(...slice(place, bytes), BigInt(offset), BigInt(out))) ? itemHere(out) : null;
+    },
+
+    /** The value of the first member with this key, an integer or a text, in the map at an offset. */
+    member(bytes, map, key) {
+      if (typeof key === "string") {
+        const name = new TextEncoder().encode(key);
+        const [place, named, out] = put([bytes, name], ITEM);
+        const found = calls.puffgrit_named(...slice(place, bytes), BigInt(map), ...slice(named, name), BigInt(out));
+        return is(found) ? itemHere(out) : null;
+      }
+      const [place, out] = put([bytes], ITEM);
+      return is(calls.puffgrit_member(...slice(place, bytes), BigInt(map), BigInt(key), BigInt(out))) ? itemHere(out) : null;
+    },
+
+    /** The parts of authenticator data by their offsets, 0 for one that is absent (WebAuthn Level 3, section 6.1). */
+    authParts(bytes) {
+      const [place, out] = put([bytes], PARTS);
+      if (!is(calls.puffgrit_auth_parts(...slice(place, bytes), BigInt(out)))) return null;
+      const view = new DataView(calls.memory.buffer, out, PARTS);
+      const [aaguid, credentialId, credentialIdLen, publicKey, extensions, end] = [0, 8, 16, 24, 32, 40].map((at) =>
+        Number(view.getBigUint64(at, true)),
+      );
+      return { flags: view.getUint32(52, true), counter: view.getUint32(48, true), aaguid, credentialId, credentialIdLen, publicKey, extensions, end };
+    },
+  };
+}

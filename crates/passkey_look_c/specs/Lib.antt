@@ -1,0 +1,2 @@
+pub mod AuthData
+pub mod Items
