@@ -12,6 +12,10 @@ use crate::write::{push_byte, push_head, push_integer, push_string, push_value};
 use passkey_memory::OutOfMemory;
 use std::alloc::Global;
 
+/// The room for a map at the beginning, if there is none yet: most messages need about as much, and to grow from a few
+/// bytes takes longer than to encode them.
+const FIRST: usize = 512;
+
 /// Bytes to which data items are appended, encoded with shortest heads and definite lengths
 /// (RFC 8949, section 4.1). No data item has to be built for an array or a map: their elements and
 /// members are appended after the head. If a call returns `OutOfMemory`, an allocation failed, and
@@ -29,6 +33,13 @@ impl Encoder {
         Encoder {
             bytes: Vec::new(alloc),
         }
+    }
+
+    /// Returns an encoder that appends to these bytes. Allocates nothing.
+    pub fn from_vec(bytes: Vec<u8>) -> Encoder
+        ensures { encoding result ≡ bytes.items }
+    {
+        Encoder { bytes }
     }
 
     /// Returns the bytes that were appended.
@@ -99,6 +110,9 @@ impl Encoder {
         ensures written { OnOk result (encoding self.new ≡ encoding self.old ++ shortest_head 5 len) }
         ensures writable { len < 2 ^ 64 }
     {
+        if self.bytes.capacity() == 0 && self.bytes.reserve(FIRST).is_err() {
+            return Err(OutOfMemory);
+        }
         Ok(push_head(&mut self.bytes, 5, len as u64)?)
     }
 }

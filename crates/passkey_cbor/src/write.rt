@@ -1,5 +1,5 @@
 //! Encoding.
-ghost use Rattle.std.specs.Prelude.{◌≡◌, ◌<◌, ◌^◌, [], ◌∷◌, ◌++◌, length, OnOk, IfOk};
+ghost use Rattle.std.specs.Prelude.{◌≡◌, ◌<◌, ◌≤◌, ◌^◌, [], ◌∷◌, ◌++◌, length, OnOk, IfOk};
 ghost use Rattle.passkey_cbor.specs.FloatParts.{IsFloat};
 ghost use Rattle.passkey_cbor.specs.Ranges.{IsSimple};
 ghost use Rattle.passkey_cbor.specs.Item.{number, array, map, tagged};
@@ -33,14 +33,28 @@ fn push_bytes(out: &mut Vec<u8>, initial: u8, behind: &[u8]) -> Result<(), Alloc
 
 /// Appends the shortest encoding of a head.
 #[tactic(auto, unfolding(crate::specs::Written::shortest_head))]
+#[inline(always)]
 pub(crate) fn push_head(out: &mut Vec<u8>, major: u8, argument: u64) -> Result<(), AllocError>
     requires { major < 8 }
     ensures { OnOk result (out.new.items ≡ out.old.items ++ shortest_head major argument) }
 {
-    let initial = 32 * major;
     if argument < 24 {
-        push_byte(out, initial + argument as u8)
-    } else if argument < 0x100 {
+        push_byte(out, 32 * major + argument as u8)
+    } else {
+        push_long_head(out, major, argument)
+    }
+}
+
+// The same for an argument behind the initial byte. Not inlined, since most heads have one byte.
+#[tactic(auto, unfolding(crate::specs::Written::shortest_head))]
+#[inline(never)]
+fn push_long_head(out: &mut Vec<u8>, major: u8, argument: u64) -> Result<(), AllocError>
+    requires major { major < 8 }
+    requires long { 24 ≤ argument }
+    ensures { OnOk result (out.new.items ≡ out.old.items ++ shortest_head major argument) }
+{
+    let initial = 32 * major;
+    if argument < 0x100 {
         push_bytes(out, initial + 24, &(argument as u8).to_be_bytes())
     } else if argument < 0x1_0000 {
         push_bytes(out, initial + 25, &(argument as u16).to_be_bytes())

@@ -11,5 +11,6 @@ pub mod KeyMembers
 pub mod KeyGood
 pub mod KeyBack
 pub mod KeyReadable
+pub mod KeyAppended
 pub mod SeenNames
 pub mod Searching

@@ -11,6 +11,7 @@ pub mod KeyWith
 pub mod KeyFaults
 pub mod KeyNames
 pub mod KeyReading
+pub mod KeyWritten
 pub mod KeyPublic
 pub mod KeyChecks
 pub mod KeySame

@@ -1,5 +1,6 @@
 //! Encoding keys.
-ghost use Rattle.std.specs.Prelude.{◌≡◌, ◌++◌, map, option_map, string_bytes, IfOk, OnOk};
+ghost use Rattle.std.specs.Prelude.{◌≡◌, ◌+◌, ◌++◌, length, map, option_map, string_bytes, IfOk, OnOk};
+ghost use Rattle.passkey_cbor.specs.Encoder.{encoding};
 ghost use Rattle.passkey_cbor.specs.Item.{byte_string, text_string};
 ghost use Rattle.passkey_cbor.specs.View.{item_of, pair_of};
 ghost use Rattle.passkey_cbor.specs.Writable.{IsWritable};
@@ -9,6 +10,7 @@ ghost use Rattle.passkey_cose.specs.Key.{key_parts};
 ghost use Rattle.passkey_cose.specs.KeyNormal.{IsKey};
 ghost use Rattle.passkey_cose.specs.KeyParams.{params_of};
 ghost use Rattle.passkey_cose.specs.KeyParts.{member, key_members, op_item, ops_item, key_item};
+ghost use Rattle.passkey_cose.specs.KeyWritten.{Appended};
 ghost use Rattle.passkey_cose.specs.Label.{label_item};
 ghost use Rattle.passkey_cose.specs.Registered.{named_of, named_item};
 
@@ -16,9 +18,12 @@ use crate::iana::{Algorithm, EnumI64, KeyOperation};
 use crate::key::CoseKey;
 use crate::label::Label;
 use crate::registered::Registered;
-use passkey_cbor::Value;
+use passkey_cbor::{Encoder, Value};
 use passkey_memory::OutOfMemory;
 use std::alloc::Global;
+
+/// An EC2 key's encoding takes 77 bytes, an octet key pair's 42.
+const USUAL: usize = 96;
 
 fn text_value(alloc: Global, text: &String) -> Result<Value, OutOfMemory>
     ensures { IfOk result (λ v. item_of v ≡ text_string (string_bytes text.now)) }
@@ -114,8 +119,10 @@ fn push_params(
     Ok(())
 }
 
-fn member_values(alloc: Global, key: &CoseKey) -> Result<Vec<(Value, Value)>, OutOfMemory>
-    ensures { IfOk result (λ v. map pair_of v.items ≡ key_members (key_parts key.now)) }
+/// The members under the common labels, 1 to 5.
+fn common_values(alloc: Global, key: &CoseKey) -> Result<Vec<(Value, Value)>, OutOfMemory>
+    ensures { IfOk result
+        (λ v. map pair_of v.items ++ (key_parts key.now).params ≡ key_members (key_parts key.now)) }
 {
     let mut pairs = Vec::new(alloc);
     push_member(&mut pairs, 1, Some(name_value(alloc, &key.kty)?))?;
@@ -123,8 +130,54 @@ fn member_values(alloc: Global, key: &CoseKey) -> Result<Vec<(Value, Value)>, Ou
     push_member(&mut pairs, 3, alg_value(alloc, &key.alg)?)?;
     push_member(&mut pairs, 4, ops_value(alloc, key.key_ops())?)?;
     push_member(&mut pairs, 5, string_value(alloc, &key.base_iv)?)?;
+    Ok(pairs)
+}
+
+fn member_values(alloc: Global, key: &CoseKey) -> Result<Vec<(Value, Value)>, OutOfMemory>
+    ensures { IfOk result (λ v. map pair_of v.items ≡ key_members (key_parts key.now)) }
+{
+    let mut pairs = common_values(alloc, key)?;
     push_params(alloc, &mut pairs, key.params())?;
     Ok(pairs)
+}
+
+fn members_len(common: &[(Value, Value)], params: &[(Label, Value)]) -> Result<usize, OutOfMemory>
+    ensures { IfOk result (λ n. n ≡ length common.now + length params.now) }
+{
+    match common.len().checked_add(params.len()) {
+        Some(len) => Ok(len),
+        None => Err(OutOfMemory),
+    }
+}
+
+fn append_pairs(encoder: &mut Encoder, pairs: &[(Value, Value)]) -> Result<(), OutOfMemory>
+    ensures { OnOk result (Appended (map pair_of pairs.now) (encoding encoder.old) (encoding encoder.new)) }
+{
+    for (label, value) in pairs {
+        encoder.item(label)?;
+        encoder.item(value)?;
+    }
+    Ok(())
+}
+
+fn append_label(encoder: &mut Encoder, label: &Label) -> Result<(), OutOfMemory>
+    ensures written { OnOk result (encoding encoder.new ≡ encoding encoder.old ++ written (label_item label.now)) }
+    ensures writable { OnOk result (IsWritable (label_item label.now)) }
+{
+    match label {
+        Label::Int(n) => encoder.item(&Value::from(*n)),
+        Label::Text(text) => encoder.text_string(text.as_str()),
+    }
+}
+
+fn append_params(encoder: &mut Encoder, params: &[(Label, Value)]) -> Result<(), OutOfMemory>
+    ensures { OnOk result (Appended (params_of params.now) (encoding encoder.old) (encoding encoder.new)) }
+{
+    for (label, value) in params {
+        append_label(encoder, label)?;
+        encoder.item(value)?;
+    }
+    Ok(())
 }
 
 impl CoseKey {
@@ -137,6 +190,23 @@ impl CoseKey {
         Ok(Value::Map(member_values(alloc, self)?))
     }
 
+    /// Appends the encoding of the key's map, of which decoding rejects no member. `OutOfMemory` if
+    /// an allocation fails; then the encoder's bytes may end within it.
+    pub fn append(&self, alloc: Global, encoder: &mut Encoder) -> Result<(), OutOfMemory>
+        ensures written { OnOk result
+            (encoding encoder.new ≡ encoding encoder.old ++ written (key_item (key_parts self.now))) }
+        ensures writable { OnOk result (IsWritable (key_item (key_parts self.now))) }
+        ensures valid { IsKey (key_parts self.now) }
+    {
+        let values = common_values(alloc, self)?;
+        let common = values.as_slice();
+        let params = self.params();
+        encoder.map_head(members_len(common, params)?)?;
+        append_pairs(encoder, common)?;
+        append_params(encoder, params)?;
+        Ok(())
+    }
+
     /// Encodes the key's map, of which decoding rejects no member. `OutOfMemory` if an allocation
     /// fails.
     pub fn to_vec(&self, alloc: Global) -> Result<Vec<u8>, OutOfMemory>
@@ -144,6 +214,8 @@ impl CoseKey {
         ensures writable { OnOk result (IsWritable (key_item (key_parts self.now))) }
         ensures valid { IsKey (key_parts self.now) }
     {
-        self.to_value(alloc)?.to_vec(alloc)
+        let mut encoder = Encoder::from_vec(Vec::with_capacity(alloc, USUAL)?);
+        self.append(alloc, &mut encoder)?;
+        Ok(encoder.into_vec())
     }
 }
