@@ -1,11 +1,12 @@
 //! The bytes of attested credential data.
-ghost use Rattle.std.specs.Prelude.{◌≡◌, IfOk, IfErr, OnOk};
+ghost use Rattle.std.specs.Prelude.{◌≡◌, ◌++◌, IfOk, IfErr, OnOk};
 ghost use Rattle.passkey_core.specs.DataNormal.{IsAttested};
 ghost use Rattle.passkey_core.specs.DataViews.{attested_parts};
 ghost use Rattle.passkey_core.specs.DataWritten.{attested_written};
 
 use crate::attested::AttestedCredentialData;
 use crate::given_back::GivenBack;
+use passkey_cbor::Encoder;
 use passkey_memory::OutOfMemory;
 use std::alloc::Global;
 use std::iter::FusedIterator;
@@ -46,18 +47,22 @@ impl Iterator for AttestedCredentialDataIterator {
 impl FusedIterator for AttestedCredentialDataIterator {}
 
 impl AttestedCredentialData {
-    /// Encodes the data. `OutOfMemory` if an allocation fails.
-    pub(crate) fn to_vec(&self, alloc: Global) -> Result<Vec<u8>, OutOfMemory>
-        ensures written { IfOk result (λ bytes. bytes.items ≡ attested_written (attested_parts self.now)) }
+    /// Appends the encoded data to these bytes, and returns them. `OutOfMemory` if an allocation fails.
+    pub(crate) fn append_to(
+        &self,
+        alloc: Global,
+        mut bytes: Vec<u8>,
+    ) -> Result<Vec<u8>, OutOfMemory>
+        ensures written { IfOk result (λ all. all.items ≡ bytes.items ++ attested_written (attested_parts self.now)) }
         ensures valid { OnOk result (IsAttested (attested_parts self.now)) }
     {
-        let key = self.key.to_vec(alloc)?;
         let len = self.credential_id.len() as u16;
-        let mut bytes = Vec::from_slice(alloc, &self.aaguid.0)?;
+        bytes.extend_from_slice(&self.aaguid.0)?;
         bytes.extend_from_slice(&len.to_be_bytes())?;
         bytes.extend_from_slice(&self.credential_id)?;
-        bytes.extend_from_slice(&key)?;
-        Ok(bytes)
+        let mut encoder = Encoder::from_vec(bytes);
+        self.key.append(alloc, &mut encoder)?;
+        Ok(encoder.into_vec())
     }
 
     /// Iterates over the encoded data, without further allocations. If an allocation fails, the
@@ -69,7 +74,7 @@ impl AttestedCredentialData {
         ensures gives { IfOk result (λ left. left ≡ attested_written (attested_parts self)) }
         ensures back { IfErr result (λ e. e.value ≡ self) }
     {
-        match self.to_vec(alloc) {
+        match self.append_to(alloc, Vec::new(alloc)) {
             Ok(bytes) => Ok(AttestedCredentialDataIterator(bytes.into_iter())),
             Err(OutOfMemory) => Err(GivenBack { value: self }),
         }

@@ -10,41 +10,50 @@ ghost use Rattle.passkey_core.specs.DataWritten.{attested_written, flags_written
 use crate::attested::AttestedCredentialData;
 use crate::authenticator_data::AuthenticatorData;
 use crate::flags::Flags;
-use passkey_cbor::Value;
+use passkey_cbor::{Encoder, Value};
 use passkey_memory::OutOfMemory;
 use std::alloc::Global;
 
-fn push_attested(
+fn with_attested(
     alloc: Global,
-    out: &mut Vec<u8>,
+    bytes: Vec<u8>,
     attested: &Option<AttestedCredentialData>,
-) -> Result<(), OutOfMemory>
-    ensures written { OnOk result (out.new.items
-        ≡ out.old.items ++ unwrap_or (option_map attested_written (option_map attested_parts attested.now)) []) }
+) -> Result<Vec<u8>, OutOfMemory>
+    ensures written { IfOk result (λ all. all.items
+        ≡ bytes.items ++ unwrap_or (option_map attested_written (option_map attested_parts attested.now)) []) }
     ensures valid { OnOk result (IfPresent IsAttested (option_map attested_parts attested.now)) }
 {
-    if let Some(attested) = attested {
-        out.extend_from_slice(&attested.to_vec(alloc)?)?;
+    match attested {
+        Some(attested) => attested.append_to(alloc, bytes),
+        None => Ok(bytes),
     }
-    Ok(())
 }
 
-fn push_extensions(
-    alloc: Global,
-    out: &mut Vec<u8>,
-    extensions: &Option<Value>,
-) -> Result<(), OutOfMemory>
-    ensures written { OnOk result
-        (out.new.items ≡ out.old.items ++ unwrap_or (option_map written (option_map item_of extensions.now)) []) }
+fn with_extensions(bytes: Vec<u8>, extensions: &Option<Value>) -> Result<Vec<u8>, OutOfMemory>
+    ensures written { IfOk result
+        (λ all. all.items ≡ bytes.items ++ unwrap_or (option_map written (option_map item_of extensions.now)) []) }
     ensures writable { OnOk result (IfPresent IsWritable (option_map item_of extensions.now)) }
 {
-    if let Some(extensions) = extensions {
-        out.extend_from_slice(&extensions.to_vec(alloc)?)?;
+    match extensions {
+        Some(extensions) => {
+            let mut encoder = Encoder::from_vec(bytes);
+            encoder.item(extensions)?;
+            Ok(encoder.into_vec())
+        }
+        None => Ok(bytes),
     }
-    Ok(())
 }
 
 impl AuthenticatorData {
+    /// The room that the encoding is given at once: 37 bytes are fixed, and a new credential with an id of 64 bytes and an
+    /// EC2 key takes 159 more.
+    fn usual_len(&self) -> usize {
+        match self.attested_credential_data {
+            Some(_) => 224,
+            None => 37,
+        }
+    }
+
     /// The flags as they are encoded: with AT set if attested credential data is present.
     fn written_flags(&self) -> Flags
         ensures { result.0 ≡ flags_written (data_parts self.now).flags (data_parts self.now).attested }
@@ -65,11 +74,11 @@ impl AuthenticatorData {
         ensures written { IfOk result (λ bytes. bytes.items ≡ data_written (data_parts self.now)) }
         ensures valid { OnOk result (IsData (data_parts self.now)) }
     {
-        let mut out = Vec::from_slice(alloc, &self.rp_id_hash)?;
+        let mut out = Vec::with_capacity(alloc, self.usual_len())?;
+        out.extend_from_slice(&self.rp_id_hash)?;
         out.push(u8::from(self.written_flags()))?;
         out.extend_from_slice(&self.counter.unwrap_or(0).to_be_bytes())?;
-        push_attested(alloc, &mut out, &self.attested_credential_data)?;
-        push_extensions(alloc, &mut out, &self.extensions)?;
-        Ok(out)
+        let out = with_attested(alloc, out, &self.attested_credential_data)?;
+        with_extensions(out, &self.extensions)
     }
 }
