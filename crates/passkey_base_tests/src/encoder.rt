@@ -36,3 +36,14 @@ fn items_are_appended(rt: HostRuntime) {
     ];
     assert_same_bytes(&rt, encoder.into_vec().as_slice(), &wanted);
 }
+
+// RFC 8949, appendix A.
+#[test]
+fn items_are_appended_behind_bytes(rt: HostRuntime) {
+    let mut bytes = Vec::new(rt.alloc());
+    bytes.push(0x07).expect(&rt, "memory");
+    let mut encoder = Encoder::from_vec(bytes);
+    append_map(&rt, &mut encoder);
+    let wanted = [0x07, 0xa2, 0x61, 0x61, 0x01, 0x61, 0x62, 0x82, 0x02, 0x03];
+    assert_same_bytes(&rt, encoder.into_vec().as_slice(), &wanted);
+}
