@@ -1,3 +1,4 @@
 pub mod Quoted
 pub mod FloatText
 pub mod Diagnosis
+pub mod BytesText

@@ -13,7 +13,7 @@ use std::alloc::{AllocError, Global};
 
 /// Returns what begins a line inside an array or a map: the margin of the line around it and two
 /// spaces, or nothing if the text is one line.
-fn deeper(alloc: Global, margin: &str) -> Result<String, AllocError>
+pub(crate) fn deeper(alloc: Global, margin: &str) -> Result<String, AllocError>
     ensures { IfOk result (λ inner. string_bytes inner ≡ deeper margin.now) }
 {
     let mut inner = String::from_str(alloc, margin)?;
@@ -24,7 +24,11 @@ fn deeper(alloc: Global, margin: &str) -> Result<String, AllocError>
 }
 
 /// Appends what stands before an element or a member whose line begins with this margin.
-fn push_separator(out: &mut String, is_first: bool, margin: &str) -> Result<(), AllocError>
+pub(crate) fn push_separator(
+    out: &mut String,
+    is_first: bool,
+    margin: &str,
+) -> Result<(), AllocError>
     ensures { OnOk result (string_bytes out.new ≡ string_bytes out.old ++ separator is_first margin.now) }
 {
     if is_first {
@@ -36,7 +40,12 @@ fn push_separator(out: &mut String, is_first: bool, margin: &str) -> Result<(), 
 }
 
 /// Ends an array or a map, which is a line of its own behind elements or members.
-fn close(out: &mut String, is_empty: bool, margin: &str, bracket: char) -> Result<(), AllocError>
+pub(crate) fn close(
+    out: &mut String,
+    is_empty: bool,
+    margin: &str,
+    bracket: char,
+) -> Result<(), AllocError>
     ensures { OnOk result (string_bytes out.new
         ≡ string_bytes out.old ++ (closing is_empty margin.now ++ encode_utf8 bracket)) }
 {
@@ -109,13 +118,13 @@ fn push_tag(
     out.push(')')
 }
 
-fn push_number(out: &mut String, n: i128) -> Result<(), AllocError>
+pub(crate) fn push_number(out: &mut String, n: i128) -> Result<(), AllocError>
     ensures { OnOk result (string_bytes out.new ≡ string_bytes out.old ++ signed_decimal n) }
 {
     write!(out, "{n}")
 }
 
-fn push_simple(out: &mut String, n: u8) -> Result<(), AllocError>
+pub(crate) fn push_simple(out: &mut String, n: u8) -> Result<(), AllocError>
     ensures { OnOk result (string_bytes out.new ≡ string_bytes out.old ++ (codes "simple(" ++ decimal n ++ 41 ∷ [])) }
 {
     out.push_str("simple(")?;

@@ -1,11 +1,13 @@
 //! Diagnostic notation (RFC 8949, section 8): data items as text that people read.
 #![tactic(auto)]
 
+mod bytes_text;
 mod diagnosis;
 mod float;
 #[cfg(test)]
 mod tests;
 mod text;
 
+pub use bytes_text::{diagnose_bytes, diagnose_bytes_indented};
 pub use diagnosis::{diagnose, diagnose_indented};
 pub use text::{escape_controls, quote};
