@@ -5,9 +5,11 @@ mod inside;
 mod item;
 mod json;
 mod leaf;
+mod page;
 mod report;
 
 pub use inside::{open_authenticator_data, open_key, opened};
 pub use item::describe_value;
 pub use json::json_of;
+pub use page::{page_of, refusal_page};
 pub use report::report_of;
