@@ -1,5 +1,6 @@
 -- What is told of bytes, part by part.
-use Rattle.std.proofs.Common.{◌≡◌, ℕ, zero, suc, ◌-◌, ◌<◌, ◌≤◌, List, ◌++◌, ◌∷◌, [], Bool, true, false, Option, Some, None, refl, sym, ap, ◌∙◌, arith, take, drop, length, length-drop, subst, append_assoc}
+use Rattle.std.proofs.Common.{◌≡◌, ℕ, zero, suc, ◌-◌, ◌<◌, ◌≤◌, List, ◌++◌, ◌∷◌, [], Bool, true, false, Option, Some, None}
+use Rattle.std.proofs.Common.{refl, sym, ap, ◌∙◌, arith, take, drop, length, length-drop, subst, append_assoc}
 use Rattle.std.proofs.lemmas.List.{take_all}
 use Rattle.std.proofs.lemmas.Bool.{lt-ltb, le-ltb}
 use Rattle.std.specs.Prelude.{Result, negsuc, not, decimal}
@@ -18,7 +19,9 @@ use Rattle.passkey_cbor.specs.Found.{PassesHead, FindsNoHead}
 use Rattle.passkey_cbor.specs.HeadEncoding.{IsEncodingOfHead}
 use Rattle.passkey_cbor.specs.HeadReading.{◌>>=◌, Read, head_at}
 use Rattle.passkey_cbor.specs.declared.head.Head.{Head}
-use Rattle.passkey_diagnose.specs.BytesText.{Tell, Tells, all_parts, behind_last, closing_of, fewer, gap, info_of, inner_of, item_text, length_mark, list_told, mark, member_text, opening_of, parts_text, piece_text, simple_told, string_text, string_told, tag_told, told}
+use Rattle.passkey_diagnose.specs.BytesText.{Tell, Tells, all_parts, behind_last, closing_of, fewer, gap, info_of, inner_of}
+use Rattle.passkey_diagnose.specs.BytesText.{item_text, length_mark, list_behind, mark, member_text, opening_of, parts_text}
+use Rattle.passkey_diagnose.specs.BytesText.{piece_text, simple_text, string_text, string_behind, tag_behind, item_behind}
 use Rattle.passkey_cbor.specs.FloatParts.{FloatParts}
 use Rattle.passkey_cbor.specs.declared.head.Head.TheVariants as head
 use Rattle.passkey_diagnose.specs.Diagnosis.{closing, deeper, separator}
@@ -65,20 +68,20 @@ parts_broken tell margin (suc others) left is_first bytes out before some e is b
     let b = rw is at broken in rw (e, b) refl
 
 pub parts_step : (tell : Tell) (margin : List ℕ) (others : ℕ) (left : Option ℕ) (is_first : Bool)
-    (bytes out before told next : List ℕ) → 0 < others → goes_on left bytes ≡ true
-    → before ≡ out ++ separator is_first margin → tell bytes before ≡ Some (told, next)
+    (bytes out before text next : List ℕ) → 0 < others → goes_on left bytes ≡ true
+    → before ≡ out ++ separator is_first margin → tell bytes before ≡ Some (text, next)
     → parts_text tell margin others left is_first bytes out
-    ≡ parts_text tell margin (others - 1) (fewer left) false next told
+    ≡ parts_text tell margin (others - 1) (fewer left) false next text
 unfolding parts_text
-parts_step tell margin zero left is_first bytes out before told next some e is one = absurd (omega arith)
-parts_step tell margin (suc others) left is_first bytes out before told next some e is one =
+parts_step tell margin zero left is_first bytes out before text next some e is one = absurd (omega arith)
+parts_step tell margin (suc others) left is_first bytes out before text next some e is one =
     let b = rw is at one in simp unary_clauses (rw (e, b) refl)
 
 -- the bytes from an offset on, as a slice has them
 pub all_behind : (k : ℕ) (bytes : List ℕ) → take (length bytes - k) (drop k bytes) ≡ drop k bytes
 all_behind k bytes = take_all (length bytes - k) (drop k bytes) (omega (arith, length-drop k bytes))
 
--- what is told is the same
+-- what is wanted is the same
 pub tells_as : {E : Type 0} (w v : Read (List ℕ)) (new : List ℕ) (r : Result (Option (Bor (List ℕ))) E) → v ≡ w
     → Tells w new r → Tells v new r
 tells_as {E} w v new r e h = subst (λ (x : Read (List ℕ)). Tells x new r) (sym e) h
@@ -100,11 +103,11 @@ unfolding piece_at
 piece_bad indicator n bytes out long bad =
     rw (le-ltb (length bytes) n long, not_utf8 (take n bytes) (is_utf8 (take n bytes)) refl bad) refl
 
-pub piece_whole : (is_text : Bool) (indicator : List ℕ) (n : ℕ) (bytes out told : List ℕ) → n ≤ length bytes
-    → is_allowed is_text (take n bytes) ≡ true → told ≡ out ++ (string_text is_text (take n bytes) ++ indicator)
-    → piece_text is_text indicator n bytes out ≡ Some (told, drop n bytes)
+pub piece_whole : (is_text : Bool) (indicator : List ℕ) (n : ℕ) (bytes out text : List ℕ) → n ≤ length bytes
+    → is_allowed is_text (take n bytes) ≡ true → text ≡ out ++ (string_text is_text (take n bytes) ++ indicator)
+    → piece_text is_text indicator n bytes out ≡ Some (text, drop n bytes)
 unfolding piece_at
-piece_whole is_text indicator n bytes out told long allowed is =
+piece_whole is_text indicator n bytes out text long allowed is =
     rw (le-ltb (length bytes) n long, allowed) (ap (λ (s : List ℕ). Some (s, drop n bytes)) (sym is))
 
 -- ---- arrays and maps
@@ -113,100 +116,100 @@ pub list_none : (tell : List ℕ → Tell) (is_map : Bool) (margin inner indicat
     (bytes out opened : List ℕ) → inner ≡ deeper margin
     → opened ≡ out ++ opening_of is_map ∷ (indicator ++ gap indicator margin)
     → all_parts (member_text (tell inner) is_map) inner len bytes opened ≡ None
-    → list_told tell is_map margin indicator len bytes out ≡ None
-unfolding list_told
+    → list_behind tell is_map margin indicator len bytes out ≡ None
+unfolding list_behind
 list_none tell is_map margin inner indicator len bytes out opened is begun none =
     let n = rw (is, begun) at none in rw n refl
 
 pub list_some : (tell : List ℕ → Tell) (is_map : Bool) (margin inner indicator : List ℕ) (len : Option ℕ)
-    (bytes out opened told ended rest : List ℕ) → inner ≡ deeper margin
+    (bytes out opened text ended rest : List ℕ) → inner ≡ deeper margin
     → opened ≡ out ++ opening_of is_map ∷ (indicator ++ gap indicator margin)
-    → all_parts (member_text (tell inner) is_map) inner len bytes opened ≡ Some (told, rest)
-    → ended ≡ told ++ (closing (not (goes_on len bytes)) margin ++ closing_of is_map ∷ [])
-    → list_told tell is_map margin indicator len bytes out ≡ Some (ended, rest)
-unfolding list_told
-list_some tell is_map margin inner indicator len bytes out opened told ended rest is begun some done =
+    → all_parts (member_text (tell inner) is_map) inner len bytes opened ≡ Some (text, rest)
+    → ended ≡ text ++ (closing (not (goes_on len bytes)) margin ++ closing_of is_map ∷ [])
+    → list_behind tell is_map margin indicator len bytes out ≡ Some (ended, rest)
+unfolding list_behind
+list_some tell is_map margin inner indicator len bytes out opened text ended rest is begun some done =
     let n = rw (is, begun) at some in rw n (ap (λ (s : List ℕ). Some (s, rest)) (sym done))
 
 -- ---- data items
 
-pub told_unsigned : (inner : Option (List ℕ → Tell)) (margin : List ℕ) (info n : ℕ) (h : Head)
+pub unsigned_behind : (inner : Option (List ℕ → Tell)) (margin : List ℕ) (info n : ℕ) (h : Head)
     (indicator bytes out new : List ℕ) → h ≡ head.Unsigned n → indicator ≡ mark info n
-    → new ≡ out ++ (decimal n ++ indicator) → told inner margin info h bytes out ≡ Some (new, bytes)
-unfolding told
-told_unsigned inner margin info n h indicator bytes out new is m w =
+    → new ≡ out ++ (decimal n ++ indicator) → item_behind inner margin info h bytes out ≡ Some (new, bytes)
+unfolding item_behind
+unsigned_behind inner margin info n h indicator bytes out new is m w =
     let v = rw m at w in rw is (ap (λ (s : List ℕ). Some (s, bytes)) (sym v))
 
-pub told_negative : (inner : Option (List ℕ → Tell)) (margin : List ℕ) (info n : ℕ) (h : Head)
+pub negative_behind : (inner : Option (List ℕ → Tell)) (margin : List ℕ) (info n : ℕ) (h : Head)
     (indicator bytes out new : List ℕ) → h ≡ head.Negative n → indicator ≡ mark info n
-    → new ≡ out ++ (signed_decimal (negsuc n) ++ indicator) → told inner margin info h bytes out ≡ Some (new, bytes)
-unfolding told
-told_negative inner margin info n h indicator bytes out new is m w =
+    → new ≡ out ++ (signed_decimal (negsuc n) ++ indicator) → item_behind inner margin info h bytes out ≡ Some (new, bytes)
+unfolding item_behind
+negative_behind inner margin info n h indicator bytes out new is m w =
     let v = rw m at w in rw is (ap (λ (s : List ℕ). Some (s, bytes)) (sym v))
 
-pub told_simple : (inner : Option (List ℕ → Tell)) (margin : List ℕ) (info n : ℕ) (h : Head) (bytes out new : List ℕ)
-    → h ≡ head.Simple n → new ≡ out ++ simple_told n → told inner margin info h bytes out ≡ Some (new, bytes)
-unfolding told
-told_simple inner margin info n h bytes out new is w = rw is (ap (λ (s : List ℕ). Some (s, bytes)) (sym w))
+pub simple_behind : (inner : Option (List ℕ → Tell)) (margin : List ℕ) (info n : ℕ) (h : Head) (bytes out new : List ℕ)
+    → h ≡ head.Simple n → new ≡ out ++ simple_text n → item_behind inner margin info h bytes out ≡ Some (new, bytes)
+unfolding item_behind
+simple_behind inner margin info n h bytes out new is w = rw is (ap (λ (s : List ℕ). Some (s, bytes)) (sym w))
 
-pub told_float : (inner : Option (List ℕ → Tell)) (margin : List ℕ) (info : ℕ) (f : FloatParts) (h : Head)
+pub float_behind : (inner : Option (List ℕ → Tell)) (margin : List ℕ) (info : ℕ) (f : FloatParts) (h : Head)
     (bytes out new : List ℕ) → h ≡ head.Float f → new ≡ out ++ float_text f
-    → told inner margin info h bytes out ≡ Some (new, bytes)
-unfolding told
-told_float inner margin info f h bytes out new is w = rw is (ap (λ (s : List ℕ). Some (s, bytes)) (sym w))
+    → item_behind inner margin info h bytes out ≡ Some (new, bytes)
+unfolding item_behind
+float_behind inner margin info f h bytes out new is w = rw is (ap (λ (s : List ℕ). Some (s, bytes)) (sym w))
 
-pub told_break : (inner : Option (List ℕ → Tell)) (margin : List ℕ) (info : ℕ) (h : Head) (bytes out : List ℕ)
-    → h ≡ head.Break → told inner margin info h bytes out ≡ None
-unfolding told
-told_break inner margin info h bytes out is = rw is refl
+pub break_behind : (inner : Option (List ℕ → Tell)) (margin : List ℕ) (info : ℕ) (h : Head) (bytes out : List ℕ)
+    → h ≡ head.Break → item_behind inner margin info h bytes out ≡ None
+unfolding item_behind
+break_behind inner margin info h bytes out is = rw is refl
 
-pub told_bytes : (inner : Option (List ℕ → Tell)) (margin : List ℕ) (info : ℕ) (len : Option ℕ) (h : Head)
+pub bytes_behind : (inner : Option (List ℕ → Tell)) (margin : List ℕ) (info : ℕ) (len : Option ℕ) (h : Head)
     (bytes out : List ℕ) → h ≡ head.Bytes len
-    → told inner margin info h bytes out ≡ string_told false info len bytes out
-unfolding told
-told_bytes inner margin info len h bytes out is = rw is refl
+    → item_behind inner margin info h bytes out ≡ string_behind false info len bytes out
+unfolding item_behind
+bytes_behind inner margin info len h bytes out is = rw is refl
 
-pub told_text : (inner : Option (List ℕ → Tell)) (margin : List ℕ) (info : ℕ) (len : Option ℕ) (h : Head)
+pub text_behind : (inner : Option (List ℕ → Tell)) (margin : List ℕ) (info : ℕ) (len : Option ℕ) (h : Head)
     (bytes out : List ℕ) → h ≡ head.Text len
-    → told inner margin info h bytes out ≡ string_told true info len bytes out
-unfolding told
-told_text inner margin info len h bytes out is = rw is refl
+    → item_behind inner margin info h bytes out ≡ string_behind true info len bytes out
+unfolding item_behind
+text_behind inner margin info len h bytes out is = rw is refl
 
 pub no_array : (levels : ℕ) (margin : List ℕ) (info : ℕ) (len : Option ℕ) (h : Head) (bytes out : List ℕ)
-    → levels ≡ 0 → h ≡ head.Array len → told (inner_of levels) margin info h bytes out ≡ None
-unfolding told
+    → levels ≡ 0 → h ≡ head.Array len → item_behind (inner_of levels) margin info h bytes out ≡ None
+unfolding item_behind
 no_array levels margin info len h bytes out over is = rw (over, is) refl
 
 pub no_map : (levels : ℕ) (margin : List ℕ) (info : ℕ) (len : Option ℕ) (h : Head) (bytes out : List ℕ)
-    → levels ≡ 0 → h ≡ head.Map len → told (inner_of levels) margin info h bytes out ≡ None
-unfolding told
+    → levels ≡ 0 → h ≡ head.Map len → item_behind (inner_of levels) margin info h bytes out ≡ None
+unfolding item_behind
 no_map levels margin info len h bytes out over is = rw (over, is) refl
 
 pub no_tag : (levels : ℕ) (margin : List ℕ) (info n : ℕ) (h : Head) (bytes out : List ℕ) → levels ≡ 0
-    → h ≡ head.Tag n → told (inner_of levels) margin info h bytes out ≡ None
-unfolding told
+    → h ≡ head.Tag n → item_behind (inner_of levels) margin info h bytes out ≡ None
+unfolding item_behind
 no_tag levels margin info n h bytes out over is = rw (over, is) refl
 
-pub told_array : (levels inner : ℕ) (margin : List ℕ) (info : ℕ) (len : Option ℕ) (h : Head)
+pub array_behind : (levels inner : ℕ) (margin : List ℕ) (info : ℕ) (len : Option ℕ) (h : Head)
     (indicator bytes out : List ℕ) → levels ≡ suc inner → h ≡ head.Array len → indicator ≡ length_mark info len
-    → told (inner_of levels) margin info h bytes out ≡ list_told (item_text inner) false margin indicator len bytes out
-unfolding told
-told_array levels inner margin info len h indicator bytes out one is m = rw (one, is, m) refl
+    → item_behind (inner_of levels) margin info h bytes out ≡ list_behind (item_text inner) false margin indicator len bytes out
+unfolding item_behind
+array_behind levels inner margin info len h indicator bytes out one is m = rw (one, is, m) refl
 
-pub told_map : (levels inner : ℕ) (margin : List ℕ) (info : ℕ) (len : Option ℕ) (h : Head)
+pub map_behind : (levels inner : ℕ) (margin : List ℕ) (info : ℕ) (len : Option ℕ) (h : Head)
     (indicator bytes out : List ℕ) → levels ≡ suc inner → h ≡ head.Map len → indicator ≡ length_mark info len
-    → told (inner_of levels) margin info h bytes out ≡ list_told (item_text inner) true margin indicator len bytes out
-unfolding told
-told_map levels inner margin info len h indicator bytes out one is m = rw (one, is, m) refl
+    → item_behind (inner_of levels) margin info h bytes out ≡ list_behind (item_text inner) true margin indicator len bytes out
+unfolding item_behind
+map_behind levels inner margin info len h indicator bytes out one is m = rw (one, is, m) refl
 
-pub told_tag : (levels inner : ℕ) (margin : List ℕ) (info n : ℕ) (h : Head) (indicator bytes out : List ℕ)
+pub tag_inside : (levels inner : ℕ) (margin : List ℕ) (info n : ℕ) (h : Head) (indicator bytes out : List ℕ)
     → levels ≡ suc inner → h ≡ head.Tag n → indicator ≡ mark info n
-    → told (inner_of levels) margin info h bytes out ≡ tag_told (item_text inner) margin indicator n bytes out
-unfolding told
-told_tag levels inner margin info n h indicator bytes out one is m = rw (one, is, m) refl
+    → item_behind (inner_of levels) margin info h bytes out ≡ tag_behind (item_text inner) margin indicator n bytes out
+unfolding item_behind
+tag_inside levels inner margin info n h indicator bytes out one is m = rw (one, is, m) refl
 
 item_headed : (levels : ℕ) (margin bytes out : List ℕ) → item_text levels margin bytes out
-    ≡ (head_at bytes >>= λ h. told (inner_of levels) margin (info_of bytes) h.0 h.1 out)
+    ≡ (head_at bytes >>= λ h. item_behind (inner_of levels) margin (info_of bytes) h.0 h.1 out)
 unfolding item_text
 item_headed zero margin bytes out = refl
 item_headed (suc levels) margin bytes out = refl
@@ -215,15 +218,15 @@ pub item_none : (levels : ℕ) (margin bytes out : List ℕ) → None ≡ head_a
     → item_text levels margin bytes out ≡ None
 item_none levels margin bytes out e =
     item_headed levels margin bytes out
-    ∙ bind_none (head_at bytes) (λ h. told (inner_of levels) margin (info_of bytes) h.0 h.1 out) (sym e)
+    ∙ bind_none (head_at bytes) (λ h. item_behind (inner_of levels) margin (info_of bytes) h.0 h.1 out) (sym e)
 
 pub item_some : (levels : ℕ) (margin : List ℕ) (info : ℕ) (h : Head) (bytes rest out : List ℕ)
     → Some (h, rest) ≡ head_at bytes → info ≡ info_of bytes
-    → item_text levels margin bytes out ≡ told (inner_of levels) margin info h rest out
+    → item_text levels margin bytes out ≡ item_behind (inner_of levels) margin info h rest out
 item_some levels margin info h bytes rest out e is =
     item_headed levels margin bytes out
-    ∙ bind_at (head_at bytes) (h, rest) (λ h. told (inner_of levels) margin (info_of bytes) h.0 h.1 out) (sym e)
-    ∙ ap (λ (i : ℕ). told (inner_of levels) margin i h rest out) (sym is)
+    ∙ bind_at (head_at bytes) (h, rest) (λ h. item_behind (inner_of levels) margin (info_of bytes) h.0 h.1 out) (sym e)
+    ∙ ap (λ (i : ℕ). item_behind (inner_of levels) margin i h rest out) (sym is)
 
 -- ---- tags
 
@@ -235,16 +238,16 @@ tag_begun n indicator out numbered opened number begun =
 
 pub tag_none : (tell : List ℕ → Tell) (margin indicator : List ℕ) (n : ℕ) (bytes out numbered opened : List ℕ)
     → numbered ≡ out ++ (decimal n ++ indicator) → opened ≡ numbered ++ 40 ∷ [] → tell margin bytes opened ≡ None
-    → tag_told tell margin indicator n bytes out ≡ None
-unfolding tag_told
+    → tag_behind tell margin indicator n bytes out ≡ None
+unfolding tag_behind
 tag_none tell margin indicator n bytes out numbered opened number begun none =
     let b = tag_begun n indicator out numbered opened number begun in let m = rw b at none in rw m refl
 
-pub tag_some : (tell : List ℕ → Tell) (margin indicator : List ℕ) (n : ℕ) (bytes out numbered opened told ended rest : List ℕ)
+pub tag_some : (tell : List ℕ → Tell) (margin indicator : List ℕ) (n : ℕ) (bytes out numbered opened text ended rest : List ℕ)
     → numbered ≡ out ++ (decimal n ++ indicator) → opened ≡ numbered ++ 40 ∷ []
-    → tell margin bytes opened ≡ Some (told, rest) → ended ≡ told ++ 41 ∷ []
-    → tag_told tell margin indicator n bytes out ≡ Some (ended, rest)
-unfolding tag_told
-tag_some tell margin indicator n bytes out numbered opened told ended rest number begun some done =
+    → tell margin bytes opened ≡ Some (text, rest) → ended ≡ text ++ 41 ∷ []
+    → tag_behind tell margin indicator n bytes out ≡ Some (ended, rest)
+unfolding tag_behind
+tag_some tell margin indicator n bytes out numbered opened text ended rest number begun some done =
     let b = tag_begun n indicator out numbered opened number begun in
     let m = rw b at some in rw m (ap (λ (s : List ℕ). Some (s, rest)) (sym done))

@@ -1,5 +1,6 @@
 -- What is still to be written.
-use Rattle.std.proofs.Common.{◌≡◌, ℕ, zero, suc, ◌+◌, ◌-◌, ◌*◌, ◌/◌, ◌%◌, ◌<◌, List, ◌++◌, ◌∷◌, ◌==◌, true, false, refl, arith, div-lt_iff_lt-mul}
+use Rattle.std.proofs.Common.{◌≡◌, ℕ, zero, suc, ◌+◌, ◌-◌, ◌*◌, ◌/◌, ◌%◌}
+use Rattle.std.proofs.Common.{◌<◌, List, ◌++◌, ◌∷◌, ◌==◌, true, false, refl, arith, div-lt_iff_lt-mul}
 use Rattle.std.proofs.Common.{sym, ap, ◌∙◌, append_assoc, length, drop, [], ◌≤◌}
 use Rattle.passkey_cbor.specs.View.{items_view, pairs_view}
 use Rattle.passkey_cbor.specs.declared.value.Value.{Value}

@@ -1,6 +1,7 @@
 -- The bytes of a data item in diagnostic notation, with encoding indicators (RFC 8949, sections 3 and 8.1): a string of
 -- indefinite length with its chunks, and what is encoded in more bytes than it needs.
-use Rattle.std.specs.Prelude.{◌≡◌, ℕ, zero, suc, ◌-◌, ◌%◌, ◌^◌, negsuc, List, [], ◌∷◌, ◌++◌, length, drop, Bool, true, false, not, ◌==◌, ◌&&◌, nat_lt, if◌then◌else◌, codes, decimal, Option, Some, None, Result, Ok, Err}
+use Rattle.std.specs.Prelude.{◌≡◌, ℕ, zero, suc, ◌-◌, ◌%◌, ◌^◌, negsuc, List, [], ◌∷◌, ◌++◌, length, drop, Bool, true, false}
+use Rattle.std.specs.Prelude.{not, ◌==◌, ◌&&◌, nat_lt, if◌then◌else◌, codes, decimal, Option, Some, None, Result, Ok, Err}
 use Rattle.std.specs.Borrow.{Bor}
 use Rattle.std.specs.Fmt.{signed_decimal}
 use Rattle.hex.specs.Hex.{encode_lower}
@@ -26,7 +27,7 @@ abbrev pub info_of : List ℕ → ℕ
 info_of [] = 0
 info_of (b ∷ bytes) = b % 32
 
--- of an argument in more bytes than it needs, by the additional information: 24 + n is told as _n
+-- of an argument in more bytes than it needs, by the additional information: 24 + n is item_behind as _n
 abbrev pub mark : ℕ → ℕ → List ℕ
 mark info n =
     if info == 24 && nat_lt n 24 then codes "_0"
@@ -93,9 +94,9 @@ chunks_text is_text bytes out =
     then (all_parts (chunk_text is_text) [] None bytes (out ++ codes "(_ ") >>= λ x. Some (x.0 ++ 41 ∷ [], x.1))
     else Some (out ++ empty_text is_text, drop 1 bytes)
 
-unfoldable pub string_told : Bool → ℕ → Option ℕ → Tell
-string_told is_text info (Some n) = piece_text is_text (mark info n) n
-string_told is_text info None = chunks_text is_text
+unfoldable pub string_behind : Bool → ℕ → Option ℕ → Tell
+string_behind is_text info (Some n) = piece_text is_text (mark info n) n
+string_behind is_text info None = chunks_text is_text
 
 -- ---- arrays and maps
 
@@ -111,21 +112,21 @@ abbrev pub closing_of : Bool → ℕ
 closing_of is_map = if is_map then 125 else 93
 
 -- `tell` tells a data item inside, by the margin
-unfoldable pub list_told : (List ℕ → Tell) → Bool → List ℕ → List ℕ → Option ℕ → Tell
-list_told tell is_map margin indicator len bytes out =
+unfoldable pub list_behind : (List ℕ → Tell) → Bool → List ℕ → List ℕ → Option ℕ → Tell
+list_behind tell is_map margin indicator len bytes out =
     all_parts (member_text (tell (deeper margin)) is_map) (deeper margin) len bytes
     (out ++ opening_of is_map ∷ (indicator ++ gap indicator margin)) >>= λ x.
     Some (x.0 ++ (closing (not (goes_on len bytes)) margin ++ closing_of is_map ∷ []), x.1)
 
 -- a tag number, whose content `tell` tells
-unfoldable pub tag_told : (List ℕ → Tell) → List ℕ → List ℕ → ℕ → Tell
-tag_told tell margin indicator n bytes out =
+unfoldable pub tag_behind : (List ℕ → Tell) → List ℕ → List ℕ → ℕ → Tell
+tag_behind tell margin indicator n bytes out =
     tell margin bytes (out ++ (decimal n ++ (indicator ++ 40 ∷ []))) >>= λ x. Some (x.0 ++ 41 ∷ [], x.1)
 
 -- ---- data items
 
-abbrev pub simple_told : ℕ → List ℕ
-simple_told n =
+abbrev pub simple_text : ℕ → List ℕ
+simple_text n =
     if n == 20 then codes "false"
     else if n == 21 then codes "true"
     else if n == 22 then codes "null"
@@ -134,26 +135,26 @@ simple_told n =
 
 -- A data item whose head, with this additional information, is in front of the bytes. `inner` tells those one level
 -- deeper, if another level is allowed.
-unfoldable pub told : Option (List ℕ → Tell) → List ℕ → ℕ → Head → Tell
-told inner margin info (head.Unsigned n) bytes out = Some (out ++ (decimal n ++ mark info n), bytes)
-told inner margin info (head.Negative n) bytes out = Some (out ++ (signed_decimal (negsuc n) ++ mark info n), bytes)
-told inner margin info (head.Bytes len) bytes out = string_told false info len bytes out
-told inner margin info (head.Text len) bytes out = string_told true info len bytes out
-told inner margin info (head.Array len) bytes out =
-    inner >>= λ tell. list_told tell false margin (length_mark info len) len bytes out
-told inner margin info (head.Map len) bytes out =
-    inner >>= λ tell. list_told tell true margin (length_mark info len) len bytes out
-told inner margin info (head.Tag n) bytes out =
-    inner >>= λ tell. tag_told tell margin (mark info n) n bytes out
-told inner margin info (head.Simple n) bytes out = Some (out ++ simple_told n, bytes)
-told inner margin info (head.Float f) bytes out = Some (out ++ float_text f, bytes)
-told inner margin info head.Break bytes out = None
+unfoldable pub item_behind : Option (List ℕ → Tell) → List ℕ → ℕ → Head → Tell
+item_behind inner margin info (head.Unsigned n) bytes out = Some (out ++ (decimal n ++ mark info n), bytes)
+item_behind inner margin info (head.Negative n) bytes out = Some (out ++ (signed_decimal (negsuc n) ++ mark info n), bytes)
+item_behind inner margin info (head.Bytes len) bytes out = string_behind false info len bytes out
+item_behind inner margin info (head.Text len) bytes out = string_behind true info len bytes out
+item_behind inner margin info (head.Array len) bytes out =
+    inner >>= λ tell. list_behind tell false margin (length_mark info len) len bytes out
+item_behind inner margin info (head.Map len) bytes out =
+    inner >>= λ tell. list_behind tell true margin (length_mark info len) len bytes out
+item_behind inner margin info (head.Tag n) bytes out =
+    inner >>= λ tell. tag_behind tell margin (mark info n) n bytes out
+item_behind inner margin info (head.Simple n) bytes out = Some (out ++ simple_text n, bytes)
+item_behind inner margin info (head.Float f) bytes out = Some (out ++ float_text f, bytes)
+item_behind inner margin info head.Break bytes out = None
 
 -- a data item of at most this many levels
 unfoldable pub item_text : ℕ → List ℕ → Tell
-item_text zero margin bytes out = head_at bytes >>= λ h. told None margin (info_of bytes) h.0 h.1 out
+item_text zero margin bytes out = head_at bytes >>= λ h. item_behind None margin (info_of bytes) h.0 h.1 out
 item_text (suc levels) margin bytes out =
-    head_at bytes >>= λ h. told (Some (item_text levels)) margin (info_of bytes) h.0 h.1 out
+    head_at bytes >>= λ h. item_behind (Some (item_text levels)) margin (info_of bytes) h.0 h.1 out
 
 abbrev pub inner_of : ℕ → Option (List ℕ → Tell)
 inner_of zero = None

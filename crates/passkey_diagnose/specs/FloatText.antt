@@ -1,39 +1,20 @@
 -- The text of a float (RFC 8949, sections 3.3 and 8; IEEE 754, section 3.4): its value exactly, and its encoding's width.
-use Rattle.std.specs.Prelude.{ℕ, zero, suc, ◌+◌, ◌-◌, ◌*◌, ◌/◌, ◌%◌, ◌^◌, List, [], ◌∷◌, ◌++◌, ◌==◌, ◌&&◌, not, false, nat_lt, nat_le, if◌then◌else◌, Option, Some, None, codes, decimal}
+use Rattle.std.specs.Prelude.{ℕ, zero, suc, ◌+◌, ◌-◌, ◌*◌, ◌/◌, ◌%◌, ◌^◌, List, [], ◌∷◌, ◌++◌, ◌==◌, ◌&&◌, not, false, nat_lt}
+use Rattle.std.specs.Prelude.{nat_le, if◌then◌else◌, Option, Some, None, codes, decimal}
 use Rattle.std.specs.Fmt.{digits}
 use Rattle.passkey_cbor.specs.FloatParts.{FloatParts}
 use Rattle.passkey_diagnose.specs.declared.float.Binary.{Binary}
 
--- the fields of the bits: the sign; the exponent, and its greatest value; the fraction, and the first number that doesn't fit
--- in it. A finite value is a whole number times 2 ^ (max 1 exponent - scale).
-abbrev pub half_of : ℕ → Binary
-half_of bits = record {
-  negative = bits / 2 ^ 15 == 1;
-  exponent = bits / 2 ^ 10 % 2 ^ 5;
-  greatest = 31;
-  fraction = bits % 2 ^ 10;
-  one = 2 ^ 10;
-  scale = 25;
-}
-
-abbrev pub single_of : ℕ → Binary
-single_of bits = record {
-  negative = bits / 2 ^ 31 == 1;
-  exponent = bits / 2 ^ 23 % 2 ^ 8;
-  greatest = 255;
-  fraction = bits % 2 ^ 23;
-  one = 2 ^ 23;
-  scale = 150;
-}
-
-abbrev pub double_of : ℕ → Binary
-double_of bits = record {
-  negative = bits / 2 ^ 63 == 1;
-  exponent = bits / 2 ^ 52 % 2 ^ 11;
-  greatest = 2047;
-  fraction = bits % 2 ^ 52;
-  one = 2 ^ 52;
-  scale = 1075;
+-- the fields of the bits: the sign, whose bit is given; the exponent, and its greatest value, which is below its range; the
+-- fraction, and the first number that doesn't fit in it. A finite value is a whole number times 2 ^ (max 1 exponent - scale).
+abbrev pub binary_by : ℕ → ℕ → ℕ → ℕ → ℕ → Binary
+binary_by bits sign one range scale = record {
+  negative = bits / sign == 1;
+  exponent = bits / one % range;
+  greatest = range - 1;
+  fraction = bits % one;
+  one = one;
+  scale = scale;
 }
 
 -- the digits behind the point, this many, of rest / whole, which is below 1
@@ -86,7 +67,10 @@ binary_text b =
     else sign_text b ++ scaled_text (b.one + b.fraction) b.exponent b.scale
 
 unfoldable pub binary_of : FloatParts → Binary
-binary_of f = if f.width == 2 then half_of f.bits else if f.width == 4 then single_of f.bits else double_of f.bits
+binary_of f =
+    if f.width == 2 then binary_by f.bits (2 ^ 15) (2 ^ 10) (2 ^ 5) 25
+    else if f.width == 4 then binary_by f.bits (2 ^ 31) (2 ^ 23) (2 ^ 8) 150
+    else binary_by f.bits (2 ^ 63) (2 ^ 52) (2 ^ 11) 1075
 
 -- the width: 2, 4 or 8 bytes
 unfoldable pub mark_of : ℕ → List ℕ

@@ -1,11 +1,15 @@
 //! Bytes of data items in diagnostic notation, with encoding indicators.
-ghost use Rattle.std.specs.Prelude.{◌≡◌, ◌++◌, ◌∷◌, [], ℕ, OnOk, IfOk, length, codes, decimal, not, string_bytes, option_map, negsuc, true, false, None as Unknown};
+ghost use Rattle.std.specs.Prelude.{◌≡◌, ◌++◌, ◌∷◌, [], ℕ, OnOk, IfOk, length, codes, decimal, not, string_bytes, option_map};
+ghost use Rattle.std.specs.Prelude.{negsuc, true, false, None as Unknown};
 ghost use Rattle.std.specs.Fmt.{signed_decimal};
 ghost use Rattle.passkey_cbor.specs.EncodedAt.{goes_on};
 ghost use Rattle.passkey_cbor.specs.HeadReading.{head_at};
 ghost use Rattle.passkey_cbor.specs.Reading.{chunk_len};
 ghost use Rattle.passkey_diagnose.specs.Diagnosis.{closing, deeper};
-ghost use Rattle.passkey_diagnose.specs.BytesText.{Tells, all_parts, behind_last, bytes_diagnosis, chunk_text, chunks_text, closing_of, empty_text, fewer, gap, info_of, inner_of, item_text, length_mark, list_told, mark, member_text, opening_of, parts_text, piece_text, simple_told, string_told, tag_told, told};
+ghost use Rattle.passkey_diagnose.specs.BytesText.{Tells, all_parts, behind_last, bytes_diagnosis, chunk_text, chunks_text};
+ghost use Rattle.passkey_diagnose.specs.BytesText.{closing_of, empty_text, fewer, gap, info_of, inner_of, item_text};
+ghost use Rattle.passkey_diagnose.specs.BytesText.{length_mark, list_behind, mark, member_text, opening_of, parts_text};
+ghost use Rattle.passkey_diagnose.specs.BytesText.{piece_text, simple_text, string_behind, tag_behind, item_behind};
 
 use crate::diagnosis::{close, deeper, push_number, push_separator, push_simple};
 use crate::float::push_float;
@@ -254,7 +258,7 @@ fn push_chunks<'a>(
     }
 }
 
-#[tactic(auto, unfolding(crate::specs::BytesText::string_told))]
+#[tactic(auto, unfolding(crate::specs::BytesText::string_behind))]
 fn push_string<'a>(
     out: &mut String,
     alloc: Global,
@@ -263,7 +267,7 @@ fn push_string<'a>(
     len: Option<u64>,
     bytes: &'a [u8],
 ) -> Result<Option<&'a [u8]>, AllocError>
-    ensures { Tells (string_told is_text info len bytes.now (string_bytes out.old)) (string_bytes out.new) result }
+    ensures { Tells (string_behind is_text info len bytes.now (string_bytes out.old)) (string_bytes out.new) result }
 {
     match len {
         Some(n) => push_piece(out, alloc, is_text, mark(info, n), n, bytes),
@@ -272,8 +276,8 @@ fn push_string<'a>(
 }
 
 /// Appends a simple value (RFC 8949, section 3.3).
-fn push_simple_told(out: &mut String, n: u8) -> Result<(), AllocError>
-    ensures { OnOk result (string_bytes out.new ≡ string_bytes out.old ++ simple_told n) }
+fn push_simple_value(out: &mut String, n: u8) -> Result<(), AllocError>
+    ensures { OnOk result (string_bytes out.new ≡ string_bytes out.old ++ simple_text n) }
 {
     match n {
         20 => out.push_str("false"),
@@ -310,7 +314,7 @@ fn end(out: &mut String, is_map: bool, is_empty: bool, margin: &str) -> Result<(
 }
 
 /// Appends an element, or a key and a value.
-#[cycle(told)]
+#[cycle(bytes)]
 fn push_member<'a>(
     out: &mut String,
     alloc: Global,
@@ -335,7 +339,7 @@ fn push_member<'a>(
 }
 
 /// Appends the elements of an array, or the members of a map, of this length.
-#[cycle(told)]
+#[cycle(bytes)]
 fn push_members<'a>(
     out: &mut String,
     alloc: Global,
@@ -369,7 +373,7 @@ fn push_members<'a>(
 }
 
 /// Appends an array or a map whose head, with this encoding indicator, is in front of the bytes.
-#[cycle(told)]
+#[cycle(bytes)]
 fn push_list<'a>(
     out: &mut String,
     alloc: Global,
@@ -380,7 +384,7 @@ fn push_list<'a>(
     levels: usize,
     margin: &str,
 ) -> Result<Option<&'a [u8]>, AllocError>
-    ensures { Tells (list_told (item_text levels) is_map margin.now indicator.now len bytes.now (string_bytes out.old))
+    ensures { Tells (list_behind (item_text levels) is_map margin.now indicator.now len bytes.now (string_bytes out.old))
         (string_bytes out.new) result }
 {
     let inner = deeper(alloc, margin)?;
@@ -394,7 +398,7 @@ fn push_list<'a>(
     }
 }
 
-#[cycle(told)]
+#[cycle(bytes)]
 fn push_tagged<'a>(
     out: &mut String,
     alloc: Global,
@@ -404,7 +408,7 @@ fn push_tagged<'a>(
     levels: usize,
     margin: &str,
 ) -> Result<Option<&'a [u8]>, AllocError>
-    ensures { Tells (tag_told (item_text levels) margin.now indicator.now tag bytes.now (string_bytes out.old))
+    ensures { Tells (tag_behind (item_text levels) margin.now indicator.now tag bytes.now (string_bytes out.old))
         (string_bytes out.new) result }
 {
     push_unsigned(out, tag, indicator)?;
@@ -419,7 +423,7 @@ fn push_tagged<'a>(
 }
 
 /// Appends a data item whose head, with this additional information, is in front of the bytes.
-#[cycle(told)]
+#[cycle(bytes)]
 fn push_behind<'a>(
     out: &mut String,
     alloc: Global,
@@ -429,7 +433,7 @@ fn push_behind<'a>(
     levels: usize,
     margin: &str,
 ) -> Result<Option<&'a [u8]>, AllocError>
-    ensures { Tells (told (inner_of levels) margin.now info head bytes.now (string_bytes out.old)) (string_bytes out.new)
+    ensures { Tells (item_behind (inner_of levels) margin.now info head bytes.now (string_bytes out.old)) (string_bytes out.new)
         result }
 {
     match head {
@@ -444,7 +448,7 @@ fn push_behind<'a>(
         Head::Bytes(len) => push_string(out, alloc, false, info, len, bytes),
         Head::Text(len) => push_string(out, alloc, true, info, len, bytes),
         Head::Simple(n) => {
-            push_simple_told(out, n)?;
+            push_simple_value(out, n)?;
             Ok(Some(bytes))
         }
         Head::Float(f) => {
@@ -473,7 +477,7 @@ fn push_behind<'a>(
     }
 }
 
-#[cycle(told)]
+#[cycle(bytes)]
 fn push_item<'a>(
     out: &mut String,
     alloc: Global,

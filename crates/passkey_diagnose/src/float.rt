@@ -1,6 +1,8 @@
 //! Floating-point numbers.
 ghost use Rattle.std.specs.Prelude.{◌≡◌, ◌+◌, ◌*◌, ◌<◌, ◌≤◌, ◌^◌, ◌++◌, OnOk, decimal, string_bytes};
-ghost use Rattle.passkey_diagnose.specs.FloatText.{half_of, single_of, double_of, binary_of, mark_of, digits_behind, doubled, hexadecimal_text, quotient_text, halved_text, doubled_text, scaled_text, sign_text, binary_text, float_text};
+ghost use Rattle.passkey_diagnose.specs.FloatText.{binary_by, binary_of, mark_of, digits_behind, doubled, hexadecimal_text};
+ghost use Rattle.passkey_diagnose.specs.FloatText.{quotient_text, halved_text, doubled_text, scaled_text, sign_text};
+ghost use Rattle.passkey_diagnose.specs.FloatText.{binary_text, float_text};
 
 use passkey_cbor::Float;
 use std::alloc::AllocError;
@@ -19,42 +21,23 @@ pub(crate) struct Binary {
     scale: u64,
 }
 
-fn half_of(bits: u64) -> Binary
-    ensures { result ≡ half_of bits }
+/// Returns the fields of these bits, by the sign's bit, the first number that doesn't fit in the
+/// fraction, and the first one that doesn't fit in the exponent.
+fn binary_by(bits: u64, sign: u64, one: u64, range: u64, scale: u64) -> Binary
+    requires signed { 0 < sign }
+    requires some { 0 < one }
+    requires small { one < 2 ^ 53 }
+    requires ranged { 0 < range }
+    ensures value { result ≡ binary_by bits sign one range scale }
+    ensures fits { result.one + result.fraction < 2 ^ 64 }
 {
     Binary {
-        negative: bits / 0x8000 == 1,
-        exponent: bits / 0x400 % 0x20,
-        greatest: 31,
-        fraction: bits % 0x400,
-        one: 0x400,
-        scale: 25,
-    }
-}
-
-fn single_of(bits: u64) -> Binary
-    ensures { result ≡ single_of bits }
-{
-    Binary {
-        negative: bits / 0x8000_0000 == 1,
-        exponent: bits / 0x80_0000 % 0x100,
-        greatest: 255,
-        fraction: bits % 0x80_0000,
-        one: 0x80_0000,
-        scale: 150,
-    }
-}
-
-fn double_of(bits: u64) -> Binary
-    ensures { result ≡ double_of bits }
-{
-    Binary {
-        negative: bits / 0x8000_0000_0000_0000 == 1,
-        exponent: bits / 0x10_0000_0000_0000 % 0x800,
-        greatest: 2047,
-        fraction: bits % 0x10_0000_0000_0000,
-        one: 0x10_0000_0000_0000,
-        scale: 1075,
+        negative: bits / sign == 1,
+        exponent: bits / one % range,
+        greatest: range - 1,
+        fraction: bits % one,
+        one,
+        scale,
     }
 }
 
@@ -171,9 +154,15 @@ fn binary_of(f: Float) -> Binary
     ensures fits { result.one + result.fraction < 2 ^ 64 }
 {
     match f.width() {
-        2 => half_of(f.bits()),
-        4 => single_of(f.bits()),
-        _ => double_of(f.bits()),
+        2 => binary_by(f.bits(), 0x8000, 0x400, 0x20, 25),
+        4 => binary_by(f.bits(), 0x8000_0000, 0x80_0000, 0x100, 150),
+        _ => binary_by(
+            f.bits(),
+            0x8000_0000_0000_0000,
+            0x10_0000_0000_0000,
+            0x800,
+            1075,
+        ),
     }
 }
 

@@ -1,6 +1,6 @@
 use Rattle.std.proofs.Common.{◌≡◌, ◌+◌, ◌*◌, length, true, string_bytes}
 use Rattle.passkey_diagnose.specs.BytesText.{item_text, member_text, parts_text}
-use Rattle.passkey_diagnose.proofs.bytes_text.+told.Given as goal
+use Rattle.passkey_diagnose.proofs.bytes_text.+bytes.Given as goal
 
 abbrev pub decreases-push_behind : goal.decreases-push_behind
 decreases-push_behind l = 8 * l.levels + 1

@@ -1,43 +1,46 @@
 use Rattle.std.proofs.Common.{refl, arith, lit<, sym, ap, ◌≡◌, ◌∙◌, ◌++◌, List, ℕ, suc, false, Some, Option, ◌-◌, string_bytes}
 use Rattle.std.proofs.lemmas.Str.{encode_ascii}
 use Rattle.passkey_diagnose.specs.BytesText.{item_text, member_text, parts_text}
-use Rattle.passkey_diagnose.proofs.BytesTexts.{parts_end, parts_over, parts_broken, parts_step, tells_as, list_none, list_some, told_unsigned, told_negative, told_simple, told_float, told_break, told_bytes, told_text, no_array, no_map, no_tag, told_array, told_map, told_tag, item_none, item_some, tag_none, tag_some}
-use Rattle.passkey_diagnose.proofs.bytes_text.+told.Goals as goal
+use Rattle.passkey_diagnose.proofs.BytesTexts.{parts_end, parts_over, parts_broken, parts_step, tells_as, list_none}
+use Rattle.passkey_diagnose.proofs.BytesTexts.{list_some, unsigned_behind, negative_behind, simple_behind, float_behind}
+use Rattle.passkey_diagnose.proofs.BytesTexts.{break_behind, bytes_behind, text_behind, no_array, no_map, no_tag}
+use Rattle.passkey_diagnose.proofs.BytesTexts.{array_behind, map_behind, tag_inside, item_none, item_some, tag_none, tag_some}
+use Rattle.passkey_diagnose.proofs.bytes_text.+bytes.Goals as goal
 
 pub push_behind-returns-in_ok-push_unsigned-in-Unsigned : goal.push_behind-returns-in_ok-push_unsigned-in-Unsigned
 push_behind-returns-in_ok-push_unsigned-in-Unsigned t c =
-    told_unsigned _ c.args.margin.now c.args.info c.in-Unsigned.n c.args.head _ c.args.bytes.now
+    unsigned_behind _ c.args.margin.now c.args.info c.in-Unsigned.n c.args.head _ c.args.bytes.now
     (string_bytes c.args.out.now) _ c.in-Unsigned.is c.mark.ensures c.in_ok-push_unsigned-in-Unsigned.ensures
 
 pub push_behind-returns-in_ok-push_negative-in-Negative : goal.push_behind-returns-in_ok-push_negative-in-Negative
 push_behind-returns-in_ok-push_negative-in-Negative t c =
-    told_negative _ c.args.margin.now c.args.info c.in-Negative.n c.args.head _ c.args.bytes.now
+    negative_behind _ c.args.margin.now c.args.info c.in-Negative.n c.args.head _ c.args.bytes.now
     (string_bytes c.args.out.now) _ c.in-Negative.is c.mark-in-Negative.ensures
     c.in_ok-push_negative-in-Negative.ensures
 
 pub push_behind-returns-in-Bytes : goal.push_behind-returns-in-Bytes
 push_behind-returns-in-Bytes t c =
-    tells_as _ _ _ _ (told_bytes _ c.args.margin.now c.args.info c.in-Bytes.len c.args.head c.args.bytes.now
+    tells_as _ _ _ _ (bytes_behind _ c.args.margin.now c.args.info c.in-Bytes.len c.args.head c.args.bytes.now
     (string_bytes c.args.out.now) c.in-Bytes.is) c.push_string.ensures
 
 pub push_behind-returns-in-Text : goal.push_behind-returns-in-Text
 push_behind-returns-in-Text t c =
-    tells_as _ _ _ _ (told_text _ c.args.margin.now c.args.info c.in-Text.len c.args.head c.args.bytes.now
+    tells_as _ _ _ _ (text_behind _ c.args.margin.now c.args.info c.in-Text.len c.args.head c.args.bytes.now
     (string_bytes c.args.out.now) c.in-Text.is) c.push_string-in-Text.ensures
 
-pub push_behind-returns-in_ok-push_simple_told-in-Simple : goal.push_behind-returns-in_ok-push_simple_told-in-Simple
-push_behind-returns-in_ok-push_simple_told-in-Simple t c =
-    told_simple _ c.args.margin.now c.args.info c.in-Simple.n c.args.head c.args.bytes.now (string_bytes c.args.out.now) _
-    c.in-Simple.is c.in_ok-push_simple_told-in-Simple.ensures
+pub push_behind-returns-in_ok-push_simple_value-in-Simple : goal.push_behind-returns-in_ok-push_simple_value-in-Simple
+push_behind-returns-in_ok-push_simple_value-in-Simple t c =
+    simple_behind _ c.args.margin.now c.args.info c.in-Simple.n c.args.head c.args.bytes.now (string_bytes c.args.out.now) _
+    c.in-Simple.is c.in_ok-push_simple_value-in-Simple.ensures
 
 pub push_behind-returns-in_ok-push_float-in-Float : goal.push_behind-returns-in_ok-push_float-in-Float
 push_behind-returns-in_ok-push_float-in-Float t c =
-    told_float _ c.args.margin.now c.args.info c.in-Float.f c.args.head c.args.bytes.now (string_bytes c.args.out.now) _
+    float_behind _ c.args.margin.now c.args.info c.in-Float.f c.args.head c.args.bytes.now (string_bytes c.args.out.now) _
     c.in-Float.is c.in_ok-push_float-in-Float.ensures
 
 pub push_behind-returns-in-Break : goal.push_behind-returns-in-Break
 push_behind-returns-in-Break t c =
-    told_break _ c.args.margin.now c.args.info c.args.head c.args.bytes.now (string_bytes c.args.out.now) c.in-Break.is
+    break_behind _ c.args.margin.now c.args.info c.args.head c.args.bytes.now (string_bytes c.args.out.now) c.in-Break.is
 
 pub push_behind-returns-in-None : goal.push_behind-returns-in-None
 push_behind-returns-in-None t c =
@@ -48,7 +51,7 @@ pub push_behind-returns-in-Some : goal.push_behind-returns-in-Some
 push_behind-returns-in-Some t c =
     let e = c.in-Some.ensures in
     let one : c.args.levels ≡ suc c.in-Some.inner = omega (arith, e.0, e.1) in
-    tells_as _ _ _ _ (told_array c.args.levels c.in-Some.inner c.args.margin.now c.args.info c.in-Array.len c.args.head
+    tells_as _ _ _ _ (array_behind c.args.levels c.in-Some.inner c.args.margin.now c.args.info c.in-Array.len c.args.head
     c.length_mark-indicator.result.now c.args.bytes.now (string_bytes c.args.out.now) one c.in-Array.is
     c.length_mark-indicator.ensures) c.push_list.ensures
 
@@ -61,7 +64,7 @@ pub push_behind-returns-in-Some-checked_sub : goal.push_behind-returns-in-Some-c
 push_behind-returns-in-Some-checked_sub t c =
     let e = c.in-Some-checked_sub.ensures in
     let one : c.args.levels ≡ suc c.in-Some-checked_sub.inner = omega (arith, e.0, e.1) in
-    tells_as _ _ _ _ (told_map c.args.levels c.in-Some-checked_sub.inner c.args.margin.now c.args.info c.in-Map.len
+    tells_as _ _ _ _ (map_behind c.args.levels c.in-Some-checked_sub.inner c.args.margin.now c.args.info c.in-Map.len
     c.args.head c.length_mark-indicator-in-Some-checked_sub.result.now c.args.bytes.now (string_bytes c.args.out.now) one
     c.in-Map.is c.length_mark-indicator-in-Some-checked_sub.ensures) c.push_list-in-Some-checked_sub.ensures
 
@@ -74,7 +77,7 @@ pub push_behind-returns-in-Some-checked_sub-2 : goal.push_behind-returns-in-Some
 push_behind-returns-in-Some-checked_sub-2 t c =
     let e = c.in-Some-checked_sub-2.ensures in
     let one : c.args.levels ≡ suc c.in-Some-checked_sub-2.inner = omega (arith, e.0, e.1) in
-    tells_as _ _ _ _ (told_tag c.args.levels c.in-Some-checked_sub-2.inner c.args.margin.now c.args.info c.in-Tag.tag
+    tells_as _ _ _ _ (tag_inside c.args.levels c.in-Some-checked_sub-2.inner c.args.margin.now c.args.info c.in-Tag.tag
     c.args.head c.mark-in-Some-checked_sub-2.result.now c.args.bytes.now (string_bytes c.args.out.now) one
     c.in-Tag.is c.mark-in-Some-checked_sub-2.ensures) c.push_tagged.ensures
 
