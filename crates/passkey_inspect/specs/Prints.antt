@@ -4,22 +4,20 @@ use Rattle.hex.specs.Hex.{encode_lower}
 use Rattle.passkey_cbor.specs.Item.{Item}
 use Rattle.passkey_cbor.specs.LeadingItem.{IsLeadingItem}
 use Rattle.passkey_diagnose.specs.Diagnosis.{diagnosis}
-use Rattle.passkey_rewrite.specs.Rewriting.{Rewrites, IsRefusal}
+use Rattle.passkey_diagnose.specs.BytesText.{bytes_diagnosis}
+use Rattle.passkey_explain.specs.Described.{Described}
+use Rattle.passkey_report.specs.Json.{json_text}
+use Rattle.passkey_rewrite.specs.Rewriting.{IsRefusal}
 use Rattle.passkey_inspect_input.specs.Input.{bytes_as}
 use Rattle.passkey_inspect_input.specs.declared.Form.{Form}
 use Rattle.passkey_rewrite_json.specs.RewritesJson.{RewritesJson, json_rewritten}
 use Rattle.passkey_run.specs.declared.kind.JsonKind.{JsonKind}
 use Rattle.passkey_run.specs.declared.fault.RunFault.{RunFault}
+use Rattle.passkey_inspect.specs.Encodes.{Encodes}
 use Rattle.passkey_inspect.specs.declared.options.Output.{Output}
-use Rattle.passkey_inspect.specs.declared.options.Output.TheVariants.{Report, Diagnosis, Encoding}
+use Rattle.passkey_inspect.specs.declared.options.Output.TheVariants.{Report, Json as JsonText, Diagnosis, Bytes as BytesText, Encoding}
 use Rattle.passkey_inspect.specs.declared.kind.InspectKind.{InspectKind}
 use Rattle.passkey_inspect.specs.declared.kind.InspectKind.TheVariants.{Bytes, Further, Json}
-
--- What decoding the bytes as the kind and encoding the result returns, for the kinds of `passkey_show`.
-abbrev pub Encodes : InspectKind → List ℕ → List ℕ → Type 0
-Encodes (Bytes kind) bytes encoding = Rewrites kind bytes encoding
-Encodes (Further kind) bytes encoding = ⊤
-Encodes (Json kind) bytes encoding = ⊥
 
 -- Why these kinds reject the bytes.
 abbrev pub IsRefused : InspectKind → List ℕ → RunFault → Type 0
@@ -40,10 +38,21 @@ pub record ShowsItem (bytes text : List ℕ) : Type 0 where
   pub begins : IsLeadingItem bytes front len
   pub shown : text ≡ diagnosis front (10 ∷ [])
 
--- What is printed of the bytes as the kind: exactly the encoding, or the item in diagnostic notation, in lines. Nothing is
--- said of reports, of JSON and of dumps.
+-- The text is the bytes of the leading data item in diagnostic notation, with encoding indicators, in such lines.
+abbrev pub ShowsBytes : List ℕ → List ℕ → Type 0
+ShowsBytes bytes text = Some text ≡ bytes_diagnosis (10 ∷ []) bytes
+
+-- The text is a description as JSON.
+pub record ShowsJson (text : List ℕ) : Type 0 where
+  pub description : Described
+  pub shown : text ≡ json_text description
+
+-- What is printed of the bytes as the kind: exactly the encoding, or the item, or its bytes, in diagnostic notation, in
+-- lines; or the JSON text of some description. Nothing is said of reports and of dumps.
 abbrev pub Prints : Output → InspectKind → List ℕ → List ℕ → Type 0
 Prints Diagnosis kind bytes line = (text : List ℕ) × ShowsItem bytes text × (line ≡ text ++ 10 ∷ [])
+Prints BytesText kind bytes line = (text : List ℕ) × ShowsBytes bytes text × (line ≡ text ++ 10 ∷ [])
+Prints JsonText kind bytes line = (text : List ℕ) × ShowsJson text × (line ≡ text ++ 10 ∷ [])
 Prints Encoding kind bytes line = (text : List ℕ) × ShowsEncoding kind bytes text × (line ≡ text ++ 10 ∷ [])
 Prints _ kind bytes line = ⊤
 

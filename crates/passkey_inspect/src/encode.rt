@@ -1,6 +1,7 @@
 //! Messages, encoded again.
 ghost use Rattle.std.specs.Prelude.{IfOk, IfErr};
-ghost use Rattle.passkey_inspect.specs.Prints.{Encodes, IsRefused};
+ghost use Rattle.passkey_inspect.specs.Encodes.{Encodes, EncodesFurther, EncodesKey};
+ghost use Rattle.passkey_inspect.specs.Prints.{IsRefused};
 
 use crate::kind::{FurtherKind, InspectKind};
 use passkey_cbor::Value;
@@ -9,13 +10,17 @@ use passkey_rewrite::rewrite_raw;
 use passkey_run::{RunFault, rewrite_message};
 use std::alloc::Global;
 
-fn encode_key(alloc: Global, bytes: &[u8]) -> Result<Vec<u8>, RunFault> {
+fn encode_key(alloc: Global, bytes: &[u8]) -> Result<Vec<u8>, RunFault>
+    ensures { IfOk result (λ encoding. EncodesKey bytes.now encoding.items) }
+{
     let (value, _) = Value::from_slice(alloc, bytes)?;
     let key = CoseKey::from_value(alloc, &value)?;
     Ok(key.to_vec(alloc)?)
 }
 
-fn encode_further(alloc: Global, kind: FurtherKind, bytes: &[u8]) -> Result<Vec<u8>, RunFault> {
+fn encode_further(alloc: Global, kind: FurtherKind, bytes: &[u8]) -> Result<Vec<u8>, RunFault>
+    ensures { IfOk result (λ encoding. EncodesFurther kind bytes.now encoding.items) }
+{
     match kind {
         FurtherKind::PinRequest => rewrite_message::<passkey_client_pin::Request>(alloc, bytes),
         FurtherKind::PinResponse => rewrite_message::<passkey_client_pin::Response>(alloc, bytes),

@@ -4,7 +4,7 @@ use crate::kind::{FurtherKind, InspectKind};
 use passkey_cbor::{CborError, Value};
 use passkey_core::AuthenticatorData;
 use passkey_cose::{CoseError, CoseKey};
-use passkey_explain::{Description, Explanation, describe, explain};
+use passkey_explain::{Description, Explanation, Extent, describe, explain};
 use passkey_extensions::HmacGetSecretInput;
 use passkey_kinds::{Fault, Message};
 use passkey_malformed::malformed;
@@ -18,8 +18,9 @@ use std::alloc::Global;
 pub enum Examined {
     /// The kind accepts them: what is in them, and how many of the bytes are read.
     Accepted(Description, usize),
-    /// The kind refuses them: the fault, and an explanation.
-    Refused(String),
+    /// The kind refuses them: the fault, and an explanation; and which bytes are refused, where that
+    /// is known.
+    Refused(String, Option<Extent>),
 }
 
 /// Returns the fault and the explanation, each in a line.
@@ -31,11 +32,31 @@ fn refusal_text(alloc: Global, explanation: &Explanation) -> Result<String, OutO
     Ok(format!(in alloc; "{fault}\n{explanation}")?)
 }
 
+/// Returns which of so many bytes are refused: an item's, or those from where they aren't well-formed.
+fn extent_of(explanation: &Explanation, len: usize) -> Extent {
+    match explanation {
+        Explanation::NotWellFormed(malformed) => Extent {
+            offset: malformed.offset,
+            len: len.saturating_sub(malformed.offset),
+        },
+        Explanation::Refused(item) => item.extent,
+    }
+}
+
 fn refused(alloc: Global, error: CoseError) -> Result<Examined, OutOfMemory> {
     match error {
         CoseError::OutOfMemory => Err(OutOfMemory),
-        error => Ok(Examined::Refused(format!(in alloc; "{error}")?)),
+        error => Ok(Examined::Refused(format!(in alloc; "{error}")?, None)),
     }
+}
+
+fn explained(
+    alloc: Global,
+    explanation: &Explanation,
+    len: usize,
+) -> Result<Examined, OutOfMemory> {
+    let text = refusal_text(alloc, explanation)?;
+    Ok(Examined::Refused(text, Some(extent_of(explanation, len))))
 }
 
 /// Explains where and why bytes don't begin with a well-formed data item.
@@ -44,9 +65,9 @@ fn cbor_refused(alloc: Global, bytes: &[u8], error: CborError) -> Result<Examine
         (CborError::OutOfMemory, _) => Err(OutOfMemory),
         (_, Some(malformed)) => {
             let explanation = Explanation::NotWellFormed(malformed);
-            Ok(Examined::Refused(refusal_text(alloc, &explanation)?))
+            explained(alloc, &explanation, bytes.len())
         }
-        (error, None) => Ok(Examined::Refused(format!(in alloc; "{error}")?)),
+        (error, None) => Ok(Examined::Refused(format!(in alloc; "{error}")?, None)),
     }
 }
 
@@ -83,7 +104,7 @@ fn examine_key(alloc: Global, bytes: &[u8]) -> Result<Examined, OutOfMemory> {
 /// (CTAP 2.1, section 8).
 fn examine_message<M: Message>(alloc: Global, bytes: &[u8]) -> Result<Examined, OutOfMemory> {
     if let Some(explanation) = explain::<M>(alloc, bytes)? {
-        return Ok(Examined::Refused(refusal_text(alloc, &explanation)?));
+        return explained(alloc, &explanation, bytes.len());
     }
     match Value::from_slice(alloc, bytes) {
         Ok((value, len)) => {
@@ -151,6 +172,6 @@ pub fn examine(alloc: Global, kind: InspectKind, bytes: &[u8]) -> Result<Examine
     match kind {
         InspectKind::Bytes(kind) => examine_known(alloc, kind, bytes),
         InspectKind::Further(kind) => examine_further(alloc, kind, bytes),
-        InspectKind::Json(_) => Ok(Examined::Refused(String::from_str(alloc, "BadJson")?)),
+        InspectKind::Json(_) => Ok(Examined::Refused(String::from_str(alloc, "BadJson")?, None)),
     }
 }

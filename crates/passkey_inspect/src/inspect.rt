@@ -1,6 +1,6 @@
 //! One run: reads bytes, and returns what is printed.
 ghost use Rattle.std.specs.Prelude.{◌≡◌, ◌++◌, ◌∷◌, [], IfOk, string_bytes};
-ghost use Rattle.passkey_inspect.specs.Prints.{Prints, PrintsAs, PrintsBytes, PrintsInput, ShowsEncoding, ShowsItem};
+ghost use Rattle.passkey_inspect.specs.Prints.{Prints, PrintsAs, PrintsBytes, PrintsInput, ShowsBytes, ShowsEncoding, ShowsItem, ShowsJson};
 
 use crate::encode::encode;
 use crate::examine::{Examined, examine};
@@ -9,13 +9,13 @@ use crate::frame::{Frame, frame_of, frame_text, request_kind};
 use crate::kind::{AUTH, BYTES_KINDS, CBOR, InspectKind, name_of};
 use crate::options::{Options, Output};
 use crate::records::print_record;
-use passkey_cbor::Value;
-use passkey_diagnose::diagnose_indented;
+use passkey_cbor::{CborError, Value};
+use passkey_diagnose::{diagnose_bytes_indented, diagnose_indented};
 use passkey_dump::dump;
-use passkey_explain::{Description, FieldName};
+use passkey_explain::{Description, Extent, FieldName};
 use passkey_inspect_input::{Form, bytes_as, form_of};
 use passkey_memory::OutOfMemory;
-use passkey_report::{json_of, report_of};
+use passkey_report::{json_of, page_of, refusal_page, report_of};
 use passkey_run::RunFault;
 use std::alloc::Global;
 
@@ -103,6 +103,23 @@ fn item_text(alloc: Global, bytes: &[u8]) -> Result<String, RunFault>
     Ok(diagnose_indented(alloc, &value)?)
 }
 
+/// Returns the leading data item in diagnostic notation, with how it is encoded, in such lines.
+fn bytes_text(alloc: Global, bytes: &[u8]) -> Result<String, RunFault>
+    ensures { IfOk result (λ text. ShowsBytes bytes.now (string_bytes text)) }
+{
+    match diagnose_bytes_indented(alloc, bytes)? {
+        Some(text) => Ok(text),
+        None => Err(RunFault::from(CborError::DecodeFailed)),
+    }
+}
+
+/// Returns the description as JSON.
+fn json_text(alloc: Global, description: &Description) -> Result<String, RunFault>
+    ensures { IfOk result (λ text. ShowsJson (string_bytes text)) }
+{
+    Ok(json_of(alloc, description)?)
+}
+
 fn form_name(form: Form) -> &'static str {
     match form {
         Form::Hexadecimal => "hexadecimal",
@@ -176,10 +193,40 @@ fn text_of(
     match output {
         Output::Dump if kind != AUTH => Ok(dump(alloc, body.bytes)?),
         Output::Report | Output::Dump => Ok(report_text(alloc, body, kind, description, len)?),
-        Output::Json => with_line_feed(json_of(alloc, description)?),
+        Output::Page => {
+            // Authenticator data aren't a data item.
+            let shown = if kind == AUTH { &[] } else { body.bytes };
+            Ok(page_of(alloc, name_of(kind), description, shown)?)
+        }
+        Output::Json => with_line_feed(json_text(alloc, description)?),
         Output::Diagnosis => with_line_feed(item_text(alloc, body.bytes)?),
+        Output::Bytes => with_line_feed(bytes_text(alloc, body.bytes)?),
         Output::Encoding => with_line_feed(encoding_text(alloc, kind, body.bytes)?),
     }
+}
+
+/// Returns a page that tells why the kind refuses the message.
+fn page_of_refusal(
+    alloc: Global,
+    body: &Body<'_>,
+    kind: InspectKind,
+    text: &str,
+    extent: Option<Extent>,
+) -> Result<String, OutOfMemory> {
+    let name = name_of(kind);
+    let title = format!(in alloc; "{name} refuses it")?;
+    let Extent { offset, len } = extent.unwrap_or(Extent {
+        offset: body.bytes.len(),
+        len: 0,
+    });
+    refusal_page(
+        alloc,
+        title.as_str(),
+        text,
+        body.bytes,
+        offset,
+        offset.saturating_add(len),
+    )
 }
 
 /// Returns what is printed of a message of which the kind is known.
@@ -200,7 +247,10 @@ fn print_as(
             &description,
             len,
         )?),
-        Examined::Refused(text) => {
+        Examined::Refused(text, extent) if output == Output::Page => {
+            Ok(page_of_refusal(alloc, body, kind, text.as_str(), extent)?)
+        }
+        Examined::Refused(text, _) => {
             Err(InspectFault::refused(alloc, name_of(kind), text.as_str())?)
         }
     }

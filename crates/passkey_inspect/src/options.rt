@@ -10,8 +10,11 @@ Tells what is in a passkey message, or where it is refused. Without a FILE it re
 
   --json     prints the message as JSON, with members by their names
   --diag     prints the data item in diagnostic notation (RFC 8949)
+  --diag=bytes
+             the same, and how each item is encoded
   --hex      prints the data item's bytes, head by head, with what each means
   --cbor     prints the message encoded again, in hexadecimal
+  --html     prints a page of HTML: the members by their names beside their bytes, or what is refused
   --from F   the input's form: hex, base64, raw or json
   --help     prints this
   --version  prints the version
@@ -34,10 +37,14 @@ pub enum Output {
     Json,
     /// The data item in diagnostic notation.
     Diagnosis,
+    /// The same, with how each item is encoded.
+    Bytes,
     /// The data item's bytes, head by head, with what each means.
     Dump,
     /// The message encoded again, in hexadecimal.
     Encoding,
+    /// A page of HTML.
+    Page,
 }
 
 /// The arguments.
@@ -72,8 +79,10 @@ fn set_option(options: &mut Options<'_>, word: &str) -> bool {
     match word {
         "--json" => options.output = Output::Json,
         "--diag" => options.output = Output::Diagnosis,
+        "--diag=bytes" => options.output = Output::Bytes,
         "--hex" => options.output = Output::Dump,
         "--cbor" => options.output = Output::Encoding,
+        "--html" => options.output = Output::Page,
         "--help" => options.help = true,
         "--version" => options.version = true,
         _ => return false,

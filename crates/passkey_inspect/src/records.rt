@@ -70,7 +70,7 @@ fn push_bytes(
             let title = path.rsplit('/').next().unwrap_or(path);
             Ok(out.push_str(report_of(alloc, title, &description)?.as_str())?)
         }
-        Examined::Refused(_) => Ok(()),
+        Examined::Refused(_, _) => Ok(()),
     }
 }
 
