@@ -1,0 +1,3 @@
+pub mod Options
+pub mod CredentialParameters
+pub mod Information
