@@ -1,0 +1,50 @@
+-- Members of extension maps that a record doesn't know.
+use Rattle.std.specs.Prelude.{◌≡◌, ℕ, suc, Bool, true, false, if◌then◌else◌, List, [], ◌∷◌, ◌++◌, take, drop}
+use Rattle.passkey_cbor.specs.Item as item
+use Rattle.passkey_cbor.specs.Order.{ctap2_order}
+use Rattle.passkey_kinds.specs.Record.{Naming, Table, unknown}
+use Rattle.passkey_kinds.specs.Words.{Fields, Item, Members, named, read_item, table_of, written}
+use Rattle.std.specs.Ordering.{is_lt}
+
+abbrev pub is_unknown : Naming → Bool
+is_unknown unknown = true
+is_unknown _ = false
+
+-- the members whose keys name no row of the table
+abbrev pub others_in : Table → Members → Members
+others_in table [] = []
+others_in table (m ∷ ms) = if is_unknown (named table m.0) then m ∷ others_in table ms else others_in table ms
+
+-- the same for a data item, which has none if it is no map
+abbrev pub others_at : Table → Item → Members
+others_at table (item.map ps) = others_in table (item.members ps)
+others_at table _ = []
+
+-- the index of the first member whose key comes after the encoded key, in CTAP2's order (CTAP 2.1, section 8)
+abbrev pub place_in : List ℕ → Members → ℕ
+place_in key [] = 0
+place_in key (m ∷ ms) = if is_lt (ctap2_order key (written m.0)) then 0 else suc (place_in key ms)
+
+-- the members with one more in its place
+abbrev pub placed : Item × Item → Members → Members
+placed m ms = let n = place_in (written m.0) ms in take n ms ++ m ∷ drop n ms
+
+-- the members with each of the others in its place
+abbrev pub with_all : Members → Members → Members
+with_all [] ms = ms
+with_all (o ∷ os) ms = with_all os (placed o ms)
+
+-- the map with each of the others in its place
+abbrev pub tree_with : Members → Item → Item
+tree_with os (item.map ps) = item.map (item.pairs_of (with_all os (item.members ps)))
+tree_with os i = i
+
+-- no key names a row
+abbrev pub AreOthers : Table → Members → Type 0
+AreOthers table [] = Unit {0}
+AreOthers table (o ∷ os) = (named table o.0 ≡ unknown) × AreOthers table os
+
+-- Members under keys that name no row change nothing, in whatever places they are.
+abbrev pub OthersArePassedOver : {P : Type 0} → Fields P → Type 0
+OthersArePassedOver t =
+    (os : Members) (i : Item) → AreOthers (table_of t) os → read_item t (tree_with os i) ≡ read_item t i

@@ -1,0 +1,11 @@
+//! Laws about extensions. Each is the contract of a function that does nothing.
+ghost use Rattle.passkey_further_extensions.specs.Others.{OthersArePassedOver};
+
+use passkey_kinds::Record;
+
+/// Members under names that a record doesn't know change nothing that is decoded: with them
+/// (`with_others`) a map decodes to the same record or fault as without them.
+#[tactic(auto, using(crate::proofs::Places::others_skipped))]
+pub fn others_are_passed_over<R: Record>()
+    ensures { OthersArePassedOver R.fields }
+{}
