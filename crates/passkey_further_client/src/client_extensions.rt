@@ -1,0 +1,230 @@
+//! Inputs and outputs of client extensions.
+ghost use Rattle.passkey_further_client.specs.ClientExtensions.{client_extension_inputs, client_extension_outputs};
+
+use crate::{
+    CredentialProtectionPolicy, HmacGetSecretInputs, HmacGetSecretOutputs, LargeBlobInputs,
+    LargeBlobOutputs,
+};
+use passkey_bytes::{Bytes, List, Text};
+use passkey_json::{
+    AuthenticationExtensionsPrfInputs, CredentialPropertiesOutput, EncodeResult, JsonEncoder,
+    JsonFault, Member, PlainJsonRecord, Row,
+};
+use passkey_webauthn::AuthenticationExtensionsPrfOutputs;
+use std::alloc::Global;
+
+/// Inputs of all registered client extensions: what a relying party asks for (WebAuthn Level 3,
+/// section 9.3). `None` means that the member is absent; null also decodes to `None`.
+#[derive(Debug, Drop)]
+pub struct ClientExtensionInputs {
+    /// appid: the AppID of U2F under which credentials may be used, at a sign-in (WebAuthn Level 3,
+    /// section 10.1.1).
+    pub appid: Option<Text>,
+    /// appidExclude: the AppID of U2F whose credentials are excluded, at a registration (section
+    /// 10.1.2).
+    pub appid_exclude: Option<Text>,
+    /// credProps: whether properties of the new credential are asked for (section 10.1.3).
+    pub cred_props: Option<bool>,
+    /// prf: the salts (section 10.1.4).
+    pub prf: Option<AuthenticationExtensionsPrfInputs>,
+    /// largeBlob: what is wanted of the blob (section 10.1.5).
+    pub large_blob: Option<LargeBlobInputs>,
+    /// credBlob: what is to be stored with the new credential (CTAP 2.1, section 12.2).
+    pub cred_blob: Option<Bytes>,
+    /// getCredBlob: whether what is stored with the credential is asked for (CTAP 2.1, section
+    /// 12.2).
+    pub get_cred_blob: Option<bool>,
+    /// credentialProtectionPolicy: the credential protection policy (CTAP 2.1, section 12.1).
+    pub credential_protection_policy: Option<CredentialProtectionPolicy>,
+    /// enforceCredentialProtectionPolicy: whether a registration fails where the authenticator
+    /// doesn't support the policy. The default is false.
+    pub enforce_credential_protection_policy: Option<bool>,
+    /// minPinLength: whether the minimum PIN length is asked for (CTAP 2.1, section 12.4).
+    pub min_pin_length: Option<bool>,
+    /// pinComplexityPolicy: whether the PIN complexity policy is asked for (CTAP 2.2).
+    pub pin_complexity_policy: Option<bool>,
+    /// hmacCreateSecret: whether the new credential is to support hmac-secret (CTAP 2.1, section
+    /// 12.5).
+    pub hmac_create_secret: Option<bool>,
+    /// hmacGetSecret: the salts of hmac-secret (CTAP 2.1, section 12.5).
+    pub hmac_get_secret: Option<HmacGetSecretInputs>,
+    /// uvm: whether the user verification methods are asked for (WebAuthn Level 2, section 10.3).
+    pub uvm: Option<bool>,
+}
+
+impl PlainJsonRecord for ClientExtensionInputs {
+    ghost table = { client_extension_inputs };
+
+    fn rows() -> &'static [Row] {
+        &[
+            Row::Named(1, "appid"),
+            Row::Named(2, "appidExclude"),
+            Row::Named(3, "credProps"),
+            Row::Named(4, "prf"),
+            Row::Named(5, "largeBlob"),
+            Row::Named(6, "credBlob"),
+            Row::Named(7, "getCredBlob"),
+            Row::Named(8, "credentialProtectionPolicy"),
+            Row::Named(9, "enforceCredentialProtectionPolicy"),
+            Row::Named(10, "minPinLength"),
+            Row::Named(11, "pinComplexityPolicy"),
+            Row::Named(12, "hmacCreateSecret"),
+            Row::Named(13, "hmacGetSecret"),
+            Row::Named(14, "uvm"),
+        ]
+    }
+
+    fn blank(_alloc: Global) -> ClientExtensionInputs {
+        ClientExtensionInputs {
+            appid: None,
+            appid_exclude: None,
+            cred_props: None,
+            prf: None,
+            large_blob: None,
+            cred_blob: None,
+            get_cred_blob: None,
+            credential_protection_policy: None,
+            enforce_credential_protection_policy: None,
+            min_pin_length: None,
+            pin_complexity_policy: None,
+            hmac_create_secret: None,
+            hmac_get_secret: None,
+            uvm: None,
+        }
+    }
+
+    fn put(&mut self, number: u8, member: Member<'_>) -> Result<(), JsonFault> {
+        match number {
+            1 => self.appid = member.or_default(None)?,
+            2 => self.appid_exclude = member.or_default(None)?,
+            3 => self.cred_props = member.or_default(None)?,
+            4 => self.prf = member.or_default(None)?,
+            5 => self.large_blob = member.or_default(None)?,
+            6 => self.cred_blob = member.or_default(None)?,
+            7 => self.get_cred_blob = member.or_default(None)?,
+            8 => self.credential_protection_policy = member.or_default(None)?,
+            9 => self.enforce_credential_protection_policy = member.or_default(None)?,
+            10 => self.min_pin_length = member.or_default(None)?,
+            11 => self.pin_complexity_policy = member.or_default(None)?,
+            12 => self.hmac_create_secret = member.or_default(None)?,
+            13 => self.hmac_get_secret = member.or_default(None)?,
+            14 => self.uvm = member.or_default(None)?,
+            _ => {}
+        }
+        Ok(())
+    }
+
+    fn encode(&self, number: u8, encoder: JsonEncoder) -> EncodeResult {
+        match number {
+            1 => encoder.optional(&self.appid),
+            2 => encoder.optional(&self.appid_exclude),
+            3 => encoder.optional(&self.cred_props),
+            4 => encoder.optional(&self.prf),
+            5 => encoder.optional(&self.large_blob),
+            6 => encoder.optional(&self.cred_blob),
+            7 => encoder.optional(&self.get_cred_blob),
+            8 => encoder.optional(&self.credential_protection_policy),
+            9 => encoder.optional(&self.enforce_credential_protection_policy),
+            10 => encoder.optional(&self.min_pin_length),
+            11 => encoder.optional(&self.pin_complexity_policy),
+            12 => encoder.optional(&self.hmac_create_secret),
+            13 => encoder.optional(&self.hmac_get_secret),
+            14 => encoder.optional(&self.uvm),
+            _ => Ok(None),
+        }
+    }
+}
+
+/// Outputs of all registered client extensions: what the client returns (WebAuthn Level 3, section
+/// 9.4). `None` means that the member is absent; null also decodes to `None`.
+#[derive(Debug, Drop)]
+pub struct ClientExtensionOutputs {
+    /// appid: whether the AppID of U2F was used (WebAuthn Level 3, section 10.1.1).
+    pub appid: Option<bool>,
+    /// appidExclude: whether the extension was acted upon (section 10.1.2).
+    pub appid_exclude: Option<bool>,
+    /// credProps: properties of the new credential (section 10.1.3).
+    pub cred_props: Option<CredentialPropertiesOutput>,
+    /// prf: the outputs of the extension (section 10.1.4).
+    pub prf: Option<AuthenticationExtensionsPrfOutputs>,
+    /// largeBlob: what became of the blob (section 10.1.5).
+    pub large_blob: Option<LargeBlobOutputs>,
+    /// credBlob: whether it was stored (CTAP 2.1, section 12.2).
+    pub cred_blob: Option<bool>,
+    /// getCredBlob: what is stored with the credential (CTAP 2.1, section 12.2).
+    pub get_cred_blob: Option<Bytes>,
+    /// hmacCreateSecret: whether the new credential supports hmac-secret (CTAP 2.1, section 12.5).
+    pub hmac_create_secret: Option<bool>,
+    /// hmacGetSecret: the outputs of hmac-secret (CTAP 2.1, section 12.5).
+    pub hmac_get_secret: Option<HmacGetSecretOutputs>,
+    /// uvm: the user verification methods, one to three entries of three numbers (WebAuthn Level 2,
+    /// section 10.3). The numbers of entries and of numbers aren't checked.
+    pub uvm: Option<List<List<u32>>>,
+}
+
+impl PlainJsonRecord for ClientExtensionOutputs {
+    ghost table = { client_extension_outputs };
+
+    fn rows() -> &'static [Row] {
+        &[
+            Row::Named(1, "appid"),
+            Row::Named(2, "appidExclude"),
+            Row::Named(3, "credProps"),
+            Row::Named(4, "prf"),
+            Row::Named(5, "largeBlob"),
+            Row::Named(6, "credBlob"),
+            Row::Named(7, "getCredBlob"),
+            Row::Named(8, "hmacCreateSecret"),
+            Row::Named(9, "hmacGetSecret"),
+            Row::Named(10, "uvm"),
+        ]
+    }
+
+    fn blank(_alloc: Global) -> ClientExtensionOutputs {
+        ClientExtensionOutputs {
+            appid: None,
+            appid_exclude: None,
+            cred_props: None,
+            prf: None,
+            large_blob: None,
+            cred_blob: None,
+            get_cred_blob: None,
+            hmac_create_secret: None,
+            hmac_get_secret: None,
+            uvm: None,
+        }
+    }
+
+    fn put(&mut self, number: u8, member: Member<'_>) -> Result<(), JsonFault> {
+        match number {
+            1 => self.appid = member.or_default(None)?,
+            2 => self.appid_exclude = member.or_default(None)?,
+            3 => self.cred_props = member.or_default(None)?,
+            4 => self.prf = member.or_default(None)?,
+            5 => self.large_blob = member.or_default(None)?,
+            6 => self.cred_blob = member.or_default(None)?,
+            7 => self.get_cred_blob = member.or_default(None)?,
+            8 => self.hmac_create_secret = member.or_default(None)?,
+            9 => self.hmac_get_secret = member.or_default(None)?,
+            10 => self.uvm = member.or_default(None)?,
+            _ => {}
+        }
+        Ok(())
+    }
+
+    fn encode(&self, number: u8, encoder: JsonEncoder) -> EncodeResult {
+        match number {
+            1 => encoder.optional(&self.appid),
+            2 => encoder.optional(&self.appid_exclude),
+            3 => encoder.optional(&self.cred_props),
+            4 => encoder.optional(&self.prf),
+            5 => encoder.optional(&self.large_blob),
+            6 => encoder.optional(&self.cred_blob),
+            7 => encoder.optional(&self.get_cred_blob),
+            8 => encoder.optional(&self.hmac_create_secret),
+            9 => encoder.optional(&self.hmac_get_secret),
+            10 => encoder.optional(&self.uvm),
+            _ => Ok(None),
+        }
+    }
+}

@@ -1,0 +1,20 @@
+//! What WebAuthn Level 3 has over JSON beside the ceremonies' options and responses: all client
+//! extensions, mediation and client capabilities.
+#![tactic(auto)]
+
+mod client_extensions;
+mod hmac_secret;
+mod large_blob;
+mod mediated;
+mod names;
+
+pub use client_extensions::{ClientExtensionInputs, ClientExtensionOutputs};
+pub use hmac_secret::{HmacGetSecretInputs, HmacGetSecretOutputs};
+pub use large_blob::{LargeBlobInputs, LargeBlobOutputs};
+pub use mediated::MediatedOptions;
+pub use names::{CredentialMediationRequirement, CredentialProtectionPolicy};
+use passkey_bytes::{Map, Text};
+
+/// The result of `PublicKeyCredential.getClientCapabilities()` (WebAuthn Level 3, section 5.1.7): whether
+/// the client has each capability, by its name, such as `conditionalGet` or `extension:prf`.
+pub type ClientCapabilities = Map<Text, bool>;

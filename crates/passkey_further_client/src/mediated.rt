@@ -1,0 +1,50 @@
+//! The options of a ceremony with how far the client may ask the user.
+ghost use Rattle.passkey_further_client.specs.Mediated.{mediated_options};
+
+use crate::CredentialMediationRequirement;
+use passkey_json::{EncodeResult, JsonEncoder, JsonFault, Member, PlainJsonRecord, Row};
+use std::alloc::Global;
+
+/// The argument of `navigator.credentials.create()` or `get()`: the options of a ceremony, and how
+/// far the client may ask the user (WebAuthn Level 3, section 5.1.4; Credential Management Level 1,
+/// section 2.3.2).
+#[derive(Debug, Drop)]
+pub struct MediatedOptions<O: PlainJsonRecord> {
+    /// publicKey: the options.
+    pub public_key: O,
+    /// mediation: how far the client may ask the user. `None` means that the member is absent, and
+    /// so `optional`; null also decodes to `None`.
+    pub mediation: Option<CredentialMediationRequirement>,
+}
+
+impl<O: PlainJsonRecord> PlainJsonRecord for MediatedOptions<O> {
+    ghost table = { mediated_options O.table };
+
+    fn rows() -> &'static [Row] {
+        &[Row::Named(1, "publicKey"), Row::Named(2, "mediation")]
+    }
+
+    fn blank(alloc: Global) -> MediatedOptions<O> {
+        MediatedOptions {
+            public_key: O::blank(alloc),
+            mediation: None,
+        }
+    }
+
+    fn put(&mut self, number: u8, member: Member<'_>) -> Result<(), JsonFault> {
+        match number {
+            1 => self.public_key = member.required()?,
+            2 => self.mediation = member.or_default(None)?,
+            _ => {}
+        }
+        Ok(())
+    }
+
+    fn encode(&self, number: u8, encoder: JsonEncoder) -> EncodeResult {
+        match number {
+            1 => encoder.value(&self.public_key),
+            2 => encoder.optional(&self.mediation),
+            _ => Ok(None),
+        }
+    }
+}
