@@ -1,3 +1,4 @@
 pub mod Names
 pub mod ClientExtensions
 pub mod Mediated
+pub mod TopOrigin

@@ -1,5 +1,5 @@
 //! What WebAuthn Level 3 has over JSON beside the ceremonies' options and responses: all client
-//! extensions, mediation and client capabilities.
+//! extensions, mediation, client capabilities, and the origin of the top-level page.
 #![tactic(auto)]
 
 mod client_extensions;
@@ -7,6 +7,7 @@ mod hmac_secret;
 mod large_blob;
 mod mediated;
 mod names;
+mod top_origin;
 
 pub use client_extensions::{ClientExtensionInputs, ClientExtensionOutputs};
 pub use hmac_secret::{HmacGetSecretInputs, HmacGetSecretOutputs};
@@ -14,6 +15,7 @@ pub use large_blob::{LargeBlobInputs, LargeBlobOutputs};
 pub use mediated::MediatedOptions;
 pub use names::{CredentialMediationRequirement, CredentialProtectionPolicy};
 use passkey_bytes::{Map, Text};
+pub use top_origin::TopOrigin;
 
 /// The result of `PublicKeyCredential.getClientCapabilities()` (WebAuthn Level 3, section 5.1.7): whether
 /// the client has each capability, by its name, such as `conditionalGet` or `extension:prf`.

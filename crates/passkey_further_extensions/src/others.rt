@@ -89,9 +89,9 @@ fn place_all(
 }
 
 /// Returns the map of the record's members and of these others, each before the first member whose
-/// key comes after its own in CTAP2's order (CTAP 2.1, section 8). So a map that was decoded as the
-/// record, and whose others `others_of` returned, is encoded with all its members. Returns
-/// `OutOfMemory` if an allocation fails.
+/// key comes after its own in CTAP2's order (CTAP 2.1, section 8). With those that `others_of`
+/// returned, nothing is lost that the record doesn't know. Returns `OutOfMemory` if an allocation
+/// fails.
 #[tactic(auto, using(passkey_kinds::proofs::Members::reads_map))]
 pub fn with_others<R: TableRecord>(
     alloc: Global,
