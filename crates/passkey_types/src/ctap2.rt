@@ -21,3 +21,5 @@ pub use passkey_ctap2::{
     Code, Fault, FromCbor, Kept, Message, Refusal, ToCbor, TolerantList, Tolerated, WriteFault,
     laws,
 };
+pub use passkey_further_extensions as further_extensions;
+pub use passkey_get_info_23 as get_info_23;

@@ -9,6 +9,7 @@ pub use passkey_credentials::{
     AuthenticatorAttestationResponse, AuthenticatorResponse, CreatedPublicKeyCredential,
     PublicKeyCredential,
 };
+pub use passkey_further_client as further;
 pub use passkey_json::{
     AuthenticationExtensionsClientInputs, AuthenticationExtensionsClientOutputs,
     AuthenticationExtensionsPrfInputs, AuthenticatorAttachment, AuthenticatorSelectionCriteria,
@@ -21,6 +22,7 @@ pub use passkey_options::{
     PublicKeyCredentialCreationOptions, PublicKeyCredentialHints,
     PublicKeyCredentialRequestOptions,
 };
+pub use passkey_signals as signals;
 pub use passkey_webauthn::{
     AuthenticationExtensionsPrfOutputs, AuthenticationExtensionsPrfValues, AuthenticatorTransport,
     EnumNames, PublicKeyCredentialDescriptor, PublicKeyCredentialParameters,
