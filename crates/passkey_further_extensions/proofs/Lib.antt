@@ -1,3 +1,4 @@
 pub mod Named
 pub mod Extensions
 pub mod Places
+pub mod Ascending

@@ -1,10 +1,12 @@
 -- Members of extension maps that a record doesn't know.
-use Rattle.std.specs.Prelude.{◌≡◌, ℕ, suc, Bool, true, false, if◌then◌else◌, List, [], ◌∷◌, ◌++◌, take, drop}
+use Rattle.std.specs.Prelude.{◌≡◌, ◌≢◌, ℕ, suc, Bool, true, false, if◌then◌else◌, List, [], ◌∷◌, ◌++◌, take, drop}
+use Rattle.passkey_cbor.specs.Canonical.{Ascend}
 use Rattle.passkey_cbor.specs.Item as item
 use Rattle.passkey_cbor.specs.Order.{ctap2_order}
 use Rattle.passkey_kinds.specs.Record.{Naming, Table, unknown}
 use Rattle.passkey_kinds.specs.Words.{Fields, Item, Members, named, read_item, table_of, written}
 use Rattle.std.specs.Ordering.{is_lt}
+use Rattle.std.specs.declared.cmp.Ordering.TheVariants.{Equal}
 
 abbrev pub is_unknown : Naming → Bool
 is_unknown unknown = true
@@ -48,3 +50,18 @@ AreOthers table (o ∷ os) = (named table o.0 ≡ unknown) × AreOthers table os
 abbrev pub OthersArePassedOver : {P : Type 0} → Fields P → Type 0
 OthersArePassedOver t =
     (os : Members) (i : Item) → AreOthers (table_of t) os → read_item t (tree_with os i) ≡ read_item t i
+
+-- the member has another key than each of these
+abbrev pub IsApart : Item × Item → Members → Type 0
+IsApart m [] = Unit {0}
+IsApart m (x ∷ xs) = (ctap2_order (written m.0) (written x.0) ≢ Equal) × IsApart m xs
+
+-- each of the others has another key than the members, with the earlier others among them
+abbrev pub AreApart : Members → Members → Type 0
+AreApart [] ms = Unit {0}
+AreApart (o ∷ os) ms = IsApart o ms × AreApart os (placed o ms)
+
+-- Keys that ascend in CTAP2's order still do with others in their places, if no key is there twice.
+abbrev pub OthersKeepOrder : Type 0
+OthersKeepOrder =
+    (os ms : Members) → Ascend (item.pairs_of ms) → AreApart os ms → Ascend (item.pairs_of (with_all os ms))
