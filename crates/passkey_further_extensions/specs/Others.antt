@@ -1,25 +1,30 @@
 -- Members of extension maps that a record doesn't know.
-use Rattle.std.specs.Prelude.{◌≡◌, ◌≢◌, ℕ, suc, Bool, true, false, if◌then◌else◌, List, [], ◌∷◌, ◌++◌, take, drop}
+use Rattle.std.specs.Prelude.{◌≡◌, ◌≢◌, ℕ, suc, Bool, true, false, not, ◌==◌, if◌then◌else◌, List, [], ◌∷◌, ◌++◌, take, drop}
 use Rattle.passkey_cbor.specs.Canonical.{Ascend}
 use Rattle.passkey_cbor.specs.Item as item
 use Rattle.passkey_cbor.specs.Order.{ctap2_order}
-use Rattle.passkey_kinds.specs.Record.{Naming, Table, unknown}
-use Rattle.passkey_kinds.specs.Words.{Fields, Item, Members, named, read_item, table_of, written}
+use Rattle.passkey_further_extensions.specs.declared.others.Which.{Which}
+use Rattle.passkey_further_extensions.specs.declared.others.Which.TheVariants.{AllBut, Others}
+use Rattle.passkey_kinds.specs.Record.{Naming, Table, row, unknown}
+use Rattle.passkey_kinds.specs.Words.{Fields, Item, Members, named, number_tree, read_item, table_of, written}
 use Rattle.std.specs.Ordering.{is_lt}
 use Rattle.std.specs.declared.cmp.Ordering.TheVariants.{Equal}
 
-abbrev pub is_unknown : Naming → Bool
-is_unknown unknown = true
-is_unknown _ = false
+abbrev pub wants : Which → Naming → Bool
+wants Others unknown = true
+wants Others _ = false
+wants (AllBut n) (row k) = not (k == n)
+wants (AllBut n) _ = true
 
--- the members whose keys name no row of the table
-abbrev pub others_in : Table → Members → Members
-others_in table [] = []
-others_in table (m ∷ ms) = if is_unknown (named table m.0) then m ∷ others_in table ms else others_in table ms
+-- the members that are wanted, by what their keys name in the table
+abbrev pub wanted_in : Which → Table → Members → Members
+wanted_in which table [] = []
+wanted_in which table (m ∷ ms) =
+    if wants which (named table m.0) then m ∷ wanted_in which table ms else wanted_in which table ms
 
--- the same for a data item, which has none if it is no map
+-- the members of a map whose keys name no row of the table
 abbrev pub others_at : Table → Item → Members
-others_at table (item.map ps) = others_in table (item.members ps)
+others_at table (item.map ps) = wanted_in Others table (item.members ps)
 others_at table _ = []
 
 -- the index of the first member whose key comes after the encoded key, in CTAP2's order (CTAP 2.1, section 8)
@@ -40,6 +45,12 @@ with_all (o ∷ os) ms = with_all os (placed o ms)
 abbrev pub tree_with : Members → Item → Item
 tree_with os (item.map ps) = item.map (item.pairs_of (with_all os (item.members ps)))
 tree_with os i = i
+
+-- the map with this value for row n, under its number and in its place
+abbrev pub tree_with_row : Table → ℕ → Item → Item → Item
+tree_with_row table n x (item.map ps) =
+    item.map (item.pairs_of (placed (number_tree n, x) (wanted_in (AllBut n) table (item.members ps))))
+tree_with_row table n x i = i
 
 -- no key names a row
 abbrev pub AreOthers : Table → Members → Type 0

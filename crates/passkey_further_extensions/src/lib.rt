@@ -14,6 +14,6 @@ pub use large_blob::{
     LargeBlobGetInputs, LargeBlobGetOutputs, LargeBlobMakeInputs, LargeBlobMakeOutputs,
 };
 pub use lent::extensions_of;
-pub use others::{others_of, with_others};
+pub use others::{others_of, with_others, with_row};
 pub use passkey_kinds::TableRecord;
 pub use prf::{PrfInputs, PrfOutputs, PrfValue, PrfValues};

@@ -1,35 +1,47 @@
 //! Members of extension maps that a record doesn't know, kept undecoded.
 ghost use Rattle.std.specs.Prelude.{◌≡◌, ◌<◌, IfOk, OnOk, length, map};
 ghost use Rattle.passkey_kinds.specs.Words.{item_of, named, pair_of, plain_tree, table_of};
-ghost use Rattle.passkey_further_extensions.specs.Others.{is_unknown, others_at, others_in, place_in, placed, tree_with, with_all};
+ghost use Rattle.passkey_further_extensions.specs.Others.{others_at, place_in, placed, tree_with, tree_with_row, wanted_in, wants, with_all};
 
 use passkey_cbor::{Value, ctap2_order};
 use passkey_kinds::{Named, OutOfMemory, Record, TableRecord, ToCbor, row_of};
 use std::alloc::Global;
 use std::cmp::Ordering;
 
-fn is_other<R: Record>(key: &Value) -> bool
-    ensures { result ≡ is_unknown (named (table_of R.fields) (item_of key.now)) }
+/// Which members of a map are wanted, by what their keys name.
+#[derive(Clone, Copy)]
+enum Which {
+    /// Those that name no row.
+    Others,
+    /// All but those that name the row with this number.
+    AllBut(u8),
+}
+
+fn is_wanted<R: Record>(which: Which, key: &Value) -> bool
+    ensures { result ≡ wants which (named (table_of R.fields) (item_of key.now)) }
 {
-    match row_of(R::is_numbered(), R::rows(), key) {
-        Some(Named::Unknown) => true,
-        _ => false,
+    match (which, row_of(R::is_numbered(), R::rows(), key)) {
+        (Which::Others, Some(Named::Unknown)) => true,
+        (Which::Others, _) => false,
+        (Which::AllBut(number), Some(Named::Row(found))) => found != number,
+        (Which::AllBut(_), _) => true,
     }
 }
 
-fn others_among<R: Record>(
+fn wanted_among<R: Record>(
     alloc: Global,
+    which: Which,
     pairs: &[(Value, Value)],
 ) -> Result<Vec<(Value, Value)>, OutOfMemory>
-    ensures { IfOk result (λ ms. map pair_of ms.items ≡ others_in (table_of R.fields) (map pair_of pairs.now)) }
+    ensures { IfOk result (λ ms. map pair_of ms.items ≡ wanted_in which (table_of R.fields) (map pair_of pairs.now)) }
 {
-    let mut others = Vec::new(alloc);
+    let mut wanted = Vec::new(alloc);
     for (key, value) in pairs {
-        if is_other::<R>(key) {
-            others.push((key.try_clone(alloc)?, value.try_clone(alloc)?))?;
+        if is_wanted::<R>(which, key) {
+            wanted.push((key.try_clone(alloc)?, value.try_clone(alloc)?))?;
         }
     }
-    Ok(others)
+    Ok(wanted)
 }
 
 /// Returns copies of the members of the map whose keys name no row of the record, in their order: the
@@ -40,7 +52,7 @@ pub fn others_of<R: Record>(alloc: Global, item: &Value) -> Result<Vec<(Value, V
     ensures { IfOk result (λ ms. map pair_of ms.items ≡ others_at (table_of R.fields) (item_of item.now)) }
 {
     match item {
-        Value::Map(pairs) => others_among::<R>(alloc, pairs),
+        Value::Map(pairs) => wanted_among::<R>(alloc, Which::Others, pairs),
         _ => Ok(Vec::new(alloc)),
     }
 }
@@ -90,8 +102,9 @@ fn place_all(
 
 /// Returns the map of the record's members and of these others, each before the first member whose
 /// key comes after its own in CTAP2's order (CTAP 2.1, section 8). With those that `others_of`
-/// returned, nothing is lost that the record doesn't know. Returns `OutOfMemory` if an allocation
-/// fails.
+/// returned, nothing is lost that the record doesn't know. The time grows with the square of the
+/// number of members, so bound the length of a stranger's map. Returns `OutOfMemory` if an
+/// allocation fails.
 #[tactic(auto, using(passkey_kinds::proofs::Members::reads_map))]
 pub fn with_others<R: TableRecord>(
     alloc: Global,
@@ -106,5 +119,29 @@ pub fn with_others<R: TableRecord>(
             Ok(Value::Map(pairs))
         }
         value => Ok(value),
+    }
+}
+
+/// Returns the map with this value for the row with this number, under its number and in its place:
+/// so a message gets back its extensions, with all that its record doesn't know. Any other member
+/// that names the row is left out. Returns an item that is no map unchanged, and `OutOfMemory` if an
+/// allocation fails.
+#[tactic(auto, using(passkey_kinds::proofs::Members::reads_map))]
+pub fn with_row<R: Record>(
+    alloc: Global,
+    message: &Value,
+    number: u8,
+    value: &Value,
+) -> Result<Value, OutOfMemory>
+    ensures { IfOk result (λ v. item_of v ≡ tree_with_row (table_of R.fields) number (item_of value.now)
+        (item_of message.now)) }
+{
+    match message {
+        Value::Map(pairs) => {
+            let mut members = wanted_among::<R>(alloc, Which::AllBut(number), pairs)?;
+            place(alloc, &mut members, &Value::from(number), value)?;
+            Ok(Value::Map(members))
+        }
+        message => message.try_clone(alloc),
     }
 }
