@@ -17,8 +17,11 @@ SHOWN = BYTES + JSON
 # Further kinds of passkey_rows alone: messages, in hexadecimal.
 FURTHER = (
     "pin-request pin-response bio-request bio-response cm-request cm-response lb-request lb-response lb-entry "
-    "cfg-request cfg-min-pin-length cfg-vendor"
+    "cfg-request cfg-min-pin-length cfg-vendor info-23 mc-inputs mc-outputs mc-unsigned ga-inputs ga-outputs ga-unsigned"
 ).split()
+
+# Attestation statements, in hexadecimal. Some faults of a statement are outputs.
+STATEMENTS = [f"att-{it}" for it in "packed tpm android-key android-safetynet fido-u2f none apple compound".split()]
 
 
 def rows():

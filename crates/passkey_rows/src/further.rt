@@ -3,16 +3,22 @@ use crate::again_bytes::{Copied, encoded, message_again};
 use crate::alike::is_decoded_alike;
 use crate::attestation::attestation_row;
 use crate::by_item::by_item;
+use crate::extensions::extensions_row;
 use crate::heads::counted;
 use crate::hexadecimal::{decode, encode};
+use crate::level_3::level_3_row;
 use crate::tries::{Part, Tries};
 use passkey_rewrite::RunFault;
 use passkey_types::OutOfMemory;
 use passkey_types::cbor::Value;
 use passkey_types::ctap2::framing::{from_body, request_of, response_of};
+use passkey_types::ctap2::further_extensions::{
+    PrfValue, get_assertion as used, make_credential as made,
+};
 use passkey_types::ctap2::large_blobs::{array_of, with_digest};
 use passkey_types::ctap2::{
-    Kept, Message, ToCbor, bio_enrollment, client_pin, config, credential_management, large_blobs,
+    Kept, Message, ToCbor, bio_enrollment, client_pin, config, credential_management, get_info_23,
+    large_blobs,
 };
 use std::alloc::Global;
 
@@ -43,6 +49,20 @@ pub enum Further {
     ConfigMinPinLength,
     /// Parameters of vendorPrototype.
     ConfigVendor,
+    /// An authenticatorGetInfo response of CTAP 2.3.
+    Info23,
+    /// Extension inputs of authenticatorMakeCredential.
+    MadeInputs,
+    /// Extension outputs in the authenticator data of a registration.
+    MadeOutputs,
+    /// Unsigned extension outputs of authenticatorMakeCredential.
+    MadeUnsigned,
+    /// Extension inputs of authenticatorGetAssertion.
+    UsedInputs,
+    /// Extension outputs in the authenticator data of an assertion.
+    UsedOutputs,
+    /// Unsigned extension outputs of authenticatorGetAssertion.
+    UsedUnsigned,
 }
 
 impl Further {
@@ -60,6 +80,13 @@ impl Further {
             "cfg-request" => Some(Further::ConfigRequest),
             "cfg-min-pin-length" => Some(Further::ConfigMinPinLength),
             "cfg-vendor" => Some(Further::ConfigVendor),
+            "info-23" => Some(Further::Info23),
+            "mc-inputs" => Some(Further::MadeInputs),
+            "mc-outputs" => Some(Further::MadeOutputs),
+            "mc-unsigned" => Some(Further::MadeUnsigned),
+            "ga-inputs" => Some(Further::UsedInputs),
+            "ga-outputs" => Some(Further::UsedOutputs),
+            "ga-unsigned" => Some(Further::UsedUnsigned),
             _ => None,
         }
     }
@@ -164,6 +191,55 @@ impl Copied for config::VendorParameters {
     }
 }
 
+impl Copied for get_info_23::Response {
+    fn replace_parts(&mut self, alloc: Global, tries: &mut Tries) -> Result<(), OutOfMemory> {
+        tries.replace_some(alloc, &mut self.certifications)
+    }
+}
+
+impl Copied for made::ExtensionInputs {
+    fn replace_parts(&mut self, alloc: Global, tries: &mut Tries) -> Result<(), OutOfMemory> {
+        tries.replace_some(alloc, &mut self.hmac_secret_mc)
+    }
+}
+
+impl Copied for made::SignedExtensionOutputs {
+    fn replace_parts(&mut self, alloc: Global, tries: &mut Tries) -> Result<(), OutOfMemory> {
+        tries.replace_some(alloc, &mut self.hmac_secret_mc)
+    }
+}
+
+impl Copied for made::UnsignedExtensionOutputs {
+    fn replace_parts(&mut self, _alloc: Global, tries: &mut Tries) -> Result<(), OutOfMemory> {
+        if let Some(outputs) = &mut self.prf
+            && let Some(values) = &mut outputs.results
+        {
+            let copy = PrfValue::new(values.first.bytes());
+            tries.compare(values.first == copy);
+            values.first = copy;
+        }
+        Ok(())
+    }
+}
+
+impl Copied for used::ExtensionInputs {
+    fn replace_parts(&mut self, alloc: Global, tries: &mut Tries) -> Result<(), OutOfMemory> {
+        tries.replace_some(alloc, &mut self.hmac_secret)
+    }
+}
+
+impl Copied for used::SignedExtensionOutputs {
+    fn replace_parts(&mut self, alloc: Global, tries: &mut Tries) -> Result<(), OutOfMemory> {
+        tries.replace_some(alloc, &mut self.cred_blob)
+    }
+}
+
+impl Copied for used::UnsignedExtensionOutputs {
+    fn replace_parts(&mut self, _alloc: Global, _tries: &mut Tries) -> Result<(), OutOfMemory> {
+        Ok(())
+    }
+}
+
 fn printed<M: Message + Copied + ToCbor>(
     alloc: Global,
     tries: &mut Tries,
@@ -207,6 +283,17 @@ fn answer_as(
             alloc, tries, way, &bytes,
         ),
         Further::ConfigVendor => printed::<config::VendorParameters>(alloc, tries, way, &bytes),
+        Further::Info23 => printed::<get_info_23::Response>(alloc, tries, way, &bytes),
+        Further::MadeInputs => printed::<made::ExtensionInputs>(alloc, tries, way, &bytes),
+        Further::MadeOutputs => printed::<made::SignedExtensionOutputs>(alloc, tries, way, &bytes),
+        Further::MadeUnsigned => printed::<made::UnsignedExtensionOutputs>(
+            alloc, tries, way, &bytes,
+        ),
+        Further::UsedInputs => printed::<used::ExtensionInputs>(alloc, tries, way, &bytes),
+        Further::UsedOutputs => printed::<used::SignedExtensionOutputs>(alloc, tries, way, &bytes),
+        Further::UsedUnsigned => printed::<used::UnsignedExtensionOutputs>(
+            alloc, tries, way, &bytes,
+        ),
     }
 }
 
@@ -235,6 +322,13 @@ pub fn are_alike(alloc: Global, kind: Further, input: &str) -> anyhow::Result<bo
             alloc, &bytes,
         ),
         Further::ConfigVendor => is_decoded_alike::<config::VendorParameters>(alloc, &bytes),
+        Further::Info23 => is_decoded_alike::<get_info_23::Response>(alloc, &bytes),
+        Further::MadeInputs => is_decoded_alike::<made::ExtensionInputs>(alloc, &bytes),
+        Further::MadeOutputs => is_decoded_alike::<made::SignedExtensionOutputs>(alloc, &bytes),
+        Further::MadeUnsigned => is_decoded_alike::<made::UnsignedExtensionOutputs>(alloc, &bytes),
+        Further::UsedInputs => is_decoded_alike::<used::ExtensionInputs>(alloc, &bytes),
+        Further::UsedOutputs => is_decoded_alike::<used::SignedExtensionOutputs>(alloc, &bytes),
+        Further::UsedUnsigned => is_decoded_alike::<used::UnsignedExtensionOutputs>(alloc, &bytes),
     }
 }
 
@@ -349,6 +443,12 @@ pub fn further_row(
         return Some(authenticated(alloc, command, input));
     }
     if let Some(output) = attestation_row(alloc, name, input) {
+        return Some(output);
+    }
+    if let Some(output) = level_3_row(alloc, name, input) {
+        return Some(output);
+    }
+    if let Some(output) = extensions_row(alloc, tries, name, input) {
         return Some(output);
     }
     let (way, kind) = way_of(name);
