@@ -13,6 +13,8 @@ pub enum InspectFault {
     /// The kind refuses the message. The text has the kind and the fault in a line, and in another
     /// which item, and what is wanted there, where a table tells it; status 1.
     Refused(String),
+    /// The same, with a page of HTML that shows it, for standard output; status 1.
+    RefusedPage(String, String),
     /// The input isn't base64; status 1.
     BadBase64,
     /// An argument is none of the program's; status 2.
@@ -25,11 +27,20 @@ impl InspectFault {
         Ok(InspectFault::Refused(format!(in alloc; "{kind} refuses it: {text}")?))
     }
 
+    /// Returns what goes to standard output all the same.
+    pub fn output(&self) -> &str {
+        match self {
+            InspectFault::RefusedPage(_, page) => page.as_str(),
+            _ => "",
+        }
+    }
+
     /// Returns the exit status, 1 to 4.
     pub fn status(&self) -> u8 {
         match self {
             InspectFault::Run(fault) => fault.status(),
-            InspectFault::Refused(_) | InspectFault::BadBase64 => 1,
+            InspectFault::Refused(_) | InspectFault::RefusedPage(_, _) | InspectFault::BadBase64 =>
+                1,
             InspectFault::BadArguments => 2,
         }
     }
@@ -39,7 +50,9 @@ impl fmt::Display for InspectFault {
     fn fmt<W: fmt::Write>(&self, f: &mut fmt::Formatter<W>) -> fmt::Result {
         match self {
             InspectFault::Run(fault) => write!(f, "{fault}"),
-            InspectFault::Refused(text) => f.write_str(text.as_str()),
+            InspectFault::Refused(text) | InspectFault::RefusedPage(text, _) => {
+                f.write_str(text.as_str())
+            }
             InspectFault::BadBase64 => f.write_str("BadBase64"),
             InspectFault::BadArguments => f.write_str("bad arguments; --help lists them"),
         }

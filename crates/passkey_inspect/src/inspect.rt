@@ -205,28 +205,24 @@ fn text_of(
     }
 }
 
-/// Returns a page that tells why the kind refuses the message.
-fn page_of_refusal(
+/// Returns the fault for a message that the kind refuses, with a page that shows where.
+fn refused_page(
     alloc: Global,
     body: &Body<'_>,
     kind: InspectKind,
     text: &str,
     extent: Option<Extent>,
-) -> Result<String, OutOfMemory> {
+) -> Result<InspectFault, OutOfMemory> {
     let name = name_of(kind);
     let title = format!(in alloc; "{name} refuses it")?;
     let Extent { offset, len } = extent.unwrap_or(Extent {
         offset: body.bytes.len(),
         len: 0,
     });
-    refusal_page(
-        alloc,
-        title.as_str(),
-        text,
-        body.bytes,
-        offset,
-        offset.saturating_add(len),
-    )
+    let end = offset.saturating_add(len);
+    let page = refusal_page(alloc, title.as_str(), text, body.bytes, offset, end)?;
+    let told = format!(in alloc; "{name} refuses it: {text}")?;
+    Ok(InspectFault::RefusedPage(told, page))
 }
 
 /// Returns what is printed of a message of which the kind is known.
@@ -248,7 +244,7 @@ fn print_as(
             len,
         )?),
         Examined::Refused(text, extent) if output == Output::Page => {
-            Ok(page_of_refusal(alloc, body, kind, text.as_str(), extent)?)
+            Err(refused_page(alloc, body, kind, text.as_str(), extent)?)
         }
         Examined::Refused(text, _) => {
             Err(InspectFault::refused(alloc, name_of(kind), text.as_str())?)

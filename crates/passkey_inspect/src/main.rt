@@ -49,8 +49,13 @@ fn show<R: Env + Files + AllocGlobal>(
         return Ok(write_all(writer, VERSION.as_bytes())?);
     }
     let input = read_input(rt, reader, options.file)?;
-    let text = inspect::inspect(rt.alloc(), &options, input.as_slice())?;
-    Ok(write_all(writer, text.as_bytes())?)
+    match inspect::inspect(rt.alloc(), &options, input.as_slice()) {
+        Ok(text) => Ok(write_all(writer, text.as_bytes())?),
+        Err(fault) => {
+            write_all(writer, fault.output().as_bytes())?;
+            Err(fault)
+        }
+    }
 }
 
 fn main(rt: HostRuntime) -> ExitCode {
