@@ -2,18 +2,18 @@
 use Rattle.passkey_credential_management.specs.CredProtect.{cred_protect_byte, cred_protect_of}
 use Rattle.passkey_further_extensions.proofs.Named.{IsNamed, named_law, plain_messages}
 use Rattle.passkey_further_extensions.specs.LargeBlobs.{blob_get_inputs, blob_get_outputs, blob_make_inputs, blob_make_outputs}
-use Rattle.passkey_further_extensions.specs.MadeInputs.{made_inputs, normal_made_inputs}
-use Rattle.passkey_further_extensions.specs.MadeOutputs.{made_outputs, normal_made_outputs}
-use Rattle.passkey_further_extensions.specs.MadeUnsigned.{made_unsigned}
+use Rattle.passkey_further_extensions.specs.MakeCredentialInputs.{make_credential_inputs, normal_make_credential_inputs}
+use Rattle.passkey_further_extensions.specs.MakeCredentialOutputs.{make_credential_outputs, normal_make_credential_outputs}
+use Rattle.passkey_further_extensions.specs.MakeCredentialUnsigned.{make_credential_unsigned}
 use Rattle.passkey_further_extensions.specs.Prf.{prf_inputs, prf_outputs, prf_values}
-use Rattle.passkey_further_extensions.specs.UsedInputs.{used_inputs}
-use Rattle.passkey_further_extensions.specs.UsedOutputs.{used_outputs}
-use Rattle.passkey_further_extensions.specs.UsedUnsigned.{used_unsigned}
+use Rattle.passkey_further_extensions.specs.GetAssertionInputs.{get_assertion_inputs}
+use Rattle.passkey_further_extensions.specs.GetAssertionOutputs.{get_assertion_outputs}
+use Rattle.passkey_further_extensions.specs.GetAssertionUnsigned.{get_assertion_unsigned}
 use Rattle.passkey_kinds.proofs.Back.{Puts}
 use Rattle.passkey_kinds.proofs.Lists.{map_same}
 use Rattle.passkey_kinds.proofs.Lawful.{IsLawful, IsLawfulAs, lawful}
 use Rattle.passkey_kinds.proofs.Numbered.{code_place, long_back, not_null_around, not_null_back}
-use Rattle.passkey_kinds.proofs.Steps.{IsReadBack, None, Option, anything, arith, byte_string, bytes_back, codes, false, length, list_plain, list_same, map_back, map_plain, map_values_same, no_more, optional_keeps, optional_place, plainly, puts_default, puts_value, refl, shortest_head, sized_bytes, suc, text_back, truth_back, word_back, ℕ, ◌≡◌, ◌▸◌, List, Some, [], ap, map, option_map}
+use Rattle.passkey_kinds.proofs.Steps.{IsReadBack, None, Option, anything, arith, byte_string, bytes_back, codes, false, length, list_plain, list_same, map_back, map_plain, map_values_same, no_more, optional_keeps, optional_place, plainly, puts_default, puts_value, refl, shortest_head, sized_bytes_from, suc, text_back, truth_back, word_back, ℕ, ◌≡◌, ◌▸◌, List, Some, [], ap, map, option_map}
 use Rattle.std.proofs.Common.{◌∷◌}
 use Rattle.passkey_kinds.specs.Coded.{byte_map, plain}
 use Rattle.passkey_kinds.specs.Numbered.{AreMessages}
@@ -21,7 +21,7 @@ use Rattle.passkey_kinds.specs.Record.{Member}
 
 -- ---- the extension prf
 
-pub sized_string_back : IsReadBack (sized_bytes 32) byte_string (λ b. length b ≡ 32) (λ b. b)
+pub sized_string_back : IsReadBack (sized_bytes_from 32) byte_string (λ b. length b ≡ 32) (λ b. b)
 sized_string_back = record { back = λ b h. rw h refl }
 
 pub prf_values_law : IsLawful 0 prf_values
@@ -102,9 +102,9 @@ lists_same (Some xs) = ap Some (each_list_same xs)
 
 -- ---- what keeps no data item
 
-pub made_outputs_law : IsLawfulAs normal_made_outputs 2 made_outputs
+pub make_credential_outputs_law : IsLawfulAs normal_make_credential_outputs 2 make_credential_outputs
 unfolding shortest_head
-made_outputs_law = lawful 2 made_outputs (λ r. refl) (λ r. refl) (λ r. refl)
+make_credential_outputs_law = lawful 2 make_credential_outputs (λ r. refl) (λ r. refl) (λ r. refl)
     (λ k r. search (plainly, list_plain (suc k), list_plain k) depth 12) (λ r fits.
     puts_default (optional_place (list_same (list_same word_back)) refl r.uvm (search)) refl ▸
     puts_default (optional_place truth_back refl r.cred_blob (anything r.cred_blob)) refl ▸
@@ -114,12 +114,12 @@ made_outputs_law = lawful 2 made_outputs (λ r. refl) (λ r. refl) (λ r. refl)
     puts_default (optional_place bytes_back refl r.hmac_secret_mc (anything r.hmac_secret_mc)) refl ▸
     no_more)
 
-pub made_outputs_messages : AreMessages false made_outputs (λ r. None)
-made_outputs_messages = plain_messages 2 made_outputs (omega arith) made_outputs_law
+pub make_credential_outputs_messages : AreMessages false make_credential_outputs (λ r. None)
+make_credential_outputs_messages = plain_messages 2 make_credential_outputs (omega arith) make_credential_outputs_law
 
-pub used_outputs_law : IsLawful 2 used_outputs
+pub get_assertion_outputs_law : IsLawful 2 get_assertion_outputs
 unfolding shortest_head
-used_outputs_law = lawful 2 used_outputs (λ r. refl) (λ r. refl) (λ r. refl)
+get_assertion_outputs_law = lawful 2 get_assertion_outputs (λ r. refl) (λ r. refl) (λ r. refl)
     (λ k r. search (plainly, list_plain (suc k), list_plain k) depth 12) (λ r fits.
     puts_default (optional_place (list_same (list_same word_back)) refl r.uvm (search)) refl ▸
     puts_default (optional_place bytes_back refl r.cred_blob (anything r.cred_blob)) refl ▸
@@ -127,36 +127,36 @@ used_outputs_law = lawful 2 used_outputs (λ r. refl) (λ r. refl) (λ r. refl)
     puts_default (optional_place truth_back refl r.third_party_payment (anything r.third_party_payment)) refl ▸
     no_more)
 
-pub used_outputs_messages : AreMessages false used_outputs (λ r. None)
-used_outputs_messages = plain_messages 2 used_outputs (omega arith) used_outputs_law
+pub get_assertion_outputs_messages : AreMessages false get_assertion_outputs (λ r. None)
+get_assertion_outputs_messages = plain_messages 2 get_assertion_outputs (omega arith) get_assertion_outputs_law
 
-pub made_unsigned_law : IsLawful 2 made_unsigned
+pub make_credential_unsigned_law : IsLawful 2 make_credential_unsigned
 unfolding shortest_head
-made_unsigned_law = lawful 2 made_unsigned (λ r. refl) (λ r. refl) (λ r. refl)
+make_credential_unsigned_law = lawful 2 make_credential_unsigned (λ r. refl) (λ r. refl) (λ r. refl)
     (λ k r. search (plainly, prf_outputs_law.plain k, blob_make_outputs_law.plain (suc k)) depth 12) (λ r fits.
     puts_default (optional_place prf_outputs_law.back refl r.prf (search)) refl ▸
     puts_default (optional_place blob_make_outputs_law.back refl r.large_blob (search)) refl ▸
     no_more)
 
-pub made_unsigned_messages : AreMessages false made_unsigned (λ r. None)
-made_unsigned_messages = plain_messages 2 made_unsigned (omega arith) made_unsigned_law
+pub make_credential_unsigned_messages : AreMessages false make_credential_unsigned (λ r. None)
+make_credential_unsigned_messages = plain_messages 2 make_credential_unsigned (omega arith) make_credential_unsigned_law
 
-pub used_unsigned_law : IsLawful 2 used_unsigned
+pub get_assertion_unsigned_law : IsLawful 2 get_assertion_unsigned
 unfolding shortest_head
-used_unsigned_law = lawful 2 used_unsigned (λ r. refl) (λ r. refl) (λ r. refl)
+get_assertion_unsigned_law = lawful 2 get_assertion_unsigned (λ r. refl) (λ r. refl) (λ r. refl)
     (λ k r. search (plainly, prf_outputs_law.plain k, blob_get_outputs_law.plain (suc k)) depth 12) (λ r fits.
     puts_default (optional_place prf_outputs_law.back refl r.prf (search)) refl ▸
     puts_default (optional_place blob_get_outputs_law.back refl r.large_blob (search)) refl ▸
     no_more)
 
-pub used_unsigned_messages : AreMessages false used_unsigned (λ r. None)
-used_unsigned_messages = plain_messages 2 used_unsigned (omega arith) used_unsigned_law
+pub get_assertion_unsigned_messages : AreMessages false get_assertion_unsigned (λ r. None)
+get_assertion_unsigned_messages = plain_messages 2 get_assertion_unsigned (omega arith) get_assertion_unsigned_law
 
 -- ---- inputs, which keep the salts of hmac-secret
 
-pub made_inputs_law : IsNamed normal_made_inputs made_inputs (λ r. r.hmac_secret_mc)
+pub make_credential_inputs_law : IsNamed normal_make_credential_inputs make_credential_inputs (λ r. r.hmac_secret_mc)
 unfolding shortest_head
-made_inputs_law = named_law made_inputs 3 (codes "hmac-secret-mc") (omega arith) (λ r. refl) (λ r. refl) (λ r. refl)
+make_credential_inputs_law = named_law make_credential_inputs 3 (codes "hmac-secret-mc") (omega arith) (λ r. refl) (λ r. refl) (λ r. refl)
     (λ Q rule r key. search (rule.holds, plainly, prf_inputs_law.plain 0, blob_make_inputs_law.plain 2) depth 18) (λ Q r each. search) (λ m. tt)
     (λ m i less. search (optional_keeps not_null_around) depth 18 parts 18) (λ r fits.
     puts_default (optional_place prf_inputs_law.back refl r.prf (search)) refl ▸
@@ -172,9 +172,9 @@ made_inputs_law = named_law made_inputs 3 (codes "hmac-secret-mc") (omega arith)
     puts_default (optional_place truth_back refl r.pin_complexity_policy (anything r.pin_complexity_policy)) refl ▸
     no_more)
 
-pub used_inputs_law : IsNamed (λ r. r) used_inputs (λ r. r.hmac_secret)
+pub get_assertion_inputs_law : IsNamed (λ r. r) get_assertion_inputs (λ r. r.hmac_secret)
 unfolding shortest_head
-used_inputs_law = named_law used_inputs 3 (codes "hmac-secret") (omega arith) (λ r. refl) (λ r. refl) (λ r. refl)
+get_assertion_inputs_law = named_law get_assertion_inputs 3 (codes "hmac-secret") (omega arith) (λ r. refl) (λ r. refl) (λ r. refl)
     (λ Q rule r key. search (rule.holds, plainly, prf_inputs_law.plain 0, blob_get_inputs_law.plain 2) depth 18) (λ Q r each. search) (λ m. tt)
     (λ m i less. search (optional_keeps not_null_around) depth 18 parts 18) (λ r fits.
     puts_default (optional_place prf_inputs_law.back refl r.prf (search)) refl ▸

@@ -1,10 +1,10 @@
 pub mod Prf
 pub mod LargeBlobs
-pub mod MadeInputs
-pub mod MadeOutputs
-pub mod MadeUnsigned
-pub mod UsedInputs
-pub mod UsedOutputs
-pub mod UsedUnsigned
+pub mod MakeCredentialInputs
+pub mod MakeCredentialOutputs
+pub mod MakeCredentialUnsigned
+pub mod GetAssertionInputs
+pub mod GetAssertionOutputs
+pub mod GetAssertionUnsigned
 pub mod Lent
 pub mod Others

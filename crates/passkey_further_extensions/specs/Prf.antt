@@ -3,13 +3,13 @@ use Rattle.std.specs.Prelude.{[], ◌∷◌, ◌≡◌, ℕ, List, None, codes, 
 use Rattle.passkey_further_extensions.specs.declared.prf.PrfInputs.{PrfInputs}
 use Rattle.passkey_further_extensions.specs.declared.prf.PrfOutputs.{PrfOutputs}
 use Rattle.passkey_further_extensions.specs.declared.prf.PrfValues.{PrfValues}
-use Rattle.passkey_kinds.specs.Coded.{byte_map, truth}
-use Rattle.passkey_kinds.specs.Typed.{sized_bytes, optional}
+use Rattle.passkey_kinds.specs.Coded.{byte_map, sized_bytes, truth}
+use Rattle.passkey_kinds.specs.Typed.{optional}
 use Rattle.passkey_kinds.specs.Words.{Coded, Placed, PlainTable, byte_string, default, optional_as, placed, plain, required_as, text_string}
 
 -- exactly 32 bytes, encoded as a byte string
 abbrev pub prf_value : Coded (List ℕ)
-prf_value = record { typed = sized_bytes 32; tree = byte_string; Fits = λ s. length s ≡ 32 }
+prf_value = record { typed = (sized_bytes 32).typed; tree = byte_string; Fits = λ s. length s ≡ 32 }
 
 abbrev pub prf_values : PlainTable PrfValues
 prf_values = record {

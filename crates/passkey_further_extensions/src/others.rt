@@ -100,7 +100,7 @@ fn place_all(
     Ok(())
 }
 
-/// Returns the map of the record's members and of these others, each before the first member whose
+/// Returns the map of the members of `known` and of these others, each before the first member whose
 /// key comes after its own in CTAP2's order (CTAP 2.1, section 8). With those that `others_of`
 /// returned, nothing is lost that the record doesn't know. The time grows with the square of the
 /// number of members, so bound the length of a stranger's map. Returns `OutOfMemory` if an
@@ -108,12 +108,12 @@ fn place_all(
 #[tactic(auto, using(passkey_kinds::proofs::Members::reads_map))]
 pub fn with_others<R: TableRecord>(
     alloc: Global,
-    record: &R,
+    known: &R,
     others: &[(Value, Value)],
 ) -> Result<Value, OutOfMemory>
-    ensures { IfOk result (λ v. item_of v ≡ tree_with (map pair_of others.now) (plain_tree R.table record.now)) }
+    ensures { IfOk result (λ v. item_of v ≡ tree_with (map pair_of others.now) (plain_tree R.table known.now)) }
 {
-    match record.to_value(alloc)? {
+    match known.to_value(alloc)? {
         Value::Map(mut pairs) => {
             place_all(alloc, &mut pairs, others)?;
             Ok(Value::Map(pairs))

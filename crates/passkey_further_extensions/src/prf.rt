@@ -51,7 +51,7 @@ impl FromCbor for PrfValue {
 
     ghost view = { λ v. v };
 
-    ghost typed = { sized_bytes 32 };
+    ghost typed = { (sized_bytes 32).typed };
 
     fn from_value(alloc: Global, value: &Value) -> Result<PrfValue, Refusal> {
         Ok(PrfValue(<[u8; 32]>::from_value(alloc, value)?))

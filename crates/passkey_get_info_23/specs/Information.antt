@@ -3,18 +3,18 @@ use Rattle.std.specs.Prelude.{[], ◌∷◌, ◌++◌, List, None, codes, replic
 use Rattle.passkey_get_info_23.specs.CredentialParameters.{credential_parameters}
 use Rattle.passkey_get_info_23.specs.Options.{options}
 use Rattle.passkey_get_info_23.specs.declared.response.Response.{Response}
-use Rattle.passkey_kinds.specs.Coded.{aaguid, accepted, bytes, list, text, truth}
+use Rattle.passkey_kinds.specs.Coded.{aaguid, accepted_of, bytes, list_of, text, truth}
 use Rattle.passkey_kinds.specs.Numbered.{kept_item, long}
 use Rattle.passkey_kinds.specs.Words.{Placed, PlainTable, byte, optional_at, plain, required_at, tolerated_at}
 
 abbrev pub first_members : List (Placed Response)
 first_members =
-    required_at 1 (codes "versions") (list text) (λ r. r.versions) (λ x r. record r { versions = x })
-    ∷ optional_at 2 (codes "extensions") (list text) (λ r. r.extensions) (λ x r. record r { extensions = x })
+    required_at 1 (codes "versions") (list_of text) (λ r. r.versions) (λ x r. record r { versions = x })
+    ∷ optional_at 2 (codes "extensions") (list_of text) (λ r. r.extensions) (λ x r. record r { extensions = x })
     ∷ required_at 3 (codes "aaguid") aaguid (λ r. r.aaguid.0) (λ x r. record r { aaguid = (record { 0 = x }) })
     ∷ optional_at 4 (codes "options") (plain options) (λ r. r.options) (λ x r. record r { options = x })
     ∷ optional_at 5 (codes "maxMsgSize") long (λ r. r.max_msg_size) (λ x r. record r { max_msg_size = x })
-    ∷ optional_at 6 (codes "pinProtocols") (list byte) (λ r. r.pin_uv_auth_protocols)
+    ∷ optional_at 6 (codes "pinProtocols") (list_of byte) (λ r. r.pin_uv_auth_protocols)
     (λ x r. record r { pin_uv_auth_protocols = x })
     ∷ optional_at 7 (codes "maxCredentialCountInList") long (λ r. r.max_credential_count_in_list)
     (λ x r. record r { max_credential_count_in_list = x })
@@ -24,10 +24,10 @@ first_members =
 
 abbrev pub middle_members : List (Placed Response)
 middle_members =
-    tolerated_at 9 (codes "transports") (accepted text) (λ r. r.transports) (λ x r. record r { transports = x })
-    ∷ tolerated_at 10 (codes "algorithms") (accepted (plain credential_parameters)) (λ r. r.algorithms)
+    tolerated_at 9 (codes "transports") (accepted_of text) (λ r. r.transports) (λ x r. record r { transports = x })
+    ∷ tolerated_at 10 (codes "algorithms") (accepted_of (plain credential_parameters)) (λ r. r.algorithms)
     (λ x r. record r { algorithms = x })
-    ∷ optional_at 11 (codes "macSerializedLargeBlobArray") long (λ r. r.max_serialized_large_blob_array)
+    ∷ optional_at 11 (codes "maxSerializedLargeBlobArray") long (λ r. r.max_serialized_large_blob_array)
     (λ x r. record r { max_serialized_large_blob_array = x })
     ∷ optional_at 12 (codes "forcePinChange") truth (λ r. r.force_pin_change) (λ x r. record r { force_pin_change = x })
     ∷ optional_at 13 (codes "minPinLength") long (λ r. r.min_pin_length) (λ x r. record r { min_pin_length = x })
@@ -46,16 +46,16 @@ last_members =
     optional_at 19 (codes "certifications") kept_item (λ r. r.certifications) (λ x r. record r { certifications = x })
     ∷ optional_at 20 (codes "remainingDiscoverableCredentials") long (λ r. r.remaining_discoverable_credentials)
     (λ x r. record r { remaining_discoverable_credentials = x })
-    ∷ tolerated_at 21 (codes "vendorPrototypeConfigCommands") (accepted long) (λ r. r.vendor_prototype_config_commands)
+    ∷ tolerated_at 21 (codes "vendorPrototypeConfigCommands") (accepted_of long) (λ r. r.vendor_prototype_config_commands)
     (λ x r. record r { vendor_prototype_config_commands = x })
-    ∷ tolerated_at 22 (codes "attestationFormats") (accepted text) (λ r. r.attestation_formats)
+    ∷ tolerated_at 22 (codes "attestationFormats") (accepted_of text) (λ r. r.attestation_formats)
     (λ x r. record r { attestation_formats = x })
     ∷ optional_at 23 (codes "uvCountSinceLastPinEntry") long (λ r. r.uv_count_since_last_pin_entry)
     (λ x r. record r { uv_count_since_last_pin_entry = x })
     ∷ optional_at 24 (codes "longTouchForReset") truth (λ r. r.long_touch_for_reset)
     (λ x r. record r { long_touch_for_reset = x })
     ∷ optional_at 25 (codes "encIdentifier") bytes (λ r. r.enc_identifier) (λ x r. record r { enc_identifier = x })
-    ∷ tolerated_at 26 (codes "transportsForReset") (accepted text) (λ r. r.transports_for_reset)
+    ∷ tolerated_at 26 (codes "transportsForReset") (accepted_of text) (λ r. r.transports_for_reset)
     (λ x r. record r { transports_for_reset = x })
     ∷ []
 
@@ -68,7 +68,7 @@ newest_members =
     ∷ optional_at 29 (codes "maxPinLength") long (λ r. r.max_pin_length) (λ x r. record r { max_pin_length = x })
     ∷ optional_at 30 (codes "encCredStoreState") bytes (λ r. r.enc_cred_store_state)
     (λ x r. record r { enc_cred_store_state = x })
-    ∷ optional_at 31 (codes "authenticatorConfigCommands") (list byte) (λ r. r.authenticator_config_commands)
+    ∷ optional_at 31 (codes "authenticatorConfigCommands") (list_of byte) (λ r. r.authenticator_config_commands)
     (λ x r. record r { authenticator_config_commands = x })
     ∷ []
 

@@ -111,7 +111,7 @@ impl TableRecord for Response {
             Row::Optional(0x08, "maxCredentialIdLength"),
             Row::Optional(0x09, "transports"),
             Row::Optional(0x0a, "algorithms"),
-            Row::Optional(0x0b, "macSerializedLargeBlobArray"),
+            Row::Optional(0x0b, "maxSerializedLargeBlobArray"),
             Row::Optional(0x0c, "forcePinChange"),
             Row::Optional(0x0d, "minPinLength"),
             Row::Optional(0x0e, "firmwareVersion"),

@@ -1,6 +1,6 @@
 //! Extension inputs of an authenticatorGetAssertion request.
 ghost use Rattle.std.specs.Prelude.{false};
-ghost use Rattle.passkey_further_extensions.specs.UsedInputs.{used_inputs};
+ghost use Rattle.passkey_further_extensions.specs.GetAssertionInputs.{get_assertion_inputs};
 
 use crate::{LargeBlobGetInputs, PrfInputs};
 use passkey_kinds::{
@@ -32,7 +32,7 @@ pub struct ExtensionInputs {
 }
 
 impl TableRecord for ExtensionInputs {
-    ghost table = { used_inputs };
+    ghost table = { get_assertion_inputs };
 
     ghost numbered = { false };
 
@@ -82,7 +82,7 @@ impl TableRecord for ExtensionInputs {
         Ok(())
     }
 
-    #[tactic(auto, using(crate::proofs::Extensions::used_inputs_law))]
+    #[tactic(auto, using(crate::proofs::Extensions::get_assertion_inputs_law))]
     fn lawful() {}
 }
 
@@ -93,6 +93,6 @@ impl TableMessage for ExtensionInputs {
         self.hmac_secret.as_ref()
     }
 
-    #[tactic(auto, using(crate::proofs::Extensions::used_inputs_law))]
+    #[tactic(auto, using(crate::proofs::Extensions::get_assertion_inputs_law))]
     fn is_message() {}
 }

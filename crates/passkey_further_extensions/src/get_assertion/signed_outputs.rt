@@ -1,6 +1,6 @@
 //! Extension outputs in the authenticator data of an assertion.
 ghost use Rattle.std.specs.Prelude.{None, false};
-ghost use Rattle.passkey_further_extensions.specs.UsedOutputs.{used_outputs};
+ghost use Rattle.passkey_further_extensions.specs.GetAssertionOutputs.{get_assertion_outputs};
 
 use passkey_bytes::{Bytes, List};
 use passkey_kinds::{
@@ -23,7 +23,7 @@ pub struct SignedExtensionOutputs {
 }
 
 impl TableRecord for SignedExtensionOutputs {
-    ghost table = { used_outputs };
+    ghost table = { get_assertion_outputs };
 
     ghost numbered = { false };
 
@@ -62,7 +62,7 @@ impl TableRecord for SignedExtensionOutputs {
         Ok(())
     }
 
-    #[tactic(auto, using(crate::proofs::Extensions::used_outputs_law))]
+    #[tactic(auto, using(crate::proofs::Extensions::get_assertion_outputs_law))]
     fn lawful() {}
 }
 
@@ -73,6 +73,6 @@ impl TableMessage for SignedExtensionOutputs {
         None
     }
 
-    #[tactic(auto, using(crate::proofs::Extensions::used_outputs_messages))]
+    #[tactic(auto, using(crate::proofs::Extensions::get_assertion_outputs_messages))]
     fn is_message() {}
 }

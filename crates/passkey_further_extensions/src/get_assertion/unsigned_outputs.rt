@@ -1,6 +1,6 @@
 //! Extension outputs of an authenticatorGetAssertion response that are outside its authenticator data.
 ghost use Rattle.std.specs.Prelude.{None, false};
-ghost use Rattle.passkey_further_extensions.specs.UsedUnsigned.{used_unsigned};
+ghost use Rattle.passkey_further_extensions.specs.GetAssertionUnsigned.{get_assertion_unsigned};
 
 use crate::{LargeBlobGetOutputs, PrfOutputs};
 use passkey_kinds::{
@@ -20,7 +20,7 @@ pub struct UnsignedExtensionOutputs {
 }
 
 impl TableRecord for UnsignedExtensionOutputs {
-    ghost table = { used_unsigned };
+    ghost table = { get_assertion_unsigned };
 
     ghost numbered = { false };
 
@@ -50,7 +50,7 @@ impl TableRecord for UnsignedExtensionOutputs {
         Ok(())
     }
 
-    #[tactic(auto, using(crate::proofs::Extensions::used_unsigned_law))]
+    #[tactic(auto, using(crate::proofs::Extensions::get_assertion_unsigned_law))]
     fn lawful() {}
 }
 
@@ -61,6 +61,6 @@ impl TableMessage for UnsignedExtensionOutputs {
         None
     }
 
-    #[tactic(auto, using(crate::proofs::Extensions::used_unsigned_messages))]
+    #[tactic(auto, using(crate::proofs::Extensions::get_assertion_unsigned_messages))]
     fn is_message() {}
 }

@@ -1,6 +1,6 @@
 //! Extension inputs of an authenticatorMakeCredential request.
 ghost use Rattle.std.specs.Prelude.{false};
-ghost use Rattle.passkey_further_extensions.specs.MadeInputs.{made_inputs, normal_made_inputs};
+ghost use Rattle.passkey_further_extensions.specs.MakeCredentialInputs.{make_credential_inputs, normal_make_credential_inputs};
 
 use crate::cred_protect::put_level;
 use crate::{LargeBlobMakeInputs, PrfInputs};
@@ -41,13 +41,13 @@ pub struct ExtensionInputs {
 }
 
 impl TableRecord for ExtensionInputs {
-    ghost table = { made_inputs };
+    ghost table = { make_credential_inputs };
 
     ghost numbered = { false };
 
     ghost kept = { λ r. r.hmac_secret_mc };
 
-    ghost normal = { normal_made_inputs };
+    ghost normal = { normal_make_credential_inputs };
 
     fn is_numbered() -> bool {
         false
@@ -105,7 +105,7 @@ impl TableRecord for ExtensionInputs {
         Ok(())
     }
 
-    #[tactic(auto, using(crate::proofs::Extensions::made_inputs_law))]
+    #[tactic(auto, using(crate::proofs::Extensions::make_credential_inputs_law))]
     fn lawful() {}
 }
 
@@ -116,6 +116,6 @@ impl TableMessage for ExtensionInputs {
         self.hmac_secret_mc.as_ref()
     }
 
-    #[tactic(auto, using(crate::proofs::Extensions::made_inputs_law))]
+    #[tactic(auto, using(crate::proofs::Extensions::make_credential_inputs_law))]
     fn is_message() {}
 }

@@ -1,6 +1,6 @@
 //! Extension outputs in the authenticator data of a registration.
 ghost use Rattle.std.specs.Prelude.{None, false};
-ghost use Rattle.passkey_further_extensions.specs.MadeOutputs.{made_outputs, normal_made_outputs};
+ghost use Rattle.passkey_further_extensions.specs.MakeCredentialOutputs.{make_credential_outputs, normal_make_credential_outputs};
 
 use crate::cred_protect::put_level;
 use passkey_bytes::{Bytes, List};
@@ -31,11 +31,11 @@ pub struct SignedExtensionOutputs {
 }
 
 impl TableRecord for SignedExtensionOutputs {
-    ghost table = { made_outputs };
+    ghost table = { make_credential_outputs };
 
     ghost numbered = { false };
 
-    ghost normal = { normal_made_outputs };
+    ghost normal = { normal_make_credential_outputs };
 
     fn is_numbered() -> bool {
         false
@@ -78,7 +78,7 @@ impl TableRecord for SignedExtensionOutputs {
         Ok(())
     }
 
-    #[tactic(auto, using(crate::proofs::Extensions::made_outputs_law))]
+    #[tactic(auto, using(crate::proofs::Extensions::make_credential_outputs_law))]
     fn lawful() {}
 }
 
@@ -89,6 +89,6 @@ impl TableMessage for SignedExtensionOutputs {
         None
     }
 
-    #[tactic(auto, using(crate::proofs::Extensions::made_outputs_messages))]
+    #[tactic(auto, using(crate::proofs::Extensions::make_credential_outputs_messages))]
     fn is_message() {}
 }

@@ -1,6 +1,6 @@
 //! Extension outputs of an authenticatorMakeCredential response that are outside its authenticator data.
 ghost use Rattle.std.specs.Prelude.{None, false};
-ghost use Rattle.passkey_further_extensions.specs.MadeUnsigned.{made_unsigned};
+ghost use Rattle.passkey_further_extensions.specs.MakeCredentialUnsigned.{make_credential_unsigned};
 
 use crate::{LargeBlobMakeOutputs, PrfOutputs};
 use passkey_kinds::{
@@ -20,7 +20,7 @@ pub struct UnsignedExtensionOutputs {
 }
 
 impl TableRecord for UnsignedExtensionOutputs {
-    ghost table = { made_unsigned };
+    ghost table = { make_credential_unsigned };
 
     ghost numbered = { false };
 
@@ -50,7 +50,7 @@ impl TableRecord for UnsignedExtensionOutputs {
         Ok(())
     }
 
-    #[tactic(auto, using(crate::proofs::Extensions::made_unsigned_law))]
+    #[tactic(auto, using(crate::proofs::Extensions::make_credential_unsigned_law))]
     fn lawful() {}
 }
 
@@ -61,6 +61,6 @@ impl TableMessage for UnsignedExtensionOutputs {
         None
     }
 
-    #[tactic(auto, using(crate::proofs::Extensions::made_unsigned_messages))]
+    #[tactic(auto, using(crate::proofs::Extensions::make_credential_unsigned_messages))]
     fn is_message() {}
 }

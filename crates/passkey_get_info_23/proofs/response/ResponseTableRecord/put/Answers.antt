@@ -2,7 +2,8 @@ use Rattle.passkey_get_info_23.specs.Information.{information}
 use Rattle.passkey_get_info_23.specs.declared.response.Response.{Response}
 use Rattle.passkey_kinds.proofs.Steps.{List, Option, ap, each_same, map, option_map, refl, sets_put, ℕ}
 use Rattle.passkey_kinds.specs.Numbered.{numbered_fields}
-use Rattle.passkey_kinds.specs.Typed.{below, list, optional, text}
+use Rattle.passkey_kinds.specs.Coded.{text}
+use Rattle.passkey_kinds.specs.Typed.{below, list, optional}
 use Rattle.passkey_get_info_23.proofs.response.ResponseTableRecord.put.Goals as goal
 
 pub returns-in-2-clause-puts : goal.returns-in-2-clause-puts
@@ -10,7 +11,7 @@ returns-in-2-clause-puts g c = λ i to at.
     let old = c.args.self.now in
     let put : Option (List (List ℕ)) → Response → Response = λ x r. record r { extensions = x } in
     sets_put (numbered_fields information) (λ (o : Option (List (List ℕ))). option_map (λ (xs : List (List ℕ)). map (λ (x : (List ℕ)). x) xs) o)
-    (optional (list text)) put c.args.number 2 i c.set-in-2.new.field old (put c.set-in-2.new.field old)
+    (optional (list text.typed)) put c.args.number 2 i c.set-in-2.new.field old (put c.set-in-2.new.field old)
     c.set-in-2.result c.in-2.is refl refl refl (ap (λ o. put o old) (each_same c.set-in-2.new.field))
     (c.set-in-2.ensures.sets i to at)
 

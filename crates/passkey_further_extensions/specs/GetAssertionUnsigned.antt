@@ -5,8 +5,8 @@ use Rattle.passkey_further_extensions.specs.Prf.{prf_outputs}
 use Rattle.passkey_further_extensions.specs.declared.get_assertion.unsigned_outputs.UnsignedExtensionOutputs.{UnsignedExtensionOutputs}
 use Rattle.passkey_kinds.specs.Words.{PlainTable, optional_as, plain}
 
-abbrev pub used_unsigned : PlainTable UnsignedExtensionOutputs
-used_unsigned = record {
+abbrev pub get_assertion_unsigned : PlainTable UnsignedExtensionOutputs
+get_assertion_unsigned = record {
   blank = record { prf = None; large_blob = None };
   members = optional_as 1 (codes "prf") (plain prf_outputs) (λ r. r.prf) (λ x r. record r { prf = x })
       ∷ optional_as 2 (codes "largeBlob") (plain blob_get_outputs) (λ r. r.large_blob)

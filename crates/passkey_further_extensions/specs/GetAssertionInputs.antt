@@ -7,8 +7,8 @@ use Rattle.passkey_kinds.specs.Coded.{truth}
 use Rattle.passkey_kinds.specs.Numbered.{kept_item}
 use Rattle.passkey_kinds.specs.Words.{PlainTable, optional_as, plain}
 
-abbrev pub used_inputs : PlainTable ExtensionInputs
-used_inputs = record {
+abbrev pub get_assertion_inputs : PlainTable ExtensionInputs
+get_assertion_inputs = record {
   blank = record { prf = None; uvm = None; cred_blob = None; large_blob = None; hmac_secret = None; large_blob_key = None; third_party_payment = None };
   members = optional_as 1 (codes "prf") (plain prf_inputs) (λ r. r.prf) (λ x r. record r { prf = x })
       ∷ optional_as 2 (codes "uvm") truth (λ r. r.uvm) (λ x r. record r { uvm = x })
