@@ -1,4 +1,5 @@
--- Extension outputs of an authenticatorGetAssertion response that are outside its authenticator data: member 0x08 (CTAP 2.3, section 6.2).
+-- Extension outputs of an authenticatorGetAssertion response that are outside its authenticator data: member 0x08
+-- (CTAP 2.3, section 6.2).
 use Rattle.std.specs.Prelude.{[], ◌∷◌, None, codes}
 use Rattle.passkey_further_extensions.specs.LargeBlobs.{blob_get_outputs}
 use Rattle.passkey_further_extensions.specs.Prf.{prf_outputs}

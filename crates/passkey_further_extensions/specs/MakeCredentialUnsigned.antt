@@ -1,4 +1,5 @@
--- Extension outputs of an authenticatorMakeCredential response that are outside its authenticator data: member 0x06 (CTAP 2.3, section 6.1).
+-- Extension outputs of an authenticatorMakeCredential response that are outside its authenticator data: member 0x06
+-- (CTAP 2.3, section 6.1).
 use Rattle.std.specs.Prelude.{[], ◌∷◌, None, codes}
 use Rattle.passkey_further_extensions.specs.LargeBlobs.{blob_make_outputs}
 use Rattle.passkey_further_extensions.specs.Prf.{prf_outputs}

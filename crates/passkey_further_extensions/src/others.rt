@@ -101,10 +101,9 @@ fn place_all(
 }
 
 /// Returns the map of the members of `known` and of these others, each before the first member whose
-/// key comes after its own in CTAP2's order (CTAP 2.1, section 8). With those that `others_of`
-/// returned, nothing is lost that the record doesn't know. The time grows with the square of the
-/// number of members, so bound the length of a stranger's map. Returns `OutOfMemory` if an
-/// allocation fails.
+/// key comes after its own in CTAP2's order (CTAP 2.1, section 8). With what `others_of` returned, no
+/// unknown extension is lost. Takes quadratic time in the number of members: limit the length of
+/// untrusted maps. Returns `OutOfMemory` if an allocation fails.
 #[tactic(auto, using(passkey_kinds::proofs::Members::reads_map))]
 pub fn with_others<R: TableRecord>(
     alloc: Global,
