@@ -1,0 +1,3 @@
+pub mod KeyVerdict
+pub mod DataVerdict
+pub mod DataPassing

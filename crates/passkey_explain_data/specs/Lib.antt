@@ -1,0 +1,4 @@
+pub mod Names
+pub mod KeyBlame
+pub mod Checked
+pub mod DataBlame

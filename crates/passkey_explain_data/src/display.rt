@@ -1,0 +1,132 @@
+//! Refusals as a person reads them.
+
+use crate::{DataPart, DataReason, DataRefusal, KeyBlame, KeyRefusal};
+use passkey_cose::CoseError;
+use passkey_cose::iana::{EnumI64, KeyType};
+use std::fmt;
+
+/// Returns the name of a parameter of a key (RFC 9052, section 7.1; RFC 9053, section 7; RFC 8230,
+/// section 4).
+fn label_name(key_type: Option<i64>, label: i64) -> Option<&'static str> {
+    match (label, key_type.and_then(KeyType::from_i64)) {
+        (1, _) => Some("kty"),
+        (2, _) => Some("kid"),
+        (3, _) => Some("alg"),
+        (4, _) => Some("key_ops"),
+        (5, _) => Some("Base IV"),
+        (-1, Some(KeyType::RSA)) => Some("n"),
+        (-2, Some(KeyType::RSA)) => Some("e"),
+        (-1, Some(KeyType::OKP | KeyType::EC2)) => Some("crv"),
+        (-2, Some(KeyType::OKP | KeyType::EC2)) => Some("x"),
+        (-3, Some(KeyType::EC2)) => Some("y"),
+        (-1, Some(KeyType::Symmetric)) => Some("k"),
+        _ => None,
+    }
+}
+
+fn write_label<W: fmt::Write>(
+    f: &mut fmt::Formatter<W>,
+    key_type: Option<i64>,
+    label: i64,
+) -> fmt::Result {
+    match label_name(key_type, label) {
+        Some(name) => f.write_str(name),
+        None => write!(f, "label {label}"),
+    }
+}
+
+/// Returns why a label is refused that is no integer of 64 signed bits.
+fn label_reason(fault: CoseError) -> &'static str {
+    match fault {
+        CoseError::DuplicateMapKey => "a label is repeated",
+        CoseError::OutOfRangeIntegerValue => "a label has more than 64 signed bits",
+        _ => "a label is neither an integer nor a text",
+    }
+}
+
+/// Returns why the value under one of the labels 1 to 5 is refused.
+fn value_reason(fault: CoseError, key_type: Option<i64>, label: i64) -> &'static str {
+    match (fault, label) {
+        (CoseError::OutOfRangeIntegerValue, _) => "an integer of 64 signed bits is wanted",
+        (_, 1) if key_type == Some(0) => "this key type is reserved",
+        (_, 2 | 5) => "a byte string that isn't empty is wanted",
+        (_, 4) => "an array of different integers or texts is wanted",
+        _ => "an integer or a text is wanted",
+    }
+}
+
+/// Returns whether the refusal begins with the name of a parameter.
+fn names_parameter(refusal: &KeyRefusal) -> bool {
+    matches!(
+        refusal.blame,
+        KeyBlame::Label(_, Some(_)) | KeyBlame::Value(_, Some(_))
+    )
+}
+
+impl fmt::Display for KeyRefusal {
+    fn fmt<W: fmt::Write>(&self, f: &mut fmt::Formatter<W>) -> fmt::Result {
+        match self.blame {
+            KeyBlame::NotAMap => f.write_str("a map is wanted"),
+            KeyBlame::NoType => f.write_str("kty is missing"),
+            KeyBlame::Label(_, Some(label)) => {
+                write_label(f, self.key_type, label)?;
+                f.write_str(": this label is repeated")
+            }
+            KeyBlame::Value(_, Some(label)) => {
+                write_label(f, self.key_type, label)?;
+                f.write_str(": ")?;
+                f.write_str(value_reason(self.fault, self.key_type, label))
+            }
+            KeyBlame::Label(_, None) | KeyBlame::Value(_, None) => {
+                f.write_str(label_reason(self.fault))
+            }
+        }
+    }
+}
+
+impl fmt::Display for DataPart {
+    fn fmt<W: fmt::Write>(&self, f: &mut fmt::Formatter<W>) -> fmt::Result {
+        f.write_str(match self {
+            DataPart::RpIdHash => "rpIdHash",
+            DataPart::Flags => "flags",
+            DataPart::SignCount => "signCount",
+            DataPart::Aaguid => "aaguid",
+            DataPart::CredentialIdLength => "credentialIdLength",
+            DataPart::CredentialId => "credentialId",
+            DataPart::CredentialPublicKey => "credentialPublicKey",
+            DataPart::Extensions => "extensions",
+            DataPart::Trailing => "trailing bytes",
+        })
+    }
+}
+
+impl fmt::Display for DataReason {
+    fn fmt<W: fmt::Write>(&self, f: &mut fmt::Formatter<W>) -> fmt::Result {
+        match self {
+            DataReason::CutOff => f.write_str(": the bytes end before this part does"),
+            DataReason::ReservedFlags => f.write_str(": bit 1 or 5 is set, which is reserved"),
+            DataReason::NotWellFormed(malformed) => write!(f, ": {}", malformed.why),
+            DataReason::Key(refusal, _) if names_parameter(refusal) => write!(f, ".{refusal}"),
+            DataReason::Key(refusal, _) => write!(f, ": {refusal}"),
+            DataReason::NotAMap => f.write_str(": a map is wanted"),
+            DataReason::BytesFollow => f.write_str(": no bytes may follow the last part"),
+        }
+    }
+}
+
+impl fmt::Display for DataRefusal {
+    fn fmt<W: fmt::Write>(&self, f: &mut fmt::Formatter<W>) -> fmt::Result {
+        write!(f, "{}{}", self.part, self.reason)?;
+        match self.reason {
+            DataReason::NotWellFormed(malformed) => write!(f, " (offset {})", malformed.offset),
+            DataReason::Key(_, extent) => {
+                write!(f, " (offset {}, length {})", extent.offset, extent.len)
+            }
+            _ => write!(
+                f,
+                " (offset {}, length {})",
+                self.extent.offset, self.extent.len
+            ),
+        }
+    }
+}
