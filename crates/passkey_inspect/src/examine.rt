@@ -1,13 +1,13 @@
 //! Bytes, decoded as a kind.
 
 use crate::kind::{FurtherKind, InspectKind};
-use passkey_cbor::{CborError, Value};
+use crate::refusal::{cbor_refused, data_refused, key_refused, message_refused, refused};
+use passkey_cbor::Value;
 use passkey_core::AuthenticatorData;
-use passkey_cose::{CoseError, CoseKey};
-use passkey_explain::{Description, Explanation, Extent, describe, explain};
+use passkey_explain::{Description, Extent, describe, explain};
+use passkey_explain_data::{explain_data, explain_key};
 use passkey_extensions::HmacGetSecretInput;
-use passkey_kinds::{Fault, Message};
-use passkey_malformed::malformed;
+use passkey_kinds::Message;
 use passkey_memory::OutOfMemory;
 use passkey_report::{describe_value, open_authenticator_data, open_key, opened};
 use passkey_run::BytesKind;
@@ -23,54 +23,6 @@ pub enum Examined {
     Refused(String, Option<Extent>),
 }
 
-/// Returns the fault and the explanation, each in a line.
-fn refusal_text(alloc: Global, explanation: &Explanation) -> Result<String, OutOfMemory> {
-    let fault = match explanation {
-        Explanation::NotWellFormed(_) => Fault::DecodeFailed,
-        Explanation::Refused(item) => item.fault,
-    };
-    Ok(format!(in alloc; "{fault}\n{explanation}")?)
-}
-
-/// Returns which of so many bytes are refused: an item's, or those from where they aren't well-formed.
-fn extent_of(explanation: &Explanation, len: usize) -> Extent {
-    match explanation {
-        Explanation::NotWellFormed(malformed) => Extent {
-            offset: malformed.offset,
-            len: len.saturating_sub(malformed.offset),
-        },
-        Explanation::Refused(item) => item.extent,
-    }
-}
-
-fn refused(alloc: Global, error: CoseError) -> Result<Examined, OutOfMemory> {
-    match error {
-        CoseError::OutOfMemory => Err(OutOfMemory),
-        error => Ok(Examined::Refused(format!(in alloc; "{error}")?, None)),
-    }
-}
-
-fn explained(
-    alloc: Global,
-    explanation: &Explanation,
-    len: usize,
-) -> Result<Examined, OutOfMemory> {
-    let text = refusal_text(alloc, explanation)?;
-    Ok(Examined::Refused(text, Some(extent_of(explanation, len))))
-}
-
-/// Explains where and why bytes don't begin with a well-formed data item.
-fn cbor_refused(alloc: Global, bytes: &[u8], error: CborError) -> Result<Examined, OutOfMemory> {
-    match (error, malformed(bytes)) {
-        (CborError::OutOfMemory, _) => Err(OutOfMemory),
-        (_, Some(malformed)) => {
-            let explanation = Explanation::NotWellFormed(malformed);
-            explained(alloc, &explanation, bytes.len())
-        }
-        (error, None) => Ok(Examined::Refused(format!(in alloc; "{error}")?, None)),
-    }
-}
-
 fn examine_item(alloc: Global, bytes: &[u8]) -> Result<Examined, OutOfMemory> {
     match Value::from_slice(alloc, bytes) {
         Ok((value, len)) => Ok(Examined::Accepted(describe_value(alloc, &value)?, len)),
@@ -79,6 +31,9 @@ fn examine_item(alloc: Global, bytes: &[u8]) -> Result<Examined, OutOfMemory> {
 }
 
 fn examine_data(alloc: Global, bytes: &[u8]) -> Result<Examined, OutOfMemory> {
+    if let Some(refusal) = explain_data(alloc, bytes)? {
+        return data_refused(alloc, refusal);
+    }
     match AuthenticatorData::from_slice_exact(alloc, bytes) {
         Ok(parts) => Ok(Examined::Accepted(open_authenticator_data(alloc, &parts)?, bytes.len())),
         Err(error) => refused(alloc, error),
@@ -90,8 +45,8 @@ fn examine_key(alloc: Global, bytes: &[u8]) -> Result<Examined, OutOfMemory> {
         Ok(front) => front,
         Err(error) => return cbor_refused(alloc, bytes, error),
     };
-    if let Err(error) = CoseKey::from_value(alloc, &value) {
-        return refused(alloc, error);
+    if let Some(refusal) = explain_key(alloc, &value)? {
+        return key_refused(alloc, bytes, refusal);
     }
     let description = match &value {
         Value::Map(pairs) => open_key(alloc, pairs.as_slice())?,
@@ -104,7 +59,7 @@ fn examine_key(alloc: Global, bytes: &[u8]) -> Result<Examined, OutOfMemory> {
 /// (CTAP 2.1, section 8).
 fn examine_message<M: Message>(alloc: Global, bytes: &[u8]) -> Result<Examined, OutOfMemory> {
     if let Some(explanation) = explain::<M>(alloc, bytes)? {
-        return explained(alloc, &explanation, bytes.len());
+        return message_refused(alloc, bytes, &explanation);
     }
     match Value::from_slice(alloc, bytes) {
         Ok((value, len)) => {

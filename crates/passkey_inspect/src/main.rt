@@ -11,6 +11,7 @@ mod inspect;
 mod kind;
 mod options;
 mod records;
+mod refusal;
 
 use fault::InspectFault;
 use options::{HELP, Options, VERSION, options_of};
