@@ -1,0 +1,58 @@
+//! Repairs of the credentials that browsers return.
+ghost use Rattle.passkey_repair_json.specs.Tables.{assertion_edits, registration_edits};
+
+use crate::deviation::Deviation;
+use crate::repair::Repair;
+use crate::repairs_json::PartRepairs;
+use passkey_credentials::{AuthenticatorAssertionResponse, AuthenticatorAttestationResponse};
+
+impl PartRepairs for AuthenticatorAttestationResponse {
+    ghost edits_around = { registration_edits };
+
+    fn repairs_around() -> &'static [Repair] {
+        &[
+            Repair {
+                deviation: Deviation::NoAuthenticatorData,
+                within: &["response"],
+                member: "authenticatorData",
+            },
+            Repair {
+                deviation: Deviation::NoKeyAlgorithm,
+                within: &["response"],
+                member: "publicKeyAlgorithm",
+            },
+            Repair {
+                deviation: Deviation::WholeFloat,
+                within: &["response"],
+                member: "publicKeyAlgorithm",
+            },
+            Repair {
+                deviation: Deviation::UnknownTransport,
+                within: &["response"],
+                member: "transports",
+            },
+            Repair {
+                deviation: Deviation::NullOutputs,
+                within: &[],
+                member: "clientExtensionResults",
+            },
+            Repair {
+                deviation: Deviation::RenamedOutputs,
+                within: &[],
+                member: "clientExtensionResults",
+            },
+        ]
+    }
+}
+
+impl PartRepairs for AuthenticatorAssertionResponse {
+    ghost edits_around = { assertion_edits };
+
+    fn repairs_around() -> &'static [Repair] {
+        &[Repair {
+            deviation: Deviation::NullOutputs,
+            within: &[],
+            member: "clientExtensionResults",
+        }]
+    }
+}

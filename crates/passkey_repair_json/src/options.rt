@@ -1,0 +1,70 @@
+//! Repairs of the options that servers send.
+ghost use Rattle.passkey_repair_json.specs.Tables.{creation_edits, request_edits};
+
+use crate::deviation::Deviation;
+use crate::repair::Repair;
+use crate::repairs_json::PartRepairs;
+use passkey_options::{PublicKeyCredentialCreationOptions, PublicKeyCredentialRequestOptions};
+
+impl PartRepairs for PublicKeyCredentialCreationOptions {
+    ghost edits_around = { creation_edits };
+
+    fn repairs_around() -> &'static [Repair] {
+        &[
+            Repair {
+                deviation: Deviation::NullMember,
+                within: &["publicKey"],
+                member: "timeout",
+            },
+            Repair {
+                deviation: Deviation::WholeFloat,
+                within: &["publicKey"],
+                member: "timeout",
+            },
+            Repair {
+                deviation: Deviation::NullMember,
+                within: &["publicKey", "authenticatorSelection"],
+                member: "requireResidentKey",
+            },
+            Repair {
+                deviation: Deviation::NoDisplayName,
+                within: &["publicKey", "user"],
+                member: "displayName",
+            },
+            Repair {
+                deviation: Deviation::EmptyArray,
+                within: &["publicKey", "user"],
+                member: "displayName",
+            },
+            Repair {
+                deviation: Deviation::EmptyArray,
+                within: &["publicKey", "user"],
+                member: "name",
+            },
+            Repair {
+                deviation: Deviation::EmptyArray,
+                within: &["publicKey", "rp"],
+                member: "name",
+            },
+        ]
+    }
+}
+
+impl PartRepairs for PublicKeyCredentialRequestOptions {
+    ghost edits_around = { request_edits };
+
+    fn repairs_around() -> &'static [Repair] {
+        &[
+            Repair {
+                deviation: Deviation::NullMember,
+                within: &["publicKey"],
+                member: "timeout",
+            },
+            Repair {
+                deviation: Deviation::WholeFloat,
+                within: &["publicKey"],
+                member: "timeout",
+            },
+        ]
+    }
+}
