@@ -2,3 +2,4 @@
 pub use passkey_cose::{
     CoseError, CoseKey, CoseKeyConversionError, Label, RefusedKey, Registered, iana,
 };
+pub use passkey_explain_data::{KeyBlame, KeyRefusal, explain_key, locate_key};

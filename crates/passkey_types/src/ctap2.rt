@@ -4,6 +4,7 @@ pub mod bio_enrollment;
 pub mod client_pin;
 pub mod config;
 pub mod credential_management;
+pub mod explain;
 pub mod extensions;
 pub mod framing;
 pub mod get_assertion;
@@ -18,8 +19,9 @@ pub use passkey_core::{
 };
 pub use passkey_cose::{CoseError, CoseKeyConversionError, RefusedKey};
 pub use passkey_ctap2::{
-    Code, Fault, FromCbor, Kept, Message, Refusal, ToCbor, TolerantList, Tolerated, WriteFault,
-    laws,
+    Code, Fault, Form, FromCbor, Kept, Look, Message, Refusal, ToCbor, TolerantList, Tolerated,
+    Wanted, WriteFault, laws,
 };
 pub use passkey_further_extensions as further_extensions;
 pub use passkey_get_info_23 as get_info_23;
+pub use passkey_repair as repair;

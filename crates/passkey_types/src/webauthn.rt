@@ -22,6 +22,7 @@ pub use passkey_options::{
     PublicKeyCredentialCreationOptions, PublicKeyCredentialHints,
     PublicKeyCredentialRequestOptions,
 };
+pub use passkey_repair_json as repair;
 pub use passkey_signals as signals;
 pub use passkey_webauthn::{
     AuthenticationExtensionsPrfOutputs, AuthenticationExtensionsPrfValues, AuthenticatorTransport,
