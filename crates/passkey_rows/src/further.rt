@@ -6,6 +6,8 @@ use crate::by_item::by_item;
 use crate::extensions::extensions_row;
 use crate::heads::counted;
 use crate::hexadecimal::{decode, encode};
+use crate::lenient::lenient_row;
+use crate::lenient_json::lenient_json_row;
 use crate::level_3::level_3_row;
 use crate::tries::{Part, Tries};
 use passkey_rewrite::RunFault;
@@ -446,6 +448,12 @@ pub fn further_row(
         return Some(output);
     }
     if let Some(output) = level_3_row(alloc, name, input) {
+        return Some(output);
+    }
+    if let Some(output) = lenient_row(alloc, tries, name, input) {
+        return Some(output);
+    }
+    if let Some(output) = lenient_json_row(alloc, name, input) {
         return Some(output);
     }
     if let Some(output) = extensions_row(alloc, tries, name, input) {

@@ -17,6 +17,8 @@ mod extensions;
 mod further;
 mod heads;
 mod hexadecimal;
+mod lenient;
+mod lenient_json;
 mod level_3;
 mod making;
 mod parts;
