@@ -60,6 +60,21 @@ static void rewrite(uint32_t kind, const uint8_t *bytes, size_t len) {
     free(out);
 }
 
+/* A message as JSON, and why it is refused: with the fault with which it isn't rewritten. */
+static void examine(uint32_t kind, const uint8_t *bytes, size_t len) {
+    uint8_t none = 0xa5;
+    size_t needed = 0, told = 0;
+    puffgrit_refusal refusal = {0, 0};
+    uint32_t wanted = puffgrit_rewrite(kind, bytes, len, &none, 0, &needed);
+    uint32_t json = puffgrit_json(kind, bytes, len, &none, 0, &needed);
+    uint32_t status = puffgrit_explain(kind, bytes, len, &refusal, &none, 0, &told);
+    int is_message = kind >= PUFFGRIT_KIND_MC_REQUEST && kind <= PUFFGRIT_KIND_HMAC_INPUT;
+    want(none == 0xa5);
+    want(json == (is_message ? wanted : PUFFGRIT_UNKNOWN_KIND));
+    want(status == (!is_message ? PUFFGRIT_UNKNOWN_KIND : wanted == PUFFGRIT_TOO_SHORT ? PUFFGRIT_OK : wanted));
+    if (status >= PUFFGRIT_FAULT_DECODE_FAILED) want(told > 0 && refusal.offset <= len && refusal.len <= len - refusal.offset);
+}
+
 static void look(const uint8_t *bytes, size_t len) {
     puffgrit_item item;
     puffgrit_auth_data parts;
@@ -77,6 +92,7 @@ int LLVMFuzzerTestOneInput(const uint8_t *data, size_t size) {
     bytes = copy_of(data + 1, size - 1);
     look(bytes, size - 1);
     rewrite(data[0] % PUFFGRIT_KIND_CLIENT_DATA + 1, bytes, size - 1);
+    examine(data[0] % PUFFGRIT_KIND_CLIENT_DATA + 1, bytes, size - 1);
     free(bytes);
     return 0;
 }

@@ -1,8 +1,9 @@
 /* looks: answers requests from standard input, one a line, for tools/test-c: each over a buffer of exactly the input's length.
 
-   len HEX, canonical HEX, item OFFSET HEX, member OFFSET KEY HEX, named OFFSET NAME-IN-HEX HEX, auth HEX, rewrite KIND ROOM HEX.
-   `-` is no bytes. An answer to `rewrite` is the status, the length and, in hexadecimal, the output if the status is 0 and else
-   whether the output is as it was. */
+   len HEX, canonical HEX, item OFFSET HEX, member OFFSET KEY HEX, named OFFSET NAME-IN-HEX HEX, auth HEX, rewrite KIND ROOM HEX,
+   json KIND ROOM HEX, explain KIND ROOM HEX. `-` is no bytes. An answer to `rewrite` and `json` is the status, the length and, in
+   hexadecimal, the output if the status is 0, and `changed` if bytes behind it changed; to `explain` the status, the offset and the
+   length of what is refused, the length of the text and the text in hexadecimal. */
 #include <inttypes.h>
 #include <stdio.h>
 #include <stdlib.h>
@@ -34,19 +35,40 @@ static void print_item(puffgrit_bool found, const puffgrit_item *i) {
     printf("%d %" PRIu64 " %zu %zu %zu %" PRIu32 "\n", found, i->number, i->from, i->content, i->end, i->kind);
 }
 
-/* Rewrites into an output of exactly so many bytes. */
-static void rewrite(uint32_t kind, size_t room, buffer input) {
+typedef uint32_t writes(uint32_t kind, const uint8_t *input, size_t input_len, uint8_t *out, size_t out_len, size_t *len);
+
+static uint8_t *unset(size_t room) {
     uint8_t *out = malloc(room ? room : 1);
-    size_t len = 77, k, same = 1;
-    uint32_t status;
     if (!out) exit(2);
     memset(out, 0xa5, room);
-    status = puffgrit_rewrite(kind, input.bytes, input.len, out, room, &len);
-    printf("%" PRIu32 " %zu ", status, len);
-    for (k = status == PUFFGRIT_OK ? len : 0; k < room; k++) same &= out[k] == 0xa5;
-    if (status == PUFFGRIT_OK && len <= room)
-        for (k = 0; k < len; k++) printf("%02x", out[k]);
+    return out;
+}
+
+/* Prints so many bytes of the output, and whether those behind them changed. */
+static void print_output(const uint8_t *out, size_t room, size_t len) {
+    size_t k, same = 1;
+    for (k = len; k < room; k++) same &= out[k] == 0xa5;
+    for (k = 0; k < len && k < room; k++) printf("%02x", out[k]);
     printf(same ? "\n" : "changed\n");
+}
+
+/* Writes into an output of exactly so many bytes. */
+static void written(writes *call, uint32_t kind, size_t room, buffer input) {
+    uint8_t *out = unset(room);
+    size_t len = 77;
+    uint32_t status = call(kind, input.bytes, input.len, out, room, &len);
+    printf("%" PRIu32 " %zu ", status, len);
+    print_output(out, room, status == PUFFGRIT_OK ? len : 0);
+    free(out);
+}
+
+static void explain(uint32_t kind, size_t room, buffer input) {
+    uint8_t *out = unset(room);
+    size_t len = 77;
+    puffgrit_refusal refusal = {7, 9};
+    uint32_t status = puffgrit_explain(kind, input.bytes, input.len, &refusal, out, room, &len);
+    printf("%" PRIu32 " %zu %zu %zu ", status, refusal.offset, refusal.len, len);
+    print_output(out, room, status < PUFFGRIT_FAULT_DECODE_FAILED ? 0 : len < room ? len : room);
     free(out);
 }
 
@@ -74,7 +96,9 @@ int main(void) {
             printf("%d %zu %zu %zu %zu %zu %zu %" PRIu32 " %" PRIu32 "\n", found, parts.aaguid, parts.credential_id, parts.credential_id_len,
                 parts.public_key, parts.extensions, parts.end, parts.counter, parts.flags);
         }
-        if (!strcmp(call, "rewrite")) rewrite((uint32_t)offset, (size_t)strtoull(second, 0, 10), input);
+        if (!strcmp(call, "rewrite")) written(puffgrit_rewrite, (uint32_t)offset, (size_t)strtoull(second, 0, 10), input);
+        if (!strcmp(call, "json")) written(puffgrit_json, (uint32_t)offset, (size_t)strtoull(second, 0, 10), input);
+        if (!strcmp(call, "explain")) explain((uint32_t)offset, (size_t)strtoull(second, 0, 10), input);
         free(input.bytes);
     }
     return 0;

@@ -4,12 +4,12 @@
    - THE POINTER OF A BUFFER MUST NOT BE NULL, even for no bytes. A buffer has at most SSIZE_MAX bytes, no other thread writes it
      during a call, and no output overlaps it or another output.
    - No call has a state, calls back, aborts, or loops without end, and nothing is to be freed. Calls may be made from any thread.
-   - puffgrit_rewrite alone allocates, by rattle_alloc, rattle_realloc and rattle_dealloc, which stand for malloc, realloc and free in
-     the library; a program with functions of these names has its own. The other calls call no function of C, and may be made from
-     a signal handler.
+   - puffgrit_rewrite, puffgrit_json and puffgrit_explain allocate, by rattle_alloc, rattle_realloc and rattle_dealloc, which stand for
+     malloc, realloc and free in the library; a program with functions of these names has its own. The other calls call no function of
+     C, and may be made from a signal handler.
    - A call that finds nothing returns false, and leaves its output as it was.
    - A call that looks at a data item looks at all of it: it takes as long as puffgrit_item_len. No proof covers the stack: over 256
-     levels puffgrit_rewrite takes up to 192 KiB, puffgrit_is_canonical 56, and the others 8. */
+     levels calls that allocate take up to 192 KiB, puffgrit_is_canonical 56, and the others 8. */
 #ifndef PUFFGRIT_H
 #define PUFFGRIT_H
 
@@ -46,7 +46,7 @@ typedef unsigned char puffgrit_bool; /* 0 or 1 */
 /* The number of a string, an array or a map of indefinite length. */
 #define PUFFGRIT_INDEFINITE UINT64_MAX
 
-/* The kinds of puffgrit_rewrite. */
+/* The kinds of input. */
 #define PUFFGRIT_KIND_CBOR 1u
 #define PUFFGRIT_KIND_AUTH 2u
 #define PUFFGRIT_KIND_MC_REQUEST 3u
@@ -61,7 +61,7 @@ typedef unsigned char puffgrit_bool; /* 0 or 1 */
 #define PUFFGRIT_KIND_AUTHENTICATED 12u
 #define PUFFGRIT_KIND_CLIENT_DATA 13u
 
-/* The statuses of puffgrit_rewrite. A fault's status is in the first byte, and the number of its member in the second. */
+/* The statuses of calls that decode. A fault's status is in the first byte, and the number of its member in the second. */
 #define PUFFGRIT_OK 0u
 #define PUFFGRIT_TOO_SHORT 1u
 #define PUFFGRIT_OUT_OF_MEMORY 2u
@@ -80,6 +80,15 @@ typedef unsigned char puffgrit_bool; /* 0 or 1 */
 #define PUFFGRIT_FAULT_BAD_JSON 26u
 #define PUFFGRIT_STATUS_OF(returned) ((returned) & 255u)
 #define PUFFGRIT_MEMBER_OF(returned) ((returned) >> 8)
+
+/* Which bytes of an input are refused. */
+typedef struct {
+    /* The offset of the first byte: of a data item or a map key that is refused, or of where the bytes aren't
+       well-formed. */
+    size_t offset;
+    /* Their number: the length of the data item or the map key, or all bytes from there on. */
+    size_t len;
+} puffgrit_refusal;
 
 /* A data item in bytes (RFC 8949, section 3). */
 typedef struct {
@@ -131,6 +140,23 @@ uint32_t puffgrit_rewrite(uint32_t kind, const uint8_t *input, size_t input_len,
 
 /* The version of this interface: 1. A call or a struct that changes raises it. */
 uint32_t puffgrit_version(void);
+
+/* Decodes the message at the beginning of the input, and writes it as compact JSON to the beginning of out, and the
+   JSON's length to len: members by their names, byte strings in base64url without padding, AAGUIDs as UUIDs, algorithms
+   by their names. A member that the message's table hasn't is written under its key, as it is; keys that are no text,
+   floats, tags and simple values are strings in diagnostic notation (RFC 8949, section 8). The kinds are those of
+   CTAP2's messages, from PUFFGRIT_KIND_MC_REQUEST to PUFFGRIT_KIND_HMAC_INPUT.  Returns what puffgrit_rewrite returns,
+   with the same faults, and leaves out and len as it does. (CTAP 2.1, section 6.) */
+uint32_t puffgrit_json(uint32_t kind, const uint8_t *input, size_t input_len, uint8_t *out, size_t out_len, size_t *len);
+
+/* Explains why the message at the beginning of the input is refused. Returns PUFFGRIT_OK if it is accepted; the status
+   of its fault, as puffgrit_rewrite; PUFFGRIT_OUT_OF_MEMORY if an allocation fails; or PUFFGRIT_UNKNOWN_KIND. The kinds
+   are those of puffgrit_json.  For a fault refusal says which bytes are refused: the innermost data item, or map key,
+   that the message's table refuses, or the bytes from where they aren't well-formed; and a text is written to the
+   beginning of out, or as much of it as there is room for, and its whole length to len. It says in ASCII where in the
+   message these bytes are and what is wanted there, as "user.id: a byte string is wanted (offset 58, length 10)".
+   Otherwise nothing is written.  (CTAP 2.1, section 6; RFC 8949, section 3.) */
+uint32_t puffgrit_explain(uint32_t kind, const uint8_t *input, size_t input_len, puffgrit_refusal *refusal, uint8_t *out, size_t out_len, size_t *len);
 
 /* Returns the length in bytes of the data item at the beginning of the bytes, or 0 if they don't begin with a
    well-formed item of at most 256 levels. An item has at least one byte. (RFC 8949, section 3.) */

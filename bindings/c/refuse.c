@@ -1,5 +1,5 @@
-/* refuse: reads lines of a kind's number and an input in hexadecimal, and rewrites each input once for each allocation that it makes,
-   with that allocation refused. Each such call has to return PUFFGRIT_OUT_OF_MEMORY and write nothing, or the answer that it gives
+/* refuse: reads lines of a kind's number and an input in hexadecimal, and makes each call that allocates once for each allocation that
+   it makes, with that allocation refused. Each such call has to return PUFFGRIT_OUT_OF_MEMORY and write nothing, or the answer that it gives
    with memory; and no call may keep memory. Prints how many calls were made, and what was wrong. Link with
    -Wl,--wrap=malloc,--wrap=realloc,--wrap=free. */
 #include <stdio.h>
@@ -40,6 +40,7 @@ void __wrap_free(void *old) {
 struct answer {
     uint32_t status;
     size_t len;
+    puffgrit_refusal refusal;
     uint8_t out[ROOM];
 };
 
@@ -47,24 +48,39 @@ static uint8_t input[ROOM];
 static size_t input_len;
 static struct answer wanted, found;
 
-static void rewrite(uint32_t kind, unsigned long number, struct answer *answer) {
+typedef uint32_t calls(uint32_t kind, struct answer *answer);
+
+static uint32_t rewritten(uint32_t kind, struct answer *answer) {
+    return puffgrit_rewrite(kind, input, input_len, answer->out, ROOM, &answer->len);
+}
+
+static uint32_t as_json(uint32_t kind, struct answer *answer) {
+    return puffgrit_json(kind, input, input_len, answer->out, ROOM, &answer->len);
+}
+
+static uint32_t explained(uint32_t kind, struct answer *answer) {
+    return puffgrit_explain(kind, input, input_len, &answer->refusal, answer->out, ROOM, &answer->len);
+}
+
+static void ask(calls *call, uint32_t kind, unsigned long number, struct answer *answer) {
     memset(answer->out, UNSET, ROOM);
-    answer->len = UNSET;
+    answer->len = answer->refusal.offset = answer->refusal.len = UNSET;
     refused = number;
     asked = held = 0;
-    answer->status = puffgrit_rewrite(kind, input, input_len, answer->out, ROOM, &answer->len);
+    answer->status = call(kind, answer);
     refused = 0;
 }
 
 static int same(const struct answer *a, const struct answer *b) {
-    return a->status == b->status && a->len == b->len && memcmp(a->out, b->out, ROOM) == 0;
+    return a->status == b->status && a->len == b->len && a->refusal.offset == b->refusal.offset && a->refusal.len == b->refusal.len
+           && memcmp(a->out, b->out, ROOM) == 0;
 }
 
 static int wrote_nothing(const struct answer *a) {
     size_t k;
     for (k = 0; k < ROOM; k++)
         if (a->out[k] != UNSET) return 0;
-    return a->len == UNSET;
+    return a->len == UNSET && a->refusal.offset == UNSET && a->refusal.len == UNSET;
 }
 
 static int is_right(void) {
@@ -72,8 +88,25 @@ static int is_right(void) {
     return same(&found, &wanted) || (found.status == PUFFGRIT_OUT_OF_MEMORY && wrote_nothing(&found));
 }
 
+static unsigned long made, wrong;
+
+/* Makes the call with memory, and then with each of its allocations refused. */
+static void refuse_each(calls *call, uint32_t kind) {
+    unsigned long number, most;
+    ask(call, kind, 0, &wanted);
+    most = asked;
+    wrong += held != 0;
+    for (number = 1; number <= most; number++, made++) {
+        ask(call, kind, number, &found);
+        if (!is_right()) {
+            wrong++;
+            printf("kind %lu, %lu bytes, allocation %lu: status %lu\n", (unsigned long)kind, (unsigned long)input_len, number,
+                   (unsigned long)found.status);
+        }
+    }
+}
+
 int main(void) {
-    unsigned long calls = 0, wrong = 0, number, most;
     unsigned int kind, byte;
     int end;
 
@@ -85,18 +118,10 @@ int main(void) {
             if (input_len == ROOM || scanf("%2x", &byte) != 1) return 3;
             input[input_len++] = (uint8_t)byte;
         }
-        rewrite(kind, 0, &wanted);
-        most = asked;
-        wrong += held != 0;
-        for (number = 1; number <= most; number++, calls++) {
-            rewrite(kind, number, &found);
-            if (!is_right()) {
-                wrong++;
-                printf("kind %u, %lu bytes, allocation %lu: status %lu\n", kind, (unsigned long)input_len, number,
-                       (unsigned long)found.status);
-            }
-        }
+        refuse_each(rewritten, kind);
+        refuse_each(as_json, kind);
+        refuse_each(explained, kind);
     }
-    printf("%lu calls, %lu wrong\n", calls, wrong);
+    printf("%lu calls, %lu wrong\n", made, wrong);
     return 0;
 }

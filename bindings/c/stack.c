@@ -1,5 +1,5 @@
 /* stack: prints how many bytes of stack calls take over 256 levels, more than over a number: puffgrit_is_canonical (check),
-   puffgrit_rewrite (rewrite), and the others (look). */
+   puffgrit_rewrite, puffgrit_json and puffgrit_explain (rewrite), and the others (look). */
 #define _POSIX_C_SOURCE 200809L
 #include <pthread.h>
 #include <stdio.h>
@@ -9,8 +9,12 @@
 
 enum { ROOM = 1 << 20, MARK = 0xa5, LEVELS = 256 };
 
-static uint8_t input[2 * LEVELS + 1], output[2 * LEVELS + 1], room[ROOM];
-static size_t input_len;
+/* An authenticatorGetInfo response: versions and an AAGUID, and behind them a member that it doesn't have. */
+#define INFO "\xa3\x01\x81\x68" "FIDO_2_0" "\x03\x50" "0123456789abcdef" "\x18\x60"
+enum { FRONT = sizeof INFO - 1 };
+
+static uint8_t input[2 * LEVELS + 1], info[FRONT + 2 * LEVELS], output[8 * LEVELS], room[ROOM];
+static size_t input_len, info_len;
 
 static void *look(void *unused) {
     puffgrit_item item;
@@ -31,9 +35,12 @@ static void *check(void *unused) {
 }
 
 static void *again(void *unused) {
+    puffgrit_refusal refusal;
     size_t len;
     (void)unused;
     (void)puffgrit_rewrite(PUFFGRIT_KIND_CBOR, input, input_len, output, sizeof output, &len);
+    (void)puffgrit_json(PUFFGRIT_KIND_INFO, info, info_len, output, sizeof output, &len);
+    (void)puffgrit_explain(PUFFGRIT_KIND_INFO, info, info_len, &refusal, output, sizeof output, &len);
     return 0;
 }
 
@@ -55,21 +62,30 @@ static void print_more(const char *calls, const char *what, size_t taken, size_t
     printf("%s %s %lu\n", calls, what, taken > alone ? (unsigned long)(taken - alone) : 0ul);
 }
 
+/* The message around the input without its first bytes, which are a level that the message's map takes. */
+static void fill_info(size_t first) {
+    info_len = FRONT + input_len - first;
+    memcpy(info + FRONT, input + first, input_len - first);
+}
+
 static void over(const char *what, const uint8_t *level, size_t len) {
     size_t k, look_alone, check_alone, again_alone;
     input_len = 1;
+    fill_info(0);
     look_alone = used(look);
     check_alone = used(check);
     again_alone = used(again);
     for (k = 0; k < LEVELS; k++) memcpy(input + k * len, level, len);
     input_len = LEVELS * len + 1;
     input[input_len - 1] = 0;
+    fill_info(len);
     print_more("look", what, used(look), look_alone);
     print_more("check", what, used(check), check_alone);
     print_more("rewrite", what, used(again), again_alone);
 }
 
 int main(void) {
+    memcpy(info, INFO, FRONT);
     over("arrays", (const uint8_t *)"\x81", 1);
     over("maps", (const uint8_t *)"\xa1\x00", 2);
     over("tags", (const uint8_t *)"\xc1", 1);

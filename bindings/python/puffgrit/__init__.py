@@ -8,12 +8,13 @@ threads run, so its bytes have to be `bytes`, which no thread can change.
 from __future__ import annotations
 
 import ctypes
+import json
 import os
 from dataclasses import dataclass
 from pathlib import Path
 from typing import Iterator
 
-__all__ = ["KINDS", "AuthData", "Fault", "Item", "auth_parts", "elements", "is_canonical", "item_at", "item_len", "member", "rewrite", "version"]
+__all__ = ["KINDS", "MESSAGES", "AuthData", "Fault", "Item", "auth_parts", "decode", "elements", "explain", "is_canonical", "item_at", "item_len", "member", "rewrite", "version"]
 
 UNSIGNED, NEGATIVE, BYTES, TEXT, ARRAY, MAP, TAG, SIMPLE, FLOAT = range(9)
 INDEFINITE = 2**64 - 1
@@ -22,6 +23,9 @@ INDEFINITE = 2**64 - 1
 KINDS = (
     "cbor auth mc-request mc-response ga-request ga-response info hmac-input creation request created authenticated client-data"
 ).split()
+
+#: The kinds of `explain`: the messages of CTAP2. `decode` has them and the kinds of JSON texts.
+MESSAGES = KINDS[2:8]
 
 _FAULTS = {
     16: "DecodeFailed",
@@ -47,12 +51,16 @@ class _AuthData(ctypes.Structure):
     _fields_ += [("counter", ctypes.c_uint32), ("flags", ctypes.c_uint32)]
 
 
+class _Refusal(ctypes.Structure):
+    _fields_ = [("offset", ctypes.c_size_t), ("length", ctypes.c_size_t)]
+
+
 _BUFFER = [ctypes.c_char_p, ctypes.c_size_t]
 
 
 def _load() -> ctypes.CDLL:
     library = ctypes.CDLL(os.environ.get("PUFFGRIT_LIBRARY") or str(Path(__file__).with_name("libpuffgrit.so")))
-    item = ctypes.POINTER(_Item)
+    item, output = ctypes.POINTER(_Item), [*_BUFFER, ctypes.POINTER(ctypes.c_size_t)]
     for name, result, arguments in [
         ("version", ctypes.c_uint32, []),
         ("item_len", ctypes.c_size_t, _BUFFER),
@@ -61,7 +69,9 @@ def _load() -> ctypes.CDLL:
         ("member", ctypes.c_bool, [*_BUFFER, ctypes.c_size_t, ctypes.c_int64, item]),
         ("named", ctypes.c_bool, [*_BUFFER, ctypes.c_size_t, *_BUFFER, item]),
         ("auth_parts", ctypes.c_bool, [*_BUFFER, ctypes.POINTER(_AuthData)]),
-        ("rewrite", ctypes.c_uint32, [ctypes.c_uint32, *_BUFFER, ctypes.c_char_p, ctypes.c_size_t, ctypes.POINTER(ctypes.c_size_t)]),
+        ("rewrite", ctypes.c_uint32, [ctypes.c_uint32, *_BUFFER, *output]),
+        ("json", ctypes.c_uint32, [ctypes.c_uint32, *_BUFFER, *output]),
+        ("explain", ctypes.c_uint32, [ctypes.c_uint32, *_BUFFER, ctypes.POINTER(_Refusal), *output]),
     ]:
         call = getattr(library, f"puffgrit_{name}")
         call.restype, call.argtypes = result, arguments
@@ -82,6 +92,12 @@ class Fault(ValueError):
 
     def __init__(self, name: str, member: int | None):
         super().__init__(name if member is None else f"{name}({member})")
+        #: Where in a message and why, as "user.id: a byte string is wanted (offset 58, length 10)"; `None` for other kinds.
+        self.explanation: str | None = None
+        #: The offset of what is refused: of a data item or a map key, or of where the bytes aren't well-formed.
+        self.offset: int | None = None
+        #: The length of what is refused in bytes.
+        self.length: int | None = None
         #: The fault's name, as `Refused`; `NotAMap` of a JSON value that is no object.
         self.name = name
         #: The number of the message's member that it is about.
@@ -208,24 +224,65 @@ def auth_parts(data: bytes) -> AuthData | None:
     )
 
 
-def rewrite(kind: str, data: bytes) -> bytes:
-    """Decodes the data as the kind (one of `KINDS`), and returns its encoding: CTAP2's canonical form, or compact JSON.
-
-    Raises `Fault` if the kind rejects the data, and `MemoryError`. Bytes behind a data item, a message or authenticator data are
-    ignored.
-    """
-    if kind not in KINDS:
+def _number(kind: str, kinds: list[str]) -> int:
+    if kind not in kinds:
         raise ValueError(f"no kind {kind!r}")
+    return KINDS.index(kind) + 1
+
+
+def _written(call, kind: str, data: bytes) -> bytes:
+    """What the call writes; an output that is too short is replaced by one that isn't."""
     number, room, length = KINDS.index(kind) + 1, len(_checked(data)) + 256, ctypes.c_size_t()
     while True:
         out = ctypes.create_string_buffer(room)
-        status = _library.puffgrit_rewrite(number, data, len(data), out, room, ctypes.byref(length))
+        status = call(number, data, len(data), out, room, ctypes.byref(length))
         if status != 1:
             break
         room = length.value
     if status == 0:
         return out.raw[: length.value]
     if status == 2:
-        raise MemoryError("puffgrit_rewrite")
-    fault = status & 255
-    raise Fault(_FAULTS[fault], status >> 8 if fault in (19, 20, 21) and number < 9 else None)
+        raise MemoryError("puffgrit")
+    raise (explain(kind, data) if kind in MESSAGES else None) or _fault(status, None)
+
+
+def _fault(status: int, member: int | None) -> Fault:
+    return Fault(_FAULTS[status & 255], member)
+
+
+def rewrite(kind: str, data: bytes) -> bytes:
+    """Decodes the data as the kind (one of `KINDS`), and returns its encoding: CTAP2's canonical form, or compact JSON.
+
+    Raises `Fault` if the kind rejects the data, and `MemoryError`. Bytes behind a data item, a message or authenticator data are
+    ignored.
+    """
+    _number(kind, KINDS)
+    return _written(_library.puffgrit_rewrite, kind, data)
+
+
+def decode(kind: str, data: bytes) -> dict[str, object]:
+    """Decodes a message (one of `MESSAGES`), or one of WebAuthn's JSON texts as it is rewritten, as a dictionary by names.
+
+    Byte strings are base64url without padding, AAGUIDs are UUIDs, and algorithms have their names. Raises what `rewrite` raises.
+    """
+    _number(kind, KINDS[2:])
+    call = _library.puffgrit_json if kind in MESSAGES else _library.puffgrit_rewrite
+    return json.loads(_written(call, kind, data))
+
+
+def explain(kind: str, data: bytes) -> Fault | None:
+    """Why the message (one of `MESSAGES`) is rejected, or `None` if it isn't. Raises `MemoryError`."""
+    number, room, length, refusal = _number(kind, MESSAGES), 1024, ctypes.c_size_t(), _Refusal()
+    while True:
+        out = ctypes.create_string_buffer(room)
+        status = _library.puffgrit_explain(number, _checked(data), len(data), ctypes.byref(refusal), out, room, ctypes.byref(length))
+        if status == 0:
+            return None
+        if status == 2:
+            raise MemoryError("puffgrit_explain")
+        if length.value <= room:
+            break
+        room = length.value
+    fault = _fault(status, status >> 8 if status & 255 in (19, 20, 21) else None)
+    fault.explanation, fault.offset, fault.length = out.raw[: length.value].decode("ascii"), refusal.offset, refusal.length
+    return fault

@@ -54,6 +54,27 @@ class Puffgrit(unittest.TestCase):
         with self.assertRaises(ValueError):
             puffgrit.rewrite("key", b"")
 
+    def test_decoding(self):
+        info = bytes.fromhex((ROOT / "bench/messages/info.hex").read_text())
+        decoded = puffgrit.decode("info", info)
+        self.assertEqual([it["alg"] for it in decoded["algorithms"]], ["ES256", "EdDSA"])
+        self.assertEqual(puffgrit.decode("request", b'{"publicKey":{"challenge":"AQ=="}}')["publicKey"]["challenge"], "AQ")
+        for kind in ["cbor", "auth", "key"]:
+            with self.assertRaises(ValueError):
+                puffgrit.decode(kind, b"\xa0")
+
+    def test_explaining(self):
+        # versions, and an AAGUID that is a number
+        wrong = b"\xa2\x01\x81\x68FIDO_2_0\x03\x01"
+        with self.assertRaises(puffgrit.Fault) as caught:
+            puffgrit.decode("info", wrong)
+        fault = caught.exception
+        self.assertEqual((fault.name, fault.member, fault.offset, fault.length), ("Refused", 3, 13, 1))
+        self.assertEqual(fault.explanation, "aaguid: a byte string of 16 bytes is wanted (offset 13, length 1)")
+        cut = puffgrit.explain("info", wrong[:5])
+        self.assertEqual((cut.name, cut.member, cut.offset, cut.length), ("DecodeFailed", None, 5, 0))
+        self.assertIsNone(puffgrit.explain("info", wrong[:-1] + b"\x50" + bytes(16)))
+
     def test_arguments(self):
         with self.assertRaises(TypeError):
             puffgrit.item_len(bytearray(b"\x00"))

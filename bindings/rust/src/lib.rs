@@ -1,6 +1,6 @@
 //! Messages of CTAP2 and WebAuthn, decoded, checked and encoded again, and CBOR data items (RFC 8949)
 //! and authenticator data (WebAuthn Level 3, section 6.1), looked at in place, by proved code.
-//! `rewrite` alone allocates, and frees what it allocated.
+//! `rewrite`, `json` and `explain` allocate, and free what they allocated.
 #![no_std]
 
 use core::mem::MaybeUninit;
@@ -36,6 +36,17 @@ pub struct AuthData {
     pub flags: u32,
 }
 
+/// Which bytes of an input are refused.
+#[repr(C)]
+#[derive(Clone, Copy, Debug, Default, PartialEq, Eq)]
+pub struct Refusal {
+    /// The offset of the first byte: of a data item or a map key that is refused, or of where the bytes
+    /// aren't well-formed.
+    pub offset: usize,
+    /// Their number.
+    pub len: usize,
+}
+
 extern "C" {
     fn puffgrit_item_len(bytes: *const u8, len: usize) -> usize;
     fn puffgrit_is_canonical(bytes: *const u8, len: usize) -> bool;
@@ -44,9 +55,19 @@ extern "C" {
     fn puffgrit_named(bytes: *const u8, len: usize, map: usize, name: *const u8, name_len: usize, value: *mut Item) -> bool;
     fn puffgrit_auth_parts(bytes: *const u8, len: usize, parts: *mut AuthData) -> bool;
     fn puffgrit_rewrite(kind: u32, input: *const u8, input_len: usize, out: *mut u8, out_len: usize, len: *mut usize) -> u32;
+    fn puffgrit_json(kind: u32, input: *const u8, input_len: usize, out: *mut u8, out_len: usize, len: *mut usize) -> u32;
+    fn puffgrit_explain(
+        kind: u32,
+        input: *const u8,
+        input_len: usize,
+        refusal: *mut Refusal,
+        out: *mut u8,
+        out_len: usize,
+        len: *mut usize,
+    ) -> u32;
 }
 
-/// What `rewrite` decodes: bytes, and from `Creation` on JSON texts.
+/// What an input is decoded as: bytes, and from `Creation` on JSON texts.
 #[repr(u32)]
 #[derive(Clone, Copy, Debug, PartialEq, Eq)]
 pub enum Kind {
@@ -65,13 +86,15 @@ pub enum Kind {
     ClientData,
 }
 
-/// Why `rewrite` wrote nothing.
+/// Why nothing was written.
 #[derive(Clone, Copy, Debug, PartialEq, Eq)]
 pub enum Error {
     /// The encoding has this many bytes, for which the output is too short.
     TooShort(usize),
     /// An allocation failed.
     OutOfMemory,
+    /// The call doesn't have this kind.
+    UnknownKind,
     /// The input is rejected: the status of its first fault in puffgrit.h (`PUFFGRIT_FAULT_..`), and
     /// the number of the member that it is about, or 0.
     Rejected { fault: u8, member: u8 },
@@ -138,12 +161,61 @@ pub fn rewrite(kind: Kind, input: &[u8], out: &mut [u8]) -> Result<usize, Error>
     let mut len = 0;
     // SAFETY: as above, and no output overlaps another buffer.
     let status = unsafe { puffgrit_rewrite(kind as u32, input.as_ptr(), input.len(), out.as_mut_ptr(), out.len(), &mut len) };
+    length(status, len)
+}
+
+fn length(status: u32, len: usize) -> Result<usize, Error> {
     match status {
         0 => Ok(len),
         1 => Err(Error::TooShort(len)),
-        2 => Err(Error::OutOfMemory),
-        _ => Err(Error::Rejected { fault: status as u8, member: (status >> 8) as u8 }),
+        _ => Err(error(status)),
     }
+}
+
+fn error(status: u32) -> Error {
+    match status {
+        2 => Error::OutOfMemory,
+        3 => Error::UnknownKind,
+        _ => Error::Rejected { fault: status as u8, member: (status >> 8) as u8 },
+    }
+}
+
+/// Decodes the message of CTAP2 at the beginning of the input, and writes it as compact JSON to the
+/// beginning of the output: members by their names, byte strings in base64url without padding. Returns
+/// the JSON's length. The kinds are those from `MakeCredentialRequest` to `HmacInput`.
+pub fn json(kind: Kind, input: &[u8], out: &mut [u8]) -> Result<usize, Error> {
+    let mut len = 0;
+    // SAFETY: as for `rewrite`.
+    let status = unsafe { puffgrit_json(kind as u32, input.as_ptr(), input.len(), out.as_mut_ptr(), out.len(), &mut len) };
+    length(status, len)
+}
+
+/// Why a message is rejected.
+#[derive(Clone, Copy, Debug, PartialEq, Eq)]
+pub struct Explanation<'a> {
+    /// The first fault: its status in puffgrit.h, and the number of the member that it is about, or 0.
+    pub fault: u8,
+    pub member: u8,
+    pub refusal: Refusal,
+    /// Where in the message and why, in ASCII; cut off where the output ends.
+    pub text: &'a str,
+}
+
+/// Explains why the message of CTAP2 at the beginning of the input is rejected, with a text in the
+/// output; `None` if it isn't. The kinds are those of `json`.
+pub fn explain<'a>(kind: Kind, input: &[u8], out: &'a mut [u8]) -> Result<Option<Explanation<'a>>, Error> {
+    let (mut len, mut refusal) = (0, Refusal::default());
+    let (start, room) = (out.as_mut_ptr(), out.len());
+    // SAFETY: as for `rewrite`.
+    let status = unsafe { puffgrit_explain(kind as u32, input.as_ptr(), input.len(), &mut refusal, start, room, &mut len) };
+    if status == 0 {
+        return Ok(None);
+    }
+    let Error::Rejected { fault, member } = error(status) else {
+        return Err(error(status));
+    };
+    let text = core::str::from_utf8(&out[..len.min(room)]).unwrap_or("");
+    Ok(Some(Explanation { fault, member, refusal, text }))
 }
 
 #[cfg(test)]
@@ -169,6 +241,22 @@ mod tests {
         assert_eq!(rewrite(Kind::Cbor, &[0x81, 0x01], &mut out[..1]), Err(Error::TooShort(2)));
         assert_eq!(rewrite(Kind::GetAssertionRequest, &[0xa0], &mut out), Err(Error::Rejected { fault: 21, member: 1 }));
         assert_eq!(rewrite(Kind::Request, b"{", &mut out), Err(Error::Rejected { fault: 26, member: 0 }));
+    }
+
+    #[test]
+    fn examines() {
+        let info = b"\xa2\x01\x81\x68FIDO_2_0\x03\x50\0\0\0\0\0\0\0\0\0\0\0\0\0\0\0\0";
+        let text = br#"{"versions":["FIDO_2_0"],"aaguid":"00000000-0000-0000-0000-000000000000"}"#;
+        let mut out = [0; 128];
+        assert_eq!(json(Kind::Info, info, &mut out), Ok(text.len()));
+        assert_eq!(out[..text.len()], text[..]);
+        assert_eq!(json(Kind::Cbor, info, &mut out), Err(Error::UnknownKind));
+        assert_eq!(explain(Kind::Info, info, &mut out), Ok(None));
+        let told = explain(Kind::Info, &info[..12], &mut out).unwrap().unwrap();
+        assert_eq!((told.fault, told.member, told.refusal), (16, 0, Refusal { offset: 12, len: 0 }));
+        let told = explain(Kind::Info, b"\xa1\x01\x05", &mut out).unwrap().unwrap();
+        assert_eq!((told.fault, told.member, told.refusal), (20, 1, Refusal { offset: 2, len: 1 }));
+        assert!(told.text.starts_with("versions: "));
     }
 
     #[test]

@@ -1,3 +1,6 @@
 pub mod Forms
 pub mod Statuses
+pub mod Writing
 pub mod Rewriting
+pub mod Json
+pub mod Explaining

@@ -5,10 +5,15 @@
 
 ghost use Rattle.std.specs.Prelude.{◌≡◌};
 
+mod explain;
 mod form;
+mod json;
 mod rewrite;
 mod status;
+mod write;
 
+pub use explain::{Refusal, puffgrit_explain};
+pub use json::puffgrit_json;
 pub use rewrite::puffgrit_rewrite;
 
 /// The version of this interface: 1. A call or a struct that changes raises it.

@@ -1,31 +1,14 @@
 //! Inputs that are decoded and encoded again, for C.
-ghost use Rattle.std.specs.Prelude.{◌≡◌, ◌++◌, ◌≤◌, drop, length, IfOk, IfErr};
+ghost use Rattle.std.specs.Prelude.{IfOk, IfErr};
 ghost use Rattle.passkey_c.specs.Forms.{form_numbered};
-ghost use Rattle.passkey_c.specs.Rewriting.{Encodes, HasNoEncoding, IsWritten, LeavesAlone, Rewrites};
+ghost use Rattle.passkey_c.specs.Rewriting.{Encodes, HasNoEncoding, Rewrites};
 
 use crate::form::{Form, form_of};
-use crate::status::status_of;
+use crate::write::write;
 use passkey_rewrite::rewrite_raw;
 use passkey_rewrite_json::rewrite_json;
 use passkey_run::RunFault;
 use std::alloc::Global;
-
-/// Why nothing was written.
-#[derive(Clone, Copy)]
-pub(crate) enum Unwritten {
-    /// The encoding has this many bytes, for which the output is too short.
-    TooShort(usize),
-    /// The input has no encoding.
-    Failed(RunFault),
-}
-
-/// Copies the bytes to the beginning of the output.
-fn put(out: &mut [u8], bytes: &[u8])
-    requires { length bytes.now ≤ length out.old }
-    ensures { out.new ≡ bytes.now ++ drop (length bytes.now) out.old }
-{
-    out[..bytes.len()].copy_from_slice(bytes);
-}
 
 /// Decodes the input as the form and encodes the result.
 fn encode(alloc: Global, form: Form, input: &[u8]) -> Result<Vec<u8>, RunFault>
@@ -41,25 +24,6 @@ fn encode(alloc: Global, form: Form, input: &[u8]) -> Result<Vec<u8>, RunFault>
     }
 }
 
-/// Decodes the input as the form, and writes its encoding to the beginning of the output. Returns the
-/// encoding's length. On an error the output stays.
-fn rewrite_into(alloc: Global, form: Form, input: &[u8], out: &mut [u8]) -> Result<usize, Unwritten>
-    ensures ok { IfOk result (IsWritten form input.now out.old out.new) }
-    ensures err { IfErr result (LeavesAlone form input.now out.old out.new) }
-{
-    match encode(alloc, form, input) {
-        Err(fault) => Err(Unwritten::Failed(fault)),
-        Ok(encoding) => {
-            let len = encoding.len();
-            if len > out.len() {
-                return Err(Unwritten::TooShort(len));
-            }
-            put(out, encoding.as_slice());
-            Ok(len)
-        }
-    }
-}
-
 /// Decodes the input as this kind, encodes the result again, in CTAP2's canonical form or as compact
 /// JSON, and writes it to the beginning of `out` and its length to `len`. Bytes behind a data item, a
 /// message or authenticator data are ignored.
@@ -71,6 +35,7 @@ fn rewrite_into(alloc: Global, form: Form, input: &[u8], out: &mut [u8]) -> Resu
 /// for PUFFGRIT_OK, and so does `len` but for PUFFGRIT_OK and PUFFGRIT_TOO_SHORT. All memory that was
 /// allocated is freed. (CTAP 2.1, sections 6 and 8; WebAuthn Level 3, sections 5 and 6.1.)
 #[unsafe(no_mangle)]
+#[tactic(auto, using(crate::proofs::Writing::writes_of))]
 pub extern "C" fn puffgrit_rewrite(
     alloc: Global,
     kind: u32,
@@ -80,18 +45,8 @@ pub extern "C" fn puffgrit_rewrite(
 ) -> u32
     ensures { Rewrites (form_numbered kind) input.now out.old out.new len.old len.new result }
 {
-    let Some(form) = form_of(kind) else {
-        return 3;
-    };
-    match rewrite_into(alloc, form, input, out) {
-        Ok(written) => {
-            *len = written;
-            0
-        }
-        Err(Unwritten::TooShort(needed)) => {
-            *len = needed;
-            1
-        }
-        Err(Unwritten::Failed(fault)) => status_of(fault),
+    match form_of(kind) {
+        Some(form) => write(encode(alloc, form, input), out, len),
+        None => 3,
     }
 }

@@ -16,7 +16,7 @@ fn at_member(status: u32, number: u8) -> u32
 }
 
 /// Returns the status of a message's fault.
-fn message_status(fault: Fault) -> u32
+pub(crate) fn message_status(fault: Fault) -> u32
     ensures { result ≡ message_status fault }
 {
     match fault {
