@@ -17,12 +17,13 @@ use Rattle.passkey_inspect.specs.Encodes.{Encodes}
 use Rattle.passkey_inspect.specs.declared.options.Output.{Output}
 use Rattle.passkey_inspect.specs.declared.options.Output.TheVariants.{Report, Json as JsonText, Diagnosis, Bytes as BytesText, Encoding}
 use Rattle.passkey_inspect.specs.declared.kind.InspectKind.{InspectKind}
-use Rattle.passkey_inspect.specs.declared.kind.InspectKind.TheVariants.{Bytes, Further, Json}
+use Rattle.passkey_inspect.specs.declared.kind.InspectKind.TheVariants.{Bytes, Further, Named, Json}
 
 -- Why these kinds reject the bytes.
 abbrev pub IsRefused : InspectKind → List ℕ → RunFault → Type 0
 IsRefused (Bytes kind) bytes fault = IsRefusal kind bytes fault
 IsRefused (Further kind) bytes fault = ⊤
+IsRefused (Named kind) bytes fault = ⊤
 IsRefused (Json kind) bytes fault = ⊤
 
 -- The text is the encoding, in lower-case hexadecimal.

@@ -1,16 +1,19 @@
 //! Bytes, decoded as a kind.
 
-use crate::kind::{FurtherKind, InspectKind};
+use crate::kind::{FurtherKind, InspectKind, NamedKind};
 use crate::refusal::{cbor_refused, data_refused, key_refused, message_refused, refused};
+use passkey_attestation::{AttestationFormat, AttestationStatement, StatementFault};
 use passkey_cbor::Value;
 use passkey_core::AuthenticatorData;
 use passkey_explain::{Description, Extent, describe, explain};
 use passkey_explain_data::{explain_data, explain_key};
 use passkey_extensions::HmacGetSecretInput;
+use passkey_further_extensions::{get_assertion, make_credential};
 use passkey_kinds::Message;
 use passkey_memory::OutOfMemory;
 use passkey_report::{describe_value, open_authenticator_data, open_key, opened};
 use passkey_run::BytesKind;
+use passkey_webauthn::EnumNames;
 use std::alloc::Global;
 
 /// What bytes are as a kind.
@@ -121,12 +124,53 @@ fn examine_further(
     }
 }
 
+/// Examines an attestation statement of this format (WebAuthn Level 3, section 8).
+fn examine_statement(
+    alloc: Global,
+    format: AttestationFormat,
+    bytes: &[u8],
+) -> Result<Examined, OutOfMemory> {
+    let (value, len) = match Value::from_slice(alloc, bytes) {
+        Ok(front) => front,
+        Err(error) => return cbor_refused(alloc, bytes, error),
+    };
+    match AttestationStatement::from_value(alloc, format.name(), &value) {
+        Ok(_) => Ok(Examined::Accepted(describe_value(alloc, &value)?, len)),
+        Err(StatementFault::OutOfMemory) => Err(OutOfMemory),
+        Err(fault) => Ok(Examined::Refused(format!(in alloc; "{fault}")?, None)),
+    }
+}
+
+fn examine_named(alloc: Global, kind: NamedKind, bytes: &[u8]) -> Result<Examined, OutOfMemory> {
+    match kind {
+        NamedKind::Info23 => examine_message::<passkey_get_info_23::Response>(alloc, bytes),
+        NamedKind::MakeInputs => {
+            examine_message::<make_credential::ExtensionInputs>(alloc, bytes)
+        }
+        NamedKind::MakeOutputs => {
+            examine_message::<make_credential::SignedExtensionOutputs>(alloc, bytes)
+        }
+        NamedKind::MakeUnsigned => {
+            examine_message::<make_credential::UnsignedExtensionOutputs>(alloc, bytes)
+        }
+        NamedKind::GetInputs => examine_message::<get_assertion::ExtensionInputs>(alloc, bytes),
+        NamedKind::GetOutputs => {
+            examine_message::<get_assertion::SignedExtensionOutputs>(alloc, bytes)
+        }
+        NamedKind::GetUnsigned => {
+            examine_message::<get_assertion::UnsignedExtensionOutputs>(alloc, bytes)
+        }
+        NamedKind::Statement(format) => examine_statement(alloc, format, bytes),
+    }
+}
+
 /// Decodes the bytes as the kind. A kind of JSON refuses them. Returns `OutOfMemory` if an
 /// allocation fails.
 pub fn examine(alloc: Global, kind: InspectKind, bytes: &[u8]) -> Result<Examined, OutOfMemory> {
     match kind {
         InspectKind::Bytes(kind) => examine_known(alloc, kind, bytes),
         InspectKind::Further(kind) => examine_further(alloc, kind, bytes),
+        InspectKind::Named(kind) => examine_named(alloc, kind, bytes),
         InspectKind::Json(_) => Ok(Examined::Refused(String::from_str(alloc, "BadJson")?, None)),
     }
 }

@@ -1,5 +1,6 @@
 //! The kinds of input.
 
+use passkey_attestation::AttestationFormat;
 use passkey_run::{BytesKind, JsonKind};
 
 /// A message that `passkey_show` doesn't have.
@@ -33,6 +34,28 @@ pub enum FurtherKind {
     Key,
 }
 
+/// What bytes are decoded as only if the kind is named, since it accepts much that is something else,
+/// or nearly what another kind accepts.
+#[derive(Clone, Copy, Debug, PartialEq, Eq)]
+pub enum NamedKind {
+    /// An authenticatorGetInfo response with the members and names of CTAP 2.3.
+    Info23,
+    /// Extension inputs of an authenticatorMakeCredential request.
+    MakeInputs,
+    /// Extension outputs of authenticatorMakeCredential in authenticator data.
+    MakeOutputs,
+    /// Unsigned extension outputs of an authenticatorMakeCredential response.
+    MakeUnsigned,
+    /// Extension inputs of an authenticatorGetAssertion request.
+    GetInputs,
+    /// Extension outputs of authenticatorGetAssertion in authenticator data.
+    GetOutputs,
+    /// Unsigned extension outputs of an authenticatorGetAssertion response.
+    GetUnsigned,
+    /// An attestation statement of this format.
+    Statement(AttestationFormat),
+}
+
 /// What an input is.
 #[derive(Clone, Copy, Debug, PartialEq, Eq)]
 pub enum InspectKind {
@@ -40,6 +63,8 @@ pub enum InspectKind {
     Bytes(BytesKind),
     /// Bytes that it doesn't know.
     Further(FurtherKind),
+    /// Bytes whose kind is always named.
+    Named(NamedKind),
     /// A JSON text.
     Json(JsonKind),
 }
@@ -111,32 +136,78 @@ pub const JSON_KINDS: [(&str, InspectKind); 5] = [
     ("request", InspectKind::Json(JsonKind::Request)),
 ];
 
-/// Returns the kind with this name.
-pub fn kind_named(name: &str) -> Option<InspectKind> {
-    for (known, kind) in BYTES_KINDS {
-        if known == name {
-            return Some(kind);
-        }
-    }
-    for (known, kind) in JSON_KINDS {
-        if known == name {
-            return Some(kind);
+/// The kinds of bytes that are always named, with their names.
+pub const NAMED_KINDS: [(&str, InspectKind); 15] = [
+    ("info-23", InspectKind::Named(NamedKind::Info23)),
+    ("mc-inputs", InspectKind::Named(NamedKind::MakeInputs)),
+    ("mc-outputs", InspectKind::Named(NamedKind::MakeOutputs)),
+    ("mc-unsigned", InspectKind::Named(NamedKind::MakeUnsigned)),
+    ("ga-inputs", InspectKind::Named(NamedKind::GetInputs)),
+    ("ga-outputs", InspectKind::Named(NamedKind::GetOutputs)),
+    ("ga-unsigned", InspectKind::Named(NamedKind::GetUnsigned)),
+    (
+        "att-packed",
+        InspectKind::Named(NamedKind::Statement(AttestationFormat::Packed)),
+    ),
+    (
+        "att-tpm",
+        InspectKind::Named(NamedKind::Statement(AttestationFormat::Tpm)),
+    ),
+    (
+        "att-android-key",
+        InspectKind::Named(NamedKind::Statement(AttestationFormat::AndroidKey)),
+    ),
+    (
+        "att-android-safetynet",
+        InspectKind::Named(NamedKind::Statement(AttestationFormat::AndroidSafetyNet)),
+    ),
+    (
+        "att-fido-u2f",
+        InspectKind::Named(NamedKind::Statement(AttestationFormat::FidoU2f)),
+    ),
+    (
+        "att-none",
+        InspectKind::Named(NamedKind::Statement(AttestationFormat::None)),
+    ),
+    (
+        "att-apple",
+        InspectKind::Named(NamedKind::Statement(AttestationFormat::Apple)),
+    ),
+    (
+        "att-compound",
+        InspectKind::Named(NamedKind::Statement(AttestationFormat::Compound)),
+    ),
+];
+
+fn kind_in(kinds: &[(&'static str, InspectKind)], name: &str) -> Option<InspectKind> {
+    for (known, kind) in kinds {
+        if *known == name {
+            return Some(*kind);
         }
     }
     None
 }
 
+fn name_in(kinds: &[(&'static str, InspectKind)], kind: InspectKind) -> Option<&'static str> {
+    for (name, known) in kinds {
+        if *known == kind {
+            return Some(name);
+        }
+    }
+    None
+}
+
+/// Returns the kind with this name.
+pub fn kind_named(name: &str) -> Option<InspectKind> {
+    kind_in(&BYTES_KINDS, name)
+        .or(kind_in(&JSON_KINDS, name))
+        .or(kind_in(&NAMED_KINDS, name))
+}
+
 /// Returns the kind's name.
 pub fn name_of(kind: InspectKind) -> &'static str {
-    for (name, known) in BYTES_KINDS {
-        if known == kind {
-            return name;
-        }
-    }
-    for (name, known) in JSON_KINDS {
-        if known == kind {
-            return name;
-        }
-    }
-    ""
+    name_in(&BYTES_KINDS, kind)
+        .or(name_in(&JSON_KINDS, kind))
+        .or(name_in(&NAMED_KINDS, kind))
+        .unwrap_or("")
 }

@@ -23,6 +23,9 @@ Without a KIND it is found. The kinds of bytes: auth, bio-request, bio-response,
 cfg-min-pin-length, cfg-request, cfg-vendor, cm-request, cm-response, cose-key, ga-request,
 ga-response, hmac-input, info, lb-entry, lb-request, lb-response, mc-request, mc-response,
 pin-request, pin-response; and of JSON: authenticated, client-data, created, creation, request.
+Others are never found, but have to be named: info-23 (CTAP 2.3); extensions, mc-inputs, mc-outputs,
+mc-unsigned, ga-inputs, ga-outputs, ga-unsigned; and attestation statements, att-packed, att-tpm,
+att-android-key, att-android-safetynet, att-fido-u2f, att-none, att-apple, att-compound.
 ";
 
 /// What `--version` prints.
