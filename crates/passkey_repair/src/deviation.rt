@@ -6,10 +6,10 @@ use std::fmt;
 /// allows and another doesn't.
 #[derive(Clone, Copy, Debug, PartialEq, Eq)]
 pub enum Deviation {
-    /// A user without `name` or `displayName`. Chrome leaves out an empty display name, and in its
-    /// request for a touch also the name; libfido2 and python-fido2 leave out what their caller
-    /// doesn't give. CTAP makes both optional (CTAP 2.1, section 6.1), WebAuthn requires them
-    /// (WebAuthn Level 3, section 5.4.3).
+    /// A user without `name` or `displayName`. Chrome leaves out an empty display name, also in its
+    /// request for a touch; libfido2 and python-fido2 leave out what their caller doesn't give. CTAP
+    /// makes both optional (CTAP 2.1, section 6.1), WebAuthn requires them (WebAuthn Level 3, section
+    /// 5.4.3).
     AbsentName,
     /// Null in place of a user's `name` or `displayName`, as Firefox's authenticator-rs writes what
     /// is absent. Both are texts (WebAuthn Level 3, section 5.4.3).
