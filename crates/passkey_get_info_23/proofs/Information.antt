@@ -34,8 +34,10 @@ options_law = lawful 0 options (λ o. refl) (λ o. refl) (λ o. refl) (λ k o. s
     puts_default (optional_place truth_back refl o.set_min_pin_length (anything o.set_min_pin_length)) refl ▸
     puts_default (optional_place truth_back refl o.make_cred_uv_not_rqd (anything o.make_cred_uv_not_rqd)) refl ▸
     puts_default (optional_place truth_back refl o.credential_mgmt_preview (anything o.credential_mgmt_preview)) refl ▸
-    puts_default (optional_place truth_back refl o.user_verification_mgmt_preview (anything o.user_verification_mgmt_preview)) refl ▸
-    puts_default (optional_place truth_back refl o.no_mc_ga_permissions_with_client_pin (anything o.no_mc_ga_permissions_with_client_pin)) refl ▸
+    puts_default (optional_place truth_back refl o.user_verification_mgmt_preview
+    (anything o.user_verification_mgmt_preview)) refl ▸
+    puts_default (optional_place truth_back refl o.no_mc_ga_permissions_with_client_pin
+    (anything o.no_mc_ga_permissions_with_client_pin)) refl ▸
     no_more)
 
 pub information_law : IsKeeping (λ r. r) information (λ r. r.certifications)
