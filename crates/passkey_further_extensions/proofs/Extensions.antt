@@ -156,8 +156,10 @@ get_assertion_unsigned_messages = plain_messages 2 get_assertion_unsigned (omega
 
 pub make_credential_inputs_law : IsNamed normal_make_credential_inputs make_credential_inputs (λ r. r.hmac_secret_mc)
 unfolding shortest_head
-make_credential_inputs_law = named_law make_credential_inputs 3 (codes "hmac-secret-mc") (omega arith) (λ r. refl) (λ r. refl) (λ r. refl)
-    (λ Q rule r key. search (rule.holds, plainly, prf_inputs_law.plain 0, blob_make_inputs_law.plain 2) depth 18) (λ Q r each. search) (λ m. tt)
+make_credential_inputs_law = named_law make_credential_inputs 3 (codes "hmac-secret-mc") (omega arith) (λ r. refl) (λ r. refl)
+    (λ r. refl)
+    (λ Q rule r key. search (rule.holds, plainly, prf_inputs_law.plain 0, blob_make_inputs_law.plain 2) depth 18)
+    (λ Q r each. search) (λ m. tt)
     (λ m i less. search (optional_keeps not_null_around) depth 18 parts 18) (λ r fits.
     puts_default (optional_place prf_inputs_law.back refl r.prf (search)) refl ▸
     puts_default (optional_place truth_back refl r.uvm (anything r.uvm)) refl ▸
@@ -174,8 +176,10 @@ make_credential_inputs_law = named_law make_credential_inputs 3 (codes "hmac-sec
 
 pub get_assertion_inputs_law : IsNamed (λ r. r) get_assertion_inputs (λ r. r.hmac_secret)
 unfolding shortest_head
-get_assertion_inputs_law = named_law get_assertion_inputs 3 (codes "hmac-secret") (omega arith) (λ r. refl) (λ r. refl) (λ r. refl)
-    (λ Q rule r key. search (rule.holds, plainly, prf_inputs_law.plain 0, blob_get_inputs_law.plain 2) depth 18) (λ Q r each. search) (λ m. tt)
+get_assertion_inputs_law = named_law get_assertion_inputs 3 (codes "hmac-secret") (omega arith) (λ r. refl) (λ r. refl)
+    (λ r. refl)
+    (λ Q rule r key. search (rule.holds, plainly, prf_inputs_law.plain 0, blob_get_inputs_law.plain 2) depth 18)
+    (λ Q r each. search) (λ m. tt)
     (λ m i less. search (optional_keeps not_null_around) depth 18 parts 18) (λ r fits.
     puts_default (optional_place prf_inputs_law.back refl r.prf (search)) refl ▸
     puts_default (optional_place truth_back refl r.uvm (anything r.uvm)) refl ▸

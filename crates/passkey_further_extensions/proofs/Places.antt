@@ -43,7 +43,8 @@ written_long (item.map ps) = long_front _ (pairs_written ps) (head_long 5 (pairs
 written_long (item.tagged t x) = long_front _ (written x) (head_long 6 t)
 written_long (item.boolean b) = omega arith
 written_long item.null = omega arith
-written_long (item.simple n) = long_either (nat_lt n 20) ((224 + n) ∷ []) (248 ∷ n ∷ []) (long_cons (224 + n) []) (long_cons 248 (n ∷ []))
+written_long (item.simple n) = long_either (nat_lt n 20) ((224 + n) ∷ []) (248 ∷ n ∷ [])
+    (long_cons (224 + n) []) (long_cons 248 (n ∷ []))
 written_long (item.float f) = float_long f
 
 -- ---- where a member is placed

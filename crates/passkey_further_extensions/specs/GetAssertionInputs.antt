@@ -9,7 +9,15 @@ use Rattle.passkey_kinds.specs.Words.{PlainTable, optional_as, plain}
 
 abbrev pub get_assertion_inputs : PlainTable ExtensionInputs
 get_assertion_inputs = record {
-  blank = record { prf = None; uvm = None; cred_blob = None; large_blob = None; hmac_secret = None; large_blob_key = None; third_party_payment = None };
+  blank = record {
+    prf = None;
+    uvm = None;
+    cred_blob = None;
+    large_blob = None;
+    hmac_secret = None;
+    large_blob_key = None;
+    third_party_payment = None;
+  };
   members = optional_as 1 (codes "prf") (plain prf_inputs) (λ r. r.prf) (λ x r. record r { prf = x })
       ∷ optional_as 2 (codes "uvm") truth (λ r. r.uvm) (λ x r. record r { uvm = x })
       ∷ optional_as 3 (codes "credBlob") truth (λ r. r.cred_blob) (λ x r. record r { cred_blob = x })

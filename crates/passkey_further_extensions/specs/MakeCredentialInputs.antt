@@ -10,7 +10,19 @@ use Rattle.passkey_kinds.specs.Words.{PlainTable, optional_as, plain}
 
 abbrev pub make_credential_inputs : PlainTable ExtensionInputs
 make_credential_inputs = record {
-  blank = record { prf = None; uvm = None; cred_blob = None; large_blob = None; cred_protect = None; hmac_secret = None; large_blob_key = None; min_pin_length = None; hmac_secret_mc = None; third_party_payment = None; pin_complexity_policy = None };
+  blank = record {
+    prf = None;
+    uvm = None;
+    cred_blob = None;
+    large_blob = None;
+    cred_protect = None;
+    hmac_secret = None;
+    large_blob_key = None;
+    min_pin_length = None;
+    hmac_secret_mc = None;
+    third_party_payment = None;
+    pin_complexity_policy = None;
+  };
   members = optional_as 1 (codes "prf") (plain prf_inputs) (λ r. r.prf) (λ x r. record r { prf = x })
       ∷ optional_as 2 (codes "uvm") truth (λ r. r.uvm) (λ x r. record r { uvm = x })
       ∷ optional_as 3 (codes "credBlob") bytes (λ r. r.cred_blob) (λ x r. record r { cred_blob = x })
@@ -31,4 +43,5 @@ make_credential_inputs = record {
 
 -- what the encoding decodes to: a policy with the number of a named one becomes the named one
 abbrev pub normal_make_credential_inputs : ExtensionInputs → ExtensionInputs
-normal_make_credential_inputs r = record r { cred_protect = option_map (λ x. cred_protect_of (cred_protect_byte x)) r.cred_protect }
+normal_make_credential_inputs r =
+    record r { cred_protect = option_map (λ x. cred_protect_of (cred_protect_byte x)) r.cred_protect }

@@ -8,7 +8,14 @@ use Rattle.passkey_kinds.specs.Words.{PlainTable, optional_as, word}
 
 abbrev pub make_credential_outputs : PlainTable SignedExtensionOutputs
 make_credential_outputs = record {
-  blank = record { uvm = None; cred_blob = None; cred_protect = None; hmac_secret = None; min_pin_length = None; hmac_secret_mc = None };
+  blank = record {
+    uvm = None;
+    cred_blob = None;
+    cred_protect = None;
+    hmac_secret = None;
+    min_pin_length = None;
+    hmac_secret_mc = None;
+  };
   members = optional_as 1 (codes "uvm") (list_of (list_of word)) (λ r. r.uvm) (λ x r. record r { uvm = x })
       ∷ optional_as 2 (codes "credBlob") truth (λ r. r.cred_blob) (λ x r. record r { cred_blob = x })
       ∷ optional_as 3 (codes "credProtect") (code cred_protect_of cred_protect_byte) (λ r. r.cred_protect)
@@ -21,4 +28,5 @@ make_credential_outputs = record {
 
 -- what the encoding decodes to: a policy with the number of a named one becomes the named one
 abbrev pub normal_make_credential_outputs : SignedExtensionOutputs → SignedExtensionOutputs
-normal_make_credential_outputs r = record r { cred_protect = option_map (λ x. cred_protect_of (cred_protect_byte x)) r.cred_protect }
+normal_make_credential_outputs r =
+    record r { cred_protect = option_map (λ x. cred_protect_of (cred_protect_byte x)) r.cred_protect }
