@@ -1,11 +1,13 @@
 -- The results of a cursor's calls that build values, in terms of decoding the bytes ahead.
-use Rattle.std.specs.Prelude.{◌≡◌, ℕ, ◌+◌, ◌-◌, ◌≤◌, List, [], ◌∷◌, length, map, Some, Result, Ok, Err, Vec, String, string_bytes}
+use Rattle.std.specs.Prelude.{◌≡◌, ℕ, ◌+◌, ◌-◌, ◌≤◌, List, [], ◌∷◌, length, map, true, false, Option, Some, Result, Ok, Err, Vec, String, string_bytes}
 use Rattle.std.specs.Global.{Global}
-use Rattle.passkey_cbor.specs.Item.{Item}
+use Rattle.passkey_cbor.specs.Item.{Item, byte_string, text_string}
 use Rattle.passkey_cbor.specs.Nodes.{nodes}
 use Rattle.passkey_cbor.specs.Grows.{Grows}
 use Rattle.passkey_cbor.specs.View.{item_of, pair_of}
-use Rattle.passkey_cbor.specs.HeadReading.{Read}
+use Rattle.passkey_cbor.specs.HeadReading.{◌>>=◌, Read}
+use Rattle.passkey_cbor.specs.Reading.{string_at, item_within}
+use Rattle.passkey_cbor.specs.declared.head.Head.TheVariants as head
 use Rattle.passkey_cbor.specs.CursorState.{CursorState, ahead, raised, MovesForward}
 use Rattle.passkey_cbor.specs.declared.value.Value.{Value}
 use Rattle.passkey_cbor.specs.declared.error.CborError.{CborError}
@@ -51,6 +53,11 @@ some_bytes = record { view = λ v. v.items; Takes = IsNotEmpty; size = λ s. 0 }
 abbrev pub a_text : Making (String Global) (List ℕ)
 a_text = record { view = string_bytes; Takes = λ s. Unit {0}; size = λ s. 0 }
 
+-- what a call built in a place that was lent to it
+abbrev pub built : {V U : Type 0} → V → Result U CborError → Result V CborError
+built v (Ok u) = Ok v
+built v (Err e) = Err e
+
 -- If the bytes decode to x, then x was built, and each data item in it counted; or memory ran out, which
 -- happens only if x takes memory.
 abbrev pub Made : {V X : Type 0} → Making V X → X → List ℕ → CursorState → CursorState → Result V CborError → Type 0
@@ -66,3 +73,20 @@ pub record Makes {V X : Type 0} (m : Making V X) (read : Read X) (old new : Curs
   pub made : (x : X) (rest : List ℕ) → read ≡ Some (x, rest) → Made m x rest old new result
   pub heads : (x : X) (rest : List ℕ) → read ≡ Some (x, rest)
       → new.heads + length rest ≤ old.heads + length (ahead old)
+
+-- ---- data items whose head is decoded already, by what the head says
+
+abbrev pub byte_string_at : Option ℕ → List ℕ → Read Item
+byte_string_at len bytes = string_at false len bytes >>= λ s. Some (byte_string s.0, s.1)
+
+abbrev pub text_string_at : Option ℕ → List ℕ → Read Item
+text_string_at len bytes = string_at true len bytes >>= λ s. Some (text_string s.0, s.1)
+
+abbrev pub array_within : ℕ → Option ℕ → List ℕ → Read Item
+array_within levels len bytes = item_within levels (head.Array len) bytes
+
+abbrev pub map_within : ℕ → Option ℕ → List ℕ → Read Item
+map_within levels len bytes = item_within levels (head.Map len) bytes
+
+abbrev pub tagged_within : ℕ → ℕ → List ℕ → Read Item
+tagged_within levels tag bytes = item_within levels (head.Tag tag) bytes

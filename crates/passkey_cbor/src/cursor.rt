@@ -230,6 +230,7 @@ impl<'a> Cursor<'a> {
 
     /// One step in a list with `left` elements left, or, with indefinite length, elements up to a
     /// break.
+    #[inline(always)]
     pub(crate) fn step(&mut self, left: &mut Option<u64>) -> Next
         requires { IsInside self.old }
         ensures reads { ReadsStep left.old left.new self.old self.new result }

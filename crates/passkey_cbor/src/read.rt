@@ -1,12 +1,14 @@
 //! Decoding data items to values.
-ghost use Rattle.std.specs.Prelude.{◌≡◌, ◌<◌, ◌≤◌, ◌⊎◌, ℕ, [], length, true, Err, IfOk, OnErr};
+ghost use Rattle.std.specs.Prelude.{◌≡◌, ◌<◌, ◌≤◌, ◌⊎◌, ℕ, [], ◌∷◌, ◌++◌, length, true, Err, IfOk, OnErr, OnOk};
 ghost use Rattle.std.specs.Option.{IsSomeAnd};
 ghost use Rattle.passkey_cbor.specs.Item as item;
 ghost use Rattle.passkey_cbor.specs.CursorState.{ahead, IsInside, MovesForward};
 ghost use Rattle.passkey_cbor.specs.Reading.{start, is_allowed, piece_at, string_at, pair_by, simple_item, item_within, list_at};
 ghost use Rattle.passkey_cbor.specs.Steps.{IsHead, CountsChunks};
 ghost use Rattle.passkey_cbor.specs.Building.{Makes, an_item, a_counted_item, a_pair, each_of, some_bytes, a_text};
+ghost use Rattle.passkey_cbor.specs.Building.{built, byte_string_at, text_string_at, array_within, map_within, tagged_within};
 ghost use Rattle.passkey_cbor.specs.View.{item_of};
+ghost use Rattle.passkey_cbor.specs.declared.value.Value.{Null};
 ghost use Rattle.passkey_cbor.specs.Reads.{ReadsLeadingItem};
 ghost use Rattle.passkey_cbor.specs.Valued.{ReadsValue};
 ghost use Rattle.passkey_cbor.specs.EncodedAt.{IsEncodedAt, Values};
@@ -22,6 +24,7 @@ use crate::simple::Simple;
 use crate::value::Value;
 use passkey_memory::OutOfMemory;
 use std::alloc::Global;
+use std::mem::{forget, replace};
 
 impl Value {
     /// Decodes the leading data item, and returns it with its length in bytes; bytes after it are
@@ -47,6 +50,23 @@ fn room_for<T>(alloc: Global, len: Option<u64>) -> Result<Vec<T>, OutOfMemory>
         Some(len) => Ok(Vec::with_capacity(alloc, len as usize)?),
         None => Ok(Vec::new(alloc)),
     }
+}
+
+// Appends a pair. It isn't inlined, since each level of nesting would need more of the stack.
+#[inline(never)]
+fn append_pair(pairs: &mut Vec<(Value, Value)>, key: Value, value: Value) -> Result<(), OutOfMemory>
+    ensures { OnOk result (pairs.new.items ≡ pairs.old.items ++ (key, value) ∷ []) }
+{
+    Ok(pairs.push((key, value))?)
+}
+
+// Puts a value in a place that is null, which needs no drop.
+#[inline(always)]
+fn put(out: &mut Value, value: Value)
+    requires { out.old ≡ Null }
+    ensures { out.new ≡ value }
+{
+    forget(replace(out, value));
 }
 
 /// Returns a copy of the bytes, in a list without room for more.
@@ -80,8 +100,9 @@ impl<'a> Cursor<'a> {
             return Err(CborError::DecodeFailed);
         }
         self.go_back(place);
-        match self.build_item(alloc, MAX_DEPTH) {
-            Ok(value) => Ok(value),
+        let mut value = Value::Null;
+        match self.build_item(alloc, MAX_DEPTH, &mut value) {
+            Ok(()) => Ok(value),
             Err(error) => {
                 self.go_back(place);
                 Err(error)
@@ -89,64 +110,186 @@ impl<'a> Cursor<'a> {
         }
     }
 
-    // Builds the data item at the cursor, of at most `levels` levels.
+    // Builds the data item at the cursor, of at most `levels` levels, in `out`. An item is built in a place
+    // that its caller lends, which is null: handing it on takes no copy, and little of the stack.
     #[cycle(build)]
-    fn build_item(&mut self, alloc: Global, levels: usize) -> Result<Value, CborError>
-        requires { IsInside self.old }
-        ensures { Makes an_item (start (item_within levels) (ahead self.old)) self.old self.new result }
+    #[inline(always)]
+    fn build_item(&mut self, alloc: Global, levels: usize, out: &mut Value) -> Result<(), CborError>
+        requires inside { IsInside self.old }
+        requires blank { out.old ≡ Null }
+        ensures { Makes an_item (start (item_within levels) (ahead self.old)) self.old self.new (built out.new result) }
     {
         match self.decode() {
             None => Err(CborError::DecodeFailed),
-            Some(head) => self.build_behind(alloc, head, levels),
+            Some(head) => self.build_behind(alloc, head, levels, out),
         }
     }
 
     // Builds a data item whose head is decoded already, and counts it.
     #[cycle(build)]
-    fn build_behind(&mut self, alloc: Global, head: Head, levels: usize) -> Result<Value, CborError>
+    #[inline(always)]
+    fn build_behind(
+        &mut self,
+        alloc: Global,
+        head: Head,
+        levels: usize,
+        out: &mut Value,
+    ) -> Result<(), CborError>
         requires inside { IsInside self.old }
         requires head { IsHead head }
-        ensures { Makes an_item (item_within levels head (ahead self.old)) self.old self.new result }
+        requires blank { out.old ≡ Null }
+        ensures { Makes an_item (item_within levels head (ahead self.old)) self.old self.new (built out.new result) }
     {
         self.add(Count { heads: 0, nodes: 1 });
-        self.build_inside(alloc, head, levels)
+        self.build_inside(alloc, head, levels, out)
     }
 
     // Builds a data item whose head is decoded and which is counted already.
     #[cycle(build)]
-    fn build_inside(&mut self, alloc: Global, head: Head, levels: usize) -> Result<Value, CborError>
+    #[inline(always)]
+    fn build_inside(
+        &mut self,
+        alloc: Global,
+        head: Head,
+        levels: usize,
+        out: &mut Value,
+    ) -> Result<(), CborError>
         requires inside { IsInside self.old }
         requires head { IsHead head }
-        ensures { Makes a_counted_item (item_within levels head (ahead self.old)) self.old self.new result }
+        requires blank { out.old ≡ Null }
+        ensures { Makes a_counted_item (item_within levels head (ahead self.old)) self.old self.new
+            (built out.new result) }
     {
         match head {
-            Head::Unsigned(n) => Ok(Value::Integer(Integer::unsigned(n))),
-            Head::Negative(n) => Ok(Value::Integer(Integer::negative(n))),
-            Head::Bytes(len) => Ok(Value::Bytes(self.build_bytes(alloc, false, len)?)),
-            Head::Text(len) => Ok(Value::Text(self.build_text(alloc, len)?)),
-            Head::Simple(n) => Ok(simple_value(n)),
-            Head::Float(float) => Ok(Value::Float(float)),
+            Head::Unsigned(n) => {
+                put(out, Value::Integer(Integer::unsigned(n)));
+                Ok(())
+            }
+            Head::Negative(n) => {
+                put(out, Value::Integer(Integer::negative(n)));
+                Ok(())
+            }
+            Head::Bytes(len) => self.build_byte_string(alloc, len, out),
+            Head::Text(len) => self.build_text_string(alloc, len, out),
+            Head::Simple(n) => {
+                put(out, simple_value(n));
+                Ok(())
+            }
+            Head::Float(float) => {
+                put(out, Value::Float(float));
+                Ok(())
+            }
             Head::Break => Err(CborError::DecodeFailed),
-            Head::Array(len) => {
-                if levels == 0 {
-                    return Err(CborError::DecodeFailed);
-                }
-                Ok(Value::Array(self.build_items(alloc, len, levels - 1)?))
-            }
-            Head::Map(len) => {
-                if levels == 0 {
-                    return Err(CborError::DecodeFailed);
-                }
-                Ok(Value::Map(self.build_pairs(alloc, len, levels - 1)?))
-            }
-            Head::Tag(tag) => {
-                if levels == 0 {
-                    return Err(CborError::DecodeFailed);
-                }
-                let inner = self.build_item(alloc, levels - 1)?;
-                Ok(Value::Tag(tag, Box::new(alloc, inner)?))
-            }
+            Head::Array(len) => self.build_array(alloc, len, levels, out),
+            Head::Map(len) => self.build_map(alloc, len, levels, out),
+            Head::Tag(tag) => self.build_tagged(alloc, tag, levels, out),
         }
+    }
+
+    // Builds a byte string whose head is decoded and which is counted already.
+    #[inline(never)]
+    fn build_byte_string(
+        &mut self,
+        alloc: Global,
+        len: Option<u64>,
+        out: &mut Value,
+    ) -> Result<(), CborError>
+        requires inside { IsInside self.old }
+        requires blank { out.old ≡ Null }
+        ensures { Makes a_counted_item (byte_string_at len (ahead self.old)) self.old self.new
+            (built out.new result) }
+    {
+        put(out, Value::Bytes(self.build_bytes(alloc, false, len)?));
+        Ok(())
+    }
+
+    // Builds a text string whose head is decoded and which is counted already.
+    #[inline(never)]
+    fn build_text_string(
+        &mut self,
+        alloc: Global,
+        len: Option<u64>,
+        out: &mut Value,
+    ) -> Result<(), CborError>
+        requires inside { IsInside self.old }
+        requires blank { out.old ≡ Null }
+        ensures { Makes a_counted_item (text_string_at len (ahead self.old)) self.old self.new
+            (built out.new result) }
+    {
+        put(out, Value::Text(self.build_text(alloc, len)?));
+        Ok(())
+    }
+
+    // Builds an array whose head is decoded and which is counted already.
+    #[cycle(build)]
+    #[inline(never)]
+    fn build_array(
+        &mut self,
+        alloc: Global,
+        len: Option<u64>,
+        levels: usize,
+        out: &mut Value,
+    ) -> Result<(), CborError>
+        requires inside { IsInside self.old }
+        requires blank { out.old ≡ Null }
+        ensures { Makes a_counted_item (array_within levels len (ahead self.old)) self.old self.new
+            (built out.new result) }
+    {
+        if levels == 0 {
+            return Err(CborError::DecodeFailed);
+        }
+        let mut items = room_for(alloc, len)?;
+        self.build_items(alloc, len, levels - 1, &mut items)?;
+        put(out, Value::Array(items));
+        Ok(())
+    }
+
+    // Builds a map whose head is decoded and which is counted already.
+    #[cycle(build)]
+    #[inline(never)]
+    fn build_map(
+        &mut self,
+        alloc: Global,
+        len: Option<u64>,
+        levels: usize,
+        out: &mut Value,
+    ) -> Result<(), CborError>
+        requires inside { IsInside self.old }
+        requires blank { out.old ≡ Null }
+        ensures { Makes a_counted_item (map_within levels len (ahead self.old)) self.old self.new
+            (built out.new result) }
+    {
+        if levels == 0 {
+            return Err(CborError::DecodeFailed);
+        }
+        let mut pairs = room_for(alloc, len)?;
+        self.build_pairs(alloc, len, levels - 1, &mut pairs)?;
+        put(out, Value::Map(pairs));
+        Ok(())
+    }
+
+    // Builds a tag and its content, where the tag's head is decoded and it is counted already.
+    #[cycle(build)]
+    #[inline(never)]
+    fn build_tagged(
+        &mut self,
+        alloc: Global,
+        tag: u64,
+        levels: usize,
+        out: &mut Value,
+    ) -> Result<(), CborError>
+        requires inside { IsInside self.old }
+        requires blank { out.old ≡ Null }
+        ensures { Makes a_counted_item (tagged_within levels tag (ahead self.old)) self.old self.new
+            (built out.new result) }
+    {
+        if levels == 0 {
+            return Err(CborError::DecodeFailed);
+        }
+        let mut inner = Value::Null;
+        self.build_item(alloc, levels - 1, &mut inner)?;
+        put(out, Value::Tag(tag, Box::new(alloc, inner)?));
+        Ok(())
     }
 
     // Builds the items of an array whose head is decoded already.
@@ -156,18 +299,23 @@ impl<'a> Cursor<'a> {
         alloc: Global,
         len: Option<u64>,
         levels: usize,
-    ) -> Result<Vec<Value>, CborError>
-        requires { IsInside self.old }
+        items: &mut Vec<Value>,
+    ) -> Result<(), CborError>
+        requires inside { IsInside self.old }
+        requires empty { items.old.items ≡ [] }
         ensures { Makes (each_of an_item) (list_at (item_within levels) len (ahead self.old)) self.old self.new
-            result }
+            (built items.new result) }
     {
-        let mut items = room_for(alloc, len)?;
         let mut left = len;
         loop {
             match self.step(&mut left) {
                 Next::Malformed => return Err(CborError::DecodeFailed),
-                Next::End => return Ok(items),
-                Next::Element(head) => items.push(self.build_behind(alloc, head, levels)?)?,
+                Next::End => return Ok(()),
+                Next::Element(head) => {
+                    let mut item = Value::Null;
+                    self.build_behind(alloc, head, levels, &mut item)?;
+                    items.push(item)?;
+                }
             }
         }
     }
@@ -179,18 +327,24 @@ impl<'a> Cursor<'a> {
         alloc: Global,
         len: Option<u64>,
         levels: usize,
-    ) -> Result<Vec<(Value, Value)>, CborError>
-        requires { IsInside self.old }
+        pairs: &mut Vec<(Value, Value)>,
+    ) -> Result<(), CborError>
+        requires inside { IsInside self.old }
+        requires empty { pairs.old.items ≡ [] }
         ensures { Makes (each_of a_pair) (list_at (pair_by (item_within levels)) len (ahead self.old)) self.old
-            self.new result }
+            self.new (built pairs.new result) }
     {
-        let mut pairs = room_for(alloc, len)?;
         let mut left = len;
         loop {
             match self.step(&mut left) {
                 Next::Malformed => return Err(CborError::DecodeFailed),
-                Next::End => return Ok(pairs),
-                Next::Element(head) => pairs.push(self.build_pair(alloc, head, levels)?)?,
+                Next::End => return Ok(()),
+                Next::Element(head) => {
+                    let mut key = Value::Null;
+                    let mut value = Value::Null;
+                    self.build_pair(alloc, head, levels, &mut key, &mut value)?;
+                    append_pair(pairs, key, value)?;
+                }
             }
         }
     }
@@ -202,14 +356,19 @@ impl<'a> Cursor<'a> {
         alloc: Global,
         head: Head,
         levels: usize,
-    ) -> Result<(Value, Value), CborError>
+        key: &mut Value,
+        value: &mut Value,
+    ) -> Result<(), CborError>
         requires inside { IsInside self.old }
         requires head { IsHead head }
-        ensures { Makes a_pair (pair_by (item_within levels) head (ahead self.old)) self.old self.new result }
+        requires blank_key { key.old ≡ Null }
+        requires blank_value { value.old ≡ Null }
+        ensures { Makes a_pair (pair_by (item_within levels) head (ahead self.old)) self.old self.new
+            (built (key.new, value.new) result) }
     {
-        let key = self.build_behind(alloc, head, levels)?;
-        let value = self.build_item(alloc, levels)?;
-        Ok((key, value))
+        self.build_behind(alloc, head, levels, key)?;
+        self.build_item(alloc, levels, value)?;
+        Ok(())
     }
 
     // Builds a text whose head is decoded already. Its bytes are UTF-8, since each piece is.
@@ -251,7 +410,8 @@ impl<'a> Cursor<'a> {
         }
     }
 
-    /// Builds the bytes of a string in chunks.
+    /// Builds the bytes of a string in chunks, which are rare.
+    #[inline(never)]
     pub(crate) fn build_chunks(
         &mut self,
         alloc: Global,

@@ -9,6 +9,15 @@ use Rattle.passkey_cbor.proofs.cursor.Cursor.+build.Given as goal
 abbrev pub decreases-build_inside : goal.decreases-build_inside
 decreases-build_inside l = 8 * l.levels + 3
 
+abbrev pub decreases-build_array : goal.decreases-build_array
+decreases-build_array l = 8 * l.levels + 2
+
+abbrev pub decreases-build_map : goal.decreases-build_map
+decreases-build_map l = 8 * l.levels + 2
+
+abbrev pub decreases-build_tagged : goal.decreases-build_tagged
+decreases-build_tagged l = 8 * l.levels + 2
+
 abbrev pub decreases-build_behind : goal.decreases-build_behind
 decreases-build_behind l = 8 * l.levels + 4
 
@@ -24,18 +33,18 @@ decreases-build_items l = 8 * l.levels + 7
 abbrev pub decreases-build_pairs : goal.decreases-build_pairs
 decreases-build_pairs l = 8 * l.levels + 7
 
-abbrev pub invariant-build_items-loop-items : goal.invariant-build_items-loop-items
-invariant-build_items-loop-items l =
+abbrev pub invariant-build_items-loop-head : goal.invariant-build_items-loop-head
+invariant-build_items-loop-head l =
     Gathers (item_within l.fn.levels) an_item.size l.fn.len l.left l.fn.self l.self
     (λ (xs : List Item). map item_of l.items.items ≡ xs)
 
-abbrev pub decreases-build_items-loop-items : goal.decreases-build_items-loop-items
-decreases-build_items-loop-items l = length l.self.bytes - l.self.place
+abbrev pub decreases-build_items-loop-head : goal.decreases-build_items-loop-head
+decreases-build_items-loop-head l = length l.self.bytes - l.self.place
 
-abbrev pub invariant-build_pairs-loop-pairs : goal.invariant-build_pairs-loop-pairs
-invariant-build_pairs-loop-pairs l =
+abbrev pub invariant-build_pairs-loop-head : goal.invariant-build_pairs-loop-head
+invariant-build_pairs-loop-head l =
     Gathers (pair_by (item_within l.fn.levels)) a_pair.size l.fn.len l.left l.fn.self l.self
     (λ (ms : List (Item × Item)). map pair_of l.pairs.items ≡ ms)
 
-abbrev pub decreases-build_pairs-loop-pairs : goal.decreases-build_pairs-loop-pairs
-decreases-build_pairs-loop-pairs l = length l.self.bytes - l.self.place
+abbrev pub decreases-build_pairs-loop-head : goal.decreases-build_pairs-loop-head
+decreases-build_pairs-loop-head l = length l.self.bytes - l.self.place

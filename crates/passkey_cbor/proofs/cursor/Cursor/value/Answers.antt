@@ -11,8 +11,8 @@ use Rattle.passkey_cbor.proofs.cursor.Cursor.value.Goals as goal
 pub returns-in-Ok : goal.returns-in-Ok
 returns-in-Ok c =
     let place_is : c.self.inside.place ≡ c.args.self.now.place = ap (λ (w : CursorState). w.place) c.self.view_is in
-    let front : ReadsValue c.args.self.now c.build_item.new.self (Ok c.in-Ok.value) = value_made c.args.self.now
-    c.skip.new.self c.go_back.new.self c.build_item.new.self c.in-Ok.value c.if-not-skip.ensures.front
+    let front : ReadsValue c.args.self.now c.build_item.new.self (Ok c.build_item.new.out) = value_made c.args.self.now
+    c.skip.new.self c.go_back.new.self c.build_item.new.self c.build_item.new.out c.if-not-skip.ensures.front
     (c.go_back.ensures ∙ ap (λ (p : ℕ). record c.skip.new.self { place = p }) place_is) c.in-Ok.ensures in
     let placed : IsPlaced c.args.self.now.bytes c.args.self.now.place =
     subst (λ (w : CursorState). IsPlaced w.bytes w.place) c.self.view_is c.self.invariant in
@@ -21,7 +21,7 @@ returns-in-Ok c =
     (c.go_back.ensures ∙ ap (λ (p : ℕ). record c.skip.new.self { place = p }) place_is) in
     record {
       front = front;
-      values = λ x to l. values c.args.self.now c.build_item.new.self (Ok c.in-Ok.value) x to front l;
+      values = λ x to l. values c.args.self.now c.build_item.new.self (Ok c.build_item.new.out) x to front l;
       went = went_then c.args.self.now c.go_back.new.self c.build_item.new.self began c.in-Ok.ensures.went;
     }
 
