@@ -6,7 +6,7 @@ use Rattle.passkey_kinds.specs.Base.{Item}
 use Rattle.passkey_kinds.specs.Kind.{Typed, accepts}
 use Rattle.passkey_kinds.specs.Record.{are_small}
 use Rattle.passkey_kinds.specs.RecordReading.{entry_of}
-use Rattle.passkey_kinds.specs.Shape.{Shape, leaf, list, record_of, Tested, entries_in, reached, part_of}
+use Rattle.passkey_kinds.specs.Shape.{Shape, leaf, list, record_of, Tested, entries_in, reached, part_of, kept_by}
 use Rattle.passkey_kinds.specs.declared.fault.Refusal.{Refusal}
 use Rattle.passkey_kinds.specs.declared.fault.Refusal.TheVariants.{Refused, OutOfMemory}
 use Rattle.passkey_kinds.specs.declared.look.Form.{Form}
@@ -25,11 +25,13 @@ HasForm (list a s) form.List = Unit {0}
 HasForm (shape.map a s) form.Map = Unit {0}
 HasForm (record_of is_numbered rows) (form.Record b rs) =
     (b ≡ is_numbered) × (map entry_of rs.now ≡ entries_in rows) × (are_small (entries_in rows) ≡ true)
+HasForm (shape.tolerant a s) f = HasForm s f
 HasForm _ _ = ⊥
 
 pub record LooksAs (t : Tested) (i : Item) (look : Look) : Type 0 where
   pub accepted : look.is_accepted ≡ t.accepts i
   pub form : HasForm t.shape look.form
+  pub kept : look.is_kept ≡ kept_by t.shape i
 
 -- Looking at a part, if there is one, with a data item.
 abbrev pub Looks : Option Tested → Item → Result Look NoMemory → Type 0
@@ -38,7 +40,7 @@ Looks None i result = Unit {0}
 
 -- The same at the type that was decoded from the item, where it isn't said whether it accepts the item.
 abbrev pub FoundAs : List ℕ → Shape → Item → Result Look NoMemory → Type 0
-FoundAs [] s i result = IfOk result (λ l. HasForm s l.form)
+FoundAs [] s i result = IfOk result (λ l. HasForm s l.form × (l.is_kept ≡ kept_by s i))
 FoundAs (n ∷ ns) s i result = Looks (option_and_then (reached ns) (part_of n s)) i result
 
 -- nothing is said where nothing is there

@@ -17,6 +17,10 @@ list_shape k = shape.list (accepts k) k.shape
 abbrev pub map_shape : {M : Type 0} → Typed M → Shape
 map_shape k = shape.map (accepts k) k.shape
 
+-- any item, of which those are kept that the kind accepts
+abbrev pub tolerant_shape : {M : Type 0} → Typed M → Shape
+tolerant_shape k = shape.tolerant (accepts k) k.shape
+
 -- a kind whose values take no memory, at the cost of this many heads for each byte, and what it wants
 abbrev pub fixed : {M : Type 0} → ℕ → Wanted → Kind M → Typed M
 fixed cost w k = record { of = k; takes = false; cost = cost; keeps = nothing; shape = leaf w }
@@ -55,12 +59,13 @@ tolerated k = record {
   takes = k.takes;
   cost = suc k.cost;
   keeps = k.keeps;
-  shape = k.shape;
+  shape = tolerant_shape k;
 }
 
 -- the value, or this default if the kind refuses the item
 abbrev pub or_else : {M : Type 0} → M → Typed M → Typed M
-or_else default k = record k { of = kind.or_else_from default k.of; cost = suc k.cost }
+or_else default k =
+    record k { of = kind.or_else_from default k.of; cost = suc k.cost; shape = tolerant_shape k }
 
 abbrev pub list : {M : Type 0} → Typed M → Typed (List M)
 list k = record {
@@ -71,13 +76,14 @@ list k = record {
   shape = list_shape k;
 }
 
+-- an array whose elements are tolerated
 abbrev pub accepted : {M : Type 0} → Typed M → Typed (List M)
 accepted k = record {
   of = kind.accepted_from k.of;
   takes = true;
   cost = suc (suc k.cost);
   keeps = in_elements k.keeps;
-  shape = list_shape k;
+  shape = list_shape (tolerated k);
 }
 
 abbrev pub map_from_bytes : {M : Type 0} → Typed M → Typed (ByteMap M)

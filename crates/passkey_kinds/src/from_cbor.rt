@@ -5,6 +5,7 @@ ghost use Rattle.passkey_kinds.specs.Shape.{reached};
 ghost use Rattle.passkey_kinds.specs.Words.{tolerated, Item, IsEncodedAt, item_of, Answers, Typed, Onward, Further, ReadsAs, truth, below, text, item, optional, scalar_of};
 
 use crate::head::read_scalar;
+use crate::look::accepted_if;
 use crate::{Form, Look, OutOfMemory, Refusal, Wanted, looked};
 use passkey_bytes::Text;
 use passkey_cbor::{CborError, Cursor, Head, Value};
@@ -44,9 +45,9 @@ pub trait FromCbor: Drop {
         ensures further { OnOk result (Further cursor.old cursor.new) };
 
     /// Returns what the part of the type to which the way leads is decoded from, and whether it
-    /// accepts the data item. For each list and map on the way there is any number, which leads to
-    /// its elements or values, and for each record the number of a row, which leads to its value; an
-    /// empty way leads to the type itself. Nothing is promised for a way that leads nowhere. Returns
+    /// accepts the data item, and keeps it. For each list and map on the way there is any number,
+    /// which leads to its elements or values, and for each record the number of a row, which leads
+    /// to its value; an empty way leads to the type itself. Nothing is promised for a way that leads nowhere. Returns
     /// `OutOfMemory` if an allocation fails.
     fn look(alloc: Global, way: &[u8], value: &Value) -> Result<Look, OutOfMemory>
         ensures { Looks (reached way.now (tested typed)) (item_of value.now) result };
@@ -221,7 +222,7 @@ impl<T: FromCbor> FromCbor for Option<T> {
     fn look(alloc: Global, way: &[u8], value: &Value) -> Result<Look, OutOfMemory> {
         let look = T::look(alloc, way, value)?;
         match way.split_first() {
-            None => looked(<Option<T>>::from_value(alloc, value), look.form),
+            None => accepted_if(<Option<T>>::from_value(alloc, value), look),
             Some(_) => Ok(look),
         }
     }
@@ -267,7 +268,11 @@ impl<T: FromCbor> FromCbor for Tolerated<T> {
     fn look(alloc: Global, way: &[u8], value: &Value) -> Result<Look, OutOfMemory> {
         let look = T::look(alloc, way, value)?;
         match way.split_first() {
-            None => looked(<Tolerated<T>>::from_value(alloc, value), look.form),
+            None => Ok(Look {
+                is_accepted: true,
+                is_kept: look.is_accepted && look.is_kept,
+                form: look.form,
+            }),
             Some(_) => Ok(look),
         }
     }

@@ -97,7 +97,7 @@ impl<T: FromCbor> FromCbor for TolerantList<T> {
     fn look(alloc: Global, way: &[u8], value: &Value) -> Result<Look, OutOfMemory> {
         match way.split_first() {
             None => looked(<TolerantList<T>>::from_value(alloc, value), Form::List),
-            Some((_, rest)) => T::look(alloc, rest, value),
+            Some((_, rest)) => <Tolerated<T>>::look(alloc, rest, value),
         }
     }
 }

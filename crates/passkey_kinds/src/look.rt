@@ -1,5 +1,5 @@
 //! Looking at a type: what it is decoded from, part by part, and which data items it accepts.
-ghost use Rattle.std.specs.Prelude.{◌≡◌, IfOk, IfSome};
+ghost use Rattle.std.specs.Prelude.{◌≡◌, true, IfOk, IfSome};
 ghost use Rattle.std.specs.Option.{option_and_then};
 ghost use Rattle.passkey_kinds.specs.Look.{AcceptedIf, FoundAs, Looks, says_nothing};
 ghost use Rattle.passkey_kinds.specs.RecordReading.{shapes_of};
@@ -23,24 +23,48 @@ pub enum Form {
     Record(bool, &'static [Row]),
 }
 
-/// What a type is decoded from, and whether it accepts a data item.
+/// What a type is decoded from, and what it makes of a data item.
 #[derive(Clone, Copy)]
 pub struct Look {
+    /// Whether the type accepts the item.
     pub is_accepted: bool,
+    /// False where the type tolerates any item, and leaves this one out: `Tolerated` does if the
+    /// type inside it refuses the item. True of all other types.
+    pub is_kept: bool,
     pub form: Form,
 }
 
-/// Returns whether the item was accepted, and the form. Returns `OutOfMemory` if an allocation
-/// failed.
-pub fn looked<T: Drop>(read: Result<T, Refusal>, form: Form) -> Result<Look, OutOfMemory>
-    ensures { IfOk result (λ l. AcceptedIf read l.is_accepted × (l.form ≡ form)) }
+/// Returns whether the item was accepted, and otherwise what was seen. Returns `OutOfMemory` if an
+/// allocation failed.
+pub(crate) fn accepted_if<T: Drop>(
+    read: Result<T, Refusal>,
+    seen: Look,
+) -> Result<Look, OutOfMemory>
+    ensures { IfOk result (λ l. AcceptedIf read l.is_accepted × (l.form ≡ seen.form) × (l.is_kept ≡ seen.is_kept)) }
 {
     let is_accepted = match read {
         Ok(_) => true,
         Err(Refusal::Refused) => false,
         Err(Refusal::OutOfMemory) => return Err(OutOfMemory),
     };
-    Ok(Look { is_accepted, form })
+    Ok(Look {
+        is_accepted,
+        is_kept: seen.is_kept,
+        form: seen.form,
+    })
+}
+
+/// Returns whether the item was accepted, and the form. Returns `OutOfMemory` if an allocation
+/// failed.
+pub fn looked<T: Drop>(read: Result<T, Refusal>, form: Form) -> Result<Look, OutOfMemory>
+    ensures { IfOk result (λ l. AcceptedIf read l.is_accepted × (l.form ≡ form) × (l.is_kept ≡ true)) }
+{
+    let kept = Look {
+        is_accepted: true,
+        is_kept: true,
+        form,
+    };
+    accepted_if(read, kept)
 }
 
 /// A data item in memory, at which the type that is decoded from it is looked at.
@@ -96,7 +120,7 @@ pub(crate) fn look_at_row<R: Record>(
     };
     let put = record.put(alloc, number, &mut source);
     match way.split_first() {
-        None => looked(put, source.found?.form),
+        None => accepted_if(put, source.found?),
         Some(_) => source.found,
     }
 }

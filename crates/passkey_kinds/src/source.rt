@@ -136,7 +136,8 @@ pub fn set_tolerated<T: FromCbor, S: Source>(
     ensures sets { (i : Item) (to : ℕ) → S.At source.old i to
         → Sets (option_map T.view) (tolerated T.typed) i field.new result }
     ensures spends { (i : Item) (to : ℕ) → S.At source.old i to
-        → S.HasCost (suc T.typed.cost) T.typed.keeps (Some T.typed.shape) i to source.old source.new (is_ok result) }
+        → S.HasCost (suc T.typed.cost) T.typed.keeps (Some (tolerated T.typed).shape) i to source.old source.new
+        (is_ok result) }
     ensures onward { S.IsOnward source.old source.new }
     ensures further { OnOk result (S.IsFurther source.old source.new) }
 {
@@ -156,7 +157,8 @@ pub fn set_or<T: FromCbor, S: Source>(
     ensures sets { (i : Item) (to : ℕ) → S.At source.old i to
         → Sets T.view (or_else (T.view default) T.typed) i field.new result }
     ensures spends { (i : Item) (to : ℕ) → S.At source.old i to
-        → S.HasCost (suc T.typed.cost) T.typed.keeps (Some T.typed.shape) i to source.old source.new (is_ok result) }
+        → S.HasCost (suc T.typed.cost) T.typed.keeps (Some (tolerated T.typed).shape) i to source.old source.new
+        (is_ok result) }
     ensures onward { S.IsOnward source.old source.new }
     ensures further { OnOk result (S.IsFurther source.old source.new) }
 {
@@ -195,8 +197,8 @@ pub fn set_accepted_or_none<T: FromCbor, S: Source>(
     ensures sets { (i : Item) (to : ℕ) → S.At source.old i to
         → Sets (λ o. option_map (λ xs. map T.view xs) o) (tolerated (accepted T.typed)) i field.new result }
     ensures spends { (i : Item) (to : ℕ) → S.At source.old i to
-        → S.HasCost (suc (suc (suc T.typed.cost))) (in_elements T.typed.keeps) (Some (accepted T.typed).shape) i to
-        source.old source.new (is_ok result) }
+        → S.HasCost (suc (suc (suc T.typed.cost))) (in_elements T.typed.keeps)
+        (Some (tolerated (accepted T.typed)).shape) i to source.old source.new (is_ok result) }
     ensures onward { S.IsOnward source.old source.new }
     ensures further { OnOk result (S.IsFurther source.old source.new) }
 {

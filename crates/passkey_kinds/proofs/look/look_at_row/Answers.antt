@@ -6,8 +6,8 @@ pub returns-in-None : goal.returns-in-None
 returns-in-None g c =
     let i = item_of c.args.value.now in
     row_looks g.R.Record.fields _ i c.args.way.now _ _ c.put-put.result _ c.in_ok-source-in-None.field-0
-    c.looked.result c.in-None.ensures.cases c.in_ok-source-in-None.was (c.put-put.ensures.puts i 0 refl)
-    (c.put-put.ensures.spends i 0 refl) c.looked.ensures
+    c.accepted_if.result c.in-None.ensures.cases c.in_ok-source-in-None.was (c.put-put.ensures.puts i 0 refl)
+    (c.put-put.ensures.spends i 0 refl) c.accepted_if.ensures
 
 pub returns : goal.returns
 returns g c =
