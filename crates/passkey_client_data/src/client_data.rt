@@ -43,7 +43,7 @@ pub struct CollectedClientData<E = ()> {
 
 /// The members that all client data has (WebAuthn Level 3, section 5.8.1).
 #[derive(Drop)]
-struct FixedMembers {
+pub struct FixedMembers {
     ty: ClientDataType,
     challenge: Text,
     origin: Text,

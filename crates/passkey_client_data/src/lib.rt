@@ -9,8 +9,9 @@ mod client_data_type;
 mod extra_data;
 mod unknown_members;
 
-pub use client_data::CollectedClientData;
+pub use client_data::{CollectedClientData, FixedMembers};
 pub use client_data_fault::ClientDataFault;
 pub use client_data_type::ClientDataType;
 pub use extra_data::ClientDataExtra;
 pub use passkey_memory::OutOfMemory;
+pub use unknown_members::is_fixed;

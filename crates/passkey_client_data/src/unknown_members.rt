@@ -13,7 +13,8 @@ use passkey_memory::OutOfMemory;
 use serde_json::{Map, Value};
 use std::alloc::Global;
 
-fn is_fixed(name: &str) -> bool
+/// Returns whether all client data has a member of this name.
+pub fn is_fixed(name: &str) -> bool
     ensures { result ≡ is_fixed name.now }
 {
     name == "type" || name == "challenge" || name == "origin" || name == "crossOrigin"

@@ -6,3 +6,4 @@ pub mod RowLaw
 pub mod Rows
 pub mod RowsLaw
 pub mod Explains
+pub mod ClientDataBlame

@@ -78,6 +78,11 @@ request_rows n = if n == 1 then leaf want.Bytes else if n == 2 then leaf want.Wo
 abbrev pub argument_rows : {O : Type 0} → PlainTable O → Rows → Rows
 argument_rows t rows = each_row (record_blame t rows)
 
+-- ---- client data (WebAuthn Level 3, section 5.8.1)
+
+abbrev pub client_data_rows : Rows
+client_data_rows n = if n == 1 then leaf want.Name else if n == 4 then leaf want.Boolean else leaf want.Text
+
 -- ---- credentials (WebAuthn Level 3, sections 5.1 and 5.2)
 
 abbrev pub attestation_rows : Rows

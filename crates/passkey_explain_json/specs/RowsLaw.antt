@@ -1,5 +1,7 @@
 -- What each record blames is to blame.
 use Rattle.std.specs.Prelude.{None, false, refl}
+use Rattle.passkey_client_data.specs.ClientData.{fixed_members}
+use Rattle.passkey_client_data.specs.ClientDataType.{client_data_type_value}
 use Rattle.passkey_credentials.specs.Credentials.{attestation_response, assertion_response, credential}
 use Rattle.passkey_json.specs.Coded.{algorithm_value, credential_type_value, transport_value, truth_text_value, whole_value}
 use Rattle.passkey_json.specs.Extensions.{client_inputs, prf_inputs, client_outputs, credential_properties, no_outputs}
@@ -131,6 +133,16 @@ pub argument_hold : {O : Type 0} (t : PlainTable O) (r : Rows) → RowsHold t.me
     → RowsHold (credential_options t).members (rows.argument_rows t r)
 argument_hold t r hold =
     required_row _ (kind_of t) _ (λ o. refl) (record_holds t r hold)
+    ⨾ tt
+
+-- ---- client data
+
+pub client_data_hold : RowsHold fixed_members.members rows.client_data_rows
+client_data_hold =
+    required_row _ client_data_type_value.kind _ (λ o. refl) (leaf_holds _ want.Name)
+    ⨾ required_row _ text _ (λ o. refl) (leaf_holds _ want.Text)
+    ⨾ required_row _ text _ (λ o. refl) (leaf_holds _ want.Text)
+    ⨾ optional_row _ truth _ (λ o. refl) (leaf_holds _ want.Boolean)
     ⨾ tt
 
 -- ---- credentials

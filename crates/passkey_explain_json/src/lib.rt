@@ -4,6 +4,7 @@
 
 mod blame;
 mod blames;
+mod client_data;
 mod credentials;
 mod display;
 mod explanation;
@@ -17,5 +18,6 @@ mod webauthn;
 
 pub use blame::{JsonBlame, JsonReason, JsonStep};
 pub use blames::{Blames, BlamesRows};
+pub use client_data::explain_client_data;
 pub use explanation::{JsonExplanation, explain_json};
 pub use wanted::WantedJson;

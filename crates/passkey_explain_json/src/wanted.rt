@@ -25,6 +25,8 @@ pub enum WantedJson {
     Array,
     /// An object.
     Object,
+    /// Any value that contains no float.
+    NoFloat,
 }
 
 impl fmt::Display for WantedJson {
@@ -40,6 +42,7 @@ impl fmt::Display for WantedJson {
             WantedJson::Algorithm => "the identifier of a COSE algorithm",
             WantedJson::Array => "an array",
             WantedJson::Object => "an object",
+            WantedJson::NoFloat => "a value without a float",
         })
     }
 }

@@ -1,0 +1,76 @@
+//! Why a JSON value isn't decoded as client data (WebAuthn Level 3, section 5.8.1).
+ghost use Rattle.std.specs.Prelude.{◌≡◌, IfOk, None, option_map};
+ghost use Rattle.passkey_explain_json.specs.ClientDataBlame.{ExplainsClientData, ExplainsUnknown, first_float};
+ghost use Rattle.passkey_explain_json.specs.Rows.{client_data_rows};
+ghost use Rattle.passkey_explain_json.specs.RowsLaw.{client_data_hold};
+ghost use Rattle.serde_json.specs.View.{members_view, view};
+
+use crate::blame::{JsonBlame, JsonStep};
+use crate::blames::BlamesRows;
+use crate::explanation::{JsonExplanation, explain_json};
+use crate::wanted::WantedJson;
+use passkey_bytes::Text;
+use passkey_client_data::{FixedMembers, is_fixed};
+use passkey_json::{JsonFault, holds_float};
+use passkey_memory::OutOfMemory;
+use serde_json::{Map, Value};
+use std::alloc::Global;
+
+impl BlamesRows for FixedMembers {
+    ghost rows_blame = { client_data_rows };
+
+    ghost rows_hold = { client_data_hold };
+
+    fn blame_row(alloc: Global, number: u8, _value: &Value) -> Result<JsonBlame, OutOfMemory> {
+        let wanted = match number {
+            1 => WantedJson::Name,
+            4 => WantedJson::Boolean,
+            _ => WantedJson::Text,
+        };
+        Ok(JsonBlame::wanted(alloc, wanted))
+    }
+}
+
+/// Returns the name of the first unknown member that contains a float.
+fn unknown_float(members: &Map<String, Value>) -> Option<&str>
+    ensures { option_map (λ name. name.now) result ≡ first_float (members_view members.now.entries) }
+{
+    for (name, value) in members.iter() {
+        if !is_fixed(name.as_str()) && holds_float(value) {
+            return Some(name.as_str());
+        }
+    }
+    None
+}
+
+/// Explains a float in an unknown member, if there is one.
+fn explain_unknown(alloc: Global, value: &Value) -> Result<Option<JsonExplanation>, OutOfMemory>
+    ensures { IfOk result (ExplainsUnknown (view value.now)) }
+{
+    let Value::Object(members) = value else {
+        return Ok(None);
+    };
+    let Some(name) = unknown_float(members) else {
+        return Ok(None);
+    };
+    let step = JsonStep::Named(Text::from_str(alloc, name)?);
+    Ok(Some(JsonExplanation {
+        fault: JsonFault::Float("unknown_keys"),
+        blame: JsonBlame::wanted(alloc, WantedJson::NoFloat).under(step)?,
+    }))
+}
+
+/// Explains why client data isn't decoded from the JSON value. Returns `None` exactly if it is, as
+/// by `CollectedClientData::<()>::from_json`, and `OutOfMemory` if an allocation fails. For a float
+/// in an unknown member (`Float("unknown_keys")`), the first such member is to blame.
+pub fn explain_client_data(
+    alloc: Global,
+    value: &Value,
+) -> Result<Option<JsonExplanation>, OutOfMemory>
+    ensures { IfOk result (ExplainsClientData (view value.now)) }
+{
+    match explain_json::<FixedMembers>(alloc, value)? {
+        Some(explanation) => Ok(Some(explanation)),
+        None => explain_unknown(alloc, value),
+    }
+}
