@@ -131,6 +131,7 @@ mutual
   inside (shape.map accepts s) i = map_inside accepts (blamed s) (inside s) i
   inside (record_of is_numbered rows) i =
       record_inside (entries_in rows) (accepts_in rows) (blamed_row rows) (row_inside rows) is_numbered i
+  inside (shape.tolerant accepts s) i = inside s i
 
   row_inside : (rs : Rows) (n : ℕ) (i : Item) → IsIn i (blamed_row rs n i)
   row_inside no_rows n i = refl

@@ -11,9 +11,10 @@ use Rattle.passkey_explain.specs.declared.blame.Step.{Step as CodeStep}
 use Rattle.passkey_explain.specs.declared.descent.Next.{Next}
 use Rattle.passkey_cbor.specs.declared.value.Value.{Value}
 use Rattle.passkey_kinds.proofs.Members.{none_marked, row_small}
-use Rattle.passkey_kinds.specs.Look.{Looks, HasForm}
+use Rattle.passkey_kinds.specs.Look.{Looks, LooksAs, HasForm}
 use Rattle.passkey_kinds.specs.Shape.{Shape, leaf, record_of, Rows, no_rows, Tested, reached, part_of, row_in, entries_in}
 use Rattle.passkey_kinds.specs.declared.look.Look.{Look}
+use Rattle.passkey_kinds.specs.declared.wanted.Wanted.{Wanted}
 use Rattle.passkey_kinds.specs.declared.rows.Row.{Row}
 use Rattle.passkey_kinds.specs.declared.fault.Fault.TheVariants.{NotAMap}
 use Rattle.passkey_memory.specs.declared.OutOfMemory.{OutOfMemory}
@@ -58,18 +59,51 @@ look_accepts way root t i r l at looks is =
     let there : Looks (Some t) i (Ok l) = rw (at, is) at looks in
     there.accepted
 
+-- ---- the shape of what is kept, where any item is tolerated
+
+abbrev pub bare : Shape → Shape
+bare (shape.tolerant a s) = bare s
+bare s = s
+
+parts_of_bare : (s : Shape) (n : ℕ) → part_of n s ≡ part_of n (bare s)
+parts_of_bare (shape.tolerant a s) n = parts_of_bare s n
+parts_of_bare _ n = refl
+
+blamed_by_bare : (s : Shape) (i : Item) → blamed s i ≡ blamed (bare s) i
+blamed_by_bare (shape.tolerant a s) i = blamed_by_bare s i
+blamed_by_bare _ i = refl
+
+pub parts_like : (s : Shape) {x : Shape} → bare s ≡ x → (n : ℕ) → part_of n s ≡ part_of n x
+parts_like s is n = parts_of_bare s n ∙ ap (part_of n) is
+
+pub blamed_like : (s : Shape) {x : Shape} → bare s ≡ x → (i : Item) → blamed s i ≡ blamed x i
+blamed_like s is i = blamed_by_bare s i ∙ ap (λ (y : Shape). blamed y i) is
+
+pub look_there : (way : List ℕ) (root t : Tested) (i : Item) (r : Result Look OutOfMemory) (l : Look)
+    → reached way root ≡ Some t → Looks (reached way root) i r → r ≡ Ok l → LooksAs t i l
+look_there way root t i r l at looks is = rw (at, is) at looks
+
+pub leaf_blamed : (s : Shape) (w : Wanted) → HasForm s (form.Leaf w) → (i : Item) → blamed s i ≡ wants w
+leaf_blamed (leaf v) w h i = ap wants (sym h)
+leaf_blamed (shape.list a x) w h i = absurd h
+leaf_blamed (shape.map a x) w h i = absurd h
+leaf_blamed (record_of b rows) w h i = absurd h
+leaf_blamed (shape.tolerant a x) w h i = leaf_blamed x w h i
+
 -- the form that was seen is the shape's
-pub is_list : (s : Shape) → HasForm s form.List → (a : Item → Bool) × (x : Shape) × (s ≡ shape.list a x)
+pub is_list : (s : Shape) → HasForm s form.List → (a : Item → Bool) × (x : Shape) × (bare s ≡ shape.list a x)
 is_list (shape.list a x) h = (a, x, refl)
 is_list (leaf w) h = absurd h
 is_list (shape.map a x) h = absurd h
 is_list (record_of b rows) h = absurd h
+is_list (shape.tolerant a x) h = is_list x h
 
-pub is_map : (s : Shape) → HasForm s form.Map → (a : Item → Bool) × (x : Shape) × (s ≡ shape.map a x)
+pub is_map : (s : Shape) → HasForm s form.Map → (a : Item → Bool) × (x : Shape) × (bare s ≡ shape.map a x)
 is_map (shape.map a x) h = (a, x, refl)
 is_map (leaf w) h = absurd h
 is_map (shape.list a x) h = absurd h
 is_map (record_of b rows) h = absurd h
+is_map (shape.tolerant a x) h = is_map x h
 
 -- ---- lists and maps
 
@@ -112,7 +146,7 @@ list_of_elements a of _ xs e = absurd cc
 pub no_list : (t : Tested) (i : Item) → HasForm t.shape form.List → elements_in i ≡ None → blamed t.shape i ≡ wants wanted.Array
 unfolding list_blame
 no_list t i h e =
-    let l = is_list t.shape h in ap (λ (x : Shape). blamed x i) l.2 ∙ without l.0 (blamed l.1) i e where
+    let l = is_list t.shape h in blamed_like t.shape l.2 i ∙ without l.0 (blamed l.1) i e where
       without : (a : Item → Bool) (of : Item → Blame) (i : Item) → elements_in i ≡ None → list_blame a of i ≡ wants wanted.Array
       without a of (array is) e = absurd cc
       without a of _ e = refl
@@ -126,9 +160,9 @@ list_next t i xs way inner root (Ok n) at further is h told =
     let l = is_list t.shape h in
     let u : Tested = record { accepts = l.0; shape = l.1 } in
     let there : reached inner root ≡ Some u =
-    ap (λ (w : List ℕ). reached w root) further ∙ reached_further way 0 root t at ∙ ap (part_of 0) l.2 in
-    same_parts t l.1 i (blame_elements l.0 (blamed l.1) 0 xs) n (λ k. (u, (ap (part_of k) l.2, refl)))
-    (ap (λ (x : Shape). blamed x i) l.2 ∙ list_of_elements l.0 (blamed l.1) i xs is) (told u there (blamed l.1))
+    ap (λ (w : List ℕ). reached w root) further ∙ reached_further way 0 root t at ∙ parts_like t.shape l.2 0 in
+    same_parts t l.1 i (blame_elements l.0 (blamed l.1) 0 xs) n (λ k. (u, (parts_like t.shape l.2 k, refl)))
+    (blamed_like t.shape l.2 i ∙ list_of_elements l.0 (blamed l.1) i xs is) (told u there (blamed l.1))
 
 map_of_members : (a : Item → Bool) (of : Item → Blame) (i : Item) (ms : Members) → members_in i ≡ Some ms
     → map_blame a of i ≡ blame_entries a of 0 ms
@@ -139,7 +173,7 @@ map_of_members a of _ ms e = absurd cc
 pub no_map : (t : Tested) (i : Item) → HasForm t.shape form.Map → members_in i ≡ None → blamed t.shape i ≡ wants wanted.Map
 unfolding map_blame
 no_map t i h e =
-    let l = is_map t.shape h in ap (λ (x : Shape). blamed x i) l.2 ∙ without l.0 (blamed l.1) i e where
+    let l = is_map t.shape h in blamed_like t.shape l.2 i ∙ without l.0 (blamed l.1) i e where
       without : (a : Item → Bool) (of : Item → Blame) (i : Item) → members_in i ≡ None → map_blame a of i ≡ wants wanted.Map
       without a of (item.map ps) e = absurd cc
       without a of _ e = refl
@@ -153,9 +187,9 @@ map_next t i ms way inner root (Ok n) at further is h told =
     let l = is_map t.shape h in
     let u : Tested = record { accepts = l.0; shape = l.1 } in
     let there : reached inner root ≡ Some u =
-    ap (λ (w : List ℕ). reached w root) further ∙ reached_further way 0 root t at ∙ ap (part_of 0) l.2 in
-    same_parts t l.1 i (blame_entries l.0 (blamed l.1) 0 ms) n (λ k. (u, (ap (part_of k) l.2, refl)))
-    (ap (λ (x : Shape). blamed x i) l.2 ∙ map_of_members l.0 (blamed l.1) i ms is) (told u there (blamed l.1))
+    ap (λ (w : List ℕ). reached w root) further ∙ reached_further way 0 root t at ∙ parts_like t.shape l.2 0 in
+    same_parts t l.1 i (blame_entries l.0 (blamed l.1) 0 ms) n (λ k. (u, (parts_like t.shape l.2 k, refl)))
+    (blamed_like t.shape l.2 i ∙ map_of_members l.0 (blamed l.1) i ms is) (told u there (blamed l.1))
 
 -- ---- records
 
@@ -192,7 +226,7 @@ module _ {way : List ℕ} {root : Tested} {rs : Rows} {is_numbered : Bool} {es :
       let u = there_is (row_in rs n) row_there in
       let at : reached inner root ≡ Some u.0 =
       ap (λ (w : List ℕ). reached w root) is ∙ reached_further way n root h.at h.reaches
-      ∙ ap (part_of n) h.shape ∙ u.1 in
+      ∙ h.parts n ∙ u.1 in
       (u.0, (u.1, at))
 
   pub row_accepts : (i : Item) (inner : List ℕ) (r : Result Look OutOfMemory) (l : Look) → inner ≡ way ++ n ∷ []
@@ -236,7 +270,7 @@ module _ (es : List Entry) (accept : ℕ → Item → Bool) (of : ℕ → Item �
 
 -- the form that was seen is the shape's
 pub is_record : (s : Shape) (b : Bool) (rs : Bor (List Row)) → HasForm s (form.Record b rs) → (rows : Rows)
-    × (s ≡ record_of b rows) × (map entry_of rs.now ≡ entries_in rows) × (are_small (map entry_of rs.now) ≡ true)
+    × (bare s ≡ record_of b rows) × (map entry_of rs.now ≡ entries_in rows) × (are_small (map entry_of rs.now) ≡ true)
 is_record (record_of c rows) b rs h = (
   rows,
   ap (λ (x : Bool). record_of x rows) (sym h.0),
@@ -246,15 +280,16 @@ is_record (record_of c rows) b rs h = (
 is_record (leaf w) b rs h = absurd h
 is_record (shape.list a x) b rs h = absurd h
 is_record (shape.map a x) b rs h = absurd h
+is_record (shape.tolerant a x) b rs h = is_record x b rs h
 
 -- what is to blame is in the value of a row
-into_row : (t : Tested) (b : Bool) (rows : Rows) (i : Item) (n : Next) → t.shape ≡ record_of b rows → IntoRow rows n
+into_row : (t : Tested) (rows : Rows) (i : Item) (n : Next) → ((k : ℕ) → part_of k t.shape ≡ row_in rows k) → IntoRow rows n
     → blame_next (blamed_row rows) n ≡ blamed t.shape i → NextIs t i n
-into_row t b rows i (next.Here r) is into e = sym e
-into_row t b rows i (next.Key k r) is into e = sym e
-into_row t b rows i (next.Into step k v) is into e =
+into_row t rows i (next.Here r) is into e = sym e
+into_row t rows i (next.Key k r) is into e = sym e
+into_row t rows i (next.Into step k v) is into e =
     let u = there_is (row_in rows k) into in
-    (u.0, (ap (part_of k) is ∙ u.1, sym e ∙ ap (under (step_of step)) (blamed_by_row rows k u.0 (item_of v.now) u.1)))
+    (u.0, (is k ∙ u.1, sym e ∙ ap (under (step_of step)) (blamed_by_row rows k u.0 (item_of v.now) u.1)))
 
 record_of_members : (b : Bool) (rows : Rows) (es : List Entry) (i : Item) (ms : Members) → es ≡ entries_in rows
     → members_in i ≡ Some ms
@@ -274,33 +309,34 @@ record_next t b rs i ms way root (Err e) at is h told into = tt
 record_next t b rs i ms way root (Ok n) at is h told into =
     let l = is_record t.shape b rs h in
     let there : IsRecordAt way root l.0 b (map entry_of rs.now) =
-    record { at = t; reaches = at; shape = l.1; same = l.2; small = l.3 } in
-    let same = ap (λ (x : Shape). blamed x i) l.1 ∙ record_of_members b l.0 (map entry_of rs.now) i ms l.2 is in
-    into_row t b l.0 i n l.1 (into l.0 there) (told l.0 there (blamed_row l.0) ∙ sym same)
+    record { at = t; reaches = at; parts = parts_like t.shape l.1; same = l.2; small = l.3 } in
+    let same = blamed_like t.shape l.1 i ∙ record_of_members b l.0 (map entry_of rs.now) i ms l.2 is in
+    into_row t l.0 i n (parts_like t.shape l.1) (into l.0 there) (told l.0 there (blamed_row l.0) ∙ sym same)
 
 pub no_record : (t : Tested) (b : Bool) (rs : Bor (List Row)) (i : Item) → HasForm t.shape (form.Record b rs)
     → members_in i ≡ None → blamed t.shape i ≡ at_fault NotAMap
 unfolding record_blame
 no_record t b rs i h e =
-    let l = is_record t.shape b rs h in ap (λ (x : Shape). blamed x i) l.1 ∙ without b l.0 i e where
+    let l = is_record t.shape b rs h in blamed_like t.shape l.1 i ∙ without b l.0 i e where
       without : (b : Bool) (rows : Rows) (i : Item) → members_in i ≡ None → blamed (record_of b rows) i ≡ at_fault NotAMap
       without b rows (item.map ps) e = absurd cc
       without b rows _ e = refl
 
 -- ---- a whole path
 
--- The path leads from the whole data item to one in it, and the way to the type that refuses it.
-pub record Descends (root : Tested) (whole : Item) (path : List Step) (way : List ℕ) (here : Item) : Type 0 where
+-- The path leads from the whole data item to one in it, and the way from the type of the whole, `top`, to the type that
+-- refuses it.
+pub record Descends (root top : Tested) (whole : Item) (path : List Step) (way : List ℕ) (here : Item) : Type 0 where
   pub at : Tested
   pub reaches : reached way root ≡ Some at
-  pub same : blamed root.shape whole
+  pub same : blamed top.shape whole
       ≡ record { path = path ++ (blamed at.shape here).path; reason = (blamed at.shape here).reason }
 
-pub descent_begins : (root : Tested) (whole : Item) (p : List CodeStep) (way : List ℕ) → p ≡ [] → way ≡ []
-    → Descends root whole (map step_of p) way whole
-descent_begins root whole p way empty none =
-    subst (λ (x : List CodeStep). Descends root whole (map step_of x) way whole) (sym empty)
-    (subst (λ (x : List ℕ). Descends root whole [] x whole) (sym none) (record { at = root; reaches = refl; same = refl }))
+pub descent_begins : (root top : Tested) (whole : Item) (p : List CodeStep) (from way : List ℕ) → p ≡ [] → way ≡ from
+    → reached from root ≡ Some top → Descends root top whole (map step_of p) way whole
+descent_begins root top whole p from way empty same at =
+    subst (λ (x : List CodeStep). Descends root top whole (map step_of x) way whole) (sym empty)
+    (record { at = top; reaches = ap (λ (w : List ℕ). reached w root) same ∙ at; same = refl })
 
 pub one_more_step : (p q : List CodeStep) (s : CodeStep) → q ≡ p ++ s ∷ [] → map step_of q ≡ map step_of p ++ step_of s ∷ []
 one_more_step p q s e = ap (map step_of) e ∙ map-append step_of p (s ∷ [])
@@ -310,8 +346,24 @@ abbrev pub left_of : Option Tested → Item → ℕ
 left_of (Some t) i = length (blamed t.shape i).path
 left_of None i = 0
 
-module _ {root : Tested} {whole : Item} {p : List Step} {way : List ℕ} {here : Item} (h : Descends root whole p way here)
+module _ {root top : Tested} {whole : Item} {p : List Step} {way : List ℕ} {here : Item}
+    (h : Descends root top whole p way here)
     (n : Next) (told : (t : Tested) → reached way root ≡ Some t → NextIs t here n) where
+  pub ends_here : (r : Reason) → n ≡ next.Here r → record { path = p; reason = r } ≡ blamed top.shape whole
+  ends_here r is =
+      let e : blamed h.at.shape here ≡ record { path = []; reason = r } =
+      subst (NextIs h.at here) is (told h.at h.reaches) in
+      sym (h.same ∙ ap (λ (x : Blame). record { path = p ++ x.path; reason = x.reason }) e
+      ∙ ap (λ (q : List Step). record { path = q; reason = r }) (append-nil p))
+
+  pub ends_at_key : (k : ℕ) (r : Reason) → n ≡ next.Key k r → (q : List Step) → q ≡ p ++ key k ∷ []
+      → record { path = q; reason = r } ≡ blamed top.shape whole
+  ends_at_key k r is q further =
+      let e : blamed h.at.shape here ≡ under (key k) (record { path = []; reason = r }) =
+      subst (NextIs h.at here) is (told h.at h.reaches) in
+      sym (h.same ∙ ap (λ (x : Blame). record { path = p ++ x.path; reason = x.reason }) e
+      ∙ ap (λ (ps : List Step). record { path = ps; reason = r }) (sym further))
+
   module _ (s : CodeStep) (m : ℕ) (v : Bor Value) (is : n ≡ next.Into s m v) where
     there : NextIs h.at here (next.Into s m v)
     there = subst (NextIs h.at here) is (told h.at h.reaches)
@@ -321,7 +373,7 @@ module _ {root : Tested} {whole : Item} {p : List Step} {way : List ℕ} {here :
         ap (λ (x : List ℕ). reached x root) longer ∙ reached_further way m root h.at h.reaches ∙ there.1.0
 
     pub goes_into : (q : List Step) (w : List ℕ) → q ≡ p ++ step_of s ∷ [] → w ≡ way ++ m ∷ []
-        → Descends root whole q w (item_of v.now)
+        → Descends root top whole q w (item_of v.now)
     goes_into q w further longer =
         let b = blamed there.0.shape (item_of v.now) in
         let whole_path : p ++ (step_of s ∷ b.path) ≡ q ++ b.path =

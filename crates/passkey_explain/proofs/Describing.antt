@@ -5,7 +5,7 @@ use Rattle.std.proofs.lemmas.List.{take_all}
 use Rattle.passkey_memory.specs.declared.OutOfMemory.{OutOfMemory}
 use Rattle.passkey_cbor.specs.declared.value.Value.{Value, Array, Map, Array', Map', out-Value, the_lemmas as the_value_lemmas}
 use Rattle.passkey_cbor.specs.declared.value.Value.TheOpen.{Value-F}
-use Rattle.passkey_explain.proofs.Blames.{row_reached, is_list, is_map, is_record, reached_further, some_same}
+use Rattle.passkey_explain.proofs.Blames.{row_reached, bare, parts_like, is_list, is_map, is_record, reached_further, some_same}
 use Rattle.passkey_explain.specs.Described.{Described, Part, leaf, parts, parts_from, list, map_of, record_of_members, element, key, member, labelled, label_of, described, described_row, described_of, describe_list, describe_map, describe_record, describe_member}
 use Rattle.passkey_explain.specs.Blaming.{name_at}
 use Rattle.passkey_explain.specs.Next.{IsRecordAt}
@@ -15,6 +15,7 @@ use Rattle.passkey_kinds.specs.Look.{HasForm}
 use Rattle.passkey_kinds.specs.Shape.{Entry, Shape, record_of, Rows, no_rows, Tested, reached, part_of, row_in, entries_in}
 use Rattle.passkey_kinds.specs.Words.{item_of}
 use Rattle.passkey_kinds.specs.declared.rows.Row.{Row}
+use Rattle.passkey_kinds.specs.declared.wanted.Wanted.{Wanted}
 use Rattle.passkey_cbor.specs.Item as item
 use Rattle.passkey_kinds.specs.Shape as shape
 use Rattle.passkey_kinds.specs.declared.look.Form.TheVariants as form
@@ -54,6 +55,22 @@ described_of-Record v =
     described_record_parts v
     ∙ ap (λ (ps : List Part). parts record_of_members (parts_from ps)) (fused (λ p. labelled (label_of p.0) p.1) v.items)
 
+-- ---- the shape of what is kept, where any item is tolerated
+
+described_by_bare : (s : Shape) (i : Item) → described s i ≡ described (bare s) i
+described_by_bare (shape.tolerant a s) i = described_by_bare s i
+described_by_bare _ i = refl
+
+described_like : (s : Shape) {x : Shape} → bare s ≡ x → (i : Item) → described s i ≡ described x i
+described_like s is i = described_by_bare s i ∙ ap (λ (y : Shape). described y i) is
+
+pub leaf_described : (s : Shape) (w : Wanted) → HasForm s (form.Leaf w) → (i : Item) → described s i ≡ leaf w i
+leaf_described (shape.leaf v) w h i = ap (λ (x : Wanted). leaf x i) (sym h)
+leaf_described (shape.list a x) w h i = absurd h
+leaf_described (shape.map a x) w h i = absurd h
+leaf_described (record_of b rows) w h i = absurd h
+leaf_described (shape.tolerant a x) w h i = leaf_described x w h i
+
 -- ---- lists and maps
 
 element_parts : (of : Item → Described) (xs : List Item)
@@ -71,18 +88,18 @@ list_described t i xs v way inner root at further is h told =
     let l = is_list t.shape h in
     let u : Tested = record { accepts = l.0; shape = l.1 } in
     let there : reached inner root ≡ Some u =
-    ap (λ (w : List ℕ). reached w root) further ∙ reached_further way 0 root t at ∙ ap (part_of 0) l.2 in
+    ap (λ (w : List ℕ). reached w root) further ∙ reached_further way 0 root t at ∙ parts_like t.shape l.2 0 in
     let same = ap (λ (ds : List Described). map (λ d. labelled element d) ds) (told u there)
     ∙ element_parts (described l.1) xs
     ∙ ap (λ (ys : List Item). map (λ x. labelled element (described l.1 x)) ys) (sym (elements-items_of xs)) in
     described_of-List v ∙ ap (λ (ps : List Part). parts list (parts_from ps)) same
-    ∙ sym (ap (λ (s : Shape). described s i) l.2 ∙ ap (describe_list (described l.1)) is)
+    ∙ sym (described_like t.shape l.2 i ∙ ap (describe_list (described l.1)) is)
 
 pub no_list_described : (t : Tested) (i : Item) → HasForm t.shape form.List → elements_in i ≡ None
     → described t.shape i ≡ leaf wanted.Array i
 unfolding describe_list
 no_list_described t i h e =
-    let l = is_list t.shape h in ap (λ (s : Shape). described s i) l.2 ∙ without (described l.1) i e where
+    let l = is_list t.shape h in described_like t.shape l.2 i ∙ without (described l.1) i e where
       without : (of : Item → Described) (i : Item) → elements_in i ≡ None → describe_list of i ≡ leaf wanted.Array i
       without of (array is) e = absurd cc
       without of _ e = refl
@@ -99,17 +116,17 @@ map_described t i ms v way inner root at further is h told =
     let l = is_map t.shape h in
     let u : Tested = record { accepts = l.0; shape = l.1 } in
     let there : reached inner root ≡ Some u =
-    ap (λ (w : List ℕ). reached w root) further ∙ reached_further way 0 root t at ∙ ap (part_of 0) l.2 in
+    ap (λ (w : List ℕ). reached w root) further ∙ reached_further way 0 root t at ∙ parts_like t.shape l.2 0 in
     let same = told u there
     ∙ ap (λ (ns : Members). map (λ m. labelled (key m.0) (described l.1 m.1)) ns) (sym (members-pairs_of ms)) in
     described_of-Map v ∙ ap (λ (ps : List Part). parts map_of (parts_from ps)) same
-    ∙ sym (ap (λ (s : Shape). described s i) l.2 ∙ ap (describe_map (described l.1)) is)
+    ∙ sym (described_like t.shape l.2 i ∙ ap (describe_map (described l.1)) is)
 
 pub no_map_described : (t : Tested) (i : Item) → HasForm t.shape form.Map → members_in i ≡ None
     → described t.shape i ≡ leaf wanted.Map i
 unfolding describe_map
 no_map_described t i h e =
-    let l = is_map t.shape h in ap (λ (s : Shape). described s i) l.2 ∙ without (described l.1) i e where
+    let l = is_map t.shape h in described_like t.shape l.2 i ∙ without (described l.1) i e where
       without : (of : Item → Described) (i : Item) → members_in i ≡ None → describe_map of i ≡ leaf wanted.Map i
       without of (item.map ps) e = absurd cc
       without of _ e = refl
@@ -166,13 +183,13 @@ unfolding describe_record
 record_described t b rs i ms v way root at is h told =
     let l = is_record t.shape b rs h in
     let there : IsRecordAt way root l.0 b (map entry_of rs.now) =
-    record { at = t; reaches = at; shape = l.1; same = l.2; small = l.3 } in
+    record { at = t; reaches = at; parts = parts_like t.shape l.1; same = l.2; small = l.3 } in
     let parts_are : List Entry → Members → List Part =
     λ es ns. map (λ m. describe_member es (described_row l.0) (names b es m.0) m.0 m.1) ns in
     let same = told l.0 there ∙ ap (λ (es : List Entry). parts_are es ms) l.2
     ∙ ap (parts_are (entries_in l.0)) (sym (members-pairs_of ms)) in
     described_of-Record v ∙ ap (λ (ps : List Part). parts record_of_members (parts_from ps)) same
-    ∙ sym (ap (λ (s : Shape). described s i) l.1
+    ∙ sym (described_like t.shape l.1 i
     ∙ ap (describe_record b (entries_in l.0) (described_row l.0)) is)
 
 pub no_record_described : (t : Tested) (b : Bool) (rs : Bor (List Row)) (i : Item) → HasForm t.shape (form.Record b rs)
@@ -180,7 +197,7 @@ pub no_record_described : (t : Tested) (b : Bool) (rs : Bor (List Row)) (i : Ite
 unfolding describe_record
 no_record_described t b rs i h e =
     let l = is_record t.shape b rs h in
-    ap (λ (s : Shape). described s i) l.1 ∙ without (entries_in l.0) (described_row l.0) i e where
+    described_like t.shape l.1 i ∙ without (entries_in l.0) (described_row l.0) i e where
       without : (es : List Entry) (of : ℕ → Item → Described) (i : Item) → members_in i ≡ None
           → describe_record b es of i ≡ leaf wanted.Map i
       without es of (item.map ps) e = absurd cc

@@ -5,3 +5,4 @@ pub mod Parts
 pub mod Way
 pub mod Explaining
 pub mod Describing
+pub mod LeavesOut

@@ -90,7 +90,7 @@ opened_parts head.Break i bytes from to l = absurd l.encoded
 
 -- ---- the part that a step leads to
 
-turn_key : (ms : List (Item × Item)) (n : ℕ)
+pub turn_key : (ms : List (Item × Item)) (n : ℕ)
     → slice_get (turns ms) (n + n) ≡ option_map (λ (m : Item × Item). m.0) (slice_get ms n)
 turn_key [] n = refl
 turn_key (m ∷ ms) zero = refl
@@ -98,7 +98,7 @@ turn_key (m ∷ ms) (suc n) =
     let e : suc n + suc n ≡ suc (suc (n + n)) = omega arith in
     ap (slice_get (m.0 ∷ m.1 ∷ turns ms)) e ∙ turn_key ms n
 
-turn_value : (ms : List (Item × Item)) (n : ℕ)
+pub turn_value : (ms : List (Item × Item)) (n : ℕ)
     → slice_get (turns ms) (suc (n + n)) ≡ option_map (λ (m : Item × Item). m.1) (slice_get ms n)
 turn_value [] n = refl
 turn_value (m ∷ ms) zero = refl
@@ -121,7 +121,7 @@ pub items_begin : (xs : List Item) (bytes : List ℕ) (from to : ℕ) → ItemsL
 items_begin xs bytes from to l =
     record { before = []; after = xs; whole = refl; count = refl; passed = refl; ahead = l }
 
-one_more : (xs : List Item) (x : Item) (bytes : List ℕ) (from middle next : ℕ) → ItemsLie xs bytes from middle
+pub one_more : (xs : List Item) (x : Item) (bytes : List ℕ) (from middle next : ℕ) → ItemsLie xs bytes from middle
     → IsEncodedAt x bytes middle next → ItemsLie (xs ++ x ∷ []) bytes from next
 one_more [] x bytes from middle next same l =
     (next, (subst (λ (k : ℕ). IsEncodedAt x bytes k next) (sym same) l, refl))

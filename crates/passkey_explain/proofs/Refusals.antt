@@ -5,7 +5,8 @@ use Rattle.passkey_explain.proofs.Blames.{named_there, some_same}
 use Rattle.passkey_kinds.proofs.Looks.{same_entries}
 use Rattle.passkey_kinds.specs.Kind.{accepts as test_of}
 use Rattle.std.specs.Prelude.{IfSome}
-use Rattle.passkey_explain.specs.Blame.{Blame, wants, at_fault, under, element, member, value, key}
+use Rattle.passkey_explain.specs.Blame.{Blame, Step, wants, at_fault, under, element, member, value, key}
+use Rattle.passkey_explain.specs.declared.blame.Reason.{Reason}
 use Rattle.passkey_explain.specs.Blaming.{blamed, blamed_row, accepts_in, accepted_by, blame_elements, list_blame, blame_entries, map_blame, blame_from, blame_one, blame_missing, name_at, seen_with, record_blame}
 use Rattle.passkey_explain.specs.Refusing.{IsRefusedAlong, IsFaultOf}
 use Rattle.passkey_kinds.specs.Base.{Item, array, elements, members}
@@ -230,6 +231,19 @@ record_refused a is_numbered rows inner (item.map ps) bad =
     pairs_refused a is_numbered rows inner ps bad 0 (members ps) (λ n. false) (all_left (members ps))
 record_refused a is_numbered rows inner _ bad = bad
 
+-- what a type refuses is refused where it is tolerated, too
+refused_inside : (a kept : Item → Bool) (s : Shape) (path : List Step) (i : Item) (why : Reason)
+    → IsRefusedAlong path (record { accepts = a; shape = s }) i why
+    → IsRefusedAlong path (record { accepts = a; shape = shape.tolerant kept s }) i why
+refused_inside a kept s [] i why h = h
+refused_inside a kept s (key n ∷ ss) i why h = h
+refused_inside a kept s (element n ∷ ss) i why h =
+    (h.0, (record { part = h.1.0.part; as_part = h.1.0.as_part; leads = h.1.0.leads; is = h.1.0.is }, h.1.1))
+refused_inside a kept s (member n number name ∷ ss) i why h =
+    (h.0, (record { part = h.1.0.part; as_part = h.1.0.as_part; leads = h.1.0.leads; is = h.1.0.is }, h.1.1))
+refused_inside a kept s (value n ∷ ss) i why h =
+    (h.0, (record { part = h.1.0.part; as_part = h.1.0.as_part; leads = h.1.0.leads; is = h.1.0.is }, h.1.1))
+
 mutual
   pub refused : (s : Shape) (a : Item → Bool) (i : Item) → a i ≡ false
       → IsRefusedAlong (blamed s i).path (record { accepts = a; shape = s }) i (blamed s i).reason
@@ -237,6 +251,7 @@ mutual
   refused (shape.list accepts s) a i bad = list_refused accepts s (refused s accepts) a i bad
   refused (shape.map accepts s) a i bad = map_refused accepts s (refused s accepts) a i bad
   refused (record_of is_numbered rows) a i bad = record_refused a is_numbered rows (row_refused rows) i bad
+  refused (shape.tolerant kept s) a i bad = refused_inside a kept s (blamed s i).path i (blamed s i).reason (refused s a i bad)
 
   row_refused : (rs : Rows) (n : ℕ) (u : Tested) (x : Item) → row_in rs n ≡ Some u → u.accepts x ≡ false
       → IsRefusedAlong (blamed_row rs n x).path u x (blamed_row rs n x).reason

@@ -28,7 +28,7 @@ ahead_at [] after x e = after_first after x e
 ahead_at (y ∷ ys) after x e = ahead_at ys after x e
 
 -- the head that the cursor passed
-headed : (h : Head) (a b : CursorState) → PassesHead a b h → a.place ≤ b.place → b.place ≤ length a.bytes
+pub headed : (h : Head) (a b : CursorState) → PassesHead a b h → a.place ≤ b.place → b.place ≤ length a.bytes
     → Lies (IsEncodingOfHead h) a.bytes a.place b.place
 headed h a b p forward within = record {
   text = p.text;

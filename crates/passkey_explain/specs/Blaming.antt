@@ -93,6 +93,7 @@ abbrev mutual
   blamed (shape.map accepts s) i = map_blame accepts (blamed s) i
   blamed (record_of is_numbered rows) i =
       record_blame (entries_in rows) (accepts_in rows) (blamed_row rows) is_numbered i
+  blamed (shape.tolerant accepts s) i = blamed s i
 
   -- what row n blames
   pub blamed_row : Rows → ℕ → Item → Blame

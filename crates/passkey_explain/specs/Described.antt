@@ -74,6 +74,7 @@ abbrev mutual
   described (shape.list accepts s) i = describe_list (described s) i
   described (shape.map accepts s) i = describe_map (described s) i
   described (record_of is_numbered rows) i = describe_record is_numbered (entries_in rows) (described_row rows) i
+  described (shape.tolerant accepts s) i = described s i
 
   pub described_row : Rows → ℕ → Item → Described
   described_row no_rows n i = leaf wanted.Any i

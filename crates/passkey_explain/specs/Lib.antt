@@ -5,3 +5,5 @@ pub mod Refusing
 pub mod Described
 pub mod Along
 pub mod Explains
+pub mod Dropped
+pub mod Drops

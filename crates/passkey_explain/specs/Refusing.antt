@@ -22,6 +22,7 @@ KeyIsRefused (shape.map accepts s) label why = bytes_from label ≡ None
 KeyIsRefused (record_of is_numbered rows) label why =
     ((names is_numbered (entries_in rows) label ≡ wrong) × (why ≡ reason.Fault BadKey))
     ⊎ ((n : ℕ) × ((names is_numbered (entries_in rows) label ≡ row n) × (why ≡ reason.Fault (Repeated n))))
+KeyIsRefused (shape.tolerant a s) label why = KeyIsRefused s label why
 KeyIsRefused _ label why = ⊥
 
 -- A part of the item to which the step leads, and what the part is decoded as.

@@ -261,14 +261,20 @@ fn next_part<'a, M: FromCbor>(
     }
 }
 
-/// Returns what is to blame if the type refuses the data item: the innermost item, or map key, that
-/// is refused, and why. Nothing is promised for an item that the type accepts. Returns
-/// `OutOfMemory` if an allocation fails.
-pub(crate) fn explain_value<M: FromCbor>(alloc: Global, value: &Value) -> Result<Blame, OutOfMemory>
-    ensures { IfOk result (λ b. blame_of b ≡ blamed M.typed.shape (item_of value.now)) }
+/// Returns what is to blame if the type to which the way leads refuses the data item: the innermost
+/// item, or map key, that is refused, and why. Nothing is promised for an item that the type
+/// accepts. Returns `OutOfMemory` if an allocation fails.
+pub(crate) fn explain_at<M: FromCbor>(
+    alloc: Global,
+    from: &[u8],
+    value: &Value,
+) -> Result<Blame, OutOfMemory>
+    requires { (t : Tested) × (reached from.now (tested M.typed) ≡ Some t) }
+    ensures { (t : Tested) → reached from.now (tested M.typed) ≡ Some t
+        → IfOk result (λ b. blame_of b ≡ blamed t.shape (item_of value.now)) }
 {
     let mut path = Vec::new(alloc);
-    let mut way: Vec<u8> = Vec::new(alloc);
+    let mut way = Vec::from_slice(alloc, from)?;
     let mut here = value;
     loop {
         match next_part::<M>(alloc, &way, here)? {

@@ -1,6 +1,6 @@
 //! Explanations as a person reads them.
 
-use crate::{Explanation, Reason, RefusedItem, Step};
+use crate::{DroppedItem, Explanation, Reason, RefusedItem, Step};
 use passkey_kinds::Fault;
 use std::fmt;
 
@@ -23,6 +23,13 @@ fn write_step<W: fmt::Write>(
     }
 }
 
+fn write_path<W: fmt::Write>(f: &mut fmt::Formatter<W>, path: &[Step]) -> fmt::Result {
+    for (index, step) in path.iter().enumerate() {
+        write_step(f, index == 0, step)?;
+    }
+    Ok(())
+}
+
 fn write_reason<W: fmt::Write>(f: &mut fmt::Formatter<W>, reason: Reason) -> fmt::Result {
     match reason {
         Reason::Wanted(wanted) => write!(f, "{wanted} is wanted"),
@@ -36,9 +43,7 @@ fn write_reason<W: fmt::Write>(f: &mut fmt::Formatter<W>, reason: Reason) -> fmt
 
 impl fmt::Display for RefusedItem {
     fn fmt<W: fmt::Write>(&self, f: &mut fmt::Formatter<W>) -> fmt::Result {
-        for (index, step) in self.blame.path.iter().enumerate() {
-            write_step(f, index == 0, step)?;
-        }
+        write_path(f, self.blame.path.as_slice())?;
         if !self.blame.path.is_empty() {
             f.write_str(": ")?;
         }
@@ -48,6 +53,23 @@ impl fmt::Display for RefusedItem {
             " (offset {}, length {})",
             self.extent.offset, self.extent.len
         )
+    }
+}
+
+impl fmt::Display for DroppedItem {
+    fn fmt<W: fmt::Write>(&self, f: &mut fmt::Formatter<W>) -> fmt::Result {
+        write_path(f, self.path.as_slice())?;
+        write!(
+            f,
+            " (offset {}, length {}): ",
+            self.extent.offset, self.extent.len
+        )?;
+        if !self.blame.path.is_empty() {
+            f.write_str("at ")?;
+            write_path(f, self.blame.path.as_slice())?;
+            f.write_str(" ")?;
+        }
+        write_reason(f, self.blame.reason)
     }
 }
 

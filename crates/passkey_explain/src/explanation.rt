@@ -6,7 +6,7 @@ ghost use Rattle.passkey_kinds.specs.Words.{item_of};
 ghost use Rattle.passkey_kinds.specs.declared.fault.Fault.TheVariants.{OutOfMemory as NoRoom};
 ghost use Rattle.passkey_explain.specs.Explains.{Explains, ExplainsItem};
 
-use crate::descent::explain_value;
+use crate::descent::explain_at;
 use crate::{Blame, Extent, locate};
 use passkey_cbor::{CborError, Value};
 use passkey_kinds::{Fault, Message, record_from_value};
@@ -66,7 +66,7 @@ fn explain_item<M: Message>(
         Ok(_) => return Ok(None),
         Err(fault) => item_fault(fault)?,
     };
-    let blame = explain_value::<M>(alloc, value)?;
+    let blame = explain_at::<M>(alloc, &[], value)?;
     let extent = locate(bytes, &blame.path).unwrap();
     Ok(Some(RefusedItem {
         fault,

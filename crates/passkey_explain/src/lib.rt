@@ -6,9 +6,11 @@ mod blame;
 mod descent;
 mod description;
 mod display;
+mod dropping;
 mod explanation;
 
 pub use along::{Extent, locate};
 pub use blame::{Blame, Reason, Step};
 pub use description::{Description, FieldName, describe};
+pub use dropping::{DroppedItem, dropped};
 pub use explanation::{Explanation, RefusedItem, explain};

@@ -1,7 +1,10 @@
-use Rattle.passkey_kinds.proofs.Steps.{◌∙◌, sym, ap, map, item_of, pair_of, Value, List, pairs_of}
+use Rattle.passkey_kinds.specs.Look.{tested, HasForm}
+use Rattle.passkey_kinds.specs.declared.look.Form.{Form}
+use Rattle.passkey_kinds.proofs.Steps.{◌∙◌, sym, ap, subst, map, item_of, pair_of, Value, List, pairs_of}
 use Rattle.passkey_kinds.proofs.Common.{array, items_of, item_of-Array, item_of-Map}
 use Rattle.passkey_cbor.specs.Item as item
-use Rattle.passkey_explain.proofs.Describing.{described_as, no_array, not_a_map, list_described, no_list_described, map_described, no_map_described, record_described, no_record_described, field_described, fields_done}
+use Rattle.passkey_explain.proofs.Blames.{look_there}
+use Rattle.passkey_explain.proofs.Describing.{leaf_described, described_as, no_array, not_a_map, list_described, no_list_described, map_described, no_map_described, record_described, no_record_described, field_described, fields_done}
 use Rattle.passkey_explain.specs.Described.{described_row}
 use Rattle.passkey_explain.proofs.description.+describe.Goals as goal
 
@@ -58,3 +61,12 @@ pub describe_fields-returns : goal.describe_fields-returns
 describe_fields-returns g t c = λ rows h.
     fields_done _ _ c.loop-key.key-index (described_row rows) c.loop-key.all.items c.args.pairs.now
     c.loop-key-test.false (c.loop-key.invariant rows h)
+
+pub describe_at-returns-in-Leaf : goal.describe_at-returns-in-Leaf
+describe_at-returns-in-Leaf g t c = λ u at.
+    let i = item_of c.args.value.now in
+    let l = look_there c.args.way.now (tested g.M.FromCbor.typed) u i c.look.result c.in_ok-wanted.field-0 at
+    c.look.ensures c.in_ok-wanted.was in
+    described_as c.whole.result _ _
+    (leaf_described u.shape c.in-Leaf.wanted (subst (λ (f : Form). HasForm u.shape f) c.in-Leaf.is l.form) i)
+    c.whole.ensures

@@ -1,5 +1,8 @@
 use Rattle.passkey_explain.proofs.Explaining.{blamed_there, lies_there, located, reads_fault}
 use Rattle.passkey_explain.proofs.Refusals.{item_fault, item_refused}
+use Rattle.passkey_kinds.proofs.Steps.{refl}
+use Rattle.passkey_kinds.specs.Look.{tested}
+use Rattle.passkey_kinds.specs.RecordReading.{nested}
 use Rattle.passkey_kinds.specs.Words.{item_of, read_item}
 use Rattle.passkey_explain.proofs.explanation.explain_item.Goals as goal
 
@@ -7,7 +10,7 @@ pub unwrap-extent-requires : goal.unwrap-extent-requires
 unwrap-extent-requires g c =
     let locates = rw c.deref.ensures.value at c.locate.ensures in
     located _ _ _ _ (blamed_there g.M.Record.fields (item_of c.args.value.now) c.args.bytes.now c.requires.0 c.requires.1
-    c.in_ok-blame.blame c.in_ok-blame.ensures c.locate.result locates)
+    c.in_ok-blame.blame (c.in_ok-blame.ensures (tested (nested g.M.Record.fields)) refl) c.locate.result locates)
 
 pub returns : goal.returns
 returns g c =
@@ -19,9 +22,12 @@ returns g c =
     c.in_ok-fault-in-Err.ensures.1 told in
     record {
       fault = fault;
-      blame = c.in_ok-blame.ensures;
+      blame = c.in_ok-blame.ensures (tested (nested t)) refl;
       of_fault = item_fault t i c.in_ok-fault-in-Err.fault fault;
       refused = item_refused t i c.in_ok-fault-in-Err.fault fault;
       lies = lies_there g.M.Record.fields (item_of c.args.value.now) c.args.bytes.now c.requires.0 c.requires.1
-          c.in_ok-blame.blame c.in_ok-blame.ensures c.locate.result locates c.unwrap-extent.result c.unwrap-extent.ensures;
+          c.in_ok-blame.blame (c.in_ok-blame.ensures (tested (nested g.M.Record.fields)) refl) c.locate.result locates c.unwrap-extent.result c.unwrap-extent.ensures;
     }
+
+pub explain_at-requires : goal.explain_at-requires
+explain_at-requires g c = (tested (nested g.M.Record.fields), refl)

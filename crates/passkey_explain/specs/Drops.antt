@@ -1,0 +1,86 @@
+-- What the list of what a message leaves out says.
+use Rattle.std.specs.Prelude.{◌≡◌, ◌≤◌, ◌+◌, ℕ, List, [], ◌∷◌, ◌++◌, map, Option, Some, None, IfSome}
+use Rattle.std.specs.List.{All}
+use Rattle.std.specs.Global.{Vec}
+use Rattle.passkey_cbor.specs.CursorState.{CursorState}
+use Rattle.passkey_cbor.specs.EncodedAt.{Lies, IsEncodedAt}
+use Rattle.passkey_cbor.specs.HeadEncoding.{IsEncodingOfHead}
+use Rattle.passkey_cbor.specs.Item.{Item}
+use Rattle.passkey_cbor.specs.LeadingItem.{HasNoLeadingItem}
+use Rattle.passkey_cbor.specs.declared.head.Head.{Head}
+use Rattle.passkey_explain.specs.Along.{ItemsLie, LiesAlong, parts_of}
+use Rattle.passkey_explain.specs.Blame.{Step, step_of, blame_of}
+use Rattle.passkey_explain.specs.Dropped.{LeftOut, Leaving, Stepping, dropped, entry_step, member_step}
+use Rattle.passkey_explain.specs.declared.blame.Step.{Step as CodeStep}
+use Rattle.passkey_explain.specs.declared.dropping.DroppedItem.{DroppedItem}
+use Rattle.passkey_explain.specs.declared.dropping.Keys.{Keys}
+use Rattle.passkey_kinds.specs.Message.{Begins}
+use Rattle.passkey_kinds.specs.Record.{Fields}
+use Rattle.passkey_kinds.specs.RecordReading.{entry_of, shape_of}
+use Rattle.passkey_kinds.specs.Shape.{Tested, reached}
+use Rattle.passkey_explain.specs.declared.dropping.Keys.TheVariants as keys
+
+-- ---- the code's types
+
+abbrev pub left_out : DroppedItem → LeftOut
+left_out d = record { path = map step_of d.path.items; blame = blame_of d.blame }
+
+abbrev pub numbered_step : CodeStep × ℕ → Step × ℕ
+numbered_step s = (step_of s.0, s.1)
+
+abbrev pub steps_by : Keys → Stepping
+steps_by keys.Bytes n label = entry_step n label
+steps_by (keys.Names t) n label = member_step t.is_numbered (map entry_of t.rows.now) n label
+
+-- ---- what is said of the list
+
+-- The dropped item is encoded at its extent, where its path leads.
+abbrev pub LiesIn : Item → List ℕ → DroppedItem → Type 0
+LiesIn i bytes d = LiesAlong (map step_of d.path.items) i bytes 0 d.extent.offset (d.extent.offset + d.extent.len)
+
+-- These are the items that a message leaves out of the data item, and where they are encoded.
+pub record AreDropped {P : Type 0} (t : Fields P) (i : Item) (bytes : List ℕ) (ds : List DroppedItem) : Type 0 where
+  pub list : map left_out ds ≡ dropped (shape_of t) [] i
+  pub lie : All (LiesIn i bytes) ds
+
+-- The bytes don't begin with a data item; or these are the items that are left out of the one that begins them.
+abbrev pub ListsDropped : {P : Type 0} → Fields P → List ℕ → Option (Vec DroppedItem) → Type 0
+ListsDropped t bytes None = HasNoLeadingItem bytes
+ListsDropped t bytes (Some v) = Begins bytes (λ i len. AreDropped t i bytes v.items)
+
+-- ---- as the list grows
+
+-- The step leads to a type, and this is what the type leaves out.
+abbrev pub LeavesBy : Tested → List ℕ → (ℕ → Leaving) → Step × ℕ → Type 0
+LeavesBy root way of s =
+    (t : Tested) × ((reached (way ++ s.1 ∷ []) root ≡ Some t)
+    × ((path : List Step) (i : Item) → of s.1 path i ≡ dropped t.shape path i))
+
+-- The same for each step that a map's keys name.
+abbrev pub Leaves : Tested → List ℕ → (ℕ → Leaving) → Stepping → Type 0
+Leaves root way of steps = (n : ℕ) (label : Item) → IfSome (steps n label) (LeavesBy root way of)
+
+abbrev pub Adds : List LeftOut → List DroppedItem → List DroppedItem → Type 0
+Adds more old new = map left_out new ≡ map left_out old ++ more
+
+-- The cursor didn't move back.
+pub record GoesOn (old new : CursorState) : Type 0 where
+  pub same : new.bytes ≡ old.bytes
+  pub forward : old.place ≤ new.place
+
+-- The path leads from the whole data item to one that is encoded from this offset on.
+pub record Stands (whole : Item) (path : List Step) (i : Item) (bytes : List ℕ) (place : ℕ) : Type 0 where
+  pub to : ℕ
+  pub there : IsEncodedAt i bytes place to
+  pub leads : (rest : List Step) (from end : ℕ) → LiesAlong rest i bytes place from end
+      → LiesAlong (path ++ rest) whole bytes 0 from end
+
+-- The path leads from the whole data item to an array or a map, whose parts follow from this offset on.
+pub record IsOpened (whole : Item) (path : List Step) (i : Item) (bytes : List ℕ) (first : ℕ) : Type 0 where
+  pub at : ℕ
+  pub head : Head
+  pub headed : Lies (IsEncodingOfHead head) bytes at first
+  pub end : ℕ
+  pub lie : ItemsLie (parts_of i) bytes first end
+  pub leads : (rest : List Step) (from end : ℕ) → LiesAlong rest i bytes at from end
+      → LiesAlong (path ++ rest) whole bytes 0 from end
