@@ -6,3 +6,4 @@ pub mod Way
 pub mod Explaining
 pub mod Describing
 pub mod LeavesOut
+pub mod DropLaws

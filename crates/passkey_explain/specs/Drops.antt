@@ -1,5 +1,5 @@
 -- What the list of what a message leaves out says.
-use Rattle.std.specs.Prelude.{◌≡◌, ◌≤◌, ◌+◌, ℕ, List, [], ◌∷◌, ◌++◌, map, Option, Some, None, IfSome}
+use Rattle.std.specs.Prelude.{◌≡◌, ◌⊎◌, ◌≤◌, ◌+◌, ℕ, List, [], ◌∷◌, ◌++◌, map, Option, Some, None, IfSome}
 use Rattle.std.specs.List.{All}
 use Rattle.std.specs.Global.{Vec}
 use Rattle.passkey_cbor.specs.CursorState.{CursorState}
@@ -9,15 +9,17 @@ use Rattle.passkey_cbor.specs.Item.{Item}
 use Rattle.passkey_cbor.specs.LeadingItem.{HasNoLeadingItem}
 use Rattle.passkey_cbor.specs.declared.head.Head.{Head}
 use Rattle.passkey_explain.specs.Along.{ItemsLie, LiesAlong, parts_of}
-use Rattle.passkey_explain.specs.Blame.{Step, step_of, blame_of}
+use Rattle.passkey_explain.specs.Blame.{Step, step_of, blame_of, item_along}
 use Rattle.passkey_explain.specs.Dropped.{LeftOut, Leaving, Stepping, dropped, entry_step, member_step}
 use Rattle.passkey_explain.specs.declared.blame.Step.{Step as CodeStep}
 use Rattle.passkey_explain.specs.declared.dropping.DroppedItem.{DroppedItem}
 use Rattle.passkey_explain.specs.declared.dropping.Keys.{Keys}
 use Rattle.passkey_kinds.specs.Message.{Begins}
 use Rattle.passkey_kinds.specs.Record.{Fields}
-use Rattle.passkey_kinds.specs.RecordReading.{entry_of, shape_of}
-use Rattle.passkey_kinds.specs.Shape.{Tested, reached}
+use Rattle.passkey_kinds.specs.Look.{tested}
+use Rattle.passkey_kinds.specs.RecordReading.{entry_of, nested, shape_of}
+use Rattle.passkey_explain.specs.Refusing.{IsRefusedAlong}
+use Rattle.passkey_kinds.specs.Shape.{Shape, tolerant, Tested, reached}
 use Rattle.passkey_explain.specs.declared.dropping.Keys.TheVariants as keys
 
 -- ---- the code's types
@@ -38,9 +40,27 @@ steps_by (keys.Names t) n label = member_step t.is_numbered (map entry_of t.rows
 abbrev pub LiesIn : Item → List ℕ → DroppedItem → Type 0
 LiesIn i bytes d = LiesAlong (map step_of d.path.items) i bytes 0 d.extent.offset (d.extent.offset + d.extent.len)
 
--- These are the items that a message leaves out of the data item, and where they are encoded.
+-- The type is that of what is kept where any item is tolerated.
+abbrev pub Tolerates : Shape → Tested → Type 0
+Tolerates (tolerant keeps s) t = (t ≡ record { accepts = keeps; shape = s }) ⊎ Tolerates s t
+Tolerates _ t = ⊥
+
+-- The path leads to a data item in the whole one, at a part of the type that tolerates any item: what is kept there
+-- refuses it, and so each item on the blame's path.
+pub record IsLeftOut (root : Tested) (whole : Item) (d : LeftOut) : Type 0 where
+  pub part : Item
+  pub leads : item_along d.path whole ≡ Some part
+  pub way : List ℕ
+  pub place : Tested
+  pub reaches : reached way root ≡ Some place
+  pub kept : Tested
+  pub tolerates : Tolerates place.shape kept
+  pub refused : IsRefusedAlong d.blame.path kept part d.blame.reason
+
+-- These are the items that a message leaves out of the data item, each is refused, and they are encoded there.
 pub record AreDropped {P : Type 0} (t : Fields P) (i : Item) (bytes : List ℕ) (ds : List DroppedItem) : Type 0 where
   pub list : map left_out ds ≡ dropped (shape_of t) [] i
+  pub left : All (IsLeftOut (tested (nested t)) i) (map left_out ds)
   pub lie : All (LiesIn i bytes) ds
 
 -- The bytes don't begin with a data item; or these are the items that are left out of the one that begins them.
