@@ -1,6 +1,6 @@
 //! Why messages are refused, and where, as a person reads it.
 use crate::tables::bytes_of;
-use passkey_explain::explain;
+use passkey_explain::{dropped, explain};
 use passkey_extensions::HmacGetSecretInput;
 use passkey_get_assertion::{Request, Response};
 use passkey_get_info::Response as GetInfo;
@@ -95,4 +95,51 @@ fn inputs_of_hmac_secret(rt: HostRuntime) {
         "saltAuth: a byte string is wanted (offset 8, length 1)",
     )];
     assert_explained::<HmacGetSecretInput>(&rt, &rows);
+}
+
+/// What the message leaves out, an item a line.
+fn dropped_text<M: Message>(rt: &(impl Abort + AllocGlobal), bytes: &[u8]) -> String {
+    let mut text = String::new(rt.alloc());
+    match dropped::<M>(rt.alloc(), bytes).expect(rt, "memory") {
+        Some(items) => {
+            for item in &items {
+                let line = format!(in rt.alloc(); "{item}\n").expect(rt, "memory");
+                text.push_str(line.as_str()).expect(rt, "memory");
+            }
+        }
+        None => text.push_str("no data item").expect(rt, "memory"),
+    }
+    text
+}
+
+/// CTAP 2.1, section 6.2: allowList (3), a list of credential descriptors (WebAuthn Level 3, section
+/// 5.8.3), and extensions (4).
+#[test]
+fn left_out(rt: HostRuntime) {
+    let rows = [
+        ("a2016161024100", ""),
+        ("a101", "no data item"),
+        // {"id": h'0a', "type": "public-key", "transports": ["usb", "x", 5]}, 5, {"id": 1},
+        // {"id": h'0b', "type": "x"}; and the extensions 0
+        (
+            "a40161610241000384a3626964410a64747970656a7075626c69632d6b65796a7472616e73706f7274738363757362\
+            61780505a162696401a2626964410b647479706561780400",
+            "allowList[0].transports[1] (offset 47, length 2): a name that the standard lists is wanted\n\
+            allowList[0].transports[2] (offset 49, length 1): a name that the standard lists is wanted\n\
+            allowList[1] (offset 50, length 1): a map is wanted\n\
+            allowList[2] (offset 51, length 5): at id a byte string is wanted\n\
+            allowList[3].type (offset 67, length 2): a name that the standard lists is wanted\n\
+            extensions (offset 70, length 1): a map is wanted\n",
+        ),
+        // an array and a map of indefinite length
+        (
+            "bf016161024100039f05ffff",
+            "allowList[0] (offset 9, length 1): a map is wanted\n",
+        ),
+    ];
+    for (hexadecimal, wanted) in rows {
+        let bytes = bytes_of(&rt, hexadecimal);
+        let text = dropped_text::<Request>(&rt, bytes.as_slice());
+        assert_eq!(&rt; text.as_str(), wanted, "of {hexadecimal}");
+    }
 }

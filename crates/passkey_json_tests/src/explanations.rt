@@ -1,7 +1,7 @@
 //! Where JSON values are refused, and why.
 use crate::json::parsed;
 use passkey_credentials::CreatedPublicKeyCredential;
-use passkey_explain_json::{BlamesRows, explain_json};
+use passkey_explain_json::{BlamesRows, JsonExplanation, explain_client_data, explain_json};
 use passkey_options::{CredentialCreationOptions, CredentialRequestOptions};
 use std::process::Abort;
 use std::test::Fail;
@@ -10,11 +10,20 @@ use std::test::Fail;
 /// the fault and what is to blame.
 fn expect<R: BlamesRows>(rt: &(impl Abort + AllocGlobal), text: &str, wanted: &str) {
     let value = parsed(rt, text);
-    let found = match explain_json::<R>(rt.alloc(), &value).expect(rt, "memory") {
+    let found = explain_json::<R>(rt.alloc(), &value).expect(rt, "memory");
+    expect_told(rt, &found, wanted);
+}
+
+fn expect_told(
+    rt: &(impl Abort + AllocGlobal),
+    found: &Option<JsonExplanation>,
+    wanted: &str,
+) {
+    let text = match found {
         None => String::new(rt.alloc()),
         Some(told) => format!(in rt.alloc(); "{}: {}", told.fault, told.blame).expect(rt, "memory"),
     };
-    assert_eq!(rt; found.as_str(), wanted);
+    assert_eq!(rt; text.as_str(), wanted);
 }
 
 /// Texts of the options of a registration, and how they are explained: a nested member, a float, a
@@ -83,4 +92,39 @@ fn other_records_are_explained(rt: HostRuntime) {
             "attestationObject": "AA", "transports": ["usb", 7]}}"#,
         "Refused(\"response\"): response.transports[1]: a name that the standard lists is wanted",
     );
+}
+
+/// Client data (WebAuthn Level 3, section 5.8.1), and how they are explained: no object, a member that
+/// is missing or refused, and unknown members, with a float and without.
+const CLIENT_DATA: &[(&str, &str)] = &[
+    ("[]", "NotAnObject: an object is wanted"),
+    (
+        r#"{"type": "webauthn.get", "challenge": "AA", "origin": "o", "other": [1]}"#,
+        "",
+    ),
+    (
+        r#"{"type": "webauthn.get", "origin": "o"}"#,
+        "Missing(\"challenge\"): challenge is missing",
+    ),
+    (
+        r#"{"type": "webauthn.put", "challenge": "AA", "origin": "o"}"#,
+        "Refused(\"type\"): type: a name that the standard lists is wanted",
+    ),
+    (
+        r#"{"type": "webauthn.get", "challenge": "AA", "origin": "o", "crossOrigin": 1}"#,
+        "Refused(\"crossOrigin\"): crossOrigin: true or false is wanted",
+    ),
+    (
+        r#"{"type": "webauthn.get", "challenge": "AA", "origin": "o", "a": 1, "b": {"c": [1.5]}}"#,
+        "Float(\"unknown_keys\"): [\"b\"]: a value without a float is wanted",
+    ),
+];
+
+#[test]
+fn client_data_are_explained(rt: HostRuntime) {
+    for (text, wanted) in CLIENT_DATA {
+        let value = parsed(&rt, text);
+        let found = explain_client_data(rt.alloc(), &value).expect(&rt, "memory");
+        expect_told(&rt, &found, wanted);
+    }
 }

@@ -1,7 +1,8 @@
 //! Decoding and encoding JSON values: what you need for a JSON record of your own. WebAuthn's
 //! records are in `webauthn`.
 pub use passkey_explain_json::{
-    Blames, BlamesRows, JsonBlame, JsonExplanation, JsonReason, JsonStep, WantedJson, explain_json,
+    Blames, BlamesRows, JsonBlame, JsonExplanation, JsonReason, JsonStep, WantedJson,
+    explain_client_data, explain_json,
 };
 pub use passkey_json::{
     BytesForm, EncodeResult, FromJson, JsonEncoder, JsonFault, JsonRecord, JsonRefusal, Member,
