@@ -14,11 +14,7 @@ fn expect<R: BlamesRows>(rt: &(impl Abort + AllocGlobal), text: &str, wanted: &s
     expect_told(rt, &found, wanted);
 }
 
-fn expect_told(
-    rt: &(impl Abort + AllocGlobal),
-    found: &Option<JsonExplanation>,
-    wanted: &str,
-) {
+fn expect_told(rt: &(impl Abort + AllocGlobal), found: &Option<JsonExplanation>, wanted: &str) {
     let text = match found {
         None => String::new(rt.alloc()),
         Some(told) => format!(in rt.alloc(); "{}: {}", told.fault, told.blame).expect(rt, "memory"),
