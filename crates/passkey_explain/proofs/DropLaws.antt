@@ -53,7 +53,7 @@ module _ (root : Tested) (whole : Item) where
       (leaves (path ++ element n ∷ []) x there)
       (elements_left of leaves is path at (suc n) xs (others_left (elements is) n x xs left))
 
-  list_left : (of : Leaving) → Leaves of → Leaves (dropped_list of)
+  pub list_left : (of : Leaving) → Leaves of → Leaves (dropped_list of)
   unfolding dropped_list
   list_left of leaves path (array is) at = elements_left of leaves is path at 0 (elements is) (all_left (elements is))
   list_left of leaves path _ at = All-nil (IsLeftOut root whole)
@@ -83,14 +83,14 @@ module _ (root : Tested) (whole : Item) where
       (value_left of leaves ps path at (steps n m.0) m.1 (lead ps n m (first_left (members ps) n m ms left)))
       (pairs_left steps lead of leaves ps path at (suc n) ms (others_left (members ps) n m ms left))
 
-  map_left : (steps : Stepping) → StepsLead steps → (of : ℕ → Leaving) → ((n : ℕ) → Leaves (of n))
+  pub map_left : (steps : Stepping) → StepsLead steps → (of : ℕ → Leaving) → ((n : ℕ) → Leaves (of n))
       → Leaves (dropped_map steps of)
   unfolding dropped_map
   map_left steps lead of leaves path (item.map ps) at =
       pairs_left steps lead of leaves ps path at 0 (members ps) (all_left (members ps))
   map_left steps lead of leaves path _ at = All-nil (IsLeftOut root whole)
 
-  entries_lead : StepsLead entry_step
+  pub entries_lead : StepsLead entry_step
   entries_lead ps n m at = ap (option_map (λ (p : Item × Item). p.1)) at
 
   naming_leads : (es : List Entry) (ps : item.Pairs) (n : ℕ) (m : Item × Item) → slice_get (members ps) n ≡ Some m
@@ -99,12 +99,11 @@ module _ (root : Tested) (whole : Item) where
   naming_leads es ps n m at unknown = tt
   naming_leads es ps n m at wrong = tt
 
-  members_lead : (is_numbered : Bool) (es : List Entry) → StepsLead (member_step is_numbered es)
+  pub members_lead : (is_numbered : Bool) (es : List Entry) → StepsLead (member_step is_numbered es)
   members_lead is_numbered es ps n m at = naming_leads es ps n m at (names is_numbered es m.0)
 
-  -- ---- a shape
-
-  tolerant_case : (keeps : Item → Bool) (s : Shape) (place : Tested) (way : List ℕ) → reached way root ≡ Some place
+  -- a place that tolerates any item
+  pub tolerant_case : (keeps : Item → Bool) (s : Shape) (place : Tested) (way : List ℕ) → reached way root ≡ Some place
       → Tolerates place.shape (record { accepts = keeps; shape = s }) → (path : List Step) (i : Item)
       → item_along path whole ≡ Some i → All (IsLeftOut root whole) (dropped s path i) → (c : Bool) → keeps i ≡ c
       → All (IsLeftOut root whole) (if c then dropped s path i else record { path = path; blame = blamed s i } ∷ [])
@@ -121,38 +120,36 @@ module _ (root : Tested) (whole : Item) where
         refused = refused s keeps i e;
       }) (All-nil (IsLeftOut root whole))
 
-  mutual
-    shape_left : (s : Shape) (place : Tested) (way : List ℕ) → reached way root ≡ Some place
-        → ((n : ℕ) → part_of n place.shape ≡ part_of n s) → ((t : Tested) → Tolerates s t → Tolerates place.shape t)
-        → Leaves (dropped s)
-    shape_left (leaf w) place way reaches same tolerates path i at = All-nil (IsLeftOut root whole)
-    shape_left (shape.list a s) place way reaches same tolerates path i at =
-        list_left (dropped s) (shape_left s (record { accepts = a; shape = s }) (way ++ 0 ∷ [])
-        (reached_further way 0 root place reaches ∙ same 0) (λ n. refl) (λ t h. h)) path i at
-    shape_left (shape.map a s) place way reaches same tolerates path i at =
-        map_left entry_step entries_lead (λ n. dropped s) (λ n. shape_left s (record { accepts = a; shape = s })
-        (way ++ 0 ∷ []) (reached_further way 0 root place reaches ∙ same 0) (λ n. refl) (λ t h. h)) path i at
-    shape_left (record_of b rows) place way reaches same tolerates path i at =
-        map_left (member_step b (entries_in rows)) (members_lead b (entries_in rows)) (dropped_row rows)
-        (λ n. rows_left rows n (way ++ n ∷ []) (λ u e. reached_further way n root place reaches ∙ same n ∙ e)) path i at
-    shape_left (shape.tolerant keeps s) place way reaches same tolerates path i at =
-        tolerant_case keeps s place way reaches (tolerates (record { accepts = keeps; shape = s }) (inl refl)) path i at
-        (shape_left s place way reaches same (λ t h. tolerates t (inr h)) path i at) (keeps i) refl
+mutual
+  pub shape_left : (root : Tested) (whole : Item) (s : Shape) (place : Tested) (way : List ℕ)
+      → reached way root ≡ Some place → ((n : ℕ) → part_of n place.shape ≡ part_of n s)
+      → ((t : Tested) → Tolerates s t → Tolerates place.shape t) → (path : List Step) (i : Item)
+      → item_along path whole ≡ Some i → All (IsLeftOut root whole) (dropped s path i)
+  shape_left root whole (leaf w) place way reaches same tolerates path i at = All-nil (IsLeftOut root whole)
+  shape_left root whole (shape.list a s) place way reaches same tolerates path i at =
+      list_left root whole (dropped s) (shape_left root whole s (record { accepts = a; shape = s }) (way ++ 0 ∷ [])
+      (reached_further way 0 root place reaches ∙ same 0) (λ n. refl) (λ t h. h)) path i at
+  shape_left root whole (shape.map a s) place way reaches same tolerates path i at =
+      map_left root whole entry_step (entries_lead root whole) (λ n. dropped s)
+      (λ n. shape_left root whole s (record { accepts = a; shape = s }) (way ++ 0 ∷ [])
+      (reached_further way 0 root place reaches ∙ same 0) (λ n. refl) (λ t h. h)) path i at
+  shape_left root whole (record_of b rows) place way reaches same tolerates path i at =
+      map_left root whole (member_step b (entries_in rows)) (members_lead root whole b (entries_in rows))
+      (dropped_row rows) (λ n. rows_left root whole rows n (way ++ n ∷ [])
+      (λ u e. reached_further way n root place reaches ∙ same n ∙ e)) path i at
+  shape_left root whole (shape.tolerant keeps s) place way reaches same tolerates path i at =
+      tolerant_case root whole keeps s place way reaches (tolerates (record { accepts = keeps; shape = s }) (inl refl))
+      path i at (shape_left root whole s place way reaches same (λ t h. tolerates t (inr h)) path i at) (keeps i) refl
 
-    rows_left : (rs : Rows) (n : ℕ) (way : List ℕ) → ((u : Tested) → row_in rs n ≡ Some u → reached way root ≡ Some u)
-        → Leaves (dropped_row rs n)
-    rows_left no_rows n way reaches path i at = All-nil (IsLeftOut root whole)
-    rows_left (shape.row e a s rs) n way reaches path i at = (elim (e.number == n)
-        as (λ c. ((u : Tested) → (if c then Some (record { accepts = a; shape = s }) else row_in rs n) ≡ Some u
-        → reached way root ≡ Some u)
-        → All (IsLeftOut root whole) (if c then dropped s path i else dropped_row rs n path i)) [
-          | true ↦ λ h. shape_left s (record { accepts = a; shape = s }) way (h (record { accepts = a; shape = s }) refl)
-              (λ k. refl) (λ t g. g) path i at
-          | false ↦ λ h. rows_left rs n way h path i at
-        ]) reaches
-
-pub leaves_refused : (s : Shape) (root place : Tested) (whole : Item) (way : List ℕ) → reached way root ≡ Some place
-    → ((n : ℕ) → part_of n place.shape ≡ part_of n s) → ((t : Tested) → Tolerates s t → Tolerates place.shape t)
-    → (i : Item) (path : List Step) → item_along path whole ≡ Some i → All (IsLeftOut root whole) (dropped s path i)
-leaves_refused s root place whole way reaches same tolerates i path at =
-    shape_left root whole s place way reaches same tolerates path i at
+  rows_left : (root : Tested) (whole : Item) (rs : Rows) (n : ℕ) (way : List ℕ)
+      → ((u : Tested) → row_in rs n ≡ Some u → reached way root ≡ Some u) → (path : List Step) (i : Item)
+      → item_along path whole ≡ Some i → All (IsLeftOut root whole) (dropped_row rs n path i)
+  rows_left root whole no_rows n way reaches path i at = All-nil (IsLeftOut root whole)
+  rows_left root whole (shape.row e a s rs) n way reaches path i at = (elim (e.number == n)
+      as (λ c. ((u : Tested) → (if c then Some (record { accepts = a; shape = s }) else row_in rs n) ≡ Some u
+      → reached way root ≡ Some u)
+      → All (IsLeftOut root whole) (if c then dropped s path i else dropped_row rs n path i)) [
+        | true ↦ λ h. shape_left root whole s (record { accepts = a; shape = s }) way
+            (h (record { accepts = a; shape = s }) refl) (λ k. refl) (λ t g. g) path i at
+        | false ↦ λ h. rows_left root whole rs n way h path i at
+      ]) reaches

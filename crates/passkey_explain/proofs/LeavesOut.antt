@@ -21,7 +21,7 @@ use Rattle.passkey_explain.specs.Drops.{Adds, IsOpened, Leaves, LeavesBy, LiesIn
 use Rattle.passkey_explain.specs.Next.{IsRecordAt}
 use Rattle.passkey_explain.specs.declared.blame.Step.{Step as CodeStep}
 use Rattle.passkey_explain.specs.declared.dropping.DroppedItem.{DroppedItem}
-use Rattle.passkey_kinds.proofs.Common.{elements_in, members_in, entry_of, items_of, pairs_of, Members, Naming, row, unknown, wrong, names, Entry, Result, Ok, Err, drop_all}
+use Rattle.passkey_kinds.proofs.Common.{elements_in, members_in, entry_of, items_of, pairs_of, Members, Naming, row, unknown, wrong, names, Entry, Result, Ok, Err}
 use Rattle.passkey_kinds.specs.Look.{HasForm}
 use Rattle.passkey_kinds.specs.Shape.{Shape, leaf, record_of, Rows, no_rows, Tested, reached, part_of, row_in, entries_in, kept_by}
 use Rattle.passkey_kinds.specs.declared.rows.Row.{Row}
@@ -63,23 +63,10 @@ pub elements_left : (of : Leaving) (path longer : List Step) (n : ℕ) (x : Item
     → dropped_elements of path n all ≡ of longer x ++ dropped_elements of path (n + 1) rest
 elements_left of path longer n x rest all at is = rw (at, is, add-one n) refl
 
-pub elements_done : (of : Leaving) (path : List Step) (k : ℕ) (xs : List Item) (old new : List DroppedItem) (all : List LeftOut)
-    → length xs ≤ k → map left_out new ++ dropped_elements of path k (drop k xs) ≡ map left_out old ++ all → Adds all old new
-elements_done of path k xs old new all past h =
-    sym (append-nil (map left_out new))
-    ∙ sym (ap (λ (ys : List Item). map left_out new ++ dropped_elements of path k ys) (drop_all k xs past)) ∙ h
-
 pub pairs_left : (steps : Stepping) (of : ℕ → Leaving) (path : List Step) (s : Option (Step × ℕ)) (n : ℕ) (m : Item × Item)
     (rest all : Members) → all ≡ m ∷ rest → s ≡ steps n m.0
     → dropped_pairs steps of path n all ≡ dropped_value of path s m.1 ++ dropped_pairs steps of path (n + 1) rest
 pairs_left steps of path s n m rest all at is = rw (at, is, add-one n) refl
-
-pub pairs_done : (steps : Stepping) (of : ℕ → Leaving) (path : List Step) (k : ℕ) (ms : Members) (old new : List DroppedItem)
-    (all : List LeftOut) → length ms ≤ k
-    → map left_out new ++ dropped_pairs steps of path k (drop k ms) ≡ map left_out old ++ all → Adds all old new
-pairs_done steps of path k ms old new all past h =
-    sym (append-nil (map left_out new))
-    ∙ sym (ap (λ (ys : Members). map left_out new ++ dropped_pairs steps of path k ys) (drop_all k ms past)) ∙ h
 
 pub value_leaves : (of : ℕ → Leaving) (path : List Step) (o : Option (Step × ℕ)) (s : Step × ℕ) (i : Item)
     (longer : List Step) (leaving : Leaving) → o ≡ Some s → ((q : List Step) (x : Item) → of s.1 q x ≡ leaving q x)

@@ -11,7 +11,7 @@ use Rattle.passkey_kinds.specs.Shape.{Tested, reached}
 use Rattle.passkey_kinds.specs.declared.look.Form.{Form}
 use Rattle.passkey_explain.proofs.Blames.{look_there, one_more_step}
 use Rattle.passkey_explain.proofs.Describing.{no_array, not_a_map}
-use Rattle.passkey_explain.proofs.LeavesOut.{if_added, value_leaves, steps_stand, odd_index, adds_nothing, adds_as, goes_on, elements_left, elements_done, pairs_left, pairs_done, array_leaves, no_array_leaves, map_leaves, no_map_leaves, array_parts, map_parts, left_out_whole, leaf_leaves, list_kept, map_kept, record_kept, head_opens, next_end, next_there, next_passed, next_stands, element_next, key_next, value_next}
+use Rattle.passkey_explain.proofs.LeavesOut.{if_added, value_leaves, steps_stand, odd_index, adds_nothing, adds_as, goes_on, elements_left, pairs_left, array_leaves, no_array_leaves, map_leaves, no_map_leaves, array_parts, map_parts, left_out_whole, leaf_leaves, list_kept, map_kept, record_kept, head_opens, next_end, next_there, next_passed, next_stands, element_next, key_next, value_next}
 use Rattle.passkey_explain.specs.Along.{PassedItems, parts_of, part_index}
 use Rattle.passkey_explain.specs.Blame.{Step, step_of, element}
 use Rattle.passkey_explain.specs.Dropped.{Leaving, dropped, entry_step, member_step}

@@ -1,7 +1,7 @@
 use Rattle.std.proofs.Common.{◌≡◌, ◌∙◌, [], ◌++◌, List, ap, sym, refl, subst, map}
 use Rattle.std.proofs.lemmas.List.Elements.{All-nil, All-same}
 use Rattle.passkey_cbor.specs.CursorState.{CursorState}
-use Rattle.passkey_explain.proofs.DropLaws.{leaves_refused}
+use Rattle.passkey_explain.proofs.DropLaws.{shape_left}
 use Rattle.passkey_explain.proofs.LeavesOut.{whole_stands}
 use Rattle.passkey_explain.specs.Blame.{step_of}
 use Rattle.passkey_explain.specs.Dropped.{dropped}
@@ -29,7 +29,7 @@ returns g c =
     let stands = subst (Stands i [] i bytes) (sym start) (whole_stands i bytes c.requires.0 c.requires.1) in
     record {
       list = list;
-      left = All-same (IsLeftOut root i) _ _ list (leaves_refused (shape_of t) root root i [] refl (λ n. refl) (λ u h. h) i [] refl);
+      left = All-same (IsLeftOut root i) _ _ list (shape_left root i (shape_of t) root [] refl (λ n. refl) (λ u h. h) [] i refl);
       lie = c.in_ok-put_dropped.ensures.lie i bytes same stands
           (All-same (LiesIn i bytes) _ [] c.new-dropped.ensures.items (All-nil (LiesIn i bytes)));
     }
