@@ -12,4 +12,4 @@ pub use inside::{open_authenticator_data, open_key, opened};
 pub use item::describe_value;
 pub use json::json_of;
 pub use page::{page_of, refusal_page};
-pub use report::report_of;
+pub use report::{left_out_text, report_of};

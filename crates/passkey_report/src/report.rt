@@ -2,7 +2,7 @@
 
 use crate::leaf::leaf_text;
 use passkey_diagnose::diagnose;
-use passkey_explain::{Description, FieldName};
+use passkey_explain::{Description, DroppedItem, FieldName};
 use passkey_memory::OutOfMemory;
 use std::alloc::Global;
 
@@ -131,5 +131,15 @@ pub fn report_of(
     let mut out = String::new(alloc);
     push_name(&mut out, "", title)?;
     push_value(&mut out, alloc, description, "")?;
+    Ok(out)
+}
+
+/// Returns a line for each item that a message leaves out: where it is, and what is wanted there.
+/// Returns `OutOfMemory` if an allocation fails.
+pub fn left_out_text(alloc: Global, items: &[DroppedItem]) -> Result<String, OutOfMemory> {
+    let mut out = String::new(alloc);
+    for item in items {
+        out.push_str(format!(in alloc; "left out: {item}\n")?.as_str())?;
+    }
     Ok(out)
 }
