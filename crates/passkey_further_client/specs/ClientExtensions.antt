@@ -7,6 +7,7 @@ use Rattle.passkey_further_client.specs.declared.hmac_secret.HmacGetSecretOutput
 use Rattle.passkey_further_client.specs.declared.large_blob.LargeBlobInputs.{LargeBlobInputs}
 use Rattle.passkey_further_client.specs.declared.large_blob.LargeBlobOutputs.{LargeBlobOutputs}
 use Rattle.passkey_further_client.specs.Names.{policy_value}
+use Rattle.passkey_further_client.specs.Payment.{payment_inputs, payment_outputs}
 use Rattle.passkey_json.specs.Coded.{bytes_value, list_value, text_value, truth_value, word_value}
 use Rattle.passkey_json.specs.Extensions.{credential_properties, prf_inputs}
 use Rattle.passkey_json.specs.Table.{PlainTable, nested, optional_as, required_as}
@@ -72,6 +73,7 @@ client_extension_inputs = record {
     hmac_create_secret = None;
     hmac_get_secret = None;
     uvm = None;
+    payment = None;
   };
   members = optional_as 1 (codes "appid") text_value (λ r. r.appid) (λ v r. record r { appid = v })
       ∷ optional_as 2 (codes "appidExclude") text_value
@@ -96,6 +98,7 @@ client_extension_inputs = record {
       ∷ optional_as 13 (codes "hmacGetSecret") (nested hmac_get_secret_inputs)
       (λ r. r.hmac_get_secret) (λ v r. record r { hmac_get_secret = v })
       ∷ optional_as 14 (codes "uvm") truth_value (λ r. r.uvm) (λ v r. record r { uvm = v })
+      ∷ optional_as 15 (codes "payment") (nested payment_inputs) (λ r. r.payment) (λ v r. record r { payment = v })
       ∷ [];
   sound = λ r. (refl, refl);
 }
@@ -114,6 +117,7 @@ client_extension_outputs = record {
     hmac_create_secret = None;
     hmac_get_secret = None;
     uvm = None;
+    payment = None;
   };
   members = optional_as 1 (codes "appid") truth_value (λ r. r.appid) (λ v r. record r { appid = v })
       ∷ optional_as 2 (codes "appidExclude") truth_value
@@ -132,6 +136,7 @@ client_extension_outputs = record {
       (λ r. r.hmac_get_secret) (λ v r. record r { hmac_get_secret = v })
       ∷ optional_as 10 (codes "uvm") (list_value (list_value word_value))
       (λ r. r.uvm) (λ v r. record r { uvm = v })
+      ∷ optional_as 11 (codes "payment") (nested payment_outputs) (λ r. r.payment) (λ v r. record r { payment = v })
       ∷ [];
   sound = λ r. (refl, refl);
 }

@@ -3,7 +3,7 @@ ghost use Rattle.passkey_further_client.specs.ClientExtensions.{client_extension
 
 use crate::{
     CredentialProtectionPolicy, HmacGetSecretInputs, HmacGetSecretOutputs, LargeBlobInputs,
-    LargeBlobOutputs,
+    LargeBlobOutputs, PaymentInputs, PaymentOutputs,
 };
 use passkey_bytes::{Bytes, List, Text};
 use passkey_json::{
@@ -50,6 +50,8 @@ pub struct ClientExtensionInputs {
     pub hmac_get_secret: Option<HmacGetSecretInputs>,
     /// uvm: whether the user verification methods are asked for (WebAuthn Level 2, section 10.3).
     pub uvm: Option<bool>,
+    /// payment: what is paid (W3C Secure Payment Confirmation).
+    pub payment: Option<PaymentInputs>,
 }
 
 impl PlainJsonRecord for ClientExtensionInputs {
@@ -71,6 +73,7 @@ impl PlainJsonRecord for ClientExtensionInputs {
             Row::Named(12, "hmacCreateSecret"),
             Row::Named(13, "hmacGetSecret"),
             Row::Named(14, "uvm"),
+            Row::Named(15, "payment"),
         ]
     }
 
@@ -90,6 +93,7 @@ impl PlainJsonRecord for ClientExtensionInputs {
             hmac_create_secret: None,
             hmac_get_secret: None,
             uvm: None,
+            payment: None,
         }
     }
 
@@ -109,6 +113,7 @@ impl PlainJsonRecord for ClientExtensionInputs {
             12 => self.hmac_create_secret = member.or_default(None)?,
             13 => self.hmac_get_secret = member.or_default(None)?,
             14 => self.uvm = member.or_default(None)?,
+            15 => self.payment = member.or_default(None)?,
             _ => {}
         }
         Ok(())
@@ -130,6 +135,7 @@ impl PlainJsonRecord for ClientExtensionInputs {
             12 => encoder.optional(&self.hmac_create_secret),
             13 => encoder.optional(&self.hmac_get_secret),
             14 => encoder.optional(&self.uvm),
+            15 => encoder.optional(&self.payment),
             _ => Ok(None),
         }
     }
@@ -160,6 +166,8 @@ pub struct ClientExtensionOutputs {
     /// uvm: the user verification methods, one to three entries of three numbers (WebAuthn Level 2,
     /// section 10.3). The numbers of entries and of numbers aren't checked.
     pub uvm: Option<List<List<u32>>>,
+    /// payment: the signature of the browser's key (W3C Secure Payment Confirmation).
+    pub payment: Option<PaymentOutputs>,
 }
 
 impl PlainJsonRecord for ClientExtensionOutputs {
@@ -177,6 +185,7 @@ impl PlainJsonRecord for ClientExtensionOutputs {
             Row::Named(8, "hmacCreateSecret"),
             Row::Named(9, "hmacGetSecret"),
             Row::Named(10, "uvm"),
+            Row::Named(11, "payment"),
         ]
     }
 
@@ -192,6 +201,7 @@ impl PlainJsonRecord for ClientExtensionOutputs {
             hmac_create_secret: None,
             hmac_get_secret: None,
             uvm: None,
+            payment: None,
         }
     }
 
@@ -207,6 +217,7 @@ impl PlainJsonRecord for ClientExtensionOutputs {
             8 => self.hmac_create_secret = member.or_default(None)?,
             9 => self.hmac_get_secret = member.or_default(None)?,
             10 => self.uvm = member.or_default(None)?,
+            11 => self.payment = member.or_default(None)?,
             _ => {}
         }
         Ok(())
@@ -224,6 +235,7 @@ impl PlainJsonRecord for ClientExtensionOutputs {
             8 => encoder.optional(&self.hmac_create_secret),
             9 => encoder.optional(&self.hmac_get_secret),
             10 => encoder.optional(&self.uvm),
+            11 => encoder.optional(&self.payment),
             _ => Ok(None),
         }
     }

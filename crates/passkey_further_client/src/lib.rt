@@ -1,5 +1,6 @@
 //! What WebAuthn Level 3 has over JSON beside the ceremonies' options and responses: all client
-//! extensions, mediation, client capabilities, and the origin of the top-level page.
+//! extensions, mediation, client capabilities, and the origin of the top-level page; and payments
+//! (W3C Secure Payment Confirmation).
 #![tactic(auto)]
 
 mod client_extensions;
@@ -7,6 +8,8 @@ mod hmac_secret;
 mod large_blob;
 mod mediated;
 mod names;
+mod payment;
+mod payment_data;
 mod top_origin;
 
 pub use client_extensions::{ClientExtensionInputs, ClientExtensionOutputs};
@@ -15,6 +18,11 @@ pub use large_blob::{LargeBlobInputs, LargeBlobOutputs};
 pub use mediated::MediatedOptions;
 pub use names::{CredentialMediationRequirement, CredentialProtectionPolicy};
 use passkey_bytes::{Map, Text};
+pub use payment::{
+    BrowserBoundSignature, PaymentCredentialInstrument, PaymentCurrencyAmount, PaymentInputs,
+    PaymentOutputs,
+};
+pub use payment_data::{AdditionalPaymentData, PaymentData};
 pub use top_origin::TopOrigin;
 
 /// The result of `PublicKeyCredential.getClientCapabilities()` (WebAuthn Level 3, section 5.1.7): whether

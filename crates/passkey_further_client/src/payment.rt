@@ -1,0 +1,298 @@
+//! Inputs and outputs of the client extension payment (W3C Secure Payment Confirmation).
+ghost use Rattle.std.specs.Prelude.{◌≡◌, IfOk};
+ghost use Rattle.passkey_further_client.specs.Payment.{browser_bound_signature, currency_amount, payment_inputs, payment_instrument, payment_outputs};
+
+use passkey_bytes::{Bytes, List, Text};
+use passkey_json::{EncodeResult, JsonEncoder, JsonFault, Member, PlainJsonRecord, Row};
+use passkey_memory::OutOfMemory;
+use passkey_webauthn::PublicKeyCredentialParameters;
+use std::alloc::Global;
+
+/// An amount of money, `PaymentCurrencyAmount` (W3C Payment Request API). Nothing is checked of either
+/// text.
+#[derive(Debug, Drop)]
+pub struct PaymentCurrencyAmount {
+    /// currency: the currency's code, three letters (ISO 4217).
+    pub currency: Text,
+    /// value: the amount, a decimal number.
+    pub value: Text,
+}
+
+impl PaymentCurrencyAmount {
+    /// Returns an equal value. Returns `OutOfMemory` if an allocation fails.
+    pub fn try_clone(&self, alloc: Global) -> Result<PaymentCurrencyAmount, OutOfMemory>
+        ensures { IfOk result (λ copy. copy ≡ self.now) }
+    {
+        Ok(PaymentCurrencyAmount {
+            currency: self.currency.try_clone(alloc)?,
+            value: self.value.try_clone(alloc)?,
+        })
+    }
+}
+
+impl PlainJsonRecord for PaymentCurrencyAmount {
+    ghost table = { currency_amount };
+
+    fn rows() -> &'static [Row] {
+        &[Row::Named(1, "currency"), Row::Named(2, "value")]
+    }
+
+    fn blank(alloc: Global) -> PaymentCurrencyAmount {
+        PaymentCurrencyAmount {
+            currency: Text::empty(alloc),
+            value: Text::empty(alloc),
+        }
+    }
+
+    fn put(&mut self, number: u8, member: Member<'_>) -> Result<(), JsonFault> {
+        match number {
+            1 => self.currency = member.required()?,
+            2 => self.value = member.required()?,
+            _ => {}
+        }
+        Ok(())
+    }
+
+    fn encode(&self, number: u8, encoder: JsonEncoder) -> EncodeResult {
+        match number {
+            1 => encoder.value(&self.currency),
+            2 => encoder.value(&self.value),
+            _ => Ok(None),
+        }
+    }
+}
+
+/// What the user pays with, `PaymentCredentialInstrument` (W3C Secure Payment Confirmation).
+#[derive(Debug, Drop)]
+pub struct PaymentCredentialInstrument {
+    /// displayName: its name, for display.
+    pub display_name: Text,
+    /// icon: the URL of its icon. The URL isn't checked.
+    pub icon: Text,
+    /// iconMustBeShown: whether the payment fails if the icon can't be shown. The default is true.
+    pub icon_must_be_shown: bool,
+    /// details: more about it, for display. `None` means that the member is absent; null also decodes
+    /// to `None`.
+    pub details: Option<Text>,
+}
+
+impl PaymentCredentialInstrument {
+    /// Returns an equal value. Returns `OutOfMemory` if an allocation fails.
+    pub fn try_clone(&self, alloc: Global) -> Result<PaymentCredentialInstrument, OutOfMemory>
+        ensures { IfOk result (λ copy. copy ≡ self.now) }
+    {
+        Ok(PaymentCredentialInstrument {
+            display_name: self.display_name.try_clone(alloc)?,
+            icon: self.icon.try_clone(alloc)?,
+            icon_must_be_shown: self.icon_must_be_shown,
+            details: copy_of(alloc, &self.details)?,
+        })
+    }
+}
+
+/// Returns an equal text, if there is one.
+pub(crate) fn copy_of(alloc: Global, text: &Option<Text>) -> Result<Option<Text>, OutOfMemory>
+    ensures { IfOk result (λ copy. copy ≡ text.now) }
+{
+    match text {
+        Some(text) => Ok(Some(text.try_clone(alloc)?)),
+        None => Ok(None),
+    }
+}
+
+impl PlainJsonRecord for PaymentCredentialInstrument {
+    ghost table = { payment_instrument };
+
+    fn rows() -> &'static [Row] {
+        &[
+            Row::Named(1, "displayName"),
+            Row::Named(2, "icon"),
+            Row::Named(3, "iconMustBeShown"),
+            Row::Named(4, "details"),
+        ]
+    }
+
+    fn blank(alloc: Global) -> PaymentCredentialInstrument {
+        PaymentCredentialInstrument {
+            display_name: Text::empty(alloc),
+            icon: Text::empty(alloc),
+            icon_must_be_shown: true,
+            details: None,
+        }
+    }
+
+    fn put(&mut self, number: u8, member: Member<'_>) -> Result<(), JsonFault> {
+        match number {
+            1 => self.display_name = member.required()?,
+            2 => self.icon = member.required()?,
+            3 => self.icon_must_be_shown = member.or_default(true)?,
+            4 => self.details = member.or_default(None)?,
+            _ => {}
+        }
+        Ok(())
+    }
+
+    fn encode(&self, number: u8, encoder: JsonEncoder) -> EncodeResult {
+        match number {
+            1 => encoder.value(&self.display_name),
+            2 => encoder.value(&self.icon),
+            3 => encoder.value(&self.icon_must_be_shown),
+            4 => encoder.optional(&self.details),
+            _ => Ok(None),
+        }
+    }
+}
+
+/// Inputs of the client extension payment, `AuthenticationExtensionsPaymentInputs` (W3C Secure Payment
+/// Confirmation). `None` means that the member is absent; null also decodes to `None`.
+#[derive(Debug, Drop)]
+pub struct PaymentInputs {
+    /// isPayment: whether the credential is to be usable for payments.
+    pub is_payment: Option<bool>,
+    /// rpId: the relying party id of the credential, at a sign-in.
+    pub rp_id: Option<Text>,
+    /// topOrigin: the origin of the top-level page, at a sign-in.
+    pub top_origin: Option<Text>,
+    /// payeeName: the name of who is paid, at a sign-in.
+    pub payee_name: Option<Text>,
+    /// payeeOrigin: the origin of who is paid, at a sign-in.
+    pub payee_origin: Option<Text>,
+    /// total: the amount, at a sign-in.
+    pub total: Option<PaymentCurrencyAmount>,
+    /// instrument: what the user pays with, at a sign-in.
+    pub instrument: Option<PaymentCredentialInstrument>,
+    /// browserBoundPubKeyCredParams: the algorithms of a key that stays in the browser. Elements that
+    /// are no parameters are dropped, and a value that is no array decodes to `None`.
+    pub browser_bound_pub_key_cred_params: Option<List<PublicKeyCredentialParameters>>,
+}
+
+impl PlainJsonRecord for PaymentInputs {
+    ghost table = { payment_inputs };
+
+    fn rows() -> &'static [Row] {
+        &[
+            Row::Named(1, "isPayment"),
+            Row::Named(2, "rpId"),
+            Row::Named(3, "topOrigin"),
+            Row::Named(4, "payeeName"),
+            Row::Named(5, "payeeOrigin"),
+            Row::Named(6, "total"),
+            Row::Named(7, "instrument"),
+            Row::Named(8, "browserBoundPubKeyCredParams"),
+        ]
+    }
+
+    fn blank(_alloc: Global) -> PaymentInputs {
+        PaymentInputs {
+            is_payment: None,
+            rp_id: None,
+            top_origin: None,
+            payee_name: None,
+            payee_origin: None,
+            total: None,
+            instrument: None,
+            browser_bound_pub_key_cred_params: None,
+        }
+    }
+
+    fn put(&mut self, number: u8, member: Member<'_>) -> Result<(), JsonFault> {
+        match number {
+            1 => self.is_payment = member.or_default(None)?,
+            2 => self.rp_id = member.or_default(None)?,
+            3 => self.top_origin = member.or_default(None)?,
+            4 => self.payee_name = member.or_default(None)?,
+            5 => self.payee_origin = member.or_default(None)?,
+            6 => self.total = member.or_default(None)?,
+            7 => self.instrument = member.or_default(None)?,
+            8 => self.browser_bound_pub_key_cred_params = member.accepted_list()?,
+            _ => {}
+        }
+        Ok(())
+    }
+
+    fn encode(&self, number: u8, encoder: JsonEncoder) -> EncodeResult {
+        match number {
+            1 => encoder.optional(&self.is_payment),
+            2 => encoder.optional(&self.rp_id),
+            3 => encoder.optional(&self.top_origin),
+            4 => encoder.optional(&self.payee_name),
+            5 => encoder.optional(&self.payee_origin),
+            6 => encoder.optional(&self.total),
+            7 => encoder.optional(&self.instrument),
+            8 => encoder.optional(&self.browser_bound_pub_key_cred_params),
+            _ => Ok(None),
+        }
+    }
+}
+
+/// The signature of a key that stays in the browser, `BrowserBoundSignature` (W3C Secure Payment
+/// Confirmation).
+#[derive(Debug, Drop)]
+pub struct BrowserBoundSignature {
+    /// signature: the signature, which isn't verified.
+    pub signature: Bytes,
+}
+
+impl PlainJsonRecord for BrowserBoundSignature {
+    ghost table = { browser_bound_signature };
+
+    fn rows() -> &'static [Row] {
+        &[Row::Named(1, "signature")]
+    }
+
+    fn blank(alloc: Global) -> BrowserBoundSignature {
+        BrowserBoundSignature {
+            signature: Bytes::empty(alloc),
+        }
+    }
+
+    fn put(&mut self, number: u8, member: Member<'_>) -> Result<(), JsonFault> {
+        if number == 1 {
+            self.signature = member.required()?;
+        }
+        Ok(())
+    }
+
+    fn encode(&self, number: u8, encoder: JsonEncoder) -> EncodeResult {
+        match number {
+            1 => encoder.value(&self.signature),
+            _ => Ok(None),
+        }
+    }
+}
+
+/// Outputs of the client extension payment, `AuthenticationExtensionsPaymentOutputs` (W3C Secure Payment
+/// Confirmation). `None` means that the member is absent; null also decodes to `None`.
+#[derive(Debug, Drop)]
+pub struct PaymentOutputs {
+    /// browserBoundSignature: the signature of a key that stays in the browser.
+    pub browser_bound_signature: Option<BrowserBoundSignature>,
+}
+
+impl PlainJsonRecord for PaymentOutputs {
+    ghost table = { payment_outputs };
+
+    fn rows() -> &'static [Row] {
+        &[Row::Named(1, "browserBoundSignature")]
+    }
+
+    fn blank(_alloc: Global) -> PaymentOutputs {
+        PaymentOutputs {
+            browser_bound_signature: None,
+        }
+    }
+
+    fn put(&mut self, number: u8, member: Member<'_>) -> Result<(), JsonFault> {
+        if number == 1 {
+            self.browser_bound_signature = member.or_default(None)?;
+        }
+        Ok(())
+    }
+
+    fn encode(&self, number: u8, encoder: JsonEncoder) -> EncodeResult {
+        match number {
+            1 => encoder.optional(&self.browser_bound_signature),
+            _ => Ok(None),
+        }
+    }
+}
