@@ -1,2 +1,3 @@
+pub mod JsonKinds
 pub mod Kinds
 pub mod Rewriting

@@ -1,5 +1,5 @@
 -- The output of decoding a JSON text and encoding the result.
-use Rattle.std.specs.Prelude.{◌≡◌, ℕ, List, false, Result, Ok, Err, ⊤}
+use Rattle.std.specs.Prelude.{◌≡◌, ℕ, Bool, List, false, Result, Ok, Err, ⊤}
 use Rattle.passkey_client_data.specs.ClientData.{client_data}
 use Rattle.passkey_client_data.specs.ClientDataText.{client_data_text}
 use Rattle.passkey_credentials.specs.Credentials.{assertion_response, attestation_response, credential}
@@ -16,7 +16,7 @@ use Rattle.passkey_run.specs.declared.fault.RunFault.{RunFault}
 use Rattle.passkey_run.specs.declared.fault.RunFault.TheVariants.{JsonRefused, BadJson, OutOfMemory}
 use Rattle.passkey_run.specs.declared.kind.JsonKind.{JsonKind}
 use Rattle.passkey_run.specs.declared.kind.JsonKind.TheVariants.{Creation, Request, Created, Authenticated, ClientData}
-use Rattle.serde_json.specs.Data.{Data, no_members}
+use Rattle.serde_json.specs.Data.{Data, Members, no_members}
 use Rattle.serde_json.specs.Written.{compact_text}
 
 -- the compact JSON text of the record that the value decodes to, with bytes in base64url
@@ -28,11 +28,10 @@ record_rewritten members json d = in_object members d >>= λ x. Ok (compact_text
 abbrev pub table_rewritten : {A : Type 0} → PlainTable A → Data → Result (List ℕ) Fault
 table_rewritten t = record_rewritten (members_in t) (table_json t)
 
--- the JSON text of the client data that the value decodes to, where the caller knows no further
--- members
-abbrev pub client_data_rewritten : Data → Result (List ℕ) Fault
-client_data_rewritten d =
-    client_data {E = Unit {0}} (λ _. false) (λ _. Ok tt) d >>= client_data_text (λ _. no_members)
+-- the JSON text of the client data that the value decodes to, where the caller knows further members
+abbrev pub client_data_rewritten : {E : Type 0} → (List ℕ → Bool) → (Object → Result E Fault) → (E → Members) → Data
+    → Result (List ℕ) Fault
+client_data_rewritten has reads written d = client_data has reads d >>= client_data_text written
 
 -- the output of each kind for a JSON value
 unfoldable pub json_rewritten : JsonKind → Data → Result (List ℕ) Fault
@@ -40,7 +39,7 @@ json_rewritten Creation = table_rewritten credential_creation
 json_rewritten Request = table_rewritten credential_request
 json_rewritten Created = table_rewritten (credential attestation_response)
 json_rewritten Authenticated = table_rewritten (credential assertion_response)
-json_rewritten ClientData = client_data_rewritten
+json_rewritten ClientData = client_data_rewritten {E = Unit {0}} (λ _. false) (λ _. Ok tt) (λ _. no_members)
 
 -- The input is a JSON text, and this is the output for its value.
 pub record RewritesJson (rewritten : Data → Result (List ℕ) Fault) (input text : List ℕ) : Type 0 where

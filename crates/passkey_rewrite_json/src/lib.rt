@@ -7,7 +7,7 @@ ghost use Rattle.passkey_rewrite_json.specs.RewritesJson.{IsJsonRefusal, Rewrite
 ghost use Rattle.passkey_run.specs.declared.fault.RunFault.TheVariants.{BadJson, OutOfMemory};
 ghost use Rattle.serde_json.specs.View.{view};
 
-use passkey_client_data::CollectedClientData;
+use passkey_client_data::{ClientDataExtra, CollectedClientData};
 use passkey_credentials::{AuthenticatedPublicKeyCredential, CreatedPublicKeyCredential};
 use passkey_json::{BytesForm, JsonRecord, ToJson};
 use passkey_options::{CredentialCreationOptions, CredentialRequestOptions};
@@ -16,7 +16,9 @@ use serde_json::Value;
 use serde_json::error::Category;
 use std::alloc::Global;
 
-fn parse(alloc: Global, input: &[u8]) -> Result<Value, RunFault>
+/// Returns the value of a JSON text. Returns `BadJson` if the input isn't a JSON text in UTF-8 of at
+/// most 127 nesting levels, and `OutOfMemory` if an allocation fails.
+pub fn parse_json(alloc: Global, input: &[u8]) -> Result<Value, RunFault>
     ensures ok { IfOk result (λ value. IsJson input.now (view value)) }
     ensures err { IfErr result (λ fault. (fault ≡ OutOfMemory) ⊎ ((fault ≡ BadJson) × HasNoJson input.now)) }
 {
@@ -27,12 +29,16 @@ fn parse(alloc: Global, input: &[u8]) -> Result<Value, RunFault>
     }
 }
 
-fn rewrite_record<R: JsonRecord + ToJson>(alloc: Global, input: &[u8]) -> Result<String, RunFault>
+/// Decodes the JSON text as the record and encodes it, as `rewrite_json` does.
+pub fn rewrite_record<R: JsonRecord + ToJson>(
+    alloc: Global,
+    input: &[u8],
+) -> Result<String, RunFault>
     ensures ok { IfOk result
         (λ text. RewritesJson (record_rewritten R.members R.json) input.now (string_bytes text)) }
     ensures err { IfErr result (IsJsonRefusal (record_rewritten R.members R.json) input.now) }
 {
-    let value = parse(alloc, input)?;
+    let value = parse_json(alloc, input)?;
     let record = R::from_json(alloc, &value)?;
     drop(value);
     let written = record.to_json(alloc, BytesForm::Base64Url)?;
@@ -40,12 +46,18 @@ fn rewrite_record<R: JsonRecord + ToJson>(alloc: Global, input: &[u8]) -> Result
     Ok(written.to_string(alloc)?)
 }
 
-fn rewrite_client_data(alloc: Global, input: &[u8]) -> Result<String, RunFault>
-    ensures ok { IfOk result (λ text. RewritesJson client_data_rewritten input.now (string_bytes text)) }
-    ensures err { IfErr result (IsJsonRefusal client_data_rewritten input.now) }
+/// Decodes the JSON text as client data, whose caller knows the members of `E`, and encodes it, as
+/// `rewrite_json` does.
+pub fn rewrite_client_data<E: ClientDataExtra>(
+    alloc: Global,
+    input: &[u8],
+) -> Result<String, RunFault>
+    ensures ok { IfOk result
+        (λ text. RewritesJson (client_data_rewritten E.has E.reads E.written) input.now (string_bytes text)) }
+    ensures err { IfErr result (IsJsonRefusal (client_data_rewritten E.has E.reads E.written) input.now) }
 {
-    let value = parse(alloc, input)?;
-    let client_data: CollectedClientData = CollectedClientData::from_json(alloc, &value)?;
+    let value = parse_json(alloc, input)?;
+    let client_data: CollectedClientData<E> = CollectedClientData::from_json(alloc, &value)?;
     drop(value);
     Ok(String::from(client_data.to_text(alloc)?))
 }
@@ -63,6 +75,6 @@ pub fn rewrite_json(alloc: Global, kind: JsonKind, input: &[u8]) -> Result<Strin
         JsonKind::Request => rewrite_record::<CredentialRequestOptions>(alloc, input),
         JsonKind::Created => rewrite_record::<CreatedPublicKeyCredential>(alloc, input),
         JsonKind::Authenticated => rewrite_record::<AuthenticatedPublicKeyCredential>(alloc, input),
-        JsonKind::ClientData => rewrite_client_data(alloc, input),
+        JsonKind::ClientData => rewrite_client_data::<()>(alloc, input),
     }
 }
