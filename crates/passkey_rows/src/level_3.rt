@@ -3,14 +3,15 @@ use crate::again_json::parsed;
 use passkey_rewrite::RunFault;
 use passkey_types::json::{FromJson, JsonRefusal};
 use passkey_types::webauthn::further::{
-    ClientCapabilities, ClientExtensionInputs, ClientExtensionOutputs, MediatedOptions, TopOrigin,
+    ClientCapabilities, ClientExtensionInputs, ClientExtensionOutputs, MediatedOptions,
+    PaymentData, TopOrigin,
 };
 use passkey_types::webauthn::signals::{
     AllAcceptedCredentialsOptions, CurrentUserDetailsOptions, UnknownCredentialOptions,
 };
 use passkey_types::webauthn::{
-    BytesForm, CollectedClientData, JsonRecord, PublicKeyCredentialCreationOptions,
-    PublicKeyCredentialRequestOptions, ToJson,
+    BytesForm, ClientDataExtra, CollectedClientData, JsonRecord,
+    PublicKeyCredentialCreationOptions, PublicKeyCredentialRequestOptions, ToJson,
 };
 use std::alloc::Global;
 
@@ -37,11 +38,11 @@ fn capabilities(alloc: Global, text: &str) -> Result<String, RunFault> {
     Ok(json.to_string(alloc)?)
 }
 
-/// `TEXT`: client data with `topOrigin` as a member that the caller knows, decoded and encoded.
-fn with_top_origin(alloc: Global, text: &str) -> Result<String, RunFault> {
+/// `TEXT`: client data with the members that the caller's type knows, decoded, copied and encoded.
+fn client_data<E: ClientDataExtra>(alloc: Global, text: &str) -> Result<String, RunFault> {
     let value = parsed(alloc, text)?;
-    let data: CollectedClientData<TopOrigin> = CollectedClientData::from_json(alloc, &value)?;
-    let text = data.to_text(alloc)?;
+    let data: CollectedClientData<E> = CollectedClientData::from_json(alloc, &value)?;
+    let text = data.try_clone(alloc)?.to_text(alloc)?;
     Ok(String::from_str(alloc, text.as_str())?)
 }
 
@@ -59,7 +60,8 @@ pub fn level_3_row(alloc: Global, name: &str, input: &str) -> Option<Result<Stri
         "mediated-request" => Some(record::<MediatedOptions<PublicKeyCredentialRequestOptions>>(
             alloc, input,
         )),
-        "client-data-top" => Some(with_top_origin(alloc, input)),
+        "client-data-top" => Some(client_data::<TopOrigin>(alloc, input)),
+        "client-data-payment" => Some(client_data::<PaymentData>(alloc, input)),
         "capabilities" => Some(capabilities(alloc, input)),
         _ => None,
     }
