@@ -7,24 +7,15 @@ use Rattle.passkey_diagnose.specs.Diagnosis.{diagnosis}
 use Rattle.passkey_diagnose.specs.BytesText.{bytes_diagnosis}
 use Rattle.passkey_explain.specs.Described.{Described}
 use Rattle.passkey_report.specs.Json.{json_text}
-use Rattle.passkey_rewrite.specs.Rewriting.{IsRefusal}
 use Rattle.passkey_inspect_input.specs.Input.{bytes_as}
 use Rattle.passkey_inspect_input.specs.declared.Form.{Form}
+use Rattle.passkey_rewrite_further.specs.JsonKinds.{further_json_rewritten}
 use Rattle.passkey_rewrite_json.specs.RewritesJson.{RewritesJson, json_rewritten}
-use Rattle.passkey_run.specs.declared.kind.JsonKind.{JsonKind}
-use Rattle.passkey_run.specs.declared.fault.RunFault.{RunFault}
 use Rattle.passkey_inspect.specs.Encodes.{Encodes}
 use Rattle.passkey_inspect.specs.declared.options.Output.{Output}
 use Rattle.passkey_inspect.specs.declared.options.Output.TheVariants.{Report, Json as JsonText, Diagnosis, Bytes as BytesText, Encoding}
 use Rattle.passkey_inspect.specs.declared.kind.InspectKind.{InspectKind}
-use Rattle.passkey_inspect.specs.declared.kind.InspectKind.TheVariants.{Bytes, Further, Named, Json}
-
--- Why these kinds reject the bytes.
-abbrev pub IsRefused : InspectKind → List ℕ → RunFault → Type 0
-IsRefused (Bytes kind) bytes fault = IsRefusal kind bytes fault
-IsRefused (Further kind) bytes fault = ⊤
-IsRefused (Named kind) bytes fault = ⊤
-IsRefused (Json kind) bytes fault = ⊤
+use Rattle.passkey_inspect.specs.declared.kind.InspectKind.TheVariants as kind
 
 -- The text is the encoding, in lower-case hexadecimal.
 pub record ShowsEncoding (kind : InspectKind) (bytes text : List ℕ) : Type 0 where
@@ -71,11 +62,17 @@ pub record PrintsBytes (output : Output) (bytes line : List ℕ) : Type 0 where
   pub inside : IsMessageIn bytes message
   pub prints : PrintsAs output message line
 
+-- The JSON text of the record that the input is decoded to as the kind, if it is one of JSON.
+abbrev pub RewritesText : InspectKind → List ℕ → List ℕ → Type 0
+RewritesText (kind.Json k) = RewritesJson (json_rewritten k)
+RewritesText (kind.FurtherJson k) = RewritesJson (further_json_rewritten k)
+RewritesText _ = λ input text. ⊥
+
 -- What is printed of a JSON text as some kind: the record that it is decoded to, in a line. Nothing is said of reports.
 abbrev pub PrintsRecord : Output → List ℕ → List ℕ → Type 0
 PrintsRecord Report input line = ⊤
 PrintsRecord _ input line =
-    (kind : JsonKind) × (text : List ℕ) × RewritesJson (json_rewritten kind) input text × (line ≡ text ++ 10 ∷ [])
+    (k : InspectKind) × (text : List ℕ) × RewritesText k input text × (line ≡ text ++ 10 ∷ [])
 
 -- What is printed of an input that spells bytes in some form.
 pub record PrintsSpelled (output : Output) (input line : List ℕ) : Type 0 where

@@ -1,17 +1,24 @@
 //! Bytes, decoded as a kind.
 
-use crate::kind::{FurtherKind, InspectKind, NamedKind};
+use crate::kind::InspectKind;
 use crate::refusal::{cbor_refused, data_refused, key_refused, message_refused, refused};
+use crate::structure::{examine_cert_info, examine_pub_area};
 use passkey_attestation::{AttestationFormat, AttestationStatement, StatementFault};
+use passkey_bio_enrollment as bio;
 use passkey_cbor::Value;
+use passkey_client_pin as pin;
+use passkey_config as config;
 use passkey_core::AuthenticatorData;
+use passkey_credential_management as credentials;
 use passkey_explain::{Description, Extent, describe, explain};
 use passkey_explain_data::{explain_data, explain_key};
 use passkey_extensions::HmacGetSecretInput;
 use passkey_further_extensions::{get_assertion, make_credential};
 use passkey_kinds::Message;
+use passkey_large_blobs as blobs;
 use passkey_memory::OutOfMemory;
 use passkey_report::{describe_value, open_authenticator_data, open_key, opened};
+use passkey_rewrite_further::FurtherKind;
 use passkey_run::BytesKind;
 use passkey_webauthn::EnumNames;
 use std::alloc::Global;
@@ -88,42 +95,6 @@ fn examine_known(alloc: Global, kind: BytesKind, bytes: &[u8]) -> Result<Examine
     }
 }
 
-fn examine_further(
-    alloc: Global,
-    kind: FurtherKind,
-    bytes: &[u8],
-) -> Result<Examined, OutOfMemory> {
-    match kind {
-        FurtherKind::PinRequest => examine_message::<passkey_client_pin::Request>(alloc, bytes),
-        FurtherKind::PinResponse => examine_message::<passkey_client_pin::Response>(alloc, bytes),
-        FurtherKind::BioRequest => {
-            examine_message::<passkey_bio_enrollment::Request>(alloc, bytes)
-        }
-        FurtherKind::BioResponse => {
-            examine_message::<passkey_bio_enrollment::Response>(alloc, bytes)
-        }
-        FurtherKind::CredentialRequest => {
-            examine_message::<passkey_credential_management::Request>(alloc, bytes)
-        }
-        FurtherKind::CredentialResponse => {
-            examine_message::<passkey_credential_management::Response>(alloc, bytes)
-        }
-        FurtherKind::BlobsRequest => examine_message::<passkey_large_blobs::Request>(alloc, bytes),
-        FurtherKind::BlobsResponse => {
-            examine_message::<passkey_large_blobs::Response>(alloc, bytes)
-        }
-        FurtherKind::BlobsEntry => examine_message::<passkey_large_blobs::LargeBlob>(alloc, bytes),
-        FurtherKind::ConfigRequest => examine_message::<passkey_config::Request>(alloc, bytes),
-        FurtherKind::ConfigMinPinLength => {
-            examine_message::<passkey_config::MinPinLengthParameters>(alloc, bytes)
-        }
-        FurtherKind::ConfigVendor => {
-            examine_message::<passkey_config::VendorParameters>(alloc, bytes)
-        }
-        FurtherKind::Key => examine_key(alloc, bytes),
-    }
-}
-
 /// Examines an attestation statement of this format (WebAuthn Level 3, section 8).
 fn examine_statement(
     alloc: Global,
@@ -141,26 +112,62 @@ fn examine_statement(
     }
 }
 
-fn examine_named(alloc: Global, kind: NamedKind, bytes: &[u8]) -> Result<Examined, OutOfMemory> {
+fn examine_further(
+    alloc: Global,
+    kind: FurtherKind,
+    bytes: &[u8],
+) -> Result<Examined, OutOfMemory> {
     match kind {
-        NamedKind::Info23 => examine_message::<passkey_get_info_23::Response>(alloc, bytes),
-        NamedKind::MakeInputs => {
+        FurtherKind::PinRequest => examine_message::<pin::Request>(alloc, bytes),
+        FurtherKind::PinResponse => examine_message::<pin::Response>(alloc, bytes),
+        FurtherKind::BioRequest => examine_message::<bio::Request>(alloc, bytes),
+        FurtherKind::BioResponse => examine_message::<bio::Response>(alloc, bytes),
+        FurtherKind::CredentialRequest => examine_message::<credentials::Request>(alloc, bytes),
+        FurtherKind::CredentialResponse => examine_message::<credentials::Response>(alloc, bytes),
+        FurtherKind::BlobsRequest => examine_message::<blobs::Request>(alloc, bytes),
+        FurtherKind::BlobsResponse => examine_message::<blobs::Response>(alloc, bytes),
+        FurtherKind::BlobsEntry => examine_message::<blobs::LargeBlob>(alloc, bytes),
+        FurtherKind::ConfigRequest => examine_message::<config::Request>(alloc, bytes),
+        FurtherKind::ConfigMinPinLength => {
+            examine_message::<config::MinPinLengthParameters>(alloc, bytes)
+        }
+        FurtherKind::ConfigVendor => examine_message::<config::VendorParameters>(alloc, bytes),
+        FurtherKind::Key => examine_key(alloc, bytes),
+        FurtherKind::Info23 => examine_message::<passkey_get_info_23::Response>(alloc, bytes),
+        FurtherKind::MakeInputs => {
             examine_message::<make_credential::ExtensionInputs>(alloc, bytes)
         }
-        NamedKind::MakeOutputs => {
+        FurtherKind::MakeOutputs => {
             examine_message::<make_credential::SignedExtensionOutputs>(alloc, bytes)
         }
-        NamedKind::MakeUnsigned => {
+        FurtherKind::MakeUnsigned => {
             examine_message::<make_credential::UnsignedExtensionOutputs>(alloc, bytes)
         }
-        NamedKind::GetInputs => examine_message::<get_assertion::ExtensionInputs>(alloc, bytes),
-        NamedKind::GetOutputs => {
+        FurtherKind::GetInputs => examine_message::<get_assertion::ExtensionInputs>(alloc, bytes),
+        FurtherKind::GetOutputs => {
             examine_message::<get_assertion::SignedExtensionOutputs>(alloc, bytes)
         }
-        NamedKind::GetUnsigned => {
+        FurtherKind::GetUnsigned => {
             examine_message::<get_assertion::UnsignedExtensionOutputs>(alloc, bytes)
         }
-        NamedKind::Statement(format) => examine_statement(alloc, format, bytes),
+        FurtherKind::PackedStatement => examine_statement(alloc, AttestationFormat::Packed, bytes),
+        FurtherKind::TpmStatement => examine_statement(alloc, AttestationFormat::Tpm, bytes),
+        FurtherKind::AndroidKeyStatement => {
+            examine_statement(alloc, AttestationFormat::AndroidKey, bytes)
+        }
+        FurtherKind::SafetyNetStatement => {
+            examine_statement(alloc, AttestationFormat::AndroidSafetyNet, bytes)
+        }
+        FurtherKind::FidoU2fStatement => {
+            examine_statement(alloc, AttestationFormat::FidoU2f, bytes)
+        }
+        FurtherKind::NoneStatement => examine_statement(alloc, AttestationFormat::None, bytes),
+        FurtherKind::AppleStatement => examine_statement(alloc, AttestationFormat::Apple, bytes),
+        FurtherKind::CompoundStatement => {
+            examine_statement(alloc, AttestationFormat::Compound, bytes)
+        }
+        FurtherKind::CertInfo => examine_cert_info(alloc, bytes),
+        FurtherKind::PubArea => examine_pub_area(alloc, bytes),
     }
 }
 
@@ -170,7 +177,8 @@ pub fn examine(alloc: Global, kind: InspectKind, bytes: &[u8]) -> Result<Examine
     match kind {
         InspectKind::Bytes(kind) => examine_known(alloc, kind, bytes),
         InspectKind::Further(kind) => examine_further(alloc, kind, bytes),
-        InspectKind::Named(kind) => examine_named(alloc, kind, bytes),
-        InspectKind::Json(_) => Ok(Examined::Refused(String::from_str(alloc, "BadJson")?, None)),
+        InspectKind::Json(_) | InspectKind::FurtherJson(_) => {
+            Ok(Examined::Refused(String::from_str(alloc, "BadJson")?, None))
+        }
     }
 }

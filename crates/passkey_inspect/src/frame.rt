@@ -1,9 +1,10 @@
 //! The first byte of a request or of a response.
 ghost use Rattle.passkey_inspect.specs.Prints.{IsMessageIn};
 
-use crate::kind::{FurtherKind, InspectKind};
+use crate::kind::InspectKind;
 use passkey_framing::{Command, request_of};
 use passkey_memory::OutOfMemory;
+use passkey_rewrite_further::FurtherKind;
 use passkey_run::BytesKind;
 use std::alloc::Global;
 

@@ -6,7 +6,7 @@ use crate::encode::encode;
 use crate::examine::{Examined, examine};
 use crate::fault::InspectFault;
 use crate::frame::{Frame, frame_of, frame_text, request_kind};
-use crate::kind::{AUTH, BYTES_KINDS, CBOR, InspectKind, name_of};
+use crate::kind::{CBOR, FOUND_KINDS, InspectKind, is_data_item, name_of};
 use crate::options::{Options, Output};
 use crate::records::print_record;
 use passkey_cbor::{CborError, Value};
@@ -77,10 +77,10 @@ fn matches_of(alloc: Global, bytes: &[u8]) -> Result<Matches, OutOfMemory> {
         names: Vec::new(alloc),
         best: None,
     };
-    for (name, kind) in BYTES_KINDS {
+    for kind in FOUND_KINDS {
         if let Examined::Accepted(description, len) = examine(alloc, kind, bytes)? {
             if len >= bytes.len() && fits(&description) {
-                add_match(&mut matches, name, kind, description)?;
+                add_match(&mut matches, name_of(kind), kind, description)?;
             }
         }
     }
@@ -178,8 +178,8 @@ fn report_text(
     Ok(text)
 }
 
-/// Returns what is printed of a message that the kind accepts. Of authenticator data, which aren't a
-/// data item, there is no dump but a report.
+/// Returns what is printed of a message that the kind accepts. Of bytes that aren't a data item there
+/// is no dump but a report.
 fn text_of(
     alloc: Global,
     output: Output,
@@ -191,11 +191,10 @@ fn text_of(
     ensures { IfOk result (λ text. Prints output kind body.now.bytes.now (string_bytes text)) }
 {
     match output {
-        Output::Dump if kind != AUTH => Ok(dump(alloc, body.bytes)?),
+        Output::Dump if is_data_item(kind) => Ok(dump(alloc, body.bytes)?),
         Output::Report | Output::Dump => Ok(report_text(alloc, body, kind, description, len)?),
         Output::Page => {
-            // Authenticator data aren't a data item.
-            let shown = if kind == AUTH { &[] } else { body.bytes };
+            let shown = if is_data_item(kind) { body.bytes } else { &[] };
             Ok(page_of(alloc, name_of(kind), description, shown)?)
         }
         Output::Json => with_line_feed(json_text(alloc, description)?),
@@ -319,7 +318,7 @@ pub fn inspect(alloc: Global, options: &Options<'_>, input: &[u8]) -> Result<Str
 {
     let form = match (options.form, options.kind) {
         (Some(form), _) => form,
-        (None, Some(InspectKind::Json(_))) => Form::Json,
+        (None, Some(InspectKind::Json(_) | InspectKind::FurtherJson(_))) => Form::Json,
         (None, _) => form_of(alloc, input)?,
     };
     if form == Form::Json {

@@ -1,60 +1,8 @@
 //! The kinds of input.
 
-use passkey_attestation::AttestationFormat;
+use passkey_rewrite_further::{FurtherJsonKind, FurtherKind};
 use passkey_run::{BytesKind, JsonKind};
-
-/// A message that `passkey_show` doesn't have.
-#[derive(Clone, Copy, Debug, PartialEq, Eq)]
-pub enum FurtherKind {
-    /// An authenticatorClientPIN request.
-    PinRequest,
-    /// An authenticatorClientPIN response.
-    PinResponse,
-    /// An authenticatorBioEnrollment request.
-    BioRequest,
-    /// An authenticatorBioEnrollment response.
-    BioResponse,
-    /// An authenticatorCredentialManagement request.
-    CredentialRequest,
-    /// An authenticatorCredentialManagement response.
-    CredentialResponse,
-    /// An authenticatorLargeBlobs request.
-    BlobsRequest,
-    /// An authenticatorLargeBlobs response.
-    BlobsResponse,
-    /// An entry of the large-blob array.
-    BlobsEntry,
-    /// An authenticatorConfig request.
-    ConfigRequest,
-    /// Parameters of setMinPINLength.
-    ConfigMinPinLength,
-    /// Parameters of vendorPrototype.
-    ConfigVendor,
-    /// A COSE key.
-    Key,
-}
-
-/// What bytes are decoded as only if the kind is named, since it accepts much that is something else,
-/// or nearly what another kind accepts.
-#[derive(Clone, Copy, Debug, PartialEq, Eq)]
-pub enum NamedKind {
-    /// An authenticatorGetInfo response with the members and names of CTAP 2.3.
-    Info23,
-    /// Extension inputs of an authenticatorMakeCredential request.
-    MakeInputs,
-    /// Extension outputs of authenticatorMakeCredential in authenticator data.
-    MakeOutputs,
-    /// Unsigned extension outputs of an authenticatorMakeCredential response.
-    MakeUnsigned,
-    /// Extension inputs of an authenticatorGetAssertion request.
-    GetInputs,
-    /// Extension outputs of authenticatorGetAssertion in authenticator data.
-    GetOutputs,
-    /// Unsigned extension outputs of an authenticatorGetAssertion response.
-    GetUnsigned,
-    /// An attestation statement of this format.
-    Statement(AttestationFormat),
-}
+use passkey_webauthn::EnumNames;
 
 /// What an input is.
 #[derive(Clone, Copy, Debug, PartialEq, Eq)]
@@ -63,68 +11,51 @@ pub enum InspectKind {
     Bytes(BytesKind),
     /// Bytes that it doesn't know.
     Further(FurtherKind),
-    /// Bytes whose kind is always named.
-    Named(NamedKind),
-    /// A JSON text.
+    /// A JSON text that `passkey_show` knows.
     Json(JsonKind),
+    /// A JSON text that it doesn't know, and whose kind is always named.
+    FurtherJson(FurtherJsonKind),
 }
-
-/// Authenticator data.
-pub const AUTH: InspectKind = InspectKind::Bytes(BytesKind::Auth);
 
 /// Any data item.
 pub const CBOR: InspectKind = InspectKind::Bytes(BytesKind::Cbor);
 
-/// The kinds of bytes with their names, those that accept least first.
-pub const BYTES_KINDS: [(&str, InspectKind); 21] = [
-    ("info", InspectKind::Bytes(BytesKind::Info)),
-    ("mc-response", InspectKind::Bytes(BytesKind::MakeResponse)),
-    ("mc-request", InspectKind::Bytes(BytesKind::MakeRequest)),
-    ("ga-response", InspectKind::Bytes(BytesKind::GetResponse)),
-    ("ga-request", InspectKind::Bytes(BytesKind::GetRequest)),
-    ("cose-key", InspectKind::Further(FurtherKind::Key)),
-    ("hmac-input", InspectKind::Bytes(BytesKind::HmacInput)),
-    ("lb-entry", InspectKind::Further(FurtherKind::BlobsEntry)),
-    (
-        "cm-request",
-        InspectKind::Further(FurtherKind::CredentialRequest),
-    ),
-    ("pin-request", InspectKind::Further(FurtherKind::PinRequest)),
-    (
-        "cfg-request",
-        InspectKind::Further(FurtherKind::ConfigRequest),
-    ),
-    (
-        "cfg-vendor",
-        InspectKind::Further(FurtherKind::ConfigVendor),
-    ),
-    (
-        "lb-request",
-        InspectKind::Further(FurtherKind::BlobsRequest),
-    ),
-    ("bio-request", InspectKind::Further(FurtherKind::BioRequest)),
-    (
-        "cm-response",
-        InspectKind::Further(FurtherKind::CredentialResponse),
-    ),
-    (
-        "bio-response",
-        InspectKind::Further(FurtherKind::BioResponse),
-    ),
-    (
-        "pin-response",
-        InspectKind::Further(FurtherKind::PinResponse),
-    ),
-    (
-        "lb-response",
-        InspectKind::Further(FurtherKind::BlobsResponse),
-    ),
-    (
-        "cfg-min-pin-length",
-        InspectKind::Further(FurtherKind::ConfigMinPinLength),
-    ),
+/// The kinds of bytes that are found where none is named, those that accept least first. The others
+/// accept much that is something else, or nearly what one of these accepts.
+pub const FOUND_KINDS: [InspectKind; 21] = [
+    InspectKind::Bytes(BytesKind::Info),
+    InspectKind::Bytes(BytesKind::MakeResponse),
+    InspectKind::Bytes(BytesKind::MakeRequest),
+    InspectKind::Bytes(BytesKind::GetResponse),
+    InspectKind::Bytes(BytesKind::GetRequest),
+    InspectKind::Further(FurtherKind::Key),
+    InspectKind::Bytes(BytesKind::HmacInput),
+    InspectKind::Further(FurtherKind::BlobsEntry),
+    InspectKind::Further(FurtherKind::CredentialRequest),
+    InspectKind::Further(FurtherKind::PinRequest),
+    InspectKind::Further(FurtherKind::ConfigRequest),
+    InspectKind::Further(FurtherKind::ConfigVendor),
+    InspectKind::Further(FurtherKind::BlobsRequest),
+    InspectKind::Further(FurtherKind::BioRequest),
+    InspectKind::Further(FurtherKind::CredentialResponse),
+    InspectKind::Further(FurtherKind::BioResponse),
+    InspectKind::Further(FurtherKind::PinResponse),
+    InspectKind::Further(FurtherKind::BlobsResponse),
+    InspectKind::Further(FurtherKind::ConfigMinPinLength),
+    InspectKind::Bytes(BytesKind::Auth),
+    CBOR,
+];
+
+/// The kinds of bytes that `passkey_show` knows, with their names.
+const BYTES_KINDS: [(&str, InspectKind); 8] = [
+    ("cbor", CBOR),
     ("auth", InspectKind::Bytes(BytesKind::Auth)),
-    ("cbor", InspectKind::Bytes(BytesKind::Cbor)),
+    ("mc-request", InspectKind::Bytes(BytesKind::MakeRequest)),
+    ("mc-response", InspectKind::Bytes(BytesKind::MakeResponse)),
+    ("ga-request", InspectKind::Bytes(BytesKind::GetRequest)),
+    ("ga-response", InspectKind::Bytes(BytesKind::GetResponse)),
+    ("info", InspectKind::Bytes(BytesKind::Info)),
+    ("hmac-input", InspectKind::Bytes(BytesKind::HmacInput)),
 ];
 
 /// The kinds of JSON with their names, those that accept least first.
@@ -134,49 +65,6 @@ pub const JSON_KINDS: [(&str, InspectKind); 5] = [
     ("authenticated", InspectKind::Json(JsonKind::Authenticated)),
     ("creation", InspectKind::Json(JsonKind::Creation)),
     ("request", InspectKind::Json(JsonKind::Request)),
-];
-
-/// The kinds of bytes that are always named, with their names.
-pub const NAMED_KINDS: [(&str, InspectKind); 15] = [
-    ("info-23", InspectKind::Named(NamedKind::Info23)),
-    ("mc-inputs", InspectKind::Named(NamedKind::MakeInputs)),
-    ("mc-outputs", InspectKind::Named(NamedKind::MakeOutputs)),
-    ("mc-unsigned", InspectKind::Named(NamedKind::MakeUnsigned)),
-    ("ga-inputs", InspectKind::Named(NamedKind::GetInputs)),
-    ("ga-outputs", InspectKind::Named(NamedKind::GetOutputs)),
-    ("ga-unsigned", InspectKind::Named(NamedKind::GetUnsigned)),
-    (
-        "att-packed",
-        InspectKind::Named(NamedKind::Statement(AttestationFormat::Packed)),
-    ),
-    (
-        "att-tpm",
-        InspectKind::Named(NamedKind::Statement(AttestationFormat::Tpm)),
-    ),
-    (
-        "att-android-key",
-        InspectKind::Named(NamedKind::Statement(AttestationFormat::AndroidKey)),
-    ),
-    (
-        "att-android-safetynet",
-        InspectKind::Named(NamedKind::Statement(AttestationFormat::AndroidSafetyNet)),
-    ),
-    (
-        "att-fido-u2f",
-        InspectKind::Named(NamedKind::Statement(AttestationFormat::FidoU2f)),
-    ),
-    (
-        "att-none",
-        InspectKind::Named(NamedKind::Statement(AttestationFormat::None)),
-    ),
-    (
-        "att-apple",
-        InspectKind::Named(NamedKind::Statement(AttestationFormat::Apple)),
-    ),
-    (
-        "att-compound",
-        InspectKind::Named(NamedKind::Statement(AttestationFormat::Compound)),
-    ),
 ];
 
 fn kind_in(kinds: &[(&'static str, InspectKind)], name: &str) -> Option<InspectKind> {
@@ -197,17 +85,34 @@ fn name_in(kinds: &[(&'static str, InspectKind)], kind: InspectKind) -> Option<&
     None
 }
 
+/// Returns whether bytes of the kind are a data item. Authenticator data and the structures of a TPM
+/// aren't.
+pub fn is_data_item(kind: InspectKind) -> bool {
+    !matches!(
+        kind,
+        InspectKind::Bytes(BytesKind::Auth)
+            | InspectKind::Further(FurtherKind::CertInfo | FurtherKind::PubArea)
+    )
+}
+
 /// Returns the kind with this name.
 pub fn kind_named(name: &str) -> Option<InspectKind> {
-    kind_in(&BYTES_KINDS, name)
-        .or(kind_in(&JSON_KINDS, name))
-        .or(kind_in(&NAMED_KINDS, name))
+    if let Some(kind) = FurtherKind::from_name(name) {
+        return Some(InspectKind::Further(kind));
+    }
+    if let Some(kind) = FurtherJsonKind::from_name(name) {
+        return Some(InspectKind::FurtherJson(kind));
+    }
+    kind_in(&BYTES_KINDS, name).or(kind_in(&JSON_KINDS, name))
 }
 
 /// Returns the kind's name.
 pub fn name_of(kind: InspectKind) -> &'static str {
-    name_in(&BYTES_KINDS, kind)
-        .or(name_in(&JSON_KINDS, kind))
-        .or(name_in(&NAMED_KINDS, kind))
-        .unwrap_or("")
+    match kind {
+        InspectKind::Further(kind) => kind.name(),
+        InspectKind::FurtherJson(kind) => kind.name(),
+        kind => name_in(&BYTES_KINDS, kind)
+            .or(name_in(&JSON_KINDS, kind))
+            .unwrap_or(""),
+    }
 }

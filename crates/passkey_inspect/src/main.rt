@@ -12,6 +12,7 @@ mod kind;
 mod options;
 mod records;
 mod refusal;
+mod structure;
 
 use fault::InspectFault;
 use options::{HELP, Options, VERSION, options_of};

@@ -24,8 +24,11 @@ cfg-min-pin-length, cfg-request, cfg-vendor, cm-request, cm-response, cose-key, 
 ga-response, hmac-input, info, lb-entry, lb-request, lb-response, mc-request, mc-response,
 pin-request, pin-response; and of JSON: authenticated, client-data, created, creation, request.
 Others are never found, but have to be named: info-23 (CTAP 2.3); extensions, mc-inputs, mc-outputs,
-mc-unsigned, ga-inputs, ga-outputs, ga-unsigned; and attestation statements, att-packed, att-tpm,
-att-android-key, att-android-safetynet, att-fido-u2f, att-none, att-apple, att-compound.
+mc-unsigned, ga-inputs, ga-outputs, ga-unsigned; attestation statements, att-packed, att-tpm,
+att-android-key, att-android-safetynet, att-fido-u2f, att-none, att-apple, att-compound; the
+structures of a TPM, tpm-cert-info, tpm-pub-area; and of JSON: signal-unknown, signal-accepted,
+signal-details, client-inputs, client-outputs, mediated-creation, mediated-request, client-data-top,
+client-data-payment, capabilities.
 ";
 
 /// What `--version` prints.

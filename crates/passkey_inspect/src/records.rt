@@ -1,6 +1,6 @@
 //! JSON texts, and what is in their byte strings.
 ghost use Rattle.std.specs.Prelude.{IfOk, string_bytes};
-ghost use Rattle.passkey_inspect.specs.Prints.{PrintsRecord};
+ghost use Rattle.passkey_inspect.specs.Prints.{PrintsRecord, RewritesText};
 
 use crate::examine::{Examined, examine};
 use crate::fault::InspectFault;
@@ -14,19 +14,11 @@ use passkey_explain_json::{BlamesRows, explain_json};
 use passkey_memory::OutOfMemory;
 use passkey_options::{CredentialCreationOptions, CredentialRequestOptions};
 use passkey_report::report_of;
-use passkey_rewrite_json::rewrite_json;
+use passkey_rewrite_further::rewrite_further_json;
+use passkey_rewrite_json::{parse_json, rewrite_json};
 use passkey_run::{BytesKind, JsonKind, RunFault};
 use serde_json::Value;
-use serde_json::error::Category;
 use std::alloc::Global;
-
-fn parse(alloc: Global, input: &[u8]) -> Result<Value, RunFault> {
-    match Value::from_slice(alloc, input) {
-        Ok(value) => Ok(value),
-        Err(error) if error.classify() == Category::Memory => Err(RunFault::OutOfMemory),
-        Err(_) => Err(RunFault::BadJson),
-    }
-}
 
 /// Appends a JSON value, one member a line.
 fn push_value(
@@ -79,7 +71,7 @@ fn push_client_data(out: &mut String, alloc: Global, value: &Value) -> Result<()
     let Some(bytes) = bytes_at(alloc, value, "/response/clientDataJSON")? else {
         return Ok(());
     };
-    match parse(alloc, bytes.as_slice()) {
+    match parse_json(alloc, bytes.as_slice()) {
         Ok(client_data) => push_value(out, alloc, "clientDataJSON", &client_data),
         Err(RunFault::OutOfMemory) => Err(OutOfMemory),
         Err(_) => Ok(()),
@@ -93,7 +85,7 @@ fn report(
     names: &[&'static str],
     input: &[u8],
 ) -> Result<String, InspectFault> {
-    let value = parse(alloc, input)?;
+    let value = parse_json(alloc, input)?;
     let len = input.len();
     let mut text = format!(in alloc; "input: JSON, {len} bytes\n")?;
     if !names.is_empty() {
@@ -126,9 +118,11 @@ fn blame_text<R: BlamesRows>(alloc: Global, value: &Value) -> Result<String, Out
     }
 }
 
-/// Returns a line feed, and what in the value the kind refuses; or no text for client data, of which
-/// no table tells it.
-fn kind_blame(alloc: Global, kind: JsonKind, value: &Value) -> Result<String, OutOfMemory> {
+/// Returns a line feed, and what in the value the kind refuses; or no text where no table tells it.
+fn kind_blame(alloc: Global, kind: InspectKind, value: &Value) -> Result<String, OutOfMemory> {
+    let InspectKind::Json(kind) = kind else {
+        return Ok(String::new(alloc));
+    };
     match kind {
         JsonKind::Creation => blame_text::<CredentialCreationOptions>(alloc, value),
         JsonKind::Request => blame_text::<CredentialRequestOptions>(alloc, value),
@@ -141,19 +135,29 @@ fn kind_blame(alloc: Global, kind: JsonKind, value: &Value) -> Result<String, Ou
 /// Returns the fault with which the kind refuses the input, and what in it is refused.
 fn refused(
     alloc: Global,
-    kind: JsonKind,
+    kind: InspectKind,
     fault: RunFault,
     input: &[u8],
 ) -> Result<InspectFault, InspectFault> {
     match fault {
         RunFault::JsonRefused(fault) => {
-            let blame = kind_blame(alloc, kind, &parse(alloc, input)?)?;
+            let blame = kind_blame(alloc, kind, &parse_json(alloc, input)?)?;
             let text = format!(in alloc; "{fault}{blame}")?;
             let text = escape_controls(alloc, text.as_str())?;
-            let name = name_of(InspectKind::Json(kind));
-            Ok(InspectFault::refused(alloc, name, text.as_str())?)
+            Ok(InspectFault::refused(alloc, name_of(kind), text.as_str())?)
         }
         fault => Ok(InspectFault::Run(fault)),
+    }
+}
+
+/// Decodes the input as the kind and encodes it. Returns `BadHex` if the kind isn't one of JSON.
+fn rewrite(alloc: Global, kind: InspectKind, input: &[u8]) -> Result<String, RunFault>
+    ensures { IfOk result (λ text. RewritesText kind input.now (string_bytes text)) }
+{
+    match kind {
+        InspectKind::Json(kind) => rewrite_json(alloc, kind, input),
+        InspectKind::FurtherJson(kind) => rewrite_further_json(alloc, kind, input),
+        InspectKind::Bytes(_) | InspectKind::Further(_) => Err(RunFault::BadHex),
     }
 }
 
@@ -166,12 +170,9 @@ fn print_as(
 ) -> Result<String, InspectFault>
     ensures { IfOk result (λ text. PrintsRecord output input.now (string_bytes text)) }
 {
-    let InspectKind::Json(json_kind) = kind else {
-        return Err(InspectFault::Run(RunFault::BadHex));
-    };
-    let text = match rewrite_json(alloc, json_kind, input) {
+    let text = match rewrite(alloc, kind, input) {
         Ok(text) => text,
-        Err(fault) => return Err(refused(alloc, json_kind, fault, input)?),
+        Err(fault) => return Err(refused(alloc, kind, fault, input)?),
     };
     match output {
         Output::Report => report(alloc, kind, names, input),
@@ -180,10 +181,7 @@ fn print_as(
 }
 
 fn accepts(alloc: Global, kind: InspectKind, input: &[u8]) -> Result<bool, RunFault> {
-    let InspectKind::Json(kind) = kind else {
-        return Ok(false);
-    };
-    match rewrite_json(alloc, kind, input) {
+    match rewrite(alloc, kind, input) {
         Ok(_) => Ok(true),
         Err(RunFault::OutOfMemory) => Err(RunFault::OutOfMemory),
         Err(_) => Ok(false),
@@ -220,7 +218,7 @@ pub fn print_record(
     if let Some(kind) = options.kind {
         return print_as(alloc, options.output, kind, &[], input);
     }
-    let value = parse(alloc, input)?;
+    let value = parse_json(alloc, input)?;
     let mut names = Vec::new(alloc);
     let mut best = None;
     for (name, kind) in JSON_KINDS {
