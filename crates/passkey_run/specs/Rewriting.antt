@@ -35,6 +35,10 @@ pub record RewritesMessage {P : Type 0} (read : Item → Result P Fault) (tree :
   pub begins : Begins bytes (λ i len. read i ≡ Ok parts)
   pub rewritten : encoding ≡ written (tree parts)
 
+-- A data item of this length begins the bytes.
+abbrev pub IsFrontLength : List ℕ → ℕ → Type 0
+IsFrontLength bytes len = (x : Item) × IsLeadingItem bytes x len
+
 -- the bytes have no leading data item
 abbrev pub RefusesLeadingItem : List ℕ → CoseError → Type 0
 RefusesLeadingItem bytes error.DecodeFailed = HasNoLeadingItem bytes

@@ -16,6 +16,8 @@ pub use check::check_hex;
 pub use fault::RunFault;
 pub use hexadecimal::decode_hex;
 pub use kind::{BytesKind, JsonKind, Kind};
-pub use rewriting::{rewrite_data, rewrite_item, rewrite_message};
+pub use rewriting::{
+    rewrite_data, rewrite_front_item, rewrite_front_message, rewrite_item, rewrite_message,
+};
 pub use streams::{read_all, read_within, write_all};
 pub use words::{kind_of, read_words};

@@ -1,7 +1,7 @@
 //! Bytes that are decoded as one type and encoded again.
 ghost use Rattle.std.specs.Prelude.{IfOk, IfErr};
 ghost use Rattle.passkey_kinds.specs.Record.{read_item};
-ghost use Rattle.passkey_run.specs.Rewriting.{IsCborRefusal, IsDataRefusal, IsMessageRefusal, RewritesData, RewritesLeadingItem, RewritesMessage};
+ghost use Rattle.passkey_run.specs.Rewriting.{IsCborRefusal, IsDataRefusal, IsFrontLength, IsMessageRefusal, RewritesData, RewritesLeadingItem, RewritesMessage};
 
 use crate::fault::RunFault;
 use passkey_cbor::Value;
@@ -9,29 +9,55 @@ use passkey_core::AuthenticatorData;
 use passkey_kinds::{Message, WriteFault};
 use std::alloc::Global;
 
-/// Decodes the message at the beginning of the bytes and encodes it. Returns `MessageRefused` if
-/// the message type rejects the bytes, and `OutOfMemory` if an allocation fails.
-pub fn rewrite_message<M: Message>(alloc: Global, bytes: &[u8]) -> Result<Vec<u8>, RunFault>
-    ensures ok { IfOk result (λ encoding. RewritesMessage (read_item M.fields) M.tree bytes.now encoding.items) }
+/// Decodes the message at the beginning of the bytes and encodes it. Returns the encoding, and how
+/// many of the bytes the message takes. Returns `MessageRefused` if the message type rejects the
+/// bytes, and `OutOfMemory` if an allocation fails.
+pub fn rewrite_front_message<M: Message>(
+    alloc: Global,
+    bytes: &[u8],
+) -> Result<(Vec<u8>, usize), RunFault>
+    ensures ok { IfOk result (λ made. RewritesMessage (read_item M.fields) M.tree bytes.now made.0.items
+        × IsFrontLength bytes.now made.1) }
     ensures err { IfErr result (IsMessageRefusal (read_item M.fields) bytes.now) }
 {
-    let (message, _len) = M::from_slice(alloc, bytes)?;
+    let (message, len) = M::from_slice(alloc, bytes)?;
     M::decoded_is_coherent();
     match message.to_vec(alloc) {
-        Ok(encoding) => Ok(encoding),
+        Ok(encoding) => Ok((encoding, len)),
         Err(WriteFault::OutOfMemory) => Err(RunFault::OutOfMemory),
         Err(WriteFault::NumberTooLarge) => unreachable!(),
     }
 }
 
-/// Decodes the leading data item of the bytes and encodes it. Returns `Refused` if there is none,
-/// and `OutOfMemory` if an allocation fails.
+/// Decodes the message at the beginning of the bytes and encodes it. The errors are those of
+/// `rewrite_front_message`.
+pub fn rewrite_message<M: Message>(alloc: Global, bytes: &[u8]) -> Result<Vec<u8>, RunFault>
+    ensures ok { IfOk result (λ encoding. RewritesMessage (read_item M.fields) M.tree bytes.now encoding.items) }
+    ensures err { IfErr result (IsMessageRefusal (read_item M.fields) bytes.now) }
+{
+    let (encoding, _) = rewrite_front_message::<M>(alloc, bytes)?;
+    Ok(encoding)
+}
+
+/// Decodes the leading data item of the bytes and encodes it. Returns the encoding, and how many of
+/// the bytes the item takes. Returns `Refused` if there is none, and `OutOfMemory` if an allocation
+/// fails.
+pub fn rewrite_front_item(alloc: Global, bytes: &[u8]) -> Result<(Vec<u8>, usize), RunFault>
+    ensures ok { IfOk result (λ made. RewritesLeadingItem bytes.now made.0.items × IsFrontLength bytes.now made.1) }
+    ensures err { IfErr result (IsCborRefusal bytes.now) }
+{
+    let (front, len) = Value::from_slice(alloc, bytes)?;
+    Ok((front.to_vec(alloc)?, len))
+}
+
+/// Decodes the leading data item of the bytes and encodes it. The errors are those of
+/// `rewrite_front_item`.
 pub fn rewrite_item(alloc: Global, bytes: &[u8]) -> Result<Vec<u8>, RunFault>
     ensures ok { IfOk result (λ encoding. RewritesLeadingItem bytes.now encoding.items) }
     ensures err { IfErr result (IsCborRefusal bytes.now) }
 {
-    let (front, _) = Value::from_slice(alloc, bytes)?;
-    Ok(front.to_vec(alloc)?)
+    let (encoding, _) = rewrite_front_item(alloc, bytes)?;
+    Ok(encoding)
 }
 
 /// Decodes the bytes as authenticator data and encodes them. Returns `Refused` if they aren't

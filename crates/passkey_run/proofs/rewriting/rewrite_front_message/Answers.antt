@@ -1,6 +1,6 @@
 use Rattle.std.proofs.Common.{◌≡◌, ◌∙◌, sym}
 use Rattle.passkey_kinds.specs.declared.fault.WriteFault.TheVariants.{OutOfMemory, NumberTooLarge}
-use Rattle.passkey_run.proofs.rewriting.rewrite_message.Goals as goal
+use Rattle.passkey_run.proofs.rewriting.rewrite_front_message.Goals as goal
 
 -- a decoded message is coherent, so encoding it can only run out of memory
 pub unreachable-requires : goal.unreachable-requires
