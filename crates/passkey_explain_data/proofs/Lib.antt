@@ -1,3 +1,4 @@
 pub mod KeyVerdict
 pub mod DataVerdict
 pub mod DataPassing
+pub mod DataLength

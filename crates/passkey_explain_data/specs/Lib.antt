@@ -2,3 +2,4 @@ pub mod Names
 pub mod KeyBlame
 pub mod Checked
 pub mod DataBlame
+pub mod DataLength

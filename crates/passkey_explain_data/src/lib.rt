@@ -6,10 +6,12 @@ mod checking;
 mod data;
 mod display;
 mod key;
+mod measuring;
 mod names;
 mod part;
 mod passing;
 
 pub use data::explain_data;
 pub use key::{KeyBlame, KeyRefusal, explain_key, locate_key};
+pub use measuring::data_len;
 pub use part::{DataPart, DataReason, DataRefusal};

@@ -30,7 +30,7 @@ pub(crate) enum Stop {
 }
 
 /// Returns the offset of the rest of the bytes.
-fn offset_in(whole: &[u8], rest: &[u8]) -> usize
+pub(crate) fn offset_in(whole: &[u8], rest: &[u8]) -> usize
     ensures { result ≡ offset_in whole.now rest.now }
 {
     whole.len().saturating_sub(rest.len())
@@ -112,7 +112,7 @@ pub(crate) fn pass_fixed(bytes: &[u8]) -> Result<(Flags, &[u8]), DataRefusal>
 
 /// Passes the AAGUID and the credential id.
 #[tactic(auto, unfolding(crate::specs::DataBlame::ids_in))]
-fn pass_ids<'a>(whole: &[u8], rest: &'a [u8]) -> Result<&'a [u8], DataRefusal>
+pub(crate) fn pass_ids<'a>(whole: &[u8], rest: &'a [u8]) -> Result<&'a [u8], DataRefusal>
     ensures { result_map_both (λ r. r.now) (λ e. e) result ≡ ids_in whole.now rest.now }
 {
     let (_, rest) = chunk_at::<16>(whole, DataPart::Aaguid, rest)?;
