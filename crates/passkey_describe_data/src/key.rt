@@ -1,0 +1,201 @@
+//! COSE keys.
+ghost use Rattle.std.specs.Prelude.{◌≡◌, IfOk, map, option_map};
+ghost use Rattle.passkey_cbor.specs.Item.{text_string};
+ghost use Rattle.passkey_cbor.specs.View.{item_of, pair_of};
+ghost use Rattle.passkey_cose.specs.KeyLabels.{is_label};
+ghost use Rattle.passkey_explain.specs.Described as spec;
+ghost use Rattle.passkey_explain.specs.Described.{described_of};
+ghost use Rattle.passkey_kinds.specs.declared.wanted.Wanted.TheVariants as wanted;
+ghost use Rattle.passkey_describe_data.specs.Described.{field_of, curve_name, described_key, described_member, described_parameter, is_negative, is_rsa, key_type_name, named_or, parameter_name};
+
+use crate::item::describe_item;
+use passkey_cbor::Value;
+use passkey_explain::{Description, FieldName};
+use passkey_kinds::Wanted;
+use passkey_memory::OutOfMemory;
+use std::alloc::Global;
+
+/// Whether the label is this number.
+fn is_label(label: &Value, n: u8) -> bool
+    ensures { result ≡ is_label n (item_of label.now) }
+{
+    match label {
+        Value::Integer(m) => m.get() == i128::from(n),
+        _ => false,
+    }
+}
+
+/// Whether the label is -1 - n.
+fn is_negative(label: &Value, n: u8) -> bool
+    ensures { result ≡ is_negative n (item_of label.now) }
+{
+    match label {
+        Value::Integer(m) => m.get() == -1 - i128::from(n),
+        _ => false,
+    }
+}
+
+/// Returns the name of a key's parameter (RFC 9052, section 7; RFC 9053, section 7; RFC 8230,
+/// section 4).
+fn parameter_name(is_rsa: bool, label: &Value) -> Option<&'static str>
+    ensures { option_map (λ s. s.now) result ≡ parameter_name is_rsa (item_of label.now) }
+{
+    if is_label(label, 1) {
+        Some("kty")
+    } else if is_label(label, 2) {
+        Some("kid")
+    } else if is_label(label, 3) {
+        Some("alg")
+    } else if is_label(label, 4) {
+        Some("key_ops")
+    } else if is_label(label, 5) {
+        Some("Base IV")
+    } else if is_negative(label, 0) {
+        Some(if is_rsa { "n" } else { "crv" })
+    } else if is_negative(label, 1) {
+        Some(if is_rsa { "e" } else { "x" })
+    } else if is_negative(label, 2) && !is_rsa {
+        Some("y")
+    } else {
+        None
+    }
+}
+
+/// Returns the name of a key type (RFC 9053, section 7; RFC 8230, section 4).
+fn key_type_name(value: &Value) -> Option<&'static str>
+    ensures { option_map (λ s. s.now) result ≡ key_type_name (item_of value.now) }
+{
+    if is_label(value, 1) {
+        Some("OKP")
+    } else if is_label(value, 2) {
+        Some("EC2")
+    } else if is_label(value, 3) {
+        Some("RSA")
+    } else {
+        None
+    }
+}
+
+/// Returns the name of an elliptic curve (RFC 9053, section 7.1; RFC 8812, section 3.1).
+fn curve_name(value: &Value) -> Option<&'static str>
+    ensures { option_map (λ s. s.now) result ≡ curve_name (item_of value.now) }
+{
+    if is_label(value, 1) {
+        Some("P-256")
+    } else if is_label(value, 2) {
+        Some("P-384")
+    } else if is_label(value, 3) {
+        Some("P-521")
+    } else if is_label(value, 4) {
+        Some("X25519")
+    } else if is_label(value, 5) {
+        Some("X448")
+    } else if is_label(value, 6) {
+        Some("Ed25519")
+    } else if is_label(value, 7) {
+        Some("Ed448")
+    } else if is_label(value, 8) {
+        Some("secp256k1")
+    } else {
+        None
+    }
+}
+
+pub(crate) fn text_leaf(alloc: Global, text: &str) -> Result<Description, OutOfMemory>
+    ensures { IfOk result (λ d. described_of d ≡ spec.leaf wanted.Name (text_string text.now)) }
+{
+    Ok(Description::Leaf(Wanted::Name, Value::Text(String::from_str(alloc, text)?)))
+}
+
+/// Returns the name, or the item where there is none.
+fn named_or(
+    alloc: Global,
+    name: Option<&'static str>,
+    value: &Value,
+) -> Result<Description, OutOfMemory>
+    ensures { IfOk result
+        (λ d. described_of d ≡ named_or (option_map (λ s. s.now) name.entry) (item_of value.now)) }
+{
+    match name {
+        Some(name) => text_leaf(alloc, name),
+        None => describe_item(alloc, value),
+    }
+}
+
+fn describe_parameter(
+    alloc: Global,
+    is_rsa: bool,
+    label: &Value,
+    value: &Value,
+) -> Result<Description, OutOfMemory>
+    ensures { IfOk result (λ d. described_of d
+        ≡ described_parameter is_rsa (item_of label.now) (item_of value.now)) }
+{
+    if is_label(label, 1) {
+        named_or(alloc, key_type_name(value), value)
+    } else if is_label(label, 3) {
+        Ok(Description::Leaf(Wanted::Algorithm, value.try_clone(alloc)?))
+    } else if is_negative(label, 0) && !is_rsa {
+        named_or(alloc, curve_name(value), value)
+    } else {
+        describe_item(alloc, value)
+    }
+}
+
+fn describe_member(
+    alloc: Global,
+    is_rsa: bool,
+    label: &Value,
+    value: &Value,
+) -> Result<(FieldName, Description), OutOfMemory>
+    ensures { IfOk result (λ p. field_of p ≡ described_member is_rsa (item_of label.now) (item_of value.now)) }
+{
+    let description = describe_parameter(alloc, is_rsa, label, value)?;
+    let name = match parameter_name(is_rsa, label) {
+        Some(name) => FieldName::Member(0, name),
+        None => FieldName::Unknown(label.try_clone(alloc)?),
+    };
+    Ok((name, description))
+}
+
+/// Whether one of the parameters is the key type RSA.
+fn is_rsa(pairs: &[(Value, Value)]) -> bool
+    ensures { result ≡ is_rsa (map pair_of pairs.now) }
+{
+    for (label, value) in pairs {
+        if is_label(label, 1) && is_label(value, 3) {
+            return true;
+        }
+    }
+    false
+}
+
+fn describe_members(
+    alloc: Global,
+    is_rsa: bool,
+    pairs: &[(Value, Value)],
+) -> Result<Vec<(FieldName, Description)>, OutOfMemory>
+    ensures { IfOk result (λ v. map field_of v.items
+        ≡ map (λ m. described_member is_rsa m.0 m.1) (map pair_of pairs.now)) }
+{
+    let mut all = Vec::new(alloc);
+    for (label, value) in pairs {
+        all.push(describe_member(alloc, is_rsa, label, value)?)?;
+    }
+    Ok(all)
+}
+
+/// Describes a COSE key (RFC 9052, section 7), which the data item is: its parameters by their names.
+/// Another item is described as `describe_item` does. Returns `OutOfMemory` if an allocation fails.
+pub fn describe_key(alloc: Global, value: &Value) -> Result<Description, OutOfMemory>
+    ensures { IfOk result (λ d. described_of d ≡ described_key (item_of value.now)) }
+{
+    match value {
+        Value::Map(pairs) => Ok(Description::Record(describe_members(
+            alloc,
+            is_rsa(pairs),
+            pairs,
+        )?)),
+        _ => describe_item(alloc, value),
+    }
+}
