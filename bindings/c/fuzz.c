@@ -20,10 +20,10 @@ static uint8_t *copy_of(const uint8_t *bytes, size_t len) {
 }
 
 /* Decodes and encodes, in an output of one byte less than is needed, and then of exactly that. Returns the encoding, or none. */
-static uint8_t *encoding_of(uint32_t kind, const uint8_t *bytes, size_t len, uint32_t *status, size_t *needed) {
+static uint8_t *encoding_of(uint32_t kind, const uint8_t *bytes, size_t len, uint32_t *status, size_t *read, size_t *needed) {
     uint8_t none = 0xa5, *out;
-    size_t again = 0;
-    *status = puffgrit_rewrite(kind, bytes, len, &none, 0, needed);
+    size_t again = 0, same = 0;
+    *status = puffgrit_rewrite(kind, bytes, len, read, &none, 0, needed);
     want(none == 0xa5);
     if (*status != PUFFGRIT_TOO_SHORT) {
         /* No encoding is empty, so nothing fits into no bytes. */
@@ -33,29 +33,30 @@ static uint8_t *encoding_of(uint32_t kind, const uint8_t *bytes, size_t len, uin
     out = malloc(*needed);
     if (!out) exit(0);
     memset(out, 0xa5, *needed);
-    want(puffgrit_rewrite(kind, bytes, len, out, *needed - 1, &again) == PUFFGRIT_TOO_SHORT && again == *needed && out[0] == 0xa5);
-    *status = puffgrit_rewrite(kind, bytes, len, out, *needed, &again);
-    want(*status == PUFFGRIT_OK && again == *needed);
+    want(puffgrit_rewrite(kind, bytes, len, &same, out, *needed - 1, &again) == PUFFGRIT_TOO_SHORT && again == *needed && out[0] == 0xa5);
+    *status = puffgrit_rewrite(kind, bytes, len, &same, out, *needed, &again);
+    want(*status == PUFFGRIT_OK && again == *needed && same == *read);
     return out;
 }
 
 static void rewrite(uint32_t kind, const uint8_t *bytes, size_t len) {
     uint32_t status, second;
-    size_t needed = 0, same = 0, item = puffgrit_item_len(bytes, len);
-    uint8_t *out = encoding_of(kind, bytes, len, &status, &needed), *again;
+    size_t read = 0, needed = 0, whole = 0, same = 0, item = puffgrit_item_len(bytes, len);
+    uint8_t *out = encoding_of(kind, bytes, len, &status, &read, &needed), *again;
+    puffgrit_auth_data parts;
     int is_item = kind == PUFFGRIT_KIND_CBOR || (kind >= PUFFGRIT_KIND_MC_REQUEST && kind <= PUFFGRIT_KIND_HMAC_INPUT);
     if (is_item) want((status == PUFFGRIT_FAULT_DECODE_FAILED) == (item == 0));
     if (!out) return;
-    if (is_item) {
-        /* What follows the item plays no part. */
-        want(puffgrit_item_len(out, needed) == needed);
-        again = encoding_of(kind, bytes, item, &second, &same);
-        want(again && same == needed && memcmp(again, out, needed) == 0);
-        free(again);
-    }
-    /* What is encoded is decoded as the same value. */
-    again = encoding_of(kind, out, needed, &second, &same);
-    want(again && same == needed && memcmp(again, out, needed) == 0);
+    if (is_item) want(puffgrit_item_len(out, needed) == needed && read == item);
+    if (kind == PUFFGRIT_KIND_AUTH) want(puffgrit_auth_parts(bytes, len, &parts) && read == parts.end);
+    if (kind >= PUFFGRIT_KIND_CREATION) want(read == len);
+    /* What follows plays no part. */
+    again = encoding_of(kind, bytes, read, &second, &whole, &same);
+    want(again && whole == read && same == needed && memcmp(again, out, needed) == 0);
+    free(again);
+    /* What is encoded is decoded as the same value, and all of it. */
+    again = encoding_of(kind, out, needed, &second, &whole, &same);
+    want(again && whole == needed && same == needed && memcmp(again, out, needed) == 0);
     free(again);
     free(out);
 }
@@ -63,15 +64,16 @@ static void rewrite(uint32_t kind, const uint8_t *bytes, size_t len) {
 /* A message as JSON, and why it is refused: with the fault with which it isn't rewritten. */
 static void examine(uint32_t kind, const uint8_t *bytes, size_t len) {
     uint8_t none = 0xa5;
-    size_t needed = 0, told = 0;
+    size_t read = 0, shown = 0, accepted = 0, needed = 0, told = 0;
     puffgrit_refusal refusal = {0, 0};
-    uint32_t wanted = puffgrit_rewrite(kind, bytes, len, &none, 0, &needed);
-    uint32_t json = puffgrit_json(kind, bytes, len, &none, 0, &needed);
-    uint32_t status = puffgrit_explain(kind, bytes, len, &refusal, &none, 0, &told);
-    int is_message = kind >= PUFFGRIT_KIND_MC_REQUEST && kind <= PUFFGRIT_KIND_HMAC_INPUT;
+    uint32_t wanted = puffgrit_rewrite(kind, bytes, len, &read, &none, 0, &needed);
+    uint32_t json = puffgrit_json(kind, bytes, len, &shown, &none, 0, &needed);
+    uint32_t status = puffgrit_explain(kind, bytes, len, &accepted, &refusal, &none, 0, &told);
+    int is_json = kind >= PUFFGRIT_KIND_CREATION && kind <= PUFFGRIT_KIND_CLIENT_DATA;
     want(none == 0xa5);
-    want(json == (is_message ? wanted : PUFFGRIT_UNKNOWN_KIND));
-    want(status == (!is_message ? PUFFGRIT_UNKNOWN_KIND : wanted == PUFFGRIT_TOO_SHORT ? PUFFGRIT_OK : wanted));
+    want(json == wanted && shown == read);
+    want(status == (is_json ? PUFFGRIT_UNKNOWN_KIND : wanted == PUFFGRIT_TOO_SHORT ? PUFFGRIT_OK : wanted));
+    want(accepted == (is_json ? 0 : read));
     if (status >= PUFFGRIT_FAULT_DECODE_FAILED) want(told > 0 && refusal.offset <= len && refusal.len <= len - refusal.offset);
 }
 

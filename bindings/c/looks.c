@@ -1,9 +1,9 @@
 /* looks: answers requests from standard input, one a line, for tools/test-c: each over a buffer of exactly the input's length.
 
    len HEX, canonical HEX, item OFFSET HEX, member OFFSET KEY HEX, named OFFSET NAME-IN-HEX HEX, auth HEX, rewrite KIND ROOM HEX,
-   json KIND ROOM HEX, explain KIND ROOM HEX. `-` is no bytes. An answer to `rewrite` and `json` is the status, the length and, in
-   hexadecimal, the output if the status is 0, and `changed` if bytes behind it changed; to `explain` the status, the offset and the
-   length of what is refused, the length of the text and the text in hexadecimal. */
+   json KIND ROOM HEX, explain KIND ROOM HEX. `-` is no bytes. An answer to `rewrite` and `json` is the status, how many bytes
+   were read, the length and, in hexadecimal, the output if the status is 0, and `changed` if bytes behind it changed; to `explain` the
+   status, how many bytes were read, the offset and the length of what is refused, the length of the text and the text in hexadecimal. */
 #include <inttypes.h>
 #include <stdio.h>
 #include <stdlib.h>
@@ -35,7 +35,7 @@ static void print_item(puffgrit_bool found, const puffgrit_item *i) {
     printf("%d %" PRIu64 " %zu %zu %zu %" PRIu32 "\n", found, i->number, i->from, i->content, i->end, i->kind);
 }
 
-typedef uint32_t writes(uint32_t kind, const uint8_t *input, size_t input_len, uint8_t *out, size_t out_len, size_t *len);
+typedef uint32_t writes(uint32_t kind, const uint8_t *input, size_t input_len, size_t *read, uint8_t *out, size_t out_len, size_t *len);
 
 static uint8_t *unset(size_t room) {
     uint8_t *out = malloc(room ? room : 1);
@@ -55,19 +55,19 @@ static void print_output(const uint8_t *out, size_t room, size_t len) {
 /* Writes into an output of exactly so many bytes. */
 static void written(writes *call, uint32_t kind, size_t room, buffer input) {
     uint8_t *out = unset(room);
-    size_t len = 77;
-    uint32_t status = call(kind, input.bytes, input.len, out, room, &len);
-    printf("%" PRIu32 " %zu ", status, len);
+    size_t read = 55, len = 77;
+    uint32_t status = call(kind, input.bytes, input.len, &read, out, room, &len);
+    printf("%" PRIu32 " %zu %zu ", status, read, len);
     print_output(out, room, status == PUFFGRIT_OK ? len : 0);
     free(out);
 }
 
 static void explain(uint32_t kind, size_t room, buffer input) {
     uint8_t *out = unset(room);
-    size_t len = 77;
+    size_t read = 55, len = 77;
     puffgrit_refusal refusal = {7, 9};
-    uint32_t status = puffgrit_explain(kind, input.bytes, input.len, &refusal, out, room, &len);
-    printf("%" PRIu32 " %zu %zu %zu ", status, refusal.offset, refusal.len, len);
+    uint32_t status = puffgrit_explain(kind, input.bytes, input.len, &read, &refusal, out, room, &len);
+    printf("%" PRIu32 " %zu %zu %zu %zu ", status, read, refusal.offset, refusal.len, len);
     print_output(out, room, status < PUFFGRIT_FAULT_DECODE_FAILED ? 0 : len < room ? len : room);
     free(out);
 }

@@ -83,10 +83,10 @@ typedef unsigned char puffgrit_bool; /* 0 or 1 */
 
 /* Which bytes of an input are refused. */
 typedef struct {
-    /* The offset of the first byte: of a data item or a map key that is refused, or of where the bytes aren't
+    /* The offset of the first byte: of a data item, a map key or a part that is refused, or of where the bytes aren't
        well-formed. */
     size_t offset;
-    /* Their number: the length of the data item or the map key, or all bytes from there on. */
+    /* Their number: the length of the data item, the map key or the part, or all bytes from there on. */
     size_t len;
 } puffgrit_refusal;
 
@@ -129,34 +129,38 @@ typedef struct {
 } puffgrit_auth_data;
 
 /* Decodes the input as this kind, encodes the result again, in CTAP2's canonical form or as compact JSON, and writes it
-   to the beginning of out and its length to len. Bytes behind a data item, a message or authenticator data are ignored.
-   Returns PUFFGRIT_OK then; PUFFGRIT_TOO_SHORT, with the length that is needed in len, if the output has fewer bytes;
-   PUFFGRIT_OUT_OF_MEMORY if an allocation fails; PUFFGRIT_UNKNOWN_KIND; or why the input is rejected: its first fault,
-   from PUFFGRIT_FAULT_DECODE_FAILED on, and in the second byte the number of the member that it is about
-   (PUFFGRIT_MEMBER_OF). out stays as it was but for PUFFGRIT_OK, and so does len but for PUFFGRIT_OK and
-   PUFFGRIT_TOO_SHORT. All memory that was allocated is freed. (CTAP 2.1, sections 6 and 8; WebAuthn Level 3, sections 5
-   and 6.1.) */
-uint32_t puffgrit_rewrite(uint32_t kind, const uint8_t *input, size_t input_len, uint8_t *out, size_t out_len, size_t *len);
+   to the beginning of out and its length to len; and to read how many bytes of the input were decoded: those of the data
+   item or the message at its beginning, as puffgrit_item_len counts them; those of authenticator data up to the end of
+   their last part; or all of a JSON text. Bytes behind these are ignored: a caller for whom there must be none compares
+   read with the input's length. Returns PUFFGRIT_OK then; PUFFGRIT_TOO_SHORT, with the length that is needed in len, if
+   the output has fewer bytes; PUFFGRIT_OUT_OF_MEMORY if an allocation fails; PUFFGRIT_UNKNOWN_KIND; or why the input is
+   rejected: its first fault, from PUFFGRIT_FAULT_DECODE_FAILED on, and in the second byte the number of the member that
+   it is about (PUFFGRIT_MEMBER_OF). out stays as it was but for PUFFGRIT_OK, and so do len and read but for PUFFGRIT_OK
+   and PUFFGRIT_TOO_SHORT. All memory that was allocated is freed. (CTAP 2.1, sections 6 and 8; WebAuthn Level 3,
+   sections 5 and 6.1.) */
+uint32_t puffgrit_rewrite(uint32_t kind, const uint8_t *input, size_t input_len, size_t *read, uint8_t *out, size_t out_len, size_t *len);
 
-/* The version of this interface: 1. A call or a struct that changes raises it. */
+/* The version of this interface: 2. A call or a struct that changes raises it. */
 uint32_t puffgrit_version(void);
 
-/* Decodes the message at the beginning of the input, and writes it as compact JSON to the beginning of out, and the
-   JSON's length to len: members by their names, byte strings in base64url without padding, AAGUIDs as UUIDs, algorithms
-   by their names. A member that the message's table hasn't is written under its key, as it is; keys that are no text,
-   floats, tags and simple values are strings in diagnostic notation (RFC 8949, section 8). The kinds are those of
-   CTAP2's messages, from PUFFGRIT_KIND_MC_REQUEST to PUFFGRIT_KIND_HMAC_INPUT.  Returns what puffgrit_rewrite returns,
-   with the same faults, and leaves out and len as it does. (CTAP 2.1, section 6.) */
-uint32_t puffgrit_json(uint32_t kind, const uint8_t *input, size_t input_len, uint8_t *out, size_t out_len, size_t *len);
+/* Decodes the input as this kind, and writes what is in it as compact JSON to the beginning of out, and the JSON's
+   length to len; and to read how many bytes of the input were decoded, as puffgrit_rewrite does. The members of messages
+   and of keys, and the parts of authenticator data, are written by their names, byte strings in base64url without
+   padding, AAGUIDs as UUIDs, algorithms and flags by their names. A member that the message's table hasn't is written
+   under its key, as it is; keys that are no text, floats, tags and simple values are strings in diagnostic notation (RFC
+   8949, section 8). Of a JSON text it writes what puffgrit_rewrite does. Returns what puffgrit_rewrite returns, with the
+   same faults, and leaves out, len and read as it does. (CTAP 2.1, section 6; WebAuthn Level 3, section 6.1.) */
+uint32_t puffgrit_json(uint32_t kind, const uint8_t *input, size_t input_len, size_t *read, uint8_t *out, size_t out_len, size_t *len);
 
-/* Explains why the message at the beginning of the input is refused. Returns PUFFGRIT_OK if it is accepted; the status
-   of its fault, as puffgrit_rewrite; PUFFGRIT_OUT_OF_MEMORY if an allocation fails; or PUFFGRIT_UNKNOWN_KIND. The kinds
-   are those of puffgrit_json.  For a fault refusal says which bytes are refused: the innermost data item, or map key,
-   that the message's table refuses, or the bytes from where they aren't well-formed; and a text is written to the
-   beginning of out, or as much of it as there is room for, and its whole length to len. It says in ASCII where in the
-   message these bytes are and what is wanted there, as "user.id: a byte string is wanted (offset 58, length 10)".
-   Otherwise nothing is written.  (CTAP 2.1, section 6; RFC 8949, section 3.) */
-uint32_t puffgrit_explain(uint32_t kind, const uint8_t *input, size_t input_len, puffgrit_refusal *refusal, uint8_t *out, size_t out_len, size_t *len);
+/* Explains why the input is refused as this kind. Returns PUFFGRIT_OK if it is accepted, with how many of its bytes were
+   decoded in read, as puffgrit_rewrite; the status of its fault, as puffgrit_rewrite; PUFFGRIT_OUT_OF_MEMORY if an
+   allocation fails; or PUFFGRIT_UNKNOWN_KIND. The kinds are those of bytes. For a fault refusal says which bytes are
+   refused: of a message the innermost data item, or map key, that its table refuses; of authenticator data the part, or
+   what in the credential public key; or the bytes from where they aren't well-formed; and a text is written to the
+   beginning of out, or as much of it as there is room for, and its whole length to len. It says in ASCII where these
+   bytes are and what is wanted there, as "user.id: a byte string is wanted (offset 58, length 10)". Otherwise nothing is
+   written. (CTAP 2.1, section 6; RFC 8949, section 3; WebAuthn Level 3, section 6.1.) */
+uint32_t puffgrit_explain(uint32_t kind, const uint8_t *input, size_t input_len, size_t *read, puffgrit_refusal *refusal, uint8_t *out, size_t out_len, size_t *len);
 
 /* Returns the length in bytes of the data item at the beginning of the bytes, or 0 if they don't begin with a
    well-formed item of at most 256 levels. An item has at least one byte. (RFC 8949, section 3.) */

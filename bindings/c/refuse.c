@@ -39,7 +39,7 @@ void __wrap_free(void *old) {
 
 struct answer {
     uint32_t status;
-    size_t len;
+    size_t read, len;
     puffgrit_refusal refusal;
     uint8_t out[ROOM];
 };
@@ -51,20 +51,20 @@ static struct answer wanted, found;
 typedef uint32_t calls(uint32_t kind, struct answer *answer);
 
 static uint32_t rewritten(uint32_t kind, struct answer *answer) {
-    return puffgrit_rewrite(kind, input, input_len, answer->out, ROOM, &answer->len);
+    return puffgrit_rewrite(kind, input, input_len, &answer->read, answer->out, ROOM, &answer->len);
 }
 
 static uint32_t as_json(uint32_t kind, struct answer *answer) {
-    return puffgrit_json(kind, input, input_len, answer->out, ROOM, &answer->len);
+    return puffgrit_json(kind, input, input_len, &answer->read, answer->out, ROOM, &answer->len);
 }
 
 static uint32_t explained(uint32_t kind, struct answer *answer) {
-    return puffgrit_explain(kind, input, input_len, &answer->refusal, answer->out, ROOM, &answer->len);
+    return puffgrit_explain(kind, input, input_len, &answer->read, &answer->refusal, answer->out, ROOM, &answer->len);
 }
 
 static void ask(calls *call, uint32_t kind, unsigned long number, struct answer *answer) {
     memset(answer->out, UNSET, ROOM);
-    answer->len = answer->refusal.offset = answer->refusal.len = UNSET;
+    answer->read = answer->len = answer->refusal.offset = answer->refusal.len = UNSET;
     refused = number;
     asked = held = 0;
     answer->status = call(kind, answer);
@@ -72,15 +72,15 @@ static void ask(calls *call, uint32_t kind, unsigned long number, struct answer 
 }
 
 static int same(const struct answer *a, const struct answer *b) {
-    return a->status == b->status && a->len == b->len && a->refusal.offset == b->refusal.offset && a->refusal.len == b->refusal.len
-           && memcmp(a->out, b->out, ROOM) == 0;
+    return a->status == b->status && a->read == b->read && a->len == b->len && a->refusal.offset == b->refusal.offset
+           && a->refusal.len == b->refusal.len && memcmp(a->out, b->out, ROOM) == 0;
 }
 
 static int wrote_nothing(const struct answer *a) {
     size_t k;
     for (k = 0; k < ROOM; k++)
         if (a->out[k] != UNSET) return 0;
-    return a->len == UNSET && a->refusal.offset == UNSET && a->refusal.len == UNSET;
+    return a->read == UNSET && a->len == UNSET && a->refusal.offset == UNSET && a->refusal.len == UNSET;
 }
 
 static int is_right(void) {

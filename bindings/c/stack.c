@@ -36,11 +36,11 @@ static void *check(void *unused) {
 
 static void *again(void *unused) {
     puffgrit_refusal refusal;
-    size_t len;
+    size_t read, len;
     (void)unused;
-    (void)puffgrit_rewrite(PUFFGRIT_KIND_CBOR, input, input_len, output, sizeof output, &len);
-    (void)puffgrit_json(PUFFGRIT_KIND_INFO, info, info_len, output, sizeof output, &len);
-    (void)puffgrit_explain(PUFFGRIT_KIND_INFO, info, info_len, &refusal, output, sizeof output, &len);
+    (void)puffgrit_rewrite(PUFFGRIT_KIND_CBOR, input, input_len, &read, output, sizeof output, &len);
+    (void)puffgrit_json(PUFFGRIT_KIND_INFO, info, info_len, &read, output, sizeof output, &len);
+    (void)puffgrit_explain(PUFFGRIT_KIND_INFO, info, info_len, &read, &refusal, output, sizeof output, &len);
     return 0;
 }
 

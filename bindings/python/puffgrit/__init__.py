@@ -14,7 +14,10 @@ from dataclasses import dataclass
 from pathlib import Path
 from typing import Iterator
 
-__all__ = ["KINDS", "MESSAGES", "AuthData", "Fault", "Item", "auth_parts", "decode", "elements", "explain", "is_canonical", "item_at", "item_len", "member", "rewrite", "version"]
+__all__ = [
+    "BYTES_KINDS", "KINDS", "AuthData", "Fault", "Item", "auth_parts", "decode", "decode_front", "elements", "explain", "is_canonical",
+    "item_at", "item_len", "member", "rewrite", "rewrite_front", "version",
+]  # fmt: skip
 
 UNSIGNED, NEGATIVE, BYTES, TEXT, ARRAY, MAP, TAG, SIMPLE, FLOAT = range(9)
 INDEFINITE = 2**64 - 1
@@ -24,8 +27,8 @@ KINDS = (
     "cbor auth mc-request mc-response ga-request ga-response info hmac-input creation request created authenticated client-data"
 ).split()
 
-#: The kinds of `explain`: the messages of CTAP2. `decode` has them and the kinds of JSON texts.
-MESSAGES = KINDS[2:8]
+#: The kinds of bytes, which `explain` has.
+BYTES_KINDS = KINDS[:8]
 
 _FAULTS = {
     16: "DecodeFailed",
@@ -56,11 +59,12 @@ class _Refusal(ctypes.Structure):
 
 
 _BUFFER = [ctypes.c_char_p, ctypes.c_size_t]
+_LENGTH = ctypes.POINTER(ctypes.c_size_t)
 
 
 def _load() -> ctypes.CDLL:
     library = ctypes.CDLL(os.environ.get("PUFFGRIT_LIBRARY") or str(Path(__file__).with_name("libpuffgrit.so")))
-    item, output = ctypes.POINTER(_Item), [*_BUFFER, ctypes.POINTER(ctypes.c_size_t)]
+    item, given, output = ctypes.POINTER(_Item), [ctypes.c_uint32, *_BUFFER, _LENGTH], [*_BUFFER, _LENGTH]
     for name, result, arguments in [
         ("version", ctypes.c_uint32, []),
         ("item_len", ctypes.c_size_t, _BUFFER),
@@ -69,9 +73,9 @@ def _load() -> ctypes.CDLL:
         ("member", ctypes.c_bool, [*_BUFFER, ctypes.c_size_t, ctypes.c_int64, item]),
         ("named", ctypes.c_bool, [*_BUFFER, ctypes.c_size_t, *_BUFFER, item]),
         ("auth_parts", ctypes.c_bool, [*_BUFFER, ctypes.POINTER(_AuthData)]),
-        ("rewrite", ctypes.c_uint32, [ctypes.c_uint32, *_BUFFER, *output]),
-        ("json", ctypes.c_uint32, [ctypes.c_uint32, *_BUFFER, *output]),
-        ("explain", ctypes.c_uint32, [ctypes.c_uint32, *_BUFFER, ctypes.POINTER(_Refusal), *output]),
+        ("rewrite", ctypes.c_uint32, [*given, *output]),
+        ("json", ctypes.c_uint32, [*given, *output]),
+        ("explain", ctypes.c_uint32, [*given, ctypes.POINTER(_Refusal), *output]),
     ]:
         call = getattr(library, f"puffgrit_{name}")
         call.restype, call.argtypes = result, arguments
@@ -224,58 +228,71 @@ def auth_parts(data: bytes) -> AuthData | None:
     )
 
 
-def _number(kind: str, kinds: list[str]) -> int:
+def _number(kind: str, kinds: list[str] = KINDS) -> int:
     if kind not in kinds:
         raise ValueError(f"no kind {kind!r}")
     return KINDS.index(kind) + 1
 
 
-def _written(call, kind: str, data: bytes) -> bytes:
-    """What the call writes; an output that is too short is replaced by one that isn't."""
-    number, room, length = KINDS.index(kind) + 1, len(_checked(data)) + 256, ctypes.c_size_t()
+def _written(call, kind: str, data: bytes) -> tuple[bytes, int]:
+    """What the call writes, and how many bytes it read; an output that is too short is replaced by one that isn't."""
+    number, room = _number(kind), len(_checked(data)) + 256
+    read, length = ctypes.c_size_t(), ctypes.c_size_t()
     while True:
         out = ctypes.create_string_buffer(room)
-        status = call(number, data, len(data), out, room, ctypes.byref(length))
+        status = call(number, data, len(data), ctypes.byref(read), out, room, ctypes.byref(length))
         if status != 1:
             break
         room = length.value
     if status == 0:
-        return out.raw[: length.value]
+        return out.raw[: length.value], read.value
     if status == 2:
         raise MemoryError("puffgrit")
-    raise (explain(kind, data) if kind in MESSAGES else None) or _fault(status, None)
+    raise (explain(kind, data) if kind in BYTES_KINDS else None) or _fault(status)
 
 
-def _fault(status: int, member: int | None) -> Fault:
-    return Fault(_FAULTS[status & 255], member)
+def _fault(status: int) -> Fault:
+    name = status & 255
+    return Fault(_FAULTS[name], status >> 8 if name in (19, 20, 21) and status >> 8 else None)
 
 
 def rewrite(kind: str, data: bytes) -> bytes:
     """Decodes the data as the kind (one of `KINDS`), and returns its encoding: CTAP2's canonical form, or compact JSON.
 
     Raises `Fault` if the kind rejects the data, and `MemoryError`. Bytes behind a data item, a message or authenticator data are
-    ignored.
+    ignored: `rewrite_front` tells where they begin.
     """
-    _number(kind, KINDS)
+    return rewrite_front(kind, data)[0]
+
+
+def rewrite_front(kind: str, data: bytes) -> tuple[bytes, int]:
+    """What `rewrite` returns, and how many bytes of the data were decoded: all of a JSON text."""
     return _written(_library.puffgrit_rewrite, kind, data)
 
 
-def decode(kind: str, data: bytes) -> dict[str, object]:
-    """Decodes a message (one of `MESSAGES`), or one of WebAuthn's JSON texts as it is rewritten, as a dictionary by names.
+def decode(kind: str, data: bytes) -> object:
+    """What is in the data, which is of the kind (one of `KINDS`): a message, a key, authenticator data or a record as a dictionary.
 
-    Byte strings are base64url without padding, AAGUIDs are UUIDs, and algorithms have their names. Raises what `rewrite` raises.
+    Members have their names, byte strings are base64url without padding, AAGUIDs are UUIDs, and algorithms have their names. Raises
+    what `rewrite` raises.
     """
-    _number(kind, KINDS[2:])
-    call = _library.puffgrit_json if kind in MESSAGES else _library.puffgrit_rewrite
-    return json.loads(_written(call, kind, data))
+    return decode_front(kind, data)[0]
+
+
+def decode_front(kind: str, data: bytes) -> tuple[object, int]:
+    """What `decode` returns, and how many bytes of the data were decoded."""
+    text, read = _written(_library.puffgrit_json, kind, data)
+    return json.loads(text), read
 
 
 def explain(kind: str, data: bytes) -> Fault | None:
-    """Why the message (one of `MESSAGES`) is rejected, or `None` if it isn't. Raises `MemoryError`."""
-    number, room, length, refusal = _number(kind, MESSAGES), 1024, ctypes.c_size_t(), _Refusal()
+    """Why the data is rejected as the kind (one of `BYTES_KINDS`), or `None` if it isn't. Raises `MemoryError`."""
+    number, room = _number(kind, BYTES_KINDS), 1024
+    read, length, refusal = ctypes.c_size_t(), ctypes.c_size_t(), _Refusal()
+    given = (number, _checked(data), len(data), ctypes.byref(read), ctypes.byref(refusal))
     while True:
         out = ctypes.create_string_buffer(room)
-        status = _library.puffgrit_explain(number, _checked(data), len(data), ctypes.byref(refusal), out, room, ctypes.byref(length))
+        status = _library.puffgrit_explain(*given, out, room, ctypes.byref(length))
         if status == 0:
             return None
         if status == 2:
@@ -283,6 +300,6 @@ def explain(kind: str, data: bytes) -> Fault | None:
         if length.value <= room:
             break
         room = length.value
-    fault = _fault(status, status >> 8 if status & 255 in (19, 20, 21) else None)
+    fault = _fault(status)
     fault.explanation, fault.offset, fault.length = out.raw[: length.value].decode("ascii"), refusal.offset, refusal.length
     return fault

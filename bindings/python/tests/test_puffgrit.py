@@ -10,7 +10,7 @@ ROOT = Path(__file__).resolve().parents[3]
 
 class Puffgrit(unittest.TestCase):
     def test_version(self):
-        self.assertEqual(puffgrit.version(), 1)
+        self.assertEqual(puffgrit.version(), 2)
 
     def test_lengths(self):
         self.assertEqual(puffgrit.item_len(bytes.fromhex("9f1801ff00")), 4)
@@ -54,14 +54,22 @@ class Puffgrit(unittest.TestCase):
         with self.assertRaises(ValueError):
             puffgrit.rewrite("key", b"")
 
+    def test_fronts(self):
+        # what follows the data item, the data, and nothing that follows a JSON text
+        self.assertEqual(puffgrit.rewrite_front("cbor", bytes.fromhex("9f1801ff00")), (bytes.fromhex("8101"), 4))
+        self.assertEqual(puffgrit.rewrite_front("auth", bytes(37) + b"\xff"), (bytes(37), 37))
+        options = b'{"publicKey":{"challenge":"AQ"}} '
+        self.assertEqual(puffgrit.rewrite_front("request", options)[1], len(options))
+        info = b"\xa2\x01\x81\x68FIDO_2_0\x03\x50" + bytes(16)
+        self.assertEqual(puffgrit.decode_front("info", info + b"\xff"), (puffgrit.decode("info", info), len(info)))
+
     def test_decoding(self):
         info = bytes.fromhex((ROOT / "bench/messages/info.hex").read_text())
         decoded = puffgrit.decode("info", info)
         self.assertEqual([it["alg"] for it in decoded["algorithms"]], ["ES256", "EdDSA"])
         self.assertEqual(puffgrit.decode("request", b'{"publicKey":{"challenge":"AQ=="}}')["publicKey"]["challenge"], "AQ")
-        for kind in ["cbor", "auth", "key"]:
-            with self.assertRaises(ValueError):
-                puffgrit.decode(kind, b"\xa0")
+        with self.assertRaises(ValueError):
+            puffgrit.decode("key", b"\xa0")
 
     def test_explaining(self):
         # versions, and an AAGUID that is a number
@@ -74,6 +82,12 @@ class Puffgrit(unittest.TestCase):
         cut = puffgrit.explain("info", wrong[:5])
         self.assertEqual((cut.name, cut.member, cut.offset, cut.length), ("DecodeFailed", None, 5, 0))
         self.assertIsNone(puffgrit.explain("info", wrong[:-1] + b"\x50" + bytes(16)))
+        # WebAuthn Level 3, section 6.1: 37 bytes at least
+        cut = puffgrit.explain("auth", bytes(36))
+        self.assertEqual((cut.name, cut.offset, cut.length), ("DecodeFailed", 33, 3))
+        self.assertTrue(cut.explanation.startswith("signCount: "))
+        self.assertIsNone(puffgrit.explain("auth", bytes(38)))
+        self.assertEqual(puffgrit.explain("cbor", b"\x81").offset, 1)
 
     def test_arguments(self):
         with self.assertRaises(TypeError):

@@ -54,12 +54,29 @@ extern "C" {
     fn puffgrit_member(bytes: *const u8, len: usize, map: usize, key: i64, value: *mut Item) -> bool;
     fn puffgrit_named(bytes: *const u8, len: usize, map: usize, name: *const u8, name_len: usize, value: *mut Item) -> bool;
     fn puffgrit_auth_parts(bytes: *const u8, len: usize, parts: *mut AuthData) -> bool;
-    fn puffgrit_rewrite(kind: u32, input: *const u8, input_len: usize, out: *mut u8, out_len: usize, len: *mut usize) -> u32;
-    fn puffgrit_json(kind: u32, input: *const u8, input_len: usize, out: *mut u8, out_len: usize, len: *mut usize) -> u32;
+    fn puffgrit_rewrite(
+        kind: u32,
+        input: *const u8,
+        input_len: usize,
+        read: *mut usize,
+        out: *mut u8,
+        out_len: usize,
+        len: *mut usize,
+    ) -> u32;
+    fn puffgrit_json(
+        kind: u32,
+        input: *const u8,
+        input_len: usize,
+        read: *mut usize,
+        out: *mut u8,
+        out_len: usize,
+        len: *mut usize,
+    ) -> u32;
     fn puffgrit_explain(
         kind: u32,
         input: *const u8,
         input_len: usize,
+        read: *mut usize,
         refusal: *mut Refusal,
         out: *mut u8,
         out_len: usize,
@@ -84,6 +101,16 @@ pub enum Kind {
     Created,
     Authenticated,
     ClientData,
+}
+
+/// What was decoded, and what was written of it.
+#[derive(Clone, Copy, Debug, PartialEq, Eq)]
+pub struct Lengths {
+    /// How many bytes of the input were decoded: those of the data item, the message or the
+    /// authenticator data at its beginning, or all of a JSON text.
+    pub read: usize,
+    /// How many bytes were written.
+    pub written: usize,
 }
 
 /// Why nothing was written.
@@ -155,18 +182,19 @@ pub fn auth_parts(bytes: &[u8]) -> Option<AuthData> {
 }
 
 /// Decodes the input as the kind, and writes its encoding to the beginning of the output: CTAP2's
-/// canonical form (CTAP 2.1, section 8), or compact JSON. Returns the encoding's length. Bytes behind
-/// a data item, a message or authenticator data are ignored.
-pub fn rewrite(kind: Kind, input: &[u8], out: &mut [u8]) -> Result<usize, Error> {
-    let mut len = 0;
+/// canonical form (CTAP 2.1, section 8), or compact JSON. Bytes behind a data item, a message or
+/// authenticator data are ignored, and don't count as read.
+pub fn rewrite(kind: Kind, input: &[u8], out: &mut [u8]) -> Result<Lengths, Error> {
+    let (mut read, mut len) = (0, 0);
+    let (given, start, room) = (input.as_ptr(), out.as_mut_ptr(), out.len());
     // SAFETY: as above, and no output overlaps another buffer.
-    let status = unsafe { puffgrit_rewrite(kind as u32, input.as_ptr(), input.len(), out.as_mut_ptr(), out.len(), &mut len) };
-    length(status, len)
+    let status = unsafe { puffgrit_rewrite(kind as u32, given, input.len(), &mut read, start, room, &mut len) };
+    lengths(status, read, len)
 }
 
-fn length(status: u32, len: usize) -> Result<usize, Error> {
+fn lengths(status: u32, read: usize, len: usize) -> Result<Lengths, Error> {
     match status {
-        0 => Ok(len),
+        0 => Ok(Lengths { read, written: len }),
         1 => Err(Error::TooShort(len)),
         _ => Err(error(status)),
     }
@@ -180,42 +208,50 @@ fn error(status: u32) -> Error {
     }
 }
 
-/// Decodes the message of CTAP2 at the beginning of the input, and writes it as compact JSON to the
-/// beginning of the output: members by their names, byte strings in base64url without padding. Returns
-/// the JSON's length. The kinds are those from `MakeCredentialRequest` to `HmacInput`.
-pub fn json(kind: Kind, input: &[u8], out: &mut [u8]) -> Result<usize, Error> {
-    let mut len = 0;
+/// Decodes the input as the kind, and writes what is in it as compact JSON to the beginning of the
+/// output: members by their names, byte strings in base64url without padding.
+pub fn json(kind: Kind, input: &[u8], out: &mut [u8]) -> Result<Lengths, Error> {
+    let (mut read, mut len) = (0, 0);
+    let (given, start, room) = (input.as_ptr(), out.as_mut_ptr(), out.len());
     // SAFETY: as for `rewrite`.
-    let status = unsafe { puffgrit_json(kind as u32, input.as_ptr(), input.len(), out.as_mut_ptr(), out.len(), &mut len) };
-    length(status, len)
+    let status = unsafe { puffgrit_json(kind as u32, given, input.len(), &mut read, start, room, &mut len) };
+    lengths(status, read, len)
 }
 
-/// Why a message is rejected.
+/// Why an input is rejected.
 #[derive(Clone, Copy, Debug, PartialEq, Eq)]
 pub struct Explanation<'a> {
     /// The first fault: its status in puffgrit.h, and the number of the member that it is about, or 0.
     pub fault: u8,
     pub member: u8,
     pub refusal: Refusal,
-    /// Where in the message and why, in ASCII; cut off where the output ends.
+    /// Where in the input and why, in ASCII; cut off where the output ends.
     pub text: &'a str,
 }
 
-/// Explains why the message of CTAP2 at the beginning of the input is rejected, with a text in the
-/// output; `None` if it isn't. The kinds are those of `json`.
-pub fn explain<'a>(kind: Kind, input: &[u8], out: &'a mut [u8]) -> Result<Option<Explanation<'a>>, Error> {
-    let (mut len, mut refusal) = (0, Refusal::default());
-    let (start, room) = (out.as_mut_ptr(), out.len());
+/// Whether an input is accepted.
+#[derive(Clone, Copy, Debug, PartialEq, Eq)]
+pub enum Verdict<'a> {
+    /// It is: so many of its bytes, as `Lengths::read`.
+    Accepted(usize),
+    Rejected(Explanation<'a>),
+}
+
+/// Explains why the input is rejected as the kind, with a text in the output. The kinds are those of
+/// bytes.
+pub fn explain<'a>(kind: Kind, input: &[u8], out: &'a mut [u8]) -> Result<Verdict<'a>, Error> {
+    let (mut read, mut len, mut refusal) = (0, 0, Refusal::default());
+    let (given, start, room) = (input.as_ptr(), out.as_mut_ptr(), out.len());
     // SAFETY: as for `rewrite`.
-    let status = unsafe { puffgrit_explain(kind as u32, input.as_ptr(), input.len(), &mut refusal, start, room, &mut len) };
+    let status = unsafe { puffgrit_explain(kind as u32, given, input.len(), &mut read, &mut refusal, start, room, &mut len) };
     if status == 0 {
-        return Ok(None);
+        return Ok(Verdict::Accepted(read));
     }
     let Error::Rejected { fault, member } = error(status) else {
         return Err(error(status));
     };
     let text = core::str::from_utf8(&out[..len.min(room)]).unwrap_or("");
-    Ok(Some(Explanation { fault, member, refusal, text }))
+    Ok(Verdict::Rejected(Explanation { fault, member, refusal, text }))
 }
 
 #[cfg(test)]
@@ -236,7 +272,7 @@ mod tests {
     #[test]
     fn rewrites() {
         let mut out = [0; 16];
-        assert_eq!(rewrite(Kind::Cbor, &[0x9f, 0x18, 0x01, 0xff], &mut out), Ok(2));
+        assert_eq!(rewrite(Kind::Cbor, &[0x9f, 0x18, 0x01, 0xff, 0x00], &mut out), Ok(Lengths { read: 4, written: 2 }));
         assert_eq!(out[..3], [0x81, 0x01, 0x00]);
         assert_eq!(rewrite(Kind::Cbor, &[0x81, 0x01], &mut out[..1]), Err(Error::TooShort(2)));
         assert_eq!(rewrite(Kind::GetAssertionRequest, &[0xa0], &mut out), Err(Error::Rejected { fault: 21, member: 1 }));
@@ -248,14 +284,16 @@ mod tests {
         let info = b"\xa2\x01\x81\x68FIDO_2_0\x03\x50\0\0\0\0\0\0\0\0\0\0\0\0\0\0\0\0";
         let text = br#"{"versions":["FIDO_2_0"],"aaguid":"00000000-0000-0000-0000-000000000000"}"#;
         let mut out = [0; 128];
-        assert_eq!(json(Kind::Info, info, &mut out), Ok(text.len()));
+        assert_eq!(json(Kind::Info, info, &mut out), Ok(Lengths { read: info.len(), written: text.len() }));
         assert_eq!(out[..text.len()], text[..]);
-        assert_eq!(json(Kind::Cbor, info, &mut out), Err(Error::UnknownKind));
-        assert_eq!(explain(Kind::Info, info, &mut out), Ok(None));
-        let told = explain(Kind::Info, &info[..12], &mut out).unwrap().unwrap();
-        assert_eq!((told.fault, told.member, told.refusal), (16, 0, Refusal { offset: 12, len: 0 }));
-        let told = explain(Kind::Info, b"\xa1\x01\x05", &mut out).unwrap().unwrap();
-        assert_eq!((told.fault, told.member, told.refusal), (20, 1, Refusal { offset: 2, len: 1 }));
+        assert_eq!(explain(Kind::Request, b"{}", &mut out), Err(Error::UnknownKind));
+        assert_eq!(explain(Kind::Info, info, &mut out), Ok(Verdict::Accepted(info.len())));
+        assert_eq!(explain(Kind::Auth, &[0; 38], &mut out), Ok(Verdict::Accepted(37)));
+        for (given, fault, member, offset, len) in [(&info[..12], 16, 0, 12, 0), (b"\xa1\x01\x05", 20, 1, 2, 1)] {
+            let Ok(Verdict::Rejected(told)) = explain(Kind::Info, given, &mut out) else { panic!("accepted") };
+            assert_eq!((told.fault, told.member, told.refusal), (fault, member, Refusal { offset, len }));
+        }
+        let Ok(Verdict::Rejected(told)) = explain(Kind::Info, b"\xa1\x01\x05", &mut out) else { panic!("accepted") };
         assert!(told.text.starts_with("versions: "));
     }
 

@@ -1,60 +1,157 @@
--- What a call that explains why a message is refused returns, and leaves in the caller's memory.
-use Rattle.std.specs.Prelude.{◌≡◌, ◌-◌, ◌++◌, ℕ, List, length, take, drop, Option, Some, None}
+-- What a call that explains why an input is refused returns, and leaves in the caller's memory.
+use Rattle.std.specs.Prelude.{◌≡◌, ◌-◌, ◌++◌, ℕ, List, length, take, drop, Bool, true, false, if◌then◌else◌, Option, Some, None, Result, Ok, Err}
 use Rattle.passkey_explain.specs.Explains.{Explains}
 use Rattle.passkey_explain.specs.declared.explanation.Explanation.{Explanation}
 use Rattle.passkey_explain.specs.declared.explanation.Explanation.TheVariants.{NotWellFormed, Refused}
-use Rattle.passkey_extensions.specs.HmacInput.{hmac_input_fields}
-use Rattle.passkey_get_assertion.specs.GetRequest.{get_request_fields}
-use Rattle.passkey_get_assertion.specs.GetResponse.{get_response_fields}
-use Rattle.passkey_get_info.specs.GetInfo.{get_info_fields}
+use Rattle.passkey_explain_data.specs.DataBlame.{ExplainsData}
+use Rattle.passkey_explain_data.specs.DataLength.{IsDataLength}
+use Rattle.passkey_explain_data.specs.declared.part.DataPart.{DataPart}
+use Rattle.passkey_explain_data.specs.declared.part.DataPart.TheVariants.{Trailing}
+use Rattle.passkey_explain_data.specs.declared.part.DataReason.{DataReason}
+use Rattle.passkey_explain_data.specs.declared.part.DataReason.TheVariants as reason
+use Rattle.passkey_explain_data.specs.declared.part.DataRefusal.{DataRefusal}
 use Rattle.passkey_kinds.specs.Record.{Fields}
 use Rattle.passkey_kinds.specs.declared.fault.Fault.{Fault}
 use Rattle.passkey_kinds.specs.declared.fault.Fault.TheVariants.{DecodeFailed}
-use Rattle.passkey_make_credential.specs.MakeRequest.{make_request_fields}
-use Rattle.passkey_make_credential.specs.MakeResponse.{make_response_fields}
-use Rattle.passkey_run.specs.declared.kind.BytesKind.TheVariants.{MakeRequest, MakeResponse, GetRequest, GetResponse, Info, HmacInput}
-use Rattle.passkey_c.specs.Statuses.{message_status}
-use Rattle.passkey_c.specs.declared.explain.Refusal.{Refusal}
+use Rattle.passkey_malformed.specs.Stops.{IsMalformed}
+use Rattle.passkey_malformed.specs.declared.why.Malformed.{Malformed}
+use Rattle.passkey_run.specs.Rewriting.{IsFrontLength}
+use Rattle.passkey_run.specs.declared.kind.BytesKind.{BytesKind}
+use Rattle.passkey_run.specs.declared.kind.BytesKind.TheVariants.{Cbor, Auth}
+use Rattle.passkey_c.specs.OfMessage.{OfMessage}
+use Rattle.passkey_c.specs.Statuses.{data_status, message_status}
 use Rattle.passkey_c.specs.declared.form.Form.{Form}
 use Rattle.passkey_c.specs.declared.form.Form.TheVariants.{Bytes}
+use Rattle.passkey_c.specs.declared.verdict.Refusal.{Refusal}
+use Rattle.passkey_c.specs.declared.verdict.Verdict.{Verdict}
+use Rattle.passkey_c.specs.declared.verdict.Verdict.TheVariants as verdict
+
+-- what the caller's memory holds
+pub record Memory : Type 0 where
+  pub read : ℕ
+  pub refusal : Refusal
+  pub text : List ℕ
+  pub len : ℕ
+
+-- The fact holds of the status and of the bytes that are refused, and the output begins with a text about them, or as much of
+-- it as there is room for; the length is that of the whole text.
+pub record IsTold (Tells : ℕ → Refusal → Type 0) (old new : Memory) (status : ℕ) : Type 0 where
+  pub tells : Tells status new.refusal
+  pub text : List ℕ
+  pub output : new.text ≡ take (length old.text) text ++ drop (length text) old.text
+  pub size : new.len ≡ length text
+  pub same : new.read ≡ old.read
+
+-- Status 0 if so many bytes are accepted; 2 if memory ran out; or the fault's status.
+pub data Explaining (Accepts : ℕ → Type 0) (Tells : ℕ → Refusal → Type 0) (old new : Memory) (status : ℕ) : Type 0
+  where
+    accepted : status ≡ 0 → (n : ℕ) → Accepts n → new ≡ record old { read = n }
+        → Explaining Accepts Tells old new status
+    exhausted : status ≡ 2 → new ≡ old → Explaining Accepts Tells old new status
+    told : IsTold Tells old new status → Explaining Accepts Tells old new status
+
+abbrev pub IsVerdict : (ℕ → Type 0) → (ℕ → Refusal → Type 0) → Verdict → Type 0
+IsVerdict Accepts Tells (verdict.Accepted n) = Accepts n
+IsVerdict Accepts Tells (verdict.Refused r) = Tells r.status r.refusal
+
+-- what is written of a verdict
+abbrev pub TellsResult : {E : Type 0} → Result Verdict E → Memory → Memory → ℕ → Type 0
+TellsResult (Ok (verdict.Accepted n)) old new status = (status ≡ 0) × (new ≡ record old { read = n })
+TellsResult (Ok (verdict.Refused r)) old new status =
+    IsTold (λ s b. (s ≡ r.status) × (b ≡ r.refusal)) old new status
+TellsResult (Err e) old new status = (status ≡ 2) × (new ≡ old)
+
+-- ---- data items
+
+-- of so many bytes, those from where they aren't well-formed
+abbrev pub refused_from : ℕ → Malformed → Refusal
+refused_from n m = record { offset = m.offset; len = n - m.offset }
+
+-- No data item begins the bytes, and this is why and where.
+pub record TellsItem (input : List ℕ) (status : ℕ) (refusal : Refusal) : Type 0 where
+  pub stop : Malformed
+  pub stops : IsMalformed input stop
+  pub fault : status ≡ message_status DecodeFailed
+  pub bytes : refusal ≡ refused_from (length input) stop
+
+-- ---- messages
 
 abbrev pub fault_of : Explanation → Fault
 fault_of (NotWellFormed m) = DecodeFailed
 fault_of (Refused e) = e.fault
 
--- which of so many bytes are refused: those from where they aren't well-formed, or an item's
+-- which of so many bytes are refused
 abbrev pub refusal_of : ℕ → Explanation → Refusal
-refusal_of n (NotWellFormed m) = record { offset = m.offset; len = n - m.offset }
+refusal_of n (NotWellFormed m) = refused_from n m
 refusal_of n (Refused e) = record { offset = e.extent.offset; len = e.extent.len }
 
--- what the caller's memory holds, before and after
-pub record Told : Type 0 where
-  pub refusal : Refusal
-  pub text : List ℕ
-  pub len : ℕ
+abbrev pub AcceptsMessage : {P : Type 0} → Fields P → List ℕ → ℕ → Type 0
+AcceptsMessage t input n = Explains t input None × IsFrontLength input n
 
--- The message is refused as this says, and the output begins with a text about it, or as much of it as there is room for;
--- the length is that of the whole text.
-pub record IsTold {P : Type 0} (t : Fields P) (input : List ℕ) (old new : Told) (status : ℕ) : Type 0 where
+-- The message at the beginning is refused as this explanation says.
+pub record TellsMessage {P : Type 0} (t : Fields P) (input : List ℕ) (status : ℕ) (refusal : Refusal) : Type 0 where
   pub explanation : Explanation
   pub explains : Explains t input (Some explanation)
   pub fault : status ≡ message_status (fault_of explanation)
-  pub refusal : new.refusal ≡ refusal_of (length input) explanation
-  pub text : List ℕ
-  pub output : new.text ≡ take (length old.text) text ++ drop (length text) old.text
-  pub size : new.len ≡ length text
+  pub bytes : refusal ≡ refusal_of (length input) explanation
 
--- Status 0 if the message is accepted, or 2 if memory ran out, and nothing is written; or the fault's status.
-pub data ExplainsIn {P : Type 0} (t : Fields P) (input : List ℕ) (old new : Told) (status : ℕ) : Type 0 where
-  accepted : status ≡ 0 → Explains t input None → new ≡ old → ExplainsIn t input old new status
-  exhausted : status ≡ 2 → new ≡ old → ExplainsIn t input old new status
-  told : IsTold t input old new status → ExplainsIn t input old new status
+-- ---- authenticator data
 
-abbrev pub ExplainsAs : Option Form → List ℕ → Told → Told → ℕ → Type 0
-ExplainsAs (Some (Bytes MakeRequest)) input old new status = ExplainsIn make_request_fields input old new status
-ExplainsAs (Some (Bytes MakeResponse)) input old new status = ExplainsIn make_response_fields input old new status
-ExplainsAs (Some (Bytes GetRequest)) input old new status = ExplainsIn get_request_fields input old new status
-ExplainsAs (Some (Bytes GetResponse)) input old new status = ExplainsIn get_response_fields input old new status
-ExplainsAs (Some (Bytes Info)) input old new status = ExplainsIn get_info_fields input old new status
-ExplainsAs (Some (Bytes HmacInput)) input old new status = ExplainsIn hmac_input_fields input old new status
-ExplainsAs _ input old new status = (status ≡ 3) × (new ≡ old)
+abbrev pub is_trailing : DataPart → Bool
+is_trailing Trailing = true
+is_trailing _ = false
+
+-- what is refused where bytes may follow
+abbrev pub refused_in_front : Option DataRefusal → Option DataRefusal
+refused_in_front (Some r) = if is_trailing r.part then None else Some r
+refused_in_front None = None
+
+-- of so many bytes, those of a part, or of what in it is refused for this reason
+abbrev pub bytes_in : ℕ → DataReason → Refusal → Refusal
+bytes_in n (reason.NotWellFormed m) part = refused_from n m
+bytes_in n (reason.Key k e) part = record { offset = e.offset; len = e.len }
+bytes_in n _ part = part
+
+abbrev pub refusal_in : ℕ → DataRefusal → Refusal
+refusal_in n r = bytes_in n r.reason (record { offset = r.extent.offset; len = r.extent.len })
+
+-- Authenticator data begin the bytes, and take so many of them.
+pub record AcceptsData (input : List ℕ) (n : ℕ) : Type 0 where
+  pub found : Option DataRefusal
+  pub explains : ExplainsData input found
+  pub nothing : refused_in_front found ≡ None
+  pub size : IsDataLength input n
+
+-- They don't, and this is refused.
+pub record TellsData (input : List ℕ) (status : ℕ) (refusal : Refusal) : Type 0 where
+  pub found : Option DataRefusal
+  pub explains : ExplainsData input found
+  pub refused : DataRefusal
+  pub is : refused_in_front found ≡ Some refused
+  pub fault : status ≡ data_status refused.fault
+  pub bytes : refusal ≡ refusal_in (length input) refused
+
+-- ---- the kinds
+
+-- Nothing is written where there is no such kind.
+abbrev pub IsUnknown : Memory → Memory → ℕ → Type 0
+IsUnknown old new status = (status ≡ 3) × (new ≡ old)
+
+abbrev pub ExplainsMessage : {P : Type 0} → Fields P → List ℕ → Memory → Memory → ℕ → Type 0
+ExplainsMessage t input old new status = Explaining (AcceptsMessage t input) (TellsMessage t input) old new status
+
+abbrev pub ExplainsItem : List ℕ → Memory → Memory → ℕ → Type 0
+ExplainsItem input old new status = Explaining (IsFrontLength input) (TellsItem input) old new status
+
+abbrev pub ExplainsAuth : List ℕ → Memory → Memory → ℕ → Type 0
+ExplainsAuth input old new status = Explaining (AcceptsData input) (TellsData input) old new status
+
+abbrev pub ExplainsBytes : BytesKind → List ℕ → Memory → Memory → ℕ → Type 0
+ExplainsBytes Cbor input old new status = ExplainsItem input old new status
+ExplainsBytes Auth input old new status = ExplainsAuth input old new status
+ExplainsBytes kind input old new status =
+    OfMessage (λ P t tree. ExplainsMessage t input old new status) (IsUnknown old new status) kind
+
+abbrev pub ExplainsAs : Option Form → List ℕ → Memory → Memory → ℕ → Type 0
+ExplainsAs (Some (Bytes kind)) input old new status = ExplainsBytes kind input old new status
+ExplainsAs _ input old new status = IsUnknown old new status

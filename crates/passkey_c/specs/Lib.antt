@@ -1,4 +1,5 @@
 pub mod Forms
+pub mod OfMessage
 pub mod Statuses
 pub mod Writing
 pub mod Rewriting

@@ -1,23 +1,47 @@
 -- What a call that decodes and encodes again returns, and leaves in the caller's memory.
-use Rattle.std.specs.Prelude.{ℕ, List, Option, Some, None}
-use Rattle.passkey_rewrite.specs.Rewriting.{Rewrites as RewritesBytes, IsRefusal}
+use Rattle.std.specs.Prelude.{◌≡◌, ℕ, List, length, Option, Some, None}
+use Rattle.passkey_cbor.specs.Item.{Item}
+use Rattle.passkey_explain_data.specs.DataLength.{IsDataLength}
+use Rattle.passkey_kinds.specs.Record.{Fields, read_item}
 use Rattle.passkey_rewrite_json.specs.RewritesJson.{RewritesJson, IsJsonRefusal, json_rewritten}
-use Rattle.passkey_run.specs.declared.fault.RunFault.{RunFault}
+use Rattle.passkey_run.specs.Rewriting.{RewritesLeadingItem, RewritesData, RewritesMessage, IsCborRefusal, IsDataRefusal, IsMessageRefusal, IsFrontLength}
+use Rattle.passkey_run.specs.declared.kind.BytesKind.{BytesKind}
+use Rattle.passkey_run.specs.declared.kind.BytesKind.TheVariants.{Cbor, Auth}
+use Rattle.passkey_run.specs.declared.kind.JsonKind.{JsonKind}
 use Rattle.passkey_c.specs.declared.form.Form.{Form}
 use Rattle.passkey_c.specs.declared.form.Form.TheVariants.{Bytes, Json}
-use Rattle.passkey_c.specs.Writing.{Writes, IsUnknown}
+use Rattle.passkey_c.specs.OfMessage.{OfMessage}
+use Rattle.passkey_c.specs.Writing.{Outputs, Writes, IsUnknown}
 
--- the encoding of what the input decodes to
-abbrev pub Encodes : Form → List ℕ → List ℕ → Type 0
-Encodes (Bytes kind) input encoding = RewritesBytes kind input encoding
-Encodes (Json kind) input encoding = RewritesJson (json_rewritten kind) input encoding
+-- the encoding of the leading data item, whose length is how much is read
+abbrev pub WritesItem : List ℕ → Outputs → Outputs → ℕ → Type 0
+WritesItem input old new status =
+    Writes (λ s n. RewritesLeadingItem input s × IsFrontLength input n) (IsCborRefusal input) old new status
 
--- why the input has no encoding; memory may run out for any input
-abbrev pub HasNoEncoding : Form → List ℕ → RunFault → Type 0
-HasNoEncoding (Bytes kind) input fault = IsRefusal kind input fault
-HasNoEncoding (Json kind) input fault = IsJsonRefusal (json_rewritten kind) input fault
+-- the encoding of the authenticator data at the beginning, and how many bytes they take
+abbrev pub WritesData : List ℕ → Outputs → Outputs → ℕ → Type 0
+WritesData input old new status =
+    Writes (λ s n. RewritesData input s × IsDataLength input n) (IsDataRefusal input) old new status
 
-abbrev pub Rewrites : Option Form → List ℕ → List ℕ → List ℕ → ℕ → ℕ → ℕ → Type 0
-Rewrites (Some form) input old new old_len new_len status =
-    Writes (Encodes form input) (HasNoEncoding form input) old new old_len new_len status
-Rewrites None input old new old_len new_len status = IsUnknown old new old_len new_len status
+-- the encoding of the message at the beginning
+abbrev pub WritesMessage : {P : Type 0} → Fields P → (P → Item) → List ℕ → Outputs → Outputs → ℕ → Type 0
+WritesMessage t tree input old new status =
+    Writes (λ s n. RewritesMessage (read_item t) tree input s × IsFrontLength input n) (IsMessageRefusal (read_item t) input)
+    old new status
+
+-- the JSON text that all of the input is decoded and encoded to
+abbrev pub WritesJsonText : JsonKind → List ℕ → Outputs → Outputs → ℕ → Type 0
+WritesJsonText kind input old new status =
+    Writes (λ s n. RewritesJson (json_rewritten kind) input s × (n ≡ length input))
+    (IsJsonRefusal (json_rewritten kind) input) old new status
+
+abbrev pub RewritesBytes : BytesKind → List ℕ → Outputs → Outputs → ℕ → Type 0
+RewritesBytes Cbor input old new status = WritesItem input old new status
+RewritesBytes Auth input old new status = WritesData input old new status
+RewritesBytes kind input old new status =
+    OfMessage (λ P t tree. WritesMessage t tree input old new status) (IsUnknown old new status) kind
+
+abbrev pub Rewrites : Option Form → List ℕ → Outputs → Outputs → ℕ → Type 0
+Rewrites (Some (Bytes kind)) input old new status = RewritesBytes kind input old new status
+Rewrites (Some (Json kind)) input old new status = WritesJsonText kind input old new status
+Rewrites None input old new status = IsUnknown old new status

@@ -1,25 +1,54 @@
-//! Why messages are refused, for C.
-ghost use Rattle.std.specs.Prelude.{◌≡◌, ◌++◌, drop, length, take};
-ghost use Rattle.passkey_c.specs.Explaining.{ExplainsAs, ExplainsIn, fault_of, refusal_of};
+//! Why inputs are refused, for C.
+ghost use Rattle.std.specs.Prelude.{◌≡◌, ℕ, IfOk};
+ghost use Rattle.passkey_cbor.specs.Item.{Item};
+ghost use Rattle.passkey_cbor.specs.LeadingItem.{IsLeadingItem};
+ghost use Rattle.passkey_c.specs.Explaining.{AcceptsData, AcceptsMessage, ExplainsAs, ExplainsAuth, ExplainsBytes, ExplainsItem, ExplainsMessage, IsVerdict, TellsData, TellsItem, TellsMessage, bytes_in, fault_of, refusal_in, refusal_of, refused_in_front};
 ghost use Rattle.passkey_c.specs.Forms.{form_numbered};
+ghost use Rattle.passkey_run.specs.Rewriting.{IsFrontLength};
 
 use crate::form::{Form, form_of};
-use crate::status::message_status;
+use crate::of_message::of_message;
+use crate::status::{data_status, message_status};
+use crate::verdict::{Reason, Refusal, Verdict, refused_from, tell};
+use passkey_cbor::item_len;
 use passkey_explain::{Explanation, explain};
-use passkey_extensions::HmacGetSecretInput;
+use passkey_explain_data::{DataPart, DataReason, DataRefusal, data_len, explain_data};
 use passkey_kinds::{Fault, Message};
+use passkey_malformed::malformed;
+use passkey_memory::OutOfMemory;
 use passkey_run::BytesKind;
 use std::alloc::Global;
 
-/// Which bytes of an input are refused.
-#[repr(C)]
-#[derive(Clone, Copy, Debug, PartialEq, Eq)]
-pub struct Refusal {
-    /// The offset of the first byte: of a data item or a map key that is refused, or of where the bytes
-    /// aren't well-formed.
-    pub offset: usize,
-    /// Their number: the length of the data item or the map key, or all bytes from there on.
-    pub len: usize,
+/// Explains why no data item begins the input.
+fn judge_item(alloc: Global, input: &[u8]) -> Result<Verdict, OutOfMemory>
+    ensures { IfOk result (IsVerdict (IsFrontLength input.now) (TellsItem input.now)) }
+{
+    if let Some(len) = item_len(input) {
+        return Ok(Verdict::Accepted(len));
+    }
+    let stop = malformed(input).unwrap();
+    let text = format!(in alloc; "{stop}")?;
+    Ok(Verdict::Refused(Reason {
+        status: message_status(Fault::DecodeFailed),
+        refusal: refused_from(stop, input.len()),
+        text,
+    }))
+}
+
+#[tactic(auto, using(crate::proofs::Explaining::explains_of))]
+fn explain_item(
+    alloc: Global,
+    input: &[u8],
+    read: &mut usize,
+    refusal: &mut Refusal,
+    out: &mut [u8],
+    len: &mut usize,
+) -> u32
+    ensures { ExplainsItem input.now
+        (record { read = read.old; refusal = refusal.old; text = out.old; len = len.old })
+        (record { read = read.new; refusal = refusal.new; text = out.new; len = len.new }) result }
+{
+    tell(judge_item(alloc, input), read, refusal, out, len)
 }
 
 /// Returns the fault that is explained.
@@ -37,10 +66,7 @@ fn refusal_of(explanation: &Explanation, len: usize) -> Refusal
     ensures { result ≡ refusal_of len explanation.now }
 {
     match explanation {
-        Explanation::NotWellFormed(malformed) => Refusal {
-            offset: malformed.offset,
-            len: len.saturating_sub(malformed.offset),
-        },
+        Explanation::NotWellFormed(malformed) => refused_from(*malformed, len),
         Explanation::Refused(item) => Refusal {
             offset: item.extent.offset,
             len: item.extent.len,
@@ -48,82 +74,163 @@ fn refusal_of(explanation: &Explanation, len: usize) -> Refusal
     }
 }
 
-/// Copies as much of the text as there is room for to the beginning of the output.
-fn put_front(out: &mut [u8], text: &[u8])
-    ensures { out.new ≡ take (length out.old) text.now ++ drop (length text.now) out.old }
+/// Returns the length of the data item at the beginning of the input.
+fn front_len(input: &[u8]) -> usize
+    requires { (x : Item) × ((len : ℕ) × IsLeadingItem input.now x len) }
+    ensures { IsFrontLength input.now result }
 {
-    let len = text.len().min(out.len());
-    out[..len].copy_from_slice(&text[..len]);
+    item_len(input).unwrap()
 }
 
-fn explain_as<M: Message>(
+fn judge_message<M: Message>(alloc: Global, input: &[u8]) -> Result<Verdict, OutOfMemory>
+    ensures { IfOk result
+        (IsVerdict (AcceptsMessage M.Record.fields input.now) (TellsMessage M.Record.fields input.now)) }
+{
+    let Some(explanation) = explain::<M>(alloc, input)? else {
+        return Ok(Verdict::Accepted(front_len(input)));
+    };
+    let text = format!(in alloc; "{explanation}")?;
+    Ok(Verdict::Refused(Reason {
+        status: message_status(fault_of(&explanation)),
+        refusal: refusal_of(&explanation, input.len()),
+        text,
+    }))
+}
+
+#[tactic(auto, using(crate::proofs::Explaining::explains_of))]
+fn explain_message<M: Message>(
     alloc: Global,
     input: &[u8],
+    read: &mut usize,
     refusal: &mut Refusal,
     out: &mut [u8],
     len: &mut usize,
 ) -> u32
-    ensures { ExplainsIn M.Record.fields input.now (record { refusal = refusal.old; text = out.old; len = len.old })
-        (record { refusal = refusal.new; text = out.new; len = len.new }) result }
+    ensures { ExplainsMessage M.Record.fields input.now
+        (record { read = read.old; refusal = refusal.old; text = out.old; len = len.old })
+        (record { read = read.new; refusal = refusal.new; text = out.new; len = len.new }) result }
 {
-    let explanation = match explain::<M>(alloc, input) {
-        Ok(Some(explanation)) => explanation,
-        Ok(None) => return 0,
-        Err(_) => return 2,
-    };
-    let Ok(text) = format!(in alloc; "{explanation}") else {
-        return 2;
-    };
-    *refusal = refusal_of(&explanation, input.len());
-    put_front(out, text.as_bytes());
-    *len = text.len();
-    message_status(fault_of(&explanation))
+    tell(judge_message::<M>(alloc, input), read, refusal, out, len)
 }
 
-/// Explains why the message at the beginning of the input is refused. Returns PUFFGRIT_OK if it is
-/// accepted; the status of its fault, as puffgrit_rewrite; PUFFGRIT_OUT_OF_MEMORY if an allocation
-/// fails; or PUFFGRIT_UNKNOWN_KIND. The kinds are those of puffgrit_json.
+/// Returns what is refused where bytes may follow the data.
+fn refused_in_front(found: Option<DataRefusal>) -> Option<DataRefusal>
+    ensures { result ≡ refused_in_front found }
+{
+    match found {
+        Some(refusal) => match refusal.part {
+            DataPart::Trailing => None,
+            _ => Some(refusal),
+        },
+        None => None,
+    }
+}
+
+/// Returns which of so many bytes are refused: those of a part, or of what in it is refused for this
+/// reason.
+fn bytes_in(reason: DataReason, part: Refusal, len: usize) -> Refusal
+    ensures { result ≡ bytes_in len reason part }
+{
+    match reason {
+        DataReason::NotWellFormed(stop) => refused_from(stop, len),
+        DataReason::Key(_, extent) => Refusal {
+            offset: extent.offset,
+            len: extent.len,
+        },
+        _ => part,
+    }
+}
+
+fn refusal_in(refused: DataRefusal, len: usize) -> Refusal
+    ensures { result ≡ refusal_in len refused }
+{
+    let part = Refusal {
+        offset: refused.extent.offset,
+        len: refused.extent.len,
+    };
+    bytes_in(refused.reason, part, len)
+}
+
+fn judge_data(alloc: Global, input: &[u8]) -> Result<Verdict, OutOfMemory>
+    ensures { IfOk result (IsVerdict (AcceptsData input.now) (TellsData input.now)) }
+{
+    let found = explain_data(alloc, input)?;
+    let Some(refused) = refused_in_front(found) else {
+        return Ok(Verdict::Accepted(data_len(input)));
+    };
+    let text = format!(in alloc; "{refused}")?;
+    Ok(Verdict::Refused(Reason {
+        status: data_status(refused.fault),
+        refusal: refusal_in(refused, input.len()),
+        text,
+    }))
+}
+
+#[tactic(auto, using(crate::proofs::Explaining::explains_of))]
+fn explain_auth(
+    alloc: Global,
+    input: &[u8],
+    read: &mut usize,
+    refusal: &mut Refusal,
+    out: &mut [u8],
+    len: &mut usize,
+) -> u32
+    ensures { ExplainsAuth input.now
+        (record { read = read.old; refusal = refusal.old; text = out.old; len = len.old })
+        (record { read = read.new; refusal = refusal.new; text = out.new; len = len.new }) result }
+{
+    tell(judge_data(alloc, input), read, refusal, out, len)
+}
+
+fn explain_bytes(
+    alloc: Global,
+    kind: BytesKind,
+    input: &[u8],
+    read: &mut usize,
+    refusal: &mut Refusal,
+    out: &mut [u8],
+    len: &mut usize,
+) -> u32
+    ensures { ExplainsBytes kind input.now
+        (record { read = read.old; refusal = refusal.old; text = out.old; len = len.old })
+        (record { read = read.new; refusal = refusal.new; text = out.new; len = len.new }) result }
+{
+    of_message!(
+        kind, explain_message(alloc, input, read, refusal, out, len),
+        BytesKind::Cbor => explain_item(alloc, input, read, refusal, out, len),
+        BytesKind::Auth => explain_auth(alloc, input, read, refusal, out, len),
+    )
+}
+
+/// Explains why the input is refused as this kind. Returns PUFFGRIT_OK if it is accepted, with how
+/// many of its bytes were decoded in `read`, as puffgrit_rewrite; the status of its fault, as
+/// puffgrit_rewrite; PUFFGRIT_OUT_OF_MEMORY if an allocation fails; or PUFFGRIT_UNKNOWN_KIND. The
+/// kinds are those of bytes.
 ///
-/// For a fault `refusal` says which bytes are refused: the innermost data item, or map key, that the
-/// message's table refuses, or the bytes from where they aren't well-formed; and a text is written to
-/// the beginning of `out`, or as much of it as there is room for, and its whole length to `len`. It
-/// says in ASCII where in the message these bytes are and what is wanted there, as
-/// "user.id: a byte string is wanted (offset 58, length 10)". Otherwise nothing is written.
+/// For a fault `refusal` says which bytes are refused: of a message the innermost data item, or map
+/// key, that its table refuses; of authenticator data the part, or what in the credential public key;
+/// or the bytes from where they aren't well-formed; and a text is written to the beginning of `out`,
+/// or as much of it as there is room for, and its whole length to `len`. It says in ASCII where these
+/// bytes are and what is wanted there, as "user.id: a byte string is wanted (offset 58, length 10)".
+/// Otherwise nothing is written.
 ///
-/// (CTAP 2.1, section 6; RFC 8949, section 3.)
+/// (CTAP 2.1, section 6; RFC 8949, section 3; WebAuthn Level 3, section 6.1.)
 #[unsafe(no_mangle)]
 pub extern "C" fn puffgrit_explain(
     alloc: Global,
     kind: u32,
     input: &[u8],
+    read: &mut usize,
     refusal: &mut Refusal,
     out: &mut [u8],
     len: &mut usize,
 ) -> u32
     ensures { ExplainsAs (form_numbered kind) input.now
-        (record { refusal = refusal.old; text = out.old; len = len.old })
-        (record { refusal = refusal.new; text = out.new; len = len.new }) result }
+        (record { read = read.old; refusal = refusal.old; text = out.old; len = len.old })
+        (record { read = read.new; refusal = refusal.new; text = out.new; len = len.new }) result }
 {
-    let Some(Form::Bytes(kind)) = form_of(kind) else {
-        return 3;
-    };
-    match kind {
-        BytesKind::Cbor | BytesKind::Auth => 3,
-        BytesKind::MakeRequest => {
-            explain_as::<passkey_make_credential::Request>(alloc, input, refusal, out, len)
-        }
-        BytesKind::MakeResponse => {
-            explain_as::<passkey_make_credential::Response>(alloc, input, refusal, out, len)
-        }
-        BytesKind::GetRequest => {
-            explain_as::<passkey_get_assertion::Request>(alloc, input, refusal, out, len)
-        }
-        BytesKind::GetResponse => {
-            explain_as::<passkey_get_assertion::Response>(alloc, input, refusal, out, len)
-        }
-        BytesKind::Info => {
-            explain_as::<passkey_get_info::Response>(alloc, input, refusal, out, len)
-        }
-        BytesKind::HmacInput => explain_as::<HmacGetSecretInput>(alloc, input, refusal, out, len),
+    match form_of(kind) {
+        Some(Form::Bytes(kind)) => explain_bytes(alloc, kind, input, read, refusal, out, len),
+        _ => 3,
     }
 }

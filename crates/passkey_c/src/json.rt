@@ -1,80 +1,138 @@
-//! Messages as JSON, for C.
-ghost use Rattle.std.specs.Prelude.{IfOk, IfErr};
+//! What is in an input, as JSON, for C.
+ghost use Rattle.std.specs.Prelude.{◌≡◌, IfOk, IfErr};
 ghost use Rattle.passkey_c.specs.Forms.{form_numbered};
-ghost use Rattle.passkey_c.specs.Json.{IsMessageJson, ShowsJson, WritesJson};
+ghost use Rattle.passkey_c.specs.Json.{IsDataJson, IsItemJson, IsMessageJson, ShowsBytes, ShowsData, ShowsItem, ShowsJson, ShowsMessage};
 ghost use Rattle.passkey_kinds.specs.Record.{read_item};
-ghost use Rattle.passkey_run.specs.Rewriting.{IsMessageRefusal};
+ghost use Rattle.passkey_run.specs.Rewriting.{IsCborRefusal, IsDataRefusal, IsMessageRefusal};
 
 use crate::form::{Form, form_of};
+use crate::of_message::of_message;
+use crate::rewrite::write_json_text;
 use crate::write::write;
 use passkey_cbor::{CborError, Value};
+use passkey_core::AuthenticatorData;
+use passkey_describe_data::{describe_data, describe_item};
 use passkey_explain::describe;
-use passkey_extensions::HmacGetSecretInput;
+use passkey_explain_data::data_len;
 use passkey_kinds::{Fault, Message};
 use passkey_report::json_of;
 use passkey_run::{BytesKind, RunFault};
 use std::alloc::Global;
 
-/// Returns the JSON of the message at the beginning of the bytes.
-fn message_json<M: Message>(alloc: Global, input: &[u8]) -> Result<Vec<u8>, RunFault>
-    ensures ok { IfOk result (λ text. IsMessageJson M.Record.fields input.now text.items) }
+/// Returns the JSON of the message at the beginning of the bytes, and the message's length.
+fn message_json<M: Message>(alloc: Global, input: &[u8]) -> Result<(Vec<u8>, usize), RunFault>
+    ensures ok { IfOk result (λ made. IsMessageJson M.Record.fields input.now made.0.items made.1) }
     ensures err { IfErr result (IsMessageRefusal (read_item M.Record.fields) input.now) }
 {
-    let value = match Value::from_slice(alloc, input) {
-        Ok((value, _len)) => value,
+    let (value, len) = match Value::from_slice(alloc, input) {
+        Ok(front) => front,
         Err(CborError::OutOfMemory) => return Err(RunFault::OutOfMemory),
         Err(_) => return Err(RunFault::MessageRefused(Fault::DecodeFailed)),
     };
     M::from_value(alloc, &value)?;
     let description = describe::<M>(alloc, &value)?;
     let text = json_of(alloc, &description)?;
-    Ok(text.into_bytes())
+    Ok((text.into_bytes(), len))
 }
 
 #[tactic(auto, using(crate::proofs::Writing::writes_of))]
-fn write_json<M: Message>(alloc: Global, input: &[u8], out: &mut [u8], len: &mut usize) -> u32
-    ensures { WritesJson M.Record.fields input.now out.old out.new len.old len.new result }
+fn show_message<M: Message>(
+    alloc: Global,
+    input: &[u8],
+    read: &mut usize,
+    out: &mut [u8],
+    len: &mut usize,
+) -> u32
+    ensures { ShowsMessage M.Record.fields input.now
+        (record { read = read.old; out = out.old; len = len.old })
+        (record { read = read.new; out = out.new; len = len.new }) result }
 {
-    write(message_json::<M>(alloc, input), out, len)
+    write(message_json::<M>(alloc, input), read, out, len)
 }
 
-/// Decodes the message at the beginning of the input, and writes it as compact JSON to the beginning
-/// of `out`, and the JSON's length to `len`: members by their names, byte strings in base64url without
-/// padding, AAGUIDs as UUIDs, algorithms by their names. A member that the message's table hasn't is
-/// written under its key, as it is; keys that are no text, floats, tags and simple values are strings
-/// in diagnostic notation (RFC 8949, section 8). The kinds are those of CTAP2's messages, from
-/// PUFFGRIT_KIND_MC_REQUEST to PUFFGRIT_KIND_HMAC_INPUT.
+/// Returns the JSON of the data item at the beginning of the bytes, and the item's length.
+fn item_json(alloc: Global, input: &[u8]) -> Result<(Vec<u8>, usize), RunFault>
+    ensures ok { IfOk result (λ made. IsItemJson input.now made.0.items made.1) }
+    ensures err { IfErr result (IsCborRefusal input.now) }
+{
+    let (value, len) = Value::from_slice(alloc, input)?;
+    let description = describe_item(alloc, &value)?;
+    let text = json_of(alloc, &description)?;
+    Ok((text.into_bytes(), len))
+}
+
+#[tactic(auto, using(crate::proofs::Writing::writes_of))]
+fn show_item(alloc: Global, input: &[u8], read: &mut usize, out: &mut [u8], len: &mut usize) -> u32
+    ensures { ShowsItem input.now (record { read = read.old; out = out.old; len = len.old })
+        (record { read = read.new; out = out.new; len = len.new }) result }
+{
+    write(item_json(alloc, input), read, out, len)
+}
+
+/// Returns the JSON of the authenticator data at the beginning of the bytes, and how many of them
+/// they take.
+fn data_json(alloc: Global, input: &[u8]) -> Result<(Vec<u8>, usize), RunFault>
+    ensures ok { IfOk result (λ made. IsDataJson input.now made.0.items made.1) }
+    ensures err { IfErr result (IsDataRefusal input.now) }
+{
+    let data = AuthenticatorData::from_slice(alloc, input)?;
+    let description = describe_data(alloc, &data)?;
+    let text = json_of(alloc, &description)?;
+    Ok((text.into_bytes(), data_len(input)))
+}
+
+#[tactic(auto, using(crate::proofs::Writing::writes_of))]
+fn show_data(alloc: Global, input: &[u8], read: &mut usize, out: &mut [u8], len: &mut usize) -> u32
+    ensures { ShowsData input.now (record { read = read.old; out = out.old; len = len.old })
+        (record { read = read.new; out = out.new; len = len.new }) result }
+{
+    write(data_json(alloc, input), read, out, len)
+}
+
+fn show_bytes(
+    alloc: Global,
+    kind: BytesKind,
+    input: &[u8],
+    read: &mut usize,
+    out: &mut [u8],
+    len: &mut usize,
+) -> u32
+    ensures { ShowsBytes kind input.now (record { read = read.old; out = out.old; len = len.old })
+        (record { read = read.new; out = out.new; len = len.new }) result }
+{
+    of_message!(
+        kind, show_message(alloc, input, read, out, len),
+        BytesKind::Cbor => show_item(alloc, input, read, out, len),
+        BytesKind::Auth => show_data(alloc, input, read, out, len),
+    )
+}
+
+/// Decodes the input as this kind, and writes what is in it as compact JSON to the beginning of
+/// `out`, and the JSON's length to `len`; and to `read` how many bytes of the input were decoded, as
+/// puffgrit_rewrite does. The members of messages and of keys, and the parts of authenticator data, are
+/// written by their names, byte strings in base64url without padding, AAGUIDs as UUIDs, algorithms and
+/// flags by their names. A member that the message's table hasn't is written under its key, as it is;
+/// keys that are no text, floats, tags and simple values are strings in diagnostic notation (RFC 8949,
+/// section 8). Of a JSON text it writes what puffgrit_rewrite does.
 ///
-/// Returns what puffgrit_rewrite returns, with the same faults, and leaves `out` and `len` as it does.
-/// (CTAP 2.1, section 6.)
+/// Returns what puffgrit_rewrite returns, with the same faults, and leaves `out`, `len` and `read` as
+/// it does. (CTAP 2.1, section 6; WebAuthn Level 3, section 6.1.)
 #[unsafe(no_mangle)]
 pub extern "C" fn puffgrit_json(
     alloc: Global,
     kind: u32,
     input: &[u8],
+    read: &mut usize,
     out: &mut [u8],
     len: &mut usize,
 ) -> u32
-    ensures { ShowsJson (form_numbered kind) input.now out.old out.new len.old len.new result }
+    ensures { ShowsJson (form_numbered kind) input.now
+        (record { read = read.old; out = out.old; len = len.old })
+        (record { read = read.new; out = out.new; len = len.new }) result }
 {
-    let Some(Form::Bytes(kind)) = form_of(kind) else {
-        return 3;
-    };
-    match kind {
-        BytesKind::Cbor | BytesKind::Auth => 3,
-        BytesKind::MakeRequest => {
-            write_json::<passkey_make_credential::Request>(alloc, input, out, len)
-        }
-        BytesKind::MakeResponse => {
-            write_json::<passkey_make_credential::Response>(alloc, input, out, len)
-        }
-        BytesKind::GetRequest => {
-            write_json::<passkey_get_assertion::Request>(alloc, input, out, len)
-        }
-        BytesKind::GetResponse => {
-            write_json::<passkey_get_assertion::Response>(alloc, input, out, len)
-        }
-        BytesKind::Info => write_json::<passkey_get_info::Response>(alloc, input, out, len),
-        BytesKind::HmacInput => write_json::<HmacGetSecretInput>(alloc, input, out, len),
+    match form_of(kind) {
+        Some(Form::Bytes(kind)) => show_bytes(alloc, kind, input, read, out, len),
+        Some(Form::Json(kind)) => write_json_text(alloc, kind, input, read, out, len),
+        None => 3,
     }
 }

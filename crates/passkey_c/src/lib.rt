@@ -8,18 +8,21 @@ ghost use Rattle.std.specs.Prelude.{◌≡◌};
 mod explain;
 mod form;
 mod json;
+mod of_message;
 mod rewrite;
 mod status;
+mod verdict;
 mod write;
 
-pub use explain::{Refusal, puffgrit_explain};
+pub use explain::puffgrit_explain;
 pub use json::puffgrit_json;
 pub use rewrite::puffgrit_rewrite;
+pub use verdict::Refusal;
 
-/// The version of this interface: 1. A call or a struct that changes raises it.
+/// The version of this interface: 2. A call or a struct that changes raises it.
 #[unsafe(no_mangle)]
 pub extern "C" fn puffgrit_version() -> u32
-    ensures { result ≡ 1 }
+    ensures { result ≡ 2 }
 {
-    1
+    2
 }

@@ -31,7 +31,7 @@ pub(crate) fn message_status(fault: Fault) -> u32
 }
 
 /// Returns the status of the fault of a data item or of authenticator data.
-fn data_status(error: CoseError) -> u32
+pub(crate) fn data_status(error: CoseError) -> u32
     ensures { result ≡ data_status error }
 {
     match error {

@@ -13,15 +13,24 @@ fn put(out: &mut [u8], bytes: &[u8])
     out[..bytes.len()].copy_from_slice(bytes);
 }
 
-/// Writes the bytes to the beginning of `out`, and their length to `len`. Returns the call's status.
-/// If `out` has fewer bytes, `len` alone is written, and on a fault nothing.
-pub(crate) fn write(bytes: Result<Vec<u8>, RunFault>, out: &mut [u8], len: &mut usize) -> u32
-    ensures { WritesResult (λ v. v.items) bytes out.old out.new len.old len.new result }
+/// Writes the bytes that were made to the beginning of `out`, their length to `len`, and to `read` how
+/// many bytes of the input they were made from. Returns the call's status. If `out` has fewer bytes, it
+/// isn't written, and on a fault nothing is.
+pub(crate) fn write(
+    made: Result<(Vec<u8>, usize), RunFault>,
+    read: &mut usize,
+    out: &mut [u8],
+    len: &mut usize,
+) -> u32
+    ensures { WritesResult (λ v. (v.0.items, v.1)) made
+        (record { read = read.old; out = out.old; len = len.old })
+        (record { read = read.new; out = out.new; len = len.new }) result }
 {
-    let bytes = match bytes {
-        Ok(bytes) => bytes,
+    let (bytes, taken) = match made {
+        Ok(made) => made,
         Err(fault) => return status_of(fault),
     };
+    *read = taken;
     *len = bytes.len();
     if bytes.len() > out.len() {
         return 1;
