@@ -60,6 +60,36 @@ typedef unsigned char puffgrit_bool; /* 0 or 1 */
 #define PUFFGRIT_KIND_CREATED 11u
 #define PUFFGRIT_KIND_AUTHENTICATED 12u
 #define PUFFGRIT_KIND_CLIENT_DATA 13u
+#define PUFFGRIT_KIND_PIN_REQUEST 14u
+#define PUFFGRIT_KIND_PIN_RESPONSE 15u
+#define PUFFGRIT_KIND_BIO_REQUEST 16u
+#define PUFFGRIT_KIND_BIO_RESPONSE 17u
+#define PUFFGRIT_KIND_CM_REQUEST 18u
+#define PUFFGRIT_KIND_CM_RESPONSE 19u
+#define PUFFGRIT_KIND_LB_REQUEST 20u
+#define PUFFGRIT_KIND_LB_RESPONSE 21u
+#define PUFFGRIT_KIND_LB_ENTRY 22u
+#define PUFFGRIT_KIND_CFG_REQUEST 23u
+#define PUFFGRIT_KIND_CFG_MIN_PIN_LENGTH 24u
+#define PUFFGRIT_KIND_CFG_VENDOR 25u
+#define PUFFGRIT_KIND_COSE_KEY 26u
+#define PUFFGRIT_KIND_INFO_23 27u
+#define PUFFGRIT_KIND_MC_INPUTS 28u
+#define PUFFGRIT_KIND_MC_OUTPUTS 29u
+#define PUFFGRIT_KIND_MC_UNSIGNED 30u
+#define PUFFGRIT_KIND_GA_INPUTS 31u
+#define PUFFGRIT_KIND_GA_OUTPUTS 32u
+#define PUFFGRIT_KIND_GA_UNSIGNED 33u
+#define PUFFGRIT_KIND_ATT_PACKED 34u
+#define PUFFGRIT_KIND_ATT_TPM 35u
+#define PUFFGRIT_KIND_ATT_ANDROID_KEY 36u
+#define PUFFGRIT_KIND_ATT_ANDROID_SAFETYNET 37u
+#define PUFFGRIT_KIND_ATT_FIDO_U2F 38u
+#define PUFFGRIT_KIND_ATT_NONE 39u
+#define PUFFGRIT_KIND_ATT_APPLE 40u
+#define PUFFGRIT_KIND_ATT_COMPOUND 41u
+#define PUFFGRIT_KIND_TPM_CERT_INFO 42u
+#define PUFFGRIT_KIND_TPM_PUB_AREA 43u
 
 /* The statuses of calls that decode. A fault's status is in the first byte, and the number of its member in the second. */
 #define PUFFGRIT_OK 0u
@@ -131,13 +161,13 @@ typedef struct {
 /* Decodes the input as this kind, encodes the result again, in CTAP2's canonical form or as compact JSON, and writes it
    to the beginning of out and its length to len; and to read how many bytes of the input were decoded: those of the data
    item or the message at its beginning, as puffgrit_item_len counts them; those of authenticator data up to the end of
-   their last part; or all of a JSON text. Bytes behind these are ignored: a caller for whom there must be none compares
-   read with the input's length. Returns PUFFGRIT_OK then; PUFFGRIT_TOO_SHORT, with the length that is needed in len, if
-   the output has fewer bytes; PUFFGRIT_OUT_OF_MEMORY if an allocation fails; PUFFGRIT_UNKNOWN_KIND; or why the input is
-   rejected: its first fault, from PUFFGRIT_FAULT_DECODE_FAILED on, and in the second byte the number of the member that
-   it is about (PUFFGRIT_MEMBER_OF). out stays as it was but for PUFFGRIT_OK, and so do len and read but for PUFFGRIT_OK
-   and PUFFGRIT_TOO_SHORT. All memory that was allocated is freed. (CTAP 2.1, sections 6 and 8; WebAuthn Level 3,
-   sections 5 and 6.1.) */
+   their last part; or all of a JSON text or a structure of a TPM. Bytes behind these are ignored: a caller for whom
+   there must be none compares read with the input's length. Returns PUFFGRIT_OK then; PUFFGRIT_TOO_SHORT, with the
+   length that is needed in len, if the output has fewer bytes; PUFFGRIT_OUT_OF_MEMORY if an allocation fails;
+   PUFFGRIT_UNKNOWN_KIND; or why the input is rejected: its first fault, from PUFFGRIT_FAULT_DECODE_FAILED on, and in the
+   second byte the number of the member that it is about (PUFFGRIT_MEMBER_OF). out stays as it was but for PUFFGRIT_OK,
+   and so do len and read but for PUFFGRIT_OK and PUFFGRIT_TOO_SHORT. All memory that was allocated is freed. (CTAP 2.1,
+   sections 6 and 8; WebAuthn Level 3, sections 5 to 8.) */
 uint32_t puffgrit_rewrite(uint32_t kind, const uint8_t *input, size_t input_len, size_t *read, uint8_t *out, size_t out_len, size_t *len);
 
 /* The version of this interface: 2. A call or a struct that changes raises it. */
@@ -148,18 +178,20 @@ uint32_t puffgrit_version(void);
    and of keys, and the parts of authenticator data, are written by their names, byte strings in base64url without
    padding, AAGUIDs as UUIDs, algorithms and flags by their names. A member that the message's table hasn't is written
    under its key, as it is; keys that are no text, floats, tags and simple values are strings in diagnostic notation (RFC
-   8949, section 8). Of a JSON text it writes what puffgrit_rewrite does. Returns what puffgrit_rewrite returns, with the
-   same faults, and leaves out, len and read as it does. (CTAP 2.1, section 6; WebAuthn Level 3, section 6.1.) */
+   8949, section 8). Of a JSON text it writes what puffgrit_rewrite does. The kinds are all but attestation statements
+   and structures of a TPM. Returns what puffgrit_rewrite returns, with the same faults, and leaves out, len and read as
+   it does. (CTAP 2.1, section 6; WebAuthn Level 3, section 6.1.) */
 uint32_t puffgrit_json(uint32_t kind, const uint8_t *input, size_t input_len, size_t *read, uint8_t *out, size_t out_len, size_t *len);
 
 /* Explains why the input is refused as this kind. Returns PUFFGRIT_OK if it is accepted, with how many of its bytes were
    decoded in read, as puffgrit_rewrite; the status of its fault, as puffgrit_rewrite; PUFFGRIT_OUT_OF_MEMORY if an
-   allocation fails; or PUFFGRIT_UNKNOWN_KIND. The kinds are those of bytes. For a fault refusal says which bytes are
-   refused: of a message the innermost data item, or map key, that its table refuses; of authenticator data the part, or
-   what in the credential public key; or the bytes from where they aren't well-formed; and a text is written to the
-   beginning of out, or as much of it as there is room for, and its whole length to len. It says in ASCII where these
-   bytes are and what is wanted there, as "user.id: a byte string is wanted (offset 58, length 10)". Otherwise nothing is
-   written. (CTAP 2.1, section 6; RFC 8949, section 3; WebAuthn Level 3, section 6.1.) */
+   allocation fails; or PUFFGRIT_UNKNOWN_KIND. The kinds are those of messages, PUFFGRIT_KIND_CBOR and
+   PUFFGRIT_KIND_AUTH. For a fault refusal says which bytes are refused: of a message the innermost data item, or map
+   key, that its table refuses; of authenticator data the part, or what in the credential public key; or the bytes from
+   where they aren't well-formed; and a text is written to the beginning of out, or as much of it as there is room for,
+   and its whole length to len. It says in ASCII where these bytes are and what is wanted there, as "user.id: a byte
+   string is wanted (offset 58, length 10)". Otherwise nothing is written. (CTAP 2.1, section 6; RFC 8949, section 3;
+   WebAuthn Level 3, section 6.1.) */
 uint32_t puffgrit_explain(uint32_t kind, const uint8_t *input, size_t input_len, size_t *read, puffgrit_refusal *refusal, uint8_t *out, size_t out_len, size_t *len);
 
 /* Returns the length in bytes of the data item at the beginning of the bytes, or 0 if they don't begin with a

@@ -15,20 +15,23 @@ from pathlib import Path
 from typing import Iterator
 
 __all__ = [
-    "BYTES_KINDS", "KINDS", "AuthData", "Fault", "Item", "auth_parts", "decode", "decode_front", "elements", "explain", "is_canonical",
+    "EXPLAINED", "KINDS", "AuthData", "Fault", "Item", "auth_parts", "decode", "decode_front", "elements", "explain", "is_canonical",
     "item_at", "item_len", "member", "rewrite", "rewrite_front", "version",
 ]  # fmt: skip
 
 UNSIGNED, NEGATIVE, BYTES, TEXT, ARRAY, MAP, TAG, SIMPLE, FLOAT = range(9)
 INDEFINITE = 2**64 - 1
 
-#: The kinds of `rewrite`: of bytes, and from `creation` on of JSON texts.
+#: The kinds of `rewrite`: of bytes, from `creation` to `client-data` of JSON texts, and then further ones of bytes.
 KINDS = (
-    "cbor auth mc-request mc-response ga-request ga-response info hmac-input creation request created authenticated client-data"
+    "cbor auth mc-request mc-response ga-request ga-response info hmac-input creation request created authenticated client-data "
+    "pin-request pin-response bio-request bio-response cm-request cm-response lb-request lb-response lb-entry cfg-request "
+    "cfg-min-pin-length cfg-vendor cose-key info-23 mc-inputs mc-outputs mc-unsigned ga-inputs ga-outputs ga-unsigned att-packed att-tpm "
+    "att-android-key att-android-safetynet att-fido-u2f att-none att-apple att-compound tpm-cert-info tpm-pub-area"
 ).split()
 
-#: The kinds of bytes, which `explain` has.
-BYTES_KINDS = KINDS[:8]
+#: The kinds of `explain`: data items, authenticator data and messages.
+EXPLAINED = [*KINDS[:8], *KINDS[13:25], *KINDS[26:33]]
 
 _FAULTS = {
     16: "DecodeFailed",
@@ -248,7 +251,7 @@ def _written(call, kind: str, data: bytes) -> tuple[bytes, int]:
         return out.raw[: length.value], read.value
     if status == 2:
         raise MemoryError("puffgrit")
-    raise (explain(kind, data) if kind in BYTES_KINDS else None) or _fault(status)
+    raise (explain(kind, data) if kind in EXPLAINED else None) or _fault(status)
 
 
 def _fault(status: int) -> Fault:
@@ -271,7 +274,8 @@ def rewrite_front(kind: str, data: bytes) -> tuple[bytes, int]:
 
 
 def decode(kind: str, data: bytes) -> object:
-    """What is in the data, which is of the kind (one of `KINDS`): a message, a key, authenticator data or a record as a dictionary.
+    """What is in the data, which is of the kind (one of `KINDS` up to `ga-unsigned`): a message, a key, authenticator data or a record
+    as a dictionary.
 
     Members have their names, byte strings are base64url without padding, AAGUIDs are UUIDs, and algorithms have their names. Raises
     what `rewrite` raises.
@@ -281,13 +285,14 @@ def decode(kind: str, data: bytes) -> object:
 
 def decode_front(kind: str, data: bytes) -> tuple[object, int]:
     """What `decode` returns, and how many bytes of the data were decoded."""
+    _number(kind, KINDS[:33])
     text, read = _written(_library.puffgrit_json, kind, data)
     return json.loads(text), read
 
 
 def explain(kind: str, data: bytes) -> Fault | None:
-    """Why the data is rejected as the kind (one of `BYTES_KINDS`), or `None` if it isn't. Raises `MemoryError`."""
-    number, room = _number(kind, BYTES_KINDS), 1024
+    """Why the data is rejected as the kind (one of `EXPLAINED`), or `None` if it isn't. Raises `MemoryError`."""
+    number, room = _number(kind, EXPLAINED), 1024
     read, length, refusal = ctypes.c_size_t(), ctypes.c_size_t(), _Refusal()
     given = (number, _checked(data), len(data), ctypes.byref(read), ctypes.byref(refusal))
     while True:

@@ -68,8 +68,13 @@ class Puffgrit(unittest.TestCase):
         decoded = puffgrit.decode("info", info)
         self.assertEqual([it["alg"] for it in decoded["algorithms"]], ["ES256", "EdDSA"])
         self.assertEqual(puffgrit.decode("request", b'{"publicKey":{"challenge":"AQ=="}}')["publicKey"]["challenge"], "AQ")
-        with self.assertRaises(ValueError):
-            puffgrit.decode("key", b"\xa0")
+        # RFC 9053, section 7.1.1, and WebAuthn Level 3, section 6.1
+        key = bytes.fromhex("a5010203262001215820") + bytes(32) + bytes.fromhex("225820") + bytes(32)
+        self.assertEqual(puffgrit.decode("cose-key", key), {"kty": "EC2", "alg": "ES256", "crv": "P-256", "x": "A" * 43, "y": "A" * 43})
+        self.assertEqual(puffgrit.decode("auth", bytes(37)), {"rpIdHash": "A" * 43, "flags": [], "signCount": 0})
+        for kind in ["key", "att-none", "tpm-pub-area"]:
+            with self.assertRaises(ValueError):
+                puffgrit.decode(kind, b"\xa0")
 
     def test_explaining(self):
         # versions, and an AAGUID that is a number

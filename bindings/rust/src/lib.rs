@@ -84,7 +84,8 @@ extern "C" {
     ) -> u32;
 }
 
-/// What an input is decoded as: bytes, and from `Creation` on JSON texts.
+/// What an input is decoded as: bytes, JSON texts from `Creation` to `ClientData`, and further kinds
+/// of bytes.
 #[repr(u32)]
 #[derive(Clone, Copy, Debug, PartialEq, Eq)]
 pub enum Kind {
@@ -101,6 +102,36 @@ pub enum Kind {
     Created,
     Authenticated,
     ClientData,
+    ClientPinRequest,
+    ClientPinResponse,
+    BioEnrollmentRequest,
+    BioEnrollmentResponse,
+    CredentialManagementRequest,
+    CredentialManagementResponse,
+    LargeBlobsRequest,
+    LargeBlobsResponse,
+    LargeBlobsEntry,
+    ConfigRequest,
+    ConfigMinPinLength,
+    ConfigVendor,
+    CoseKey,
+    Info23,
+    MakeCredentialInputs,
+    MakeCredentialOutputs,
+    MakeCredentialUnsigned,
+    GetAssertionInputs,
+    GetAssertionOutputs,
+    GetAssertionUnsigned,
+    PackedStatement,
+    TpmStatement,
+    AndroidKeyStatement,
+    AndroidSafetyNetStatement,
+    FidoU2fStatement,
+    NoneStatement,
+    AppleStatement,
+    CompoundStatement,
+    TpmCertInfo,
+    TpmPubArea,
 }
 
 /// What was decoded, and what was written of it.

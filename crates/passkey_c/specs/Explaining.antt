@@ -15,13 +15,14 @@ use Rattle.passkey_kinds.specs.declared.fault.Fault.{Fault}
 use Rattle.passkey_kinds.specs.declared.fault.Fault.TheVariants.{DecodeFailed}
 use Rattle.passkey_malformed.specs.Stops.{IsMalformed}
 use Rattle.passkey_malformed.specs.declared.why.Malformed.{Malformed}
+use Rattle.passkey_rewrite_further.specs.declared.kind.FurtherKind.{FurtherKind}
 use Rattle.passkey_run.specs.Rewriting.{IsFrontLength}
 use Rattle.passkey_run.specs.declared.kind.BytesKind.{BytesKind}
 use Rattle.passkey_run.specs.declared.kind.BytesKind.TheVariants.{Cbor, Auth}
-use Rattle.passkey_c.specs.OfMessage.{OfMessage}
+use Rattle.passkey_c.specs.OfMessage.{OfMessage, OfFurther}
 use Rattle.passkey_c.specs.Statuses.{data_status, message_status}
 use Rattle.passkey_c.specs.declared.form.Form.{Form}
-use Rattle.passkey_c.specs.declared.form.Form.TheVariants.{Bytes}
+use Rattle.passkey_c.specs.declared.form.Form.TheVariants.{Bytes, Further}
 use Rattle.passkey_c.specs.declared.verdict.Refusal.{Refusal}
 use Rattle.passkey_c.specs.declared.verdict.Verdict.{Verdict}
 use Rattle.passkey_c.specs.declared.verdict.Verdict.TheVariants as verdict
@@ -152,6 +153,11 @@ ExplainsBytes Auth input old new status = ExplainsAuth input old new status
 ExplainsBytes kind input old new status =
     OfMessage (λ P t tree. ExplainsMessage t input old new status) (IsUnknown old new status) kind
 
+abbrev pub ExplainsFurther : FurtherKind → List ℕ → Memory → Memory → ℕ → Type 0
+ExplainsFurther kind input old new status =
+    OfFurther (λ P t. ExplainsMessage t input old new status) (IsUnknown old new status) (IsUnknown old new status) kind
+
 abbrev pub ExplainsAs : Option Form → List ℕ → Memory → Memory → ℕ → Type 0
 ExplainsAs (Some (Bytes kind)) input old new status = ExplainsBytes kind input old new status
+ExplainsAs (Some (Further kind)) input old new status = ExplainsFurther kind input old new status
 ExplainsAs _ input old new status = IsUnknown old new status

@@ -2,12 +2,12 @@
 ghost use Rattle.std.specs.Prelude.{◌≡◌, ℕ, IfOk};
 ghost use Rattle.passkey_cbor.specs.Item.{Item};
 ghost use Rattle.passkey_cbor.specs.LeadingItem.{IsLeadingItem};
-ghost use Rattle.passkey_c.specs.Explaining.{AcceptsData, AcceptsMessage, ExplainsAs, ExplainsAuth, ExplainsBytes, ExplainsItem, ExplainsMessage, IsVerdict, TellsData, TellsItem, TellsMessage, bytes_in, fault_of, refusal_in, refusal_of, refused_in_front};
+ghost use Rattle.passkey_c.specs.Explaining.{AcceptsData, AcceptsMessage, ExplainsAs, ExplainsAuth, ExplainsBytes, ExplainsFurther, ExplainsItem, ExplainsMessage, IsVerdict, TellsData, TellsItem, TellsMessage, bytes_in, fault_of, refusal_in, refusal_of, refused_in_front};
 ghost use Rattle.passkey_c.specs.Forms.{form_numbered};
 ghost use Rattle.passkey_run.specs.Rewriting.{IsFrontLength};
 
 use crate::form::{Form, form_of};
-use crate::of_message::of_message;
+use crate::of_message::{of_further, of_message};
 use crate::status::{data_status, message_status};
 use crate::verdict::{Reason, Refusal, Verdict, refused_from, tell};
 use passkey_cbor::item_len;
@@ -16,6 +16,7 @@ use passkey_explain_data::{DataPart, DataReason, DataRefusal, data_len, explain_
 use passkey_kinds::{Fault, Message};
 use passkey_malformed::malformed;
 use passkey_memory::OutOfMemory;
+use passkey_rewrite_further::FurtherKind;
 use passkey_run::BytesKind;
 use std::alloc::Global;
 
@@ -202,10 +203,39 @@ fn explain_bytes(
     )
 }
 
+fn explain_further(
+    alloc: Global,
+    kind: FurtherKind,
+    input: &[u8],
+    read: &mut usize,
+    refusal: &mut Refusal,
+    out: &mut [u8],
+    len: &mut usize,
+) -> u32
+    ensures { ExplainsFurther kind input.now
+        (record { read = read.old; refusal = refusal.old; text = out.old; len = len.old })
+        (record { read = read.new; refusal = refusal.new; text = out.new; len = len.new }) result }
+{
+    of_further!(
+        kind, explain_message(alloc, input, read, refusal, out, len),
+        FurtherKind::Key => 3,
+        FurtherKind::PackedStatement
+        | FurtherKind::TpmStatement
+        | FurtherKind::AndroidKeyStatement
+        | FurtherKind::SafetyNetStatement
+        | FurtherKind::FidoU2fStatement
+        | FurtherKind::NoneStatement
+        | FurtherKind::AppleStatement
+        | FurtherKind::CompoundStatement
+        | FurtherKind::CertInfo
+        | FurtherKind::PubArea => 3,
+    )
+}
+
 /// Explains why the input is refused as this kind. Returns PUFFGRIT_OK if it is accepted, with how
 /// many of its bytes were decoded in `read`, as puffgrit_rewrite; the status of its fault, as
 /// puffgrit_rewrite; PUFFGRIT_OUT_OF_MEMORY if an allocation fails; or PUFFGRIT_UNKNOWN_KIND. The
-/// kinds are those of bytes.
+/// kinds are those of messages, PUFFGRIT_KIND_CBOR and PUFFGRIT_KIND_AUTH.
 ///
 /// For a fault `refusal` says which bytes are refused: of a message the innermost data item, or map
 /// key, that its table refuses; of authenticator data the part, or what in the credential public key;
@@ -231,6 +261,7 @@ pub extern "C" fn puffgrit_explain(
 {
     match form_of(kind) {
         Some(Form::Bytes(kind)) => explain_bytes(alloc, kind, input, read, refusal, out, len),
+        Some(Form::Further(kind)) => explain_further(alloc, kind, input, read, refusal, out, len),
         _ => 3,
     }
 }
