@@ -30,8 +30,8 @@ KINDS = (
     "att-android-key att-android-safetynet att-fido-u2f att-none att-apple att-compound tpm-cert-info tpm-pub-area"
 ).split()
 
-#: The kinds of `explain`: data items, authenticator data and messages.
-EXPLAINED = [*KINDS[:8], *KINDS[13:25], *KINDS[26:33]]
+#: The kinds of `explain`: data items, authenticator data, messages and keys.
+EXPLAINED = [*KINDS[:8], *KINDS[13:33]]
 
 _FAULTS = {
     16: "DecodeFailed",

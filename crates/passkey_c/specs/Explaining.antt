@@ -1,15 +1,21 @@
 -- What a call that explains why an input is refused returns, and leaves in the caller's memory.
-use Rattle.std.specs.Prelude.{◌≡◌, ◌-◌, ◌++◌, ℕ, List, length, take, drop, Bool, true, false, if◌then◌else◌, Option, Some, None, Result, Ok, Err}
+use Rattle.std.specs.Prelude.{◌≡◌, ◌-◌, ◌+◌, ◌++◌, ◌⊎◌, ℕ, List, length, take, drop, Bool, true, false, if◌then◌else◌, Option, Some, None, Result, Ok, Err}
+use Rattle.passkey_cbor.specs.Item.{Item}
+use Rattle.passkey_cbor.specs.LeadingItem.{IsLeadingItem}
+use Rattle.passkey_explain.specs.Along.{LiesAlong}
 use Rattle.passkey_explain.specs.Explains.{Explains}
 use Rattle.passkey_explain.specs.declared.explanation.Explanation.{Explanation}
 use Rattle.passkey_explain.specs.declared.explanation.Explanation.TheVariants.{NotWellFormed, Refused}
 use Rattle.passkey_explain_data.specs.DataBlame.{ExplainsData}
 use Rattle.passkey_explain_data.specs.DataLength.{IsDataLength}
+use Rattle.passkey_explain_data.specs.KeyBlame.{key_blame, key_path}
+use Rattle.passkey_explain_data.specs.declared.key.KeyRefusal.{KeyRefusal}
 use Rattle.passkey_explain_data.specs.declared.part.DataPart.{DataPart}
 use Rattle.passkey_explain_data.specs.declared.part.DataPart.TheVariants.{Trailing}
 use Rattle.passkey_explain_data.specs.declared.part.DataReason.{DataReason}
 use Rattle.passkey_explain_data.specs.declared.part.DataReason.TheVariants as reason
 use Rattle.passkey_explain_data.specs.declared.part.DataRefusal.{DataRefusal}
+use Rattle.passkey_kinds.specs.Message.{Begins}
 use Rattle.passkey_kinds.specs.Record.{Fields}
 use Rattle.passkey_kinds.specs.declared.fault.Fault.{Fault}
 use Rattle.passkey_kinds.specs.declared.fault.Fault.TheVariants.{DecodeFailed}
@@ -74,6 +80,24 @@ pub record TellsItem (input : List ℕ) (status : ℕ) (refusal : Refusal) : Typ
   pub stops : IsMalformed input stop
   pub fault : status ≡ message_status DecodeFailed
   pub bytes : refusal ≡ refused_from (length input) stop
+
+-- ---- COSE keys
+
+abbrev pub AcceptsKey : List ℕ → ℕ → Type 0
+AcceptsKey input n = Begins input (λ i len. (n ≡ len) × (key_blame i ≡ None))
+
+-- The data item that begins the bytes isn't a key, and this is what in it is to blame, and where it is encoded.
+pub record TellsKey (input : List ℕ) (status : ℕ) (refusal : Refusal) : Type 0 where
+  pub item : Item
+  pub len : ℕ
+  pub leads : IsLeadingItem input item len
+  pub refused : KeyRefusal
+  pub blamed : key_blame item ≡ Some refused
+  pub fault : status ≡ data_status refused.fault
+  pub lies : LiesAlong (key_path refused.blame) item input 0 refusal.offset (refusal.offset + refusal.len)
+
+abbrev pub TellsNoKey : List ℕ → ℕ → Refusal → Type 0
+TellsNoKey input status refusal = TellsItem input status refusal ⊎ TellsKey input status refusal
 
 -- ---- messages
 
@@ -144,6 +168,9 @@ ExplainsMessage t input old new status = Explaining (AcceptsMessage t input) (Te
 abbrev pub ExplainsItem : List ℕ → Memory → Memory → ℕ → Type 0
 ExplainsItem input old new status = Explaining (IsFrontLength input) (TellsItem input) old new status
 
+abbrev pub ExplainsKey : List ℕ → Memory → Memory → ℕ → Type 0
+ExplainsKey input old new status = Explaining (AcceptsKey input) (TellsNoKey input) old new status
+
 abbrev pub ExplainsAuth : List ℕ → Memory → Memory → ℕ → Type 0
 ExplainsAuth input old new status = Explaining (AcceptsData input) (TellsData input) old new status
 
@@ -155,7 +182,8 @@ ExplainsBytes kind input old new status =
 
 abbrev pub ExplainsFurther : FurtherKind → List ℕ → Memory → Memory → ℕ → Type 0
 ExplainsFurther kind input old new status =
-    OfFurther (λ P t. ExplainsMessage t input old new status) (IsUnknown old new status) (IsUnknown old new status) kind
+    OfFurther (λ P t. ExplainsMessage t input old new status) (ExplainsKey input old new status)
+    (IsUnknown old new status) kind
 
 abbrev pub ExplainsAs : Option Form → List ℕ → Memory → Memory → ℕ → Type 0
 ExplainsAs (Some (Bytes kind)) input old new status = ExplainsBytes kind input old new status

@@ -1,18 +1,21 @@
 //! Why inputs are refused, for C.
-ghost use Rattle.std.specs.Prelude.{◌≡◌, ℕ, IfOk};
+ghost use Rattle.std.specs.Prelude.{◌≡◌, ℕ, IfOk, Some};
 ghost use Rattle.passkey_cbor.specs.Item.{Item};
-ghost use Rattle.passkey_cbor.specs.LeadingItem.{IsLeadingItem};
-ghost use Rattle.passkey_c.specs.Explaining.{AcceptsData, AcceptsMessage, ExplainsAs, ExplainsAuth, ExplainsBytes, ExplainsFurther, ExplainsItem, ExplainsMessage, IsVerdict, TellsData, TellsItem, TellsMessage, bytes_in, fault_of, refusal_in, refusal_of, refused_in_front};
+ghost use Rattle.passkey_cbor.specs.LeadingItem.{HasNoLeadingItem, IsLeadingItem};
+ghost use Rattle.passkey_c.specs.Explaining.{AcceptsData, AcceptsKey, AcceptsMessage, ExplainsAs, ExplainsAuth, ExplainsBytes, ExplainsFurther, ExplainsItem, ExplainsKey, ExplainsMessage, IsVerdict, TellsData, TellsItem, TellsKey, TellsMessage, TellsNoKey, bytes_in, fault_of, refusal_in, refusal_of, refused_in_front};
 ghost use Rattle.passkey_c.specs.Forms.{form_numbered};
+ghost use Rattle.passkey_explain_data.specs.KeyBlame.{key_blame};
 ghost use Rattle.passkey_run.specs.Rewriting.{IsFrontLength};
 
 use crate::form::{Form, form_of};
 use crate::of_message::{of_further, of_message};
 use crate::status::{data_status, message_status};
 use crate::verdict::{Reason, Refusal, Verdict, refused_from, tell};
-use passkey_cbor::item_len;
+use passkey_cbor::{CborError, Value, item_len};
 use passkey_explain::{Explanation, explain};
-use passkey_explain_data::{DataPart, DataReason, DataRefusal, data_len, explain_data};
+use passkey_explain_data::{
+    DataPart, DataReason, DataRefusal, KeyRefusal, data_len, explain_data, explain_key, locate_key,
+};
 use passkey_kinds::{Fault, Message};
 use passkey_malformed::malformed;
 use passkey_memory::OutOfMemory;
@@ -20,20 +23,27 @@ use passkey_rewrite_further::FurtherKind;
 use passkey_run::BytesKind;
 use std::alloc::Global;
 
-/// Explains why no data item begins the input.
-fn judge_item(alloc: Global, input: &[u8]) -> Result<Verdict, OutOfMemory>
-    ensures { IfOk result (IsVerdict (IsFrontLength input.now) (TellsItem input.now)) }
+/// Tells why and where no data item begins the input.
+fn tell_item(alloc: Global, input: &[u8]) -> Result<Reason, OutOfMemory>
+    requires { HasNoLeadingItem input.now }
+    ensures { IfOk result (λ r. TellsItem input.now r.status r.refusal) }
 {
-    if let Some(len) = item_len(input) {
-        return Ok(Verdict::Accepted(len));
-    }
     let stop = malformed(input).unwrap();
     let text = format!(in alloc; "{stop}")?;
-    Ok(Verdict::Refused(Reason {
+    Ok(Reason {
         status: message_status(Fault::DecodeFailed),
         refusal: refused_from(stop, input.len()),
         text,
-    }))
+    })
+}
+
+fn judge_item(alloc: Global, input: &[u8]) -> Result<Verdict, OutOfMemory>
+    ensures { IfOk result (IsVerdict (IsFrontLength input.now) (TellsItem input.now)) }
+{
+    match item_len(input) {
+        Some(len) => Ok(Verdict::Accepted(len)),
+        None => Ok(Verdict::Refused(tell_item(alloc, input)?)),
+    }
 }
 
 #[tactic(auto, using(crate::proofs::Explaining::explains_of))]
@@ -50,6 +60,50 @@ fn explain_item(
         (record { read = read.new; refusal = refusal.new; text = out.new; len = len.new }) result }
 {
     tell(judge_item(alloc, input), read, refusal, out, len)
+}
+
+/// Tells why and where the data item at the beginning of the input isn't a key.
+fn tell_key(alloc: Global, input: &[u8], refused: KeyRefusal) -> Result<Reason, OutOfMemory>
+    requires { (item : Item) × ((len : ℕ) × (IsLeadingItem input.now item len × (key_blame item ≡ Some refused))) }
+    ensures { IfOk result (λ r. TellsKey input.now r.status r.refusal) }
+{
+    let found = locate_key(input, refused.blame).unwrap();
+    let (offset, len) = (found.offset, found.len);
+    let text = format!(in alloc; "{refused} (offset {offset}, length {len})")?;
+    Ok(Reason {
+        status: data_status(refused.fault),
+        refusal: Refusal { offset, len },
+        text,
+    })
+}
+
+fn judge_key(alloc: Global, input: &[u8]) -> Result<Verdict, OutOfMemory>
+    ensures { IfOk result (IsVerdict (AcceptsKey input.now) (TellsNoKey input.now)) }
+{
+    let (value, len) = match Value::from_slice(alloc, input) {
+        Ok(front) => front,
+        Err(CborError::OutOfMemory) => return Err(OutOfMemory),
+        Err(_) => return Ok(Verdict::Refused(tell_item(alloc, input)?)),
+    };
+    match explain_key(alloc, &value)? {
+        None => Ok(Verdict::Accepted(len)),
+        Some(refused) => Ok(Verdict::Refused(tell_key(alloc, input, refused)?)),
+    }
+}
+
+fn explain_cose_key(
+    alloc: Global,
+    input: &[u8],
+    read: &mut usize,
+    refusal: &mut Refusal,
+    out: &mut [u8],
+    len: &mut usize,
+) -> u32
+    ensures { ExplainsKey input.now
+        (record { read = read.old; refusal = refusal.old; text = out.old; len = len.old })
+        (record { read = read.new; refusal = refusal.new; text = out.new; len = len.new }) result }
+{
+    tell(judge_key(alloc, input), read, refusal, out, len)
 }
 
 /// Returns the fault that is explained.
@@ -218,7 +272,7 @@ fn explain_further(
 {
     of_further!(
         kind, explain_message(alloc, input, read, refusal, out, len),
-        FurtherKind::Key => 3,
+        FurtherKind::Key => explain_cose_key(alloc, input, read, refusal, out, len),
         FurtherKind::PackedStatement
         | FurtherKind::TpmStatement
         | FurtherKind::AndroidKeyStatement
@@ -235,11 +289,11 @@ fn explain_further(
 /// Explains why the input is refused as this kind. Returns PUFFGRIT_OK if it is accepted, with how
 /// many of its bytes were decoded in `read`, as puffgrit_rewrite; the status of its fault, as
 /// puffgrit_rewrite; PUFFGRIT_OUT_OF_MEMORY if an allocation fails; or PUFFGRIT_UNKNOWN_KIND. The
-/// kinds are those of messages, PUFFGRIT_KIND_CBOR and PUFFGRIT_KIND_AUTH.
+/// kinds are those of bytes but for attestation statements and structures of a TPM.
 ///
 /// For a fault `refusal` says which bytes are refused: of a message the innermost data item, or map
 /// key, that its table refuses; of authenticator data the part, or what in the credential public key;
-/// or the bytes from where they aren't well-formed; and a text is written to the beginning of `out`,
+/// of a COSE key the label or the value that is no key's; or the bytes from where they aren't well-formed; and a text is written to the beginning of `out`,
 /// or as much of it as there is room for, and its whole length to `len`. It says in ASCII where these
 /// bytes are and what is wanted there, as "user.id: a byte string is wanted (offset 58, length 10)".
 /// Otherwise nothing is written.

@@ -65,3 +65,6 @@ returns-in-GetOutputs c = explains_kind _ _ _ _ _ _ c.in-GetOutputs.is c.explain
 
 pub returns-in-GetUnsigned : goal.returns-in-GetUnsigned
 returns-in-GetUnsigned c = explains_kind _ _ _ _ _ _ c.in-GetUnsigned.is c.explain_message-in-GetUnsigned.ensures
+
+pub returns-in-Key : goal.returns-in-Key
+returns-in-Key c = explains_kind _ _ _ _ _ _ c.in-Key.is c.explain_cose_key.ensures
