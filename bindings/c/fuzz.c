@@ -39,17 +39,25 @@ static uint8_t *encoding_of(uint32_t kind, const uint8_t *bytes, size_t len, uin
     return out;
 }
 
+static int is_json_text(uint32_t kind) {
+    return kind >= PUFFGRIT_KIND_CREATION && kind <= PUFFGRIT_KIND_CLIENT_DATA;
+}
+
+static int is_whole(uint32_t kind) {
+    return is_json_text(kind) || kind == PUFFGRIT_KIND_TPM_CERT_INFO || kind == PUFFGRIT_KIND_TPM_PUB_AREA;
+}
+
 static void rewrite(uint32_t kind, const uint8_t *bytes, size_t len) {
     uint32_t status, second;
     size_t read = 0, needed = 0, whole = 0, same = 0, item = puffgrit_item_len(bytes, len);
     uint8_t *out = encoding_of(kind, bytes, len, &status, &read, &needed), *again;
     puffgrit_auth_data parts;
-    int is_item = kind == PUFFGRIT_KIND_CBOR || (kind >= PUFFGRIT_KIND_MC_REQUEST && kind <= PUFFGRIT_KIND_HMAC_INPUT);
+    int is_item = kind != PUFFGRIT_KIND_AUTH && !is_whole(kind);
     if (is_item) want((status == PUFFGRIT_FAULT_DECODE_FAILED) == (item == 0));
     if (!out) return;
     if (is_item) want(puffgrit_item_len(out, needed) == needed && read == item);
     if (kind == PUFFGRIT_KIND_AUTH) want(puffgrit_auth_parts(bytes, len, &parts) && read == parts.end);
-    if (kind >= PUFFGRIT_KIND_CREATION) want(read == len);
+    if (is_whole(kind)) want(read == len);
     /* What follows plays no part. */
     again = encoding_of(kind, bytes, read, &second, &whole, &same);
     want(again && whole == read && same == needed && memcmp(again, out, needed) == 0);
@@ -61,7 +69,7 @@ static void rewrite(uint32_t kind, const uint8_t *bytes, size_t len) {
     free(out);
 }
 
-/* A message as JSON, and why it is refused: with the fault with which it isn't rewritten. */
+/* What is in an input, and why it is refused: with the fault with which it isn't rewritten. */
 static void examine(uint32_t kind, const uint8_t *bytes, size_t len) {
     uint8_t none = 0xa5;
     size_t read = 0, shown = 0, accepted = 0, needed = 0, told = 0;
@@ -69,11 +77,11 @@ static void examine(uint32_t kind, const uint8_t *bytes, size_t len) {
     uint32_t wanted = puffgrit_rewrite(kind, bytes, len, &read, &none, 0, &needed);
     uint32_t json = puffgrit_json(kind, bytes, len, &shown, &none, 0, &needed);
     uint32_t status = puffgrit_explain(kind, bytes, len, &accepted, &refusal, &none, 0, &told);
-    int is_json = kind >= PUFFGRIT_KIND_CREATION && kind <= PUFFGRIT_KIND_CLIENT_DATA;
+    int is_shown = kind <= PUFFGRIT_KIND_GA_UNSIGNED, is_explained = is_shown && !is_json_text(kind);
     want(none == 0xa5);
-    want(json == wanted && shown == read);
-    want(status == (is_json ? PUFFGRIT_UNKNOWN_KIND : wanted == PUFFGRIT_TOO_SHORT ? PUFFGRIT_OK : wanted));
-    want(accepted == (is_json ? 0 : read));
+    want(json == (is_shown ? wanted : PUFFGRIT_UNKNOWN_KIND) && shown == (is_shown ? read : 0));
+    want(status == (!is_explained ? PUFFGRIT_UNKNOWN_KIND : wanted == PUFFGRIT_TOO_SHORT ? PUFFGRIT_OK : wanted));
+    want(accepted == (is_explained ? read : 0));
     if (status >= PUFFGRIT_FAULT_DECODE_FAILED) want(told > 0 && refusal.offset <= len && refusal.len <= len - refusal.offset);
 }
 
@@ -93,8 +101,8 @@ int LLVMFuzzerTestOneInput(const uint8_t *data, size_t size) {
     if (size == 0) return 0;
     bytes = copy_of(data + 1, size - 1);
     look(bytes, size - 1);
-    rewrite(data[0] % PUFFGRIT_KIND_CLIENT_DATA + 1, bytes, size - 1);
-    examine(data[0] % PUFFGRIT_KIND_CLIENT_DATA + 1, bytes, size - 1);
+    rewrite(data[0] % PUFFGRIT_KIND_TPM_PUB_AREA + 1, bytes, size - 1);
+    examine(data[0] % PUFFGRIT_KIND_TPM_PUB_AREA + 1, bytes, size - 1);
     free(bytes);
     return 0;
 }
