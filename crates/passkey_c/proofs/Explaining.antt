@@ -1,7 +1,7 @@
 -- What is written of a verdict, by what is known of it.
-use Rattle.std.specs.Prelude.{◌≡◌, ℕ, Result, Ok, Err, IfOk}
+use Rattle.std.specs.Prelude.{ℕ, Result, Ok, Err, IfOk}
 use Rattle.std.proofs.Common.{subst, sym}
-use Rattle.passkey_c.specs.Explaining.{Memory, IsTold, Explaining, accepted, exhausted, told, IsVerdict, TellsResult}
+use Rattle.passkey_c.specs.Explaining.{Memory, Explaining, accepted, exhausted, told, IsVerdict, TellsResult}
 use Rattle.passkey_c.specs.declared.verdict.Refusal.{Refusal}
 use Rattle.passkey_c.specs.declared.verdict.Verdict.{Verdict}
 use Rattle.passkey_c.specs.declared.verdict.Verdict.TheVariants as verdict

@@ -1,5 +1,5 @@
 -- What is written of a result, by what is known of it.
-use Rattle.std.specs.Prelude.{◌≡◌, ℕ, List, Result, Ok, Err, IfOk, IfErr}
+use Rattle.std.specs.Prelude.{ℕ, List, Result, Ok, Err, IfOk, IfErr}
 use Rattle.std.proofs.Common.{subst, sym}
 use Rattle.passkey_run.specs.declared.fault.RunFault.{RunFault}
 use Rattle.passkey_c.specs.Writing.{Outputs, Writes, written, long, rejected, WritesResult}

@@ -1,6 +1,5 @@
 -- What a call that writes JSON returns, and leaves in the caller's memory.
 use Rattle.std.specs.Prelude.{◌≡◌, ℕ, List, true, is_ok, IsOk, Option, Some, None, Ok}
-use Rattle.passkey_cbor.specs.Item.{Item}
 use Rattle.passkey_core.specs.DataParts.{DataParts}
 use Rattle.passkey_core.specs.DataReading.{ReadsData}
 use Rattle.passkey_cose.specs.KeyReading.{read_key}

@@ -1,4 +1,4 @@
-use Rattle.std.proofs.Common.{◌∙◌, Bool, sym, subst}
+use Rattle.std.proofs.Common.{Bool, subst}
 use Rattle.passkey_c.specs.Rewriting.{IsLengthOf}
 use Rattle.passkey_c.proofs.rewrite.further_len.Goals as goal
 

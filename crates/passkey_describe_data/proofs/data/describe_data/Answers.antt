@@ -1,7 +1,6 @@
-use Rattle.std.proofs.Common.{◌≡◌, ◌∙◌, ℕ, List, [], ◌++◌, codes, map, option_map, ap, append_assoc}
+use Rattle.std.proofs.Common.{◌≡◌, ◌∙◌, ℕ, List, ◌++◌, codes, map, ap, append_assoc}
 use Rattle.passkey_cbor.specs.Item.{byte_string}
-use Rattle.passkey_cbor.specs.View.{item_of}
-use Rattle.passkey_core.specs.DataViews.{attested_parts, data_parts}
+use Rattle.passkey_core.specs.DataViews.{data_parts}
 use Rattle.passkey_explain.proofs.Describing.{described_of-Record}
 use Rattle.passkey_explain.specs.Described.{Part, leaf, parts, parts_from, record_of_members}
 use Rattle.passkey_explain.specs.declared.description.Description.{Description}

@@ -1,7 +1,7 @@
-use Rattle.std.proofs.Common.{◌≡◌, ◌∙◌, ℕ, List, codes, map, ap}
-use Rattle.passkey_cbor.specs.Item.{Item, byte_string}
+use Rattle.std.proofs.Common.{◌∙◌, ℕ, List, codes, map, ap}
+use Rattle.passkey_cbor.specs.Item.{byte_string}
 use Rattle.passkey_core.specs.DataViews.{attested_parts}
-use Rattle.passkey_explain.specs.Described.{described_of, leaf}
+use Rattle.passkey_explain.specs.Described.{leaf}
 use Rattle.passkey_kinds.specs.declared.wanted.Wanted.TheVariants as wanted
 use Rattle.passkey_describe_data.proofs.Describing.{on_ok, pushed_as, three_pushed}
 use Rattle.passkey_describe_data.specs.Described.{described_key, field_of}

@@ -1,7 +1,6 @@
-use Rattle.std.proofs.Common.{◌≡◌, ◌∙◌, ◌++◌, List, Option, codes, map, option_map, sym, ap}
+use Rattle.std.proofs.Common.{◌∙◌, ◌++◌, Option, codes, map, option_map, sym, ap}
 use Rattle.passkey_cbor.specs.View.{item_of}
 use Rattle.passkey_cbor.specs.declared.value.Value.{Value}
-use Rattle.passkey_explain.specs.Described.{Part}
 use Rattle.passkey_describe_data.proofs.Describing.{on_ok, pushed_as}
 use Rattle.passkey_describe_data.specs.Described.{extensions_part, field_of, if_present}
 use Rattle.passkey_describe_data.proofs.data.push_extensions_where.Goals as goal
