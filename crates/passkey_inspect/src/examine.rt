@@ -10,6 +10,7 @@ use passkey_client_pin as pin;
 use passkey_config as config;
 use passkey_core::AuthenticatorData;
 use passkey_credential_management as credentials;
+use passkey_describe_data::{describe_data, describe_item, describe_key};
 use passkey_explain::{Description, Extent, describe, explain};
 use passkey_explain_data::{explain_data, explain_key};
 use passkey_extensions::HmacGetSecretInput;
@@ -17,7 +18,7 @@ use passkey_further_extensions::{get_assertion, make_credential};
 use passkey_kinds::Message;
 use passkey_large_blobs as blobs;
 use passkey_memory::OutOfMemory;
-use passkey_report::{describe_value, open_authenticator_data, open_key, opened};
+use passkey_report::opened;
 use passkey_rewrite_further::FurtherKind;
 use passkey_run::BytesKind;
 use passkey_webauthn::EnumNames;
@@ -35,7 +36,7 @@ pub enum Examined {
 
 fn examine_item(alloc: Global, bytes: &[u8]) -> Result<Examined, OutOfMemory> {
     match Value::from_slice(alloc, bytes) {
-        Ok((value, len)) => Ok(Examined::Accepted(describe_value(alloc, &value)?, len)),
+        Ok((value, len)) => Ok(Examined::Accepted(describe_item(alloc, &value)?, len)),
         Err(error) => cbor_refused(alloc, bytes, error),
     }
 }
@@ -45,7 +46,7 @@ fn examine_data(alloc: Global, bytes: &[u8]) -> Result<Examined, OutOfMemory> {
         return data_refused(alloc, refusal);
     }
     match AuthenticatorData::from_slice_exact(alloc, bytes) {
-        Ok(parts) => Ok(Examined::Accepted(open_authenticator_data(alloc, &parts)?, bytes.len())),
+        Ok(parts) => Ok(Examined::Accepted(describe_data(alloc, &parts)?, bytes.len())),
         Err(error) => refused(alloc, error),
     }
 }
@@ -58,11 +59,7 @@ fn examine_key(alloc: Global, bytes: &[u8]) -> Result<Examined, OutOfMemory> {
     if let Some(refusal) = explain_key(alloc, &value)? {
         return key_refused(alloc, bytes, refusal);
     }
-    let description = match &value {
-        Value::Map(pairs) => open_key(alloc, pairs.as_slice())?,
-        _ => describe_value(alloc, &value)?,
-    };
-    Ok(Examined::Accepted(description, len))
+    Ok(Examined::Accepted(describe_key(alloc, &value)?, len))
 }
 
 /// Examines a message. No bytes are an empty map, as in the body of a request or a response
@@ -106,7 +103,7 @@ fn examine_statement(
         Err(error) => return cbor_refused(alloc, bytes, error),
     };
     match AttestationStatement::from_value(alloc, format.name(), &value) {
-        Ok(_) => Ok(Examined::Accepted(describe_value(alloc, &value)?, len)),
+        Ok(_) => Ok(Examined::Accepted(describe_item(alloc, &value)?, len)),
         Err(StatementFault::OutOfMemory) => Err(OutOfMemory),
         Err(fault) => Ok(Examined::Refused(format!(in alloc; "{fault}")?, None)),
     }

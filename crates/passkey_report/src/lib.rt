@@ -2,14 +2,12 @@
 #![tactic(auto)]
 
 mod inside;
-mod item;
 mod json;
 mod leaf;
 mod page;
 mod report;
 
-pub use inside::{open_authenticator_data, open_key, opened};
-pub use item::describe_value;
+pub use inside::opened;
 pub use json::json_of;
 pub use page::{page_of, refusal_page};
 pub use report::{left_out_text, report_of};
