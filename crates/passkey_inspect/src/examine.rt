@@ -11,32 +11,51 @@ use passkey_config as config;
 use passkey_core::AuthenticatorData;
 use passkey_credential_management as credentials;
 use passkey_describe_data::{describe_data, describe_item, describe_key};
-use passkey_explain::{Description, Extent, describe, explain};
+use passkey_explain::{Description, Extent, describe, dropped, explain};
 use passkey_explain_data::{explain_data, explain_key};
 use passkey_extensions::HmacGetSecretInput;
 use passkey_further_extensions::{get_assertion, make_credential};
 use passkey_kinds::Message;
 use passkey_large_blobs as blobs;
 use passkey_memory::OutOfMemory;
-use passkey_report::opened;
+use passkey_report::{left_out_text, opened};
 use passkey_rewrite_further::FurtherKind;
 use passkey_run::BytesKind;
 use passkey_webauthn::EnumNames;
 use std::alloc::Global;
 
+/// What is in bytes that a kind accepts.
+#[derive(Drop)]
+pub struct Contents {
+    pub description: Description,
+    /// How many of the bytes are read.
+    pub len: usize,
+    /// A line for each data item that the message leaves out.
+    pub left_out: String,
+}
+
 /// What bytes are as a kind.
 #[derive(Drop)]
 pub enum Examined {
-    /// The kind accepts them: what is in them, and how many of the bytes are read.
-    Accepted(Description, usize),
+    /// The kind accepts them.
+    Accepted(Contents),
     /// The kind refuses them: the fault, and an explanation; and which bytes are refused, where that
     /// is known.
     Refused(String, Option<Extent>),
 }
 
+/// Returns what is in bytes of which nothing is left out.
+pub fn accepted(alloc: Global, description: Description, len: usize) -> Examined {
+    Examined::Accepted(Contents {
+        description,
+        len,
+        left_out: String::new(alloc),
+    })
+}
+
 fn examine_item(alloc: Global, bytes: &[u8]) -> Result<Examined, OutOfMemory> {
     match Value::from_slice(alloc, bytes) {
-        Ok((value, len)) => Ok(Examined::Accepted(describe_item(alloc, &value)?, len)),
+        Ok((value, len)) => Ok(accepted(alloc, describe_item(alloc, &value)?, len)),
         Err(error) => cbor_refused(alloc, bytes, error),
     }
 }
@@ -46,7 +65,7 @@ fn examine_data(alloc: Global, bytes: &[u8]) -> Result<Examined, OutOfMemory> {
         return data_refused(alloc, refusal);
     }
     match AuthenticatorData::from_slice_exact(alloc, bytes) {
-        Ok(parts) => Ok(Examined::Accepted(describe_data(alloc, &parts)?, bytes.len())),
+        Ok(parts) => Ok(accepted(alloc, describe_data(alloc, &parts)?, bytes.len())),
         Err(error) => refused(alloc, error),
     }
 }
@@ -59,7 +78,15 @@ fn examine_key(alloc: Global, bytes: &[u8]) -> Result<Examined, OutOfMemory> {
     if let Some(refusal) = explain_key(alloc, &value)? {
         return key_refused(alloc, bytes, refusal);
     }
-    Ok(Examined::Accepted(describe_key(alloc, &value)?, len))
+    Ok(accepted(alloc, describe_key(alloc, &value)?, len))
+}
+
+/// Returns a line for each data item that the message leaves out.
+fn left_out<M: Message>(alloc: Global, bytes: &[u8]) -> Result<String, OutOfMemory> {
+    match dropped::<M>(alloc, bytes)? {
+        Some(items) => left_out_text(alloc, items.as_slice()),
+        None => Ok(String::new(alloc)),
+    }
 }
 
 /// Examines a message. No bytes are an empty map, as in the body of a request or a response
@@ -71,7 +98,11 @@ fn examine_message<M: Message>(alloc: Global, bytes: &[u8]) -> Result<Examined, 
     match Value::from_slice(alloc, bytes) {
         Ok((value, len)) => {
             let description = describe::<M>(alloc, &value)?;
-            Ok(Examined::Accepted(opened(alloc, &description)?, len))
+            Ok(Examined::Accepted(Contents {
+                description: opened(alloc, &description)?,
+                len,
+                left_out: left_out::<M>(alloc, bytes)?,
+            }))
         }
         Err(error) => cbor_refused(alloc, bytes, error),
     }
@@ -103,7 +134,7 @@ fn examine_statement(
         Err(error) => return cbor_refused(alloc, bytes, error),
     };
     match AttestationStatement::from_value(alloc, format.name(), &value) {
-        Ok(_) => Ok(Examined::Accepted(describe_item(alloc, &value)?, len)),
+        Ok(_) => Ok(accepted(alloc, describe_item(alloc, &value)?, len)),
         Err(StatementFault::OutOfMemory) => Err(OutOfMemory),
         Err(fault) => Ok(Examined::Refused(format!(in alloc; "{fault}")?, None)),
     }

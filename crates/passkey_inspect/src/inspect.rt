@@ -3,7 +3,7 @@ ghost use Rattle.std.specs.Prelude.{◌≡◌, ◌++◌, ◌∷◌, [], IfOk, st
 ghost use Rattle.passkey_inspect.specs.Prints.{Prints, PrintsAs, PrintsBytes, PrintsInput, ShowsBytes, ShowsEncoding, ShowsItem, ShowsJson};
 
 use crate::encode::encode;
-use crate::examine::{Examined, examine};
+use crate::examine::{Contents, Examined, examine};
 use crate::fault::InspectFault;
 use crate::frame::{Frame, frame_of, frame_text, request_kind};
 use crate::kind::{CBOR, FOUND_KINDS, InspectKind, is_data_item, name_of};
@@ -25,7 +25,7 @@ struct Matches {
     /// Their names, the best first.
     names: Vec<&'static str>,
     /// The best, and what is in the bytes.
-    best: Option<(InspectKind, Description)>,
+    best: Option<(InspectKind, Contents)>,
 }
 
 /// Returns how well a table fits: how many members it knows, less those that it doesn't.
@@ -56,15 +56,15 @@ fn add_match(
     matches: &mut Matches,
     name: &'static str,
     kind: InspectKind,
-    description: Description,
+    contents: Contents,
 ) -> Result<(), OutOfMemory> {
     let is_better = match &matches.best {
         None => true,
-        Some((_, best)) => score_of(best) < score_of(&description),
+        Some((_, best)) => score_of(&best.description) < score_of(&contents.description),
     };
     if is_better {
         matches.names.insert(0, name)?;
-        matches.best = Some((kind, description));
+        matches.best = Some((kind, contents));
     } else {
         matches.names.push(name)?;
     }
@@ -78,9 +78,9 @@ fn matches_of(alloc: Global, bytes: &[u8]) -> Result<Matches, OutOfMemory> {
         best: None,
     };
     for kind in FOUND_KINDS {
-        if let Examined::Accepted(description, len) = examine(alloc, kind, bytes)? {
-            if len >= bytes.len() && fits(&description) {
-                add_match(&mut matches, name_of(kind), kind, description)?;
+        if let Examined::Accepted(contents) = examine(alloc, kind, bytes)? {
+            if contents.len >= bytes.len() && fits(&contents.description) {
+                add_match(&mut matches, name_of(kind), kind, contents)?;
             }
         }
     }
@@ -156,16 +156,27 @@ pub(crate) fn with_line_feed(mut text: String) -> Result<String, RunFault>
     Ok(text)
 }
 
+/// Appends a report of the message, and what is left out of it.
+fn push_report(
+    text: &mut String,
+    alloc: Global,
+    kind: InspectKind,
+    contents: &Contents,
+) -> Result<(), OutOfMemory> {
+    text.push_str(report_of(alloc, name_of(kind), &contents.description)?.as_str())?;
+    Ok(text.push_str(contents.left_out.as_str())?)
+}
+
 /// Returns a report of the message, with the lines before it.
 fn report_text(
     alloc: Global,
     body: &Body<'_>,
     kind: InspectKind,
-    description: &Description,
-    len: usize,
+    contents: &Contents,
 ) -> Result<String, OutOfMemory> {
+    let len = contents.len;
     let mut text = heading(alloc, body)?;
-    text.push_str(report_of(alloc, name_of(kind), description)?.as_str())?;
+    push_report(&mut text, alloc, kind, contents)?;
     if let Ok(encoding) = encode(alloc, kind, body.bytes) {
         if encoding.as_slice() != body.bytes.get(..len).unwrap_or(&[]) {
             text.push_str("encoded again it differs: --cbor shows it\n")?;
@@ -185,19 +196,18 @@ fn text_of(
     output: Output,
     body: &Body<'_>,
     kind: InspectKind,
-    description: &Description,
-    len: usize,
+    contents: &Contents,
 ) -> Result<String, RunFault>
     ensures { IfOk result (λ text. Prints output kind body.now.bytes.now (string_bytes text)) }
 {
     match output {
         Output::Dump if is_data_item(kind) => Ok(dump(alloc, body.bytes)?),
-        Output::Report | Output::Dump => Ok(report_text(alloc, body, kind, description, len)?),
+        Output::Report | Output::Dump => Ok(report_text(alloc, body, kind, contents)?),
         Output::Page => {
             let shown = if is_data_item(kind) { body.bytes } else { &[] };
-            Ok(page_of(alloc, name_of(kind), description, shown)?)
+            Ok(page_of(alloc, name_of(kind), &contents.description, shown)?)
         }
-        Output::Json => with_line_feed(json_text(alloc, description)?),
+        Output::Json => with_line_feed(json_text(alloc, &contents.description)?),
         Output::Diagnosis => with_line_feed(item_text(alloc, body.bytes)?),
         Output::Bytes => with_line_feed(bytes_text(alloc, body.bytes)?),
         Output::Encoding => with_line_feed(encoding_text(alloc, kind, body.bytes)?),
@@ -234,14 +244,7 @@ fn print_as(
     ensures { IfOk result (λ text. Prints output kind body.now.bytes.now (string_bytes text)) }
 {
     match examine(alloc, kind, body.bytes)? {
-        Examined::Accepted(description, len) => Ok(text_of(
-            alloc,
-            output,
-            body,
-            kind,
-            &description,
-            len,
-        )?),
+        Examined::Accepted(contents) => Ok(text_of(alloc, output, body, kind, &contents)?),
         Examined::Refused(text, extent) if output == Output::Page => {
             Err(refused_page(alloc, body, kind, text.as_str(), extent)?)
         }
@@ -257,7 +260,7 @@ fn report_found(
     body: &Body<'_>,
     matches: &Matches,
     kind: InspectKind,
-    description: &Description,
+    contents: &Contents,
 ) -> Result<String, OutOfMemory> {
     let mut text = heading(alloc, body)?;
     text.push_str("kinds:")?;
@@ -266,7 +269,7 @@ fn report_found(
         text.push_str(name)?;
     }
     text.push('\n')?;
-    text.push_str(report_of(alloc, name_of(kind), description)?.as_str())?;
+    push_report(&mut text, alloc, kind, contents)?;
     Ok(text)
 }
 
@@ -275,11 +278,11 @@ fn print_found(alloc: Global, output: Output, body: &Body<'_>) -> Result<String,
     ensures { IfOk result (λ text. PrintsAs output body.now.bytes.now (string_bytes text)) }
 {
     let matches = matches_of(alloc, body.bytes)?;
-    let Some((kind, description)) = &matches.best else {
+    let Some((kind, contents)) = &matches.best else {
         return print_as(alloc, output, body, CBOR);
     };
     match output {
-        Output::Report => Ok(report_found(alloc, body, &matches, *kind, description)?),
+        Output::Report => Ok(report_found(alloc, body, &matches, *kind, contents)?),
         _ => print_as(alloc, output, body, *kind),
     }
 }

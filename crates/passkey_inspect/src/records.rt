@@ -10,7 +10,7 @@ use crate::options::{Options, Output};
 use passkey_bytes::{Bytes, BytesFault};
 use passkey_credentials::{AuthenticatedPublicKeyCredential, CreatedPublicKeyCredential};
 use passkey_diagnose::escape_controls;
-use passkey_explain_json::{BlamesRows, explain_json};
+use passkey_explain_json::{JsonExplanation, explain_client_data, explain_json};
 use passkey_memory::OutOfMemory;
 use passkey_options::{CredentialCreationOptions, CredentialRequestOptions};
 use passkey_report::report_of;
@@ -58,9 +58,10 @@ fn push_bytes(
         return Ok(());
     };
     match examine(alloc, InspectKind::Bytes(kind), bytes.as_slice())? {
-        Examined::Accepted(description, _) => {
+        Examined::Accepted(contents) => {
             let title = path.rsplit('/').next().unwrap_or(path);
-            Ok(out.push_str(report_of(alloc, title, &description)?.as_str())?)
+            out.push_str(report_of(alloc, title, &contents.description)?.as_str())?;
+            Ok(out.push_str(contents.left_out.as_str())?)
         }
         Examined::Refused(_, _) => Ok(()),
     }
@@ -107,28 +108,32 @@ fn report(
     Ok(text)
 }
 
-/// Returns a line feed, and what in the value the record refuses; or no text if it accepts it.
-fn blame_text<R: BlamesRows>(alloc: Global, value: &Value) -> Result<String, OutOfMemory> {
-    match explain_json::<R>(alloc, value)? {
+fn explain_kind(
+    alloc: Global,
+    kind: JsonKind,
+    value: &Value,
+) -> Result<Option<JsonExplanation>, OutOfMemory> {
+    match kind {
+        JsonKind::Creation => explain_json::<CredentialCreationOptions>(alloc, value),
+        JsonKind::Request => explain_json::<CredentialRequestOptions>(alloc, value),
+        JsonKind::Created => explain_json::<CreatedPublicKeyCredential>(alloc, value),
+        JsonKind::Authenticated => explain_json::<AuthenticatedPublicKeyCredential>(alloc, value),
+        JsonKind::ClientData => explain_client_data(alloc, value),
+    }
+}
+
+/// Returns a line feed, and what in the value the kind refuses; or no text of further kinds, which
+/// aren't explained.
+fn kind_blame(alloc: Global, kind: InspectKind, value: &Value) -> Result<String, OutOfMemory> {
+    let InspectKind::Json(kind) = kind else {
+        return Ok(String::new(alloc));
+    };
+    match explain_kind(alloc, kind, value)? {
         Some(explanation) => {
             let blame = &explanation.blame;
             Ok(format!(in alloc; "\n{blame}")?)
         }
         None => Ok(String::new(alloc)),
-    }
-}
-
-/// Returns a line feed, and what in the value the kind refuses; or no text where no table tells it.
-fn kind_blame(alloc: Global, kind: InspectKind, value: &Value) -> Result<String, OutOfMemory> {
-    let InspectKind::Json(kind) = kind else {
-        return Ok(String::new(alloc));
-    };
-    match kind {
-        JsonKind::Creation => blame_text::<CredentialCreationOptions>(alloc, value),
-        JsonKind::Request => blame_text::<CredentialRequestOptions>(alloc, value),
-        JsonKind::Created => blame_text::<CreatedPublicKeyCredential>(alloc, value),
-        JsonKind::Authenticated => blame_text::<AuthenticatedPublicKeyCredential>(alloc, value),
-        JsonKind::ClientData => Ok(String::new(alloc)),
     }
 }
 

@@ -1,6 +1,6 @@
 //! The structures of a TPM, by the names of their members (TPM 2.0 Library, Part 2).
 
-use crate::examine::Examined;
+use crate::examine::{Examined, accepted};
 use crate::refusal::refused;
 use passkey_cbor::{Integer, Value};
 use passkey_cose::CoseError;
@@ -160,7 +160,7 @@ fn describe_pub_area(alloc: Global, area: &PubArea<'_>) -> Result<Description, O
 /// Examines `certInfo` of a tpm attestation statement, which is all of the bytes.
 pub fn examine_cert_info(alloc: Global, bytes: &[u8]) -> Result<Examined, OutOfMemory> {
     match CertInfo::from_slice(bytes) {
-        Some(info) => Ok(Examined::Accepted(describe_cert_info(alloc, &info)?, bytes.len())),
+        Some(info) => Ok(accepted(alloc, describe_cert_info(alloc, &info)?, bytes.len())),
         None => refused(alloc, CoseError::DecodeFailed),
     }
 }
@@ -168,7 +168,7 @@ pub fn examine_cert_info(alloc: Global, bytes: &[u8]) -> Result<Examined, OutOfM
 /// Examines `pubArea` of a tpm attestation statement, which is all of the bytes.
 pub fn examine_pub_area(alloc: Global, bytes: &[u8]) -> Result<Examined, OutOfMemory> {
     match PubArea::from_slice(bytes) {
-        Some(area) => Ok(Examined::Accepted(describe_pub_area(alloc, &area)?, bytes.len())),
+        Some(area) => Ok(accepted(alloc, describe_pub_area(alloc, &area)?, bytes.len())),
         None => refused(alloc, CoseError::DecodeFailed),
     }
 }
