@@ -1,5 +1,5 @@
 /* stack: prints how many bytes of stack calls take over 256 levels, more than over a number: puffgrit_is_canonical (check),
-   puffgrit_rewrite, puffgrit_json and puffgrit_explain (rewrite), and the others (look). */
+   puffgrit_rewrite (rewrite), puffgrit_json and puffgrit_explain (show), and the others (look). */
 #define _POSIX_C_SOURCE 200809L
 #include <pthread.h>
 #include <stdio.h>
@@ -35,10 +35,19 @@ static void *check(void *unused) {
 }
 
 static void *again(void *unused) {
-    puffgrit_refusal refusal;
     size_t read, len;
     (void)unused;
     (void)puffgrit_rewrite(PUFFGRIT_KIND_CBOR, input, input_len, &read, output, sizeof output, &len);
+    (void)puffgrit_rewrite(PUFFGRIT_KIND_INFO, info, info_len, &read, output, sizeof output, &len);
+    return 0;
+}
+
+static void *show(void *unused) {
+    puffgrit_refusal refusal;
+    size_t read, len;
+    (void)unused;
+    (void)puffgrit_json(PUFFGRIT_KIND_CBOR, input, input_len, &read, output, sizeof output, &len);
+    (void)puffgrit_explain(PUFFGRIT_KIND_CBOR, input, input_len, &read, &refusal, output, sizeof output, &len);
     (void)puffgrit_json(PUFFGRIT_KIND_INFO, info, info_len, &read, output, sizeof output, &len);
     (void)puffgrit_explain(PUFFGRIT_KIND_INFO, info, info_len, &read, &refusal, output, sizeof output, &len);
     return 0;
@@ -69,12 +78,13 @@ static void fill_info(size_t first) {
 }
 
 static void over(const char *what, const uint8_t *level, size_t len) {
-    size_t k, look_alone, check_alone, again_alone;
+    size_t k, look_alone, check_alone, again_alone, show_alone;
     input_len = 1;
     fill_info(0);
     look_alone = used(look);
     check_alone = used(check);
     again_alone = used(again);
+    show_alone = used(show);
     for (k = 0; k < LEVELS; k++) memcpy(input + k * len, level, len);
     input_len = LEVELS * len + 1;
     input[input_len - 1] = 0;
@@ -82,6 +92,7 @@ static void over(const char *what, const uint8_t *level, size_t len) {
     print_more("look", what, used(look), look_alone);
     print_more("check", what, used(check), check_alone);
     print_more("rewrite", what, used(again), again_alone);
+    print_more("show", what, used(show), show_alone);
 }
 
 int main(void) {
