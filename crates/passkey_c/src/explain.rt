@@ -293,10 +293,11 @@ fn explain_further(
 ///
 /// For a fault `refusal` says which bytes are refused: of a message the innermost data item, or map
 /// key, that its table refuses; of authenticator data the part, or what in the credential public key;
-/// of a COSE key the label or the value that is no key's; or the bytes from where they aren't well-formed; and a text is written to the beginning of `out`,
-/// or as much of it as there is room for, and its whole length to `len`. It says in ASCII where these
-/// bytes are and what is wanted there, as "user.id: a byte string is wanted (offset 58, length 10)".
-/// Otherwise nothing is written.
+/// of a COSE key the label or the value that is no key's; or the bytes from where they aren't
+/// well-formed; and a text is written to the beginning of `out`, or as much of it as there is room
+/// for, and its whole length to `len`. It says in ASCII where these bytes are and what is wanted
+/// there, as "user.id: a byte string is wanted (offset 58, length 10)". Otherwise nothing is
+/// written.
 ///
 /// (CTAP 2.1, section 6; RFC 8949, section 3; WebAuthn Level 3, section 6.1.)
 #[unsafe(no_mangle)]
