@@ -1,6 +1,7 @@
 """The package's calls, over examples of RFC 8949 and WebAuthn Level 3. Run by unittest or pytest."""
 
 import unittest
+from concurrent.futures import ThreadPoolExecutor
 from pathlib import Path
 
 import puffgrit
@@ -53,6 +54,16 @@ class Puffgrit(unittest.TestCase):
             self.assertEqual((caught.exception.name, caught.exception.member), (name, number))
         with self.assertRaises(ValueError):
             puffgrit.rewrite("key", b"")
+
+    def test_threads(self):
+        # calls from eight threads at once, which hold no lock of Python's: RFC 8949, appendix A, and an array of one number each
+        def rewritten(number):
+            return puffgrit.rewrite("cbor", b"\x9f\x18" + bytes([number]) + b"\xff")
+
+        wanted = [b"\x81" + (bytes([number]) if number < 24 else bytes([0x18, number])) for number in range(256)]
+        with ThreadPoolExecutor(8) as pool:
+            for _ in range(20):
+                self.assertEqual(list(pool.map(rewritten, range(256))), wanted)
 
     def test_fronts(self):
         # what follows the data item, the data, and nothing that follows a JSON text
