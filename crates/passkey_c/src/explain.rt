@@ -23,7 +23,7 @@ use passkey_rewrite_further::FurtherKind;
 use passkey_run::BytesKind;
 use std::alloc::Global;
 
-/// Tells why and where no data item begins the input.
+/// Explains why no data item begins the input, and where.
 fn tell_item(alloc: Global, input: &[u8]) -> Result<Reason, OutOfMemory>
     requires { HasNoLeadingItem input.now }
     ensures { IfOk result (λ r. TellsItem input.now r.status r.refusal) }
@@ -62,7 +62,7 @@ fn explain_item(
     tell(judge_item(alloc, input), read, refusal, out, len)
 }
 
-/// Tells why and where the data item at the beginning of the input isn't a key.
+/// Explains why the data item at the beginning of the input isn't a key, and where.
 fn tell_key(alloc: Global, input: &[u8], refused: KeyRefusal) -> Result<Reason, OutOfMemory>
     requires { (item : Item) × ((len : ℕ) × (IsLeadingItem input.now item len × (key_blame item ≡ Some refused))) }
     ensures { IfOk result (λ r. TellsKey input.now r.status r.refusal) }

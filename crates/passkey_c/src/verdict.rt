@@ -1,4 +1,4 @@
-//! Whether an input is accepted, and else what is told of it.
+//! Whether an input is accepted, and otherwise why it isn't.
 ghost use Rattle.std.specs.Prelude.{◌≡◌, ◌++◌, drop, length, take};
 ghost use Rattle.passkey_c.specs.Explaining.{TellsResult, refused_from};
 
@@ -53,7 +53,7 @@ fn put_front(out: &mut [u8], text: &[u8])
     out[..len].copy_from_slice(&text[..len]);
 }
 
-/// Writes how many bytes are accepted, or what is told of an input that is refused; nothing if memory
+/// Writes how many bytes are accepted, or why the input is refused and where; nothing if memory
 /// ran out. Returns the call's status.
 pub(crate) fn tell(
     verdict: Result<Verdict, OutOfMemory>,

@@ -4,4 +4,5 @@ use Rattle.passkey_c.proofs.explain.explain_auth.Goals as goal
 
 pub returns : goal.returns
 returns c =
-    explains_of (AcceptsData c.args.input.now) (TellsData c.args.input.now) c.judge_data.result c.judge_data.ensures c.tell.ensures
+    explains_of (AcceptsData c.args.input.now) (TellsData c.args.input.now) c.judge_data.result
+    c.judge_data.ensures c.tell.ensures

@@ -22,10 +22,12 @@ pub returns-in-BioResponse : goal.returns-in-BioResponse
 returns-in-BioResponse c = explains_kind _ _ _ _ _ _ c.in-BioResponse.is c.explain_message-in-BioResponse.ensures
 
 pub returns-in-CredentialRequest : goal.returns-in-CredentialRequest
-returns-in-CredentialRequest c = explains_kind _ _ _ _ _ _ c.in-CredentialRequest.is c.explain_message-in-CredentialRequest.ensures
+returns-in-CredentialRequest c =
+    explains_kind _ _ _ _ _ _ c.in-CredentialRequest.is c.explain_message-in-CredentialRequest.ensures
 
 pub returns-in-CredentialResponse : goal.returns-in-CredentialResponse
-returns-in-CredentialResponse c = explains_kind _ _ _ _ _ _ c.in-CredentialResponse.is c.explain_message-in-CredentialResponse.ensures
+returns-in-CredentialResponse c =
+    explains_kind _ _ _ _ _ _ c.in-CredentialResponse.is c.explain_message-in-CredentialResponse.ensures
 
 pub returns-in-BlobsRequest : goal.returns-in-BlobsRequest
 returns-in-BlobsRequest c = explains_kind _ _ _ _ _ _ c.in-BlobsRequest.is c.explain_message-in-BlobsRequest.ensures
@@ -40,7 +42,8 @@ pub returns-in-ConfigRequest : goal.returns-in-ConfigRequest
 returns-in-ConfigRequest c = explains_kind _ _ _ _ _ _ c.in-ConfigRequest.is c.explain_message-in-ConfigRequest.ensures
 
 pub returns-in-ConfigMinPinLength : goal.returns-in-ConfigMinPinLength
-returns-in-ConfigMinPinLength c = explains_kind _ _ _ _ _ _ c.in-ConfigMinPinLength.is c.explain_message-in-ConfigMinPinLength.ensures
+returns-in-ConfigMinPinLength c =
+    explains_kind _ _ _ _ _ _ c.in-ConfigMinPinLength.is c.explain_message-in-ConfigMinPinLength.ensures
 
 pub returns-in-ConfigVendor : goal.returns-in-ConfigVendor
 returns-in-ConfigVendor c = explains_kind _ _ _ _ _ _ c.in-ConfigVendor.is c.explain_message-in-ConfigVendor.ensures
