@@ -1,5 +1,6 @@
-"""json_peer.py PEER PROGRAM FOLDER counts the instructions that the Rust crate passkey-types takes to decode JSON texts and encode them
-again, beside the program's, and says how many times as many the program takes; and the memory that both take for a request of 16 MiB.
+"""json_peer.py PEER PROGRAM FOLDER counts the instructions that the Rust crate passkey-types takes to decode JSON texts and encode
+them again, beside the program's, and says how many times as many the program takes; and the memory that both take for a request of
+16 MiB.
 
 PEER is the program of bench/rust. FOLDER has the JSON texts."""
 import json
