@@ -16,7 +16,7 @@ use Rattle.passkey_cbor.proofs.Behind.{string_chunks, made_skipped}
 use Rattle.passkey_cbor.proofs.Shrinking.{list_left, chunk_left, chunk_size}
 use Rattle.passkey_cbor.proofs.Skipping.{Goes, goes_start, goes_on}
 use Rattle.passkey_cbor.proofs.Raised.{raised-le, raised-raised}
-use Rattle.passkey_cbor.proofs.HeadCounts.{spans_chunk}
+use Rattle.passkey_cbor.proofs.HeadCounts.{spans_then, spans_end, spans_chunk}
 use Rattle.passkey_cbor.proofs.Gathering.{went_then, went_passed, went_stopped, passed_heads, Gathers, gathers_start, gathers_nothing, gathers_end, Here, gathers_here, gathers_on}
 
 -- the number of data items in a chunk: none
@@ -93,7 +93,7 @@ pub collects_on : (is_text : Bool) (left after : Option ℕ) (a b c d : CursorSt
     → PieceRead is_text (chunk is_text h (ahead c)) c d s → more ≡ bytes ++ s → Collects is_text after a d more
 collects_on is_text left after a b c d h bytes more s g n p pushed =
     gathers_on (chunk is_text) no_nodes None left after a b c d h (Collected a b bytes) (Collected a d more) g n
-    (went_passed c d p.passed) (λ before x u done one.
+    (went_passed c d p.passed) (spans_chunk is_text h c d s p) (λ before x u done one.
     let same = some_is (s, ahead d) (x, u) (sym p.reads ∙ one) in
     let x_is : s ≡ x = ap (λ (q : List ℕ × List ℕ). q.0) same in
     let rest_is : ahead d ≡ u = ap (λ (q : List ℕ × List ℕ). q.1) same in
@@ -124,12 +124,13 @@ chunks_of is_text bytes s rest e =
 
 -- no string is decoded, as the chunks show
 no_string : (is_text : Bool) (a b : CursorState) → MovesForward a b → ((s rest : List ℕ) → string_at is_text None (ahead a)
-    ≡ Some (s, rest) → ⊥) → Makes some_bytes (string_at is_text None (ahead a)) a b (Err error.DecodeFailed)
-no_string is_text a b went none = record { went = went; made = none; heads = λ s rest e. absurd (none s rest e) }
+    ≡ Some (s, rest) → ⊥) → Makes some_bytes 0 (string_at is_text None (ahead a)) a b (Err error.DecodeFailed)
+no_string is_text a b went none =
+    record { went = went; spans = tt; made = none; heads = λ s rest e. absurd (none s rest e) }
 
 pub collects_malformed : (is_text : Bool) (left : Option ℕ) (a b c : CursorState) (bytes : List ℕ)
     → Collects is_text left a b bytes → NoHead (step_at left (ahead b)) b c
-    → Makes some_bytes (string_at is_text None (ahead a)) a c (Err error.DecodeFailed)
+    → Makes some_bytes 0 (string_at is_text None (ahead a)) a c (Err error.DecodeFailed)
 collects_malformed is_text left a b c bytes g n =
     no_string is_text a c (went_then a b c g.went (went_stopped b c n.stopped)) (λ s rest e.
     let cs = chunks_of is_text (ahead a) s rest e in
@@ -137,7 +138,7 @@ collects_malformed is_text left a b c bytes g n =
 
 pub collects_no_chunk : (is_text : Bool) (left after : Option ℕ) (a b c d : CursorState) (h : Head) (bytes : List ℕ)
     → Collects is_text left a b bytes → ElementRead left after b c h → NoHead (chunk is_text h (ahead c)) c d
-    → Makes some_bytes (string_at is_text None (ahead a)) a d (Err error.DecodeFailed)
+    → Makes some_bytes 0 (string_at is_text None (ahead a)) a d (Err error.DecodeFailed)
 collects_no_chunk is_text left after a b c d h bytes g n none =
     no_string is_text a d (went_then a b d g.went
     (went_then b c d (went_passed b c n.passed) (went_stopped c d none.stopped))) (λ s rest e.
@@ -147,10 +148,12 @@ collects_no_chunk is_text left after a b c d h bytes g n none =
     none_is_some (r.first, r.middle) (sym none.reads ∙ r.one))
 
 pub collects_full : (is_text : Bool) (left after : Option ℕ) (a b c d : CursorState) (h : Head) (bytes s : List ℕ)
-    → Collects is_text left a b bytes → ElementRead left after b c h → PieceRead is_text (chunk is_text h (ahead c))
-    c d s → 0 < length s → Makes some_bytes (string_at is_text None (ahead a)) a d (Err error.OutOfMemory)
+    → Collects is_text left a b bytes → ElementRead left after b c h
+    → PieceRead is_text (chunk is_text h (ahead c)) c d s → 0 < length s
+    → Makes some_bytes 0 (string_at is_text None (ahead a)) a d (Err error.OutOfMemory)
 collects_full is_text left after a b c d h bytes s g n p some = record {
   went = went_then a b d g.went (went_then b c d (went_passed b c n.passed) (went_passed c d p.passed));
+  spans = tt;
   made = λ all rest e.
       let cs = chunks_of is_text (ahead a) all rest e in
       let r = here cs.chunks rest cs.reads in
@@ -178,10 +181,12 @@ collects_full is_text left after a b c d h bytes s g n p some = record {
   first_is : (x u : List ℕ) → chunk is_text h (ahead c) ≡ Some (x, u) → s ≡ x
   first_is x u one = ap (λ (q : List ℕ × List ℕ). q.0) (some_is (s, ahead d) (x, u) (sym p.reads ∙ one))
 
-pub collects_end : (is_text : Bool) (left : Option ℕ) (a b c : CursorState) (v : Vec ℕ Global) → Collects is_text left a b
-    v.items → EndRead left b c → Makes some_bytes (string_at is_text None (ahead a)) a c (Ok v)
+pub collects_end : (is_text : Bool) (left : Option ℕ) (a b c : CursorState) (v : Vec ℕ Global)
+    → Collects is_text left a b v.items → EndRead left b c
+    → Makes some_bytes 0 (string_at is_text None (ahead a)) a c (Ok v)
 collects_end is_text left a b c v g n = record {
   went = went_then a b c g.went (went_passed b c n.passed);
+  spans = spans_then 0 a b c g.spans (spans_end left b c n);
   made = λ s rest e.
       let cs = chunks_of is_text (ahead a) s rest e in
       let k = gathers_end (chunk is_text) no_nodes None left a b c (Collected a b v.items) g n cs.chunks rest
@@ -265,6 +270,7 @@ pub seeks_collects : (is_text : Bool) (names : List (List ℕ)) (left : Option �
     → Seeks is_text names left a b bytes → Collects is_text left a b bytes
 seeks_collects is_text names left a b bytes g = record {
   went = g.went;
+  spans = g.spans;
   goes = λ xs rest e.
       let r = g.goes xs rest e in
       record {
@@ -294,7 +300,7 @@ pub seeks_on : (is_text : Bool) (names : List (List ℕ)) (left after : Option �
     → Seeks is_text names after a d more
 seeks_on is_text names left after a b c d h bytes more s g n p pushed begins =
     gathers_on (chunk is_text) no_nodes None left after a b c d h (Sought names a b bytes) (Sought names a d more) g
-    n (went_passed c d p.passed) (λ before x u done one.
+    n (went_passed c d p.passed) (spans_chunk is_text h c d s p) (λ before x u done one.
     let same = some_is (s, ahead d) (x, u) (sym p.reads ∙ one) in
     let x_is : s ≡ x = ap (λ (q : List ℕ × List ℕ). q.0) same in
     let rest_is : ahead d ≡ u = ap (λ (q : List ℕ × List ℕ). q.1) same in

@@ -1,15 +1,16 @@
 -- How many data items are built.
-use Rattle.std.proofs.Common.{◌≡◌, ◌⊎◌, ℕ, ◌+◌, ◌-◌, ◌<◌, ◌≤◌, min, ◌^◌, List, [], ◌∷◌, length, Result, Ok, Err, refl, ap, ◌∙◌, arith, inl, inr}
+use Rattle.std.proofs.Common.{◌≡◌, ◌⊎◌, ℕ, ◌+◌, ◌-◌, ◌<◌, ◌≤◌, min, ◌^◌, List, [], ◌∷◌, length, Result, Ok, Err, refl, sym, ap, ◌∙◌, arith, inl, inr}
 use Rattle.std.proofs.lemmas.Bool.{cases_eq, cases_lt, lt-ltb, le-ltb, ne_eqb}
 use Rattle.passkey_cbor.specs.Item.{Item, number, array, map, tagged, items_of, pairs_of}
 use Rattle.passkey_cbor.specs.Nodes.{nodes, items_nodes, pairs_nodes}
-use Rattle.passkey_cbor.specs.HeadReading.{Read}
+use Rattle.passkey_cbor.specs.HeadReading.{◌>>=◌, Read}
+use Rattle.passkey_cbor.specs.HeadCount.{after_content, after_heads, Spans}
 use Rattle.passkey_cbor.specs.Reading.{simple_item}
 use Rattle.passkey_cbor.specs.CursorState.{CursorState, ahead, raised}
 use Rattle.passkey_cbor.specs.Building.{total, an_item, a_counted_item, a_pair, Made, Makes}
 use Rattle.passkey_cbor.specs.declared.value.Value.{Value}
 use Rattle.passkey_cbor.specs.declared.error.CborError.{CborError}
-use Rattle.passkey_cbor.proofs.Gathering.{fails_within}
+use Rattle.passkey_cbor.proofs.Gathering.{ok_then, fails_within}
 use Rattle.passkey_cbor.proofs.Raised.{raised-raised}
 
 nodes-pos : (x : Item) → 1 ≤ nodes x
@@ -83,12 +84,26 @@ counted x rest a b c (Err f) e k =
     let up : b.nodes ≡ min (a.nodes + 1) (2 ^ 128 - 1) = ap (λ (w : CursorState). w.nodes) e in
     fails_within a_counted_item an_item x x rest rest a b c f (λ t. t) (omega (arith, up, nodes-pos x)) k
 
-pub counted_once : (read : Read Item) (a b c : CursorState) (result : Result Value CborError) → b ≡ one_more a
-    → a.heads ≤ b.heads → a.nodes ≤ b.nodes → Makes a_counted_item read b c result → Makes an_item read a c result
-counted_once read a b c result e heads nodes k =
+-- what was passed since then was passed before, too
+spanned_once : (content : ℕ) (a b c : CursorState) → b ≡ one_more a → a.heads ≤ b.heads → Spans content b c
+    → Spans content a c
+spanned_once content a b c e heads s =
+    let heads_are : b.heads ≡ a.heads = omega (arith, heads, ap (λ (w : CursorState). w.heads) e) in
+    let ahead_is : ahead b ≡ ahead a = ap ahead e in
+    record {
+      number = s.number;
+      reads = ap (λ (t : List ℕ). after_content content t >>= after_heads s.number) (sym ahead_is) ∙ s.reads;
+      counted = s.counted ∙ ap (λ (n : ℕ). raised n s.number) heads_are;
+    }
+
+pub counted_once : (content : ℕ) (read : Read Item) (a b c : CursorState) (result : Result Value CborError)
+    → b ≡ one_more a → a.heads ≤ b.heads → a.nodes ≤ b.nodes → Makes a_counted_item content read b c result
+    → Makes an_item content read a c result
+counted_once content read a b c result e heads nodes k =
     let bytes_are : b.bytes ≡ a.bytes = ap (λ (w : CursorState). w.bytes) e in
     let place_is : b.place ≡ a.place = ap (λ (w : CursorState). w.place) e in
     record {
+      spans = ok_then result (spanned_once content a b c e heads) k.spans;
       went = record {
         same = k.went.same ∙ bytes_are;
         within = k.went.within;

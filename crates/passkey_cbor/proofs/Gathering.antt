@@ -1,16 +1,19 @@
 -- Building values from what is decoded: one after the other, and the elements of a list.
 use Rattle.std.proofs.Common.{◌≡◌, ℕ, zero, suc, ◌+◌, ◌<◌, ◌≤◌, List, [], ◌∷◌, ◌++◌, length, map, Option, Some, None, Result, Ok, Err, refl, sym, ap, subst, ◌∙◌, append_assoc, arith}
 use Rattle.std.proofs.Common.{Vec, Global}
+use Rattle.std.specs.Prelude.{OnOk}
 use Rattle.std.proofs.lemmas.List.{append-nil, length-drop, map-append}
 use Rattle.passkey_cbor.specs.HeadReading.{◌>>=◌, Read}
 use Rattle.passkey_cbor.specs.Reading.{Reader, start, Step, end, element, step_at, after_step, list_by, list_at}
 use Rattle.passkey_cbor.specs.CursorState.{CursorState, ahead, raised, IsInside, Passed, Stopped, MovesForward}
-use Rattle.passkey_cbor.specs.Steps.{NoHead, ElementRead, EndRead, ReadsHead}
+use Rattle.passkey_cbor.specs.HeadCount.{content_len, Spans}
+use Rattle.passkey_cbor.specs.Steps.{NoHead, HeadRead, ElementRead, EndRead, ReadsHead}
 use Rattle.passkey_cbor.specs.Building.{IsNotEmpty, total, Making, each_of, Made, Makes}
 use Rattle.passkey_cbor.specs.declared.head.Head.{Head}
 use Rattle.passkey_cbor.specs.declared.error.CborError.{CborError}
 use Rattle.passkey_cbor.specs.declared.error.CborError.TheVariants as error
 use Rattle.passkey_cbor.proofs.Binds.{some_is, none_is_some, bind_some}
+use Rattle.passkey_cbor.proofs.HeadCounts.{spans_none, spans_then, spans_head, spans_element, spans_end}
 use Rattle.passkey_cbor.proofs.Raised.{raised-le, raised-raised}
 use Rattle.passkey_cbor.proofs.Shrinking.{Shrinks, list_left}
 use Rattle.passkey_cbor.proofs.Skipping.{after_one, list_begun}
@@ -72,20 +75,33 @@ passed_heads a b p =
 
 -- ---- one reading after another
 
+-- what holds anyway also holds after a success
+pub on_ok : {T E P : Type 0} (r : Result T E) → P → OnOk r P
+on_ok (Ok x) h = h
+on_ok (Err e) h = tt
+
+-- what follows from what holds after a success
+pub ok_then : {T E P Q : Type 0} (r : Result T E) → (P → Q) → OnOk r P → OnOk r Q
+ok_then (Ok x) follows h = follows h
+ok_then (Err e) follows h = tt
+
 -- nothing is decoded, so there is nothing to prove
-pub makes_nothing : {V X : Type 0} (m : Making V X) (read : Read X) (a b : CursorState) (result : Result V CborError)
-    → MovesForward a b → read ≡ None → Makes m read a b result
-makes_nothing m read a b result went e = record {
+pub makes_nothing : {V X : Type 0} {content : ℕ} (m : Making V X) (read : Read X) (a b : CursorState) (e : CborError)
+    → MovesForward a b → read ≡ None → Makes m content read a b (Err e)
+makes_nothing m read a b e went none = record {
   went = went;
-  made = λ x rest f. absurd (none_is_some (x, rest) (sym e ∙ f));
-  heads = λ x rest f. absurd (none_is_some (x, rest) (sym e ∙ f));
+  spans = tt;
+  made = λ x rest f. absurd (none_is_some (x, rest) (sym none ∙ f));
+  heads = λ x rest f. absurd (none_is_some (x, rest) (sym none ∙ f));
 }
 
 -- a value is decoded and built
-pub makes_one : {V X : Type 0} (m : Making V X) (read : Read X) (x : X) (a b : CursorState) (v : V) → Passed a b
-    → read ≡ Some (x, ahead b) → m.view v ≡ x → m.size x ≡ 0 → Makes m read a b (Ok v)
-makes_one {X = X} m read x a b v p e same none = record {
+pub makes_one : {V X : Type 0} {content : ℕ} (m : Making V X) (read : Read X) (x : X) (a b : CursorState) (v : V)
+    → Passed a b → Spans content a b → read ≡ Some (x, ahead b) → m.view v ≡ x → m.size x ≡ 0
+    → Makes m content read a b (Ok v)
+makes_one {X = X} m read x a b v p s e same none = record {
   went = went_passed a b p;
+  spans = s;
   made = λ y rest f.
       let q = some_is (x, ahead b) (y, rest) (sym e ∙ f) in
       let x_is : x ≡ y = ap (λ (q : X × List ℕ). q.0) q in
@@ -109,12 +125,14 @@ made_from m x rest a b c (Ok v) e k = (k.0, k.1, k.2 ∙ ap (λ (n : ℕ). raise
 made_from m x rest a b c (Err f) e k = fails_within m m x x rest rest a b c f (λ t. t) (omega (arith, e)) k
 
 -- a head was decoded before
-pub makes_after : {V X : Type 0} (m : Making V X) (read whole : Read X) (a b c : CursorState) (result : Result V CborError)
-    → Passed a b → whole ≡ read → Makes m read b c result → Makes m whole a c result
-makes_after m read whole a b c result p e k = record {
-  went = went_then a b c (went_passed a b p) k.went;
-  made = λ x rest f. made_from m x rest a b c result p.nodes (k.made x rest (sym e ∙ f));
-  heads = λ x rest f. omega (arith, passed_heads a b p, k.heads x rest (sym e ∙ f));
+pub makes_after : {V X : Type 0} (m : Making V X) (read whole : Read X) (a b c : CursorState) (h : Head)
+    (result : Result V CborError) → HeadRead a b h → whole ≡ read → Makes m (content_len h) read b c result
+    → Makes m 0 whole a c result
+makes_after m read whole a b c h result r e k = record {
+  went = went_then a b c (went_passed a b r.passed) k.went;
+  spans = ok_then result (spans_head a b c h r) k.spans;
+  made = λ x rest f. made_from m x rest a b c result r.passed.nodes (k.made x rest (sym e ∙ f));
+  heads = λ x rest f. omega (arith, passed_heads a b r.passed, k.heads x rest (sym e ∙ f));
 }
 
 -- what was decoded, before it becomes part of something else
@@ -135,12 +153,14 @@ put_from {X = X} {Y = Y} make read whole e y rest f =
     }
 
 -- what was built becomes part of something else
-pub makes_put : {V W X Y : Type 0} (m : Making V X) (all : Making W Y) (make : X → Y) (read : Read X)
+pub makes_put : {V W X Y : Type 0} {content : ℕ} (m : Making V X) (all : Making W Y) (make : X → Y) (read : Read X)
     (whole : Read Y) (a b : CursorState) (v : V) (w : W)
     → whole ≡ (read >>= λ x. Some (make x.0, x.1)) → all.view w ≡ make (m.view v)
-    → ((x : X) → all.size (make x) ≡ m.size x) → Makes m read a b (Ok v) → Makes all whole a b (Ok w)
+    → ((x : X) → all.size (make x) ≡ m.size x) → Makes m content read a b (Ok v)
+    → Makes all content whole a b (Ok w)
 makes_put m all make read whole a b v w e same size k = record {
   went = k.went;
+  spans = k.spans;
   made = λ y rest f.
       let p = put_from make read whole e y rest f in
       let q = k.made p.part rest p.reads in
@@ -149,12 +169,14 @@ makes_put m all make read whole a b v w e same size k = record {
 }
 
 -- building a part of something else failed
-pub fails_put : {V W X Y : Type 0} (m : Making V X) (all : Making W Y) (make : X → Y) (read : Read X)
+pub fails_put : {V W X Y : Type 0} {content : ℕ} (m : Making V X) (all : Making W Y) (make : X → Y) (read : Read X)
     (whole : Read Y) (a b : CursorState) (e : CborError)
     → whole ≡ (read >>= λ x. Some (make x.0, x.1)) → ((x : X) → m.Takes x → all.Takes (make x))
-    → ((x : X) → all.size (make x) ≡ m.size x) → Makes m read a b (Err e) → Makes all whole a b (Err e)
+    → ((x : X) → all.size (make x) ≡ m.size x) → Makes m content read a b (Err e)
+    → Makes all content whole a b (Err e)
 fails_put m all make read whole a b e is takes size k = record {
   went = k.went;
+  spans = tt;
   made = λ y rest f.
       let p = put_from make read whole is y rest f in
       fails_within m all p.part y rest rest a a b e (λ t. subst all.Takes p.is (takes p.part t))
@@ -163,12 +185,14 @@ fails_put m all make read whole a b e is takes size k = record {
 }
 
 -- the part was built, but allocating the whole failed
-pub full_put : {V W X Y : Type 0} (m : Making V X) (all : Making W Y) (make : X → Y) (read : Read X)
+pub full_put : {V W X Y : Type 0} {content : ℕ} (m : Making V X) (all : Making W Y) (make : X → Y) (read : Read X)
     (whole : Read Y) (a b : CursorState) (v : V)
-    → whole ≡ (read >>= λ x. Some (make x.0, x.1)) → ((x : X) → all.Takes (make x)) → ((x : X)
-    → all.size (make x) ≡ m.size x) → Makes m read a b (Ok v) → Makes all whole a b (Err error.OutOfMemory)
+    → whole ≡ (read >>= λ x. Some (make x.0, x.1)) → ((x : X) → all.Takes (make x))
+    → ((x : X) → all.size (make x) ≡ m.size x) → Makes m content read a b (Ok v)
+    → Makes all content whole a b (Err error.OutOfMemory)
 full_put m all make read whole a b v is takes size k = record {
   went = k.went;
+  spans = tt;
   made = λ y rest f.
       let p = put_from make read whole is y rest f in
       let q = k.made p.part rest p.reads in (
@@ -201,12 +225,14 @@ two_from {X = X} {Y = Y} read next p rest e =
     }
 
 -- both were built
-pub makes_both : {V W X Y : Type 0} (m : Making V X) (n : Making W Y) (both : Making (V × W) (X × Y))
+pub makes_both : {V W X Y : Type 0} {content : ℕ} (m : Making V X) (n : Making W Y) (both : Making (V × W) (X × Y))
     (read : Read X) (next : List ℕ → Read Y) (a b c : CursorState) (v : V) (w : W)
-    → both.view (v, w) ≡ (m.view v, n.view w) → ((p : X × Y) → both.size p ≡ m.size p.0 + n.size p.1) → Makes m read
-    a b (Ok v) → Makes n (next (ahead b)) b c (Ok w) → Makes both (together read next) a c (Ok (v, w))
-makes_both {X = X} {Y = Y} m n both read next a b c v w same size k l = record {
+    → both.view (v, w) ≡ (m.view v, n.view w) → ((p : X × Y) → both.size p ≡ m.size p.0 + n.size p.1)
+    → Makes m content read a b (Ok v) → Makes n 0 (next (ahead b)) b c (Ok w)
+    → Makes both content (together read next) a c (Ok (v, w))
+makes_both {X = X} {Y = Y} {content = content} m n both read next a b c v w same size k l = record {
   went = went_then a b c k.went l.went;
+  spans = spans_then content a b c k.spans l.spans;
   made = λ p rest f.
       let t = two_from read next p rest f in
       let q = k.made p.0 t.middle t.one in
@@ -225,12 +251,14 @@ makes_both {X = X} {Y = Y} m n both read next a b c v w same size k l = record {
 }
 
 -- the first was not built
-pub fails_first : {V W X Y : Type 0} (m : Making V X) (both : Making W (X × Y)) (read : Read X) (next : List ℕ
-    → Read Y) (a b : CursorState) (e : CborError) → ((p : X × Y) → both.Takes p) → ((p : X × Y) → m.size p.0 ≤ both.size p)
+pub fails_first : {V W X Y : Type 0} {content : ℕ} (m : Making V X) (both : Making W (X × Y)) (read : Read X)
+    (next : List ℕ → Read Y) (a b : CursorState) (e : CborError) → ((p : X × Y) → both.Takes p)
+    → ((p : X × Y) → m.size p.0 ≤ both.size p)
     → ((u : List ℕ) (y : Y × List ℕ) → next u ≡ Some y → length y.1 ≤ length u)
-    → Makes m read a b (Err e) → Makes both (together read next) a b (Err e)
+    → Makes m content read a b (Err e) → Makes both content (together read next) a b (Err e)
 fails_first m both read next a b e takes size shrinks k = record {
   went = k.went;
+  spans = tt;
   made = λ p rest f.
       let t = two_from read next p rest f in
       fails_within m both p.0 p t.middle rest a a b e (λ s. takes p) (omega (arith, size p))
@@ -241,12 +269,14 @@ fails_first m both read next a b e takes size shrinks k = record {
 }
 
 -- the second was not built
-pub fails_second : {V W T X Y : Type 0} (m : Making V X) (n : Making T Y) (both : Making W (X × Y)) (read : Read X)
-    (next : List ℕ → Read Y) (a b c : CursorState) (v : V) (e : CborError) → ((p : X × Y) → both.Takes p)
-    → ((p : X × Y) → both.size p ≡ m.size p.0 + n.size p.1)
-    → Makes m read a b (Ok v) → Makes n (next (ahead b)) b c (Err e) → Makes both (together read next) a c (Err e)
+pub fails_second : {V W T X Y : Type 0} {content : ℕ} (m : Making V X) (n : Making T Y) (both : Making W (X × Y))
+    (read : Read X) (next : List ℕ → Read Y) (a b c : CursorState) (v : V) (e : CborError)
+    → ((p : X × Y) → both.Takes p) → ((p : X × Y) → both.size p ≡ m.size p.0 + n.size p.1)
+    → Makes m content read a b (Ok v) → Makes n 0 (next (ahead b)) b c (Err e)
+    → Makes both content (together read next) a c (Err e)
 fails_second m n both read next a b c v e takes size k l = record {
   went = went_then a b c k.went l.went;
+  spans = tt;
   made = λ p rest f.
       let t = two_from read next p rest f in
       let q = k.made p.0 t.middle t.one in
@@ -281,6 +311,7 @@ pub record Remaining {X : Type 0} (read : Reader X) (size : X → ℕ) (left : O
 pub record Gathers {X : Type 0} (read : Reader X) (size : X → ℕ) (all left : Option ℕ) (old now : CursorState)
     (Done : List X → Type 0) : Type 0 where
   pub went : MovesForward old now
+  pub spans : Spans 0 old now
   pub goes : (xs : List X) (rest : List ℕ) → list_at read all (ahead old) ≡ Some (xs, rest)
       → Remaining read size left old now Done xs rest
 
@@ -288,6 +319,7 @@ pub gathers_start : {X : Type 0} (read : Reader X) (size : X → ℕ) (left : Op
     (Done : List X → Type 0) → IsInside a → Done [] → Gathers read size left left a a Done
 gathers_start read size left a Done inside none = record {
   went = went_none a inside;
+  spans = spans_none a;
   goes = λ xs rest e. record {
     before = [];
     done = none;
@@ -318,9 +350,10 @@ some_decoded {X = X} read fuel (Some (suc n)) bytes xs rest some e =
 -- memory ran out before the first element
 pub no_room : {V X : Type 0} (m : Making V X) (read : Reader X) (len : Option ℕ) (a : CursorState) → Shrinks read
     → IsInside a → IsSomeAnd len (λ n. 0 < n)
-    → Makes (each_of m) (list_at read len (ahead a)) a a (Err error.OutOfMemory)
+    → Makes (each_of m) 0 (list_at read len (ahead a)) a a (Err error.OutOfMemory)
 no_room m read len a shrinks inside some = record {
   went = went_none a inside;
+  spans = tt;
   made = λ xs rest e. (some_decoded read (length (ahead a)) len (ahead a) xs rest some e, omega arith);
   heads = λ xs rest e.
       omega (arith, list_left read shrinks (suc (length (ahead a))) len (ahead a) (xs, rest) e);
@@ -426,11 +459,12 @@ pub record Goes_on {X : Type 0} (size : X → ℕ) (old new : CursorState) (More
 -- the element was built
 pub gathers_on : {X : Type 0} (read : Reader X) (size : X → ℕ) (all left after : Option ℕ) (a b c d : CursorState)
     (h : Head) (Done More : List X → Type 0) → Gathers read size all left a b Done → ElementRead left after b c h
-    → MovesForward c d
+    → MovesForward c d → Spans (content_len h) c d
     → ((before : List X) (x : X) (u : List ℕ) → Done before → read h (ahead c) ≡ Some (x, u)
     → Goes_on size c d More before x u) → Gathers read size all after a d More
-gathers_on {X = X} read size all left after a b c d h Done More g n went made = record {
+gathers_on {X = X} read size all left after a b c d h Done More g n went s made = record {
   went = went_then a b d g.went (went_then b c d (went_passed b c n.passed) went);
+  spans = spans_then 0 a b d g.spans (spans_element left after b c d h n s);
   goes = λ xs rest e.
       let r = gathers_here read size all left after a b c h Done g n xs rest e in
       let m = made r.before r.first r.middle r.done r.one in
@@ -457,18 +491,20 @@ not_empty (y ∷ before) others xs x e = subst IsNotEmpty (sym e) tt
 
 pub gathers_malformed : {V X : Type 0} (m : Making V X) (read : Reader X) (all left : Option ℕ) (a b c : CursorState)
     (Done : List X → Type 0) → Gathers read m.size all left a b Done → NoHead (step_at left (ahead b)) b c
-    → Makes (each_of m) (list_at read all (ahead a)) a c (Err error.DecodeFailed)
+    → Makes (each_of m) 0 (list_at read all (ahead a)) a c (Err error.DecodeFailed)
 gathers_malformed m read all left a b c Done g n = record {
   went = went_then a b c g.went (went_stopped b c n.stopped);
+  spans = tt;
   made = gathers_nothing read m.size all left a b c Done g n;
   heads = λ xs rest e. absurd (gathers_nothing read m.size all left a b c Done g n xs rest e);
 }
 
 pub gathers_made : {V X : Type 0} (m : Making V X) (read : Reader X) (all left : Option ℕ) (a b c : CursorState)
     (v : Vec V Global) → Gathers read m.size all left a b (λ xs. map m.view v.items ≡ xs) → EndRead left b c
-    → Makes (each_of m) (list_at read all (ahead a)) a c (Ok v)
+    → Makes (each_of m) 0 (list_at read all (ahead a)) a c (Ok v)
 gathers_made m read all left a b c v g n = record {
   went = went_then a b c g.went (went_passed b c n.passed);
+  spans = spans_then 0 a b c g.spans (spans_end left b c n);
   made = λ xs rest e. let k = gathers_end read m.size all left a b c (λ xs. map m.view v.items ≡ xs) g n xs rest
       e in (k.done, k.rest_is, k.nodes);
   heads = λ xs rest e. (gathers_end read m.size all left a b c (λ xs. map m.view v.items ≡ xs) g n xs rest e).heads;
@@ -482,10 +518,11 @@ part_made size before others xs x e = omega (arith, ap (total size) e, total-app
 -- an element was not built
 pub gathers_fails : {V X : Type 0} (m : Making V X) (read : Reader X) (all left after : Option ℕ) (a b c d : CursorState)
     (h : Head) (Done : List X → Type 0) (e : CborError) → Shrinks read → Gathers read m.size all left a b Done
-    → ElementRead left after b c h → Makes m (read h (ahead c)) c d (Err e)
-    → Makes (each_of m) (list_at read all (ahead a)) a d (Err e)
+    → ElementRead left after b c h → Makes m (content_len h) (read h (ahead c)) c d (Err e)
+    → Makes (each_of m) 0 (list_at read all (ahead a)) a d (Err e)
 gathers_fails m read all left after a b c d h Done e shrinks g n k = record {
   went = went_then a b d g.went (went_then b c d (went_passed b c n.passed) k.went);
+  spans = tt;
   made = λ xs rest f.
       let r = gathers_here read m.size all left after a b c h Done g n xs rest f in
       fails_within m (each_of m) r.first xs r.middle rest a c d e (λ takes. not_empty r.before r.others xs r.first
@@ -508,10 +545,11 @@ gathers_fails m read all left after a b c d h Done e shrinks g n k = record {
 -- the element was built, but memory for the list ran out
 pub gathers_full : {V X : Type 0} (m : Making V X) (read : Reader X) (all left after : Option ℕ) (a b c d : CursorState)
     (h : Head) (Done : List X → Type 0) (v : V) → Shrinks read → Gathers read m.size all left a b Done
-    → ElementRead left after b c h → Makes m (read h (ahead c)) c d (Ok v)
-    → Makes (each_of m) (list_at read all (ahead a)) a d (Err error.OutOfMemory)
+    → ElementRead left after b c h → Makes m (content_len h) (read h (ahead c)) c d (Ok v)
+    → Makes (each_of m) 0 (list_at read all (ahead a)) a d (Err error.OutOfMemory)
 gathers_full m read all left after a b c d h Done v shrinks g n k = record {
   went = went_then a b d g.went (went_then b c d (went_passed b c n.passed) k.went);
+  spans = tt;
   made = λ xs rest f.
       let r = gathers_here read m.size all left after a b c h Done g n xs rest f in
       let q = k.made r.first r.middle r.one in (
@@ -538,11 +576,11 @@ gathers_full m read all left after a b c d h Done v shrinks g n k = record {
 -- the element was built, and is appended to the others
 pub gathers_pushed : {V X : Type 0} (m : Making V X) (read : Reader X) (all left after : Option ℕ) (a b c d : CursorState)
     (h : Head) (vs ws : List V) (v : V) → Gathers read m.size all left a b (λ xs. map m.view vs ≡ xs)
-    → ElementRead left after b c h → Makes m (read h (ahead c)) c d (Ok v) → ws ≡ vs ++ v ∷ []
+    → ElementRead left after b c h → Makes m (content_len h) (read h (ahead c)) c d (Ok v) → ws ≡ vs ++ v ∷ []
     → Gathers read m.size all after a d (λ xs. map m.view ws ≡ xs)
 gathers_pushed {V = V} {X = X} m read all left after a b c d h vs ws v g n k pushed =
     gathers_on read m.size all left after a b c d h (λ xs. map m.view vs ≡ xs) (λ xs. map m.view ws ≡ xs) g n k.went
-    (λ before x u done one.
+    k.spans (λ before x u done one.
     let q = k.made x u one in
     record {
       more = ap (map m.view) pushed ∙ map-append m.view vs (v ∷ []) ∙ ap (λ (xs : List X). xs ++ m.view v ∷ []) done

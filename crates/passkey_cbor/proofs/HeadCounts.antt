@@ -5,7 +5,7 @@ use Rattle.std.proofs.lemmas.Bool.{cases_lt, lt-ltb, le-ltb}
 use Rattle.std.proofs.lemmas.List.{length-append, length-take, take-append-drop, take_at, drop_at}
 use Rattle.passkey_cbor.specs.Bytes.{IsBytes}
 use Rattle.passkey_cbor.specs.HeadReading.{◌>>=◌, head_at}
-use Rattle.passkey_cbor.specs.HeadCount.{content_len, WithContent, AreHeads, one_more_head, heads_by, heads_of, after_content, after_heads, Spans}
+use Rattle.passkey_cbor.specs.HeadCount.{content_len, WithContent, AreHeads, one_more_head, heads_by, heads_of, CountsHeads, after_content, after_heads, Spans}
 use Rattle.passkey_cbor.specs.Languages.{Each}
 use Rattle.passkey_cbor.specs.Reading.{is_break, end, element, step_at, is_allowed, piece_at, chunk_len, chunk}
 use Rattle.passkey_cbor.specs.Steps.{HeadRead, ElementRead, EndRead, PieceRead}
@@ -302,6 +302,18 @@ heads_taken (suc n) bytes rest fits e =
           ∙ ap (λ (r : List ℕ). t.text ++ (content ++ r)) others.parts
           ∙ sym (append_assoc t.text content (others.text ++ rest))
           ∙ sym (append_assoc (t.text ++ content) others.text rest);
+    }
+
+-- what a cursor passed from a head on
+pub spans_count : (a b : CursorState) → IsBytes (ahead a) → Spans 0 a b → CountsHeads a b
+spans_count a b fits s =
+    let t = heads_taken s.number (ahead a) (ahead b) fits (spanned a b s) in
+    record {
+      number = s.number;
+      text = t.text;
+      heads = t.heads;
+      parts = t.parts;
+      counted = omega (arith, s.counted);
     }
 
 -- ---- the number of heads is a function of the bytes

@@ -90,7 +90,7 @@ name_of_chunks is_text None region names a place none at sought =
     λ s c. sought s [] (string_in is_text s region a at c)
 
 pub copies_chunks : (is_text : Bool) (len : Option ℕ) (region : List ℕ) (a b : CursorState) (result : Result (Vec ℕ Global)
-    CborError) → len ≡ None → ahead a ≡ region → Makes some_bytes (string_at is_text None (ahead a)) a b result
+    CborError) → len ≡ None → ahead a ≡ region → Makes some_bytes 0 (string_at is_text None (ahead a)) a b result
     → Copies (λ v. v.items) is_text (record { len = len; bytes = region }) result
 copies_chunks is_text (Some n) region a b result none at m = absurd (none_is_some n (sym none))
 copies_chunks is_text None region a b (Ok v) none at m = λ s c. (m.made s [] (string_in is_text s region a at c)).0

@@ -8,8 +8,6 @@ use Rattle.passkey_cbor.specs.HeadCount.{content_len, AreHeads, heads_of, Counts
 use Rattle.passkey_cbor.specs.Heads.{break}
 use Rattle.passkey_cbor.specs.Lent.{Region, PassesString}
 use Rattle.passkey_cbor.specs.Skipped.{PassesLeadingItem}
-use Rattle.passkey_cbor.specs.Valued.{MakesLeadingItem}
-use Rattle.passkey_cbor.specs.Item.{Item}
 use Rattle.passkey_cbor.specs.CursorState.{CursorState, ahead, raised}
 use Rattle.passkey_cbor.specs.declared.head.Head.{Head}
 use Rattle.passkey_cbor.specs.declared.head.Head.TheVariants as head
@@ -59,9 +57,6 @@ counts_skip a b p = counts_from a b p.len p.place p.bytes p.whole (omega (arith,
 
 pub counts_string : (is_text : Bool) (a b : CursorState) (r : Region) → PassesString is_text a b r → CountsHeads a b
 counts_string is_text a b r p = counts_from a b p.len p.place p.bytes p.all_heads (omega (arith, p.counted))
-
-pub counts_value : (a b : CursorState) (x : Item) → MakesLeadingItem a b x → CountsHeads a b
-counts_value a b x p = counts_from a b p.len p.place p.bytes p.whole p.all
 
 -- a head that no content follows
 pub counts_head : (a b : CursorState) (h : Head) → content_len h ≡ 0 → PassesHead a b h → CountsHeads a b

@@ -1,5 +1,5 @@
 -- The results of a cursor's calls that build values, in terms of decoding the bytes ahead.
-use Rattle.std.specs.Prelude.{◌≡◌, ℕ, ◌+◌, ◌-◌, ◌≤◌, List, [], ◌∷◌, length, map, true, false, Option, Some, Result, Ok, Err, Vec, String, string_bytes}
+use Rattle.std.specs.Prelude.{◌≡◌, ℕ, ◌+◌, ◌-◌, ◌≤◌, List, [], ◌∷◌, length, map, true, false, Option, Some, Result, Ok, Err, OnOk, Vec, String, string_bytes}
 use Rattle.std.specs.Global.{Global}
 use Rattle.passkey_cbor.specs.Item.{Item, byte_string, text_string}
 use Rattle.passkey_cbor.specs.Nodes.{nodes}
@@ -9,6 +9,7 @@ use Rattle.passkey_cbor.specs.HeadReading.{◌>>=◌, Read}
 use Rattle.passkey_cbor.specs.Reading.{string_at, item_within}
 use Rattle.passkey_cbor.specs.declared.head.Head.TheVariants as head
 use Rattle.passkey_cbor.specs.CursorState.{CursorState, ahead, raised, MovesForward}
+use Rattle.passkey_cbor.specs.HeadCount.{Spans}
 use Rattle.passkey_cbor.specs.declared.value.Value.{Value}
 use Rattle.passkey_cbor.specs.declared.error.CborError.{CborError}
 use Rattle.passkey_cbor.specs.declared.error.CborError.TheVariants as error
@@ -66,10 +67,13 @@ Made m x rest old new (Err error.DecodeFailed) = ⊥
 Made m x rest old new (Err error.OutOfMemory) = m.Takes x × (new.nodes ≤ old.nodes + m.size x)
 Made m x rest old new (Err error.OutOfRangeIntegerValue) = ⊥
 
--- If the bytes decode, their content is built, and at most one head is counted for each byte of it.
-pub record Makes {V X : Type 0} (m : Making V X) (read : Read X) (old new : CursorState) (result : Result V CborError) :
-    Type 0 where
+-- If the bytes decode, their content is built, and at most one head is counted for each byte of it. Whatever the
+-- bytes are, the cursor passed whole heads if something was built, and counted each of them. `content`: how many
+-- bytes of a string's content the cursor passes before the next head
+pub record Makes {V X : Type 0} (m : Making V X) (content : ℕ) (read : Read X) (old new : CursorState)
+    (result : Result V CborError) : Type 0 where
   pub went : MovesForward old new
+  pub spans : OnOk result (Spans content old new)
   pub made : (x : X) (rest : List ℕ) → read ≡ Some (x, rest) → Made m x rest old new result
   pub heads : (x : X) (rest : List ℕ) → read ≡ Some (x, rest)
       → new.heads + length rest ≤ old.heads + length (ahead old)

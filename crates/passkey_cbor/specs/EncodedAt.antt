@@ -76,6 +76,31 @@ Values x to old new (Err error.DecodeFailed) = ⊥
 Values x to old new (Err error.OutOfMemory) = NotValued x to old new
 Values x to old new (Err error.OutOfRangeIntegerValue) = ⊥
 
+-- `value_ahead` decodes the data item in one walk: it counts each of its heads once, at least one and at most one for
+-- each of the item's bytes. If it runs out of memory, it counted some of them, and the cursor doesn't move.
+pub record ValuedAhead (x : Item) (to : ℕ) (old new : CursorState) (v : Value) : Type 0 where
+  pub value : item_of v ≡ x
+  pub place : new.place ≡ to
+  pub counted : new.heads ≡ raised old.heads (heads_between old.bytes old.place to)
+  pub heads : new.heads + old.place ≤ old.heads + to
+  pub nodes : new.nodes ≡ raised old.nodes (nodes x)
+  pub bytes : new.bytes ≡ old.bytes
+
+pub record NotValuedAhead (x : Item) (to : ℕ) (old new : CursorState) : Type 0 where
+  pub grows : Grows x
+  pub place : new.place ≡ old.place
+  pub least : old.heads ≤ new.heads
+  pub heads : new.heads + old.place ≤ old.heads + to
+  pub least_nodes : old.nodes ≤ new.nodes
+  pub nodes : new.nodes ≤ old.nodes + nodes x
+  pub bytes : new.bytes ≡ old.bytes
+
+abbrev pub ValuesAhead : Item → ℕ → CursorState → CursorState → Result Value CborError → Type 0
+ValuesAhead x to old new (Ok v) = ValuedAhead x to old new v
+ValuesAhead x to old new (Err error.DecodeFailed) = ⊥
+ValuesAhead x to old new (Err error.OutOfMemory) = NotValuedAhead x to old new
+ValuesAhead x to old new (Err error.OutOfRangeIntegerValue) = ⊥
+
 -- ---- iterating over the elements of an array or the members of a map
 
 -- The first of the elements that are left is encoded at the cursor, and the others after it.

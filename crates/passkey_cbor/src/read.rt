@@ -1,5 +1,5 @@
 //! Decoding data items to values.
-ghost use Rattle.std.specs.Prelude.{◌≡◌, ◌<◌, ◌≤◌, ◌⊎◌, ℕ, [], ◌∷◌, ◌++◌, length, true, Err, IfOk, OnErr, OnOk};
+ghost use Rattle.std.specs.Prelude.{◌≡◌, ◌<◌, ◌≤◌, ◌⊎◌, ℕ, [], ◌∷◌, ◌++◌, length, true, unwrap_or, Err, IfOk, OnErr, OnOk};
 ghost use Rattle.std.specs.Option.{IsSomeAnd};
 ghost use Rattle.passkey_cbor.specs.Item as item;
 ghost use Rattle.passkey_cbor.specs.CursorState.{ahead, IsInside, MovesForward};
@@ -11,7 +11,8 @@ ghost use Rattle.passkey_cbor.specs.View.{item_of};
 ghost use Rattle.passkey_cbor.specs.declared.value.Value.{Null};
 ghost use Rattle.passkey_cbor.specs.Reads.{ReadsLeadingItem};
 ghost use Rattle.passkey_cbor.specs.Valued.{ReadsValue};
-ghost use Rattle.passkey_cbor.specs.EncodedAt.{IsEncodedAt, Values};
+ghost use Rattle.passkey_cbor.specs.EncodedAt.{IsEncodedAt, Values, ValuesAhead};
+ghost use Rattle.passkey_cbor.specs.HeadCount.{content_len, CountsHeads};
 ghost use Rattle.passkey_cbor.specs.Item.{Item};
 
 use crate::count::Count;
@@ -41,13 +42,13 @@ impl Value {
     }
 }
 
-// An empty list with room for this many elements, if the number is known.
-fn room_for<T>(alloc: Global, len: Option<u64>) -> Result<Vec<T>, OutOfMemory>
+// An empty list with room for this many elements, if the number is known, but for no more than `most`.
+fn room_for<T>(alloc: Global, len: Option<u64>, most: usize) -> Result<Vec<T>, OutOfMemory>
     ensures empty { IfOk result (λ list. list.items ≡ []) }
     ensures some { OnErr result (IsSomeAnd len (λ n. 0 < n)) }
 {
     match len {
-        Some(len) => Ok(Vec::with_capacity(alloc, len as usize)?),
+        Some(len) => Ok(Vec::with_capacity(alloc, most.min(len as usize))?),
         None => Ok(Vec::new(alloc)),
     }
 }
@@ -100,6 +101,30 @@ impl<'a> Cursor<'a> {
             return Err(CborError::DecodeFailed);
         }
         self.go_back(place);
+        self.value_ahead(alloc)
+    }
+
+    /// Decodes the data item at the cursor as `value` does, but in one walk, where it is known to be
+    /// well-formed and of at most 256 levels: because it was skipped before, by itself or as part of
+    /// another one. Each of its heads is counted once, and each data item that is built is counted
+    /// in `Count::nodes`. `OutOfMemory` if an allocation fails, which can happen only if the data
+    /// item is a tag, a text string, or a byte string, array or map that isn't empty; the cursor
+    /// doesn't move then. If no such data item follows, the result is an error and the cursor
+    /// doesn't move, or a value for whole heads that it moved past. No list reserves memory for more
+    /// elements than bytes are left. (RFC 8949, section 3.)
+    pub fn value_ahead(&mut self, alloc: Global) -> Result<Value, CborError>
+        // If a data item is encoded at the cursor, its value is returned.
+        ensures values { (x : Item) (to : ℕ) → IsEncodedAt x self.old.bytes self.old.place to
+            → ValuesAhead x to self.old self.new result }
+
+        // Whatever the bytes are: after a success the cursor moved on by whole heads, and counted
+        // each of them; after an error it is where it was; and the counts never decrease.
+        ensures moved { OnOk result (self.old.place < self.new.place) }
+        ensures counts { OnOk result (CountsHeads self.old self.new) }
+        ensures stays { OnErr result (self.new.place ≡ self.old.place) }
+        ensures went { MovesForward self.old self.new }
+    {
+        let place = self.place;
         let mut value = Value::Null;
         match self.build_item(alloc, MAX_DEPTH, &mut value) {
             Ok(()) => Ok(value),
@@ -117,7 +142,9 @@ impl<'a> Cursor<'a> {
     fn build_item(&mut self, alloc: Global, levels: usize, out: &mut Value) -> Result<(), CborError>
         requires inside { IsInside self.old }
         requires blank { out.old ≡ Null }
-        ensures { Makes an_item (start (item_within levels) (ahead self.old)) self.old self.new (built out.new result) }
+        ensures made { Makes an_item 0 (start (item_within levels) (ahead self.old)) self.old self.new
+            (built out.new result) }
+        ensures moved { OnOk result (self.old.place < self.new.place) }
     {
         match self.decode() {
             None => Err(CborError::DecodeFailed),
@@ -138,7 +165,8 @@ impl<'a> Cursor<'a> {
         requires inside { IsInside self.old }
         requires head { IsHead head }
         requires blank { out.old ≡ Null }
-        ensures { Makes an_item (item_within levels head (ahead self.old)) self.old self.new (built out.new result) }
+        ensures { Makes an_item (content_len head) (item_within levels head (ahead self.old)) self.old self.new
+            (built out.new result) }
     {
         self.add(Count { heads: 0, nodes: 1 });
         self.build_inside(alloc, head, levels, out)
@@ -157,7 +185,7 @@ impl<'a> Cursor<'a> {
         requires inside { IsInside self.old }
         requires head { IsHead head }
         requires blank { out.old ≡ Null }
-        ensures { Makes a_counted_item (item_within levels head (ahead self.old)) self.old self.new
+        ensures { Makes a_counted_item (content_len head) (item_within levels head (ahead self.old)) self.old self.new
             (built out.new result) }
     {
         match head {
@@ -196,7 +224,7 @@ impl<'a> Cursor<'a> {
     ) -> Result<(), CborError>
         requires inside { IsInside self.old }
         requires blank { out.old ≡ Null }
-        ensures { Makes a_counted_item (byte_string_at len (ahead self.old)) self.old self.new
+        ensures { Makes a_counted_item (unwrap_or len 0) (byte_string_at len (ahead self.old)) self.old self.new
             (built out.new result) }
     {
         put(out, Value::Bytes(self.build_bytes(alloc, false, len)?));
@@ -213,7 +241,7 @@ impl<'a> Cursor<'a> {
     ) -> Result<(), CborError>
         requires inside { IsInside self.old }
         requires blank { out.old ≡ Null }
-        ensures { Makes a_counted_item (text_string_at len (ahead self.old)) self.old self.new
+        ensures { Makes a_counted_item (unwrap_or len 0) (text_string_at len (ahead self.old)) self.old self.new
             (built out.new result) }
     {
         put(out, Value::Text(self.build_text(alloc, len)?));
@@ -232,13 +260,13 @@ impl<'a> Cursor<'a> {
     ) -> Result<(), CborError>
         requires inside { IsInside self.old }
         requires blank { out.old ≡ Null }
-        ensures { Makes a_counted_item (array_within levels len (ahead self.old)) self.old self.new
+        ensures { Makes a_counted_item 0 (array_within levels len (ahead self.old)) self.old self.new
             (built out.new result) }
     {
         if levels == 0 {
             return Err(CborError::DecodeFailed);
         }
-        let mut items = room_for(alloc, len)?;
+        let mut items = room_for(alloc, len, self.bytes.len() - self.place)?;
         self.build_items(alloc, len, levels - 1, &mut items)?;
         put(out, Value::Array(items));
         Ok(())
@@ -256,13 +284,13 @@ impl<'a> Cursor<'a> {
     ) -> Result<(), CborError>
         requires inside { IsInside self.old }
         requires blank { out.old ≡ Null }
-        ensures { Makes a_counted_item (map_within levels len (ahead self.old)) self.old self.new
+        ensures { Makes a_counted_item 0 (map_within levels len (ahead self.old)) self.old self.new
             (built out.new result) }
     {
         if levels == 0 {
             return Err(CborError::DecodeFailed);
         }
-        let mut pairs = room_for(alloc, len)?;
+        let mut pairs = room_for(alloc, len, self.bytes.len() - self.place)?;
         self.build_pairs(alloc, len, levels - 1, &mut pairs)?;
         put(out, Value::Map(pairs));
         Ok(())
@@ -280,7 +308,7 @@ impl<'a> Cursor<'a> {
     ) -> Result<(), CborError>
         requires inside { IsInside self.old }
         requires blank { out.old ≡ Null }
-        ensures { Makes a_counted_item (tagged_within levels tag (ahead self.old)) self.old self.new
+        ensures { Makes a_counted_item 0 (tagged_within levels tag (ahead self.old)) self.old self.new
             (built out.new result) }
     {
         if levels == 0 {
@@ -303,7 +331,7 @@ impl<'a> Cursor<'a> {
     ) -> Result<(), CborError>
         requires inside { IsInside self.old }
         requires empty { items.old.items ≡ [] }
-        ensures { Makes (each_of an_item) (list_at (item_within levels) len (ahead self.old)) self.old self.new
+        ensures { Makes (each_of an_item) 0 (list_at (item_within levels) len (ahead self.old)) self.old self.new
             (built items.new result) }
     {
         let mut left = len;
@@ -331,7 +359,7 @@ impl<'a> Cursor<'a> {
     ) -> Result<(), CborError>
         requires inside { IsInside self.old }
         requires empty { pairs.old.items ≡ [] }
-        ensures { Makes (each_of a_pair) (list_at (pair_by (item_within levels)) len (ahead self.old)) self.old
+        ensures { Makes (each_of a_pair) 0 (list_at (pair_by (item_within levels)) len (ahead self.old)) self.old
             self.new (built pairs.new result) }
     {
         let mut left = len;
@@ -363,8 +391,8 @@ impl<'a> Cursor<'a> {
         requires head { IsHead head }
         requires blank_key { key.old ≡ Null }
         requires blank_value { value.old ≡ Null }
-        ensures { Makes a_pair (pair_by (item_within levels) head (ahead self.old)) self.old self.new
-            (built (key.new, value.new) result) }
+        ensures { Makes a_pair (content_len head) (pair_by (item_within levels) head (ahead self.old)) self.old
+            self.new (built (key.new, value.new) result) }
     {
         self.build_behind(alloc, head, levels, key)?;
         self.build_item(alloc, levels, value)?;
@@ -374,7 +402,7 @@ impl<'a> Cursor<'a> {
     // Builds a text whose head is decoded already. Its bytes are UTF-8, since each piece is.
     fn build_text(&mut self, alloc: Global, len: Option<u64>) -> Result<String, CborError>
         requires { IsInside self.old }
-        ensures { Makes a_text (string_at true len (ahead self.old)) self.old self.new result }
+        ensures { Makes a_text (unwrap_or len 0) (string_at true len (ahead self.old)) self.old self.new result }
     {
         let bytes = self.build_bytes(alloc, true, len)?;
         // SAFETY: each piece was found to be UTF-8, and so are all of them together.
@@ -389,7 +417,8 @@ impl<'a> Cursor<'a> {
         len: Option<u64>,
     ) -> Result<Vec<u8>, CborError>
         requires { IsInside self.old }
-        ensures made { Makes some_bytes (string_at is_text len (ahead self.old)) self.old self.new result }
+        ensures made { Makes some_bytes (unwrap_or len 0) (string_at is_text len (ahead self.old)) self.old self.new
+            result }
         ensures allowed_text { IfOk result (λ v. is_allowed is_text v.items ≡ true) }
     {
         match len {
@@ -401,7 +430,7 @@ impl<'a> Cursor<'a> {
     // Builds the bytes of a string of definite length.
     fn build_piece(&mut self, alloc: Global, is_text: bool, len: u64) -> Result<Vec<u8>, CborError>
         requires { IsInside self.old }
-        ensures made { Makes some_bytes (piece_at is_text len (ahead self.old)) self.old self.new result }
+        ensures made { Makes some_bytes len (piece_at is_text len (ahead self.old)) self.old self.new result }
         ensures allowed_text { IfOk result (λ v. is_allowed is_text v.items ≡ true) }
     {
         match self.piece(is_text, len) {
@@ -418,7 +447,7 @@ impl<'a> Cursor<'a> {
         is_text: bool,
     ) -> Result<Vec<u8>, CborError>
         requires { IsInside self.old }
-        ensures made { Makes some_bytes (string_at is_text None (ahead self.old)) self.old self.new result }
+        ensures made { Makes some_bytes 0 (string_at is_text None (ahead self.old)) self.old self.new result }
         ensures allowed_text { IfOk result (λ v. is_allowed is_text v.items ≡ true) }
         ensures counted { CountsChunks is_text self.old self.new result }
     {

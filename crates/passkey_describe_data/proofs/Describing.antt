@@ -1,5 +1,5 @@
 -- Elements, members and parts, described one by one.
-use Rattle.std.proofs.Common.{◌≡◌, ◌∙◌, ℕ, List, [], ◌∷◌, ◌++◌, map, Result, Ok, Err, OnOk, refl, ap, append_assoc}
+use Rattle.std.proofs.Common.{◌≡◌, ◌∙◌, ℕ, List, [], ◌∷◌, ◌++◌, map, refl, ap, append_assoc}
 use Rattle.passkey_cbor.specs.Item.{Item, items_of, pairs_of}
 use Rattle.passkey_explain.specs.Described.{Described, Part, Parts, part, parts_from, element, key, member, labelled}
 use Rattle.passkey_kinds.specs.declared.wanted.Wanted.TheVariants as wanted
@@ -18,10 +18,6 @@ pairs_described (m ∷ ms) =
     ap (λ (ps : Parts). part (key m.0) (described_item (wanted_by m.0) m.1) ps) (pairs_described ms)
 
 -- ---- parts of a record
-
-pub on_ok : {A E P Q : Type 0} (r : Result A E) → (P → Q) → OnOk r P → OnOk r Q
-on_ok (Ok x) f p = f p
-on_ok (Err e) f p = p
 
 -- one more part
 pub pushed_as : (old new : List Part) (name : List ℕ) (d e : Described) → d ≡ e

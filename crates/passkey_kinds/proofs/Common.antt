@@ -35,10 +35,9 @@ pub use Rattle.passkey_cbor.specs.Order.{key_type, IsBefore, ctap2_order}
 pub use Rattle.passkey_cbor.specs.Pieces.{LendsPiece, LendsNoPiece, LooksAhead, LendsUpTo}
 pub use Rattle.passkey_cbor.specs.Reading.{item_within, chunk}
 pub use Rattle.passkey_cbor.specs.Skipped.{PassesLeadingItem, SkipsLeadingItem}
-pub use Rattle.passkey_cbor.specs.Valued.{MakesLeadingItem}
 pub use Rattle.passkey_cbor.specs.View.{item_of, pair_of}
 pub use Rattle.passkey_cbor.specs.HeadCount.{CountsHeads, content_len, heads_of}
-pub use Rattle.passkey_cbor.proofs.WholeHeads.{counts_then, counts_stay, counts_skip, counts_string, counts_value, counts_head, counts_more}
+pub use Rattle.passkey_cbor.proofs.WholeHeads.{counts_then, counts_stay, counts_skip, counts_string, counts_head, counts_more}
 pub use Rattle.passkey_cbor.specs.CursorState.{CursorState, LooksOnce, ahead, MovesForward, raised, break_heads}
 pub use Rattle.passkey_cbor.specs.Writable.{IsWritable, ArePairsWritable}
 unfoldable pub use Rattle.passkey_cbor.specs.Written.{shortest_head}

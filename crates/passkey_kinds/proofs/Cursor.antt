@@ -1,8 +1,9 @@
 -- How a cursor moves, what it spends, and values of one head or of one string.
-use Rattle.passkey_kinds.proofs.Common.{front_long, SkipsLeadingItem, Bool, CountsHeads, content_len, counts_then, counts_stay, counts_skip, counts_string, counts_value, counts_head, lies_size, head_again, follows_item, low_simple, head_long, encoded_long, IsEncodedAt, Opens, FindsHead, IsEncodingOfHead, PairWithin, Within, Inside, Item, byte_string, boolean, null, text_string, number, max_depth, Region, PassesString, item_within, PassesLeadingItem, MakesLeadingItem, CursorState, ahead, MovesForward, Head, members-pairs_of, elements-items_of, aaguid_from, number_from, truth_from, Kind, optional_from, text_from, name_from, FailsAs, size_from, AnswersAs, MayGrow, scalar_in, ReadsScalar, head_scalar, head_array, head_map, elements_in, members_in, OpensAt, Further, Decodes, Spends, Onward, named, Refused, OutOfMemory, Refusal, ◌≡◌, ◌∙◌, ◌<◌, ◌+◌, ℕ, arith, true, false, List, [], ◌++◌, length, Option, Some, None, option_map, refl, sym, ap, rules, ◌≤◌, Result, subst, ◌-◌, Ok, Err, OnOk, unwrap_or, Language, IfSome, is_ok, mul-le-mul_left, nat_tests, cases_lt, cases_eq, length-append, option_and_then}
+use Rattle.passkey_kinds.proofs.Common.{front_long, SkipsLeadingItem, Bool, CountsHeads, content_len, counts_then, counts_stay, counts_skip, counts_string, counts_head, lies_size, head_again, follows_item, low_simple, head_long, encoded_long, IsEncodedAt, Opens, FindsHead, IsEncodingOfHead, PairWithin, Within, Inside, Item, byte_string, boolean, null, text_string, number, max_depth, Region, PassesString, item_within, PassesLeadingItem, CursorState, ahead, MovesForward, Head, members-pairs_of, elements-items_of, aaguid_from, number_from, truth_from, Kind, optional_from, text_from, name_from, FailsAs, size_from, AnswersAs, MayGrow, scalar_in, ReadsScalar, head_scalar, head_array, head_map, elements_in, members_in, OpensAt, Further, Decodes, Spends, Onward, named, Refused, OutOfMemory, Refusal, ◌≡◌, ◌∙◌, ◌<◌, ◌+◌, ℕ, arith, true, false, List, [], ◌++◌, length, Option, Some, None, option_map, refl, sym, ap, rules, ◌≤◌, Result, subst, ◌-◌, Ok, Err, OnOk, unwrap_or, Language, IfSome, is_ok, mul-le-mul_left, nat_tests, cases_lt, cases_eq, length-append, option_and_then}
 use Rattle.passkey_kinds.proofs.Lists.{answers_from, never_grows}
 use Rattle.passkey_cbor.specs.declared.head.Head.TheVariants as head
 use Rattle.passkey_cbor.specs.Item as item
+pub use Rattle.passkey_cbor.proofs.Gathering.{on_ok}
 
 -- ---- moving on
 
@@ -43,11 +44,8 @@ skip_further a b p = record {
   counts = counts_skip a b p;
 }
 
-pub value_further : (a b : CursorState) (x : Item) → MakesLeadingItem a b x → Further a b
-value_further a b x p = record {
-  forward = omega (arith, p.place, front_long x (ahead a) p.len p.front);
-  counts = counts_value a b x p;
-}
+pub value_further : (a b : CursorState) → a.place < b.place → CountsHeads a b → Further a b
+value_further a b moved counts = record { forward = moved; counts = counts }
 
 pub further_then : (a b c : CursorState) → Further a b → CountsHeads b c → b.place ≤ c.place → Further a c
 further_then a b c p q on =
@@ -67,10 +65,6 @@ further_on {a} {b} {c} p q = further_then a b c p q.counts (omega (arith, q.forw
 pub if_some : {X : Type 0} {P : Type 0} (o : Option X) → P → IfSome o (λ x. P)
 if_some None h = tt
 if_some (Some x) h = h
-
-pub on_ok : {T E P : Type 0} (r : Result T E) → P → OnOk r P
-on_ok (Ok x) h = h
-on_ok (Err e) h = tt
 
 if_found : {X : Type 0} {P : Type 0} (o : Option X) → ((x : X) → o ≡ Some x → P) → IfSome o (λ x. P)
 if_found None h = tt

@@ -184,7 +184,7 @@ impl FromCbor for Value {
 
     #[tactic(auto, using(crate::proofs::Cursor::value_further))]
     fn read(alloc: Global, cursor: &mut Cursor<'_>) -> Result<Value, Refusal> {
-        match cursor.value(alloc) {
+        match cursor.value_ahead(alloc) {
             Ok(value) => Ok(value),
             Err(CborError::OutOfMemory) => Err(Refusal::OutOfMemory),
             Err(CborError::DecodeFailed) => Err(Refusal::Refused),

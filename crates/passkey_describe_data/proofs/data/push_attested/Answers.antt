@@ -3,7 +3,8 @@ use Rattle.passkey_cbor.specs.Item.{byte_string}
 use Rattle.passkey_core.specs.DataViews.{attested_parts}
 use Rattle.passkey_explain.specs.Described.{leaf}
 use Rattle.passkey_kinds.specs.declared.wanted.Wanted.TheVariants as wanted
-use Rattle.passkey_describe_data.proofs.Describing.{on_ok, pushed_as, three_pushed}
+use Rattle.passkey_cbor.proofs.Gathering.{ok_then}
+use Rattle.passkey_describe_data.proofs.Describing.{pushed_as, three_pushed}
 use Rattle.passkey_describe_data.specs.Described.{described_key, field_of}
 use Rattle.passkey_describe_data.proofs.data.push_attested.Goals as goal
 
@@ -16,7 +17,7 @@ returns c =
     let three = map field_of c.push_field-3.new.fields.items in
     let id = c.in_ok-id.ensures ∙ ap (λ (s : List ℕ). leaf wanted.Bytes (byte_string s)) c.credential_id.ensures.value in
     let key = c.in_ok-key-2.ensures ∙ ap described_key c.in_ok-key.ensures in
-    on_ok c.push_field-3.result
+    ok_then c.push_field-3.result
     (λ h. three_pushed old one two three _ _ _
     (pushed_as old one (codes "aaguid") _ _ c.in_ok-aaguid.ensures c.in_ok-push_field.ensures)
     (pushed_as one two (codes "credentialId") _ _ id c.in_ok-push_field-2.ensures)

@@ -1,14 +1,15 @@
 use Rattle.std.proofs.Common.{◌∙◌, ◌++◌, Option, codes, map, option_map, sym, ap}
 use Rattle.passkey_cbor.specs.View.{item_of}
 use Rattle.passkey_cbor.specs.declared.value.Value.{Value}
-use Rattle.passkey_describe_data.proofs.Describing.{on_ok, pushed_as}
+use Rattle.passkey_cbor.proofs.Gathering.{ok_then}
+use Rattle.passkey_describe_data.proofs.Describing.{pushed_as}
 use Rattle.passkey_describe_data.specs.Described.{extensions_part, field_of, if_present}
 use Rattle.passkey_describe_data.proofs.data.push_extensions_where.Goals as goal
 
 pub returns-in_ok-extensions-in-Some : goal.returns-in_ok-extensions-in-Some
 returns-in_ok-extensions-in-Some c =
     let old = map field_of c.args.fields.now.items in
-    on_ok c.push_field.result
+    ok_then c.push_field.result
     (λ h. pushed_as old _ (codes "extensions") _ _ c.in_ok-extensions-in-Some.ensures h
     ∙ sym (ap (λ (x : Option Value). old ++ if_present extensions_part (option_map item_of x)) c.in-Some.is))
     c.push_field.ensures

@@ -1,20 +1,22 @@
 use Rattle.std.proofs.Common.{◌-◌, ℕ, List, subst, refl, sym, ap, ◌∙◌, false, true, arith}
 use Rattle.std.specs.Prelude.{pos, negsuc}
 use Rattle.std.proofs.lemmas.Result.{err_from_is_err_and}
-use Rattle.passkey_cbor.specs.Item.{Item, number, byte_string, text_string, array, map, tagged, float, items_of, pairs_of}
+use Rattle.passkey_cbor.specs.Item.{Item, number, array, map, tagged, float, items_of, pairs_of}
 use Rattle.passkey_cbor.specs.CursorState.{ahead}
-use Rattle.passkey_cbor.specs.Reading.{start, string_at, list_at, pair_by, simple_item, item_by, item_within}
+use Rattle.passkey_cbor.specs.HeadCount.{content_len}
+use Rattle.passkey_cbor.specs.Reading.{start, list_at, pair_by, simple_item, item_by, item_within}
 use Rattle.passkey_cbor.specs.View.{item_of}
-use Rattle.passkey_cbor.specs.Building.{Makes, built, an_item, a_counted_item, a_pair, each_of, some_bytes, a_text}
+use Rattle.passkey_cbor.specs.Building.{Makes, built, byte_string_at, text_string_at, an_item, a_counted_item, a_pair, each_of}
 use Rattle.passkey_cbor.specs.declared.head.Head.TheVariants as head
-use Rattle.passkey_cbor.specs.declared.value.Value.{Value, Integer, Bytes, Float, Text, Tag, Array, Map}
-use Rattle.passkey_cbor.proofs.Views.{item_of-Integer, item_of-Bytes, item_of-Float, item_of-Text, item_of-Tag, item_of-Array, item_of-Map}
+use Rattle.passkey_cbor.specs.declared.value.Value.{Integer, Float, Tag, Array, Map}
+use Rattle.passkey_cbor.proofs.Views.{item_of-Integer, item_of-Float, item_of-Tag, item_of-Array, item_of-Map}
 use Rattle.passkey_cbor.proofs.Behind.{by_flat, by_string, by_array, by_map, by_tag, by_nothing, by_break}
+use Rattle.passkey_cbor.proofs.HeadCounts.{spans_flat}
 use Rattle.passkey_cbor.proofs.Skipping.{passed_none}
 use Rattle.passkey_cbor.proofs.Shrinking.{start_left, item_left, pair_left}
-use Rattle.passkey_cbor.proofs.Gathering.{went_none, went_stopped, makes_nothing, makes_one, makes_after, makes_put, fails_put, full_put, makes_both, fails_first, fails_second, no_room, gathers_start, gathers_malformed, gathers_made, gathers_fails, gathers_full, gathers_pushed}
+use Rattle.passkey_cbor.proofs.Gathering.{went_none, went_stopped, on_ok, makes_nothing, makes_one, makes_after, makes_put, fails_put, full_put, makes_both, fails_first, fails_second, no_room, gathers_start, gathers_malformed, gathers_made, gathers_fails, gathers_full, gathers_pushed}
 use Rattle.passkey_cbor.proofs.Counted.{counted_once, simple_size, array_size, map_size, tag_size}
-use Rattle.passkey_cbor.proofs.Valuing.{grows_bytes, grows_array, grows_map}
+use Rattle.passkey_cbor.proofs.Valuing.{grows_array, grows_map}
 use Rattle.passkey_cbor.proofs.Binds.{bind_at, bind_none}
 use Rattle.passkey_cbor.specs.HeadReading.{Read, head_at}
 use Rattle.passkey_cbor.specs.declared.head.Head.{Head}
@@ -24,31 +26,35 @@ pub build_inside-returns-in-Unsigned : goal.build_inside-returns-in-Unsigned
 unfolding item_by
 build_inside-returns-in-Unsigned t c =
     rw c.put.ensures (makes_one a_counted_item _ (number (pos c.in-Unsigned.n)) c.args.self.now c.args.self.now
-    (Integer c.unsigned.result) (passed_none c.args.self.now c.requires.inside) (by_flat c.args.levels
+    (Integer c.unsigned.result) (passed_none c.args.self.now c.requires.inside)
+    (spans_flat _ c.args.self.now (ap content_len c.in-Unsigned.is)) (by_flat c.args.levels
     c.args.head (head.Unsigned c.in-Unsigned.n) (number (pos c.in-Unsigned.n)) (ahead c.args.self.now)
     c.in-Unsigned.is (λ inner. refl)) (item_of-Integer c.unsigned.result ∙ ap number c.unsigned.ensures) (refl))
 
 pub build_inside-returns-in-Negative : goal.build_inside-returns-in-Negative
 unfolding item_by
 build_inside-returns-in-Negative t c =
-    rw c.put-in-Negative.ensures (makes_one a_counted_item _ (number (negsuc c.in-Negative.n)) c.args.self.now c.args.self.now
-    (Integer c.negative.result) (passed_none c.args.self.now c.requires.inside) (by_flat c.args.levels
+    rw c.put-in-Negative.ensures (makes_one a_counted_item _ (number (negsuc c.in-Negative.n)) c.args.self.now
+    c.args.self.now (Integer c.negative.result) (passed_none c.args.self.now c.requires.inside)
+    (spans_flat _ c.args.self.now (ap content_len c.in-Negative.is)) (by_flat c.args.levels
     c.args.head (head.Negative c.in-Negative.n) (number (negsuc c.in-Negative.n)) (ahead c.args.self.now)
     c.in-Negative.is (λ inner. refl)) (item_of-Integer c.negative.result ∙ ap number c.negative.ensures) (refl))
 
 pub build_inside-returns-in-Simple : goal.build_inside-returns-in-Simple
 unfolding item_by
 build_inside-returns-in-Simple t c =
-    rw c.put-in-Simple.ensures (makes_one a_counted_item _ (simple_item c.in-Simple.n) c.args.self.now c.args.self.now (c.simple_value.result)
-    (passed_none c.args.self.now c.requires.inside)
+    rw c.put-in-Simple.ensures (makes_one a_counted_item _ (simple_item c.in-Simple.n) c.args.self.now
+    c.args.self.now (c.simple_value.result) (passed_none c.args.self.now c.requires.inside)
+    (spans_flat _ c.args.self.now (ap content_len c.in-Simple.is))
     (by_flat c.args.levels c.args.head (head.Simple c.in-Simple.n) (simple_item c.in-Simple.n)
     (ahead c.args.self.now) c.in-Simple.is (λ inner. refl)) (c.simple_value.ensures) (simple_size c.in-Simple.n))
 
 pub build_inside-returns-in-Float : goal.build_inside-returns-in-Float
 unfolding item_by
 build_inside-returns-in-Float t c =
-    rw c.put-in-Float.ensures (makes_one a_counted_item _ (float c.in-Float.float) c.args.self.now c.args.self.now (Float c.in-Float.float)
-    (passed_none c.args.self.now c.requires.inside)
+    rw c.put-in-Float.ensures (makes_one a_counted_item _ (float c.in-Float.float) c.args.self.now
+    c.args.self.now (Float c.in-Float.float) (passed_none c.args.self.now c.requires.inside)
+    (spans_flat _ c.args.self.now (ap content_len c.in-Float.is))
     (by_flat c.args.levels c.args.head (head.Float c.in-Float.float) (float c.in-Float.float)
     (ahead c.args.self.now) c.in-Float.is (λ inner. refl)) (item_of-Float c.in-Float.float) (refl))
 
@@ -59,32 +65,39 @@ build_inside-returns-in-Break t c =
 
 pub build_inside-returns-in-Bytes : goal.build_inside-returns-in-Bytes
 build_inside-returns-in-Bytes t c =
-    subst (λ (r : Read Item). Makes a_counted_item r c.args.self.now c.build_byte_string.new.self
-    (built c.build_byte_string.new.out c.build_byte_string.result))
+    subst (λ (r : Read Item). Makes a_counted_item (content_len c.args.head) r c.args.self.now
+    c.build_byte_string.new.self (built c.build_byte_string.new.out c.build_byte_string.result))
     (sym (by_string c.args.levels false c.in-Bytes.len c.args.head (ahead c.args.self.now) c.in-Bytes.is))
-    c.build_byte_string.ensures
+    (subst (λ (n : ℕ). Makes a_counted_item n (byte_string_at c.in-Bytes.len (ahead c.args.self.now)) c.args.self.now
+    c.build_byte_string.new.self (built c.build_byte_string.new.out c.build_byte_string.result))
+    (sym (ap content_len c.in-Bytes.is)) c.build_byte_string.ensures)
 
 pub build_inside-returns-in-Text : goal.build_inside-returns-in-Text
 build_inside-returns-in-Text t c =
-    subst (λ (r : Read Item). Makes a_counted_item r c.args.self.now c.build_text_string.new.self
-    (built c.build_text_string.new.out c.build_text_string.result))
+    subst (λ (r : Read Item). Makes a_counted_item (content_len c.args.head) r c.args.self.now
+    c.build_text_string.new.self (built c.build_text_string.new.out c.build_text_string.result))
     (sym (by_string c.args.levels true c.in-Text.len c.args.head (ahead c.args.self.now) c.in-Text.is))
-    c.build_text_string.ensures
+    (subst (λ (n : ℕ). Makes a_counted_item n (text_string_at c.in-Text.len (ahead c.args.self.now)) c.args.self.now
+    c.build_text_string.new.self (built c.build_text_string.new.out c.build_text_string.result))
+    (sym (ap content_len c.in-Text.is)) c.build_text_string.ensures)
 
 pub build_inside-returns-in-Array : goal.build_inside-returns-in-Array
 build_inside-returns-in-Array t c =
-    subst (λ (h : Head). Makes a_counted_item (item_within c.args.levels h (ahead c.args.self.now)) c.args.self.now
-    c.build_array.new.self (built c.build_array.new.out c.build_array.result)) (sym c.in-Array.is) c.build_array.ensures
+    subst (λ (h : Head). Makes a_counted_item (content_len h) (item_within c.args.levels h (ahead c.args.self.now))
+    c.args.self.now c.build_array.new.self (built c.build_array.new.out c.build_array.result)) (sym c.in-Array.is)
+    c.build_array.ensures
 
 pub build_inside-returns-in-Map : goal.build_inside-returns-in-Map
 build_inside-returns-in-Map t c =
-    subst (λ (h : Head). Makes a_counted_item (item_within c.args.levels h (ahead c.args.self.now)) c.args.self.now
-    c.build_map.new.self (built c.build_map.new.out c.build_map.result)) (sym c.in-Map.is) c.build_map.ensures
+    subst (λ (h : Head). Makes a_counted_item (content_len h) (item_within c.args.levels h (ahead c.args.self.now))
+    c.args.self.now c.build_map.new.self (built c.build_map.new.out c.build_map.result)) (sym c.in-Map.is)
+    c.build_map.ensures
 
 pub build_inside-returns-in-Tag : goal.build_inside-returns-in-Tag
 build_inside-returns-in-Tag t c =
-    subst (λ (h : Head). Makes a_counted_item (item_within c.args.levels h (ahead c.args.self.now)) c.args.self.now
-    c.build_tagged.new.self (built c.build_tagged.new.out c.build_tagged.result)) (sym c.in-Tag.is) c.build_tagged.ensures
+    subst (λ (h : Head). Makes a_counted_item (content_len h) (item_within c.args.levels h (ahead c.args.self.now))
+    c.args.self.now c.build_tagged.new.self (built c.build_tagged.new.out c.build_tagged.result)) (sym c.in-Tag.is)
+    c.build_tagged.ensures
 
 pub build_array-returns-then-levels-eq0 : goal.build_array-returns-then-levels-eq0
 unfolding item_by
@@ -106,7 +119,8 @@ build_array-returns-in_err-items t c =
 
 pub build_array-returns-in_err-build_items : goal.build_array-returns-in_err-build_items
 build_array-returns-in_err-build_items t c =
-    let p = err_from_is_err_and c.from_residual-in_err-build_items.result c.from_residual-in_err-build_items.ensures.1 in
+    let p = err_from_is_err_and c.from_residual-in_err-build_items.result
+    c.from_residual-in_err-build_items.ensures.1 in
     rw (p.1, p.2) (fails_put (each_of an_item) a_counted_item (λ xs. array (items_of xs))
     (list_at (item_within (c.args.levels - 1)) c.args.len (ahead c.args.self.now)) _ c.args.self.now
     c.build_items.new.self c.in_err-build_items.field-0.0
@@ -169,7 +183,7 @@ build_tagged-returns-in_err-build_item t c =
     rw (p.1, p.2) (fails_put an_item a_counted_item (tagged c.args.tag) (start (item_within (c.args.levels - 1))
     (ahead c.args.self.now)) _ c.args.self.now c.build_item.new.self c.in_err-build_item.field-0.0
     (by_tag c.args.levels c.args.tag (head.Tag c.args.tag) (ahead c.args.self.now) (omega arith) refl)
-    (λ x h. tt) (tag_size c.args.tag) c.in_err-build_item.ensures)
+    (λ x h. tt) (tag_size c.args.tag) c.in_err-build_item.ensures.made)
 
 pub build_tagged-returns-in_err-new : goal.build_tagged-returns-in_err-new
 build_tagged-returns-in_err-new t c =
@@ -177,7 +191,7 @@ build_tagged-returns-in_err-new t c =
     rw (p.1, p.2) (full_put an_item a_counted_item (tagged c.args.tag) (start (item_within (c.args.levels - 1))
     (ahead c.args.self.now)) _ c.args.self.now c.build_item.new.self c.build_item.new.out
     (by_tag c.args.levels c.args.tag (head.Tag c.args.tag) (ahead c.args.self.now) (omega arith) refl) (λ x. tt)
-    (tag_size c.args.tag) c.in_ok-build_item.ensures)
+    (tag_size c.args.tag) c.in_ok-build_item.ensures.made)
 
 pub build_tagged-returns : goal.build_tagged-returns
 build_tagged-returns t c =
@@ -186,26 +200,35 @@ build_tagged-returns t c =
     c.build_item.new.out (Tag c.args.tag c.in_ok-new.field-0)
     (by_tag c.args.levels c.args.tag (head.Tag c.args.tag) (ahead c.args.self.now) (omega arith) refl)
     (item_of-Tag c.args.tag c.in_ok-new.field-0 ∙ ap (λ v. tagged c.args.tag (item_of v))
-    c.in_ok-new.ensures.ok) (tag_size c.args.tag) c.in_ok-build_item.ensures)
+    c.in_ok-new.ensures.ok) (tag_size c.args.tag) c.in_ok-build_item.ensures.made)
 
 pub build_behind-returns : goal.build_behind-returns
 build_behind-returns t c =
-    counted_once (item_within c.args.levels c.args.head (ahead c.args.self.now)) c.args.self.now c.add.new.self
-    c.build_inside.new.self (built c.build_inside.new.out c.build_inside.result) c.add.ensures.raised c.add.ensures.heads c.add.ensures.nodes
-    (subst (λ (bytes : List ℕ). Makes a_counted_item (item_within c.args.levels c.args.head bytes) c.add.new.self
-    c.build_inside.new.self (built c.build_inside.new.out c.build_inside.result)) (ap ahead c.add.ensures.raised) c.build_inside.ensures)
+    counted_once (content_len c.args.head) (item_within c.args.levels c.args.head (ahead c.args.self.now))
+    c.args.self.now c.add.new.self c.build_inside.new.self (built c.build_inside.new.out c.build_inside.result)
+    c.add.ensures.raised c.add.ensures.heads c.add.ensures.nodes
+    (subst (λ (bytes : List ℕ). Makes a_counted_item (content_len c.args.head)
+    (item_within c.args.levels c.args.head bytes) c.add.new.self c.build_inside.new.self
+    (built c.build_inside.new.out c.build_inside.result)) (ap ahead c.add.ensures.raised) c.build_inside.ensures)
 
 pub build_item-returns-in-None : goal.build_item-returns-in-None
-build_item-returns-in-None t c = makes_nothing an_item _ c.args.self.now c.decode.new.self _
-    (went_stopped c.args.self.now c.decode.new.self c.in-None.ensures.reads.stopped) (bind_none
-    (head_at (ahead c.args.self.now)) (λ h. item_within c.args.levels h.0 h.1) c.in-None.ensures.reads.reads)
+build_item-returns-in-None t c = record {
+  made = makes_nothing an_item _ c.args.self.now c.decode.new.self _
+      (went_stopped c.args.self.now c.decode.new.self c.in-None.ensures.reads.stopped) (bind_none
+      (head_at (ahead c.args.self.now)) (λ h. item_within c.args.levels h.0 h.1) c.in-None.ensures.reads.reads);
+  moved = tt;
+}
 
 pub build_item-returns-in-Some : goal.build_item-returns-in-Some
-build_item-returns-in-Some t c =
-    makes_after an_item (item_within c.args.levels c.in-Some.head (ahead c.decode.new.self)) _ c.args.self.now
-    c.decode.new.self c.build_behind.new.self (built c.build_behind.new.out c.build_behind.result) c.in-Some.ensures.reads.passed
-    (bind_at (head_at (ahead c.args.self.now)) (c.in-Some.head, ahead c.decode.new.self)
-    (λ h. item_within c.args.levels h.0 h.1) c.in-Some.ensures.reads.reads) c.build_behind.ensures
+build_item-returns-in-Some t c = record {
+  made = makes_after an_item (item_within c.args.levels c.in-Some.head (ahead c.decode.new.self)) _ c.args.self.now
+      c.decode.new.self c.build_behind.new.self c.in-Some.head (built c.build_behind.new.out c.build_behind.result)
+      c.in-Some.ensures.reads
+      (bind_at (head_at (ahead c.args.self.now)) (c.in-Some.head, ahead c.decode.new.self)
+      (λ h. item_within c.args.levels h.0 h.1) c.in-Some.ensures.reads.reads) c.build_behind.ensures;
+  moved = on_ok c.build_behind.result
+      (omega (arith, c.in-Some.ensures.reads.further, c.build_behind.ensures.went.forward));
+}
 
 pub build_items-loop-head-init : goal.build_items-loop-head-init
 build_items-loop-head-init t c = gathers_start (item_within c.args.levels) an_item.size c.args.len c.args.self.now
@@ -298,10 +321,12 @@ build_pair-returns-in_err-build_item t c =
     rw (p.1, p.2)
     (fails_second an_item an_item a_pair (item_within c.args.levels c.args.head (ahead c.args.self.now))
     (start (item_within c.args.levels)) c.args.self.now c.build_behind.new.self c.build_item.new.self
-    c.build_behind.new.out c.in_err-build_item.field-0.0 (λ m. tt) (λ m. refl) c.in_ok-build_behind.ensures c.in_err-build_item.ensures)
+    c.build_behind.new.out c.in_err-build_item.field-0.0 (λ m. tt) (λ m. refl) c.in_ok-build_behind.ensures
+    c.in_err-build_item.ensures.made)
 
 pub build_pair-returns : goal.build_pair-returns
 build_pair-returns t c =
     makes_both an_item an_item a_pair (item_within c.args.levels c.args.head (ahead c.args.self.now))
     (start (item_within c.args.levels)) c.args.self.now c.build_behind.new.self c.build_item.new.self
-    c.build_behind.new.out c.build_item.new.out refl (λ m. refl) c.in_ok-build_behind.ensures c.in_ok-build_item.ensures
+    c.build_behind.new.out c.build_item.new.out refl (λ m. refl) c.in_ok-build_behind.ensures
+    c.in_ok-build_item.ensures.made

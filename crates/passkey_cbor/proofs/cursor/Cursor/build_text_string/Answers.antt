@@ -12,11 +12,13 @@ use Rattle.passkey_cbor.proofs.cursor.Cursor.build_text_string.Goals as goal
 pub returns-in_err-build_text : goal.returns-in_err-build_text
 returns-in_err-build_text c =
     let p = err_from_is_err_and c.from_residual.result c.from_residual.ensures.1 in
-    rw (p.1, p.2) (fails_put a_text a_counted_item text_string (string_at true c.args.len (ahead c.args.self.now)) _
-    c.args.self.now c.build_text.new.self c.in_err-build_text.field-0.0 refl (λ s h. tt) (λ s. refl) c.in_err-build_text.ensures)
+    rw (p.1, p.2) (fails_put a_text a_counted_item text_string (string_at true c.args.len (ahead c.args.self.now))
+    _ c.args.self.now c.build_text.new.self c.in_err-build_text.field-0.0 refl (λ s h. tt) (λ s. refl)
+    c.in_err-build_text.ensures)
 
 pub returns : goal.returns
 returns c =
-    rw c.put.ensures (makes_put a_text a_counted_item text_string (string_at true c.args.len (ahead c.args.self.now)) _ c.args.self.now
-    c.build_text.new.self c.in_ok-build_text.field-0 (Text c.in_ok-build_text.field-0) refl (item_of-Text c.in_ok-build_text.field-0) (λ s. refl)
-    c.in_ok-build_text.ensures)
+    rw c.put.ensures (makes_put a_text a_counted_item text_string
+    (string_at true c.args.len (ahead c.args.self.now)) _ c.args.self.now c.build_text.new.self
+    c.in_ok-build_text.field-0 (Text c.in_ok-build_text.field-0) refl (item_of-Text c.in_ok-build_text.field-0)
+    (λ s. refl) c.in_ok-build_text.ensures)
