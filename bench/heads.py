@@ -189,7 +189,7 @@ def accepted_elements(kind):
 
 
 def kept(item):
-    return True, 2 * item.heads, item.items
+    return True, item.heads, item.items
 
 
 def authenticator_data(item):

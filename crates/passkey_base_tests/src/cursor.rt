@@ -99,6 +99,24 @@ fn values_are_counted(rt: HostRuntime) {
     }
 }
 
+// As many heads as skipping counts. The inputs without an item are refused, and the cursor doesn't move.
+#[test]
+fn values_ahead_are_counted(rt: HostRuntime) {
+    for (bytes, len, nodes) in FRONTS {
+        let mut skipped = Cursor::new(bytes);
+        skipped.skip();
+        let mut cursor = Cursor::new(bytes);
+        let value = cursor.value_ahead(rt.alloc()).ok();
+        let wanted = Cursor::new(bytes).value(rt.alloc()).ok();
+        check(&rt, value == wanted, "value", bytes);
+        check(&rt, cursor.place() == len.unwrap_or(0), "place", bytes);
+        if len.is_some() {
+            let count = Count { heads: skipped.count().heads, nodes: *nodes };
+            check(&rt, cursor.count() == count, "count", bytes);
+        }
+    }
+}
+
 #[test]
 fn elements_are_walked_over(rt: HostRuntime) {
     let cases: [&[u8]; 2] = [&[0x82, 0x01, 0x02, 0x03], &[0x9f, 0x01, 0x02, 0xff, 0x03]];
