@@ -45,6 +45,18 @@ fn key_of_all_parts(rt: &(impl Abort + AllocGlobal)) -> CoseKey {
         .expect(rt, "a key")
 }
 
+fn item_in(rt: &(impl Abort + AllocGlobal), bytes: &[u8]) -> Value {
+    Cursor::new(bytes).value(rt.alloc()).expect(rt, "an item")
+}
+
+fn decoded(rt: &(impl Abort + AllocGlobal), bytes: &[u8]) -> CoseKey {
+    CoseKey::from_value(rt.alloc(), &item_in(rt, bytes)).expect(rt, "a key")
+}
+
+fn decoded_from_owned(rt: &(impl Abort + AllocGlobal), bytes: &[u8]) -> CoseKey {
+    CoseKey::from_owned_value(rt.alloc(), item_in(rt, bytes)).expect(rt, "a key")
+}
+
 fn encoded(rt: &(impl Abort + AllocGlobal), key: &CoseKey) -> Vec<u8> {
     key.to_vec(rt.alloc()).expect(rt, "memory")
 }
@@ -80,10 +92,8 @@ fn parameters_are_found_by_their_labels(rt: HostRuntime) {
 
 // Type, name, algorithm, operations, Base IV and further parameters of a copy; the key is encoded
 // as the same bytes.
-fn described(rt: &(impl Abort + AllocGlobal), bytes: &[u8]) -> String {
-    let value = Cursor::new(bytes).value(rt.alloc()).expect(rt, "an item");
-    let key = CoseKey::from_value(rt.alloc(), &value).expect(rt, "a key");
-    assert_same_bytes(rt, encoded(rt, &key).as_slice(), bytes);
+fn described(rt: &(impl Abort + AllocGlobal), key: &CoseKey, bytes: &[u8]) -> String {
+    assert_same_bytes(rt, encoded(rt, key).as_slice(), bytes);
     let key = key.try_clone(rt.alloc()).expect(rt, "memory");
     let (kty, id, alg, ops) = (key.kty(), key.key_id(), key.alg(), key.key_ops());
     let (iv, params) = (key.base_iv(), key.params());
@@ -116,7 +126,9 @@ const KEYS: &[(&[u8], &str)] = &[
 #[test]
 fn keys_are_decoded_and_copied(rt: HostRuntime) {
     for (bytes, wanted) in KEYS {
-        assert_same(&rt, described(&rt, bytes).as_str(), wanted);
+        for key in [decoded(&rt, bytes), decoded_from_owned(&rt, bytes)] {
+            assert_same(&rt, described(&rt, &key, bytes).as_str(), wanted);
+        }
     }
 }
 
@@ -151,12 +163,34 @@ const PUBLIC_KEYS: &[(&[u8], &str)] = &[
 #[test]
 fn public_keys_have_the_parts_of_their_type(rt: HostRuntime) {
     for (bytes, wanted) in PUBLIC_KEYS {
-        let value = Cursor::new(bytes).value(rt.alloc()).expect(&rt, "an item");
-        let key = CoseKey::from_value(rt.alloc(), &value).expect(&rt, "a key");
-        let (ec2, okp, rsa) = (key.ec2(), key.okp(), key.rsa());
-        let shown = format!(in rt.alloc(); "{ec2:?}, {okp:?}, {rsa:?}").expect(&rt, "memory");
-        assert_same(&rt, shown.as_str(), wanted);
+        for key in [decoded(&rt, bytes), decoded_from_owned(&rt, bytes)] {
+            let (ec2, okp, rsa) = (key.ec2(), key.okp(), key.rsa());
+            let shown = format!(in rt.alloc(); "{ec2:?}, {okp:?}, {rsa:?}").expect(&rt, "memory");
+            assert_same(&rt, shown.as_str(), wanted);
+        }
     }
+}
+
+fn fault_from_owned(rt: &(impl Abort + AllocGlobal), bytes: &[u8]) -> Option<CoseError> {
+    CoseKey::from_owned_value(rt.alloc(), item_in(rt, bytes)).err()
+}
+
+// RFC 9052, section 7: a key is a map with a type, and no label occurs twice.
+#[test]
+fn owned_items_that_are_no_keys_are_refused(rt: HostRuntime) {
+    let repeated = &[0xa3, 0x01, 0x02, 0x61, 0x61, 0xf6, 0x61, 0x61, 0xf6];
+    assert_eq!(rt;
+        fault_from_owned(&rt, repeated),
+        Some(CoseError::DuplicateMapKey)
+    );
+    assert_eq!(rt;
+        fault_from_owned(&rt, &[0xa0]),
+        Some(CoseError::UnexpectedItem)
+    );
+    assert_eq!(rt;
+        fault_from_owned(&rt, &[0x01]),
+        Some(CoseError::UnexpectedItem)
+    );
 }
 
 fn fault_of_param(rt: &(impl Abort + AllocGlobal), label: i64) -> Option<CoseError> {

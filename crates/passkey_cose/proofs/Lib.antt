@@ -14,3 +14,4 @@ pub mod KeyReadable
 pub mod KeyAppended
 pub mod SeenNames
 pub mod Searching
+pub mod TakenMembers

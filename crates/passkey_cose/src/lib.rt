@@ -10,6 +10,7 @@ mod key;
 mod label;
 pub mod laws;
 mod make;
+mod members;
 mod names;
 mod parts;
 mod public;

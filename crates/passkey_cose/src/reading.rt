@@ -12,6 +12,7 @@ ghost use Rattle.passkey_cose.specs.KeyParams.{params_of};
 ghost use Rattle.passkey_cose.specs.KeyParts.{KeyGrows};
 ghost use Rattle.passkey_cose.specs.KeyReading.{name_in, bytes_in, ops_in, under, further, key_from, key_type, key_or_fault, read_key};
 ghost use Rattle.passkey_cose.specs.Label.{label_item};
+ghost use Rattle.passkey_cose.specs.Members.{values_in};
 ghost use Rattle.passkey_cose.specs.Registered.{named_of, IsText};
 
 use crate::checking::{check_members, is_common_number, is_label_of, signed_64};
@@ -19,6 +20,7 @@ use crate::error::CoseError;
 use crate::iana::{EnumI64, KeyOperation, KeyType};
 use crate::key::CoseKey;
 use crate::label::Label;
+use crate::members::Members;
 use crate::registered::Registered;
 use passkey_cbor::Value;
 use passkey_memory::OutOfMemory;
@@ -122,29 +124,28 @@ fn is_common_label_of(label: &Value) -> bool
     }
 }
 
-fn read_label(alloc: Global, label: &Value) -> Result<Label, OutOfMemory>
-    requires { name_fault (item_of label.now) ≡ None }
-    ensures { IfOk result (λ l. label_item l ≡ item_of label.now) }
+fn label_from(label: Value) -> Label
+    requires { name_fault (item_of label) ≡ None }
+    ensures { label_item result ≡ item_of label }
 {
     match label {
-        Value::Integer(n) => Ok(Label::Int(signed_64(*n).unwrap())),
-        Value::Text(text) => Ok(Label::Text(String::from_str(alloc, text.as_str())?)),
+        Value::Integer(n) => Label::Int(signed_64(n).unwrap()),
+        Value::Text(text) => Label::Text(text),
         _ => unreachable!(),
     }
 }
 
-fn read_params(
-    alloc: Global,
-    members: &[(Value, Value)],
-) -> Result<Vec<(Label, Value)>, OutOfMemory>
-    requires { first_fault [] (map pair_of members.now) ≡ None }
-    ensures same { IfOk result (λ ps. params_of ps.items ≡ further (map pair_of members.now)) }
-    ensures grows { OnErr result (0 < length (further (map pair_of members.now))) }
+fn read_params(alloc: Global, mut members: Members) -> Result<Vec<(Label, Value)>, OutOfMemory>
+    requires { first_fault [] (map pair_of (values_in members)) ≡ None }
+    ensures same { IfOk result
+        (λ ps. params_of ps.items ≡ further (map pair_of (values_in members.entry))) }
+    ensures grows { OnErr result (0 < length (further (map pair_of (values_in members.entry)))) }
 {
     let mut params = Vec::new(alloc);
-    for (label, value) in members {
-        if !is_common_label_of(label) {
-            params.push((read_label(alloc, label)?, value.try_clone(alloc)?))?;
+    for i in 0..members.as_slice().len() {
+        if !is_common_label_of(&members.as_slice()[i].0) {
+            let (label, value) = members.take(alloc, i)?;
+            params.push((label_from(label), value))?;
         }
     }
     Ok(params)
@@ -163,19 +164,22 @@ fn read_kty(alloc: Global, members: &[(Value, Value)]) -> Result<Registered<KeyT
 /// The key of this type, with its other parts from the members.
 fn read_parts(
     alloc: Global,
-    members: &[(Value, Value)],
+    members: Members,
     kty: Registered<KeyType>,
 ) -> Result<CoseKey, OutOfMemory>
-    requires good { first_fault [] (map pair_of members.now) ≡ None }
-    requires typed { key_type (option_and_then (name_in key_type_named) (under 1 (map pair_of members.now)))
-        ≡ Ok (named_of kty) }
-    ensures same { IfOk result (λ k. key_parts k ≡ key_from (map pair_of members.now) (named_of kty)) }
-    ensures grows { OnErr result (KeyGrows (key_from (map pair_of members.now) (named_of kty))) }
+    requires good { first_fault [] (map pair_of (values_in members)) ≡ None }
+    requires typed { let ms = map pair_of (values_in members) in
+        key_type (option_and_then (name_in key_type_named) (under 1 ms)) ≡ Ok (named_of kty) }
+    ensures same { IfOk result
+        (λ k. key_parts k ≡ key_from (map pair_of (values_in members.entry)) (named_of kty)) }
+    ensures grows { OnErr result
+        (KeyGrows (key_from (map pair_of (values_in members.entry)) (named_of kty))) }
 {
-    let key_id = read_bytes_under(alloc, members, 2)?;
-    let alg = read_name_under(alloc, members, 3)?;
-    let key_ops = read_ops_under(alloc, members, 4)?;
-    let base_iv = read_bytes_under(alloc, members, 5)?;
+    let common = members.as_slice();
+    let key_id = read_bytes_under(alloc, common, 2)?;
+    let alg = read_name_under(alloc, common, 3)?;
+    let key_ops = read_ops_under(alloc, common, 4)?;
+    let base_iv = read_bytes_under(alloc, common, 5)?;
     let params = read_params(alloc, members)?;
     Ok(CoseKey {
         kty,
@@ -187,12 +191,22 @@ fn read_parts(
     })
 }
 
-fn read_members(alloc: Global, members: &[(Value, Value)]) -> Result<CoseKey, CoseError>
-    requires { first_fault [] (map pair_of members.now) ≡ None }
-    ensures { ReadsPart KeyGrows key_parts (key_or_fault (map pair_of members.now) None) result }
+/// The key from the members, none of which is bad.
+fn read_members(alloc: Global, members: Members) -> Result<CoseKey, CoseError>
+    requires { first_fault [] (map pair_of (values_in members)) ≡ None }
+    ensures { ReadsPart KeyGrows key_parts
+        (key_or_fault (map pair_of (values_in members.entry)) None) result }
 {
-    let kty = read_kty(alloc, members)?;
+    let kty = read_kty(alloc, members.as_slice())?;
     Ok(read_parts(alloc, members, kty)?)
+}
+
+fn read_map(alloc: Global, members: Members) -> Result<CoseKey, CoseError>
+    ensures { let ms = map pair_of (values_in members.entry) in
+        ReadsPart KeyGrows key_parts (key_or_fault ms (first_fault [] ms)) result }
+{
+    check_members(alloc, members.as_slice())?;
+    read_members(alloc, members)
 }
 
 impl CoseKey {
@@ -215,10 +229,20 @@ impl CoseKey {
         ensures { ReadsPart KeyGrows key_parts (read_key (item_of value.now)) result }
     {
         match value {
-            Value::Map(members) => {
-                check_members(alloc, members)?;
-                read_members(alloc, members)
-            }
+            Value::Map(members) => read_map(alloc, Members::Lent(members)),
+            _ => Err(CoseError::UnexpectedItem),
+        }
+    }
+
+    /// Decodes a key from a data item (RFC 9052, section 7), which it takes. The key, the errors
+    /// and when memory may run out are those of `CoseKey::from_value`. But the labels and values of
+    /// further parameters are moved into the key rather than copied; the common parts are copied.
+    /// What isn't moved is dropped, and all of the data item if there is an error.
+    pub fn from_owned_value(alloc: Global, value: Value) -> Result<CoseKey, CoseError>
+        ensures { ReadsPart KeyGrows key_parts (read_key (item_of value)) result }
+    {
+        match value {
+            Value::Map(members) => read_map(alloc, Members::Owned(members)),
             _ => Err(CoseError::UnexpectedItem),
         }
     }

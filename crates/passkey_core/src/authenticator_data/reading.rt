@@ -103,7 +103,7 @@ fn read_key<'a>(alloc: Global, bytes: &'a [u8], count: &mut Count) -> Begun<'a, 
     ensures counts { Counts (λ each. each bytes.now) bytes.now count.old count.new result }
 {
     let (value, rest) = read_item(alloc, bytes, count)?;
-    Ok((CoseKey::from_value(alloc, &value)?, rest))
+    Ok((CoseKey::from_owned_value(alloc, value)?, rest))
 }
 
 fn read_extensions<'a>(alloc: Global, bytes: &'a [u8], count: &mut Count) -> Begun<'a, Value>

@@ -9,6 +9,7 @@ use Rattle.passkey_cose.specs.KeyLabels.{are_separate}
 use Rattle.passkey_cose.specs.KeyParams.{params_of}
 use Rattle.passkey_cose.specs.KeyParts.{KeyParts, key_members}
 use Rattle.passkey_cose.specs.KeyReading.{further, bytes_in, name_in, ops_in, under, key_from}
+use Rattle.passkey_cose.specs.Members.{values_in}
 use Rattle.passkey_cose.specs.Registered.{named_of}
 use Rattle.passkey_cose.proofs.KeyFurther.{further_separate}
 use Rattle.passkey_cose.proofs.KeyHeld.{some_ops, under_good}
@@ -17,19 +18,20 @@ use Rattle.passkey_cose.proofs.reading.read_parts.Goals as goal
 
 pub invariant_of-result : goal.invariant_of-result
 invariant_of-result c =
-    let params : params_of c.in_ok-params.params.items ≡ further (map pair_of c.args.members.now) = search rules in
+    let ms = map pair_of (values_in c.args.members) in
+    let params : params_of c.in_ok-params.params.items ≡ further ms = search rules in
     let separate : are_separate (params_of c.in_ok-params.params.items) ≡ true =
-    rw params (further_separate [] (map pair_of c.args.members.now) c.requires.good refl) in
-    let ms = map pair_of c.args.members.now in
+    rw params (further_separate [] ms c.requires.good refl) in
     let kty = named_of c.args.kty in
     let ids : option_map (λ v. v.items) c.in_ok-key_id.key_id ≡ option_and_then bytes_in (under 2 ms) =
-    c.in_ok-key_id.ensures.same in
+    rw c.as_slice-common.ensures at c.in_ok-key_id.ensures.same in
     let algs : option_map named_of c.in_ok-alg.alg ≡ option_and_then (name_in algorithm_named) (under 3 ms) =
-    c.in_ok-alg.ensures.same in
+    rw c.as_slice-common.ensures at c.in_ok-alg.ensures.same in
     let ops : map named_of (unwrap_or (option_map (λ v. v.items) c.in_ok-key_ops.key_ops) [])
-    ≡ unwrap_or (option_map ops_in (under 4 ms)) [] = c.in_ok-key_ops.ensures.same in
+    ≡ unwrap_or (option_map ops_in (under 4 ms)) [] =
+    rw c.as_slice-common.ensures at c.in_ok-key_ops.ensures.same in
     let ivs : option_map (λ v. v.items) c.in_ok-base_iv.base_iv ≡ option_and_then bytes_in (under 5 ms) =
-    c.in_ok-base_iv.ensures.same in
+    rw c.as_slice-common.ensures at c.in_ok-base_iv.ensures.same in
     let held : KeyParts = parts_held c.args.kty c.in_ok-key_id.key_id c.in_ok-alg.alg c.in_ok-key_ops.key_ops
     c.in_ok-base_iv.base_iv (Some c.in_ok-params.params) in
     let same : held ≡ key_from ms kty = λ i. (let k : KeyParts = record {
@@ -46,7 +48,8 @@ invariant_of-result c =
 
 pub returns-in_err-key_ops-clause-grows : goal.returns-in_err-key_ops-clause-grows
 returns-in_err-key_ops-clause-grows c =
-    let ms = map pair_of c.args.members.now in
+    let ms = map pair_of (values_in c.args.members) in
     let some : 0 < length (unwrap_or (option_map ops_in (under 4 ms)) []) =
-    some_ops (under 4 ms) (under_good 4 [] ms c.requires.good) c.in_err-key_ops.ensures.grows in
+    some_ops (under 4 ms) (under_good 4 [] ms c.requires.good)
+    (rw c.as_slice-common.ensures at c.in_err-key_ops.ensures.grows) in
     on_err c.from_residual-in_err-key_ops.result (inr (inr (inr (inl some))))

@@ -1,0 +1,79 @@
+-- Members that are taken one by one, those after them being left as they are.
+use Rattle.std.proofs.Common.{◌≡◌, ℕ, suc, ◌+◌, ◌<◌, ◌∙◌, Bool, not, true, false, if◌then◌else◌, List, [], ◌∷◌, ◌++◌, length, get_or, map, take, drop, None, ap, sym, arith, drop-cons, drop-drop, take-suc, subst}
+use Rattle.std.proofs.Math.Numerals.{add-one}
+use Rattle.std.proofs.Math.Nat.{add-zero}
+use Rattle.std.proofs.lemmas.List.{append_assoc, map-append, get_or-drop}
+use Rattle.passkey_cbor.specs.Item.{Item}
+use Rattle.passkey_cbor.specs.View.{pair_of}
+use Rattle.passkey_cbor.specs.declared.value.Value.{Value}
+use Rattle.passkey_cose.specs.KeyFaults.{member_fault, first_fault}
+use Rattle.passkey_cose.specs.KeyLabels.{Members, is_common}
+use Rattle.passkey_cose.specs.KeyReading.{further}
+use Rattle.passkey_cose.proofs.KeyFurther.{none_either}
+
+pub left_more : (ms ns : List (Value × Value)) (i : ℕ) → drop i ms ≡ drop i ns → drop (i + 1) ms ≡ drop (i + 1) ns
+left_more ms ns i left =
+    sym (drop-drop 1 i ms) ∙ ap (λ (os : List (Value × Value)). drop 1 os) left ∙ drop-drop 1 i ns
+
+pub behind_more : (ms ns os : List (Value × Value)) (i : ℕ) → drop (suc i) ms ≡ drop (suc i) ns
+    → drop i ns ≡ drop i os → drop (i + 1) ms ≡ drop (i + 1) os
+behind_more ms ns os i behind left =
+    (let here : drop (i + 1) ms ≡ drop (i + 1) ns = rw (add-one i) behind in here) ∙ left_more ns os i left
+
+first_left : (ms : List (Value × Value)) (i : ℕ) (m : Value × Value) → get_or (drop i ms) 0 m ≡ get_or ms i m
+first_left ms i m = rw (get_or-drop, add-zero)
+
+-- the same member is at the index, if those from there on are the same
+pub same_at : (ms ns : List (Value × Value)) (i : ℕ) (m : Value × Value) → m ≡ get_or ms i m → drop i ms ≡ drop i ns
+    → m ≡ get_or ns i m
+same_at ms ns i m is left =
+    is ∙ sym (first_left ms i m) ∙ ap (λ (os : List (Value × Value)). get_or os 0 m) left ∙ first_left ns i m
+
+-- the member at an index, and those after it
+pub member_at : (ms : List (Value × Value)) (i : ℕ) (m : Value × Value) → i < length ms → m ≡ get_or ms i m
+    → map pair_of (drop i ms) ≡ pair_of m ∷ map pair_of (drop (i + 1) ms)
+member_at ms i m within is =
+    rw (add-one i) (ap (λ (ns : List (Value × Value)). map pair_of ns) (drop-cons ms i m within)
+    ∙ ap (λ (n : Value × Value). pair_of n ∷ map pair_of (drop (suc i) ms)) (sym is))
+
+pub first_of : (m n : Item × Item) (ms ns : Members) → m ∷ ms ≡ n ∷ ns → m ≡ n
+first_of m n ms ns same = ap (λ (os : Members). get_or os 0 m) same
+
+-- a member that is a common parameter adds nothing
+further_common : (ms : Members) (m : Item × Item) → is_common m.0 ≡ true → further (m ∷ ms) ≡ further ms
+further_common ms m common = ap (λ (b : Bool). if not b then m ∷ further ms else further ms) common
+
+further_more : (ms : Members) (m : Item × Item) → is_common m.0 ≡ false → further (m ∷ ms) ≡ m ∷ further ms
+further_more ms m other = ap (λ (b : Bool). if not b then m ∷ further ms else further ms) other
+
+pub passed : (ps ms ns all : Members) (m : Item × Item) → is_common m.0 ≡ true → ms ≡ m ∷ ns
+    → ps ++ further ms ≡ all → ps ++ further ns ≡ all
+passed ps ms ns all m common at done =
+    ap (λ (os : Members). ps ++ os) (sym (ap further at ∙ further_common ns m common)) ∙ done
+
+pub taken : (ps ms ns all : Members) (m : Item × Item) → is_common m.0 ≡ false → ms ≡ m ∷ ns
+    → ps ++ further ms ≡ all → (ps ++ m ∷ []) ++ further ns ≡ all
+taken ps ms ns all m other at done =
+    append_assoc ps (m ∷ []) (further ns)
+    ∙ ap (λ (os : Members). ps ++ os) (sym (ap further at ∙ further_more ns m other)) ∙ done
+
+some : (ps ns : Members) (m : Item × Item) → 0 < length ((ps ++ m ∷ []) ++ ns)
+some [] ns m = omega arith
+some (p ∷ ps) ns m = omega arith
+
+pub some_further : (ps ms ns all : Members) (m : Item × Item) → is_common m.0 ≡ false → ms ≡ m ∷ ns
+    → ps ++ further ms ≡ all → 0 < length all
+some_further ps ms ns all m other at done =
+    subst (λ (os : Members). 0 < length os) (taken ps ms ns all m other at done) (some ps (further ns) m)
+
+pub good_more : (ms : List (Value × Value)) (i : ℕ) (m : Value × Value) → i < length ms → m ≡ get_or ms i m
+    → first_fault (map pair_of (take i ms)) (map pair_of (drop i ms)) ≡ None
+    → first_fault (map pair_of (take (i + 1) ms)) (map pair_of (drop (i + 1) ms)) ≡ None
+good_more ms i m within is good =
+    let before : map pair_of (take (i + 1) ms) ≡ map pair_of (take i ms) ++ pair_of m ∷ [] =
+    rw (add-one i) (ap (λ (ns : List (Value × Value)). map pair_of ns) (take-suc ms i m within)
+    ∙ map-append pair_of (take i ms) (get_or ms i m ∷ [])
+    ∙ ap (λ (n : Value × Value). map pair_of (take i ms) ++ pair_of n ∷ []) (sym is)) in
+    let here = rw (member_at ms i m within is) at good in
+    rw before (none_either (member_fault (map pair_of (take i ms)) (pair_of m))
+    (first_fault (map pair_of (take i ms) ++ pair_of m ∷ []) (map pair_of (drop (i + 1) ms))) here).1
