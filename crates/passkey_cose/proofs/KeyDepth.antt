@@ -5,7 +5,7 @@ use Rattle.passkey_cbor.specs.Item.{Item, byte_string, items_of, pairs_of}
 use Rattle.passkey_iana.specs.Iana.{algorithm_number, key_type_number}
 use Rattle.passkey_cose.specs.KeyLabels.{Members}
 use Rattle.passkey_cose.specs.KeyParts.{KeyParts, member, op_item, ops_item, key_item}
-use Rattle.passkey_cose.specs.Registered.{Named, assigned, other, text, named_item}
+use Rattle.passkey_cose.specs.Registered.{Named, assigned, named_item}
 use Rattle.passkey_iana.specs.declared.key_operation.KeyOperation.{KeyOperation}
 
 pub members_depth-append : (ms ns : Members)

@@ -1,7 +1,7 @@
 -- The lists of elements and of members in arrays and maps.
 use Rattle.std.specs.List.{filter_map}
-use Rattle.std.proofs.Common.{arith, ◌≡◌, ◌<◌, List, [], ◌∷◌, length, refl, ap}
-use Rattle.passkey_cbor.specs.Item.{Item, array, map, elements, members, items_of, pairs_of}
+use Rattle.std.proofs.Common.{arith, ◌≡◌, ◌<◌, List, [], ◌∷◌, length, ap}
+use Rattle.passkey_cbor.specs.Item.{Item, array, map, items_of, pairs_of}
 use Rattle.passkey_iana.specs.Iana.{key_operation_named}
 use Rattle.passkey_cose.specs.KeyFaults.{first_op_fault, ops_fault, first_fault}
 use Rattle.passkey_cose.specs.KeyLabels.{Members}

@@ -14,10 +14,10 @@ use Rattle.passkey_cose.specs.KeyFaults.{first_fault}
 use Rattle.passkey_cose.specs.KeyLabels.{Members, is_label, is_common}
 use Rattle.passkey_cose.specs.KeyParts.{KeyParts, member, key_members, key_item}
 use Rattle.passkey_cose.specs.KeyReading.{assigned_or_other, name_in, under, further, key_from, key_type, key_or_fault}
-use Rattle.passkey_cose.specs.Registered.{Named, assigned, other, text}
+use Rattle.passkey_cose.specs.Registered.{Named, assigned, other}
 use Rattle.passkey_cose.specs.declared.error.CoseError.{CoseError}
 use Rattle.passkey_iana.specs.declared.key_type.KeyType.{KeyType}
-use Rattle.passkey_iana.specs.declared.key_type.KeyType.TheVariants.{Reserved, OKP, EC2, RSA, Symmetric}
+use Rattle.passkey_iana.specs.declared.key_type.KeyType.TheVariants.{Reserved}
 use Rattle.passkey_cose.specs.KeyReadable.{is_shallow, is_reserved, is_key_readable}
 use Rattle.passkey_cose.specs.KeyLaws.{ReadIsReadable}
 use Rattle.passkey_cose.proofs.KeyHeld.{key_type_is}

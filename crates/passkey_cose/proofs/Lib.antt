@@ -14,4 +14,4 @@ pub mod KeyReadable
 pub mod KeyAppended
 pub mod SeenNames
 pub mod Searching
-pub mod TakenMembers
+pub mod TakenPairs

@@ -19,5 +19,5 @@ pub mod KeySameLaws
 pub mod KeyLaws
 pub mod KeyNormal
 pub mod KeyReadable
-pub mod Members
+pub mod Pairs
 pub mod Seen

@@ -12,7 +12,7 @@ ghost use Rattle.passkey_cose.specs.KeyParams.{params_of};
 ghost use Rattle.passkey_cose.specs.KeyParts.{KeyGrows};
 ghost use Rattle.passkey_cose.specs.KeyReading.{name_in, bytes_in, ops_in, under, further, key_from, key_type, key_or_fault, read_key};
 ghost use Rattle.passkey_cose.specs.Label.{label_item};
-ghost use Rattle.passkey_cose.specs.Members.{values_in};
+ghost use Rattle.passkey_cose.specs.Pairs.{values_in};
 ghost use Rattle.passkey_cose.specs.Registered.{named_of, IsText};
 
 use crate::checking::{check_members, is_common_number, is_label_of, signed_64};
@@ -20,7 +20,7 @@ use crate::error::CoseError;
 use crate::iana::{EnumI64, KeyOperation, KeyType};
 use crate::key::CoseKey;
 use crate::label::Label;
-use crate::members::Members;
+use crate::pairs::Pairs;
 use crate::registered::Registered;
 use passkey_cbor::Value;
 use passkey_memory::OutOfMemory;
@@ -135,16 +135,16 @@ fn label_from(label: Value) -> Label
     }
 }
 
-fn read_params(alloc: Global, mut members: Members) -> Result<Vec<(Label, Value)>, OutOfMemory>
-    requires { first_fault [] (map pair_of (values_in members)) ≡ None }
+fn read_params(alloc: Global, mut pairs: Pairs) -> Result<Vec<(Label, Value)>, OutOfMemory>
+    requires { first_fault [] (map pair_of (values_in pairs)) ≡ None }
     ensures same { IfOk result
-        (λ ps. params_of ps.items ≡ further (map pair_of (values_in members.entry))) }
-    ensures grows { OnErr result (0 < length (further (map pair_of (values_in members.entry)))) }
+        (λ ps. params_of ps.items ≡ further (map pair_of (values_in pairs.entry))) }
+    ensures grows { OnErr result (0 < length (further (map pair_of (values_in pairs.entry)))) }
 {
     let mut params = Vec::new(alloc);
-    for i in 0..members.as_slice().len() {
-        if !is_common_label_of(&members.as_slice()[i].0) {
-            let (label, value) = members.take(alloc, i)?;
+    for i in 0..pairs.as_slice().len() {
+        if !is_common_label_of(&pairs.as_slice()[i].0) {
+            let (label, value) = pairs.take(alloc, i)?;
             params.push((label_from(label), value))?;
         }
     }
@@ -161,26 +161,26 @@ fn read_kty(alloc: Global, members: &[(Value, Value)]) -> Result<Registered<KeyT
     }
 }
 
-/// The key of this type, with its other parts from the members.
+/// The key of this type, with its other parts from the pairs.
 fn read_parts(
     alloc: Global,
-    members: Members,
+    pairs: Pairs,
     kty: Registered<KeyType>,
 ) -> Result<CoseKey, OutOfMemory>
-    requires good { first_fault [] (map pair_of (values_in members)) ≡ None }
-    requires typed { let ms = map pair_of (values_in members) in
+    requires good { first_fault [] (map pair_of (values_in pairs)) ≡ None }
+    requires typed { let ms = map pair_of (values_in pairs) in
         key_type (option_and_then (name_in key_type_named) (under 1 ms)) ≡ Ok (named_of kty) }
     ensures same { IfOk result
-        (λ k. key_parts k ≡ key_from (map pair_of (values_in members.entry)) (named_of kty)) }
+        (λ k. key_parts k ≡ key_from (map pair_of (values_in pairs.entry)) (named_of kty)) }
     ensures grows { OnErr result
-        (KeyGrows (key_from (map pair_of (values_in members.entry)) (named_of kty))) }
+        (KeyGrows (key_from (map pair_of (values_in pairs.entry)) (named_of kty))) }
 {
-    let common = members.as_slice();
+    let common = pairs.as_slice();
     let key_id = read_bytes_under(alloc, common, 2)?;
     let alg = read_name_under(alloc, common, 3)?;
     let key_ops = read_ops_under(alloc, common, 4)?;
     let base_iv = read_bytes_under(alloc, common, 5)?;
-    let params = read_params(alloc, members)?;
+    let params = read_params(alloc, pairs)?;
     Ok(CoseKey {
         kty,
         key_id,
@@ -191,22 +191,22 @@ fn read_parts(
     })
 }
 
-/// The key from the members, none of which is bad.
-fn read_members(alloc: Global, members: Members) -> Result<CoseKey, CoseError>
-    requires { first_fault [] (map pair_of (values_in members)) ≡ None }
+/// The key from the pairs, none of which is bad.
+fn read_pairs(alloc: Global, pairs: Pairs) -> Result<CoseKey, CoseError>
+    requires { first_fault [] (map pair_of (values_in pairs)) ≡ None }
     ensures { ReadsPart KeyGrows key_parts
-        (key_or_fault (map pair_of (values_in members.entry)) None) result }
+        (key_or_fault (map pair_of (values_in pairs.entry)) None) result }
 {
-    let kty = read_kty(alloc, members.as_slice())?;
-    Ok(read_parts(alloc, members, kty)?)
+    let kty = read_kty(alloc, pairs.as_slice())?;
+    Ok(read_parts(alloc, pairs, kty)?)
 }
 
-fn read_map(alloc: Global, members: Members) -> Result<CoseKey, CoseError>
-    ensures { let ms = map pair_of (values_in members.entry) in
+fn read_map(alloc: Global, pairs: Pairs) -> Result<CoseKey, CoseError>
+    ensures { let ms = map pair_of (values_in pairs.entry) in
         ReadsPart KeyGrows key_parts (key_or_fault ms (first_fault [] ms)) result }
 {
-    check_members(alloc, members.as_slice())?;
-    read_members(alloc, members)
+    check_members(alloc, pairs.as_slice())?;
+    read_pairs(alloc, pairs)
 }
 
 impl CoseKey {
@@ -229,7 +229,7 @@ impl CoseKey {
         ensures { ReadsPart KeyGrows key_parts (read_key (item_of value.now)) result }
     {
         match value {
-            Value::Map(members) => read_map(alloc, Members::Lent(members)),
+            Value::Map(pairs) => read_map(alloc, Pairs::Lent(pairs)),
             _ => Err(CoseError::UnexpectedItem),
         }
     }
@@ -242,7 +242,7 @@ impl CoseKey {
         ensures { ReadsPart KeyGrows key_parts (read_key (item_of value)) result }
     {
         match value {
-            Value::Map(members) => read_map(alloc, Members::Owned(members)),
+            Value::Map(pairs) => read_map(alloc, Pairs::Owned(pairs)),
             _ => Err(CoseError::UnexpectedItem),
         }
     }

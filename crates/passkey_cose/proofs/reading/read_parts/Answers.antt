@@ -9,7 +9,7 @@ use Rattle.passkey_cose.specs.KeyLabels.{are_separate}
 use Rattle.passkey_cose.specs.KeyParams.{params_of}
 use Rattle.passkey_cose.specs.KeyParts.{KeyParts, key_members}
 use Rattle.passkey_cose.specs.KeyReading.{further, bytes_in, name_in, ops_in, under, key_from}
-use Rattle.passkey_cose.specs.Members.{values_in}
+use Rattle.passkey_cose.specs.Pairs.{values_in}
 use Rattle.passkey_cose.specs.Registered.{named_of}
 use Rattle.passkey_cose.proofs.KeyFurther.{further_separate}
 use Rattle.passkey_cose.proofs.KeyHeld.{some_ops, under_good}
@@ -18,7 +18,7 @@ use Rattle.passkey_cose.proofs.reading.read_parts.Goals as goal
 
 pub invariant_of-result : goal.invariant_of-result
 invariant_of-result c =
-    let ms = map pair_of (values_in c.args.members) in
+    let ms = map pair_of (values_in c.args.pairs) in
     let params : params_of c.in_ok-params.params.items ≡ further ms = search rules in
     let separate : are_separate (params_of c.in_ok-params.params.items) ≡ true =
     rw params (further_separate [] ms c.requires.good refl) in
@@ -48,7 +48,7 @@ invariant_of-result c =
 
 pub returns-in_err-key_ops-clause-grows : goal.returns-in_err-key_ops-clause-grows
 returns-in_err-key_ops-clause-grows c =
-    let ms = map pair_of (values_in c.args.members) in
+    let ms = map pair_of (values_in c.args.pairs) in
     let some : 0 < length (unwrap_or (option_map ops_in (under 4 ms)) []) =
     some_ops (under 4 ms) (under_good 4 [] ms c.requires.good)
     (rw c.as_slice-common.ensures at c.in_err-key_ops.ensures.grows) in

@@ -1,4 +1,4 @@
-use Rattle.std.proofs.Common.{◌≡◌, ◌+◌, ◌++◌, ◌∙◌, ℕ, List, length, map, subst, ap, arith}
+use Rattle.std.proofs.Common.{◌≡◌, ◌+◌, ◌++◌, ◌∙◌, List, length, map, subst, ap, arith}
 use Rattle.std.proofs.lemmas.List.{length-map}
 use Rattle.passkey_cbor.specs.Encoder.{encoding}
 use Rattle.passkey_cbor.specs.View.{pair_of}

@@ -6,4 +6,4 @@ use Rattle.passkey_cose.proofs.key.CoseKey.from_value.Goals as goal
 
 pub returns-in-Map : goal.returns-in-Map
 returns-in-Map c =
-    rw (c.in-Map.is, item_of-Map c.in-Map.members, read_key-map (map pair_of c.in-Map.members.items)) (search rules)
+    rw (c.in-Map.is, item_of-Map c.in-Map.pairs, read_key-map (map pair_of c.in-Map.pairs.items)) (search rules)

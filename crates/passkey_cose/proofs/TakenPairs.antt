@@ -1,4 +1,4 @@
--- Members that are taken one by one, those after them being left as they are.
+-- Pairs that are taken one by one, while those after them stay as they are.
 use Rattle.std.proofs.Common.{◌≡◌, ℕ, suc, ◌+◌, ◌<◌, ◌∙◌, Bool, not, true, false, if◌then◌else◌, List, [], ◌∷◌, ◌++◌, length, get_or, map, take, drop, None, ap, sym, arith, drop-cons, drop-drop, take-suc, subst}
 use Rattle.std.proofs.Math.Numerals.{add-one}
 use Rattle.std.proofs.Math.Nat.{add-zero}
@@ -11,14 +11,14 @@ use Rattle.passkey_cose.specs.KeyLabels.{Members, is_common}
 use Rattle.passkey_cose.specs.KeyReading.{further}
 use Rattle.passkey_cose.proofs.KeyFurther.{none_either}
 
-pub left_more : (ms ns : List (Value × Value)) (i : ℕ) → drop i ms ≡ drop i ns → drop (i + 1) ms ≡ drop (i + 1) ns
-left_more ms ns i left =
+pub same_left : (ms ns : List (Value × Value)) (i : ℕ) → drop i ms ≡ drop i ns → drop (i + 1) ms ≡ drop (i + 1) ns
+same_left ms ns i left =
     sym (drop-drop 1 i ms) ∙ ap (λ (os : List (Value × Value)). drop 1 os) left ∙ drop-drop 1 i ns
 
-pub behind_more : (ms ns os : List (Value × Value)) (i : ℕ) → drop (suc i) ms ≡ drop (suc i) ns
+pub same_after : (ms ns os : List (Value × Value)) (i : ℕ) → drop (suc i) ms ≡ drop (suc i) ns
     → drop i ns ≡ drop i os → drop (i + 1) ms ≡ drop (i + 1) os
-behind_more ms ns os i behind left =
-    (let here : drop (i + 1) ms ≡ drop (i + 1) ns = rw (add-one i) behind in here) ∙ left_more ns os i left
+same_after ms ns os i behind left =
+    (let here : drop (i + 1) ms ≡ drop (i + 1) ns = rw (add-one i) behind in here) ∙ same_left ns os i left
 
 first_left : (ms : List (Value × Value)) (i : ℕ) (m : Value × Value) → get_or (drop i ms) 0 m ≡ get_or ms i m
 first_left ms i m = rw (get_or-drop, add-zero)
@@ -46,14 +46,14 @@ further_common ms m common = ap (λ (b : Bool). if not b then m ∷ further ms e
 further_more : (ms : Members) (m : Item × Item) → is_common m.0 ≡ false → further (m ∷ ms) ≡ m ∷ further ms
 further_more ms m other = ap (λ (b : Bool). if not b then m ∷ further ms else further ms) other
 
-pub passed : (ps ms ns all : Members) (m : Item × Item) → is_common m.0 ≡ true → ms ≡ m ∷ ns
+pub pass_common : (ps ms ns all : Members) (m : Item × Item) → is_common m.0 ≡ true → ms ≡ m ∷ ns
     → ps ++ further ms ≡ all → ps ++ further ns ≡ all
-passed ps ms ns all m common at done =
+pass_common ps ms ns all m common at done =
     ap (λ (os : Members). ps ++ os) (sym (ap further at ∙ further_common ns m common)) ∙ done
 
-pub taken : (ps ms ns all : Members) (m : Item × Item) → is_common m.0 ≡ false → ms ≡ m ∷ ns
+pub take_further : (ps ms ns all : Members) (m : Item × Item) → is_common m.0 ≡ false → ms ≡ m ∷ ns
     → ps ++ further ms ≡ all → (ps ++ m ∷ []) ++ further ns ≡ all
-taken ps ms ns all m other at done =
+take_further ps ms ns all m other at done =
     append_assoc ps (m ∷ []) (further ns)
     ∙ ap (λ (os : Members). ps ++ os) (sym (ap further at ∙ further_more ns m other)) ∙ done
 
@@ -64,7 +64,7 @@ some (p ∷ ps) ns m = omega arith
 pub some_further : (ps ms ns all : Members) (m : Item × Item) → is_common m.0 ≡ false → ms ≡ m ∷ ns
     → ps ++ further ms ≡ all → 0 < length all
 some_further ps ms ns all m other at done =
-    subst (λ (os : Members). 0 < length os) (taken ps ms ns all m other at done) (some ps (further ns) m)
+    subst (λ (os : Members). 0 < length os) (take_further ps ms ns all m other at done) (some ps (further ns) m)
 
 pub good_more : (ms : List (Value × Value)) (i : ℕ) (m : Value × Value) → i < length ms → m ≡ get_or ms i m
     → first_fault (map pair_of (take i ms)) (map pair_of (drop i ms)) ≡ None
