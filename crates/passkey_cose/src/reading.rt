@@ -135,7 +135,7 @@ fn label_from(label: Value) -> Label
     }
 }
 
-fn read_params(alloc: Global, mut pairs: Pairs) -> Result<Vec<(Label, Value)>, OutOfMemory>
+fn read_params(alloc: Global, mut pairs: Pairs<'_>) -> Result<Vec<(Label, Value)>, OutOfMemory>
     requires { first_fault [] (map pair_of (values_in pairs)) ≡ None }
     ensures same { IfOk result
         (λ ps. params_of ps.items ≡ further (map pair_of (values_in pairs.entry))) }
@@ -164,7 +164,7 @@ fn read_kty(alloc: Global, members: &[(Value, Value)]) -> Result<Registered<KeyT
 /// The key of this type, with its other parts from the pairs.
 fn read_parts(
     alloc: Global,
-    pairs: Pairs,
+    pairs: Pairs<'_>,
     kty: Registered<KeyType>,
 ) -> Result<CoseKey, OutOfMemory>
     requires good { first_fault [] (map pair_of (values_in pairs)) ≡ None }
@@ -192,7 +192,7 @@ fn read_parts(
 }
 
 /// The key from the pairs, none of which is bad.
-fn read_pairs(alloc: Global, pairs: Pairs) -> Result<CoseKey, CoseError>
+fn read_pairs(alloc: Global, pairs: Pairs<'_>) -> Result<CoseKey, CoseError>
     requires { first_fault [] (map pair_of (values_in pairs)) ≡ None }
     ensures { ReadsPart KeyGrows key_parts
         (key_or_fault (map pair_of (values_in pairs.entry)) None) result }
@@ -201,7 +201,7 @@ fn read_pairs(alloc: Global, pairs: Pairs) -> Result<CoseKey, CoseError>
     Ok(read_parts(alloc, pairs, kty)?)
 }
 
-fn read_map(alloc: Global, pairs: Pairs) -> Result<CoseKey, CoseError>
+fn read_map(alloc: Global, pairs: Pairs<'_>) -> Result<CoseKey, CoseError>
     ensures { let ms = map pair_of (values_in pairs.entry) in
         ReadsPart KeyGrows key_parts (key_or_fault ms (first_fault [] ms)) result }
 {
