@@ -1,5 +1,5 @@
 -- What decoded records keep: values that aren't null, and what holds of each value that is put.
-use Rattle.passkey_kinds.proofs.Common.{depth, pairs_depth, Item, Pairs, no_pairs, pair, members, null, Kind, optional_from, accepted_from, Fields, set_with, rows_of, table_of, put_at, unless_missing, one_more, Progress, result_and_then, read_from, read_item, Member, entries, named, first_missing, Naming, row, unknown, wrong, accepts_at, Repeated, Fault, ◌≡◌, ◌<◌, ℕ, arith, Bool, true, false, if◌then◌else◌, List, [], ◌∷◌, Option, Some, None, option_map, refl, Result, subst, Ok, Err, set, IfOk, result_ok}
+use Rattle.passkey_kinds.proofs.Common.{depth, pairs_depth, Item, Pairs, no_pairs, pair, members, null, Kind, optional_from, Fields, set_with, rows_of, table_of, put_at, unless_missing, one_more, Progress, result_and_then, read_from, read_item, Member, entries, named, first_missing, Naming, row, unknown, wrong, accepts_at, Repeated, Fault, ◌≡◌, ◌<◌, ℕ, arith, Bool, true, false, if◌then◌else◌, List, [], ◌∷◌, Option, Some, None, option_map, refl, Result, subst, Ok, Err, set, IfOk, result_ok}
 use Rattle.passkey_kinds.specs.declared.fault.Fault.TheVariants as fault
 use Rattle.passkey_cbor.specs.Item as item
 

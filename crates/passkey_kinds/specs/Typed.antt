@@ -1,7 +1,6 @@
 -- Kinds with their costs.
-use Rattle.std.specs.Prelude.{ℕ, suc, max, Bool, true, false, List, Option}
-use Rattle.passkey_kinds.specs.Base.{ByteMap, Item, DataParts, Algorithm}
-use Rattle.passkey_cbor.specs.Nodes.{nodes}
+use Rattle.std.specs.Prelude.{ℕ, suc, max, true, false, List, Option}
+use Rattle.passkey_kinds.specs.Base.{ByteMap}
 use Rattle.passkey_kinds.specs.Kind.{Keeping, nothing, counted, in_elements, in_members, Kind, Typed, accepts}
 use Rattle.passkey_kinds.specs.Shape.{Shape, leaf}
 use Rattle.passkey_kinds.specs.declared.wanted.Wanted.{Wanted}

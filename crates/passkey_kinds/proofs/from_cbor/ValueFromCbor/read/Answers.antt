@@ -17,3 +17,9 @@ returns-in-Err-DecodeFailed-clause-reads c = λ i to l.
     let v = c.in-Err-DecodeFailed.ensures.values i to l in
     let is = c.in-Err-DecodeFailed.field-0-is in
     grind (arith, v, is)
+
+pub returns-in-Err-OutOfRangeIntegerValue-clause-reads : goal.returns-in-Err-OutOfRangeIntegerValue-clause-reads
+returns-in-Err-OutOfRangeIntegerValue-clause-reads c = λ i to l.
+    let v = c.in-Err-OutOfRangeIntegerValue.ensures.values i to l in
+    let is = c.in-Err-OutOfRangeIntegerValue.field-0-is in
+    grind (arith, v, is)
