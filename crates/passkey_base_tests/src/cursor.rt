@@ -111,7 +111,10 @@ fn values_ahead_are_counted(rt: HostRuntime) {
         check(&rt, value == wanted, "value", bytes);
         check(&rt, cursor.place() == len.unwrap_or(0), "place", bytes);
         if len.is_some() {
-            let count = Count { heads: skipped.count().heads, nodes: *nodes };
+            let count = Count {
+                heads: skipped.count().heads,
+                nodes: *nodes,
+            };
             check(&rt, cursor.count() == count, "count", bytes);
         }
     }
