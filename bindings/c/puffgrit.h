@@ -9,7 +9,7 @@
      C, and may be made from a signal handler.
    - A call that finds nothing returns false, and leaves its output as it was.
    - A call that looks at a data item looks at all of it: it takes as long as puffgrit_item_len. No proof covers the stack: over 256
-     levels puffgrit_rewrite takes up to 72 KiB, puffgrit_json and puffgrit_explain 336, puffgrit_is_canonical 56, and the
+     levels puffgrit_rewrite takes up to 84 KiB, puffgrit_json and puffgrit_explain 336, puffgrit_is_canonical 56, and the
      others 8. */
 #ifndef PUFFGRIT_H
 #define PUFFGRIT_H
