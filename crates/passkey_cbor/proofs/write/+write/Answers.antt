@@ -1,6 +1,6 @@
 use Rattle.std.proofs.Common.{arith}
 use Rattle.passkey_cbor.specs.View.{item_of}
-use Rattle.passkey_cbor.proofs.Views.{item_of-Map}
+use Rattle.passkey_cbor.proofs.Views.{item_of-Tag, item_of-Array, item_of-Map}
 use Rattle.passkey_cbor.proofs.Writing.{writes_items-begin, writes_pairs-begin}
 use Rattle.passkey_cbor.proofs.write.+write.Goals as goal
 
@@ -15,3 +15,20 @@ push_map-loop-key-init t c = writes_pairs-begin c.args.pairs.now c.args.out.now.
 pub push_value-returns-in-Map-clause-writable : goal.push_value-returns-in-Map-clause-writable
 push_value-returns-in-Map-clause-writable t c =
     rw (c.in-Map.is, item_of-Map c.in-Map.pairs, ← c.deref-in-Map.ensures.value) c.push_map.ensures.writable
+
+pub push_value-returns-in-Map-clause-written : goal.push_value-returns-in-Map-clause-written
+push_value-returns-in-Map-clause-written t c =
+    rw (c.in-Map.is, item_of-Map c.in-Map.pairs, ← c.deref-in-Map.ensures.value) c.push_map.ensures.written
+
+pub push_value-returns-in-Array-clause-written : goal.push_value-returns-in-Array-clause-written
+push_value-returns-in-Array-clause-written t c =
+    rw (c.in-Array.is, item_of-Array c.in-Array.items, ← c.deref-in-Array.ensures.value) c.push_array.ensures.written
+
+pub push_value-returns-in-Array-clause-writable : goal.push_value-returns-in-Array-clause-writable
+push_value-returns-in-Array-clause-writable t c =
+    rw (c.in-Array.is, item_of-Array c.in-Array.items, ← c.deref-in-Array.ensures.value)
+    c.push_array.ensures.writable
+
+pub push_value-returns-in-Tag-clause-written : goal.push_value-returns-in-Tag-clause-written
+push_value-returns-in-Tag-clause-written t c =
+    rw (c.in-Tag.is, item_of-Tag c.in-Tag.tag c.in-Tag.inner, ← c.deref-in-Tag.ensures) c.push_tag.ensures.written
