@@ -1,5 +1,5 @@
 -- What the steps of decoding authenticator data add to the counts.
-use Rattle.std.proofs.Common.{◌≡◌, ◌∙◌, ℕ, zero, suc, ◌+◌, ◌-◌, ◌^◌, ◌≤◌, min, List, length, take, drop, Bool, true, false, None, Result, Ok, Err, Bor, refl, sym, ap, subst, arith}
+use Rattle.std.proofs.Common.{◌≡◌, ◌∙◌, ℕ, zero, suc, ◌+◌, ◌-◌, ◌^◌, ◌≤◌, min, List, length, take, drop, None, Result, Ok, Err, Bor, refl, sym, ap, subst, arith}
 use Rattle.passkey_cbor.specs.Bytes.{IsBytes}
 use Rattle.passkey_cbor.specs.HeadCount.{heads_of}
 use Rattle.passkey_cbor.specs.LeadingItem.{IsLeadingItem, HasNoLeadingItem}
@@ -17,7 +17,7 @@ use Rattle.passkey_cose.specs.declared.error.CoseError.{CoseError}
 use Rattle.passkey_cose.specs.declared.error.CoseError.TheVariants as cose
 use Rattle.passkey_cose.specs.CoseErrors.{cose_error_of}
 use Rattle.passkey_core.specs.DataCounts.{Counts, CountsEach, ExceptOutOfMemory, UnlessOutOfMemory}
-use Rattle.passkey_core.specs.DataNodes.{given_nodes, given_heads, front_nodes, front_heads, count_behind, count_where, count_key, one}
+use Rattle.passkey_core.specs.DataNodes.{given_nodes, given_heads, front_nodes, front_heads, count_behind, count_key, one}
 use Rattle.passkey_core.specs.DataReading.{Begun, ids_at}
 use Rattle.passkey_core.proofs.DataGiven.{none_given}
 use Rattle.passkey_core.proofs.DataShrinking.{ids_shrink}

@@ -1,9 +1,9 @@
 -- When decoding attested credential data may run out of memory.
 use Rattle.std.specs.Int.{w16, from_be_bytes}
 use Rattle.std.specs.Result.{result_map_both, IsOkAnd}
-use Rattle.std.proofs.Common.{◌≡◌, inl, inr, List, ℕ, drop, Result, Ok, Err, refl, sym, subst}
+use Rattle.std.proofs.Common.{◌≡◌, inl, inr, List, ℕ, drop, Ok, Err, refl, sym, subst}
 use Rattle.passkey_cbor.specs.Grows.{Grows}
-use Rattle.passkey_cbor.specs.Item.{Item, number, byte_string, text_string, array, map, tagged, boolean, null, simple, float, no_pairs, pair}
+use Rattle.passkey_cbor.specs.Item.{Item, map, pair}
 use Rattle.passkey_cbor.specs.Reads.{HasGrowingLeadingItem}
 use Rattle.passkey_cose.specs.KeyParts.{KeyParts}
 use Rattle.passkey_cose.specs.KeyReading.{read_key}

@@ -1,6 +1,6 @@
 -- Combining readings of authenticator data.
 use Rattle.std.specs.Int.RustNames.{bit_and}
-use Rattle.std.proofs.Common.{◌≡◌, List, ℕ, nat_lt, length, take, drop, ◌==◌, Bool, true, false, if◌then◌else◌, Option, Some, Result, Ok, Err, inl, inr, refl, sym, subst}
+use Rattle.std.proofs.Common.{◌≡◌, List, ℕ, nat_lt, length, take, drop, ◌==◌, Bool, true, false, if◌then◌else◌, Option, Some, Result, Ok, Err, inr, refl, sym, subst}
 use Rattle.std.specs.Result.{IsOkAnd}
 use Rattle.passkey_cbor.specs.Item.{Item}
 use Rattle.passkey_cbor.specs.Reads.{HasGrowingLeadingItem}
@@ -10,7 +10,7 @@ use Rattle.passkey_core.specs.DataParts.{AttestedParts, DataParts}
 use Rattle.passkey_core.specs.Flags.{reserved_flags}
 use Rattle.passkey_core.specs.DataFlags.{has_flag, attested_flag, extensions_flag}
 use Rattle.passkey_core.specs.DataAnswers.{Returns}
-use Rattle.passkey_core.specs.DataReading.{Begun, ◌>>=◌, bytes_at, known_only, fixed_at, read_map, ReadsItem, Behind, ReadsThen, ReadsAttested, ReadsWhere, ReadsDataThen, AttestedGrows, PartsGrow, DataGrows}
+use Rattle.passkey_core.specs.DataReading.{Begun, ◌>>=◌, bytes_at, known_only, fixed_at, read_map, ReadsItem, Behind, ReadsThen, ReadsAttested, ReadsWhere, ReadsDataThen, PartsGrow, DataGrows}
 
 -- an error of one reading is an error of another
 pub gives_fault : {A B C D : Type 0} (memory : Type 0) (other : Type 0) (seen : A → B) (told : C → D)

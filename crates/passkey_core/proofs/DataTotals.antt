@@ -1,5 +1,5 @@
 -- What decoding authenticator data adds to the counts, step by step.
-use Rattle.std.proofs.Common.{◌≡◌, ◌∙◌, ℕ, ◌+◌, ◌*◌, ◌-◌, ◌^◌, ◌<◌, ◌≤◌, min, List, length, Bool, true, Option, Some, Result, Ok, Err, Bor, sym, ap, subst, arith}
+use Rattle.std.proofs.Common.{◌≡◌, ◌∙◌, ℕ, ◌+◌, ◌*◌, ◌<◌, ◌≤◌, List, length, Bool, true, Option, Some, Result, Ok, Err, Bor, sym, ap, subst, arith}
 use Rattle.passkey_cbor.specs.CursorState.{raised}
 use Rattle.passkey_cbor.specs.declared.count.Count.{Count}
 use Rattle.passkey_cbor.specs.Bytes.{IsBytes}

@@ -7,6 +7,7 @@ pub mod Salts
 pub mod DataFlags
 pub mod DataParts
 pub mod DataViews
+pub mod DataFixed
 pub mod DataWritten
 pub mod DataReading
 pub mod DataAnswers

@@ -34,8 +34,12 @@ pub(crate) fn push_output(
         ≡ map pair_of outputs.old.items ++ named name.now (option_map item_of output)) }
     ensures grows { OnErr result (IsSome output) }
 {
-    if let Some(output) = output {
-        outputs.push((Value::Text(String::from_str(alloc, name)?), output))?;
-    }
-    Ok(())
+    let Some(output) = output else {
+        return Ok(());
+    };
+    let Ok(name) = String::from_str(alloc, name) else {
+        drop(output);
+        return Err(OutOfMemory);
+    };
+    Ok(outputs.push((Value::Text(name), output))?)
 }

@@ -11,6 +11,7 @@ ghost use Rattle.passkey_core.specs.DataCounts.{Counts, CountsEach, UnlessOutOfM
 ghost use Rattle.passkey_core.specs.DataNodes.{count_data, count_key, count_where, data_nodes, data_places};
 ghost use Rattle.passkey_core.specs.DataReading.{bytes_at, fixed_at, ids_at, read_map, ReadsItem, ReadsAttested, ReadsWhere, ReadsData, ReadsDataFront, ReadsDataExactly, AttestedGrows, DataGrows};
 ghost use Rattle.passkey_core.specs.DataViews.{attested_parts, data_parts};
+ghost use Rattle.passkey_core.specs.DataFixed.{fixed_parts};
 
 use crate::aaguid::Aaguid;
 use crate::attested::AttestedCredentialData;
@@ -41,10 +42,17 @@ fn slice_at(bytes: &[u8], n: usize) -> Begun<'_, &[u8]>
     }
 }
 
-/// The relying party id's hash, the flags and the signature counter.
+/// What all authenticator data begin with.
+#[derive(Clone, Copy)]
+struct Fixed {
+    rp_id_hash: [u8; 32],
+    flags: Flags,
+    counter: u32,
+}
+
 #[tactic(auto, unfolding(crate::specs::DataReading::fixed_at))]
-fn read_fixed(bytes: &[u8]) -> Begun<'_, AuthenticatorData>
-    ensures { result_map_both (λ r. (data_parts r.0, r.1.now)) (λ e. e) result ≡ fixed_at bytes.now }
+fn read_fixed(bytes: &[u8]) -> Begun<'_, Fixed>
+    ensures { result_map_both (λ r. (fixed_parts r.0, r.1.now)) (λ e. e) result ≡ fixed_at bytes.now }
 {
     let (rp_id_hash, rest) = chunk_at::<32>(bytes)?;
     let (flags, rest) = chunk_at::<1>(rest)?;
@@ -52,12 +60,10 @@ fn read_fixed(bytes: &[u8]) -> Begun<'_, AuthenticatorData>
     let Ok(flags) = Flags::try_from(flags[0]) else {
         return Err(CoseError::OutOfRangeIntegerValue);
     };
-    let fixed = AuthenticatorData {
+    let fixed = Fixed {
         rp_id_hash,
         flags,
-        counter: Some(u32::from_be_bytes(counter)),
-        attested_credential_data: None,
-        extensions: None,
+        counter: u32::from_be_bytes(counter),
     };
     Ok((fixed, rest))
 }
@@ -112,10 +118,11 @@ fn read_extensions<'a>(alloc: Global, bytes: &'a [u8], count: &mut Count) -> Beg
     ensures counts { Counts (λ each. each bytes.now) bytes.now count.old count.new result }
 {
     let (value, rest) = read_item(alloc, bytes, count)?;
-    match value {
-        Value::Map(_) => Ok((value, rest)),
-        _ => Err(CoseError::UnexpectedItem),
+    if !matches!(value, Value::Map(_)) {
+        drop(value);
+        return Err(CoseError::UnexpectedItem);
     }
+    Ok((value, rest))
 }
 
 fn read_attested<'a>(
@@ -129,9 +136,13 @@ fn read_attested<'a>(
 {
     let ((aaguid, id), rest) = read_ids(bytes)?;
     let (key, rest) = read_key(alloc, rest, count)?;
+    let Ok(credential_id) = Vec::from_slice(alloc, id) else {
+        drop(key);
+        return Err(CoseError::OutOfMemory);
+    };
     let attested = AttestedCredentialData {
         aaguid,
-        credential_id: Vec::from_slice(alloc, id)?,
+        credential_id,
         key,
     };
     Ok((attested, rest))
@@ -190,11 +201,19 @@ fn read_front<'a>(alloc: Global, bytes: &'a [u8], count: &mut Count) -> Begun<'a
     let has_attested = bitflags::Flags::contains(&fixed.flags, Flags::AT);
     let has_extensions = bitflags::Flags::contains(&fixed.flags, Flags::ED);
     let (attested, rest) = read_attested_where(alloc, has_attested, rest, count)?;
-    let (extensions, last) = read_extensions_where(alloc, has_extensions, rest, count)?;
+    let (extensions, last) = match read_extensions_where(alloc, has_extensions, rest, count) {
+        Ok(parts) => parts,
+        Err(e) => {
+            drop(attested);
+            return Err(e);
+        }
+    };
     let data = AuthenticatorData {
+        rp_id_hash: fixed.rp_id_hash,
+        flags: fixed.flags,
+        counter: Some(fixed.counter),
         attested_credential_data: attested,
         extensions,
-        ..fixed
     };
     Ok((data, last))
 }
@@ -237,6 +256,7 @@ impl AuthenticatorData {
         let mut count = Count { heads: 0, nodes: 0 };
         let (data, last) = read_front(alloc, bytes, &mut count)?;
         if !last.is_empty() {
+            drop(data);
             return Err(CoseError::DecodeFailed);
         }
         Ok(data)

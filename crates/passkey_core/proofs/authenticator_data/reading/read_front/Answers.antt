@@ -9,6 +9,7 @@ use Rattle.passkey_core.specs.DataFlags.{has_flag, attested_flag, extensions_fla
 use Rattle.passkey_core.specs.DataReading.{Begun, fixed_at, read_map, ReadsItem, ReadsAttested, ReadsWhere, AttestedGrows, DataGrows}
 use Rattle.passkey_core.specs.DataParts.{DataParts}
 use Rattle.passkey_core.specs.declared.authenticator_data.AuthenticatorData.{AuthenticatorData}
+use Rattle.passkey_core.specs.DataFixed.{fixed_parts}
 use Rattle.passkey_core.specs.DataViews.{attested_parts, data_parts}
 use Rattle.passkey_core.proofs.DataReadings.{fixed_fails, extensions_fail}
 use Rattle.std.proofs.lemmas.Result.{err_from_is_err_and}
@@ -27,10 +28,8 @@ returns-in_err-fixed-clause-value c =
     let fails : fixed_at c.args.bytes.now ≡ Err c.in_err-fixed.field-0.0 = sym c.in_err-fixed.ensures in
     rw told (fixed_fails front_of (DataGrows c.args.bytes.now) front_view c.args.bytes.now c.in_err-fixed.field-0.0 fails)
 
-pub returns-in_err-extensions-clause-value : goal.returns-in_err-extensions-clause-value
-returns-in_err-extensions-clause-value c =
-    let p = err_from_is_err_and c.from_residual-in_err-extensions.result c.from_residual-in_err-extensions.ensures.1 in
-    let told : c.from_residual-in_err-extensions.result ≡ Err c.in_err-extensions.field-0.0 = p.1 ∙ ap Err p.2 in
+pub returns-in-Err-clause-value : goal.returns-in-Err-clause-value
+returns-in-Err-clause-value c =
     let attested : c.contains-has_attested.result ≡ has_flag attested_flag c.in_ok-fixed.fixed.flags.0 =
     search rules in
     let extensions : c.contains-has_extensions.result ≡ has_flag extensions_flag c.in_ok-fixed.fixed.flags.0 =
@@ -46,13 +45,13 @@ returns-in_err-extensions-clause-value c =
     let view : Option Value × Bor (List ℕ) → Option _ × List ℕ = λ r. (option_map item_of r.0, r.1.now) in
     let fails : Returns ((has_flag extensions_flag c.in_ok-fixed.fixed.flags.0 ≡ true) × HasGrowingLeadingItem
     c.in_ok-attested.rest.now) view (ReadsWhere (has_flag extensions_flag c.in_ok-fixed.fixed.flags.0)
-    (ReadsItem read_map) c.in_ok-attested.rest.now) (Err c.in_err-extensions.field-0.0) =
+    (ReadsItem read_map) c.in_ok-attested.rest.now) (Err c.in-Err.e) =
     subst (λ b. Returns ((b ≡ true) × HasGrowingLeadingItem c.in_ok-attested.rest.now) view
-    (ReadsWhere b (ReadsItem read_map) c.in_ok-attested.rest.now) (Err c.in_err-extensions.field-0.0))
-    extensions c.in_err-extensions.ensures.value in
-    rw told (extensions_fail front_of front_view view c.args.bytes.now (data_parts c.in_ok-fixed.fixed)
+    (ReadsWhere b (ReadsItem read_map) c.in_ok-attested.rest.now) (Err c.in-Err.e))
+    extensions c.in-Err.ensures.value in
+    extensions_fail front_of front_view view c.args.bytes.now (fixed_parts c.in_ok-fixed.fixed)
     c.in_ok-fixed.rest.now (option_map attested_parts c.in_ok-attested.attested) c.in_ok-attested.rest.now
-    c.in_err-extensions.field-0.0 c.in_ok-fixed.ensures is_attested fails)
+    c.in-Err.e c.in_ok-fixed.ensures is_attested fails
 
 pub returns-in_err-fixed-clause-least : goal.returns-in_err-fixed-clause-least
 returns-in_err-fixed-clause-least c =
@@ -62,7 +61,7 @@ pub returns-in_err-attested-clause-heads : goal.returns-in_err-attested-clause-h
 returns-in_err-attested-clause-heads c =
     let attested : c.contains-has_attested.result ≡ has_flag attested_flag c.in_ok-fixed.fixed.flags.0 =
     search rules in
-    (totals_attested c.args.bytes.now (data_parts c.in_ok-fixed.fixed) c.in_ok-fixed.rest.now
+    (totals_attested c.args.bytes.now (fixed_parts c.in_ok-fixed.fixed) c.in_ok-fixed.rest.now
     c.contains-has_attested.result c.in_err-attested.field-0.0 c.args.count.now c.read_attested_where.new.count
     c.in_ok-fixed.ensures attested c.in_err-attested.ensures.there c.in_err-attested.ensures.counts).heads
 
@@ -70,7 +69,7 @@ pub returns-in_err-attested-clause-nodes : goal.returns-in_err-attested-clause-n
 returns-in_err-attested-clause-nodes c =
     let attested : c.contains-has_attested.result ≡ has_flag attested_flag c.in_ok-fixed.fixed.flags.0 =
     search rules in
-    (totals_attested c.args.bytes.now (data_parts c.in_ok-fixed.fixed) c.in_ok-fixed.rest.now
+    (totals_attested c.args.bytes.now (fixed_parts c.in_ok-fixed.fixed) c.in_ok-fixed.rest.now
     c.contains-has_attested.result c.in_err-attested.field-0.0 c.args.count.now c.read_attested_where.new.count
     c.in_ok-fixed.ensures attested c.in_err-attested.ensures.there c.in_err-attested.ensures.counts).nodes
 
@@ -78,45 +77,45 @@ pub returns-in_err-attested-clause-least : goal.returns-in_err-attested-clause-l
 returns-in_err-attested-clause-least c =
     let attested : c.contains-has_attested.result ≡ has_flag attested_flag c.in_ok-fixed.fixed.flags.0 =
     search rules in
-    (totals_attested c.args.bytes.now (data_parts c.in_ok-fixed.fixed) c.in_ok-fixed.rest.now
+    (totals_attested c.args.bytes.now (fixed_parts c.in_ok-fixed.fixed) c.in_ok-fixed.rest.now
     c.contains-has_attested.result c.in_err-attested.field-0.0 c.args.count.now c.read_attested_where.new.count
     c.in_ok-fixed.ensures attested c.in_err-attested.ensures.there c.in_err-attested.ensures.counts).least
 
-pub returns-in_err-extensions-clause-heads : goal.returns-in_err-extensions-clause-heads
-returns-in_err-extensions-clause-heads c =
+pub returns-in-Err-clause-heads : goal.returns-in-Err-clause-heads
+returns-in-Err-clause-heads c =
     let attested : c.contains-has_attested.result ≡ has_flag attested_flag c.in_ok-fixed.fixed.flags.0 =
     search rules in
     let extensions : c.contains-has_extensions.result ≡ has_flag extensions_flag c.in_ok-fixed.fixed.flags.0 =
     search rules in
-    (totals c.args.bytes.now (data_parts c.in_ok-fixed.fixed) c.in_ok-fixed.rest.now _ _
+    (totals c.args.bytes.now (fixed_parts c.in_ok-fixed.fixed) c.in_ok-fixed.rest.now _ _
     (option_map attested_parts c.in_ok-attested.attested) c.in_ok-attested.attested c.in_ok-attested.rest
     c.args.count.now c.read_attested_where.new.count c.read_extensions_where.new.count _ c.in_ok-fixed.ensures
     attested extensions c.in_ok-attested.ensures.value c.in_ok-attested.ensures.counts
-    c.in_err-extensions.ensures.counts).heads
+    c.in-Err.ensures.counts).heads
 
-pub returns-in_err-extensions-clause-nodes : goal.returns-in_err-extensions-clause-nodes
-returns-in_err-extensions-clause-nodes c =
+pub returns-in-Err-clause-nodes : goal.returns-in-Err-clause-nodes
+returns-in-Err-clause-nodes c =
     let attested : c.contains-has_attested.result ≡ has_flag attested_flag c.in_ok-fixed.fixed.flags.0 =
     search rules in
     let extensions : c.contains-has_extensions.result ≡ has_flag extensions_flag c.in_ok-fixed.fixed.flags.0 =
     search rules in
-    (totals c.args.bytes.now (data_parts c.in_ok-fixed.fixed) c.in_ok-fixed.rest.now _ _
+    (totals c.args.bytes.now (fixed_parts c.in_ok-fixed.fixed) c.in_ok-fixed.rest.now _ _
     (option_map attested_parts c.in_ok-attested.attested) c.in_ok-attested.attested c.in_ok-attested.rest
     c.args.count.now c.read_attested_where.new.count c.read_extensions_where.new.count _ c.in_ok-fixed.ensures
     attested extensions c.in_ok-attested.ensures.value c.in_ok-attested.ensures.counts
-    c.in_err-extensions.ensures.counts).nodes
+    c.in-Err.ensures.counts).nodes
 
-pub returns-in_err-extensions-clause-least : goal.returns-in_err-extensions-clause-least
-returns-in_err-extensions-clause-least c =
+pub returns-in-Err-clause-least : goal.returns-in-Err-clause-least
+returns-in-Err-clause-least c =
     let attested : c.contains-has_attested.result ≡ has_flag attested_flag c.in_ok-fixed.fixed.flags.0 =
     search rules in
     let extensions : c.contains-has_extensions.result ≡ has_flag extensions_flag c.in_ok-fixed.fixed.flags.0 =
     search rules in
-    (totals c.args.bytes.now (data_parts c.in_ok-fixed.fixed) c.in_ok-fixed.rest.now _ _
+    (totals c.args.bytes.now (fixed_parts c.in_ok-fixed.fixed) c.in_ok-fixed.rest.now _ _
     (option_map attested_parts c.in_ok-attested.attested) c.in_ok-attested.attested c.in_ok-attested.rest
     c.args.count.now c.read_attested_where.new.count c.read_extensions_where.new.count _ c.in_ok-fixed.ensures
     attested extensions c.in_ok-attested.ensures.value c.in_ok-attested.ensures.counts
-    c.in_err-extensions.ensures.counts).least
+    c.in-Err.ensures.counts).least
 
 pub returns-clause-heads : goal.returns-clause-heads
 returns-clause-heads c =
@@ -124,11 +123,11 @@ returns-clause-heads c =
     search rules in
     let extensions : c.contains-has_extensions.result ≡ has_flag extensions_flag c.in_ok-fixed.fixed.flags.0 =
     search rules in
-    (totals c.args.bytes.now (data_parts c.in_ok-fixed.fixed) c.in_ok-fixed.rest.now _ _
+    (totals c.args.bytes.now (fixed_parts c.in_ok-fixed.fixed) c.in_ok-fixed.rest.now _ _
     (option_map attested_parts c.in_ok-attested.attested) c.in_ok-attested.attested c.in_ok-attested.rest
     c.args.count.now c.read_attested_where.new.count c.read_extensions_where.new.count _ c.in_ok-fixed.ensures
     attested extensions c.in_ok-attested.ensures.value c.in_ok-attested.ensures.counts
-    c.in_ok-extensions.ensures.counts).heads
+    c.in-Ok.ensures.counts).heads
 
 pub returns-clause-nodes : goal.returns-clause-nodes
 returns-clause-nodes c =
@@ -136,11 +135,11 @@ returns-clause-nodes c =
     search rules in
     let extensions : c.contains-has_extensions.result ≡ has_flag extensions_flag c.in_ok-fixed.fixed.flags.0 =
     search rules in
-    (totals c.args.bytes.now (data_parts c.in_ok-fixed.fixed) c.in_ok-fixed.rest.now _ _
+    (totals c.args.bytes.now (fixed_parts c.in_ok-fixed.fixed) c.in_ok-fixed.rest.now _ _
     (option_map attested_parts c.in_ok-attested.attested) c.in_ok-attested.attested c.in_ok-attested.rest
     c.args.count.now c.read_attested_where.new.count c.read_extensions_where.new.count _ c.in_ok-fixed.ensures
     attested extensions c.in_ok-attested.ensures.value c.in_ok-attested.ensures.counts
-    c.in_ok-extensions.ensures.counts).nodes
+    c.in-Ok.ensures.counts).nodes
 
 pub returns-clause-least : goal.returns-clause-least
 returns-clause-least c =
@@ -148,11 +147,11 @@ returns-clause-least c =
     search rules in
     let extensions : c.contains-has_extensions.result ≡ has_flag extensions_flag c.in_ok-fixed.fixed.flags.0 =
     search rules in
-    (totals c.args.bytes.now (data_parts c.in_ok-fixed.fixed) c.in_ok-fixed.rest.now _ _
+    (totals c.args.bytes.now (fixed_parts c.in_ok-fixed.fixed) c.in_ok-fixed.rest.now _ _
     (option_map attested_parts c.in_ok-attested.attested) c.in_ok-attested.attested c.in_ok-attested.rest
     c.args.count.now c.read_attested_where.new.count c.read_extensions_where.new.count _ c.in_ok-fixed.ensures
     attested extensions c.in_ok-attested.ensures.value c.in_ok-attested.ensures.counts
-    c.in_ok-extensions.ensures.counts).least
+    c.in-Ok.ensures.counts).least
 
 pub returns-clause-all : goal.returns-clause-all
 returns-clause-all c =
@@ -160,24 +159,22 @@ returns-clause-all c =
     search rules in
     let extensions : c.contains-has_extensions.result ≡ has_flag extensions_flag c.in_ok-fixed.fixed.flags.0 =
     search rules in
-    all_counted c.args.bytes.now (data_parts c.in_ok-fixed.fixed) c.in_ok-fixed.rest.now _ _ (option_map
+    all_counted c.args.bytes.now (fixed_parts c.in_ok-fixed.fixed) c.in_ok-fixed.rest.now _ _ (option_map
     attested_parts c.in_ok-attested.attested) c.in_ok-attested.attested c.in_ok-attested.rest c.args.count.now
     c.read_attested_where.new.count c.read_extensions_where.new.count _ c.in_ok-fixed.ensures attested
-    extensions c.in_ok-attested.ensures.value c.in_ok-attested.ensures.counts c.in_ok-extensions.ensures.counts
+    extensions c.in_ok-attested.ensures.value c.in_ok-attested.ensures.counts c.in-Ok.ensures.counts
 
-pub returns-in_err-extensions-clause-all : goal.returns-in_err-extensions-clause-all
-returns-in_err-extensions-clause-all c =
-    let p = err_from_is_err_and c.from_residual-in_err-extensions.result c.from_residual-in_err-extensions.ensures.1 in
-    let told : c.from_residual-in_err-extensions.result ≡ Err c.in_err-extensions.field-0.0 = p.1 ∙ ap Err p.2 in
+pub returns-in-Err-clause-all : goal.returns-in-Err-clause-all
+returns-in-Err-clause-all c =
     let attested : c.contains-has_attested.result ≡ has_flag attested_flag c.in_ok-fixed.fixed.flags.0 =
     search rules in
     let extensions : c.contains-has_extensions.result ≡ has_flag extensions_flag c.in_ok-fixed.fixed.flags.0 =
     search rules in
-    rw told (all_counted c.args.bytes.now (data_parts c.in_ok-fixed.fixed) c.in_ok-fixed.rest.now _ _
+    all_counted c.args.bytes.now (fixed_parts c.in_ok-fixed.fixed) c.in_ok-fixed.rest.now _ _
     (option_map attested_parts c.in_ok-attested.attested) c.in_ok-attested.attested c.in_ok-attested.rest
     c.args.count.now c.read_attested_where.new.count c.read_extensions_where.new.count
-    (Err c.in_err-extensions.field-0.0) c.in_ok-fixed.ensures attested extensions c.in_ok-attested.ensures.value
-    c.in_ok-attested.ensures.counts c.in_err-extensions.ensures.counts)
+    (Err c.in-Err.e) c.in_ok-fixed.ensures attested extensions c.in_ok-attested.ensures.value
+    c.in_ok-attested.ensures.counts c.in-Err.ensures.counts
 
 pub returns-in_err-attested-clause-all : goal.returns-in_err-attested-clause-all
 returns-in_err-attested-clause-all c =
@@ -188,7 +185,7 @@ returns-in_err-attested-clause-all c =
     let fits : IsBytes c.args.bytes.now = search rules in
     rw told (all_attested ((c.contains-has_attested.result ≡ true) × AttestedGrows c.in_ok-fixed.rest.now)
     (λ (r : Option AttestedCredentialData × Bor (List ℕ)). (option_map attested_parts r.0, r.1.now)) c.args.bytes.now
-    (data_parts c.in_ok-fixed.fixed) c.in_ok-fixed.rest.now
+    (fixed_parts c.in_ok-fixed.fixed) c.in_ok-fixed.rest.now
     c.contains-has_attested.result c.in_err-attested.field-0.0 c.args.count.now c.read_attested_where.new.count
     fits c.in_ok-fixed.ensures attested c.in_err-attested.ensures.value
     c.in_err-attested.ensures.counts)
