@@ -3,5 +3,6 @@ pub mod Base64url
 pub mod FloatFree
 pub mod Looking
 pub mod Faults
+pub mod Elements
 pub mod MapsBack
 pub mod Tables
