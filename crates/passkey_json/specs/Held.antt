@@ -23,6 +23,11 @@ abbrev pub GivesAs : {A M : Type 0} → Type 0 → (A → M) → Result M Fault 
 GivesAs Takes seen wanted (Ok x) = wanted ≡ Ok (seen x)
 GivesAs Takes seen wanted (Err e) = Gives Takes wanted (Err e)
 
+-- what is held after the value that was read, if there is one, was put in place of an old one
+abbrev pub IsPlaced : {A : Type 0} → Result A JsonFault → A → A → Result (Unit {0}) JsonFault → Type 0
+IsPlaced (Ok x) old new result = (new ≡ x) × (result ≡ Ok tt)
+IsPlaced (Err e) old new result = (new ≡ old) × (result ≡ Err e)
+
 -- the value, or the default if it was rejected
 abbrev pub IsUnlessRefused : {A : Type 0} → A → Result A JsonRefusal → Result A JsonFault → Type 0
 IsUnlessRefused default (Ok x) result = result ≡ Ok x

@@ -6,7 +6,7 @@ ghost use Rattle.std.specs.Prelude.{IfOk, OnErr, length, ◌<◌, ◌≡◌, ◌
 
 use crate::json_encoder::{EncodeResult, JsonEncoder};
 use crate::json_fault::JsonFault;
-use crate::member::Member;
+use crate::member::{Member, place};
 use crate::plain_json_record::PlainJsonRecord;
 use crate::row::Row;
 use passkey_bytes::{Map, Text};
@@ -69,12 +69,11 @@ impl PlainJsonRecord for AuthenticationExtensionsClientInputs {
 
     fn put(&mut self, number: u8, member: Member<'_>) -> Result<(), JsonFault> {
         match number {
-            1 => self.cred_props = member.or_default(None)?,
-            2 => self.prf = member.or_default(None)?,
-            3 => self.prf_already_hashed = member.or_default(None)?,
-            _ => {}
+            1 => place(&mut self.cred_props, member.or_default(None)),
+            2 => place(&mut self.prf, member.or_default(None)),
+            3 => place(&mut self.prf_already_hashed, member.or_default(None)),
+            _ => Ok(()),
         }
-        Ok(())
     }
 
     fn encode(&self, number: u8, encoder: JsonEncoder) -> EncodeResult {
@@ -156,11 +155,10 @@ impl PlainJsonRecord for AuthenticationExtensionsPrfInputs {
 
     fn put(&mut self, number: u8, member: Member<'_>) -> Result<(), JsonFault> {
         match number {
-            1 => self.eval = member.or_default(None)?,
-            2 => self.eval_by_credential = member.or_default(None)?,
-            _ => {}
+            1 => place(&mut self.eval, member.or_default(None)),
+            2 => place(&mut self.eval_by_credential, member.or_default(None)),
+            _ => Ok(()),
         }
-        Ok(())
     }
 
     fn encode(&self, number: u8, encoder: JsonEncoder) -> EncodeResult {
@@ -207,11 +205,10 @@ impl PlainJsonRecord for AuthenticationExtensionsClientOutputs {
 
     fn put(&mut self, number: u8, member: Member<'_>) -> Result<(), JsonFault> {
         match number {
-            1 => self.cred_props = member.or_default(None)?,
-            2 => self.prf = member.or_default(None)?,
-            _ => {}
+            1 => place(&mut self.cred_props, member.or_default(None)),
+            2 => place(&mut self.prf, member.or_default(None)),
+            _ => Ok(()),
         }
-        Ok(())
     }
 
     fn encode(&self, number: u8, encoder: JsonEncoder) -> EncodeResult {

@@ -1,7 +1,7 @@
 //! Members of objects, and the ways to decode them.
 ghost use Rattle.std.specs.Prelude.{◌≡◌, Err, IsTrue, option_map};
 ghost use Rattle.passkey_json.specs.Fault.{Gives};
-ghost use Rattle.passkey_json.specs.Held.{IsUnlessRefused, found};
+ghost use Rattle.passkey_json.specs.Held.{IsPlaced, IsUnlessRefused, found};
 ghost use Rattle.passkey_json.specs.Kind.{is_array};
 ghost use Rattle.passkey_json.specs.Members.{MemberTakes, under, fault_of, decoded_or_fault, required, or_default, if_present, tolerated, required_tolerated, accepted_list};
 ghost use Rattle.serde_json.specs.View.{view};
@@ -39,6 +39,14 @@ fn decoded_or_fault<T: FromJson>(
         Err(JsonRefusal::Refused) => Err(fault_of(name, value)),
         Err(JsonRefusal::OutOfMemory) => Err(JsonFault::OutOfMemory),
     }
+}
+
+/// Puts the value in place of an old one, or returns the fault.
+pub(crate) fn place<T: Drop>(place: &mut T, read: Result<T, JsonFault>) -> Result<(), JsonFault>
+    ensures { IsPlaced read place.old place.new result }
+{
+    *place = read?;
+    Ok(())
 }
 
 fn unless_refused<T: Drop>(read: Result<T, JsonRefusal>, default: T) -> Result<T, JsonFault>

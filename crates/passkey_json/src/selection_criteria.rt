@@ -4,7 +4,7 @@ ghost use Rattle.passkey_json.specs.SelectionCriteria.{any_authenticator, select
 
 use crate::json_encoder::{EncodeResult, JsonEncoder};
 use crate::json_fault::JsonFault;
-use crate::member::Member;
+use crate::member::{Member, place};
 use crate::plain_json_record::PlainJsonRecord;
 use crate::requirements::{
     AuthenticatorAttachment, ResidentKeyRequirement, UserVerificationRequirement,
@@ -64,13 +64,18 @@ impl PlainJsonRecord for AuthenticatorSelectionCriteria {
 
     fn put(&mut self, number: u8, member: Member<'_>) -> Result<(), JsonFault> {
         match number {
-            1 => self.authenticator_attachment = member.tolerated(None)?,
-            2 => self.resident_key = member.tolerated(None)?,
-            3 => self.require_resident_key = member.or_default(TruthText(false))?.get(),
-            4 => self.user_verification = member.tolerated(UserVerificationRequirement::Preferred)?,
-            _ => {}
+            1 => place(&mut self.authenticator_attachment, member.tolerated(None)),
+            2 => place(&mut self.resident_key, member.tolerated(None)),
+            3 => {
+                self.require_resident_key = member.or_default(TruthText(false))?.get();
+                Ok(())
+            }
+            4 => place(
+                &mut self.user_verification,
+                member.tolerated(UserVerificationRequirement::Preferred),
+            ),
+            _ => Ok(()),
         }
-        Ok(())
     }
 
     fn encode(&self, number: u8, encoder: JsonEncoder) -> EncodeResult {

@@ -3,7 +3,7 @@ ghost use Rattle.passkey_json.specs.WebAuthn.{descriptor, parameters, prf_output
 
 use crate::json_encoder::{EncodeResult, JsonEncoder};
 use crate::json_fault::JsonFault;
-use crate::member::Member;
+use crate::member::{Member, place};
 use crate::plain_json_record::PlainJsonRecord;
 use crate::row::Row;
 use passkey_bytes::{Bytes, Text};
@@ -36,12 +36,14 @@ impl PlainJsonRecord for PublicKeyCredentialDescriptor {
 
     fn put(&mut self, number: u8, member: Member<'_>) -> Result<(), JsonFault> {
         match number {
-            1 => self.ty = member.required_tolerated(PublicKeyCredentialType::Unknown)?,
-            2 => self.id = member.required()?,
-            3 => self.transports = member.accepted_list()?,
-            _ => {}
+            1 => place(
+                &mut self.ty,
+                member.required_tolerated(PublicKeyCredentialType::Unknown),
+            ),
+            2 => place(&mut self.id, member.required()),
+            3 => place(&mut self.transports, member.accepted_list()),
+            _ => Ok(()),
         }
-        Ok(())
     }
 
     fn encode(&self, number: u8, encoder: JsonEncoder) -> EncodeResult {
@@ -70,11 +72,13 @@ impl PlainJsonRecord for PublicKeyCredentialParameters {
 
     fn put(&mut self, number: u8, member: Member<'_>) -> Result<(), JsonFault> {
         match number {
-            1 => self.ty = member.required_tolerated(PublicKeyCredentialType::Unknown)?,
-            2 => self.alg = member.required()?,
-            _ => {}
+            1 => place(
+                &mut self.ty,
+                member.required_tolerated(PublicKeyCredentialType::Unknown),
+            ),
+            2 => place(&mut self.alg, member.required()),
+            _ => Ok(()),
         }
-        Ok(())
     }
 
     fn encode(&self, number: u8, encoder: JsonEncoder) -> EncodeResult {
@@ -102,11 +106,10 @@ impl PlainJsonRecord for PublicKeyCredentialRpEntity {
 
     fn put(&mut self, number: u8, member: Member<'_>) -> Result<(), JsonFault> {
         match number {
-            1 => self.id = member.or_default(None)?,
-            2 => self.name = member.required()?,
-            _ => {}
+            1 => place(&mut self.id, member.or_default(None)),
+            2 => place(&mut self.name, member.required()),
+            _ => Ok(()),
         }
-        Ok(())
     }
 
     fn encode(&self, number: u8, encoder: JsonEncoder) -> EncodeResult {
@@ -139,12 +142,11 @@ impl PlainJsonRecord for PublicKeyCredentialUserEntity {
 
     fn put(&mut self, number: u8, member: Member<'_>) -> Result<(), JsonFault> {
         match number {
-            1 => self.id = member.required()?,
-            2 => self.display_name = member.required()?,
-            3 => self.name = member.required()?,
-            _ => {}
+            1 => place(&mut self.id, member.required()),
+            2 => place(&mut self.display_name, member.required()),
+            3 => place(&mut self.name, member.required()),
+            _ => Ok(()),
         }
-        Ok(())
     }
 
     fn encode(&self, number: u8, encoder: JsonEncoder) -> EncodeResult {
@@ -173,11 +175,10 @@ impl PlainJsonRecord for AuthenticationExtensionsPrfValues {
 
     fn put(&mut self, number: u8, member: Member<'_>) -> Result<(), JsonFault> {
         match number {
-            1 => self.first = member.required()?,
-            2 => self.second = member.or_default(None)?,
-            _ => {}
+            1 => place(&mut self.first, member.required()),
+            2 => place(&mut self.second, member.or_default(None)),
+            _ => Ok(()),
         }
-        Ok(())
     }
 
     fn encode(&self, number: u8, encoder: JsonEncoder) -> EncodeResult {
@@ -205,11 +206,10 @@ impl PlainJsonRecord for AuthenticationExtensionsPrfOutputs {
 
     fn put(&mut self, number: u8, member: Member<'_>) -> Result<(), JsonFault> {
         match number {
-            1 => self.enabled = member.or_default(None)?,
-            2 => self.results = member.or_default(None)?,
-            _ => {}
+            1 => place(&mut self.enabled, member.or_default(None)),
+            2 => place(&mut self.results, member.or_default(None)),
+            _ => Ok(()),
         }
-        Ok(())
     }
 
     fn encode(&self, number: u8, encoder: JsonEncoder) -> EncodeResult {
