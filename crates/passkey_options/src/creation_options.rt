@@ -1,6 +1,7 @@
 //! The options of a registration, decoded from JSON objects and encoded.
 ghost use Rattle.passkey_options.specs.Options.{creation_options};
 
+use crate::place::{place, place_list};
 use crate::preferences::{
     AttestationConveyancePreference, AttestationStatementFormatIdentifiers,
     PublicKeyCredentialHints,
@@ -8,7 +9,7 @@ use crate::preferences::{
 use passkey_bytes::{Bytes, List};
 use passkey_json::{
     AuthenticationExtensionsClientInputs, AuthenticatorSelectionCriteria, EncodeResult,
-    JsonEncoder, JsonFault, Member, PlainJsonRecord, Row, TolerantList,
+    JsonEncoder, JsonFault, Member, PlainJsonRecord, Row,
 };
 use passkey_webauthn::{
     PublicKeyCredentialDescriptor, PublicKeyCredentialParameters, PublicKeyCredentialRpEntity,
@@ -92,20 +93,22 @@ impl PlainJsonRecord for PublicKeyCredentialCreationOptions {
 
     fn put(&mut self, number: u8, member: Member<'_>) -> Result<(), JsonFault> {
         match number {
-            1 => self.rp = member.required()?,
-            2 => self.user = member.required()?,
-            3 => self.challenge = member.required()?,
-            4 => self.pub_key_cred_params = member.required::<TolerantList<_>>()?.into_list(),
-            5 => self.timeout = member.if_present()?,
-            6 => self.exclude_credentials = member.accepted_list()?,
-            7 => self.authenticator_selection = member.or_default(None)?,
-            8 => self.hints = member.accepted_list()?,
-            9 => self.attestation = member.tolerated(AttestationConveyancePreference::None)?,
-            10 => self.attestation_formats = member.accepted_list()?,
-            11 => self.extensions = member.or_default(None)?,
-            _ => {}
+            1 => place(&mut self.rp, member.required()),
+            2 => place(&mut self.user, member.required()),
+            3 => place(&mut self.challenge, member.required()),
+            4 => place_list(&mut self.pub_key_cred_params, member.required()),
+            5 => place(&mut self.timeout, member.if_present()),
+            6 => place(&mut self.exclude_credentials, member.accepted_list()),
+            7 => place(&mut self.authenticator_selection, member.or_default(None)),
+            8 => place(&mut self.hints, member.accepted_list()),
+            9 => place(
+                &mut self.attestation,
+                member.tolerated(AttestationConveyancePreference::None),
+            ),
+            10 => place(&mut self.attestation_formats, member.accepted_list()),
+            11 => place(&mut self.extensions, member.or_default(None)),
+            _ => Ok(()),
         }
-        Ok(())
     }
 
     fn encode(&self, number: u8, encoder: JsonEncoder) -> EncodeResult {

@@ -4,6 +4,7 @@
 
 mod arguments;
 mod creation_options;
+mod place;
 mod preferences;
 mod request_options;
 

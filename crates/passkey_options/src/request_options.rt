@@ -1,6 +1,7 @@
 //! The options of a sign-in, decoded from JSON objects and encoded.
 ghost use Rattle.passkey_options.specs.Options.{request_options};
 
+use crate::place::place;
 use crate::preferences::{
     AttestationConveyancePreference, AttestationStatementFormatIdentifiers,
     PublicKeyCredentialHints,
@@ -81,18 +82,23 @@ impl PlainJsonRecord for PublicKeyCredentialRequestOptions {
 
     fn put(&mut self, number: u8, member: Member<'_>) -> Result<(), JsonFault> {
         match number {
-            1 => self.challenge = member.required()?,
-            2 => self.timeout = member.if_present()?,
-            3 => self.rp_id = member.or_default(None)?,
-            4 => self.allow_credentials = member.accepted_list()?,
-            5 => self.user_verification = member.tolerated(UserVerificationRequirement::Preferred)?,
-            6 => self.hints = member.accepted_list()?,
-            7 => self.attestation = member.tolerated(AttestationConveyancePreference::None)?,
-            8 => self.attestation_formats = member.accepted_list()?,
-            9 => self.extensions = member.tolerated(None)?,
-            _ => {}
+            1 => place(&mut self.challenge, member.required()),
+            2 => place(&mut self.timeout, member.if_present()),
+            3 => place(&mut self.rp_id, member.or_default(None)),
+            4 => place(&mut self.allow_credentials, member.accepted_list()),
+            5 => place(
+                &mut self.user_verification,
+                member.tolerated(UserVerificationRequirement::Preferred),
+            ),
+            6 => place(&mut self.hints, member.accepted_list()),
+            7 => place(
+                &mut self.attestation,
+                member.tolerated(AttestationConveyancePreference::None),
+            ),
+            8 => place(&mut self.attestation_formats, member.accepted_list()),
+            9 => place(&mut self.extensions, member.tolerated(None)),
+            _ => Ok(()),
         }
-        Ok(())
     }
 
     fn encode(&self, number: u8, encoder: JsonEncoder) -> EncodeResult {
