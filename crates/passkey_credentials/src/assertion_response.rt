@@ -1,6 +1,7 @@
 //! The response to a sign-in, decoded from JSON objects and encoded.
 ghost use Rattle.passkey_credentials.specs.Credentials.{assertion_response};
 
+use crate::place::place;
 use passkey_bytes::Bytes;
 use passkey_json::{EncodeResult, JsonEncoder, JsonFault, Member, PlainJsonRecord, Row};
 use std::alloc::Global;
@@ -47,14 +48,13 @@ impl PlainJsonRecord for AuthenticatorAssertionResponse {
 
     fn put(&mut self, number: u8, member: Member<'_>) -> Result<(), JsonFault> {
         match number {
-            1 => self.client_data_json = member.required()?,
-            2 => self.authenticator_data = member.required()?,
-            3 => self.signature = member.required()?,
-            4 => self.user_handle = member.or_default(None)?,
-            5 => self.attestation_object = member.or_default(None)?,
-            _ => {}
+            1 => place(&mut self.client_data_json, member.required()),
+            2 => place(&mut self.authenticator_data, member.required()),
+            3 => place(&mut self.signature, member.required()),
+            4 => place(&mut self.user_handle, member.or_default(None)),
+            5 => place(&mut self.attestation_object, member.or_default(None)),
+            _ => Ok(()),
         }
-        Ok(())
     }
 
     fn encode(&self, number: u8, encoder: JsonEncoder) -> EncodeResult {

@@ -3,6 +3,7 @@ ghost use Rattle.std.specs.Prelude.{◌≡◌, ◌<◌, ◌⊎◌, length, IfOk,
 ghost use Rattle.std.specs.Option.{IsSomeAnd};
 ghost use Rattle.passkey_credentials.specs.Credentials.{attestation_response};
 
+use crate::place::place;
 use passkey_bytes::{Bytes, List};
 use passkey_json::{EncodeResult, JsonEncoder, JsonFault, Member, PlainJsonRecord, Row};
 use passkey_memory::OutOfMemory;
@@ -86,15 +87,14 @@ impl PlainJsonRecord for AuthenticatorAttestationResponse {
 
     fn put(&mut self, number: u8, member: Member<'_>) -> Result<(), JsonFault> {
         match number {
-            1 => self.client_data_json = member.required()?,
-            2 => self.authenticator_data = member.required()?,
-            3 => self.public_key = member.or_default(None)?,
-            4 => self.public_key_algorithm = member.required()?,
-            5 => self.attestation_object = member.required()?,
-            6 => self.transports = member.or_default(None)?,
-            _ => {}
+            1 => place(&mut self.client_data_json, member.required()),
+            2 => place(&mut self.authenticator_data, member.required()),
+            3 => place(&mut self.public_key, member.or_default(None)),
+            4 => place(&mut self.public_key_algorithm, member.required()),
+            5 => place(&mut self.attestation_object, member.required()),
+            6 => place(&mut self.transports, member.or_default(None)),
+            _ => Ok(()),
         }
-        Ok(())
     }
 
     fn encode(&self, number: u8, encoder: JsonEncoder) -> EncodeResult {

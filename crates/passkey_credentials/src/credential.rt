@@ -3,6 +3,7 @@ ghost use Rattle.passkey_credentials.specs.Credentials.{credential};
 
 use crate::assertion_response::AuthenticatorAssertionResponse;
 use crate::attestation_response::AuthenticatorAttestationResponse;
+use crate::place::place;
 use crate::response::AuthenticatorResponse;
 use passkey_bytes::{Bytes, Text};
 use passkey_json::{
@@ -68,17 +69,17 @@ impl<R: AuthenticatorResponse> PlainJsonRecord for PublicKeyCredential<R> {
     #[tactic(auto, unfolding(passkey_json::specs::Members::or_default))]
     fn put(&mut self, number: u8, member: Member<'_>) -> Result<(), JsonFault> {
         match number {
-            1 => self.id = member.required()?,
-            2 => self.raw_id = member.required()?,
-            3 => self.ty = member.required()?,
-            4 => self.response = member.required()?,
-            5 => self.authenticator_attachment = member.tolerated(None)?,
-            6 => self.client_extension_results = member.or_default(
-                AuthenticationExtensionsClientOutputs::empty(),
-            )?,
-            _ => {}
+            1 => place(&mut self.id, member.required()),
+            2 => place(&mut self.raw_id, member.required()),
+            3 => place(&mut self.ty, member.required()),
+            4 => place(&mut self.response, member.required()),
+            5 => place(&mut self.authenticator_attachment, member.tolerated(None)),
+            6 => place(
+                &mut self.client_extension_results,
+                member.or_default(AuthenticationExtensionsClientOutputs::empty()),
+            ),
+            _ => Ok(()),
         }
-        Ok(())
     }
 
     fn encode(&self, number: u8, encoder: JsonEncoder) -> EncodeResult {
