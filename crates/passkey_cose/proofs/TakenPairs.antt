@@ -12,6 +12,9 @@ use Rattle.passkey_cose.specs.KeyReading.{further}
 use Rattle.passkey_cose.specs.Seen.{labels_of}
 use Rattle.passkey_cose.proofs.KeyFurther.{none_either}
 
+pub before_end : (ms : List (Value × Value)) (i end : ℕ) → i < end → end ≤ length ms → i < length ms
+before_end ms i end before within = omega arith
+
 pub same_left : (ms ns : List (Value × Value)) (i : ℕ) → drop i ms ≡ drop i ns → drop (i + 1) ms ≡ drop (i + 1) ns
 same_left ms ns i left =
     sym (drop-drop 1 i ms) ∙ ap (λ (os : List (Value × Value)). drop 1 os) left ∙ drop-drop 1 i ns

@@ -1,4 +1,4 @@
-use Rattle.std.proofs.Common.{◌≡◌, ◌∙◌, [], ◌∷◌, ◌+◌, ◌<◌, ◌≤◌, ◌++◌, suc, true, false, List, length, get_or, map, take, drop, ap, sym}
+use Rattle.std.proofs.Common.{rules, ◌≡◌, ◌∙◌, [], ◌∷◌, ◌+◌, ◌<◌, ◌≤◌, ◌++◌, suc, true, false, List, length, get_or, map, take, drop, ap, sym}
 use Rattle.std.proofs.lemmas.List.{map-append}
 use Rattle.passkey_memory.proofs.Failing.{on_err}
 use Rattle.passkey_cbor.specs.Item.{Item}
@@ -8,18 +8,20 @@ use Rattle.passkey_cose.specs.KeyLabels.{is_common}
 use Rattle.passkey_cose.specs.KeyParams.{param_of, params_of}
 use Rattle.passkey_cose.specs.KeyReading.{further}
 use Rattle.passkey_cose.specs.Pairs.{values_in}
-use Rattle.passkey_cose.proofs.TakenPairs.{same_after, first_of, good_more, same_left, member_at, common_at, pass_common, same_at, take_further, one_left, none_left, next_name}
+use Rattle.passkey_cose.proofs.TakenPairs.{before_end, same_after, first_of, good_more, same_left, member_at, common_at, pass_common, same_at, take_further, one_left, none_left, next_name}
 use Rattle.passkey_cose.proofs.reading.read_params.Goals as goal
 use Rattle.passkey_cose.proofs.reading.read_params.Goals.{then-not-is_common_label_of+in_ok-label+in_ok-push, else-not-is_common_label_of}
 
 pub take-requires : goal.take-requires
 take-requires c =
-    let within : c.loop-i.i < length (values_in c.args.pairs) = rw c.as_slice-i-end.ensures at c.loop-i-test.true in
+    let within : c.loop-i.i < length (values_in c.args.pairs) =
+    before_end _ c.loop-i.i _ c.loop-i-test.true c.loop-i.invariant.within in
     rw c.loop-i.invariant.as_many within
 
 pub bounds-as_slice-i : goal.bounds-as_slice-i
 bounds-as_slice-i c =
-    let within : c.loop-i.i < length (values_in c.args.pairs) = rw c.as_slice-i-end.ensures at c.loop-i-test.true in
+    let within : c.loop-i.i < length (values_in c.args.pairs) =
+    before_end _ c.loop-i.i _ c.loop-i-test.true c.loop-i.invariant.within in
     rw (c.as_slice.ensures, c.loop-i.invariant.as_many) within
 
 pub label_from-requires : goal.label_from-requires
@@ -34,7 +36,8 @@ pub returns-in_err-label-clause-grows : goal.returns-in_err-label-clause-grows
 returns-in_err-label-clause-grows c =
     let i = c.loop-i.i in
     let m = c.index-as_slice-i.result in
-    let within : i < length (values_in c.args.pairs) = rw c.as_slice-i-end.ensures at c.loop-i-test.true in
+    let within : i < length (values_in c.args.pairs) =
+    before_end _ i _ c.loop-i-test.true c.loop-i.invariant.within in
     let is : m ≡ get_or (values_in c.loop-i.pairs) i m = rw c.as_slice.ensures at c.index-as_slice-i.is in
     let other : is_common (item_of m.0) ≡ false =
     common_at _ i m _ false c.index-as_slice-i.is c.is_common_label_of.ensures c.if-not-is_common_label_of.true in
@@ -45,7 +48,8 @@ pub returns-in_err-push-clause-grows : goal.returns-in_err-push-clause-grows
 returns-in_err-push-clause-grows c =
     let i = c.loop-i.i in
     let m = c.index-as_slice-i.result in
-    let within : i < length (values_in c.args.pairs) = rw c.as_slice-i-end.ensures at c.loop-i-test.true in
+    let within : i < length (values_in c.args.pairs) =
+    before_end _ i _ c.loop-i-test.true c.loop-i.invariant.within in
     let is : m ≡ get_or (values_in c.loop-i.pairs) i m = rw c.as_slice.ensures at c.index-as_slice-i.is in
     let other : is_common (item_of m.0) ≡ false =
     common_at _ i m _ false c.index-as_slice-i.is c.is_common_label_of.ensures c.if-not-is_common_label_of.true in
@@ -54,7 +58,7 @@ returns-in_err-push-clause-grows c =
 
 pub returns-clause-same : goal.returns-clause-same
 returns-clause-same c =
-    let past : length (values_in c.args.pairs) ≤ c.loop-i.i = rw c.as_slice-i-end.ensures at c.loop-i-test.false in
+    let past : length (values_in c.args.pairs) ≤ c.loop-i.i = search (rules, c.loop-i-test.false) in
     none_left (params_of c.loop-i.params.items) _ (values_in c.args.pairs) c.loop-i.i past c.loop-i.invariant.done
 
 pub loop-i-preserved : goal.loop-i-preserved
@@ -66,7 +70,7 @@ loop-i-preserved c =
     let ms = map pair_of (drop i all) in
     let ns = map pair_of (drop (i + 1) all) in
     let ps = params_of c.loop-i.params.items in
-    let within : i < length all = rw c.as_slice-i-end.ensures at c.loop-i-test.true in
+    let within : i < length all = before_end all i _ c.loop-i-test.true c.loop-i.invariant.within in
     let is_now : m ≡ get_or now i m = rw c.as_slice.ensures at c.index-as_slice-i.is in
     let is : m ≡ get_or all i m = same_at now all i m is_now c.loop-i.invariant.left in
     let at : ms ≡ pair_of m ∷ ns = member_at all i m within is in
@@ -93,6 +97,7 @@ loop-i-preserved c =
                 c.loop-i.invariant.done);
             good = good;
             as_many = rw w.pairs-is (w.in_ok-label.ensures.as_many ∙ c.loop-i.invariant.as_many);
+            within = c.loop-i.invariant.within;
             left = rw w.pairs-is (same_after (values_in w.take.new.self) now all i w.in_ok-label.ensures.others
                 c.loop-i.invariant.left);
           }
@@ -105,6 +110,7 @@ loop-i-preserved c =
                 c.loop-i.invariant.done);
             good = good;
             as_many = rw w.pairs-is c.loop-i.invariant.as_many;
+            within = c.loop-i.invariant.within;
             left = rw w.pairs-is (same_left now all i c.loop-i.invariant.left);
           }
     ]

@@ -1,4 +1,4 @@
-use Rattle.std.proofs.Common.{◌≡◌, ◌++◌, length, map, take, drop, None}
+use Rattle.std.proofs.Common.{◌≡◌, ◌++◌, ◌≤◌, length, map, take, drop, None}
 use Rattle.passkey_cbor.specs.View.{pair_of}
 use Rattle.passkey_cose.specs.KeyFaults.{first_fault}
 use Rattle.passkey_cose.specs.KeyParams.{params_of}
@@ -14,5 +14,6 @@ invariant-loop-i l = record {
       (map pair_of (drop l.i (values_in l.initial.pairs)))
       ≡ None;
   as_many : length (values_in l.pairs) ≡ length (values_in l.initial.pairs);
+  within : l.i-end ≤ length (values_in l.initial.pairs);
   left : drop l.i (values_in l.pairs) ≡ drop l.i (values_in l.initial.pairs);
 }
